@@ -1,0 +1,13 @@
+//! Laws, as functions without code: each contract is a statement of `specs/`.
+ghost use Rattle.bits_model.specs.Stated.{KeepsAfterKeeps, KeepsAfterRelaxes, RelaxedIsFaithful};
+
+/// A well-formed model that relaxes a source, with the stated figures, is faithful to it.
+pub fn relaxed_is_faithful()
+    ensures { RelaxedIsFaithful }
+{}
+
+/// Steps compose, also where a check that keeps the form stands between them.
+pub fn relations_compose()
+    ensures relaxed { KeepsAfterRelaxes }
+    ensures kept { KeepsAfterKeeps }
+{}
