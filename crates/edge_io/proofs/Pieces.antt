@@ -1,0 +1,49 @@
+-- What a sink has taken of a piece, and of several pieces one after the other.
+use Rattle.std.proofs.Common.{◌≡◌, ℕ, ◌+◌, ◌-◌, ◌<◌, List, [], ◌∷◌, ◌++◌, sym, ap, ◌∙◌, subst, append_assoc, length, take, drop, get_or, Bor}
+use Rattle.std.proofs.KnownBytes.{Appends-trans}
+use Rattle.std.proofs.lemmas.List.{take-append-drop, take_rest, take_more, append-nil}
+use Rattle.std.proofs.lemmas.List.Concat.{flat_map-append}
+use Rattle.std.specs.Io.KnownBytes.{Appends}
+use Rattle.std.specs.declared.option.Option.{Option}
+use Rattle.edge_io.specs.Sinks.{AppendsFront, joined}
+
+-- a front of the piece was taken, and then n bytes of what was left of it
+pub piece_more : (a b c : Option (List ℕ)) (piece front rest : List ℕ) (n : ℕ) → piece ≡ front ++ rest
+    → Appends a b front → Appends b c (take n rest)
+    → (more : List ℕ) × (piece ≡ more ++ take (length rest - n) (drop n rest)) × Appends a c more
+piece_more a b c piece front rest n split before now =
+    let more = front ++ take n rest in
+    let cut = ap (λ l. front ++ l) (sym (take-append-drop n rest)) in
+    let moved = sym (append_assoc front (take n rest) (drop n rest)) in
+    let left = ap (λ l. more ++ l) (sym (take_rest rest n)) in
+    (more, split ∙ cut ∙ moved ∙ left, Appends-trans a b c front (take n rest) before now)
+
+-- the pieces up to and with the next one
+joined-take_more : (pieces : List (Bor (List ℕ))) (i : ℕ) (d : Bor (List ℕ)) → i < length pieces
+    → joined (take (i + 1) pieces) ≡ joined (take i pieces) ++ (get_or pieces i d).now
+joined-take_more pieces i d within =
+    let piece = get_or pieces i d in
+    ap joined (take_more pieces i d within)
+    ∙ flat_map-append (λ (p : Bor (List ℕ)). p.now) (take i pieces) (piece ∷ [])
+    ∙ ap (λ l. joined (take i pieces) ++ l) (append-nil piece.now)
+
+-- one piece more was taken whole
+pub pieces_more : (a b c : Option (List ℕ)) (pieces : List (Bor (List ℕ))) (i : ℕ) (d : Bor (List ℕ)) → i < length pieces
+    → Appends a b (joined (take i pieces)) → Appends b c (get_or pieces i d).now → Appends a c (joined (take (i + 1) pieces))
+pieces_more a b c pieces i d within before now =
+    subst (Appends a c) (sym (joined-take_more pieces i d within)) (Appends-trans a b c _ _ before now)
+
+-- of the next piece a front was taken
+pub pieces_front : (a b c : Option (List ℕ)) (pieces : List (Bor (List ℕ))) (i : ℕ) (d : Bor (List ℕ)) → i < length pieces
+    → Appends a b (joined (take i pieces)) → AppendsFront b c (get_or pieces i d).now → AppendsFront a c (joined pieces)
+pieces_front a b c pieces i d within before now =
+    let done = joined (take i pieces) in
+    let piece = (get_or pieces i d).now in
+    let later = joined (drop (i + 1) pieces) in
+    let all : joined pieces ≡ (done ++ piece) ++ later =
+    ap joined (sym (take-append-drop (i + 1) pieces))
+    ∙ flat_map-append (λ (p : Bor (List ℕ)). p.now) (take (i + 1) pieces) (drop (i + 1) pieces)
+    ∙ ap (λ l. l ++ later) (joined-take_more pieces i d within) in
+    let split : (done ++ piece) ++ later ≡ (done ++ now.0) ++ (now.1 ++ later) =
+    ap (λ l. (done ++ l) ++ later) now.2 ∙ simp append_assoc in
+    (done ++ now.0, now.1 ++ later, all ∙ split, Appends-trans a b c _ _ before now.3)

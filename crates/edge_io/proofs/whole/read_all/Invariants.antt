@@ -1,0 +1,20 @@
+use Rattle.std.proofs.Common.{◌≡◌, ◌≤◌, ◌+◌, ◌-◌, length, string_bytes}
+use Rattle.edge_io.specs.Counts.{counted_on}
+use Rattle.edge_io.specs.Held.{IsFront}
+use Rattle.edge_io.proofs.whole.read_all.Given as goal
+
+-- what was taken is a front of the named file, as the store tells it, and within the limit
+abbrev pub invariant-loop-count : goal.invariant-loop-count
+invariant-loop-count g l = record {
+  within : length l.all.items ≤ l.limit;
+  taken : g.F.Files.taken l.files ≡ length l.all.items;
+  front : IsFront (g.F.Files.held l.fn.files) (string_bytes l.fn.name) l.all.items (g.F.Files.rest l.files);
+  held : g.F.Files.held l.files ≡ g.F.Files.held l.fn.files;
+  begun : g.F.Files.begun l.files ≡ counted_on (g.F.Files.begun l.fn.files) 1;
+  marked : g.F.Files.faults_at_begin l.files ≡ g.F.Files.faults l.fn.files;
+  named : g.F.Files.begun_name l.files ≡ string_bytes l.fn.name;
+  later : g.F.Files.faults l.fn.files ≤ g.F.Files.faults l.files;
+}
+
+abbrev pub decreases-loop-count : goal.decreases-loop-count
+decreases-loop-count g l = l.limit + 1 - length l.all.items

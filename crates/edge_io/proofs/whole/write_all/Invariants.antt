@@ -1,0 +1,13 @@
+use Rattle.std.proofs.Common.{◌≡◌, ◌≤◌, List, ℕ, ◌++◌, length}
+use Rattle.std.specs.Io.KnownBytes.{Appends}
+use Rattle.edge_io.proofs.whole.write_all.Given as goal
+
+-- the front of the piece before the rest was taken
+abbrev pub invariant-loop-rest : goal.invariant-loop-rest
+invariant-loop-rest g l = record {
+  taken : (front : List ℕ) × (l.piece ≡ front ++ l.rest) × Appends (g.S.Sink.bytes l.initial.sink) (g.S.Sink.bytes l.sink) front;
+  later : g.S.Sink.faults l.initial.sink ≤ g.S.Sink.faults l.sink;
+}
+
+abbrev pub decreases-loop-rest : goal.decreases-loop-rest
+decreases-loop-rest g l = length l.rest

@@ -1,0 +1,4 @@
+pub mod Counts
+pub mod Held
+pub mod InMemory
+pub mod Sinks

@@ -1,0 +1,135 @@
+//! The real files and streams. They tell no content, since no proof can know it, and count as every
+//! end does.
+ghost use Rattle.std.specs.Prelude.{◌≡◌, [], None, string_bytes};
+ghost use Rattle.std.specs.Option.{option_map_or};
+ghost use Rattle.edge_io.specs.Held.{after_first, after_first-none};
+
+use crate::{Failed, Files, Sink};
+use std::io::{Read, Write};
+use std::{fs, rt};
+
+/// The files of the system, by their paths.
+#[derive(Drop)]
+pub struct RealFiles<R: rt::Files> {
+    rt: R,
+    file: Option<R::File>,
+    name: Option<String>,
+    faults: u64,
+    taken: u64,
+    begun: u64,
+    faults_at_begin: u64,
+}
+
+impl<R: rt::Files + Drop> RealFiles<R>
+where
+    R::File: Drop,
+{
+    pub fn new(rt: R) -> RealFiles<R>
+        ensures none_begun { ⟦<RealFiles<R> as Files>⟧.begun result ≡ 0 }
+        ensures none_taken { ⟦<RealFiles<R> as Files>⟧.taken result ≡ 0 }
+        ensures no_fault { ⟦<RealFiles<R> as Files>⟧.faults result ≡ 0 }
+        ensures marked { ⟦<RealFiles<R> as Files>⟧.faults_at_begin result ≡ 0 }
+    {
+        RealFiles {
+            rt,
+            file: None,
+            name: None,
+            faults: 0,
+            taken: 0,
+            begun: 0,
+            faults_at_begin: 0,
+        }
+    }
+}
+
+impl<R: rt::Files + Drop> Files for RealFiles<R>
+where
+    R::File: Drop,
+{
+    ghost held = { λ f. None };
+
+    ghost rest = { λ f. None };
+
+    ghost faults = { λ f. f.faults };
+
+    ghost taken = { λ f. f.taken };
+
+    ghost begun = { λ f. f.begun };
+
+    ghost faults_at_begin = { λ f. f.faults_at_begin };
+
+    ghost begun_name = { λ f. after_first f.begun (option_map_or string_bytes f.name []) };
+
+    ghost at_first = { λ f none. (tt, after_first-none f.begun _ none) };
+
+    fn begin(&mut self, name: String) -> Result<(), Failed> {
+        self.begun = self.begun.saturating_add(1);
+        self.faults_at_begin = self.faults;
+        self.taken = 0;
+        let opened = fs::open(&self.rt, name.as_str());
+        self.name = Some(name);
+        match opened {
+            Ok(file) => {
+                self.file = Some(file);
+                Ok(())
+            }
+            Err(_) => {
+                self.file = None;
+                self.faults = self.faults.saturating_add(1);
+                Err(Failed)
+            }
+        }
+    }
+
+    fn read(&mut self, into: &mut [u8]) -> Result<usize, Failed> {
+        let given = match &mut self.file {
+            Some(file) => file.read(into),
+            None => Ok(0),
+        };
+        match given {
+            Ok(count) => {
+                self.taken = self.taken.saturating_add(count as u64);
+                Ok(count)
+            }
+            Err(_) => {
+                self.faults = self.faults.saturating_add(1);
+                Err(Failed)
+            }
+        }
+    }
+}
+
+/// A stream of the system. A write that takes nothing of a piece that isn't empty has failed, since
+/// trying it again could go on without end.
+#[derive(Drop)]
+pub struct RealSink<W: Write> {
+    writer: W,
+    faults: u64,
+}
+
+impl<W: Write> RealSink<W> {
+    pub fn new(writer: W) -> RealSink<W>
+        ensures no_fault { ⟦<RealSink<W> as Sink>⟧.faults result ≡ 0 }
+    {
+        RealSink { writer, faults: 0 }
+    }
+}
+
+impl<W: Write> Sink for RealSink<W> {
+    ghost bytes = { λ s. None };
+
+    ghost faults = { λ s. s.faults };
+
+    fn write(&mut self, piece: &[u8]) -> Result<usize, Failed> {
+        match self.writer.write(piece) {
+            Ok(count) if count > 0 || piece.is_empty() => Ok(count),
+            _ => {
+                self.faults = self.faults.saturating_add(1);
+                Err(Failed)
+            }
+        }
+    }
+}
+
+#[cfg(test)]
+mod tests;
