@@ -1,0 +1,149 @@
+-- The words of a line, from left to right.
+use Rattle.std.proofs.Common.{◌≡◌, ℕ, zero, suc, ◌+◌, ◌-◌, ◌<◌, ◌≤◌, Bool, true, false, not, eqb, List, [], ◌∷◌, ◌++◌, length, map, take, drop, get_or, refl, sym, ap, ◌∙◌, arith, inl, inr, append_assoc}
+use Rattle.std.specs.Prelude.{filter}
+use Rattle.std.specs.List.{slice_range, slice_split, position_or_len}
+use Rattle.std.proofs.lemmas.Bool.{cases_lt, cases_Bool, not-true, not-false}
+use Rattle.std.proofs.lemmas.List.{drop_more, drop_all, take_all, map-append, length-take, length-drop, get_or-drop, get_or_read}
+use Rattle.std.proofs.lemmas.List.Sums.{prefix_len-le-length, prefix_len_passes, prefix_len_stops}
+use Rattle.std.proofs.lemmas.List.Splits.{slice_split_first, slice_split_none}
+use Rattle.whole_text.proofs.Slices.{slice_length, slice_at, slice_dropped, slice_taken}
+use Rattle.whole_text.specs.declared.token.Style.{Style}
+use Rattle.whole_text.specs.declared.token.Token.{Token}
+use Rattle.whole_text.specs.Tokens.{word, word_at, is_blank, is_filled, words, comment_byte, begins_with, is_comment, tokens_of_line}
+
+-- a byte of a word
+abbrev pub is_ink : ℕ → Bool
+is_ink c = not (is_blank c)
+
+-- one blank in front is no part of a word
+words_blank : (c : ℕ) (cs : List ℕ) → is_blank c ≡ true → words (c ∷ cs) ≡ words cs
+unfolding words
+words_blank c cs e = rw e refl
+
+-- blanks in front are no part of a word
+pub words_skip : (bs : List ℕ) → words bs ≡ words (drop (position_or_len is_ink bs) bs)
+words_skip [] = refl
+words_skip (c ∷ cs) =
+    elim (cases_Bool (is_blank c)) [
+      | inl e ↦ words_blank c cs e ∙ words_skip cs ∙ rw (e, one_more (position_or_len is_ink cs)) refl
+      | inr e ↦ rw e refl
+    ]
+  where
+    one_more : (n : ℕ) → 1 + n ≡ suc n
+    one_more n = omega arith
+
+pub skip_stops : (bs : List ℕ) → position_or_len is_ink bs < length bs → is_blank (get_or bs (position_or_len is_ink bs) 0) ≡ false
+skip_stops bs lt = not-true _ (not-false _ (prefix_len_stops (λ c. not (is_ink c)) bs 0 lt))
+
+pub words_none : words [] ≡ []
+unfolding words
+words_none = refl
+
+kept_first : (w : List ℕ) (ws : List (List ℕ)) → 0 < length w → filter is_filled (w ∷ ws) ≡ w ∷ filter is_filled ws
+kept_first [] ws some = absurd (omega arith)
+kept_first (c ∷ cs) ws some = refl
+
+-- a line with a blank: the word before it, and the words after it
+words_cut : (bs : List ℕ) → position_or_len is_blank bs < length bs → 0 < position_or_len is_blank bs → words bs ≡ take (position_or_len is_blank bs) bs ∷ words (drop (position_or_len is_blank bs + 1) bs)
+unfolding words
+words_cut bs lt some =
+    let parts : slice_split is_blank bs ≡ take (position_or_len is_blank bs) bs ∷ slice_split is_blank (drop (position_or_len is_blank bs + 1) bs) = slice_split_first is_blank bs 0 lt in
+    rw parts (kept_first (take (position_or_len is_blank bs) bs) (slice_split is_blank (drop (position_or_len is_blank bs + 1) bs)) (omega (arith, length-take (position_or_len is_blank bs) bs)))
+
+-- a line without a blank is one word
+words_one : (bs : List ℕ) → position_or_len is_blank bs ≡ length bs → 0 < length bs → words bs ≡ bs ∷ []
+unfolding words
+words_one bs all some =
+    let parts : slice_split is_blank bs ≡ bs ∷ [] = slice_split_none is_blank bs (λ k d lt. not-true _ (prefix_len_passes is_ink bs k d (omega (arith, all)))) in
+    rw parts (kept_first bs [] some)
+
+-- a line that begins with no blank begins with a word
+pub word_len_some : (bs : List ℕ) → 0 < length bs → is_blank (get_or bs 0 0) ≡ false → 0 < position_or_len is_blank bs
+word_len_some [] some ink = absurd (omega arith)
+word_len_some (c ∷ cs) some ink = rw ink (omega arith)
+
+-- in both cases the first word is what stands before the first blank
+pub words_first : (bs : List ℕ) → 0 < length bs → is_blank (get_or bs 0 0) ≡ false → words bs ≡ take (position_or_len is_blank bs) bs ∷ words (drop (position_or_len is_blank bs) bs)
+words_first bs some ink =
+    let n = position_or_len is_blank bs in
+    let filled = word_len_some bs some ink in
+    elim (cases_lt n (length bs)) [
+      | inl lt ↦
+          let stop : is_blank (get_or bs n 0) ≡ true = not-false _ (prefix_len_stops is_ink bs 0 lt) in
+          words_cut bs lt filled ∙ ap (λ (ws : List (List ℕ)). take n bs ∷ ws) (sym (ap words (drop_more bs n 0 lt) ∙ words_blank (get_or bs n 0) (drop (n + 1) bs) stop))
+      | inr ge ↦
+          let all : n ≡ length bs = omega (arith, prefix_len-le-length is_ink bs) in
+          let whole : take n bs ≡ bs = take_all n bs ge in
+          let none : drop n bs ≡ [] = drop_all n bs ge in
+          words_one bs all some ∙ rw (whole, none, words_none) refl
+    ]
+
+-- the first word begins with the first byte
+begins : (c n : ℕ) (bs : List ℕ) (ws : List (List ℕ)) → 0 < n → 0 < length bs → begins_with c (take n bs ∷ ws) ≡ eqb (get_or bs 0 0) c
+begins c zero bs ws h some = absurd (omega arith)
+begins c (suc n) [] ws h some = absurd (omega arith)
+begins c (suc n) (b ∷ bs) ws h some = refl
+
+-- the first byte that is no blank decides whether a line is a comment
+decided : (style : Style) (bs : List ℕ) → position_or_len is_ink bs < length bs → is_comment style bs ≡ eqb (get_or bs (position_or_len is_ink bs) 0) (comment_byte style)
+unfolding is_comment
+decided style bs lt =
+    let n = position_or_len is_ink bs in
+    let rest = drop n bs in
+    let some : 0 < length rest = omega (arith, length-drop n bs) in
+    let zero_more : n + 0 ≡ n = omega arith in
+    let here : get_or rest 0 0 ≡ get_or bs n 0 = get_or-drop n bs 0 0 ∙ ap (λ k. get_or bs k 0) zero_more in
+    let ink : is_blank (get_or rest 0 0) ≡ false = ap is_blank here ∙ skip_stops bs lt in
+    ap (begins_with (comment_byte style)) (words_skip bs ∙ words_first rest some ink) ∙ begins (comment_byte style) (position_or_len is_blank rest) rest (words (drop (position_or_len is_blank rest) rest)) (word_len_some rest some ink) some ∙ ap (λ b. eqb b (comment_byte style)) here
+
+pub comment_from_byte : (style : Style) (bs : List ℕ) (n byte : ℕ) → n ≡ position_or_len is_ink bs → n < length bs → byte ≡ get_or bs n byte → eqb byte (comment_byte style) ≡ is_comment style bs
+comment_from_byte style bs n byte first lt read =
+    let here : byte ≡ get_or bs n 0 = get_or_read bs n byte lt read 0 in
+    rw (here, first) (sym (decided style bs (rw (← first) lt)))
+
+-- a line of blanks is no comment
+pub comment_none : (style : Style) (bs : List ℕ) (n : ℕ) → n ≡ position_or_len is_ink bs → length bs ≤ n → false ≡ is_comment style bs
+unfolding is_comment
+comment_none style bs n first le = sym (ap (begins_with (comment_byte style)) (words_skip bs ∙ ap words (drop_all (position_or_len is_ink bs) bs (rw (← first) le)) ∙ words_none))
+
+-- a comment has no tokens, and another line those of its words
+pub comment_line : (style : Style) (n : ℕ) (line : List ℕ) → is_comment style line ≡ true → tokens_of_line style n line ≡ []
+unfolding tokens_of_line
+comment_line style n line e = rw e refl
+
+pub other_line : (style : Style) (n : ℕ) (line : List ℕ) → is_comment style line ≡ false → tokens_of_line style n line ≡ map (word n) (words line)
+unfolding tokens_of_line
+other_line style n line e = rw e refl
+
+-- one more word of a line is pushed
+pub word_taken : (text : List ℕ) (was now : List Token) (t : Token) (before after : List ℕ) → words before ≡ slice_range text t.start t.end ∷ words after → now ≡ was ++ t ∷ []
+    → map (word_at text) now ++ map (word t.line) (words after) ≡ map (word_at text) was ++ map (word t.line) (words before)
+word_taken text was now t before after e n =
+    rw (n, e, map-append (word_at text) was (t ∷ [])) (append_assoc (map (word_at text) was) (word_at text t ∷ []) (map (word t.line) (words after)))
+
+-- the blanks that are skipped at a place of a text, and where that ends
+pub skipped : (text : List ℕ) (a b n : ℕ) → a ≤ b → b ≤ length text → n ≡ position_or_len is_ink (slice_range text a b)
+    → (words (slice_range text a b) ≡ words (slice_range text (a + n) b)) × (a + n ≤ b) × (a + n < b → is_blank (get_or text (a + n) 0) ≡ false)
+skipped text a b n ab bl e =
+    let bs = slice_range text a b in
+    let len = slice_length text a b bl in
+    let le : n ≤ b - a = omega (arith, prefix_len-le-length (λ c. not (is_ink c)) bs) in
+    let same : words bs ≡ words (drop n bs) = rw e (words_skip bs) in
+    let moved : drop n bs ≡ slice_range text (a + n) b = slice_dropped text a n b (omega arith) in
+    (same ∙ ap words moved, omega arith, λ lt. sym (ap is_blank (slice_at text a b n (omega arith))) ∙ ap (λ k. is_blank (get_or bs k 0)) e ∙ skip_stops bs (omega arith))
+
+-- the word that is taken at a place of a text, and where it ends
+pub taken : (text : List ℕ) (a b n : ℕ) → a < b → b ≤ length text → is_blank (get_or text a 0) ≡ false → n ≡ position_or_len is_blank (slice_range text a b)
+    → (0 < n) × (a + n ≤ b) × (words (slice_range text a b) ≡ slice_range text a (a + n) ∷ words (slice_range text (a + n) b))
+taken text a b n ab bl ink e =
+    let bs = slice_range text a b in
+    let len = slice_length text a b bl in
+    let le : n ≤ b - a = omega (arith, prefix_len-le-length is_ink bs) in
+    let some : 0 < length bs = omega arith in
+    let zero_more : a + 0 ≡ a = omega arith in
+    let first : get_or bs 0 0 ≡ get_or text a 0 = slice_at text a b 0 (omega arith) ∙ ap (λ k. get_or text k 0) zero_more in
+    let ink' : is_blank (get_or bs 0 0) ≡ false = ap is_blank first ∙ ink in
+    let front : take n bs ≡ slice_range text a (a + n) = slice_taken text a n b (omega arith) in
+    let moved : drop n bs ≡ slice_range text (a + n) b = slice_dropped text a n b (omega arith) in
+    let cut : words bs ≡ take n bs ∷ words (drop n bs) = rw e (words_first bs some ink') in
+    (rw e (word_len_some bs some ink'), omega arith, rw (← front, ← moved) cut)

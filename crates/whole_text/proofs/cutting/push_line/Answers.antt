@@ -1,0 +1,64 @@
+use Rattle.std.proofs.Common.{◌≡◌, ℕ, List, ◌+◌, ◌++◌, ◌∷◌, [], map, sym, ap, ◌∙◌, arith}
+use Rattle.std.specs.List.{slice_range}
+use Rattle.std.proofs.lemmas.List.{append-nil}
+use Rattle.whole_text.specs.declared.token.Token.{Token}
+use Rattle.whole_text.specs.Tokens.{Word, words, word, word_at}
+use Rattle.whole_text.proofs.Slices.{slice_none}
+use Rattle.whole_text.proofs.Order.{order_wider, order_pushed}
+use Rattle.whole_text.proofs.Words.{skipped, taken, comment_line, other_line, word_taken, words_none}
+use Rattle.whole_text.proofs.cutting.push_line.Goals as goal
+
+pub returns-then-is_comment-clause-cut : goal.returns-then-is_comment-clause-cut
+returns-then-is_comment-clause-cut c =
+    let text = c.args.text.now in
+    let none = comment_line c.args.style c.args.line (slice_range text c.args.start c.args.end) (sym c.is_comment.ensures ∙ c.if-is_comment.true) in
+    rw none (sym (append-nil (map (word_at text) c.args.tokens.now.items)))
+
+pub returns-then-is_comment-clause-in_order : goal.returns-then-is_comment-clause-in_order
+returns-then-is_comment-clause-in_order c = λ h. order_wider 0 c.args.tokens.now.items c.args.start c.args.end h c.requires.ordered
+
+pub loop-at-init : goal.loop-at-init
+loop-at-init c =
+    let text = c.args.text.now in
+    let at = c.args.start + c.blank_len.result in
+    let end = c.args.end in
+    let skip = skipped text c.args.start end c.blank_len.result c.requires.ordered c.requires.within c.blank_len.ensures.first in
+    let tokens_are = other_line c.args.style c.args.line (slice_range text c.args.start end) (sym c.is_comment.ensures ∙ c.if-is_comment.false) in
+    record {
+      low = omega arith;
+      high = skip.1;
+      ink = skip.2;
+      cut = ap (λ (ws : List Word). map (word_at text) c.args.tokens.now.items ++ ws) (sym (tokens_are ∙ ap (map (word c.args.line)) skip.0));
+      in_order = λ h. order_wider 0 c.args.tokens.now.items c.args.start at h (omega arith);
+    }
+
+pub loop-at-preserved : goal.loop-at-preserved
+loop-at-preserved c =
+    let text = c.args.text.now in
+    let at = c.loop-at.at in
+    let stop = at + c.word_len.result in
+    let next = stop + c.blank_len-in-loop-at.result in
+    let end = c.args.end in
+    let tok : Token = record { start = at; end = stop; line = c.args.line } in
+    let t = taken text at end c.word_len.result c.loop-at-test.true c.requires.within (c.loop-at.invariant.ink c.loop-at-test.true) c.word_len.ensures.first in
+    let skip = skipped text stop end c.blank_len-in-loop-at.result t.1 c.requires.within c.blank_len-in-loop-at.ensures.first in
+    let cut : words (slice_range text at end) ≡ slice_range text at stop ∷ words (slice_range text next end) = t.2 ∙ ap (λ (ws : List (List ℕ)). slice_range text at stop ∷ ws) skip.0 in
+    record {
+      low = omega (arith, c.loop-at.invariant.low);
+      high = skip.1;
+      ink = skip.2;
+      cut = word_taken text c.loop-at.tokens.items c.push.new.self.items tok (slice_range text at end) (slice_range text next end) cut c.in_ok-push.ensures.items ∙ c.loop-at.invariant.cut;
+      in_order = λ h. rw c.in_ok-push.ensures.items (order_pushed 0 c.loop-at.tokens.items at tok next (c.loop-at.invariant.in_order h) (omega arith) (omega arith) (omega arith));
+    }
+
+pub returns-clause-cut : goal.returns-clause-cut
+returns-clause-cut c =
+    let text = c.args.text.now in
+    let here : c.loop-at.at ≡ c.args.end = omega (arith, c.loop-at.invariant.high) in
+    let empty : words (slice_range text c.loop-at.at c.args.end) ≡ [] = rw (here, slice_none text c.args.end) words_none in
+    sym (append-nil (map (word_at text) c.loop-at.tokens.items)) ∙ ap (λ (ws : List (List ℕ)). map (word_at text) c.loop-at.tokens.items ++ map (word c.args.line) ws) (sym empty) ∙ c.loop-at.invariant.cut
+
+pub loop-at-smaller : goal.loop-at-smaller
+loop-at-smaller c =
+    let t = taken c.args.text.now c.loop-at.at c.args.end c.word_len.result c.loop-at-test.true c.requires.within (c.loop-at.invariant.ink c.loop-at-test.true) c.word_len.ensures.first in
+    omega arith

@@ -1,0 +1,77 @@
+-- The tokens of a text: it is cut into lines at line feeds, and a line that is no comment into
+-- words at blanks.
+use Rattle.std.specs.Prelude.{ℕ, ◌+◌, ◌<◌, ◌≤◌, Bool, true, false, ◌||◌, List, [], ◌∷◌, ◌++◌, length, map, filter, ◌==◌, if◌then◌else◌}
+use Rattle.std.specs.List.{slice_split, slice_range}
+use Rattle.whole_text.specs.declared.token.Style.{Style}
+use Rattle.whole_text.specs.declared.token.Style.TheVariants.{Plain}
+use Rattle.whole_text.specs.declared.token.Token.{Token}
+
+-- what a token says: its bytes, and the number of its line
+pub record Word : Type 0 where
+  pub line : ℕ
+  pub bytes : List ℕ
+
+-- the token of these bytes on this line
+abbrev pub word : ℕ → List ℕ → Word
+word line bytes = record { line = line; bytes = bytes }
+
+-- a line feed ends a line
+abbrev pub is_feed : ℕ → Bool
+is_feed c = c == 10
+
+-- a space, a tab or a carriage return
+abbrev pub is_blank : ℕ → Bool
+is_blank c = (c == 32) || ((c == 9) || (c == 13))
+
+-- a list that is not empty
+abbrev pub is_filled : List ℕ → Bool
+is_filled [] = false
+is_filled (c ∷ cs) = true
+
+-- the words of a line: what stands between blanks
+unfoldable pub words : List ℕ → List (List ℕ)
+words line = filter is_filled (slice_split is_blank line)
+
+-- the byte that begins a comment: `c`
+abbrev pub comment_byte : Style → ℕ
+comment_byte Plain = 99
+
+-- the first word begins with this byte
+abbrev pub begins_with : ℕ → List (List ℕ) → Bool
+begins_with c [] = false
+begins_with c ([] ∷ ws) = false
+begins_with c ((d ∷ ds) ∷ ws) = d == c
+
+-- the first byte that is no blank begins a comment
+unfoldable pub is_comment : Style → List ℕ → Bool
+is_comment style line = begins_with (comment_byte style) (words line)
+
+-- the tokens of the line with this number: its words, or none where it is a comment
+unfoldable pub tokens_of_line : Style → ℕ → List ℕ → List Word
+tokens_of_line style n line = if is_comment style line then [] else map (word n) (words line)
+
+-- the tokens of lines that are numbered from n on
+unfoldable pub tokens_from : Style → ℕ → List (List ℕ) → List Word
+tokens_from style n [] = []
+tokens_from style n (line ∷ lines) = tokens_of_line style n line ++ tokens_from style (n + 1) lines
+
+-- the tokens of a text, whose lines are numbered from 1
+unfoldable pub tokens_of : Style → List ℕ → List Word
+tokens_of style text = tokens_from style 1 (slice_split is_feed text)
+
+-- what a token at its place in a text says
+abbrev pub word_at : List ℕ → Token → Word
+word_at text t = word t.line (slice_range text t.start t.end)
+
+-- what the tokens of a text say
+abbrev pub words_at : List ℕ → List Token → List Word
+words_at text ts = map (word_at text) ts
+
+-- a token stands inside a text, and is not empty
+abbrev pub IsWithin : List ℕ → Token → Type 0
+IsWithin text t = (t.start < t.end) × (t.end ≤ length text)
+
+-- the tokens stand one after another between two places of a text
+abbrev pub AreInOrder : ℕ → List Token → ℕ → Type 0
+AreInOrder low [] high = low ≤ high
+AreInOrder low (t ∷ ts) high = (low ≤ t.start) × (t.start < t.end) × AreInOrder t.end ts high

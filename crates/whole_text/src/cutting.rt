@@ -1,0 +1,120 @@
+//! A text is cut into tokens: at line feeds into lines, and these at blanks into words.
+
+ghost use Rattle.std.specs.Prelude.{◌≡◌, ◌≤◌, ◌++◌, not, length, All, slice_range, OnOk, IfOk};
+ghost use Rattle.std.specs.List.{position_or_len};
+ghost use Rattle.whole_text.specs.Tokens.{is_feed, is_blank, comment_byte, is_comment, tokens_of_line, tokens_of, words_at, AreInOrder, IsWithin};
+
+use crate::token::{Style, Token};
+use bits_model::NoMemory;
+use std::alloc::Global;
+
+fn is_blank(byte: u8) -> bool
+    ensures { result ≡ is_blank byte }
+{
+    byte == b' ' || byte == b'\t' || byte == b'\r'
+}
+
+/// The byte that begins a comment line.
+fn comment_byte(style: Style) -> u8
+    ensures { result ≡ comment_byte style }
+{
+    match style {
+        Style::Plain => b'c',
+    }
+}
+
+/// How many bytes stand before the first line feed.
+fn line_len(bytes: &[u8]) -> usize
+    ensures first { result ≡ position_or_len is_feed bytes.now }
+    ensures within { result ≤ length bytes.now }
+{
+    bytes
+        .iter()
+        .position(|byte| *byte == b'\n')
+        .unwrap_or(bytes.len())
+}
+
+/// How many bytes stand before the first blank.
+fn word_len(bytes: &[u8]) -> usize
+    ensures first { result ≡ position_or_len is_blank bytes.now }
+    ensures within { result ≤ length bytes.now }
+{
+    bytes
+        .iter()
+        .position(|byte| is_blank(*byte))
+        .unwrap_or(bytes.len())
+}
+
+/// How many blanks stand in front.
+fn blank_len(bytes: &[u8]) -> usize
+    ensures first { result ≡ position_or_len (λ c. not (is_blank c)) bytes.now }
+    ensures within { result ≤ length bytes.now }
+{
+    bytes
+        .iter()
+        .position(|byte| !is_blank(*byte))
+        .unwrap_or(bytes.len())
+}
+
+/// Whether the first byte of the line that is no blank begins a comment.
+fn is_comment(line: &[u8], style: Style) -> bool
+    ensures { result ≡ is_comment style line.now }
+{
+    match line.get(blank_len(line)) {
+        Some(byte) => *byte == comment_byte(style),
+        None => false,
+    }
+}
+
+/// Appends the tokens of the line that stands from `start` to `end`.
+fn push_line(
+    tokens: &mut Vec<Token>,
+    text: &[u8],
+    start: usize,
+    end: usize,
+    line: u64,
+    style: Style,
+) -> Result<(), NoMemory>
+    requires ordered { start ≤ end }
+    requires within { end ≤ length text.now }
+    ensures cut { OnOk result (words_at text.now tokens.new.items
+        ≡ words_at text.now tokens.old.items
+        ++ tokens_of_line style line (slice_range text.now start end)) }
+    ensures in_order { OnOk result (AreInOrder 0 tokens.old.items start
+        → AreInOrder 0 tokens.new.items end) }
+{
+    if is_comment(&text[start..end], style) {
+        return Ok(());
+    }
+    let mut at = start + blank_len(&text[start..end]);
+    while at < end {
+        let stop = at + word_len(&text[at..end]);
+        tokens.push(Token {
+            start: at,
+            end: stop,
+            line,
+        })?;
+        at = stop + blank_len(&text[stop..end]);
+    }
+    Ok(())
+}
+
+/// The tokens of a text, from left to right; its lines are numbered from 1.
+pub fn tokens(alloc: Global, text: &[u8], style: Style) -> Result<Vec<Token>, NoMemory>
+    ensures cut { IfOk result (λ v. words_at text.now v.items ≡ tokens_of style text.now) }
+    ensures in_order { IfOk result (λ v. AreInOrder 0 v.items (length text.now)) }
+    ensures within { IfOk result (λ v. All (IsWithin text.now) v.items) }
+{
+    let mut tokens = Vec::new(alloc);
+    let mut start = 0;
+    let mut line = 1;
+    loop {
+        let end = start + line_len(&text[start..]);
+        push_line(&mut tokens, text, start, end, line, style)?;
+        if end == text.len() {
+            return Ok(tokens);
+        }
+        start = end + 1;
+        line += 1;
+    }
+}

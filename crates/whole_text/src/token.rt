@@ -1,0 +1,19 @@
+//! A token, and the styles of text that are cut into tokens.
+
+/// How the lines of a text are cut.
+///
+/// In each style a blank is a space, a tab or a carriage return, and a comment is a whole line.
+/// `Plain`: each word between blanks is a token, and a line whose first byte that is no blank is
+/// `c` is a comment.
+#[derive(Clone, Copy, Debug, PartialEq, Eq)]
+pub enum Style {
+    Plain,
+}
+
+/// A token of a text: the place of its first byte, the place after its last, and its line.
+#[derive(Clone, Copy, Debug, PartialEq, Eq)]
+pub struct Token {
+    pub start: usize,
+    pub end: usize,
+    pub line: u64,
+}
