@@ -1,0 +1,70 @@
+-- Sums over products and clauses lie within the sizes of their numbers.
+use Rattle.std.proofs.Common.{◌≡◌, ℕ, ◌+◌, ◌<◌, ◌≤◌, Bool, true, false, arith, ap, sym, ◌∙◌, List, length, get_or, take, ℤ, pos, ◌+ℤ◌, unsigned_abs}
+use Rattle.std.specs.List.{sum_by, list_any}
+use Rattle.std.proofs.lemmas.List.Sums.{sum_by-le-sum_by, sum_by-take-le}
+use Rattle.integers.specs.Sums.{total_by, if_so}
+use Rattle.integers.proofs.Totals.{size-total_by, total_by_more}
+use Rattle.bits_model.specs.declared.costs.Cost.TheVariants.{Whole}
+use Rattle.problem_form.specs.declared.terms.Product.{Product}
+use Rattle.problem_form.specs.declared.terms.Clause.{Clause}
+use Rattle.problem_form.specs.Literals.{all_hold}
+use Rattle.problem_form.specs.Problems.{ProblemForm, fails, fails_hard, problem_cost, problem_total, product_value, sum_of, is_violated, soft_cost, soft_weight, products_total}
+
+if_so-size : (b : Bool) (c : ℤ) → unsigned_abs (if_so b c) ≤ unsigned_abs c
+if_so-size true c = omega arith
+if_so-size false c = omega arith
+
+-- a sum of numbers within sizes is within the sum of the sizes
+total_within : {X : Type 0} (f : X → ℤ) (size : X → ℕ) (xs : List X)
+    → ((x : X) → unsigned_abs (f x) ≤ size x) → unsigned_abs (total_by f xs) ≤ sum_by size xs
+total_within f size xs each =
+    omega (arith, size-total_by f xs, sum_by-le-sum_by (λ x. unsigned_abs (f x)) size xs each)
+
+-- and so is the sum up to a place, and one more
+pub more_within : {X : Type 0} (f : X → ℤ) (size : X → ℕ) (xs : List X) (i : ℕ) (x : X) (sum : ℤ)
+    → ((y : X) → unsigned_abs (f y) ≤ size y) → i < length xs → x ≡ get_or xs i x
+    → sum ≡ total_by f (take i xs)
+    → (sum +ℤ f x ≡ total_by f (take (i + 1) xs)) × (unsigned_abs (sum +ℤ f x) ≤ sum_by size xs)
+more_within f size xs i x sum each in' item so_far =
+    let more : sum +ℤ f x ≡ total_by f (take (i + 1) xs) =
+    (λ j. so_far j +ℤ f (item j)) ∙ sym (total_by_more f xs i x in') in (
+      more,
+      omega (
+        arith,
+        ap unsigned_abs more,
+        total_within f size (take (i + 1) xs) each,
+        sum_by-take-le size xs (i + 1),
+      ),
+    )
+
+pub product-size : (x : List Bool) (t : Product)
+    → unsigned_abs (product_value x t) ≤ unsigned_abs t.coefficient
+product-size x t = if_so-size (all_hold x t.literals) t.coefficient
+
+pub clause-size : (x : List Bool) (c : Clause) → unsigned_abs (soft_cost x c) ≤ soft_weight c
+clause-size x c = if_so-size (is_violated x c) (pos (soft_weight c))
+
+pub sum_of-size : (x : List Bool) (products : List Product)
+    → unsigned_abs (sum_of x products) ≤ products_total products
+sum_of-size x products =
+    total_within (product_value x) (λ (t : Product). unsigned_abs t.coefficient) products
+    (product-size x)
+
+pub soft_costs-size : (x : List Bool) (clauses : List Clause)
+    → unsigned_abs (total_by (soft_cost x) clauses) ≤ sum_by soft_weight clauses
+soft_costs-size x clauses = total_within (soft_cost x) soft_weight clauses (clause-size x)
+
+-- ---- the cost, where nothing fails
+
+pub problem_cost-whole : (p : ProblemForm) (x : List Bool) (value : ℤ)
+    → list_any (fails_hard x) p.clauses ≡ false → list_any (fails x) p.constraints ≡ false
+    → value ≡ p.constant +ℤ sum_of x p.objective +ℤ total_by (soft_cost x) p.clauses
+    → Whole value ≡ problem_cost p x
+problem_cost-whole p x value hard constraints e = rw (hard, constraints) (ap Whole e)
+
+-- the parts of the whole cost fit, one after the other
+pub cost_parts : (p : ProblemForm) (x : List Bool)
+    → unsigned_abs p.constant + unsigned_abs (sum_of x p.objective)
+    + unsigned_abs (total_by (soft_cost x) p.clauses)
+    ≤ problem_total p
+cost_parts p x = omega (arith, sum_of-size x p.objective, soft_costs-size x p.clauses)

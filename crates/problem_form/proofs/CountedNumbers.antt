@@ -1,0 +1,118 @@
+-- The numbers that are counted against limits, and arithmetic that stops at the greatest of 128 bits.
+use Rattle.std.proofs.Common.{◌≡◌, Bool, true, false, cond, ℕ, zero, suc, ◌+◌, ◌-◌, ◌*◌, ◌<◌, ◌≤◌, ◌^◌, min, arith, refl, sym, ap, ◌∙◌, inl, inr, List, [], ◌∷◌, fold, length, get_or, take, ℤ, pos, negsuc, ◌-ℤ◌, unsigned_abs}
+use Rattle.std.specs.List.{sum_by, flat_map}
+use Rattle.std.proofs.lemmas.Int.{ints}
+use Rattle.std.proofs.lemmas.Bool.{cases_lt}
+use Rattle.std.proofs.lemmas.List.Sums.{fold-append, sum_by-le-sum_by, sum_by_more}
+use Rattle.std.proofs.Math.Nat.{pow-zero, pow-suc}
+use Rattle.integers.specs.Sums.{positive_part}
+use Rattle.problem_form.specs.declared.terms.Product.{Product}
+use Rattle.problem_form.specs.declared.terms.Constraint.{Constraint}
+use Rattle.problem_form.specs.Problems.{products_total, constraint_total}
+use Rattle.problem_form.specs.Limits.{answered, positive_total, slack_range, reach}
+
+pub fold_flat_map : {A B C : Type 0} (f : C → B → C) (g : A → List B) (start : C) (xs : List A)
+    → fold f start (flat_map g xs) ≡ fold (λ most x. fold f most (g x)) start xs
+fold_flat_map f g start [] = refl
+fold_flat_map f g start (x ∷ xs) =
+    fold-append f start (g x) (flat_map g xs) ∙ fold_flat_map f g (fold f start (g x)) xs
+
+-- ---- the greatest number of 128 bits is where sums and products stop
+
+pub answered-plus : (a b : ℕ) → answered (answered a + answered b) ≡ answered (a + b)
+answered-plus a b = omega arith
+
+right_over : (m a b : ℕ) → m < b → min (a * min b m) m ≡ min (a * b) m
+right_over m zero b over = omega arith
+right_over m (suc a) b over =
+    let full : min b m ≡ m = omega arith in
+    rw full (omega arith)
+
+right_capped : (m a b : ℕ) → min (a * min b m) m ≡ min (a * b) m
+right_capped m a b = elim (cases_lt m b) [
+  | inl over ↦ right_over m a b over
+  | inr small ↦ (λ i. min (a * kept small i) m)
+]
+  where
+    kept : b ≤ m → min b m ≡ b
+    kept h = omega arith
+
+pub answered-times : (a b : ℕ) → answered (a * answered b) ≡ answered (a * b)
+answered-times a b = right_capped (2 ^ 128 - 1) a b
+
+-- ---- sizes
+
+positive_part-le : (z : ℤ) → positive_part z ≤ unsigned_abs z
+positive_part-le (pos n) = omega arith
+positive_part-le (negsuc n) = omega arith
+
+pub positive_total-le : (products : List Product) → positive_total products ≤ products_total products
+positive_total-le products =
+    sum_by-le-sum_by (λ (t : Product). positive_part t.coefficient)
+    (λ (t : Product). unsigned_abs t.coefficient) products
+    (λ t. positive_part-le t.coefficient)
+
+pub slack_range-le : (k : Constraint) → slack_range k ≤ constraint_total k
+slack_range-le k = go k.exact
+  where
+    rest : (m b : ℕ) (z : ℤ) → unsigned_abs z ≤ b → positive_part (pos m -ℤ z) ≤ m + b
+    rest m b z h = omega (arith, ints, positive_part-le (pos m -ℤ z))
+
+    go : (exact : Bool)
+        → cond exact 0 (positive_part (pos (positive_total k.products) -ℤ k.bound))
+        ≤ constraint_total k
+    go true = omega arith
+    go false =
+        omega (
+          arith,
+          positive_total-le k.products,
+          rest (positive_total k.products) (unsigned_abs k.bound) k.bound (omega arith),
+        )
+
+-- ---- one more square
+
+square_is : (r : ℕ) → r * r ≡ r ^ 2
+square_is r = sym (rw (pow-suc, pow-suc, pow-zero) (omega arith))
+
+answered-square : (total n r : ℕ)
+    → answered (answered total + answered (n * answered (r * r))) ≡ answered (total + n * r ^ 2)
+answered-square total n r =
+    ap (λ part. answered (answered total + part))
+    (answered-times n (r * r) ∙ ap (λ square. answered (n * square)) (square_is r))
+    ∙ answered-plus total (n * r ^ 2)
+
+-- a loop's step, by what each call answers
+pub squares_more : (n : ℕ) (ks : List Constraint) (i : ℕ) (k : Constraint) (total r square part next : ℕ)
+    → i < length ks → k ≡ get_or ks i k
+    → total ≡ answered (sum_by (λ c. n * reach c ^ 2) (take i ks)) → r ≡ reach k
+    → square ≡ answered (r * r) → part ≡ answered (n * square) → next ≡ answered (total + part)
+    → next ≡ answered (sum_by (λ c. n * reach c ^ 2) (take (i + 1) ks))
+squares_more n ks i k total r square part next in' item so_far at_r at_square at_part at_next =
+    let f : Constraint → ℕ = λ c. n * reach c ^ 2 in
+    at_next
+    ∙ (λ j. answered (so_far j + (at_part ∙ ap (λ s. answered (n * s)) (at_square
+    ∙ ap (λ x. answered (x * x)) at_r)) j))
+    ∙ answered-square (sum_by f (take i ks)) n (reach k)
+    ∙ ap (λ c. answered (sum_by f (take i ks) + f c)) item
+    ∙ ap answered (sym (sum_by_more f ks i k in'))
+
+-- ---- one more square of a degree
+
+-- the same, for a sum of any numbers
+pub answered_more : {X : Type 0} (f : X → ℕ) (xs : List X) (i : ℕ) (x : X) (total part next : ℕ)
+    → i < length xs → x ≡ get_or xs i x → total ≡ answered (sum_by f (take i xs)) → part ≡ f x
+    → next ≡ answered (total + part) → next ≡ answered (sum_by f (take (i + 1) xs))
+answered_more f xs i x total part next in' item so_far at_part at_next =
+    at_next
+    ∙ (λ j. answered (so_far j + at_part j))
+    ∙ capped (sum_by f (take i xs)) (f x)
+    ∙ ap (λ c. answered (sum_by f (take i xs) + f c)) item
+    ∙ ap answered (sym (sum_by_more f xs i x in'))
+  where
+    capped : (a b : ℕ) → answered (answered a + b) ≡ answered (a + b)
+    capped a b = omega arith
+
+pub answered_sum : (a b p q r : ℕ) → p ≡ answered a → q ≡ answered b → r ≡ answered (p + q)
+    → r ≡ answered (a + b)
+answered_sum a b p q r at_p at_q at_r =
+    at_r ∙ (λ j. answered (at_p j + at_q j)) ∙ answered-plus a b

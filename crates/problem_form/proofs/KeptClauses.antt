@@ -1,0 +1,177 @@
+-- Clauses in normal form: what is kept of one, and what it adds to the sizes of a problem.
+use Rattle.std.proofs.Common.{◌≡◌, ◌≢◌, ℕ, ◌+◌, ◌<◌, ◌≤◌, ◌^◌, Bool, true, false, cond, ◌||◌, eqb, arith, refl, sym, ap, subst, ◌∙◌, List, [], ◌∷◌, ◌++◌, Option, Some, None, Result, Ok, Err, OnOk, OnErr, pos, ◌+ℤ◌, unsigned_abs, unwrap_or}
+use Rattle.std.specs.Prelude.{All}
+use Rattle.std.specs.Ordering.{match_ordering}
+use Rattle.std.proofs.Common.{Ordering, Less, Equal, Greater}
+use Rattle.std.specs.List.{sum_by}
+use Rattle.std.proofs.lemmas.Int.{ints}
+use Rattle.std.proofs.lemmas.Bool.{or_parts, or_left, or_right, or_from, eqb-false}
+use Rattle.std.proofs.lemmas.List.Elements.{All-append, All-cons, All-nil}
+use Rattle.std.proofs.lemmas.List.Sums.{sum_by-append}
+use Rattle.integers.proofs.Totals.{size-plus}
+use Rattle.problem_form.specs.declared.literal.Literal.{Literal}
+use Rattle.problem_form.specs.declared.terms.Clause.{Clause}
+use Rattle.problem_form.specs.Literals.{has_clash, with_literal, literal_set, IsLiteralSet, literal_cmp}
+use Rattle.problem_form.specs.Fields.{IsSound}
+use Rattle.problem_form.specs.Problems.{ProblemForm, IsNormal, IsNormalClause, soft_weight, problem_total}
+use Rattle.problem_form.specs.NormalForm.{is_empty, is_plain_cost, kept_clause, clause_constant, weight_constant, with_clause}
+use Rattle.problem_form.proofs.LiteralSets.{literal_set-ascends, has_clash-literal_set, All-literal_set}
+
+-- ---- a list and its set
+
+with_literal-filled : (l : Literal) (ks : List Literal) → is_empty (with_literal l ks) ≡ false
+with_literal-filled l [] = refl
+with_literal-filled l (k ∷ ks) = go (literal_cmp l k)
+  where
+    go : (o : Ordering) → is_empty (match_ordering o (l ∷ k ∷ ks) (k ∷ ks) (k ∷ with_literal l ks)) ≡ false
+    go Less = refl
+    go Equal = refl
+    go Greater = refl
+
+pub is_empty-literal_set : (ls : List Literal) → is_empty (literal_set ls) ≡ is_empty ls
+is_empty-literal_set [] = refl
+is_empty-literal_set (l ∷ ls) = with_literal-filled l (literal_set ls)
+
+is_plain_cost-literal_set : (w : Option ℕ) (ls : List Literal)
+    → is_plain_cost w (literal_set ls) ≡ is_plain_cost w ls
+is_plain_cost-literal_set None ls = refl
+is_plain_cost-literal_set (Some w) ls = ap (λ e. eqb w 0 || e) (is_empty-literal_set ls)
+
+-- whether a clause is dropped, or goes into the constant
+abbrev pub is_dropped : Option ℕ → List Literal → Bool
+is_dropped w ls = has_clash ls || is_plain_cost w ls
+
+is_dropped-literal_set : (w : Option ℕ) (ls : List Literal)
+    → is_dropped w (literal_set ls) ≡ is_dropped w ls
+is_dropped-literal_set w ls =
+    λ i. has_clash-literal_set ls i || is_plain_cost-literal_set w ls i
+
+-- ---- what is kept of a clause, by the set of its literals
+
+kept_at : (c : Clause) (s : List Literal) (b : Bool) → s ≡ literal_set c.literals
+    → is_dropped c.weight s ≡ b
+    → kept_clause c ≡ cond b [] (record { literals = s; weight = c.weight } ∷ [])
+kept_at c s b same e =
+    let P : List Literal → Type 0 = λ ls. is_dropped c.weight ls ≡ b in
+    let at_set = sym (is_dropped-literal_set c.weight c.literals) ∙ subst P same e in
+    (λ i. cond (at_set i) [] (record { literals = sym same i; weight = c.weight } ∷ []))
+
+pub kept_clause-clash : (c : Clause) (s : List Literal) → s ≡ literal_set c.literals
+    → has_clash s ≡ true → [] ≡ kept_clause c
+kept_clause-clash c s same e =
+    sym (kept_at c s true same (or_left (has_clash s) (is_plain_cost c.weight s) e))
+
+pub kept_clause-number : (c : Clause) (s : List Literal) → s ≡ literal_set c.literals
+    → is_plain_cost c.weight s ≡ true → [] ≡ kept_clause c
+kept_clause-number c s same e =
+    sym (kept_at c s true same (or_right (has_clash s) (is_plain_cost c.weight s) e))
+
+pub kept_clause-kept : (c : Clause) (s : List Literal) → s ≡ literal_set c.literals
+    → has_clash s ≡ false → is_plain_cost c.weight s ≡ false
+    → record { literals = s; weight = c.weight } ∷ [] ≡ kept_clause c
+kept_clause-kept c s same e f =
+    sym (kept_at c s false same (or_from (has_clash s) (is_plain_cost c.weight s) e f))
+
+-- what is kept of a clause is in normal form
+pub kept_clause-normal : (n : ℕ) (c : Clause) → All (λ l. l.variable < n) c.literals
+    → All (IsNormalClause n) (kept_clause c)
+kept_clause-normal n c within = go (is_dropped c.weight c.literals) refl
+  where
+    weighty : is_plain_cost c.weight c.literals ≡ false → (w : ℕ) → c.weight ≡ Some w
+        → (0 < w) × (literal_set c.literals ≢ [])
+    weighty e w some =
+        let parts = or_parts (eqb w 0) (is_empty c.literals)
+        (ap (λ o. is_plain_cost o c.literals) (sym some) ∙ e) in
+        let filled = is_empty-literal_set c.literals ∙ parts.1 in
+        (omega (arith, eqb-false w 0 parts.0), λ none. let empty = ap is_empty none in absurd cc)
+
+    go : (b : Bool) → is_dropped c.weight c.literals ≡ b
+        → All (IsNormalClause n)
+        (cond b [] (record { literals = literal_set c.literals; weight = c.weight } ∷ []))
+    go true e = All-nil _
+    go false e =
+        let parts = or_parts (has_clash c.literals) (is_plain_cost c.weight c.literals) e in
+        let set : IsLiteralSet n (literal_set c.literals) =
+        record {
+          ordered = literal_set-ascends c.literals;
+          apart = has_clash-literal_set c.literals ∙ parts.0;
+          within = All-literal_set (λ l. l.variable < n) c.literals within;
+        } in
+        let kept : Clause = record { literals = literal_set c.literals; weight = c.weight } in
+        let normal : IsNormalClause n kept = record { set = set; weighty = weighty parts.1 } in
+        All-cons (IsNormalClause n) kept [] normal (All-nil _)
+
+pub with_clause-normal : (p : ProblemForm) (c : Clause) → IsNormal p
+    → All (λ l. l.variable < p.variables) c.literals → IsNormal (with_clause p c)
+with_clause-normal p c normal within = record {
+  objective = normal.objective;
+  clauses = All-append (IsNormalClause p.variables) p.clauses (kept_clause c) normal.clauses
+      (kept_clause-normal p.variables c within);
+  constraints = normal.constraints;
+}
+
+-- ---- sizes
+
+weight_within : (w : Option ℕ) (ls s : List Literal) (b : Bool) → is_dropped w ls ≡ b
+    → unsigned_abs (weight_constant w ls)
+    + sum_by soft_weight (cond b [] (record { literals = s; weight = w } ∷ []))
+    ≤ unwrap_or w 0
+weight_within None ls s true e = omega arith
+weight_within None ls s false e = omega arith
+weight_within (Some w) ls s true e = go (is_empty ls)
+  where
+    go : (t : Bool) → unsigned_abs (cond t (pos w) (pos 0)) + 0 ≤ w
+    go true = omega arith
+    go false = omega arith
+weight_within (Some w) ls s false e =
+    let plain = or_parts (has_clash ls) ((eqb w 0) || is_empty ls) e in
+    let filled = or_parts (eqb w 0) (is_empty ls) plain.1 in
+    rw filled.1 (omega arith)
+
+-- what a clause adds to the constant and to the clauses is at most its weight
+pub kept_clause-size : (c : Clause)
+    → unsigned_abs (clause_constant c) + sum_by soft_weight (kept_clause c) ≤ soft_weight c
+kept_clause-size c =
+    weight_within c.weight c.literals (literal_set c.literals) (is_dropped c.weight c.literals) refl
+
+pub with_clause-total : (p : ProblemForm) (c : Clause)
+    → problem_total (with_clause p c) ≤ problem_total p + soft_weight c
+with_clause-total p c =
+    omega (
+      arith,
+      size-plus p.constant (clause_constant c),
+      kept_clause-size c,
+      sum_by-append soft_weight p.clauses (kept_clause c),
+    )
+
+-- ---- a problem with one more clause
+
+pub with_clause-sound : (p : ProblemForm) (c : Clause) → IsSound p
+    → All (λ l. l.variable < p.variables) c.literals
+    → problem_total p + soft_weight c < 2 ^ 100 → IsSound (with_clause p c)
+with_clause-sound p c sound within small =
+    (with_clause-normal p c sound.0 within, omega (arith, with_clause-total p c))
+
+kept_constant : (w : Option ℕ) (ls s : List Literal) (k : Clause) (b : Bool) → is_dropped w ls ≡ b
+    → k ∷ [] ≡ cond b [] (record { literals = s; weight = w } ∷ []) → weight_constant w ls ≡ pos 0
+kept_constant None ls s k b e same = refl
+kept_constant (Some w) ls s k true e same = absurd cc
+kept_constant (Some w) ls s k false e same =
+    let plain = or_parts (has_clash ls) ((eqb w 0) || is_empty ls) e in
+    let filled = or_parts (eqb w 0) (is_empty ls) plain.1 in
+    rw filled.1 refl
+
+pub with_clause-push : (p : ProblemForm) (c k : Clause) → k ∷ [] ≡ kept_clause c
+    → record p { clauses = p.clauses ++ k ∷ [] } ≡ with_clause p c
+with_clause-push p c k same =
+    let none =
+    kept_constant c.weight c.literals (literal_set c.literals) k
+    (is_dropped c.weight c.literals) refl same in
+    let constant : p.constant ≡ p.constant +ℤ clause_constant c = omega (arith, ints, none) in
+    λ i. record p { constant = constant i; clauses = p.clauses ++ same i }
+
+-- a value that a call sets where it succeeds, and leaves where it fails
+pub by_result : {T E A : Type 0} (r : Result T E) (P : A → Type 0) (new set left : A)
+    → OnOk r (new ≡ set) → OnErr r (new ≡ left) → P set → P left → P new
+by_result (Ok x) P new set left e f p q = subst P (sym e) p
+by_result (Err x) P new set left e f p q = subst P (sym f) q

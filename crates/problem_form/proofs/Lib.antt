@@ -1,0 +1,5 @@
+pub mod LiteralSets
+pub mod KeptClauses
+pub mod CountedNumbers
+pub mod CostSizes
+pub mod NormalForms

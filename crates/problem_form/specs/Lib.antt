@@ -1,0 +1,5 @@
+pub mod Literals
+pub mod Problems
+pub mod NormalForm
+pub mod Limits
+pub mod Fields

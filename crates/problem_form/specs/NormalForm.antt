@@ -1,0 +1,105 @@
+-- Which problem a source as written becomes.
+--
+-- A literal counts once. What lists a literal and its complement is dropped, and so are a product
+-- of coefficient 0 and a soft clause of weight 0. Without literals, a product and a soft clause go
+-- into the constant, and a hard clause stays. All else is kept as listed, and equal ones are not
+-- merged.
+use Rattle.std.specs.Prelude.{◌≡◌, ℕ, ℤ, pos, ◌+ℤ◌, ◌-ℤ◌, Bool, true, false, ◌||◌, List, [], ◌∷◌, ◌++◌, map, fold, Option, Some, None, if◌then◌else◌, ◌==◌}
+use Rattle.std.specs.List.{flat_map}
+use Rattle.std.specs.Ordering.{int_eq}
+use Rattle.integers.specs.Sums.{total_by}
+use Rattle.problem_form.specs.declared.literal.Literal.{Literal}
+use Rattle.problem_form.specs.declared.terms.Product.{Product}
+use Rattle.problem_form.specs.declared.terms.Clause.{Clause}
+use Rattle.problem_form.specs.declared.terms.Constraint.{Constraint}
+use Rattle.problem_form.specs.Literals.{has_clash, literal_set}
+use Rattle.problem_form.specs.Problems.{ProblemForm, problem_cost}
+
+abbrev pub is_empty : {A : Type 0} → List A → Bool
+is_empty [] = true
+is_empty (a ∷ others) = false
+
+-- ---- products
+
+abbrev pub kept_product : Product → List Product
+kept_product t =
+    if has_clash t.literals || int_eq t.coefficient (pos 0) || is_empty t.literals
+    then []
+    else record t { literals = literal_set t.literals } ∷ []
+
+abbrev pub product_constant : Product → ℤ
+product_constant t = if is_empty t.literals then t.coefficient else pos 0
+
+-- ---- clauses
+
+-- a soft clause that is dropped, or goes into the constant
+abbrev pub is_plain_cost : Option ℕ → List Literal → Bool
+is_plain_cost None literals = false
+is_plain_cost (Some weight) literals = (weight == 0) || is_empty literals
+
+abbrev pub kept_clause : Clause → List Clause
+kept_clause c =
+    if has_clash c.literals || is_plain_cost c.weight c.literals
+    then []
+    else record c { literals = literal_set c.literals } ∷ []
+
+abbrev pub weight_constant : Option ℕ → List Literal → ℤ
+weight_constant None literals = pos 0
+weight_constant (Some weight) literals = if is_empty literals then pos weight else pos 0
+
+abbrev pub clause_constant : Clause → ℤ
+clause_constant c = weight_constant c.weight c.literals
+
+-- ---- constraints, whose constants go into the bound
+
+abbrev pub normal_constraint : Constraint → Constraint
+normal_constraint k = record {
+  products = flat_map kept_product k.products;
+  bound = k.bound -ℤ total_by product_constant k.products;
+  exact = k.exact;
+}
+
+-- ---- the whole
+
+abbrev pub normal_form : ProblemForm → ProblemForm
+normal_form p = record {
+  variables = p.variables;
+  constant = p.constant
+      +ℤ total_by product_constant p.objective
+      +ℤ total_by clause_constant p.clauses;
+  objective = flat_map kept_product p.objective;
+  clauses = flat_map kept_clause p.clauses;
+  constraints = map normal_constraint p.constraints;
+}
+
+-- a problem of so many variables that says nothing yet
+abbrev pub blank : ℕ → ProblemForm
+blank variables = record {
+  variables = variables;
+  constant = pos 0;
+  objective = [];
+  clauses = [];
+  constraints = [];
+}
+
+-- a problem in normal form with one more clause as written
+abbrev pub with_clause : ProblemForm → Clause → ProblemForm
+with_clause p c = record p {
+  constant = p.constant +ℤ clause_constant c;
+  clauses = p.clauses ++ kept_clause c;
+}
+
+-- the normal form costs what the problem as written costs, under every assignment
+abbrev pub NormalFormKeepsCosts : Type 0
+NormalFormKeepsCosts =
+    (p : ProblemForm) (x : List Bool) → problem_cost (normal_form p) x ≡ problem_cost p x
+
+-- a problem that has clauses alone
+abbrev pub of_clauses : ℕ → List Clause → ProblemForm
+of_clauses variables cs = record (blank variables) { clauses = cs }
+
+-- clauses that are added one by one to a blank problem give the normal form of them all
+abbrev pub ClausesAddUp : Type 0
+ClausesAddUp =
+    (variables : ℕ) (cs : List Clause)
+    → fold with_clause (blank variables) cs ≡ normal_form (of_clauses variables cs)

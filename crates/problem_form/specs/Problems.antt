@@ -1,0 +1,104 @@
+-- What a problem says, as it is written or in normal form: its cost and its sizes.
+use Rattle.std.specs.Prelude.{◌≡◌, ◌≢◌, ℕ, ◌+◌, ◌^◌, ◌<◌, ℤ, pos, ◌+ℤ◌, unsigned_abs, int_lt, Bool, not, ◌&&◌, ◌||◌, List, [], length, Some, unwrap_or, is_none, All, if◌then◌else◌}
+use Rattle.std.specs.List.{list_any, sum_by}
+use Rattle.std.specs.Ordering.{int_eq}
+use Rattle.integers.specs.Sums.{total_by, if_so}
+use Rattle.bits_model.specs.declared.costs.Cost.{Cost}
+use Rattle.bits_model.specs.declared.costs.Cost.TheVariants.{Whole, Infinite}
+use Rattle.bits_model.specs.Costs.{Form}
+use Rattle.problem_form.specs.declared.terms.Product.{Product}
+use Rattle.problem_form.specs.declared.terms.Clause.{Clause}
+use Rattle.problem_form.specs.declared.terms.Constraint.{Constraint}
+use Rattle.problem_form.specs.Literals.{all_hold, some_holds, IsLiteralSet}
+
+-- variables, a constant, products that are added, clauses and constraints that are to hold
+pub record ProblemForm : Type 0 where
+  pub variables : ℕ
+  pub constant : ℤ
+  pub objective : List Product
+  pub clauses : List Clause
+  pub constraints : List Constraint
+
+-- ---- its cost
+
+-- a product counts where all its literals are true
+abbrev pub product_value : List Bool → Product → ℤ
+product_value x t = if_so (all_hold x t.literals) t.coefficient
+
+abbrev pub sum_of : List Bool → List Product → ℤ
+sum_of x products = total_by (product_value x) products
+
+-- no literal of the clause is true
+abbrev pub is_violated : List Bool → Clause → Bool
+is_violated x c = not (some_holds x c.literals)
+
+-- the weight of a soft clause, and 0 for a hard one
+abbrev pub soft_weight : Clause → ℕ
+soft_weight c = unwrap_or c.weight 0
+
+-- a soft clause costs its weight where it is violated
+abbrev pub soft_cost : List Bool → Clause → ℤ
+soft_cost x c = if_so (is_violated x c) (pos (soft_weight c))
+
+abbrev pub fails_hard : List Bool → Clause → Bool
+fails_hard x c = is_none c.weight && is_violated x c
+
+-- the sum is to be the bound where the constraint is exact, and at least the bound elsewhere
+abbrev pub fails : List Bool → Constraint → Bool
+fails x k =
+    if k.exact
+    then not (int_eq (sum_of x k.products) k.bound)
+    else int_lt (sum_of x k.products) k.bound
+
+-- infinite where a hard clause or a constraint fails; else the constant, the true products and the
+-- violated soft clauses
+abbrev pub problem_cost : ProblemForm → List Bool → Cost
+problem_cost p x =
+    if list_any (fails_hard x) p.clauses || list_any (fails x) p.constraints
+    then Infinite
+    else Whole (p.constant +ℤ sum_of x p.objective +ℤ total_by (soft_cost x) p.clauses)
+
+abbrev pub form_of : ProblemForm → Form
+form_of p = record { bits = p.variables; cost = problem_cost p }
+
+-- ---- its sizes
+
+abbrev pub products_total : List Product → ℕ
+products_total products = sum_by (λ t. unsigned_abs t.coefficient) products
+
+abbrev pub constraint_total : Constraint → ℕ
+constraint_total k = products_total k.products + unsigned_abs k.bound
+
+-- the sum of the sizes of all its numbers
+abbrev pub problem_total : ProblemForm → ℕ
+problem_total p =
+    unsigned_abs p.constant + products_total p.objective + sum_by soft_weight p.clauses
+    + sum_by constraint_total p.constraints
+
+-- the square of the degree of each product
+abbrev pub products_size : List Product → ℕ
+products_size products = sum_by (λ t. length t.literals ^ 2) products
+
+-- its variables, 1 for a constant, and the square of the degree of each product and clause
+abbrev pub problem_size : ProblemForm → ℕ
+problem_size p =
+    p.variables + (if int_eq p.constant (pos 0) then 0 else 1) + products_size p.objective
+    + sum_by (λ c. length c.literals ^ 2) p.clauses
+    + sum_by (λ k. products_size k.products) p.constraints
+
+-- ---- its normal form, as a condition
+
+pub record IsNormalProduct (variables : ℕ) (t : Product) : Type 0 where
+  pub set : IsLiteralSet variables t.literals
+  pub filled : t.literals ≢ []
+  pub nonzero : t.coefficient ≢ pos 0
+
+-- a hard clause may be empty, and a soft one has a weight and literals
+pub record IsNormalClause (variables : ℕ) (c : Clause) : Type 0 where
+  pub set : IsLiteralSet variables c.literals
+  pub weighty : (w : ℕ) → c.weight ≡ Some w → (0 < w) × (c.literals ≢ [])
+
+pub record IsNormal (p : ProblemForm) : Type 0 where
+  pub objective : All (IsNormalProduct p.variables) p.objective
+  pub clauses : All (IsNormalClause p.variables) p.clauses
+  pub constraints : All (λ k. All (IsNormalProduct p.variables) k.products) p.constraints

@@ -1,0 +1,26 @@
+//! Bounds of the costs of a problem, on which penalties rest.
+ghost use Rattle.std.specs.Prelude.{◌≡◌, ◌<◌, ◌^◌};
+ghost use Rattle.problem_form.specs.Limits.{cost_size, upper};
+
+use crate::counts::{positive_coefficients, size_of_products, soft_weights};
+use crate::problem::Problem;
+
+impl Problem {
+    /// The sum of the sizes of the objective's coefficients and of the soft weights. No assignment
+    /// costs less by more than this than another.
+    pub fn cost_size(&self) -> u128
+        ensures value { result ≡ cost_size self.now }
+        ensures small { result < 2 ^ 100 }
+    {
+        size_of_products(self.objective.as_slice()) + soft_weights(self.clauses.as_slice())
+    }
+
+    /// The constant, the positive coefficients and the soft weights: no whole cost is greater.
+    pub fn upper(&self) -> i128
+        ensures { result ≡ upper self.now }
+    {
+        let most = positive_coefficients(self.objective.as_slice())
+            + soft_weights(self.clauses.as_slice());
+        self.constant + most as i128
+    }
+}

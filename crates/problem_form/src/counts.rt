@@ -1,0 +1,192 @@
+//! The numbers that are counted against limits.
+ghost use Rattle.std.specs.Prelude.{◌≡◌, ◌+◌, ◌*◌, ◌<◌, ◌^◌, ℤ, length, map, max, fold, count_by, is_none};
+ghost use Rattle.std.specs.List.{sum_by, flat_map};
+ghost use Rattle.integers.specs.Sums.{positive_part};
+ghost use Rattle.problem_form.specs.Problems.{constraint_total, products_size, products_total, soft_weight};
+ghost use Rattle.problem_form.specs.Limits.{answered, degree, pairs, positive_total, reach, slack_range, weight};
+
+use crate::problem::Problem;
+use crate::terms::{Clause, Constraint, Product};
+
+// ---- degrees
+
+/// The greatest of `most` and the degrees of the products.
+fn products_degree(most: usize, products: &[Product]) -> usize
+    ensures { result ≡ fold max most (map (λ t. length t.literals) products.now) }
+{
+    products.iter().fold(
+        most,
+        |most, product| most.max(product.literals.as_slice().len()),
+    )
+}
+
+/// The greatest of `most` and the numbers of literals of the clauses.
+fn clauses_degree(most: usize, clauses: &[Clause]) -> usize
+    ensures { result ≡ fold max most (map (λ c. length c.literals) clauses.now) }
+{
+    clauses.iter().fold(
+        most,
+        |most, clause| most.max(clause.literals.as_slice().len()),
+    )
+}
+
+/// The greatest of `most` and the degrees of the products of the constraints.
+#[tactic(auto, using(crate::proofs::CountedNumbers::fold_flat_map))]
+fn constraints_degree(most: usize, constraints: &[Constraint]) -> usize
+    ensures { result
+        ≡ fold max most (flat_map (λ k. map (λ t. length t.literals) k.products) constraints.now) }
+{
+    constraints.iter().fold(
+        most,
+        |most, constraint| products_degree(most, constraint.products.as_slice()),
+    )
+}
+
+/// The greatest number of literals of a product or a clause.
+pub(crate) fn degree_of(problem: &Problem) -> usize
+    ensures { result ≡ degree problem.now }
+{
+    let most = products_degree(0, problem.objective.as_slice());
+    let most = clauses_degree(most, problem.clauses.as_slice());
+    constraints_degree(most, problem.constraints.as_slice())
+}
+
+// ---- pairs
+
+fn square(degree: usize) -> u128
+    ensures { result ≡ degree ^ 2 }
+{
+    degree as u128 * degree as u128
+}
+
+/// The squares of the degrees of the products. It stops at the greatest number of 128 bits.
+fn product_squares(products: &[Product]) -> u128
+    ensures { result ≡ answered (products_size products.now) }
+{
+    let mut total: u128 = 0;
+    for product in products {
+        total = total.saturating_add(square(product.literals.as_slice().len()));
+    }
+    total
+}
+
+/// The squares of the numbers of literals of the clauses, likewise.
+fn clause_squares(clauses: &[Clause]) -> u128
+    ensures { result ≡ answered (sum_by (λ c. length c.literals ^ 2) clauses.now) }
+{
+    let mut total: u128 = 0;
+    for clause in clauses {
+        total = total.saturating_add(square(clause.literals.as_slice().len()));
+    }
+    total
+}
+
+/// How many pairs the terms have, or the greatest number of 128 bits.
+#[tactic(auto, using(crate::proofs::CountedNumbers::answered_sum))]
+pub(crate) fn pairs_of(problem: &Problem) -> u128
+    ensures { result ≡ answered (pairs problem.now) }
+{
+    let products = product_squares(problem.objective.as_slice());
+    products.saturating_add(clause_squares(problem.clauses.as_slice()))
+}
+
+// ---- sizes
+
+pub(crate) fn size_of_products(products: &[Product]) -> u128
+    requires { products_total products.now < 2 ^ 100 }
+    ensures { result ≡ products_total products.now }
+{
+    products
+        .iter()
+        .map(|product| product.coefficient.unsigned_abs())
+        .sum()
+}
+
+fn soft_weight_of(clause: &Clause) -> u128
+    ensures { result ≡ soft_weight clause.now }
+{
+    match clause.weight {
+        Some(weight) => u128::from(weight),
+        None => 0,
+    }
+}
+
+pub(crate) fn soft_weights(clauses: &[Clause]) -> u128
+    requires { sum_by soft_weight clauses.now < 2 ^ 100 }
+    ensures { result ≡ sum_by soft_weight clauses.now }
+{
+    clauses.iter().map(soft_weight_of).sum()
+}
+
+fn hard_clauses(clauses: &[Clause]) -> usize
+    ensures { result ≡ count_by (λ c. is_none c.weight) clauses.now }
+{
+    clauses
+        .iter()
+        .filter(|clause| clause.weight.is_none())
+        .count()
+}
+
+fn positive_part_of(number: i128) -> u128
+    ensures { result ≡ positive_part number }
+{
+    if number < 0 { 0 } else { number.unsigned_abs() }
+}
+
+pub(crate) fn positive_coefficients(products: &[Product]) -> u128
+    requires { positive_total products.now < 2 ^ 100 }
+    ensures { result ≡ positive_total products.now }
+{
+    products
+        .iter()
+        .map(|product| positive_part_of(product.coefficient))
+        .sum()
+}
+
+/// How far the sum of a constraint can lie above its bound, and 0 where it is exact.
+fn slack_range_of(constraint: &Constraint) -> u128
+    requires { constraint_total constraint.now < 2 ^ 100 }
+    ensures { result ≡ slack_range constraint.now }
+{
+    if constraint.exact {
+        return 0;
+    }
+    let most = positive_coefficients(constraint.products.as_slice());
+    positive_part_of(most as i128 - constraint.bound)
+}
+
+/// The greatest size of the value that is squared for a constraint.
+fn reach_of(constraint: &Constraint) -> u128
+    requires { constraint_total constraint.now < 2 ^ 100 }
+    ensures { result ≡ reach constraint.now }
+{
+    let range = slack_range_of(constraint);
+    size_of_products(constraint.products.as_slice()) + constraint.bound.unsigned_abs() + range
+}
+
+/// The sizes of all coefficients of squares, where one violation adds `penalty` at least. It stops
+/// at the greatest number of 128 bits.
+fn squares(penalty: u128, constraints: &[Constraint]) -> u128
+    requires { sum_by constraint_total constraints.now < 2 ^ 100 }
+    ensures { result ≡ answered (sum_by (λ k. penalty * reach k ^ 2) constraints.now) }
+{
+    let mut total: u128 = 0;
+    for constraint in constraints {
+        let reach = reach_of(constraint);
+        let square = reach.saturating_mul(reach);
+        total = total.saturating_add(penalty.saturating_mul(square));
+    }
+    total
+}
+
+/// The sizes of all coefficients that the penalty method makes, or the greatest number of 128 bits.
+pub(crate) fn weight_of(problem: &Problem) -> u128
+    ensures { result ≡ answered (weight problem.now) }
+{
+    let costs = problem.cost_size();
+    let penalty = costs + 1;
+    let hard = penalty.saturating_mul(hard_clauses(problem.clauses.as_slice()) as u128);
+    (problem.constant.unsigned_abs() + costs)
+        .saturating_add(hard)
+        .saturating_add(squares(penalty, problem.constraints.as_slice()))
+}
