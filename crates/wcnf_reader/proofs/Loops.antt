@@ -1,0 +1,121 @@
+-- Reading one thing after the other, as a loop does.
+use Rattle.std.proofs.Common.{◌≡◌, ℕ, ◌+◌, ◌<◌, Bool, true, false, cond, eqb, ℤ, List, [], ◌∷◌, ◌++◌, length, map, get_or, drop, Option, Some, None, Result, Ok, Err, refl, sym, ap, ◌∙◌, append_assoc, append-nil}
+use Rattle.std.specs.Prelude.{nat_abs}
+use Rattle.std.proofs.lemmas.List.{drop_more}
+use Rattle.whole_text.specs.declared.faults.TextFault.{TextFault}
+use Rattle.whole_text.specs.declared.faults.TextKind.TheVariants as kinds
+use Rattle.whole_text.specs.declared.token.Token.{Token}
+use Rattle.whole_text.specs.Tokens.{Word, word_at, words_at}
+use Rattle.whole_text.specs.Steps.{◌>>=◌, fault}
+use Rattle.problem_form.specs.declared.literal.Literal.{Literal}
+use Rattle.wcnf_reader.specs.Wcnf.{literal_at, literals_at}
+use Rattle.wcnf_reader.specs.Cost.{literal_of}
+use Rattle.wcnf_reader.specs.Views.{some_literal, literal_read, literals_read}
+
+pub words_drop : (text : List ℕ) (ts : List Token) (i : ℕ) (d : Token) → i < length ts
+    → words_at text (drop i ts) ≡ word_at text (get_or ts i d) ∷ words_at text (drop (i + 1) ts)
+words_drop text ts i d lt = ap (words_at text) (drop_more ts i d lt)
+
+-- ---- the literals of a clause
+
+-- numbers, or literals, and what is left
+abbrev pub Numbers : Type 0
+Numbers = Result (List ℤ × List Word) TextFault
+
+abbrev pub Literals : Type 0
+Literals = Result (List Literal × List Word) TextFault
+
+-- literals that were read before, and those that are still read
+abbrev pub after : List Literal → List Literal × List Word → Literals
+after front x = Ok (front ++ x.0, x.1)
+
+abbrev pub with_front : List Literal → Literals → Literals
+with_front front read = read >>= after front
+
+-- numbers with one more in front
+abbrev with_first : ℤ → List ℤ × List Word → Numbers
+with_first z x = Ok (z ∷ x.0, x.1)
+
+-- numbers as literals
+abbrev as_literals : List ℤ × List Word → Literals
+as_literals x = Ok (map literal_of x.0, x.1)
+
+-- what a number gives: the end, or one more before the others
+abbrev next_number : List Word → Numbers → ℤ → Numbers
+next_number ws others z = cond (eqb (nat_abs z) 0) (Ok ([], ws)) (others >>= with_first z)
+
+abbrev maybe_literal : ℤ → Result (Option Literal) TextFault
+maybe_literal z = Ok (some_literal z)
+
+regroup : (front : List Literal) (z : ℤ) (others : Numbers)
+    → with_front front ((others >>= with_first z) >>= as_literals)
+    ≡ with_front (front ++ literal_of z ∷ []) (others >>= as_literals)
+regroup front z (Ok y) = ap (λ xs. Ok (xs, y.1)) (simp append_assoc)
+regroup front z (Err f) = refl
+
+literal_then : (front : List Literal) (l : Literal) (ws : List Word) (others : Numbers)
+    (first : Result ℤ TextFault) → first >>= maybe_literal ≡ Ok (Some l)
+    → with_front front ((first >>= next_number ws others) >>= as_literals)
+    ≡ with_front (front ++ l ∷ []) (others >>= as_literals)
+literal_then front l ws others (Err f) h = absurd cc
+literal_then front l ws others (Ok z) h =
+    let read : some_literal z ≡ Some l = cc in go (eqb (nat_abs z) 0) read
+  where
+    go : (b : Bool) → cond b None (Some (literal_of z)) ≡ Some l
+        → with_front front (cond b (Ok ([], ws)) (others >>= with_first z) >>= as_literals)
+        ≡ with_front (front ++ l ∷ []) (others >>= as_literals)
+    go true e = absurd cc
+    go false e =
+        let same : literal_of z ≡ l = cc in
+        regroup front z others
+        ∙ ap (λ k. with_front (front ++ k ∷ []) (others >>= as_literals)) same
+
+zero_then : (front : List Literal) (ws : List Word) (others : Numbers)
+    (first : Result ℤ TextFault) → first >>= maybe_literal ≡ Ok None
+    → with_front front ((first >>= next_number ws others) >>= as_literals) ≡ Ok (front, ws)
+zero_then front ws others (Err f) h = absurd cc
+zero_then front ws others (Ok z) h =
+    let read : some_literal z ≡ None = cc in go (eqb (nat_abs z) 0) read
+  where
+    go : (b : Bool) → cond b None (Some (literal_of z)) ≡ None
+        → with_front front (cond b (Ok ([], ws)) (others >>= with_first z) >>= as_literals)
+        ≡ Ok (front, ws)
+    go true e = ap (λ (ls : List Literal). Ok (ls, ws)) (append-nil front)
+    go false e = absurd cc
+
+fault_then : (front : List Literal) (f : TextFault) (ws : List Word) (others : Numbers)
+    (first : Result ℤ TextFault) → first >>= maybe_literal ≡ Err f
+    → with_front front ((first >>= next_number ws others) >>= as_literals) ≡ Err f
+fault_then front f ws others (Ok z) h = absurd cc
+fault_then front f ws others (Err g) h = let same : g ≡ f = cc in ap (λ k. Err k) same
+
+pub literal_goes_on : (variables end : ℕ) (front : List Literal) (w : Word) (ws : List Word)
+    (l : Literal) (total : Literals) → literal_read variables w ≡ Ok (Some l)
+    → with_front front (literals_read variables end (w ∷ ws)) ≡ total
+    → with_front (front ++ l ∷ []) (literals_read variables end ws) ≡ total
+unfolding literals_at
+literal_goes_on variables end front w ws l total h so_far =
+    sym (literal_then front l ws (literals_at variables end ws) (literal_at variables w) h) ∙ so_far
+
+pub literals_stop : (variables end : ℕ) (front : List Literal) (w : Word) (ws : List Word)
+    (total : Literals) → literal_read variables w ≡ Ok None
+    → with_front front (literals_read variables end (w ∷ ws)) ≡ total → total ≡ Ok (front, ws)
+unfolding literals_at
+literals_stop variables end front w ws total h so_far =
+    sym so_far ∙ zero_then front ws (literals_at variables end ws) (literal_at variables w) h
+
+pub literals_fail : (variables end : ℕ) (front : List Literal) (w : Word) (ws : List Word)
+    (f : TextFault) (total : Literals) → literal_read variables w ≡ Err f
+    → with_front front (literals_read variables end (w ∷ ws)) ≡ total → total ≡ Err f
+unfolding literals_at
+literals_fail variables end front w ws f total h so_far =
+    sym so_far ∙ fault_then front f ws (literals_at variables end ws) (literal_at variables w) h
+
+pub literals_end : (variables end : ℕ) (front : List Literal) (ws : List Word)
+    (total : Literals) → ws ≡ [] → with_front front (literals_read variables end ws) ≡ total
+    → total ≡ Err (fault kinds.End end)
+unfolding literals_at
+literals_end variables end front ws total none so_far =
+    let one : with_front front (literals_read variables end ws) ≡ Err (fault kinds.End end) =
+    rw none refl in
+    sym so_far ∙ one

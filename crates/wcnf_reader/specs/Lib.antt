@@ -1,0 +1,3 @@
+pub mod Wcnf
+pub mod Cost
+pub mod Views
