@@ -1,0 +1,9 @@
+pub mod SetOrder
+pub mod Additions
+pub mod KeptTerms
+pub mod SetSizes
+pub mod UniqueTerms
+pub mod MapTerms
+pub mod KeptTables
+pub mod Steps
+pub mod TermSets

@@ -1,0 +1,3 @@
+pub mod Terms
+pub mod Tables
+pub mod Entries

@@ -1,0 +1,46 @@
+-- What contracts see of a table.
+use Rattle.std.specs.Prelude.{◌≡◌, ℕ, ◌+◌, ◌≤◌, ◌^◌, ℤ, Bool, List, [], length, All}
+use Rattle.bits_model.specs.declared.costs.Cost.TheVariants.{Whole}
+use Rattle.bits_model.specs.Costs.{Form}
+use Rattle.problem_form.specs.declared.literal.Literal.{Literal}
+use Rattle.term_table.specs.Terms.{Term, terms_cost, terms_total, terms_size, added, collected, coefficient_of, AreTerms}
+
+-- a width, and terms over the variables below it
+pub record TableForm : Type 0 where
+  pub width : ℕ
+  pub terms : List Term
+
+abbrev pub form_of : TableForm → Form
+form_of t = record { bits = t.width; cost = λ x. Whole (terms_cost x t.terms) }
+
+abbrev pub table_size : TableForm → ℕ
+table_size t = t.width + terms_size t.terms
+
+-- what a table keeps
+pub record IsTable (t : TableForm) : Type 0 where
+  pub terms : AreTerms t.width t.terms
+  pub small : terms_total t.terms ≤ 2 ^ 124
+
+-- no term has more than two literals
+abbrev pub IsLow : TableForm → Type 0
+IsLow t = All (λ u. length u.0 ≤ 2) t.terms
+
+abbrev pub with_added : TableForm → List Literal → ℤ → TableForm
+with_added t ls c = record t { terms = added t.terms ls c }
+
+-- ---- laws of the table that additions give
+
+-- it costs what the additions cost, under every assignment
+abbrev pub AdditionsKeepCosts : Type 0
+AdditionsKeepCosts =
+    (x : List Bool) (ts : List Term) → terms_cost x (collected [] ts) ≡ terms_cost x ts
+
+-- each set has the sum of its coefficients
+abbrev pub AdditionsSum : Type 0
+AdditionsSum = (ls : List Literal) (ts : List Term)
+    → coefficient_of ls (collected [] ts) ≡ coefficient_of ls ts
+
+-- it is the only list of terms in order, none of them 0, with these coefficients
+abbrev pub TermsAreSums : Type 0
+TermsAreSums = (width : ℕ) (ts us : List Term) → AreTerms width ts → AreTerms width us
+    → ((ls : List Literal) → coefficient_of ls ts ≡ coefficient_of ls us) → ts ≡ us

@@ -1,0 +1,81 @@
+//! Tables of terms that have at most two literals.
+ghost use Rattle.std.specs.Prelude.{◌≡◌, ◌<◌, length, Any, IfOk, IfErr, OnOk, OnErr};
+ghost use Rattle.std.specs.Bool.{OnTrue, OnFalse};
+ghost use Rattle.term_table.specs.Terms.{terms_total};
+ghost use Rattle.term_table.specs.Tables.{form_of, table_size, IsLow, IsTable};
+
+use crate::table::Table;
+use crate::terms::Terms;
+use bits_model::{Cost, Costed};
+use std::marker::Model;
+
+/// A table without terms of degree 3 or more.
+#[derive(Drop)]
+pub struct LowTable {
+    pub table: Table,
+}
+
+impl Model for LowTable {
+    ghost use Rattle.term_table.specs.Tables.{TableForm, IsLow};
+
+    ghost Value = { TableForm };
+
+    ghost view = { λ t. t.table };
+
+    ghost invariant = { λ t. IsLow t.table };
+}
+
+/// Whether no term has more than two literals.
+fn is_low(table: &Table) -> bool
+    ensures low { OnTrue result (IsLow table.now) }
+    ensures high { OnFalse result (Any (λ u. 2 < length u.0) table.now.terms) }
+{
+    for (literals, _) in table.terms() {
+        if literals.len() > 2 {
+            return false;
+        }
+    }
+    true
+}
+
+/// The table where it is low, and the table as an error elsewhere. Takes no memory.
+pub fn low(table: Table) -> Result<LowTable, Table>
+    ensures low { IfOk result (λ t. t ≡ table) }
+    ensures within { OnOk result (IsLow table) }
+
+    ensures high { IfErr result (λ t. t ≡ table) }
+    ensures above { OnErr result (Any (λ u. 2 < length u.0) table.terms) }
+{
+    if is_low(&table) {
+        Ok(LowTable { table })
+    } else {
+        Err(table)
+    }
+}
+
+impl LowTable {
+    /// The terms in order. Takes no memory.
+    pub fn terms(&self) -> Terms<'_>
+        ensures terms { result ≡ self.now.terms }
+        ensures kept { IsTable self.now }
+        ensures low { IsLow self.now }
+    {
+        self.table.terms()
+    }
+}
+
+impl Costed for LowTable {
+    ghost form = { form_of };
+
+    ghost total = { λ t. terms_total t.terms };
+
+    ghost size = { table_size };
+
+    fn width(&self) -> usize {
+        self.table.width()
+    }
+
+    fn cost(&self, x: &[bool]) -> Cost {
+        self.table.cost(x)
+    }
+}

@@ -1,0 +1,67 @@
+//! A table: literal sets in order, with coefficients that are not 0.
+//!
+//! The sets are the keys of a B-tree, so an addition takes time logarithmic in the number of terms.
+ghost use Rattle.std.specs.Prelude.{◌≡◌, ◌+◌, ◌≤◌, ◌^◌, [], unsigned_abs, OnOk, OnErr};
+ghost use Rattle.term_table.specs.Terms.{terms_total, IsTermSet};
+ghost use Rattle.term_table.specs.Tables.{with_added, IsTable};
+
+use crate::entries::add_to;
+use crate::terms::Terms;
+use bits_model::NoMemory;
+use problem_form::Literal;
+use std::alloc::Global;
+use std::collections::BTreeMap;
+use std::marker::Model;
+
+/// Terms over the variables or nodes below `width`.
+#[derive(Drop)]
+pub struct Table {
+    pub(crate) width: usize,
+    alloc: Global,
+    entries: BTreeMap<Vec<Literal>, i128>,
+}
+
+impl Model for Table {
+    ghost use Rattle.term_table.specs.Tables.{TableForm, IsTable};
+    ghost use Rattle.term_table.specs.Entries.{viewed};
+
+    ghost Value = { TableForm };
+
+    ghost view = { λ t. record { width = t.width; terms = viewed t.entries.entries } };
+
+    ghost invariant = { λ t.
+        IsTable (record { width = t.width; terms = viewed t.entries.entries }) };
+}
+
+impl Table {
+    /// Takes no memory.
+    pub fn new(alloc: Global, width: usize) -> Table
+        ensures { result ≡ record { width = width; terms = [] } }
+    {
+        Table {
+            width,
+            alloc,
+            entries: BTreeMap::new(alloc),
+        }
+    }
+
+    /// Adds to the coefficient of a set. A sum of 0 takes the set out.
+    pub fn add(&mut self, literals: &[Literal], coefficient: i128) -> Result<(), NoMemory>
+        requires set { IsTermSet self.old.width literals.now }
+        requires small { terms_total self.old.terms + unsigned_abs coefficient ≤ 2 ^ 124 }
+        ensures added { OnOk result (self.new ≡ with_added self.old literals.now coefficient) }
+        ensures unchanged { OnErr result (self.new ≡ self.old) }
+    {
+        add_to(self.alloc, &mut self.entries, literals, coefficient)
+    }
+
+    /// The terms in order. Takes no memory.
+    pub fn terms(&self) -> Terms<'_>
+        ensures terms { result ≡ self.now.terms }
+        ensures kept { IsTable self.now }
+    {
+        Terms {
+            entries: self.entries.iter(),
+        }
+    }
+}

@@ -1,0 +1,39 @@
+//! The terms of a table, one after another.
+use problem_form::Literal;
+use std::collections::btree_map;
+use std::marker::Model;
+
+/// Terms in order, which contracts see as the list of those that are left.
+#[derive(Drop)]
+pub struct Terms<'a> {
+    pub(crate) entries: btree_map::Iter<'a, Vec<Literal>, i128>,
+}
+
+impl<'a> Model for Terms<'a> {
+    ghost use Rattle.std.specs.Prelude.{List};
+    ghost use Rattle.term_table.specs.Entries.{viewed};
+    ghost use Rattle.term_table.specs.Terms.{Term};
+
+    ghost Value = { List Term };
+
+    ghost view = { λ t. viewed t.entries };
+}
+
+impl<'a> Iterator for Terms<'a> {
+    type Item = (&'a [Literal], i128);
+
+    ghost use Rattle.std.specs.Prelude.{length};
+    ghost use Rattle.std.specs.Iterator.{at_most};
+    ghost use Rattle.std.specs.Map.Iter.{TakesFirst};
+
+    ghost next_gives = { λ s r t. TakesFirst (λ p. (p.0.now, p.1)) s r t };
+
+    ghost remaining = { λ s. at_most (length s) };
+
+    fn next(&mut self) -> Option<(&'a [Literal], i128)> {
+        match self.entries.next() {
+            Some((literals, coefficient)) => Some((literals.as_slice(), *coefficient)),
+            None => None,
+        }
+    }
+}
