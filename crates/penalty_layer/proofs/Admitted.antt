@@ -1,0 +1,141 @@
+-- What the guard's steps need of a problem that it admits, and what they make of it.
+use Rattle.std.proofs.Common.{◌≡◌, ℕ, ◌+◌, ◌-◌, ◌≤◌, ◌^◌, pos, unsigned_abs, ℤ, List, [], map, get_or, All, refl, subst, sym, ap, ◌∙◌, arith}
+use Rattle.std.specs.Prelude.{None}
+use Rattle.std.specs.List.Sorted.{IsStrictlySortedBy}
+use Rattle.std.proofs.lemmas.List.Sums.{fold-append}
+use Rattle.std.proofs.lemmas.List.Elements.{All-nil, All-from_recursion}
+use Rattle.bits_model.specs.declared.layer.BitsLink.{BitsLink}
+use Rattle.bits_model.specs.Relations.{Relaxes}
+use Rattle.problem_form.specs.declared.terms.Product.{Product}
+use Rattle.problem_form.specs.declared.terms.Clause.{Clause}
+use Rattle.problem_form.specs.Problems.{ProblemForm, IsNormalProduct, IsNormalClause, products_total}
+use Rattle.problem_form.specs.Problems as problems
+use Rattle.problem_form.specs.Limits.{penalty, upper, limit_fault}
+use Rattle.term_table.specs.Terms.{Term, IsTermSet, Ascends, terms_total, added}
+use Rattle.term_table.specs.Tables.{TableForm, table_size, with_added}
+use Rattle.term_table.specs.Tables as tables
+use Rattle.penalty_layer.specs.Penalty.{Admits, opposite, product_term, clause_term, with_terms, image, first_bits, Fits}
+use Rattle.penalty_layer.specs.Relaxing.{penalty_relaxes}
+use Rattle.penalty_layer.specs.Weights.{clause_weights}
+use Rattle.penalty_layer.proofs.OppositeSets.{opposites_set, opposites_length}
+use Rattle.penalty_layer.proofs.Bounds.{within_limits, degrees_within, weights_within, upper_within}
+use Rattle.penalty_layer.proofs.Sizes.{size_within, products_within, image_total}
+
+-- ---- the sets that are added
+
+pub empty_set : (n : ℕ) → IsTermSet n []
+unfolding IsStrictlySortedBy
+empty_set n = record { set = record { ordered = tt; apart = refl; within = All-nil _ }; short = omega arith }
+
+pub product_sets : (p : ProblemForm) (ts : List Product) (width : ℕ) → Admits p → ts ≡ p.objective
+    → width ≡ p.variables → All (λ t. IsTermSet width t.literals) ts
+product_sets p ts width admitted same wide =
+    let short = (degrees_within p 2048 (omega (arith, (within_limits p admitted.within).degree))).0 in
+    let sets : All (λ t. IsTermSet p.variables t.literals) p.objective =
+    λ k d h. record {
+      set = (admitted.normal.objective k d h).set;
+      short = All-from_recursion _ p.objective short k d h;
+    } in
+    subst (λ n. All (λ (t : Product). IsTermSet n t.literals) ts) (sym wide)
+    (subst (λ us. All (λ (t : Product). IsTermSet p.variables t.literals) us) (sym same) sets)
+
+pub clause_sets : (p : ProblemForm) (cs : List Clause) (width : ℕ) → Admits p → cs ≡ p.clauses
+    → width ≡ p.variables → All (λ c. IsTermSet width (map opposite c.literals)) cs
+clause_sets p cs width admitted same wide =
+    let short = (degrees_within p 2048 (omega (arith, (within_limits p admitted.within).degree))).1 in
+    let sets : All (λ c. IsTermSet p.variables (map opposite c.literals)) p.clauses =
+    λ k d h. record {
+      set = opposites_set p.variables _ (admitted.normal.clauses k d h).set;
+      short = omega (arith, opposites_length (get_or p.clauses k d).literals, All-from_recursion _ p.clauses short k d h);
+    } in
+    subst (λ n. All (λ (c : Clause). IsTermSet n (map opposite c.literals)) cs) (sym wide)
+    (subst (λ us. All (λ (c : Clause). IsTermSet p.variables (map opposite c.literals)) us) (sym same) sets)
+
+-- ---- the table that is made
+
+-- q is what the code sees of the problem p
+pub constant_added : (p q : ProblemForm) (empty first : TableForm) (k : ℤ) → q ≡ p
+    → empty ≡ record { width = q.variables; terms = [] } → first ≡ with_added empty [] k → k ≡ q.constant
+    → first ≡ with_added (record { width = p.variables; terms = [] }) [] p.constant
+constant_added p q empty first k same blank one constant =
+    one
+    ∙ (λ i. with_added (blank i) [] (constant i))
+    ∙ ap (λ (u : ProblemForm). with_added (record { width = u.variables; terms = [] }) [] u.constant) same
+
+pub products_added : (p q : ProblemForm) (first second : TableForm) (ts : List Product) → q ≡ p
+    → second ≡ with_terms first (map product_term ts) → ts ≡ q.objective
+    → second ≡ with_terms first (map product_term p.objective)
+products_added p q first second ts same made objective =
+    made
+    ∙ ap (λ us. with_terms first (map product_term us))
+    (objective ∙ ap (λ (u : ProblemForm). u.objective) same)
+
+pub clauses_added : (p q : ProblemForm) (second third : TableForm) (n : ℕ) (cs : List Clause) → q ≡ p
+    → third ≡ with_terms second (map (clause_term n) cs) → n ≡ penalty p → cs ≡ q.clauses
+    → third ≡ with_terms second (map (clause_term (penalty p)) p.clauses)
+clauses_added p q second third n cs same made number clauses =
+    made
+    ∙ (λ i. with_terms second
+    (map (clause_term (number i)) ((clauses ∙ ap (λ (u : ProblemForm). u.clauses) same) i)))
+
+-- the constant, the products and then the clauses were added
+pub made_image : (p : ProblemForm) (first second third : TableForm)
+    → first ≡ with_added (record { width = p.variables; terms = [] }) [] p.constant
+    → second ≡ with_terms first (map product_term p.objective)
+    → third ≡ with_terms second (map (clause_term (penalty p)) p.clauses)
+    → third ≡ image p
+made_image p first second third constant products clauses =
+    let all = map product_term p.objective in
+    clauses
+    ∙ ap (λ t. with_terms t (map (clause_term (penalty p)) p.clauses))
+    (products ∙ ap (λ t. with_terms t all) constant)
+    ∙ ap (λ (ts : List Term). record { width = p.variables; terms = ts })
+    (sym (fold-append (λ (s : List Term) (u : Term). added s u.0 u.1) (added [] [] p.constant) all
+    (map (clause_term (penalty p)) p.clauses)))
+
+-- after the products the clauses fit
+pub clauses_fit : (p : ProblemForm) (first second : TableForm) → limit_fault p ≡ None
+    → first ≡ with_added (record { width = p.variables; terms = [] }) [] p.constant
+    → second ≡ with_terms first (map product_term p.objective)
+    → terms_total second.terms + clause_weights (penalty p) p.clauses ≤ 2 ^ 64 - 1
+clauses_fit p first second none constant products =
+    let table = products ∙ ap (λ t. with_terms t (map product_term p.objective)) constant in
+    omega (
+      arith,
+      ap (λ (t : TableForm). terms_total t.terms) table,
+      products_within p,
+      weights_within p,
+      (within_limits p none).weight,
+    )
+
+pub made_total : (p : ProblemForm) (third : TableForm) → limit_fault p ≡ None → third ≡ image p
+    → terms_total third.terms + 1 ≤ 2 ^ 64
+made_total p third none made =
+    omega (
+      arith,
+      ap (λ (t : TableForm). terms_total t.terms) made,
+      image_total p,
+      weights_within p,
+      (within_limits p none).weight,
+    )
+
+pub made_size : (p : ProblemForm) (third : TableForm) → limit_fault p ≡ None → third ≡ image p
+    → Ascends third.terms → table_size third ≤ 2 ^ 26
+made_size p third none made ascends =
+    let size = size_within p none (subst (λ (t : TableForm). Ascends t.terms) made ascends) in
+    subst (λ t. table_size t ≤ 2 ^ 26) (sym made) size
+
+pub made_relaxes : (link : BitsLink) (p : ProblemForm) (third : TableForm) (threshold : ℤ)
+    → Fits link p → third ≡ image p → threshold ≡ upper p
+    → Relaxes (problems.form_of p) (tables.form_of third) (first_bits link)
+    (record { scale = pos 1; offset = pos 0; threshold = threshold })
+made_relaxes link p third threshold fit made high =
+    let Q : TableForm → ℤ → Type 0 =
+    λ t z. Relaxes (problems.form_of p) (tables.form_of t) (first_bits link) (record { scale = pos 1; offset = pos 0; threshold = z }) in
+    subst (λ t. Q t threshold) (sym made) (subst (λ z. Q (image p) z) (sym high) (penalty_relaxes link p fit))
+
+pub threshold_within : (p : ProblemForm) (threshold : ℤ) → limit_fault p ≡ None → threshold ≡ upper p
+    → unsigned_abs threshold ≤ 2 ^ 64
+threshold_within p threshold none high =
+    let limits = within_limits p none in
+    omega (arith, ap unsigned_abs high, upper_within p, limits.weight)

@@ -1,0 +1,120 @@
+-- What the limits of a problem say of its table.
+use Rattle.std.proofs.Common.{◌≡◌, ℕ, ◌+◌, ◌-◌, ◌*◌, ◌^◌, ◌≤◌, max, min, unsigned_abs, Bool, true, false, cond, ltb, Option, Some, None, unwrap_or, List, [], ◌∷◌, ◌++◌, length, map, fold, count_by, append_assoc, subst, refl, sym, ap, ◌∙◌, arith, inl, inr}
+use Rattle.std.specs.Prelude.{is_none}
+use Rattle.std.specs.List.{sum_by, AllByRecursion}
+use Rattle.std.proofs.lemmas.Int.{ints}
+use Rattle.std.proofs.lemmas.Bool.{cases_lt, lt-ltb}
+use Rattle.std.proofs.lemmas.List.Sums.{sum_by-cons}
+use Rattle.problem_form.specs.declared.limits.LimitFault.{LimitFault}
+use Rattle.problem_form.specs.declared.limits.LimitKind.TheVariants.{Variables, Degree, Pairs, Weight}
+use Rattle.problem_form.specs.declared.terms.Product.{Product}
+use Rattle.problem_form.specs.declared.terms.Clause.{Clause}
+use Rattle.problem_form.specs.Problems.{ProblemForm, products_total, soft_weight}
+use Rattle.problem_form.specs.Limits.{Counted, first_passed, limit_fault, degree, degrees, pairs, weight, penalty, cost_size, upper, most_degree}
+use Rattle.problem_form.proofs.CountedNumbers.{positive_total-le}
+use Rattle.penalty_layer.specs.Weights.{clause_weights}
+
+-- ---- no limit is passed
+
+-- where no number passes its limit, the first does not, and no later one
+within_first : (c : Counted) (cs : List Counted) → first_passed (c ∷ cs) ≡ None
+    → (c.number ≤ c.most) × (first_passed cs ≡ None)
+within_first c cs none =
+    elim (cases_lt c.most c.number) [
+      | inl over ↦ absurd (passed (lt-ltb c.most c.number over))
+      | inr within ↦ (within, rest (ltb c.most c.number) refl none)
+    ]
+  where
+    fault : LimitFault
+    fault = record { kind = c.kind; number = min c.number (2 ^ 128 - 1) }
+
+    passed : ltb c.most c.number ≡ true → ⊥
+    passed e = let some : Some fault ≡ None = sym (ap (λ b. cond b (Some fault) (first_passed cs)) e) ∙ none in cc
+
+    rest : (b : Bool) → ltb c.most c.number ≡ b → cond b (Some fault) (first_passed cs) ≡ None
+        → first_passed cs ≡ None
+    rest true e h = absurd cc
+    rest false e h = h
+
+-- the four counted numbers are within their limits
+pub record IsWithin (p : ProblemForm) : Type 0 where
+  pub variables : p.variables ≤ 2 ^ 20
+  pub degree : degree p ≤ most_degree
+  pub pairs : pairs p ≤ 2 ^ 24
+  pub weight : weight p ≤ 2 ^ 64 - 1
+
+pub within_limits : (p : ProblemForm) → limit_fault p ≡ None → IsWithin p
+within_limits p none =
+    let variables : Counted = record { kind = Variables; number = p.variables; most = 2 ^ 20 } in
+    let degrees : Counted = record { kind = Degree; number = degree p; most = most_degree } in
+    let all_pairs : Counted = record { kind = Pairs; number = pairs p; most = 2 ^ 24 } in
+    let weights : Counted = record { kind = Weight; number = weight p; most = 2 ^ 64 - 1 } in
+    let first = within_first variables (degrees ∷ all_pairs ∷ weights ∷ []) none in
+    let second = within_first degrees (all_pairs ∷ weights ∷ []) first.1 in
+    let third = within_first all_pairs (weights ∷ []) second.1 in
+    let fourth = within_first weights [] third.1 in
+    record { variables = first.0; degree = second.0; pairs = third.0; weight = fourth.0 }
+
+-- ---- degrees
+
+most_of : (start : ℕ) (ns : List ℕ) → (start ≤ fold max start ns) × AllByRecursion (λ n. n ≤ fold max start ns) ns
+most_of start [] = (omega arith, tt)
+most_of start (n ∷ ns) =
+    let rest = most_of (max start n) ns in
+    (omega (arith, rest.0), (omega (arith, rest.0), rest.1))
+
+abbrev pub AtMost : {X : Type 0} → (X → ℕ) → ℕ → List X → Type 0
+AtMost f most xs = AllByRecursion (λ x. f x ≤ most) xs
+
+of_map : {X : Type 0} (f : X → ℕ) (most : ℕ) (xs : List X) (ns : List ℕ)
+    → AllByRecursion (λ n. n ≤ most) (map f xs ++ ns)
+    → AtMost f most xs × AllByRecursion (λ n. n ≤ most) ns
+of_map f most [] ns h = (tt, h)
+of_map f most (x ∷ xs) ns h = let rest = of_map f most xs ns h.1 in ((h.0, rest.0), rest.1)
+
+raised : {X : Type 0} (f : X → ℕ) (low high : ℕ) (xs : List X) → low ≤ high → AtMost f low xs
+    → AtMost f high xs
+raised f low high [] le h = tt
+raised f low high (x ∷ xs) le h = let first = h.0 in (omega arith, raised f low high xs le h.1)
+
+-- no product and no clause has more literals than this
+pub degrees_within : (p : ProblemForm) (most : ℕ) → degree p ≤ most
+    → AtMost (λ (t : Product). length t.literals) most p.objective
+    × AtMost (λ (c : Clause). length c.literals) most p.clauses
+degrees_within p most h =
+    let regrouped = append_assoc (map (λ (t : Product). length t.literals) p.objective) (map (λ (c : Clause). length c.literals) p.clauses) _ in
+    let all = subst (AllByRecursion (λ n. n ≤ degree p)) regrouped (most_of 0 (degrees p)).1 in
+    let products = of_map (λ (t : Product). length t.literals) (degree p) p.objective _ all in
+    let clauses = of_map (λ (c : Clause). length c.literals) (degree p) p.clauses _ products.1 in
+    (raised _ _ _ p.objective h products.0, raised _ _ _ p.clauses h clauses.0)
+
+-- ---- weights
+
+soft_or_penalty : (n : ℕ) (w : Option ℕ) → unwrap_or w n ≡ unwrap_or w 0 + n * cond (is_none w) 1 0
+soft_or_penalty n None = omega arith
+soft_or_penalty n (Some w) = omega arith
+
+-- the soft weights, and the penalty for each hard clause
+pub clause_weights_are : (n : ℕ) (cs : List Clause)
+    → clause_weights n cs ≡ sum_by soft_weight cs + n * count_by (λ c. is_none c.weight) cs
+clause_weights_are n [] = omega arith
+clause_weights_are n (c ∷ cs) =
+    omega (
+      arith,
+      clause_weights_are n cs,
+      soft_or_penalty n c.weight,
+      sum_by-cons (λ (k : Clause). unwrap_or k.weight n) c cs,
+      sum_by-cons soft_weight c cs,
+      ap (λ m. n * m) (sum_by-cons (λ (k : Clause). cond (is_none k.weight) 1 0) c cs),
+    )
+
+-- the sizes of what is added are within the counted weight
+pub weights_within : (p : ProblemForm)
+    → unsigned_abs p.constant + products_total p.objective + clause_weights (penalty p) p.clauses ≤ weight p
+weights_within p = omega (arith, clause_weights_are (penalty p) p.clauses)
+
+pub upper_within : (p : ProblemForm) → unsigned_abs (upper p) ≤ weight p
+upper_within p = omega (arith, ints, positive_total-le p.objective)
+
+pub cost_size_within : (p : ProblemForm) → cost_size p ≤ weight p
+cost_size_within p = omega arith

@@ -1,0 +1,4 @@
+pub mod Penalty
+pub mod Violations
+pub mod Relaxing
+pub mod Weights

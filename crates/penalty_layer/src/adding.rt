@@ -1,0 +1,75 @@
+//! What each part of a problem adds to a table.
+ghost use Rattle.std.specs.Prelude.{◌≡◌, ◌+◌, ◌≤◌, ◌<◌, ◌^◌, pos, map, All, OnOk, unwrap_or};
+ghost use Rattle.problem_form.specs.Problems.{products_total};
+ghost use Rattle.term_table.specs.Terms.{IsTermSet, terms_total};
+ghost use Rattle.penalty_layer.specs.Penalty.{opposite, product_term, clause_term, with_terms};
+ghost use Rattle.penalty_layer.specs.Weights.{clause_weights};
+
+use bits_model::NoMemory;
+use problem_form::{Clause, Literal, Product};
+use std::alloc::Global;
+use term_table::Table;
+
+/// Adds the products with their coefficients.
+pub(crate) fn add_products(table: &mut Table, products: &[Product]) -> Result<(), NoMemory>
+    requires sets { All (λ t. IsTermSet table.old.width t.literals) products.now }
+    requires small { terms_total table.old.terms + products_total products.now ≤ 2 ^ 124 }
+    ensures { OnOk result (table.new ≡ with_terms table.old (map product_term products.now)) }
+{
+    for product in products {
+        table.add(product.literals.as_slice(), product.coefficient)?;
+    }
+    Ok(())
+}
+
+fn opposite(literal: Literal) -> Literal
+    ensures { result ≡ opposite literal }
+{
+    Literal {
+        variable: literal.variable,
+        negated: !literal.negated,
+    }
+}
+
+/// Makes a list that of the complements, in its own memory.
+fn set_opposites(list: &mut Vec<Literal>, literals: &[Literal]) -> Result<(), NoMemory>
+    ensures { OnOk result (list.new.items ≡ map opposite literals.now) }
+{
+    list.clear();
+    for literal in literals {
+        list.push(opposite(*literal))?;
+    }
+    Ok(())
+}
+
+/// The weight of a soft clause, and the penalty for a hard one.
+fn weight_or(clause: &Clause, penalty: u128) -> i128
+    requires { penalty ≤ 2 ^ 100 }
+    ensures { result ≡ pos (unwrap_or clause.now.weight penalty) }
+{
+    match clause.weight {
+        Some(weight) => i128::from(weight),
+        None => penalty as i128,
+    }
+}
+
+/// Adds the products of the clauses, which are the complements of their literals: a soft clause with
+/// its weight, and a hard one with the penalty.
+pub(crate) fn add_clauses(
+    alloc: Global,
+    table: &mut Table,
+    clauses: &[Clause],
+    penalty: u128,
+) -> Result<(), NoMemory>
+    requires sets { All (λ c. IsTermSet table.old.width (map opposite c.literals)) clauses.now }
+    requires small { terms_total table.old.terms + clause_weights penalty clauses.now ≤ 2 ^ 124 }
+    requires penalty { penalty ≤ 2 ^ 100 }
+    ensures { OnOk result (table.new ≡ with_terms table.old (map (clause_term penalty) clauses.now)) }
+{
+    let mut opposites = Vec::new(alloc);
+    for clause in clauses {
+        set_opposites(&mut opposites, clause.literals.as_slice())?;
+        table.add(&opposites, weight_or(clause, penalty))?;
+    }
+    Ok(())
+}

@@ -1,0 +1,87 @@
+//! The penalty method for problems of products and clauses.
+ghost use Rattle.std.specs.Prelude.{◌^◌};
+ghost use Rattle.penalty_layer.specs.Penalty.{Admits, image, figures, first_bits, IsSound, Fits};
+ghost use Rattle.penalty_layer.specs.Relaxing.{penalty_relaxes, penalty_joins, penalty_sound, penalty_whole};
+
+use crate::adding::{add_clauses, add_products};
+use bits_model::{BitsLink, Figures, Guard, Guarded, NoMemory};
+use problem_form::Problem;
+use std::alloc::Global;
+use term_table::Table;
+
+/// The first step of every pipeline: hard clauses become soft ones of a weight that no gain
+/// outweighs, so that a state that breaks one lies above the threshold. It adds no nodes.
+///
+/// The penalty is one more than the sum of the sizes of the objective's coefficients and of the soft
+/// weights (Boros and Hammer, Pseudo-Boolean optimization, 2002).
+#[derive(Drop)]
+pub struct Penalty;
+
+impl Guard for Penalty {
+    type Source = Problem;
+
+    type Target = Table;
+
+    type Link = BitsLink;
+
+    ghost TOTAL_BITS = { 64 };
+
+    ghost SIZE_BITS = { 26 };
+
+    ghost FIGURE_BOUND = { 2 ^ 64 };
+
+    ghost admits = { Admits };
+
+    ghost image = { image };
+
+    ghost figures = { figures };
+
+    ghost decoding = { first_bits };
+
+    ghost is_sound = { IsSound };
+
+    ghost fits = { λ link problem. Fits link problem };
+
+    ghost sound = { penalty_sound };
+
+    ghost joins = { penalty_joins };
+
+    ghost relaxes = { penalty_relaxes };
+
+    ghost whole = { penalty_whole };
+
+    fn guard(&self, alloc: Global, source: &Problem) -> Result<Guarded<Table, BitsLink>, NoMemory> {
+        let width = source.variables as usize;
+        let mut table = Table::new(alloc, width);
+        table.add(&[], source.constant)?;
+        add_products(&mut table, source.objective.as_slice())?;
+        let penalty = source.cost_size() + 1;
+        add_clauses(alloc, &mut table, source.clauses.as_slice(), penalty)?;
+        Ok(Guarded {
+            target: table,
+            link: BitsLink {
+                source_width: width,
+                target_width: width,
+            },
+            figures: Figures {
+                scale: 1,
+                offset: 0,
+                threshold: source.upper(),
+            },
+        })
+    }
+
+    fn decode(&self, alloc: Global, link: &BitsLink, y: &[bool]) -> Result<Vec<bool>, NoMemory> {
+        Ok(y[..link.source_width].to_vec(alloc)?)
+    }
+
+    fn extend(
+        &self,
+        alloc: Global,
+        _source: &Problem,
+        _link: &BitsLink,
+        x: &[bool],
+    ) -> Result<Vec<bool>, NoMemory> {
+        Ok(x.to_vec(alloc)?)
+    }
+}
