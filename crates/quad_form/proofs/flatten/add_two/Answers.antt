@@ -1,0 +1,20 @@
+use Rattle.std.proofs.Common.{◌∷◌, [], arith}
+use Rattle.std.specs.Int.{w128}
+use Rattle.std.proofs.lemmas.Int.{ints, to_z-of_z}
+use Rattle.quad_form.specs.Flat.{multiplied_out}
+use Rattle.quad_form.proofs.FlatSums.{total-one}
+use Rattle.quad_form.proofs.FlatTables.{total-with}
+use Rattle.quad_form.proofs.flatten.add_two.Goals as goal
+
+pub add_after-requires-clause-small : goal.add_after-requires-clause-small
+add_after-requires-clause-small c =
+    let back = to_z-of_z w128 c.args.coefficient c.ranges.coefficient in
+    let second = c.args.second.now in
+    let done = rw back at c.in_ok-add_one.ensures in
+    omega (
+      arith,
+      ints,
+      back,
+      total-one second c.args.coefficient,
+      total-with c.args.flat.now c.add_one.new.flat (multiplied_out (second ∷ []) c.args.coefficient) done,
+    )

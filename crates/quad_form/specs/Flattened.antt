@@ -1,0 +1,366 @@
+-- Flattening keeps costs: the laws stand here, since the layer's members cite them.
+--
+-- Each term costs what the terms cost that it is multiplied out to, a table of sums costs what was
+-- added, and a term adds to the quadratic form where it is placed exactly what it costs.
+use Rattle.std.specs.Prelude.{◌≡◌, ℕ, zero, suc, ◌+◌, ◌<◌, ◌≤◌, ℤ, pos, neg_ℤ, ◌+ℤ◌, Bool, true, false, not, cond, ◌&&◌, ◌||◌, ltb, eqb, List, [], ◌∷◌, ◌++◌, length, All, replicate, slice_set, ⊤, if◌then◌else◌}
+use Rattle.std.specs.List.{AllByRecursion, fold, slice_index_or}
+use Rattle.std.specs.List.Sorted.{IsStrictlySortedBy}
+use Rattle.std.specs.Ordering.{bool_cmp, ordering_then}
+use Rattle.std.specs.declared.cmp.Ordering.TheVariants.{Less, Equal, Greater}
+use Rattle.std.specs.Bool.{Decides}
+use mathlib.Core.Bool.{beq}
+use Rattle.std.proofs.Common.{arith, ap, sym, ◌∙◌, refl, subst}
+use Rattle.std.proofs.lemmas.Int.{ints}
+use Rattle.std.proofs.lemmas.List.{length-set, length-replicate}
+use Rattle.std.proofs.lemmas.List.Elements.{All-nil, All-append, All-head, All-tail, All-from_recursion, recursion_from_All}
+use Rattle.std.proofs.lemmas.Bool.Decides.{Decides-ltb}
+use Rattle.integers.specs.Sums.{total_by, if_so}
+use Rattle.integers.proofs.Totals.{total_by-append, total_by-flat_map, total_by-same, total_by_push}
+use Rattle.bits_model.specs.declared.layer.BitsLink.{BitsLink}
+use Rattle.bits_model.specs.Costs.{IsNeverInfinite}
+use Rattle.bits_model.specs.Output.{bit_at, bits_energy}
+use Rattle.bits_model.specs.Relations.{Keeps, Extends, Joins}
+use Rattle.problem_form.specs.declared.literal.Literal.{Literal}
+use Rattle.problem_form.specs.Literals.{holds, all_hold, literal_cmp, are_opposite, IsLiteralSet}
+use Rattle.term_table.specs.Terms.{Term, term_cost, terms_cost, collected, IsTermSet}
+use Rattle.term_table.specs.Tables.{TableForm, IsTable, IsLow}
+use Rattle.term_table.specs.Tables as tables
+use Rattle.term_table.proofs.Additions.{terms_cost-collected}
+use Rattle.term_table.proofs.KeptTerms.{OfSet, All-collected}
+use Rattle.quad_form.specs.Quads.{QuadForm, node_entries, quad_value, form_of}
+use Rattle.quad_form.specs.Flat.{plain, with_front, multiplied_out, contributions, pair_entry, placed, zero_form, image, same_bits, IsSound, Fits}
+
+-- ---- a set that flattening leaves
+
+-- a variable below the width
+pub record IsPlain (width : ℕ) (l : Literal) : Type 0 where
+  pub plain : l.negated ≡ false
+  pub within : l.variable < width
+
+-- at most two variables below the width, in order
+abbrev pub IsFlat : ℕ → List Literal → Type 0
+IsFlat width [] = ⊤
+IsFlat width (l ∷ []) = IsPlain width l
+IsFlat width (l ∷ k ∷ []) = IsPlain width l × IsPlain width k × (l.variable < k.variable)
+IsFlat width (l ∷ k ∷ m ∷ ls) = ⊥
+
+-- a table to which terms were added
+abbrev pub with_terms : TableForm → List Term → TableForm
+with_terms t ts = record t { terms = collected t.terms ts }
+
+-- ---- a term, multiplied out, costs the same
+
+if_so-and : (a b : Bool) (c : ℤ) → if_so (a && b) c ≡ if_so a (if_so b c)
+if_so-and true b c = refl
+if_so-and false b c = refl
+
+if_so-plus : (a : Bool) (c d : ℤ) → if_so a c +ℤ if_so a d ≡ if_so a (c +ℤ d)
+if_so-plus true c d = refl
+if_so-plus false c d = refl
+
+if_so-zero : (a : Bool) → pos 0 ≡ if_so a (pos 0)
+if_so-zero true = refl
+if_so-zero false = refl
+
+terms_cost-with_front : (y : List Bool) (l : Literal) (ts : List Term)
+    → terms_cost y (with_front l ts) ≡ if_so (holds y l) (terms_cost y ts)
+terms_cost-with_front y l [] = if_so-zero (holds y l)
+terms_cost-with_front y l (t ∷ ts) =
+    (λ i. if_so-and (holds y l) (all_hold y t.0) t.1 i +ℤ terms_cost-with_front y l ts i)
+    ∙ if_so-plus (holds y l) (term_cost y t) (terms_cost y ts)
+
+-- a complement is 1 less the variable
+complement_value : (v r : Bool) (c : ℤ)
+    → if_so r c +ℤ if_so v (if_so r (neg_ℤ c)) ≡ if_so (not v && r) c
+complement_value true true c = omega (arith, ints)
+complement_value true false c = refl
+complement_value false true c = omega (arith, ints)
+complement_value false false c = refl
+
+terms_cost-multiplied_out : (y : List Bool) (ls : List Literal) (c : ℤ)
+    → terms_cost y (multiplied_out ls c) ≡ term_cost y (ls, c)
+terms_cost-multiplied_out y [] c = omega (arith, ints)
+terms_cost-multiplied_out y (l ∷ ls) c =
+    let rest = multiplied_out ls c in
+    let less = multiplied_out ls (neg_ℤ c) in
+    go l.negated (slice_index_or y l.variable false) (all_hold y ls) rest less
+    (terms_cost-multiplied_out y ls c)
+    (terms_cost-multiplied_out y ls (neg_ℤ c))
+    (terms_cost-with_front y (plain l) rest)
+    (terms_cost-with_front y (plain l) less)
+  where
+    go : (n v r : Bool) (a b : List Term)
+        → terms_cost y a ≡ if_so r c → terms_cost y b ≡ if_so r (neg_ℤ c)
+        → terms_cost y (with_front (plain l) a) ≡ if_so v (terms_cost y a)
+        → terms_cost y (with_front (plain l) b) ≡ if_so v (terms_cost y b)
+        → terms_cost y (if n then a ++ with_front (plain l) b else with_front (plain l) a)
+        ≡ if_so (cond n (not v) v && r) c
+    go true v r a b f g h k =
+        total_by-append (term_cost y) a (with_front (plain l) b)
+        ∙ (λ i. f i +ℤ (k ∙ ap (if_so v) g) i)
+        ∙ complement_value v r c
+    go false v r a b f g h k = h ∙ ap (if_so v) f ∙ sym (if_so-and v r c)
+
+terms_cost-contributions : (y : List Bool) (ts : List Term)
+    → terms_cost y (contributions ts) ≡ terms_cost y ts
+terms_cost-contributions y ts =
+    total_by-flat_map (term_cost y) (λ (t : Term). multiplied_out t.0 t.1) ts
+    ∙ total_by-same (λ (t : Term). terms_cost y (multiplied_out t.0 t.1)) (term_cost y) ts
+    (λ t. terms_cost-multiplied_out y t.0 t.1)
+
+-- ---- the sets that are left
+
+-- literals in order, none beside its complement, have variables in order
+in_order : (l k : Literal) → literal_cmp l k ≡ Less → are_opposite l k ≡ false
+    → l.variable < k.variable
+in_order l k less apart =
+    go (ltb l.variable k.variable) (eqb l.variable k.variable) l.negated k.negated
+    (Decides-ltb l.variable k.variable) less apart
+  where
+    go : (below same n m : Bool) → Decides below (l.variable < k.variable)
+        → ordering_then (cond below Less (cond same Equal Greater)) (bool_cmp n m) ≡ Less
+        → (same && not (beq n m)) ≡ false → l.variable < k.variable
+    go true same n m d less apart = d.0 refl
+    go false false n m d less apart = absurd cc
+    go false true true true d less apart = absurd cc
+    go false true true false d less apart = absurd cc
+    go false true false true d less apart = absurd cc
+    go false true false false d less apart = absurd cc
+
+pub two_in_order : (width : ℕ) (l k : Literal) → IsLiteralSet width (l ∷ k ∷ [])
+    → l.variable < k.variable
+unfolding IsStrictlySortedBy
+two_in_order width l k set =
+    in_order l k set.ordered.0.0
+    (none_opposite (are_opposite l l) (are_opposite l k) _ set.apart)
+  where
+    none_opposite : (a b c : Bool) → ((a || (b || false)) || c) ≡ false → b ≡ false
+    none_opposite a false c none = refl
+    none_opposite true true c none = cc
+    none_opposite false true c none = cc
+
+-- all terms have such sets
+abbrev AreFlat : ℕ → List Term → Type 0
+AreFlat width ts = AllByRecursion (OfSet (IsFlat width)) ts
+
+-- a term of one or of two literals, multiplied out, by which of them are complements
+abbrev pub one_out : Bool → Literal → ℤ → List Term
+one_out n v c = if n then ([], c) ∷ (v ∷ [], neg_ℤ c) ∷ [] else (v ∷ [], c) ∷ []
+
+abbrev pub two_out : Bool → Bool → Literal → Literal → ℤ → List Term
+two_out n m v w c =
+    if n
+    then one_out m w c ++ with_front v (one_out m w (neg_ℤ c))
+    else with_front v (one_out m w c)
+
+flat_one : (width : ℕ) (l : Literal) (c : ℤ) → l.variable < width
+    → AreFlat width (multiplied_out (l ∷ []) c)
+flat_one width l c in' = go l.negated
+  where
+    variable : IsPlain width (plain l)
+    variable = record { plain = refl; within = in' }
+
+    go : (n : Bool) → AreFlat width (one_out n (plain l) c)
+    go true = (tt, (variable, tt))
+    go false = (variable, tt)
+
+flat_two : (width : ℕ) (l k : Literal) (c : ℤ) → l.variable < k.variable → k.variable < width
+    → AreFlat width (multiplied_out (l ∷ k ∷ []) c)
+flat_two width l k c up in' = go l.negated k.negated
+  where
+    first : IsPlain width (plain l)
+    first = record { plain = refl; within = omega arith }
+
+    second : IsPlain width (plain k)
+    second = record { plain = refl; within = in' }
+
+    go : (n m : Bool) → AreFlat width (two_out n m (plain l) (plain k) c)
+    go true true = (tt, (second, (first, ((first, second, up), tt))))
+    go true false = (second, ((first, second, up), tt))
+    go false true = (first, ((first, second, up), tt))
+    go false false = ((first, second, up), tt)
+
+flat_term : (width : ℕ) (ls : List Literal) (c : ℤ) → IsLiteralSet width ls → length ls ≤ 2
+    → AreFlat width (multiplied_out ls c)
+flat_term width [] c set short = (tt, tt)
+flat_term width (l ∷ []) c set short =
+    flat_one width l c (All-head (λ k. k.variable < width) l [] set.within)
+flat_term width (l ∷ k ∷ []) c set short =
+    let others = All-tail (λ m. m.variable < width) l (k ∷ []) set.within in
+    flat_two width l k c (two_in_order width l k set)
+    (All-head (λ m. m.variable < width) k [] others)
+flat_term width (l ∷ k ∷ m ∷ ls) c set short = absurd (omega arith)
+
+flat_contributions : (width : ℕ) (ts : List Term)
+    → AllByRecursion (OfSet (IsTermSet width)) ts
+    → AllByRecursion (λ (t : Term). length t.0 ≤ 2) ts
+    → All (OfSet (IsFlat width)) (contributions ts)
+flat_contributions width [] sets low = All-nil (OfSet (IsFlat width))
+flat_contributions width (t ∷ ts) sets low =
+    All-append (OfSet (IsFlat width)) (multiplied_out t.0 t.1) (contributions ts)
+    (All-from_recursion _ _ (flat_term width t.0 t.1 sets.0.set low.0))
+    (flat_contributions width ts sets.1 low.1)
+
+-- the sets of a table of low terms, multiplied out and collected
+pub flat_sets : (t : TableForm) → IsTable t → IsLow t
+    → All (OfSet (IsFlat t.width)) (collected [] (contributions t.terms))
+flat_sets t table low =
+    All-collected (IsFlat t.width) (contributions t.terms)
+    (flat_contributions t.width t.terms (recursion_from_All _ _ table.terms.sets)
+    (recursion_from_All _ _ low))
+
+-- ---- where a term is placed
+
+-- a node's weight that grows by c costs c more where the node is 1
+node_grown : (y : List Bool) (n i node : ℕ) (ws : List ℤ) (c : ℤ) → i < length ws → node ≡ n + i
+    → total_by (bits_energy y) (node_entries n (slice_set ws i (slice_index_or ws i (pos 0) +ℤ c)))
+    ≡ total_by (bits_energy y) (node_entries n ws) +ℤ if_so (bit_at y node) c
+node_grown y n i node [] c in' same = absurd (omega arith)
+node_grown y n zero node (w ∷ ws) c in' same =
+    let first : n ≡ node = omega arith in
+    let bit : if_so (bit_at y n) c ≡ if_so (bit_at y node) c =
+    ap (λ k. if_so (bit_at y k) c) first in
+    omega (arith, ints, bit, grown (bit_at y n) w c)
+  where
+    grown : (b : Bool) (w c : ℤ) → if_so (b && b) (w +ℤ c) ≡ if_so (b && b) w +ℤ if_so b c
+    grown true w c = refl
+    grown false w c = refl
+node_grown y n (suc i) node (w ∷ ws) c in' same =
+    omega (arith, ints, node_grown y (suc n) i node ws c (omega arith) (omega arith))
+
+all_hold-one : (y : List Bool) (l : Literal) → l.negated ≡ false
+    → all_hold y (l ∷ []) ≡ bit_at y l.variable
+all_hold-one y l is = go l.negated (bit_at y l.variable) is
+  where
+    go : (n v : Bool) → n ≡ false → (cond n (not v) v && true) ≡ v
+    go true v is = cc
+    go false true is = refl
+    go false false is = refl
+
+all_hold-two : (y : List Bool) (l k : Literal) → l.negated ≡ false → k.negated ≡ false
+    → all_hold y (l ∷ k ∷ []) ≡ (bit_at y l.variable && bit_at y k.variable)
+all_hold-two y l k is ks =
+    go l.negated (bit_at y l.variable) is (all_hold-one y k ks)
+  where
+    go : (n v : Bool) → n ≡ false → all_hold y (k ∷ []) ≡ bit_at y k.variable
+        → (cond n (not v) v && all_hold y (k ∷ [])) ≡ (v && bit_at y k.variable)
+    go true v is same = cc
+    go false true is same = same
+    go false false is same = refl
+
+pub length-placed : (q : QuadForm) (t : Term) → length (placed q t).diagonal ≡ length q.diagonal
+length-placed q ([], c) = refl
+length-placed q (l ∷ [], c) = length-set q.diagonal l.variable _
+length-placed q (l ∷ k ∷ ls, c) = refl
+
+quad_value-placed : (y : List Bool) (q : QuadForm) (ls : List Literal) (c : ℤ)
+    → IsFlat (length q.diagonal) ls
+    → quad_value (placed q (ls, c)) y ≡ quad_value q y +ℤ term_cost y (ls, c)
+quad_value-placed y q [] c flat = omega (arith, ints)
+quad_value-placed y q (l ∷ []) c flat =
+    let old = slice_index_or q.diagonal l.variable (pos 0) in
+    let grown = slice_set q.diagonal l.variable (old +ℤ c) in
+    let cost : term_cost y (l ∷ [], c) ≡ if_so (bit_at y l.variable) c =
+    ap (λ b. if_so b c) (all_hold-one y l flat.plain) in
+    omega (
+      arith,
+      ints,
+      cost,
+      node_grown y 0 l.variable l.variable q.diagonal c flat.within (omega arith),
+      total_by-append (bits_energy y) (node_entries 0 grown) q.couplers,
+      total_by-append (bits_energy y) (node_entries 0 q.diagonal) q.couplers,
+    )
+quad_value-placed y q (l ∷ k ∷ []) c flat =
+    let entry = pair_entry l k c in
+    let cost : term_cost y (l ∷ k ∷ [], c) ≡ bits_energy y entry =
+    ap (λ b. if_so b c) (all_hold-two y l k flat.0.plain flat.1.plain) in
+    omega (
+      arith,
+      ints,
+      cost,
+      total_by_push (bits_energy y) q.couplers entry,
+      total_by-append (bits_energy y) (node_entries 0 q.diagonal) (q.couplers ++ entry ∷ []),
+      total_by-append (bits_energy y) (node_entries 0 q.diagonal) q.couplers,
+    )
+quad_value-placed y q (l ∷ k ∷ m ∷ ls) c flat = absurd flat
+
+quad_value-fold : (y : List Bool) (q : QuadForm) (width : ℕ) (ts : List Term)
+    → length q.diagonal ≡ width → AreFlat width ts
+    → quad_value (fold placed q ts) y ≡ quad_value q y +ℤ terms_cost y ts
+quad_value-fold y q width [] same flat = omega (arith, ints)
+quad_value-fold y q width (t ∷ ts) same flat =
+    let P : ℕ → Type 0 = λ n. IsFlat n t.0 in
+    omega (
+      arith,
+      ints,
+      quad_value-fold y (placed q t) width ts (length-placed q t ∙ same) flat.1,
+      quad_value-placed y q t.0 t.1 (subst P (sym same) flat.0),
+    )
+
+quad_value-zero : (y : List Bool) (n width : ℕ)
+    → total_by (bits_energy y) (node_entries n (replicate width (pos 0)) ++ []) ≡ pos 0
+quad_value-zero y n zero = refl
+quad_value-zero y n (suc width) =
+    omega (arith, ints, quad_value-zero y (suc n) width, nothing (bit_at y n && bit_at y n))
+  where
+    nothing : (b : Bool) → if_so b (pos 0) ≡ pos 0
+    nothing true = refl
+    nothing false = refl
+
+-- ---- the layer's laws
+
+pub image_value : (t : TableForm) → IsTable t → IsLow t → (y : List Bool)
+    → quad_value (image t) y ≡ terms_cost y t.terms
+image_value t table low y =
+    let ts = collected [] (contributions t.terms) in
+    omega (
+      arith,
+      ints,
+      quad_value-fold y (zero_form t.width) t.width ts (length-replicate t.width (pos 0))
+          (recursion_from_All _ _ (flat_sets t table low)),
+      quad_value-zero y 0 t.width,
+      terms_cost-collected y (contributions t.terms),
+      terms_cost-contributions y t.terms,
+    )
+
+pub length-fold : (q : QuadForm) (ts : List Term)
+    → length (fold placed q ts).diagonal ≡ length q.diagonal
+length-fold q [] = refl
+length-fold q (t ∷ ts) = length-fold (placed q t) ts ∙ length-placed q t
+
+pub length-image : (t : TableForm) → length (image t).diagonal ≡ t.width
+length-image t =
+    length-fold (zero_form t.width) (collected [] (contributions t.terms))
+    ∙ length-replicate t.width (pos 0)
+
+pub flat_sound : (link : BitsLink) (t : TableForm) → Fits link t → IsSound link
+flat_sound link t fits = fits.source ∙ sym fits.target
+
+pub flat_joins : (link : BitsLink) (t : TableForm) → Fits link t
+    → Joins (tables.form_of t) (form_of (image t)) (same_bits link)
+flat_joins link t fits = record {
+  source = fits.source;
+  target = fits.target ∙ sym (length-image t);
+}
+
+-- each assignment reaches itself
+pub flat_reaches : (link : BitsLink) (t : TableForm) (x : List Bool) → Fits link t
+    → length x ≡ t.width
+    → Extends (tables.form_of t) (form_of (image t)) (same_bits link) (pos 1) (pos 0) x x
+flat_reaches link t x fits width = record {
+  width = width ∙ sym (length-image t);
+  decodes = refl;
+  energy = omega (arith, ints, image_value t fits.table fits.low x);
+}
+
+pub flat_keeps : (link : BitsLink) (t : TableForm) → Fits link t
+    → Keeps (tables.form_of t) (form_of (image t)) (same_bits link) (pos 1) (pos 0)
+flat_keeps link t fits = record {
+  positive = omega (arith, ints);
+  width = λ y w. w ∙ length-image t;
+  bound = λ y w. omega (arith, ints, image_value t fits.table fits.low y);
+  reached = λ x w. (x, flat_reaches link t x fits w);
+}
+
+pub flat_whole : (t : TableForm) → IsNeverInfinite (form_of (image t))
+flat_whole t y infinite = cc

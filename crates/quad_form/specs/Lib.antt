@@ -1,0 +1,4 @@
+pub mod Quads
+pub mod Flat
+pub mod Flattened
+pub mod Stated

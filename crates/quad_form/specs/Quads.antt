@@ -1,0 +1,78 @@
+-- Quadratic forms: a constant, a weight for each node, and couplers.
+use Rattle.std.specs.Prelude.{◌≢◌, ℕ, suc, ◌+◌, ◌≤◌, ◌<◌, ◌^◌, ℤ, pos, ◌+ℤ◌, ◌-ℤ◌, unsigned_abs, Bool, List, [], ◌∷◌, ◌++◌, length, All, if◌then◌else◌}
+use Rattle.std.specs.List.{sum_by}
+use Rattle.std.specs.List.Sorted.{IsStrictlySortedBy}
+use Rattle.std.specs.Ordering.{int_eq}
+use Rattle.integers.specs.Sums.{total_by}
+use Rattle.bits_model.specs.declared.costs.Cost.TheVariants.{Whole}
+use Rattle.bits_model.specs.declared.costs.Figures.{Figures}
+use Rattle.bits_model.specs.declared.output.Entry.{Entry}
+use Rattle.bits_model.specs.declared.output.Kind.TheVariants.{Qubo}
+use Rattle.bits_model.specs.Costs.{Form}
+use Rattle.bits_model.specs.Output.{Written, entry_cmp, bits_energy, weight_total, entry_size}
+
+-- what a quadratic form says
+pub record QuadForm : Type 0 where
+  pub constant : ℤ
+  pub diagonal : List ℤ
+  pub couplers : List Entry
+
+-- the entries of nodes with these weights, numbered from n on
+abbrev pub node_entries : ℕ → List ℤ → List Entry
+node_entries n [] = []
+node_entries n (w ∷ ws) = record { first = n; second = n; weight = w } ∷ node_entries (suc n) ws
+
+-- the entries of nodes, and then those of couplers
+abbrev pub entries_of : QuadForm → List Entry
+entries_of q = node_entries 0 q.diagonal ++ q.couplers
+
+-- the constant, the weights of the nodes that are 1 and those of the couplers whose ends are both 1
+abbrev pub quad_value : QuadForm → List Bool → ℤ
+quad_value q y = q.constant +ℤ total_by (bits_energy y) (entries_of q)
+
+abbrev pub form_of : QuadForm → Form
+form_of q = record { bits = length q.diagonal; cost = λ y. Whole (quad_value q y) }
+
+-- ---- its sizes
+
+abbrev pub quad_total : QuadForm → ℕ
+quad_total q = unsigned_abs q.constant + weight_total (entries_of q)
+
+abbrev pub quad_size : QuadForm → ℕ
+quad_size q =
+    length q.diagonal + (if int_eq q.constant (pos 0) then 0 else 1)
+    + sum_by entry_size (entries_of q)
+
+-- ---- what it keeps
+
+-- a coupler of two of the first n nodes, that is not 0
+pub record IsCoupler (n : ℕ) (e : Entry) : Type 0 where
+  pub upward : e.first < e.second
+  pub within : e.second < n
+  pub nonzero : e.weight ≢ pos 0
+
+-- couplers of its nodes, in order and none twice
+pub record IsQuad (q : QuadForm) : Type 0 where
+  pub ordered : IsStrictlySortedBy entry_cmp q.couplers
+  pub couplers : All (IsCoupler (length q.diagonal)) q.couplers
+  pub narrow : length q.diagonal < 2 ^ 32
+  pub small : quad_total q ≤ 2 ^ 124
+
+-- ---- the model that is written for it
+
+-- entries carry no constant: it is taken off the offset and the threshold
+abbrev pub without_constant : Figures → ℤ → Figures
+without_constant figures constant = record figures {
+  offset = figures.offset -ℤ constant;
+  threshold = figures.threshold -ℤ constant;
+}
+
+abbrev pub written_of : QuadForm → ℕ → Figures → Written
+written_of q variables figures = record {
+  kind = Qubo;
+  variables = variables;
+  figures = without_constant figures q.constant;
+  nodes = length q.diagonal;
+  entries = entries_of q;
+  chains = [];
+}

@@ -1,0 +1,15 @@
+//! Quadratic forms over bits: the last form before a QUBO is written.
+#![tactic(auto)]
+
+mod energy;
+mod flatten;
+mod laws;
+mod parts;
+mod quad;
+
+pub use flatten::Flatten;
+pub use laws::written_stands_for_its_form;
+pub use quad::{NumberList, Quad};
+
+#[cfg(test)]
+mod tests;

@@ -1,0 +1,70 @@
+//! A quadratic form that is being made.
+ghost use Rattle.std.specs.Prelude.{◌≡◌, ◌+◌, ◌<◌, ◌≤◌, ◌^◌, IfOk, OnOk, length, unsigned_abs};
+ghost use Rattle.quad_form.specs.Quads.{quad_total, IsQuad};
+ghost use Rattle.quad_form.specs.Flat.{placed, zero_form};
+ghost use Rattle.quad_form.specs.Flattened.{IsFlat};
+
+use crate::quad::{NumberList, Quad};
+use bits_model::{Entry, EntryList, NoMemory};
+use problem_form::Literal;
+use std::alloc::Global;
+use std::marker::Model;
+
+/// A constant, a weight for each node, and couplers, with nothing kept of their order.
+#[derive(Drop)]
+pub struct Parts {
+    constant: i128,
+    diagonal: Vec<i128>,
+    couplers: Vec<Entry>,
+}
+
+impl Model for Parts {
+    ghost use Rattle.quad_form.specs.Quads.{QuadForm};
+
+    ghost Value = { QuadForm };
+
+    ghost view = { λ p. record { constant = p.constant; diagonal = p.diagonal.items; couplers = p.couplers.items } };
+}
+
+impl Parts {
+    /// The form of so many nodes that is 0.
+    pub fn zero(alloc: Global, width: usize) -> Result<Parts, NoMemory>
+        ensures { IfOk result (λ p. p ≡ zero_form width) }
+    {
+        Ok(Parts {
+            constant: 0,
+            diagonal: vec![in alloc; 0; width]?,
+            couplers: Vec::new(alloc),
+        })
+    }
+
+    /// Adds a term over variables: to the constant, to a node's weight, or as a coupler.
+    pub fn place(&mut self, literals: &[Literal], coefficient: i128) -> Result<(), NoMemory>
+        requires flat { IsFlat (length self.old.diagonal) literals.now }
+        requires narrow { length self.old.diagonal < 2 ^ 32 }
+        requires small { quad_total self.old + unsigned_abs coefficient ≤ 2 ^ 124 }
+        ensures { OnOk result (self.new ≡ placed self.old (literals.now, coefficient)) }
+    {
+        match literals {
+            [] => self.constant += coefficient,
+            [node] => self.diagonal[node.variable as usize] += coefficient,
+            [first, second, ..] => self.couplers.push(Entry {
+                first: first.variable as u32,
+                second: second.variable as u32,
+                weight: coefficient,
+            })?,
+        }
+        Ok(())
+    }
+
+    pub fn into_quad(self) -> Quad
+        requires { IsQuad self }
+        ensures { result ≡ self }
+    {
+        Quad {
+            constant: self.constant,
+            diagonal: NumberList::new(self.diagonal),
+            couplers: EntryList::new(self.couplers),
+        }
+    }
+}
