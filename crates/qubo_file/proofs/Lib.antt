@@ -1,0 +1,4 @@
+pub mod RowTexts
+pub mod Numerals
+pub mod ModelRows
+pub mod WholeTexts
