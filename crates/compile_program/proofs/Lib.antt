@@ -1,0 +1,3 @@
+pub mod Readings
+pub mod CompiledTexts
+pub mod LoweredModels

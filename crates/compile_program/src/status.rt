@@ -1,0 +1,46 @@
+//! How a run ends.
+ghost use Rattle.std.specs.Prelude.{◌≡◌};
+
+use problem_form::LimitKind;
+use whole_text::TextKind;
+
+/// A file that a command names: the source, the chain map, or the state or assignment.
+#[derive(Clone, Copy, Debug, PartialEq, Eq)]
+pub enum Which {
+    Source,
+    Map,
+    State,
+}
+
+/// How a run ends: each refusal with what it found.
+#[derive(Clone, Copy, Debug, PartialEq, Eq)]
+pub enum Status {
+    Done,
+    Usage(usize),
+    ReadFault(Which),
+    WriteFault,
+    BadText(Which, TextKind, u64),
+    Limit(Which, LimitKind, u128),
+    NoState(usize),
+    NoMemory,
+}
+
+impl Status {
+    ghost use Rattle.compile_program.specs.Statuses.{exit_number};
+
+    /// The exit status of the program.
+    pub fn number(self) -> u8
+        ensures { result ≡ exit_number self }
+    {
+        match self {
+            Status::Done => 0,
+            Status::Usage(_) => 2,
+            Status::ReadFault(_) => 3,
+            Status::WriteFault => 4,
+            Status::BadText(..) => 5,
+            Status::Limit(..) => 6,
+            Status::NoState(_) => 8,
+            Status::NoMemory => 9,
+        }
+    }
+}
