@@ -1,0 +1,67 @@
+#!/usr/bin/env python3
+"""Runs the program on files named KIND-BYTES.wcnf, and prints a row for each.
+
+    measure.py PROGRAM FILE..
+
+`seconds` are those of the processor (user and system), which a busy machine spoils less than the
+clock; both are the least of RUNS runs (an environment variable, 3 if not set). MB are 10^6 bytes.
+`time x` and `peak x` are the growth from the row above. The peak is told by GNU time. Where there
+is none, it is never below that of this Python, about 10 MB.
+"""
+import os
+import subprocess
+import sys
+import tempfile
+import time
+
+GNU_TIME = '/usr/bin/time'
+ROW = '{:<6} {:>9} {:>9} {:>9} {:>7} {:>9} {:>7} {:>7}'
+HEADING = ROW.format('kind', 'bytes', 'seconds', 'clock', 'MB/s', 'peak MB', 'time x', 'peak x')
+
+
+def run(words):
+    """Seconds of the processor and by the clock, and peak memory in KiB, of one run."""
+    begun = time.perf_counter()
+    process = subprocess.Popen(words, stdout=subprocess.DEVNULL)
+    _, status, usage = os.wait4(process.pid, 0)
+    clock = time.perf_counter() - begun
+    process.returncode = os.waitstatus_to_exitcode(status)
+    if process.returncode != 0:
+        sys.exit(f'status {process.returncode}: {" ".join(words)}')
+    return usage.ru_utime + usage.ru_stime, clock, usage.ru_maxrss
+
+
+def peak(words):
+    """Peak memory in KiB."""
+    if not os.access(GNU_TIME, os.X_OK):
+        return run(words)[2]
+    with tempfile.NamedTemporaryFile('r') as told:
+        run([GNU_TIME, '-f', '%M', '-o', told.name] + words)
+        return int(told.read())
+
+
+def measured(program, file):
+    """Seconds of the processor, seconds by the clock, and peak memory in MB."""
+    words = [program, 'compile', 'wcnf', 'qubo', file]
+    runs = [run(words) for _ in range(int(os.environ.get('RUNS', '3')))]
+    seconds = max(min(r[0] for r in runs), 1e-4)
+    return seconds, min(r[1] for r in runs), peak(words) * 1024 / 1e6
+
+
+def main():
+    program, *files = sys.argv[1:]
+    print(HEADING, flush=True)
+    above = None
+    for file in files:
+        kind, size = os.path.basename(file).split('-')[0], os.path.getsize(file)
+        seconds, clock, memory = measured(program, file)
+        told = [f'{seconds:.4f}', f'{clock:.4f}', f'{size / 1e6 / seconds:.1f}', f'{memory:.1f}']
+        growth = ['', '']
+        if above and above[0] == kind:
+            growth = [f'{seconds / above[1]:.1f}', f'{memory / above[2]:.1f}']
+        print(ROW.format(kind, size, *told, *growth), flush=True)
+        above = kind, seconds, memory
+
+
+if __name__ == '__main__':
+    main()
