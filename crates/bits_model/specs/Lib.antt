@@ -1,5 +1,6 @@
 pub mod Costs
 pub mod Relations
+pub mod Links
 pub mod Composed
 pub mod Least
 pub mod Output

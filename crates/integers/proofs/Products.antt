@@ -102,6 +102,12 @@ times-lt a b c p q =
 pub one_le_times : (a b : ℤ) → pos 1 ≤ℤ a → pos 1 ≤ℤ b → pos 1 ≤ℤ (a *ℤ b)
 one_le_times a b p q = omega (arith, ints, times-le a (pos 1) b (omega (arith, ints)) q)
 
+-- a factor that is not positive turns the order
+pub times-le_negative : (a b c : ℤ) → a ≤ℤ pos 0 → b ≤ℤ c → (a *ℤ c) ≤ℤ (a *ℤ b)
+times-le_negative a b c p q =
+    let turned = times-le (neg_ℤ a) b c (omega (arith, ints)) q in
+    omega (arith, ints, turned, neg-times a b, neg-times a c)
+
 -- a number scaled and moved, twice
 pub scaled_twice : (a2 a1 v b1 b2 : ℤ)
     → a2 *ℤ (a1 *ℤ v +ℤ b1) +ℤ b2 ≡ (a1 *ℤ a2) *ℤ v +ℤ (a2 *ℤ b1 +ℤ b2)

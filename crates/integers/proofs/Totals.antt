@@ -1,13 +1,13 @@
 -- Sums of whole numbers over lists.
-use Rattle.std.proofs.Common.{◌≡◌, ℕ, ◌+◌, ◌<◌, ◌≤◌, arith, ap, ◌∙◌, refl, List, [], ◌∷◌, ◌++◌, map, length, get_or, take, ℤ, pos, ◌+ℤ◌, ◌*ℤ◌, ◌≤ℤ◌, unsigned_abs}
-use Rattle.std.specs.List.{sum_by, flat_map}
+use Rattle.std.proofs.Common.{◌≡◌, ℕ, Bool, true, false, cond, ◌+◌, ◌<◌, ◌≤◌, arith, ap, ◌∙◌, refl, sym, List, [], ◌∷◌, ◌++◌, map, length, get_or, take, ℤ, pos, ◌+ℤ◌, ◌*ℤ◌, ◌≤ℤ◌, unsigned_abs}
+use Rattle.std.specs.List.{count_by, sum_by, flat_map}
 use Rattle.std.specs.List.Sorted.{IsPermutation}
 use Rattle.std.proofs.lemmas.Int.{ints}
 use Rattle.std.proofs.lemmas.List.{take_more}
 use Rattle.std.proofs.lemmas.List.Sums.{sum_by-cons}
 use Rattle.std.proofs.lemmas.List.Sorted.{sum_by-IsPermutation}
 use borrow.Author.Differences.{up, down}
-use Rattle.integers.specs.Sums.{total_by}
+use Rattle.integers.specs.Sums.{total_by, if_so}
 use Rattle.integers.proofs.Products.{times-plus}
 
 pub total_by-append : {X : Type 0} (f : X → ℤ) (xs ys : List X)
@@ -52,6 +52,20 @@ pub total_by-le : {X : Type 0} (f g : X → ℤ) (xs : List X) → ((x : X) → 
     → total_by f xs ≤ℤ total_by g xs
 total_by-le f g [] h = omega (arith, ints)
 total_by-le f g (x ∷ xs) h = omega (arith, ints, h x, total_by-le f g xs h)
+
+-- one number for each element that passes a test
+pub total_by-if_so : {X : Type 0} (test : X → Bool) (c : ℤ) (xs : List X)
+    → total_by (λ x. if_so (test x) c) xs ≡ c *ℤ pos (count_by test xs)
+total_by-if_so test c [] = omega (arith, ints)
+total_by-if_so test c (x ∷ xs) =
+    go (test x) (total_by-if_so test c xs)
+    ∙ ap (λ n. c *ℤ pos n) (sym (sum_by-cons (λ y. cond (test y) 1 0) x xs))
+  where
+    go : (b : Bool) → total_by (λ y. if_so (test y) c) xs ≡ c *ℤ pos (count_by test xs)
+        → if_so b c +ℤ total_by (λ y. if_so (test y) c) xs
+        ≡ c *ℤ pos (cond b 1 0 + count_by test xs)
+    go true rest = omega (arith, ints, rest, times-plus c (pos 1) (pos (count_by test xs)))
+    go false rest = omega (arith, ints, rest)
 
 -- two functions that agree
 pub total_by-same : {X : Type 0} (f g : X → ℤ) (xs : List X) → ((x : X) → f x ≡ g x)
