@@ -67,7 +67,7 @@ pub record Counted : Type 0 where
 
 -- the greatest degree that is accepted
 abbrev pub most_degree : ℕ
-most_degree = 2
+most_degree = 1024
 
 -- in the order in which they are checked
 abbrev pub counted_numbers : ProblemForm → List Counted

@@ -2,7 +2,7 @@
 ghost use Rattle.std.specs.Prelude.{◌≡◌, ◌<◌, ◌^◌};
 ghost use Rattle.std.specs.List.{list_any, sum_by};
 ghost use Rattle.integers.specs.Sums.{total_by};
-ghost use Rattle.problem_form.specs.Literals.{all_hold, holds, some_holds};
+ghost use Rattle.problem_form.specs.Literals.{some_holds};
 ghost use Rattle.problem_form.specs.Problems.{
   constraint_total,
   fails,
@@ -17,38 +17,21 @@ ghost use Rattle.problem_form.specs.Problems.{
   sum_of,
 };
 
-use crate::literal::Literal;
+use crate::literal::{Literal, all_hold};
 use crate::problem::Problem;
 use crate::terms::{Clause, Constraint, Product};
 use bits_model::{Cost, Costed};
 
-/// A variable past the end is false.
-fn literal_holds(literal: &Literal, x: &[bool]) -> bool
-    ensures { result ≡ holds x.now literal.now }
-{
-    let value = match x.get(literal.variable as usize) {
-        Some(bit) => *bit,
-        None => false,
-    };
-    if literal.negated { !value } else { value }
-}
-
-fn all_literals_hold(literals: &[Literal], x: &[bool]) -> bool
-    ensures { result ≡ all_hold x.now literals.now }
-{
-    literals.iter().all(|literal| literal_holds(literal, x))
-}
-
 fn a_literal_holds(literals: &[Literal], x: &[bool]) -> bool
     ensures { result ≡ some_holds x.now literals.now }
 {
-    literals.iter().any(|literal| literal_holds(literal, x))
+    literals.iter().any(|literal| literal.holds(x))
 }
 
 fn value_of(product: &Product, x: &[bool]) -> i128
     ensures { result ≡ product_value x.now product.now }
 {
-    if all_literals_hold(product.literals.as_slice(), x) {
+    if all_hold(product.literals.as_slice(), x) {
         product.coefficient
     } else {
         0

@@ -14,7 +14,7 @@ mod terms;
 
 pub use laws::{clauses_add_up, normal_form_keeps_costs};
 pub use limits::{Choices, High, LimitFault, LimitKind, Normal, check_limits};
-pub use literal::{Literal, LiteralList};
+pub use literal::{Literal, LiteralList, all_hold};
 pub use problem::Problem;
 pub use terms::{Clause, ClauseList, Constraint, ConstraintList, Product, ProductList};
 

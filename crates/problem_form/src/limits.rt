@@ -48,7 +48,7 @@ pub struct Choices {
 const MOST_VARIABLES: u128 = 1 << 20;
 
 /// The greatest number of literals of a product or a clause that is accepted.
-const MOST_DEGREE: u128 = 2;
+const MOST_DEGREE: u128 = 1024;
 
 /// The greatest number of pairs of literals that is accepted.
 const MOST_PAIRS: u128 = 1 << 24;

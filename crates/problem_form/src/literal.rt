@@ -1,5 +1,6 @@
 //! Literals, and lists of them.
 ghost use Rattle.std.specs.Prelude.{◌≡◌};
+ghost use Rattle.problem_form.specs.Literals.{all_hold, holds};
 
 use std::marker::Model;
 
@@ -8,6 +9,26 @@ use std::marker::Model;
 pub struct Literal {
     pub variable: u64,
     pub negated: bool,
+}
+
+impl Literal {
+    /// Whether the literal is true under an assignment. A variable past its end is false.
+    pub fn holds(&self, x: &[bool]) -> bool
+        ensures { result ≡ holds x.now self.now }
+    {
+        let value = match x.get(self.variable as usize) {
+            Some(bit) => *bit,
+            None => false,
+        };
+        if self.negated { !value } else { value }
+    }
+}
+
+/// Whether all literals are true under an assignment.
+pub fn all_hold(literals: &[Literal], x: &[bool]) -> bool
+    ensures { result ≡ all_hold x.now literals.now }
+{
+    literals.iter().all(|literal| literal.holds(x))
 }
 
 /// Literals, which contracts see as a list.

@@ -199,7 +199,7 @@ fn limits_are_exact(rt: HostRuntime) -> Result<(), Fail> {
         (1_048_577, &[], Some((LimitKind::Variables, 1_048_577))),
         (2, &[(&[NOT_B], None)], None),
         (3, &[(&[A, NOT_B], None)], None),
-        (3, &[(&[A, NOT_B, C], None)], Some((LimitKind::Degree, 3))),
+        (3, &[(&[A, NOT_B, C], None)], None),
         // the variables are counted first
         (
             1_048_577,

@@ -1,4 +1,4 @@
-use Rattle.std.proofs.Common.{◌≡◌, ◌^◌, ℕ, length, ap, ◌∙◌}
+use Rattle.std.proofs.Common.{◌^◌, ℕ, length, ap, ◌∙◌}
 use Rattle.problem_form.specs.declared.terms.Product.{Product}
 use Rattle.problem_form.proofs.CountedNumbers.{answered_more}
 use Rattle.problem_form.proofs.counts.product_squares.Goals as goal

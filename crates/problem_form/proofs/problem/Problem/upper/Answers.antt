@@ -1,9 +1,9 @@
-use Rattle.std.proofs.Common.{◌≡◌, ◌<◌, ◌^◌, ◌+◌, ℕ, List, ℤ, pos, ◌+ℤ◌, to_z, of_z, subst, sym, ap, ◌∙◌, arith, rules}
+use Rattle.std.proofs.Common.{◌≡◌, ◌<◌, ◌^◌, ◌+◌, List, ◌+ℤ◌, to_z, of_z, subst, sym, ap, ◌∙◌, arith}
 use Rattle.std.specs.Int.{w128}
 use Rattle.std.specs.List.{sum_by}
 use Rattle.std.proofs.lemmas.Int.{ints}
 use Rattle.problem_form.specs.declared.terms.Product.{Product}
-use Rattle.problem_form.specs.Problems.{ProblemForm, soft_weight}
+use Rattle.problem_form.specs.Problems.{soft_weight}
 use Rattle.problem_form.specs.Limits.{positive_total, upper}
 use Rattle.problem_form.specs.Fields.{form_within}
 use Rattle.problem_form.proofs.CountedNumbers.{positive_total-le}
