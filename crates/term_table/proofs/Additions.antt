@@ -20,18 +20,18 @@ use Rattle.term_table.proofs.SetOrder.{same_set}
 
 -- ---- the sum of the coefficients whose sets pass a test
 
-abbrev weight : (List Literal → Bool) → List Term → ℤ
+abbrev pub weight : (List Literal → Bool) → List Term → ℤ
 weight test ts = total_by (λ t. if_so (test t.0) t.1) ts
 
 if_so-zero : (b : Bool) (c : ℤ) → c ≡ pos 0 → if_so b c ≡ pos 0
 if_so-zero true c zero = zero
 if_so-zero false c zero = refl
 
-if_so-plus : (b : Bool) (c d : ℤ) → if_so b (c +ℤ d) ≡ if_so b c +ℤ if_so b d
+pub if_so-plus : (b : Bool) (c d : ℤ) → if_so b (c +ℤ d) ≡ if_so b c +ℤ if_so b d
 if_so-plus true c d = refl
 if_so-plus false c d = refl
 
-weight-in_front : (test : List Literal → Bool) (ls : List Literal) (c : ℤ) (ts : List Term)
+pub weight-in_front : (test : List Literal → Bool) (ls : List Literal) (c : ℤ) (ts : List Term)
     → weight test (in_front ls c ts) ≡ if_so (test ls) c +ℤ weight test ts
 weight-in_front test ls c ts = go (int_eq c (pos 0)) (Decides-int_eq c (pos 0))
   where

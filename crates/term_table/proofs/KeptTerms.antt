@@ -60,10 +60,10 @@ All-collected P ts each = All-more P [] ts (All-nil (OfSet P)) each
 
 -- ---- no coefficient is 0
 
-abbrev IsNonzero : Term → Type 0
+abbrev pub IsNonzero : Term → Type 0
 IsNonzero t = t.1 ≢ pos 0
 
-nonzero-in_front : (ls : List Literal) (c : ℤ) (ts : List Term) → All IsNonzero ts
+pub nonzero-in_front : (ls : List Literal) (c : ℤ) (ts : List Term) → All IsNonzero ts
     → All IsNonzero (in_front ls c ts)
 nonzero-in_front ls c ts all = go (int_eq c (pos 0)) (Decides-int_eq c (pos 0))
   where
@@ -90,7 +90,7 @@ nonzero-added (t ∷ ts) ls c all =
 abbrev pub Under : List Literal → List Term → Type 0
 Under ks ts = AllByRecursion (λ ls. set_cmp ks ls ≡ Less) (keys_of ts)
 
-Under-in_front : (ks ls : List Literal) (c : ℤ) (ts : List Term) → set_cmp ks ls ≡ Less → Under ks ts
+pub Under-in_front : (ks ls : List Literal) (c : ℤ) (ts : List Term) → set_cmp ks ls ≡ Less → Under ks ts
     → Under ks (in_front ls c ts)
 Under-in_front ks ls c ts less under = go (int_eq c (pos 0))
   where
@@ -120,7 +120,7 @@ Under-further ks ls (t ∷ ts) less under =
 pub greater_back : (ls ks : List Literal) → set_cmp ls ks ≡ Greater → set_cmp ks ls ≡ Less
 greater_back ls ks e = set_total.antisymm ks ls ∙ ap ordering_reverse e
 
-Ascends-in_front : (ls : List Literal) (c : ℤ) (ts : List Term) → Under ls ts → Ascends ts
+pub Ascends-in_front : (ls : List Literal) (c : ℤ) (ts : List Term) → Under ls ts → Ascends ts
     → Ascends (in_front ls c ts)
 unfolding IsStrictlySortedBy
 Ascends-in_front ls c ts under ascends = go (int_eq c (pos 0))
@@ -145,7 +145,7 @@ Ascends-added (t ∷ ts) ls c ascends =
 
 -- ---- all three
 
-Ascends-nil : Ascends []
+pub Ascends-nil : Ascends []
 unfolding IsStrictlySortedBy
 Ascends-nil = tt
 
@@ -175,3 +175,21 @@ AreTerms-more width table (t ∷ ts) terms each =
 pub AreTerms-collected : (width : ℕ) (ts : List Term) → All (OfSet (IsTermSet width)) ts
     → AreTerms width (collected [] ts)
 AreTerms-collected width ts each = AreTerms-more width [] ts (AreTerms-nil width) each
+
+-- ---- the order, and that no coefficient is 0, of any additions
+
+Ascends-more : (table ts : List Term) → Ascends table → Ascends (collected table ts)
+Ascends-more table [] ascends = ascends
+Ascends-more table (t ∷ ts) ascends =
+    Ascends-more (added table t.0 t.1) ts (Ascends-added table t.0 t.1 ascends)
+
+pub Ascends-collected : (ts : List Term) → Ascends (collected [] ts)
+Ascends-collected ts = Ascends-more [] ts Ascends-nil
+
+nonzero-more : (table ts : List Term) → All IsNonzero table → All IsNonzero (collected table ts)
+nonzero-more table [] all = all
+nonzero-more table (t ∷ ts) all =
+    nonzero-more (added table t.0 t.1) ts (nonzero-added table t.0 t.1 all)
+
+pub nonzero-collected : (ts : List Term) → All IsNonzero (collected [] ts)
+nonzero-collected ts = nonzero-more [] ts (All-nil IsNonzero)

@@ -3,7 +3,12 @@ pub mod Additions
 pub mod KeptTerms
 pub mod SetSizes
 pub mod UniqueTerms
+pub mod SummedTerms
+pub mod SummedSteps
 pub mod MapTerms
 pub mod KeptTables
+pub mod ListedTerms
 pub mod Steps
+pub mod SmallSets
 pub mod TermSets
+pub mod Loops

@@ -1,6 +1,6 @@
--- The entries of a map as terms: a look-up, a removal and an insertion of the map are those of the
--- list of terms, and an addition stores one coefficient.
-use Rattle.std.proofs.Common.{◌≡◌, ◌≢◌, ◌≤◌, Bool, true, false, cond, arith, sym, ap, ◌∙◌, refl, List, [], ◌∷◌, ℤ, pos, ◌+ℤ◌, Option, Some, Vec, unsigned_abs}
+-- What an addition does to terms, by what a look-up finds: it writes the sum in its place, takes the
+-- set out, puts it in, or leaves all as it is.
+use Rattle.std.proofs.Common.{◌≡◌, ◌≢◌, ◌≤◌, Bool, true, false, cond, arith, sym, ap, ◌∙◌, refl, List, [], ◌∷◌, ℤ, pos, ◌+ℤ◌, Option, Some, None, unsigned_abs}
 use Rattle.std.specs.Bool.{Decides}
 use Rattle.std.specs.Option.{unwrap_or}
 use Rattle.std.specs.Ordering.{int_eq, is_eq, match_ordering}
@@ -8,8 +8,6 @@ use Rattle.std.specs.declared.cmp.Ordering.{Ordering}
 use Rattle.std.specs.declared.cmp.Ordering.TheVariants.{Less, Equal, Greater}
 use Rattle.std.specs.BTreeMap.{is_at, insert_entry}
 use Rattle.std.specs.Map.{lookup, set_value, remove_entry, keys_of}
-use Rattle.std.specs.List.{AllByRecursion}
-use Rattle.std.specs.List.Sorted.{IsStrictlySortedBy}
 use Rattle.std.proofs.lemmas.Int.{ints}
 use Rattle.std.proofs.lemmas.Bool.Decides.{Decides-int_eq}
 use Rattle.std.proofs.lemmas.Map.{lookup-none, NonePasses}
@@ -17,7 +15,7 @@ use Rattle.std.proofs.lemmas.Map.Keys.{sorted_tail}
 use Rattle.std.proofs.lemmas.Map.Entries.{none_below_head}
 use Rattle.problem_form.specs.declared.literal.Literal.{Literal}
 use Rattle.term_table.specs.Terms.{Term, set_cmp, terms_total, in_front, added, Ascends}
-use Rattle.term_table.specs.Entries.{viewed, stored}
+use Rattle.term_table.specs.Entries.{IsRaised}
 use Rattle.term_table.proofs.SetOrder.{set_total}
 use Rattle.term_table.proofs.Additions.{terms_total-cons}
 
@@ -51,7 +49,7 @@ found_within (t ∷ ts) ls k e = go (is_eq (set_cmp ls t.0)) e (found_within ts 
         let value : k ≡ t.1 = cc in omega (arith, terms_total-cons t ts, ap unsigned_abs value)
     go false later rest = omega (arith, terms_total-cons t ts, rest later)
 
--- ---- an addition stores the sum
+-- ---- where the sum is written, and where the set is taken out
 
 in_front-zero : (ls : List Literal) (c : ℤ) (ts : List Term) → c ≡ pos 0 → in_front ls c ts ≡ ts
 in_front-zero ls c ts zero = ap (λ d. in_front ls d ts) zero
@@ -112,36 +110,8 @@ added-zero (t ∷ ts) ls c sum ascends e zero =
     go Equal equal here rest = in_front-zero t.0 (t.1 +ℤ c) ts (sym here ∙ zero)
     go Greater greater here rest = ap (λ us. t ∷ us) (rest here zero)
 
--- where the set is taken out, and where its coefficient is written
-pub stored-zero : (ts : List Term) (ls : List Literal) (c : ℤ) → c ≡ pos 0
-    → stored ts ls c ≡ remove_entry (is_at (set_cmp ls)) ts
-stored-zero ts ls c zero =
-    ap
-    (λ d. cond (int_eq d (pos 0)) (remove_entry (is_at (set_cmp ls)) ts) (insert_entry set_cmp ts ls c))
-    zero
-
-pub stored-nonzero : (ts : List Term) (ls : List Literal) (c : ℤ) → c ≢ pos 0
-    → stored ts ls c ≡ insert_entry set_cmp ts ls c
-stored-nonzero ts ls c nonzero = go (int_eq c (pos 0)) (Decides-int_eq c (pos 0))
-  where
-    go : (zero : Bool) → Decides zero (c ≡ pos 0)
-        → cond zero (remove_entry (is_at (set_cmp ls)) ts) (insert_entry set_cmp ts ls c)
-        ≡ insert_entry set_cmp ts ls c
-    go true d = absurd (nonzero (d.0 refl))
-    go false d = refl
-
-pub added-stored : (ts : List Term) (ls : List Literal) (c sum : ℤ) → Ascends ts
-    → sum ≡ current ls ts +ℤ c → added ts ls c ≡ stored ts ls sum
-added-stored ts ls c sum ascends e = go (int_eq sum (pos 0)) (Decides-int_eq sum (pos 0))
-  where
-    go : (zero : Bool) → Decides zero (sum ≡ pos 0)
-        → added ts ls c
-        ≡ cond zero (remove_entry (is_at (set_cmp ls)) ts) (insert_entry set_cmp ts ls sum)
-    go true d = added-zero ts ls c sum ascends e (d.0 refl)
-    go false d = added-nonzero ts ls c sum ascends e (λ zero. let yes = d.1 zero in cc)
-
 -- a set that has a coefficient is written in place
-pub insert_entry-found : (ts : List Term) (ls : List Literal) (k c : ℤ) → Ascends ts
+insert_entry-found : (ts : List Term) (ls : List Literal) (k c : ℤ) → Ascends ts
     → found ls ts ≡ Some k → insert_entry set_cmp ts ls c ≡ set_value (is_at (set_cmp ls)) ts c
 insert_entry-found [] ls k c ascends e = cc
 insert_entry-found (t ∷ ts) ls k c ascends e =
@@ -160,67 +130,62 @@ insert_entry-found (t ∷ ts) ls k c ascends e =
     go Equal equal here rest = refl
     go Greater greater here rest = ap (λ us. t ∷ us) (rest here)
 
--- ---- the entries of the map, as terms
+remove_entry-missing : (test : List Literal → Bool) (ts : List Term) → lookup test ts ≡ None
+    → remove_entry test ts ≡ ts
+remove_entry-missing test [] none = refl
+remove_entry-missing test (t ∷ ts) none = go (test t.0) none (remove_entry-missing test ts)
+  where
+    go : (here : Bool) → cond here (Some t.1) (lookup test ts) ≡ None
+        → (lookup test ts ≡ None → remove_entry test ts ≡ ts)
+        → cond here ts (t ∷ remove_entry test ts) ≡ t ∷ ts
+    go true some rest = absurd cc
+    go false later rest = ap (λ us. t ∷ us) (rest later)
 
-module _ {A : Type 0} where
-  pub lookup-viewed : (test : List Literal → Bool) (es : List (Vec Literal A × ℤ))
-      → lookup test (viewed es) ≡ lookup (λ k. test k.items) es
-  lookup-viewed test [] = refl
-  lookup-viewed test (e ∷ es) =
-      ap (λ r. cond (test e.0.items) (Some e.1) r) (lookup-viewed test es)
+remove_entry-set_value : (test : List Literal → Bool) (ts : List Term) (c : ℤ)
+    → remove_entry test (set_value test ts c) ≡ remove_entry test ts
+remove_entry-set_value test [] c = refl
+remove_entry-set_value test (t ∷ ts) c = go (test t.0) refl (remove_entry-set_value test ts c)
+  where
+    go : (here : Bool) → test t.0 ≡ here
+        → remove_entry test (set_value test ts c) ≡ remove_entry test ts
+        → remove_entry test (cond here ((t.0, c) ∷ ts) (t ∷ set_value test ts c))
+        ≡ cond here ts (t ∷ remove_entry test ts)
+    go true e rest = ap (λ b. cond b ts ((t.0, c) ∷ remove_entry test ts)) e
+    go false e rest =
+        ap (λ b. cond b (set_value test ts c) (t ∷ remove_entry test (set_value test ts c))) e
+        ∙ ap (λ us. t ∷ us) rest
 
-  pub viewed-remove_entry : (test : List Literal → Bool) (es : List (Vec Literal A × ℤ))
-      → viewed (remove_entry (λ k. test k.items) es) ≡ remove_entry test (viewed es)
-  viewed-remove_entry test [] = refl
-  viewed-remove_entry test (e ∷ es) = go (test e.0.items) (viewed-remove_entry test es)
-    where
-      go : (b : Bool)
-          → viewed (remove_entry (λ k. test k.items) es) ≡ remove_entry test (viewed es)
-          → viewed (cond b es (e ∷ remove_entry (λ k. test k.items) es))
-          ≡ cond b (viewed es) ((e.0.items, e.1) ∷ remove_entry test (viewed es))
-      go true rest = refl
-      go false rest = ap (λ us. (e.0.items, e.1) ∷ us) rest
+-- ---- an addition, by what a look-up finds
 
-  pub viewed-set_value : (test : List Literal → Bool) (es : List (Vec Literal A × ℤ)) (c : ℤ)
-      → viewed (set_value (λ k. test k.items) es c) ≡ set_value test (viewed es) c
-  viewed-set_value test [] c = refl
-  viewed-set_value test (e ∷ es) c = go (test e.0.items) (viewed-set_value test es c)
-    where
-      go : (b : Bool)
-          → viewed (set_value (λ k. test k.items) es c) ≡ set_value test (viewed es) c
-          → viewed (cond b ((e.0, c) ∷ es) (e ∷ set_value (λ k. test k.items) es c))
-          ≡ cond b ((e.0.items, c) ∷ viewed es) ((e.0.items, e.1) ∷ set_value test (viewed es) c)
-      go true rest = refl
-      go false rest = ap (λ us. (e.0.items, e.1) ∷ us) rest
+raised-sum : (old new : List Term) (ls : List Literal) (c sum : ℤ) → IsRaised old new ls c sum
+    → sum ≡ current ls old +ℤ c
+raised-sum old new ls c sum raised =
+    raised.found.2 ∙ sym (ap (λ o. unwrap_or o (pos 0) +ℤ c) raised.found.1)
 
-  -- the order of the keys, as the map has it
-  abbrev pub key_cmp : Vec Literal A → Vec Literal A → Ordering
-  key_cmp a b = set_cmp a.items b.items
+pub added-raised : (old new : List Term) (ls : List Literal) (c sum : ℤ) → Ascends old
+    → IsRaised old new ls c sum → sum ≢ pos 0 → added old ls c ≡ new
+added-raised old new ls c sum ascends raised nonzero =
+    added-nonzero old ls c sum ascends (raised-sum old new ls c sum raised) nonzero
+    ∙ insert_entry-found old ls raised.found.0 sum ascends raised.found.1
+    ∙ sym raised.written
 
-  pub viewed-insert_entry : (es : List (Vec Literal A × ℤ)) (k : Vec Literal A) (c : ℤ)
-      → viewed (insert_entry key_cmp es k c) ≡ insert_entry set_cmp (viewed es) k.items c
-  viewed-insert_entry [] k c = refl
-  viewed-insert_entry (e ∷ es) k c = go (set_cmp k.items e.0.items) (viewed-insert_entry es k c)
-    where
-      go : (o : Ordering)
-          → viewed (insert_entry key_cmp es k c) ≡ insert_entry set_cmp (viewed es) k.items c
-          → viewed
-          (match_ordering o ((k, c) ∷ e ∷ es) ((e.0, c) ∷ es) (e ∷ insert_entry key_cmp es k c))
-          ≡ match_ordering o ((k.items, c) ∷ (e.0.items, e.1) ∷ viewed es)
-          ((e.0.items, c) ∷ viewed es)
-          ((e.0.items, e.1) ∷ insert_entry set_cmp (viewed es) k.items c)
-      go Less rest = refl
-      go Equal rest = refl
-      go Greater rest = ap (λ us. (e.0.items, e.1) ∷ us) rest
+pub added-cancelled : (old new : List Term) (ls : List Literal) (c sum : ℤ) → Ascends old
+    → IsRaised old new ls c sum → sum ≡ pos 0
+    → added old ls c ≡ remove_entry (is_at (set_cmp ls)) new
+added-cancelled old new ls c sum ascends raised zero =
+    added-zero old ls c sum ascends (raised-sum old new ls c sum raised) zero
+    ∙ sym (remove_entry-set_value (is_at (set_cmp ls)) old sum)
+    ∙ sym (ap (remove_entry (is_at (set_cmp ls))) raised.written)
 
-  below-viewed : (k : Vec Literal A) (es : List (Vec Literal A × ℤ))
-      → AllByRecursion (λ y. key_cmp k y ≡ Less) (keys_of es)
-      → AllByRecursion (λ y. set_cmp k.items y ≡ Less) (keys_of (viewed es))
-  below-viewed k [] below = below
-  below-viewed k (e ∷ es) below = (below.0, below-viewed k es below.1)
+pub added-missing : (ts : List Term) (ls : List Literal) (c : ℤ) → Ascends ts
+    → found ls ts ≡ None → c ≢ pos 0 → added ts ls c ≡ insert_entry set_cmp ts ls c
+added-missing ts ls c ascends none nonzero =
+    let absent : current ls ts ≡ pos 0 = ap (λ o. unwrap_or o (pos 0)) none in
+    added-nonzero ts ls c c ascends (omega (arith, ints, absent)) nonzero
 
-  pub Ascends-viewed : (es : List (Vec Literal A × ℤ)) → IsStrictlySortedBy key_cmp (keys_of es)
-      → Ascends (viewed es)
-  unfolding IsStrictlySortedBy
-  Ascends-viewed [] sorted = sorted
-  Ascends-viewed (e ∷ es) sorted = (below-viewed e.0 es sorted.0, Ascends-viewed es sorted.1)
+pub added-nothing : (ts : List Term) (ls : List Literal) (c : ℤ) → Ascends ts
+    → found ls ts ≡ None → c ≡ pos 0 → added ts ls c ≡ ts
+added-nothing ts ls c ascends none zero =
+    let absent : current ls ts ≡ pos 0 = ap (λ o. unwrap_or o (pos 0)) none in
+    added-zero ts ls c c ascends (omega (arith, ints, absent)) zero
+    ∙ remove_entry-missing (is_at (set_cmp ls)) ts none

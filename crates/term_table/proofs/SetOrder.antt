@@ -4,16 +4,15 @@ use Rattle.std.specs.Ordering.{nat_cmp, bool_cmp, ordering_then}
 use Rattle.std.specs.declared.cmp.Ordering.{Ordering}
 use Rattle.std.specs.declared.cmp.Ordering.TheVariants.{Less, Equal, Greater}
 use Rattle.std.specs.Cmp.{IsTotalOrder}
-use Rattle.std.specs.Cmp.Lexicographic.{lists_total}
 use Rattle.std.proofs.lemmas.Bool.Decides.{nat_tests}
 use Rattle.std.proofs.lemmas.Cmp.{tied_itself}
 use Rattle.problem_form.specs.declared.literal.Literal.{Literal}
 use Rattle.problem_form.specs.Literals.{literal_cmp}
-use Rattle.problem_form.proofs.LiteralSets.{literal_total}
 use Rattle.term_table.specs.Terms.{set_cmp}
+use Rattle.term_table.specs.Keys.{key_total}
 
 pub set_total : IsTotalOrder set_cmp
-set_total = lists_total literal_total
+set_total = key_total
 
 pub set_itself : (ls : List Literal) → set_cmp ls ls ≡ Equal
 set_itself ls = tied_itself set_total ls

@@ -100,7 +100,7 @@ total_all_left f table after x left rest bound e new small =
 
 -- ---- a loop over a slice
 
-terms_total-map : {X : Type 0} (f : X → Term) (xs : List X)
+pub terms_total-map : {X : Type 0} (f : X → Term) (xs : List X)
     → terms_total (map f xs) ≡ sum_by (λ x. unsigned_abs (f x).1) xs
 terms_total-map f [] = refl
 terms_total-map f (x ∷ xs) =

@@ -1,18 +1,11 @@
--- The entries of a map from literal sets to coefficients, as a list of terms.
-use Rattle.std.specs.Prelude.{ℤ, pos, List, Vec, map, if◌then◌else◌}
-use Rattle.std.specs.BTreeMap.{is_at, insert_entry}
-use Rattle.std.specs.Map.{remove_entry}
-use Rattle.std.specs.Ordering.{int_eq}
+-- An addition to a set that has a coefficient.
+use Rattle.std.specs.Prelude.{◌≡◌, ℤ, ◌+ℤ◌, Some, List}
+use Rattle.std.specs.BTreeMap.{is_at}
+use Rattle.std.specs.Map.{lookup, set_value}
 use Rattle.problem_form.specs.declared.literal.Literal.{Literal}
 use Rattle.term_table.specs.Terms.{Term, set_cmp}
 
--- each entry as a term
-abbrev pub viewed : {A : Type 0} → List (Vec Literal A × ℤ) → List Term
-viewed es = map (λ e. (e.0.items, e.1)) es
-
--- the terms with the coefficient of the set, and without the set where it is 0
-abbrev pub stored : List Term → List Literal → ℤ → List Term
-stored ts ls c =
-    if int_eq c (pos 0)
-    then remove_entry (is_at (set_cmp ls)) ts
-    else insert_entry set_cmp ts ls c
+-- the set has a coefficient, and its sum with another stands in its place
+pub record IsRaised (old new : List Term) (ls : List Literal) (c sum : ℤ) : Type 0 where
+  pub found : (k : ℤ) × (lookup (is_at (set_cmp ls)) old ≡ Some k) × (sum ≡ k +ℤ c)
+  pub written : new ≡ set_value (is_at (set_cmp ls)) old sum

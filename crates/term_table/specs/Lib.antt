@@ -1,3 +1,7 @@
 pub mod Terms
 pub mod Tables
 pub mod Entries
+pub mod Held
+pub mod Keys
+pub mod Kept
+pub mod Summed

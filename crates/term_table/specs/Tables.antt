@@ -1,18 +1,20 @@
 -- What contracts see of a table.
-use Rattle.std.specs.Prelude.{◌≡◌, ℕ, ◌+◌, ◌≤◌, ◌^◌, ℤ, Bool, List, [], length, All}
+use Rattle.std.specs.Prelude.{◌≡◌, ℕ, ◌+◌, ◌≤◌, ◌^◌, ℤ, Bool, List, [], ◌∷◌, ◌++◌, length, All}
 use Rattle.bits_model.specs.declared.costs.Cost.TheVariants.{Whole}
 use Rattle.bits_model.specs.Costs.{Form}
 use Rattle.problem_form.specs.declared.literal.Literal.{Literal}
-use Rattle.term_table.specs.Terms.{Term, terms_cost, terms_total, terms_size, added, collected, coefficient_of, AreTerms}
+use Rattle.term_table.specs.Terms.{Term, terms_cost, terms_total, terms_size, added, collected, coefficient_of, AreTerms, IsTermSet}
 
 -- a width, and terms over the variables below it
 pub record TableForm : Type 0 where
   pub width : ℕ
   pub terms : List Term
 
+-- its width, and the cost of its terms
 abbrev pub form_of : TableForm → Form
 form_of t = record { bits = t.width; cost = λ x. Whole (terms_cost x t.terms) }
 
+-- the width, and the squares of the degrees
 abbrev pub table_size : TableForm → ℕ
 table_size t = t.width + terms_size t.terms
 
@@ -25,8 +27,24 @@ pub record IsTable (t : TableForm) : Type 0 where
 abbrev pub IsLow : TableForm → Type 0
 IsLow t = All (λ u. length u.0 ≤ 2) t.terms
 
+-- a table with one more addition
 abbrev pub with_added : TableForm → List Literal → ℤ → TableForm
 with_added t ls c = record t { terms = added t.terms ls c }
+
+-- ---- additions that are to be summed
+
+-- additions of which a table can be made
+pub record AreAdditions (t : TableForm) : Type 0 where
+  pub sets : All (λ u. IsTermSet t.width u.0) t.terms
+  pub small : terms_total t.terms ≤ 2 ^ 124
+
+-- additions to be summed, and one more
+abbrev pub appended : TableForm → List Literal → ℤ → TableForm
+appended t ls c = record t { terms = t.terms ++ (ls, c) ∷ [] }
+
+-- additions to be summed, and more of them
+abbrev pub with_more : TableForm → List Term → TableForm
+with_more t ts = record t { terms = t.terms ++ ts }
 
 -- ---- laws of the table that additions give
 

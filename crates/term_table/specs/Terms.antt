@@ -24,6 +24,7 @@ set_cmp = slice_cmp literal_cmp
 abbrev pub term_cost : List Bool → Term → ℤ
 term_cost x t = if_so (all_hold x t.0) t.1
 
+-- the sum of the coefficients whose literals are all true
 abbrev pub terms_cost : List Bool → List Term → ℤ
 terms_cost x ts = total_by (term_cost x) ts
 
@@ -38,6 +39,7 @@ abbrev pub set_size : List Literal → ℕ
 set_size [] = 1
 set_size (l ∷ ls) = length (l ∷ ls) ^ 2
 
+-- the squares of the degrees of all terms
 abbrev pub terms_size : List Term → ℕ
 terms_size ts = sum_by (λ t. set_size t.0) ts
 

@@ -1,91 +1,125 @@
-//! Additions to the entries of a map from literal sets to coefficients.
-ghost use Rattle.std.specs.Prelude.{◌≡◌, ◌+◌, ◌≤◌, ◌^◌, pos, unsigned_abs, if◌then◌else◌};
-ghost use Rattle.std.specs.Prelude.{OnOk, OnErr};
-ghost use Rattle.std.specs.Option.{unwrap_or};
+//! Literal sets with coefficients, in an ordered map or in a list, and additions to them.
+ghost use Rattle.std.specs.Prelude.{◌≡◌, ◌+◌, ◌≤◌, ◌^◌, unsigned_abs, OnOk, OnErr};
+ghost use Rattle.std.specs.Prelude.{None, IfOk, IfSome, IfNone};
 ghost use Rattle.std.specs.Map.{lookup};
 ghost use Rattle.std.specs.BTreeMap.{is_at, insert_entry};
 ghost use Rattle.term_table.specs.Terms.{added, set_cmp, terms_total, Ascends};
-ghost use Rattle.term_table.specs.Entries.{viewed, stored};
+ghost use Rattle.term_table.specs.Entries.{IsRaised};
+ghost use Rattle.term_table.specs.Kept.{entries_terms};
 
+use crate::literal_set::LiteralSet;
 use bits_model::NoMemory;
 use problem_form::Literal;
 use std::alloc::Global;
 use std::collections::BTreeMap;
 
-/// The coefficient of a set, and 0 where it has none.
-fn coefficient_of(entries: &BTreeMap<Vec<Literal>, i128>, literals: &[Literal]) -> i128
-    ensures value { result
-        ≡ unwrap_or (lookup (is_at (set_cmp literals.now)) (viewed entries.now.entries)) (pos 0) }
-    ensures within { unsigned_abs result ≤ terms_total (viewed entries.now.entries) }
-    ensures ascends { Ascends (viewed entries.now.entries) }
-{
-    // A count brings the order of the sets with it, which a look-up alone doesn't.
-    let _count = entries.len();
-    match entries.get(literals) {
-        Some(coefficient) => *coefficient,
-        None => 0,
-    }
+/// Sets in order: a map, or the list that was made at once.
+#[derive(Drop)]
+pub enum Entries {
+    Map(BTreeMap<LiteralSet, i128>),
+    Listed(Vec<(LiteralSet, i128)>),
 }
 
-/// Sets the coefficient of a set that has one, and says whether it has.
-fn overwrite(
-    entries: &mut BTreeMap<Vec<Literal>, i128>,
-    literals: &[Literal],
+/// Adds to the coefficient of a set that has one, and gives the sum, which may be 0.
+fn raise(
+    entries: &mut BTreeMap<LiteralSet, i128>,
+    key: &LiteralSet,
     coefficient: i128,
-) -> bool
-    ensures { viewed entries.new.entries
-        ≡ (if result
-        then insert_entry set_cmp (viewed entries.old.entries) literals.now coefficient
-        else viewed entries.old.entries) }
+) -> Option<i128>
+    requires { terms_total entries.old.entries + unsigned_abs coefficient ≤ 2 ^ 124 }
+    ensures ascends { Ascends entries.old.entries }
+    ensures found { IfSome result
+        (λ sum. IsRaised entries.old.entries entries.new.entries key.now coefficient sum) }
+    ensures missing { IfNone result (lookup (is_at (set_cmp key.now)) entries.old.entries ≡ None) }
+    ensures unchanged { IfNone result (entries.new.entries ≡ entries.old.entries) }
 {
-    match entries.get_mut(literals) {
+    match entries.get_mut(key) {
         Some(place) => {
-            *place = coefficient;
-            true
+            let sum = *place + coefficient;
+            *place = sum;
+            Some(sum)
         }
-        None => false,
+        None => None,
     }
 }
 
-/// Sets the coefficient of a set. Memory is taken only for a set that had none.
-fn store(
-    alloc: Global,
-    entries: &mut BTreeMap<Vec<Literal>, i128>,
-    literals: &[Literal],
+/// Puts in a set with its coefficient.
+fn put(
+    entries: &mut BTreeMap<LiteralSet, i128>,
+    key: LiteralSet,
     coefficient: i128,
 ) -> Result<(), NoMemory>
-    ensures stored { OnOk result
-        (viewed entries.new.entries
-        ≡ stored (viewed entries.old.entries) literals.now coefficient) }
-    ensures unchanged { OnErr result (viewed entries.new.entries ≡ viewed entries.old.entries) }
+    ensures put { OnOk result
+        (entries.new.entries ≡ insert_entry set_cmp entries.old.entries key coefficient) }
+    ensures unchanged { OnErr result (entries.new.entries ≡ entries.old.entries) }
 {
-    if coefficient == 0 {
-        entries.remove(literals);
-        return Ok(());
-    }
-    if overwrite(entries, literals, coefficient) {
-        return Ok(());
-    }
-    let key = Vec::from_slice(alloc, literals)?;
     match entries.insert(key, coefficient) {
         Ok(_) => Ok(()),
         Err(_) => Err(NoMemory),
     }
 }
 
-/// Adds to the coefficient of a set.
-pub fn add_to(
+/// Adds to the coefficient of a set of a map.
+fn add_to_map(
     alloc: Global,
-    entries: &mut BTreeMap<Vec<Literal>, i128>,
+    entries: &mut BTreeMap<LiteralSet, i128>,
     literals: &[Literal],
     coefficient: i128,
 ) -> Result<(), NoMemory>
-    requires { terms_total (viewed entries.old.entries) + unsigned_abs coefficient ≤ 2 ^ 124 }
+    requires { terms_total entries.old.entries + unsigned_abs coefficient ≤ 2 ^ 124 }
     ensures added { OnOk result
-        (viewed entries.new.entries ≡ added (viewed entries.old.entries) literals.now coefficient) }
-    ensures unchanged { OnErr result (viewed entries.new.entries ≡ viewed entries.old.entries) }
+        (entries.new.entries ≡ added entries.old.entries literals.now coefficient) }
+    ensures unchanged { OnErr result (entries.new.entries ≡ entries.old.entries) }
 {
-    let old = coefficient_of(entries, literals);
-    let sum = old + coefficient;
-    store(alloc, entries, literals, sum)
+    let key = LiteralSet::from_slice(alloc, literals)?;
+    match raise(entries, &key, coefficient) {
+        Some(sum) => {
+            if sum == 0 {
+                entries.remove(&key);
+            }
+            Ok(())
+        }
+        None if coefficient == 0 => Ok(()),
+        None => put(entries, key, coefficient),
+    }
+}
+
+/// A map of the terms of a list in order.
+fn map_of(
+    alloc: Global,
+    terms: &[(LiteralSet, i128)],
+) -> Result<BTreeMap<LiteralSet, i128>, NoMemory>
+    requires { Ascends terms.now }
+    ensures { IfOk result (λ m. m.entries ≡ terms.now) }
+{
+    let mut map = BTreeMap::new(alloc);
+    for (set, coefficient) in terms {
+        let key = LiteralSet::from_slice(alloc, set.as_slice())?;
+        put(&mut map, key, *coefficient)?;
+    }
+    Ok(map)
+}
+
+/// Adds to the coefficient of a set. A list becomes a map first.
+pub fn add_to(
+    alloc: Global,
+    entries: &mut Entries,
+    literals: &[Literal],
+    coefficient: i128,
+) -> Result<(), NoMemory>
+    requires ascends { Ascends (entries_terms entries.old) }
+    requires small { terms_total (entries_terms entries.old) + unsigned_abs coefficient ≤ 2 ^ 124 }
+    ensures added { OnOk result
+        (entries_terms entries.new ≡ added (entries_terms entries.old) literals.now coefficient) }
+    ensures unchanged { OnErr result (entries_terms entries.new ≡ entries_terms entries.old) }
+{
+    match entries {
+        Entries::Map(map) => add_to_map(alloc, map, literals, coefficient),
+        Entries::Listed(terms) => {
+            let mut map = map_of(alloc, terms)?;
+            add_to_map(alloc, &mut map, literals, coefficient)?;
+            *entries = Entries::Map(map);
+            Ok(())
+        }
+    }
 }

@@ -4,14 +4,20 @@
 
 mod costs;
 mod entries;
+mod gathered;
 mod laws;
+mod literal_set;
 mod low_table;
+mod sets;
+mod sums;
 mod table;
 mod terms;
 #[cfg(test)]
 mod tests;
 
+pub use gathered::GatheredTerms;
 pub use laws::laws_of_additions;
 pub use low_table::{LowTable, low};
+pub use sets::is_set;
 pub use table::Table;
 pub use terms::Terms;

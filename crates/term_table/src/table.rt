@@ -1,12 +1,13 @@
 //! A table: literal sets in order, with coefficients that are not 0.
 //!
-//! The sets are the keys of a B-tree, so an addition takes time logarithmic in the number of terms.
+//! The sets are the keys of a B-tree, so an addition takes time logarithmic in the number of terms. A
+//! table that was made at once keeps its terms in a list, up to the first addition.
 ghost use Rattle.std.specs.Prelude.{◌≡◌, ◌+◌, ◌≤◌, ◌^◌, [], unsigned_abs, OnOk, OnErr};
 ghost use Rattle.term_table.specs.Terms.{terms_total, IsTermSet};
 ghost use Rattle.term_table.specs.Tables.{with_added, IsTable};
 
-use crate::entries::add_to;
-use crate::terms::Terms;
+use crate::entries::{Entries, add_to};
+use crate::terms::{Left, Terms};
 use bits_model::NoMemory;
 use problem_form::Literal;
 use std::alloc::Global;
@@ -17,20 +18,20 @@ use std::marker::Model;
 #[derive(Drop)]
 pub struct Table {
     pub(crate) width: usize,
-    alloc: Global,
-    entries: BTreeMap<Vec<Literal>, i128>,
+    pub(crate) alloc: Global,
+    pub(crate) entries: Entries,
 }
 
 impl Model for Table {
     ghost use Rattle.term_table.specs.Tables.{TableForm, IsTable};
-    ghost use Rattle.term_table.specs.Entries.{viewed};
+    ghost use Rattle.term_table.specs.Kept.{entries_terms};
 
     ghost Value = { TableForm };
 
-    ghost view = { λ t. record { width = t.width; terms = viewed t.entries.entries } };
+    ghost view = { λ t. record { width = t.width; terms = entries_terms t.entries } };
 
     ghost invariant = { λ t.
-        IsTable (record { width = t.width; terms = viewed t.entries.entries }) };
+        IsTable (record { width = t.width; terms = entries_terms t.entries }) };
 }
 
 impl Table {
@@ -41,7 +42,7 @@ impl Table {
         Table {
             width,
             alloc,
-            entries: BTreeMap::new(alloc),
+            entries: Entries::Map(BTreeMap::new(alloc)),
         }
     }
 
@@ -60,8 +61,10 @@ impl Table {
         ensures terms { result ≡ self.now.terms }
         ensures kept { IsTable self.now }
     {
-        Terms {
-            entries: self.entries.iter(),
-        }
+        let left = match &self.entries {
+            Entries::Map(map) => Left::InMap(map.iter()),
+            Entries::Listed(terms) => Left::InList(terms.iter()),
+        };
+        Terms { left }
     }
 }

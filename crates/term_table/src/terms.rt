@@ -1,22 +1,31 @@
 //! The terms of a table, one after another.
+use crate::literal_set::LiteralSet;
 use problem_form::Literal;
 use std::collections::btree_map;
 use std::marker::Model;
+use std::slice;
+
+/// What is left of a map or of a list.
+#[derive(Drop)]
+pub enum Left<'a> {
+    InMap(btree_map::Iter<'a, LiteralSet, i128>),
+    InList(slice::Iter<'a, (LiteralSet, i128)>),
+}
 
 /// Terms in order, which contracts see as the list of those that are left.
 #[derive(Drop)]
 pub struct Terms<'a> {
-    pub(crate) entries: btree_map::Iter<'a, Vec<Literal>, i128>,
+    pub(crate) left: Left<'a>,
 }
 
 impl<'a> Model for Terms<'a> {
     ghost use Rattle.std.specs.Prelude.{List};
-    ghost use Rattle.term_table.specs.Entries.{viewed};
     ghost use Rattle.term_table.specs.Terms.{Term};
+    ghost use Rattle.term_table.specs.Kept.{terms_left};
 
     ghost Value = { List Term };
 
-    ghost view = { λ t. viewed t.entries };
+    ghost view = { λ t. terms_left t.left };
 }
 
 impl<'a> Iterator for Terms<'a> {
@@ -31,9 +40,15 @@ impl<'a> Iterator for Terms<'a> {
     ghost remaining = { λ s. at_most (length s) };
 
     fn next(&mut self) -> Option<(&'a [Literal], i128)> {
-        match self.entries.next() {
-            Some((literals, coefficient)) => Some((literals.as_slice(), *coefficient)),
-            None => None,
+        match &mut self.left {
+            Left::InMap(rest) => match rest.next() {
+                Some((literals, coefficient)) => Some((literals.as_slice(), *coefficient)),
+                None => None,
+            },
+            Left::InList(rest) => match rest.next() {
+                Some((literals, coefficient)) => Some((literals.as_slice(), *coefficient)),
+                None => None,
+            },
         }
     }
 }

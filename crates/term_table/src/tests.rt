@@ -1,9 +1,11 @@
 //! Tables of a few terms, against lists and costs by hand.
-ghost use Rattle.std.specs.Prelude.{◌≡◌, ◌≤◌, ◌^◌, [], All, IfOk, map};
+ghost use Rattle.std.specs.Prelude.{◌≡◌, ◌+◌, ◌≤◌, ◌^◌, [], All, IfOk, map};
 ghost use Rattle.std.specs.Bool.{OnTrue};
 ghost use Rattle.term_table.specs.Terms.{collected, terms_total, IsTermSet};
 
+use crate::gathered::GatheredTerms;
 use crate::low_table::low;
+use crate::sets::is_set;
 use crate::table::Table;
 use bits_model::{Cost, Costed, NoMemory};
 use problem_form::Literal;
@@ -35,23 +37,6 @@ const C: Literal = Literal {
     negated: false,
 };
 
-/// Whether the variables rise, and lie within the width.
-fn is_set(width: usize, literals: &[Literal]) -> bool
-    ensures { OnTrue result (IsTermSet width literals.now) }
-{
-    if literals.len() > 2048 {
-        return false;
-    }
-    let mut next: u64 = 0;
-    for literal in literals {
-        if literal.variable < next || literal.variable >= width as u64 {
-            return false;
-        }
-        next = literal.variable + 1;
-    }
-    true
-}
-
 /// A table of additions, one after another.
 fn table_of(
     alloc: Global,
@@ -72,13 +57,58 @@ fn table_of(
     Ok(table)
 }
 
+/// Additions, one after another.
+fn gather(
+    alloc: Global,
+    width: usize,
+    terms: &[(&[Literal], i128)],
+) -> Result<GatheredTerms, NoMemory>
+    requires sets { All (λ a. IsTermSet width a.0.now) terms.now }
+    requires small { terms_total (map (λ a. (a.0.now, a.1)) terms.now) ≤ 2 ^ 124 }
+    ensures { IfOk result (λ a. a ≡ record {
+      width = width;
+      terms = map (λ a. (a.0.now, a.1)) terms.now;
+    }) }
+{
+    let mut additions = GatheredTerms::new(alloc, width);
+    for (literals, coefficient) in terms {
+        additions.add(literals, *coefficient)?;
+    }
+    Ok(additions)
+}
+
+/// A table of additions that are summed at once, and of others that come later.
+fn table_at_once(
+    alloc: Global,
+    width: usize,
+    first: &[(&[Literal], i128)],
+    later: &[(&[Literal], i128)],
+) -> Result<Table, NoMemory>
+    requires first_sets { All (λ a. IsTermSet width a.0.now) first.now }
+    requires later_sets { All (λ a. IsTermSet width a.0.now) later.now }
+    requires small { terms_total (map (λ a. (a.0.now, a.1)) first.now)
+        + terms_total (map (λ a. (a.0.now, a.1)) later.now) ≤ 2 ^ 124 }
+    ensures { IfOk result (λ t. t ≡ record {
+      width = width;
+      terms = collected
+          (collected [] (map (λ a. (a.0.now, a.1)) first.now))
+          (map (λ a. (a.0.now, a.1)) later.now);
+    }) }
+{
+    let mut table = gather(alloc, width, first)?.into_table();
+    for (literals, coefficient) in later {
+        table.add(literals, *coefficient)?;
+    }
+    Ok(table)
+}
+
 /// Whether each addition is of a set.
 fn are_sets(width: usize, additions: &[(&[Literal], i128)]) -> bool
     ensures { OnTrue result (All (λ a. IsTermSet width a.0.now) additions.now) }
 {
     additions
         .iter()
-        .all(|(literals, _)| is_set(width, literals))
+        .all(|(literals, _)| is_set(literals, width))
 }
 
 /// Whether these are all terms of the table, in order.
@@ -119,6 +149,10 @@ fn additions_in_any_order_give_one_list(rt: HostRuntime) -> Result<(), Fail> {
     let rows: [(&[Literal], i128); 4] = [(&[], -1), (&[A, NOT_B], 1), (&[NOT_A], 4), (&[B], 5)];
     assert!(rt; has_terms(&first, &rows));
     assert!(rt; has_terms(&second, &rows));
+    assert!(rt; has_terms(&table_at_once(rt.alloc(), 2, &some, &[])?, &rows));
+    assert!(rt; has_terms(&table_at_once(rt.alloc(), 2, &others, &[])?, &rows));
+    let sums: [(&[Literal], i128); 4] = [(&[], -2), (&[A, NOT_B], 2), (&[NOT_A], 8), (&[B], 10)];
+    assert!(rt; has_terms(&table_at_once(rt.alloc(), 2, &some, &others)?, &sums));
     Ok(())
 }
 

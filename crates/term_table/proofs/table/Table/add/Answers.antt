@@ -3,7 +3,7 @@ use Rattle.std.specs.Int.{w128}
 use Rattle.std.proofs.lemmas.Int.{to_z-of_z}
 use Rattle.term_table.specs.Terms.{terms_total, IsTermSet}
 use Rattle.term_table.specs.Tables.{TableForm}
-use Rattle.term_table.specs.Entries.{viewed}
+use Rattle.term_table.specs.Kept.{entries_terms}
 use Rattle.term_table.proofs.KeptTables.{IsTable-added, IsTable-by_result}
 use Rattle.term_table.proofs.table.Table.add.Goals as goal
 
@@ -12,7 +12,7 @@ invariant_of-self c =
     let ls = c.args.literals.now in
     let k = c.args.coefficient in
     let old : TableForm =
-    record { width = c.self.inside.width; terms = viewed c.self.inside.entries.entries } in
+    record { width = c.self.inside.width; terms = entries_terms c.self.inside.entries } in
     let P : TableForm → Type 0 = λ t. IsTermSet t.width ls in
     let set : P old = subst P (sym c.self.view_is) c.requires.set in
     let Q : TableForm → Type 0 = λ t. terms_total t.terms + unsigned_abs k ≤ 2 ^ 124 in

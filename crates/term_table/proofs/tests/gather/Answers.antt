@@ -1,0 +1,27 @@
+use Rattle.std.proofs.Common.{rules, ℤ, pos, List, [], Bor, arith, ap, get_or, take, unsigned_abs}
+use Rattle.std.specs.Int.{w128}
+use Rattle.std.proofs.lemmas.Int.{to_z-of_z}
+use Rattle.std.proofs.lemmas.List.Sums.{sum_by_more_le}
+use Rattle.problem_form.specs.declared.literal.Literal.{Literal}
+use Rattle.term_table.specs.Terms.{Term, terms_total}
+use Rattle.term_table.specs.Tables.{TableForm}
+use Rattle.term_table.proofs.Steps.{terms_total-map}
+use Rattle.term_table.proofs.tests.gather.Goals as goal
+
+pub add-requires-clause-small : goal.add-requires-clause-small
+add-requires-clause-small c =
+    let d : Bor (List Literal) × ℤ = (record { ref_ptr = (0, 0); now = [] }, pos 0) in
+    let i = c.loop-literals.literals-index in
+    let xs = c.args.terms.now in
+    let back = to_z-of_z w128 (get_or xs i d).1 (search rules) in
+    let f : Bor (List Literal) × ℤ → Term = λ a. (a.0.now, a.1) in
+    let so_far = ap (λ (t : TableForm). terms_total t.terms) c.loop-literals.invariant in
+    rw back
+    (omega (
+      arith,
+      so_far,
+      terms_total-map f (take i xs),
+      terms_total-map f xs,
+      sum_by_more_le (λ x. unsigned_abs (f x).1) xs i d c.loop-literals-test.true,
+      c.requires.small,
+    ))

@@ -1,0 +1,14 @@
+use Rattle.std.proofs.Common.{◌≡◌, map, take}
+use Rattle.term_table.specs.Terms.{collected}
+use Rattle.term_table.proofs.tests.table_at_once.Given as goal
+
+-- the table with the additions so far
+abbrev pub invariant-loop-literals : goal.invariant-loop-literals
+invariant-loop-literals l =
+    l.table
+    ≡ record {
+      width = l.initial.table.width;
+      terms =
+          collected l.initial.table.terms
+          (map (λ a. (a.0.now, a.1)) (take l.literals-index l.later));
+    }
