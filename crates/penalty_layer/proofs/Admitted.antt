@@ -2,8 +2,7 @@
 use Rattle.std.proofs.Common.{◌≡◌, ℕ, ◌+◌, ◌-◌, ◌≤◌, ◌^◌, pos, unsigned_abs, ℤ, List, [], map, get_or, All, refl, subst, sym, ap, ◌∙◌, arith}
 use Rattle.std.specs.Prelude.{None}
 use Rattle.std.specs.List.Sorted.{IsStrictlySortedBy}
-use Rattle.std.proofs.lemmas.List.Sums.{fold-append}
-use Rattle.std.proofs.lemmas.List.Elements.{All-nil, All-from_recursion}
+use Rattle.std.proofs.lemmas.List.Elements.{All-cons, All-append, All-map, All-nil, All-from_recursion}
 use Rattle.bits_model.specs.declared.layer.BitsLink.{BitsLink}
 use Rattle.bits_model.specs.Relations.{Relaxes}
 use Rattle.problem_form.specs.declared.terms.Product.{Product}
@@ -11,10 +10,12 @@ use Rattle.problem_form.specs.declared.terms.Clause.{Clause}
 use Rattle.problem_form.specs.Problems.{ProblemForm, IsNormalProduct, IsNormalClause, products_total}
 use Rattle.problem_form.specs.Problems as problems
 use Rattle.problem_form.specs.Limits.{penalty, upper, limit_fault}
-use Rattle.term_table.specs.Terms.{Term, IsTermSet, Ascends, terms_total, added}
-use Rattle.term_table.specs.Tables.{TableForm, table_size, with_added}
+use Rattle.term_table.specs.Terms.{IsTermSet, terms_total, collected}
+use Rattle.term_table.specs.Tables.{TableForm, table_size, appended, with_more}
 use Rattle.term_table.specs.Tables as tables
-use Rattle.penalty_layer.specs.Penalty.{Admits, opposite, product_term, clause_term, with_terms, image, first_bits, Fits}
+use Rattle.term_table.proofs.KeptTerms.{OfSet, AreTerms-collected}
+use Rattle.penalty_layer.specs.Penalty.{Admits, contributions, opposite, product_term, clause_term, image, Fits}
+use Rattle.bits_model.specs.Links.{first_bits}
 use Rattle.penalty_layer.specs.Relaxing.{penalty_relaxes}
 use Rattle.penalty_layer.specs.Weights.{clause_weights}
 use Rattle.penalty_layer.proofs.OppositeSets.{opposites_set, opposites_length}
@@ -55,51 +56,50 @@ clause_sets p cs width admitted same wide =
 
 -- q is what the code sees of the problem p
 pub constant_added : (p q : ProblemForm) (empty first : TableForm) (k : ℤ) → q ≡ p
-    → empty ≡ record { width = q.variables; terms = [] } → first ≡ with_added empty [] k → k ≡ q.constant
-    → first ≡ with_added (record { width = p.variables; terms = [] }) [] p.constant
+    → empty ≡ record { width = q.variables; terms = [] } → first ≡ appended empty [] k → k ≡ q.constant
+    → first ≡ appended (record { width = p.variables; terms = [] }) [] p.constant
 constant_added p q empty first k same blank one constant =
     one
-    ∙ (λ i. with_added (blank i) [] (constant i))
-    ∙ ap (λ (u : ProblemForm). with_added (record { width = u.variables; terms = [] }) [] u.constant) same
+    ∙ (λ i. appended (blank i) [] (constant i))
+    ∙ ap (λ (u : ProblemForm). appended (record { width = u.variables; terms = [] }) [] u.constant) same
 
 pub products_added : (p q : ProblemForm) (first second : TableForm) (ts : List Product) → q ≡ p
-    → second ≡ with_terms first (map product_term ts) → ts ≡ q.objective
-    → second ≡ with_terms first (map product_term p.objective)
+    → second ≡ with_more first (map product_term ts) → ts ≡ q.objective
+    → second ≡ with_more first (map product_term p.objective)
 products_added p q first second ts same made objective =
     made
-    ∙ ap (λ us. with_terms first (map product_term us))
+    ∙ ap (λ us. with_more first (map product_term us))
     (objective ∙ ap (λ (u : ProblemForm). u.objective) same)
 
 pub clauses_added : (p q : ProblemForm) (second third : TableForm) (n : ℕ) (cs : List Clause) → q ≡ p
-    → third ≡ with_terms second (map (clause_term n) cs) → n ≡ penalty p → cs ≡ q.clauses
-    → third ≡ with_terms second (map (clause_term (penalty p)) p.clauses)
+    → third ≡ with_more second (map (clause_term n) cs) → n ≡ penalty p → cs ≡ q.clauses
+    → third ≡ with_more second (map (clause_term (penalty p)) p.clauses)
 clauses_added p q second third n cs same made number clauses =
     made
-    ∙ (λ i. with_terms second
+    ∙ (λ i. with_more second
     (map (clause_term (number i)) ((clauses ∙ ap (λ (u : ProblemForm). u.clauses) same) i)))
 
--- the constant, the products and then the clauses were added
-pub made_image : (p : ProblemForm) (first second third : TableForm)
-    → first ≡ with_added (record { width = p.variables; terms = [] }) [] p.constant
-    → second ≡ with_terms first (map product_term p.objective)
-    → third ≡ with_terms second (map (clause_term (penalty p)) p.clauses)
-    → third ≡ image p
-made_image p first second third constant products clauses =
-    let all = map product_term p.objective in
+-- the constant, the products and then the clauses were appended, and summed
+pub made_image : (p : ProblemForm) (first second third table : TableForm)
+    → first ≡ appended (record { width = p.variables; terms = [] }) [] p.constant
+    → second ≡ with_more first (map product_term p.objective)
+    → third ≡ with_more second (map (clause_term (penalty p)) p.clauses)
+    → table ≡ record { width = third.width; terms = collected [] third.terms }
+    → table ≡ image p
+made_image p first second third table constant products clauses summed =
+    let listed =
     clauses
-    ∙ ap (λ t. with_terms t (map (clause_term (penalty p)) p.clauses))
-    (products ∙ ap (λ t. with_terms t all) constant)
-    ∙ ap (λ (ts : List Term). record { width = p.variables; terms = ts })
-    (sym (fold-append (λ (s : List Term) (u : Term). added s u.0 u.1) (added [] [] p.constant) all
-    (map (clause_term (penalty p)) p.clauses)))
+    ∙ ap (λ t. with_more t (map (clause_term (penalty p)) p.clauses))
+    (products ∙ ap (λ t. with_more t (map product_term p.objective)) constant) in
+    summed ∙ ap (λ (t : TableForm). record { width = t.width; terms = collected [] t.terms }) listed
 
 -- after the products the clauses fit
 pub clauses_fit : (p : ProblemForm) (first second : TableForm) → limit_fault p ≡ None
-    → first ≡ with_added (record { width = p.variables; terms = [] }) [] p.constant
-    → second ≡ with_terms first (map product_term p.objective)
+    → first ≡ appended (record { width = p.variables; terms = [] }) [] p.constant
+    → second ≡ with_more first (map product_term p.objective)
     → terms_total second.terms + clause_weights (penalty p) p.clauses ≤ 2 ^ 64 - 1
 clauses_fit p first second none constant products =
-    let table = products ∙ ap (λ t. with_terms t (map product_term p.objective)) constant in
+    let table = products ∙ ap (λ t. with_more t (map product_term p.objective)) constant in
     omega (
       arith,
       ap (λ (t : TableForm). terms_total t.terms) table,
@@ -119,11 +119,21 @@ made_total p third none made =
       (within_limits p none).weight,
     )
 
-pub made_size : (p : ProblemForm) (third : TableForm) → limit_fault p ≡ None → third ≡ image p
-    → Ascends third.terms → table_size third ≤ 2 ^ 26
-made_size p third none made ascends =
-    let size = size_within p none (subst (λ (t : TableForm). Ascends t.terms) made ascends) in
-    subst (λ t. table_size t ≤ 2 ^ 26) (sym made) size
+-- the sets of all contributions
+contribution_sets : (p : ProblemForm) → Admits p
+    → All (OfSet (IsTermSet p.variables)) (contributions p)
+contribution_sets p admitted =
+    let P = OfSet (IsTermSet p.variables) in
+    let products = All-map P product_term p.objective (product_sets p p.objective p.variables admitted refl refl) in
+    let clauses = All-map P (clause_term (penalty p)) p.clauses (clause_sets p p.clauses p.variables admitted refl refl) in
+    All-cons P ([], p.constant) _ (empty_set p.variables)
+    (All-append P (map product_term p.objective) (map (clause_term (penalty p)) p.clauses) products clauses)
+
+pub made_size : (p : ProblemForm) (third : TableForm) → Admits p → third ≡ image p
+    → table_size third ≤ 2 ^ 26
+made_size p third admitted made =
+    let ascends = (AreTerms-collected p.variables (contributions p) (contribution_sets p admitted)).ordered in
+    subst (λ t. table_size t ≤ 2 ^ 26) (sym made) (size_within p admitted.within ascends)
 
 pub made_relaxes : (link : BitsLink) (p : ProblemForm) (third : TableForm) (threshold : ℤ)
     → Fits link p → third ≡ image p → threshold ≡ upper p

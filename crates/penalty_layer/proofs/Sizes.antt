@@ -8,9 +8,9 @@ use Rattle.problem_form.specs.declared.terms.Product.{Product}
 use Rattle.problem_form.specs.declared.terms.Clause.{Clause}
 use Rattle.problem_form.specs.Problems.{ProblemForm, products_total, products_size}
 use Rattle.problem_form.specs.Limits.{penalty, pairs, limit_fault}
-use Rattle.term_table.specs.Terms.{Term, Ascends, terms_total, added, collected}
+use Rattle.term_table.specs.Terms.{Term, Ascends, terms_total}
 use Rattle.term_table.specs.Tables.{table_size}
-use Rattle.term_table.proofs.Additions.{sets_sum, sets_sum-cons, sets_sum-collected, terms_total-cons, terms_total-added, terms_total-more, terms_total-collected}
+use Rattle.term_table.proofs.Additions.{sets_sum, sets_sum-cons, sets_sum-collected, terms_total-cons, terms_total-collected}
 use Rattle.term_table.proofs.SetSizes.{terms_size-once}
 use Rattle.penalty_layer.specs.Penalty.{product_term, clause_term, contributions, image}
 use Rattle.penalty_layer.specs.Weights.{clause_weights}
@@ -81,13 +81,12 @@ products_terms_total (t ∷ ts) =
 
 -- after the constant and the products
 pub products_within : (p : ProblemForm)
-    → terms_total (collected (added [] [] p.constant) (map product_term p.objective))
-    ≤ unsigned_abs p.constant + products_total p.objective
+    → terms_total (([], p.constant) ∷ map product_term p.objective)
+    ≡ unsigned_abs p.constant + products_total p.objective
 products_within p =
     omega (
       arith,
-      terms_total-more (added [] [] p.constant) (map product_term p.objective),
-      terms_total-added [] [] p.constant,
+      terms_total-cons ([], p.constant) (map product_term p.objective),
       products_terms_total p.objective,
     )
 

@@ -3,10 +3,9 @@
 -- With A the sum of the sizes of the objective's coefficients and of the soft weights, no assignment
 -- gains more than A by breaking a hard clause, so a penalty of A + 1 for each puts what breaks one
 -- above every whole cost. See Boros and Hammer, Pseudo-Boolean optimization (2002).
-use Rattle.std.specs.Prelude.{◌≡◌, ℕ, ◌≤◌, pos, not, List, [], ◌∷◌, ◌++◌, map, take, unwrap_or, None}
+use Rattle.std.specs.Prelude.{◌≡◌, ℕ, pos, not, List, [], ◌∷◌, ◌++◌, map, unwrap_or, None}
 use Rattle.bits_model.specs.declared.costs.Figures.{Figures}
 use Rattle.bits_model.specs.declared.layer.BitsLink.{BitsLink}
-use Rattle.bits_model.specs.Relations.{Decoding}
 use Rattle.problem_form.specs.declared.literal.Literal.{Literal}
 use Rattle.problem_form.specs.declared.terms.Clause.{Clause}
 use Rattle.problem_form.specs.declared.terms.Product.{Product}
@@ -21,6 +20,7 @@ use Rattle.term_table.specs.Tables.{TableForm}
 abbrev pub opposite : Literal → Literal
 opposite l = record { variable = l.variable; negated = not l.negated }
 
+-- a product adds its coefficient where all its literals are true
 abbrev pub product_term : Product → Term
 product_term t = (t.literals, t.coefficient)
 
@@ -35,15 +35,13 @@ contributions p =
     ([], p.constant)
     ∷ (map product_term p.objective ++ map (clause_term (penalty p)) p.clauses)
 
--- a table with terms added, one after another
-abbrev pub with_terms : TableForm → List Term → TableForm
-with_terms t ts = record t { terms = collected t.terms ts }
-
 -- ---- the guard's members
 
+-- the sums of the contributions
 abbrev pub image : ProblemForm → TableForm
 image p = record { width = p.variables; terms = collected [] (contributions p) }
 
+-- nothing is scaled or moved, and the threshold is the upper bound
 abbrev pub figures : ProblemForm → Figures
 figures p = record { scale = pos 1; offset = pos 0; threshold = upper p }
 
@@ -52,17 +50,6 @@ pub record Admits (p : ProblemForm) : Type 0 where
   pub normal : IsNormal p
   pub within : limit_fault p ≡ None
   pub unconstrained : p.constraints ≡ []
-
--- the first bits of a state are the assignment
-abbrev pub first_bits : BitsLink → Decoding
-first_bits link = record {
-  source_width = link.source_width;
-  target_width = link.target_width;
-  decoded = λ y. take link.source_width y;
-}
-
-abbrev pub IsSound : BitsLink → Type 0
-IsSound link = link.source_width ≤ link.target_width
 
 -- a link between a problem without constraints and its image, which adds no nodes
 pub record Fits (link : BitsLink) (p : ProblemForm) : Type 0 where

@@ -16,7 +16,8 @@ use Rattle.problem_form.specs.Limits.{penalty, upper}
 use Rattle.term_table.specs.Terms.{term_cost, terms_cost}
 use Rattle.term_table.specs.Tables as tables
 use Rattle.term_table.proofs.Additions.{terms_cost-collected}
-use Rattle.penalty_layer.specs.Penalty.{contributions, clause_term, product_term, image, figures, first_bits, Fits, IsSound}
+use Rattle.penalty_layer.specs.Penalty.{contributions, clause_term, product_term, image, figures, Fits}
+use Rattle.bits_model.specs.Links.{first_bits, HasFirstBits}
 use Rattle.penalty_layer.specs.Violations.{clause_cost, clause_terms_cost, product_terms_cost, clauses_at_least, clauses_soft, soft_costs_upper, sum_lower, sum_upper}
 
 -- ---- the cost of the table
@@ -83,6 +84,7 @@ whole_value x p v none whole =
     let cases = whole_is_unbroken _ _ v (sym (by_clauses x p none) ∙ whole) in
     (kept_value x p cases.0 ∙ cases.1, omega (arith, ints, whole_below x p, cases.1))
 
+-- an assignment of infinite cost lies above the upper bound in the table
 pub infinite_value : (x : List Bool) (p : ProblemForm) → p.constraints ≡ []
     → problem_cost p x ≡ Infinite → upper p <ℤ terms_cost x (image p).terms
 infinite_value x p none infinite =
@@ -95,6 +97,7 @@ pub decoded_whole : (link : BitsLink) (p : ProblemForm) (y : List Bool) → Fits
     → length y ≡ p.variables → (first_bits link).decoded y ≡ y
 decoded_whole link p y fit w = let wide = fit.source in take_all link.source_width y (omega arith)
 
+-- the table relaxes the problem
 pub penalty_relaxes : (link : BitsLink) (p : ProblemForm) → Fits link p
     → Relaxes (problems.form_of p) (tables.form_of (image p)) (first_bits link) (figures p)
 penalty_relaxes link p fit = record {
@@ -132,12 +135,15 @@ penalty_extends link p x fit w = record {
       omega (arith, ints, value);
 }
 
+-- a link that fits has the widths of the problem and of its image
 pub penalty_joins : (link : BitsLink) (p : ProblemForm) → Fits link p
     → Joins (problems.form_of p) (tables.form_of (image p)) (first_bits link)
 penalty_joins link p fit = record { source = fit.source; target = fit.target }
 
-pub penalty_sound : (link : BitsLink) (p : ProblemForm) → Fits link p → IsSound link
+-- it can be decoded by
+pub penalty_sound : (link : BitsLink) (p : ProblemForm) → Fits link p → HasFirstBits link
 penalty_sound link p fit = let from = fit.source in let to = fit.target in omega arith
 
+-- the costs of an image are whole
 pub penalty_whole : (p : ProblemForm) → IsNeverInfinite (tables.form_of (image p))
 penalty_whole p y e = cc

@@ -29,6 +29,7 @@ not-or : (a b : Bool) → not (a || b) ≡ (not a && not b)
 not-or true b = refl
 not-or false b = refl
 
+-- the complements are all true where no literal is
 pub all_hold-opposite : (x : List Bool) (ls : List Literal)
     → all_hold x (map opposite ls) ≡ not (some_holds x ls)
 all_hold-opposite x [] = refl
@@ -40,6 +41,7 @@ all_hold-opposite x (l ∷ ls) =
 abbrev pub clause_cost : List Bool → ℕ → Clause → ℤ
 clause_cost x n c = if_so (is_violated x c) (pos (unwrap_or c.weight n))
 
+-- the clauses' terms cost what the clauses add
 pub clause_terms_cost : (x : List Bool) (n : ℕ) (cs : List Clause)
     → terms_cost x (map (clause_term n) cs) ≡ total_by (clause_cost x n) cs
 clause_terms_cost x n cs =
@@ -47,12 +49,14 @@ clause_terms_cost x n cs =
     ∙ total_by-same _ (clause_cost x n) cs
     (λ c. ap (λ t. if_so t (pos (unwrap_or c.weight n))) (all_hold-opposite x c.literals))
 
+-- the products' terms cost the objective
 pub product_terms_cost : (x : List Bool) (ts : List Product)
     → terms_cost x (map product_term ts) ≡ sum_of x ts
 product_terms_cost x ts = total_by-map (term_cost x) product_term ts
 
 -- ---- clauses
 
+-- a clause adds nothing negative
 pub clause_not_negative : (x : List Bool) (n : ℕ) (c : Clause) → pos 0 ≤ℤ clause_cost x n c
 clause_not_negative x n c = go (is_violated x c)
   where
@@ -79,6 +83,7 @@ clause_soft x n c = go c.weight (is_violated x c)
     go None false h = refl
     go (Some w) t h = refl
 
+-- so do all clauses
 pub clauses_not_negative : (x : List Bool) (n : ℕ) (cs : List Clause)
     → pos 0 ≤ℤ total_by (clause_cost x n) cs
 clauses_not_negative x n [] = omega (arith, ints)
@@ -115,6 +120,7 @@ clauses_soft x n (c ∷ cs) h = go (fails_hard x c) h (clause_soft x n c) (claus
     go true e f g = cc
     go false e f g = λ i. f refl i +ℤ g e i
 
+-- the soft clauses add at most their weights
 pub soft_costs_upper : (x : List Bool) (cs : List Clause)
     → total_by (soft_cost x) cs ≤ℤ pos (sum_by soft_weight cs)
 soft_costs_upper x [] = omega (arith, ints)
@@ -139,6 +145,7 @@ one_upper true (negsuc n) = omega (arith, ints)
 one_upper false (pos n) = omega (arith, ints)
 one_upper false (negsuc n) = omega (arith, ints)
 
+-- the objective is no less than its positive part less the sizes of all coefficients
 pub sum_lower : (x : List Bool) (ts : List Product)
     → pos (positive_total ts) ≤ℤ (sum_of x ts +ℤ pos (products_total ts))
 sum_lower x [] = omega (arith, ints)
@@ -152,6 +159,7 @@ sum_lower x (t ∷ ts) =
       sum_by-cons (λ (t : Product). unsigned_abs t.coefficient) t ts,
     )
 
+-- the objective is no more than its positive part
 pub sum_upper : (x : List Bool) (ts : List Product) → sum_of x ts ≤ℤ pos (positive_total ts)
 sum_upper x [] = omega (arith, ints)
 sum_upper x (t ∷ ts) =

@@ -1,23 +1,24 @@
-//! What each part of a problem adds to a table.
+//! What each part of a problem contributes to the sums.
 ghost use Rattle.std.specs.Prelude.{◌≡◌, ◌+◌, ◌≤◌, ◌<◌, ◌^◌, pos, map, All, OnOk, unwrap_or};
 ghost use Rattle.problem_form.specs.Problems.{products_total};
 ghost use Rattle.term_table.specs.Terms.{IsTermSet, terms_total};
-ghost use Rattle.penalty_layer.specs.Penalty.{opposite, product_term, clause_term, with_terms};
+ghost use Rattle.penalty_layer.specs.Penalty.{opposite, product_term, clause_term};
+ghost use Rattle.term_table.specs.Tables.{with_more};
 ghost use Rattle.penalty_layer.specs.Weights.{clause_weights};
 
 use bits_model::NoMemory;
 use problem_form::{Clause, Literal, Product};
 use std::alloc::Global;
-use term_table::Table;
+use term_table::GatheredTerms;
 
 /// Adds the products with their coefficients.
-pub(crate) fn add_products(table: &mut Table, products: &[Product]) -> Result<(), NoMemory>
-    requires sets { All (λ t. IsTermSet table.old.width t.literals) products.now }
-    requires small { terms_total table.old.terms + products_total products.now ≤ 2 ^ 124 }
-    ensures { OnOk result (table.new ≡ with_terms table.old (map product_term products.now)) }
+pub(crate) fn add_products(terms: &mut GatheredTerms, products: &[Product]) -> Result<(), NoMemory>
+    requires sets { All (λ t. IsTermSet terms.old.width t.literals) products.now }
+    requires small { terms_total terms.old.terms + products_total products.now ≤ 2 ^ 124 }
+    ensures { OnOk result (terms.new ≡ with_more terms.old (map product_term products.now)) }
 {
     for product in products {
-        table.add(product.literals.as_slice(), product.coefficient)?;
+        terms.add(product.literals.as_slice(), product.coefficient)?;
     }
     Ok(())
 }
@@ -57,19 +58,20 @@ fn weight_or(clause: &Clause, penalty: u128) -> i128
 /// its weight, and a hard one with the penalty.
 pub(crate) fn add_clauses(
     alloc: Global,
-    table: &mut Table,
+    terms: &mut GatheredTerms,
     clauses: &[Clause],
     penalty: u128,
 ) -> Result<(), NoMemory>
-    requires sets { All (λ c. IsTermSet table.old.width (map opposite c.literals)) clauses.now }
-    requires small { terms_total table.old.terms + clause_weights penalty clauses.now ≤ 2 ^ 124 }
+    requires sets { All (λ c. IsTermSet terms.old.width (map opposite c.literals)) clauses.now }
+    requires small { terms_total terms.old.terms + clause_weights penalty clauses.now ≤ 2 ^ 124 }
     requires penalty { penalty ≤ 2 ^ 100 }
-    ensures { OnOk result (table.new ≡ with_terms table.old (map (clause_term penalty) clauses.now)) }
+    ensures { OnOk result
+        (terms.new ≡ with_more terms.old (map (clause_term penalty) clauses.now)) }
 {
     let mut opposites = Vec::new(alloc);
     for clause in clauses {
         set_opposites(&mut opposites, clause.literals.as_slice())?;
-        table.add(&opposites, weight_or(clause, penalty))?;
+        terms.add(&opposites, weight_or(clause, penalty))?;
     }
     Ok(())
 }

@@ -1,13 +1,14 @@
 //! The penalty method for problems of products and clauses.
 ghost use Rattle.std.specs.Prelude.{◌^◌};
-ghost use Rattle.penalty_layer.specs.Penalty.{Admits, image, figures, first_bits, IsSound, Fits};
+ghost use Rattle.penalty_layer.specs.Penalty.{Admits, image, figures, Fits};
+ghost use Rattle.bits_model.specs.Links.{first_bits, HasFirstBits};
 ghost use Rattle.penalty_layer.specs.Relaxing.{penalty_relaxes, penalty_joins, penalty_sound, penalty_whole};
 
 use crate::adding::{add_clauses, add_products};
 use bits_model::{BitsLink, Figures, Guard, Guarded, NoMemory};
 use problem_form::Problem;
 use std::alloc::Global;
-use term_table::Table;
+use term_table::{GatheredTerms, Table};
 
 /// The first step of every pipeline: hard clauses become soft ones of a weight that no gain
 /// outweighs, so that a state that breaks one lies above the threshold. It adds no nodes.
@@ -38,7 +39,7 @@ impl Guard for Penalty {
 
     ghost decoding = { first_bits };
 
-    ghost is_sound = { IsSound };
+    ghost is_sound = { HasFirstBits };
 
     ghost fits = { λ link problem. Fits link problem };
 
@@ -52,13 +53,13 @@ impl Guard for Penalty {
 
     fn guard(&self, alloc: Global, source: &Problem) -> Result<Guarded<Table, BitsLink>, NoMemory> {
         let width = source.variables as usize;
-        let mut table = Table::new(alloc, width);
-        table.add(&[], source.constant)?;
-        add_products(&mut table, source.objective.as_slice())?;
+        let mut terms = GatheredTerms::new(alloc, width);
+        terms.add(&[], source.constant)?;
+        add_products(&mut terms, source.objective.as_slice())?;
         let penalty = source.cost_size() + 1;
-        add_clauses(alloc, &mut table, source.clauses.as_slice(), penalty)?;
+        add_clauses(alloc, &mut terms, source.clauses.as_slice(), penalty)?;
         Ok(Guarded {
-            target: table,
+            target: terms.into_table(),
             link: BitsLink {
                 source_width: width,
                 target_width: width,

@@ -1,12 +1,13 @@
 use Rattle.std.proofs.Common.{◌≡◌, ◌+◌, ◌≤◌, ◌^◌, map, take, drop}
 use Rattle.term_table.specs.Terms.{terms_total}
-use Rattle.penalty_layer.specs.Penalty.{clause_term, with_terms}
+use Rattle.penalty_layer.specs.Penalty.{clause_term}
+use Rattle.term_table.specs.Tables.{with_more}
 use Rattle.penalty_layer.specs.Weights.{clause_weights}
 use Rattle.penalty_layer.proofs.adding.add_clauses.Given as goal
 
 -- the clauses so far were added, and what is left fits
 abbrev pub invariant-loop-clause : goal.invariant-loop-clause
 invariant-loop-clause l = record {
-  made : l.table ≡ with_terms l.fn.table (map (clause_term l.penalty) (take l.clause-index l.clauses));
-  small : terms_total l.table.terms + clause_weights l.penalty (drop l.clause-index l.clauses) ≤ 2 ^ 124;
+  made : l.terms ≡ with_more l.fn.terms (map (clause_term l.penalty) (take l.clause-index l.clauses));
+  small : terms_total l.terms.terms + clause_weights l.penalty (drop l.clause-index l.clauses) ≤ 2 ^ 124;
 }

@@ -1,12 +1,13 @@
 use Rattle.std.proofs.Common.{◌≡◌, ◌+◌, ◌≤◌, ◌^◌, map, take, drop}
 use Rattle.problem_form.specs.Problems.{products_total}
 use Rattle.term_table.specs.Terms.{terms_total}
-use Rattle.penalty_layer.specs.Penalty.{product_term, with_terms}
+use Rattle.penalty_layer.specs.Penalty.{product_term}
+use Rattle.term_table.specs.Tables.{with_more}
 use Rattle.penalty_layer.proofs.adding.add_products.Given as goal
 
 -- the products so far were added, and what is left fits
 abbrev pub invariant-loop-product : goal.invariant-loop-product
 invariant-loop-product l = record {
-  made : l.table ≡ with_terms l.fn.table (map product_term (take l.product-index l.products));
-  small : terms_total l.table.terms + products_total (drop l.product-index l.products) ≤ 2 ^ 124;
+  made : l.terms ≡ with_more l.fn.terms (map product_term (take l.product-index l.products));
+  small : terms_total l.terms.terms + products_total (drop l.product-index l.products) ≤ 2 ^ 124;
 }

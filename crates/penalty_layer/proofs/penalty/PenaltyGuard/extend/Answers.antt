@@ -2,7 +2,8 @@ use Rattle.std.proofs.Common.{rules, subst, sym}
 use Rattle.problem_form.specs.Problems as problems
 use Rattle.term_table.specs.Tables as tables
 use Rattle.bits_model.specs.Relations.{ExtendsLeast}
-use Rattle.penalty_layer.specs.Penalty.{image, figures, first_bits}
+use Rattle.penalty_layer.specs.Penalty.{image, figures}
+use Rattle.bits_model.specs.Links.{first_bits}
 use Rattle.penalty_layer.specs.Relaxing.{penalty_extends}
 use Rattle.penalty_layer.proofs.penalty.PenaltyGuard.extend.Goals as goal
 

@@ -1,10 +1,9 @@
-use Rattle.std.proofs.Common.{rules, arith, ◌≡◌, ◌+◌, subst, ap, ◌∙◌}
+use Rattle.std.proofs.Common.{rules, arith, ◌≡◌, ◌+◌, ap, ◌∙◌}
 use Rattle.std.specs.Int.{w128}
 use Rattle.std.proofs.lemmas.Int.{to_z-of_z}
 use Rattle.bits_model.specs.declared.layer.BitsLink.{BitsLink}
 use Rattle.problem_form.specs.Problems.{ProblemForm}
 use Rattle.problem_form.specs.Limits.{penalty}
-use Rattle.term_table.specs.Terms.{Ascends}
 use Rattle.term_table.specs.Tables.{TableForm}
 use Rattle.penalty_layer.specs.Weights.{clause_weights}
 use Rattle.penalty_layer.specs.Penalty.{Fits}
@@ -12,13 +11,13 @@ use Rattle.penalty_layer.proofs.Admitted.{empty_set, product_sets, clause_sets, 
 use Rattle.penalty_layer.proofs.penalty.PenaltyGuard.guard.Goals as goal
 
 pub add-requires-clause-set : goal.add-requires-clause-set
-add-requires-clause-set c = empty_set c.new-table.result.width
+add-requires-clause-set c = empty_set c.new-terms.result.width
 
 pub add_products-requires-clause-sets : goal.add_products-requires-clause-sets
 add_products-requires-clause-sets c =
     let objective = c.as_slice.ensures ∙ ap (λ (q : ProblemForm). q.objective) c.source.view_is in
     let width = ap (λ (t : TableForm). t.width) c.in_ok-add.ensures.added in
-    let wide = ap (λ (t : TableForm). t.width) c.new-table.ensures in
+    let wide = ap (λ (t : TableForm). t.width) c.new-terms.ensures in
     product_sets c.args.source.now c.as_slice.result.now c.add.new.self.width c.requires objective
     (width ∙ wide ∙ ap (λ (q : ProblemForm). q.variables) c.source.view_is)
 
@@ -26,23 +25,23 @@ pub add_clauses-requires-clause-sets : goal.add_clauses-requires-clause-sets
 add_clauses-requires-clause-sets c =
     let p = c.args.source.now in
     let same = c.source.view_is in
-    let first = constant_added p _ c.new-table.result c.add.new.self _ same c.new-table.ensures
+    let first = constant_added p _ c.new-terms.result c.add.new.self _ same c.new-terms.ensures
     c.in_ok-add.ensures.added (to_z-of_z w128 _ (search rules)) in
-    let second = products_added p _ c.add.new.self c.add_products.new.table c.as_slice.result.now same
+    let second = products_added p _ c.add.new.self c.add_products.new.terms c.as_slice.result.now same
     c.in_ok-add_products.ensures c.as_slice.ensures in
     let width = ap (λ (t : TableForm). t.width) second ∙ ap (λ (t : TableForm). t.width) first in
-    clause_sets p c.as_slice-2.result.now c.add_products.new.table.width c.requires
+    clause_sets p c.as_slice-2.result.now c.add_products.new.terms.width c.requires
     (c.as_slice-2.ensures ∙ ap (λ (q : ProblemForm). q.clauses) same) width
 
 pub add_clauses-requires-clause-small : goal.add_clauses-requires-clause-small
 add_clauses-requires-clause-small c =
     let p = c.args.source.now in
     let same = c.source.view_is in
-    let first = constant_added p _ c.new-table.result c.add.new.self _ same c.new-table.ensures
+    let first = constant_added p _ c.new-terms.result c.add.new.self _ same c.new-terms.ensures
     c.in_ok-add.ensures.added (to_z-of_z w128 _ (search rules)) in
-    let second = products_added p _ c.add.new.self c.add_products.new.table c.as_slice.result.now same
+    let second = products_added p _ c.add.new.self c.add_products.new.terms c.as_slice.result.now same
     c.in_ok-add_products.ensures c.as_slice.ensures in
-    let fit = clauses_fit p c.add.new.self c.add_products.new.table c.requires.within first second in
+    let fit = clauses_fit p c.add.new.self c.add_products.new.terms c.requires.within first second in
     let number = ap (λ n. n + 1) c.cost_size-penalty.ensures.value in
     let clauses = c.as_slice-2.ensures ∙ ap (λ (q : ProblemForm). q.clauses) same in
     let weights : clause_weights (c.cost_size-penalty.result + 1) c.as_slice-2.result.now ≡ clause_weights (penalty p) p.clauses =
@@ -53,18 +52,18 @@ pub returns-clause-relaxes : goal.returns-clause-relaxes
 returns-clause-relaxes c =
     let p = c.args.source.now in
     let same = c.source.view_is in
-    let first = constant_added p _ c.new-table.result c.add.new.self _ same c.new-table.ensures
+    let first = constant_added p _ c.new-terms.result c.add.new.self _ same c.new-terms.ensures
     c.in_ok-add.ensures.added (to_z-of_z w128 _ (search rules)) in
-    let second = products_added p _ c.add.new.self c.add_products.new.table c.as_slice.result.now same
+    let second = products_added p _ c.add.new.self c.add_products.new.terms c.as_slice.result.now same
     c.in_ok-add_products.ensures c.as_slice.ensures in
-    let third = clauses_added p _ c.add_products.new.table c.add_clauses.new.table _
+    let third = clauses_added p _ c.add_products.new.terms c.add_clauses.new.terms _
     c.as_slice-2.result.now same c.in_ok-add_clauses.ensures
     (ap (λ n. n + 1) c.cost_size-penalty.ensures.value) c.as_slice-2.ensures in
-    let made = made_image p c.add.new.self c.add_products.new.table c.add_clauses.new.table first second third in
+    let made = made_image p c.add.new.self c.add_products.new.terms c.add_clauses.new.terms c.into_table.result first second third c.into_table.ensures in
     let width = ap (λ (q : ProblemForm). q.variables) same in
     let link : BitsLink = record { source_width = c.source.inside.variables; target_width = c.source.inside.variables } in
     let fit : Fits link p = record { source = width; target = width; unconstrained = c.requires.unconstrained } in
-    made_relaxes link p c.add_clauses.new.table _ fit made
+    made_relaxes link p c.into_table.result _ fit made
     (to_z-of_z w128 c.upper.result (search rules) ∙ c.upper.ensures)
 
 pub returns-clause-threshold_high : goal.returns-clause-threshold_high
@@ -76,27 +75,26 @@ pub returns-clause-total : goal.returns-clause-total
 returns-clause-total c =
     let p = c.args.source.now in
     let same = c.source.view_is in
-    let first = constant_added p _ c.new-table.result c.add.new.self _ same c.new-table.ensures
+    let first = constant_added p _ c.new-terms.result c.add.new.self _ same c.new-terms.ensures
     c.in_ok-add.ensures.added (to_z-of_z w128 _ (search rules)) in
-    let second = products_added p _ c.add.new.self c.add_products.new.table c.as_slice.result.now same
+    let second = products_added p _ c.add.new.self c.add_products.new.terms c.as_slice.result.now same
     c.in_ok-add_products.ensures c.as_slice.ensures in
-    let third = clauses_added p _ c.add_products.new.table c.add_clauses.new.table _
+    let third = clauses_added p _ c.add_products.new.terms c.add_clauses.new.terms _
     c.as_slice-2.result.now same c.in_ok-add_clauses.ensures
     (ap (λ n. n + 1) c.cost_size-penalty.ensures.value) c.as_slice-2.ensures in
-    let made = made_image p c.add.new.self c.add_products.new.table c.add_clauses.new.table first second third in
-    made_total p c.add_clauses.new.table c.requires.within made
+    let made = made_image p c.add.new.self c.add_products.new.terms c.add_clauses.new.terms c.into_table.result first second third c.into_table.ensures in
+    made_total p c.into_table.result c.requires.within made
 
 pub returns-clause-size : goal.returns-clause-size
 returns-clause-size c =
     let p = c.args.source.now in
     let same = c.source.view_is in
-    let first = constant_added p _ c.new-table.result c.add.new.self _ same c.new-table.ensures
+    let first = constant_added p _ c.new-terms.result c.add.new.self _ same c.new-terms.ensures
     c.in_ok-add.ensures.added (to_z-of_z w128 _ (search rules)) in
-    let second = products_added p _ c.add.new.self c.add_products.new.table c.as_slice.result.now same
+    let second = products_added p _ c.add.new.self c.add_products.new.terms c.as_slice.result.now same
     c.in_ok-add_products.ensures c.as_slice.ensures in
-    let third = clauses_added p _ c.add_products.new.table c.add_clauses.new.table _
+    let third = clauses_added p _ c.add_products.new.terms c.add_clauses.new.terms _
     c.as_slice-2.result.now same c.in_ok-add_clauses.ensures
     (ap (λ n. n + 1) c.cost_size-penalty.ensures.value) c.as_slice-2.ensures in
-    let made = made_image p c.add.new.self c.add_products.new.table c.add_clauses.new.table first second third in
-    made_size p c.add_clauses.new.table c.requires.within made
-    (subst (λ (t : TableForm). Ascends t.terms) c.table-3.view_is c.table-3.invariant.terms.ordered)
+    let made = made_image p c.add.new.self c.add_products.new.terms c.add_clauses.new.terms c.into_table.result first second third c.into_table.ensures in
+    made_size p c.into_table.result c.requires made
