@@ -1,0 +1,17 @@
+use Rattle.std.proofs.Common.{sym, subst}
+use Rattle.std.specs.Prelude.{pos}
+use Rattle.bits_model.specs.Links.{first_bits}
+use Rattle.bits_model.specs.Relations.{Extends}
+use Rattle.term_table.specs.Tables.{form_of}
+use Rattle.monomial_layer.specs.Monomials.{image}
+use Rattle.monomial_layer.specs.Kept.{mono_reaches}
+use Rattle.monomial_layer.proofs.Adding.{if_ok-then}
+use Rattle.monomial_layer.proofs.monomials.MonomialsLayer.extend.Goals as goal
+
+pub returns : goal.returns
+returns c =
+    let t = c.args.source.now in
+    let x = c.args.x.now in
+    let reaches = mono_reaches c.args._link.now t x c.requires.fits c.requires.width in
+    if_ok-then c.extended.result c.extended.ensures
+    (λ y same. subst (Extends (form_of t) (form_of (image t)) (first_bits c.args._link.now) (pos 1) (pos 0) x) (sym same) reaches)

@@ -1,0 +1,12 @@
+use Rattle.std.proofs.Common.{◌≡◌, ◌++◌, All}
+use Rattle.std.specs.List.{flat_map}
+use Rattle.term_table.specs.Terms.{Term, IsTermSet}
+use Rattle.monomial_layer.specs.Monomials.{extension, new_bits}
+use Rattle.monomial_layer.proofs.monomials.extended.Given as goal
+
+-- the bits so far, and those of the terms that are left, are the extension
+abbrev pub invariant-loop-literals : goal.invariant-loop-literals
+invariant-loop-literals l = record {
+  whole : l.bits.items ++ flat_map (new_bits l.x) l.literals-iterator ≡ extension l.x l.table.terms;
+  sets : All (λ (t : Term). IsTermSet l.table.width t.0) l.literals-iterator;
+}

@@ -1,0 +1,108 @@
+use Rattle.std.proofs.Common.{◌≡◌, ◌+◌, ◌++◌, ◌∙◌, [], ap, arith, rules}
+use Rattle.std.specs.Int.{w128}
+use Rattle.std.specs.List.{sum_by}
+use Rattle.std.proofs.lemmas.Int.{to_z-of_z}
+use Rattle.std.proofs.lemmas.Map.Iter.{rest_more}
+use Rattle.std.proofs.lemmas.List.Elements.{All-rest, All-same}
+use Rattle.std.proofs.lemmas.List.Sums.{sum_by-cons}
+use Rattle.term_table.specs.Terms.{Term, terms_total, IsTermSet}
+use Rattle.term_table.specs.Tables.{TableForm, with_more}
+use Rattle.term_table.proofs.SmallSets.{IsTermSet-wider}
+use Rattle.term_table.proofs.Steps.{first_left}
+use Rattle.monomial_layer.specs.Monomials.{new_nodes, new_terms, replaced}
+use Rattle.monomial_layer.proofs.Sizes.{all_nodes-le, total-image}
+use Rattle.monomial_layer.proofs.Adding.{nodes_left, replaced_left, replaced_fits, replaced_fit_more}
+use Rattle.monomial_layer.proofs.replace.replaced.Goals as goal
+
+pub overflow_add-next : goal.overflow_add-next
+overflow_add-next c =
+    omega (
+      arith,
+      c.width-next.ensures,
+      c.all_new_nodes.ensures,
+      all_nodes-le c.args.table.now.terms,
+      c.requires.size,
+    )
+
+pub loop-literals-init : goal.loop-literals-init
+loop-literals-init c =
+    let t = c.args.table.now in
+    let left : c.into_iter-literals-iterator.result ≡ t.terms =
+    c.into_iter-literals-iterator.ensures.into_iter_gives ∙ c.terms-literals-items.ensures.terms in
+    let empty : c.new-quadratic.result.terms ≡ [] = ap (λ (u : TableForm). u.terms) c.new-quadratic.ensures in
+    let start = c.width-next.ensures in
+    let sum : terms_total (replaced c.into_iter-literals-iterator.result c.width-next.result) ≡ terms_total (replaced t.terms t.width) =
+    λ i. terms_total (replaced (left i) (start i)) in
+    record {
+      whole = λ i. empty i ++ replaced (left i) (start i);
+      width = ap (λ (u : TableForm). u.width) c.new-quadratic.ensures ∙ (λ i. start i + c.all_new_nodes.ensures i);
+      numbered = λ i. start i + sum_by new_nodes (left i);
+      above = omega (arith, start);
+      sets = All-same (λ (u : Term). IsTermSet t.width u.0) _ _ left c.terms-literals-items.ensures.kept.terms.sets;
+      small =
+          omega (
+            arith,
+            ap terms_total empty,
+            sum,
+            total-image t c.terms-literals-items.ensures.kept,
+            c.requires.total,
+          );
+    }
+
+pub add_replaced-requires-clause-narrow : goal.add_replaced-requires-clause-narrow
+add_replaced-requires-clause-narrow c =
+    omega (
+      arith,
+      c.loop-literals.invariant.width,
+      all_nodes-le c.args.table.now.terms,
+      c.requires.size,
+    )
+
+pub add_replaced-requires-clause-set : goal.add_replaced-requires-clause-set
+add_replaced-requires-clause-set c =
+    let t = c.args.table.now in
+    let left = rest_more _ c.loop-literals.literals-iterator c.next.new.self c.next.result (c.in-Some.literals, c.in-Some.coefficient) c.in-Some.is c.next.ensures.steps in
+    IsTermSet-wider t.width c.loop-literals.next c.in-Some.literals.now c.loop-literals.invariant.above
+    (first_left (λ (u : Term). IsTermSet t.width u.0) _ _ _ left c.loop-literals.invariant.sets)
+
+pub add_replaced-requires-clause-within : goal.add_replaced-requires-clause-within
+add_replaced-requires-clause-within c =
+    let t : Term = (c.in-Some.literals.now, c.in-Some.coefficient) in
+    let left = rest_more _ c.loop-literals.literals-iterator c.next.new.self c.next.result (c.in-Some.literals, c.in-Some.coefficient) c.in-Some.is c.next.ensures.steps in
+    let back = to_z-of_z w128 c.in-Some.coefficient (search rules) in
+    rw back
+    (omega (
+      arith,
+      c.loop-literals.invariant.width,
+      c.loop-literals.invariant.numbered,
+      ap (sum_by new_nodes) left,
+      sum_by-cons new_nodes t c.next.new.self,
+    ))
+
+pub add_replaced-requires-clause-small : goal.add_replaced-requires-clause-small
+add_replaced-requires-clause-small c =
+    let t : Term = (c.in-Some.literals.now, c.in-Some.coefficient) in
+    let left = rest_more _ c.loop-literals.literals-iterator c.next.new.self c.next.result (c.in-Some.literals, c.in-Some.coefficient) c.in-Some.is c.next.ensures.steps in
+    let back = to_z-of_z w128 c.in-Some.coefficient (search rules) in
+    rw back
+    (replaced_fits c.loop-literals.quadratic.terms t _ _ c.loop-literals.next _ left c.loop-literals.invariant.small)
+
+pub loop-literals-preserved : goal.loop-literals-preserved
+loop-literals-preserved c =
+    let t : Term = (c.in-Some.literals.now, c.in-Some.coefficient) in
+    let now = c.loop-literals.quadratic in
+    let after = c.add_replaced.new.quadratic in
+    let next = c.loop-literals.next in
+    let left = rest_more _ c.loop-literals.literals-iterator c.next.new.self c.next.result (c.in-Some.literals, c.in-Some.coefficient) c.in-Some.is c.next.ensures.steps in
+    let back = to_z-of_z w128 c.in-Some.coefficient (search rules) in
+    let made : after ≡ with_more now (new_terms t next) = rw back at c.in_ok-add_replaced.ensures in
+    let found : c.new_nodes-next.result ≡ new_nodes t = c.new_nodes-next.ensures ∙ ap (λ z. new_nodes (c.in-Some.literals.now, z)) back in
+    let number = ap (λ k. next + k) found in
+    record {
+      whole = replaced_left now after t _ _ next _ _ left number made c.loop-literals.invariant.whole;
+      width = ap (λ (u : TableForm). u.width) made ∙ c.loop-literals.invariant.width;
+      numbered = nodes_left next c.new_nodes-next.result _ t _ _ left found c.loop-literals.invariant.numbered;
+      above = let up = c.loop-literals.invariant.above in omega (arith, up);
+      sets = All-rest (λ (u : Term). IsTermSet c.args.table.now.width u.0) _ _ _ left c.loop-literals.invariant.sets;
+      small = replaced_fit_more now after t _ _ next _ _ left number made c.loop-literals.invariant.small;
+    }

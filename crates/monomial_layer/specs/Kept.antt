@@ -1,0 +1,287 @@
+-- The replaced terms keep costs: the laws stand here, since the layer's members cite them.
+--
+-- Under every state, what stands for a term costs no less than the term, and the state that adds the
+-- bits of the new nodes to an assignment reaches the cost of each term. The new nodes lie above the
+-- variables, so a state costs what its first bits cost in the terms.
+use Rattle.std.specs.Prelude.{◌≡◌, ℕ, zero, suc, ◌+◌, ◌<◌, ◌≤◌, ◌⊎◌, Bool, true, false, not, cond, ◌&&◌, leb, List, [], ◌∷◌, ◌++◌, length, take, get_or, pos, ◌+ℤ◌, ◌≤ℤ◌, int_lt}
+use Rattle.std.specs.List.{AllByRecursion, flat_map, sum_by}
+use Rattle.std.proofs.Common.{arith, sym, ap, ◌∙◌, refl, subst, inl, inr}
+use Rattle.std.proofs.lemmas.Int.{ints}
+use Rattle.std.proofs.lemmas.Bool.{cases_lt}
+use Rattle.std.proofs.lemmas.Bool.Decides.{nat_tests}
+use Rattle.std.proofs.lemmas.List.{get_or-append-add, get_or_append_left, get_or_push, length_push, length-append, length-take, get_or-take, take-append-le, take_all}
+use Rattle.std.proofs.lemmas.List.Elements.{recursion_from_All}
+use Rattle.std.proofs.lemmas.List.Sums.{sum_by-cons}
+use Rattle.integers.specs.Sums.{if_so}
+use Rattle.integers.proofs.Totals.{total_by-append}
+use Rattle.bits_model.specs.declared.layer.BitsLink.{BitsLink}
+use Rattle.bits_model.specs.Costs.{IsNeverInfinite}
+use Rattle.bits_model.specs.Relations.{Keeps, Extends, Joins}
+use Rattle.bits_model.specs.Links.{first_bits, HasFirstBits}
+use Rattle.problem_form.specs.declared.literal.Literal.{Literal}
+use Rattle.problem_form.specs.Literals.{holds, all_hold}
+use Rattle.term_table.specs.Terms.{Term, term_cost, terms_cost, IsTermSet}
+use Rattle.term_table.specs.Tables.{TableForm, IsTable}
+use Rattle.term_table.specs.Tables as tables
+use Rattle.term_table.proofs.Additions.{terms_cost-collected}
+use Rattle.monomial_layer.specs.Monomials.{negative_terms, positive_terms, nodes_for, new_nodes, new_terms, replaced, image, Fits, is_taken, first_values, true_literals, new_bits, extension}
+use Rattle.monomial_layer.specs.TermCosts.{true_literals-cons, positive_terms-le, positive_terms_reach, negative_terms-le, negative_terms_reach}
+
+-- ---- no state costs less
+
+above_two : (n : ℕ) → leb n 2 ≡ false → 3 ≤ n
+above_two n h = grind (arith, nat_tests)
+
+new_terms-le : (y : List Bool) (t : Term) (n : ℕ) → term_cost y t ≤ℤ terms_cost y (new_terms t n)
+new_terms-le y t n =
+    go (leb (length t.0) 2) (int_lt t.1 (pos 0)) (above_two (length t.0)) (λ h. omega (arith, ints))
+    (λ h. omega (arith, ints))
+  where
+    go : (a b : Bool) → (a ≡ false → 3 ≤ length t.0) → (b ≡ true → t.1 ≤ℤ pos 0)
+        → (b ≡ false → pos 0 ≤ℤ t.1)
+        → term_cost y t
+        ≤ℤ terms_cost y (cond a (t ∷ []) (cond b (negative_terms t.0 t.1 n) (positive_terms t.0 t.1 n)))
+    go true b f g h = omega (arith, ints)
+    go false true f g h = negative_terms-le y t.0 t.1 n (omega (arith, f refl)) (g refl)
+    go false false f g h = positive_terms-le y t.0 t.1 n (f refl) (h refl)
+
+-- what stands for the terms costs no less than they do
+pub replaced-le : (y : List Bool) (ts : List Term) (n : ℕ)
+    → terms_cost y ts ≤ℤ terms_cost y (replaced ts n)
+replaced-le y [] n = omega (arith, ints)
+replaced-le y (t ∷ ts) n =
+    omega (
+      arith,
+      ints,
+      new_terms-le y t n,
+      replaced-le y ts (n + new_nodes t),
+      total_by-append (term_cost y) (new_terms t n) (replaced ts (n + new_nodes t)),
+    )
+
+-- ---- two states that agree on the first bits
+
+-- the first n bits of the two states are the same
+abbrev Agrees : ℕ → List Bool → List Bool → Type 0
+Agrees n x y = (i : ℕ) → i < n → get_or x i false ≡ get_or y i false
+
+-- the variables of the literals lie below n
+abbrev Below : ℕ → List Literal → Type 0
+Below n ls = AllByRecursion (λ l. l.variable < n) ls
+
+-- the variables of all terms lie below n
+abbrev AllBelow : ℕ → List Term → Type 0
+AllBelow n ts = AllByRecursion (λ t. Below n t.0) ts
+
+holds-agrees : (n : ℕ) (x y : List Bool) (l : Literal) → Agrees n x y → l.variable < n
+    → holds x l ≡ holds y l
+holds-agrees n x y l same below = ap (λ v. cond l.negated (not v) v) (same l.variable below)
+
+all_hold-agrees : (n : ℕ) (x y : List Bool) (ls : List Literal) → Agrees n x y → Below n ls
+    → all_hold x ls ≡ all_hold y ls
+all_hold-agrees n x y [] same below = refl
+all_hold-agrees n x y (l ∷ ls) same below =
+    λ i. holds-agrees n x y l same below.0 i && all_hold-agrees n x y ls same below.1 i
+
+count-agrees : (n : ℕ) (x y : List Bool) (ls : List Literal) → Agrees n x y → Below n ls
+    → true_literals x ls ≡ true_literals y ls
+count-agrees n x y [] same below = refl
+count-agrees n x y (l ∷ ls) same below =
+    true_literals-cons x l ls
+    ∙ (λ i. cond (holds-agrees n x y l same below.0 i) 1 0
+    + count-agrees n x y ls same below.1 i)
+    ∙ sym (true_literals-cons y l ls)
+
+cost-agrees : (n : ℕ) (x y : List Bool) (ts : List Term) → Agrees n x y → AllBelow n ts
+    → terms_cost x ts ≡ terms_cost y ts
+cost-agrees n x y [] same below = refl
+cost-agrees n x y (t ∷ ts) same below =
+    λ i. if_so (all_hold-agrees n x y t.0 same below.0 i) t.1
+    +ℤ cost-agrees n x y ts same below.1 i
+
+-- ---- the bits of the new nodes
+
+length-first_values : (f : ℕ → Bool) (n : ℕ) → length (first_values f n) ≡ n
+length-first_values f zero = refl
+length-first_values f (suc n) =
+    length_push (first_values f n) (f n) ∙ omega (arith, length-first_values f n)
+
+get_or-first_values : (f : ℕ → Bool) (n i : ℕ) → i < n → get_or (first_values f n) i false ≡ f i
+get_or-first_values f zero i h = absurd (omega arith)
+get_or-first_values f (suc n) i h = go (cases_lt i n) (get_or-first_values f n i)
+  where
+    go : (i < n) ⊎ (n ≤ i) → (i < n → get_or (first_values f n) i false ≡ f i)
+        → get_or (first_values f n ++ f n ∷ []) i false ≡ f i
+    go (inl l) r =
+        get_or_append_left (first_values f n) (f n ∷ []) false i
+        (omega (arith, length-first_values f n))
+        ∙ r l
+    go (inr g) r =
+        let same : n ≡ i = omega arith in
+        get_or_push (first_values f n) (f n) false i (length-first_values f n ∙ same) ∙ ap f same
+
+-- the state has these bits from a place on
+abbrev Has : List Bool → ℕ → List Bool → Type 0
+Has y m bits = (i : ℕ) → i < length bits → get_or y (m + i) false ≡ get_or bits i false
+
+has_left : (y : List Bool) (m : ℕ) (bs cs : List Bool) → Has y m (bs ++ cs) → Has y m bs
+has_left y m bs cs h =
+    λ i l. h i (omega (arith, length-append bs cs)) ∙ get_or_append_left bs cs false i l
+
+has_right : (y : List Bool) (m : ℕ) (bs cs : List Bool) → Has y m (bs ++ cs)
+    → Has y (m + length bs) cs
+has_right y m bs cs h = λ i l.
+    let place : m + length bs + i ≡ m + (length bs + i) = omega arith in
+    ap (λ k. get_or y k false) place
+    ∙ h (length bs + i) (omega (arith, length-append bs cs))
+    ∙ get_or-append-add bs cs i false
+
+new_terms_reach : (x y : List Bool) (n m : ℕ) (t : Term) → Agrees n x y → Below n t.0
+    → Has y m (new_bits x t) → terms_cost y (new_terms t m) ≡ term_cost y t
+new_terms_reach x y n m t agrees below has =
+    go (leb (length t.0) 2) (int_lt t.1 (pos 0)) (above_two (length t.0)) has
+  where
+    values : List Bool
+    values = first_values (is_taken (true_literals x t.0)) (nodes_for (length t.0))
+
+    go : (a b : Bool) → (a ≡ false → 3 ≤ length t.0)
+        → Has y m (cond a [] (cond b (all_hold x t.0 ∷ []) values))
+        → terms_cost y (cond a (t ∷ []) (cond b (negative_terms t.0 t.1 m) (positive_terms t.0 t.1 m)))
+        ≡ term_cost y t
+    go true b f h = omega (arith, ints)
+    go false true f h =
+        let place : m ≡ m + 0 = omega arith in
+        let bit = ap (λ k. get_or y k false) place ∙ h 0 (omega arith) in
+        let same = bit ∙ all_hold-agrees n x y t.0 agrees below in
+        sym (negative_terms_reach y t.0 t.1 m (omega (arith, f refl)) same)
+    go false false f h =
+        let s = true_literals x t.0 in
+        let k = nodes_for (length t.0) in
+        sym (positive_terms_reach y t.0 t.1 m (f refl) (λ i l.
+        h i (omega (arith, length-first_values (is_taken s) k))
+        ∙ get_or-first_values (is_taken s) k i l
+        ∙ ap (λ n. is_taken n i) (count-agrees n x y t.0 agrees below)))
+
+-- a term has as many new bits as new nodes
+pub length-new_bits : (x : List Bool) (t : Term) → length (new_bits x t) ≡ new_nodes t
+length-new_bits x t = go (leb (length t.0) 2) (int_lt t.1 (pos 0))
+  where
+    values : List Bool
+    values = first_values (is_taken (true_literals x t.0)) (nodes_for (length t.0))
+
+    go : (a b : Bool) → length (cond a [] (cond b (all_hold x t.0 ∷ []) values))
+        ≡ cond a 0 (cond b 1 (nodes_for (length t.0)))
+    go true b = refl
+    go false true = refl
+    go false false = length-first_values (is_taken (true_literals x t.0)) (nodes_for (length t.0))
+
+replaced_reach : (x y : List Bool) (n m : ℕ) (ts : List Term) → Agrees n x y → AllBelow n ts
+    → Has y m (flat_map (new_bits x) ts) → terms_cost y (replaced ts m) ≡ terms_cost y ts
+replaced_reach x y n m [] agrees below has = refl
+replaced_reach x y n m (t ∷ ts) agrees below has =
+    let bits = flat_map (new_bits x) ts in
+    let first = new_terms_reach x y n m t agrees below.0 (has_left y m (new_bits x t) bits has) in
+    let P : ℕ → Type 0 = λ k. Has y (m + k) bits in
+    let after = subst P (length-new_bits x t) (has_right y m (new_bits x t) bits has) in
+    let rest = replaced_reach x y n (m + new_nodes t) ts agrees below.1 after in
+    total_by-append (term_cost y) (new_terms t m) (replaced ts (m + new_nodes t))
+    ∙ (λ i. first i +ℤ rest i)
+
+extension_reach : (x : List Bool) (ts : List Term) → AllBelow (length x) ts
+    → terms_cost (extension x ts) (replaced ts (length x)) ≡ terms_cost x ts
+extension_reach x ts below =
+    let bits = flat_map (new_bits x) ts in
+    let agrees : Agrees (length x) x (x ++ bits) =
+    λ i l. sym (get_or_append_left x bits false i l) in
+    replaced_reach x (x ++ bits) (length x) (length x) ts agrees below
+    (λ i l. get_or-append-add x bits i false)
+    ∙ sym (cost-agrees (length x) x (x ++ bits) ts agrees below)
+
+-- ---- the layer's laws
+
+below_width : (t : TableForm) → IsTable t → AllBelow t.width t.terms
+below_width t table = go t.terms (recursion_from_All _ _ table.terms.sets)
+  where
+    go : (ts : List Term) → AllByRecursion (λ (u : Term). IsTermSet t.width u.0) ts
+        → AllBelow t.width ts
+    go [] sets = tt
+    go (u ∷ us) sets = (recursion_from_All _ _ sets.0.set.within, go us sets.1)
+
+-- a state costs no less than its first bits in the source
+pub image_bound : (t : TableForm) → IsTable t → (y : List Bool)
+    → terms_cost (take t.width y) t.terms ≤ℤ terms_cost y (image t).terms
+image_bound t table y =
+    let agrees : Agrees t.width (take t.width y) y = λ i l. get_or-take t.width y i false l in
+    omega (
+      arith,
+      ints,
+      cost-agrees t.width (take t.width y) y t.terms agrees (below_width t table),
+      replaced-le y t.terms t.width,
+      terms_cost-collected y (replaced t.terms t.width),
+    )
+
+length-bits : (x : List Bool) (ts : List Term)
+    → length (flat_map (new_bits x) ts) ≡ sum_by new_nodes ts
+length-bits x [] = refl
+length-bits x (t ∷ ts) =
+    omega (
+      arith,
+      length-append (new_bits x t) (flat_map (new_bits x) ts),
+      length-new_bits x t,
+      length-bits x ts,
+      sum_by-cons new_nodes t ts,
+    )
+
+-- a link that fits can be decoded by
+pub mono_sound : (link : BitsLink) (t : TableForm) → Fits link t → HasFirstBits link
+mono_sound link t fits = let from = fits.source in let to = fits.target in omega arith
+
+-- it has the widths of the table and of its image
+pub mono_joins : (link : BitsLink) (t : TableForm) → Fits link t
+    → Joins (tables.form_of t) (tables.form_of (image t)) (first_bits link)
+mono_joins link t fits = record { source = fits.source; target = fits.target }
+
+-- an assignment is reached by its extension
+pub mono_reaches : (link : BitsLink) (t : TableForm) (x : List Bool) → Fits link t
+    → length x ≡ t.width
+    → Extends (tables.form_of t) (tables.form_of (image t)) (first_bits link) (pos 1) (pos 0) x
+    (extension x t.terms)
+mono_reaches link t x fits width =
+    let bits = flat_map (new_bits x) t.terms in
+    let from : link.source_width ≡ length x = fits.source ∙ sym width in
+    let P : ℕ → Type 0 = λ n. AllBelow n t.terms in
+    let below = subst P (sym width) (below_width t fits.table) in
+    let reached : terms_cost (extension x t.terms) (replaced t.terms t.width) ≡ terms_cost x t.terms =
+    ap (λ n. terms_cost (extension x t.terms) (replaced t.terms n)) (sym width)
+    ∙ extension_reach x t.terms below in
+    record {
+      width = omega (arith, length-append x bits, width, length-bits x t.terms);
+      decodes =
+          ap (λ n. take n (x ++ bits)) from
+          ∙ take-append-le (length x) x bits (omega arith)
+          ∙ take_all (length x) x (omega arith);
+      energy =
+          omega (
+            arith,
+            ints,
+            terms_cost-collected (extension x t.terms) (replaced t.terms t.width),
+            reached,
+          );
+    }
+
+-- the image keeps the costs of the table
+pub mono_keeps : (link : BitsLink) (t : TableForm) → Fits link t
+    → Keeps (tables.form_of t) (tables.form_of (image t)) (first_bits link) (pos 1) (pos 0)
+mono_keeps link t fits = record {
+  positive = omega (arith, ints);
+  width = λ y w.
+      let from = fits.source in
+      omega (arith, length-take link.source_width y);
+  bound = λ y w.
+      let same = ap (λ n. terms_cost (take n y) t.terms) fits.source in
+      omega (arith, ints, image_bound t fits.table y, same);
+  reached = λ x w. (extension x t.terms, mono_reaches link t x fits w);
+}
+
+-- the costs of an image are whole
+pub mono_whole : (t : TableForm) → IsNeverInfinite (tables.form_of (image t))
+mono_whole t y infinite = cc

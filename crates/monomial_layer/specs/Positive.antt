@@ -1,0 +1,205 @@
+-- The nodes of a positive term, in whole numbers: d literals, of which s are true, and n nodes. The law
+-- stands here, since the layer's members cite it.
+--
+-- Node k can save max(0, f * (s - 2 * k - 2) + 1), and saves it exactly where it is 1 if and only if at
+-- least 2 * k + 2 literals are true. All nodes together can save as much as the pairs of true literals
+-- cost, and 1 less where all literals are true: with factors of 2 throughout, the first n nodes save
+-- n * (2 * s + 1) - 2 * n * (n + 1) as long as 2 * n is at most s. For an even d that falls short of the
+-- pairs by 1 where s is d. For an odd d the last node has the factor 1, and the same holds.
+use Rattle.std.proofs.Common.{◌≡◌, ℕ, zero, suc, ◌+◌, ◌-◌, ◌*◌, ◌<◌, ◌≤◌, ◌⊎◌, inl, inr, Bool, true, false, cond, arith, sym, ap, subst, refl, eqb, leb}
+use Rattle.std.proofs.lemmas.Bool.{cases_lt}
+use Rattle.std.proofs.lemmas.Bool.Decides.{nat_tests}
+use Rattle.monomial_layer.specs.Monomials.{factor, is_taken}
+
+-- how many pairs there are among n
+abbrev pub pairs : ℕ → ℕ
+pairs zero = 0
+pairs (suc n) = n + pairs n
+
+-- twice the pairs, and n, are the square of n
+pub pairs_is : (n : ℕ) → 2 * pairs n + n ≡ n * n
+pairs_is zero = omega arith
+pairs_is (suc n) = omega (arith, pairs_is n)
+
+-- what the first n nodes add, which are 1 where w says so
+abbrev pub above : ℕ → (ℕ → Bool) → ℕ → ℕ
+above d w zero = 0
+above d w (suc k) = above d w k + cond (w k) (factor d k * (2 * k + 2) - 1) 0
+
+-- what they take away
+abbrev pub below : ℕ → ℕ → (ℕ → Bool) → ℕ → ℕ
+below d s w zero = 0
+below d s w (suc k) = below d s w k + cond (w k) (factor d k * s) 0
+
+-- what they can save, if every factor is 2
+abbrev plain : ℕ → ℕ → ℕ
+plain s zero = 0
+plain s (suc k) = plain s k + cond (leb (2 * k + 2) s) (2 * s + 1 - 2 * (2 * k + 2)) 0
+
+-- what they can save
+abbrev gain : ℕ → ℕ → ℕ → ℕ
+gain d s zero = 0
+gain d s (suc k) =
+    gain d s k + cond (leb (2 * k + 2) s) (factor d k * s + 1 - factor d k * (2 * k + 2)) 0
+
+-- a factor is 1 or 2
+pub factor_cases : (d k : ℕ) → (factor d k ≡ 1) ⊎ (factor d k ≡ 2)
+factor_cases d k = grind (arith, nat_tests)
+
+-- ---- one node, of factor f
+
+one_saves : (f s k : ℕ) (w : Bool) → (f ≡ 1) ⊎ (f ≡ 2)
+    → cond w (f * s) 0
+    ≤ cond w (f * (2 * k + 2) - 1) 0 + cond (leb (2 * k + 2) s) (f * s + 1 - f * (2 * k + 2)) 0
+one_saves f s k true (inl e) = rw e (grind (arith, nat_tests))
+one_saves f s k true (inr e) = rw e (grind (arith, nat_tests))
+one_saves f s k false h = omega arith
+
+one_reaches : (f s k : ℕ) → (f ≡ 1) ⊎ (f ≡ 2)
+    → cond (leb (2 * k + 2) s) (f * s) 0
+    ≡ cond (leb (2 * k + 2) s) (f * (2 * k + 2) - 1) 0
+    + cond (leb (2 * k + 2) s) (f * s + 1 - f * (2 * k + 2)) 0
+one_reaches f s k (inl e) = rw e (grind (arith, nat_tests))
+one_reaches f s k (inr e) = rw e (grind (arith, nat_tests))
+
+saves : (d s : ℕ) (w : ℕ → Bool) (n : ℕ) → below d s w n ≤ above d w n + gain d s n
+saves d s w zero = omega arith
+saves d s w (suc k) =
+    omega (arith, saves d s w k, one_saves (factor d k) s k (w k) (factor_cases d k))
+
+reaches : (d s n : ℕ) → below d s (is_taken s) n ≡ above d (is_taken s) n + gain d s n
+reaches d s zero = omega arith
+reaches d s (suc k) =
+    omega (arith, reaches d s k, one_reaches (factor d k) s k (factor_cases d k))
+
+-- ---- what all can save
+
+plain_early : (s n : ℕ) → 2 * n ≤ s → plain s n + 2 * (n * n) + n ≡ 2 * (n * s)
+plain_early s zero h = omega arith
+plain_early s (suc k) h =
+    let before = plain_early s k (omega arith) in grind (arith, nat_tests)
+
+plain_last : (s k : ℕ) → 2 * k + 2 ≤ s → s < 2 * suc k + 2
+    → plain s k + 2 * (k * k) + k ≡ 2 * (k * s) → plain s (suc k) ≡ pairs s
+plain_last s k low high before =
+    let e : leb (2 * k + 2) s ≡ true = grind (arith, nat_tests) in
+    rw e (elim (cases_lt s (2 * k + 3)) [
+      | inl q ↦
+          let same : s ≡ 2 * k + 2 = omega arith in
+          omega (arith, pairs_is s, ap (λ x. x * s) same, ap (λ x. k * x) same)
+      | inr q ↦
+          let same : s ≡ 2 * k + 3 = omega arith in
+          omega (arith, pairs_is s, ap (λ x. x * s) same, ap (λ x. k * x) same)
+    ])
+
+plain_late : (s n : ℕ) → s < 2 * n + 2 → plain s n ≡ pairs s
+plain_late s zero h = small s (omega arith)
+  where
+    small : (s : ℕ) → s < 2 → 0 ≡ pairs s
+    small zero h = refl
+    small (suc zero) h = refl
+    small (suc (suc n)) h = absurd (omega arith)
+plain_late s (suc k) h =
+    elim (cases_lt s (2 * k + 2)) [
+      | inl lt ↦
+          let before = plain_late s k lt in
+          let e : leb (2 * k + 2) s ≡ false = grind (arith, nat_tests) in
+          rw e (omega arith)
+      | inr le ↦ plain_last s k le h (plain_early s k (omega arith))
+    ]
+
+plain_is : (d s n : ℕ) → 2 * n + 1 < d → gain d s n ≡ plain s n
+plain_is d s zero h = refl
+plain_is d s (suc k) h =
+    let e : factor d k ≡ 2 = grind (arith, nat_tests) in
+    let f = plain_is d s k (omega arith) in
+    rw (e, f) refl
+
+-- d is at least 2, and 2 * n + 1 or 2 * n + 2
+abbrev pub IsSized : ℕ → ℕ → Type 0
+IsSized d n = (2 ≤ d) × ((d ≡ 2 * n + 1) ⊎ (d ≡ 2 * n + 2))
+
+even : (s n : ℕ) → s ≤ 2 * n + 2
+    → gain (2 * n + 2) s n + cond (eqb s (2 * n + 2)) 1 0 ≡ pairs s
+even s n h =
+    rw (plain_is (2 * n + 2) s n (omega arith)) (elim (cases_lt s (2 * n + 2)) [
+      | inl lt ↦
+          let e : eqb s (2 * n + 2) ≡ false = grind (arith, nat_tests) in
+          rw (e, plain_late s n lt) (omega arith)
+      | inr le ↦
+          let same : s ≡ 2 * n + 2 = omega arith in
+          let e : eqb s (2 * n + 2) ≡ true = grind (arith, nat_tests) in
+          rw e
+          (omega (
+            arith,
+            plain_early s n (omega arith),
+            pairs_is s,
+            ap (λ x. x * s) same,
+            ap (λ x. n * x) same,
+          ))
+    ])
+
+odd_end : (s n : ℕ) → 2 * n + 2 ≤ s → s ≤ 2 * n + 3
+    → plain s n + (1 * s + 1 - 1 * (2 * n + 2)) + cond (eqb s (2 * n + 3)) 1 0 ≡ pairs s
+odd_end s n low high = elim (cases_lt s (2 * n + 3)) [
+  | inl lt ↦
+      let same : s ≡ 2 * n + 2 = omega arith in
+      let e : eqb s (2 * n + 3) ≡ false = grind (arith, nat_tests) in
+      rw e
+      (omega (
+        arith,
+        plain_early s n (omega arith),
+        pairs_is s,
+        ap (λ x. x * s) same,
+        ap (λ x. n * x) same,
+      ))
+  | inr le ↦
+      let same : s ≡ 2 * n + 3 = omega arith in
+      let e : eqb s (2 * n + 3) ≡ true = grind (arith, nat_tests) in
+      rw e
+      (omega (
+        arith,
+        plain_early s n (omega arith),
+        pairs_is s,
+        ap (λ x. x * s) same,
+        ap (λ x. n * x) same,
+      ))
+]
+
+-- n nodes, and one more of factor 1
+odd : (s n : ℕ) → s ≤ 2 * n + 3
+    → gain (2 * n + 3) s (suc n) + cond (eqb s (2 * n + 3)) 1 0 ≡ pairs s
+odd s n h =
+    let last : factor (2 * n + 3) n ≡ 1 = grind (arith, nat_tests) in
+    let before = plain_is (2 * n + 3) s n (omega arith) in
+    rw (last, before) (elim (cases_lt s (2 * n + 2)) [
+      | inl lt ↦
+          let e : eqb s (2 * n + 3) ≡ false = grind (arith, nat_tests) in
+          let f : leb (2 * n + 2) s ≡ false = grind (arith, nat_tests) in
+          rw (e, f, plain_late s n lt) (omega arith)
+      | inr le ↦
+          let f : leb (2 * n + 2) s ≡ true = grind (arith, nat_tests) in rw f (odd_end s n le h)
+    ])
+
+gain_is : (d s n : ℕ) → IsSized d n → s ≤ d → gain d s n + cond (eqb s d) 1 0 ≡ pairs s
+gain_is d s zero (two, inl e) h = absurd (omega arith)
+gain_is d s (suc n) (two, inl e) h =
+    let same : d ≡ 2 * n + 3 = omega arith in
+    let P : ℕ → Type 0 = λ d. gain d s (suc n) + cond (eqb s d) 1 0 ≡ pairs s in
+    subst P (sym same) (odd s n (omega arith))
+gain_is d s n (two, inr e) h =
+    let P : ℕ → Type 0 = λ d. gain d s n + cond (eqb s d) 1 0 ≡ pairs s in
+    subst P (sym e) (even s n (omega arith))
+
+-- ---- the law
+
+-- whatever the nodes are, the pairs and nodes cost at least 1 where all literals are true, and else 0
+pub positive_bound : (d s n : ℕ) (w : ℕ → Bool) → IsSized d n → s ≤ d
+    → cond (eqb s d) 1 0 + below d s w n ≤ pairs s + above d w n
+positive_bound d s n w sized within = omega (arith, saves d s w n, gain_is d s n sized within)
+
+-- .. and no more, where each node is taken as is_taken says
+pub positive_reached : (d s n : ℕ) → IsSized d n → s ≤ d
+    → cond (eqb s d) 1 0 + below d s (is_taken s) n ≡ pairs s + above d (is_taken s) n
+positive_reached d s n sized within =
+    omega (arith, reaches d s n, gain_is d s n sized within)

@@ -1,0 +1,13 @@
+//! Terms of degree 3 or more are replaced by quadratic terms with new nodes, and the costs are kept.
+#![tactic(auto)]
+
+mod bits;
+mod laws;
+mod monomials;
+mod nodes;
+mod replace;
+#[cfg(test)]
+mod tests;
+
+pub use laws::laws_of_replacements;
+pub use monomials::Monomials;

@@ -1,0 +1,110 @@
+//! The layer that replaces each term of degree 3 or more by itself.
+ghost use Rattle.std.specs.Prelude.{◌≡◌, ◌++◌, IfOk};
+ghost use Rattle.std.specs.List.{flat_map};
+ghost use Rattle.term_table.specs.Tables.{IsLow};
+ghost use Rattle.monomial_layer.specs.Monomials.{extension};
+
+use crate::bits::push_bits;
+use crate::replace::replaced;
+use bits_model::{BitsLink, Costed, Layer, Lowered, NoMemory};
+use std::alloc::Global;
+use term_table::{LowTable, Table, low};
+
+/// The layer that replaces terms of degree 3 or more, each by itself and over literals.
+///
+/// A term of degree d has one new node where its coefficient is negative, and floor((d - 1) / 2) where it
+/// is positive, so at most d - 2. A state decodes to its first bits.
+#[derive(Drop)]
+pub struct Monomials;
+
+/// A table without terms of three literals, as one that is known to have none.
+fn known_low(table: Table) -> LowTable
+    requires { IsLow table }
+    ensures { result ≡ table }
+{
+    match low(table) {
+        Ok(table) => table,
+        Err(_) => unreachable!(),
+    }
+}
+
+/// An assignment, and the bits of all new nodes.
+fn extended(alloc: Global, table: &Table, x: &[bool]) -> Result<Vec<bool>, NoMemory>
+    ensures { IfOk result (λ y. y.items ≡ extension x.now table.now.terms) }
+{
+    let mut bits = x.to_vec(alloc)?;
+    for (literals, coefficient) in table.terms() {
+        push_bits(&mut bits, x, literals, coefficient)?;
+    }
+    Ok(bits)
+}
+
+impl Layer for Monomials {
+    type Source = Table;
+
+    type Target = LowTable;
+
+    type Link = BitsLink;
+
+    ghost use Rattle.std.specs.Prelude.{pos};
+    ghost use Rattle.bits_model.specs.Links.{first_bits, HasFirstBits};
+    ghost use Rattle.monomial_layer.specs.Monomials.{image, Fits};
+    ghost use Rattle.monomial_layer.specs.Kept.{mono_sound, mono_joins, mono_keeps, mono_whole};
+
+    ghost TOTAL_GROWTH = { 24 };
+
+    ghost SIZE_GROWTH = { 2 };
+
+    ghost OFFSET_FACTOR = { 0 };
+
+    ghost image = { image };
+
+    ghost scale = { λ _. pos 1 };
+
+    ghost offset = { λ _. pos 0 };
+
+    ghost decoding = { first_bits };
+
+    ghost is_sound = { HasFirstBits };
+
+    ghost fits = { λ link t. Fits link t };
+
+    ghost sound = { mono_sound };
+
+    ghost joins = { mono_joins };
+
+    ghost keeps = { mono_keeps };
+
+    ghost whole = { mono_whole };
+
+    fn lower(
+        &self,
+        alloc: Global,
+        source: &Table,
+    ) -> Result<Lowered<LowTable, BitsLink>, NoMemory> {
+        let target = replaced(alloc, source)?;
+        Ok(Lowered {
+            link: BitsLink {
+                source_width: source.width(),
+                target_width: target.width(),
+            },
+            target: known_low(target),
+            scale: 1,
+            offset: 0,
+        })
+    }
+
+    fn decode(&self, alloc: Global, link: &BitsLink, y: &[bool]) -> Result<Vec<bool>, NoMemory> {
+        Ok(y[..link.source_width].to_vec(alloc)?)
+    }
+
+    fn extend(
+        &self,
+        alloc: Global,
+        source: &Table,
+        _link: &BitsLink,
+        x: &[bool],
+    ) -> Result<Vec<bool>, NoMemory> {
+        extended(alloc, source, x)
+    }
+}
