@@ -2,7 +2,7 @@
 --
 -- Each measure of a form grows, where a term is placed, by at most that of the term. The couplers are the
 -- entries of the pairs, in the order of the table.
-use Rattle.std.proofs.Common.{◌≡◌, ◌≢◌, ℕ, zero, suc, ◌+◌, ◌*◌, ◌<◌, ◌≤◌, ◌^◌, Bool, true, false, eqb, ℤ, pos, ◌+ℤ◌, unsigned_abs, List, [], ◌∷◌, ◌++◌, length, get_or, replicate, All, sum_by, fold, refl, sym, ap, ◌∙◌, arith, if◌then◌else◌, append_assoc, append-nil}
+use Rattle.std.proofs.Common.{◌≡◌, ◌≢◌, ℕ, zero, suc, ◌+◌, ◌*◌, ◌<◌, ◌≤◌, ◌^◌, Bool, true, false, eqb, ℤ, pos, ◌+ℤ◌, unsigned_abs, List, [], ◌∷◌, ◌++◌, length, get_or, replicate, All, sum_by, fold, refl, sym, ◌∙◌, arith, if◌then◌else◌, append_assoc, append-nil}
 use Rattle.std.specs.List.{AllByRecursion, slice_index_or}
 use Rattle.std.specs.List.Sorted.{IsStrictlySortedBy}
 use Rattle.std.specs.Prelude.{slice_set}
@@ -23,7 +23,7 @@ use Rattle.term_table.proofs.Additions.{terms_total-cons, terms_total-collected,
 use Rattle.term_table.proofs.KeptTerms.{OfSet, Under}
 use Rattle.quad_form.specs.Quads.{QuadForm, node_entries, quad_total, quad_size, IsCoupler, IsQuad}
 use Rattle.quad_form.specs.Flat.{contributions, pair_entry, placed, zero_form, quad_of, image}
-use Rattle.quad_form.specs.Flattened.{IsFlat, length-placed, length-fold, length-image}
+use Rattle.quad_form.specs.Flattened.{IsFlat, length-fold, length-image}
 use Rattle.quad_form.proofs.NodeEnergies.{weights_within, weights-append}
 use Rattle.quad_form.proofs.FlatSums.{form_size, terms_total-contributions, form_size-contributions}
 
@@ -76,7 +76,7 @@ quad_total-placed q (l ∷ k ∷ ls) c =
       sum_by-append size (node_entries 0 q.diagonal) q.couplers,
     )
 
-quad_total-fold : (q : QuadForm) (ts : List Term)
+pub quad_total-fold : (q : QuadForm) (ts : List Term)
     → quad_total (fold placed q ts) ≤ quad_total q + terms_total ts
 quad_total-fold q [] = omega arith
 quad_total-fold q (t ∷ ts) =
@@ -187,7 +187,7 @@ quad_size-image t low =
 -- ---- the couplers
 
 -- the entries of the pairs
-abbrev pairs_of : List Term → List Entry
+abbrev pub pairs_of : List Term → List Entry
 pairs_of [] = []
 pairs_of (([], c) ∷ ts) = pairs_of ts
 pairs_of ((l ∷ [], c) ∷ ts) = pairs_of ts
@@ -262,10 +262,10 @@ pairs_couple width ((l ∷ k ∷ m ∷ ls, c) ∷ ts) flat nonzero = absurd flat
 
 -- ---- what is kept
 
-couplers_of : (width : ℕ) (ts : List Term) → (quad_of width ts).couplers ≡ pairs_of ts
+pub couplers_of : (width : ℕ) (ts : List Term) → (quad_of width ts).couplers ≡ pairs_of ts
 couplers_of width ts = couplers-fold (zero_form width) ts
 
-width_of : (width : ℕ) (ts : List Term) → length (quad_of width ts).diagonal ≡ width
+pub width_of : (width : ℕ) (ts : List Term) → length (quad_of width ts).diagonal ≡ width
 width_of width ts = length-fold (zero_form width) ts ∙ length-replicate width (pos 0)
 
 -- the form of a table over variables is a quadratic form
@@ -303,21 +303,3 @@ weight_within q i d in' =
       weights_within q.diagonal i d in',
       weights-append (node_entries 0 q.diagonal) q.couplers,
     )
-
-pub form_more : (q r : QuadForm) (ls : List Literal) (c : ℤ) (it rest : List Term) (whole : QuadForm)
-    → it ≡ (ls, c) ∷ rest → r ≡ placed q (ls, c) → fold placed q it ≡ whole
-    → fold placed r rest ≡ whole
-form_more q r ls c it rest whole e f h =
-    ap (λ (s : QuadForm). fold placed s rest) f ∙ sym (ap (fold placed q) e) ∙ h
-
-pub width_more : (q r : QuadForm) (ls : List Literal) (c : ℤ) (n : ℕ) → r ≡ placed q (ls, c)
-    → length q.diagonal ≡ n → length r.diagonal ≡ n
-width_more q r ls c n f h = ap (λ (s : QuadForm). length s.diagonal) f ∙ length-placed q (ls, c) ∙ h
-
-pub total_more : (q r : QuadForm) (ls : List Literal) (c : ℤ) (it rest : List Term) (n : ℕ)
-    → it ≡ (ls, c) ∷ rest → r ≡ placed q (ls, c) → quad_total q + terms_total it ≤ n
-    → quad_total r + terms_total rest ≤ n
-total_more q r ls c it rest n e f h =
-    let one : quad_total r ≡ quad_total (placed q (ls, c)) = ap quad_total f in
-    let two : terms_total it ≡ terms_total ((ls, c) ∷ rest) = ap terms_total e in
-    omega (arith, quad_total-placed q ls c, terms_total-cons (ls, c) rest)

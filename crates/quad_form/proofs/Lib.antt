@@ -3,5 +3,8 @@ pub mod NodeEnergies
 pub mod WrittenModels
 pub mod FlatSets
 pub mod FlatSums
-pub mod FlatTables
 pub mod FlatForms
+pub mod FlatParts
+pub mod PairOrder
+pub mod SummedPairs
+pub mod UniqueForms

@@ -19,6 +19,7 @@ use Rattle.quad_form.specs.Quads.{QuadForm}
 abbrev pub plain : Literal → Literal
 plain l = record { variable = l.variable; negated = false }
 
+-- each term, with one literal more in front
 abbrev pub with_front : Literal → List Term → List Term
 with_front l ts = map (λ t. (l ∷ t.0, t.1)) ts
 
@@ -30,11 +31,13 @@ multiplied_out (l ∷ ls) c =
     then multiplied_out ls c ++ with_front (plain l) (multiplied_out ls (neg_ℤ c))
     else with_front (plain l) (multiplied_out ls c)
 
+-- all terms, multiplied out one after another
 abbrev pub contributions : List Term → List Term
 contributions ts = flat_map (λ t. multiplied_out t.0 t.1) ts
 
 -- ---- terms over variables, as a quadratic form
 
+-- the coupler of two literals' variables
 abbrev pub pair_entry : Literal → Literal → ℤ → Entry
 pair_entry l k c = record { first = l.variable; second = k.variable; weight = c }
 
@@ -50,11 +53,13 @@ placed q (l ∷ k ∷ ls, c) = record q { couplers = q.couplers ++ pair_entry l 
 abbrev pub zero_form : ℕ → QuadForm
 zero_form width = record { constant = pos 0; diagonal = replicate width (pos 0); couplers = [] }
 
+-- the form that terms over variables make, one after another
 abbrev pub quad_of : ℕ → List Term → QuadForm
 quad_of width ts = fold placed (zero_form width) ts
 
 -- ---- the layer's members
 
+-- the quadratic form of the sums
 abbrev pub image : TableForm → QuadForm
 image t = quad_of t.width (collected [] (contributions t.terms))
 
@@ -66,6 +71,7 @@ same_bits link = record {
   decoded = λ y. y;
 }
 
+-- states are as wide as assignments
 abbrev pub IsSound : BitsLink → Type 0
 IsSound link = link.source_width ≡ link.target_width
 

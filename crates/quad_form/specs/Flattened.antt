@@ -2,18 +2,13 @@
 --
 -- Each term costs what the terms cost that it is multiplied out to, a table of sums costs what was
 -- added, and a term adds to the quadratic form where it is placed exactly what it costs.
-use Rattle.std.specs.Prelude.{◌≡◌, ℕ, zero, suc, ◌+◌, ◌<◌, ◌≤◌, ℤ, pos, neg_ℤ, ◌+ℤ◌, Bool, true, false, not, cond, ◌&&◌, ◌||◌, ltb, eqb, List, [], ◌∷◌, ◌++◌, length, All, replicate, slice_set, ⊤, if◌then◌else◌}
+use Rattle.std.specs.Prelude.{◌≡◌, ℕ, zero, suc, ◌+◌, ◌<◌, ◌≤◌, ℤ, pos, neg_ℤ, ◌+ℤ◌, Bool, true, false, not, cond, ◌&&◌, ◌||◌, List, [], ◌∷◌, ◌++◌, length, All, replicate, slice_set, ⊤, if◌then◌else◌}
 use Rattle.std.specs.List.{AllByRecursion, fold, slice_index_or}
 use Rattle.std.specs.List.Sorted.{IsStrictlySortedBy}
-use Rattle.std.specs.Ordering.{bool_cmp, ordering_then}
-use Rattle.std.specs.declared.cmp.Ordering.TheVariants.{Less, Equal, Greater}
-use Rattle.std.specs.Bool.{Decides}
-use mathlib.Core.Bool.{beq}
 use Rattle.std.proofs.Common.{arith, ap, sym, ◌∙◌, refl, subst}
 use Rattle.std.proofs.lemmas.Int.{ints}
 use Rattle.std.proofs.lemmas.List.{length-set, length-replicate}
 use Rattle.std.proofs.lemmas.List.Elements.{All-nil, All-append, All-head, All-tail, All-from_recursion, recursion_from_All}
-use Rattle.std.proofs.lemmas.Bool.Decides.{Decides-ltb}
 use Rattle.integers.specs.Sums.{total_by, if_so}
 use Rattle.integers.proofs.Totals.{total_by-append, total_by-flat_map, total_by-same, total_by_push}
 use Rattle.bits_model.specs.declared.layer.BitsLink.{BitsLink}
@@ -21,10 +16,11 @@ use Rattle.bits_model.specs.Costs.{IsNeverInfinite}
 use Rattle.bits_model.specs.Output.{bit_at, bits_energy}
 use Rattle.bits_model.specs.Relations.{Keeps, Extends, Joins}
 use Rattle.problem_form.specs.declared.literal.Literal.{Literal}
-use Rattle.problem_form.specs.Literals.{holds, all_hold, literal_cmp, are_opposite, IsLiteralSet}
+use Rattle.problem_form.specs.Literals.{holds, all_hold, are_opposite, IsLiteralSet}
 use Rattle.term_table.specs.Terms.{Term, term_cost, terms_cost, collected, IsTermSet}
 use Rattle.term_table.specs.Tables.{TableForm, IsTable, IsLow}
 use Rattle.term_table.specs.Tables as tables
+use Rattle.term_table.proofs.SmallSets.{in_order}
 use Rattle.term_table.proofs.Additions.{terms_cost-collected}
 use Rattle.term_table.proofs.KeptTerms.{OfSet, All-collected}
 use Rattle.quad_form.specs.Quads.{QuadForm, node_entries, quad_value, form_of}
@@ -44,17 +40,14 @@ IsFlat width (l ∷ []) = IsPlain width l
 IsFlat width (l ∷ k ∷ []) = IsPlain width l × IsPlain width k × (l.variable < k.variable)
 IsFlat width (l ∷ k ∷ m ∷ ls) = ⊥
 
--- a table to which terms were added
-abbrev pub with_terms : TableForm → List Term → TableForm
-with_terms t ts = record t { terms = collected t.terms ts }
-
 -- ---- a term, multiplied out, costs the same
 
 if_so-and : (a b : Bool) (c : ℤ) → if_so (a && b) c ≡ if_so a (if_so b c)
 if_so-and true b c = refl
 if_so-and false b c = refl
 
-if_so-plus : (a : Bool) (c d : ℤ) → if_so a c +ℤ if_so a d ≡ if_so a (c +ℤ d)
+-- two numbers under one test
+pub if_so-plus : (a : Bool) (c d : ℤ) → if_so a c +ℤ if_so a d ≡ if_so a (c +ℤ d)
 if_so-plus true c d = refl
 if_so-plus false c d = refl
 
@@ -110,23 +103,7 @@ terms_cost-contributions y ts =
 
 -- ---- the sets that are left
 
--- literals in order, none beside its complement, have variables in order
-in_order : (l k : Literal) → literal_cmp l k ≡ Less → are_opposite l k ≡ false
-    → l.variable < k.variable
-in_order l k less apart =
-    go (ltb l.variable k.variable) (eqb l.variable k.variable) l.negated k.negated
-    (Decides-ltb l.variable k.variable) less apart
-  where
-    go : (below same n m : Bool) → Decides below (l.variable < k.variable)
-        → ordering_then (cond below Less (cond same Equal Greater)) (bool_cmp n m) ≡ Less
-        → (same && not (beq n m)) ≡ false → l.variable < k.variable
-    go true same n m d less apart = d.0 refl
-    go false false n m d less apart = absurd cc
-    go false true true true d less apart = absurd cc
-    go false true true false d less apart = absurd cc
-    go false true false true d less apart = absurd cc
-    go false true false false d less apart = absurd cc
-
+-- the variables of a set of two rise
 pub two_in_order : (width : ℕ) (l k : Literal) → IsLiteralSet width (l ∷ k ∷ [])
     → l.variable < k.variable
 unfolding IsStrictlySortedBy
@@ -147,6 +124,7 @@ AreFlat width ts = AllByRecursion (OfSet (IsFlat width)) ts
 abbrev pub one_out : Bool → Literal → ℤ → List Term
 one_out n v c = if n then ([], c) ∷ (v ∷ [], neg_ℤ c) ∷ [] else (v ∷ [], c) ∷ []
 
+-- a term of two literals, multiplied out
 abbrev pub two_out : Bool → Bool → Literal → Literal → ℤ → List Term
 two_out n m v w c =
     if n
@@ -191,7 +169,8 @@ flat_term width (l ∷ k ∷ []) c set short =
     (All-head (λ m. m.variable < width) k [] others)
 flat_term width (l ∷ k ∷ m ∷ ls) c set short = absurd (omega arith)
 
-flat_contributions : (width : ℕ) (ts : List Term)
+-- the contributions of low terms are over variables
+pub flat_contributions : (width : ℕ) (ts : List Term)
     → AllByRecursion (OfSet (IsTermSet width)) ts
     → AllByRecursion (λ (t : Term). length t.0 ≤ 2) ts
     → All (OfSet (IsFlat width)) (contributions ts)
@@ -248,6 +227,7 @@ all_hold-two y l k is ks =
     go false true is same = same
     go false false is same = refl
 
+-- a placed term adds no node
 pub length-placed : (q : QuadForm) (t : Term) → length (placed q t).diagonal ≡ length q.diagonal
 length-placed q ([], c) = refl
 length-placed q (l ∷ [], c) = length-set q.diagonal l.variable _
@@ -309,6 +289,7 @@ quad_value-zero y n (suc width) =
 
 -- ---- the layer's laws
 
+-- the image costs what the table costs
 pub image_value : (t : TableForm) → IsTable t → IsLow t → (y : List Bool)
     → quad_value (image t) y ≡ terms_cost y t.terms
 image_value t table low y =
@@ -323,19 +304,23 @@ image_value t table low y =
       terms_cost-contributions y t.terms,
     )
 
+-- placed terms add no nodes
 pub length-fold : (q : QuadForm) (ts : List Term)
     → length (fold placed q ts).diagonal ≡ length q.diagonal
 length-fold q [] = refl
 length-fold q (t ∷ ts) = length-fold (placed q t) ts ∙ length-placed q t
 
+-- the image has a node for each variable
 pub length-image : (t : TableForm) → length (image t).diagonal ≡ t.width
 length-image t =
     length-fold (zero_form t.width) (collected [] (contributions t.terms))
     ∙ length-replicate t.width (pos 0)
 
+-- a link that fits can be decoded by
 pub flat_sound : (link : BitsLink) (t : TableForm) → Fits link t → IsSound link
 flat_sound link t fits = fits.source ∙ sym fits.target
 
+-- it has the widths of the table and of its image
 pub flat_joins : (link : BitsLink) (t : TableForm) → Fits link t
     → Joins (tables.form_of t) (form_of (image t)) (same_bits link)
 flat_joins link t fits = record {
@@ -353,6 +338,7 @@ flat_reaches link t x fits width = record {
   energy = omega (arith, ints, image_value t fits.table fits.low x);
 }
 
+-- the image keeps the costs of the table
 pub flat_keeps : (link : BitsLink) (t : TableForm) → Fits link t
     → Keeps (tables.form_of t) (form_of (image t)) (same_bits link) (pos 1) (pos 0)
 flat_keeps link t fits = record {
@@ -362,5 +348,6 @@ flat_keeps link t fits = record {
   reached = λ x w. (x, flat_reaches link t x fits w);
 }
 
+-- the costs of an image are whole
 pub flat_whole : (t : TableForm) → IsNeverInfinite (form_of (image t))
 flat_whole t y infinite = cc

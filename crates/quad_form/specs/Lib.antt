@@ -1,4 +1,5 @@
 pub mod Quads
 pub mod Flat
 pub mod Flattened
+pub mod Pairs
 pub mod Stated

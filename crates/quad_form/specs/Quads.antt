@@ -30,14 +30,17 @@ entries_of q = node_entries 0 q.diagonal ++ q.couplers
 abbrev pub quad_value : QuadForm → List Bool → ℤ
 quad_value q y = q.constant +ℤ total_by (bits_energy y) (entries_of q)
 
+-- its width is the number of nodes, and its cost the value
 abbrev pub form_of : QuadForm → Form
 form_of q = record { bits = length q.diagonal; cost = λ y. Whole (quad_value q y) }
 
 -- ---- its sizes
 
+-- the sizes of all weights and of the constant
 abbrev pub quad_total : QuadForm → ℕ
 quad_total q = unsigned_abs q.constant + weight_total (entries_of q)
 
+-- the nodes, and the squares of the degrees of all terms
 abbrev pub quad_size : QuadForm → ℕ
 quad_size q =
     length q.diagonal + (if int_eq q.constant (pos 0) then 0 else 1)
@@ -67,6 +70,7 @@ without_constant figures constant = record figures {
   threshold = figures.threshold -ℤ constant;
 }
 
+-- the model of a form, its constant taken off the offset and the threshold
 abbrev pub written_of : QuadForm → ℕ → Figures → Written
 written_of q variables figures = record {
   kind = Qubo;

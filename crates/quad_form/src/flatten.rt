@@ -1,20 +1,21 @@
 //! The layer that makes a quadratic form of a table of low terms.
 //!
-//! Each complement is replaced by 1 less its variable. What that gives is added up in a table, so
-//! each pair has one coupler, and a pair whose sum is 0 has none.
-ghost use Rattle.std.specs.Prelude.{◌≡◌, ◌+◌, ◌*◌, ◌<◌, ◌≤◌, ◌^◌, [], ◌∷◌, All, IfOk, OnOk, length, unsigned_abs};
+//! Each complement is replaced by 1 less its variable. What that gives goes to its place at once: to
+//! the constant, to a node's weight, or among the couplers, of which a pair may have several. In the
+//! end they are sorted, so that each pair has one coupler, and a pair whose sum is 0 has none.
+ghost use Rattle.std.specs.Prelude.{◌≡◌, ◌+◌, ◌*◌, ◌<◌, ◌≤◌, ◌^◌, [], ◌∷◌, false, IfOk, OnOk, fold, length, unsigned_abs};
 ghost use Rattle.problem_form.specs.Literals.{IsLiteralSet};
-ghost use Rattle.term_table.specs.Terms.{collected, terms_total};
+ghost use Rattle.term_table.specs.Terms.{terms_total};
 ghost use Rattle.term_table.specs.Tables.{IsTable, IsLow};
-ghost use Rattle.quad_form.specs.Flat.{plain, with_front, multiplied_out, contributions, quad_of};
-ghost use Rattle.quad_form.specs.Flattened.{IsFlat, with_terms};
+ghost use Rattle.quad_form.specs.Quads.{quad_total};
+ghost use Rattle.quad_form.specs.Flat.{plain, with_front, multiplied_out, contributions, placed, quad_of};
 
 use crate::parts::Parts;
 use crate::quad::Quad;
 use bits_model::{BitsLink, Costed, Layer, Lowered, NoMemory};
 use problem_form::Literal;
 use std::alloc::Global;
-use term_table::{LowTable, Table};
+use term_table::LowTable;
 
 /// The layer that multiplies out. It adds no nodes, and states are assignments.
 #[derive(Drop)]
@@ -30,112 +31,103 @@ fn plain(literal: &Literal) -> Literal
     }
 }
 
-/// Adds a term of one literal, multiplied out.
-fn add_one(flat: &mut Table, literal: &Literal, coefficient: i128) -> Result<(), NoMemory>
-    requires within { literal.now.variable < flat.old.width }
-    requires small { terms_total flat.old.terms + 2 * unsigned_abs coefficient ≤ 2 ^ 124 }
+/// Places a term of one literal, multiplied out.
+fn place_one(parts: &mut Parts, literal: &Literal, coefficient: i128) -> Result<(), NoMemory>
+    requires within { literal.now.variable < length parts.old.diagonal }
+    requires narrow { length parts.old.diagonal < 2 ^ 32 }
+    requires small { quad_total parts.old + 2 * unsigned_abs coefficient ≤ 2 ^ 124 }
     ensures { OnOk result
-        (flat.new ≡ with_terms flat.old (multiplied_out (literal.now ∷ []) coefficient)) }
+        (parts.new ≡ fold placed parts.old (multiplied_out (literal.now ∷ []) coefficient)) }
 {
     let variable = plain(literal);
     if literal.negated {
-        flat.add(&[], coefficient)?;
-        flat.add(&[variable], -coefficient)
+        parts.place(&[], coefficient)?;
+        parts.place(&[variable], -coefficient)
     } else {
-        flat.add(&[variable], coefficient)
+        parts.place(&[variable], coefficient)
     }
 }
 
-/// Adds a variable times a term of one literal, multiplied out.
-fn add_after(
-    flat: &mut Table,
+/// Places a variable times a term of one literal, multiplied out.
+fn place_after(
+    parts: &mut Parts,
     variable: Literal,
     literal: &Literal,
     coefficient: i128,
 ) -> Result<(), NoMemory>
+    requires variable { variable.negated ≡ false }
     requires ordered { variable.variable < literal.now.variable }
-    requires within { literal.now.variable < flat.old.width }
-    requires small { terms_total flat.old.terms + 2 * unsigned_abs coefficient ≤ 2 ^ 124 }
-    ensures { OnOk result (flat.new ≡ with_terms flat.old
+    requires within { literal.now.variable < length parts.old.diagonal }
+    requires narrow { length parts.old.diagonal < 2 ^ 32 }
+    requires small { quad_total parts.old + 2 * unsigned_abs coefficient ≤ 2 ^ 124 }
+    ensures { OnOk result (parts.new ≡ fold placed parts.old
         (with_front variable (multiplied_out (literal.now ∷ []) coefficient))) }
 {
     let second = plain(literal);
     if literal.negated {
-        flat.add(&[variable], coefficient)?;
-        flat.add(&[variable, second], -coefficient)
+        parts.place(&[variable], coefficient)?;
+        parts.place(&[variable, second], -coefficient)
     } else {
-        flat.add(&[variable, second], coefficient)
+        parts.place(&[variable, second], coefficient)
     }
 }
 
-/// Adds a term of two literals, multiplied out.
-fn add_two(
-    flat: &mut Table,
+/// Places a term of two literals, multiplied out.
+fn place_two(
+    parts: &mut Parts,
     first: &Literal,
     second: &Literal,
     coefficient: i128,
 ) -> Result<(), NoMemory>
     requires ordered { first.now.variable < second.now.variable }
-    requires within { second.now.variable < flat.old.width }
-    requires small { terms_total flat.old.terms + 4 * unsigned_abs coefficient ≤ 2 ^ 124 }
-    ensures { OnOk result (flat.new
-        ≡ with_terms flat.old (multiplied_out (first.now ∷ second.now ∷ []) coefficient)) }
+    requires within { second.now.variable < length parts.old.diagonal }
+    requires narrow { length parts.old.diagonal < 2 ^ 32 }
+    requires small { quad_total parts.old + 4 * unsigned_abs coefficient ≤ 2 ^ 124 }
+    ensures { OnOk result (parts.new ≡ fold placed parts.old
+        (multiplied_out (first.now ∷ second.now ∷ []) coefficient)) }
 {
     let variable = plain(first);
     if first.negated {
-        add_one(flat, second, coefficient)?;
-        add_after(flat, variable, second, -coefficient)
+        place_one(parts, second, coefficient)?;
+        place_after(parts, variable, second, -coefficient)
     } else {
-        add_after(flat, variable, second, coefficient)
+        place_after(parts, variable, second, coefficient)
     }
 }
 
-/// Adds a term of at most two literals, multiplied out.
-fn add_term(flat: &mut Table, literals: &[Literal], coefficient: i128) -> Result<(), NoMemory>
-    requires set { IsLiteralSet flat.old.width literals.now }
+/// Places a term of at most two literals, multiplied out.
+fn place_term(parts: &mut Parts, literals: &[Literal], coefficient: i128) -> Result<(), NoMemory>
+    requires set { IsLiteralSet (length parts.old.diagonal) literals.now }
     requires low { length literals.now ≤ 2 }
-    requires small { terms_total flat.old.terms + 4 * unsigned_abs coefficient ≤ 2 ^ 124 }
+    requires narrow { length parts.old.diagonal < 2 ^ 32 }
+    requires small { quad_total parts.old + 4 * unsigned_abs coefficient ≤ 2 ^ 124 }
     ensures { OnOk result
-        (flat.new ≡ with_terms flat.old (multiplied_out literals.now coefficient)) }
+        (parts.new ≡ fold placed parts.old (multiplied_out literals.now coefficient)) }
 {
     match literals {
-        [] => flat.add(literals, coefficient),
-        [only] => add_one(flat, only, coefficient),
-        [first, second, ..] => add_two(flat, first, second, coefficient),
+        [] => parts.place(literals, coefficient),
+        [only] => place_one(parts, only, coefficient),
+        [first, second, ..] => place_two(parts, first, second, coefficient),
     }
 }
 
-/// The table of what the terms are multiplied out to.
-fn flattened(alloc: Global, table: &LowTable) -> Result<Table, NoMemory>
+/// What the terms are multiplied out to, each in its place.
+fn placed(alloc: Global, table: &LowTable) -> Result<Parts, NoMemory>
     requires narrow { table.now.width < 2 ^ 32 }
     requires total { (terms_total table.now.terms + 1) * 2 ^ 2 ≤ 2 ^ 124 }
-    ensures made { IfOk result (λ flat. flat ≡ record {
-      width = table.now.width;
-      terms = collected [] (contributions table.now.terms);
-    }) }
+    ensures placed { IfOk result (λ parts.
+        parts ≡ quad_of table.now.width (contributions table.now.terms)) }
 
     // What the laws of the layer rest on.
     ensures kept { IsTable table.now }
     ensures low { IsLow table.now }
 {
-    let mut flat = Table::new(alloc, table.width());
-    for (literals, coefficient) in table.terms() {
-        add_term(&mut flat, literals, coefficient)?;
+    let terms = table.terms();
+    let mut parts = Parts::zero(alloc, table.width())?;
+    for (literals, coefficient) in terms {
+        place_term(&mut parts, literals, coefficient)?;
     }
-    Ok(flat)
-}
-
-/// The quadratic form of a table over variables, which has no complements.
-fn quad_of(alloc: Global, flat: &Table) -> Result<Quad, NoMemory>
-    requires narrow { flat.now.width < 2 ^ 32 }
-    requires flat { All (λ t. IsFlat flat.now.width t.0) flat.now.terms }
-    ensures { IfOk result (λ q. q ≡ quad_of flat.now.width flat.now.terms) }
-{
-    let mut parts = Parts::zero(alloc, flat.width())?;
-    for (literals, coefficient) in flat.terms() {
-        parts.place(literals, coefficient)?;
-    }
-    Ok(parts.into_quad())
+    Ok(parts)
 }
 
 impl Layer for Flatten {
@@ -177,9 +169,9 @@ impl Layer for Flatten {
 
     fn lower(&self, alloc: Global, source: &LowTable) -> Result<Lowered<Quad, BitsLink>, NoMemory> {
         let width = source.width();
-        let flat = flattened(alloc, source)?;
+        let parts = placed(alloc, source)?;
         Ok(Lowered {
-            target: quad_of(alloc, &flat)?,
+            target: parts.into_quad(),
             link: BitsLink {
                 source_width: width,
                 target_width: width,

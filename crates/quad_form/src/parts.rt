@@ -1,9 +1,11 @@
 //! A quadratic form that is being made.
-ghost use Rattle.std.specs.Prelude.{◌≡◌, ◌+◌, ◌<◌, ◌≤◌, ◌^◌, IfOk, OnOk, length, unsigned_abs};
+ghost use Rattle.std.specs.Prelude.{◌≡◌, ◌+◌, ◌<◌, ◌≤◌, ◌^◌, All, IfOk, OnOk, length, unsigned_abs};
 ghost use Rattle.quad_form.specs.Quads.{quad_total, IsQuad};
 ghost use Rattle.quad_form.specs.Flat.{placed, zero_form};
 ghost use Rattle.quad_form.specs.Flattened.{IsFlat};
+ghost use Rattle.quad_form.specs.Pairs.{IsPair, IsSettled};
 
+use crate::couplers::settled;
 use crate::quad::{NumberList, Quad};
 use bits_model::{Entry, EntryList, NoMemory};
 use problem_form::Literal;
@@ -57,14 +59,18 @@ impl Parts {
         Ok(())
     }
 
+    /// The form of these parts, in which each pair has one coupler.
     pub fn into_quad(self) -> Quad
-        requires { IsQuad self }
-        ensures { result ≡ self }
+        requires narrow { length self.diagonal < 2 ^ 32 }
+        requires pairs { All (IsPair (length self.diagonal)) self.couplers }
+        requires small { quad_total self ≤ 2 ^ 124 }
+        ensures settled { IsSettled self result }
+        ensures kept { IsQuad result }
     {
         Quad {
             constant: self.constant,
             diagonal: NumberList::new(self.diagonal),
-            couplers: EntryList::new(self.couplers),
+            couplers: EntryList::new(settled(self.couplers)),
         }
     }
 }

@@ -42,6 +42,21 @@ fn small_table(alloc: Global) -> Result<Table, NoMemory>
     Ok(table)
 }
 
+// 5 x0 x1 + 2 x0 (1 - x1) + 3 (1 - x0) x1, which is 2 x0 + 3 x1
+fn table_of_one_pair(alloc: Global) -> Result<Table, NoMemory>
+    ensures width { IfOk result (λ t. t.width ≡ 2) }
+    ensures total { IfOk result (λ t. terms_total t.terms ≤ 15) }
+    ensures size { IfOk result (λ t. terms_size t.terms ≤ 12) }
+{
+    let first = literal(0, false);
+    let second = literal(1, false);
+    let mut table = Table::new(alloc, 2);
+    table.add(&[first, second], 5)?;
+    table.add(&[first, literal(1, true)], 2)?;
+    table.add(&[literal(0, true), second], 3)?;
+    Ok(table)
+}
+
 fn there_and_back<L: Layer>(
     alloc: Global,
     layer: &L,
@@ -62,7 +77,7 @@ fn there_and_back<L: Layer>(
 fn flattened(alloc: Global, source: &LowTable) -> Result<Quad, NoMemory>
     requires width { source.now.width ≡ 2 }
     requires total { terms_total source.now.terms ≤ 15 }
-    requires size { terms_size source.now.terms ≤ 6 }
+    requires size { terms_size source.now.terms ≤ 12 }
     ensures { IfOk result (λ q. length q.diagonal ≡ 2) }
 {
     Ok(Flatten.lower(alloc, source)?.target)
@@ -107,6 +122,18 @@ fn a_small_table(rt: HostRuntime) -> Result<(), Fail> {
     assert_eq!(rt; (model.figures.offset, model.figures.threshold), (-5, 15));
     let entries = [entry(0, 0, 10), entry(1, 1, -5), entry(0, 1, -7)];
     assert_eq!(rt; model.entries.as_slice(), entries.as_slice());
+    Ok(())
+}
+
+#[test]
+fn couplers_of_one_pair_cancel(rt: HostRuntime) -> Result<(), Fail> {
+    let Ok(source) = low(table_of_one_pair(rt.alloc())?) else {
+        return Err(Fail::from("not low"));
+    };
+    let form = flattened(rt.alloc(), &source)?;
+    assert_eq!(rt; form.constant, 0);
+    assert_eq!(rt; form.diagonal.as_slice(), [2, 3].as_slice());
+    assert!(rt; form.couplers.as_slice().is_empty());
     Ok(())
 }
 

@@ -1,7 +1,7 @@
 use Rattle.std.proofs.Common.{[], ◌∷◌, ap, ◌∙◌, arith}
 use Rattle.term_table.specs.Tables.{TableForm}
-use Rattle.quad_form.proofs.FlatSets.{IsTermSet-one, IsTermSet-two}
-use Rattle.quad_form.proofs.FlatTables.{width-added}
+use Rattle.term_table.proofs.SmallSets.{IsTermSet-one, IsTermSet-two}
+use Rattle.quad_form.proofs.FlatSets.{width-added}
 use Rattle.quad_form.proofs.tests.small_table.Goals as goal
 
 pub add-requires-clause-set : goal.add-requires-clause-set

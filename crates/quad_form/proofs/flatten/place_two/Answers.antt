@@ -3,18 +3,18 @@ use Rattle.std.specs.Int.{w128}
 use Rattle.std.proofs.lemmas.Int.{ints, to_z-of_z}
 use Rattle.quad_form.specs.Flat.{multiplied_out}
 use Rattle.quad_form.proofs.FlatSums.{total-one}
-use Rattle.quad_form.proofs.FlatTables.{total-with}
-use Rattle.quad_form.proofs.flatten.add_two.Goals as goal
+use Rattle.quad_form.proofs.FlatParts.{total-all}
+use Rattle.quad_form.proofs.flatten.place_two.Goals as goal
 
-pub add_after-requires-clause-small : goal.add_after-requires-clause-small
-add_after-requires-clause-small c =
+pub place_after-requires-clause-small : goal.place_after-requires-clause-small
+place_after-requires-clause-small c =
     let back = to_z-of_z w128 c.args.coefficient c.ranges.coefficient in
     let second = c.args.second.now in
-    let done = rw back at c.in_ok-add_one.ensures in
+    let done = rw back at c.in_ok-place_one.ensures in
     omega (
       arith,
       ints,
       back,
       total-one second c.args.coefficient,
-      total-with c.args.flat.now c.add_one.new.flat (multiplied_out (second ∷ []) c.args.coefficient) done,
+      total-all c.args.parts.now c.place_one.new.parts (multiplied_out (second ∷ []) c.args.coefficient) done,
     )

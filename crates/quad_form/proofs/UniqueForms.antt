@@ -1,0 +1,325 @@
+-- A quadratic form is told by its constant, its weights of nodes and the sum that it has for each pair, and
+-- for terms over variables these are the sums of the coefficients of a set.
+use Rattle.std.proofs.Common.{◌≡◌, inl, inr, ℕ, ◌*◌, ◌<◌, ◌≤◌, ◌^◌, Bool, true, false, ◌&&◌, eqb, ℤ, pos, ◌+ℤ◌, List, [], ◌∷◌, length, get_or, fold, refl, sym, ap, subst, ◌∙◌, arith}
+use Rattle.std.specs.Prelude.{slice_set}
+use Rattle.std.specs.List.{AllByRecursion, slice_index_or}
+use Rattle.std.specs.Ordering.{nat_cmp, ordering_then, is_eq}
+use Rattle.std.specs.Bool.{Decides}
+use Rattle.std.specs.declared.cmp.Ordering.{Ordering}
+use Rattle.std.specs.declared.cmp.Ordering.TheVariants.{Less, Equal, Greater}
+use Rattle.std.proofs.lemmas.Int.{ints}
+use Rattle.std.proofs.lemmas.Bool.Decides.{nat_tests, Decides-eqb}
+use Rattle.std.proofs.lemmas.List.{same_lists, get_or_default, get_or-set_same, get_or-set_other, length-replicate}
+use Rattle.std.proofs.lemmas.List.Elements.{All-weaker, recursion_from_All}
+use Rattle.integers.specs.Sums.{if_so}
+use Rattle.integers.proofs.Totals.{total_by_push}
+use Rattle.bits_model.specs.declared.output.Entry.{Entry}
+use Rattle.problem_form.specs.declared.literal.Literal.{Literal}
+use Rattle.problem_form.specs.Literals.{literal_cmp}
+use Rattle.term_table.specs.Terms.{Term, set_cmp, coefficient_of, collected, terms_total}
+use Rattle.term_table.specs.Tables.{TableForm, IsTable, IsLow}
+use Rattle.term_table.proofs.Additions.{coefficient_of-collected, terms_total-collected}
+use Rattle.term_table.proofs.KeptTerms.{OfSet, AreTerms-collected}
+use Rattle.quad_form.specs.Quads.{QuadForm, IsCoupler, IsQuad}
+use Rattle.quad_form.specs.Flat.{contributions, pair_entry, placed, zero_form, quad_of, image}
+use Rattle.quad_form.specs.Flattened.{IsFlat, length-placed, flat_sets, flat_contributions}
+use Rattle.quad_form.specs.Pairs.{IsNonzero, weight_for, weight_at, pair_number, IsSettled}
+use Rattle.quad_form.proofs.FlatForms.{width_of, IsQuad-of}
+use Rattle.quad_form.proofs.FlatSets.{IsTermSet-flat}
+use Rattle.quad_form.proofs.FlatSums.{terms_total-contributions}
+use Rattle.quad_form.proofs.PairOrder.{compared, ArePairs, Before, Rises, same_pair, rising_from_ordered}
+
+-- ---- couplers with the same sums
+
+weight_for-other : (e f : Entry) → pair_number e < pair_number f → weight_for e.first e.second f ≡ pos 0
+weight_for-other e f less =
+    go (eqb e.first f.first) (eqb e.second f.second) (Decides-eqb e.first f.first)
+    (Decides-eqb e.second f.second)
+  where
+    go : (a b : Bool) → Decides a (e.first ≡ f.first) → Decides b (e.second ≡ f.second)
+        → if_so (a && b) f.weight ≡ pos 0
+    go true true d g = absurd (omega (arith, d.0 refl, g.0 refl))
+    go true false d g = refl
+    go false b d g = refl
+
+weight_for-itself : (e : Entry) → weight_for e.first e.second e ≡ e.weight
+weight_for-itself e =
+    go (eqb e.first e.first) (eqb e.second e.second) (Decides-eqb e.first e.first)
+    (Decides-eqb e.second e.second)
+  where
+    go : (a b : Bool) → Decides a (e.first ≡ e.first) → Decides b (e.second ≡ e.second)
+        → if_so (a && b) e.weight ≡ e.weight
+    go true true d g = refl
+    go true false d g = absurd (let yes = g.1 refl in cc)
+    go false b d g = absurd (let yes = d.1 refl in cc)
+
+weight_at-before : (e : Entry) (es : List Entry) → Before e es
+    → weight_at e.first e.second es ≡ pos 0
+weight_at-before e [] before = refl
+weight_at-before e (f ∷ fs) before =
+    omega (arith, ints, weight_for-other e f before.0, weight_at-before e fs before.1)
+
+weight_at-first : (e : Entry) (es : List Entry) → Before e es
+    → weight_at e.first e.second (e ∷ es) ≡ e.weight
+weight_at-first e es before = omega (arith, ints, weight_for-itself e, weight_at-before e es before)
+
+Before-further : (d e : Entry) (es : List Entry) → pair_number d < pair_number e → Before e es
+    → Before d es
+Before-further d e [] less before = tt
+Before-further d e (f ∷ fs) less before =
+    (omega (arith, less, before.0), Before-further d e fs less before.1)
+
+-- a pair below all of the list has no weight there, and so is none that has one
+none_below : (e f : Entry) (es fs : List Entry) → pair_number e < pair_number f → Before e es
+    → Before f fs → weight_at e.first e.second (e ∷ es) ≡ weight_at e.first e.second (f ∷ fs)
+    → e.weight ≡ pos 0
+none_below e f es fs less up above same =
+    sym (weight_at-first e es up) ∙ same
+    ∙ weight_at-before e (f ∷ fs) (less, Before-further e f fs less above)
+
+pub same_entries : (es fs : List Entry) → ArePairs es → ArePairs fs → Rises es → Rises fs
+    → AllByRecursion IsNonzero es → AllByRecursion IsNonzero fs
+    → ((i j : ℕ) → weight_at i j es ≡ weight_at i j fs) → es ≡ fs
+same_entries [] [] p q a b m n same = refl
+same_entries [] (f ∷ fs) p q a b m n same =
+    absurd (n.0 (sym (weight_at-first f fs b.0) ∙ sym (same f.first f.second)))
+same_entries (e ∷ es) [] p q a b m n same =
+    absurd (m.0 (sym (weight_at-first e es a.0) ∙ same e.first e.second))
+same_entries (e ∷ es) (f ∷ fs) p q a b m n same =
+    elim (compared (pair_number e) (pair_number f)) [
+      | inl less ↦ absurd (m.0 (none_below e f es fs less a.0 b.0 (same e.first e.second)))
+      | inr (inl number) ↦
+          let pair = same_pair e.first e.second f.first f.second p.0.within q.0.within number in
+          both pair (same_entries es fs p.1 q.1 a.1 b.1 m.1 n.1)
+      | inr (inr more) ↦ absurd (n.0 (none_below f e fs es more b.0 a.0 (sym (same f.first f.second))))
+    ]
+  where
+    both : (e.first ≡ f.first) × (e.second ≡ f.second)
+        → (((i j : ℕ) → weight_at i j es ≡ weight_at i j fs) → es ≡ fs) → (e ∷ es) ≡ (f ∷ fs)
+    both pair rest =
+        let moved : weight_at e.first e.second (f ∷ fs) ≡ weight_at f.first f.second (f ∷ fs) =
+        λ k. weight_at (pair.0 k) (pair.1 k) (f ∷ fs) in
+        let weight : e.weight ≡ f.weight =
+        sym (weight_at-first e es a.0) ∙ same e.first e.second ∙ moved ∙ weight_at-first f fs b.0 in
+        let one : e ≡ f =
+        λ k. record { first = pair.0 k; second = pair.1 k; weight = weight k } in
+        let others =
+        rest (λ i j. let here : weight_for i j e ≡ weight_for i j f = ap (weight_for i j) one in omega (arith, ints, same i j)) in
+        λ k. one k ∷ others k
+
+-- ---- the sets of a constant, a node and a pair
+
+abbrev node : ℕ → Literal
+node i = record { variable = i; negated = false }
+
+equal_numbers : (a b : ℕ) → is_eq (nat_cmp a b) ≡ eqb a b
+equal_numbers a b = grind (arith, nat_tests)
+
+then_equal : (o : Ordering) → ordering_then o Equal ≡ o
+then_equal Less = refl
+then_equal Equal = refl
+then_equal Greater = refl
+
+then_less : (o : Ordering) → is_eq (ordering_then o Less) ≡ false
+then_less Less = refl
+then_less Equal = refl
+then_less Greater = refl
+
+then_greater : (o : Ordering) → is_eq (ordering_then o Greater) ≡ false
+then_greater Less = refl
+then_greater Equal = refl
+then_greater Greater = refl
+
+then_both : (o p : Ordering) → is_eq (ordering_then o p) ≡ (is_eq o && is_eq p)
+then_both Less p = refl
+then_both Equal p = refl
+then_both Greater p = refl
+
+literal_is : (i : ℕ) (l : Literal) → l.negated ≡ false → literal_cmp (node i) l ≡ nat_cmp i l.variable
+literal_is i l e = rw e (then_equal (nat_cmp i l.variable))
+
+one_is : (i : ℕ) (l : Literal) → l.negated ≡ false
+    → is_eq (set_cmp (node i ∷ []) (l ∷ [])) ≡ eqb i l.variable
+one_is i l e =
+    ap is_eq (then_equal (literal_cmp (node i) l) ∙ literal_is i l e)
+    ∙ equal_numbers i l.variable
+
+two_are : (i j : ℕ) (l k : Literal) → l.negated ≡ false → k.negated ≡ false
+    → is_eq (set_cmp (node i ∷ node j ∷ []) (l ∷ k ∷ [])) ≡ (eqb i l.variable && eqb j k.variable)
+two_are i j l k e f =
+    then_both (literal_cmp (node i) l) (set_cmp (node j ∷ []) (k ∷ []))
+    ∙ (λ n. is_eq (literal_is i l e n) && one_is j k f n)
+    ∙ ap (λ b. b && eqb j k.variable) (equal_numbers i l.variable)
+
+-- ---- what terms over variables place
+
+abbrev AreFlat : ℕ → List Term → Type 0
+AreFlat width ts = AllByRecursion (OfSet (IsFlat width)) ts
+
+constant-fold : (q : QuadForm) (ts : List Term)
+    → (fold placed q ts).constant ≡ q.constant +ℤ coefficient_of [] ts
+constant-fold q [] = omega (arith, ints)
+constant-fold q (([], c) ∷ ts) = omega (arith, ints, constant-fold (placed q ([], c)) ts)
+constant-fold q ((l ∷ [], c) ∷ ts) = omega (arith, ints, constant-fold (placed q (l ∷ [], c)) ts)
+constant-fold q ((l ∷ k ∷ ls, c) ∷ ts) =
+    omega (arith, ints, constant-fold (placed q (l ∷ k ∷ ls, c)) ts)
+
+-- a node's weight grows by the coefficients of its own terms alone
+grown : (ws : List ℤ) (i n : ℕ) (c : ℤ) → n < length ws
+    → get_or (slice_set ws n (slice_index_or ws n (pos 0) +ℤ c)) i (pos 0)
+    ≡ get_or ws i (pos 0) +ℤ if_so (eqb i n) c
+grown ws i n c in' = go (eqb i n) (Decides-eqb i n)
+  where
+    go : (same : Bool) → Decides same (i ≡ n)
+        → get_or (slice_set ws n (slice_index_or ws n (pos 0) +ℤ c)) i (pos 0)
+        ≡ get_or ws i (pos 0) +ℤ if_so same c
+    go true d =
+        rw (d.0 refl) (get_or-set_same ws n (slice_index_or ws n (pos 0) +ℤ c) (pos 0) in')
+    go false d =
+        let kept = get_or-set_other ws n i (slice_index_or ws n (pos 0) +ℤ c) (pos 0) (λ e. let yes = d.1 e in cc) in
+        omega (arith, ints, kept)
+
+node-placed : (q : QuadForm) (i : ℕ) (ls : List Literal) (c : ℤ) → IsFlat (length q.diagonal) ls
+    → get_or (placed q (ls, c)).diagonal i (pos 0)
+    ≡ get_or q.diagonal i (pos 0) +ℤ if_so (is_eq (set_cmp (node i ∷ []) ls)) c
+node-placed q i [] c flat = omega (arith, ints)
+node-placed q i (l ∷ []) c flat =
+    rw (one_is i l flat.plain) (grown q.diagonal i l.variable c flat.within)
+node-placed q i (l ∷ k ∷ ls) c flat =
+    rw (then_less (literal_cmp (node i) l)) (omega (arith, ints))
+
+node-fold : (q : QuadForm) (width i : ℕ) (ts : List Term) → length q.diagonal ≡ width
+    → AreFlat width ts
+    → get_or (fold placed q ts).diagonal i (pos 0)
+    ≡ get_or q.diagonal i (pos 0) +ℤ coefficient_of (node i ∷ []) ts
+node-fold q width i [] same flat = omega (arith, ints)
+node-fold q width i (t ∷ ts) same flat =
+    let P : ℕ → Type 0 = λ n. IsFlat n t.0 in
+    omega (
+      arith,
+      ints,
+      node-fold (placed q t) width i ts (length-placed q t ∙ same) flat.1,
+      node-placed q i t.0 t.1 (subst P (sym same) flat.0),
+    )
+
+pair-placed : (q : QuadForm) (i j width : ℕ) (ls : List Literal) (c : ℤ) → IsFlat width ls
+    → weight_at i j (placed q (ls, c)).couplers
+    ≡ weight_at i j q.couplers +ℤ if_so (is_eq (set_cmp (node i ∷ node j ∷ []) ls)) c
+pair-placed q i j width [] c flat = omega (arith, ints)
+pair-placed q i j width (l ∷ []) c flat =
+    rw (then_greater (literal_cmp (node i) l)) (omega (arith, ints))
+pair-placed q i j width (l ∷ k ∷ []) c flat =
+    rw (two_are i j l k flat.0.plain flat.1.plain)
+    (total_by_push (weight_for i j) q.couplers (pair_entry l k c))
+pair-placed q i j width (l ∷ k ∷ m ∷ ls) c flat = absurd flat
+
+pair-fold : (q : QuadForm) (i j width : ℕ) (ts : List Term) → AreFlat width ts
+    → weight_at i j (fold placed q ts).couplers
+    ≡ weight_at i j q.couplers +ℤ coefficient_of (node i ∷ node j ∷ []) ts
+pair-fold q i j width [] flat = omega (arith, ints)
+pair-fold q i j width (t ∷ ts) flat =
+    omega (
+      arith,
+      ints,
+      pair-fold (placed q t) i j width ts flat.1,
+      pair-placed q i j width t.0 t.1 flat.0,
+    )
+
+-- ---- terms and the table of their sums
+
+constants_agree : (width : ℕ) (ts : List Term)
+    → (quad_of width ts).constant ≡ (quad_of width (collected [] ts)).constant
+constants_agree width ts =
+    omega (
+      arith,
+      ints,
+      constant-fold (zero_form width) ts,
+      constant-fold (zero_form width) (collected [] ts),
+      coefficient_of-collected [] ts,
+    )
+
+nodes_agree : (width i : ℕ) (ts : List Term) → AreFlat width ts → AreFlat width (collected [] ts)
+    → get_or (quad_of width ts).diagonal i (pos 0)
+    ≡ get_or (quad_of width (collected [] ts)).diagonal i (pos 0)
+nodes_agree width i ts flat sums =
+    omega (
+      arith,
+      ints,
+      node-fold (zero_form width) width i ts (length-replicate width (pos 0)) flat,
+      node-fold (zero_form width) width i (collected [] ts) (length-replicate width (pos 0)) sums,
+      coefficient_of-collected (node i ∷ []) ts,
+    )
+
+diagonals_agree : (width : ℕ) (ts : List Term) → AreFlat width ts → AreFlat width (collected [] ts)
+    → (quad_of width ts).diagonal ≡ (quad_of width (collected [] ts)).diagonal
+diagonals_agree width ts flat sums =
+    let lengths = width_of width ts ∙ sym (width_of width (collected [] ts)) in
+    same_lists _ _ lengths (λ k d in'.
+    get_or_default (quad_of width ts).diagonal k d (pos 0) in'
+    ∙ nodes_agree width k ts flat sums
+    ∙ get_or_default (quad_of width (collected [] ts)).diagonal k (pos 0) d (subst (λ n. k < n) lengths in'))
+
+pairs_agree : (width i j : ℕ) (ts : List Term) → AreFlat width ts → AreFlat width (collected [] ts)
+    → weight_at i j (quad_of width ts).couplers
+    ≡ weight_at i j (quad_of width (collected [] ts)).couplers
+pairs_agree width i j ts flat sums =
+    omega (
+      arith,
+      ints,
+      pair-fold (zero_form width) i j width ts flat,
+      pair-fold (zero_form width) i j width (collected [] ts) sums,
+      coefficient_of-collected (node i ∷ node j ∷ []) ts,
+    )
+
+-- ---- the image
+
+couplers_are_pairs : (n : ℕ) (es : List Entry) → n < 2 ^ 32 → AllByRecursion (IsCoupler n) es → ArePairs es
+couplers_are_pairs n [] narrow all = tt
+couplers_are_pairs n (e ∷ es) narrow all =
+    let in' = all.0.within in
+    (record { upward = all.0.upward; within = omega arith }, couplers_are_pairs n es narrow all.1)
+
+nonzero_couplers : (n : ℕ) (es : List Entry) → AllByRecursion (IsCoupler n) es
+    → AllByRecursion IsNonzero es
+nonzero_couplers n [] all = tt
+nonzero_couplers n (e ∷ es) all = (all.0.nonzero, nonzero_couplers n es all.1)
+
+same_couplers : (q r : QuadForm) → IsQuad q → IsQuad r
+    → ((i j : ℕ) → weight_at i j q.couplers ≡ weight_at i j r.couplers)
+    → q.couplers ≡ r.couplers
+same_couplers q r a b same =
+    let all = recursion_from_All _ _ a.couplers in
+    let others = recursion_from_All _ _ b.couplers in
+    let pairs = couplers_are_pairs _ q.couplers a.narrow all in
+    let other_pairs = couplers_are_pairs _ r.couplers b.narrow others in
+    same_entries q.couplers r.couplers pairs other_pairs
+    (rising_from_ordered q.couplers pairs a.ordered)
+    (rising_from_ordered r.couplers other_pairs b.ordered)
+    (nonzero_couplers _ q.couplers all) (nonzero_couplers _ r.couplers others) same
+
+IsQuad-image : (t : TableForm) → IsTable t → IsLow t → t.width < 2 ^ 32
+    → 4 * terms_total t.terms ≤ 2 ^ 124 → IsQuad (image t)
+IsQuad-image t table low narrow small =
+    let ts = contributions t.terms in
+    let short = recursion_from_All _ _ low in
+    let flat = flat_contributions t.width t.terms (recursion_from_All _ _ table.terms.sets) short in
+    IsQuad-of t.width (collected [] ts) narrow (flat_sets t table low)
+    (AreTerms-collected t.width ts (All-weaker _ _ (λ (u : Term) h. IsTermSet-flat t.width u.0 h) ts flat))
+    (omega (arith, terms_total-collected ts, terms_total-contributions t.terms short))
+
+-- what the terms of a table place, each pair once, is the table's image
+pub settled_is_image : (t : TableForm) (q r : QuadForm) → IsTable t → IsLow t → t.width < 2 ^ 32
+    → 4 * terms_total t.terms ≤ 2 ^ 124
+    → q ≡ quad_of t.width (contributions t.terms) → IsSettled q r → IsQuad r → r ≡ image t
+settled_is_image t q r table low narrow small made settled kept =
+    let ts = contributions t.terms in
+    let flat = recursion_from_All _ _ (flat_contributions t.width t.terms (recursion_from_All _ _ table.terms.sets) (recursion_from_All _ _ low)) in
+    let sums = recursion_from_All _ _ (flat_sets t table low) in
+    let constant : r.constant ≡ (image t).constant =
+    settled.constant ∙ ap (λ (p : QuadForm). p.constant) made ∙ constants_agree t.width ts in
+    let diagonal : r.diagonal ≡ (image t).diagonal =
+    settled.diagonal ∙ ap (λ (p : QuadForm). p.diagonal) made ∙ diagonals_agree t.width ts flat sums in
+    let couplers : r.couplers ≡ (image t).couplers =
+    same_couplers r (image t) kept (IsQuad-image t table low narrow small)
+    (λ i j. settled.sums i j ∙ ap (λ (p : QuadForm). weight_at i j p.couplers) made ∙ pairs_agree t.width i j ts flat sums) in
+    λ k. record { constant = constant k; diagonal = diagonal k; couplers = couplers k }
