@@ -14,6 +14,22 @@ pub record Begun : Type 0 where
   pub faults : ℕ
   pub name : List ℕ
 
+-- the same, by the functions that tell it of files, between two moments
+abbrev pub begun_between : {F : Type 0} → (faults begun at_begin : F → ℕ) → (name : F → List ℕ) → F → F
+    → Begun
+begun_between faults begun at_begin name old new = record {
+  faults_before = faults old;
+  begun_before = begun old;
+  begun = begun new;
+  faults_at_begin = at_begin new;
+  faults = faults new;
+  name = name new;
+}
+
+-- a count of faults rose between two moments
+abbrev pub RoseBetween : {S : Type 0} → (S → ℕ) → S → S → Type 0
+RoseBetween faults old new = Rose (faults old) (faults new)
+
 -- the file of this name was begun, the count-th one, and the count of faults rose since; the count
 -- at that `begin` is at least the count at the entry
 pub record IsBegunBy (name : List ℕ) (count : ℕ) (b : Begun) : Type 0 where

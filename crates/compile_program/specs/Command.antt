@@ -1,5 +1,5 @@
 -- What a list of words asks for: `compile wcnf qubo FILE`.
-use Rattle.std.specs.Prelude.{ℕ, List, [], ◌∷◌, bytes_eq, codes, if◌then◌else◌, Ok, Err, Result}
+use Rattle.std.specs.Prelude.{ℕ, List, [], ◌∷◌, map, string_bytes, String, bytes_eq, codes, if◌then◌else◌, Ok, Err, Result}
 
 -- the file of a command, or the position of the first word that cannot stand, counted from 1;
 -- where no word is wrong but one is missing, it is the number of words and one
@@ -22,6 +22,10 @@ format_word (word ∷ words) = if bytes_eq word (codes "wcnf") then target_word 
 abbrev pub command_of : List (List ℕ) → Result (List ℕ) ℕ
 command_of [] = Err 1
 command_of (word ∷ words) = if bytes_eq word (codes "compile") then format_word words else Err 1
+
+-- what the given words ask for
+abbrev pub asked : {A : Type 0} → List (String A) → Result (List ℕ) ℕ
+asked words = command_of (map string_bytes words)
 
 -- the file's name that an error line has
 abbrev pub file_name : Result (List ℕ) ℕ → List ℕ

@@ -1,7 +1,8 @@
 -- The text that a run writes: that of one model, whose least states are the least assignments of
 -- the file that was read.
 use Rattle.std.specs.Prelude.{◌≡◌, ℕ, ℤ, List, Ok, Some, Result}
-use Rattle.edge_io.specs.Held.{NamedFiles, find_file}
+use Rattle.std.specs.declared.option.Option.{Option}
+use Rattle.edge_io.specs.Held.{NamedFiles, find_file, WhereTold}
 use Rattle.bits_model.specs.declared.output.Kind.TheVariants.{Qubo}
 use Rattle.bits_model.specs.Costs.{Form}
 use Rattle.bits_model.specs.Relations.{Relaxes}
@@ -54,3 +55,7 @@ pub record IsCompiledOf (command : Result (List ℕ) ℕ) (held : NamedFiles) (t
   pub bytes : List ℕ
   pub found : find_file held file ≡ Some bytes
   pub compiled : IsCompiled bytes text
+
+-- the same, where the files tell what they hold
+abbrev pub IsCompiledFrom : Result (List ℕ) ℕ → Option NamedFiles → List ℕ → Type 0
+IsCompiledFrom command told text = WhereTold told (λ held. IsCompiledOf command held text)

@@ -8,6 +8,7 @@ use Rattle.problem_form.specs.declared.limits.LimitKind.TheVariants.{Bytes}
 use Rattle.problem_form.specs.Problems.{ProblemForm}
 use Rattle.problem_form.specs.Limits.{limit_fault}
 use Rattle.wcnf_reader.specs.Cost.{normal_reading}
+use Rattle.compile_program.specs.Statuses.{IsDoneOrWant}
 use Rattle.compile_program.specs.declared.status.Which.TheVariants.{Source}
 use Rattle.compile_program.specs.declared.status.Status.{Status}
 use Rattle.compile_program.specs.declared.status.Status.TheVariants.{Done, Usage, ReadFault, WriteFault, BadText, Limit, NoMemory}
@@ -50,3 +51,7 @@ MeetsOutcome (ReadFault which) outcome = ⊤
 MeetsOutcome NoMemory outcome = ⊤
 MeetsOutcome WriteFault outcome = outcome ≡ Some Done
 MeetsOutcome status outcome = outcome ≡ Some status
+
+-- where the outcome is Done, so is the status, or memory was wanting
+abbrev pub IsComplete : Status → Result (List ℕ) ℕ → NamedFiles → Type 0
+IsComplete status command held = outcome_of command held ≡ Some Done → IsDoneOrWant status

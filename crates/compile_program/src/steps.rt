@@ -5,7 +5,7 @@ ghost use Rattle.edge_io.specs.Held.{WhereTold, find_file};
 ghost use Rattle.problem_form.specs.Limits.{limit_fault};
 ghost use Rattle.wcnf_reader.specs.Cost.{normal_reading};
 ghost use Rattle.compile_program.specs.Steps.{IsTakeFault, TakesTooMuch, RefusesText, RefusesLimit};
-ghost use Rattle.compile_program.specs.Causes.{Begun};
+ghost use Rattle.compile_program.specs.Causes.{begun_between};
 
 use crate::status::{Status, Which};
 use edge_io::{Files, ReadAnswer, read_all};
@@ -30,14 +30,8 @@ pub fn take_file<F: Files>(
     ensures longer { IfErr result (λ status. WhereTold (F.held files.old) (λ held.
         TakesTooMuch which status (find_file held name.now))) }
 
-    ensures fault { IfErr result (λ status. IsTakeFault which status name.now (record {
-      faults_before = F.faults files.old;
-      begun_before = F.begun files.old;
-      begun = F.begun files.new;
-      faults_at_begin = F.faults_at_begin files.new;
-      faults = F.faults files.new;
-      name = F.begun_name files.new;
-    })) }
+    ensures fault { IfErr result (λ status. IsTakeFault which status name.now
+        (begun_between F.faults F.begun F.faults_at_begin F.begun_name files.old files.new)) }
 {
     let Ok(owned) = String::from_str(alloc, name) else {
         return Err(Status::NoMemory);

@@ -74,7 +74,7 @@ fn calls(rt: &HostRuntime, failing: &[u64]) -> Result<CallList, Fail> {
 fn sink(rt: &HostRuntime, most: usize, failing: &[u64]) -> Result<MemorySink, Fail>
     requires { 1 ≤ most }
 {
-    Ok(MemorySink::new(rt.alloc(), most, 1000, calls(rt, failing)?)?)
+    Ok(MemorySink::new(rt.alloc(), most, 60_000, calls(rt, failing)?)?)
 }
 
 /// The file `a` of this text.
@@ -161,8 +161,9 @@ fn a_file_without_end_is_too_long(rt: HostRuntime) -> Result<(), Fail> {
 }
 
 /// Texts, and what is written for them: a contradiction, no variable, clauses without literals, the
-/// greatest weight, equal clauses, weights of TOP and above it, and two literals.
-const TEXTS: [(&str, &[u8]); 8] = [
+/// greatest weight, equal clauses, weights of TOP and above it, two literals, and three, which have a
+/// new node.
+const TEXTS: [(&str, &[u8]); 9] = [
     (
         "p wcnf 1 2 2\n2 1 0\n2 -1 0\n",
         b"c scale 1\nc offset -1\nc threshold -1\nc variables 1\np qubo 0 1 1 0\n0 0 0\n",
@@ -197,6 +198,11 @@ const TEXTS: [(&str, &[u8]); 8] = [
         b"c scale 1\nc offset -2\nc threshold 0\nc variables 2\np qubo 0 2 2 1\n0 0 -2\n1 1 -2\n\
         0 1 2\n",
     ),
+    (
+        "p wcnf 3 1\n2 1 2 3 0\n",
+        b"c scale 1\nc offset -6\nc threshold -4\nc variables 3\np qubo 0 4 4 6\n0 0 -4\n1 1 -4\n\
+        2 2 -4\n3 3 -4\n0 1 2\n0 2 2\n0 3 2\n1 2 2\n1 3 2\n2 3 2\n",
+    ),
 ];
 
 /// One run over the file `a` of this text: its status, and the sinks of its text and its line.
@@ -222,12 +228,13 @@ fn what_is_written_for_a_text(rt: HostRuntime) -> Result<(), Fail> {
 
 #[test]
 fn what_is_refused(rt: HostRuntime) -> Result<(), Fail> {
-    let rows: [(&str, &[u8]); 6] = [
+    let rows: [(&str, &[u8]); 7] = [
+        ("", b"a:1: end\n"),
+        ("p wcnf 1 1\n0.5 1 0\n", b"a:2: number\n"),
         ("p wcnf 1 1\n1 2 0\n", b"a:2: range\n"),
         ("p wcnf 2 2 9\n9 1 0\n", b"a:2: end\n"),
         ("p wcnf 1 1\n1 1 0\n1 1 0\n", b"a:3: extra\n"),
         ("p wcnf 1048577 0\n", b"a: limit variables 1048577\n"),
-        ("p wcnf 3 1\n2 1 2 3 0\n", b"a: limit degree 3\n"),
         (
             "p wcnf 1 2\n18446744073709551615 1 0\n1 -1 0\n",
             b"a: limit weight 18446744073709551616\n",
@@ -241,6 +248,82 @@ fn what_is_refused(rt: HostRuntime) -> Result<(), Fail> {
     Ok(())
 }
 
+/// Writes a soft clause of weight 1 with so many variables.
+fn push_clause(text: &mut String, variables: u64) -> Result<(), Fail> {
+    text.push_str("1")?;
+    for variable in 0..variables {
+        write!(text, " {}", variable.saturating_add(1))?;
+    }
+    text.push_str(" 0\n")?;
+    Ok(())
+}
+
+/// So many soft clauses of weight 1, each with all of so many variables, and a unit clause if wanted.
+fn wide_text(alloc: Global, clauses: u64, variables: u64, unit: bool) -> Result<String, Fail> {
+    let all = clauses.saturating_add(u64::from(unit));
+    let mut text = format!(in alloc; "p wcnf {variables} {all}\n")?;
+    for _ in 0..clauses {
+        push_clause(&mut text, variables)?;
+    }
+    if unit {
+        text.push_str("1 1 0\n")?;
+    }
+    Ok(text)
+}
+
+#[test]
+fn the_most_literals_and_pairs(rt: HostRuntime) -> Result<(), Fail> {
+    let alloc = rt.alloc();
+    let rows: [(u64, u64, bool, &[u8]); 2] = [
+        (1, 1025, false, b"a: limit degree 1025\n"),
+        (16, 1024, true, b"a: limit pairs 16777217\n"),
+    ];
+    for (clauses, variables, unit, line) in rows {
+        let text = wide_text(alloc, clauses, variables, unit)?;
+        let (_, out, err) = run_text(&rt, &text)?;
+        assert_eq!(rt; out.bytes(), b"".as_slice());
+        assert_eq!(rt; err.bytes(), line);
+    }
+    Ok(())
+}
+
+/// The pairs of one of 60 nodes: 1 with each node after it, and 2 with each of the 29 new ones.
+fn push_pairs(text: &mut String, first: u64) -> Result<(), Fail> {
+    for second in first.saturating_add(1)..89 {
+        let weight = if second < 60 { 1 } else { 2 };
+        writeln!(text, "{first} {second} {weight}")?;
+    }
+    Ok(())
+}
+
+/// The model of a clause of 60 positive literals, by hand: of its 60 complements, 29 new nodes.
+fn text_of_sixty(alloc: Global) -> Result<String, Fail> {
+    let mut text = String::from_str(alloc, "c scale 1\nc offset -1770\nc threshold -1769\n")?;
+    text.push_str("c variables 60\np qubo 0 89 89 3510\n")?;
+    for node in 0..60 {
+        writeln!(text, "{node} {node} -59")?;
+    }
+    let mut weight: i64 = -117;
+    for node in 60..89 {
+        writeln!(text, "{node} {node} {weight}")?;
+        weight = weight.saturating_add(4);
+    }
+    for first in 0..60 {
+        push_pairs(&mut text, first)?;
+    }
+    Ok(text)
+}
+
+#[test]
+fn a_clause_of_sixty_literals(rt: HostRuntime) -> Result<(), Fail> {
+    let text = wide_text(rt.alloc(), 1, 60, false)?;
+    let written = text_of_sixty(rt.alloc())?;
+    let (status, out, _) = run_text(&rt, &text)?;
+    assert_eq!(rt; status, Status::Done);
+    assert!(rt; out.bytes() == written.as_bytes());
+    Ok(())
+}
+
 /// The problem of a short text and its model.
 fn model_of_text(alloc: Global, text: &str) -> Option<(Problem, OutputModel)> {
     if text.len() > 100 {
@@ -250,7 +333,7 @@ fn model_of_text(alloc: Global, text: &str) -> Option<(Problem, OutputModel)> {
         return None;
     };
     keep_limits(&problem).ok()?;
-    let model = model_of(alloc, &problem).ok()?;
+    let model = model_of(alloc, read_source(alloc, text.as_bytes()).ok()?).ok()?;
     Some((problem, model))
 }
 
