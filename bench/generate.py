@@ -1,28 +1,41 @@
 #!/usr/bin/env python3
 """Writes a random weighted CNF, older layout, to the standard output.
 
-    generate.py unit|pair SIZE [--clauses] [--seed N] [--variables N]
+    generate.py KIND SIZE [--clauses] [--seed N] [--variables N]
 
-`unit` has clauses of one literal, `pair` of two. SIZE is the number of bytes, which the text
-comes close to and never passes, or with --clauses the number of clauses. Without --variables there
-are about ten clauses for each variable. One clause in eight is hard, the others weigh 1 to 9. One
+    KIND    literals of a clause    SIZE
+    unit    1                       bytes, which the text comes close to and never passes
+    pair    2                       bytes
+    three   3                       bytes
+    forty   40                      clauses, of which at most 10,485 are written
+    wide    1,024                   clauses, of which at most 16 are written
+    mixed   1 to 12                 clauses, of which at most 116,508 are written
+
+With --clauses SIZE is the number of clauses for every kind. One clause in eight is hard, the others
+weigh 1 to 9. Without --variables there are about ten clauses for each variable; for `forty` and
+`wide` as many variables as clauses, and at least four times as many as a clause has literals. One
 seed gives one text, and each text is within the program's limits.
+
+`mixed` is laid out like a file of a MaxSAT evaluation, with comments and the hard clauses first.
+Half of its clauses are hard and have 2 to 12 literals. The soft ones have 1 to 12 and weigh 1 to
+1,000.
 """
 import argparse
 import random
 import sys
 
-DEGREES = {'unit': 1, 'pair': 2}
+DEGREES = {'unit': 1, 'pair': 2, 'three': 3, 'forty': 40, 'wide': 1024, 'mixed': 12}
+IN_BYTES = {'unit', 'pair', 'three'}
 TOP = 1000000
 MOST_BYTES = 1 << 24
 MOST_VARIABLES = 1 << 20
+MOST_PAIRS = 1 << 24    # of the sum of the squares of the numbers of literals
 HEADER_BYTES = 36       # no header within the limits is longer
-CLAUSE_BYTES = 16       # of most clauses, about
+CLAUSE_BYTES = 16       # of most clauses that are counted in bytes, about
 
 
-def line(source, degree, variables):
+def line(source, weight, degree, variables):
     """One clause."""
-    weight = TOP if source.randrange(8) == 0 else source.randint(1, 9)
     chosen = source.sample(range(1, variables + 1), degree)
     literals = ' '.join(str(source.choice((1, -1)) * variable) for variable in chosen)
     return f'{weight} {literals} 0\n'
@@ -32,12 +45,29 @@ def lines(source, degree, variables, most_bytes, most_clauses):
     """Clauses, up to the first that would pass one of the two bounds."""
     result, size = [], HEADER_BYTES
     while len(result) < most_clauses:
-        clause = line(source, degree, variables)
+        weight = TOP if source.randrange(8) == 0 else source.randint(1, 9)
+        clause = line(source, weight, degree, variables)
         size += len(clause)
         if size > most_bytes:
             break
         result.append(clause)
     return result
+
+
+def parts(source, degree, variables, clauses):
+    """Hard clauses and then as many soft ones, each under a comment."""
+    hard = clauses // 2
+    yield f'c {hard} hard clauses\n'
+    for _ in range(hard):
+        yield line(source, TOP, source.randint(2, degree), variables)
+    yield f'c {clauses - hard} soft clauses\n'
+    for _ in range(clauses - hard):
+        yield line(source, source.randint(1, 1000), source.randint(1, degree), variables)
+
+
+def usual_variables(kind, clauses):
+    """The number of variables that is taken where none is given."""
+    return max(clauses, 4 * DEGREES[kind]) if kind in ('forty', 'wide') else clauses // 10
 
 
 def arguments():
@@ -52,14 +82,21 @@ def arguments():
 
 def main():
     given = arguments()
-    most_bytes = MOST_BYTES if given.clauses else min(given.size, MOST_BYTES)
-    most_clauses = given.size if given.clauses else given.size // 2
-    expected = given.size if given.clauses else most_bytes // CLAUSE_BYTES
     degree = DEGREES[given.kind]
-    variables = min(max(given.variables or expected // 10, degree), MOST_VARIABLES)
+    in_bytes = given.kind in IN_BYTES and not given.clauses
+    most_bytes = min(given.size, MOST_BYTES) if in_bytes else MOST_BYTES
+    most_clauses = min(given.size, MOST_PAIRS // degree ** 2)
+    expected = most_bytes // CLAUSE_BYTES if in_bytes else most_clauses
+    variables = given.variables or usual_variables(given.kind, expected)
+    variables = min(max(variables, degree), MOST_VARIABLES)
     source = random.Random(given.seed)
-    body = lines(source, degree, variables, most_bytes, most_clauses)
-    sys.stdout.write(f'p wcnf {variables} {len(body)} {TOP}\n')
+    if given.kind == 'mixed':
+        count, body = most_clauses, parts(source, degree, variables, most_clauses)
+        sys.stdout.write(f'c random clauses of 1 to {degree} literals, seed {given.seed}\n')
+    else:
+        body = lines(source, degree, variables, most_bytes, most_clauses)
+        count = len(body)
+    sys.stdout.write(f'p wcnf {variables} {count} {TOP}\n')
     sys.stdout.writelines(body)
 
 

@@ -1,12 +1,13 @@
 #!/usr/bin/env python3
-"""Runs the program on files named KIND-BYTES.wcnf, and prints a row for each.
+"""Runs the program on files named KIND-SIZE.wcnf, and prints a row for each.
 
     measure.py PROGRAM FILE..
 
 `seconds` are those of the processor (user and system), which a busy machine spoils less than the
-clock; both are the least of RUNS runs (an environment variable, 3 if not set). MB are 10^6 bytes.
-`time x` and `peak x` are the growth from the row above. The peak is told by GNU time. Where there
-is none, it is never below that of this Python, about 10 MB.
+clock; both are the least of RUNS runs (an environment variable, 3 if not set). MB are 10^6 bytes:
+`MB/s` of the file by the seconds, `out MB` of what is written. `time x` and `peak x` are the growth
+from the row above. The peak is told by GNU time. Where there is none, it is never below that of
+this Python, about 10 MB.
 """
 import os
 import subprocess
@@ -15,14 +16,15 @@ import tempfile
 import time
 
 GNU_TIME = '/usr/bin/time'
-ROW = '{:<6} {:>9} {:>9} {:>9} {:>7} {:>9} {:>7} {:>7}'
-HEADING = ROW.format('kind', 'bytes', 'seconds', 'clock', 'MB/s', 'peak MB', 'time x', 'peak x')
+ROW = '{:<6} {:>9} {:>9} {:>9} {:>7} {:>8} {:>9} {:>7} {:>7}'
+HEADING = ROW.format(
+    'kind', 'bytes', 'seconds', 'clock', 'MB/s', 'out MB', 'peak MB', 'time x', 'peak x')
 
 
-def run(words):
+def run(words, out=subprocess.DEVNULL):
     """Seconds of the processor and by the clock, and peak memory in KiB, of one run."""
     begun = time.perf_counter()
-    process = subprocess.Popen(words, stdout=subprocess.DEVNULL)
+    process = subprocess.Popen(words, stdout=out)
     _, status, usage = os.wait4(process.pid, 0)
     clock = time.perf_counter() - begun
     process.returncode = os.waitstatus_to_exitcode(status)
@@ -31,21 +33,24 @@ def run(words):
     return usage.ru_utime + usage.ru_stime, clock, usage.ru_maxrss
 
 
-def peak(words):
+def peak(words, out):
     """Peak memory in KiB."""
     if not os.access(GNU_TIME, os.X_OK):
-        return run(words)[2]
+        return run(words, out)[2]
     with tempfile.NamedTemporaryFile('r') as told:
-        run([GNU_TIME, '-f', '%M', '-o', told.name] + words)
+        run([GNU_TIME, '-f', '%M', '-o', told.name] + words, out)
         return int(told.read())
 
 
 def measured(program, file):
-    """Seconds of the processor, seconds by the clock, and peak memory in MB."""
+    """Seconds of the processor, seconds by the clock, MB written, and peak memory in MB."""
     words = [program, 'compile', 'wcnf', 'qubo', file]
     runs = [run(words) for _ in range(int(os.environ.get('RUNS', '3')))]
     seconds = max(min(r[0] for r in runs), 1e-4)
-    return seconds, min(r[1] for r in runs), peak(words) * 1024 / 1e6
+    with tempfile.TemporaryFile() as out:
+        memory = peak(words, out) * 1024 / 1e6
+        written = os.fstat(out.fileno()).st_size / 1e6
+    return seconds, min(r[1] for r in runs), written, memory
 
 
 def main():
@@ -54,8 +59,9 @@ def main():
     above = None
     for file in files:
         kind, size = os.path.basename(file).split('-')[0], os.path.getsize(file)
-        seconds, clock, memory = measured(program, file)
-        told = [f'{seconds:.4f}', f'{clock:.4f}', f'{size / 1e6 / seconds:.1f}', f'{memory:.1f}']
+        seconds, clock, written, memory = measured(program, file)
+        told = [f'{seconds:.4f}', f'{clock:.4f}', f'{size / 1e6 / seconds:.3g}', f'{written:.1f}',
+                f'{memory:.1f}']
         growth = ['', '']
         if above and above[0] == kind:
             growth = [f'{seconds / above[1]:.1f}', f'{memory / above[2]:.1f}']
