@@ -19,7 +19,12 @@ use edge_io::{Files, Sink, write_all};
 use std::alloc::Global;
 
 /// All that a run does but for the line on the error output.
-fn work<F: Files, O: Sink>(alloc: Global, words: &[String], files: &mut F, out: &mut O) -> Status
+fn carry_out<F: Files, O: Sink>(
+    alloc: Global,
+    words: &[String],
+    files: &mut F,
+    out: &mut O,
+) -> Status
     ensures usage { IsUsageOf result (asked words.now) }
     ensures no_call { OnUsage result (files.new ≡ files.old) }
 
@@ -67,7 +72,7 @@ fn work<F: Files, O: Sink>(alloc: Global, words: &[String], files: &mut F, out: 
     }
 }
 
-/// One run: what `work` does, and the line for its status on the error output.
+/// One run: what `carry_out` does, and the line for its status on the error output.
 pub fn run<F: Files, O: Sink, E: Sink>(
     alloc: Global,
     words: &[String],
@@ -101,7 +106,7 @@ pub fn run<F: Files, O: Sink, E: Sink>(
         (error_line result (file_name (asked words.now))) }
     ensures silent { OnDone result (err.new ≡ err.old) }
 {
-    let status = work(alloc, words, files, out);
+    let status = carry_out(alloc, words, files, out);
     let name = match command(words) {
         Ok(name) => name,
         Err(_) => "",

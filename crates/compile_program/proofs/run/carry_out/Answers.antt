@@ -3,7 +3,7 @@ use Rattle.std.specs.Io.KnownBytes.{Appends}
 use Rattle.edge_io.specs.Sinks.{AppendsFront}
 use Rattle.compile_program.specs.Command.{command_of}
 use Rattle.compile_program.proofs.CompiledTexts.{told_is_compiled}
-use Rattle.compile_program.proofs.run.work.Goals as goal
+use Rattle.compile_program.proofs.run.carry_out.Goals as goal
 
 pub returns-in-Ok-write_all-clause-compiled : goal.returns-in-Ok-write_all-clause-compiled
 returns-in-Ok-write_all-clause-compiled g c =
