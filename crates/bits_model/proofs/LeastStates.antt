@@ -9,12 +9,11 @@ use Rattle.integers.proofs.Products.{times-le, times-lt}
 use Rattle.bits_model.specs.declared.costs.Cost.{Cost}
 use Rattle.bits_model.specs.declared.costs.Cost.TheVariants.{Whole, Infinite}
 use Rattle.bits_model.specs.declared.costs.Figures.{Figures}
-use Rattle.bits_model.specs.Costs.{Form, energy}
-use Rattle.bits_model.specs.Relations.{Decoding, Relaxes, Reaches}
+use Rattle.bits_model.specs.Costs.{Form, Source, energy}
+use Rattle.bits_model.specs.Relations.{Decoding, Relaxes, ReachesIn}
 use Rattle.bits_model.specs.Least.{HasCost, IsFeasible, IsLeast, IsLeastAt, IsLeastState}
 use Rattle.bits_model.specs.Output.{Written, IsWellFormed, form_of, decoding_of}
-use Rattle.bits_model.specs.Faithful.{Faithful}
-use Rattle.bits_model.specs.Stated.{HasFigures}
+use Rattle.bits_model.specs.Faithful.{Demand, Faithful, IsStated}
 
 -- ---- there is a least state
 
@@ -78,33 +77,37 @@ whole_or_infinite Infinite w i = i refl
 scaled-le : (a v w : ℤ) → pos 1 ≤ℤ a → v ≤ℤ w → (a *ℤ v) ≤ℤ (a *ℤ w)
 scaled-le a v w p h = times-le a v w (omega (arith, ints)) h
 
-module _ {f g : Form} {d : Decoding} {n : Figures} where
+unscaled-le : (a v w : ℤ) → pos 1 ≤ℤ a → (a *ℤ v) ≤ℤ (a *ℤ w) → v ≤ℤ w
+unscaled-le a v w p h =
+    by_lt_z w v (λ lt. absurd (omega (arith, ints, times-lt a w v p lt, h))) (λ le. le)
+
+module _ {f g : Form} {d : Decoding} {u : ℤ} {n : Figures} where
   -- a state that reaches a least assignment is a least state
-  reaching_is_least : Relaxes f g d n → (x y : List Bool) (v : ℤ) → IsLeastAt f x v
-      → Reaches g d x (n.scale *ℤ v +ℤ n.offset) y → IsLeastState g y
+  reaching_is_least : Relaxes f g d u n → (x y : List Bool) (v : ℤ) → IsLeastAt f x v
+      → ReachesIn u g d x (n.scale *ℤ v +ℤ n.offset) y → IsLeastState g y
   reaching_is_least p x y v l s = record {
     width = s.width;
-    least = λ z w. whole_or_infinite (f.cost (d.decoded z))
-        (λ u e.
-        let cost : HasCost f (d.decoded z) u = record { width = p.width z w; whole = e } in
-        let no_less = l.least (d.decoded z) u cost in
-        omega (arith, ints, s.energy, p.bound z w u e, scaled-le n.scale v u p.positive no_less))
-        (λ e. omega (arith, ints, s.energy, p.above z w e, p.below x l.has.width v l.has.whole));
+    least = λ z w. unscaled-le u (energy g y) (energy g z) p.unit (whole_or_infinite (f.cost (d.decoded z))
+        (λ c e.
+        let cost : HasCost f (d.decoded z) c = record { width = p.width z w; whole = e } in
+        let no_less = l.least (d.decoded z) c cost in
+        omega (arith, ints, s.energy, p.bound z w c e, scaled-le n.scale v c p.positive no_less))
+        (λ e. omega (arith, ints, s.energy, p.above z w e, p.below x l.has.width v l.has.whole)));
   }
 
   -- where some assignment has a whole cost, a least state decodes to one that has
-  least_has_cost : Relaxes f g d n → (x : List Bool) (v : ℤ) → HasCost f x v → (y : List Bool)
-      → IsLeastState g y → (u : ℤ) × HasCost f (d.decoded y) u
+  least_has_cost : Relaxes f g d u n → (x : List Bool) (v : ℤ) → HasCost f x v → (y : List Bool)
+      → IsLeastState g y → (c : ℤ) × HasCost f (d.decoded y) c
   least_has_cost p x v h y l =
       let s = p.reached x h.width v h.whole in
       whole_or_infinite (f.cost (d.decoded y))
-      (λ u e. (u, record { width = p.width y l.width; whole = e }))
+      (λ c e. (c, record { width = p.width y l.width; whole = e }))
       (λ e.
-      let no_less = l.least s.0 s.1.width in
+      let no_less = scaled-le u (energy g y) (energy g s.0) p.unit (l.least s.0 s.1.width) in
       let over = p.above y l.width e in
       absurd (omega (arith, ints, over, no_less, s.1.energy, p.below x h.width v h.whole)))
 
-  pub least_decodes : Relaxes f g d n → (x : List Bool) (v : ℤ) → HasCost f x v → (y : List Bool)
+  pub least_decodes : Relaxes f g d u n → (x : List Bool) (v : ℤ) → HasCost f x v → (y : List Bool)
       → IsLeastState g y → IsLeast f (d.decoded y)
   least_decodes p x v h y l =
       let c = least_has_cost p x v h y l in (
@@ -117,59 +120,61 @@ module _ {f g : Form} {d : Decoding} {n : Figures} where
               (λ lt.
               let less = times-lt n.scale w c.0 p.positive lt in
               let bound = p.bound y l.width c.0 c.1.whole in
-              absurd (omega (arith, ints, less, bound, l.least s.0 s.1.width, s.1.energy)))
+              let no_less = scaled-le u (energy g y) (energy g s.0) p.unit (l.least s.0 s.1.width) in
+              absurd (omega (arith, ints, less, bound, no_less, s.1.energy)))
               (λ le. le);
         },
       )
 
-  pub least_energy : Relaxes f g d n → (x : List Bool) (v : ℤ) (y : List Bool) → IsLeastAt f x v
-      → IsLeastState g y → energy g y ≡ n.scale *ℤ v +ℤ n.offset
+  pub least_energy : Relaxes f g d u n → (x : List Bool) (v : ℤ) (y : List Bool) → IsLeastAt f x v
+      → IsLeastState g y → u *ℤ energy g y ≡ n.scale *ℤ v +ℤ n.offset
   least_energy p x v y l s =
       let c = least_has_cost p x v l.has y s in
       let q = p.reached x l.has.width v l.has.whole in
       let scaled = scaled-le n.scale v c.0 p.positive (l.least (d.decoded y) c.0 c.1) in
       let bound = p.bound y s.width c.0 c.1.whole in
-      omega (arith, ints, s.least q.0 q.1.width, q.1.energy, bound, scaled)
+      let no_less = scaled-le u (energy g y) (energy g q.0) p.unit (s.least q.0 q.1.width) in
+      omega (arith, ints, no_less, q.1.energy, bound, scaled)
 
-  pub no_feasible_above : Relaxes f g d n → IsFeasible f
-      → ((y : List Bool) × IsLeastState g y × (n.threshold <ℤ energy g y)) → ⊥
+  pub no_feasible_above : Relaxes f g d u n → IsFeasible f
+      → ((y : List Bool) × IsLeastState g y × (n.threshold <ℤ (u *ℤ energy g y))) → ⊥
   no_feasible_above p (x, v, h) (y, l, lt) =
       let s = p.reached x h.width v h.whole in
-      omega (arith, ints, l.least s.0 s.1.width, s.1.energy, p.below x h.width v h.whole)
+      let no_less = scaled-le u (energy g y) (energy g s.0) p.unit (l.least s.0 s.1.width) in
+      omega (arith, ints, lt, no_less, s.1.energy, p.below x h.width v h.whole)
 
-  pub above_of : Relaxes f g d n → ¬ (IsFeasible f)
-      → (y : List Bool) × IsLeastState g y × (n.threshold <ℤ energy g y)
+  pub above_of : Relaxes f g d u n → ¬ (IsFeasible f)
+      → (y : List Bool) × IsLeastState g y × (n.threshold <ℤ (u *ℤ energy g y))
   above_of p never =
       let s = least_state g in (
         s.0,
         s.1,
         whole_or_infinite (f.cost (d.decoded s.0))
-            (λ u e.
-            absurd (never (d.decoded s.0, u, record { width = p.width s.0 s.1.width; whole = e })))
+            (λ c e.
+            absurd (never (d.decoded s.0, c, record { width = p.width s.0 s.1.width; whole = e })))
             (λ e. p.above s.0 s.1.width e),
       )
 
-  pub least_found : Relaxes f g d n → (x : List Bool) → IsLeast f x
+  pub least_found : Relaxes f g d u n → (x : List Bool) → IsLeast f x
       → (y : List Bool) × IsLeastState g y × (d.decoded y ≡ x)
   least_found p x l =
       let s = p.reached x l.1.has.width l.0 l.1.has.whole in
       (s.0, reaching_is_least p x s.0 l.0 l.1 s.1, s.1.decodes)
 
-pub relaxed_is_faithful : (source : Form) (upper : ℤ) (m : Written) → IsWellFormed m
-    → HasFigures source upper m → Relaxes source (form_of m) (decoding_of m) m.figures
-    → Faithful source upper m
-relaxed_is_faithful source upper m formed figures p = record {
+pub relaxed_is_faithful : (source : Source) (demand : Demand) (m : Written) → IsWellFormed m
+    → IsStated source demand m
+    → Relaxes source.form (form_of m) (decoding_of m) m.unit m.figures
+    → Faithful source demand m
+relaxed_is_faithful source demand m formed stated p = record {
   well_formed = formed;
   exact = λ feasible x. (
     least_found p x,
     λ e.
         let l = least_decodes p feasible.0 feasible.1 feasible.2 e.0 e.1 in
-        subst (IsLeast source) e.2 l,
+        subst (IsLeast source.form) e.2 l,
   );
   decodes = λ feasible y l. least_decodes p feasible.0 feasible.1 feasible.2 y l;
-  figures = least_energy p;
+  least_energy = least_energy p;
   infeasible = (above_of p, λ e feasible. no_feasible_above p feasible e);
-  variables = figures.variables;
-  scale = figures.scale;
-  threshold = figures.threshold;
+  stated = stated;
 }

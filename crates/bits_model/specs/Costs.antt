@@ -8,6 +8,12 @@ pub record Form : Type 0 where
   pub bits : ℕ
   pub cost : List Bool → Cost
 
+-- what a text says, in any format: its variables with their costs as written, and an upper bound of
+-- the whole ones: the constant, the positive coefficients and the soft weights
+pub record Source : Type 0 where
+  pub form : Form
+  pub upper : ℤ
+
 -- an assignment of a form: a list of as many bits
 abbrev pub IsOf : Form → List Bool → Type 0
 IsOf f x = length x ≡ f.bits

@@ -1,9 +1,9 @@
 pub mod Costs
 pub mod Relations
 pub mod Links
-pub mod Composed
+pub mod laws
 pub mod Least
+pub mod Walks
 pub mod Output
-pub mod Text
 pub mod Faithful
 pub mod Stated

@@ -1,5 +1,5 @@
 -- The model that is written: what it keeps, its energy, and how a state of it is read.
-use Rattle.std.specs.Prelude.{◌≡◌, ◌≢◌, ℕ, ◌*◌, ◌≤◌, ◌<◌, ℤ, pos, neg_ℤ, unsigned_abs, Bool, true, false, ◌&&◌, ◌==◌, nat_lt, cond, IsTrue, List, [], length, map, take, count_by, All, if◌then◌else◌}
+use Rattle.std.specs.Prelude.{◌≡◌, ◌≢◌, ℕ, ◌*◌, ◌≤◌, ◌<◌, ℤ, pos, ◌≤ℤ◌, neg_ℤ, unsigned_abs, Bool, true, false, ◌&&◌, ◌==◌, nat_lt, cond, IsTrue, List, [], length, map, take, count_by, All, if◌then◌else◌}
 use Rattle.std.specs.List.{list_any, slice_index_or, sum_by}
 use Rattle.std.specs.List.Sorted.{IsStrictlySortedBy}
 use Rattle.std.specs.Ordering.{nat_cmp, bool_cmp, ordering_then, int_eq}
@@ -18,6 +18,7 @@ pub record Written : Type 0 where
   pub kind : Kind
   pub variables : ℕ
   pub figures : Figures
+  pub unit : ℤ
   pub nodes : ℕ
   pub entries : List Entry
   pub chains : List (List ℕ)
@@ -72,8 +73,11 @@ FitsKind Qubo m = IsPlain m
 FitsKind Ising m = IsPlain m
 FitsKind (Chimera rows cols shore) m = IsChained (2 * rows * cols * shore) m
 
--- a well-formed model: entries in order, none twice, of nodes that it has, and what its kind asks
+-- a well-formed model: a unit and a scale of at least 1, entries in order, none twice, of nodes that it
+-- has, and what its kind asks
 pub record IsWellFormed (m : Written) : Type 0 where
+  pub unit : pos 1 ≤ℤ m.unit
+  pub scale : pos 1 ≤ℤ m.figures.scale
   pub ordered : IsStrictlySortedBy entry_cmp m.entries
   pub placed : All (IsPlaced m.nodes) m.entries
   pub kind : FitsKind m.kind m

@@ -25,19 +25,37 @@ pub record Keeps (f g : Form) (d : Decoding) (a b : ℤ) : Type 0 where
   pub reached : (y : List Bool) → IsOf f y
       → (z : List Bool) × Reaches g d y (a *ℤ energy f y +ℤ b) z
 
--- g, whose costs are whole, relaxes f, whose costs may be infinite: the same for what is whole, and
--- a state that decodes to an infinite cost lies above the threshold
-pub record Relaxes (f g : Form) (d : Decoding) (n : Figures) : Type 0 where
+-- the state y decodes to x, and u times its energy is e
+pub record ReachesIn (u : ℤ) (g : Form) (d : Decoding) (x : List Bool) (e : ℤ) (y : List Bool)
+    : Type 0 where
+  pub width : IsOf g y
+  pub decodes : d.decoded y ≡ x
+  pub energy : u *ℤ energy g y ≡ e
+
+-- g, whose costs are whole and count u each, relaxes f, whose costs may be infinite: no state lies
+-- below the whole cost that it decodes to, scaled and moved, one that decodes to an infinite cost lies
+-- above the threshold, every whole cost is reached with equality and lies at most at the threshold,
+-- and some state decodes to each assignment
+pub record Relaxes (f g : Form) (d : Decoding) (u : ℤ) (n : Figures) : Type 0 where
+  pub unit : pos 1 ≤ℤ u
   pub positive : pos 1 ≤ℤ n.scale
   pub width : (y : List Bool) → IsOf g y → IsOf f (d.decoded y)
   pub bound : (y : List Bool) → IsOf g y → (v : ℤ) → f.cost (d.decoded y) ≡ Whole v
-      → (n.scale *ℤ v +ℤ n.offset) ≤ℤ energy g y
-  pub above : (y : List Bool) → IsOf g y → f.cost (d.decoded y) ≡ Infinite → n.threshold <ℤ energy g y
+      → (n.scale *ℤ v +ℤ n.offset) ≤ℤ (u *ℤ energy g y)
+  pub above : (y : List Bool) → IsOf g y → f.cost (d.decoded y) ≡ Infinite
+      → n.threshold <ℤ (u *ℤ energy g y)
   pub reached : (x : List Bool) → IsOf f x → (v : ℤ) → f.cost x ≡ Whole v
-      → (y : List Bool) × Reaches g d x (n.scale *ℤ v +ℤ n.offset) y
+      → (y : List Bool) × ReachesIn u g d x (n.scale *ℤ v +ℤ n.offset) y
   pub below : (x : List Bool) → IsOf f x → (v : ℤ) → f.cost x ≡ Whole v
       → (n.scale *ℤ v +ℤ n.offset) ≤ℤ n.threshold
   pub onto : (x : List Bool) → IsOf f x → (y : List Bool) × IsOf g y × (d.decoded y ≡ x)
+
+-- h is g with its constant moved and its energies divided: u times the energy in h is that in g, and
+-- b more
+pub record Reduces (g h : Form) (u b : ℤ) : Type 0 where
+  pub positive : pos 1 ≤ℤ u
+  pub width : h.bits ≡ g.bits
+  pub energy : (y : List Bool) → IsOf g y → u *ℤ energy h y ≡ energy g y +ℤ b
 
 -- ---- of a layer's or a guard's link
 
@@ -75,3 +93,7 @@ figures_after n a b = record {
   offset = a *ℤ n.offset +ℤ b;
   threshold = a *ℤ n.threshold +ℤ b;
 }
+
+-- the figures where every energy is moved by b
+abbrev pub figures_moved : Figures → ℤ → Figures
+figures_moved n b = record n { offset = n.offset +ℤ b; threshold = n.threshold +ℤ b }

@@ -1,5 +1,5 @@
 //! Guards: first steps, whose sources may have infinite costs.
-ghost use Rattle.std.specs.Prelude.{◌≡◌, ◌≤◌, ◌+◌, ◌*◌, ◌^◌, ℕ, length, IfOk, pos, ◌≤ℤ◌, unsigned_abs};
+ghost use Rattle.std.specs.Prelude.{◌≡◌, ◌≤◌, ◌+◌, ◌*◌, ◌^◌, ℕ, Bool, List, length, IfOk, pos, ◌≤ℤ◌, unsigned_abs};
 ghost use Rattle.bits_model.specs.declared.costs.Figures.{Figures};
 ghost use Rattle.bits_model.specs.Costs.{IsOf, IsNeverInfinite};
 ghost use Rattle.bits_model.specs.Relations.{Decoding, Relaxes, ExtendsLeast, Joins};
@@ -42,6 +42,9 @@ pub trait Guard {
 
     ghost figures: { Self.Source → Figures };
 
+    /// The state that each assignment extends to.
+    ghost extension: { Self.Source → List Bool → List Bool };
+
     /// How states are decoded by each link.
     ghost decoding: { Self.Link → Decoding };
 
@@ -63,7 +66,7 @@ pub trait Guard {
         ensures figures { IfOk result (λ made. made.figures ≡ figures source.now) }
 
         ensures relaxes { IfOk result (λ made. Relaxes (Self.Source.form source.now)
-            (Self.Target.form made.target) (decoding made.link) made.figures) }
+            (Self.Target.form made.target) (decoding made.link) (pos 1) made.figures) }
 
         // What the next step's sums rest on.
         ensures scale_low { IfOk result (λ made. pos 1 ≤ℤ made.figures.scale) }
@@ -81,7 +84,8 @@ pub trait Guard {
         ensures decoded { IfOk result (λ x. x.items ≡ (decoding link.now).decoded y.now) }
         ensures width { IfOk result (λ x. length x.items ≡ (decoding link.now).source_width) };
 
-    /// A state that decodes to an assignment, of least energy among those that do.
+    /// The state that an assignment extends to. It decodes to the assignment, and has the least energy
+    /// among those that do.
     fn extend(
         &self,
         alloc: Global,
@@ -91,7 +95,8 @@ pub trait Guard {
     ) -> Result<Vec<bool>, NoMemory>
         requires fits { fits link.now source.now }
         requires width { IsOf (Self.Source.form source.now) x.now }
-        ensures { IfOk result (λ y. ExtendsLeast (Self.Source.form source.now)
+        ensures extension { IfOk result (λ y. y.items ≡ extension source.now x.now) }
+        ensures least { IfOk result (λ y. ExtendsLeast (Self.Source.form source.now)
             (Self.Target.form (image source.now)) (decoding link.now)
             (figures source.now) x.now y.items) };
 
@@ -105,7 +110,7 @@ pub trait Guard {
     /// The image relaxes the source.
     ghost relaxes: { (link : Self.Link) (source : Self.Source) → fits link source
         → Relaxes (Self.Source.form source) (Self.Target.form (image source)) (decoding link)
-        (figures source) };
+        (pos 1) (figures source) };
 
     /// An image's costs are whole.
     ghost whole: { (source : Self.Source) → IsNeverInfinite (Self.Target.form (image source)) };

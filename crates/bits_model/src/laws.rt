@@ -1,7 +1,7 @@
 //! Laws, as functions without code: each contract is a statement of `specs/`.
-ghost use Rattle.bits_model.specs.Stated.{KeepsAfterKeeps, KeepsAfterRelaxes, RelaxedIsFaithful};
+ghost use Rattle.bits_model.specs.Stated.{KeepsAfterKeeps, KeepsAfterRelaxes, ReducesAfterRelaxes, RelaxedIsFaithful};
 
-/// A well-formed model that relaxes a source, with the stated figures, is faithful to it.
+/// A well-formed model that relaxes a source, with what is stated of it, is faithful to it.
 pub fn relaxed_is_faithful()
     ensures { RelaxedIsFaithful }
 {}
@@ -10,4 +10,5 @@ pub fn relaxed_is_faithful()
 pub fn relations_compose()
     ensures relaxed { KeepsAfterRelaxes }
     ensures kept { KeepsAfterKeeps }
+    ensures reduced { ReducesAfterRelaxes }
 {}

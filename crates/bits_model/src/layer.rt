@@ -1,5 +1,5 @@
 //! Layers: steps from one form to another whose costs are never infinite.
-ghost use Rattle.std.specs.Prelude.{◌≡◌, ◌≤◌, ◌+◌, ◌*◌, ◌^◌, ℕ, ℤ, length, IfOk, pos, ◌≤ℤ◌, unsigned_abs};
+ghost use Rattle.std.specs.Prelude.{◌≡◌, ◌≤◌, ◌+◌, ◌*◌, ◌^◌, ℕ, ℤ, Bool, List, length, IfOk, pos, ◌≤ℤ◌, unsigned_abs};
 ghost use Rattle.bits_model.specs.Costs.{IsOf, IsNeverInfinite};
 ghost use Rattle.bits_model.specs.Relations.{Decoding, Keeps, Extends, Joins};
 
@@ -13,6 +13,15 @@ pub struct Lowered<T, L> {
     pub target: T,
     pub link: L,
     pub scale: i128,
+    pub offset: i128,
+}
+
+/// What a form becomes when its weights are divided by a unit. The constant is taken off: unit times
+/// an energy of the target is that of the source, and `offset` more.
+#[derive(Drop)]
+pub struct Reduced<T> {
+    pub target: T,
+    pub unit: i128,
     pub offset: i128,
 }
 
@@ -48,6 +57,9 @@ pub trait Layer {
     ghost scale: { Self.Source → ℤ };
 
     ghost offset: { Self.Source → ℤ };
+
+    /// The state that each assignment extends to.
+    ghost extension: { Self.Source → List Bool → List Bool };
 
     /// How states are decoded by each link.
     ghost decoding: { Self.Link → Decoding };
@@ -92,7 +104,7 @@ pub trait Layer {
         ensures decoded { IfOk result (λ x. x.items ≡ (decoding link.now).decoded y.now) }
         ensures width { IfOk result (λ x. length x.items ≡ (decoding link.now).source_width) };
 
-    /// A state that decodes to an assignment and reaches its cost.
+    /// The state that an assignment extends to. It decodes to the assignment and reaches its cost.
     fn extend(
         &self,
         alloc: Global,
@@ -102,7 +114,8 @@ pub trait Layer {
     ) -> Result<Vec<bool>, NoMemory>
         requires fits { fits link.now source.now }
         requires width { IsOf (Self.Source.form source.now) x.now }
-        ensures { IfOk result (λ y. Extends (Self.Source.form source.now)
+        ensures extension { IfOk result (λ y. y.items ≡ extension source.now x.now) }
+        ensures reaches { IfOk result (λ y. Extends (Self.Source.form source.now)
             (Self.Target.form (image source.now)) (decoding link.now)
             (scale source.now) (offset source.now) x.now y.items) };
 
@@ -117,6 +130,9 @@ pub trait Layer {
     ghost keeps: { (link : Self.Link) (source : Self.Source) → fits link source
         → Keeps (Self.Source.form source) (Self.Target.form (image source)) (decoding link)
         (scale source) (offset source) };
+
+    /// A source's costs are whole.
+    ghost whole_source: { (source : Self.Source) → IsNeverInfinite (Self.Source.form source) };
 
     /// An image's costs are whole.
     ghost whole: { (source : Self.Source) → IsNeverInfinite (Self.Target.form (image source)) };

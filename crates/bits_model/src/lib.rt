@@ -16,6 +16,6 @@ pub use costs::{Cost, Figures, NoMemory};
 pub use energy::total_energy;
 pub use guard::{Guard, Guarded};
 pub use laws::{relations_compose, relaxed_is_faithful};
-pub use layer::{BitsLink, Layer, Lowered};
-pub use output::{ChainList, Entry, EntryList, Kind, OutputModel};
+pub use layer::{BitsLink, Layer, Lowered, Reduced};
+pub use output::{ChainList, Entry, EntryList, Kind, OutputModel, UnitChoice};
 pub use then::{Then, ThenLink};

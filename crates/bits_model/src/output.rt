@@ -16,6 +16,13 @@ pub enum Kind {
     Chimera { rows: u32, cols: u32, shore: u32 },
 }
 
+/// How the printed unit is chosen: it is 1, or the greatest whole number that divides all weights.
+#[derive(Clone, Copy, Debug, PartialEq, Eq)]
+pub enum UnitChoice {
+    One,
+    Reduce,
+}
+
 /// The weight of a node, where both numbers are equal, or of a coupler, where the first is less.
 #[derive(Clone, Copy, Debug, PartialEq, Eq)]
 pub struct Entry {
@@ -113,15 +120,18 @@ impl ChainList {
     }
 }
 
-/// The model that is written: the figures, and the weights of nodes and of couplers.
+/// The model that is written: the figures, the unit that energies count, and the weights of nodes and
+/// of couplers.
 ///
-/// It is kept well formed: entries in order, nodes before couplers, none twice; every node of a model
-/// without chains has an entry and no coupler is 0; and the sizes of the weights sum to at most 2^124.
+/// It is kept well formed: unit and scale of at least 1; entries in order, nodes before couplers, none
+/// twice; every node of a model without chains has an entry and no coupler is 0; and the sizes of the
+/// weights sum to at most 2^124.
 #[derive(Drop)]
 pub struct OutputModel {
     pub kind: Kind,
     pub variables: u32,
     pub figures: Figures,
+    pub unit: i128,
     pub nodes: u32,
     pub entries: EntryList,
     pub chains: ChainList,
@@ -133,7 +143,24 @@ impl Model for OutputModel {
 
     ghost Value = { Written };
 
-    ghost view = { λ m. record { kind = m.kind; variables = m.variables; figures = m.figures; nodes = m.nodes; entries = m.entries; chains = m.chains } };
+    ghost view = { λ m. record {
+      kind = m.kind;
+      variables = m.variables;
+      figures = m.figures;
+      unit = m.unit;
+      nodes = m.nodes;
+      entries = m.entries;
+      chains = m.chains;
+    } };
 
-    ghost invariant = { λ m. IsWellFormed (record { kind = m.kind; variables = m.variables; figures = m.figures; nodes = m.nodes; entries = m.entries; chains = m.chains }) × (weight_total m.entries ≤ 2 ^ 124) };
+    ghost invariant = { λ m. IsWellFormed (record {
+      kind = m.kind;
+      variables = m.variables;
+      figures = m.figures;
+      unit = m.unit;
+      nodes = m.nodes;
+      entries = m.entries;
+      chains = m.chains;
+    })
+        × (weight_total m.entries ≤ 2 ^ 124) };
 }

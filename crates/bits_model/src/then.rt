@@ -49,7 +49,7 @@ impl<A: Layer, B: Layer<Source = A::Target>> Layer for Then<A, B> {
     type Link = ThenLink<A::Link, A::Target, B::Link>;
 
     ghost use Rattle.std.specs.Prelude.{◌≡◌, ◌+◌, ◌*◌, ◌^◌, ◌+ℤ◌, ◌*ℤ◌};
-    ghost use Rattle.bits_model.specs.Composed.{keeps_after_keeps, joins_both, widths_meet};
+    ghost use Rattle.bits_model.specs.laws.Composed.{keeps_after_keeps, joins_both, widths_meet};
     ghost use Rattle.bits_model.specs.Relations.{decoding_after};
     ghost use Rattle.std.proofs.Common.{subst};
 
@@ -57,7 +57,8 @@ impl<A: Layer, B: Layer<Source = A::Target>> Layer for Then<A, B> {
 
     ghost SIZE_GROWTH = { A.SIZE_GROWTH + B.SIZE_GROWTH };
 
-    ghost OFFSET_FACTOR = { 2 ^ B.TOTAL_GROWTH * A.OFFSET_FACTOR + 2 ^ A.TOTAL_GROWTH * B.OFFSET_FACTOR };
+    ghost OFFSET_FACTOR = { 2 ^ B.TOTAL_GROWTH * A.OFFSET_FACTOR
+        + 2 ^ A.TOTAL_GROWTH * B.OFFSET_FACTOR };
 
     ghost image = { λ s. B.image (A.image s) };
 
@@ -65,17 +66,31 @@ impl<A: Layer, B: Layer<Source = A::Target>> Layer for Then<A, B> {
 
     ghost offset = { λ s. B.scale (A.image s) *ℤ A.offset s +ℤ B.offset (A.image s) };
 
+    ghost extension = { λ s x. B.extension (A.image s) (A.extension s x) };
+
     ghost decoding = { λ l. decoding_after (A.decoding l.first) (B.decoding l.second) };
 
-    ghost is_sound = { λ l. A.is_sound l.first × B.is_sound l.second × ((A.decoding l.first).target_width ≡ (B.decoding l.second).source_width) };
+    ghost is_sound = { λ l. A.is_sound l.first × B.is_sound l.second
+        × ((A.decoding l.first).target_width ≡ (B.decoding l.second).source_width) };
 
     ghost fits = { λ l s. A.fits l.first s × (l.middle ≡ A.image s) × B.fits l.second l.middle };
 
-    ghost sound = { λ l s f. let k = subst (λ m. B.fits l.second m) f.1 f.2 in (A.sound l.first s f.0, B.sound l.second (A.image s) k, widths_meet (A.joins l.first s f.0) (B.joins l.second (A.image s) k)) };
+    ghost sound = { λ l s f.
+        let k = subst (λ m. B.fits l.second m) f.1 f.2 in (
+          A.sound l.first s f.0,
+          B.sound l.second (A.image s) k,
+          widths_meet (A.joins l.first s f.0) (B.joins l.second (A.image s) k),
+        ) };
 
-    ghost joins = { λ l s f. joins_both (A.joins l.first s f.0) (B.joins l.second (A.image s) (subst (λ m. B.fits l.second m) f.1 f.2)) };
+    ghost joins = { λ l s f.
+        joins_both (A.joins l.first s f.0)
+        (B.joins l.second (A.image s) (subst (λ m. B.fits l.second m) f.1 f.2)) };
 
-    ghost keeps = { λ l s f. keeps_after_keeps (A.keeps l.first s f.0) (B.keeps l.second (A.image s) (subst (λ m. B.fits l.second m) f.1 f.2)) };
+    ghost keeps = { λ l s f.
+        keeps_after_keeps (A.keeps l.first s f.0)
+        (B.keeps l.second (A.image s) (subst (λ m. B.fits l.second m) f.1 f.2)) };
+
+    ghost whole_source = { λ s. A.whole_source s };
 
     ghost whole = { λ s. B.whole (A.image s) };
 
@@ -127,16 +142,14 @@ impl<A: Layer, B: Layer<Source = A::Target>> Layer for Then<A, B> {
 fn figures_of_both<T, L, U, M>(first: &Guarded<T, L>, second: &Lowered<U, M>) -> Figures
     requires scale { FitsSigned w128 (first.now.figures.scale *ℤ second.now.scale) }
     requires product { FitsSigned w128 (second.now.scale *ℤ first.now.figures.offset) }
-    requires sum { FitsSigned w128 (second.now.scale *ℤ first.now.figures.offset +ℤ second.now.offset) }
+    requires sum { FitsSigned w128
+        (second.now.scale *ℤ first.now.figures.offset +ℤ second.now.offset) }
     requires product_2 { FitsSigned w128 (second.now.scale *ℤ first.now.figures.threshold) }
-    requires sum_2 { FitsSigned w128 (second.now.scale *ℤ first.now.figures.threshold +ℤ second.now.offset) }
+    requires sum_2 { FitsSigned w128
+        (second.now.scale *ℤ first.now.figures.threshold +ℤ second.now.offset) }
     ensures { result ≡ figures_after first.now.figures second.now.scale second.now.offset }
 {
-    Figures {
-        scale: first.figures.scale * second.scale,
-        offset: second.scale * first.figures.offset + second.offset,
-        threshold: second.scale * first.figures.threshold + second.offset,
-    }
+    first.figures.after(second.scale, second.offset)
 }
 
 impl<A: Guard, B: Layer<Source = A::Target>> Guard for Then<A, B> {
@@ -147,7 +160,7 @@ impl<A: Guard, B: Layer<Source = A::Target>> Guard for Then<A, B> {
     type Link = ThenLink<A::Link, A::Target, B::Link>;
 
     ghost use Rattle.std.specs.Prelude.{◌≡◌, ◌+◌, ◌*◌, ◌^◌, ◌≤◌};
-    ghost use Rattle.bits_model.specs.Composed.{keeps_after_relaxes, joins_both, widths_meet};
+    ghost use Rattle.bits_model.specs.laws.Composed.{keeps_after_relaxes, joins_both, widths_meet};
     ghost use Rattle.bits_model.specs.Relations.{decoding_after, figures_after};
     ghost use Rattle.std.proofs.Common.{subst};
 
@@ -155,25 +168,42 @@ impl<A: Guard, B: Layer<Source = A::Target>> Guard for Then<A, B> {
 
     ghost SIZE_BITS = { A.SIZE_BITS + B.SIZE_GROWTH };
 
-    ghost FIGURE_BOUND = { 2 ^ B.TOTAL_GROWTH * A.FIGURE_BOUND + 2 ^ A.TOTAL_BITS * B.OFFSET_FACTOR };
+    ghost FIGURE_BOUND = { 2 ^ B.TOTAL_GROWTH * A.FIGURE_BOUND
+        + 2 ^ A.TOTAL_BITS * B.OFFSET_FACTOR };
 
-    ghost admits = { λ s. A.admits s × (A.TOTAL_BITS + B.TOTAL_GROWTH ≤ 124) × (A.SIZE_BITS + B.SIZE_GROWTH ≤ 32) × (2 ^ B.TOTAL_GROWTH * A.FIGURE_BOUND + 2 ^ A.TOTAL_BITS * B.OFFSET_FACTOR ≤ 2 ^ 125) };
+    ghost admits = { λ s. A.admits s
+        × (A.TOTAL_BITS + B.TOTAL_GROWTH ≤ 124)
+        × (A.SIZE_BITS + B.SIZE_GROWTH ≤ 32)
+        × (2 ^ B.TOTAL_GROWTH * A.FIGURE_BOUND + 2 ^ A.TOTAL_BITS * B.OFFSET_FACTOR ≤ 2 ^ 125) };
 
     ghost image = { λ s. B.image (A.image s) };
 
-    ghost figures = { λ s. figures_after (A.figures s) (B.scale (A.image s)) (B.offset (A.image s)) };
+    ghost figures = { λ s.
+        figures_after (A.figures s) (B.scale (A.image s)) (B.offset (A.image s)) };
+
+    ghost extension = { λ s x. B.extension (A.image s) (A.extension s x) };
 
     ghost decoding = { λ l. decoding_after (A.decoding l.first) (B.decoding l.second) };
 
-    ghost is_sound = { λ l. A.is_sound l.first × B.is_sound l.second × ((A.decoding l.first).target_width ≡ (B.decoding l.second).source_width) };
+    ghost is_sound = { λ l. A.is_sound l.first × B.is_sound l.second
+        × ((A.decoding l.first).target_width ≡ (B.decoding l.second).source_width) };
 
     ghost fits = { λ l s. A.fits l.first s × (l.middle ≡ A.image s) × B.fits l.second l.middle };
 
-    ghost sound = { λ l s f. let k = subst (λ m. B.fits l.second m) f.1 f.2 in (A.sound l.first s f.0, B.sound l.second (A.image s) k, widths_meet (A.joins l.first s f.0) (B.joins l.second (A.image s) k)) };
+    ghost sound = { λ l s f.
+        let k = subst (λ m. B.fits l.second m) f.1 f.2 in (
+          A.sound l.first s f.0,
+          B.sound l.second (A.image s) k,
+          widths_meet (A.joins l.first s f.0) (B.joins l.second (A.image s) k),
+        ) };
 
-    ghost joins = { λ l s f. joins_both (A.joins l.first s f.0) (B.joins l.second (A.image s) (subst (λ m. B.fits l.second m) f.1 f.2)) };
+    ghost joins = { λ l s f.
+        joins_both (A.joins l.first s f.0)
+        (B.joins l.second (A.image s) (subst (λ m. B.fits l.second m) f.1 f.2)) };
 
-    ghost relaxes = { λ l s f. keeps_after_relaxes (A.relaxes l.first s f.0) (B.keeps l.second (A.image s) (subst (λ m. B.fits l.second m) f.1 f.2)) };
+    ghost relaxes = { λ l s f.
+        keeps_after_relaxes (A.relaxes l.first s f.0)
+        (B.keeps l.second (A.image s) (subst (λ m. B.fits l.second m) f.1 f.2)) };
 
     ghost whole = { λ s. B.whole (A.image s) };
 

@@ -1,4 +1,4 @@
-use Rattle.bits_model.specs.Composed.{keeps_after_relaxes, keeps_after_keeps}
+use Rattle.bits_model.specs.laws.Composed.{keeps_after_relaxes, keeps_after_keeps, reduces_after_relaxes}
 use Rattle.bits_model.proofs.laws.relations_compose.Goals as goal
 
 pub returns-clause-relaxed : goal.returns-clause-relaxed
@@ -6,3 +6,6 @@ returns-clause-relaxed c = λ f g h d e n a b p q. keeps_after_relaxes p q
 
 pub returns-clause-kept : goal.returns-clause-kept
 returns-clause-kept c = λ f g h d e a1 b1 a2 b2 p q. keeps_after_keeps p q
+
+pub returns-clause-reduced : goal.returns-clause-reduced
+returns-clause-reduced c = λ f g h d n u b p q. reduces_after_relaxes p q

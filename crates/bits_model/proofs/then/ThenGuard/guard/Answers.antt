@@ -1,6 +1,6 @@
 use Rattle.std.proofs.Common.{arith, ◌+◌, ◌*◌, ◌^◌}
 use Rattle.integers.proofs.Products.{one_le_times}
-use Rattle.bits_model.specs.Composed.{keeps_after_relaxes}
+use Rattle.bits_model.specs.laws.Composed.{keeps_after_relaxes}
 use Rattle.bits_model.proofs.Growth.{grown_within, grown_bits, moved_figure, moved_figure_sum, scaled_figure, fits_below}
 use Rattle.bits_model.proofs.then.ThenGuard.guard.Goals as goal
 

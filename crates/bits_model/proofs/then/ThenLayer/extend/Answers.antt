@@ -1,6 +1,16 @@
+use Rattle.std.proofs.Common.{◌∙◌, ap}
 use Rattle.std.proofs.lemmas.Result.{IfOk-weaker}
-use Rattle.bits_model.specs.Composed.{Reaches-trans}
+use Rattle.bits_model.specs.laws.Composed.{Reaches-trans}
 use Rattle.bits_model.proofs.then.ThenLayer.extend.Goals as goal
 
-pub returns : goal.returns
-returns g c = IfOk-weaker c.extend-2.result _ _ (λ y r. Reaches-trans _ _ _ _ _ c.in_ok-middle.ensures (rw (c.requires.fits.1, c.deref.ensures.value) at r)) c.extend-2.ensures
+pub returns-clause-extension : goal.returns-clause-extension
+returns-clause-extension g c =
+    IfOk-weaker c.extend-2.result _ _
+    (λ y e. rw (c.requires.fits.1, c.deref.ensures.value, c.in_ok-middle.ensures.extension) at e)
+    c.extend-2.ensures.extension
+
+pub returns-clause-reaches : goal.returns-clause-reaches
+returns-clause-reaches g c =
+    IfOk-weaker c.extend-2.result _ _
+    (λ y r. Reaches-trans _ _ _ _ _ c.in_ok-middle.ensures.reaches (rw (c.requires.fits.1, c.deref.ensures.value) at r))
+    c.extend-2.ensures.reaches

@@ -3,7 +3,7 @@ use Rattle.std.specs.Prelude.{unsigned_abs}
 use Rattle.std.specs.Int.{w128}
 use Rattle.std.proofs.lemmas.Int.{ints, to_z-of_z}
 use Rattle.integers.proofs.Products.{one_le_times}
-use Rattle.bits_model.specs.Composed.{keeps_after_keeps}
+use Rattle.bits_model.specs.laws.Composed.{keeps_after_keeps}
 use Rattle.bits_model.proofs.Growth.{first_growth, second_growth, first_factor, second_factor, both_scales, both_scales_fit, moved_fits, moved_sum, moved_sum_fits, grown_by_both}
 use Rattle.bits_model.proofs.then.ThenLayer.lower.Goals as goal
 

@@ -1,11 +1,12 @@
--- Laws of one relation after another. They stand here, since a layer's members cite them.
+-- Laws of one relation after another. Nothing here has to be believed.
 use Rattle.std.specs.Prelude.{◌≡◌, ℤ, pos, ◌+ℤ◌, ◌*ℤ◌, ◌≤ℤ◌, ◌<ℤ◌, Bool, List}
 use Rattle.std.proofs.Common.{arith, ap, ◌∙◌, sym}
 use Rattle.std.proofs.lemmas.Int.{ints}
 use Rattle.integers.proofs.Products.{times-le, times-lt, one_le_times, scaled_twice}
 use Rattle.bits_model.specs.declared.costs.Figures.{Figures}
 use Rattle.bits_model.specs.Costs.{Form, energy}
-use Rattle.bits_model.specs.Relations.{Decoding, Keeps, Relaxes, Reaches, Joins, ExtendsLeast, decoding_after, figures_after}
+use Rattle.bits_model.specs.Relations.{Decoding, Keeps, Relaxes, Reduces, Reaches, Joins, ExtendsLeast, decoding_after, figures_after, figures_moved}
+use Rattle.bits_model.specs.laws.Plain.{RelaxesPlainly, relaxes_in_one, relaxes_plainly}
 
 scaled-le : (a v w : ℤ) → pos 1 ≤ℤ a → v ≤ℤ w → (a *ℤ v) ≤ℤ (a *ℤ w)
 scaled-le a v w p h = times-le a v w (omega (arith, ints)) h
@@ -55,10 +56,10 @@ keeps_after_keeps {f} {g} {h} {d} {e} {a1} {b1} {a2} {b2} p q = record {
       (z.0, Reaches-trans a1 b1 a2 b2 (energy f x) y.1 z.1);
 }
 
-pub keeps_after_relaxes : {f g h : Form} {d e : Decoding} {n : Figures} {a b : ℤ}
-    → Relaxes f g d n → Keeps g h e a b
-    → Relaxes f h (decoding_after d e) (figures_after n a b)
-keeps_after_relaxes {f} {g} {h} {d} {e} {n} {a} {b} p q = record {
+keeps_after_plain : {f g h : Form} {d e : Decoding} {n : Figures} {a b : ℤ}
+    → RelaxesPlainly f g d n → Keeps g h e a b
+    → RelaxesPlainly f h (decoding_after d e) (figures_after n a b)
+keeps_after_plain {f} {g} {h} {d} {e} {n} {a} {b} p q = record {
   positive = one_le_times n.scale a p.positive q.positive;
   width = λ z w. p.width (e.decoded z) (q.width z w);
   bound = λ z w v whole.
@@ -79,6 +80,36 @@ keeps_after_relaxes {f} {g} {h} {d} {e} {n} {a} {b} p q = record {
       let z = q.reached y.0 y.1 in
       (z.0, z.1.width, ap d.decoded z.1.decodes ∙ y.2);
 }
+
+pub keeps_after_relaxes : {f g h : Form} {d e : Decoding} {n : Figures} {a b : ℤ}
+    → Relaxes f g d (pos 1) n → Keeps g h e a b
+    → Relaxes f h (decoding_after d e) (pos 1) (figures_after n a b)
+keeps_after_relaxes p q = relaxes_in_one (keeps_after_plain (relaxes_plainly p) q)
+
+pub reduces_after_relaxes : {f g h : Form} {d : Decoding} {n : Figures} {u b : ℤ}
+    → Relaxes f g d (pos 1) n → Reduces g h u b → Relaxes f h d u (figures_moved n b)
+reduces_after_relaxes {f} {g} {h} {d} {n} {u} {b} r q =
+    let p = relaxes_plainly r in
+    record {
+      unit = q.positive;
+      positive = p.positive;
+      width = λ y w. p.width y (w ∙ q.width);
+      bound = λ y w v whole.
+          omega (arith, ints, q.energy y (w ∙ q.width), p.bound y (w ∙ q.width) v whole);
+      above = λ y w infinite.
+          omega (arith, ints, q.energy y (w ∙ q.width), p.above y (w ∙ q.width) infinite);
+      reached = λ x w v whole.
+          let y = p.reached x w v whole in (
+            y.0,
+            record {
+              width = y.1.width ∙ sym q.width;
+              decodes = y.1.decodes;
+              energy = omega (arith, ints, q.energy y.0 y.1.width, y.1.energy);
+            },
+          );
+      below = λ x w v whole. omega (arith, ints, p.below x w v whole);
+      onto = λ x w. let y = p.onto x w in (y.0, y.1 ∙ sym q.width, y.2);
+    }
 
 pub joins_both : {f g h : Form} {d e : Decoding} → Joins f g d → Joins g h e
     → Joins f h (decoding_after d e)
