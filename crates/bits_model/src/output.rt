@@ -4,6 +4,7 @@ ghost use Rattle.std.specs.List.{slice_index_or};
 
 use crate::costed::Costed;
 use crate::costs::{Cost, Figures};
+use crate::items::Items;
 use std::alloc::Global;
 use std::marker::Model;
 
@@ -31,94 +32,11 @@ pub struct Entry {
     pub weight: i128,
 }
 
-/// Entries, which contracts see as a list.
-#[derive(Drop)]
-pub struct EntryList {
-    entries: Vec<Entry>,
-}
+/// The entries of a model.
+pub type EntryList = Items<Entry>;
 
-impl Model for EntryList {
-    ghost use Rattle.std.specs.Prelude.{List};
-    ghost use Rattle.bits_model.specs.declared.output.Entry.{Entry};
-
-    ghost Value = { List Entry };
-
-    ghost view = { λ a. a.entries.items };
-}
-
-impl EntryList {
-    pub fn new(entries: Vec<Entry>) -> EntryList
-        ensures { result ≡ entries.items }
-    {
-        EntryList { entries }
-    }
-
-    pub fn as_slice(&self) -> &[Entry]
-        ensures { result.now ≡ self.now }
-    {
-        &self.entries
-    }
-
-    pub fn into_vec(self) -> Vec<Entry>
-        ensures { result.items ≡ self }
-    {
-        self.entries
-    }
-}
-
-/// Chains of qubits, which contracts see as a list of lists.
-#[derive(Drop)]
-pub struct ChainList {
-    chains: Vec<Vec<u32>>,
-}
-
-impl Model for ChainList {
-    ghost use Rattle.std.specs.Prelude.{List, ℕ, map};
-
-    ghost Value = { List (List ℕ) };
-
-    ghost view = { λ a. map (λ chain. chain.items) a.chains.items };
-}
-
-impl ChainList {
-    ghost use Rattle.std.specs.Prelude.{◌≡◌, ◌<◌, ◌↔◌, [], map, length, IsTrue};
-    ghost use Rattle.std.specs.List.{slice_index_or};
-
-    /// The list without chains.
-    pub fn empty(alloc: Global) -> ChainList
-        ensures { result ≡ [] }
-    {
-        ChainList {
-            chains: Vec::new(alloc),
-        }
-    }
-
-    pub fn new(chains: Vec<Vec<u32>>) -> ChainList
-        ensures { result ≡ map (λ chain. chain.items) chains.items }
-    {
-        ChainList { chains }
-    }
-
-    pub fn len(&self) -> usize
-        ensures { result ≡ length self.now }
-    {
-        self.chains.len()
-    }
-
-    pub fn is_empty(&self) -> bool
-        ensures { IsTrue result ↔ (self.now ≡ []) }
-    {
-        self.chains.is_empty()
-    }
-
-    /// The qubits of a node's chain, in the chain's order.
-    pub fn chain(&self, node: usize) -> &[u32]
-        requires { node < length self.now }
-        ensures { result.now ≡ slice_index_or self.now node [] }
-    {
-        &self.chains[node]
-    }
-}
+/// The qubits of each node's chain, in the chain's order.
+pub type ChainList = Items<Items<u32>>;
 
 /// The model that is written: the figures, the unit that energies count, and the weights of nodes and
 /// of couplers.

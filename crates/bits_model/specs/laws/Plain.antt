@@ -5,7 +5,7 @@ use Rattle.std.proofs.lemmas.Int.{ints}
 use Rattle.bits_model.specs.declared.costs.Cost.TheVariants.{Whole, Infinite}
 use Rattle.bits_model.specs.declared.costs.Figures.{Figures}
 use Rattle.bits_model.specs.Costs.{Form, IsOf, energy}
-use Rattle.bits_model.specs.Relations.{Decoding, Relaxes, Reaches, ReachesIn}
+use Rattle.bits_model.specs.Relations.{Decoding, Relaxes, Reaches}
 
 -- what *Relaxes* says where the unit is 1
 pub record RelaxesPlainly (f g : Form) (d : Decoding) (n : Figures) : Type 0 where

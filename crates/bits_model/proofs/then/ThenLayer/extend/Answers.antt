@@ -1,4 +1,3 @@
-use Rattle.std.proofs.Common.{◌∙◌, ap}
 use Rattle.std.proofs.lemmas.Result.{IfOk-weaker}
 use Rattle.bits_model.specs.laws.Composed.{Reaches-trans}
 use Rattle.bits_model.proofs.then.ThenLayer.extend.Goals as goal
