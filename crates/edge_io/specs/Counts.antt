@@ -1,5 +1,5 @@
 -- Counts of a u64, which start at 0 and stop at 2^64 - 1, and the faults that they count.
-use Rattle.std.specs.Prelude.{◌≡◌, ℕ, ◌+◌, ◌-◌, ◌^◌, ◌≤◌, min, Result, OnErr, MatchResult}
+use Rattle.std.specs.Prelude.{◌≡◌, ℕ, ◌+◌, ◌-◌, ◌^◌, ◌≤◌, ◌<◌, min, Result, OnErr, MatchResult}
 
 -- the count, n later
 abbrev pub counted_on : ℕ → ℕ → ℕ
@@ -18,3 +18,9 @@ pub record HasCause {T E : Type 0} (before now : ℕ) (result : Result T E) : Ty
 abbrev pub CountsErr : {T E : Type 0} → ℕ → ℕ → Result T E → Type 0
 CountsErr before now result =
     MatchResult result (λ _. now ≡ before) (λ _. now ≡ counted_on before 1)
+
+-- the count rose by one where nothing was given, also at an error, and stayed elsewhere
+abbrev pub CountsNothing : {E : Type 0} → ℕ → ℕ → Result ℕ E → Type 0
+CountsNothing before now result =
+    MatchResult result (λ n. (n ≡ 0 → now ≡ counted_on before 1) × (0 < n → now ≡ before))
+    (λ _. now ≡ counted_on before 1)

@@ -42,6 +42,7 @@ pub record FilesState : Type 0 where
   pub rest : List ℕ
   pub faults : ℕ
   pub taken : ℕ
+  pub empty_reads : ℕ
   pub begun : ℕ
   pub faults_at_begin : ℕ
 
@@ -55,6 +56,7 @@ unbegun held failing = record {
   rest = [];
   faults = 0;
   taken = 0;
+  empty_reads = 0;
   begun = 0;
   faults_at_begin = 0;
 }

@@ -3,7 +3,7 @@
 ghost use Rattle.std.specs.Prelude.{◌≡◌, ℕ, List, [], IfOk, OnErr, Option, string_bytes};
 ghost use Rattle.std.specs.Io.{ReadsAtMost};
 ghost use Rattle.std.specs.Io.KnownBytes.{ReadConsumes, WriteAppends, IsAtEnd};
-ghost use Rattle.edge_io.specs.Counts.{counted_on, HasCause};
+ghost use Rattle.edge_io.specs.Counts.{counted_on, CountsNothing, HasCause};
 ghost use Rattle.edge_io.specs.Held.{NamedFiles, Begins};
 ghost use Rattle.edge_io.specs.Sinks.{TakesSome};
 
@@ -25,6 +25,9 @@ pub trait Files {
     /// How many bytes were taken since the last `begin`.
     ghost taken: { Self → ℕ };
 
+    /// How many calls of `read` gave nothing or failed since the last `begin`.
+    ghost empty_reads: { Self → ℕ };
+
     /// How often `begin` was called.
     ghost begun: { Self → ℕ };
 
@@ -40,6 +43,7 @@ pub trait Files {
         ensures rest { Begins (held self.old) (string_bytes name) result (rest self.new) }
         ensures cause { HasCause (faults self.old) (faults self.new) result }
         ensures none_taken { taken self.new ≡ 0 }
+        ensures none_empty { empty_reads self.new ≡ 0 }
         ensures counted { begun self.new ≡ counted_on (begun self.old) 1 }
         ensures marked { faults_at_begin self.new ≡ faults self.old }
         ensures named { begun_name self.new ≡ string_bytes name };
@@ -52,6 +56,7 @@ pub trait Files {
         ensures cause { HasCause (faults self.old) (faults self.new) result }
         ensures counted { IfOk result (λ n. taken self.new ≡ counted_on (taken self.old) n) }
         ensures none_taken { OnErr result (taken self.new ≡ taken self.old) }
+        ensures nothing { CountsNothing (empty_reads self.old) (empty_reads self.new) result }
         ensures same_begin { begun self.new ≡ begun self.old }
         ensures same_mark { faults_at_begin self.new ≡ faults_at_begin self.old }
         ensures same_name { begun_name self.new ≡ begun_name self.old };

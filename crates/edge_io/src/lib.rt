@@ -2,6 +2,7 @@
 //! faults, so that whoever reads an answer knows whether a fault explains it.
 #![tactic(auto)]
 
+mod empties;
 mod ends;
 mod lists;
 mod memory_files;

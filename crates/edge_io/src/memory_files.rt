@@ -2,10 +2,11 @@
 ghost use Rattle.std.specs.Prelude.{◌≡◌, ◌↔◌, Some, min, length, IsTrue, IsErr, IfOk, OnErr, string_bytes};
 ghost use Rattle.std.specs.Io.{ReadsAtMost};
 ghost use Rattle.std.specs.Io.KnownBytes.{ReadConsumes};
-ghost use Rattle.edge_io.specs.Counts.{counted_on, CountsErr, HasCause};
+ghost use Rattle.edge_io.specs.Counts.{counted_on, CountsErr, CountsNothing, HasCause};
 ghost use Rattle.edge_io.specs.Held.{Begins, after_first-none};
 ghost use Rattle.edge_io.specs.InMemory.{unbegun, begin_fails, is_listed, rest_of, name_of};
 
+use crate::empties::empties_after;
 use crate::{CallList, Failed, FileList, Files};
 use std::marker::Model;
 
@@ -21,6 +22,7 @@ pub struct MemoryFiles {
     at: usize,
     faults: u64,
     taken: u64,
+    empty_reads: u64,
     begun: u64,
     faults_at_begin: u64,
 }
@@ -40,6 +42,7 @@ impl Model for MemoryFiles {
       rest = rest_from f.files f.index f.at;
       faults = f.faults;
       taken = f.taken;
+      empty_reads = f.empty_reads;
       begun = f.begun;
       faults_at_begin = f.faults_at_begin;
     } };
@@ -61,6 +64,7 @@ impl MemoryFiles {
             at: 0,
             faults: 0,
             taken: 0,
+            empty_reads: 0,
             begun: 0,
             faults_at_begin: 0,
         }
@@ -75,6 +79,8 @@ impl Files for MemoryFiles {
     ghost faults = { λ f. f.faults };
 
     ghost taken = { λ f. f.taken };
+
+    ghost empty_reads = { λ f. f.empty_reads };
 
     ghost begun = { λ f. f.begun };
 
@@ -97,6 +103,7 @@ impl Files for MemoryFiles {
             (Some (rest_of self.new)) }
         ensures cause { HasCause self.old.faults self.new.faults result }
         ensures none_taken { self.new.taken ≡ 0 }
+        ensures none_empty { self.new.empty_reads ≡ 0 }
         ensures counted { self.new.begun ≡ counted_on self.old.begun 1 }
         ensures marked { self.new.faults_at_begin ≡ self.old.faults }
         ensures named { name_of self.new ≡ string_bytes name }
@@ -105,6 +112,7 @@ impl Files for MemoryFiles {
         self.begun = self.begun.saturating_add(1);
         self.faults_at_begin = self.faults;
         self.taken = 0;
+        self.empty_reads = 0;
         self.at = 0;
         let listed = self.failing.contains(self.calls);
         let place = self.files.index_of(name.as_str());
@@ -137,6 +145,7 @@ impl Files for MemoryFiles {
         ensures cause { HasCause self.old.faults self.new.faults result }
         ensures counted { IfOk result (λ n. self.new.taken ≡ counted_on self.old.taken n) }
         ensures none_taken { OnErr result (self.new.taken ≡ self.old.taken) }
+        ensures nothing { CountsNothing self.old.empty_reads self.new.empty_reads result }
         ensures same_begin { self.new.begun ≡ self.old.begun }
         ensures same_mark { self.new.faults_at_begin ≡ self.old.faults_at_begin }
         ensures same_name { name_of self.new ≡ name_of self.old }
@@ -144,9 +153,11 @@ impl Files for MemoryFiles {
         self.calls = self.calls.saturating_add(1);
         if self.failing.contains(self.calls) {
             self.faults = self.faults.saturating_add(1);
+            self.empty_reads = self.empty_reads.saturating_add(1);
             return Err(Failed);
         }
         let Some(index) = self.index else {
+            self.empty_reads = self.empty_reads.saturating_add(1);
             return Ok(0);
         };
         let rest = &self.files.bytes_at(index)[self.at..];
@@ -154,6 +165,7 @@ impl Files for MemoryFiles {
         into[..count].copy_from_slice(&rest[..count]);
         self.at += count;
         self.taken = self.taken.saturating_add(count as u64);
+        self.empty_reads = empties_after(self.empty_reads, count);
         Ok(count)
     }
 }

@@ -4,6 +4,7 @@ ghost use Rattle.std.specs.Prelude.{◌≡◌, [], None, string_bytes};
 ghost use Rattle.std.specs.Option.{option_map_or};
 ghost use Rattle.edge_io.specs.Held.{after_first, after_first-none};
 
+use crate::empties::empties_after;
 use crate::{Failed, Files, Sink};
 use std::io::{Read, Write};
 use std::{fs, rt};
@@ -16,6 +17,7 @@ pub struct RealFiles<R: rt::Files> {
     name: Option<String>,
     faults: u64,
     taken: u64,
+    empty_reads: u64,
     begun: u64,
     faults_at_begin: u64,
 }
@@ -27,6 +29,7 @@ where
     pub fn new(rt: R) -> RealFiles<R>
         ensures none_begun { ⟦<RealFiles<R> as Files>⟧.begun result ≡ 0 }
         ensures none_taken { ⟦<RealFiles<R> as Files>⟧.taken result ≡ 0 }
+        ensures none_empty { ⟦<RealFiles<R> as Files>⟧.empty_reads result ≡ 0 }
         ensures no_fault { ⟦<RealFiles<R> as Files>⟧.faults result ≡ 0 }
         ensures marked { ⟦<RealFiles<R> as Files>⟧.faults_at_begin result ≡ 0 }
     {
@@ -36,6 +39,7 @@ where
             name: None,
             faults: 0,
             taken: 0,
+            empty_reads: 0,
             begun: 0,
             faults_at_begin: 0,
         }
@@ -54,6 +58,8 @@ where
 
     ghost taken = { λ f. f.taken };
 
+    ghost empty_reads = { λ f. f.empty_reads };
+
     ghost begun = { λ f. f.begun };
 
     ghost faults_at_begin = { λ f. f.faults_at_begin };
@@ -66,6 +72,7 @@ where
         self.begun = self.begun.saturating_add(1);
         self.faults_at_begin = self.faults;
         self.taken = 0;
+        self.empty_reads = 0;
         let opened = fs::open(&self.rt, name.as_str());
         self.name = Some(name);
         match opened {
@@ -89,9 +96,11 @@ where
         match given {
             Ok(count) => {
                 self.taken = self.taken.saturating_add(count as u64);
+                self.empty_reads = empties_after(self.empty_reads, count);
                 Ok(count)
             }
             Err(_) => {
+                self.empty_reads = self.empty_reads.saturating_add(1);
                 self.faults = self.faults.saturating_add(1);
                 Err(Failed)
             }

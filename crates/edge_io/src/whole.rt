@@ -47,6 +47,10 @@ pub fn read_all<F: Files>(
         find_file held (string_bytes name) ≡ Some all.items)) }
     ensures all_taken { IfOk result (λ all. F.taken files.new ≡ length all.items) }
 
+    // One read gives nothing, and then no more is read.
+    ensures to_end { OnOk result (F.empty_reads files.new ≡ 1) }
+    ensures no_end { IsErrOf result ReadAnswer.TooLong → F.empty_reads files.new ≡ 0 }
+
     // The file was begun once, under this name and before any read, whatever the answer.
     ensures begun { F.begun files.new ≡ counted_on (F.begun files.old) 1 }
     ensures marked { F.faults_at_begin files.new ≡ F.faults files.old }

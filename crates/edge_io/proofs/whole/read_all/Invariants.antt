@@ -8,6 +8,7 @@ abbrev pub invariant-loop-count : goal.invariant-loop-count
 invariant-loop-count g l = record {
   within : length l.all.items ≤ l.limit;
   taken : g.F.Files.taken l.files ≡ length l.all.items;
+  filled : g.F.Files.empty_reads l.files ≡ 0;
   front : IsFront (g.F.Files.held l.fn.files) (string_bytes l.fn.name) l.all.items (g.F.Files.rest l.files);
   held : g.F.Files.held l.files ≡ g.F.Files.held l.fn.files;
   begun : g.F.Files.begun l.files ≡ counted_on (g.F.Files.begun l.fn.files) 1;
