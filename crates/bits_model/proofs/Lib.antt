@@ -1,3 +1,4 @@
+pub mod Alike
 pub mod Energies
 pub mod Growth
 pub mod LeastStates

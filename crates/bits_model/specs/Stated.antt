@@ -1,7 +1,7 @@
 -- The laws of the relations and of written models, as statements.
-use Rattle.std.specs.Prelude.{ℤ, pos, ◌+ℤ◌, ◌*ℤ◌}
+use Rattle.std.specs.Prelude.{◌≡◌, ℤ, pos, ◌+ℤ◌, ◌*ℤ◌, Bool, List}
 use Rattle.bits_model.specs.declared.costs.Figures.{Figures}
-use Rattle.bits_model.specs.Costs.{Form, Source}
+use Rattle.bits_model.specs.Costs.{Form, Source, IsOf}
 use Rattle.bits_model.specs.Relations.{Decoding, Keeps, Relaxes, Reduces, decoding_after, figures_after, figures_moved}
 use Rattle.bits_model.specs.Output.{Written, IsWellFormed, form_of, decoding_of}
 use Rattle.bits_model.specs.Faithful.{Demand, Faithful, IsStated}
@@ -30,3 +30,18 @@ abbrev pub ReducesAfterRelaxes : Type 0
 ReducesAfterRelaxes =
     (f g h : Form) (d : Decoding) (n : Figures) (u b : ℤ) → Relaxes f g d (pos 1) n
     → Reduces g h u b → Relaxes f h d u (figures_moved n b)
+
+-- both forms have as many bits, and every assignment the same cost
+pub record HasSameCosts (f f' : Form) : Type 0 where
+  pub width : f.bits ≡ f'.bits
+  pub costs : (x : List Bool) → f.cost x ≡ f'.cost x
+
+-- both decodings give the same for every state of g
+abbrev pub DecodesAlike : Form → Decoding → Decoding → Type 0
+DecodesAlike g d d' = (y : List Bool) → IsOf g y → d'.decoded y ≡ d.decoded y
+
+-- what relaxes a form relaxes every form with the same costs, by any decoding that agrees
+abbrev pub RelaxesAlike : Type 0
+RelaxesAlike =
+    (f f' g : Form) (d d' : Decoding) (u : ℤ) (n : Figures) → HasSameCosts f f'
+    → DecodesAlike g d d' → Relaxes f g d u n → Relaxes f' g d' u n

@@ -1,5 +1,5 @@
 //! Laws, as functions without code: each contract is a statement of `specs/`.
-ghost use Rattle.bits_model.specs.Stated.{KeepsAfterKeeps, KeepsAfterRelaxes, ReducesAfterRelaxes, RelaxedIsFaithful};
+ghost use Rattle.bits_model.specs.Stated.{KeepsAfterKeeps, KeepsAfterRelaxes, ReducesAfterRelaxes, RelaxedIsFaithful, RelaxesAlike};
 
 /// A well-formed model that relaxes a source, with what is stated of it, is faithful to it.
 pub fn relaxed_is_faithful()
@@ -11,4 +11,5 @@ pub fn relations_compose()
     ensures relaxed { KeepsAfterRelaxes }
     ensures kept { KeepsAfterKeeps }
     ensures reduced { ReducesAfterRelaxes }
+    ensures alike { RelaxesAlike }
 {}
