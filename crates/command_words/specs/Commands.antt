@@ -1,0 +1,68 @@
+-- What a list of words asks for, or the position of the first word that cannot stand, counted from
+-- 1; where no word is wrong but one is missing, it is the number of words and one.
+use Rattle.std.specs.Prelude.{ℕ, ◌+◌, List, drop, String, string_bytes, map, bytes_eq, codes, if◌then◌else◌, Ok, Err, Some, None, Result, Option, slice_get}
+use Rattle.std.specs.Option.{option_map_or, ok_or}
+use Rattle.command_words.specs.declared.commands.Format.{Format}
+use Rattle.command_words.specs.declared.commands.Format.TheVariants.{Wcnf}
+use Rattle.command_words.specs.declared.commands.Target.{Target}
+use Rattle.command_words.specs.declared.commands.Target.TheVariants.{Qubo}
+use Rattle.command_words.specs.declared.commands.WordAt.{WordAt}
+use Rattle.command_words.specs.declared.commands.WordAt.TheVariants.{Whole}
+use Rattle.command_words.specs.declared.commands.Job.{Job}
+use Rattle.command_words.specs.declared.commands.Command.{Command}
+use Rattle.command_words.specs.declared.commands.Command.TheVariants.{Compile}
+use Rattle.command_words.specs.declared.words.Verb.{Verb}
+use Rattle.command_words.specs.declared.words.Verb.TheVariants as verbs
+use Rattle.command_words.specs.Keys.{choices_of, keys_from, no_keys}
+
+-- a step on the words, and the next one with its value; a word that cannot stand ends it
+infixl 10 ◌>>=◌
+abbrev pub ◌>>=◌ : {A B : Type 0} → Result A ℕ → (A → Result B ℕ) → Result B ℕ
+(Ok x) >>= f = f x
+(Err position) >>= f = Err position
+
+-- the value of the word at an index, or its position where it is missing or has none
+abbrev pub valued : {A : Type 0} → (List ℕ → Option A) → List (List ℕ) → ℕ → Result A ℕ
+valued value words i =
+    option_map_or (λ word. ok_or (value word) (i + 1)) (slice_get words i) (Err (i + 1))
+
+-- the name that is the whole word at an index, or its position where it is missing
+abbrev pub named : List (List ℕ) → ℕ → Result WordAt ℕ
+named words i = option_map_or (λ word. Ok (Whole i)) (slice_get words i) (Err (i + 1))
+
+-- the words of the formats
+abbrev pub format_of : List ℕ → Option Format
+format_of word = if bytes_eq word (codes "wcnf") then Some Wcnf else None
+
+-- the words of the targets
+abbrev pub target_of : List ℕ → Option Target
+target_of word = if bytes_eq word (codes "qubo") then Some Qubo else None
+
+-- the job of FORMAT TARGET FILE, from the second word on, with the keys from an index on
+abbrev pub job_of : List (List ℕ) → ℕ → Result Job ℕ
+job_of words keys_at = do
+  format ← valued format_of words 1
+  target ← valued target_of words 2
+  file ← named words 3
+  keys ← keys_from target no_keys keys_at (drop keys_at words)
+  Ok (record { format = format; file = file; target = target; choices = choices_of keys })
+
+-- the words of the verbs
+abbrev pub verb_of : List ℕ → Option Verb
+verb_of word = if bytes_eq word (codes "compile") then Some verbs.Compile else None
+
+-- what a verb asks for, with the words that stand after it
+abbrev pub after_verb : Verb → List (List ℕ) → Result Command ℕ
+after_verb verbs.Compile words = do
+  job ← job_of words 4
+  Ok (Compile job)
+
+-- all words of a command
+abbrev pub command_of : List (List ℕ) → Result Command ℕ
+command_of words = do
+  verb ← valued verb_of words 0
+  after_verb verb words
+
+-- what the given words ask for
+abbrev pub asked : {A : Type 0} → List (String A) → Result Command ℕ
+asked words = command_of (map string_bytes words)

@@ -1,0 +1,4 @@
+pub mod Keys
+pub mod Commands
+pub mod Names
+pub mod Asked

@@ -1,0 +1,37 @@
+//! Commands. All of one is `Copy`, since a name stands in it as its place in the words.
+
+use problem_form::Choices;
+
+/// The layout of a source.
+#[derive(Clone, Copy, Debug, PartialEq, Eq)]
+pub enum Format {
+    Wcnf,
+}
+
+/// What kind of model is written.
+#[derive(Clone, Copy, Debug, PartialEq, Eq)]
+pub enum Target {
+    Qubo,
+}
+
+/// A text in the words: the word at an index, or what stands in it after its first `=`.
+#[derive(Clone, Copy, Debug, PartialEq, Eq)]
+pub enum WordAt {
+    Whole(usize),
+    Value(usize),
+}
+
+/// A source, and how it becomes a model.
+#[derive(Clone, Copy, Debug, PartialEq, Eq)]
+pub struct Job {
+    pub format: Format,
+    pub file: WordAt,
+    pub target: Target,
+    pub choices: Choices,
+}
+
+/// What a run does.
+#[derive(Clone, Copy, Debug, PartialEq, Eq)]
+pub enum Command {
+    Compile(Job),
+}

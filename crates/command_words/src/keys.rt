@@ -1,0 +1,78 @@
+//! The keys of a command, in any order, each at most once: words of the form `NAME=VALUE`.
+ghost use Rattle.std.specs.Prelude.{◌≡◌, ◌+◌, ◌<◌, ◌^◌, length, map, string_bytes, Some, None, MatchOption};
+ghost use Rattle.command_words.specs.Keys.{choices_of, cut, keys_from, no_keys, with_pair, with_word};
+
+use crate::commands::Target;
+use problem_form::{Choices, High, Normal};
+
+/// The keys that were given, each with its value.
+#[derive(Clone, Copy, Debug, PartialEq, Eq)]
+pub struct Keys {
+    pub normal: Option<Normal>,
+    pub high: Option<High>,
+}
+
+/// No key is given.
+pub(crate) fn no_keys() -> Keys
+    ensures { result ≡ no_keys }
+{
+    Keys {
+        normal: None,
+        high: None,
+    }
+}
+
+/// What the keys choose, and the usual choice for each that was not given.
+pub(crate) fn choices_of(keys: Keys) -> Choices
+    ensures { result ≡ choices_of keys }
+{
+    Choices {
+        normal: keys.normal.unwrap_or(Normal::Literal),
+        high: keys.high.unwrap_or(High::Monomial),
+    }
+}
+
+/// What stands before the first `=` of a word and what after it, or none where there is no `=`.
+pub(crate) fn cut(word: &str) -> Option<(&str, &str)>
+    ensures { MatchOption result
+        (cut word.now ≡ None)
+        (λ parts. cut word.now ≡ Some (parts.0.now, parts.1.now)) }
+{
+    word.split_once('=')
+}
+
+/// The table of keys: the keys with one more, whose word stands at the index `at`, or none where
+/// it cannot stand. No key is taken yet.
+fn with_pair(target: Target, keys: Keys, at: usize, name: &str, value: &str) -> Option<Keys>
+    ensures { result ≡ with_pair target keys at name.now value.now }
+{
+    None
+}
+
+/// The keys with that of one word more, or none where the word cannot stand.
+fn with_word(target: Target, keys: Keys, at: usize, word: &str) -> Option<Keys>
+    ensures { result ≡ with_word target keys at word.now }
+{
+    let (name, value) = cut(word)?;
+    with_pair(target, keys, at, name, value)
+}
+
+/// The keys of words of which the first stands at the index `first`, or the position of the first
+/// word that cannot stand, counted from 1.
+pub(crate) fn keys_from(target: Target, first: usize, words: &[String]) -> Result<Keys, usize>
+    requires { first + length words.now < 2 ^ 64 }
+    ensures { result ≡ keys_from target no_keys first (map string_bytes words.now) }
+{
+    let mut keys = no_keys();
+    let mut at = first;
+    let mut left = words;
+    while let [word, rest @ ..] = left {
+        match with_word(target, keys, at, word.as_str()) {
+            Some(more) => keys = more,
+            None => return Err(at + 1),
+        }
+        at += 1;
+        left = rest;
+    }
+    Ok(keys)
+}

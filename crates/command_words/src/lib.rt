@@ -1,0 +1,13 @@
+//! What a list of words asks for: the command, its format, target and keys, and the files' names.
+#![tactic(auto)]
+
+mod commands;
+mod keys;
+mod laws;
+mod names;
+mod words;
+
+pub use commands::{Command, Format, Job, Target, WordAt};
+pub use laws::laws_of_words;
+pub use names::{Which, name_of};
+pub use words::command;

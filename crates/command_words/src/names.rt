@@ -1,0 +1,84 @@
+//! The files that a command names.
+ghost use Rattle.std.specs.Prelude.{◌≡◌, map, string_bytes};
+ghost use Rattle.command_words.specs.Names.{job_in, map_of, name_of, place_of, state_of, text_at, value_of};
+
+use crate::commands::{Command, Job, Target, WordAt};
+use crate::keys::cut;
+
+/// A file that a command names: the source, the map of chains, or the state or assignment.
+#[derive(Clone, Copy, Debug, PartialEq, Eq)]
+pub enum Which {
+    Source,
+    Map,
+    State,
+}
+
+/// What stands after the first `=` of a word.
+fn value_of(word: &str) -> &str
+    ensures { result.now ≡ value_of word.now }
+{
+    match cut(word) {
+        Some((_, value)) => value,
+        None => "",
+    }
+}
+
+fn text_at(words: &[String], at: WordAt) -> &str
+    ensures { result.now ≡ text_at (map string_bytes words.now) at }
+{
+    match at {
+        WordAt::Whole(i) => match words.get(i) {
+            Some(word) => word.as_str(),
+            None => "",
+        },
+        WordAt::Value(i) => match words.get(i) {
+            Some(word) => value_of(word.as_str()),
+            None => "",
+        },
+    }
+}
+
+fn job_in(command: Command) -> Job
+    ensures { result ≡ job_in command }
+{
+    match command {
+        Command::Compile(job) => job,
+    }
+}
+
+fn map_of(target: Target) -> Option<WordAt>
+    ensures { result ≡ map_of target }
+{
+    match target {
+        Target::Qubo => None,
+    }
+}
+
+fn state_of(command: Command) -> Option<WordAt>
+    ensures { result ≡ state_of command }
+{
+    match command {
+        Command::Compile(_) => None,
+    }
+}
+
+/// The place of the name of a file, where a command has such a file.
+fn place_of(command: Command, which: Which) -> Option<WordAt>
+    ensures { result ≡ place_of command which }
+{
+    match which {
+        Which::Source => Some(job_in(command).file),
+        Which::Map => map_of(job_in(command).target),
+        Which::State => state_of(command),
+    }
+}
+
+/// The name of a file of a command, empty where the command has no such file.
+pub fn name_of(words: &[String], command: Command, which: Which) -> &str
+    ensures { result.now ≡ name_of (map string_bytes words.now) command which }
+{
+    match place_of(command, which) {
+        Some(at) => text_at(words, at),
+        None => "",
+    }
+}

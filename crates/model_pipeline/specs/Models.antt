@@ -1,0 +1,70 @@
+-- The model of a problem: by cases over what a command chooses, built of the images of the steps.
+use Rattle.std.specs.Prelude.{◌≡◌, ℕ, ℤ, pos, ◌+ℤ◌, ◌*ℤ◌}
+use Rattle.bits_model.specs.declared.output.Kind.{Kind}
+use Rattle.bits_model.specs.declared.output.Kind.TheVariants as kinds
+use Rattle.bits_model.specs.Relations.{Decoding, Relaxes}
+use Rattle.bits_model.specs.Output.{Written, IsWellFormed, form_of, read_off}
+use Rattle.bits_model.specs.Faithful.{scale_of}
+use Rattle.model_text.specs.Text.{FitsFields}
+use Rattle.problem_form.specs.declared.limits.Choices.{Choices}
+use Rattle.problem_form.specs.declared.limits.Normal.{Normal}
+use Rattle.problem_form.specs.declared.limits.Normal.TheVariants.{Literal, Multilinear}
+use Rattle.problem_form.specs.declared.limits.High.{High}
+use Rattle.problem_form.specs.declared.limits.High.TheVariants.{Monomial, Rosenberg}
+use Rattle.problem_form.specs.Problems.{ProblemForm}
+use Rattle.problem_form.specs.Problems as problems
+use Rattle.problem_form.specs.Limits.{upper}
+use Rattle.command_words.specs.declared.commands.Target.{Target}
+use Rattle.command_words.specs.declared.commands.Target.TheVariants.{Qubo}
+use Rattle.term_table.specs.Tables.{TableForm}
+use Rattle.penalty_layer.specs.Penalty as penalty
+use Rattle.monomial_layer.specs.Monomials as monomials
+use Rattle.quad_form.specs.Quads.{QuadForm, written_of}
+use Rattle.quad_form.specs.Flat as flat
+
+-- ---- the steps
+
+-- the terms of a problem in a normal form; so far all are over literals
+abbrev pub terms_of : Normal → ProblemForm → TableForm
+terms_of Literal p = penalty.image p
+terms_of Multilinear p = penalty.image p
+
+-- what stands for terms of degree 3 or more; so far each is replaced by itself
+abbrev pub low_terms_of : High → TableForm → TableForm
+low_terms_of Monomial t = monomials.image t
+low_terms_of Rosenberg t = monomials.image t
+
+-- the quadratic form of a problem
+abbrev pub quad_of : Choices → ProblemForm → QuadForm
+quad_of choices p = flat.image (low_terms_of choices.high (terms_of choices.normal p))
+
+-- the model of a problem, of which so many variables are the source's own
+abbrev pub model : Choices → Target → ℕ → ProblemForm → Written
+model choices Qubo variables p =
+    written_of (quad_of choices p) variables (penalty.figures p) (pos 1)
+
+-- ---- what it promises of the problem
+
+-- the kind of a target's models
+abbrev pub kind_of : Target → Kind
+kind_of Qubo = kinds.Qubo
+
+-- how a state of the model is read as an assignment of so many variables
+abbrev pub decoding_to : ℕ → Written → Decoding
+decoding_to variables m = record {
+  source_width = variables;
+  target_width = m.nodes;
+  decoded = read_off m.kind variables m.chains;
+}
+
+-- a well-formed model of this kind whose numbers fit their fields, with the stated figures, which
+-- relaxes the problem
+pub record IsModelOf (p : ProblemForm) (variables : ℕ) (kind : Kind) (m : Written) : Type 0 where
+  pub kind : m.kind ≡ kind
+  pub fits : FitsFields m
+  pub well_formed : IsWellFormed m
+  pub variables : m.variables ≡ variables
+  pub scale : m.figures.scale ≡ scale_of m.kind
+  pub threshold : m.figures.threshold ≡ m.figures.scale *ℤ upper p +ℤ m.figures.offset
+  pub unit : m.unit ≡ pos 1
+  pub relaxes : Relaxes (problems.form_of p) (form_of m) (decoding_to p.variables m) m.unit m.figures

@@ -1,0 +1,7 @@
+//! From a problem to its model: the steps that a command chooses, one after another.
+#![tactic(auto)]
+
+mod model;
+mod steps;
+
+pub use model::model_of;

@@ -1,0 +1,5 @@
+pub mod Statuses
+pub mod Causes
+pub mod Outcome
+pub mod Answers
+pub mod Lines

@@ -1,0 +1,69 @@
+-- The line that is written to the error output for each status but Done.
+use Rattle.std.specs.Prelude.{ℕ, List, [], ◌∷◌, codes, decimal, Ok, Err, Result}
+use Rattle.std.specs.declared.option.Option.{Option}
+use Rattle.std.specs.List.{concat}
+use Rattle.std.specs.Io.KnownBytes.{Appends}
+use Rattle.edge_io.specs.Counts.{Rose}
+use Rattle.edge_io.specs.Sinks.{AppendsFront}
+use Rattle.whole_text.specs.declared.faults.TextKind.{TextKind}
+use Rattle.whole_text.specs.declared.faults.TextKind.TheVariants.{Word, Number, Range, End, Extra}
+use Rattle.problem_form.specs.declared.limits.LimitKind.{LimitKind}
+use Rattle.problem_form.specs.declared.limits.LimitKind.TheVariants.{Bytes, Variables, Degree, Negations, Pairs, Weight}
+use Rattle.command_words.specs.declared.names.Which.{Which}
+use Rattle.command_words.specs.declared.names.Which.TheVariants.{Source, State}
+use Rattle.command_words.specs.declared.commands.Command.{Command}
+use Rattle.command_words.specs.Names.{name_of}
+use Rattle.program_run.specs.declared.status.Status.{Status}
+use Rattle.program_run.specs.declared.status.Status.TheVariants.{Done, Usage, ReadFault, WriteFault, BadText, Limit, NoState, NoMemory}
+
+-- the file that a status speaks of
+abbrev pub file_in : Status → Which
+file_in (ReadFault which) = which
+file_in (BadText which kind line) = which
+file_in (Limit which kind number) = which
+file_in (NoState length) = State
+file_in _ = Source
+
+-- the file's name in the line for a status
+abbrev pub name_said : List (List ℕ) → Result Command ℕ → Status → List ℕ
+name_said words (Ok command) status = name_of words command (file_in status)
+name_said words (Err position) status = []
+
+-- the end of the line for a bad text
+abbrev pub kind_end : TextKind → List ℕ
+kind_end Word = codes ": word\n"
+kind_end Number = codes ": number\n"
+kind_end Range = codes ": range\n"
+kind_end End = codes ": end\n"
+kind_end Extra = codes ": extra\n"
+
+-- what stands between the file's name and the number that passes a limit
+abbrev pub limit_words : LimitKind → List ℕ
+limit_words Bytes = codes ": limit bytes "
+limit_words Variables = codes ": limit variables "
+limit_words Degree = codes ": limit degree "
+limit_words Negations = codes ": limit negations "
+limit_words Pairs = codes ": limit pairs "
+limit_words Weight = codes ": limit weight "
+
+-- the line, piece by piece, of the file's name
+abbrev pub error_pieces : Status → List ℕ → List (List ℕ)
+error_pieces Done name = []
+error_pieces (Usage position) name = codes "usage: word " ∷ decimal position ∷ codes "\n" ∷ []
+error_pieces (ReadFault which) name = codes "cannot read " ∷ name ∷ codes "\n" ∷ []
+error_pieces WriteFault name = codes "cannot write\n" ∷ []
+error_pieces (BadText which kind line) name = name ∷ codes ":" ∷ decimal line ∷ kind_end kind ∷ []
+error_pieces (Limit which kind number) name =
+    name ∷ limit_words kind ∷ decimal number ∷ codes "\n" ∷ []
+error_pieces (NoState length) name =
+    name ∷ codes ": no state of " ∷ decimal length ∷ codes " characters\n" ∷ []
+error_pieces NoMemory name = codes "out of memory\n" ∷ []
+
+-- the line as a whole
+abbrev pub error_line : Status → List ℕ → List ℕ
+error_line status name = concat (error_pieces status name)
+
+-- a front of the line was written, and the whole of it where the count of faults did not rise
+pub record IsSaid (old new : Option (List ℕ)) (before now : ℕ) (line : List ℕ) : Type 0 where
+  pub front : AppendsFront old new line
+  pub whole : ¬ (Rose before now) → Appends old new line

@@ -1,0 +1,121 @@
+-- The outcome of a run: a line a step, and the first step that refuses ends it.
+use Rattle.std.specs.Prelude.{◌≡◌, ℕ, ◌+◌, List, length, nat_lt, if◌then◌else◌, Ok, Err, Some, None, Result, ⊤}
+use Rattle.std.specs.declared.option.Option.{Option}
+use Rattle.std.specs.Option.{option_map_or}
+use Rattle.edge_io.specs.Held.{NamedFiles, find_file}
+use Rattle.bits_model.specs.Output.{Written}
+use Rattle.model_text.specs.Text.{model_text}
+use Rattle.whole_text.specs.declared.faults.TextFault.{TextFault}
+use Rattle.problem_form.specs.declared.limits.LimitFault.{LimitFault}
+use Rattle.problem_form.specs.declared.limits.LimitKind.TheVariants.{Bytes}
+use Rattle.problem_form.specs.Limits.{limit_fault, most_bytes}
+use Rattle.command_words.specs.declared.names.Which.{Which}
+use Rattle.command_words.specs.declared.names.Which.TheVariants.{Source}
+use Rattle.command_words.specs.declared.commands.Job.{Job}
+use Rattle.command_words.specs.declared.commands.Command.{Command}
+use Rattle.command_words.specs.declared.commands.Command.TheVariants.{Compile}
+use Rattle.command_words.specs.Names.{name_of, job_in}
+use Rattle.source_texts.specs.declared.reading.Read.{Read}
+use Rattle.source_texts.specs.Sources.{problem_of}
+use Rattle.model_pipeline.specs.Models.{model}
+use Rattle.program_run.specs.Statuses.{IsDoneOrWant}
+use Rattle.program_run.specs.declared.status.Status.{Status}
+use Rattle.program_run.specs.declared.status.Status.TheVariants.{Done, Usage, ReadFault, WriteFault, BadText, Limit, NoState, NoMemory}
+
+-- ---- steps
+
+-- what a step gives: a value, the status that refuses, or nothing where a file isn't held
+abbrev pub Step : Type 0 → Type 0
+Step A = Option (Result A Status)
+
+-- a step, and the next one with its value
+infixl 10 ◌>>=◌
+abbrev pub ◌>>=◌ : {A B : Type 0} → Option (Result A Status) → (A → Option (Result B Status))
+    → Option (Result B Status)
+None >>= f = None
+(Some (Ok x)) >>= f = f x
+(Some (Err status)) >>= f = Some (Err status)
+
+-- the bytes of a file, unless it is too long
+abbrev pub not_too_long : Which → List ℕ → Result (List ℕ) Status
+not_too_long which bytes =
+    if nat_lt most_bytes (length bytes)
+    then Err (Limit which Bytes (most_bytes + 1))
+    else Ok bytes
+
+-- taking the bytes of a file of this name
+unfoldable pub taking : NamedFiles → Which → List ℕ → Step (List ℕ)
+taking held which name =
+    option_map_or (λ bytes. Some (not_too_long which bytes)) (find_file held name) None
+
+-- reading a text
+abbrev pub from_text : {A : Type 0} → Which → Result A TextFault → Step A
+from_text which (Ok x) = Some (Ok x)
+from_text which (Err fault) = Some (Err (BadText which fault.kind fault.line))
+
+-- checking the limits
+abbrev pub from_limits : {A : Type 0} → A → Option LimitFault → Step A
+from_limits x None = Some (Ok x)
+from_limits x (Some fault) = Some (Err (Limit Source fault.kind fault.number))
+
+-- taking the source, reading it and checking its limits
+unfoldable pub sourcing : List (List ℕ) → NamedFiles → Command → Step Read
+sourcing words held command = do
+  bytes ← taking held Source (name_of words command Source)
+  read ← from_text Source (problem_of (job_in command).format bytes)
+  from_limits read (limit_fault (job_in command).choices.normal read.problem)
+
+-- ---- commands
+
+-- the model of a source, as a job chooses its steps
+abbrev pub model_for : Job → Read → Written
+model_for job read = model job.choices job.target read.variables read.problem
+
+-- the text of the model of the source
+unfoldable pub compiling : List (List ℕ) → NamedFiles → Command → Step (List ℕ)
+compiling words held command = do
+  read ← sourcing words held command
+  Some (Ok (model_text (model_for (job_in command) read)))
+
+-- what a command answers: a line a command
+abbrev pub answering : List (List ℕ) → NamedFiles → Command → Step (List ℕ)
+answering words held (Compile job) = compiling words held (Compile job)
+
+-- ---- the outcome
+
+-- the status of what is answered
+abbrev pub status_of : Step (List ℕ) → Option Status
+status_of None = None
+status_of (Some (Ok text)) = Some Done
+status_of (Some (Err status)) = Some status
+
+-- the outcome of words; there is none where a file isn't held
+abbrev pub outcome_of : List (List ℕ) → NamedFiles → Result Command ℕ → Option Status
+outcome_of words held (Err position) = Some (Usage position)
+outcome_of words held (Ok command) = status_of (answering words held command)
+
+-- the status is the outcome, unless it is a fault or want of memory; a file that cannot be read
+-- comes before its outcome, and what cannot be written comes only where the outcome is Done
+abbrev pub MeetsOutcome : Status → Option Status → Type 0
+MeetsOutcome (ReadFault which) outcome = ⊤
+MeetsOutcome NoMemory outcome = ⊤
+MeetsOutcome WriteFault outcome = outcome ≡ Some Done
+MeetsOutcome status outcome = outcome ≡ Some status
+
+-- where the outcome is Done, so is the status, or memory was wanting
+abbrev pub IsComplete : Status → Option Status → Type 0
+IsComplete status outcome = outcome ≡ Some Done → IsDoneOrWant status
+
+-- a status that a step may have refuses as the step does
+abbrev pub Refuses : {A : Type 0} → Status → Step A → Type 0
+Refuses (ReadFault which) step = ⊤
+Refuses NoMemory step = ⊤
+Refuses Done step = ⊥
+Refuses WriteFault step = ⊥
+Refuses (Usage position) step = ⊥
+Refuses status step = step ≡ Some (Err status)
+
+-- what a function returned, seen by view, is what the step gives
+abbrev pub Meets : {X A : Type 0} → (X → A) → Result X Status → Step A → Type 0
+Meets view (Ok x) step = step ≡ Some (Ok (view x))
+Meets view (Err status) step = Refuses status step

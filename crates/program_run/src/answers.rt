@@ -1,0 +1,44 @@
+//! What a command answers.
+ghost use Rattle.std.specs.Prelude.{◌≡◌, map, string_bytes, IfOk, IfErr};
+ghost use Rattle.edge_io.specs.Held.{WhereTold};
+ghost use Rattle.command_words.specs.Commands.{IsOffered};
+ghost use Rattle.command_words.specs.Names.{job_in};
+ghost use Rattle.program_run.specs.Outcome.{Meets, answering};
+ghost use Rattle.program_run.specs.Statuses.{ended, IsRefusal};
+ghost use Rattle.program_run.specs.Answers.{text_of, IsAnswer};
+ghost use Rattle.program_run.specs.Causes.{begun_between, AreFiles};
+
+use crate::compile::compile;
+use crate::status::Status;
+use bits_model::OutputModel;
+use command_words::Command;
+use edge_io::Files;
+use std::alloc::Global;
+
+/// What is written for a command: a value that has a text.
+#[derive(Drop)]
+pub enum Answer {
+    Model(OutputModel),
+}
+
+/// What a command answers, and nothing is written yet.
+pub fn answer_to<F: Files>(
+    alloc: Global,
+    words: &[String],
+    command: Command,
+    files: &mut F,
+) -> Result<Answer, Status>
+    requires { IsOffered (job_in command).choices }
+    ensures step { WhereTold (F.held files.old) (λ held. Meets text_of result
+        (answering (map string_bytes words.now) held command)) }
+    ensures files { AreFiles (map string_bytes words.now) command (ended result)
+        (begun_between F.faults F.begun F.faults_at_begin F.taken F.empty_reads F.begun_name
+        files.old files.new) }
+    ensures answer { IfOk result (λ answer. WhereTold (F.held files.old) (λ held.
+        IsAnswer (map string_bytes words.now) held command (text_of answer))) }
+    ensures refusal { IfErr result IsRefusal }
+{
+    match command {
+        Command::Compile(_) => compile(alloc, words, command, files),
+    }
+}

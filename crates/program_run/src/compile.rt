@@ -1,0 +1,44 @@
+//! The command `compile`: the model of a source.
+ghost use Rattle.std.specs.Prelude.{◌≡◌, map, string_bytes, IfOk, IfErr};
+ghost use Rattle.edge_io.specs.Held.{WhereTold};
+ghost use Rattle.command_words.specs.Commands.{IsOffered};
+ghost use Rattle.command_words.specs.Names.{job_in, files_of};
+ghost use Rattle.program_run.specs.Outcome.{Meets, compiling};
+ghost use Rattle.program_run.specs.Statuses.{ended, IsRefusal};
+ghost use Rattle.program_run.specs.Answers.{text_of, IsCompiledFrom};
+ghost use Rattle.program_run.specs.Causes.{begun_between, AreFiles};
+
+use crate::answers::Answer;
+use crate::status::Status;
+use crate::steps::take_source;
+use command_words::Command;
+use edge_io::Files;
+use model_pipeline::model_of;
+use std::alloc::Global;
+
+/// The model of the source.
+#[tactic(auto, unfolding(crate::specs::Outcome::compiling))]
+pub fn compile<F: Files>(
+    alloc: Global,
+    words: &[String],
+    command: Command,
+    files: &mut F,
+) -> Result<Answer, Status>
+    requires offered { IsOffered (job_in command).choices }
+    requires files { files_of command ≡ Source ∷ [] }
+    ensures step { WhereTold (F.held files.old) (λ held. Meets text_of result
+        (compiling (map string_bytes words.now) held command)) }
+    ensures files { AreFiles (map string_bytes words.now) command (ended result)
+        (begun_between F.faults F.begun F.faults_at_begin F.taken F.empty_reads F.begun_name
+        files.old files.new) }
+    ensures answer { IfOk result (λ answer. WhereTold (F.held files.old) (λ held.
+        IsCompiledFrom (map string_bytes words.now) held command (text_of answer))) }
+    ensures refusal { IfErr result IsRefusal }
+{
+    let job = command.job();
+    let read = take_source(alloc, words, command, files)?;
+    match model_of(alloc, read.problem, read.variables, &job.choices, job.target) {
+        Ok(model) => Ok(Answer::Model(model)),
+        Err(_) => Err(Status::NoMemory),
+    }
+}

@@ -1,0 +1,26 @@
+//! The delivery of an answer.
+ghost use Rattle.std.specs.Prelude.{◌≡◌};
+ghost use Rattle.program_run.specs.Answers.{text_of, IsDelivered};
+
+use crate::answers::Answer;
+use crate::status::Status;
+use edge_io::{Sink, write_all};
+use model_text::written_text;
+use std::alloc::Global;
+
+/// Writes the text of an answer, or a front of it where the sink fails. All memory is taken before
+/// the first write.
+pub fn deliver<O: Sink>(alloc: Global, answer: &Answer, out: &mut O) -> Status
+    ensures delivered { IsDelivered result (O.bytes out.old) (O.bytes out.new) (O.faults out.old)
+        (O.faults out.new) (text_of answer.now) }
+    ensures unwritten { result ≡ Status.NoMemory → out.new ≡ out.old }
+{
+    let Answer::Model(model) = answer;
+    let Ok(text) = written_text(alloc, model) else {
+        return Status::NoMemory;
+    };
+    match write_all(out, &text) {
+        Ok(()) => Status::Done,
+        Err(_) => Status::WriteFault,
+    }
+}

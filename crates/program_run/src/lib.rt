@@ -1,0 +1,18 @@
+//! One run of the program: the words, the files that they name, the answer, and the line for how it
+//! ended.
+#![tactic(auto)]
+
+mod answers;
+mod compile;
+mod delivery;
+mod lines;
+mod program;
+mod run;
+mod status;
+mod steps;
+
+pub use answers::Answer;
+pub use program::exit_number;
+pub use run::run;
+pub use status::Status;
+

@@ -1,0 +1,39 @@
+//! The program, over the real words, files and streams.
+
+use crate::run::run;
+use edge_io::{RealFiles, RealSink};
+use std::alloc::{AllocError, Global};
+use std::env;
+use std::io::ErrorKind;
+
+/// The exit status where memory is refused before there is a run.
+const NO_MEMORY: u8 = 9;
+
+/// The exit status where a word is no UTF-8.
+const NO_WORDS: u8 = 2;
+
+/// The words after the program's name, or the exit status where they cannot be taken.
+fn given_words(rt: &HostRuntime) -> Result<Vec<String>, u8> {
+    let mut words = match env::args(rt) {
+        Ok(words) => words,
+        Err(error) if error.kind() == ErrorKind::OutOfMemory => return Err(NO_MEMORY),
+        Err(_) => return Err(NO_WORDS),
+    };
+    let _program = words.next();
+    let collected: Result<Vec<String>, AllocError> = words.collect(rt.alloc());
+    collected.map_err(|_| NO_MEMORY)
+}
+
+/// One run on the words of the command line, with the files of the system, standard output and
+/// standard error. The result is the number to exit with.
+pub fn exit_number(rt: HostRuntime) -> u8 {
+    let words = match given_words(&rt) {
+        Ok(words) => words,
+        Err(number) => return number,
+    };
+    let alloc: Global = rt.alloc();
+    let mut out = RealSink::new(rt.stdout());
+    let mut err = RealSink::new(rt.stderr());
+    let mut files = RealFiles::new(rt);
+    run(alloc, &words, &mut files, &mut out, &mut err).number()
+}

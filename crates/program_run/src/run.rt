@@ -1,0 +1,88 @@
+//! One run: the answer to a command, its delivery, and the line for the status.
+ghost use Rattle.std.specs.Prelude.{◌≡◌, List, ℕ, map, string_bytes, IfOk};
+ghost use Rattle.edge_io.specs.Held.{WhereTold};
+ghost use Rattle.command_words.specs.Commands.{asked};
+ghost use Rattle.program_run.specs.Statuses.{IsUsageOf, OnUsage, OnWriting, OnDone, OnRefusal};
+ghost use Rattle.program_run.specs.Outcome.{outcome_of, MeetsOutcome, IsComplete};
+ghost use Rattle.program_run.specs.Causes.{RoseBetween, begun_between, AreFiles};
+ghost use Rattle.program_run.specs.Answers.{IsAnswered, IsDelivered};
+ghost use Rattle.program_run.specs.Lines.{error_line, name_said, file_in, IsSaid};
+
+use crate::answers::answer_to;
+use crate::delivery::deliver;
+use crate::lines::say;
+use crate::status::Status;
+use command_words::{Command, Which, command, name_of};
+use edge_io::{Files, Sink};
+use std::alloc::Global;
+
+/// The file that a status speaks of.
+fn file_in(status: Status) -> Which
+    ensures { result ≡ file_in status }
+{
+    match status {
+        Status::ReadFault(which) | Status::BadText(which, ..) | Status::Limit(which, ..) => which,
+        Status::NoState(_) => Which::State,
+        _ => Which::Source,
+    }
+}
+
+/// The file's name in the line for a status.
+fn name_said(words: &[String], asked: Result<Command, usize>, status: Status) -> &str
+    ensures { result.now ≡ name_said (map string_bytes words.now) asked status }
+{
+    match asked {
+        Ok(command) => name_of(words, command, file_in(status)),
+        Err(_) => "",
+    }
+}
+
+/// One run. Nothing is written to `out` before the whole answer stands, and to `err` goes the line
+/// for every status but `Done`.
+pub fn run<F: Files, O: Sink, E: Sink>(
+    alloc: Global,
+    words: &[String],
+    files: &mut F,
+    out: &mut O,
+    err: &mut E,
+) -> Status
+    ensures usage { IsUsageOf result (asked words.now) }
+    ensures no_call { OnUsage result (files.new ≡ files.old) }
+
+    // Why a file was not read, how many were begun, and that no more was read.
+    ensures files { IfOk (asked words.now) (λ command.
+        AreFiles (map string_bytes words.now) command result
+        (begun_between F.faults F.begun F.faults_at_begin F.taken F.empty_reads F.begun_name
+        files.old files.new)) }
+
+    ensures outcome { WhereTold (F.held files.old) (λ held. MeetsOutcome result
+        (outcome_of (map string_bytes words.now) held (asked words.now))) }
+    ensures complete { ¬ (RoseBetween F.faults files.old files.new)
+        → ¬ (RoseBetween O.faults out.old out.new)
+        → WhereTold (F.held files.old) (λ held. IsComplete result
+            (outcome_of (map string_bytes words.now) held (asked words.now))) }
+
+    ensures refused { OnRefusal result (out.new ≡ out.old) }
+
+    // The headline.
+    ensures answered { OnWriting result ((text : List ℕ)
+        × IsDelivered result (O.bytes out.old) (O.bytes out.new) (O.faults out.old)
+            (O.faults out.new) text
+        × WhereTold (F.held files.old) (λ held.
+            IsAnswered (map string_bytes words.now) held (asked words.now) text)) }
+
+    ensures line { IsSaid (E.bytes err.old) (E.bytes err.new) (E.faults err.old) (E.faults err.new)
+        (error_line result (name_said (map string_bytes words.now) (asked words.now) result)) }
+    ensures silent { OnDone result (err.new ≡ err.old) }
+{
+    let asked = command(words);
+    let status = match asked {
+        Err(position) => Status::Usage(position),
+        Ok(command) => match answer_to(alloc, words, command, files) {
+            Err(status) => status,
+            Ok(answer) => deliver(alloc, &answer, out),
+        },
+    };
+    say(status, name_said(words, asked, status), err);
+    status
+}

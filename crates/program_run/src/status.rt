@@ -1,0 +1,39 @@
+//! How a run ends.
+ghost use Rattle.std.specs.Prelude.{◌≡◌};
+
+use command_words::Which;
+use problem_form::LimitKind;
+use whole_text::TextKind;
+
+/// How a run ends: each refusal with what it found.
+#[derive(Clone, Copy, Debug, PartialEq, Eq)]
+pub enum Status {
+    Done,
+    Usage(usize),
+    ReadFault(Which),
+    WriteFault,
+    BadText(Which, TextKind, u64),
+    Limit(Which, LimitKind, u128),
+    NoState(usize),
+    NoMemory,
+}
+
+impl Status {
+    ghost use Rattle.program_run.specs.Statuses.{exit_number};
+
+    /// The exit status of the program.
+    pub fn number(self) -> u8
+        ensures { result ≡ exit_number self }
+    {
+        match self {
+            Status::Done => 0,
+            Status::Usage(_) => 2,
+            Status::ReadFault(_) => 3,
+            Status::WriteFault => 4,
+            Status::BadText(..) => 5,
+            Status::Limit(..) => 6,
+            Status::NoState(_) => 8,
+            Status::NoMemory => 9,
+        }
+    }
+}

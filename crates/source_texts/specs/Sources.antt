@@ -1,0 +1,48 @@
+-- What a text says in a format, and the problem that it is read into: a line a format.
+use Rattle.std.specs.Prelude.{◌≡◌, ℕ, ℤ, ◌≤◌, List, Ok, Result, take}
+use Rattle.bits_model.specs.declared.costs.Figures.{Figures}
+use Rattle.bits_model.specs.Costs.{Form, Source}
+use Rattle.bits_model.specs.Relations.{Decoding, Relaxes}
+use Rattle.whole_text.specs.declared.faults.TextFault.{TextFault}
+use Rattle.whole_text.specs.Steps.{◌>>=◌}
+use Rattle.problem_form.specs.Problems.{ProblemForm, form_of}
+use Rattle.problem_form.specs.Limits.{upper}
+use Rattle.command_words.specs.declared.commands.Format.{Format}
+use Rattle.command_words.specs.declared.commands.Format.TheVariants.{Wcnf}
+use Rattle.wcnf_reader.specs.Wcnf as wcnf
+use Rattle.wcnf_reader.specs.Cost as wcnf_cost
+use Rattle.source_texts.specs.declared.reading.Read.{Read}
+
+-- the source that a text says, as it is written, or the first fault of the text
+abbrev pub source_of : Format → List ℕ → Result Source TextFault
+source_of Wcnf text = wcnf.reading text >>= λ s. Ok (wcnf_cost.source_of s)
+
+-- a problem whose variables are all the source's own
+abbrev pub own : ProblemForm → Read
+own p = record { problem = p; variables = p.variables }
+
+-- its problem in normal form, or the first fault of the text
+abbrev pub problem_of : Format → List ℕ → Result Read TextFault
+problem_of Wcnf text = wcnf_cost.normal_reading text >>= λ p. Ok (own p)
+
+-- the first n bits of what states are decoded to
+abbrev pub first_decoded : ℕ → Decoding → Decoding
+first_decoded n d = record {
+  source_width = n;
+  target_width = d.target_width;
+  decoded = λ y. take n (d.decoded y);
+}
+
+-- the problem has the source's variables first and its upper bound, and what relaxes the problem
+-- relaxes the source, decoded to these variables
+pub record StandsFor (s : Source) (r : Read) : Type 0 where
+  pub variables : r.variables ≡ s.form.bits
+  pub own : r.variables ≤ r.problem.variables
+  pub upper : upper r.problem ≡ s.upper
+  pub relaxed : (g : Form) (d : Decoding) (u : ℤ) (n : Figures) → Relaxes (form_of r.problem) g d u n
+      → Relaxes s.form g (first_decoded s.form.bits d) u n
+
+-- where a text is read into a problem, it says a source, for which the problem stands
+abbrev pub ProblemsStandForSources : Type 0
+ProblemsStandForSources = (format : Format) (text : List ℕ) (r : Read) → problem_of format text ≡ Ok r
+    → (s : Source) × (source_of format text ≡ Ok s) × StandsFor s r
