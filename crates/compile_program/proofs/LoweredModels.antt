@@ -9,6 +9,7 @@ use Rattle.bits_model.specs.Relations.{Decoding, Relaxes, decoding_after, figure
 use Rattle.bits_model.specs.Composed.{keeps_after_relaxes}
 use Rattle.bits_model.specs.Output.{Written}
 use Rattle.bits_model.specs.Text.{FitsFields}
+use Rattle.problem_form.specs.declared.limits.Normal.TheVariants as normals
 use Rattle.problem_form.specs.Problems.{ProblemForm, form_of}
 use Rattle.problem_form.specs.Limits.{upper, limit_fault}
 use Rattle.term_table.specs.Tables.{TableForm}
@@ -49,7 +50,7 @@ same_figures n i =
 
 -- the steps from the problem to its quadratic form, with their links
 pub record AreSteps (p : ProblemForm) (t u : TableForm) (q : QuadForm) (a b c : BitsLink) : Type 0 where
-  pub within : limit_fault p ≡ None
+  pub within : limit_fault normals.Literal p ≡ None
   pub fits : Fits a p
   pub table : t ≡ image p
   pub fits_table : mono.Fits b t
@@ -106,7 +107,7 @@ steps_decode p t u q a b c s y =
     take-take a.source_width b.source_width y (omega (arith, first, second, width))
     ∙ ap (λ n. take n y) first
 
-fits_fields : (p : ProblemForm) (q : QuadForm) → limit_fault p ≡ None
+fits_fields : (p : ProblemForm) (q : QuadForm) → limit_fault normals.Literal p ≡ None
     → p.variables ≤ length q.diagonal → IsQuad q → FitsFields (model_of p q)
 fits_fields p q none enough kept =
     let small = kept.small in

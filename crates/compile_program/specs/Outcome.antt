@@ -5,6 +5,7 @@ use Rattle.edge_io.specs.Held.{NamedFiles, find_file}
 use Rattle.whole_text.specs.declared.faults.TextFault.{TextFault}
 use Rattle.problem_form.specs.declared.limits.LimitFault.{LimitFault}
 use Rattle.problem_form.specs.declared.limits.LimitKind.TheVariants.{Bytes}
+use Rattle.problem_form.specs.declared.limits.Normal.TheVariants as normals
 use Rattle.problem_form.specs.Problems.{ProblemForm}
 use Rattle.problem_form.specs.Limits.{limit_fault}
 use Rattle.wcnf_reader.specs.Cost.{normal_reading}
@@ -25,7 +26,7 @@ limits_outcome (Some fault) = Limit Source fault.kind fault.number
 -- the text, and then the limits of its problem
 abbrev pub text_outcome : Result ProblemForm TextFault → Status
 text_outcome (Err fault) = BadText Source fault.kind fault.line
-text_outcome (Ok problem) = limits_outcome (limit_fault problem)
+text_outcome (Ok problem) = limits_outcome (limit_fault normals.Literal problem)
 
 -- the length, and then the text
 abbrev pub bytes_outcome : List ℕ → Status

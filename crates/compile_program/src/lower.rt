@@ -2,6 +2,7 @@
 //! longer ones, then a quadratic form, and then the QUBO of it.
 ghost use Rattle.std.specs.Prelude.{◌≡◌, None, [], IfOk};
 ghost use Rattle.problem_form.specs.Problems.{form_of};
+ghost use Rattle.problem_form.specs.declared.limits.Normal.TheVariants as normals;
 ghost use Rattle.problem_form.specs.Limits.{upper, limit_fault};
 ghost use Rattle.compile_program.specs.Compiled.{IsLowered, IsModelOf};
 
@@ -15,7 +16,7 @@ use std::alloc::Global;
 
 /// The QUBO of a problem within the limits. Each form is let go as soon as the next one stands.
 pub fn model_of(alloc: Global, problem: Problem) -> Result<OutputModel, NoMemory>
-    requires within { limit_fault problem ≡ None }
+    requires within { limit_fault normals.Literal problem ≡ None }
     requires unconstrained { problem.constraints ≡ [] }
     ensures { IfOk result (λ m. IsModelOf (form_of problem) (upper problem) m) }
 {
@@ -32,7 +33,7 @@ pub fn model_of(alloc: Global, problem: Problem) -> Result<OutputModel, NoMemory
 
 /// The text of the QUBO of a problem within the limits.
 pub fn text_of(alloc: Global, problem: Problem) -> Result<Vec<u8>, NoMemory>
-    requires within { limit_fault problem ≡ None }
+    requires within { limit_fault normals.Literal problem ≡ None }
     requires unconstrained { problem.constraints ≡ [] }
     ensures { IfOk result (λ text. IsLowered (form_of problem) (upper problem) text.items) }
 {

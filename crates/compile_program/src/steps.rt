@@ -2,6 +2,7 @@
 ghost use Rattle.std.specs.Prelude.{◌≡◌, ◌≤◌, ◌<◌, ◌^◌, None, Some, Ok, Err, [], IfOk, OnOk, IfErr, MatchResult, length};
 ghost use Rattle.edge_io.specs.Counts.{counted_on};
 ghost use Rattle.edge_io.specs.Held.{WhereTold, find_file};
+ghost use Rattle.problem_form.specs.declared.limits.Normal.TheVariants as normals;
 ghost use Rattle.problem_form.specs.Limits.{limit_fault};
 ghost use Rattle.wcnf_reader.specs.Cost.{normal_reading};
 ghost use Rattle.compile_program.specs.Steps.{IsTakeFault, TakesTooMuch, RefusesText, RefusesLimit};
@@ -62,8 +63,8 @@ pub fn read_source(alloc: Global, bytes: &[u8]) -> Result<Problem, Status>
 
 /// The step that checks the source's limits.
 pub fn keep_limits(problem: &Problem) -> Result<(), Status>
-    ensures within { OnOk result (limit_fault problem.now ≡ None) }
-    ensures passed { IfErr result (λ status. RefusesLimit status (limit_fault problem.now)) }
+    ensures within { OnOk result (limit_fault normals.Literal problem.now ≡ None) }
+    ensures passed { IfErr result (λ status. RefusesLimit status (limit_fault normals.Literal problem.now)) }
 {
     let choices = Choices {
         normal: Normal::Literal,

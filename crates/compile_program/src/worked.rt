@@ -3,6 +3,7 @@ ghost use Rattle.std.specs.Prelude.{◌≡◌, codes, Ok, None, [], ◌∷◌, p
 ghost use Rattle.bits_model.specs.declared.costs.Cost.TheVariants.{Whole, Infinite};
 ghost use Rattle.wcnf_reader.specs.Wcnf.{reading};
 ghost use Rattle.problem_form.specs.NormalForm.{normal_form};
+ghost use Rattle.problem_form.specs.declared.limits.Normal.TheVariants as normals;
 ghost use Rattle.problem_form.specs.Limits.{upper, penalty, limit_fault};
 ghost use Rattle.wcnf_reader.specs.Cost.{wcnf_cost, problem_of};
 ghost use Rattle.compile_program.specs.Worked.{clash, clash_model};
@@ -23,7 +24,7 @@ fn the_costs()
 fn the_bounds()
     ensures upper { upper (normal_form (problem_of clash)) ≡ pos 3 }
     ensures penalty { penalty (normal_form (problem_of clash)) ≡ 4 }
-    ensures within { limit_fault (normal_form (problem_of clash)) ≡ None }
+    ensures within { limit_fault normals.Literal (normal_form (problem_of clash)) ≡ None }
 {}
 
 /// The model weighs its one node.

@@ -7,6 +7,7 @@ use Rattle.bits_model.specs.declared.layer.BitsLink.{BitsLink}
 use Rattle.bits_model.specs.Relations.{Relaxes}
 use Rattle.problem_form.specs.declared.terms.Product.{Product}
 use Rattle.problem_form.specs.declared.terms.Clause.{Clause}
+use Rattle.problem_form.specs.declared.limits.Normal.TheVariants as normals
 use Rattle.problem_form.specs.Problems.{ProblemForm, IsNormalProduct, IsNormalClause, products_total}
 use Rattle.problem_form.specs.Problems as problems
 use Rattle.problem_form.specs.Limits.{penalty, upper, limit_fault}
@@ -94,7 +95,7 @@ made_image p first second third table constant products clauses summed =
     summed ∙ ap (λ (t : TableForm). record { width = t.width; terms = collected [] t.terms }) listed
 
 -- after the products the clauses fit
-pub clauses_fit : (p : ProblemForm) (first second : TableForm) → limit_fault p ≡ None
+pub clauses_fit : (p : ProblemForm) (first second : TableForm) → limit_fault normals.Literal p ≡ None
     → first ≡ appended (record { width = p.variables; terms = [] }) [] p.constant
     → second ≡ with_more first (map product_term p.objective)
     → terms_total second.terms + clause_weights (penalty p) p.clauses ≤ 2 ^ 64 - 1
@@ -108,7 +109,7 @@ clauses_fit p first second none constant products =
       (within_limits p none).weight,
     )
 
-pub made_total : (p : ProblemForm) (third : TableForm) → limit_fault p ≡ None → third ≡ image p
+pub made_total : (p : ProblemForm) (third : TableForm) → limit_fault normals.Literal p ≡ None → third ≡ image p
     → terms_total third.terms + 1 ≤ 2 ^ 64
 made_total p third none made =
     omega (
@@ -144,7 +145,7 @@ made_relaxes link p third threshold fit made high =
     λ t z. Relaxes (problems.form_of p) (tables.form_of t) (first_bits link) (record { scale = pos 1; offset = pos 0; threshold = z }) in
     subst (λ t. Q t threshold) (sym made) (subst (λ z. Q (image p) z) (sym high) (penalty_relaxes link p fit))
 
-pub threshold_within : (p : ProblemForm) (threshold : ℤ) → limit_fault p ≡ None → threshold ≡ upper p
+pub threshold_within : (p : ProblemForm) (threshold : ℤ) → limit_fault normals.Literal p ≡ None → threshold ≡ upper p
     → unsigned_abs threshold ≤ 2 ^ 64
 threshold_within p threshold none high =
     let limits = within_limits p none in

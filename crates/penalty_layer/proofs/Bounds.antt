@@ -6,9 +6,10 @@ use Rattle.std.proofs.lemmas.Int.{ints}
 use Rattle.std.proofs.lemmas.Bool.{cases_lt, lt-ltb}
 use Rattle.std.proofs.lemmas.List.Sums.{sum_by-cons}
 use Rattle.problem_form.specs.declared.limits.LimitFault.{LimitFault}
-use Rattle.problem_form.specs.declared.limits.LimitKind.TheVariants.{Variables, Degree, Pairs, Weight}
+use Rattle.problem_form.specs.declared.limits.LimitKind.TheVariants.{Variables, Degree, Negations, Pairs, Weight}
 use Rattle.problem_form.specs.declared.terms.Product.{Product}
 use Rattle.problem_form.specs.declared.terms.Clause.{Clause}
+use Rattle.problem_form.specs.declared.limits.Normal.TheVariants as normals
 use Rattle.problem_form.specs.Problems.{ProblemForm, products_total, soft_weight}
 use Rattle.problem_form.specs.Limits.{Counted, first_passed, limit_fault, degree, degrees, pairs, weight, penalty, cost_size, upper, most_degree}
 use Rattle.problem_form.proofs.CountedNumbers.{positive_total-le}
@@ -36,24 +37,26 @@ within_first c cs none =
     rest true e h = absurd cc
     rest false e h = h
 
--- the four counted numbers are within their limits
+-- the counted numbers are within their limits
 pub record IsWithin (p : ProblemForm) : Type 0 where
   pub variables : p.variables ≤ 2 ^ 20
   pub degree : degree p ≤ most_degree
-  pub pairs : pairs p ≤ 2 ^ 24
+  pub pairs : pairs normals.Literal p ≤ 2 ^ 24
   pub weight : weight p ≤ 2 ^ 64 - 1
 
-pub within_limits : (p : ProblemForm) → limit_fault p ≡ None → IsWithin p
+pub within_limits : (p : ProblemForm) → limit_fault normals.Literal p ≡ None → IsWithin p
 within_limits p none =
     let variables : Counted = record { kind = Variables; number = p.variables; most = 2 ^ 20 } in
     let degrees : Counted = record { kind = Degree; number = degree p; most = most_degree } in
-    let all_pairs : Counted = record { kind = Pairs; number = pairs p; most = 2 ^ 24 } in
+    let complements : Counted = record { kind = Negations; number = 0; most = 8 } in
+    let all_pairs : Counted = record { kind = Pairs; number = pairs normals.Literal p; most = 2 ^ 24 } in
     let weights : Counted = record { kind = Weight; number = weight p; most = 2 ^ 64 - 1 } in
-    let first = within_first variables (degrees ∷ all_pairs ∷ weights ∷ []) none in
-    let second = within_first degrees (all_pairs ∷ weights ∷ []) first.1 in
-    let third = within_first all_pairs (weights ∷ []) second.1 in
-    let fourth = within_first weights [] third.1 in
-    record { variables = first.0; degree = second.0; pairs = third.0; weight = fourth.0 }
+    let first = within_first variables (degrees ∷ complements ∷ all_pairs ∷ weights ∷ []) none in
+    let second = within_first degrees (complements ∷ all_pairs ∷ weights ∷ []) first.1 in
+    let third = within_first complements (all_pairs ∷ weights ∷ []) second.1 in
+    let fourth = within_first all_pairs (weights ∷ []) third.1 in
+    let fifth = within_first weights [] fourth.1 in
+    record { variables = first.0; degree = second.0; pairs = fourth.0; weight = fifth.0 }
 
 -- ---- degrees
 

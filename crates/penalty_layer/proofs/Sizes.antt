@@ -6,8 +6,9 @@ use Rattle.std.proofs.lemmas.List.Sums.{sum_by-cons, sum_by-append}
 use Rattle.problem_form.specs.declared.literal.Literal.{Literal}
 use Rattle.problem_form.specs.declared.terms.Product.{Product}
 use Rattle.problem_form.specs.declared.terms.Clause.{Clause}
-use Rattle.problem_form.specs.Problems.{ProblemForm, products_total, products_size}
-use Rattle.problem_form.specs.Limits.{penalty, pairs, limit_fault}
+use Rattle.problem_form.specs.declared.limits.Normal.TheVariants as normals
+use Rattle.problem_form.specs.Problems.{ProblemForm, products_total}
+use Rattle.problem_form.specs.Limits.{penalty, product_pairs, clause_pairs, pairs, limit_fault}
 use Rattle.term_table.specs.Terms.{Term, Ascends, terms_total}
 use Rattle.term_table.specs.Tables.{table_size}
 use Rattle.term_table.proofs.Additions.{sets_sum, sets_sum-cons, sets_sum-collected, terms_total-cons, terms_total-collected}
@@ -22,18 +23,19 @@ square ls = length ls ^ 2
 
 -- ---- degrees
 
-products_squares : (ts : List Product) → sets_sum square (map product_term ts) ≡ products_size ts
+products_squares : (ts : List Product)
+    → sets_sum square (map product_term ts) ≡ sum_by (product_pairs normals.Literal) ts
 products_squares [] = omega arith
 products_squares (t ∷ ts) =
     omega (
       arith,
       products_squares ts,
       sets_sum-cons square (product_term t) (map product_term ts),
-      sum_by-cons (λ (u : Product). length u.literals ^ 2) t ts,
+      sum_by-cons (product_pairs normals.Literal) t ts,
     )
 
 clauses_squares : (n : ℕ) (cs : List Clause)
-    → sets_sum square (map (clause_term n) cs) ≡ sum_by (λ c. length c.literals ^ 2) cs
+    → sets_sum square (map (clause_term n) cs) ≡ sum_by (clause_pairs normals.Literal) cs
 clauses_squares n [] = omega arith
 clauses_squares n (c ∷ cs) =
     omega (
@@ -41,10 +43,11 @@ clauses_squares n (c ∷ cs) =
       clauses_squares n cs,
       ap (λ m. m ^ 2) (opposites_length c.literals),
       sets_sum-cons square (clause_term n c) (map (clause_term n) cs),
-      sum_by-cons (λ (u : Clause). length u.literals ^ 2) c cs,
+      sum_by-cons (clause_pairs normals.Literal) c cs,
     )
 
-contributions_squares : (p : ProblemForm) → sets_sum square (contributions p) ≡ pairs p
+contributions_squares : (p : ProblemForm)
+    → sets_sum square (contributions p) ≤ pairs normals.Literal p
 contributions_squares p =
     omega (
       arith,
@@ -54,7 +57,7 @@ contributions_squares p =
       clauses_squares (penalty p) p.clauses,
     )
 
-pub size_within : (p : ProblemForm) → limit_fault p ≡ None → Ascends (image p).terms
+pub size_within : (p : ProblemForm) → limit_fault normals.Literal p ≡ None → Ascends (image p).terms
     → table_size (image p) ≤ 2 ^ 26
 size_within p none ascends =
     let limits = within_limits p none in

@@ -9,6 +9,7 @@ use Rattle.bits_model.specs.declared.layer.BitsLink.{BitsLink}
 use Rattle.problem_form.specs.declared.literal.Literal.{Literal}
 use Rattle.problem_form.specs.declared.terms.Clause.{Clause}
 use Rattle.problem_form.specs.declared.terms.Product.{Product}
+use Rattle.problem_form.specs.declared.limits.Normal.TheVariants as normals
 use Rattle.problem_form.specs.Problems.{ProblemForm, IsNormal}
 use Rattle.problem_form.specs.Limits.{penalty, upper, limit_fault}
 use Rattle.term_table.specs.Terms.{Term, collected}
@@ -48,7 +49,7 @@ figures p = record { scale = pos 1; offset = pos 0; threshold = upper p }
 -- a problem in normal form and within the limits, without constraints
 pub record Admits (p : ProblemForm) : Type 0 where
   pub normal : IsNormal p
-  pub within : limit_fault p ≡ None
+  pub within : limit_fault normals.Literal p ≡ None
   pub unconstrained : p.constraints ≡ []
 
 -- a link between a problem without constraints and its image, which adds no nodes

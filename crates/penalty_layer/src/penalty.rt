@@ -56,7 +56,7 @@ impl Guard for Penalty {
         let mut terms = GatheredTerms::new(alloc, width);
         terms.add(&[], source.constant)?;
         add_products(&mut terms, source.objective.as_slice())?;
-        let penalty = source.cost_size() + 1;
+        let penalty = source.penalty();
         add_clauses(alloc, &mut terms, source.clauses.as_slice(), penalty)?;
         Ok(Guarded {
             target: terms.into_table(),

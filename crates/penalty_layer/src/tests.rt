@@ -37,7 +37,8 @@ fn two_clauses(alloc: Global) -> Result<Problem, NoMemory>
         variable: 0,
         negated: true,
     };
-    let mut problem = Problem::new(alloc, 2);
+    let mut problem = Problem::new(alloc);
+    problem.widen(2);
     problem.add_clause(clause(alloc, &[a, b], None)?)?;
     problem.add_clause(clause(alloc, &[not_a], Some(3))?)?;
     Ok(problem)

@@ -1,10 +1,10 @@
 -- The numbers that are counted against limits, and arithmetic that stops at the greatest of 128 bits.
-use Rattle.std.proofs.Common.{◌≡◌, Bool, true, false, cond, ℕ, zero, suc, ◌+◌, ◌-◌, ◌*◌, ◌<◌, ◌≤◌, ◌^◌, min, arith, refl, sym, ap, ◌∙◌, inl, inr, List, [], ◌∷◌, fold, length, get_or, take, ℤ, pos, negsuc, ◌-ℤ◌, unsigned_abs}
+use Rattle.std.proofs.Common.{◌≡◌, Bool, true, false, cond, leb, ℕ, zero, suc, ◌+◌, ◌-◌, ◌*◌, ◌<◌, ◌≤◌, ◌^◌, min, arith, refl, sym, ap, ◌∙◌, inl, inr, List, [], ◌∷◌, fold, length, get_or, take, ℤ, pos, negsuc, ◌-ℤ◌, unsigned_abs}
 use Rattle.std.specs.List.{sum_by, flat_map}
 use Rattle.std.proofs.lemmas.Int.{ints}
-use Rattle.std.proofs.lemmas.Bool.{cases_lt}
+use Rattle.std.proofs.lemmas.Bool.{cases_lt, le-leb, lt-leb}
 use Rattle.std.proofs.lemmas.List.Sums.{fold-append, sum_by-le-sum_by, sum_by_more}
-use Rattle.std.proofs.Math.Nat.{pow-zero, pow-suc}
+use Rattle.std.proofs.Math.Nat.{pow-zero, pow-suc, pow-le-pow_right}
 use Rattle.integers.specs.Sums.{positive_part}
 use Rattle.problem_form.specs.declared.terms.Product.{Product}
 use Rattle.problem_form.specs.declared.terms.Constraint.{Constraint}
@@ -39,6 +39,21 @@ right_capped m a b = elim (cases_lt m b) [
 
 pub answered-times : (a b : ℕ) → answered (a * answered b) ≡ answered (a * b)
 answered-times a b = right_capped (2 ^ 128 - 1) a b
+
+pub answered-product : (a b : ℕ) → answered (answered a * answered b) ≡ answered (a * b)
+answered-product a b =
+    answered-times (answered a) b
+    ∙ ap answered (turned (answered a) b)
+    ∙ answered-times b a
+    ∙ ap answered (turned b a)
+  where
+    turned : (m n : ℕ) → m * n ≡ n * m
+    turned m n = omega arith
+
+pub answered-power : (e : ℕ) → 128 ≤ e → 2 ^ 128 - 1 ≡ answered (2 ^ e)
+answered-power e h =
+    let more : 2 ^ 128 ≤ 2 ^ e = pow-le-pow_right {n = 2} (omega arith) h in
+    omega arith
 
 -- ---- sizes
 
@@ -96,23 +111,53 @@ squares_more n ks i k total r square part next in' item so_far at_r at_square at
     ∙ ap (λ c. answered (sum_by f (take i ks) + f c)) item
     ∙ ap answered (sym (sum_by_more f ks i k in'))
 
--- ---- one more square of a degree
-
--- the same, for a sum of any numbers
+-- ---- one more number
+-- a loop's step, for a sum of any numbers
 pub answered_more : {X : Type 0} (f : X → ℕ) (xs : List X) (i : ℕ) (x : X) (total part next : ℕ)
-    → i < length xs → x ≡ get_or xs i x → total ≡ answered (sum_by f (take i xs)) → part ≡ f x
-    → next ≡ answered (total + part) → next ≡ answered (sum_by f (take (i + 1) xs))
+    → i < length xs → x ≡ get_or xs i x → total ≡ answered (sum_by f (take i xs))
+    → part ≡ answered (f x) → next ≡ answered (total + part)
+    → next ≡ answered (sum_by f (take (i + 1) xs))
 answered_more f xs i x total part next in' item so_far at_part at_next =
     at_next
     ∙ (λ j. answered (so_far j + at_part j))
-    ∙ capped (sum_by f (take i xs)) (f x)
+    ∙ answered-plus (sum_by f (take i xs)) (f x)
     ∙ ap (λ c. answered (sum_by f (take i xs) + f c)) item
     ∙ ap answered (sym (sum_by_more f xs i x in'))
-  where
-    capped : (a b : ℕ) → answered (answered a + b) ≡ answered (a + b)
-    capped a b = omega arith
 
 pub answered_sum : (a b p q r : ℕ) → p ≡ answered a → q ≡ answered b → r ≡ answered (p + q)
     → r ≡ answered (a + b)
 answered_sum a b p q r at_p at_q at_r =
     at_r ∙ (λ j. answered (at_p j + at_q j)) ∙ answered-plus a b
+
+pub answered_sum_of_3 : (a b c p q r s t : ℕ) → p ≡ answered a → q ≡ answered b → r ≡ answered c
+    → s ≡ answered (p + q) → t ≡ answered (s + r) → t ≡ answered (a + b + c)
+answered_sum_of_3 a b c p q r s t at_p at_q at_r at_s at_t =
+    answered_sum (a + b) c s r t (answered_sum a b p q s at_p at_q at_s) at_r at_t
+
+-- ---- the pairs of a constraint
+
+-- q is the square of what is answered for n
+answered-squared : (n s q : ℕ) → s ≡ answered n → q ≡ answered (s * s) → q ≡ answered (n ^ 2)
+answered-squared n s q at_s at_q =
+    at_q
+    ∙ (λ i. answered (at_s i * at_s i))
+    ∙ answered-product n n
+    ∙ ap answered (square_is n)
+
+pub squared_alone : (n d s q : ℕ) → s ≡ answered n → q ≡ answered (s * s) → d ≤ 1
+    → q ≡ answered (n ^ 2 * cond (leb d 1) 1 (4 * d ^ 2))
+squared_alone n d s q at_s at_q low =
+    let once : n ^ 2 ≡ n ^ 2 * 1 = omega arith in
+    answered-squared n s q at_s at_q
+    ∙ ap answered once
+    ∙ ap (λ b. answered (n ^ 2 * cond b 1 (4 * d ^ 2))) (sym (le-leb d 1 low))
+
+pub squared_spread : (n d s q t four r : ℕ) → s ≡ answered n → q ≡ answered (s * s) → 1 < d
+    → t ≡ d ^ 2 → four ≡ answered (t * 4) → r ≡ answered (q * four)
+    → r ≡ answered (n ^ 2 * cond (leb d 1) 1 (4 * d ^ 2))
+squared_spread n d s q t four r at_s at_q high at_t at_four at_r =
+    let turned : t * 4 ≡ 4 * d ^ 2 = omega arith in
+    at_r
+    ∙ (λ i. answered (answered-squared n s q at_s at_q i * (at_four ∙ ap answered turned) i))
+    ∙ answered-product (n ^ 2) (4 * d ^ 2)
+    ∙ ap (λ b. answered (n ^ 2 * cond b 1 (4 * d ^ 2))) (sym (lt-leb d 1 high))

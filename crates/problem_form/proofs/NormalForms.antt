@@ -1,8 +1,8 @@
--- The normal form of a problem: it costs what the problem costs, and clauses add up to it.
+-- The normal form of a problem costs what the problem costs.
 --
 -- The set of a list passes the same tests as the list. A literal and its complement are never both
 -- true and never both false, so a clash makes a product 0 and a clause true.
-use Rattle.std.proofs.Common.{◌≡◌, ℕ, Bool, true, false, cond, not, ◌&&◌, ◌||◌, eqb, arith, refl, sym, ap, ◌∙◌, List, [], ◌∷◌, ◌++◌, append-nil, append_assoc, fold, map, get_or, length, Option, Some, None, is_none, ℤ, pos, ◌+ℤ◌, ◌-ℤ◌, int_lt}
+use Rattle.std.proofs.Common.{◌≡◌, ℕ, Bool, true, false, cond, not, ◌&&◌, ◌||◌, eqb, arith, refl, sym, ap, ◌∙◌, List, [], ◌∷◌, ◌++◌, map, get_or, length, Option, Some, None, is_none, ℤ, pos, ◌+ℤ◌, ◌-ℤ◌, int_lt}
 use Rattle.std.specs.Ordering.{int_eq}
 use Rattle.std.specs.List.{list_any, flat_map}
 use Rattle.std.proofs.lemmas.Int.{ints}
@@ -21,36 +21,8 @@ use Rattle.problem_form.specs.declared.terms.Clause.{Clause}
 use Rattle.problem_form.specs.declared.terms.Constraint.{Constraint}
 use Rattle.problem_form.specs.Literals.{holds, all_hold, some_holds, are_opposite, has_clash, literal_set}
 use Rattle.problem_form.specs.Problems.{ProblemForm, product_value, sum_of, soft_cost, fails_hard, fails}
-use Rattle.problem_form.specs.NormalForm.{is_empty, kept_product, product_constant, is_plain_cost, kept_clause, weight_constant, clause_constant, normal_constraint, blank, with_clause, NormalFormKeepsCosts, ClausesAddUp}
+use Rattle.problem_form.specs.NormalForm.{is_empty, kept_product, product_constant, is_plain_cost, kept_clause, weight_constant, clause_constant, normal_constraint, NormalFormKeepsCosts}
 use Rattle.problem_form.proofs.LiteralSets.{list_any-literal_set, list_all-literal_set}
-
--- ---- clauses add up
-
-add_up : (p : ProblemForm) (cs : List Clause)
-    → fold with_clause p cs
-    ≡ record p {
-      constant = p.constant +ℤ total_by clause_constant cs;
-      clauses = p.clauses ++ flat_map kept_clause cs;
-    }
-add_up p [] =
-    let none : p.constant ≡ p.constant +ℤ pos 0 = omega (arith, ints) in
-    λ i. record p { constant = none i; clauses = sym (append-nil p.clauses) i }
-add_up p (c ∷ cs) =
-    let constant :
-    p.constant +ℤ clause_constant c +ℤ total_by clause_constant cs
-    ≡ p.constant +ℤ (clause_constant c +ℤ total_by clause_constant cs) =
-    omega (arith, ints) in
-    let clauses = append_assoc p.clauses (kept_clause c) (flat_map kept_clause cs) in
-    add_up (with_clause p c) cs
-    ∙ (λ i. record p { constant = constant i; clauses = clauses i })
-
-pub clauses_add_up : ClausesAddUp
-clauses_add_up variables cs =
-    let constant :
-    pos 0 +ℤ total_by clause_constant cs ≡ pos 0 +ℤ pos 0 +ℤ total_by clause_constant cs =
-    omega (arith, ints) in
-    add_up (blank variables) cs
-    ∙ (λ i. record (blank variables) { constant = constant i; clauses = flat_map kept_clause cs })
 
 -- ---- a literal and its complement
 

@@ -1,13 +1,16 @@
 -- The numbers of a problem that are counted against limits, as mathematical whole numbers.
-use Rattle.std.specs.Prelude.{ℕ, ◌+◌, ◌-◌, ◌*◌, ◌^◌, min, max, ℤ, pos, ◌+ℤ◌, ◌-ℤ◌, unsigned_abs, List, [], ◌∷◌, ◌++◌, length, Option, Some, None, is_none, map, fold, count_by, nat_lt, if◌then◌else◌}
+use Rattle.std.specs.Prelude.{ℕ, zero, suc, ◌+◌, ◌-◌, ◌*◌, ◌^◌, ◌<◌, ◌≤◌, min, max, ℤ, pos, ◌+ℤ◌, ◌-ℤ◌, unsigned_abs, not, List, [], ◌∷◌, ◌++◌, length, Option, Some, None, is_none, map, fold, count_by, nat_lt, nat_le, if◌then◌else◌}
 use Rattle.std.specs.List.{sum_by, flat_map}
 use Rattle.integers.specs.Sums.{positive_part}
 use Rattle.problem_form.specs.declared.limits.LimitKind.{LimitKind}
-use Rattle.problem_form.specs.declared.limits.LimitKind.TheVariants.{Variables, Degree, Pairs, Weight}
+use Rattle.problem_form.specs.declared.limits.LimitKind.TheVariants.{Variables, Degree, Negations, Pairs, Weight}
 use Rattle.problem_form.specs.declared.limits.LimitFault.{LimitFault}
+use Rattle.problem_form.specs.declared.limits.Normal.{Normal}
+use Rattle.problem_form.specs.declared.limits.Normal.TheVariants as normals
 use Rattle.problem_form.specs.declared.terms.Product.{Product}
+use Rattle.problem_form.specs.declared.terms.Clause.{Clause}
 use Rattle.problem_form.specs.declared.terms.Constraint.{Constraint}
-use Rattle.problem_form.specs.Problems.{ProblemForm, products_total, products_size, soft_weight}
+use Rattle.problem_form.specs.Problems.{ProblemForm, products_total, soft_weight}
 
 -- ---- bounds of the costs (A, U and P of the penalty method)
 
@@ -38,13 +41,109 @@ degrees p =
 abbrev pub degree : ProblemForm → ℕ
 degree p = fold max 0 (degrees p)
 
--- the squares of the degrees: how many pairs of literals the terms have, before equal ones are summed
-abbrev pub pairs : ProblemForm → ℕ
-pairs p = products_size p.objective + sum_by (λ c. length c.literals ^ 2) p.clauses
+-- ---- complements
+
+-- the complemented literals of a product
+abbrev pub complements : Product → ℕ
+complements t = count_by (λ l. l.negated) t.literals
+
+-- those of a clause's product, whose literals are the complements of the clause's
+abbrev pub clause_complements : Clause → ℕ
+clause_complements c = count_by (λ l. not l.negated) c.literals
+
+-- the most complements of a product of a constraint
+abbrev pub most_complements : Constraint → ℕ
+most_complements k = fold max 0 (map complements k.products)
+
+-- with the multilinear form, the most complements of a product or a clause, and of a product of two
+-- in the square of a constraint; without it none is counted
+abbrev pub negations : Normal → ProblemForm → ℕ
+negations normals.Literal p = 0
+negations normals.Multilinear p =
+    max (fold max 0 (map complements p.objective ++ map clause_complements p.clauses))
+    (2 * fold max 0 (map most_complements p.constraints))
+
+-- how many terms a product with so many complements becomes at most
+abbrev pub factor : Normal → ℕ → ℕ
+factor normals.Literal complements = 1
+factor normals.Multilinear complements = 2 ^ complements
+
+-- ---- slack
 
 -- how far the sum of a constraint can lie above its bound; an exact one has no slack
 abbrev pub slack_range : Constraint → ℕ
 slack_range k = if k.exact then 0 else positive_part (pos (positive_total k.products) -ℤ k.bound)
+
+-- how many of the first so many powers of 2 are at most n
+abbrev pub powers_within : ℕ → ℕ → ℕ
+powers_within zero n = 0
+powers_within (suc k) n = powers_within k n + (if nat_le (2 ^ k) n then 1 else 0)
+
+-- how many binary digits a number has, and 0 for 0: as many as there are powers of 2 up to it
+abbrev pub binary_digits : ℕ → ℕ
+binary_digits n = powers_within n n
+
+-- the binary digits are the least number of them that holds the number
+abbrev pub DigitsAreLeast : Type 0
+DigitsAreLeast = (n : ℕ) → (n < 2 ^ binary_digits n) × (2 ^ binary_digits n ≤ 2 * n + 1)
+
+-- how many slack bits a constraint gets
+abbrev pub slack_bits : Constraint → ℕ
+slack_bits k = binary_digits (slack_range k)
+
+-- ---- pairs
+
+-- the pairs of literals that a product's terms have
+abbrev pub product_pairs : Normal → Product → ℕ
+product_pairs normal t = factor normal (complements t) * length t.literals ^ 2
+
+abbrev pub clause_pairs : Normal → Clause → ℕ
+clause_pairs normal c = factor normal (clause_complements c) * length c.literals ^ 2
+
+-- the largest degree of a product of a constraint
+abbrev pub constraint_degree : Constraint → ℕ
+constraint_degree k = fold max 0 (map (λ t. length t.literals) k.products)
+
+-- how many terms the sum has that is squared for a constraint: those of its products, its slack bits
+-- and its bound
+abbrev pub summands : Normal → Constraint → ℕ
+summands normal k = factor normal (most_complements k) * (length k.products + slack_bits k + 1)
+
+-- each two of them are a pair of literals, or a product of at most twice the degree
+abbrev pub constraint_pairs : Normal → Constraint → ℕ
+constraint_pairs normal k =
+    summands normal k ^ 2
+    * (if nat_le (constraint_degree k) 1 then 1 else 4 * constraint_degree k ^ 2)
+
+-- the pairs of literals of all terms, before equal ones are summed
+abbrev pub pairs : Normal → ProblemForm → ℕ
+pairs normal p =
+    sum_by (product_pairs normal) p.objective
+    + sum_by (clause_pairs normal) p.clauses
+    + sum_by (constraint_pairs normal) p.constraints
+
+-- ---- auxiliary bits: slack, and one for each literal past the second of a term
+
+abbrev pub product_bits : Normal → Product → ℕ
+product_bits normal t = factor normal (complements t) * (length t.literals - 2)
+
+abbrev pub clause_bits : Normal → Clause → ℕ
+clause_bits normal c = factor normal (clause_complements c) * (length c.literals - 2)
+
+abbrev pub constraint_bits : Normal → Constraint → ℕ
+constraint_bits normal k =
+    slack_bits k
+    + summands normal k ^ 2
+    * (if nat_le (constraint_degree k) 1 then 0 else 2 * constraint_degree k)
+
+-- how many nodes the logical model has at most besides the variables
+abbrev pub auxiliary_bits : Normal → ProblemForm → ℕ
+auxiliary_bits normal p =
+    sum_by (product_bits normal) p.objective
+    + sum_by (clause_bits normal) p.clauses
+    + sum_by (constraint_bits normal) p.constraints
+
+-- ---- weight
 
 -- the greatest size of the value that is squared for a constraint
 abbrev pub reach : Constraint → ℕ
@@ -65,16 +164,21 @@ pub record Counted : Type 0 where
   pub number : ℕ
   pub most : ℕ
 
+-- the greatest number of bytes of a file that is accepted
+abbrev pub most_bytes : ℕ
+most_bytes = 16777216
+
 -- the greatest degree that is accepted
 abbrev pub most_degree : ℕ
 most_degree = 1024
 
 -- in the order in which they are checked
-abbrev pub counted_numbers : ProblemForm → List Counted
-counted_numbers p =
+abbrev pub counted_numbers : Normal → ProblemForm → List Counted
+counted_numbers normal p =
     record { kind = Variables; number = p.variables; most = 2 ^ 20 }
     ∷ record { kind = Degree; number = degree p; most = most_degree }
-    ∷ record { kind = Pairs; number = pairs p; most = 2 ^ 24 }
+    ∷ record { kind = Negations; number = negations normal p; most = 8 }
+    ∷ record { kind = Pairs; number = pairs normal p; most = 2 ^ 24 }
     ∷ record { kind = Weight; number = weight p; most = 2 ^ 64 - 1 }
     ∷ []
 
@@ -90,5 +194,5 @@ first_passed (c ∷ cs) =
     then Some (record { kind = c.kind; number = answered c.number })
     else first_passed cs
 
-abbrev pub limit_fault : ProblemForm → Option LimitFault
-limit_fault p = first_passed (counted_numbers p)
+abbrev pub limit_fault : Normal → ProblemForm → Option LimitFault
+limit_fault normal p = first_passed (counted_numbers normal p)

@@ -30,6 +30,13 @@ kept_product t =
 abbrev pub product_constant : Product → ℤ
 product_constant t = if is_empty t.literals then t.coefficient else pos 0
 
+-- a product with its literals in order, and with the coefficient 0 where it is dropped
+abbrev pub settled : Product → Product
+settled t = record {
+  literals = literal_set t.literals;
+  coefficient = if has_clash t.literals || is_empty t.literals then pos 0 else t.coefficient;
+}
+
 -- ---- clauses
 
 -- a soft clause that is dropped, or goes into the constant
@@ -72,34 +79,61 @@ normal_form p = record {
   constraints = map normal_constraint p.constraints;
 }
 
--- a problem of so many variables that says nothing yet
-abbrev pub blank : ℕ → ProblemForm
-blank variables = record {
-  variables = variables;
-  constant = pos 0;
-  objective = [];
-  clauses = [];
-  constraints = [];
+-- the normal form costs what the problem as written costs, under every assignment
+abbrev pub NormalFormKeepsCosts : Type 0
+NormalFormKeepsCosts =
+    (p : ProblemForm) (x : List Bool) → problem_cost (normal_form p) x ≡ problem_cost p x
+
+-- ---- part by part
+
+-- a problem of no variables that says nothing
+abbrev pub blank : ProblemForm
+blank = record { variables = 0; constant = pos 0; objective = []; clauses = []; constraints = [] }
+
+-- so many variables
+abbrev pub widened : ProblemForm → ℕ → ProblemForm
+widened p variables = record p { variables = variables }
+
+-- a problem in normal form, with one more product as written
+abbrev pub with_product : ProblemForm → Product → ProblemForm
+with_product p t = record p {
+  constant = p.constant +ℤ product_constant t;
+  objective = p.objective ++ kept_product t;
 }
 
--- a problem in normal form with one more clause as written
+-- with one more clause as written
 abbrev pub with_clause : ProblemForm → Clause → ProblemForm
 with_clause p c = record p {
   constant = p.constant +ℤ clause_constant c;
   clauses = p.clauses ++ kept_clause c;
 }
 
--- the normal form costs what the problem as written costs, under every assignment
-abbrev pub NormalFormKeepsCosts : Type 0
-NormalFormKeepsCosts =
-    (p : ProblemForm) (x : List Bool) → problem_cost (normal_form p) x ≡ problem_cost p x
+-- with one more constraint as written
+abbrev pub with_constraint : ProblemForm → Constraint → ProblemForm
+with_constraint p k = record p { constraints = p.constraints ++ normal_constraint k ∷ [] }
 
--- a problem that has clauses alone
-abbrev pub of_clauses : ℕ → List Clause → ProblemForm
-of_clauses variables cs = record (blank variables) { clauses = cs }
+-- what a source says, one after the other: how many variables there are, and what is added
+pub data Part : Type 0 where
+  Widened : ℕ → Part
+  AddedProduct : Product → Part
+  AddedClause : Clause → Part
+  AddedConstraint : Constraint → Part
 
--- clauses that are added one by one to a blank problem give the normal form of them all
-abbrev pub ClausesAddUp : Type 0
-ClausesAddUp =
-    (variables : ℕ) (cs : List Clause)
-    → fold with_clause (blank variables) cs ≡ normal_form (of_clauses variables cs)
+-- a problem in normal form, with one more part
+abbrev pub with_part : ProblemForm → Part → ProblemForm
+with_part p (Widened variables) = widened p variables
+with_part p (AddedProduct t) = with_product p t
+with_part p (AddedClause c) = with_clause p c
+with_part p (AddedConstraint k) = with_constraint p k
+
+-- a problem as written, with one more part
+abbrev pub as_written : ProblemForm → Part → ProblemForm
+as_written p (Widened variables) = widened p variables
+as_written p (AddedProduct t) = record p { objective = p.objective ++ t ∷ [] }
+as_written p (AddedClause c) = record p { clauses = p.clauses ++ c ∷ [] }
+as_written p (AddedConstraint k) = record p { constraints = p.constraints ++ k ∷ [] }
+
+-- parts that are added one by one give the normal form of the source as written
+abbrev pub PartsAddUp : Type 0
+PartsAddUp =
+    (parts : List Part) → fold with_part blank parts ≡ normal_form (fold as_written blank parts)

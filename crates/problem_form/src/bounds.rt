@@ -1,6 +1,6 @@
 //! Bounds of the costs of a problem, on which penalties rest.
-ghost use Rattle.std.specs.Prelude.{◌≡◌, ◌<◌, ◌^◌};
-ghost use Rattle.problem_form.specs.Limits.{cost_size, upper};
+ghost use Rattle.std.specs.Prelude.{◌≡◌, ◌<◌, ◌≤◌, ◌^◌};
+ghost use Rattle.problem_form.specs.Limits.{cost_size, penalty, upper};
 
 use crate::counts::{positive_coefficients, size_of_products, soft_weights};
 use crate::problem::Problem;
@@ -13,6 +13,14 @@ impl Problem {
         ensures small { result < 2 ^ 100 }
     {
         size_of_products(self.objective.as_slice()) + soft_weights(self.clauses.as_slice())
+    }
+
+    /// What one violation adds at least: one more than any assignment can gain.
+    pub fn penalty(&self) -> u128
+        ensures value { result ≡ penalty self.now }
+        ensures small { result ≤ 2 ^ 100 }
+    {
+        self.cost_size() + 1
     }
 
     /// The constant, the positive coefficients and the soft weights: no whole cost is greater.

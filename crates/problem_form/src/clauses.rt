@@ -4,11 +4,11 @@ ghost use Rattle.std.specs.Option.{option_to_list};
 ghost use Rattle.problem_form.specs.NormalForm.{clause_constant, is_plain_cost, kept_clause};
 
 use crate::literal::Literal;
-use crate::sets::{clashes, set_of};
+use crate::sets::clashes;
 use crate::terms::Clause;
 
 /// What a clause adds to the constant: the weight of a soft one without literals.
-pub(crate) fn constant_of(clause: &Clause) -> u64
+pub(crate) fn clause_constant(clause: &Clause) -> u64
     ensures { pos result ≡ clause_constant clause.now }
 {
     match clause.weight {
@@ -28,11 +28,14 @@ fn is_number(weight: Option<u64>, literals: &[Literal]) -> bool
 }
 
 /// The clause in normal form, where it is kept.
-pub(crate) fn kept(clause: Clause) -> Option<Clause>
+pub(crate) fn kept_clause(clause: Clause) -> Option<Clause>
     ensures { option_to_list result ≡ kept_clause clause }
 {
-    let Clause { literals, weight } = clause;
-    let literals = set_of(literals);
+    let Clause {
+        mut literals,
+        weight,
+    } = clause;
+    literals.make_set();
     if clashes(literals.as_slice()) {
         return None;
     }

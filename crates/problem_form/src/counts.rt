@@ -2,8 +2,8 @@
 ghost use Rattle.std.specs.Prelude.{◌≡◌, ◌+◌, ◌*◌, ◌<◌, ◌^◌, ℤ, length, map, max, fold, count_by, is_none};
 ghost use Rattle.std.specs.List.{sum_by, flat_map};
 ghost use Rattle.integers.specs.Sums.{positive_part};
-ghost use Rattle.problem_form.specs.Problems.{constraint_total, products_size, products_total, soft_weight};
-ghost use Rattle.problem_form.specs.Limits.{answered, degree, pairs, positive_total, reach, slack_range, weight};
+ghost use Rattle.problem_form.specs.Problems.{constraint_total, products_total, soft_weight};
+ghost use Rattle.problem_form.specs.Limits.{answered, degree, positive_total, reach, slack_range, weight};
 
 use crate::problem::Problem;
 use crate::terms::{Clause, Constraint, Product};
@@ -11,7 +11,7 @@ use crate::terms::{Clause, Constraint, Product};
 // ---- degrees
 
 /// The greatest of `most` and the degrees of the products.
-fn products_degree(most: usize, products: &[Product]) -> usize
+pub(crate) fn products_degree(most: usize, products: &[Product]) -> usize
     ensures { result ≡ fold max most (map (λ t. length t.literals) products.now) }
 {
     products.iter().fold(
@@ -49,45 +49,6 @@ pub(crate) fn degree_of(problem: &Problem) -> usize
     let most = products_degree(0, problem.objective.as_slice());
     let most = clauses_degree(most, problem.clauses.as_slice());
     constraints_degree(most, problem.constraints.as_slice())
-}
-
-// ---- pairs
-
-fn square(degree: usize) -> u128
-    ensures { result ≡ degree ^ 2 }
-{
-    degree as u128 * degree as u128
-}
-
-/// The squares of the degrees of the products. It stops at the greatest number of 128 bits.
-fn product_squares(products: &[Product]) -> u128
-    ensures { result ≡ answered (products_size products.now) }
-{
-    let mut total: u128 = 0;
-    for product in products {
-        total = total.saturating_add(square(product.literals.as_slice().len()));
-    }
-    total
-}
-
-/// The squares of the numbers of literals of the clauses, likewise.
-fn clause_squares(clauses: &[Clause]) -> u128
-    ensures { result ≡ answered (sum_by (λ c. length c.literals ^ 2) clauses.now) }
-{
-    let mut total: u128 = 0;
-    for clause in clauses {
-        total = total.saturating_add(square(clause.literals.as_slice().len()));
-    }
-    total
-}
-
-/// How many pairs the terms have, or the greatest number of 128 bits.
-#[tactic(auto, using(crate::proofs::CountedNumbers::answered_sum))]
-pub(crate) fn pairs_of(problem: &Problem) -> u128
-    ensures { result ≡ answered (pairs problem.now) }
-{
-    let products = product_squares(problem.objective.as_slice());
-    products.saturating_add(clause_squares(problem.clauses.as_slice()))
 }
 
 // ---- sizes
@@ -144,7 +105,7 @@ pub(crate) fn positive_coefficients(products: &[Product]) -> u128
 }
 
 /// How far the sum of a constraint can lie above its bound, and 0 where it is exact.
-fn slack_range_of(constraint: &Constraint) -> u128
+pub(crate) fn slack_range_of(constraint: &Constraint) -> u128
     requires { constraint_total constraint.now < 2 ^ 100 }
     ensures { result ≡ slack_range constraint.now }
 {
@@ -184,7 +145,7 @@ pub(crate) fn weight_of(problem: &Problem) -> u128
     ensures { result ≡ answered (weight problem.now) }
 {
     let costs = problem.cost_size();
-    let penalty = costs + 1;
+    let penalty = problem.penalty();
     let hard = penalty.saturating_mul(hard_clauses(problem.clauses.as_slice()) as u128);
     (problem.constant.unsigned_abs() + costs)
         .saturating_add(hard)

@@ -8,12 +8,14 @@ mod counts;
 mod laws;
 mod limits;
 mod literal;
+mod pairs;
 mod problem;
+mod products;
 mod sets;
 mod terms;
 
-pub use laws::{clauses_add_up, normal_form_keeps_costs};
-pub use limits::{Choices, High, LimitFault, LimitKind, Normal, check_limits};
+pub use laws::{digits_are_least, normal_form_keeps_costs, parts_add_up};
+pub use limits::{Choices, High, LimitFault, LimitKind, MOST_BYTES, Normal, check_limits};
 pub use literal::{Literal, LiteralList, all_hold};
 pub use problem::Problem;
 pub use terms::{Clause, ClauseList, Constraint, ConstraintList, Product, ProductList};

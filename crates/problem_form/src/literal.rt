@@ -1,7 +1,9 @@
 //! Literals, and lists of them.
 ghost use Rattle.std.specs.Prelude.{◌≡◌};
-ghost use Rattle.problem_form.specs.Literals.{all_hold, holds};
+ghost use Rattle.std.specs.List.Sorted.{IsStrictlySortedBy};
+ghost use Rattle.problem_form.specs.Literals.{all_hold, holds, literal_cmp, literal_set};
 
+use crate::sets::make_set;
 use std::marker::Model;
 
 /// A variable or its complement. A variable stands before its complement.
@@ -57,6 +59,14 @@ impl LiteralList {
         ensures { result.now ≡ self.now }
     {
         &self.literals
+    }
+
+    /// Puts the literals in ascending order, each once. It needs no memory.
+    pub(crate) fn make_set(&mut self)
+        ensures set { self.new ≡ literal_set self.old }
+        ensures ordered { IsStrictlySortedBy literal_cmp self.new }
+    {
+        make_set(&mut self.literals);
     }
 
     pub fn into_vec(self) -> Vec<Literal>

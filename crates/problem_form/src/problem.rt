@@ -1,10 +1,11 @@
 //! A problem in normal form.
-ghost use Rattle.std.specs.Prelude.{◌≡◌, ◌+◌, ◌<◌, ◌^◌, All, OnOk, OnErr};
-ghost use Rattle.problem_form.specs.NormalForm.{blank, with_clause};
-ghost use Rattle.problem_form.specs.Problems.{problem_total, soft_weight};
+ghost use Rattle.std.specs.Prelude.{◌≡◌, ◌+◌, ◌<◌, ◌≤◌, ◌^◌, All, OnOk, OnErr, unsigned_abs};
+ghost use Rattle.problem_form.specs.NormalForm.{blank, widened, with_clause, with_constraint, with_product};
+ghost use Rattle.problem_form.specs.Problems.{constraint_total, problem_total, soft_weight};
 
-use crate::clauses::{constant_of, kept};
-use crate::terms::{Clause, ClauseList, ConstraintList, ProductList};
+use crate::clauses::{clause_constant, kept_clause};
+use crate::products::{kept_product, normal_constraint, product_constant};
+use crate::terms::{Clause, ClauseList, Constraint, ConstraintList, Product, ProductList};
 use bits_model::NoMemory;
 use std::alloc::Global;
 use std::marker::Model;
@@ -33,16 +34,42 @@ impl Model for Problem {
 }
 
 impl Problem {
-    /// The problem of so many variables that says nothing yet.
-    pub fn new(alloc: Global, variables: u64) -> Problem
-        ensures { result ≡ blank variables }
+    /// The problem of no variables that says nothing. It takes no memory.
+    pub fn new(alloc: Global) -> Problem
+        ensures { result ≡ blank }
     {
         Problem {
-            variables,
+            variables: 0,
             constant: 0,
             objective: ProductList::new(Vec::new(alloc)),
             clauses: ClauseList::new(Vec::new(alloc)),
             constraints: ConstraintList::new(Vec::new(alloc)),
+        }
+    }
+
+    /// Gives the problem so many variables, which are no fewer than before.
+    pub fn widen(&mut self, variables: u64)
+        requires { self.old.variables ≤ variables }
+        ensures { self.new ≡ widened self.old variables }
+    {
+        self.variables = variables;
+    }
+
+    /// Adds a product as written to the objective, in normal form. Where memory is refused the
+    /// problem stays as it was.
+    pub fn add_product(&mut self, product: Product) -> Result<(), NoMemory>
+        requires within { All (λ l. l.variable < self.old.variables) product.literals }
+        requires small { problem_total self.old + unsigned_abs product.coefficient < 2 ^ 100 }
+        ensures added { OnOk result (self.new ≡ with_product self.old product) }
+        ensures unchanged { OnErr result (self.new ≡ self.old) }
+    {
+        let constant = product_constant(&product);
+        match kept_product(product) {
+            Some(product) => self.objective.push(product),
+            None => {
+                self.constant += constant;
+                Ok(())
+            }
         }
     }
 
@@ -54,13 +81,25 @@ impl Problem {
         ensures added { OnOk result (self.new ≡ with_clause self.old clause) }
         ensures unchanged { OnErr result (self.new ≡ self.old) }
     {
-        let constant = constant_of(&clause);
-        match kept(clause) {
+        let constant = clause_constant(&clause);
+        match kept_clause(clause) {
             Some(clause) => self.clauses.push(clause),
             None => {
                 self.constant += i128::from(constant);
                 Ok(())
             }
         }
+    }
+
+    /// Adds a constraint as written, in normal form. Where memory is refused the problem stays as
+    /// it was.
+    pub fn add_constraint(&mut self, constraint: Constraint) -> Result<(), NoMemory>
+        requires within { All (λ t. All (λ l. l.variable < self.old.variables) t.literals)
+            constraint.products }
+        requires small { problem_total self.old + constraint_total constraint < 2 ^ 100 }
+        ensures added { OnOk result (self.new ≡ with_constraint self.old constraint) }
+        ensures unchanged { OnErr result (self.new ≡ self.old) }
+    {
+        self.constraints.push(normal_constraint(constraint))
     }
 }

@@ -1,7 +1,10 @@
 //! Products, clauses and constraints, and lists of them.
 ghost use Rattle.std.specs.Prelude.{◌≡◌, ◌++◌, ◌∷◌, [], OnOk, OnErr};
+ghost use Rattle.std.specs.List.{flat_map};
+ghost use Rattle.problem_form.specs.NormalForm.{kept_product};
 
 use crate::literal::LiteralList;
+use crate::products::keep_products;
 use bits_model::NoMemory;
 use std::marker::Model;
 
@@ -53,6 +56,21 @@ impl ProductList {
         ensures { result.now ≡ self.now }
     {
         &self.products
+    }
+
+    pub(crate) fn push(&mut self, product: Product) -> Result<(), NoMemory>
+        ensures pushed { OnOk result (self.new ≡ self.old ++ product ∷ []) }
+        ensures unchanged { OnErr result (self.new ≡ self.old) }
+    {
+        self.products.push(product)?;
+        Ok(())
+    }
+
+    /// Leaves the products in normal form, in their own memory.
+    pub(crate) fn keep(&mut self)
+        ensures { self.new ≡ flat_map kept_product self.old }
+    {
+        keep_products(&mut self.products);
     }
 }
 
@@ -119,5 +137,13 @@ impl ConstraintList {
         ensures { result.now ≡ self.now }
     {
         &self.constraints
+    }
+
+    pub(crate) fn push(&mut self, constraint: Constraint) -> Result<(), NoMemory>
+        ensures pushed { OnOk result (self.new ≡ self.old ++ constraint ∷ []) }
+        ensures unchanged { OnErr result (self.new ≡ self.old) }
+    {
+        self.constraints.push(constraint)?;
+        Ok(())
     }
 }

@@ -70,7 +70,8 @@ fn problem_of(
 ) -> Result<Problem, NoMemory>
     requires { length clauses.now < 100 }
 {
-    let mut problem = Problem::new(alloc, variables);
+    let mut problem = Problem::new(alloc);
+    problem.widen(variables);
     for (literals, weight) in clauses {
         add(alloc, &mut problem, literals, *weight)?;
     }

@@ -8,8 +8,8 @@ use Rattle.whole_text.specs.Tokens.{Word}
 use Rattle.whole_text.specs.Steps.{◌>>=◌, Fails, fault, end_line}
 use Rattle.problem_form.specs.declared.terms.Clause.{Clause}
 use Rattle.problem_form.specs.Problems.{ProblemForm}
-use Rattle.problem_form.specs.NormalForm.{blank, with_clause, normal_form}
-use Rattle.problem_form.proofs.NormalForms.{clauses_add_up}
+use Rattle.problem_form.specs.NormalForm.{blank, widened, with_clause, normal_form}
+use Rattle.problem_form.proofs.AddedParts.{clauses_add_up}
 use Rattle.wcnf_reader.proofs.Lengths.{both_parts}
 use Rattle.wcnf_reader.specs.Wcnf.{Header, Listed, Wcnf, header_at, clause_at, clauses_at, ended, wcnf_of}
 use Rattle.wcnf_reader.specs.Cost.{clause_of, problem_of}
@@ -101,7 +101,7 @@ clauses_done top count i variables end p ws total le so_far =
 
 -- what is put into a problem that says nothing is the normal form of what is listed
 into_blank : (h : Header) (read : Listing)
-    → read_into h.top (blank h.variables) read
+    → read_into h.top (widened blank h.variables) read
     ≡ (read >>= λ (x : List Listed × List Word). Ok (listed_problem h x.0, x.1))
 into_blank h (Ok x) =
     ap (λ (p : ProblemForm). Ok (p, x.1)) (clauses_add_up h.variables (map (clause_of h.top) x.0))
@@ -109,7 +109,7 @@ into_blank h (Err f) = refl
 
 pub problem_read-blank : (h : Header) (end : ℕ) (ws : List Word)
     → problem_read h end ws
-    ≡ read_into h.top (blank h.variables) (clauses_at h.clauses h.variables end ws)
+    ≡ read_into h.top (widened blank h.variables) (clauses_at h.clauses h.variables end ws)
 problem_read-blank h end ws = sym (into_blank h (clauses_at h.clauses h.variables end ws))
 
 abbrev pub whole : Header → List Listed → Wcnf

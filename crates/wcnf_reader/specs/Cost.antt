@@ -10,7 +10,7 @@ use Rattle.whole_text.specs.Steps.{◌>>=◌}
 use Rattle.problem_form.specs.declared.literal.Literal.{Literal}
 use Rattle.problem_form.specs.declared.terms.Clause.{Clause}
 use Rattle.problem_form.specs.Problems.{ProblemForm, problem_cost}
-use Rattle.problem_form.specs.NormalForm.{normal_form, blank}
+use Rattle.problem_form.specs.NormalForm.{normal_form, blank, widened}
 use Rattle.wcnf_reader.specs.Wcnf.{Listed, Wcnf, reading}
 
 -- ---- the cost of the text as written
@@ -66,7 +66,7 @@ clause_of top c = record {
 
 -- the problem as written
 abbrev pub problem_of : Wcnf → ProblemForm
-problem_of s = record (blank s.variables) { clauses = map (clause_of s.top) s.clauses }
+problem_of s = record (widened blank s.variables) { clauses = map (clause_of s.top) s.clauses }
 
 -- the reading of a text, as a problem in normal form
 unfoldable pub normal_reading : List ℕ → Result ProblemForm TextFault

@@ -24,7 +24,8 @@ fn clauses<'a>(
     ensures { Gives (λ x. (x.0, words_at text.now x.1.now)) result
         (problem_read (header_of start) end (words_at text.now tokens.now)) }
 {
-    let mut problem = Problem::new(alloc, start.variables);
+    let mut problem = Problem::new(alloc);
+    problem.widen(start.variables);
     let mut rest = tokens;
     for _ in 0..start.clauses {
         let (clause, after) = clause(alloc, text, rest, start, end)?;

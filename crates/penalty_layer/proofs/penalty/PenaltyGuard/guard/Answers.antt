@@ -42,9 +42,9 @@ add_clauses-requires-clause-small c =
     let second = products_added p _ c.add.new.self c.add_products.new.terms c.as_slice.result.now same
     c.in_ok-add_products.ensures c.as_slice.ensures in
     let fit = clauses_fit p c.add.new.self c.add_products.new.terms c.requires.within first second in
-    let number = ap (λ n. n + 1) c.cost_size-penalty.ensures.value in
+    let number = c.penalty-penalty.ensures.value in
     let clauses = c.as_slice-2.ensures ∙ ap (λ (q : ProblemForm). q.clauses) same in
-    let weights : clause_weights (c.cost_size-penalty.result + 1) c.as_slice-2.result.now ≡ clause_weights (penalty p) p.clauses =
+    let weights : clause_weights c.penalty-penalty.result c.as_slice-2.result.now ≡ clause_weights (penalty p) p.clauses =
     λ i. clause_weights (number i) (clauses i) in
     omega (arith, fit, weights)
 
@@ -58,7 +58,7 @@ returns-clause-relaxes c =
     c.in_ok-add_products.ensures c.as_slice.ensures in
     let third = clauses_added p _ c.add_products.new.terms c.add_clauses.new.terms _
     c.as_slice-2.result.now same c.in_ok-add_clauses.ensures
-    (ap (λ n. n + 1) c.cost_size-penalty.ensures.value) c.as_slice-2.ensures in
+    c.penalty-penalty.ensures.value c.as_slice-2.ensures in
     let made = made_image p c.add.new.self c.add_products.new.terms c.add_clauses.new.terms c.into_table.result first second third c.into_table.ensures in
     let width = ap (λ (q : ProblemForm). q.variables) same in
     let link : BitsLink = record { source_width = c.source.inside.variables; target_width = c.source.inside.variables } in
@@ -81,7 +81,7 @@ returns-clause-total c =
     c.in_ok-add_products.ensures c.as_slice.ensures in
     let third = clauses_added p _ c.add_products.new.terms c.add_clauses.new.terms _
     c.as_slice-2.result.now same c.in_ok-add_clauses.ensures
-    (ap (λ n. n + 1) c.cost_size-penalty.ensures.value) c.as_slice-2.ensures in
+    c.penalty-penalty.ensures.value c.as_slice-2.ensures in
     let made = made_image p c.add.new.self c.add_products.new.terms c.add_clauses.new.terms c.into_table.result first second third c.into_table.ensures in
     made_total p c.into_table.result c.requires.within made
 
@@ -95,6 +95,6 @@ returns-clause-size c =
     c.in_ok-add_products.ensures c.as_slice.ensures in
     let third = clauses_added p _ c.add_products.new.terms c.add_clauses.new.terms _
     c.as_slice-2.result.now same c.in_ok-add_clauses.ensures
-    (ap (λ n. n + 1) c.cost_size-penalty.ensures.value) c.as_slice-2.ensures in
+    c.penalty-penalty.ensures.value c.as_slice-2.ensures in
     let made = made_image p c.add.new.self c.add_products.new.terms c.add_clauses.new.terms c.into_table.result first second third c.into_table.ensures in
     made_size p c.into_table.result c.requires made

@@ -16,7 +16,7 @@ invariant_of-self c =
     let Within : ProblemForm → Type 0 = λ f. All (λ l. l.variable < f.variables) added.literals in
     let within : Within p = subst Within (sym c.self.view_is) c.requires.within in
     let same : c.in-Some.clause ∷ [] ≡ kept_clause added =
-    ap option_to_list (sym c.in-Some.is) ∙ c.kept.ensures in
+    ap option_to_list (sym c.in-Some.is) ∙ c.kept_clause.ensures in
     let With : List Clause → Type 0 = λ cs. IsSound (record p { clauses = cs }) in
     let set : With (p.clauses ++ c.in-Some.clause ∷ []) =
     subst IsSound (sym (with_clause-push p added c.in-Some.clause same))

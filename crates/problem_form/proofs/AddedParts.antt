@@ -1,0 +1,94 @@
+-- Parts that are added to a problem one by one give the normal form of what they say.
+--
+-- Each part that is added to a normal form gives the normal form of the source with that part.
+use Rattle.std.proofs.Common.{◌≡◌, ℕ, arith, refl, sym, ap, ◌∙◌, List, [], ◌∷◌, ◌++◌, append-nil, append_assoc, fold, map, pos, ◌+ℤ◌}
+use Rattle.std.specs.List.{flat_map}
+use Rattle.std.proofs.lemmas.Int.{ints}
+use Rattle.std.proofs.lemmas.List.{flat_map_more, map-append}
+use Rattle.std.proofs.lemmas.List.Folds.{fold-map}
+use Rattle.integers.proofs.Totals.{total_by-append}
+use Rattle.integers.specs.Sums.{total_by}
+use Rattle.problem_form.specs.declared.terms.Product.{Product}
+use Rattle.problem_form.specs.declared.terms.Clause.{Clause}
+use Rattle.problem_form.specs.declared.terms.Constraint.{Constraint}
+use Rattle.problem_form.specs.Problems.{ProblemForm}
+use Rattle.problem_form.specs.NormalForm.{Part, Widened, AddedProduct, AddedClause, AddedConstraint, kept_product, product_constant, kept_clause, clause_constant, normal_constraint, normal_form, blank, widened, with_product, with_clause, with_constraint, with_part, as_written, PartsAddUp}
+
+-- ---- one part
+
+product_added : (p : ProblemForm) (t : Product)
+    → with_product (normal_form p) t ≡ normal_form (as_written p (AddedProduct t))
+product_added p t =
+    let constant :
+    p.constant
+    +ℤ total_by product_constant p.objective
+    +ℤ total_by clause_constant p.clauses
+    +ℤ product_constant t
+    ≡ p.constant
+    +ℤ total_by product_constant (p.objective ++ t ∷ [])
+    +ℤ total_by clause_constant p.clauses =
+    omega (arith, ints, total_by-append product_constant p.objective (t ∷ [])) in
+    λ i. record (normal_form p) {
+      constant = constant i;
+      objective = flat_map_more kept_product [] p.objective t i;
+    }
+
+clause_added : (p : ProblemForm) (c : Clause)
+    → with_clause (normal_form p) c ≡ normal_form (as_written p (AddedClause c))
+clause_added p c =
+    let constant :
+    p.constant
+    +ℤ total_by product_constant p.objective
+    +ℤ total_by clause_constant p.clauses
+    +ℤ clause_constant c
+    ≡ p.constant
+    +ℤ total_by product_constant p.objective
+    +ℤ total_by clause_constant (p.clauses ++ c ∷ []) =
+    omega (arith, ints, total_by-append clause_constant p.clauses (c ∷ [])) in
+    λ i. record (normal_form p) {
+      constant = constant i;
+      clauses = flat_map_more kept_clause [] p.clauses c i;
+    }
+
+constraint_added : (p : ProblemForm) (k : Constraint)
+    → with_constraint (normal_form p) k ≡ normal_form (as_written p (AddedConstraint k))
+constraint_added p k =
+    λ i. record (normal_form p) {
+      constraints = sym (map-append normal_constraint p.constraints (k ∷ [])) i;
+    }
+
+part_added : (p : ProblemForm) (part : Part)
+    → with_part (normal_form p) part ≡ normal_form (as_written p part)
+part_added p (Widened variables) = refl
+part_added p (AddedProduct t) = product_added p t
+part_added p (AddedClause c) = clause_added p c
+part_added p (AddedConstraint k) = constraint_added p k
+
+-- ---- all parts
+
+parts_from : (p : ProblemForm) (parts : List Part)
+    → fold with_part (normal_form p) parts ≡ normal_form (fold as_written p parts)
+parts_from p [] = refl
+parts_from p (part ∷ parts) =
+    ap (λ q. fold with_part q parts) (part_added p part) ∙ parts_from (as_written p part) parts
+
+pub parts_add_up : PartsAddUp
+parts_add_up parts = parts_from blank parts
+
+-- ---- clauses alone
+
+clauses_written : (p : ProblemForm) (cs : List Clause)
+    → fold as_written p (map AddedClause cs) ≡ record p { clauses = p.clauses ++ cs }
+clauses_written p [] = λ i. record p { clauses = sym (append-nil p.clauses) i }
+clauses_written p (c ∷ cs) =
+    clauses_written (record p { clauses = p.clauses ++ c ∷ [] }) cs
+    ∙ (λ i. record p { clauses = append_assoc p.clauses (c ∷ []) cs i })
+
+-- clauses that are added one by one give the normal form of them all
+pub clauses_add_up : (variables : ℕ) (cs : List Clause)
+    → fold with_clause (widened blank variables) cs
+    ≡ normal_form (record (widened blank variables) { clauses = cs })
+clauses_add_up variables cs =
+    sym (fold-map with_part AddedClause (widened blank variables) cs)
+    ∙ parts_add_up (Widened variables ∷ map AddedClause cs)
+    ∙ ap normal_form (clauses_written (widened blank variables) cs)
