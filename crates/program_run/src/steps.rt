@@ -10,7 +10,7 @@ use crate::status::Status;
 use command_words::{Command, Which, name_of};
 use edge_io::{Files, ReadAnswer, read_all};
 use problem_form::{LimitKind, MOST_BYTES, check_limits};
-use source_texts::{Read, read};
+use source_texts::{Read, read_source};
 use std::alloc::Global;
 use whole_text::TextAnswer;
 
@@ -71,7 +71,7 @@ pub fn take_source<F: Files>(
 {
     let job = command.job();
     let bytes = take_file(alloc, words, command, Which::Source, files)?;
-    let read = match read(alloc, job.format, &bytes) {
+    let read = match read_source(alloc, job.format, &bytes) {
         Ok(read) => read,
         Err(TextAnswer::Bad(fault)) => {
             return Err(Status::BadText(Which::Source, fault.kind, fault.line));

@@ -5,4 +5,4 @@ mod laws;
 mod reading;
 
 pub use laws::problems_stand_for_sources;
-pub use reading::{Read, read};
+pub use reading::{Read, read_source};

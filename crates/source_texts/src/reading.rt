@@ -18,7 +18,7 @@ pub struct Read {
 }
 
 /// The problem of a text, in normal form, or the first fault of the text.
-pub fn read(alloc: Global, format: Format, text: &[u8]) -> Result<Read, TextAnswer>
+pub fn read_source(alloc: Global, format: Format, text: &[u8]) -> Result<Read, TextAnswer>
     requires { length text.now ≤ 2 ^ 24 }
     ensures read { Gives (λ read. read) result (problem_of format text.now) }
     ensures own { IfOk result (λ read. read.variables ≤ read.problem.variables) }

@@ -4,13 +4,14 @@ use Rattle.std.specs.List.{list_any, slice_index_or}
 use Rattle.integers.specs.Sums.{total_by, if_so}
 use Rattle.bits_model.specs.declared.costs.Cost.{Cost}
 use Rattle.bits_model.specs.declared.costs.Cost.TheVariants.{Whole, Infinite}
-use Rattle.bits_model.specs.Costs.{Form}
+use Rattle.bits_model.specs.Costs.{Form, Source}
 use Rattle.whole_text.specs.declared.faults.TextFault.{TextFault}
 use Rattle.whole_text.specs.Steps.{◌>>=◌}
 use Rattle.problem_form.specs.declared.literal.Literal.{Literal}
 use Rattle.problem_form.specs.declared.terms.Clause.{Clause}
 use Rattle.problem_form.specs.Problems.{ProblemForm, problem_cost}
 use Rattle.problem_form.specs.NormalForm.{normal_form, blank, widened}
+use Rattle.problem_form.specs.Limits.{upper}
 use Rattle.wcnf_reader.specs.Wcnf.{Listed, Wcnf, reading}
 
 -- ---- the cost of the text as written
@@ -67,6 +68,10 @@ clause_of top c = record {
 -- the problem as written
 abbrev pub problem_of : Wcnf → ProblemForm
 problem_of s = record (widened blank s.variables) { clauses = map (clause_of s.top) s.clauses }
+
+-- the text as a source: its cost as written, and the upper bound of its problem
+abbrev pub source_of : Wcnf → Source
+source_of s = record { form = form_of s; upper = upper (normal_form (problem_of s)) }
 
 -- the reading of a text, as a problem in normal form
 unfoldable pub normal_reading : List ℕ → Result ProblemForm TextFault

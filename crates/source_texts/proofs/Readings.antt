@@ -1,0 +1,30 @@
+-- A problem with the costs of a source stands for the source.
+use Rattle.std.proofs.Common.{◌≡◌, ◌≤◌, ℤ, Bool, List, length, take, refl, sym, ◌∙◌, subst, arith, rules}
+use Rattle.std.proofs.lemmas.List.{take_all}
+use Rattle.bits_model.specs.declared.costs.Figures.{Figures}
+use Rattle.bits_model.specs.Costs.{Form, Source, IsOf}
+use Rattle.bits_model.specs.Relations.{Decoding, Relaxes}
+use Rattle.bits_model.specs.Stated.{HasSameCosts, DecodesAlike}
+use Rattle.bits_model.proofs.Alike.{relaxes_alike}
+use Rattle.problem_form.specs.Problems.{ProblemForm, form_of}
+use Rattle.problem_form.specs.Limits.{upper}
+use Rattle.source_texts.specs.Sources.{own, first_decoded, StandsFor}
+
+-- all bits of what a state is decoded to are its first ones
+all_bits_first : (f g : Form) (d : Decoding) (u : ℤ) (n : Figures) → Relaxes f g d u n
+    → DecodesAlike g d (first_decoded f.bits d)
+all_bits_first f g d u n p y w =
+    take_all f.bits (d.decoded y) (omega (arith, p.width y w))
+
+-- a problem with the costs of a source, and its upper bound, stands for it
+pub same_costs_stand : (s : Source) (p : ProblemForm) → HasSameCosts (form_of p) s.form
+    → upper p ≡ s.upper → StandsFor s (own p)
+same_costs_stand s p same bound = record {
+  variables = same.width;
+  own = omega arith;
+  upper = bound;
+  relaxed = λ g d u n r.
+      subst (λ bits. Relaxes s.form g (first_decoded bits d) u n) same.width
+      (relaxes_alike (form_of p) s.form g d (first_decoded (form_of p).bits d) u n same
+      (all_bits_first (form_of p) g d u n r) r);
+}

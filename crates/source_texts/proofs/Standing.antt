@@ -1,0 +1,12 @@
+-- The problem that a text is read into stands for the source that the text says: a line a format.
+use Rattle.std.proofs.Common.{◌≡◌, ℕ, List, Ok}
+use Rattle.bits_model.specs.Costs.{Source}
+use Rattle.command_words.specs.declared.commands.Format.{Format}
+use Rattle.command_words.specs.declared.commands.Format.TheVariants.{Wcnf}
+use Rattle.source_texts.specs.declared.reading.Read.{Read}
+use Rattle.source_texts.specs.Sources.{source_of, problem_of, StandsFor}
+use Rattle.source_texts.proofs.WcnfTexts.{wcnf_stands}
+
+pub problem_stands : (format : Format) (text : List ℕ) (r : Read) → problem_of format text ≡ Ok r
+    → (s : Source) × (source_of format text ≡ Ok s) × StandsFor s r
+problem_stands Wcnf text r e = wcnf_stands text r e
