@@ -19,7 +19,7 @@ use Rattle.bits_model.specs.Links.{first_bits}
 use Rattle.penalty_layer.specs.Relaxing.{penalty_relaxes}
 use Rattle.penalty_layer.proofs.Admitted.{threshold_within}
 use Rattle.monomial_layer.specs.Monomials as mono
-use Rattle.monomial_layer.specs.Kept.{mono_keeps}
+use Rattle.monomial_layer.specs.laws.Kept.{mono_keeps}
 use Rattle.quad_form.specs.Quads.{QuadForm, IsQuad, quad_total, entries_of, written_of}
 use Rattle.quad_form.specs.Quads as quads
 use Rattle.quad_form.specs.Flat.{same_bits}

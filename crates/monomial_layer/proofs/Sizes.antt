@@ -11,7 +11,7 @@ use Rattle.term_table.specs.Terms.{Term, terms_total, terms_size, set_size, IsTe
 use Rattle.term_table.specs.Tables.{TableForm, IsTable, table_size}
 use Rattle.term_table.proofs.Additions.{terms_total-cons, terms_total-append, terms_size-cons, terms_total-collected, terms_size-collected}
 use Rattle.monomial_layer.specs.Monomials.{node, with_each, each_with, pair_terms, factor, node_term, node_terms, nodes_for, positive_terms, negative_terms, new_nodes, new_terms, replaced, image}
-use Rattle.monomial_layer.specs.Positive.{pairs, pairs_is, factor_cases}
+use Rattle.monomial_layer.specs.laws.Positive.{pairs, pairs_is, factor_cases}
 
 -- ---- the sizes of the coefficients
 

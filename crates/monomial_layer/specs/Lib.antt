@@ -1,5 +1,3 @@
 pub mod Monomials
-pub mod Positive
-pub mod TermCosts
-pub mod Kept
+pub mod laws
 pub mod Stated

@@ -12,8 +12,8 @@ use term_table::{LowTable, Table, low};
 
 /// The layer that replaces terms of degree 3 or more, each by itself and over literals.
 ///
-/// A term of degree d has one new node where its coefficient is negative, and floor((d - 1) / 2) where it
-/// is positive, so at most d - 2. A state decodes to its first bits.
+/// A term of degree d has one new node where its coefficient is negative, and floor((d - 1) / 2) where
+/// it is positive, so at most d - 2. A state decodes to its first bits.
 #[derive(Drop)]
 pub struct Monomials;
 
@@ -48,8 +48,14 @@ impl Layer for Monomials {
 
     ghost use Rattle.std.specs.Prelude.{pos};
     ghost use Rattle.bits_model.specs.Links.{first_bits, HasFirstBits};
-    ghost use Rattle.monomial_layer.specs.Monomials.{image, Fits};
-    ghost use Rattle.monomial_layer.specs.Kept.{mono_sound, mono_joins, mono_keeps, mono_whole};
+    ghost use Rattle.monomial_layer.specs.Monomials.{image, extension, Fits};
+    ghost use Rattle.monomial_layer.specs.laws.Kept.{
+      mono_sound,
+      mono_joins,
+      mono_keeps,
+      mono_whole_source,
+      mono_whole,
+    };
 
     ghost TOTAL_GROWTH = { 24 };
 
@@ -63,6 +69,8 @@ impl Layer for Monomials {
 
     ghost offset = { λ _. pos 0 };
 
+    ghost extension = { λ t x. extension x t.terms };
+
     ghost decoding = { first_bits };
 
     ghost is_sound = { HasFirstBits };
@@ -74,6 +82,8 @@ impl Layer for Monomials {
     ghost joins = { mono_joins };
 
     ghost keeps = { mono_keeps };
+
+    ghost whole_source = { mono_whole_source };
 
     ghost whole = { mono_whole };
 

@@ -22,8 +22,8 @@ use Rattle.term_table.specs.Tables.{TableForm, IsLow, table_size}
 use Rattle.term_table.proofs.Additions.{terms_total-cons, terms_total-collected, sets_sum, sets_sum-cons, sets_sum-collected}
 use Rattle.term_table.proofs.KeptTerms.{OfSet, Under}
 use Rattle.quad_form.specs.Quads.{QuadForm, node_entries, quad_total, quad_size, IsCoupler, IsQuad}
-use Rattle.quad_form.specs.Flat.{contributions, pair_entry, placed, zero_form, quad_of, image}
-use Rattle.quad_form.specs.Flattened.{IsFlat, length-fold, length-image}
+use Rattle.quad_form.specs.Flat.{contributions, pair_entry, placed, zero_form, quad_of, image, IsFlat}
+use Rattle.quad_form.specs.laws.Flattened.{length-fold, length-image}
 use Rattle.quad_form.proofs.NodeEnergies.{weights_within, weights-append}
 use Rattle.quad_form.proofs.FlatSums.{form_size, terms_total-contributions, form_size-contributions}
 

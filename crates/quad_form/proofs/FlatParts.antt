@@ -11,8 +11,8 @@ use Rattle.term_table.specs.Tables.{TableForm, IsTable, IsLow}
 use Rattle.term_table.proofs.Additions.{terms_total-cons}
 use Rattle.term_table.proofs.KeptTerms.{OfSet}
 use Rattle.quad_form.specs.Quads.{QuadForm, node_entries, quad_total, IsCoupler, IsQuad}
-use Rattle.quad_form.specs.Flat.{multiplied_out, contributions, placed, quad_of}
-use Rattle.quad_form.specs.Flattened.{IsFlat, length-fold, flat_contributions}
+use Rattle.quad_form.specs.Flat.{multiplied_out, contributions, placed, quad_of, IsFlat}
+use Rattle.quad_form.specs.laws.Flattened.{length-fold, flat_contributions}
 use Rattle.quad_form.specs.Pairs.{IsPair, AreSummed}
 use Rattle.quad_form.proofs.NodeEnergies.{weights-append}
 use Rattle.quad_form.proofs.FlatSums.{terms_total-multiplied_out, terms_total-contributions}

@@ -5,7 +5,8 @@ use Rattle.problem_form.specs.Literals.{IsLiteralSet}
 use Rattle.term_table.specs.Terms.{IsTermSet}
 use Rattle.term_table.specs.Tables.{TableForm, with_added}
 use Rattle.term_table.proofs.SmallSets.{IsTermSet-none, IsTermSet-one, IsTermSet-two}
-use Rattle.quad_form.specs.Flattened.{IsFlat, two_in_order}
+use Rattle.quad_form.specs.Flat.{IsFlat}
+use Rattle.quad_form.specs.laws.Flattened.{two_in_order}
 
 pub IsTermSet-flat : (width : ℕ) (ls : List Literal) → IsFlat width ls → IsTermSet width ls
 IsTermSet-flat width [] flat = IsTermSet-none width

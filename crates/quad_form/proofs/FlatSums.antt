@@ -8,7 +8,7 @@ use Rattle.problem_form.specs.declared.literal.Literal.{Literal}
 use Rattle.term_table.specs.Terms.{Term, set_size, terms_total, terms_size}
 use Rattle.term_table.proofs.Additions.{terms_total-cons, terms_size-cons, sets_sum}
 use Rattle.quad_form.specs.Flat.{plain, multiplied_out, contributions}
-use Rattle.quad_form.specs.Flattened.{one_out, two_out}
+use Rattle.quad_form.specs.laws.Flattened.{one_out, two_out}
 
 abbrev IsShort : Term → Type 0
 IsShort t = length t.0 ≤ 2

@@ -21,8 +21,8 @@ use Rattle.term_table.specs.Tables.{TableForm, IsTable, IsLow}
 use Rattle.term_table.proofs.Additions.{coefficient_of-collected, terms_total-collected}
 use Rattle.term_table.proofs.KeptTerms.{OfSet, AreTerms-collected}
 use Rattle.quad_form.specs.Quads.{QuadForm, IsCoupler, IsQuad}
-use Rattle.quad_form.specs.Flat.{contributions, pair_entry, placed, zero_form, quad_of, image}
-use Rattle.quad_form.specs.Flattened.{IsFlat, length-placed, flat_sets, flat_contributions}
+use Rattle.quad_form.specs.Flat.{contributions, pair_entry, placed, zero_form, quad_of, image, IsFlat}
+use Rattle.quad_form.specs.laws.Flattened.{length-placed, flat_sets, flat_contributions}
 use Rattle.quad_form.specs.Pairs.{IsNonzero, weight_for, weight_at, pair_number, IsSettled}
 use Rattle.quad_form.proofs.FlatForms.{width_of, IsQuad-of}
 use Rattle.quad_form.proofs.FlatSets.{IsTermSet-flat}

@@ -3,7 +3,7 @@
 -- Each complement is replaced by 1 - x and everything is multiplied out: the sum for the empty set is
 -- the constant, the sum for a single variable is that node's weight, and the sums for pairs that are
 -- not 0 are the couplers, in order.
-use Rattle.std.specs.Prelude.{◌≡◌, ℕ, ℤ, pos, neg_ℤ, ◌+ℤ◌, false, List, [], ◌∷◌, ◌++◌, map, fold, replicate, slice_set, if◌then◌else◌}
+use Rattle.std.specs.Prelude.{◌≡◌, ℕ, ◌<◌, ⊤, ℤ, pos, neg_ℤ, ◌+ℤ◌, false, List, [], ◌∷◌, ◌++◌, map, fold, replicate, slice_set, if◌then◌else◌}
 use Rattle.std.specs.List.{flat_map, slice_index_or}
 use Rattle.bits_model.specs.declared.output.Entry.{Entry}
 use Rattle.bits_model.specs.declared.layer.BitsLink.{BitsLink}
@@ -34,6 +34,20 @@ multiplied_out (l ∷ ls) c =
 -- all terms, multiplied out one after another
 abbrev pub contributions : List Term → List Term
 contributions ts = flat_map (λ t. multiplied_out t.0 t.1) ts
+
+-- ---- the sets that are left
+
+-- a variable below the width
+pub record IsPlain (width : ℕ) (l : Literal) : Type 0 where
+  pub plain : l.negated ≡ false
+  pub within : l.variable < width
+
+-- at most two variables below the width, in order
+abbrev pub IsFlat : ℕ → List Literal → Type 0
+IsFlat width [] = ⊤
+IsFlat width (l ∷ []) = IsPlain width l
+IsFlat width (l ∷ k ∷ []) = IsPlain width l × IsPlain width k × (l.variable < k.variable)
+IsFlat width (l ∷ k ∷ m ∷ ls) = ⊥
 
 -- ---- terms over variables, as a quadratic form
 

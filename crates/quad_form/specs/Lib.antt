@@ -1,5 +1,5 @@
 pub mod Quads
 pub mod Flat
-pub mod Flattened
+pub mod laws
 pub mod Pairs
 pub mod Stated

@@ -1,5 +1,5 @@
 -- Quadratic forms: a constant, a weight for each node, and couplers.
-use Rattle.std.specs.Prelude.{◌≢◌, ℕ, suc, ◌+◌, ◌≤◌, ◌<◌, ◌^◌, ℤ, pos, ◌+ℤ◌, ◌-ℤ◌, unsigned_abs, Bool, List, [], ◌∷◌, ◌++◌, length, All, if◌then◌else◌}
+use Rattle.std.specs.Prelude.{◌≢◌, ℕ, suc, ◌+◌, ◌≤◌, ◌<◌, ◌^◌, ℤ, pos, neg_ℤ, ◌+ℤ◌, unsigned_abs, Bool, List, [], ◌∷◌, ◌++◌, length, All, if◌then◌else◌}
 use Rattle.std.specs.List.{sum_by}
 use Rattle.std.specs.List.Sorted.{IsStrictlySortedBy}
 use Rattle.std.specs.Ordering.{int_eq}
@@ -9,6 +9,7 @@ use Rattle.bits_model.specs.declared.costs.Figures.{Figures}
 use Rattle.bits_model.specs.declared.output.Entry.{Entry}
 use Rattle.bits_model.specs.declared.output.Kind.TheVariants.{Qubo}
 use Rattle.bits_model.specs.Costs.{Form}
+use Rattle.bits_model.specs.Relations.{figures_moved}
 use Rattle.bits_model.specs.Output.{Written, entry_cmp, bits_energy, weight_total, entry_size}
 
 -- what a quadratic form says
@@ -63,19 +64,14 @@ pub record IsQuad (q : QuadForm) : Type 0 where
 
 -- ---- the model that is written for it
 
--- entries carry no constant: it is taken off the offset and the threshold
-abbrev pub without_constant : Figures → ℤ → Figures
-without_constant figures constant = record figures {
-  offset = figures.offset -ℤ constant;
-  threshold = figures.threshold -ℤ constant;
-}
-
--- the model of a form, its constant taken off the offset and the threshold
-abbrev pub written_of : QuadForm → ℕ → Figures → Written
-written_of q variables figures = record {
+-- the model of a form, in a unit: entries carry no constant, and so it is taken off the offset and the
+-- threshold
+abbrev pub written_of : QuadForm → ℕ → Figures → ℤ → Written
+written_of q variables figures unit = record {
   kind = Qubo;
   variables = variables;
-  figures = without_constant figures q.constant;
+  figures = figures_moved figures (neg_ℤ q.constant);
+  unit = unit;
   nodes = length q.diagonal;
   entries = entries_of q;
   chains = [];

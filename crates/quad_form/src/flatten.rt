@@ -139,7 +139,13 @@ impl Layer for Flatten {
 
     ghost use Rattle.std.specs.Prelude.{pos};
     ghost use Rattle.quad_form.specs.Flat.{image, same_bits, IsSound, Fits};
-    ghost use Rattle.quad_form.specs.Flattened.{flat_sound, flat_joins, flat_keeps, flat_whole};
+    ghost use Rattle.quad_form.specs.laws.Flattened.{
+      flat_sound,
+      flat_joins,
+      flat_keeps,
+      flat_whole_source,
+      flat_whole,
+    };
 
     ghost TOTAL_GROWTH = { 2 };
 
@@ -153,6 +159,8 @@ impl Layer for Flatten {
 
     ghost offset = { λ _. pos 0 };
 
+    ghost extension = { λ _ x. x };
+
     ghost decoding = { same_bits };
 
     ghost is_sound = { IsSound };
@@ -164,6 +172,8 @@ impl Layer for Flatten {
     ghost joins = { flat_joins };
 
     ghost keeps = { flat_keeps };
+
+    ghost whole_source = { flat_whole_source };
 
     ghost whole = { flat_whole };
 

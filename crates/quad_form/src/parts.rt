@@ -1,8 +1,7 @@
 //! A quadratic form that is being made.
 ghost use Rattle.std.specs.Prelude.{◌≡◌, ◌+◌, ◌<◌, ◌≤◌, ◌^◌, All, IfOk, OnOk, length, unsigned_abs};
 ghost use Rattle.quad_form.specs.Quads.{quad_total, IsQuad};
-ghost use Rattle.quad_form.specs.Flat.{placed, zero_form};
-ghost use Rattle.quad_form.specs.Flattened.{IsFlat};
+ghost use Rattle.quad_form.specs.Flat.{placed, zero_form, IsFlat};
 ghost use Rattle.quad_form.specs.Pairs.{IsPair, IsSettled};
 
 use crate::couplers::settled;
@@ -25,7 +24,11 @@ impl Model for Parts {
 
     ghost Value = { QuadForm };
 
-    ghost view = { λ p. record { constant = p.constant; diagonal = p.diagonal.items; couplers = p.couplers.items } };
+    ghost view = { λ p. record {
+      constant = p.constant;
+      diagonal = p.diagonal.items;
+      couplers = p.couplers.items;
+    } };
 }
 
 impl Parts {

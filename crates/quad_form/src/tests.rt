@@ -118,7 +118,7 @@ fn a_small_table(rt: HostRuntime) -> Result<(), Fail> {
         offset: 0,
         threshold: 20,
     };
-    let model = form.output(rt.alloc(), 2, figures)?;
+    let model = form.output(rt.alloc(), 2, figures, 1)?;
     assert_eq!(rt; (model.figures.offset, model.figures.threshold), (-5, 15));
     let entries = [entry(0, 0, 10), entry(1, 1, -5), entry(0, 1, -7)];
     assert_eq!(rt; model.entries.as_slice(), entries.as_slice());
@@ -175,6 +175,8 @@ impl Layer for Same {
 
     ghost offset = { λ _. pos 0 };
 
+    ghost extension = { λ _ x. x };
+
     ghost decoding = { same_bits };
 
     ghost is_sound = { IsSound };
@@ -192,6 +194,8 @@ impl Layer for Same {
       bound = λ y w. omega (arith, ints);
       reached = λ x w. (x, record { width = w; decodes = refl; energy = omega (arith, ints) });
     } };
+
+    ghost whole_source = { λ q y infinite. cc };
 
     ghost whole = { λ q y infinite. cc };
 

@@ -1,6 +1,6 @@
 use Rattle.std.proofs.Common.{length, ap, ◌∙◌}
 use Rattle.quad_form.specs.Quads.{QuadForm}
-use Rattle.quad_form.specs.Flattened.{length-image}
+use Rattle.quad_form.specs.laws.Flattened.{length-image}
 use Rattle.quad_form.proofs.tests.flattened.Goals as goal
 
 pub returns : goal.returns

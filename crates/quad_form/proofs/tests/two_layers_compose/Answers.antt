@@ -1,7 +1,7 @@
 use Rattle.std.proofs.Common.{◌≡◌, length, ap, ◌∙◌, rules}
 use Rattle.quad_form.specs.Quads.{QuadForm}
 use Rattle.quad_form.specs.Flat.{image}
-use Rattle.quad_form.specs.Flattened.{length-image}
+use Rattle.quad_form.specs.laws.Flattened.{length-image}
 use Rattle.quad_form.proofs.tests.two_layers_compose.Goals as goal
 
 pub costs_of_two-requires : goal.costs_of_two-requires

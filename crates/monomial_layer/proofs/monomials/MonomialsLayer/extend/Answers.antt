@@ -4,12 +4,12 @@ use Rattle.bits_model.specs.Links.{first_bits}
 use Rattle.bits_model.specs.Relations.{Extends}
 use Rattle.term_table.specs.Tables.{form_of}
 use Rattle.monomial_layer.specs.Monomials.{image}
-use Rattle.monomial_layer.specs.Kept.{mono_reaches}
+use Rattle.monomial_layer.specs.laws.Kept.{mono_reaches}
 use Rattle.monomial_layer.proofs.Adding.{if_ok-then}
 use Rattle.monomial_layer.proofs.monomials.MonomialsLayer.extend.Goals as goal
 
-pub returns : goal.returns
-returns c =
+pub returns-clause-reaches : goal.returns-clause-reaches
+returns-clause-reaches c =
     let t = c.args.source.now in
     let x = c.args.x.now in
     let reaches = mono_reaches c.args._link.now t x c.requires.fits c.requires.width in

@@ -6,7 +6,7 @@ use Rattle.bits_model.specs.Relations.{Keeps}
 use Rattle.term_table.specs.Terms.{terms_total}
 use Rattle.term_table.specs.Tables.{TableForm, IsLow, form_of, table_size}
 use Rattle.monomial_layer.specs.Monomials.{Fits}
-use Rattle.monomial_layer.specs.Kept.{mono_keeps}
+use Rattle.monomial_layer.specs.laws.Kept.{mono_keeps}
 use Rattle.monomial_layer.proofs.Sets.{IsLow-image}
 use Rattle.monomial_layer.proofs.Sizes.{all_nodes-le, total-image_terms, size-image}
 use Rattle.monomial_layer.proofs.monomials.MonomialsLayer.lower.Goals as goal

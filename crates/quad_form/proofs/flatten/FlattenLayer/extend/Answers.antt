@@ -1,9 +1,9 @@
 use Rattle.std.proofs.Common.{◌≡◌, rules}
-use Rattle.quad_form.specs.Flattened.{flat_reaches}
+use Rattle.quad_form.specs.laws.Flattened.{flat_reaches}
 use Rattle.quad_form.proofs.flatten.FlattenLayer.extend.Goals as goal
 
-pub returns : goal.returns
-returns c =
+pub returns-clause-reaches : goal.returns-clause-reaches
+returns-clause-reaches c =
     let same : c.in_ok-to_vec.field-0.items ≡ c.args.x.now = search rules in
     rw same
     (flat_reaches c.args._link.now c.args._source.now c.args.x.now c.requires.fits c.requires.width)

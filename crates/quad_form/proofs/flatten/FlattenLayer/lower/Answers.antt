@@ -2,7 +2,7 @@ use Rattle.std.proofs.Common.{◌≡◌, ℕ, length, All, subst, sym, ap, ◌�
 use Rattle.bits_model.specs.declared.layer.BitsLink.{BitsLink}
 use Rattle.quad_form.specs.Quads.{QuadForm, quad_total, quad_size}
 use Rattle.quad_form.specs.Flat.{Fits, contributions}
-use Rattle.quad_form.specs.Flattened.{flat_keeps}
+use Rattle.quad_form.specs.laws.Flattened.{flat_keeps}
 use Rattle.quad_form.specs.Pairs.{IsPair}
 use Rattle.quad_form.proofs.FlatForms.{width_of, quad_total-image, quad_size-image}
 use Rattle.quad_form.proofs.FlatParts.{pairs_placed, total_placed}

@@ -3,8 +3,7 @@ use Rattle.std.specs.Int.{w128}
 use Rattle.std.proofs.lemmas.Int.{ints}
 use Rattle.std.proofs.lemmas.List.{get_or_default}
 use Rattle.quad_form.specs.Quads.{QuadForm, quad_total}
-use Rattle.quad_form.specs.Flat.{placed}
-use Rattle.quad_form.specs.Flattened.{IsFlat}
+use Rattle.quad_form.specs.Flat.{placed, IsFlat}
 use Rattle.quad_form.proofs.FlatSets.{one_at}
 use Rattle.quad_form.proofs.FlatForms.{placed_one, weight_within}
 use Rattle.quad_form.proofs.parts.Parts.place.Goals as goal

@@ -1,34 +1,57 @@
-use Rattle.std.proofs.Common.{◌≡◌, ◌≤◌, ◌^◌, ◌++◌, List, length, subst, sym, ap, ◌∙◌, to_z, of_z, arith, rules}
+use Rattle.std.proofs.Common.{◌≡◌, ◌≤◌, ◌^◌, ◌++◌, length, subst, sym, ap, ◌∙◌, to_z, of_z, pos, neg_ℤ, ◌-ℤ◌, arith, rules}
 use Rattle.std.specs.Int.{w128}
-use Rattle.std.proofs.lemmas.Int.{to_z-of_z}
-use Rattle.bits_model.specs.declared.output.Entry.{Entry}
+use Rattle.std.proofs.lemmas.Int.{ints, to_z-of_z}
 use Rattle.bits_model.specs.declared.output.Kind.TheVariants.{Qubo}
-use Rattle.bits_model.specs.Output.{IsWellFormed, weight_total}
-use Rattle.quad_form.specs.Quads.{QuadForm, entries_of, node_entries, without_constant}
+use Rattle.bits_model.specs.Output.{Written, IsWellFormed, weight_total}
+use Rattle.bits_model.specs.Relations.{figures_moved}
+use Rattle.quad_form.specs.Quads.{QuadForm, IsQuad, entries_of, node_entries, written_of}
 use Rattle.quad_form.proofs.WrittenModels.{written_is_well_formed}
 use Rattle.quad_form.proofs.quad.Quad.output.Goals as goal
 
-pub invariant_of-result : goal.invariant_of-result
-invariant_of-result c =
+-- what the code makes
+abbrev made : (c : goal.After-empty) → Written
+made c = record {
+  kind = Qubo;
+  variables = c.args.variables;
+  figures = c.moved.result;
+  unit = to_z w128 (of_z w128 c.args.unit);
+  nodes = length c.as_slice-3.result.now;
+  entries = c.new.result;
+  chains = c.empty.result;
+}
+
+-- .. is the model of the form
+made_is : (c : goal.After-empty)
+    → made c ≡ written_of c.args.self.now c.args.variables c.args.figures c.args.unit
+made_is c =
     let inside = c.self.inside in
     let q : QuadForm = record { constant = inside.constant; diagonal = inside.diagonal; couplers = inside.couplers } in
-    let nodes : length c.as_slice-3.result.now ≡ length q.diagonal = ap length c.as_slice-3.ensures in
-    let entries : c.new.result ≡ entries_of q =
-    c.new.ensures ∙ c.in_ok-entries.ensures ∙ (λ i. node_entries 0 (c.as_slice.ensures i) ++ c.as_slice-2.ensures i) in
-    let enough : c.args.variables ≤ length q.diagonal =
-    subst (λ (f : QuadForm). c.args.variables ≤ length f.diagonal) (sym c.self.view_is) c.requires.enough in
-    let back : to_z w128 (of_z w128 q.constant) ≡ q.constant = to_z-of_z w128 q.constant (search rules) in
-    let figures = c.without_constant.ensures ∙ ap (without_constant c.args.figures) back in
-    let formed = written_is_well_formed q c.args.variables c.args.figures c.self.invariant enough in
-    let small : weight_total (entries_of q) ≤ 2 ^ 124 = omega (arith, c.self.invariant.small) in
-    let same : _ ≡ _ = λ i. record {
+    let less : to_z w128 (of_z w128 (pos 0 -ℤ to_z w128 (of_z w128 q.constant))) ≡ neg_ℤ q.constant = omega (arith, ints, c.self.invariant.small) in
+    let figures = c.moved.ensures ∙ ap (figures_moved c.args.figures) less in
+    let unit = to_z-of_z w128 c.args.unit (search rules) in
+    let nodes = ap length c.as_slice-3.ensures in
+    let entries = c.new.ensures ∙ c.in_ok-entries.ensures ∙ (λ i. node_entries 0 (c.as_slice.ensures i) ++ c.as_slice-2.ensures i) in
+    let whole : made c ≡ written_of q c.args.variables c.args.figures c.args.unit = λ i. record {
       kind = Qubo;
       variables = c.args.variables;
       figures = figures i;
+      unit = unit i;
       nodes = nodes i;
       entries = entries i;
       chains = c.empty.ensures i;
-    } in (
-      subst IsWellFormed (sym same) formed,
-      subst (λ (es : List Entry). weight_total es ≤ 2 ^ 124) (sym entries) small,
+    } in
+    whole
+    ∙ ap (λ (f : QuadForm). written_of f c.args.variables c.args.figures c.args.unit) c.self.view_is
+
+pub invariant_of-result : goal.invariant_of-result
+invariant_of-result c =
+    let q = c.args.self.now in
+    let quad : IsQuad q = subst IsQuad c.self.view_is c.self.invariant in
+    let formed = written_is_well_formed q c.args.variables c.args.figures c.args.unit quad c.requires.enough c.requires.scale c.requires.unit in
+    let small : weight_total (entries_of q) ≤ 2 ^ 124 = omega (arith, quad.small) in (
+      subst IsWellFormed (sym (made_is c)) formed,
+      subst (λ (m : Written). weight_total m.entries ≤ 2 ^ 124) (sym (made_is c)) small,
     )
+
+pub returns : goal.returns
+returns c = made_is c

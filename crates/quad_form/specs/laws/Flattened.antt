@@ -1,8 +1,8 @@
--- Flattening keeps costs: the laws stand here, since the layer's members cite them.
+-- Flattening keeps costs. Nothing here has to be believed.
 --
 -- Each term costs what the terms cost that it is multiplied out to, a table of sums costs what was
 -- added, and a term adds to the quadratic form where it is placed exactly what it costs.
-use Rattle.std.specs.Prelude.{◌≡◌, ℕ, zero, suc, ◌+◌, ◌<◌, ◌≤◌, ℤ, pos, neg_ℤ, ◌+ℤ◌, Bool, true, false, not, cond, ◌&&◌, ◌||◌, List, [], ◌∷◌, ◌++◌, length, All, replicate, slice_set, ⊤, if◌then◌else◌}
+use Rattle.std.specs.Prelude.{◌≡◌, ℕ, zero, suc, ◌+◌, ◌<◌, ◌≤◌, ℤ, pos, neg_ℤ, ◌+ℤ◌, Bool, true, false, not, cond, ◌&&◌, ◌||◌, List, [], ◌∷◌, ◌++◌, length, All, replicate, slice_set, if◌then◌else◌}
 use Rattle.std.specs.List.{AllByRecursion, fold, slice_index_or}
 use Rattle.std.specs.List.Sorted.{IsStrictlySortedBy}
 use Rattle.std.proofs.Common.{arith, ap, sym, ◌∙◌, refl, subst}
@@ -24,21 +24,7 @@ use Rattle.term_table.proofs.SmallSets.{in_order}
 use Rattle.term_table.proofs.Additions.{terms_cost-collected}
 use Rattle.term_table.proofs.KeptTerms.{OfSet, All-collected}
 use Rattle.quad_form.specs.Quads.{QuadForm, node_entries, quad_value, form_of}
-use Rattle.quad_form.specs.Flat.{plain, with_front, multiplied_out, contributions, pair_entry, placed, zero_form, image, same_bits, IsSound, Fits}
-
--- ---- a set that flattening leaves
-
--- a variable below the width
-pub record IsPlain (width : ℕ) (l : Literal) : Type 0 where
-  pub plain : l.negated ≡ false
-  pub within : l.variable < width
-
--- at most two variables below the width, in order
-abbrev pub IsFlat : ℕ → List Literal → Type 0
-IsFlat width [] = ⊤
-IsFlat width (l ∷ []) = IsPlain width l
-IsFlat width (l ∷ k ∷ []) = IsPlain width l × IsPlain width k × (l.variable < k.variable)
-IsFlat width (l ∷ k ∷ m ∷ ls) = ⊥
+use Rattle.quad_form.specs.Flat.{plain, with_front, multiplied_out, contributions, IsPlain, IsFlat, pair_entry, placed, zero_form, image, same_bits, IsSound, Fits}
 
 -- ---- a term, multiplied out, costs the same
 
@@ -347,6 +333,10 @@ flat_keeps link t fits = record {
   bound = λ y w. omega (arith, ints, image_value t fits.table fits.low y);
   reached = λ x w. (x, flat_reaches link t x fits w);
 }
+
+-- the costs of a table are whole
+pub flat_whole_source : (t : TableForm) → IsNeverInfinite (tables.form_of t)
+flat_whole_source t y infinite = cc
 
 -- the costs of an image are whole
 pub flat_whole : (t : TableForm) → IsNeverInfinite (form_of (image t))

@@ -1,6 +1,7 @@
--- What the terms cost that stand for one term of degree 3 or more: never less than it, and as much
--- where each new node is 1 exactly where what it is multiplied by is negative.
+-- What the terms cost that stand for one term. Nothing here has to be believed.
 --
+-- For a term of degree 3 or more they cost never less than it, and as much where each new node is 1
+-- exactly where what it is multiplied by is negative.
 -- For a negative coefficient, (d - 1) less the number of true literals is negative only where all d are
 -- true. For a positive one, the nodes save as much as the pairs of true literals cost, and 1 less where
 -- all are true; the coefficient comes in last.
@@ -16,7 +17,7 @@ use Rattle.problem_form.specs.declared.literal.Literal.{Literal}
 use Rattle.problem_form.specs.Literals.{holds, all_hold}
 use Rattle.term_table.specs.Terms.{term_cost, terms_cost}
 use Rattle.monomial_layer.specs.Monomials.{node, with_each, each_with, pair_terms, factor, node_term, node_terms, nodes_for, positive_terms, negative_terms, is_taken, true_literals}
-use Rattle.monomial_layer.specs.Positive.{pairs, above, below, positive_bound, positive_reached, IsSized}
+use Rattle.monomial_layer.specs.laws.Positive.{pairs, above, below, positive_bound, positive_reached, IsSized}
 
 -- ---- how many literals are true
 

@@ -1,6 +1,6 @@
--- The nodes of a positive term, in whole numbers: d literals, of which s are true, and n nodes. The law
--- stands here, since the layer's members cite it.
+-- The nodes of a positive term, in whole numbers. Nothing here has to be believed.
 --
+-- The term has d literals, of which s are true, and n nodes.
 -- Node k can save max(0, f * (s - 2 * k - 2) + 1), and saves it exactly where it is 1 if and only if at
 -- least 2 * k + 2 literals are true. All nodes together can save as much as the pairs of true literals
 -- cost, and 1 less where all literals are true: with factors of 2 throughout, the first n nodes save

@@ -1,4 +1,4 @@
--- The replaced terms keep costs: the laws stand here, since the layer's members cite them.
+-- The replaced terms keep costs. Nothing here has to be believed.
 --
 -- Under every state, what stands for a term costs no less than the term, and the state that adds the
 -- bits of the new nodes to an assignment reaches the cost of each term. The new nodes lie above the
@@ -25,7 +25,7 @@ use Rattle.term_table.specs.Tables.{TableForm, IsTable}
 use Rattle.term_table.specs.Tables as tables
 use Rattle.term_table.proofs.Additions.{terms_cost-collected}
 use Rattle.monomial_layer.specs.Monomials.{negative_terms, positive_terms, nodes_for, new_nodes, new_terms, replaced, image, Fits, is_taken, first_values, true_literals, new_bits, extension}
-use Rattle.monomial_layer.specs.TermCosts.{true_literals-cons, positive_terms-le, positive_terms_reach, negative_terms-le, negative_terms_reach}
+use Rattle.monomial_layer.specs.laws.TermCosts.{true_literals-cons, positive_terms-le, positive_terms_reach, negative_terms-le, negative_terms_reach}
 
 -- ---- no state costs less
 
@@ -281,6 +281,10 @@ mono_keeps link t fits = record {
       omega (arith, ints, image_bound t fits.table y, same);
   reached = λ x w. (extension x t.terms, mono_reaches link t x fits w);
 }
+
+-- the costs of a table are whole
+pub mono_whole_source : (t : TableForm) → IsNeverInfinite (tables.form_of t)
+mono_whole_source t y infinite = cc
 
 -- the costs of an image are whole
 pub mono_whole : (t : TableForm) → IsNeverInfinite (tables.form_of (image t))
