@@ -17,7 +17,7 @@ use Rattle.term_table.specs.Tables as tables
 use Rattle.term_table.proofs.KeptTerms.{OfSet, AreTerms-collected}
 use Rattle.penalty_layer.specs.Penalty.{Admits, contributions, opposite, product_term, clause_term, image, Fits}
 use Rattle.bits_model.specs.Links.{first_bits}
-use Rattle.penalty_layer.specs.Relaxing.{penalty_relaxes}
+use Rattle.penalty_layer.specs.laws.Relaxing.{penalty_relaxes}
 use Rattle.penalty_layer.specs.Weights.{clause_weights}
 use Rattle.penalty_layer.proofs.OppositeSets.{opposites_set, opposites_length}
 use Rattle.penalty_layer.proofs.Bounds.{within_limits, degrees_within, weights_within, upper_within}
@@ -138,11 +138,11 @@ made_size p third admitted made =
 
 pub made_relaxes : (link : BitsLink) (p : ProblemForm) (third : TableForm) (threshold : ℤ)
     → Fits link p → third ≡ image p → threshold ≡ upper p
-    → Relaxes (problems.form_of p) (tables.form_of third) (first_bits link)
+    → Relaxes (problems.form_of p) (tables.form_of third) (first_bits link) (pos 1)
     (record { scale = pos 1; offset = pos 0; threshold = threshold })
 made_relaxes link p third threshold fit made high =
     let Q : TableForm → ℤ → Type 0 =
-    λ t z. Relaxes (problems.form_of p) (tables.form_of t) (first_bits link) (record { scale = pos 1; offset = pos 0; threshold = z }) in
+    λ t z. Relaxes (problems.form_of p) (tables.form_of t) (first_bits link) (pos 1) (record { scale = pos 1; offset = pos 0; threshold = z }) in
     subst (λ t. Q t threshold) (sym made) (subst (λ z. Q (image p) z) (sym high) (penalty_relaxes link p fit))
 
 pub threshold_within : (p : ProblemForm) (threshold : ℤ) → limit_fault normals.Literal p ≡ None → threshold ≡ upper p

@@ -1,4 +1,3 @@
 pub mod Penalty
-pub mod Violations
-pub mod Relaxing
 pub mod Weights
+pub mod laws

@@ -2,7 +2,7 @@
 ghost use Rattle.std.specs.Prelude.{◌^◌};
 ghost use Rattle.penalty_layer.specs.Penalty.{Admits, image, figures, Fits};
 ghost use Rattle.bits_model.specs.Links.{first_bits, HasFirstBits};
-ghost use Rattle.penalty_layer.specs.Relaxing.{penalty_relaxes, penalty_joins, penalty_sound, penalty_whole};
+ghost use Rattle.penalty_layer.specs.laws.Relaxing.{penalty_relaxes, penalty_joins, penalty_sound, penalty_whole};
 
 use crate::adding::{add_clauses, add_products};
 use bits_model::{BitsLink, Figures, Guard, Guarded, NoMemory};
@@ -36,6 +36,8 @@ impl Guard for Penalty {
     ghost image = { image };
 
     ghost figures = { figures };
+
+    ghost extension = { λ _ x. x };
 
     ghost decoding = { first_bits };
 

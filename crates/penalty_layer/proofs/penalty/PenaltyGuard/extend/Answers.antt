@@ -4,11 +4,11 @@ use Rattle.term_table.specs.Tables as tables
 use Rattle.bits_model.specs.Relations.{ExtendsLeast}
 use Rattle.penalty_layer.specs.Penalty.{image, figures}
 use Rattle.bits_model.specs.Links.{first_bits}
-use Rattle.penalty_layer.specs.Relaxing.{penalty_extends}
+use Rattle.penalty_layer.specs.laws.Relaxing.{penalty_extends}
 use Rattle.penalty_layer.proofs.penalty.PenaltyGuard.extend.Goals as goal
 
-pub returns : goal.returns
-returns c =
+pub returns-clause-least : goal.returns-clause-least
+returns-clause-least c =
     let p = c.args._source.now in
     let link = c.args._link.now in
     let x = c.args.x.now in

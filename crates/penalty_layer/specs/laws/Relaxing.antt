@@ -1,5 +1,5 @@
--- The table of a problem relaxes it. These laws stand here, since the guard's members cite them.
-use Rattle.std.specs.Prelude.{◌≡◌, ℤ, ◌+ℤ◌, ◌≤ℤ◌, ◌<ℤ◌, Bool, true, false, ◌||◌, cond, List, [], length, map, refl}
+-- The table of a problem relaxes it. Nothing here has to be believed.
+use Rattle.std.specs.Prelude.{◌≡◌, ℤ, pos, ◌+ℤ◌, ◌≤ℤ◌, ◌<ℤ◌, Bool, true, false, ◌||◌, cond, List, [], length, map, refl}
 use Rattle.std.proofs.Common.{arith, sym, ap, ◌∙◌}
 use Rattle.std.specs.List.{list_any}
 use Rattle.std.proofs.lemmas.Int.{ints}
@@ -10,6 +10,7 @@ use Rattle.bits_model.specs.declared.costs.Cost.TheVariants.{Whole, Infinite}
 use Rattle.bits_model.specs.declared.layer.BitsLink.{BitsLink}
 use Rattle.bits_model.specs.Costs.{IsNeverInfinite}
 use Rattle.bits_model.specs.Relations.{Relaxes, Joins, ExtendsLeast}
+use Rattle.bits_model.specs.laws.Plain.{relaxes_in_one}
 use Rattle.problem_form.specs.Problems.{ProblemForm, sum_of, soft_cost, fails_hard, fails, problem_cost}
 use Rattle.problem_form.specs.Problems as problems
 use Rattle.problem_form.specs.Limits.{penalty, upper}
@@ -18,7 +19,7 @@ use Rattle.term_table.specs.Tables as tables
 use Rattle.term_table.proofs.Additions.{terms_cost-collected}
 use Rattle.penalty_layer.specs.Penalty.{contributions, clause_term, product_term, image, figures, Fits}
 use Rattle.bits_model.specs.Links.{first_bits, HasFirstBits}
-use Rattle.penalty_layer.specs.Violations.{clause_cost, clause_terms_cost, product_terms_cost, clauses_at_least, clauses_soft, soft_costs_upper, sum_lower, sum_upper}
+use Rattle.penalty_layer.specs.laws.Violations.{clause_cost, clause_terms_cost, product_terms_cost, clauses_at_least, clauses_soft, soft_costs_upper, sum_lower, sum_upper}
 
 -- ---- the cost of the table
 
@@ -99,8 +100,8 @@ decoded_whole link p y fit w = let wide = fit.source in take_all link.source_wid
 
 -- the table relaxes the problem
 pub penalty_relaxes : (link : BitsLink) (p : ProblemForm) → Fits link p
-    → Relaxes (problems.form_of p) (tables.form_of (image p)) (first_bits link) (figures p)
-penalty_relaxes link p fit = record {
+    → Relaxes (problems.form_of p) (tables.form_of (image p)) (first_bits link) (pos 1) (figures p)
+penalty_relaxes link p fit = relaxes_in_one (record {
   positive = omega (arith, ints);
   width = λ y w. ap length (decoded_whole link p y fit w) ∙ w;
   bound = λ y w v whole.
@@ -119,7 +120,7 @@ penalty_relaxes link p fit = record {
   );
   below = λ x w v whole. omega (arith, ints, (whole_value x p v fit.unconstrained whole).1);
   onto = λ x w. (x, w, decoded_whole link p x fit w);
-}
+})
 
 -- an assignment is its own least extension, since no other state decodes to it
 pub penalty_extends : (link : BitsLink) (p : ProblemForm) (x : List Bool) → Fits link p

@@ -1,0 +1,3 @@
+-- Laws with their proofs, which the guard's members cite. Nothing here has to be believed.
+pub mod Violations
+pub mod Relaxing
