@@ -1,5 +1,5 @@
 -- The keys of a command, in any order, each at most once: words of the form `NAME=VALUE`.
-use Rattle.std.specs.Prelude.{ℕ, ◌+◌, ◌==◌, List, [], ◌∷◌, take, drop, Bool, Ok, Err, None, Result, Option}
+use Rattle.std.specs.Prelude.{◌≡◌, ℕ, ◌+◌, ◌==◌, List, [], ◌∷◌, take, drop, Bool, Ok, Err, None, Result, Option}
 use Rattle.std.specs.List.{position}
 use Rattle.std.specs.Option.{option_map, option_map_or}
 use Rattle.problem_form.specs.declared.limits.Choices.{Choices}
@@ -43,3 +43,8 @@ keys_from target keys at [] = Ok keys
 keys_from target keys at (word ∷ words) =
     option_map_or (λ more. keys_from target more (at + 1) words) (with_word target keys at word)
     (Err (at + 1))
+
+-- the choices that words can make so far, for which every command has its steps
+pub record IsOffered (choices : Choices) : Type 0 where
+  pub normal : choices.normal ≡ Literal
+  pub high : choices.high ≡ Monomial

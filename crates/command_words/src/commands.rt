@@ -1,4 +1,5 @@
 //! Commands. All of one is `Copy`, since a name stands in it as its place in the words.
+ghost use Rattle.std.specs.Prelude.{◌≡◌};
 
 use problem_form::Choices;
 
@@ -34,4 +35,17 @@ pub struct Job {
 #[derive(Clone, Copy, Debug, PartialEq, Eq)]
 pub enum Command {
     Compile(Job),
+}
+
+impl Command {
+    ghost use Rattle.command_words.specs.Names.{job_in};
+
+    /// What the command does with its source.
+    pub fn job(self) -> Job
+        ensures { result ≡ job_in self }
+    {
+        match self {
+            Command::Compile(job) => job,
+        }
+    }
 }

@@ -1,6 +1,6 @@
 //! The keys of a command, in any order, each at most once: words of the form `NAME=VALUE`.
-ghost use Rattle.std.specs.Prelude.{◌≡◌, ◌+◌, ◌<◌, ◌^◌, length, map, string_bytes, Some, None, MatchOption};
-ghost use Rattle.command_words.specs.Keys.{choices_of, cut, keys_from, no_keys, with_pair, with_word};
+ghost use Rattle.std.specs.Prelude.{◌≡◌, ◌+◌, ◌<◌, ◌^◌, length, map, string_bytes, Some, None, MatchOption, IfOk, IfSome};
+ghost use Rattle.command_words.specs.Keys.{IsOffered, choices_of, cut, keys_from, no_keys, with_pair, with_word};
 
 use crate::commands::Target;
 use problem_form::{Choices, High, Normal};
@@ -44,14 +44,16 @@ pub(crate) fn cut(word: &str) -> Option<(&str, &str)>
 /// The table of keys: the keys with one more, whose word stands at the index `at`, or none where
 /// it cannot stand. No key is taken yet.
 fn with_pair(target: Target, keys: Keys, at: usize, name: &str, value: &str) -> Option<Keys>
-    ensures { result ≡ with_pair target keys at name.now value.now }
+    ensures exact { result ≡ with_pair target keys at name.now value.now }
+    ensures offered { IfSome result (λ more. IsOffered (choices_of more)) }
 {
     None
 }
 
 /// The keys with that of one word more, or none where the word cannot stand.
 fn with_word(target: Target, keys: Keys, at: usize, word: &str) -> Option<Keys>
-    ensures { result ≡ with_word target keys at word.now }
+    ensures exact { result ≡ with_word target keys at word.now }
+    ensures offered { IfSome result (λ more. IsOffered (choices_of more)) }
 {
     let (name, value) = cut(word)?;
     with_pair(target, keys, at, name, value)
@@ -61,7 +63,8 @@ fn with_word(target: Target, keys: Keys, at: usize, word: &str) -> Option<Keys>
 /// word that cannot stand, counted from 1.
 pub(crate) fn keys_from(target: Target, first: usize, words: &[String]) -> Result<Keys, usize>
     requires { first + length words.now < 2 ^ 64 }
-    ensures { result ≡ keys_from target no_keys first (map string_bytes words.now) }
+    ensures exact { result ≡ keys_from target no_keys first (map string_bytes words.now) }
+    ensures offered { IfOk result (λ keys. IsOffered (choices_of keys)) }
 {
     let mut keys = no_keys();
     let mut at = first;

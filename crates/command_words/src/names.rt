@@ -1,8 +1,8 @@
 //! The files that a command names.
 ghost use Rattle.std.specs.Prelude.{◌≡◌, map, string_bytes};
-ghost use Rattle.command_words.specs.Names.{job_in, map_of, name_of, place_of, state_of, text_at, value_of};
+ghost use Rattle.command_words.specs.Names.{map_of, name_of, place_of, state_of, text_at, value_of};
 
-use crate::commands::{Command, Job, Target, WordAt};
+use crate::commands::{Command, Target, WordAt};
 use crate::keys::cut;
 
 /// A file that a command names: the source, the map of chains, or the state or assignment.
@@ -38,14 +38,6 @@ fn text_at(words: &[String], at: WordAt) -> &str
     }
 }
 
-fn job_in(command: Command) -> Job
-    ensures { result ≡ job_in command }
-{
-    match command {
-        Command::Compile(job) => job,
-    }
-}
-
 fn map_of(target: Target) -> Option<WordAt>
     ensures { result ≡ map_of target }
 {
@@ -67,8 +59,8 @@ fn place_of(command: Command, which: Which) -> Option<WordAt>
     ensures { result ≡ place_of command which }
 {
     match which {
-        Which::Source => Some(job_in(command).file),
-        Which::Map => map_of(job_in(command).target),
+        Which::Source => Some(command.job().file),
+        Which::Map => map_of(command.job().target),
         Which::State => state_of(command),
     }
 }

@@ -5,7 +5,7 @@ use Rattle.bits_model.specs.declared.output.Kind.TheVariants as kinds
 use Rattle.bits_model.specs.Relations.{Decoding, Relaxes}
 use Rattle.bits_model.specs.Output.{Written, IsWellFormed, form_of, read_off}
 use Rattle.bits_model.specs.Faithful.{scale_of}
-use Rattle.model_text.specs.Text.{FitsFields}
+use Rattle.model_text.specs.Rows.{FitsFields}
 use Rattle.problem_form.specs.declared.limits.Choices.{Choices}
 use Rattle.problem_form.specs.declared.limits.Normal.{Normal}
 use Rattle.problem_form.specs.declared.limits.Normal.TheVariants.{Literal, Multilinear}
@@ -57,13 +57,13 @@ decoding_to variables m = record {
   decoded = read_off m.kind variables m.chains;
 }
 
--- a well-formed model of this kind whose numbers fit their fields, with the stated figures, which
--- relaxes the problem
-pub record IsModelOf (p : ProblemForm) (variables : ℕ) (kind : Kind) (m : Written) : Type 0 where
-  pub kind : m.kind ≡ kind
+-- a well-formed model for this target whose numbers fit their fields, with so many variables, the
+-- stated figures and the unit 1, which relaxes the problem
+pub record IsModelOf (p : ProblemForm) (own : ℕ) (target : Target) (m : Written) : Type 0 where
+  pub kind : m.kind ≡ kind_of target
   pub fits : FitsFields m
   pub well_formed : IsWellFormed m
-  pub variables : m.variables ≡ variables
+  pub variables : m.variables ≡ own
   pub scale : m.figures.scale ≡ scale_of m.kind
   pub threshold : m.figures.threshold ≡ m.figures.scale *ℤ upper p +ℤ m.figures.offset
   pub unit : m.unit ≡ pos 1

@@ -24,7 +24,7 @@ pub struct Quadratic<G, H> {
 
 /// The quadratic form that a guard, a layer that neither scales nor moves, and multiplying out give.
 /// Each form is let go as soon as the next one stands.
-pub fn quadratic<G, H>(
+pub fn quadratic_of<G, H>(
     alloc: Global,
     guard: &G,
     layer: &H,

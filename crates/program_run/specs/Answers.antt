@@ -10,7 +10,7 @@ use Rattle.bits_model.specs.Costs.{Source}
 use Rattle.bits_model.specs.Relations.{Relaxes}
 use Rattle.bits_model.specs.Output.{Written, form_of, decoding_of}
 use Rattle.bits_model.specs.Faithful.{Demand, Faithful}
-use Rattle.model_text.specs.Text.{FitsFields, model_text}
+use Rattle.model_text.specs.Rows.{FitsFields, model_text}
 use Rattle.model_text.specs.Told.{IsTextOf}
 use Rattle.command_words.specs.declared.names.Which.TheVariants as files
 use Rattle.command_words.specs.declared.commands.Job.{Job}

@@ -4,7 +4,7 @@ use Rattle.std.specs.declared.option.Option.{Option}
 use Rattle.std.specs.Option.{option_map_or}
 use Rattle.edge_io.specs.Held.{NamedFiles, find_file}
 use Rattle.bits_model.specs.Output.{Written}
-use Rattle.model_text.specs.Text.{model_text}
+use Rattle.model_text.specs.Rows.{model_text}
 use Rattle.whole_text.specs.declared.faults.TextFault.{TextFault}
 use Rattle.problem_form.specs.declared.limits.LimitFault.{LimitFault}
 use Rattle.problem_form.specs.declared.limits.LimitKind.TheVariants.{Bytes}

@@ -1,7 +1,7 @@
 //! What a command answers.
 ghost use Rattle.std.specs.Prelude.{◌≡◌, map, string_bytes, IfOk, IfErr};
 ghost use Rattle.edge_io.specs.Held.{WhereTold};
-ghost use Rattle.command_words.specs.Commands.{IsOffered};
+ghost use Rattle.command_words.specs.Keys.{IsOffered};
 ghost use Rattle.command_words.specs.Names.{job_in};
 ghost use Rattle.program_run.specs.Outcome.{Meets, answering};
 ghost use Rattle.program_run.specs.Statuses.{ended, IsRefusal};
