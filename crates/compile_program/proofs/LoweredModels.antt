@@ -24,7 +24,7 @@ use Rattle.quad_form.specs.Quads.{QuadForm, IsQuad, quad_total, entries_of, writ
 use Rattle.quad_form.specs.Quads as quads
 use Rattle.quad_form.specs.Flat.{same_bits}
 use Rattle.quad_form.specs.Flat as flat
-use Rattle.quad_form.specs.Flattened.{flat_joins, flat_keeps}
+use Rattle.quad_form.specs.laws.Flattened.{flat_joins, flat_keeps}
 use Rattle.quad_form.proofs.WrittenModels.{written_is_well_formed, written_relaxes}
 use Rattle.compile_program.specs.Compiled.{IsModelOf}
 

@@ -12,8 +12,8 @@ use term_table::{LowTable, Table, low};
 
 /// The layer that replaces terms of degree 3 or more, each by itself and over literals.
 ///
-/// A term of degree d has one new node where its coefficient is negative, and floor((d - 1) / 2) where
-/// it is positive, so at most d - 2. A state decodes to its first bits.
+/// A term of degree d has one new node where its coefficient is negative, and floor((d - 1) / 2)
+/// where it is positive, so at most d - 2. A state decodes to its first bits.
 #[derive(Drop)]
 pub struct Monomials;
 

@@ -1,12 +1,12 @@
 -- The model of a quadratic form: it is well formed, and has the form's energies but for the constant.
-use Rattle.std.proofs.Common.{◌≡◌, ℕ, ◌≤◌, ◌⊎◌, inl, inr, ℤ, pos, neg_ℤ, ◌+ℤ◌, ◌*ℤ◌, ◌≤ℤ◌, ◌<ℤ◌, Bool, List, length, refl, sym, ap, ◌∙◌, arith}
+use Rattle.std.proofs.Common.{◌≡◌, ℕ, ◌≤◌, ◌⊎◌, inl, inr, ℤ, pos, neg_ℤ, ◌+ℤ◌, ◌*ℤ◌, ◌≤ℤ◌, ◌<ℤ◌, Bool, List, length, take, refl, sym, ap, ◌∙◌, arith}
 use Rattle.std.proofs.lemmas.Int.{ints}
 use Rattle.std.proofs.lemmas.List.Elements.{recursion_from_All}
 use Rattle.integers.specs.Sums.{total_by}
 use Rattle.bits_model.specs.declared.costs.Figures.{Figures}
 use Rattle.bits_model.specs.Costs.{Form}
 use Rattle.bits_model.specs.Relations.{Decoding, Relaxes}
-use Rattle.bits_model.specs.Output.{IsWellFormed, decoding_of, bits_energy}
+use Rattle.bits_model.specs.Output.{IsWellFormed, bits_energy}
 use Rattle.quad_form.specs.Quads.{QuadForm, IsQuad, form_of, written_of, entries_of}
 use Rattle.quad_form.specs.Stated.{RelaxesAsWritten}
 use Rattle.quad_form.proofs.NodeEntries.{nodes_ordered, couplers_up, all_placed, has_each_node, all_nonzero}
@@ -55,7 +55,7 @@ moved_below s v b c t h = omega (arith, ints)
 
 pub written_relaxes : (source : Form) (q : QuadForm) (d : Decoding) (variables : ℕ)
     (figures : Figures) (unit : ℤ) → (unit ≡ pos 1) ⊎ (q.constant ≡ pos 0)
-    → ((y : List Bool) → d.decoded y ≡ (decoding_of (written_of q variables figures unit)).decoded y)
+    → ((y : List Bool) → d.decoded y ≡ take variables y)
     → Relaxes source (form_of q) d unit figures
     → RelaxesAsWritten source (written_of q variables figures unit)
 written_relaxes source q d variables n unit counted same p = record {

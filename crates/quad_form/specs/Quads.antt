@@ -64,8 +64,8 @@ pub record IsQuad (q : QuadForm) : Type 0 where
 
 -- ---- the model that is written for it
 
--- the model of a form, in a unit: entries carry no constant, and so it is taken off the offset and the
--- threshold
+-- the model of a form, in a unit: entries carry no constant, and so it is taken off the offset and
+-- the threshold
 abbrev pub written_of : QuadForm → ℕ → Figures → ℤ → Written
 written_of q variables figures unit = record {
   kind = Qubo;

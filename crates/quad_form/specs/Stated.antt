@@ -1,5 +1,5 @@
 -- What a written model says of the form that it is made of.
-use Rattle.std.specs.Prelude.{◌≡◌, ◌≤◌, ◌⊎◌, ℕ, ℤ, pos, ◌≤ℤ◌, Bool, List, length}
+use Rattle.std.specs.Prelude.{◌≡◌, ◌≤◌, ◌⊎◌, ℕ, ℤ, pos, ◌≤ℤ◌, Bool, List, length, take}
 use Rattle.bits_model.specs.declared.costs.Figures.{Figures}
 use Rattle.bits_model.specs.Costs.{Form}
 use Rattle.bits_model.specs.Relations.{Decoding, Relaxes}
@@ -17,11 +17,11 @@ WrittenIsWellFormed = (q : QuadForm) (variables : ℕ) (figures : Figures) (unit
 abbrev pub RelaxesAsWritten : Form → Written → Type 0
 RelaxesAsWritten source m = Relaxes source (output.form_of m) (decoding_of m) m.unit m.figures
 
--- where the form relaxes a source in a unit, and its states decode to their first bits, its model does
--- too; the unit is 1, or the form has no constant
+-- where the form relaxes a source in a unit, and its states decode to their first bits, its model
+-- does too; the unit is 1, or the form has no constant
 abbrev pub WrittenRelaxes : Type 0
 WrittenRelaxes = (source : Form) (q : QuadForm) (d : Decoding) (variables : ℕ) (figures : Figures)
     (unit : ℤ) → (unit ≡ pos 1) ⊎ (q.constant ≡ pos 0)
-    → ((y : List Bool) → d.decoded y ≡ (decoding_of (written_of q variables figures unit)).decoded y)
+    → ((y : List Bool) → d.decoded y ≡ take variables y)
     → Relaxes source (form_of q) d unit figures
     → RelaxesAsWritten source (written_of q variables figures unit)

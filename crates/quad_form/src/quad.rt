@@ -51,8 +51,8 @@ impl Quad {
     };
     ghost use Rattle.quad_form.specs.Quads.{written_of};
 
-    /// The model of the form, whose energies count this unit: its constant is taken off the offset and
-    /// the threshold. A form in another unit than 1 has no constant.
+    /// The model of the form, whose energies count this unit: its constant is taken off the offset
+    /// and the threshold. A form in another unit than 1 has no constant.
     pub fn output(
         &self,
         alloc: Global,
