@@ -7,10 +7,10 @@ use Rattle.command_words.specs.declared.names.Which.{Which}
 use Rattle.command_words.specs.declared.names.Which.TheVariants.{Source, Map, State}
 use Rattle.program_run.specs.declared.status.Status.{Status}
 use Rattle.program_run.specs.declared.status.Status.TheVariants.{Done, Usage, ReadFault, WriteFault, BadText, Limit, NoState, NoMemory}
-use Rattle.program_run.specs.Causes.{Begun, IsCause, IsRefusedBy, AreBegun}
+use Rattle.program_run.specs.Causes.{Begun, IsRefusedBy, AreRead}
 
 pub limits_refused : (name : List ℕ) (count number : ℕ) (kind : LimitKind) (b : Begun)
-    → kind ≢ Bytes → AreBegun count b → IsRefusedBy Source name count (Limit Source kind number) b
+    → kind ≢ Bytes → AreRead count b → IsRefusedBy Source name count (Limit Source kind number) b
 limits_refused name count number Bytes b other begun = absurd (other refl)
 limits_refused name count number Variables b other begun = (refl, begun)
 limits_refused name count number Degree b other begun = (refl, begun)

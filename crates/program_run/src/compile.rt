@@ -1,5 +1,5 @@
 //! The command `compile`: the model of a source.
-ghost use Rattle.std.specs.Prelude.{◌≡◌, map, string_bytes, IfOk, IfErr};
+ghost use Rattle.std.specs.Prelude.{◌≡◌, [], ◌∷◌, map, string_bytes, IfOk, IfErr};
 ghost use Rattle.edge_io.specs.Held.{WhereTold};
 ghost use Rattle.command_words.specs.Keys.{IsOffered};
 ghost use Rattle.command_words.specs.Names.{job_in, files_of};
@@ -11,7 +11,7 @@ ghost use Rattle.program_run.specs.Causes.{begun_between, AreFiles};
 use crate::answers::Answer;
 use crate::status::Status;
 use crate::steps::take_source;
-use command_words::Command;
+use command_words::{Command, Which};
 use edge_io::Files;
 use model_pipeline::model_of;
 use std::alloc::Global;
@@ -25,7 +25,7 @@ pub fn compile<F: Files>(
     files: &mut F,
 ) -> Result<Answer, Status>
     requires offered { IsOffered (job_in command).choices }
-    requires files { files_of command ≡ Source ∷ [] }
+    requires one_file { files_of command ≡ Which.Source ∷ [] }
     ensures step { WhereTold (F.held files.old) (λ held. Meets text_of result
         (compiling (map string_bytes words.now) held command)) }
     ensures files { AreFiles (map string_bytes words.now) command (ended result)
@@ -37,7 +37,13 @@ pub fn compile<F: Files>(
 {
     let job = command.job();
     let read = take_source(alloc, words, command, files)?;
-    match model_of(alloc, read.problem, read.variables, &job.choices, job.target) {
+    match model_of(
+        alloc,
+        read.problem,
+        read.variables,
+        &job.choices,
+        job.target,
+    ) {
         Ok(model) => Ok(Answer::Model(model)),
         Err(_) => Err(Status::NoMemory),
     }

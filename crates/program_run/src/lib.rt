@@ -7,12 +7,11 @@ mod compile;
 mod delivery;
 mod lines;
 mod program;
-mod run;
+mod running;
 mod status;
 mod steps;
 
 pub use answers::Answer;
 pub use program::exit_number;
-pub use run::run;
+pub use running::run;
 pub use status::Status;
-

@@ -1,7 +1,7 @@
-//! The program, over the real words, files and streams.
+//! The program, over the real words and files.
 
-use crate::run::run;
-use edge_io::{RealFiles, RealSink};
+use crate::running::run;
+use edge_io::{RealFiles, Sink};
 use std::alloc::{AllocError, Global};
 use std::env;
 use std::io::ErrorKind;
@@ -24,16 +24,14 @@ fn given_words(rt: &HostRuntime) -> Result<Vec<String>, u8> {
     collected.map_err(|_| NO_MEMORY)
 }
 
-/// One run on the words of the command line, with the files of the system, standard output and
-/// standard error. The result is the number to exit with.
-pub fn exit_number(rt: HostRuntime) -> u8 {
+/// One run on the words of the command line and the files of the system. The result is the number to
+/// exit with.
+pub fn exit_number<O: Sink, E: Sink>(rt: HostRuntime, out: &mut O, err: &mut E) -> u8 {
     let words = match given_words(&rt) {
         Ok(words) => words,
         Err(number) => return number,
     };
     let alloc: Global = rt.alloc();
-    let mut out = RealSink::new(rt.stdout());
-    let mut err = RealSink::new(rt.stderr());
     let mut files = RealFiles::new(rt);
-    run(alloc, &words, &mut files, &mut out, &mut err).number()
+    run(alloc, &words, &mut files, out, err).number()
 }

@@ -65,7 +65,8 @@ pub fn take_source<F: Files>(
         (begun_between F.faults F.begun F.faults_at_begin F.taken F.empty_reads F.begun_name
         files.old files.new)) }
     ensures refused { IfErr result (λ status.
-        IsRefusedBy Source (name_of (map string_bytes words.now) command Source) 1 status
+        IsRefusedBy Which.Source
+        (name_of (map string_bytes words.now) command Which.Source) 1 status
         (begun_between F.faults F.begun F.faults_at_begin F.taken F.empty_reads F.begun_name
         files.old files.new)) }
 {

@@ -60,16 +60,16 @@ pub fn run<F: Files, O: Sink, E: Sink>(
     ensures complete { ¬ (RoseBetween F.faults files.old files.new)
         → ¬ (RoseBetween O.faults out.old out.new)
         → WhereTold (F.held files.old) (λ held. IsComplete result
-            (outcome_of (map string_bytes words.now) held (asked words.now))) }
+        (outcome_of (map string_bytes words.now) held (asked words.now))) }
 
     ensures refused { OnRefusal result (out.new ≡ out.old) }
 
     // The headline.
     ensures answered { OnWriting result ((text : List ℕ)
         × IsDelivered result (O.bytes out.old) (O.bytes out.new) (O.faults out.old)
-            (O.faults out.new) text
+        (O.faults out.new) text
         × WhereTold (F.held files.old) (λ held.
-            IsAnswered (map string_bytes words.now) held (asked words.now) text)) }
+        IsAnswered (map string_bytes words.now) held (asked words.now) text)) }
 
     ensures line { IsSaid (E.bytes err.old) (E.bytes err.new) (E.faults err.old) (E.faults err.new)
         (error_line result (name_said (map string_bytes words.now) (asked words.now) result)) }
