@@ -1,6 +1,0 @@
-pub mod RowTexts
-pub mod Numerals
-pub mod ModelRows
-pub mod QubitNumbers
-pub mod WholeTexts
-pub mod SmallModels
