@@ -13,7 +13,7 @@ use Rattle.bits_model.specs.Stated.{DecodesAlike}
 use Rattle.bits_model.proofs.Alike.{relaxes_alike}
 use Rattle.bits_model.proofs.LeastStates.{relaxed_is_faithful}
 use Rattle.model_text.specs.Rows.{model_text}
-use Rattle.model_text.proofs.WholeTexts.{texts_tell_models}
+use Rattle.model_text.proofs.ModelRows.{texts_tell_models}
 use Rattle.command_words.specs.declared.commands.Target.{Target}
 use Rattle.command_words.specs.declared.commands.Target.TheVariants.{Qubo}
 use Rattle.command_words.specs.declared.commands.Job.{Job}

@@ -1,15 +1,8 @@
 //! The text of a QUBO.
 //!
-//! A model goes in, and out comes its text: rows of words for its figures, for what it counts, and
-//! for each weight. No other model has that text, so a reader of it loses nothing.
+//! A QUBO goes in, and out comes its text, which no other model has.
 #![tactic(auto)]
 
-mod laws;
-mod rows;
 mod writing;
 
-pub use laws::laws_of_texts;
 pub use writing::qubo_text;
-
-#[cfg(test)]
-mod tests;

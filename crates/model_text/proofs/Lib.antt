@@ -1,0 +1,6 @@
+pub mod RowTexts
+pub mod Numerals
+pub mod ModelRows
+pub mod QubitNumbers
+pub mod WholeTexts
+pub mod SmallModels

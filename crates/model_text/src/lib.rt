@@ -1,0 +1,16 @@
+//! The text of a written model.
+//!
+//! A model of any kind goes in, and out comes its text: rows of words for its figures, for its
+//! graph and chains where it has any, for what it counts, and for each weight. No other model has
+//! that text, so a reader of it loses nothing.
+#![tactic(auto)]
+
+mod laws;
+mod rows;
+mod writing;
+
+pub use laws::laws_of_texts;
+pub use writing::written_text;
+
+#[cfg(test)]
+mod tests;

@@ -1,4 +1,0 @@
-pub mod RowTexts
-pub mod Numerals
-pub mod ModelRows
-pub mod WholeTexts

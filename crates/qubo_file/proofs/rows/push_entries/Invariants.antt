@@ -1,8 +1,0 @@
-use Rattle.std.proofs.Common.{◌≡◌, ◌++◌, map, take}
-use Rattle.bits_model.specs.Text.{rows_text, entry_row}
-use Rattle.qubo_file.proofs.rows.push_entries.Given as goal
-
--- the rows of the entries so far stand at the end of the text
-abbrev pub invariant-loop-entry : goal.invariant-loop-entry
-invariant-loop-entry l =
-    l.out.items ≡ l.fn.out.items ++ rows_text (map entry_row (take l.entry-index l.entries))
