@@ -1,52 +1,12 @@
 //! The program: words, one file in, one text out.
 #![tactic(auto)]
 
-mod lines;
-mod lower;
-mod run;
-mod status;
-mod steps;
-mod words;
-
-use crate::run::run;
-use edge_io::{RealFiles, RealSink};
-use std::alloc::{AllocError, Global};
-use std::env;
-use std::io::ErrorKind;
+use edge_io::RealSink;
+use program_run::exit_number;
 use std::process::ExitCode;
 
-/// The exit status where memory is refused before there is a run.
-const NO_MEMORY: u8 = 9;
-
-/// The exit status where a word is no UTF-8.
-const NO_WORDS: u8 = 2;
-
-/// The words after the program's name, or the exit status where they cannot be taken.
-fn given_words(rt: &HostRuntime) -> Result<Vec<String>, u8> {
-    let mut words = match env::args(rt) {
-        Ok(words) => words,
-        Err(error) if error.kind() == ErrorKind::OutOfMemory => return Err(NO_MEMORY),
-        Err(_) => return Err(NO_WORDS),
-    };
-    let _program = words.next();
-    let collected: Result<Vec<String>, AllocError> = words.collect(rt.alloc());
-    collected.map_err(|_| NO_MEMORY)
-}
-
 fn main(rt: HostRuntime) -> ExitCode {
-    let words = match given_words(&rt) {
-        Ok(words) => words,
-        Err(number) => return ExitCode::from(number),
-    };
-    let alloc: Global = rt.alloc();
     let mut out = RealSink::new(rt.stdout());
     let mut err = RealSink::new(rt.stderr());
-    let mut files = RealFiles::new(rt);
-    let status = run(alloc, &words, &mut files, &mut out, &mut err);
-    ExitCode::from(status.number())
+    ExitCode::from(exit_number(rt, &mut out, &mut err))
 }
-
-#[cfg(test)]
-mod tests;
-#[cfg(test)]
-mod worked;

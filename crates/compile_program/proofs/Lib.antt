@@ -1,3 +1,0 @@
-pub mod Readings
-pub mod CompiledTexts
-pub mod LoweredModels
