@@ -211,6 +211,16 @@ normal_constraint-total k = omega (arith, ints, kept_products-size k.products)
 
 -- ---- a problem with one more product
 
+pub with_product-total : (p : ProblemForm) (t : Product)
+    → problem_total (with_product p t) ≤ problem_total p + unsigned_abs t.coefficient
+with_product-total p t =
+    omega (
+      arith,
+      size-plus p.constant (product_constant t),
+      kept_product-size t,
+      sum_by-append (λ (u : Product). unsigned_abs u.coefficient) p.objective (kept_product t),
+    )
+
 pub with_product-sound : (p : ProblemForm) (t : Product) → IsSound p
     → All (λ l. l.variable < p.variables) t.literals
     → problem_total p + unsigned_abs t.coefficient < 2 ^ 100 → IsSound (with_product p t)
@@ -221,12 +231,7 @@ with_product-sound p t sound within small = (
     clauses = sound.0.clauses;
     constraints = sound.0.constraints;
   },
-  omega (
-    arith,
-    size-plus p.constant (product_constant t),
-    kept_product-size t,
-    sum_by-append (λ (u : Product). unsigned_abs u.coefficient) p.objective (kept_product t),
-  ),
+  omega (arith, with_product-total p t),
 )
 
 kept_constant : (t u : Product) (clash zero empty : Bool) → is_empty t.literals ≡ empty
@@ -249,6 +254,15 @@ with_product-push p t u same =
 
 -- ---- a problem with one more constraint
 
+pub with_constraint-total : (p : ProblemForm) (k : Constraint)
+    → problem_total (with_constraint p k) ≤ problem_total p + constraint_total k
+with_constraint-total p k =
+    omega (
+      arith,
+      normal_constraint-total k,
+      sum_by-append constraint_total p.constraints (normal_constraint k ∷ []),
+    )
+
 pub with_constraint-sound : (p : ProblemForm) (k : Constraint) → IsSound p
     → AreWithin p.variables k.products
     → problem_total p + constraint_total k < 2 ^ 100 → IsSound (with_constraint p k)
@@ -261,9 +275,5 @@ with_constraint-sound p k sound within small =
             (All-cons Normal (normal_constraint k) []
             (kept_products-normal p.variables k.products within) (All-nil _));
       },
-      omega (
-        arith,
-        normal_constraint-total k,
-        sum_by-append constraint_total p.constraints (normal_constraint k ∷ []),
-      ),
+      omega (arith, with_constraint-total p k),
     )

@@ -47,9 +47,7 @@ fn products_complements(most: usize, products: &[Product]) -> usize
 fn clauses_complements(most: usize, clauses: &[Clause]) -> usize
     ensures { result ≡ fold max most (map clause_complements clauses.now) }
 {
-    clauses
-        .iter()
-        .fold(most, |most, clause| most.max(clause_complements_of(clause)))
+    clauses.iter().fold(most, |most, clause| most.max(clause_complements_of(clause)))
 }
 
 fn most_complements_of(constraint: &Constraint) -> usize
@@ -61,9 +59,10 @@ fn most_complements_of(constraint: &Constraint) -> usize
 fn constraints_complements(constraints: &[Constraint]) -> usize
     ensures { result ≡ fold max 0 (map most_complements constraints.now) }
 {
-    constraints
-        .iter()
-        .fold(0, |most, constraint| most.max(most_complements_of(constraint)))
+    constraints.iter().fold(
+        0,
+        |most, constraint| most.max(most_complements_of(constraint)),
+    )
 }
 
 /// The most complements of a term that is multiplied out. Over literals none is.

@@ -1,4 +1,4 @@
-use Rattle.std.proofs.Common.{arith, ◌^◌,  ap, ◌∙◌, length, fold, map, max}
+use Rattle.std.proofs.Common.{arith, ◌^◌, ap, ◌∙◌, length, fold, map, max}
 use Rattle.problem_form.specs.declared.terms.Product.{Product}
 use Rattle.problem_form.specs.Limits.{summands, constraint_degree}
 use Rattle.problem_form.proofs.CountedNumbers.{squared_alone, squared_spread}
