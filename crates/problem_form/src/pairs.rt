@@ -142,13 +142,20 @@ fn summands_of(constraint: &Constraint, normal: Normal) -> u128
     factor_of(normal, most_complements_of(constraint)).saturating_mul(listed)
 }
 
+/// The largest degree of a product of a constraint.
+fn constraint_degree_of(constraint: &Constraint) -> usize
+    ensures { result ≡ constraint_degree constraint.now }
+{
+    products_degree(0, constraint.products.as_slice())
+}
+
 fn constraint_pairs_of(constraint: &Constraint, normal: Normal) -> u128
     requires { constraint_total constraint.now < 2 ^ 100 }
     ensures { result ≡ answered (constraint_pairs normal constraint.now) }
 {
     let summands = summands_of(constraint, normal);
     let squared = summands.saturating_mul(summands);
-    let degree = products_degree(0, constraint.products.as_slice());
+    let degree = constraint_degree_of(constraint);
     if degree <= 1 {
         squared
     } else {
