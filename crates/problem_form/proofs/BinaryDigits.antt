@@ -1,5 +1,5 @@
 -- The binary digits of a number, and its leading zeros.
-use Rattle.std.proofs.Common.{◌≡◌, ℕ, zero, suc, ◌+◌, ◌-◌, ◌*◌, ◌<◌, ◌≤◌, ◌^◌, min, Bool, leb, cond, arith, refl, sym, ap, ◌∙◌, inl, inr}
+use Rattle.std.proofs.Common.{◌≡◌, ℕ, zero, suc, ◌+◌, ◌-◌, ◌*◌, ◌<◌, ◌≤◌, ◌^◌, min, Bool, leb, cond, arith, ap, inl, inr}
 use Rattle.std.specs.Int.Count.{count_leading_zeros}
 use Rattle.std.proofs.lemmas.Bool.{cases_lt, le-leb, lt-leb}
 use Rattle.std.proofs.lemmas.Nat.{leading_length}
@@ -31,15 +31,15 @@ powers_are n m above below zero = omega arith
 powers_are n m above below (suc k) =
     elim (cases_lt k m) [
       | inl early ↦ omega (
-          arith,
-          powers_are n m above below k,
-          counted (2 ^ k) n (omega (arith, power-le (suc k) m (omega arith), doubled k)),
-        )
+        arith,
+        powers_are n m above below k,
+        counted (2 ^ k) n (omega (arith, power-le (suc k) m (omega arith), doubled k)),
+      )
       | inr late ↦ omega (
-          arith,
-          powers_are n m above below k,
-          not_counted (2 ^ k) n (omega (arith, power-le m k late)),
-        )
+        arith,
+        powers_are n m above below k,
+        not_counted (2 ^ k) n (omega (arith, power-le m k late)),
+      )
     ]
 
 few_digits : (n m : ℕ) → 2 ^ m ≤ 2 * n + 1 → m ≤ n

@@ -1,10 +1,9 @@
 -- Products in normal form: what is kept of one, and what it adds to the sizes of a problem.
-use Rattle.std.proofs.Common.{◌≡◌, ◌≢◌, ℕ, suc, ◌+◌, ◌<◌, ◌≤◌, ◌^◌, Bool, true, false, cond, not, ◌||◌, arith, refl, sym, ap, subst, ◌∙◌, List, [], ◌∷◌, ◌++◌, append-nil, length, map, take, drop, set, get_or, drop-cons, add-one, length-set, ℤ, pos, ◌+ℤ◌, ◌-ℤ◌, unsigned_abs}
+use Rattle.std.proofs.Common.{◌≡◌, ℕ, suc, ◌+◌, ◌<◌, ◌≤◌, ◌^◌, Bool, true, false, cond, not, ◌||◌, arith, refl, sym, ap, ◌∙◌, List, [], ◌∷◌, ◌++◌, length, map, take, drop, set, get_or, drop-cons, add-one, length-set, ℤ, pos, ◌+ℤ◌, unsigned_abs}
 use Rattle.std.specs.Prelude.{All}
 use Rattle.std.specs.Ordering.{int_eq}
-use Rattle.std.specs.List.{filter, flat_map, sum_by}
+use Rattle.std.specs.List.{filter, flat_map}
 use Rattle.std.proofs.lemmas.Int.{ints}
-use Rattle.std.proofs.lemmas.Bool.{or_parts}
 use Rattle.std.proofs.lemmas.Bool.Decides.{Decides-int_eq}
 use Rattle.std.proofs.lemmas.List.{take_more, take_more_set, take_all, take-append-le, drop-set-lt, map-append, length-map}
 use Rattle.std.proofs.lemmas.List.Elements.{All-append, All-cons, All-nil, All-tail}
@@ -14,9 +13,9 @@ use Rattle.integers.proofs.Totals.{size-plus}
 use Rattle.problem_form.specs.declared.literal.Literal.{Literal}
 use Rattle.problem_form.specs.declared.terms.Product.{Product}
 use Rattle.problem_form.specs.declared.terms.Constraint.{Constraint}
-use Rattle.problem_form.specs.Literals.{has_clash, literal_set, IsLiteralSet}
+use Rattle.problem_form.specs.Literals.{has_clash, literal_set}
 use Rattle.problem_form.specs.Fields.{IsSound}
-use Rattle.problem_form.specs.Problems.{ProblemForm, IsNormal, IsNormalProduct, products_total, constraint_total, problem_total}
+use Rattle.problem_form.specs.Problems.{ProblemForm, IsNormalProduct, products_total, constraint_total, problem_total}
 use Rattle.problem_form.specs.NormalForm.{is_empty, kept_product, product_constant, normal_constraint, settled, with_product, with_constraint}
 use Rattle.problem_form.proofs.LiteralSets.{literal_set-ascends, has_clash-literal_set, All-literal_set}
 use Rattle.problem_form.proofs.KeptClauses.{is_empty-literal_set}
@@ -165,7 +164,8 @@ kept_products-normal n (t ∷ ts) within =
 
 -- ---- sizes
 
-pub product_constant-size : (t : Product) → unsigned_abs (product_constant t) ≤ unsigned_abs t.coefficient
+pub product_constant-size : (t : Product)
+    → unsigned_abs (product_constant t) ≤ unsigned_abs t.coefficient
 product_constant-size t = go (is_empty t.literals)
   where
     go : (b : Bool) → unsigned_abs (cond b t.coefficient (pos 0)) ≤ unsigned_abs t.coefficient
@@ -201,7 +201,8 @@ kept_products-size (t ∷ ts) =
       kept_product-size t,
       kept_products-size ts,
       size-plus (product_constant t) (total_by product_constant ts),
-      sum_by-append (λ (u : Product). unsigned_abs u.coefficient) (kept_product t) (flat_map kept_product ts),
+      sum_by-append (λ (u : Product). unsigned_abs u.coefficient) (kept_product t)
+          (flat_map kept_product ts),
       sum_by-cons (λ (u : Product). unsigned_abs u.coefficient) t ts,
     )
 
@@ -210,6 +211,16 @@ pub normal_constraint-total : (k : Constraint)
 normal_constraint-total k = omega (arith, ints, kept_products-size k.products)
 
 -- ---- a problem with one more product
+
+pub with_product-total : (p : ProblemForm) (t : Product)
+    → problem_total (with_product p t) ≤ problem_total p + unsigned_abs t.coefficient
+with_product-total p t =
+    omega (
+      arith,
+      size-plus p.constant (product_constant t),
+      kept_product-size t,
+      sum_by-append (λ (u : Product). unsigned_abs u.coefficient) p.objective (kept_product t),
+    )
 
 pub with_product-sound : (p : ProblemForm) (t : Product) → IsSound p
     → All (λ l. l.variable < p.variables) t.literals
@@ -221,12 +232,7 @@ with_product-sound p t sound within small = (
     clauses = sound.0.clauses;
     constraints = sound.0.constraints;
   },
-  omega (
-    arith,
-    size-plus p.constant (product_constant t),
-    kept_product-size t,
-    sum_by-append (λ (u : Product). unsigned_abs u.coefficient) p.objective (kept_product t),
-  ),
+  omega (arith, with_product-total p t),
 )
 
 kept_constant : (t u : Product) (clash zero empty : Bool) → is_empty t.literals ≡ empty
@@ -249,6 +255,15 @@ with_product-push p t u same =
 
 -- ---- a problem with one more constraint
 
+pub with_constraint-total : (p : ProblemForm) (k : Constraint)
+    → problem_total (with_constraint p k) ≤ problem_total p + constraint_total k
+with_constraint-total p k =
+    omega (
+      arith,
+      normal_constraint-total k,
+      sum_by-append constraint_total p.constraints (normal_constraint k ∷ []),
+    )
+
 pub with_constraint-sound : (p : ProblemForm) (k : Constraint) → IsSound p
     → AreWithin p.variables k.products
     → problem_total p + constraint_total k < 2 ^ 100 → IsSound (with_constraint p k)
@@ -261,9 +276,5 @@ with_constraint-sound p k sound within small =
             (All-cons Normal (normal_constraint k) []
             (kept_products-normal p.variables k.products within) (All-nil _));
       },
-      omega (
-        arith,
-        normal_constraint-total k,
-        sum_by-append constraint_total p.constraints (normal_constraint k ∷ []),
-      ),
+      omega (arith, with_constraint-total p k),
     )

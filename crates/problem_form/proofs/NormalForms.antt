@@ -2,7 +2,7 @@
 --
 -- The set of a list passes the same tests as the list. A literal and its complement are never both
 -- true and never both false, so a clash makes a product 0 and a clause true.
-use Rattle.std.proofs.Common.{◌≡◌, ℕ, Bool, true, false, cond, not, ◌&&◌, ◌||◌, eqb, arith, refl, sym, ap, ◌∙◌, List, [], ◌∷◌, ◌++◌, map, get_or, length, Option, Some, None, is_none, ℤ, pos, ◌+ℤ◌, ◌-ℤ◌, int_lt}
+use Rattle.std.proofs.Common.{◌≡◌, ℕ, Bool, true, false, cond, not, ◌&&◌, ◌||◌, eqb, arith, refl, sym, ap, ◌∙◌, List, [], ◌∷◌, map, get_or, length, Option, Some, None, is_none, ℤ, pos, ◌+ℤ◌, ◌-ℤ◌, int_lt}
 use Rattle.std.specs.Ordering.{int_eq}
 use Rattle.std.specs.List.{list_any, flat_map}
 use Rattle.std.proofs.lemmas.Int.{ints}
@@ -20,7 +20,7 @@ use Rattle.problem_form.specs.declared.terms.Product.{Product}
 use Rattle.problem_form.specs.declared.terms.Clause.{Clause}
 use Rattle.problem_form.specs.declared.terms.Constraint.{Constraint}
 use Rattle.problem_form.specs.Literals.{holds, all_hold, some_holds, are_opposite, has_clash, literal_set}
-use Rattle.problem_form.specs.Problems.{ProblemForm, product_value, sum_of, soft_cost, fails_hard, fails}
+use Rattle.problem_form.specs.Problems.{product_value, sum_of, soft_cost, fails_hard, fails}
 use Rattle.problem_form.specs.NormalForm.{is_empty, kept_product, product_constant, is_plain_cost, kept_clause, weight_constant, clause_constant, normal_constraint, NormalFormKeepsCosts}
 use Rattle.problem_form.proofs.LiteralSets.{list_any-literal_set, list_all-literal_set}
 

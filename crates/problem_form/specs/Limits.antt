@@ -38,6 +38,7 @@ degrees p =
     ++ map (λ c. length c.literals) p.clauses
     ++ flat_map (λ k. map (λ t. length t.literals) k.products) p.constraints
 
+-- the largest of them
 abbrev pub degree : ProblemForm → ℕ
 degree p = fold max 0 (degrees p)
 
@@ -83,7 +84,7 @@ powers_within (suc k) n = powers_within k n + (if nat_le (2 ^ k) n then 1 else 0
 abbrev pub binary_digits : ℕ → ℕ
 binary_digits n = powers_within n n
 
--- the binary digits are the least number of them that holds the number
+-- so many binary digits hold a number, and one fewer would not
 abbrev pub DigitsAreLeast : Type 0
 DigitsAreLeast = (n : ℕ) → (n < 2 ^ binary_digits n) × (2 ^ binary_digits n ≤ 2 * n + 1)
 
@@ -93,10 +94,11 @@ slack_bits k = binary_digits (slack_range k)
 
 -- ---- pairs
 
--- the pairs of literals that a product's terms have
+-- the pairs of literals that the terms of a product have
 abbrev pub product_pairs : Normal → Product → ℕ
 product_pairs normal t = factor normal (complements t) * length t.literals ^ 2
 
+-- the same for the product of a clause
 abbrev pub clause_pairs : Normal → Clause → ℕ
 clause_pairs normal c = factor normal (clause_complements c) * length c.literals ^ 2
 
@@ -104,12 +106,13 @@ clause_pairs normal c = factor normal (clause_complements c) * length c.literals
 abbrev pub constraint_degree : Constraint → ℕ
 constraint_degree k = fold max 0 (map (λ t. length t.literals) k.products)
 
--- how many terms the sum has that is squared for a constraint: those of its products, its slack bits
+-- how many terms the sum has at most that is squared for a constraint: its products, its slack bits
 -- and its bound
 abbrev pub summands : Normal → Constraint → ℕ
 summands normal k = factor normal (most_complements k) * (length k.products + slack_bits k + 1)
 
--- each two of them are a pair of literals, or a product of at most twice the degree
+-- the product of two of them is a pair where all are literals, and has at most twice the degree
+-- elsewhere
 abbrev pub constraint_pairs : Normal → Constraint → ℕ
 constraint_pairs normal k =
     summands normal k ^ 2
@@ -124,12 +127,15 @@ pairs normal p =
 
 -- ---- auxiliary bits: slack, and one for each literal past the second of a term
 
+-- the nodes that take the place of the terms of a product of degree 3 or more
 abbrev pub product_bits : Normal → Product → ℕ
 product_bits normal t = factor normal (complements t) * (length t.literals - 2)
 
+-- the same for the product of a clause
 abbrev pub clause_bits : Normal → Clause → ℕ
 clause_bits normal c = factor normal (clause_complements c) * (length c.literals - 2)
 
+-- the slack bits of a constraint, and the nodes for the terms of its square
 abbrev pub constraint_bits : Normal → Constraint → ℕ
 constraint_bits normal k =
     slack_bits k

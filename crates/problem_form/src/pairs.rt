@@ -47,9 +47,7 @@ fn products_complements(most: usize, products: &[Product]) -> usize
 fn clauses_complements(most: usize, clauses: &[Clause]) -> usize
     ensures { result ≡ fold max most (map clause_complements clauses.now) }
 {
-    clauses
-        .iter()
-        .fold(most, |most, clause| most.max(clause_complements_of(clause)))
+    clauses.iter().fold(most, |most, clause| most.max(clause_complements_of(clause)))
 }
 
 fn most_complements_of(constraint: &Constraint) -> usize
@@ -61,9 +59,10 @@ fn most_complements_of(constraint: &Constraint) -> usize
 fn constraints_complements(constraints: &[Constraint]) -> usize
     ensures { result ≡ fold max 0 (map most_complements constraints.now) }
 {
-    constraints
-        .iter()
-        .fold(0, |most, constraint| most.max(most_complements_of(constraint)))
+    constraints.iter().fold(
+        0,
+        |most, constraint| most.max(most_complements_of(constraint)),
+    )
 }
 
 /// The most complements of a term that is multiplied out. Over literals none is.
@@ -143,13 +142,20 @@ fn summands_of(constraint: &Constraint, normal: Normal) -> u128
     factor_of(normal, most_complements_of(constraint)).saturating_mul(listed)
 }
 
+/// The largest degree of a product of a constraint.
+fn constraint_degree_of(constraint: &Constraint) -> usize
+    ensures { result ≡ constraint_degree constraint.now }
+{
+    products_degree(0, constraint.products.as_slice())
+}
+
 fn constraint_pairs_of(constraint: &Constraint, normal: Normal) -> u128
     requires { constraint_total constraint.now < 2 ^ 100 }
     ensures { result ≡ answered (constraint_pairs normal constraint.now) }
 {
     let summands = summands_of(constraint, normal);
     let squared = summands.saturating_mul(summands);
-    let degree = products_degree(0, constraint.products.as_slice());
+    let degree = constraint_degree_of(constraint);
     if degree <= 1 {
         squared
     } else {

@@ -1,11 +1,13 @@
 //! Clauses as they are kept, costs and limits, over worked values.
 ghost use Rattle.std.specs.Prelude.{◌≡◌, ◌↔◌, ◌+◌, ◌<◌, ◌≤◌, ◌^◌, ◌∷◌, [], All, IsTrue, IfOk, OnOk, length};
-ghost use Rattle.problem_form.specs.Problems.{problem_total};
+ghost use Rattle.problem_form.specs.Problems.{constraint_total, problem_total};
 
+use crate::counts::weight_of;
 use crate::limits::{Choices, High, LimitFault, LimitKind, Normal, check_limits};
 use crate::literal::{Literal, LiteralList};
+use crate::pairs::{negations_of, pairs_of};
 use crate::problem::Problem;
-use crate::terms::{Clause, ClauseList, Constraint, ConstraintList, Product, ProductList};
+use crate::terms::{Clause, Constraint, Product, ProductList};
 use bits_model::{Cost, Costed, NoMemory};
 use std::alloc::Global;
 use std::test::Fail;
@@ -105,48 +107,60 @@ fn a_clause_is_kept_in_order_each_literal_once(rt: HostRuntime) -> Result<(), Fa
     Ok(())
 }
 
-fn products(
-    alloc: Global,
-    first: (Literal, i128),
-    second: (Literal, i128),
-) -> Result<ProductList, NoMemory>
+fn product(alloc: Global, literals: &[Literal], coefficient: i128) -> Result<Product, NoMemory>
     ensures { IfOk result
-        (λ ts. ts
-        ≡ record { literals = first.0 ∷ []; coefficient = first.1 }
-        ∷ record { literals = second.0 ∷ []; coefficient = second.1 }
-        ∷ []) }
+        (λ t. t ≡ record { literals = literals.now; coefficient = coefficient }) }
+{
+    let literals = LiteralList::new(Vec::from_slice(alloc, literals)?);
+    Ok(Product {
+        literals,
+        coefficient,
+    })
+}
+
+/// a + 2 b + 5 is at least 7, or is 7. The product with b lists it twice.
+fn bound_of(alloc: Global, exact: bool) -> Result<Constraint, NoMemory>
+    ensures within { IfOk result
+        (λ k. All (λ t. All (λ l. l.variable < 2) t.literals) k.products) }
+    ensures small { IfOk result (λ k. constraint_total k ≡ 15) }
 {
     let mut products = Vec::new(alloc);
-    let literals = LiteralList::new(Vec::from_slice(alloc, &[first.0])?);
-    products.push(Product {
-        literals,
-        coefficient: first.1,
-    })?;
-    let literals = LiteralList::new(Vec::from_slice(alloc, &[second.0])?);
-    products.push(Product {
-        literals,
-        coefficient: second.1,
-    })?;
-    Ok(ProductList::new(products))
+    products.push(product(alloc, &[A], 1)?)?;
+    products.push(product(alloc, &[B, B], 2)?)?;
+    products.push(product(alloc, &[], 5)?)?;
+    Ok(Constraint {
+        products: ProductList::new(products),
+        bound: 7,
+        exact,
+    })
+}
+
+/// Adds a product, where its variables are those of the problem.
+fn add_term(
+    alloc: Global,
+    problem: &mut Problem,
+    literals: &[Literal],
+    coefficient: i16,
+) -> Result<(), NoMemory>
+    requires { problem_total problem.old < 2 ^ 99 }
+    ensures total { OnOk result (problem_total problem.new ≤ problem_total problem.old + 2 ^ 16) }
+    ensures same { OnOk result (problem.new.variables ≡ problem.old.variables) }
+{
+    if !are_within(literals, problem.variables) {
+        return Ok(());
+    }
+    problem.add_product(product(alloc, literals, i128::from(coefficient))?)
 }
 
 /// 4 + 3 a - 2 ~b, where a + 2 b is at least 2, or is 2.
 fn bounded(alloc: Global, exact: bool) -> Result<Problem, NoMemory> {
-    let objective = products(alloc, (A, 3), (NOT_B, -2))?;
-    let products = products(alloc, (A, 1), (B, 2))?;
-    let mut constraints = Vec::new(alloc);
-    constraints.push(Constraint {
-        products,
-        bound: 2,
-        exact,
-    })?;
-    Ok(Problem {
-        variables: 2,
-        constant: 4,
-        objective,
-        clauses: ClauseList::new(Vec::new(alloc)),
-        constraints: ConstraintList::new(constraints),
-    })
+    let mut problem = Problem::new(alloc);
+    problem.widen(2);
+    add_term(alloc, &mut problem, &[], 4)?;
+    add_term(alloc, &mut problem, &[A], 3)?;
+    add_term(alloc, &mut problem, &[NOT_B], -2)?;
+    problem.add_constraint(bound_of(alloc, exact)?)?;
+    Ok(problem)
 }
 
 fn cost_at(problem: &Problem, x: [bool; 2]) -> Option<Cost> {
@@ -230,5 +244,48 @@ fn limits_are_exact(rt: HostRuntime) -> Result<(), Fail> {
         };
         assert_eq!(rt; check_limits(&problem, &CHOICES), wanted);
     }
+    Ok(())
+}
+
+#[test]
+fn counts_of_a_bounded_sum(rt: HostRuntime) -> Result<(), Fail> {
+    // At least 2: the sum of two products, one slack bit and the bound is squared. The sizes of its
+    // coefficients and of its slack come to 6, and to 5 where it is exact.
+    let rows = [
+        (false, 2 + 16, 3 + 16, 9 + 6 * 36),
+        (true, 2 + 9, 3 + 9, 9 + 6 * 25),
+    ];
+    for (exact, pairs, multiplied_out, weight) in rows {
+        let problem = bounded(rt.alloc(), exact)?;
+        assert_eq!(rt; problem.penalty(), 6);
+        assert_eq!(rt; pairs_of(&problem, Normal::Literal), pairs);
+        assert_eq!(rt; pairs_of(&problem, Normal::Multilinear), multiplied_out);
+        assert_eq!(rt; negations_of(&problem, Normal::Literal), 0);
+        assert_eq!(rt; negations_of(&problem, Normal::Multilinear), 1);
+        assert_eq!(rt; weight_of(&problem), weight);
+    }
+    Ok(())
+}
+
+#[test]
+fn nine_complements_are_too_many_to_multiply_out(rt: HostRuntime) -> Result<(), Fail> {
+    let nine = [0, 1, 2, 3, 4, 5, 6, 7, 8].map(|variable| Literal {
+        variable,
+        negated: false,
+    });
+    let multiplied_out = Choices {
+        normal: Normal::Multilinear,
+        high: High::Monomial,
+    };
+    let fault = LimitFault {
+        kind: LimitKind::Negations,
+        number: 9,
+    };
+    // the product of a clause has the complements of its literals
+    let problem = problem_of(rt.alloc(), 9, &[(&nine, Some(1))])?;
+    assert_eq!(rt; check_limits(&problem, &CHOICES), Ok(()));
+    assert_eq!(rt; check_limits(&problem, &multiplied_out), Err(fault));
+    let problem = problem_of(rt.alloc(), 9, &[(&nine[1..], Some(1))])?;
+    assert_eq!(rt; check_limits(&problem, &multiplied_out), Ok(()));
     Ok(())
 }

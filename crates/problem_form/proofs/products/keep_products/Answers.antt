@@ -7,7 +7,9 @@ use Rattle.problem_form.proofs.products.keep_products.Goals as goal
 
 pub returns : goal.returns
 returns c =
-    let kept = filter_from_retain _ is_some (λ p x b q k. search (rules, tests)) _ _ _ c.retain.ensures.filtered in
+    let kept =
+    filter_from_retain _ is_some (λ p x b q k. search (rules, tests)) _ _ _
+    c.retain.ensures.filtered in
     let settle = c.settle_all.ensures ∙ ap (map settled) c.deref_mut.ensures.value in
     kept
     ∙ ap (filter is_some) (settled_in_place _ _ _ _ settle c.args.products.now.ok.0)

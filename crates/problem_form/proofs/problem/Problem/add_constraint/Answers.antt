@@ -1,6 +1,5 @@
-use Rattle.std.proofs.Common.{◌≡◌, ◌+◌, ◌<◌, ◌^◌, subst, sym, ap, List, [], ◌∷◌, ◌++◌}
+use Rattle.std.proofs.Common.{◌+◌, ◌<◌, ◌^◌, subst, sym, List, [], ◌∷◌, ◌++◌}
 use Rattle.problem_form.specs.declared.terms.Constraint.{Constraint}
-use Rattle.problem_form.specs.NormalForm.{normal_constraint}
 use Rattle.problem_form.specs.Fields.{IsSound, form_within}
 use Rattle.problem_form.specs.Problems.{ProblemForm, constraint_total, problem_total}
 use Rattle.problem_form.proofs.KeptClauses.{by_result}
