@@ -1,5 +1,5 @@
 -- Counts of a u64, which start at 0 and stop at 2^64 - 1, and the faults that they count.
-use Rattle.std.specs.Prelude.{◌≡◌, ℕ, ◌+◌, ◌-◌, ◌^◌, ◌≤◌, ◌<◌, min, Result, OnErr, MatchResult}
+use Rattle.std.specs.Prelude.{◌≡◌, ℕ, List, [], ◌+◌, ◌-◌, ◌^◌, ◌≤◌, ◌<◌, min, Result, OnErr, MatchResult}
 
 -- the count, n later
 abbrev pub counted_on : ℕ → ℕ → ℕ
@@ -24,3 +24,25 @@ abbrev pub CountsNothing : {E : Type 0} → ℕ → ℕ → Result ℕ E → Typ
 CountsNothing before now result =
     MatchResult result (λ n. (n ≡ 0 → now ≡ counted_on before 1) × (0 < n → now ≡ before))
     (λ _. now ≡ counted_on before 1)
+
+-- what a store of files tells of its calls: how many failed, how many were of `begin`, and of the last
+-- `begin` its name and the count of faults then; and since then the bytes that were taken, and the
+-- reads that gave nothing or failed
+pub record Counts : Type 0 where
+  pub faults : ℕ
+  pub begun : ℕ
+  pub name : List ℕ
+  pub faults_at_begin : ℕ
+  pub taken : ℕ
+  pub empty_reads : ℕ
+
+-- before the first call
+abbrev pub none_yet : Counts
+none_yet = record {
+  faults = 0;
+  begun = 0;
+  name = [];
+  faults_at_begin = 0;
+  taken = 0;
+  empty_reads = 0;
+}

@@ -3,7 +3,7 @@
 ghost use Rattle.std.specs.Prelude.{◌≡◌, ℕ, List, [], IfOk, OnErr, Option, string_bytes};
 ghost use Rattle.std.specs.Io.{ReadsAtMost};
 ghost use Rattle.std.specs.Io.KnownBytes.{ReadConsumes, WriteAppends, IsAtEnd};
-ghost use Rattle.edge_io.specs.Counts.{counted_on, CountsNothing, HasCause};
+ghost use Rattle.edge_io.specs.Counts.{Counts, counted_on, CountsNothing, HasCause};
 ghost use Rattle.edge_io.specs.Held.{NamedFiles, Begins};
 ghost use Rattle.edge_io.specs.Sinks.{TakesSome};
 
@@ -19,51 +19,36 @@ pub trait Files {
     /// The rest of the begun file, where it tells it.
     ghost rest: { Self → Option (List ℕ) };
 
-    /// How often a call has failed.
-    ghost faults: { Self → ℕ };
-
-    /// How many bytes were taken since the last `begin`.
-    ghost taken: { Self → ℕ };
-
-    /// How many calls of `read` gave nothing or failed since the last `begin`.
-    ghost empty_reads: { Self → ℕ };
-
-    /// How often `begin` was called.
-    ghost begun: { Self → ℕ };
-
-    /// The count of faults as it was when `begin` was last called.
-    ghost faults_at_begin: { Self → ℕ };
-
-    /// The name that the last `begin` was given.
-    ghost begun_name: { Self → List ℕ };
+    /// What it tells of its calls.
+    ghost counts: { Self → Counts };
 
     /// Opens the named file at its start. Also where it fails, it counts as begun under this name.
     fn begin(&mut self, name: String) -> Result<(), Failed>
         ensures held { held self.new ≡ held self.old }
         ensures rest { Begins (held self.old) (string_bytes name) result (rest self.new) }
-        ensures cause { HasCause (faults self.old) (faults self.new) result }
-        ensures none_taken { taken self.new ≡ 0 }
-        ensures none_empty { empty_reads self.new ≡ 0 }
-        ensures counted { begun self.new ≡ counted_on (begun self.old) 1 }
-        ensures marked { faults_at_begin self.new ≡ faults self.old }
-        ensures named { begun_name self.new ≡ string_bytes name };
+        ensures cause { HasCause (counts self.old).faults (counts self.new).faults result }
+        ensures none_taken { (counts self.new).taken ≡ 0 }
+        ensures none_empty { (counts self.new).empty_reads ≡ 0 }
+        ensures counted { (counts self.new).begun ≡ counted_on (counts self.old).begun 1 }
+        ensures marked { (counts self.new).faults_at_begin ≡ (counts self.old).faults }
+        ensures named { (counts self.new).name ≡ string_bytes name };
 
     /// Takes the next bytes of the rest: none only at its end, or where there is no room for them.
     fn read(&mut self, into: &mut [u8]) -> Result<usize, Failed>
         ensures held { held self.new ≡ held self.old }
         ensures bound { ReadsAtMost result into.new }
         ensures rest { ReadConsumes (rest self.old) (rest self.new) result into.new }
-        ensures cause { HasCause (faults self.old) (faults self.new) result }
-        ensures counted { IfOk result (λ n. taken self.new ≡ counted_on (taken self.old) n) }
-        ensures none_taken { OnErr result (taken self.new ≡ taken self.old) }
-        ensures nothing { CountsNothing (empty_reads self.old) (empty_reads self.new) result }
-        ensures same_begin { begun self.new ≡ begun self.old }
-        ensures same_mark { faults_at_begin self.new ≡ faults_at_begin self.old }
-        ensures same_name { begun_name self.new ≡ begun_name self.old };
+        ensures cause { HasCause (counts self.old).faults (counts self.new).faults result }
+        ensures counted { IfOk result (λ n. (counts self.new).taken ≡ counted_on (counts self.old).taken n) }
+        ensures none_taken { OnErr result ((counts self.new).taken ≡ (counts self.old).taken) }
+        ensures nothing { CountsNothing (counts self.old).empty_reads (counts self.new).empty_reads result }
+        ensures same_begin { (counts self.new).begun ≡ (counts self.old).begun }
+        ensures same_mark { (counts self.new).faults_at_begin ≡ (counts self.old).faults_at_begin }
+        ensures same_name { (counts self.new).name ≡ (counts self.old).name };
 
     /// Before the first `begin` nothing is left to read, and the name is empty.
-    ghost at_first: { (files : Self) → begun files ≡ 0 →
-        IsAtEnd (rest files) × (begun_name files ≡ []) };
+    ghost at_first: { (files : Self) → (counts files).begun ≡ 0 →
+        IsAtEnd (rest files) × ((counts files).name ≡ []) };
 }
 
 /// What bytes are written to. A `write` that fails has taken nothing, and later ones may succeed.

@@ -76,17 +76,14 @@ impl Files for MemoryFiles {
 
     ghost rest = { λ f. Some (rest_of f) };
 
-    ghost faults = { λ f. f.faults };
-
-    ghost taken = { λ f. f.taken };
-
-    ghost empty_reads = { λ f. f.empty_reads };
-
-    ghost begun = { λ f. f.begun };
-
-    ghost faults_at_begin = { λ f. f.faults_at_begin };
-
-    ghost begun_name = { name_of };
+    ghost counts = { λ f. record {
+      faults = f.faults;
+      begun = f.begun;
+      name = name_of f;
+      faults_at_begin = f.faults_at_begin;
+      taken = f.taken;
+      empty_reads = f.empty_reads;
+    } };
 
     ghost at_first = { λ f none.
         (after_first-none f.begun f.rest none, after_first-none f.begun f.name none) };

@@ -2,6 +2,7 @@
 //! end does.
 ghost use Rattle.std.specs.Prelude.{◌≡◌, [], None, string_bytes};
 ghost use Rattle.std.specs.Option.{option_map_or};
+ghost use Rattle.edge_io.specs.Counts.{none_yet};
 ghost use Rattle.edge_io.specs.Held.{after_first, after_first-none};
 
 use crate::empties::empties_after;
@@ -27,11 +28,7 @@ where
     R::File: Drop,
 {
     pub fn new(rt: R) -> RealFiles<R>
-        ensures none_begun { ⟦<RealFiles<R> as Files>⟧.begun result ≡ 0 }
-        ensures none_taken { ⟦<RealFiles<R> as Files>⟧.taken result ≡ 0 }
-        ensures none_empty { ⟦<RealFiles<R> as Files>⟧.empty_reads result ≡ 0 }
-        ensures no_fault { ⟦<RealFiles<R> as Files>⟧.faults result ≡ 0 }
-        ensures marked { ⟦<RealFiles<R> as Files>⟧.faults_at_begin result ≡ 0 }
+        ensures { ⟦<RealFiles<R> as Files>⟧.counts result ≡ none_yet }
     {
         RealFiles {
             rt,
@@ -54,17 +51,14 @@ where
 
     ghost rest = { λ f. None };
 
-    ghost faults = { λ f. f.faults };
-
-    ghost taken = { λ f. f.taken };
-
-    ghost empty_reads = { λ f. f.empty_reads };
-
-    ghost begun = { λ f. f.begun };
-
-    ghost faults_at_begin = { λ f. f.faults_at_begin };
-
-    ghost begun_name = { λ f. after_first f.begun (option_map_or string_bytes f.name []) };
+    ghost counts = { λ f. record {
+      faults = f.faults;
+      begun = f.begun;
+      name = after_first f.begun (option_map_or string_bytes f.name []);
+      faults_at_begin = f.faults_at_begin;
+      taken = f.taken;
+      empty_reads = f.empty_reads;
+    } };
 
     ghost at_first = { λ f none. (tt, after_first-none f.begun _ none) };
 

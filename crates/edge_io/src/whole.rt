@@ -45,27 +45,27 @@ pub fn read_all<F: Files>(
     requires { limit < 2 ^ 32 }
     ensures whole { IfOk result (λ all. WhereTold (F.held files.old) (λ held.
         find_file held (string_bytes name) ≡ Some all.items)) }
-    ensures all_taken { IfOk result (λ all. F.taken files.new ≡ length all.items) }
+    ensures all_taken { IfOk result (λ all. (F.counts files.new).taken ≡ length all.items) }
 
     // One read gives nothing, and then no more is read.
-    ensures to_end { OnOk result (F.empty_reads files.new ≡ 1) }
-    ensures no_end { IsErrOf result ReadAnswer.TooLong → F.empty_reads files.new ≡ 0 }
+    ensures to_end { OnOk result ((F.counts files.new).empty_reads ≡ 1) }
+    ensures no_end { IsErrOf result ReadAnswer.TooLong → (F.counts files.new).empty_reads ≡ 0 }
 
     // The file was begun once, under this name and before any read, whatever the answer.
-    ensures begun { F.begun files.new ≡ counted_on (F.begun files.old) 1 }
-    ensures marked { F.faults_at_begin files.new ≡ F.faults files.old }
-    ensures named { F.begun_name files.new ≡ string_bytes name }
+    ensures begun { (F.counts files.new).begun ≡ counted_on (F.counts files.old).begun 1 }
+    ensures marked { (F.counts files.new).faults_at_begin ≡ (F.counts files.old).faults }
+    ensures named { (F.counts files.new).name ≡ string_bytes name }
     ensures held { F.held files.new ≡ F.held files.old }
 
-    ensures no_fall { F.faults files.old ≤ F.faults files.new }
+    ensures no_fall { (F.counts files.old).faults ≤ (F.counts files.new).faults }
     ensures fault { IsErrOf result ReadAnswer.ReadFault →
-        Rose (F.faults files.old) (F.faults files.new) }
+        Rose (F.counts files.old).faults (F.counts files.new).faults }
     ensures unheld { WhereTold (F.held files.old) (λ held.
         find_file held (string_bytes name) ≡ None → IsErrOf result ReadAnswer.ReadFault) }
 
     // One byte beyond the limit tells that a file is too long, and no more is taken.
-    ensures at_most { F.taken files.new ≤ limit + 1 }
-    ensures too_long { IsErrOf result ReadAnswer.TooLong ↔ (F.taken files.new ≡ limit + 1) }
+    ensures at_most { (F.counts files.new).taken ≤ limit + 1 }
+    ensures too_long { IsErrOf result ReadAnswer.TooLong ↔ ((F.counts files.new).taken ≡ limit + 1) }
     ensures longer { IsErrOf result ReadAnswer.TooLong →
         WhereTold (F.held files.old) (λ held. IsLonger held (string_bytes name) limit) }
 {

@@ -7,14 +7,14 @@ use Rattle.edge_io.proofs.whole.read_all.Given as goal
 abbrev pub invariant-loop-count : goal.invariant-loop-count
 invariant-loop-count g l = record {
   within : length l.all.items ≤ l.limit;
-  taken : g.F.Files.taken l.files ≡ length l.all.items;
-  filled : g.F.Files.empty_reads l.files ≡ 0;
+  taken : (g.F.Files.counts l.files).taken ≡ length l.all.items;
+  filled : (g.F.Files.counts l.files).empty_reads ≡ 0;
   front : IsFront (g.F.Files.held l.fn.files) (string_bytes l.fn.name) l.all.items (g.F.Files.rest l.files);
   held : g.F.Files.held l.files ≡ g.F.Files.held l.fn.files;
-  begun : g.F.Files.begun l.files ≡ counted_on (g.F.Files.begun l.fn.files) 1;
-  marked : g.F.Files.faults_at_begin l.files ≡ g.F.Files.faults l.fn.files;
-  named : g.F.Files.begun_name l.files ≡ string_bytes l.fn.name;
-  later : g.F.Files.faults l.fn.files ≤ g.F.Files.faults l.files;
+  begun : (g.F.Files.counts l.files).begun ≡ counted_on (g.F.Files.counts l.fn.files).begun 1;
+  marked : (g.F.Files.counts l.files).faults_at_begin ≡ (g.F.Files.counts l.fn.files).faults;
+  named : (g.F.Files.counts l.files).name ≡ string_bytes l.fn.name;
+  later : (g.F.Files.counts l.fn.files).faults ≤ (g.F.Files.counts l.files).faults;
 }
 
 abbrev pub decreases-loop-count : goal.decreases-loop-count
