@@ -7,13 +7,14 @@ use Rattle.command_words.specs.declared.names.Which.{Which}
 use Rattle.command_words.specs.declared.names.Which.TheVariants.{Source, Map, State}
 use Rattle.program_run.specs.declared.status.Status.{Status}
 use Rattle.program_run.specs.declared.status.Status.TheVariants.{Done, Usage, ReadFault, WriteFault, BadText, Limit, NoState, NoMemory}
-use Rattle.program_run.specs.Causes.{Begun, IsRefusedBy, AreRead}
+use Rattle.edge_io.specs.Counts.{Counts}
+use Rattle.program_run.specs.Causes.{IsRefusedBy, AreRead}
 
-pub limits_refused : (name : List ℕ) (count number : ℕ) (kind : LimitKind) (b : Begun)
-    → kind ≢ Bytes → AreRead count b → IsRefusedBy Source name count (Limit Source kind number) b
-limits_refused name count number Bytes b other begun = absurd (other refl)
-limits_refused name count number Variables b other begun = (refl, begun)
-limits_refused name count number Degree b other begun = (refl, begun)
-limits_refused name count number Negations b other begun = (refl, begun)
-limits_refused name count number Pairs b other begun = (refl, begun)
-limits_refused name count number Weight b other begun = (refl, begun)
+pub limits_refused : (name : List ℕ) (count number : ℕ) (kind : LimitKind) (old new : Counts)
+    → kind ≢ Bytes → AreRead count old new → IsRefusedBy Source name count (Limit Source kind number) old new
+limits_refused name count number Bytes old new other begun = absurd (other refl)
+limits_refused name count number Variables old new other begun = (refl, begun)
+limits_refused name count number Degree old new other begun = (refl, begun)
+limits_refused name count number Negations old new other begun = (refl, begun)
+limits_refused name count number Pairs old new other begun = (refl, begun)
+limits_refused name count number Weight old new other begun = (refl, begun)

@@ -2,8 +2,7 @@
 use Rattle.std.specs.Prelude.{◌≡◌, ℕ, List, [], Ok, Err, Some, Result, false, ⊤}
 use Rattle.std.specs.declared.option.Option.{Option}
 use Rattle.std.specs.Io.KnownBytes.{Appends}
-use Rattle.edge_io.specs.Counts.{Rose}
-use Rattle.edge_io.specs.Held.{NamedFiles, find_file}
+use Rattle.edge_io.specs.Held.{NamedFiles, find_file, WhereTold}
 use Rattle.edge_io.specs.Sinks.{AppendsFront}
 use Rattle.bits_model.specs.declared.output.UnitChoice.TheVariants.{One}
 use Rattle.bits_model.specs.Costs.{Source}
@@ -16,6 +15,7 @@ use Rattle.command_words.specs.declared.names.Which.TheVariants as files
 use Rattle.command_words.specs.declared.commands.Job.{Job}
 use Rattle.command_words.specs.declared.commands.Command.{Command}
 use Rattle.command_words.specs.declared.commands.Command.TheVariants.{Compile}
+use Rattle.command_words.specs.Commands.{command_of}
 use Rattle.command_words.specs.Names.{name_of, job_in}
 use Rattle.source_texts.specs.Sources.{source_of}
 use Rattle.model_pipeline.specs.Models.{kind_of}
@@ -59,10 +59,15 @@ IsCompiledFrom words held command text =
 abbrev pub IsAnswer : List (List ℕ) → NamedFiles → Command → List ℕ → Type 0
 IsAnswer words held (Compile job) text = IsCompiledFrom words held (Compile job) text
 
--- the text is the answer to the command of the words
-abbrev pub IsAnswered : List (List ℕ) → NamedFiles → Result Command ℕ → List ℕ → Type 0
-IsAnswered words held (Ok command) text = IsAnswer words held command text
-IsAnswered words held (Err position) text = ⊥
+-- the text is the answer to a command of the words
+abbrev pub IsAnswerIn : List (List ℕ) → NamedFiles → Result Command ℕ → List ℕ → Type 0
+IsAnswerIn words held (Ok command) text = IsAnswer words held command text
+IsAnswerIn words held (Err position) text = ⊥
+
+-- where the files tell what they hold, the text is the answer to the words
+abbrev pub IsAnswered : Option NamedFiles → List (List ℕ) → List ℕ → Type 0
+IsAnswered told words text =
+    WhereTold told (λ held. IsAnswerIn words held (command_of words) text)
 
 -- ---- its delivery
 
@@ -70,10 +75,10 @@ IsAnswered words held (Err position) text = ⊥
 abbrev pub text_of : Answer → List ℕ
 text_of (Model m) = model_text m
 
--- how a text is delivered to a sink: the whole of it, a front of it with a fault, or nothing where
--- memory is wanting
-abbrev pub IsDelivered : Status → Option (List ℕ) → Option (List ℕ) → ℕ → ℕ → List ℕ → Type 0
-IsDelivered Done old new before now text = Appends old new text
-IsDelivered WriteFault old new before now text = AppendsFront old new text × Rose before now
-IsDelivered NoMemory old new before now text = ⊤
-IsDelivered status old new before now text = ⊥
+-- how a text is delivered to a sink: the whole of it, a front of it where there was a fault, or nothing
+-- where memory is wanting
+abbrev pub IsDelivered : Status → Option (List ℕ) → Option (List ℕ) → List ℕ → Type 0
+IsDelivered Done old new text = Appends old new text
+IsDelivered WriteFault old new text = AppendsFront old new text
+IsDelivered NoMemory old new text = ⊤
+IsDelivered status old new text = ⊥

@@ -2,7 +2,7 @@
 use Rattle.std.specs.Prelude.{◌≡◌, ℕ, ◌+◌, List, length, nat_lt, if◌then◌else◌, Ok, Err, Some, None, Result, ⊤}
 use Rattle.std.specs.declared.option.Option.{Option}
 use Rattle.std.specs.Option.{option_map_or}
-use Rattle.edge_io.specs.Held.{NamedFiles, find_file}
+use Rattle.edge_io.specs.Held.{NamedFiles, find_file, WhereTold}
 use Rattle.bits_model.specs.Output.{Written}
 use Rattle.model_text.specs.Rows.{model_text}
 use Rattle.whole_text.specs.declared.faults.TextFault.{TextFault}
@@ -14,6 +14,7 @@ use Rattle.command_words.specs.declared.names.Which.TheVariants.{Source}
 use Rattle.command_words.specs.declared.commands.Job.{Job}
 use Rattle.command_words.specs.declared.commands.Command.{Command}
 use Rattle.command_words.specs.declared.commands.Command.TheVariants.{Compile}
+use Rattle.command_words.specs.Commands.{command_of}
 use Rattle.command_words.specs.Names.{name_of, job_in}
 use Rattle.source_texts.specs.declared.reading.Read.{Read}
 use Rattle.source_texts.specs.Sources.{problem_of}
@@ -89,10 +90,14 @@ status_of None = None
 status_of (Some (Ok text)) = Some Done
 status_of (Some (Err status)) = Some status
 
--- the outcome of words; there is none where a file isn't held
-abbrev pub outcome_of : List (List ℕ) → NamedFiles → Result Command ℕ → Option Status
-outcome_of words held (Err position) = Some (Usage position)
-outcome_of words held (Ok command) = status_of (answering words held command)
+-- the outcome of a command of the words; there is none where a file isn't held
+abbrev pub outcome_in : List (List ℕ) → NamedFiles → Result Command ℕ → Option Status
+outcome_in words held (Err position) = Some (Usage position)
+outcome_in words held (Ok command) = status_of (answering words held command)
+
+-- the outcome of words
+abbrev pub outcome_of : List (List ℕ) → NamedFiles → Option Status
+outcome_of words held = outcome_in words held (command_of words)
 
 -- the status is the outcome, unless it is a fault or want of memory; a file that cannot be read
 -- comes before its outcome, and what cannot be written comes only where the outcome is Done
@@ -102,9 +107,11 @@ MeetsOutcome NoMemory outcome = ⊤
 MeetsOutcome WriteFault outcome = outcome ≡ Some Done
 MeetsOutcome status outcome = outcome ≡ Some status
 
--- where the outcome is Done, so is the status, or memory was wanting
-abbrev pub IsComplete : Status → Option Status → Type 0
-IsComplete status outcome = outcome ≡ Some Done → IsDoneOrWant status
+-- where the files tell what they hold, and the outcome is Done, so is the status, or memory was
+-- wanting
+abbrev pub IsComplete : Status → Option NamedFiles → List (List ℕ) → Type 0
+IsComplete status told words =
+    WhereTold told (λ held. outcome_of words held ≡ Some Done → IsDoneOrWant status)
 
 -- a status that a step may have refuses as the step does
 abbrev pub Refuses : {A : Type 0} → Status → Step A → Type 0

@@ -6,7 +6,7 @@ ghost use Rattle.command_words.specs.Names.{job_in};
 ghost use Rattle.program_run.specs.Outcome.{Meets, answering};
 ghost use Rattle.program_run.specs.Statuses.{ended, IsRefusal};
 ghost use Rattle.program_run.specs.Answers.{text_of, IsAnswer};
-ghost use Rattle.program_run.specs.Causes.{begun_between, AreFiles};
+ghost use Rattle.program_run.specs.Causes.{AreFiles};
 
 use crate::compile::compile;
 use crate::status::Status;
@@ -32,8 +32,7 @@ pub fn answer_to<F: Files>(
     ensures step { WhereTold (F.held files.old) (λ held. Meets text_of result
         (answering (map string_bytes words.now) held command)) }
     ensures files { AreFiles (map string_bytes words.now) command (ended result)
-        (begun_between F.faults F.begun F.faults_at_begin F.taken F.empty_reads F.begun_name
-        files.old files.new) }
+        (F.counts files.old) (F.counts files.new) }
     ensures answer { IfOk result (λ answer. WhereTold (F.held files.old) (λ held.
         IsAnswer (map string_bytes words.now) held command (text_of answer))) }
     ensures refusal { IfErr result IsRefusal }

@@ -6,7 +6,7 @@ ghost use Rattle.command_words.specs.Names.{job_in, files_of};
 ghost use Rattle.program_run.specs.Outcome.{Meets, compiling};
 ghost use Rattle.program_run.specs.Statuses.{ended, IsRefusal};
 ghost use Rattle.program_run.specs.Answers.{text_of, IsCompiledFrom};
-ghost use Rattle.program_run.specs.Causes.{begun_between, AreFiles};
+ghost use Rattle.program_run.specs.Causes.{AreFiles};
 
 use crate::answers::Answer;
 use crate::status::Status;
@@ -29,8 +29,7 @@ pub fn compile<F: Files>(
     ensures step { WhereTold (F.held files.old) (λ held. Meets text_of result
         (compiling (map string_bytes words.now) held command)) }
     ensures files { AreFiles (map string_bytes words.now) command (ended result)
-        (begun_between F.faults F.begun F.faults_at_begin F.taken F.empty_reads F.begun_name
-        files.old files.new) }
+        (F.counts files.old) (F.counts files.new) }
     ensures answer { IfOk result (λ answer. WhereTold (F.held files.old) (λ held.
         IsCompiledFrom (map string_bytes words.now) held command (text_of answer))) }
     ensures refusal { IfErr result IsRefusal }

@@ -1,5 +1,6 @@
 //! The delivery of an answer.
 ghost use Rattle.std.specs.Prelude.{◌≡◌};
+ghost use Rattle.edge_io.specs.Counts.{Rose};
 ghost use Rattle.program_run.specs.Answers.{text_of, IsDelivered};
 
 use crate::answers::Answer;
@@ -11,8 +12,9 @@ use std::alloc::Global;
 /// Writes the text of an answer, or a front of it where the sink fails. All memory is taken before
 /// the first write.
 pub fn deliver<O: Sink>(alloc: Global, answer: &Answer, out: &mut O) -> Status
-    ensures delivered { IsDelivered result (O.bytes out.old) (O.bytes out.new) (O.faults out.old)
-        (O.faults out.new) (text_of answer.now) }
+    ensures delivered { IsDelivered result (O.bytes out.old) (O.bytes out.new)
+        (text_of answer.now) }
+    ensures fault { result ≡ Status.WriteFault → Rose (O.faults out.old) (O.faults out.new) }
     ensures unwritten { result ≡ Status.NoMemory → out.new ≡ out.old }
 {
     let Answer::Model(model) = answer;

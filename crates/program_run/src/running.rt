@@ -1,12 +1,13 @@
 //! One run: the answer to a command, its delivery, and the line for the status.
 ghost use Rattle.std.specs.Prelude.{◌≡◌, List, ℕ, map, string_bytes, IfOk};
+ghost use Rattle.edge_io.specs.Counts.{Rose};
 ghost use Rattle.edge_io.specs.Held.{WhereTold};
 ghost use Rattle.command_words.specs.Commands.{asked};
 ghost use Rattle.program_run.specs.Statuses.{IsUsageOf, OnUsage, OnWriting, OnDone, OnRefusal};
 ghost use Rattle.program_run.specs.Outcome.{outcome_of, MeetsOutcome, IsComplete};
-ghost use Rattle.program_run.specs.Causes.{RoseBetween, begun_between, AreFiles};
+ghost use Rattle.program_run.specs.Causes.{AreFiles};
 ghost use Rattle.program_run.specs.Answers.{IsAnswered, IsDelivered};
-ghost use Rattle.program_run.specs.Lines.{error_line, name_said, file_in, IsSaid};
+ghost use Rattle.program_run.specs.Lines.{error_line, name_in, name_said, file_in, IsSaid};
 
 use crate::answers::answer_to;
 use crate::delivery::deliver;
@@ -28,8 +29,8 @@ fn file_in(status: Status) -> Which
 }
 
 /// The file's name in the line for a status.
-fn name_said(words: &[String], asked: Result<Command, usize>, status: Status) -> &str
-    ensures { result.now ≡ name_said (map string_bytes words.now) asked status }
+fn name_in(words: &[String], asked: Result<Command, usize>, status: Status) -> &str
+    ensures { result.now ≡ name_in (map string_bytes words.now) asked status }
 {
     match asked {
         Ok(command) => name_of(words, command, file_in(status)),
@@ -52,27 +53,24 @@ pub fn run<F: Files, O: Sink, E: Sink>(
     // Why a file was not read, how many were begun, and that no more was read.
     ensures files { IfOk (asked words.now) (λ command.
         AreFiles (map string_bytes words.now) command result
-        (begun_between F.faults F.begun F.faults_at_begin F.taken F.empty_reads F.begun_name
-        files.old files.new)) }
+        (F.counts files.old) (F.counts files.new)) }
+    ensures write_fault { result ≡ Status.WriteFault
+        → Rose (O.faults out.old) (O.faults out.new) }
 
-    ensures outcome { WhereTold (F.held files.old) (λ held. MeetsOutcome result
-        (outcome_of (map string_bytes words.now) held (asked words.now))) }
-    ensures complete { ¬ (RoseBetween F.faults files.old files.new)
-        → ¬ (RoseBetween O.faults out.old out.new)
-        → WhereTold (F.held files.old) (λ held. IsComplete result
-        (outcome_of (map string_bytes words.now) held (asked words.now))) }
-
-    ensures refused { OnRefusal result (out.new ≡ out.old) }
+    ensures outcome { WhereTold (F.held files.old) (λ held.
+        MeetsOutcome result (outcome_of (map string_bytes words.now) held)) }
+    ensures complete { ¬ (Rose (F.counts files.old).faults (F.counts files.new).faults)
+        → ¬ (Rose (O.faults out.old) (O.faults out.new))
+        → IsComplete result (F.held files.old) (map string_bytes words.now) }
 
     // The headline.
     ensures answered { OnWriting result ((text : List ℕ)
-        × IsDelivered result (O.bytes out.old) (O.bytes out.new) (O.faults out.old)
-        (O.faults out.new) text
-        × WhereTold (F.held files.old) (λ held.
-        IsAnswered (map string_bytes words.now) held (asked words.now) text)) }
+        × IsDelivered result (O.bytes out.old) (O.bytes out.new) text
+        × IsAnswered (F.held files.old) (map string_bytes words.now) text) }
+    ensures refused { OnRefusal result (out.new ≡ out.old) }
 
     ensures line { IsSaid (E.bytes err.old) (E.bytes err.new) (E.faults err.old) (E.faults err.new)
-        (error_line result (name_said (map string_bytes words.now) (asked words.now) result)) }
+        (error_line result (name_said (map string_bytes words.now) result)) }
     ensures silent { OnDone result (err.new ≡ err.old) }
 {
     let asked = command(words);
@@ -83,6 +81,6 @@ pub fn run<F: Files, O: Sink, E: Sink>(
             Ok(answer) => deliver(alloc, &answer, out),
         },
     };
-    say(status, name_said(words, asked, status), err);
+    say(status, name_in(words, asked, status), err);
     status
 }

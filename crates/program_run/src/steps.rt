@@ -4,7 +4,7 @@ ghost use Rattle.edge_io.specs.Held.{WhereTold};
 ghost use Rattle.problem_form.specs.Limits.{limit_fault};
 ghost use Rattle.command_words.specs.Names.{name_of, job_in};
 ghost use Rattle.program_run.specs.Outcome.{Meets, taking, sourcing};
-ghost use Rattle.program_run.specs.Causes.{begun_between, IsRefusedBy, IsPassed};
+ghost use Rattle.program_run.specs.Causes.{IsRefusedBy, IsPassed};
 
 use crate::status::Status;
 use command_words::{Command, Which, name_of};
@@ -27,13 +27,10 @@ pub fn take_file<F: Files>(
         (taking held which (name_of (map string_bytes words.now) command which))) }
     ensures held { F.held files.new ≡ F.held files.old }
     ensures short { IfOk result (λ all. length all.items ≤ 2 ^ 24) }
-    ensures passed { OnOk result (IsPassed 1
-        (begun_between F.faults F.begun F.faults_at_begin F.taken F.empty_reads F.begun_name
-        files.old files.new)) }
+    ensures passed { OnOk result (IsPassed 1 (F.counts files.old) (F.counts files.new)) }
     ensures refused { IfErr result (λ status.
         IsRefusedBy which (name_of (map string_bytes words.now) command which) 1 status
-        (begun_between F.faults F.begun F.faults_at_begin F.taken F.empty_reads F.begun_name
-        files.old files.new)) }
+        (F.counts files.old) (F.counts files.new)) }
 {
     let Ok(name) = String::from_str(alloc, name_of(words, command, which)) else {
         return Err(Status::NoMemory);
@@ -61,14 +58,11 @@ pub fn take_source<F: Files>(
         limit_fault (job_in command).choices.normal read.problem ≡ None) }
     ensures own { IfOk result (λ read. read.variables ≤ read.problem.variables) }
     ensures unconstrained { IfOk result (λ read. read.problem.constraints ≡ []) }
-    ensures passed { OnOk result (IsPassed 1
-        (begun_between F.faults F.begun F.faults_at_begin F.taken F.empty_reads F.begun_name
-        files.old files.new)) }
+    ensures passed { OnOk result (IsPassed 1 (F.counts files.old) (F.counts files.new)) }
     ensures refused { IfErr result (λ status.
         IsRefusedBy Which.Source
         (name_of (map string_bytes words.now) command Which.Source) 1 status
-        (begun_between F.faults F.begun F.faults_at_begin F.taken F.empty_reads F.begun_name
-        files.old files.new)) }
+        (F.counts files.old) (F.counts files.new)) }
 {
     let job = command.job();
     let bytes = take_file(alloc, words, command, Which::Source, files)?;
