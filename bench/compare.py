@@ -3,9 +3,9 @@
 
     compare.py PROGRAM OTHER FILE..
 
-Seconds and MB are those of measure.py: of the processor, the least of RUNS runs (3 if not set), and
-10^6 bytes at the peak. The programs are run in turn, so that a busy machine slows both. `time x` and
-`peak x` are PROGRAM's by OTHER's. `same` says whether both wrote the same bytes.
+Seconds and MB are those of measure.py: of the processor, the least of RUNS runs (3 if not set),
+and 10^6 bytes at the peak. The programs are run in turn, so that a busy machine slows both.
+`time x` and `peak x` are PROGRAM's by OTHER's. `same` says whether both wrote the same bytes.
 """
 import filecmp
 import os
