@@ -24,7 +24,10 @@ HEADING = ROW.format(
 def run(words, out=subprocess.DEVNULL):
     """Seconds of the processor and by the clock, and peak memory in KiB, of one run."""
     begun = time.perf_counter()
-    process = subprocess.Popen(words, stdout=out)
+    try:
+        process = subprocess.Popen(words, stdout=out)
+    except OSError as error:
+        sys.exit(f'cannot run {words[0]}: {error.strerror}')
     _, status, usage = os.wait4(process.pid, 0)
     clock = time.perf_counter() - begun
     process.returncode = os.waitstatus_to_exitcode(status)
@@ -42,9 +45,14 @@ def peak(words, out):
         return int(told.read())
 
 
+def words_for(program, file):
+    """The command that compiles a file."""
+    return [program, 'compile', 'wcnf', 'qubo', file]
+
+
 def measured(program, file):
     """Seconds of the processor, seconds by the clock, MB written, and peak memory in MB."""
-    words = [program, 'compile', 'wcnf', 'qubo', file]
+    words = words_for(program, file)
     runs = [run(words) for _ in range(int(os.environ.get('RUNS', '3')))]
     seconds = max(min(r[0] for r in runs), 1e-4)
     with tempfile.TemporaryFile() as out:
@@ -54,7 +62,12 @@ def measured(program, file):
 
 
 def main():
+    if len(sys.argv) < 3:
+        sys.exit('usage: measure.py PROGRAM FILE..')
     program, *files = sys.argv[1:]
+    for file in files:
+        if not os.path.isfile(file):
+            sys.exit(f'no file {file}')
     print(HEADING, flush=True)
     above = None
     for file in files:

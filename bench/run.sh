@@ -6,40 +6,18 @@
 #     bench/run.sh [KIND..]        RUNS=5 bench/run.sh        PROGRAM=FILE bench/run.sh
 #
 # Without a KIND, all that generate.py knows are measured. Without PROGRAM it is the program of this
-# repository, which is built if it isn't there.
+# repository, which rt ci leaves in its crate.
 set -eu
 bench=$(cd "$(dirname "$0")" && pwd)
-crate=$bench/../crates/compile_program
-program=${PROGRAM:-$crate/out/compile_program}
+. "$bench/files.sh"
 
-if [ -z "${PROGRAM:-}" ] && [ ! -x "$program" ]; then
-    # This proves, builds and runs the program; what it built stays.
-    (cd "$crate" && rt run -- compile wcnf qubo data/clash.wcnf > /dev/null)
-fi
+kinds=${*:-$all_kinds}
+need_kinds $kinds
+need_program "$program" 'rt ci leaves it there, or name one by PROGRAM=FILE'
 
 folder=$(mktemp -d)
 trap 'rm -rf "$folder"' EXIT
 trap 'exit 1' HUP INT TERM
 
-sizes() {
-    case $1 in
-        unit | pair | three) echo 16777 167772 1677721 16777216 ;;
-        forty) echo 104 1048 10485 ;;
-        wide) echo 1 4 16 ;;
-        mixed) echo 400 4000 40000 ;;
-        *) echo "no kind $1" >&2; exit 2 ;;
-    esac
-}
-
-kinds=${*:-unit pair three mixed forty wide}
-set --
-for kind in $kinds; do
-    steps=$(sizes "$kind")
-    for size in $steps; do
-        file=$folder/$kind-$size.wcnf
-        python3 "$bench/generate.py" "$kind" "$size" > "$file"
-        set -- "$@" "$file"
-    done
-done
 echo "cores: $(getconf _NPROCESSORS_ONLN)"
-python3 "$bench/measure.py" "$program" "$@"
+python3 "$bench/measure.py" "$program" $(make_files $kinds)
