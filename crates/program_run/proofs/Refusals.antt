@@ -11,7 +11,7 @@ use Rattle.edge_io.specs.Counts.{Counts}
 use Rattle.program_run.specs.Causes.{IsRefusedBy, AreRead}
 
 pub limits_refused : (name : List ℕ) (count number : ℕ) (kind : LimitKind) (old new : Counts)
-    → kind ≢ Bytes → AreRead count old new → IsRefusedBy Source name count (Limit Source kind number) old new
+    → kind ≢ Bytes → AreRead name count old new → IsRefusedBy Source name count (Limit Source kind number) old new
 limits_refused name count number Bytes old new other begun = absurd (other refl)
 limits_refused name count number Variables old new other begun = (refl, begun)
 limits_refused name count number Degree old new other begun = (refl, begun)

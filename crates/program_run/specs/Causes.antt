@@ -1,10 +1,10 @@
 -- Why a file could not be read, how many files were begun, and how much was read of the last one: by
 -- what the store of files counted before and after.
-use Rattle.std.specs.Prelude.{◌≡◌, ◌≤◌, ℕ, zero, suc, List, length, ⊤}
+use Rattle.std.specs.Prelude.{◌≡◌, ◌≤◌, ℕ, zero, suc, List, [], ◌∷◌, length, ⊤}
 use Rattle.edge_io.specs.Counts.{Counts, Rose, counted_on}
 use Rattle.problem_form.specs.declared.limits.LimitKind.TheVariants.{Bytes}
 use Rattle.command_words.specs.declared.names.Which.{Which}
-use Rattle.command_words.specs.declared.names.Which.TheVariants.{State}
+use Rattle.command_words.specs.declared.names.Which.TheVariants.{Source, State}
 use Rattle.command_words.specs.declared.commands.Command.{Command}
 use Rattle.command_words.specs.Names.{name_of, files_of, number_in}
 use Rattle.program_run.specs.declared.status.Status.{Status}
@@ -15,16 +15,21 @@ abbrev pub AreBegun : ℕ → Counts → Counts → Type 0
 AreBegun zero old new = new.begun ≡ old.begun
 AreBegun (suc n) old new = new.begun ≡ counted_on old.begun (suc n)
 
--- so many files were begun, and the last of them was read to its end and no further: one read of it
--- gave nothing
-abbrev pub AreRead : ℕ → Counts → Counts → Type 0
-AreRead zero old new = new.begun ≡ old.begun
-AreRead (suc n) old new = (new.begun ≡ counted_on old.begun (suc n)) × (new.empty_reads ≡ 1)
+-- the last begun file has this name, and was read to its end and no further: one read gave nothing
+pub record IsRead (name : List ℕ) (new : Counts) : Type 0 where
+  pub named : new.name ≡ name
+  pub ended : new.empty_reads ≡ 1
 
--- so many files were begun, and of the last of them one byte more than is accepted was taken and
--- nothing else
-pub record AreTooLong (count : ℕ) (old new : Counts) : Type 0 where
+-- so many files were begun, and the last of them, of this name, was read to its end and no further
+abbrev pub AreRead : List ℕ → ℕ → Counts → Counts → Type 0
+AreRead name zero old new = new.begun ≡ old.begun
+AreRead name (suc n) old new = (new.begun ≡ counted_on old.begun (suc n)) × IsRead name new
+
+-- so many files were begun, and of the last of them, of this name, one byte more than is accepted was
+-- taken and nothing else
+pub record AreTooLong (name : List ℕ) (count : ℕ) (old new : Counts) : Type 0 where
   pub begun : AreBegun count old new
+  pub named : new.name ≡ name
   pub taken : new.taken ≡ 16777217
   pub filled : new.empty_reads ≡ 0
 
@@ -40,20 +45,30 @@ pub record IsCause (name : List ℕ) (count : ℕ) (old new : Counts) : Type 0 w
 
 -- what a step leaves that takes a file, the count-th one, and then refuses
 abbrev pub IsRefusedBy : Which → List ℕ → ℕ → Status → Counts → Counts → Type 0
-IsRefusedBy which name count (ReadFault other) old new = (other ≡ which) × IsCause name count old new
-IsRefusedBy which name count (Limit other Bytes number) old new = (other ≡ which) × AreTooLong count old new
-IsRefusedBy which name count (Limit other kind number) old new = (other ≡ which) × AreRead count old new
-IsRefusedBy which name count (BadText other kind line) old new = (other ≡ which) × AreRead count old new
-IsRefusedBy which name count (NoState width) old new = (which ≡ State) × AreRead count old new
+IsRefusedBy which name count (ReadFault other) old new =
+    (other ≡ which) × IsCause name count old new
+IsRefusedBy which name count (Limit other Bytes number) old new =
+    (other ≡ which) × AreTooLong name count old new
+IsRefusedBy which name count (Limit other kind number) old new =
+    (other ≡ which) × AreRead name count old new
+IsRefusedBy which name count (BadText other kind line) old new =
+    (other ≡ which) × AreRead name count old new
+IsRefusedBy which name count (NoState width) old new = (which ≡ State) × AreRead name count old new
 IsRefusedBy which name count NoMemory old new = ⊤
 IsRefusedBy which name count status old new = ⊥
 
--- what a step leaves that takes so many files: they are read, and the count of faults did not fall
-pub record IsPassed (count : ℕ) (old new : Counts) : Type 0 where
-  pub read : AreRead count old new
+-- what a step leaves that takes so many files, the last of them of this name: they are read, and the count of faults did not fall
+pub record IsPassed (name : List ℕ) (count : ℕ) (old new : Counts) : Type 0 where
+  pub read : AreRead name count old new
   pub later : old.faults ≤ new.faults
 
 -- ---- of a command
+
+-- the last of files, and the source where there is none
+abbrev pub last_of : List Which → Which
+last_of [] = Source
+last_of (file ∷ []) = file
+last_of (file ∷ next ∷ files) = last_of (next ∷ files)
 
 -- what files tell at a status of a command: at a read fault its cause, where a file is too long that
 -- one byte too many was taken, and else that the files up to the one of the status were read
@@ -61,11 +76,14 @@ abbrev pub AreFiles : List (List ℕ) → Command → Status → Counts → Coun
 AreFiles words command (ReadFault which) old new =
     IsCause (name_of words command which) (number_in (files_of command) which) old new
 AreFiles words command (Limit which Bytes number) old new =
-    AreTooLong (number_in (files_of command) which) old new
+    AreTooLong (name_of words command which) (number_in (files_of command) which) old new
 AreFiles words command (Limit which kind number) old new =
-    AreRead (number_in (files_of command) which) old new
+    AreRead (name_of words command which) (number_in (files_of command) which) old new
 AreFiles words command (BadText which kind line) old new =
-    AreRead (number_in (files_of command) which) old new
+    AreRead (name_of words command which) (number_in (files_of command) which) old new
+AreFiles words command (NoState width) old new =
+    AreRead (name_of words command State) (number_in (files_of command) State) old new
 AreFiles words command (Usage position) old new = ⊤
 AreFiles words command NoMemory old new = ⊤
-AreFiles words command status old new = AreRead (length (files_of command)) old new
+AreFiles words command status old new =
+    AreRead (name_of words command (last_of (files_of command))) (length (files_of command)) old new

@@ -27,7 +27,9 @@ pub fn take_file<F: Files>(
         (taking held which (name_of (map string_bytes words.now) command which))) }
     ensures held { F.held files.new ≡ F.held files.old }
     ensures short { IfOk result (λ all. length all.items ≤ 2 ^ 24) }
-    ensures passed { OnOk result (IsPassed 1 (F.counts files.old) (F.counts files.new)) }
+    ensures passed { OnOk result (IsPassed
+        (name_of (map string_bytes words.now) command which) 1
+        (F.counts files.old) (F.counts files.new)) }
     ensures refused { IfErr result (λ status.
         IsRefusedBy which (name_of (map string_bytes words.now) command which) 1 status
         (F.counts files.old) (F.counts files.new)) }
@@ -58,7 +60,9 @@ pub fn take_source<F: Files>(
         limit_fault (job_in command).choices.normal read.problem ≡ None) }
     ensures own { IfOk result (λ read. read.variables ≤ read.problem.variables) }
     ensures unconstrained { IfOk result (λ read. read.problem.constraints ≡ []) }
-    ensures passed { OnOk result (IsPassed 1 (F.counts files.old) (F.counts files.new)) }
+    ensures passed { OnOk result (IsPassed
+        (name_of (map string_bytes words.now) command Which.Source) 1
+        (F.counts files.old) (F.counts files.new)) }
     ensures refused { IfErr result (λ status.
         IsRefusedBy Which.Source
         (name_of (map string_bytes words.now) command Which.Source) 1 status
