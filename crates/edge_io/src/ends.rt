@@ -3,7 +3,7 @@
 ghost use Rattle.std.specs.Prelude.{◌≡◌, ℕ, List, [], IfOk, OnErr, Option, string_bytes};
 ghost use Rattle.std.specs.Io.{ReadsAtMost};
 ghost use Rattle.std.specs.Io.KnownBytes.{ReadConsumes, WriteAppends, IsAtEnd};
-ghost use Rattle.edge_io.specs.Counts.{counted_on, CountsNothing, HasCause};
+ghost use Rattle.edge_io.specs.Counts.{count_after, CountsNothing, HasCause};
 ghost use Rattle.edge_io.specs.Held.{NamedFiles, Begins};
 ghost use Rattle.edge_io.specs.Sinks.{TakesSome};
 
@@ -44,7 +44,7 @@ pub trait Files {
         ensures cause { HasCause (faults self.old) (faults self.new) result }
         ensures none_taken { taken self.new ≡ 0 }
         ensures none_empty { empty_reads self.new ≡ 0 }
-        ensures counted { begun self.new ≡ counted_on (begun self.old) 1 }
+        ensures counted { begun self.new ≡ count_after (begun self.old) 1 }
         ensures marked { faults_at_begin self.new ≡ faults self.old }
         ensures named { begun_name self.new ≡ string_bytes name };
 
@@ -54,7 +54,7 @@ pub trait Files {
         ensures bound { ReadsAtMost result into.new }
         ensures rest { ReadConsumes (rest self.old) (rest self.new) result into.new }
         ensures cause { HasCause (faults self.old) (faults self.new) result }
-        ensures counted { IfOk result (λ n. taken self.new ≡ counted_on (taken self.old) n) }
+        ensures counted { IfOk result (λ n. taken self.new ≡ count_after (taken self.old) n) }
         ensures none_taken { OnErr result (taken self.new ≡ taken self.old) }
         ensures nothing { CountsNothing (empty_reads self.old) (empty_reads self.new) result }
         ensures same_begin { begun self.new ≡ begun self.old }

@@ -1,6 +1,6 @@
 -- Why a file could not be read, how many files were begun, and how much was read of the last one.
 use Rattle.std.specs.Prelude.{◌≡◌, ◌≤◌, ℕ, zero, suc, List, length, ⊤}
-use Rattle.edge_io.specs.Counts.{Rose, counted_on}
+use Rattle.edge_io.specs.Counts.{Rose, count_after}
 use Rattle.problem_form.specs.declared.limits.LimitKind.TheVariants.{Bytes}
 use Rattle.command_words.specs.declared.names.Which.{Which}
 use Rattle.command_words.specs.declared.names.Which.TheVariants.{State}
@@ -43,13 +43,13 @@ RoseBetween faults old new = Rose (faults old) (faults new)
 -- so many files were begun
 abbrev pub AreBegun : ℕ → Begun → Type 0
 AreBegun zero b = b.begun ≡ b.begun_before
-AreBegun (suc n) b = b.begun ≡ counted_on b.begun_before (suc n)
+AreBegun (suc n) b = b.begun ≡ count_after b.begun_before (suc n)
 
 -- so many files were begun, and the last of them was read to its end and no further: one read of it
 -- gave nothing
 abbrev pub AreRead : ℕ → Begun → Type 0
 AreRead zero b = b.begun ≡ b.begun_before
-AreRead (suc n) b = (b.begun ≡ counted_on b.begun_before (suc n)) × (b.empty_reads ≡ 1)
+AreRead (suc n) b = (b.begun ≡ count_after b.begun_before (suc n)) × (b.empty_reads ≡ 1)
 
 -- so many files were begun, and of the last of them one byte more than is accepted was taken and
 -- nothing else
