@@ -1,10 +1,10 @@
 -- What relaxes a form relaxes every form with the same costs, by any decoding that agrees.
-use Rattle.std.proofs.Common.{◌≡◌, ℤ, ◌+ℤ◌, ◌*ℤ◌, Bool, List, ap, sym, ◌∙◌, subst, length}
+use Rattle.std.proofs.Common.{◌≡◌, ℤ, Bool, List, ap, sym, ◌∙◌, length}
 use Rattle.bits_model.specs.declared.costs.Cost.{Cost}
 use Rattle.bits_model.specs.declared.costs.Cost.TheVariants.{Whole, Infinite}
 use Rattle.bits_model.specs.declared.costs.Figures.{Figures}
 use Rattle.bits_model.specs.Costs.{Form, IsOf}
-use Rattle.bits_model.specs.Relations.{Decoding, Relaxes, ReachesIn}
+use Rattle.bits_model.specs.Relations.{Decoding, Relaxes}
 use Rattle.bits_model.specs.Stated.{HasSameCosts, DecodesAlike}
 
 -- the cost of what the one decodes to, as that of what the other decodes to

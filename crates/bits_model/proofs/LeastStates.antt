@@ -1,8 +1,8 @@
 -- What relaxes a source has least states that stand for its least assignments.
 --
 -- A state reaches each assignment of whole cost, at the bound that no state with a cost lies below,
--- and a state without one lies above all of these. So least assignments are reached by least states,
--- and only by these. That there is a least state at all is a recursion on the width.
+-- and a state without one lies above all of these. So least assignments are reached by least
+-- states, and only by these. That there is a least state at all is a recursion on the width.
 use Rattle.std.proofs.Common.{◌≡◌, ℕ, zero, suc, ℤ, pos, ◌+ℤ◌, ◌*ℤ◌, ◌≤ℤ◌, ◌<ℤ◌, Bool, true, false, List, [], ◌∷◌, length, refl, arith, ap, subst}
 use Rattle.std.proofs.lemmas.Int.{ints, by_lt_z}
 use Rattle.integers.proofs.Products.{times-le, times-lt}

@@ -40,8 +40,8 @@ abbrev pub HasUnit : UnitChoice → Written → Type 0
 HasUnit One m = m.unit ≡ pos 1
 HasUnit Reduce m = IsReduced m
 
--- the chains are those that were asked for, none of them empty, each connected by joins inside it and
--- no qubit twice, and couplers stand on joined qubits
+-- the chains are those that were asked for, none of them empty, each connected by joins inside it
+-- and no qubit twice, and couplers stand on joined qubits
 pub record IsEmbedded (demand : Demand) (m : Written) : Type 0 where
   pub chains : m.chains ≡ demand.chains
   pub filled : All (λ chain. chain ≢ []) m.chains

@@ -25,10 +25,11 @@ pub record Written : Type 0 where
 
 -- ---- its entries
 
--- an entry of a node, and one of a pair
+-- an entry of a node
 abbrev pub is_node : Entry → Bool
 is_node e = e.first == e.second
 
+-- an entry of a pair of nodes
 abbrev pub is_coupler : Entry → Bool
 is_coupler e = nat_lt e.first e.second
 
@@ -73,8 +74,8 @@ FitsKind Qubo m = IsPlain m
 FitsKind Ising m = IsPlain m
 FitsKind (Chimera rows cols shore) m = IsChained (2 * rows * cols * shore) m
 
--- a well-formed model: a unit and a scale of at least 1, entries in order, none twice, of nodes that it
--- has, and what its kind asks
+-- a well-formed model: a unit and a scale of at least 1, entries in order, none twice, of nodes
+-- that it has, and what its kind asks
 pub record IsWellFormed (m : Written) : Type 0 where
   pub unit : pos 1 ≤ℤ m.unit
   pub scale : pos 1 ≤ℤ m.figures.scale

@@ -33,9 +33,9 @@ pub record ReachesIn (u : ℤ) (g : Form) (d : Decoding) (x : List Bool) (e : �
   pub energy : u *ℤ energy g y ≡ e
 
 -- g, whose costs are whole and count u each, relaxes f, whose costs may be infinite: no state lies
--- below the whole cost that it decodes to, scaled and moved, one that decodes to an infinite cost lies
--- above the threshold, every whole cost is reached with equality and lies at most at the threshold,
--- and some state decodes to each assignment
+-- below the whole cost that it decodes to, scaled and moved, one that decodes to an infinite cost
+-- lies above the threshold, every whole cost is reached with equality and lies at most at the
+-- threshold, and some state decodes to each assignment
 pub record Relaxes (f g : Form) (d : Decoding) (u : ℤ) (n : Figures) : Type 0 where
   pub unit : pos 1 ≤ℤ u
   pub positive : pos 1 ≤ℤ n.scale
@@ -50,8 +50,8 @@ pub record Relaxes (f g : Form) (d : Decoding) (u : ℤ) (n : Figures) : Type 0 
       → (n.scale *ℤ v +ℤ n.offset) ≤ℤ n.threshold
   pub onto : (x : List Bool) → IsOf f x → (y : List Bool) × IsOf g y × (d.decoded y ≡ x)
 
--- h is g with its constant moved and its energies divided: u times the energy in h is that in g, and
--- b more
+-- h is g with its constant moved and its energies divided: u times the energy in h is that in g,
+-- and b more
 pub record Reduces (g h : Form) (u b : ℤ) : Type 0 where
   pub positive : pos 1 ≤ℤ u
   pub width : h.bits ≡ g.bits
@@ -68,8 +68,8 @@ pub record Joins (f g : Form) (d : Decoding) : Type 0 where
 abbrev pub Extends : (f g : Form) → Decoding → (a b : ℤ) → (x y : List Bool) → Type 0
 Extends f g d a b x y = Reaches g d x (a *ℤ energy f x +ℤ b) y
 
--- y decodes to x, no state that does has a lesser energy, and where the cost of x is whole the energy
--- of y is that cost, scaled and moved
+-- y decodes to x, no state that does has a lesser energy, and where the cost of x is whole the
+-- energy of y is that cost, scaled and moved
 pub record ExtendsLeast (f g : Form) (d : Decoding) (n : Figures) (x y : List Bool) : Type 0 where
   pub width : IsOf g y
   pub decodes : d.decoded y ≡ x

@@ -28,8 +28,8 @@ pub enum Cost {
     Infinite,
 }
 
-/// How energies stand for costs: unit times the least energy is `scale * least cost + offset`, and a
-/// source is infeasible exactly where this is above `threshold`.
+/// How energies stand for costs: unit times the least energy is `scale * least cost + offset`, and
+/// a source is infeasible exactly where this is above `threshold`.
 #[derive(Clone, Copy, Debug, PartialEq, Eq)]
 pub struct Figures {
     pub scale: i128,

@@ -16,8 +16,8 @@ pub struct Guarded<T, L> {
     pub figures: Figures,
 }
 
-/// A step from a source whose costs may be infinite to a form whose costs are not: what decodes to an
-/// infinite cost lies above the threshold, and all else stands as at a layer.
+/// A step from a source whose costs may be infinite to a form whose costs are not: what decodes to
+/// an infinite cost lies above the threshold, and all else stands as at a layer.
 pub trait Guard {
     type Source: Costed;
 
@@ -71,7 +71,8 @@ pub trait Guard {
         // What the next step's sums rest on.
         ensures scale_low { IfOk result (λ made. pos 1 ≤ℤ made.figures.scale) }
         ensures scale_high { IfOk result (λ made. unsigned_abs made.figures.scale ≤ FIGURE_BOUND) }
-        ensures offset_high { IfOk result (λ made. unsigned_abs made.figures.offset ≤ FIGURE_BOUND) }
+        ensures offset_high { IfOk result (λ made.
+            unsigned_abs made.figures.offset ≤ FIGURE_BOUND) }
         ensures threshold_high { IfOk result (λ made.
             unsigned_abs made.figures.threshold ≤ FIGURE_BOUND) }
         ensures total { IfOk result (λ made. Self.Target.total made.target + 1 ≤ 2 ^ TOTAL_BITS) }
@@ -84,8 +85,8 @@ pub trait Guard {
         ensures decoded { IfOk result (λ x. x.items ≡ (decoding link.now).decoded y.now) }
         ensures width { IfOk result (λ x. length x.items ≡ (decoding link.now).source_width) };
 
-    /// The state that an assignment extends to. It decodes to the assignment, and has the least energy
-    /// among those that do.
+    /// The state that an assignment extends to. It decodes to the assignment, and has the least
+    /// energy among those that do.
     fn extend(
         &self,
         alloc: Global,

@@ -5,11 +5,11 @@ use crate::costs::NoMemory;
 use std::alloc::Global;
 use std::marker::Model;
 
-/// A list, which contracts see as the list of its items. It is made from a `Vec` and gives it back
-/// without taking memory.
+/// A list, which contracts see as the list of its items. It is made from a `Vec`, which is changed
+/// in place or given back without taking memory.
 #[derive(Drop)]
 pub struct Items<T> {
-    items: Vec<T>,
+    pub items: Vec<T>,
 }
 
 impl<T> Model for Items<T> {

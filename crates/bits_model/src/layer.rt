@@ -16,8 +16,8 @@ pub struct Lowered<T, L> {
     pub offset: i128,
 }
 
-/// What a form becomes when its weights are divided by a unit. The constant is taken off: unit times
-/// an energy of the target is that of the source, and `offset` more.
+/// What a form becomes when its weights are divided by a unit. The constant is taken off: unit
+/// times an energy of the target is that of the source, and `offset` more.
 #[derive(Drop)]
 pub struct Reduced<T> {
     pub target: T,
@@ -25,8 +25,8 @@ pub struct Reduced<T> {
     pub offset: i128,
 }
 
-/// The link of a layer that keeps the first bits, or all of them: the widths of the source and of its
-/// image.
+/// The link of a layer that keeps the first bits, or all of them: the widths of the source and of
+/// its image.
 #[derive(Clone, Copy, Debug, PartialEq, Eq)]
 pub struct BitsLink {
     pub source_width: usize,

@@ -38,12 +38,12 @@ pub type EntryList = Items<Entry>;
 /// The qubits of each node's chain, in the chain's order.
 pub type ChainList = Items<Items<u32>>;
 
-/// The model that is written: the figures, the unit that energies count, and the weights of nodes and
-/// of couplers.
+/// The model that is written: the figures, the unit that energies count, and the weights of nodes
+/// and of couplers.
 ///
-/// It is kept well formed: unit and scale of at least 1; entries in order, nodes before couplers, none
-/// twice; every node of a model without chains has an entry and no coupler is 0; and the sizes of the
-/// weights sum to at most 2^124.
+/// It is kept well formed: unit and scale of at least 1; entries in order, nodes before couplers,
+/// none twice; every node of a model without chains has an entry and no coupler is 0; and the sizes
+/// of the weights sum to at most 2^124.
 #[derive(Drop)]
 pub struct OutputModel {
     pub kind: Kind,

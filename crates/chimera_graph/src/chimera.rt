@@ -63,7 +63,8 @@ impl Chimera {
 
 impl Hardware for Chimera {
     ghost use Rattle.chimera_graph.specs.Graph.{qubits_of, place_of};
-    ghost use Rattle.chimera_graph.specs.Places.{are_joined, are_joined-comm, are_joined-self};
+    ghost use Rattle.chimera_graph.specs.Places.{are_joined};
+    ghost use Rattle.chimera_graph.specs.laws.Joins.{are_joined-comm, are_joined-self};
 
     ghost qubits = { qubits_of };
 

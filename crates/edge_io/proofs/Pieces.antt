@@ -5,7 +5,7 @@ use Rattle.std.proofs.lemmas.List.{take-append-drop, take_rest, take_more, appen
 use Rattle.std.proofs.lemmas.List.Concat.{flat_map-append}
 use Rattle.std.specs.Io.KnownBytes.{Appends}
 use Rattle.std.specs.declared.option.Option.{Option}
-use Rattle.edge_io.specs.Sinks.{AppendsFront, joined}
+use Rattle.edge_io.specs.Sinks.{AppendsFront, joined_bytes}
 
 -- a front of the piece was taken, and then n bytes of what was left of it
 pub piece_more : (a b c : Option (List ℕ)) (piece front rest : List ℕ) (n : ℕ) → piece ≡ front ++ rest
@@ -19,31 +19,31 @@ piece_more a b c piece front rest n split before now =
     (more, split ∙ cut ∙ moved ∙ left, Appends-trans a b c front (take n rest) before now)
 
 -- the pieces up to and with the next one
-joined-take_more : (pieces : List (Bor (List ℕ))) (i : ℕ) (d : Bor (List ℕ)) → i < length pieces
-    → joined (take (i + 1) pieces) ≡ joined (take i pieces) ++ (get_or pieces i d).now
-joined-take_more pieces i d within =
+joined_bytes-take_more : (pieces : List (Bor (List ℕ))) (i : ℕ) (d : Bor (List ℕ)) → i < length pieces
+    → joined_bytes (take (i + 1) pieces) ≡ joined_bytes (take i pieces) ++ (get_or pieces i d).now
+joined_bytes-take_more pieces i d within =
     let piece = get_or pieces i d in
-    ap joined (take_more pieces i d within)
+    ap joined_bytes (take_more pieces i d within)
     ∙ flat_map-append (λ (p : Bor (List ℕ)). p.now) (take i pieces) (piece ∷ [])
-    ∙ ap (λ l. joined (take i pieces) ++ l) (append-nil piece.now)
+    ∙ ap (λ l. joined_bytes (take i pieces) ++ l) (append-nil piece.now)
 
 -- one piece more was taken whole
 pub pieces_more : (a b c : Option (List ℕ)) (pieces : List (Bor (List ℕ))) (i : ℕ) (d : Bor (List ℕ)) → i < length pieces
-    → Appends a b (joined (take i pieces)) → Appends b c (get_or pieces i d).now → Appends a c (joined (take (i + 1) pieces))
+    → Appends a b (joined_bytes (take i pieces)) → Appends b c (get_or pieces i d).now → Appends a c (joined_bytes (take (i + 1) pieces))
 pieces_more a b c pieces i d within before now =
-    subst (Appends a c) (sym (joined-take_more pieces i d within)) (Appends-trans a b c _ _ before now)
+    subst (Appends a c) (sym (joined_bytes-take_more pieces i d within)) (Appends-trans a b c _ _ before now)
 
 -- of the next piece a front was taken
 pub pieces_front : (a b c : Option (List ℕ)) (pieces : List (Bor (List ℕ))) (i : ℕ) (d : Bor (List ℕ)) → i < length pieces
-    → Appends a b (joined (take i pieces)) → AppendsFront b c (get_or pieces i d).now → AppendsFront a c (joined pieces)
+    → Appends a b (joined_bytes (take i pieces)) → AppendsFront b c (get_or pieces i d).now → AppendsFront a c (joined_bytes pieces)
 pieces_front a b c pieces i d within before now =
-    let done = joined (take i pieces) in
+    let done = joined_bytes (take i pieces) in
     let piece = (get_or pieces i d).now in
-    let later = joined (drop (i + 1) pieces) in
-    let all : joined pieces ≡ (done ++ piece) ++ later =
-    ap joined (sym (take-append-drop (i + 1) pieces))
+    let later = joined_bytes (drop (i + 1) pieces) in
+    let all : joined_bytes pieces ≡ (done ++ piece) ++ later =
+    ap joined_bytes (sym (take-append-drop (i + 1) pieces))
     ∙ flat_map-append (λ (p : Bor (List ℕ)). p.now) (take (i + 1) pieces) (drop (i + 1) pieces)
-    ∙ ap (λ l. l ++ later) (joined-take_more pieces i d within) in
+    ∙ ap (λ l. l ++ later) (joined_bytes-take_more pieces i d within) in
     let split : (done ++ piece) ++ later ≡ (done ++ now.0) ++ (now.1 ++ later) =
     ap (λ l. (done ++ l) ++ later) now.2 ∙ simp append_assoc in
     (done ++ now.0, now.1 ++ later, all ∙ split, Appends-trans a b c _ _ before now.3)

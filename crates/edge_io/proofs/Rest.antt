@@ -18,7 +18,8 @@ pub begins_at : (files : NamedFiles) (name : List ℕ) (i begun : ℕ) → find_
     → (left : List ℕ) × (find_file files name ≡ Some left) × (Some (after_first begun (rest_from files (Some i) 0)) ≡ Some left)
 begins_at files name i begun found some = (bytes_at files i, found, ap Some (after_first-some begun _ some))
 
--- the first n bytes of the buffer left the front of the rest, and none only at the end or with no room
+-- the first n bytes of the buffer left the front of the rest, and none only at the end or with no
+-- room
 abbrev pub Reads : List ℕ → List ℕ → List ℕ → ℕ → Type 0
 Reads old new buffer n =
     Consumes (Some old) (Some new) (take n buffer) × (n ≡ 0 → 0 < length buffer → IsAtEnd (Some new))

@@ -2,8 +2,8 @@
 use Rattle.std.specs.Prelude.{◌≡◌, ℕ, List, [], ◌+◌, ◌-◌, ◌^◌, ◌≤◌, ◌<◌, min, Result, OnErr, MatchResult}
 
 -- the count, n later
-abbrev pub counted_on : ℕ → ℕ → ℕ
-counted_on before n = min (before + n) (2 ^ 64 - 1)
+abbrev pub count_after : ℕ → ℕ → ℕ
+count_after before n = min (before + n) (2 ^ 64 - 1)
 
 -- the count rose, or stands at its end
 abbrev pub Rose : ℕ → ℕ → Type 0
@@ -17,13 +17,13 @@ pub record HasCause {T E : Type 0} (before now : ℕ) (result : Result T E) : Ty
 -- the count rose by one at an error, and stayed at an answer
 abbrev pub CountsErr : {T E : Type 0} → ℕ → ℕ → Result T E → Type 0
 CountsErr before now result =
-    MatchResult result (λ _. now ≡ before) (λ _. now ≡ counted_on before 1)
+    MatchResult result (λ _. now ≡ before) (λ _. now ≡ count_after before 1)
 
 -- the count rose by one where nothing was given, also at an error, and stayed elsewhere
 abbrev pub CountsNothing : {E : Type 0} → ℕ → ℕ → Result ℕ E → Type 0
 CountsNothing before now result =
-    MatchResult result (λ n. (n ≡ 0 → now ≡ counted_on before 1) × (0 < n → now ≡ before))
-    (λ _. now ≡ counted_on before 1)
+    MatchResult result (λ n. (n ≡ 0 → now ≡ count_after before 1) × (0 < n → now ≡ before))
+    (λ _. now ≡ count_after before 1)
 
 -- what a store of files tells of its calls: how many failed, how many were of `begin`, and of the last
 -- `begin` its name and the count of faults then; and since then the bytes that were taken, and the

@@ -1,6 +1,5 @@
 -- What a store of files tells: the files that it holds by name, and the rest of the begun one.
-use Rattle.std.specs.Prelude.{◌≡◌, ℕ, zero, suc, ◌<◌, List, [], ◌∷◌, ◌++◌, length, bytes_eq, IsSomeAnd, if◌then◌else◌, None, Some, Result, ⊤, MatchResult, refl}
-use Rattle.std.proofs.Common.{subst, sym}
+use Rattle.std.specs.Prelude.{◌≡◌, ℕ, zero, suc, ◌<◌, List, [], ◌∷◌, ◌++◌, length, bytes_eq, IsSomeAnd, if◌then◌else◌, None, Some, Result, ⊤, MatchResult}
 use Rattle.std.specs.declared.option.Option.{Option}
 use Rattle.std.specs.Io.KnownBytes.{IsAtEnd}
 
@@ -38,7 +37,3 @@ Begins held name result rest =
 abbrev pub after_first : ℕ → List ℕ → List ℕ
 after_first zero told = []
 after_first (suc begun) told = told
-
--- before the first begin nothing is told
-pub after_first-none : (begun : ℕ) (told : List ℕ) → begun ≡ 0 → after_first begun told ≡ []
-after_first-none begun told none = subst (λ (n : ℕ). after_first n told ≡ []) (sym none) refl

@@ -2,12 +2,12 @@
 use Rattle.std.specs.Prelude.{◌≡◌, ℕ, zero, suc, ◌-◌, ◌<◌, min, Bool, ◌||◌, ◌&&◌, ◌==◌, nat_lt, List, [], ◌∷◌, length, drop, None, Some, is_none, MatchOption}
 use Rattle.std.specs.List.{list_any}
 use Rattle.std.specs.declared.option.Option.{Option}
-use Rattle.edge_io.specs.Counts.{counted_on}
+use Rattle.edge_io.specs.Counts.{count_after}
 use Rattle.edge_io.specs.Held.{NamedFiles, find_file, after_first}
 
 -- the number of the next call is listed
 abbrev pub is_listed : List ℕ → ℕ → Bool
-is_listed failing calls = list_any (λ n. n == counted_on calls 1) failing
+is_listed failing calls = list_any (λ n. n == count_after calls 1) failing
 
 -- a sink: its bytes, the most that a call takes, the room for all, the calls that fail, and counts
 pub record SinkState : Type 0 where
@@ -47,8 +47,8 @@ pub record FilesState : Type 0 where
   pub faults_at_begin : ℕ
 
 -- a store before its first call
-abbrev pub unbegun : NamedFiles → List ℕ → FilesState
-unbegun held failing = record {
+abbrev pub unbegun_files : NamedFiles → List ℕ → FilesState
+unbegun_files held failing = record {
   held = held;
   failing = failing;
   calls = 0;

@@ -9,8 +9,8 @@ abbrev pub TakesSome : {E : Type 0} → Result ℕ E → List ℕ → Type 0
 TakesSome result piece = IfOk result (λ n. (n ≤ length piece) × (0 < length piece → 0 < n))
 
 -- the pieces one after the other
-abbrev pub joined : List (Bor (List ℕ)) → List ℕ
-joined pieces = flat_map (λ piece. piece.now) pieces
+abbrev pub joined_bytes : List (Bor (List ℕ)) → List ℕ
+joined_bytes pieces = flat_map (λ piece. piece.now) pieces
 
 -- the told bytes grow by a front of the piece
 abbrev pub AppendsFront : Option (List ℕ) → Option (List ℕ) → List ℕ → Type 0

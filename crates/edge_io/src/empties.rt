@@ -1,10 +1,10 @@
 //! The count of reads that gave nothing.
 ghost use Rattle.std.specs.Prelude.{◌≡◌, ◌<◌};
-ghost use Rattle.edge_io.specs.Counts.{counted_on};
+ghost use Rattle.edge_io.specs.Counts.{count_after};
 
 /// The count after a read that gave so many bytes.
 pub(crate) fn empties_after(empties: u64, given: usize) -> u64
-    ensures nothing { given ≡ 0 → result ≡ counted_on empties 1 }
+    ensures nothing { given ≡ 0 → result ≡ count_after empties 1 }
     ensures some { 0 < given → result ≡ empties }
 {
     if given == 0 {

@@ -3,7 +3,7 @@
 ghost use Rattle.std.specs.Prelude.{◌≡◌, ℕ, List, [], IfOk, OnErr, Option, string_bytes};
 ghost use Rattle.std.specs.Io.{ReadsAtMost};
 ghost use Rattle.std.specs.Io.KnownBytes.{ReadConsumes, WriteAppends, IsAtEnd};
-ghost use Rattle.edge_io.specs.Counts.{Counts, counted_on, CountsNothing, HasCause};
+ghost use Rattle.edge_io.specs.Counts.{Counts, count_after, CountsNothing, HasCause};
 ghost use Rattle.edge_io.specs.Held.{NamedFiles, Begins};
 ghost use Rattle.edge_io.specs.Sinks.{TakesSome};
 
@@ -29,7 +29,7 @@ pub trait Files {
         ensures cause { HasCause (counts self.old).faults (counts self.new).faults result }
         ensures none_taken { (counts self.new).taken ≡ 0 }
         ensures none_empty { (counts self.new).empty_reads ≡ 0 }
-        ensures counted { (counts self.new).begun ≡ counted_on (counts self.old).begun 1 }
+        ensures counted { (counts self.new).begun ≡ count_after (counts self.old).begun 1 }
         ensures marked { (counts self.new).faults_at_begin ≡ (counts self.old).faults }
         ensures named { (counts self.new).name ≡ string_bytes name };
 
@@ -39,7 +39,7 @@ pub trait Files {
         ensures bound { ReadsAtMost result into.new }
         ensures rest { ReadConsumes (rest self.old) (rest self.new) result into.new }
         ensures cause { HasCause (counts self.old).faults (counts self.new).faults result }
-        ensures counted { IfOk result (λ n. (counts self.new).taken ≡ counted_on (counts self.old).taken n) }
+        ensures counted { IfOk result (λ n. (counts self.new).taken ≡ count_after (counts self.old).taken n) }
         ensures none_taken { OnErr result ((counts self.new).taken ≡ (counts self.old).taken) }
         ensures nothing { CountsNothing (counts self.old).empty_reads (counts self.new).empty_reads result }
         ensures same_begin { (counts self.new).begun ≡ (counts self.old).begun }

@@ -2,9 +2,10 @@
 ghost use Rattle.std.specs.Prelude.{◌≡◌, ◌↔◌, Some, min, length, IsTrue, IsErr, IfOk, OnErr, string_bytes};
 ghost use Rattle.std.specs.Io.{ReadsAtMost};
 ghost use Rattle.std.specs.Io.KnownBytes.{ReadConsumes};
-ghost use Rattle.edge_io.specs.Counts.{counted_on, CountsErr, CountsNothing, HasCause};
-ghost use Rattle.edge_io.specs.Held.{Begins, after_first-none};
-ghost use Rattle.edge_io.specs.InMemory.{unbegun, begin_fails, is_listed, rest_of, name_of};
+ghost use Rattle.edge_io.specs.Counts.{count_after, CountsErr, CountsNothing, HasCause};
+ghost use Rattle.edge_io.specs.Held.{Begins};
+ghost use Rattle.edge_io.specs.laws.Begun.{after_first-none};
+ghost use Rattle.edge_io.specs.InMemory.{unbegun_files, begin_fails, is_listed, rest_of, name_of};
 
 use crate::empties::empties_after;
 use crate::{CallList, Failed, FileList, Files};
@@ -53,7 +54,7 @@ impl Model for MemoryFiles {
 
 impl MemoryFiles {
     pub fn new(files: FileList, failing: CallList) -> MemoryFiles
-        ensures { result ≡ unbegun files failing }
+        ensures { result ≡ unbegun_files files failing }
     {
         MemoryFiles {
             files,
@@ -90,7 +91,7 @@ impl Files for MemoryFiles {
 
     fn begin(&mut self, name: String) -> Result<(), Failed>
         ensures failed { IsErr result ↔ IsTrue (begin_fails self.old (string_bytes name)) }
-        ensures calls { self.new.calls ≡ counted_on self.old.calls 1 }
+        ensures calls { self.new.calls ≡ count_after self.old.calls 1 }
         ensures failing { self.new.failing ≡ self.old.failing }
         ensures faults { CountsErr self.old.faults self.new.faults result }
 
@@ -101,7 +102,7 @@ impl Files for MemoryFiles {
         ensures cause { HasCause self.old.faults self.new.faults result }
         ensures none_taken { self.new.taken ≡ 0 }
         ensures none_empty { self.new.empty_reads ≡ 0 }
-        ensures counted { self.new.begun ≡ counted_on self.old.begun 1 }
+        ensures counted { self.new.begun ≡ count_after self.old.begun 1 }
         ensures marked { self.new.faults_at_begin ≡ self.old.faults }
         ensures named { name_of self.new ≡ string_bytes name }
     {
@@ -130,7 +131,7 @@ impl Files for MemoryFiles {
     fn read(&mut self, into: &mut [u8]) -> Result<usize, Failed>
         ensures failed { IsErr result ↔ IsTrue (is_listed self.old.failing self.old.calls) }
         ensures fits { IfOk result (λ n. n ≡ min (length into.old) (length (rest_of self.old))) }
-        ensures calls { self.new.calls ≡ counted_on self.old.calls 1 }
+        ensures calls { self.new.calls ≡ count_after self.old.calls 1 }
         ensures failing { self.new.failing ≡ self.old.failing }
         ensures faults { CountsErr self.old.faults self.new.faults result }
 
@@ -140,7 +141,7 @@ impl Files for MemoryFiles {
         ensures rest { ReadConsumes (Some (rest_of self.old)) (Some (rest_of self.new)) result
             into.new }
         ensures cause { HasCause self.old.faults self.new.faults result }
-        ensures counted { IfOk result (λ n. self.new.taken ≡ counted_on self.old.taken n) }
+        ensures counted { IfOk result (λ n. self.new.taken ≡ count_after self.old.taken n) }
         ensures none_taken { OnErr result (self.new.taken ≡ self.old.taken) }
         ensures nothing { CountsNothing self.old.empty_reads self.new.empty_reads result }
         ensures same_begin { self.new.begun ≡ self.old.begun }

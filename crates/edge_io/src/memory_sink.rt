@@ -1,7 +1,7 @@
 //! A sink in memory, of limited room, whose listed calls fail.
 ghost use Rattle.std.specs.Prelude.{◌≡◌, ◌↔◌, ◌^◌, ◌<◌, ◌≤◌, Some, IsTrue, IsErr, IfOk};
 ghost use Rattle.std.specs.Io.KnownBytes.{WriteAppends};
-ghost use Rattle.edge_io.specs.Counts.{counted_on, CountsErr, HasCause};
+ghost use Rattle.edge_io.specs.Counts.{count_after, CountsErr, HasCause};
 ghost use Rattle.edge_io.specs.Sinks.{TakesSome};
 ghost use Rattle.edge_io.specs.InMemory.{empty_sink, write_fails, write_takes};
 
@@ -80,7 +80,7 @@ impl Sink for MemorySink {
     fn write(&mut self, piece: &[u8]) -> Result<usize, Failed>
         ensures failed { IsErr result ↔ IsTrue (write_fails self.old piece.now) }
         ensures taken { IfOk result (λ n. n ≡ write_takes self.old piece.now) }
-        ensures calls { self.new.calls ≡ counted_on self.old.calls 1 }
+        ensures calls { self.new.calls ≡ count_after self.old.calls 1 }
         ensures faults { CountsErr self.old.faults self.new.faults result }
         ensures same { self.new ≡ record self.old {
           bytes = self.new.bytes;

@@ -3,7 +3,8 @@
 ghost use Rattle.std.specs.Prelude.{◌≡◌, [], None, string_bytes};
 ghost use Rattle.std.specs.Option.{option_map_or};
 ghost use Rattle.edge_io.specs.Counts.{none_yet};
-ghost use Rattle.edge_io.specs.Held.{after_first, after_first-none};
+ghost use Rattle.edge_io.specs.Held.{after_first};
+ghost use Rattle.edge_io.specs.laws.Begun.{after_first-none};
 
 use crate::empties::empties_after;
 use crate::{Failed, Files, Sink};

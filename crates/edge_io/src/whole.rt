@@ -1,9 +1,9 @@
 //! Whole files and whole pieces, over any store of files and any sink.
 ghost use Rattle.std.specs.Prelude.{◌≡◌, ◌+◌, ◌^◌, ◌<◌, ◌≤◌, ◌↔◌, length, IfOk, OnOk, OnErr, IsErrOf, string_bytes};
 ghost use Rattle.std.specs.Io.KnownBytes.{Appends};
-ghost use Rattle.edge_io.specs.Counts.{counted_on, Rose, HasCause};
+ghost use Rattle.edge_io.specs.Counts.{count_after, Rose, HasCause};
 ghost use Rattle.edge_io.specs.Held.{find_file, WhereTold, IsLonger};
-ghost use Rattle.edge_io.specs.Sinks.{AppendsFront, joined};
+ghost use Rattle.edge_io.specs.Sinks.{AppendsFront, joined_bytes};
 ghost use Rattle.edge_io.specs.declared.whole.ReadAnswer.TheVariants.{NoMemory};
 
 use crate::{Files, Sink};
@@ -52,7 +52,7 @@ pub fn read_all<F: Files>(
     ensures no_end { IsErrOf result ReadAnswer.TooLong → (F.counts files.new).empty_reads ≡ 0 }
 
     // The file was begun once, under this name and before any read, whatever the answer.
-    ensures begun { (F.counts files.new).begun ≡ counted_on (F.counts files.old).begun 1 }
+    ensures begun { (F.counts files.new).begun ≡ count_after (F.counts files.old).begun 1 }
     ensures marked { (F.counts files.new).faults_at_begin ≡ (F.counts files.old).faults }
     ensures named { (F.counts files.new).name ≡ string_bytes name }
     ensures held { F.held files.new ≡ F.held files.old }
@@ -110,9 +110,9 @@ pub fn write_all<S: Sink>(sink: &mut S, piece: &[u8]) -> Result<(), WriteFault>
 /// memory, since the pieces are not joined first.
 pub fn write_pieces<S: Sink>(sink: &mut S, pieces: &[&[u8]]) -> Result<(), WriteFault>
     ensures whole { OnOk result
-        (Appends (S.bytes sink.old) (S.bytes sink.new) (joined pieces.now)) }
+        (Appends (S.bytes sink.old) (S.bytes sink.new) (joined_bytes pieces.now)) }
     ensures front { OnErr result
-        (AppendsFront (S.bytes sink.old) (S.bytes sink.new) (joined pieces.now)) }
+        (AppendsFront (S.bytes sink.old) (S.bytes sink.new) (joined_bytes pieces.now)) }
     ensures cause { HasCause (S.faults sink.old) (S.faults sink.new) result }
 {
     for piece in pieces {

@@ -12,18 +12,18 @@ use Rattle.bits_model.specs.Links.{first_bits}
 use Rattle.bits_model.specs.Output.{Written}
 use Rattle.model_text.specs.Rows.{FitsFields}
 use Rattle.problem_form.specs.declared.limits.Normal.TheVariants as normals
-use Rattle.problem_form.specs.Problems.{ProblemForm, form_of}
+use Rattle.problem_form.specs.Problems.{ProblemContent, form_of}
 use Rattle.problem_form.specs.Limits.{upper, limit_fault}
 use Rattle.command_words.specs.declared.commands.Target.{Target}
 use Rattle.command_words.specs.declared.commands.Target.TheVariants.{Qubo}
-use Rattle.term_table.specs.Tables.{TableForm}
+use Rattle.term_table.specs.Tables.{TableContent}
 use Rattle.term_table.specs.Tables as tables
 use Rattle.penalty_layer.specs.Penalty.{image, figures, Fits}
 use Rattle.penalty_layer.specs.laws.Relaxing.{penalty_relaxes}
 use Rattle.penalty_layer.proofs.Admitted.{threshold_within}
 use Rattle.monomial_layer.specs.Monomials as mono
 use Rattle.monomial_layer.specs.laws.Kept.{mono_keeps}
-use Rattle.quad_form.specs.Quads.{QuadForm, IsQuad, written_of}
+use Rattle.quad_form.specs.Quads.{QuadContent, IsQuad, written_of}
 use Rattle.quad_form.specs.Quads as quads
 use Rattle.quad_form.specs.Flat.{same_bits}
 use Rattle.quad_form.specs.Flat as flat
@@ -48,7 +48,7 @@ same_figures n i =
 -- ---- penalties, replacements each by itself, and multiplying out
 
 -- the links of these steps, from a problem within the limits to its quadratic form
-pub record AreSteps (p : ProblemForm) (a b c : BitsLink) : Type 0 where
+pub record AreSteps (p : ProblemContent) (a b c : BitsLink) : Type 0 where
   pub within : limit_fault normals.Literal p ≡ None
   pub first : Fits a p
   pub second : mono.Fits b (image p)
@@ -56,15 +56,15 @@ pub record AreSteps (p : ProblemForm) (a b c : BitsLink) : Type 0 where
   pub kept : IsQuad (flat.image (mono.image (image p)))
 
 -- the quadratic form
-abbrev pub quad_of : ProblemForm → QuadForm
+abbrev pub quad_of : ProblemContent → QuadContent
 quad_of p = flat.image (mono.image (image p))
 
 -- its model, of which so many variables are the source's own
-abbrev pub model_of : ProblemForm → ℕ → Written
+abbrev pub model_of : ProblemContent → ℕ → Written
 model_of p own = written_of (quad_of p) own (figures p) (pos 1)
 
 -- the nodes are the variables, and those that stand for longer terms
-pub nodes_enough : (p : ProblemForm) (c : BitsLink) → flat.Fits c (mono.image (image p))
+pub nodes_enough : (p : ProblemContent) (c : BitsLink) → flat.Fits c (mono.image (image p))
     → p.variables ≤ length (quad_of p).diagonal
 nodes_enough p c fits =
     let nodes = sym (flat_joins c (mono.image (image p)) fits).target ∙ fits.target in
@@ -74,7 +74,7 @@ nodes_enough p c fits =
 abbrev decoding_of_steps : BitsLink → BitsLink → BitsLink → Decoding
 decoding_of_steps a b c = decoding_after (decoding_after (first_bits a) (first_bits b)) (same_bits c)
 
-low_relaxes : (p : ProblemForm) (a b c : BitsLink) → AreSteps p a b c
+low_relaxes : (p : ProblemContent) (a b c : BitsLink) → AreSteps p a b c
     → Relaxes (form_of p) (tables.form_of (mono.image (image p)))
     (decoding_after (first_bits a) (first_bits b)) (pos 1) (figures p)
 low_relaxes p a b c s =
@@ -83,7 +83,7 @@ low_relaxes p a b c s =
     (same_figures (figures p))
     (keeps_after_relaxes (penalty_relaxes a p s.first) (mono_keeps b (image p) s.second))
 
-steps_relax : (p : ProblemForm) (a b c : BitsLink) → AreSteps p a b c
+steps_relax : (p : ProblemContent) (a b c : BitsLink) → AreSteps p a b c
     → Relaxes (form_of p) (quads.form_of (quad_of p)) (decoding_of_steps a b c) (pos 1) (figures p)
 steps_relax p a b c s =
     subst (λ n. Relaxes (form_of p) (quads.form_of (quad_of p)) (decoding_of_steps a b c) (pos 1) n)
@@ -91,7 +91,7 @@ steps_relax p a b c s =
     (keeps_after_relaxes (low_relaxes p a b c s) (flat_keeps c (mono.image (image p)) s.third))
 
 -- a state decodes to its first bits, as many as there are variables
-steps_decode : (p : ProblemForm) (a b c : BitsLink) → AreSteps p a b c → (y : List Bool)
+steps_decode : (p : ProblemContent) (a b c : BitsLink) → AreSteps p a b c → (y : List Bool)
     → (decoding_of_steps a b c).decoded y ≡ take p.variables y
 steps_decode p a b c s y =
     take-take a.source_width b.source_width y (omega (arith, s.first.source, s.second.source))
@@ -100,7 +100,7 @@ steps_decode p a b c s y =
 moved_size : (a c : ℤ) → unsigned_abs (a +ℤ neg_ℤ c) ≤ unsigned_abs a + unsigned_abs c
 moved_size a c = omega (arith, ints)
 
-fits_fields : (p : ProblemForm) (own : ℕ) → limit_fault normals.Literal p ≡ None
+fits_fields : (p : ProblemContent) (own : ℕ) → limit_fault normals.Literal p ≡ None
     → own ≤ length (quad_of p).diagonal → IsQuad (quad_of p) → FitsFields (model_of p own)
 fits_fields p own none enough kept =
     let small = kept.small in
@@ -120,7 +120,7 @@ fits_fields p own none enough kept =
     }
 
 -- the model of a problem's quadratic form is one of the problem
-pub steps_model : (target : Target) (p : ProblemForm) (own : ℕ) (a b c : BitsLink)
+pub steps_model : (target : Target) (p : ProblemContent) (own : ℕ) (a b c : BitsLink)
     → AreSteps p a b c → own ≤ p.variables → IsModelOf p own target (model_of p own)
 steps_model Qubo p own a b c s few =
     let enough = nodes_enough p c s.third in

@@ -11,35 +11,35 @@ use Rattle.problem_form.specs.declared.limits.Normal.{Normal}
 use Rattle.problem_form.specs.declared.limits.Normal.TheVariants.{Literal, Multilinear}
 use Rattle.problem_form.specs.declared.limits.High.{High}
 use Rattle.problem_form.specs.declared.limits.High.TheVariants.{Monomial, Rosenberg}
-use Rattle.problem_form.specs.Problems.{ProblemForm}
+use Rattle.problem_form.specs.Problems.{ProblemContent}
 use Rattle.problem_form.specs.Problems as problems
 use Rattle.problem_form.specs.Limits.{upper}
 use Rattle.command_words.specs.declared.commands.Target.{Target}
 use Rattle.command_words.specs.declared.commands.Target.TheVariants.{Qubo}
-use Rattle.term_table.specs.Tables.{TableForm}
+use Rattle.term_table.specs.Tables.{TableContent}
 use Rattle.penalty_layer.specs.Penalty as penalty
 use Rattle.monomial_layer.specs.Monomials as monomials
-use Rattle.quad_form.specs.Quads.{QuadForm, written_of}
+use Rattle.quad_form.specs.Quads.{QuadContent, written_of}
 use Rattle.quad_form.specs.Flat as flat
 
 -- ---- the steps
 
 -- the terms of a problem in a normal form; so far all are over literals
-abbrev pub terms_of : Normal → ProblemForm → TableForm
+abbrev pub terms_of : Normal → ProblemContent → TableContent
 terms_of Literal p = penalty.image p
 terms_of Multilinear p = penalty.image p
 
 -- what stands for terms of degree 3 or more; so far each is replaced by itself
-abbrev pub low_terms_of : High → TableForm → TableForm
+abbrev pub low_terms_of : High → TableContent → TableContent
 low_terms_of Monomial t = monomials.image t
 low_terms_of Rosenberg t = monomials.image t
 
 -- the quadratic form of a problem
-abbrev pub quad_of : Choices → ProblemForm → QuadForm
+abbrev pub quad_of : Choices → ProblemContent → QuadContent
 quad_of choices p = flat.image (low_terms_of choices.high (terms_of choices.normal p))
 
 -- the model of a problem, of which so many variables are the source's own
-abbrev pub model : Choices → Target → ℕ → ProblemForm → Written
+abbrev pub model : Choices → Target → ℕ → ProblemContent → Written
 model choices Qubo variables p =
     written_of (quad_of choices p) variables (penalty.figures p) (pos 1)
 
@@ -59,7 +59,7 @@ decoding_to variables m = record {
 
 -- a well-formed model for this target whose numbers fit their fields, with so many variables, the
 -- stated figures and the unit 1, which relaxes the problem
-pub record IsModelOf (p : ProblemForm) (own : ℕ) (target : Target) (m : Written) : Type 0 where
+pub record IsModelOf (p : ProblemContent) (own : ℕ) (target : Target) (m : Written) : Type 0 where
   pub kind : m.kind ≡ kind_of target
   pub fits : FitsFields m
   pub well_formed : IsWellFormed m

@@ -8,11 +8,11 @@ use Rattle.std.proofs.lemmas.List.Elements.{All-same}
 use Rattle.problem_form.specs.declared.literal.Literal.{Literal}
 use Rattle.problem_form.specs.Literals.{IsLiteralSet}
 use Rattle.term_table.specs.Terms.{Term, terms_total}
-use Rattle.term_table.specs.Tables.{TableForm, appended, with_more}
+use Rattle.term_table.specs.Tables.{TableContent, with_appended, with_more}
 use Rattle.term_table.proofs.Additions.{terms_total-append}
 use Rattle.term_table.proofs.SmallSets.{IsLiteralSet-ascends, below_after}
 use Rattle.term_table.proofs.Loops.{fits_after, total-with_more}
-use Rattle.monomial_layer.specs.Monomials.{node, with_each, each_with, pair_terms, factor, node_term, node_terms, negative_terms, new_nodes, new_terms, new_bits, replaced}
+use Rattle.monomial_layer.specs.Monomials.{node, with_each, each_with, pair_terms, factor, node_term, node_terms, negative_terms, new_nodes, new_terms, new_bits, all_new_terms}
 use Rattle.monomial_layer.proofs.Sizes.{total-more_nodes}
 
 -- ---- the products of pairs
@@ -49,19 +49,19 @@ pairs_fit now ls i d c n inside small =
       terms_total-append ts (pair_terms (drop (i + 1) ls) c),
     )
 
-pub pairs_more : (now next : TableForm) (ls : List Literal) (i : ℕ) (d : Literal) (c : ℤ)
+pub pairs_more : (now next : TableContent) (ls : List Literal) (i : ℕ) (d : Literal) (c : ℤ)
     (whole : List Term) → i < length ls
     → next ≡ with_more now (with_each (get_or ls i d) c (after ls i))
     → now.terms ++ pair_terms (drop i ls) c ≡ whole
     → next.terms ++ pair_terms (drop (i + 1) ls) c ≡ whole
 pairs_more now next ls i d c whole inside made so_far =
     let ts = with_each (get_or ls i d) c (after ls i) in
-    ap (λ (table : TableForm). table.terms ++ pair_terms (drop (i + 1) ls) c) made
+    ap (λ (table : TableContent). table.terms ++ pair_terms (drop (i + 1) ls) c) made
     ∙ append_assoc now.terms ts (pair_terms (drop (i + 1) ls) c)
     ∙ sym (ap (λ us. now.terms ++ us) (pairs_left ls i d c inside))
     ∙ so_far
 
-pub pairs_fit_more : (now next : TableForm) (ls : List Literal) (i : ℕ) (d : Literal) (c : ℤ) (n : ℕ)
+pub pairs_fit_more : (now next : TableContent) (ls : List Literal) (i : ℕ) (d : Literal) (c : ℤ) (n : ℕ)
     → i < length ls → next ≡ with_more now (with_each (get_or ls i d) c (after ls i))
     → terms_total now.terms + terms_total (pair_terms (drop i ls) c) ≤ n
     → terms_total next.terms + terms_total (pair_terms (drop (i + 1) ls) c) ≤ n
@@ -73,9 +73,9 @@ pairs_fit_more now next ls i d c n inside made small =
 -- ---- new nodes
 
 -- what is left after the node's own weight fits
-pub node_fits_more : (start now : TableForm) (ls : List Literal) (w : Literal) (k : ℕ) (c head pair : ℤ)
+pub node_fits_more : (start now : TableContent) (ls : List Literal) (w : Literal) (k : ℕ) (c head pair : ℤ)
     (n : ℕ) → head ≡ c *ℤ pos (factor (length ls) k * (2 * k + 2) - 1)
-    → pair ≡ neg_ℤ (c *ℤ pos (factor (length ls) k)) → now ≡ appended start (w ∷ []) head
+    → pair ≡ neg_ℤ (c *ℤ pos (factor (length ls) k)) → now ≡ with_appended start (w ∷ []) head
     → terms_total start.terms + terms_total (node_term ls c w k) ≤ n
     → terms_total now.terms + terms_total (each_with ls w pair) ≤ n
 node_fits_more start now ls w k c head pair n weight tail made small =
@@ -85,9 +85,9 @@ node_fits_more start now ls w k c head pair n weight tail made small =
     fits_after start now (own ∷ []) (each_with ls w pair) n made
     (omega (arith, small, ap terms_total same))
 
-pub negative_fits_more : (start now : TableForm) (ls : List Literal) (w : Literal) (next : ℕ) (c head : ℤ)
+pub negative_fits_more : (start now : TableContent) (ls : List Literal) (w : Literal) (next : ℕ) (c head : ℤ)
     (n : ℕ) → w ≡ node next → head ≡ neg_ℤ (c *ℤ pos (length ls - 1))
-    → now ≡ appended start (w ∷ []) head
+    → now ≡ with_appended start (w ∷ []) head
     → terms_total start.terms + terms_total (negative_terms ls c next) ≤ n
     → terms_total now.terms + terms_total (each_with ls w c) ≤ n
 negative_fits_more start now ls w next c head n number weight made small =
@@ -98,7 +98,7 @@ negative_fits_more start now ls w next c head n number weight made small =
     (omega (arith, small, ap terms_total same))
 
 -- the terms of the next node fit where those of all nodes do
-pub nodes_fit : (start now : TableForm) (ls : List Literal) (w : Literal) (next k nodes : ℕ) (c : ℤ)
+pub nodes_fit : (start now : TableContent) (ls : List Literal) (w : Literal) (next k nodes : ℕ) (c : ℤ)
     (n : ℕ) → k < nodes → w ≡ node (next + k) → now ≡ with_more start (node_terms ls c next k)
     → terms_total start.terms + terms_total (node_terms ls c next nodes) ≤ n
     → terms_total now.terms + terms_total (node_term ls c w k) ≤ n
@@ -131,35 +131,35 @@ bits_left x bits more whole t left rest e new h =
     ∙ h
 
 -- what stands for the terms that are left makes up the rest
-pub replaced_left : (now after : TableForm) (t : Term) (left rest : List Term) (n m : ℕ)
+pub replaced_left : (now after : TableContent) (t : Term) (left rest : List Term) (n m : ℕ)
     (whole : List Term) → left ≡ t ∷ rest → m ≡ n + new_nodes t → after ≡ with_more now (new_terms t n)
-    → now.terms ++ replaced left n ≡ whole → after.terms ++ replaced rest m ≡ whole
+    → now.terms ++ all_new_terms left n ≡ whole → after.terms ++ all_new_terms rest m ≡ whole
 replaced_left now after t left rest n m whole e number made h =
-    ap (λ k. after.terms ++ replaced rest k) number
-    ∙ ap (λ (table : TableForm). table.terms ++ replaced rest (n + new_nodes t)) made
-    ∙ append_assoc now.terms (new_terms t n) (replaced rest (n + new_nodes t))
-    ∙ sym (ap (λ ts. now.terms ++ replaced ts n) e)
+    ap (λ k. after.terms ++ all_new_terms rest k) number
+    ∙ ap (λ (table : TableContent). table.terms ++ all_new_terms rest (n + new_nodes t)) made
+    ∙ append_assoc now.terms (new_terms t n) (all_new_terms rest (n + new_nodes t))
+    ∙ sym (ap (λ ts. now.terms ++ all_new_terms ts n) e)
     ∙ h
 
 pub replaced_fits : (now : List Term) (t : Term) (left rest : List Term) (n bound : ℕ)
-    → left ≡ t ∷ rest → terms_total now + terms_total (replaced left n) ≤ bound
+    → left ≡ t ∷ rest → terms_total now + terms_total (all_new_terms left n) ≤ bound
     → terms_total now + terms_total (new_terms t n) ≤ bound
 replaced_fits now t left rest n bound e small =
     omega (
       arith,
       small,
-      ap (λ ts. terms_total (replaced ts n)) e,
-      terms_total-append (new_terms t n) (replaced rest (n + new_nodes t)),
+      ap (λ ts. terms_total (all_new_terms ts n)) e,
+      terms_total-append (new_terms t n) (all_new_terms rest (n + new_nodes t)),
     )
 
-pub replaced_fit_more : (now after : TableForm) (t : Term) (left rest : List Term) (n m bound : ℕ)
+pub replaced_fit_more : (now after : TableContent) (t : Term) (left rest : List Term) (n m bound : ℕ)
     → left ≡ t ∷ rest → m ≡ n + new_nodes t → after ≡ with_more now (new_terms t n)
-    → terms_total now.terms + terms_total (replaced left n) ≤ bound
-    → terms_total after.terms + terms_total (replaced rest m) ≤ bound
+    → terms_total now.terms + terms_total (all_new_terms left n) ≤ bound
+    → terms_total after.terms + terms_total (all_new_terms rest m) ≤ bound
 replaced_fit_more now after t left rest n m bound e number made small =
-    let fits = fits_after now after (new_terms t n) (replaced rest (n + new_nodes t)) bound made
-    (omega (arith, small, ap (λ ts. terms_total (replaced ts n)) e)) in
-    omega (arith, fits, ap (λ k. terms_total (replaced rest k)) number)
+    let fits = fits_after now after (new_terms t n) (all_new_terms rest (n + new_nodes t)) bound made
+    (omega (arith, small, ap (λ ts. terms_total (all_new_terms ts n)) e)) in
+    omega (arith, fits, ap (λ k. terms_total (all_new_terms rest k)) number)
 
 -- what follows from what holds of an answer
 pub if_ok-then : {T E : Type 0} (r : Result T E) {P Q : T → Type 0} → IfOk r P

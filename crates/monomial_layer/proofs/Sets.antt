@@ -1,14 +1,15 @@
--- The sets of the terms that stand for a term: its pairs, and its literals with a new node above them.
+-- The sets of the terms that stand for a term: its pairs, and its literals with a new node above
+-- them.
 use Rattle.std.proofs.Common.{◌≡◌, ℕ, zero, suc, ◌+◌, ◌<◌, ◌≤◌, Bool, true, false, cond, leb, int_lt, List, [], ◌∷◌, length, get_or, ℤ, pos, refl, arith}
 use Rattle.std.specs.Prelude.{All}
 use Rattle.std.proofs.lemmas.Bool.Decides.{nat_tests}
 use Rattle.std.proofs.lemmas.List.Elements.{All-nil, All-cons, All-append, All-get_or}
 use Rattle.problem_form.specs.declared.literal.Literal.{Literal}
 use Rattle.term_table.specs.Terms.{Term, IsTermSet}
-use Rattle.term_table.specs.Tables.{TableForm, IsLow}
-use Rattle.term_table.proofs.KeptTerms.{OfSet, All-collected}
+use Rattle.term_table.specs.Tables.{TableContent, IsLow}
+use Rattle.term_table.proofs.KeptTerms.{OfSet, All-with_additions}
 use Rattle.term_table.proofs.SmallSets.{IsTermSet-two}
-use Rattle.monomial_layer.specs.Monomials.{node, with_each, each_with, pair_terms, node_term, node_terms, nodes_for, positive_terms, negative_terms, new_nodes, new_terms, replaced, image}
+use Rattle.monomial_layer.specs.Monomials.{node, with_each, each_with, pair_terms, node_term, node_terms, nodes_for, positive_terms, negative_terms, new_nodes, new_terms, all_new_terms, image}
 
 -- a literal, and one of a list above it
 pub IsTermSet-after : (width start : ℕ) (l : Literal) (ls : List Literal) (i : ℕ) (d : Literal)
@@ -72,12 +73,12 @@ short-new_terms t n = go (leb (length t.0) 2) (int_lt t.1 (pos 0)) (λ e. grind 
         (short-pair_terms t.0 t.1)
         (short-node_terms t.0 t.1 n (nodes_for (length t.0)))
 
-short-replaced : (ts : List Term) (n : ℕ) → AreShort (replaced ts n)
-short-replaced [] n = All-nil (OfSet IsShort)
-short-replaced (t ∷ ts) n =
-    All-append (OfSet IsShort) (new_terms t n) (replaced ts (n + new_nodes t)) (short-new_terms t n)
-    (short-replaced ts (n + new_nodes t))
+short-all_new_terms : (ts : List Term) (n : ℕ) → AreShort (all_new_terms ts n)
+short-all_new_terms [] n = All-nil (OfSet IsShort)
+short-all_new_terms (t ∷ ts) n =
+    All-append (OfSet IsShort) (new_terms t n) (all_new_terms ts (n + new_nodes t)) (short-new_terms t n)
+    (short-all_new_terms ts (n + new_nodes t))
 
-pub IsLow-image : (t : TableForm) → IsLow (image t)
+pub IsLow-image : (t : TableContent) → IsLow (image t)
 IsLow-image t =
-    All-collected IsShort (replaced t.terms t.width) (short-replaced t.terms t.width)
+    All-with_additions IsShort (all_new_terms t.terms t.width) (short-all_new_terms t.terms t.width)

@@ -8,9 +8,9 @@ use Rattle.std.proofs.lemmas.Int.{ints, unsigned_abs-mul}
 use Rattle.std.proofs.Math.Nat.{mul-le-mul_left, mul-le-mul_right, pow-succ', pow-zero}
 use Rattle.problem_form.specs.declared.literal.Literal.{Literal}
 use Rattle.term_table.specs.Terms.{Term, terms_total, terms_size, set_size, IsTermSet}
-use Rattle.term_table.specs.Tables.{TableForm, IsTable, table_size}
-use Rattle.term_table.proofs.Additions.{terms_total-cons, terms_total-append, terms_size-cons, terms_total-collected, terms_size-collected}
-use Rattle.monomial_layer.specs.Monomials.{node, with_each, each_with, pair_terms, factor, node_term, node_terms, nodes_for, positive_terms, negative_terms, new_nodes, new_terms, replaced, image}
+use Rattle.term_table.specs.Tables.{TableContent, IsTable, table_size}
+use Rattle.term_table.proofs.Additions.{terms_total-cons, terms_total-append, terms_size-cons, terms_total-with_additions, terms_size-with_additions}
+use Rattle.monomial_layer.specs.Monomials.{node, with_each, each_with, pair_terms, factor, node_term, node_terms, nodes_for, positive_terms, negative_terms, new_nodes, new_terms, all_new_terms, image}
 use Rattle.monomial_layer.specs.laws.Positive.{pairs, pairs_is, factor_cases}
 
 -- ---- the sizes of the coefficients
@@ -75,7 +75,8 @@ pair_weight-fits ls c w k before n small =
       mul-le-mul_left (unsigned_abs c) (factor-le f k (factor_cases (length ls) k)),
     )
 
--- what one node of factor f adds to the bound at k, where x is the coefficient's size and d the degree
+-- what one node of factor f adds to the bound at k, where x is the coefficient's size and d the
+-- degree
 one_more : (x f k d : ℕ) → (f ≡ 1) ⊎ (f ≡ 2)
     → x * (2 * (k * k) + k + 2 * (k * d)) + (x * (f * (2 * k + 2) - 1) + x * f * d)
     ≤ x * (2 * (suc k * suc k) + suc k + 2 * (suc k * d))
@@ -305,27 +306,27 @@ size-new_terms t n = go (leb (length t.0) 2) (int_lt t.1 (pos 0)) (λ e. grind (
 abbrev IsShort : Term → Type 0
 IsShort t = length t.0 ≤ 2048
 
-pub total-replaced : (ts : List Term) (n : ℕ) → AllByRecursion IsShort ts
-    → terms_total (replaced ts n) ≤ terms_total ts * 2 ^ 24
-total-replaced [] n short = omega arith
-total-replaced (t ∷ ts) n short =
+pub total-all_new_terms : (ts : List Term) (n : ℕ) → AllByRecursion IsShort ts
+    → terms_total (all_new_terms ts n) ≤ terms_total ts * 2 ^ 24
+total-all_new_terms [] n short = omega arith
+total-all_new_terms (t ∷ ts) n short =
     omega (
       arith,
-      terms_total-append (new_terms t n) (replaced ts (n + new_nodes t)),
+      terms_total-append (new_terms t n) (all_new_terms ts (n + new_nodes t)),
       total-new_terms t n short.0,
-      total-replaced ts (n + new_nodes t) short.1,
+      total-all_new_terms ts (n + new_nodes t) short.1,
       terms_total-cons t ts,
     )
 
-pub size-replaced : (ts : List Term) (n : ℕ)
-    → terms_size (replaced ts n) + sum_by new_nodes ts ≤ 4 * terms_size ts
-size-replaced [] n = omega arith
-size-replaced (t ∷ ts) n =
+pub size-all_new_terms : (ts : List Term) (n : ℕ)
+    → terms_size (all_new_terms ts n) + sum_by new_nodes ts ≤ 4 * terms_size ts
+size-all_new_terms [] n = omega arith
+size-all_new_terms (t ∷ ts) n =
     omega (
       arith,
-      size-append (new_terms t n) (replaced ts (n + new_nodes t)),
+      size-append (new_terms t n) (all_new_terms ts (n + new_nodes t)),
       size-new_terms t n,
-      size-replaced ts (n + new_nodes t),
+      size-all_new_terms ts (n + new_nodes t),
       terms_size-cons t ts,
       sum_by-cons new_nodes t ts,
     )
@@ -361,26 +362,26 @@ all_nodes-le (t ∷ ts) =
 
 -- ---- the image
 
-pub size-image : (t : TableForm)
+pub size-image : (t : TableContent)
     → table_size (image t) ≤ table_size t * 4
 size-image t =
     omega (
       arith,
-      size-replaced t.terms t.width,
-      terms_size-collected (replaced t.terms t.width),
+      size-all_new_terms t.terms t.width,
+      terms_size-with_additions (all_new_terms t.terms t.width),
     )
 
-pub total-image : (t : TableForm) → IsTable t
-    → terms_total (replaced t.terms t.width) + 1 ≤ (terms_total t.terms + 1) * 2 ^ 24
+pub total-image : (t : TableContent) → IsTable t
+    → terms_total (all_new_terms t.terms t.width) + 1 ≤ (terms_total t.terms + 1) * 2 ^ 24
 total-image t table =
     let short = short_sets t.width t.terms (recursion_from_All _ _ table.terms.sets) in
-    omega (arith, total-replaced t.terms t.width short)
+    omega (arith, total-all_new_terms t.terms t.width short)
 
-pub total-image_terms : (t : TableForm) → IsTable t
+pub total-image_terms : (t : TableContent) → IsTable t
     → terms_total (image t).terms + 1 ≤ (terms_total t.terms + 1) * 2 ^ 24
 total-image_terms t table =
     omega (
       arith,
       total-image t table,
-      terms_total-collected (replaced t.terms t.width),
+      terms_total-with_additions (all_new_terms t.terms t.width),
     )

@@ -1,18 +1,21 @@
 -- Quadratic terms in place of each term of degree 3 or more, with new nodes.
 --
 -- Let d be the degree, c the coefficient, s the number of true literals and s2 that of their pairs.
--- Where c is negative, a new node w stands for all literals: |c| * w * ((d - 1) - s). See Freedman and
--- Drineas, Energy minimization via graph cuts: settling what is possible (2005).
--- Where c is positive, there are floor((d - 1) / 2) new nodes w1, w2, .. and c * s2 plus the sum over i
--- of c * wi * (fi * (2i - s) - 1), where fi is 1 for the last node of an odd degree and 2 elsewhere.
--- See Ishikawa, Transformation of general binary MRF minimization to the first-order case (2011).
+--
+-- Where c is negative, a new node w stands for all literals: |c| * w * ((d - 1) - s). See Freedman
+-- and Drineas, Energy minimization via graph cuts: settling what is possible (2005).
+--
+-- Where c is positive, there are floor((d - 1) / 2) new nodes w1, w2, .. and c * s2 plus the sum
+-- over i of c * wi * (fi * (2i - s) - 1), where fi is 1 for the last node of an odd degree and 2
+-- elsewhere. See Ishikawa, Transformation of general binary MRF minimization to the first-order
+-- case (2011).
 use Rattle.std.specs.Prelude.{◌≡◌, ℕ, zero, suc, ◌+◌, ◌-◌, ◌*◌, ◌/◌, ℤ, pos, neg_ℤ, ◌*ℤ◌, Bool, false, nat_eq, nat_le, int_lt, List, [], ◌∷◌, ◌++◌, map, length, if◌then◌else◌}
 use Rattle.std.specs.List.{count_by, flat_map, sum_by}
 use Rattle.bits_model.specs.declared.layer.BitsLink.{BitsLink}
 use Rattle.problem_form.specs.declared.literal.Literal.{Literal}
 use Rattle.problem_form.specs.Literals.{holds, all_hold}
-use Rattle.term_table.specs.Terms.{Term, collected}
-use Rattle.term_table.specs.Tables.{TableForm, IsTable}
+use Rattle.term_table.specs.Terms.{Term, with_additions}
+use Rattle.term_table.specs.Tables.{TableContent, IsTable}
 
 -- the node of a number, as a literal
 abbrev pub node : ℕ → Literal
@@ -82,21 +85,21 @@ new_terms t n =
     else (if int_lt t.1 (pos 0) then negative_terms t.0 t.1 n else positive_terms t.0 t.1 n)
 
 -- what stands for each term, one after another
-abbrev pub replaced : List Term → ℕ → List Term
-replaced [] n = []
-replaced (t ∷ ts) n = new_terms t n ++ replaced ts (n + new_nodes t)
+abbrev pub all_new_terms : List Term → ℕ → List Term
+all_new_terms [] n = []
+all_new_terms (t ∷ ts) n = new_terms t n ++ all_new_terms ts (n + new_nodes t)
 
 -- ---- the layer's members
 
 -- the new nodes are numbered after the variables, in the order of the terms
-abbrev pub image : TableForm → TableForm
+abbrev pub image : TableContent → TableContent
 image t = record {
   width = t.width + sum_by new_nodes t.terms;
-  terms = collected [] (replaced t.terms t.width);
+  terms = with_additions [] (all_new_terms t.terms t.width);
 }
 
 -- a link between a table and its image
-pub record Fits (link : BitsLink) (t : TableForm) : Type 0 where
+pub record Fits (link : BitsLink) (t : TableContent) : Type 0 where
   pub source : link.source_width ≡ t.width
   pub target : link.target_width ≡ t.width + sum_by new_nodes t.terms
   pub table : IsTable t

@@ -1,7 +1,7 @@
 -- What the replaced terms promise beside their costs.
 use Rattle.std.specs.Prelude.{◌+◌, ◌≤◌, length}
 use Rattle.term_table.specs.Terms.{Term}
-use Rattle.term_table.specs.Tables.{TableForm, IsLow}
+use Rattle.term_table.specs.Tables.{TableContent, IsLow}
 use Rattle.monomial_layer.specs.Monomials.{new_nodes, image}
 
 -- a term of degree d, of 3 or more, has at most d - 2 new nodes
@@ -10,4 +10,4 @@ AddsFewNodes = (t : Term) → 3 ≤ length t.0 → new_nodes t + 2 ≤ length t.
 
 -- no term of an image has more than two literals
 abbrev pub ImagesAreLow : Type 0
-ImagesAreLow = (t : TableForm) → IsLow (image t)
+ImagesAreLow = (t : TableContent) → IsLow (image t)

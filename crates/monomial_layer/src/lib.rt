@@ -1,4 +1,5 @@
-//! Terms of degree 3 or more are replaced by quadratic terms with new nodes, and the costs are kept.
+//! Terms of degree 3 or more are replaced by quadratic terms with new nodes, and the costs are
+//! kept.
 #![tactic(auto)]
 
 mod bits;

@@ -5,7 +5,7 @@ ghost use Rattle.term_table.specs.Tables.{IsLow};
 ghost use Rattle.monomial_layer.specs.Monomials.{extension};
 
 use crate::bits::push_bits;
-use crate::replace::replaced;
+use crate::replace::quadratic_table;
 use bits_model::{BitsLink, Costed, Layer, Lowered, NoMemory};
 use std::alloc::Global;
 use term_table::{LowTable, Table, low};
@@ -29,7 +29,7 @@ fn known_low(table: Table) -> LowTable
 }
 
 /// An assignment, and the bits of all new nodes.
-fn extended(alloc: Global, table: &Table, x: &[bool]) -> Result<Vec<bool>, NoMemory>
+fn extension_of(alloc: Global, table: &Table, x: &[bool]) -> Result<Vec<bool>, NoMemory>
     ensures { IfOk result (λ y. y.items ≡ extension x.now table.now.terms) }
 {
     let mut bits = x.to_vec(alloc)?;
@@ -92,7 +92,7 @@ impl Layer for Monomials {
         alloc: Global,
         source: &Table,
     ) -> Result<Lowered<LowTable, BitsLink>, NoMemory> {
-        let target = replaced(alloc, source)?;
+        let target = quadratic_table(alloc, source)?;
         Ok(Lowered {
             link: BitsLink {
                 source_width: source.width(),
@@ -115,6 +115,6 @@ impl Layer for Monomials {
         _link: &BitsLink,
         x: &[bool],
     ) -> Result<Vec<bool>, NoMemory> {
-        extended(alloc, source, x)
+        extension_of(alloc, source, x)
     }
 }

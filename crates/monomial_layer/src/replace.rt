@@ -1,12 +1,12 @@
 //! Quadratic terms in place of terms of degree 3 or more.
 //!
-//! For a negative coefficient: D. Freedman and P. Drineas, Energy minimization via graph cuts: settling
-//! what is possible, 2005. For a positive one: H. Ishikawa, Transformation of general binary MRF
-//! minimization to the first-order case, 2011.
+//! For a negative coefficient: D. Freedman and P. Drineas, Energy minimization via graph cuts:
+//! settling what is possible, 2005. For a positive one: H. Ishikawa, Transformation of general
+//! binary MRF minimization to the first-order case, 2011.
 ghost use Rattle.std.specs.Prelude.{◌≡◌, ◌+◌, ◌-◌, ◌*◌, ◌<◌, ◌≤◌, ◌^◌, All, IfOk, OnOk, length};
 ghost use Rattle.std.specs.List.{sum_by};
 ghost use Rattle.problem_form.specs.Literals.{IsLiteralSet};
-ghost use Rattle.term_table.specs.Terms.{collected, terms_size, terms_total, IsTermSet};
+ghost use Rattle.term_table.specs.Terms.{with_additions, terms_size, terms_total, IsTermSet};
 ghost use Rattle.term_table.specs.Tables.{with_more, IsTable};
 ghost use Rattle.monomial_layer.specs.Monomials.{
   each_with,
@@ -201,7 +201,7 @@ fn add_replaced(
 }
 
 /// The table of what stands for the terms, one after another.
-pub fn replaced(alloc: Global, table: &Table) -> Result<Table, NoMemory>
+pub fn quadratic_table(alloc: Global, table: &Table) -> Result<Table, NoMemory>
     requires size { (table.now.width + terms_size table.now.terms) * 2 ^ 2 ≤ 2 ^ 32 }
     requires total { (terms_total table.now.terms + 1) * 2 ^ 24 ≤ 2 ^ 124 }
     ensures made { IfOk result (λ quadratic. quadratic ≡ image table.now) }

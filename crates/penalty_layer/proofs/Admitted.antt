@@ -8,13 +8,13 @@ use Rattle.bits_model.specs.Relations.{Relaxes}
 use Rattle.problem_form.specs.declared.terms.Product.{Product}
 use Rattle.problem_form.specs.declared.terms.Clause.{Clause}
 use Rattle.problem_form.specs.declared.limits.Normal.TheVariants as normals
-use Rattle.problem_form.specs.Problems.{ProblemForm, IsNormalProduct, IsNormalClause, products_total}
+use Rattle.problem_form.specs.Problems.{ProblemContent}
 use Rattle.problem_form.specs.Problems as problems
 use Rattle.problem_form.specs.Limits.{penalty, upper, limit_fault}
-use Rattle.term_table.specs.Terms.{IsTermSet, terms_total, collected}
-use Rattle.term_table.specs.Tables.{TableForm, table_size, appended, with_more}
+use Rattle.term_table.specs.Terms.{IsTermSet, terms_total, with_additions}
+use Rattle.term_table.specs.Tables.{TableContent, table_size, with_appended, with_more}
 use Rattle.term_table.specs.Tables as tables
-use Rattle.term_table.proofs.KeptTerms.{OfSet, AreTerms-collected}
+use Rattle.term_table.proofs.KeptTerms.{OfSet, AreTerms-with_additions}
 use Rattle.penalty_layer.specs.Penalty.{Admits, contributions, opposite, product_term, clause_term, image, Fits}
 use Rattle.bits_model.specs.Links.{first_bits}
 use Rattle.penalty_layer.specs.laws.Relaxing.{penalty_relaxes}
@@ -29,7 +29,7 @@ pub empty_set : (n : ℕ) → IsTermSet n []
 unfolding IsStrictlySortedBy
 empty_set n = record { set = record { ordered = tt; apart = refl; within = All-nil _ }; short = omega arith }
 
-pub product_sets : (p : ProblemForm) (ts : List Product) (width : ℕ) → Admits p → ts ≡ p.objective
+pub product_sets : (p : ProblemContent) (ts : List Product) (width : ℕ) → Admits p → ts ≡ p.objective
     → width ≡ p.variables → All (λ t. IsTermSet width t.literals) ts
 product_sets p ts width admitted same wide =
     let short = (degrees_within p 2048 (omega (arith, (within_limits p admitted.within).degree))).0 in
@@ -41,7 +41,7 @@ product_sets p ts width admitted same wide =
     subst (λ n. All (λ (t : Product). IsTermSet n t.literals) ts) (sym wide)
     (subst (λ us. All (λ (t : Product). IsTermSet p.variables t.literals) us) (sym same) sets)
 
-pub clause_sets : (p : ProblemForm) (cs : List Clause) (width : ℕ) → Admits p → cs ≡ p.clauses
+pub clause_sets : (p : ProblemContent) (cs : List Clause) (width : ℕ) → Admits p → cs ≡ p.clauses
     → width ≡ p.variables → All (λ c. IsTermSet width (map opposite c.literals)) cs
 clause_sets p cs width admitted same wide =
     let short = (degrees_within p 2048 (omega (arith, (within_limits p admitted.within).degree))).1 in
@@ -56,72 +56,72 @@ clause_sets p cs width admitted same wide =
 -- ---- the table that is made
 
 -- q is what the code sees of the problem p
-pub constant_added : (p q : ProblemForm) (empty first : TableForm) (k : ℤ) → q ≡ p
-    → empty ≡ record { width = q.variables; terms = [] } → first ≡ appended empty [] k → k ≡ q.constant
-    → first ≡ appended (record { width = p.variables; terms = [] }) [] p.constant
+pub constant_added : (p q : ProblemContent) (empty first : TableContent) (k : ℤ) → q ≡ p
+    → empty ≡ record { width = q.variables; terms = [] } → first ≡ with_appended empty [] k → k ≡ q.constant
+    → first ≡ with_appended (record { width = p.variables; terms = [] }) [] p.constant
 constant_added p q empty first k same blank one constant =
     one
-    ∙ (λ i. appended (blank i) [] (constant i))
-    ∙ ap (λ (u : ProblemForm). appended (record { width = u.variables; terms = [] }) [] u.constant) same
+    ∙ (λ i. with_appended (blank i) [] (constant i))
+    ∙ ap (λ (u : ProblemContent). with_appended (record { width = u.variables; terms = [] }) [] u.constant) same
 
-pub products_added : (p q : ProblemForm) (first second : TableForm) (ts : List Product) → q ≡ p
+pub products_added : (p q : ProblemContent) (first second : TableContent) (ts : List Product) → q ≡ p
     → second ≡ with_more first (map product_term ts) → ts ≡ q.objective
     → second ≡ with_more first (map product_term p.objective)
 products_added p q first second ts same made objective =
     made
     ∙ ap (λ us. with_more first (map product_term us))
-    (objective ∙ ap (λ (u : ProblemForm). u.objective) same)
+    (objective ∙ ap (λ (u : ProblemContent). u.objective) same)
 
-pub clauses_added : (p q : ProblemForm) (second third : TableForm) (n : ℕ) (cs : List Clause) → q ≡ p
+pub clauses_added : (p q : ProblemContent) (second third : TableContent) (n : ℕ) (cs : List Clause) → q ≡ p
     → third ≡ with_more second (map (clause_term n) cs) → n ≡ penalty p → cs ≡ q.clauses
     → third ≡ with_more second (map (clause_term (penalty p)) p.clauses)
 clauses_added p q second third n cs same made number clauses =
     made
     ∙ (λ i. with_more second
-    (map (clause_term (number i)) ((clauses ∙ ap (λ (u : ProblemForm). u.clauses) same) i)))
+    (map (clause_term (number i)) ((clauses ∙ ap (λ (u : ProblemContent). u.clauses) same) i)))
 
 -- the constant, the products and then the clauses were appended, and summed
-pub made_image : (p : ProblemForm) (first second third table : TableForm)
-    → first ≡ appended (record { width = p.variables; terms = [] }) [] p.constant
+pub made_image : (p : ProblemContent) (first second third table : TableContent)
+    → first ≡ with_appended (record { width = p.variables; terms = [] }) [] p.constant
     → second ≡ with_more first (map product_term p.objective)
     → third ≡ with_more second (map (clause_term (penalty p)) p.clauses)
-    → table ≡ record { width = third.width; terms = collected [] third.terms }
+    → table ≡ record { width = third.width; terms = with_additions [] third.terms }
     → table ≡ image p
 made_image p first second third table constant products clauses summed =
     let listed =
     clauses
     ∙ ap (λ t. with_more t (map (clause_term (penalty p)) p.clauses))
     (products ∙ ap (λ t. with_more t (map product_term p.objective)) constant) in
-    summed ∙ ap (λ (t : TableForm). record { width = t.width; terms = collected [] t.terms }) listed
+    summed ∙ ap (λ (t : TableContent). record { width = t.width; terms = with_additions [] t.terms }) listed
 
 -- after the products the clauses fit
-pub clauses_fit : (p : ProblemForm) (first second : TableForm) → limit_fault normals.Literal p ≡ None
-    → first ≡ appended (record { width = p.variables; terms = [] }) [] p.constant
+pub clauses_fit : (p : ProblemContent) (first second : TableContent) → limit_fault normals.Literal p ≡ None
+    → first ≡ with_appended (record { width = p.variables; terms = [] }) [] p.constant
     → second ≡ with_more first (map product_term p.objective)
     → terms_total second.terms + clause_weights (penalty p) p.clauses ≤ 2 ^ 64 - 1
 clauses_fit p first second none constant products =
     let table = products ∙ ap (λ t. with_more t (map product_term p.objective)) constant in
     omega (
       arith,
-      ap (λ (t : TableForm). terms_total t.terms) table,
+      ap (λ (t : TableContent). terms_total t.terms) table,
       products_within p,
       weights_within p,
       (within_limits p none).weight,
     )
 
-pub made_total : (p : ProblemForm) (third : TableForm) → limit_fault normals.Literal p ≡ None → third ≡ image p
+pub made_total : (p : ProblemContent) (third : TableContent) → limit_fault normals.Literal p ≡ None → third ≡ image p
     → terms_total third.terms + 1 ≤ 2 ^ 64
 made_total p third none made =
     omega (
       arith,
-      ap (λ (t : TableForm). terms_total t.terms) made,
+      ap (λ (t : TableContent). terms_total t.terms) made,
       image_total p,
       weights_within p,
       (within_limits p none).weight,
     )
 
 -- the sets of all contributions
-contribution_sets : (p : ProblemForm) → Admits p
+contribution_sets : (p : ProblemContent) → Admits p
     → All (OfSet (IsTermSet p.variables)) (contributions p)
 contribution_sets p admitted =
     let P = OfSet (IsTermSet p.variables) in
@@ -130,22 +130,22 @@ contribution_sets p admitted =
     All-cons P ([], p.constant) _ (empty_set p.variables)
     (All-append P (map product_term p.objective) (map (clause_term (penalty p)) p.clauses) products clauses)
 
-pub made_size : (p : ProblemForm) (third : TableForm) → Admits p → third ≡ image p
+pub made_size : (p : ProblemContent) (third : TableContent) → Admits p → third ≡ image p
     → table_size third ≤ 2 ^ 26
 made_size p third admitted made =
-    let ascends = (AreTerms-collected p.variables (contributions p) (contribution_sets p admitted)).ordered in
+    let ascends = (AreTerms-with_additions p.variables (contributions p) (contribution_sets p admitted)).ordered in
     subst (λ t. table_size t ≤ 2 ^ 26) (sym made) (size_within p admitted.within ascends)
 
-pub made_relaxes : (link : BitsLink) (p : ProblemForm) (third : TableForm) (threshold : ℤ)
+pub made_relaxes : (link : BitsLink) (p : ProblemContent) (third : TableContent) (threshold : ℤ)
     → Fits link p → third ≡ image p → threshold ≡ upper p
     → Relaxes (problems.form_of p) (tables.form_of third) (first_bits link) (pos 1)
     (record { scale = pos 1; offset = pos 0; threshold = threshold })
 made_relaxes link p third threshold fit made high =
-    let Q : TableForm → ℤ → Type 0 =
+    let Q : TableContent → ℤ → Type 0 =
     λ t z. Relaxes (problems.form_of p) (tables.form_of t) (first_bits link) (pos 1) (record { scale = pos 1; offset = pos 0; threshold = z }) in
     subst (λ t. Q t threshold) (sym made) (subst (λ z. Q (image p) z) (sym high) (penalty_relaxes link p fit))
 
-pub threshold_within : (p : ProblemForm) (threshold : ℤ) → limit_fault normals.Literal p ≡ None → threshold ≡ upper p
+pub threshold_within : (p : ProblemContent) (threshold : ℤ) → limit_fault normals.Literal p ≡ None → threshold ≡ upper p
     → unsigned_abs threshold ≤ 2 ^ 64
 threshold_within p threshold none high =
     let limits = within_limits p none in

@@ -10,7 +10,7 @@ use Rattle.problem_form.specs.declared.limits.LimitKind.TheVariants.{Variables, 
 use Rattle.problem_form.specs.declared.terms.Product.{Product}
 use Rattle.problem_form.specs.declared.terms.Clause.{Clause}
 use Rattle.problem_form.specs.declared.limits.Normal.TheVariants as normals
-use Rattle.problem_form.specs.Problems.{ProblemForm, products_total, soft_weight}
+use Rattle.problem_form.specs.Problems.{ProblemContent, products_total, soft_weight}
 use Rattle.problem_form.specs.Limits.{Counted, first_passed, limit_fault, degree, degrees, pairs, weight, penalty, cost_size, upper, most_degree}
 use Rattle.problem_form.proofs.CountedNumbers.{positive_total-le}
 use Rattle.penalty_layer.specs.Weights.{clause_weights}
@@ -38,13 +38,13 @@ within_first c cs none =
     rest false e h = h
 
 -- the counted numbers are within their limits
-pub record IsWithin (p : ProblemForm) : Type 0 where
+pub record IsWithin (p : ProblemContent) : Type 0 where
   pub variables : p.variables ≤ 2 ^ 20
   pub degree : degree p ≤ most_degree
   pub pairs : pairs normals.Literal p ≤ 2 ^ 24
   pub weight : weight p ≤ 2 ^ 64 - 1
 
-pub within_limits : (p : ProblemForm) → limit_fault normals.Literal p ≡ None → IsWithin p
+pub within_limits : (p : ProblemContent) → limit_fault normals.Literal p ≡ None → IsWithin p
 within_limits p none =
     let variables : Counted = record { kind = Variables; number = p.variables; most = 2 ^ 20 } in
     let degrees : Counted = record { kind = Degree; number = degree p; most = most_degree } in
@@ -81,7 +81,7 @@ raised f low high [] le h = tt
 raised f low high (x ∷ xs) le h = let first = h.0 in (omega arith, raised f low high xs le h.1)
 
 -- no product and no clause has more literals than this
-pub degrees_within : (p : ProblemForm) (most : ℕ) → degree p ≤ most
+pub degrees_within : (p : ProblemContent) (most : ℕ) → degree p ≤ most
     → AtMost (λ (t : Product). length t.literals) most p.objective
     × AtMost (λ (c : Clause). length c.literals) most p.clauses
 degrees_within p most h =
@@ -112,12 +112,12 @@ clause_weights_are n (c ∷ cs) =
     )
 
 -- the sizes of what is added are within the counted weight
-pub weights_within : (p : ProblemForm)
+pub weights_within : (p : ProblemContent)
     → unsigned_abs p.constant + products_total p.objective + clause_weights (penalty p) p.clauses ≤ weight p
 weights_within p = omega (arith, clause_weights_are (penalty p) p.clauses)
 
-pub upper_within : (p : ProblemForm) → unsigned_abs (upper p) ≤ weight p
+pub upper_within : (p : ProblemContent) → unsigned_abs (upper p) ≤ weight p
 upper_within p = omega (arith, ints, positive_total-le p.objective)
 
-pub cost_size_within : (p : ProblemForm) → cost_size p ≤ weight p
+pub cost_size_within : (p : ProblemContent) → cost_size p ≤ weight p
 cost_size_within p = omega arith

@@ -7,11 +7,11 @@ use Rattle.problem_form.specs.declared.literal.Literal.{Literal}
 use Rattle.problem_form.specs.declared.terms.Product.{Product}
 use Rattle.problem_form.specs.declared.terms.Clause.{Clause}
 use Rattle.problem_form.specs.declared.limits.Normal.TheVariants as normals
-use Rattle.problem_form.specs.Problems.{ProblemForm, products_total}
+use Rattle.problem_form.specs.Problems.{ProblemContent, products_total}
 use Rattle.problem_form.specs.Limits.{penalty, product_pairs, clause_pairs, pairs, limit_fault}
 use Rattle.term_table.specs.Terms.{Term, Ascends, terms_total}
 use Rattle.term_table.specs.Tables.{table_size}
-use Rattle.term_table.proofs.Additions.{sets_sum, sets_sum-cons, sets_sum-collected, terms_total-cons, terms_total-collected}
+use Rattle.term_table.proofs.Additions.{sets_sum, sets_sum-cons, sets_sum-with_additions, terms_total-cons, terms_total-with_additions}
 use Rattle.term_table.proofs.SetSizes.{terms_size-once}
 use Rattle.penalty_layer.specs.Penalty.{product_term, clause_term, contributions, image}
 use Rattle.penalty_layer.specs.Weights.{clause_weights}
@@ -46,7 +46,7 @@ clauses_squares n (c ∷ cs) =
       sum_by-cons (clause_pairs normals.Literal) c cs,
     )
 
-contributions_squares : (p : ProblemForm)
+contributions_squares : (p : ProblemContent)
     → sets_sum square (contributions p) ≤ pairs normals.Literal p
 contributions_squares p =
     omega (
@@ -57,7 +57,7 @@ contributions_squares p =
       clauses_squares (penalty p) p.clauses,
     )
 
-pub size_within : (p : ProblemForm) → limit_fault normals.Literal p ≡ None → Ascends (image p).terms
+pub size_within : (p : ProblemContent) → limit_fault normals.Literal p ≡ None → Ascends (image p).terms
     → table_size (image p) ≤ 2 ^ 26
 size_within p none ascends =
     let limits = within_limits p none in
@@ -66,7 +66,7 @@ size_within p none ascends =
       limits.variables,
       limits.pairs,
       terms_size-once (image p).terms ascends,
-      sets_sum-collected square (contributions p),
+      sets_sum-with_additions square (contributions p),
       contributions_squares p,
     )
 
@@ -83,7 +83,7 @@ products_terms_total (t ∷ ts) =
     )
 
 -- after the constant and the products
-pub products_within : (p : ProblemForm)
+pub products_within : (p : ProblemContent)
     → terms_total (([], p.constant) ∷ map product_term p.objective)
     ≡ unsigned_abs p.constant + products_total p.objective
 products_within p =
@@ -105,7 +105,7 @@ clauses_terms_total n (c ∷ cs) =
     )
 
 -- the whole table
-pub image_total : (p : ProblemForm)
+pub image_total : (p : ProblemContent)
     → terms_total (image p).terms
     ≤ unsigned_abs p.constant + products_total p.objective + clause_weights (penalty p) p.clauses
 image_total p =
@@ -113,7 +113,7 @@ image_total p =
     let clauses = map (clause_term (penalty p)) p.clauses in
     omega (
       arith,
-      terms_total-collected (contributions p),
+      terms_total-with_additions (contributions p),
       terms_total-cons ([], p.constant) (products ++ clauses),
       sum_by-append (λ (t : Term). unsigned_abs t.1) products clauses,
       products_terms_total p.objective,

@@ -54,8 +54,8 @@ fn weight_or(clause: &Clause, penalty: u128) -> i128
     }
 }
 
-/// Adds the products of the clauses, which are the complements of their literals: a soft clause with
-/// its weight, and a hard one with the penalty.
+/// Adds the products of the clauses, which are the complements of their literals: a soft clause
+/// with its weight, and a hard one with the penalty.
 pub(crate) fn add_clauses(
     alloc: Global,
     terms: &mut GatheredTerms,

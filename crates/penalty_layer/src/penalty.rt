@@ -13,8 +13,8 @@ use term_table::{GatheredTerms, Table};
 /// The first step of every pipeline: hard clauses become soft ones of a weight that no gain
 /// outweighs, so that a state that breaks one lies above the threshold. It adds no nodes.
 ///
-/// The penalty is one more than the sum of the sizes of the objective's coefficients and of the soft
-/// weights (Boros and Hammer, Pseudo-Boolean optimization, 2002).
+/// The penalty is one more than the sum of the sizes of the objective's coefficients and of the
+/// soft weights (Boros and Hammer, Pseudo-Boolean optimization, 2002).
 #[derive(Drop)]
 pub struct Penalty;
 

@@ -10,12 +10,12 @@ use Rattle.integers.specs.Sums.{total_by}
 use Rattle.problem_form.specs.declared.terms.Product.{Product}
 use Rattle.problem_form.specs.declared.terms.Clause.{Clause}
 use Rattle.problem_form.specs.declared.terms.Constraint.{Constraint}
-use Rattle.problem_form.specs.Problems.{ProblemForm}
-use Rattle.problem_form.specs.NormalForm.{Part, Widened, AddedProduct, AddedClause, AddedConstraint, kept_product, product_constant, kept_clause, clause_constant, normal_constraint, normal_form, blank, widened, with_product, with_clause, with_constraint, with_part, as_written, PartsAddUp}
+use Rattle.problem_form.specs.Problems.{ProblemContent}
+use Rattle.problem_form.specs.NormalForm.{Part, Widened, AddedProduct, AddedClause, AddedConstraint, kept_product, product_constant, kept_clause, clause_constant, normal_constraint, normal_form, blank, with_variables, with_product, with_clause, with_constraint, with_part, as_written, PartsAddUp}
 
 -- ---- one part
 
-product_added : (p : ProblemForm) (t : Product)
+product_added : (p : ProblemContent) (t : Product)
     → with_product (normal_form p) t ≡ normal_form (as_written p (AddedProduct t))
 product_added p t =
     let constant :
@@ -32,7 +32,7 @@ product_added p t =
       objective = flat_map_more kept_product [] p.objective t i;
     }
 
-clause_added : (p : ProblemForm) (c : Clause)
+clause_added : (p : ProblemContent) (c : Clause)
     → with_clause (normal_form p) c ≡ normal_form (as_written p (AddedClause c))
 clause_added p c =
     let constant :
@@ -49,14 +49,14 @@ clause_added p c =
       clauses = flat_map_more kept_clause [] p.clauses c i;
     }
 
-constraint_added : (p : ProblemForm) (k : Constraint)
+constraint_added : (p : ProblemContent) (k : Constraint)
     → with_constraint (normal_form p) k ≡ normal_form (as_written p (AddedConstraint k))
 constraint_added p k =
     λ i. record (normal_form p) {
       constraints = sym (map-append normal_constraint p.constraints (k ∷ [])) i;
     }
 
-part_added : (p : ProblemForm) (part : Part)
+part_added : (p : ProblemContent) (part : Part)
     → with_part (normal_form p) part ≡ normal_form (as_written p part)
 part_added p (Widened variables) = refl
 part_added p (AddedProduct t) = product_added p t
@@ -65,7 +65,7 @@ part_added p (AddedConstraint k) = constraint_added p k
 
 -- ---- all parts
 
-parts_from : (p : ProblemForm) (parts : List Part)
+parts_from : (p : ProblemContent) (parts : List Part)
     → fold with_part (normal_form p) parts ≡ normal_form (fold as_written p parts)
 parts_from p [] = refl
 parts_from p (part ∷ parts) =
@@ -76,7 +76,7 @@ parts_add_up parts = parts_from blank parts
 
 -- ---- clauses alone
 
-clauses_written : (p : ProblemForm) (cs : List Clause)
+clauses_written : (p : ProblemContent) (cs : List Clause)
     → fold as_written p (map AddedClause cs) ≡ record p { clauses = p.clauses ++ cs }
 clauses_written p [] = λ i. record p { clauses = sym (append-nil p.clauses) i }
 clauses_written p (c ∷ cs) =
@@ -85,9 +85,9 @@ clauses_written p (c ∷ cs) =
 
 -- clauses that are added one by one give the normal form of them all
 pub clauses_add_up : (variables : ℕ) (cs : List Clause)
-    → fold with_clause (widened blank variables) cs
-    ≡ normal_form (record (widened blank variables) { clauses = cs })
+    → fold with_clause (with_variables blank variables) cs
+    ≡ normal_form (record (with_variables blank variables) { clauses = cs })
 clauses_add_up variables cs =
-    sym (fold-map with_part AddedClause (widened blank variables) cs)
+    sym (fold-map with_part AddedClause (with_variables blank variables) cs)
     ∙ parts_add_up (Widened variables ∷ map AddedClause cs)
-    ∙ ap normal_form (clauses_written (widened blank variables) cs)
+    ∙ ap normal_form (clauses_written (with_variables blank variables) cs)

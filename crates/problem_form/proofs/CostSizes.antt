@@ -8,7 +8,7 @@ use Rattle.bits_model.specs.declared.costs.Cost.TheVariants.{Whole}
 use Rattle.problem_form.specs.declared.terms.Product.{Product}
 use Rattle.problem_form.specs.declared.terms.Clause.{Clause}
 use Rattle.problem_form.specs.Literals.{all_hold}
-use Rattle.problem_form.specs.Problems.{ProblemForm, fails, fails_hard, problem_cost, problem_total, product_value, sum_of, is_violated, soft_cost, soft_weight, products_total}
+use Rattle.problem_form.specs.Problems.{ProblemContent, fails, fails_hard, problem_cost, problem_total, product_value, sum_of, is_violated, soft_cost, soft_weight, products_total}
 
 if_so-size : (b : Bool) (c : ℤ) → unsigned_abs (if_so b c) ≤ unsigned_abs c
 if_so-size true c = omega arith
@@ -56,14 +56,14 @@ soft_costs-size x clauses = total_within (soft_cost x) soft_weight clauses (clau
 
 -- ---- the cost, where nothing fails
 
-pub problem_cost-whole : (p : ProblemForm) (x : List Bool) (value : ℤ)
+pub problem_cost-whole : (p : ProblemContent) (x : List Bool) (value : ℤ)
     → list_any (fails_hard x) p.clauses ≡ false → list_any (fails x) p.constraints ≡ false
     → value ≡ p.constant +ℤ sum_of x p.objective +ℤ total_by (soft_cost x) p.clauses
     → Whole value ≡ problem_cost p x
 problem_cost-whole p x value hard constraints e = rw (hard, constraints) (ap Whole e)
 
 -- the parts of the whole cost fit, one after the other
-pub cost_parts : (p : ProblemForm) (x : List Bool)
+pub cost_parts : (p : ProblemContent) (x : List Bool)
     → unsigned_abs p.constant + unsigned_abs (sum_of x p.objective)
     + unsigned_abs (total_by (soft_cost x) p.clauses)
     ≤ problem_total p

@@ -1,4 +1,5 @@
--- The numbers that are counted against limits, and arithmetic that stops at the greatest of 128 bits.
+-- The numbers that are counted against limits, and arithmetic that stops at the greatest of 128
+-- bits.
 use Rattle.std.proofs.Common.{◌≡◌, Bool, true, false, cond, leb, ℕ, zero, suc, ◌+◌, ◌-◌, ◌*◌, ◌<◌, ◌≤◌, ◌^◌, min, arith, refl, sym, ap, ◌∙◌, inl, inr, List, [], ◌∷◌, fold, length, get_or, take, ℤ, pos, negsuc, ◌-ℤ◌, unsigned_abs}
 use Rattle.std.specs.List.{sum_by, flat_map}
 use Rattle.std.proofs.lemmas.Int.{ints}
@@ -9,7 +10,7 @@ use Rattle.integers.specs.Sums.{positive_part}
 use Rattle.problem_form.specs.declared.terms.Product.{Product}
 use Rattle.problem_form.specs.declared.terms.Constraint.{Constraint}
 use Rattle.problem_form.specs.Problems.{products_total, constraint_total}
-use Rattle.problem_form.specs.Limits.{answered, positive_total, slack_range, reach}
+use Rattle.problem_form.specs.Limits.{answered_number, positive_total, slack_range, reach}
 
 pub fold_flat_map : {A B C : Type 0} (f : C → B → C) (g : A → List B) (start : C) (xs : List A)
     → fold f start (flat_map g xs) ≡ fold (λ most x. fold f most (g x)) start xs
@@ -19,8 +20,8 @@ fold_flat_map f g start (x ∷ xs) =
 
 -- ---- the greatest number of 128 bits is where sums and products stop
 
-pub answered-plus : (a b : ℕ) → answered (answered a + answered b) ≡ answered (a + b)
-answered-plus a b = omega arith
+pub answered_number-plus : (a b : ℕ) → answered_number (answered_number a + answered_number b) ≡ answered_number (a + b)
+answered_number-plus a b = omega arith
 
 right_over : (m a b : ℕ) → m < b → min (a * min b m) m ≡ min (a * b) m
 right_over m zero b over = omega arith
@@ -37,21 +38,21 @@ right_capped m a b = elim (cases_lt m b) [
     kept : b ≤ m → min b m ≡ b
     kept h = omega arith
 
-pub answered-times : (a b : ℕ) → answered (a * answered b) ≡ answered (a * b)
-answered-times a b = right_capped (2 ^ 128 - 1) a b
+pub answered_number-times : (a b : ℕ) → answered_number (a * answered_number b) ≡ answered_number (a * b)
+answered_number-times a b = right_capped (2 ^ 128 - 1) a b
 
-pub answered-product : (a b : ℕ) → answered (answered a * answered b) ≡ answered (a * b)
-answered-product a b =
-    answered-times (answered a) b
-    ∙ ap answered (turned (answered a) b)
-    ∙ answered-times b a
-    ∙ ap answered (turned b a)
+pub answered_number-product : (a b : ℕ) → answered_number (answered_number a * answered_number b) ≡ answered_number (a * b)
+answered_number-product a b =
+    answered_number-times (answered_number a) b
+    ∙ ap answered_number (turned (answered_number a) b)
+    ∙ answered_number-times b a
+    ∙ ap answered_number (turned b a)
   where
     turned : (m n : ℕ) → m * n ≡ n * m
     turned m n = omega arith
 
-pub answered-power : (e : ℕ) → 128 ≤ e → 2 ^ 128 - 1 ≡ answered (2 ^ e)
-answered-power e h =
+pub answered_number-power : (e : ℕ) → 128 ≤ e → 2 ^ 128 - 1 ≡ answered_number (2 ^ e)
+answered_number-power e h =
     let more : 2 ^ 128 ≤ 2 ^ e = pow-le-pow_right {n = 2} (omega arith) h in
     omega arith
 
@@ -89,75 +90,75 @@ slack_range-le k = go k.exact
 square_is : (r : ℕ) → r * r ≡ r ^ 2
 square_is r = sym (rw (pow-suc, pow-suc, pow-zero) (omega arith))
 
-answered-square : (total n r : ℕ)
-    → answered (answered total + answered (n * answered (r * r))) ≡ answered (total + n * r ^ 2)
-answered-square total n r =
-    ap (λ part. answered (answered total + part))
-    (answered-times n (r * r) ∙ ap (λ square. answered (n * square)) (square_is r))
-    ∙ answered-plus total (n * r ^ 2)
+answered_number-square : (total n r : ℕ)
+    → answered_number (answered_number total + answered_number (n * answered_number (r * r))) ≡ answered_number (total + n * r ^ 2)
+answered_number-square total n r =
+    ap (λ part. answered_number (answered_number total + part))
+    (answered_number-times n (r * r) ∙ ap (λ square. answered_number (n * square)) (square_is r))
+    ∙ answered_number-plus total (n * r ^ 2)
 
 -- a loop's step, by what each call answers
 pub squares_more : (n : ℕ) (ks : List Constraint) (i : ℕ) (k : Constraint) (total r square part next : ℕ)
     → i < length ks → k ≡ get_or ks i k
-    → total ≡ answered (sum_by (λ c. n * reach c ^ 2) (take i ks)) → r ≡ reach k
-    → square ≡ answered (r * r) → part ≡ answered (n * square) → next ≡ answered (total + part)
-    → next ≡ answered (sum_by (λ c. n * reach c ^ 2) (take (i + 1) ks))
+    → total ≡ answered_number (sum_by (λ c. n * reach c ^ 2) (take i ks)) → r ≡ reach k
+    → square ≡ answered_number (r * r) → part ≡ answered_number (n * square) → next ≡ answered_number (total + part)
+    → next ≡ answered_number (sum_by (λ c. n * reach c ^ 2) (take (i + 1) ks))
 squares_more n ks i k total r square part next in' item so_far at_r at_square at_part at_next =
     let f : Constraint → ℕ = λ c. n * reach c ^ 2 in
     at_next
-    ∙ (λ j. answered (so_far j + (at_part ∙ ap (λ s. answered (n * s)) (at_square
-    ∙ ap (λ x. answered (x * x)) at_r)) j))
-    ∙ answered-square (sum_by f (take i ks)) n (reach k)
-    ∙ ap (λ c. answered (sum_by f (take i ks) + f c)) item
-    ∙ ap answered (sym (sum_by_more f ks i k in'))
+    ∙ (λ j. answered_number (so_far j + (at_part ∙ ap (λ s. answered_number (n * s)) (at_square
+    ∙ ap (λ x. answered_number (x * x)) at_r)) j))
+    ∙ answered_number-square (sum_by f (take i ks)) n (reach k)
+    ∙ ap (λ c. answered_number (sum_by f (take i ks) + f c)) item
+    ∙ ap answered_number (sym (sum_by_more f ks i k in'))
 
 -- ---- one more number
 -- a loop's step, for a sum of any numbers
 pub answered_more : {X : Type 0} (f : X → ℕ) (xs : List X) (i : ℕ) (x : X) (total part next : ℕ)
-    → i < length xs → x ≡ get_or xs i x → total ≡ answered (sum_by f (take i xs))
-    → part ≡ answered (f x) → next ≡ answered (total + part)
-    → next ≡ answered (sum_by f (take (i + 1) xs))
+    → i < length xs → x ≡ get_or xs i x → total ≡ answered_number (sum_by f (take i xs))
+    → part ≡ answered_number (f x) → next ≡ answered_number (total + part)
+    → next ≡ answered_number (sum_by f (take (i + 1) xs))
 answered_more f xs i x total part next in' item so_far at_part at_next =
     at_next
-    ∙ (λ j. answered (so_far j + at_part j))
-    ∙ answered-plus (sum_by f (take i xs)) (f x)
-    ∙ ap (λ c. answered (sum_by f (take i xs) + f c)) item
-    ∙ ap answered (sym (sum_by_more f xs i x in'))
+    ∙ (λ j. answered_number (so_far j + at_part j))
+    ∙ answered_number-plus (sum_by f (take i xs)) (f x)
+    ∙ ap (λ c. answered_number (sum_by f (take i xs) + f c)) item
+    ∙ ap answered_number (sym (sum_by_more f xs i x in'))
 
-pub answered_sum : (a b p q r : ℕ) → p ≡ answered a → q ≡ answered b → r ≡ answered (p + q)
-    → r ≡ answered (a + b)
+pub answered_sum : (a b p q r : ℕ) → p ≡ answered_number a → q ≡ answered_number b → r ≡ answered_number (p + q)
+    → r ≡ answered_number (a + b)
 answered_sum a b p q r at_p at_q at_r =
-    at_r ∙ (λ j. answered (at_p j + at_q j)) ∙ answered-plus a b
+    at_r ∙ (λ j. answered_number (at_p j + at_q j)) ∙ answered_number-plus a b
 
-pub answered_sum_of_3 : (a b c p q r s t : ℕ) → p ≡ answered a → q ≡ answered b → r ≡ answered c
-    → s ≡ answered (p + q) → t ≡ answered (s + r) → t ≡ answered (a + b + c)
+pub answered_sum_of_3 : (a b c p q r s t : ℕ) → p ≡ answered_number a → q ≡ answered_number b → r ≡ answered_number c
+    → s ≡ answered_number (p + q) → t ≡ answered_number (s + r) → t ≡ answered_number (a + b + c)
 answered_sum_of_3 a b c p q r s t at_p at_q at_r at_s at_t =
     answered_sum (a + b) c s r t (answered_sum a b p q s at_p at_q at_s) at_r at_t
 
 -- ---- the pairs of a constraint
 
 -- q is the square of what is answered for n
-answered-squared : (n s q : ℕ) → s ≡ answered n → q ≡ answered (s * s) → q ≡ answered (n ^ 2)
-answered-squared n s q at_s at_q =
+answered_number-squared : (n s q : ℕ) → s ≡ answered_number n → q ≡ answered_number (s * s) → q ≡ answered_number (n ^ 2)
+answered_number-squared n s q at_s at_q =
     at_q
-    ∙ (λ i. answered (at_s i * at_s i))
-    ∙ answered-product n n
-    ∙ ap answered (square_is n)
+    ∙ (λ i. answered_number (at_s i * at_s i))
+    ∙ answered_number-product n n
+    ∙ ap answered_number (square_is n)
 
-pub squared_alone : (n d s q : ℕ) → s ≡ answered n → q ≡ answered (s * s) → d ≤ 1
-    → q ≡ answered (n ^ 2 * cond (leb d 1) 1 (4 * d ^ 2))
+pub squared_alone : (n d s q : ℕ) → s ≡ answered_number n → q ≡ answered_number (s * s) → d ≤ 1
+    → q ≡ answered_number (n ^ 2 * cond (leb d 1) 1 (4 * d ^ 2))
 squared_alone n d s q at_s at_q low =
     let once : n ^ 2 ≡ n ^ 2 * 1 = omega arith in
-    answered-squared n s q at_s at_q
-    ∙ ap answered once
-    ∙ ap (λ b. answered (n ^ 2 * cond b 1 (4 * d ^ 2))) (sym (le-leb d 1 low))
+    answered_number-squared n s q at_s at_q
+    ∙ ap answered_number once
+    ∙ ap (λ b. answered_number (n ^ 2 * cond b 1 (4 * d ^ 2))) (sym (le-leb d 1 low))
 
-pub squared_spread : (n d s q t four r : ℕ) → s ≡ answered n → q ≡ answered (s * s) → 1 < d
-    → t ≡ d ^ 2 → four ≡ answered (t * 4) → r ≡ answered (q * four)
-    → r ≡ answered (n ^ 2 * cond (leb d 1) 1 (4 * d ^ 2))
+pub squared_spread : (n d s q t four r : ℕ) → s ≡ answered_number n → q ≡ answered_number (s * s) → 1 < d
+    → t ≡ d ^ 2 → four ≡ answered_number (t * 4) → r ≡ answered_number (q * four)
+    → r ≡ answered_number (n ^ 2 * cond (leb d 1) 1 (4 * d ^ 2))
 squared_spread n d s q t four r at_s at_q high at_t at_four at_r =
     let turned : t * 4 ≡ 4 * d ^ 2 = omega arith in
     at_r
-    ∙ (λ i. answered (answered-squared n s q at_s at_q i * (at_four ∙ ap answered turned) i))
-    ∙ answered-product (n ^ 2) (4 * d ^ 2)
-    ∙ ap (λ b. answered (n ^ 2 * cond b 1 (4 * d ^ 2))) (sym (lt-leb d 1 high))
+    ∙ (λ i. answered_number (answered_number-squared n s q at_s at_q i * (at_four ∙ ap answered_number turned) i))
+    ∙ answered_number-product (n ^ 2) (4 * d ^ 2)
+    ∙ ap (λ b. answered_number (n ^ 2 * cond b 1 (4 * d ^ 2))) (sym (lt-leb d 1 high))

@@ -13,7 +13,7 @@ use Rattle.problem_form.specs.declared.literal.Literal.{Literal}
 use Rattle.problem_form.specs.declared.terms.Clause.{Clause}
 use Rattle.problem_form.specs.Literals.{has_clash, with_literal, literal_set, IsLiteralSet, literal_cmp}
 use Rattle.problem_form.specs.Fields.{IsSound}
-use Rattle.problem_form.specs.Problems.{ProblemForm, IsNormal, IsNormalClause, soft_weight, problem_total}
+use Rattle.problem_form.specs.Problems.{ProblemContent, IsNormal, IsNormalClause, soft_weight, problem_total}
 use Rattle.problem_form.specs.NormalForm.{is_empty, is_plain_cost, kept_clause, clause_constant, weight_constant, with_clause}
 use Rattle.problem_form.proofs.LiteralSets.{literal_set-ascends, has_clash-literal_set, All-literal_set}
 
@@ -101,7 +101,7 @@ kept_clause-normal n c within = go (is_dropped c.weight c.literals) refl
         let normal : IsNormalClause n kept = record { set = set; weighty = weighty parts.1 } in
         All-cons (IsNormalClause n) kept [] normal (All-nil _)
 
-pub with_clause-normal : (p : ProblemForm) (c : Clause) → IsNormal p
+pub with_clause-normal : (p : ProblemContent) (c : Clause) → IsNormal p
     → All (λ l. l.variable < p.variables) c.literals → IsNormal (with_clause p c)
 with_clause-normal p c normal within = record {
   objective = normal.objective;
@@ -134,7 +134,7 @@ pub kept_clause-size : (c : Clause)
 kept_clause-size c =
     weight_within c.weight c.literals (literal_set c.literals) (is_dropped c.weight c.literals) refl
 
-pub with_clause-total : (p : ProblemForm) (c : Clause)
+pub with_clause-total : (p : ProblemContent) (c : Clause)
     → problem_total (with_clause p c) ≤ problem_total p + soft_weight c
 with_clause-total p c =
     omega (
@@ -146,7 +146,7 @@ with_clause-total p c =
 
 -- ---- a problem with one more clause
 
-pub with_clause-sound : (p : ProblemForm) (c : Clause) → IsSound p
+pub with_clause-sound : (p : ProblemContent) (c : Clause) → IsSound p
     → All (λ l. l.variable < p.variables) c.literals
     → problem_total p + soft_weight c < 2 ^ 100 → IsSound (with_clause p c)
 with_clause-sound p c sound within small =
@@ -161,7 +161,7 @@ kept_constant (Some w) ls s k false e same =
     let filled = or_parts (eqb w 0) (is_empty ls) plain.1 in
     rw filled.1 refl
 
-pub with_clause-push : (p : ProblemForm) (c k : Clause) → k ∷ [] ≡ kept_clause c
+pub with_clause-push : (p : ProblemContent) (c k : Clause) → k ∷ [] ≡ kept_clause c
     → record p { clauses = p.clauses ++ k ∷ [] } ≡ with_clause p c
 with_clause-push p c k same =
     let none =

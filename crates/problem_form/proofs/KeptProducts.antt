@@ -15,8 +15,8 @@ use Rattle.problem_form.specs.declared.terms.Product.{Product}
 use Rattle.problem_form.specs.declared.terms.Constraint.{Constraint}
 use Rattle.problem_form.specs.Literals.{has_clash, literal_set}
 use Rattle.problem_form.specs.Fields.{IsSound}
-use Rattle.problem_form.specs.Problems.{ProblemForm, IsNormalProduct, products_total, constraint_total, problem_total}
-use Rattle.problem_form.specs.NormalForm.{is_empty, kept_product, product_constant, normal_constraint, settled, with_product, with_constraint}
+use Rattle.problem_form.specs.Problems.{ProblemContent, IsNormalProduct, products_total, constraint_total, problem_total}
+use Rattle.problem_form.specs.NormalForm.{is_empty, kept_product, product_constant, normal_constraint, ordered_product, with_product, with_constraint}
 use Rattle.problem_form.proofs.LiteralSets.{literal_set-ascends, has_clash-literal_set, All-literal_set}
 use Rattle.problem_form.proofs.KeptClauses.{is_empty-literal_set}
 
@@ -33,15 +33,15 @@ is_dropped ls = has_clash ls || is_empty ls
 is_dropped-literal_set : (ls : List Literal) → is_dropped (literal_set ls) ≡ is_dropped ls
 is_dropped-literal_set ls = λ i. has_clash-literal_set ls i || is_empty-literal_set ls i
 
-pub settled-dropped : (t : Product) (s : List Literal) → s ≡ literal_set t.literals
-    → is_dropped s ≡ true → record { literals = s; coefficient = pos 0 } ≡ settled t
-settled-dropped t s same e =
+pub ordered_product-dropped : (t : Product) (s : List Literal) → s ≡ literal_set t.literals
+    → is_dropped s ≡ true → record { literals = s; coefficient = pos 0 } ≡ ordered_product t
+ordered_product-dropped t s same e =
     let at = sym (is_dropped-literal_set t.literals) ∙ ap is_dropped (sym same) ∙ e in
     (λ i. record { literals = same i; coefficient = cond (sym at i) (pos 0) t.coefficient })
 
-pub settled-kept : (t : Product) (s : List Literal) → s ≡ literal_set t.literals
-    → is_dropped s ≡ false → record { literals = s; coefficient = t.coefficient } ≡ settled t
-settled-kept t s same e =
+pub ordered_product-kept : (t : Product) (s : List Literal) → s ≡ literal_set t.literals
+    → is_dropped s ≡ false → record { literals = s; coefficient = t.coefficient } ≡ ordered_product t
+ordered_product-kept t s same e =
     let at = sym (is_dropped-literal_set t.literals) ∙ ap is_dropped (sym same) ∙ e in
     (λ i. record { literals = same i; coefficient = cond (sym at i) (pos 0) t.coefficient })
 
@@ -58,8 +58,8 @@ kept_settled s k false false false e =
     λ i. cond (not (sym e i)) (record { literals = s; coefficient = k } ∷ []) []
 
 -- what is kept of a product is the settled one, where it counts
-pub kept_product-settled : (t : Product) → kept_product t ≡ filter is_some (settled t ∷ [])
-kept_product-settled t =
+pub kept_product-ordered_product : (t : Product) → kept_product t ≡ filter is_some (ordered_product t ∷ [])
+kept_product-ordered_product t =
     kept_settled (literal_set t.literals) t.coefficient (has_clash t.literals)
     (int_eq t.coefficient (pos 0)) (is_empty t.literals) refl
 
@@ -73,23 +73,23 @@ filter_first t ts = go (is_some t)
     go true = refl
     go false = refl
 
-pub kept_products-settled : (ts : List Product)
-    → flat_map kept_product ts ≡ filter is_some (map settled ts)
-kept_products-settled [] = refl
-kept_products-settled (t ∷ ts) =
-    (λ i. kept_product-settled t i ++ kept_products-settled ts i)
-    ∙ sym (filter_first (settled t) (map settled ts))
+pub kept_products-ordered_product : (ts : List Product)
+    → flat_map kept_product ts ≡ filter is_some (map ordered_product ts)
+kept_products-ordered_product [] = refl
+kept_products-ordered_product (t ∷ ts) =
+    (λ i. kept_product-ordered_product t i ++ kept_products-ordered_product ts i)
+    ∙ sym (filter_first (ordered_product t) (map ordered_product ts))
 
 -- ---- a loop that settles them, in their own memory
 
 -- ys began as xs, and its first i products are settled
 pub record AreSettled (xs ys : List Product) (i : ℕ) : Type 0 where
-  pub front : take i ys ≡ map settled (take i xs)
+  pub front : take i ys ≡ map ordered_product (take i xs)
   pub rest : drop i ys ≡ drop i xs
   pub long : length ys ≡ length xs
 
 pub settled_more : (xs ys : List Product) (i : ℕ) (t u : Product) → AreSettled xs ys i
-    → i < length ys → u ≡ settled (get_or ys i t) → AreSettled xs (set ys i u) (i + 1)
+    → i < length ys → u ≡ ordered_product (get_or ys i t) → AreSettled xs (set ys i u) (i + 1)
 settled_more xs ys i t u so_far in' next =
     let long = so_far.long in
     let below : i < length xs = omega arith in
@@ -99,24 +99,24 @@ settled_more xs ys i t u so_far in' next =
     let tail : drop (suc i) ys ≡ drop (suc i) xs = cc in
     record {
       front = take_more_set ys i u in'
-          ∙ (λ j. so_far.front j ++ (next ∙ ap settled same) j ∷ [])
-          ∙ sym (map-append settled (take i xs) (get_or xs i t ∷ []))
-          ∙ ap (map settled) (sym (take_more xs i t below));
+          ∙ (λ j. so_far.front j ++ (next ∙ ap ordered_product same) j ∷ [])
+          ∙ sym (map-append ordered_product (take i xs) (get_or xs i t ∷ []))
+          ∙ ap (map ordered_product) (sym (take_more xs i t below));
       rest = rw add-one (drop-set-lt (suc i) ys i u (omega arith) ∙ tail);
       long = length-set ys i u ∙ long;
     }
 
 pub all_settled : (xs ys : List Product) (i : ℕ) → AreSettled xs ys i → length ys ≤ i
-    → ys ≡ map settled xs
+    → ys ≡ map ordered_product xs
 all_settled xs ys i so_far end =
     let long = so_far.long in
-    sym (take_all i ys end) ∙ so_far.front ∙ ap (map settled) (take_all i xs (omega arith))
+    sym (take_all i ys end) ∙ so_far.front ∙ ap (map ordered_product) (take_all i xs (omega arith))
 
 -- settled products that stand in the memory of the products as they were
-pub settled_in_place : (n : ℕ) (us xs rest : List Product) → us ≡ map settled xs → n ≡ length xs
-    → take n (us ++ rest) ≡ map settled xs
+pub settled_in_place : (n : ℕ) (us xs rest : List Product) → us ≡ map ordered_product xs → n ≡ length xs
+    → take n (us ++ rest) ≡ map ordered_product xs
 settled_in_place n us xs rest settle long =
-    let fits : length us ≡ n = ap length settle ∙ length-map xs settled ∙ sym long in
+    let fits : length us ≡ n = ap length settle ∙ length-map xs ordered_product ∙ sym long in
     take-append-le n us rest (omega arith) ∙ take_all n us (omega arith) ∙ settle
 
 -- ---- what is kept is in normal form
@@ -212,7 +212,7 @@ normal_constraint-total k = omega (arith, ints, kept_products-size k.products)
 
 -- ---- a problem with one more product
 
-pub with_product-total : (p : ProblemForm) (t : Product)
+pub with_product-total : (p : ProblemContent) (t : Product)
     → problem_total (with_product p t) ≤ problem_total p + unsigned_abs t.coefficient
 with_product-total p t =
     omega (
@@ -222,7 +222,7 @@ with_product-total p t =
       sum_by-append (λ (u : Product). unsigned_abs u.coefficient) p.objective (kept_product t),
     )
 
-pub with_product-sound : (p : ProblemForm) (t : Product) → IsSound p
+pub with_product-sound : (p : ProblemContent) (t : Product) → IsSound p
     → All (λ l. l.variable < p.variables) t.literals
     → problem_total p + unsigned_abs t.coefficient < 2 ^ 100 → IsSound (with_product p t)
 with_product-sound p t sound within small = (
@@ -245,7 +245,7 @@ kept_constant t u false true empty g same = absurd cc
 kept_constant t u false false true g same = absurd cc
 kept_constant t u false false false g same = ap (λ b. cond b t.coefficient (pos 0)) g
 
-pub with_product-push : (p : ProblemForm) (t u : Product) → u ∷ [] ≡ kept_product t
+pub with_product-push : (p : ProblemContent) (t u : Product) → u ∷ [] ≡ kept_product t
     → record p { objective = p.objective ++ u ∷ [] } ≡ with_product p t
 with_product-push p t u same =
     let none = kept_constant t u (has_clash t.literals) (int_eq t.coefficient (pos 0))
@@ -255,7 +255,7 @@ with_product-push p t u same =
 
 -- ---- a problem with one more constraint
 
-pub with_constraint-total : (p : ProblemForm) (k : Constraint)
+pub with_constraint-total : (p : ProblemContent) (k : Constraint)
     → problem_total (with_constraint p k) ≤ problem_total p + constraint_total k
 with_constraint-total p k =
     omega (
@@ -264,7 +264,7 @@ with_constraint-total p k =
       sum_by-append constraint_total p.constraints (normal_constraint k ∷ []),
     )
 
-pub with_constraint-sound : (p : ProblemForm) (k : Constraint) → IsSound p
+pub with_constraint-sound : (p : ProblemContent) (k : Constraint) → IsSound p
     → AreWithin p.variables k.products
     → problem_total p + constraint_total k < 2 ^ 100 → IsSound (with_constraint p k)
 with_constraint-sound p k sound within small =

@@ -10,36 +10,37 @@ use Rattle.problem_form.specs.declared.limits.Normal.TheVariants as normals
 use Rattle.problem_form.specs.declared.terms.Product.{Product}
 use Rattle.problem_form.specs.declared.terms.Clause.{Clause}
 use Rattle.problem_form.specs.declared.terms.Constraint.{Constraint}
-use Rattle.problem_form.specs.Problems.{ProblemForm, products_total, soft_weight}
+use Rattle.problem_form.specs.Problems.{ProblemContent, products_total, soft_weight}
 
 -- ---- bounds of the costs (A, U and P of the penalty method)
 
 -- the sizes of the objective's coefficients, and the soft weights
-abbrev pub cost_size : ProblemForm → ℕ
+abbrev pub cost_size : ProblemContent → ℕ
 cost_size p = products_total p.objective + sum_by soft_weight p.clauses
 
+-- the sum of the positive coefficients
 abbrev pub positive_total : List Product → ℕ
 positive_total products = sum_by (λ t. positive_part t.coefficient) products
 
 -- an upper bound of every whole cost
-abbrev pub upper : ProblemForm → ℤ
+abbrev pub upper : ProblemContent → ℤ
 upper p = p.constant +ℤ pos (positive_total p.objective + sum_by soft_weight p.clauses)
 
 -- what one violation adds at least
-abbrev pub penalty : ProblemForm → ℕ
+abbrev pub penalty : ProblemContent → ℕ
 penalty p = cost_size p + 1
 
 -- ---- what is counted
 
 -- the number of literals of each product and clause
-abbrev pub degrees : ProblemForm → List ℕ
+abbrev pub degrees : ProblemContent → List ℕ
 degrees p =
     map (λ t. length t.literals) p.objective
     ++ map (λ c. length c.literals) p.clauses
     ++ flat_map (λ k. map (λ t. length t.literals) k.products) p.constraints
 
 -- the largest of them
-abbrev pub degree : ProblemForm → ℕ
+abbrev pub degree : ProblemContent → ℕ
 degree p = fold max 0 (degrees p)
 
 -- ---- complements
@@ -58,7 +59,7 @@ most_complements k = fold max 0 (map complements k.products)
 
 -- with the multilinear form, the most complements of a product or a clause, and of a product of two
 -- in the square of a constraint; without it none is counted
-abbrev pub negations : Normal → ProblemForm → ℕ
+abbrev pub negations : Normal → ProblemContent → ℕ
 negations normals.Literal p = 0
 negations normals.Multilinear p =
     max (fold max 0 (map complements p.objective ++ map clause_complements p.clauses))
@@ -119,7 +120,7 @@ constraint_pairs normal k =
     * (if nat_le (constraint_degree k) 1 then 1 else 4 * constraint_degree k ^ 2)
 
 -- the pairs of literals of all terms, before equal ones are summed
-abbrev pub pairs : Normal → ProblemForm → ℕ
+abbrev pub pairs : Normal → ProblemContent → ℕ
 pairs normal p =
     sum_by (product_pairs normal) p.objective
     + sum_by (clause_pairs normal) p.clauses
@@ -143,7 +144,7 @@ constraint_bits normal k =
     * (if nat_le (constraint_degree k) 1 then 0 else 2 * constraint_degree k)
 
 -- how many nodes the logical model has at most besides the variables
-abbrev pub auxiliary_bits : Normal → ProblemForm → ℕ
+abbrev pub auxiliary_bits : Normal → ProblemContent → ℕ
 auxiliary_bits normal p =
     sum_by (product_bits normal) p.objective
     + sum_by (clause_bits normal) p.clauses
@@ -156,7 +157,7 @@ abbrev pub reach : Constraint → ℕ
 reach k = products_total k.products + unsigned_abs k.bound + slack_range k
 
 -- the sizes of all coefficients that the penalty method makes
-abbrev pub weight : ProblemForm → ℕ
+abbrev pub weight : ProblemContent → ℕ
 weight p =
     unsigned_abs p.constant + cost_size p
     + penalty p * count_by (λ c. is_none c.weight) p.clauses
@@ -179,7 +180,7 @@ abbrev pub most_degree : ℕ
 most_degree = 1024
 
 -- in the order in which they are checked
-abbrev pub counted_numbers : Normal → ProblemForm → List Counted
+abbrev pub counted_numbers : Normal → ProblemContent → List Counted
 counted_numbers normal p =
     record { kind = Variables; number = p.variables; most = 2 ^ 20 }
     ∷ record { kind = Degree; number = degree p; most = most_degree }
@@ -189,16 +190,17 @@ counted_numbers normal p =
     ∷ []
 
 -- the number that is answered: the counted one, or the greatest of 128 bits
-abbrev pub answered : ℕ → ℕ
-answered n = min n (2 ^ 128 - 1)
+abbrev pub answered_number : ℕ → ℕ
+answered_number n = min n (2 ^ 128 - 1)
 
 -- the first number that passes its limit
 abbrev pub first_passed : List Counted → Option LimitFault
 first_passed [] = None
 first_passed (c ∷ cs) =
     if nat_lt c.most c.number
-    then Some (record { kind = c.kind; number = answered c.number })
+    then Some (record { kind = c.kind; number = answered_number c.number })
     else first_passed cs
 
-abbrev pub limit_fault : Normal → ProblemForm → Option LimitFault
+-- the fault of a problem: the first of its counted numbers that passes its limit
+abbrev pub limit_fault : Normal → ProblemContent → Option LimitFault
 limit_fault normal p = first_passed (counted_numbers normal p)

@@ -12,9 +12,11 @@ abbrev pub holds : List Bool → Literal → Bool
 holds x l =
     cond l.negated (not (slice_index_or x l.variable false)) (slice_index_or x l.variable false)
 
+-- all literals are true
 abbrev pub all_hold : List Bool → List Literal → Bool
 all_hold x ls = list_all (holds x) ls
 
+-- some literal is true
 abbrev pub some_holds : List Bool → List Literal → Bool
 some_holds x ls = list_any (holds x) ls
 

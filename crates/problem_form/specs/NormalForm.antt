@@ -13,26 +13,29 @@ use Rattle.problem_form.specs.declared.terms.Product.{Product}
 use Rattle.problem_form.specs.declared.terms.Clause.{Clause}
 use Rattle.problem_form.specs.declared.terms.Constraint.{Constraint}
 use Rattle.problem_form.specs.Literals.{has_clash, literal_set}
-use Rattle.problem_form.specs.Problems.{ProblemForm, problem_cost}
+use Rattle.problem_form.specs.Problems.{ProblemContent, problem_cost}
 
+-- a list without elements
 abbrev pub is_empty : {A : Type 0} → List A → Bool
 is_empty [] = true
 is_empty (a ∷ others) = false
 
 -- ---- products
 
+-- a product in normal form, or none where it is dropped
 abbrev pub kept_product : Product → List Product
 kept_product t =
     if has_clash t.literals || int_eq t.coefficient (pos 0) || is_empty t.literals
     then []
     else record t { literals = literal_set t.literals } ∷ []
 
+-- what a product adds to the constant: the coefficient of one without literals
 abbrev pub product_constant : Product → ℤ
 product_constant t = if is_empty t.literals then t.coefficient else pos 0
 
 -- a product with its literals in order, and with the coefficient 0 where it is dropped
-abbrev pub settled : Product → Product
-settled t = record {
+abbrev pub ordered_product : Product → Product
+ordered_product t = record {
   literals = literal_set t.literals;
   coefficient = if has_clash t.literals || is_empty t.literals then pos 0 else t.coefficient;
 }
@@ -44,21 +47,25 @@ abbrev pub is_plain_cost : Option ℕ → List Literal → Bool
 is_plain_cost None literals = false
 is_plain_cost (Some weight) literals = (weight == 0) || is_empty literals
 
+-- a clause in normal form, or none where it is dropped
 abbrev pub kept_clause : Clause → List Clause
 kept_clause c =
     if has_clash c.literals || is_plain_cost c.weight c.literals
     then []
     else record c { literals = literal_set c.literals } ∷ []
 
+-- what these literals with this weight add to the constant: the weight, where there are no literals
 abbrev pub weight_constant : Option ℕ → List Literal → ℤ
 weight_constant None literals = pos 0
 weight_constant (Some weight) literals = if is_empty literals then pos weight else pos 0
 
+-- what a clause adds to the constant
 abbrev pub clause_constant : Clause → ℤ
 clause_constant c = weight_constant c.weight c.literals
 
 -- ---- constraints, whose constants go into the bound
 
+-- a constraint in normal form, whose bound is less by the constants of its sum
 abbrev pub normal_constraint : Constraint → Constraint
 normal_constraint k = record {
   products = flat_map kept_product k.products;
@@ -68,7 +75,8 @@ normal_constraint k = record {
 
 -- ---- the whole
 
-abbrev pub normal_form : ProblemForm → ProblemForm
+-- the problem in normal form
+abbrev pub normal_form : ProblemContent → ProblemContent
 normal_form p = record {
   variables = p.variables;
   constant = p.constant
@@ -82,34 +90,34 @@ normal_form p = record {
 -- the normal form costs what the problem as written costs, under every assignment
 abbrev pub NormalFormKeepsCosts : Type 0
 NormalFormKeepsCosts =
-    (p : ProblemForm) (x : List Bool) → problem_cost (normal_form p) x ≡ problem_cost p x
+    (p : ProblemContent) (x : List Bool) → problem_cost (normal_form p) x ≡ problem_cost p x
 
 -- ---- part by part
 
 -- a problem of no variables that says nothing
-abbrev pub blank : ProblemForm
+abbrev pub blank : ProblemContent
 blank = record { variables = 0; constant = pos 0; objective = []; clauses = []; constraints = [] }
 
--- so many variables
-abbrev pub widened : ProblemForm → ℕ → ProblemForm
-widened p variables = record p { variables = variables }
+-- a problem with so many variables
+abbrev pub with_variables : ProblemContent → ℕ → ProblemContent
+with_variables p variables = record p { variables = variables }
 
 -- a problem in normal form, with one more product as written
-abbrev pub with_product : ProblemForm → Product → ProblemForm
+abbrev pub with_product : ProblemContent → Product → ProblemContent
 with_product p t = record p {
   constant = p.constant +ℤ product_constant t;
   objective = p.objective ++ kept_product t;
 }
 
--- with one more clause as written
-abbrev pub with_clause : ProblemForm → Clause → ProblemForm
+-- a problem in normal form, with one more clause as written
+abbrev pub with_clause : ProblemContent → Clause → ProblemContent
 with_clause p c = record p {
   constant = p.constant +ℤ clause_constant c;
   clauses = p.clauses ++ kept_clause c;
 }
 
--- with one more constraint as written
-abbrev pub with_constraint : ProblemForm → Constraint → ProblemForm
+-- a problem in normal form, with one more constraint as written
+abbrev pub with_constraint : ProblemContent → Constraint → ProblemContent
 with_constraint p k = record p { constraints = p.constraints ++ normal_constraint k ∷ [] }
 
 -- what a source says, one after the other: how many variables there are, and what is added
@@ -120,15 +128,15 @@ pub data Part : Type 0 where
   AddedConstraint : Constraint → Part
 
 -- a problem in normal form, with one more part
-abbrev pub with_part : ProblemForm → Part → ProblemForm
-with_part p (Widened variables) = widened p variables
+abbrev pub with_part : ProblemContent → Part → ProblemContent
+with_part p (Widened variables) = with_variables p variables
 with_part p (AddedProduct t) = with_product p t
 with_part p (AddedClause c) = with_clause p c
 with_part p (AddedConstraint k) = with_constraint p k
 
 -- a problem as written, with one more part
-abbrev pub as_written : ProblemForm → Part → ProblemForm
-as_written p (Widened variables) = widened p variables
+abbrev pub as_written : ProblemContent → Part → ProblemContent
+as_written p (Widened variables) = with_variables p variables
 as_written p (AddedProduct t) = record p { objective = p.objective ++ t ∷ [] }
 as_written p (AddedClause c) = record p { clauses = p.clauses ++ c ∷ [] }
 as_written p (AddedConstraint k) = record p { constraints = p.constraints ++ k ∷ [] }

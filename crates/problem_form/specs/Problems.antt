@@ -12,7 +12,7 @@ use Rattle.problem_form.specs.declared.terms.Constraint.{Constraint}
 use Rattle.problem_form.specs.Literals.{all_hold, some_holds, IsLiteralSet}
 
 -- variables, a constant, products that are added, clauses and constraints that are to hold
-pub record ProblemForm : Type 0 where
+pub record ProblemContent : Type 0 where
   pub variables : ℕ
   pub constant : ℤ
   pub objective : List Product
@@ -25,6 +25,7 @@ pub record ProblemForm : Type 0 where
 abbrev pub product_value : List Bool → Product → ℤ
 product_value x t = if_so (all_hold x t.literals) t.coefficient
 
+-- the sum of the coefficients of the products that count
 abbrev pub sum_of : List Bool → List Product → ℤ
 sum_of x products = total_by (product_value x) products
 
@@ -40,6 +41,7 @@ soft_weight c = unwrap_or c.weight 0
 abbrev pub soft_cost : List Bool → Clause → ℤ
 soft_cost x c = if_so (is_violated x c) (pos (soft_weight c))
 
+-- a hard clause that is violated
 abbrev pub fails_hard : List Bool → Clause → Bool
 fails_hard x c = is_none c.weight && is_violated x c
 
@@ -52,25 +54,28 @@ fails x k =
 
 -- infinite where a hard clause or a constraint fails; else the constant, the true products and the
 -- violated soft clauses
-abbrev pub problem_cost : ProblemForm → List Bool → Cost
+abbrev pub problem_cost : ProblemContent → List Bool → Cost
 problem_cost p x =
     if list_any (fails_hard x) p.clauses || list_any (fails x) p.constraints
     then Infinite
     else Whole (p.constant +ℤ sum_of x p.objective +ℤ total_by (soft_cost x) p.clauses)
 
-abbrev pub form_of : ProblemForm → Form
+-- the problem as a form: its bits and its cost
+abbrev pub form_of : ProblemContent → Form
 form_of p = record { bits = p.variables; cost = problem_cost p }
 
 -- ---- its sizes
 
+-- the sum of the sizes of the coefficients
 abbrev pub products_total : List Product → ℕ
 products_total products = sum_by (λ t. unsigned_abs t.coefficient) products
 
+-- the sizes of the coefficients and of the bound
 abbrev pub constraint_total : Constraint → ℕ
 constraint_total k = products_total k.products + unsigned_abs k.bound
 
 -- the sum of the sizes of all its numbers
-abbrev pub problem_total : ProblemForm → ℕ
+abbrev pub problem_total : ProblemContent → ℕ
 problem_total p =
     unsigned_abs p.constant + products_total p.objective + sum_by soft_weight p.clauses
     + sum_by constraint_total p.constraints
@@ -80,7 +85,7 @@ abbrev pub products_size : List Product → ℕ
 products_size products = sum_by (λ t. length t.literals ^ 2) products
 
 -- its variables, 1 for a constant, and the square of the degree of each product and clause
-abbrev pub problem_size : ProblemForm → ℕ
+abbrev pub problem_size : ProblemContent → ℕ
 problem_size p =
     p.variables + (if int_eq p.constant (pos 0) then 0 else 1) + products_size p.objective
     + sum_by (λ c. length c.literals ^ 2) p.clauses
@@ -88,6 +93,7 @@ problem_size p =
 
 -- ---- its normal form, as a condition
 
+-- a product has a literal set that is not empty, and its coefficient is not 0
 pub record IsNormalProduct (variables : ℕ) (t : Product) : Type 0 where
   pub set : IsLiteralSet variables t.literals
   pub filled : t.literals ≢ []
@@ -98,7 +104,8 @@ pub record IsNormalClause (variables : ℕ) (c : Clause) : Type 0 where
   pub set : IsLiteralSet variables c.literals
   pub weighty : (w : ℕ) → c.weight ≡ Some w → (0 < w) × (c.literals ≢ [])
 
-pub record IsNormal (p : ProblemForm) : Type 0 where
+-- all products, clauses and constraints are in normal form
+pub record IsNormal (p : ProblemContent) : Type 0 where
   pub objective : All (IsNormalProduct p.variables) p.objective
   pub clauses : All (IsNormalClause p.variables) p.clauses
   pub constraints : All (λ k. All (IsNormalProduct p.variables) k.products) p.constraints

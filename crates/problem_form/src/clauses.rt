@@ -4,7 +4,7 @@ ghost use Rattle.std.specs.Option.{option_to_list};
 ghost use Rattle.problem_form.specs.NormalForm.{clause_constant, is_plain_cost, kept_clause};
 
 use crate::literal::Literal;
-use crate::sets::clashes;
+use crate::sets::{clashes, make_set};
 use crate::terms::Clause;
 
 /// What a clause adds to the constant: the weight of a soft one without literals.
@@ -35,7 +35,7 @@ pub(crate) fn kept_clause(clause: Clause) -> Option<Clause>
         mut literals,
         weight,
     } = clause;
-    literals.make_set();
+    make_set(&mut literals.items);
     if clashes(literals.as_slice()) {
         return None;
     }

@@ -3,7 +3,7 @@ ghost use Rattle.std.specs.Prelude.{◌≡◌, ◌+◌, ◌*◌, ◌<◌, ◌^�
 ghost use Rattle.std.specs.List.{sum_by, flat_map};
 ghost use Rattle.integers.specs.Sums.{positive_part};
 ghost use Rattle.problem_form.specs.Problems.{constraint_total, products_total, soft_weight};
-ghost use Rattle.problem_form.specs.Limits.{answered, degree, positive_total, reach, slack_range, weight};
+ghost use Rattle.problem_form.specs.Limits.{answered_number, degree, positive_total, reach, slack_range, weight};
 
 use crate::problem::Problem;
 use crate::terms::{Clause, Constraint, Product};
@@ -129,7 +129,7 @@ fn reach_of(constraint: &Constraint) -> u128
 /// at the greatest number of 128 bits.
 fn squares(penalty: u128, constraints: &[Constraint]) -> u128
     requires { sum_by constraint_total constraints.now < 2 ^ 100 }
-    ensures { result ≡ answered (sum_by (λ k. penalty * reach k ^ 2) constraints.now) }
+    ensures { result ≡ answered_number (sum_by (λ k. penalty * reach k ^ 2) constraints.now) }
 {
     let mut total: u128 = 0;
     for constraint in constraints {
@@ -142,7 +142,7 @@ fn squares(penalty: u128, constraints: &[Constraint]) -> u128
 
 /// The sizes of all coefficients that the penalty method makes, or the greatest number of 128 bits.
 pub(crate) fn weight_of(problem: &Problem) -> u128
-    ensures { result ≡ answered (weight problem.now) }
+    ensures { result ≡ answered_number (weight problem.now) }
 {
     let costs = problem.cost_size();
     let penalty = problem.penalty();

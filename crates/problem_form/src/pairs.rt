@@ -2,7 +2,7 @@
 ghost use Rattle.std.specs.Prelude.{◌≡◌, ◌+◌, ◌*◌, ◌<◌, ◌≤◌, ◌^◌, length, map, max, fold, count_by, not};
 ghost use Rattle.std.specs.List.{sum_by};
 ghost use Rattle.problem_form.specs.Problems.{constraint_total};
-ghost use Rattle.problem_form.specs.Limits.{answered, binary_digits, clause_complements, clause_pairs, complements, constraint_degree, constraint_pairs, factor, most_complements, negations, pairs, product_pairs, slack_bits, summands};
+ghost use Rattle.problem_form.specs.Limits.{answered_number, binary_digits, clause_complements, clause_pairs, complements, constraint_degree, constraint_pairs, factor, most_complements, negations, pairs, product_pairs, slack_bits, summands};
 
 use crate::counts::{products_degree, slack_range_of};
 use crate::limits::Normal;
@@ -84,7 +84,7 @@ pub(crate) fn negations_of(problem: &Problem, normal: Normal) -> u128
 
 /// A power of 2, or the greatest number of 128 bits.
 fn power_of_2(exponent: usize) -> u128
-    ensures { result ≡ answered (2 ^ exponent) }
+    ensures { result ≡ answered_number (2 ^ exponent) }
 {
     if exponent < 128 {
         1 << exponent
@@ -96,7 +96,7 @@ fn power_of_2(exponent: usize) -> u128
 /// How many terms a product with so many complements becomes at most, or the greatest number of 128
 /// bits.
 fn factor_of(normal: Normal, complements: usize) -> u128
-    ensures { result ≡ answered (factor normal complements) }
+    ensures { result ≡ answered_number (factor normal complements) }
 {
     match normal {
         Normal::Literal => 1,
@@ -111,14 +111,14 @@ fn square(degree: usize) -> u128
 }
 
 fn product_pairs_of(product: &Product, normal: Normal) -> u128
-    ensures { result ≡ answered (product_pairs normal product.now) }
+    ensures { result ≡ answered_number (product_pairs normal product.now) }
 {
     let factor = factor_of(normal, complements_of(product));
     factor.saturating_mul(square(product.literals.as_slice().len()))
 }
 
 fn clause_pairs_of(clause: &Clause, normal: Normal) -> u128
-    ensures { result ≡ answered (clause_pairs normal clause.now) }
+    ensures { result ≡ answered_number (clause_pairs normal clause.now) }
 {
     let factor = factor_of(normal, clause_complements_of(clause));
     factor.saturating_mul(square(clause.literals.as_slice().len()))
@@ -135,7 +135,7 @@ fn binary_digits_of(number: u128) -> u32
 /// How many terms the sum has that is squared for a constraint, or the greatest number of 128 bits.
 fn summands_of(constraint: &Constraint, normal: Normal) -> u128
     requires { constraint_total constraint.now < 2 ^ 100 }
-    ensures { result ≡ answered (summands normal constraint.now) }
+    ensures { result ≡ answered_number (summands normal constraint.now) }
 {
     let slack = binary_digits_of(slack_range_of(constraint));
     let listed = constraint.products.as_slice().len() as u128 + u128::from(slack) + 1;
@@ -151,7 +151,7 @@ fn constraint_degree_of(constraint: &Constraint) -> usize
 
 fn constraint_pairs_of(constraint: &Constraint, normal: Normal) -> u128
     requires { constraint_total constraint.now < 2 ^ 100 }
-    ensures { result ≡ answered (constraint_pairs normal constraint.now) }
+    ensures { result ≡ answered_number (constraint_pairs normal constraint.now) }
 {
     let summands = summands_of(constraint, normal);
     let squared = summands.saturating_mul(summands);
@@ -165,7 +165,7 @@ fn constraint_pairs_of(constraint: &Constraint, normal: Normal) -> u128
 
 /// The pairs of the products. It stops at the greatest number of 128 bits.
 fn products_pairs(products: &[Product], normal: Normal) -> u128
-    ensures { result ≡ answered (sum_by (product_pairs normal) products.now) }
+    ensures { result ≡ answered_number (sum_by (product_pairs normal) products.now) }
 {
     let mut total: u128 = 0;
     for product in products {
@@ -176,7 +176,7 @@ fn products_pairs(products: &[Product], normal: Normal) -> u128
 
 /// The pairs of the clauses, likewise.
 fn clauses_pairs(clauses: &[Clause], normal: Normal) -> u128
-    ensures { result ≡ answered (sum_by (clause_pairs normal) clauses.now) }
+    ensures { result ≡ answered_number (sum_by (clause_pairs normal) clauses.now) }
 {
     let mut total: u128 = 0;
     for clause in clauses {
@@ -188,7 +188,7 @@ fn clauses_pairs(clauses: &[Clause], normal: Normal) -> u128
 /// The pairs of the constraints, likewise.
 fn constraints_pairs(constraints: &[Constraint], normal: Normal) -> u128
     requires { sum_by constraint_total constraints.now < 2 ^ 100 }
-    ensures { result ≡ answered (sum_by (constraint_pairs normal) constraints.now) }
+    ensures { result ≡ answered_number (sum_by (constraint_pairs normal) constraints.now) }
 {
     let mut total: u128 = 0;
     for constraint in constraints {
@@ -200,7 +200,7 @@ fn constraints_pairs(constraints: &[Constraint], normal: Normal) -> u128
 /// How many pairs of literals the terms have, or the greatest number of 128 bits.
 #[tactic(auto, using(crate::proofs::CountedNumbers::answered_sum_of_3))]
 pub(crate) fn pairs_of(problem: &Problem, normal: Normal) -> u128
-    ensures { result ≡ answered (pairs normal problem.now) }
+    ensures { result ≡ answered_number (pairs normal problem.now) }
 {
     products_pairs(problem.objective.as_slice(), normal)
         .saturating_add(clauses_pairs(problem.clauses.as_slice(), normal))

@@ -1,6 +1,6 @@
 //! A problem in normal form.
 ghost use Rattle.std.specs.Prelude.{◌≡◌, ◌+◌, ◌<◌, ◌≤◌, ◌^◌, All, OnOk, OnErr, unsigned_abs};
-ghost use Rattle.problem_form.specs.NormalForm.{blank, widened, with_clause, with_constraint, with_product};
+ghost use Rattle.problem_form.specs.NormalForm.{blank, with_variables, with_clause, with_constraint, with_product};
 ghost use Rattle.problem_form.specs.Problems.{constraint_total, problem_total, soft_weight};
 
 use crate::clauses::{clause_constant, kept_clause};
@@ -22,15 +22,15 @@ pub struct Problem {
 }
 
 impl Model for Problem {
-    ghost use Rattle.problem_form.specs.Problems.{ProblemForm};
+    ghost use Rattle.problem_form.specs.Problems.{ProblemContent};
 
-    ghost Value = { ProblemForm };
+    ghost Value = { ProblemContent };
 
-    ghost use Rattle.problem_form.specs.Fields.{form_within, IsSound};
+    ghost use Rattle.problem_form.specs.Fields.{content_within, IsSound};
 
-    ghost view = { form_within };
+    ghost view = { content_within };
 
-    ghost invariant = { λ p. IsSound (form_within p) };
+    ghost invariant = { λ p. IsSound (content_within p) };
 }
 
 impl Problem {
@@ -41,16 +41,16 @@ impl Problem {
         Problem {
             variables: 0,
             constant: 0,
-            objective: ProductList::new(Vec::new(alloc)),
-            clauses: ClauseList::new(Vec::new(alloc)),
-            constraints: ConstraintList::new(Vec::new(alloc)),
+            objective: ProductList::empty(alloc),
+            clauses: ClauseList::empty(alloc),
+            constraints: ConstraintList::empty(alloc),
         }
     }
 
     /// Gives the problem so many variables, which are no fewer than before.
     pub fn widen(&mut self, variables: u64)
         requires { self.old.variables ≤ variables }
-        ensures { self.new ≡ widened self.old variables }
+        ensures { self.new ≡ with_variables self.old variables }
     {
         self.variables = variables;
     }

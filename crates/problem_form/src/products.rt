@@ -5,11 +5,11 @@ ghost use Rattle.std.specs.List.Sorted.{IsStrictlySortedBy};
 ghost use Rattle.std.specs.Option.{option_to_list};
 ghost use Rattle.integers.specs.Sums.{total_by};
 ghost use Rattle.problem_form.specs.Literals.{has_clash, literal_cmp};
-ghost use Rattle.problem_form.specs.NormalForm.{is_empty, kept_product, normal_constraint, product_constant, settled};
+ghost use Rattle.problem_form.specs.NormalForm.{is_empty, kept_product, normal_constraint, product_constant, ordered_product};
 ghost use Rattle.problem_form.specs.Problems.{constraint_total, products_total};
 
 use crate::literal::Literal;
-use crate::sets::clashes;
+use crate::sets::{clashes, make_set};
 use crate::terms::{Constraint, Product};
 
 /// What a product adds to the constant: the coefficient of one without literals.
@@ -33,9 +33,9 @@ fn is_dropped(literals: &[Literal]) -> bool
 
 /// Puts the literals of a product in order, and gives one that is dropped the coefficient 0.
 fn settle(product: &mut Product)
-    ensures { product.new ≡ settled product.old }
+    ensures { product.new ≡ ordered_product product.old }
 {
-    product.literals.make_set();
+    make_set(&mut product.literals.items);
     if is_dropped(product.literals.as_slice()) {
         product.coefficient = 0;
     }
@@ -53,7 +53,7 @@ pub(crate) fn kept_product(mut product: Product) -> Option<Product>
 }
 
 fn settle_all(products: &mut [Product])
-    ensures { products.new ≡ map settled products.old }
+    ensures { products.new ≡ map ordered_product products.old }
 {
     for product in products.iter_mut() {
         settle(product);
@@ -91,7 +91,7 @@ pub(crate) fn normal_constraint(constraint: Constraint) -> Constraint
         exact,
     } = constraint;
     let constants = constants_of(products.as_slice());
-    products.keep();
+    keep_products(&mut products.items);
     Constraint {
         products,
         bound: bound - constants,

@@ -1,12 +1,7 @@
 //! Products, clauses and constraints, and lists of them.
-ghost use Rattle.std.specs.Prelude.{◌≡◌, ◌++◌, ◌∷◌, [], OnOk, OnErr};
-ghost use Rattle.std.specs.List.{flat_map};
-ghost use Rattle.problem_form.specs.NormalForm.{kept_product};
 
 use crate::literal::LiteralList;
-use crate::products::keep_products;
-use bits_model::NoMemory;
-use std::marker::Model;
+use bits_model::Items;
 
 /// Counts its coefficient where all its literals are true.
 #[derive(Drop)]
@@ -31,119 +26,10 @@ pub struct Constraint {
 }
 
 /// Products, which contracts see as a list.
-#[derive(Drop)]
-pub struct ProductList {
-    products: Vec<Product>,
-}
-
-impl Model for ProductList {
-    ghost use Rattle.std.specs.Prelude.{List};
-    ghost use Rattle.problem_form.specs.declared.terms.Product.{Product};
-
-    ghost Value = { List Product };
-
-    ghost view = { λ a. a.products.items };
-}
-
-impl ProductList {
-    pub fn new(products: Vec<Product>) -> ProductList
-        ensures { result ≡ products.items }
-    {
-        ProductList { products }
-    }
-
-    pub fn as_slice(&self) -> &[Product]
-        ensures { result.now ≡ self.now }
-    {
-        &self.products
-    }
-
-    pub(crate) fn push(&mut self, product: Product) -> Result<(), NoMemory>
-        ensures pushed { OnOk result (self.new ≡ self.old ++ product ∷ []) }
-        ensures unchanged { OnErr result (self.new ≡ self.old) }
-    {
-        self.products.push(product)?;
-        Ok(())
-    }
-
-    /// Leaves the products in normal form, in their own memory.
-    pub(crate) fn keep(&mut self)
-        ensures { self.new ≡ flat_map kept_product self.old }
-    {
-        keep_products(&mut self.products);
-    }
-}
+pub type ProductList = Items<Product>;
 
 /// Clauses, which contracts see as a list.
-#[derive(Drop)]
-pub struct ClauseList {
-    clauses: Vec<Clause>,
-}
-
-impl Model for ClauseList {
-    ghost use Rattle.std.specs.Prelude.{List};
-    ghost use Rattle.problem_form.specs.declared.terms.Clause.{Clause};
-
-    ghost Value = { List Clause };
-
-    ghost view = { λ a. a.clauses.items };
-}
-
-impl ClauseList {
-    pub fn new(clauses: Vec<Clause>) -> ClauseList
-        ensures { result ≡ clauses.items }
-    {
-        ClauseList { clauses }
-    }
-
-    pub fn as_slice(&self) -> &[Clause]
-        ensures { result.now ≡ self.now }
-    {
-        &self.clauses
-    }
-
-    pub(crate) fn push(&mut self, clause: Clause) -> Result<(), NoMemory>
-        ensures pushed { OnOk result (self.new ≡ self.old ++ clause ∷ []) }
-        ensures unchanged { OnErr result (self.new ≡ self.old) }
-    {
-        self.clauses.push(clause)?;
-        Ok(())
-    }
-}
+pub type ClauseList = Items<Clause>;
 
 /// Constraints, which contracts see as a list.
-#[derive(Drop)]
-pub struct ConstraintList {
-    constraints: Vec<Constraint>,
-}
-
-impl Model for ConstraintList {
-    ghost use Rattle.std.specs.Prelude.{List};
-    ghost use Rattle.problem_form.specs.declared.terms.Constraint.{Constraint};
-
-    ghost Value = { List Constraint };
-
-    ghost view = { λ a. a.constraints.items };
-}
-
-impl ConstraintList {
-    pub fn new(constraints: Vec<Constraint>) -> ConstraintList
-        ensures { result ≡ constraints.items }
-    {
-        ConstraintList { constraints }
-    }
-
-    pub fn as_slice(&self) -> &[Constraint]
-        ensures { result.now ≡ self.now }
-    {
-        &self.constraints
-    }
-
-    pub(crate) fn push(&mut self, constraint: Constraint) -> Result<(), NoMemory>
-        ensures pushed { OnOk result (self.new ≡ self.old ++ constraint ∷ []) }
-        ensures unchanged { OnErr result (self.new ≡ self.old) }
-    {
-        self.constraints.push(constraint)?;
-        Ok(())
-    }
-}
+pub type ConstraintList = Items<Constraint>;

@@ -1,7 +1,7 @@
 -- Why a file could not be read, how many files were begun, and how much was read of the last one: by
 -- what the store of files counted before and after.
 use Rattle.std.specs.Prelude.{◌≡◌, ◌≤◌, ℕ, zero, suc, List, [], ◌∷◌, length, ⊤}
-use Rattle.edge_io.specs.Counts.{Counts, Rose, counted_on}
+use Rattle.edge_io.specs.Counts.{Counts, Rose, count_after}
 use Rattle.problem_form.specs.declared.limits.LimitKind.TheVariants.{Bytes}
 use Rattle.command_words.specs.declared.names.Which.{Which}
 use Rattle.command_words.specs.declared.names.Which.TheVariants.{Source, State}
@@ -13,7 +13,7 @@ use Rattle.program_run.specs.declared.status.Status.TheVariants.{Done, Usage, Re
 -- so many files were begun
 abbrev pub AreBegun : ℕ → Counts → Counts → Type 0
 AreBegun zero old new = new.begun ≡ old.begun
-AreBegun (suc n) old new = new.begun ≡ counted_on old.begun (suc n)
+AreBegun (suc n) old new = new.begun ≡ count_after old.begun (suc n)
 
 -- the last begun file has this name, and was read to its end and no further: one read gave nothing
 pub record IsRead (name : List ℕ) (new : Counts) : Type 0 where
@@ -23,7 +23,7 @@ pub record IsRead (name : List ℕ) (new : Counts) : Type 0 where
 -- so many files were begun, and the last of them, of this name, was read to its end and no further
 abbrev pub AreRead : List ℕ → ℕ → Counts → Counts → Type 0
 AreRead name zero old new = new.begun ≡ old.begun
-AreRead name (suc n) old new = (new.begun ≡ counted_on old.begun (suc n)) × IsRead name new
+AreRead name (suc n) old new = (new.begun ≡ count_after old.begun (suc n)) × IsRead name new
 
 -- so many files were begun, and of the last of them, of this name, one byte more than is accepted was
 -- taken and nothing else

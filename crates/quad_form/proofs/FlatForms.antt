@@ -1,7 +1,7 @@
 -- The quadratic form of a table over variables: what it keeps, and how large it is.
 --
--- Each measure of a form grows, where a term is placed, by at most that of the term. The couplers are the
--- entries of the pairs, in the order of the table.
+-- Each measure of a form grows, where a term is placed, by at most that of the term. The couplers
+-- are the entries of the pairs, in the order of the table.
 use Rattle.std.proofs.Common.{◌≡◌, ◌≢◌, ℕ, zero, suc, ◌+◌, ◌*◌, ◌<◌, ◌≤◌, ◌^◌, Bool, true, false, eqb, ℤ, pos, ◌+ℤ◌, unsigned_abs, List, [], ◌∷◌, ◌++◌, length, get_or, replicate, All, sum_by, fold, refl, sym, ◌∙◌, arith, if◌then◌else◌, append_assoc, append-nil}
 use Rattle.std.specs.List.{AllByRecursion, slice_index_or}
 use Rattle.std.specs.List.Sorted.{IsStrictlySortedBy}
@@ -17,12 +17,12 @@ use Rattle.integers.proofs.Totals.{size-plus}
 use Rattle.bits_model.specs.declared.output.Entry.{Entry}
 use Rattle.bits_model.specs.Output.{entry_cmp, entry_size, is_node, weight_total}
 use Rattle.problem_form.specs.declared.literal.Literal.{Literal}
-use Rattle.term_table.specs.Terms.{Term, set_cmp, terms_total, collected, Ascends, AreTerms}
-use Rattle.term_table.specs.Tables.{TableForm, IsLow, table_size}
-use Rattle.term_table.proofs.Additions.{terms_total-cons, terms_total-collected, sets_sum, sets_sum-cons, sets_sum-collected}
+use Rattle.term_table.specs.Terms.{Term, set_cmp, terms_total, with_additions, Ascends, AreTerms}
+use Rattle.term_table.specs.Tables.{TableContent, IsLow, table_size}
+use Rattle.term_table.proofs.Additions.{terms_total-cons, terms_total-with_additions, sets_sum, sets_sum-cons, sets_sum-with_additions}
 use Rattle.term_table.proofs.KeptTerms.{OfSet, Under}
-use Rattle.quad_form.specs.Quads.{QuadForm, node_entries, quad_total, quad_size, IsCoupler, IsQuad}
-use Rattle.quad_form.specs.Flat.{contributions, pair_entry, placed, zero_form, quad_of, image, IsFlat}
+use Rattle.quad_form.specs.Quads.{QuadContent, node_entries, quad_total, quad_size, IsCoupler, IsQuad}
+use Rattle.quad_form.specs.Flat.{contributions, pair_entry, with_term, zero_quad, quad_of, image, IsFlat}
 use Rattle.quad_form.specs.laws.Flattened.{length-fold, length-image}
 use Rattle.quad_form.proofs.NodeEnergies.{weights_within, weights-append}
 use Rattle.quad_form.proofs.FlatSums.{form_size, terms_total-contributions, form_size-contributions}
@@ -56,10 +56,10 @@ weights-grown n (suc i) (w ∷ ws) c =
       sum_by-cons size entry (node_entries (suc n) grown),
     )
 
-pub quad_total-placed : (q : QuadForm) (ls : List Literal) (c : ℤ)
-    → quad_total (placed q (ls, c)) ≤ quad_total q + unsigned_abs c
-quad_total-placed q [] c = omega (arith, size-plus q.constant c)
-quad_total-placed q (l ∷ []) c =
+pub quad_total-with_term : (q : QuadContent) (ls : List Literal) (c : ℤ)
+    → quad_total (with_term q (ls, c)) ≤ quad_total q + unsigned_abs c
+quad_total-with_term q [] c = omega (arith, size-plus q.constant c)
+quad_total-with_term q (l ∷ []) c =
     let grown = slice_set q.diagonal l.variable (slice_index_or q.diagonal l.variable (pos 0) +ℤ c) in
     omega (
       arith,
@@ -67,7 +67,7 @@ quad_total-placed q (l ∷ []) c =
       sum_by-append size (node_entries 0 grown) q.couplers,
       sum_by-append size (node_entries 0 q.diagonal) q.couplers,
     )
-quad_total-placed q (l ∷ k ∷ ls) c =
+quad_total-with_term q (l ∷ k ∷ ls) c =
     let entry = pair_entry l k c in
     omega (
       arith,
@@ -76,14 +76,14 @@ quad_total-placed q (l ∷ k ∷ ls) c =
       sum_by-append size (node_entries 0 q.diagonal) q.couplers,
     )
 
-pub quad_total-fold : (q : QuadForm) (ts : List Term)
-    → quad_total (fold placed q ts) ≤ quad_total q + terms_total ts
+pub quad_total-fold : (q : QuadContent) (ts : List Term)
+    → quad_total (fold with_term q ts) ≤ quad_total q + terms_total ts
 quad_total-fold q [] = omega arith
 quad_total-fold q (t ∷ ts) =
     omega (
       arith,
-      quad_total-fold (placed q t) ts,
-      quad_total-placed q t.0 t.1,
+      quad_total-fold (with_term q t) ts,
+      quad_total-with_term q t.0 t.1,
       terms_total-cons t ts,
     )
 
@@ -97,25 +97,25 @@ weights-zero n (suc width) =
       sum_by-cons size entry (node_entries (suc n) (replicate width (pos 0)) ++ []),
     )
 
-pub quad_total-zero : (width : ℕ) → quad_total (zero_form width) ≡ 0
+pub quad_total-zero : (width : ℕ) → quad_total (zero_quad width) ≡ 0
 quad_total-zero width = omega (arith, weights-zero 0 width)
 
 pub quad_total-of : (width : ℕ) (ts : List Term) → quad_total (quad_of width ts) ≤ terms_total ts
-quad_total-of width ts = omega (arith, quad_total-fold (zero_form width) ts, quad_total-zero width)
+quad_total-of width ts = omega (arith, quad_total-fold (zero_quad width) ts, quad_total-zero width)
 
-pub quad_total-image : (t : TableForm) → IsLow t → quad_total (image t) ≤ 4 * terms_total t.terms
+pub quad_total-image : (t : TableContent) → IsLow t → quad_total (image t) ≤ 4 * terms_total t.terms
 quad_total-image t low =
     omega (
       arith,
-      quad_total-of t.width (collected [] (contributions t.terms)),
-      terms_total-collected (contributions t.terms),
+      quad_total-of t.width (with_additions [] (contributions t.terms)),
+      terms_total-with_additions (contributions t.terms),
       terms_total-contributions t.terms (recursion_from_All _ _ low),
     )
 
 -- ---- the size
 
 -- the size beside the width and the nodes
-abbrev rest_size : QuadForm → ℕ
+abbrev rest_size : QuadContent → ℕ
 rest_size q = (if int_eq q.constant (pos 0) then 0 else 1) + sum_by entry_size q.couplers
 
 nonzero-le : (b : Bool) → (if b then 0 else 1) ≤ 1
@@ -150,37 +150,37 @@ nodes_size-le n (w ∷ ws) =
       sum_by-cons entry_size entry (node_entries (suc n) ws),
     )
 
-rest_size-placed : (q : QuadForm) (ls : List Literal) (c : ℤ) (used : ℕ)
+rest_size-with_term : (q : QuadContent) (ls : List Literal) (c : ℤ) (used : ℕ)
     → rest_size q ≤ used
     → ((if int_eq q.constant (pos 0) then 0 else 1) ≤ 1)
-    → rest_size (placed q (ls, c)) ≤ used + form_size ls
-rest_size-placed q [] c used h one = omega (arith, nonzero-le (int_eq (q.constant +ℤ c) (pos 0)))
-rest_size-placed q (l ∷ []) c used h one = omega arith
-rest_size-placed q (l ∷ k ∷ ls) c used h one =
+    → rest_size (with_term q (ls, c)) ≤ used + form_size ls
+rest_size-with_term q [] c used h one = omega (arith, nonzero-le (int_eq (q.constant +ℤ c) (pos 0)))
+rest_size-with_term q (l ∷ []) c used h one = omega arith
+rest_size-with_term q (l ∷ k ∷ ls) c used h one =
     omega (arith, sum_by_push entry_size q.couplers (pair_entry l k c), entry_size-le (pair_entry l k c))
 
-rest_size-fold : (q : QuadForm) (ts : List Term)
-    → rest_size (fold placed q ts) ≤ rest_size q + sets_sum form_size ts
+rest_size-fold : (q : QuadContent) (ts : List Term)
+    → rest_size (fold with_term q ts) ≤ rest_size q + sets_sum form_size ts
 rest_size-fold q [] = omega arith
 rest_size-fold q (t ∷ ts) =
     omega (
       arith,
-      rest_size-fold (placed q t) ts,
-      rest_size-placed q t.0 t.1 (rest_size q) (omega arith) (nonzero-le _),
+      rest_size-fold (with_term q t) ts,
+      rest_size-with_term q t.0 t.1 (rest_size q) (omega arith) (nonzero-le _),
       sets_sum-cons form_size t ts,
     )
 
-pub quad_size-image : (t : TableForm) → IsLow t → quad_size (image t) ≤ table_size t * 2
+pub quad_size-image : (t : TableContent) → IsLow t → quad_size (image t) ≤ table_size t * 2
 quad_size-image t low =
     let q = image t in
-    let ts = collected [] (contributions t.terms) in
+    let ts = with_additions [] (contributions t.terms) in
     omega (
       arith,
       length-image t,
       nodes_size-le 0 q.diagonal,
       sum_by-append entry_size (node_entries 0 q.diagonal) q.couplers,
-      rest_size-fold (zero_form t.width) ts,
-      sets_sum-collected form_size (contributions t.terms),
+      rest_size-fold (zero_quad t.width) ts,
+      sets_sum-with_additions form_size (contributions t.terms),
       form_size-contributions t.terms (recursion_from_All _ _ low),
     )
 
@@ -193,13 +193,13 @@ pairs_of (([], c) ∷ ts) = pairs_of ts
 pairs_of ((l ∷ [], c) ∷ ts) = pairs_of ts
 pairs_of ((l ∷ k ∷ ls, c) ∷ ts) = pair_entry l k c ∷ pairs_of ts
 
-couplers-fold : (q : QuadForm) (ts : List Term)
-    → (fold placed q ts).couplers ≡ q.couplers ++ pairs_of ts
+couplers-fold : (q : QuadContent) (ts : List Term)
+    → (fold with_term q ts).couplers ≡ q.couplers ++ pairs_of ts
 couplers-fold q [] = sym (append-nil q.couplers)
-couplers-fold q (([], c) ∷ ts) = couplers-fold (placed q ([], c)) ts
-couplers-fold q ((l ∷ [], c) ∷ ts) = couplers-fold (placed q (l ∷ [], c)) ts
+couplers-fold q (([], c) ∷ ts) = couplers-fold (with_term q ([], c)) ts
+couplers-fold q ((l ∷ [], c) ∷ ts) = couplers-fold (with_term q (l ∷ [], c)) ts
 couplers-fold q ((l ∷ k ∷ ls, c) ∷ ts) =
-    couplers-fold (placed q (l ∷ k ∷ ls, c)) ts
+    couplers-fold (with_term q (l ∷ k ∷ ls, c)) ts
     ∙ append_assoc q.couplers (pair_entry l k c ∷ []) (pairs_of ts)
 
 -- pairs of variables are ordered as their entries are
@@ -263,10 +263,10 @@ pairs_couple width ((l ∷ k ∷ m ∷ ls, c) ∷ ts) flat nonzero = absurd flat
 -- ---- what is kept
 
 pub couplers_of : (width : ℕ) (ts : List Term) → (quad_of width ts).couplers ≡ pairs_of ts
-couplers_of width ts = couplers-fold (zero_form width) ts
+couplers_of width ts = couplers-fold (zero_quad width) ts
 
 pub width_of : (width : ℕ) (ts : List Term) → length (quad_of width ts).diagonal ≡ width
-width_of width ts = length-fold (zero_form width) ts ∙ length-replicate width (pos 0)
+width_of width ts = length-fold (zero_quad width) ts ∙ length-replicate width (pos 0)
 
 -- the form of a table over variables is a quadratic form
 pub IsQuad-of : (width : ℕ) (ts : List Term) → width < 2 ^ 32 → All (OfSet (IsFlat width)) ts
@@ -286,16 +286,16 @@ IsQuad-of width ts narrow flat terms small =
 -- ---- one more term
 
 -- a term of one literal grows the weight of its node
-pub placed_one : (q : QuadForm) (ls : List Literal) (c : ℤ) (d : Literal) → 1 ≤ length ls
+pub placed_one : (q : QuadContent) (ls : List Literal) (c : ℤ) (d : Literal) → 1 ≤ length ls
     → length ls < 2
-    → placed q (ls, c)
+    → with_term q (ls, c)
     ≡ record q { diagonal = slice_set q.diagonal (get_or ls 0 d).variable (slice_index_or q.diagonal (get_or ls 0 d).variable (pos 0) +ℤ c) }
 placed_one q [] c d low high = absurd (omega arith)
 placed_one q (l ∷ []) c d low high = refl
 placed_one q (l ∷ k ∷ ls) c d low high = absurd (omega arith)
 
 -- a node's weight is within the sum of the sizes
-pub weight_within : (q : QuadForm) (i : ℕ) (d : ℤ) → i < length q.diagonal
+pub weight_within : (q : QuadContent) (i : ℕ) (d : ℤ) → i < length q.diagonal
     → unsigned_abs (get_or q.diagonal i d) ≤ quad_total q
 weight_within q i d in' =
     omega (

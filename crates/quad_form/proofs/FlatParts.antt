@@ -7,52 +7,52 @@ use Rattle.std.proofs.lemmas.List.Sums.{fold-append}
 use Rattle.problem_form.specs.declared.literal.Literal.{Literal}
 use Rattle.bits_model.specs.declared.output.Entry.{Entry}
 use Rattle.term_table.specs.Terms.{Term, terms_total}
-use Rattle.term_table.specs.Tables.{TableForm, IsTable, IsLow}
+use Rattle.term_table.specs.Tables.{TableContent, IsTable, IsLow}
 use Rattle.term_table.proofs.Additions.{terms_total-cons}
 use Rattle.term_table.proofs.KeptTerms.{OfSet}
-use Rattle.quad_form.specs.Quads.{QuadForm, node_entries, quad_total, IsCoupler, IsQuad}
-use Rattle.quad_form.specs.Flat.{multiplied_out, contributions, placed, quad_of, IsFlat}
+use Rattle.quad_form.specs.Quads.{QuadContent, node_entries, quad_total, IsCoupler, IsQuad}
+use Rattle.quad_form.specs.Flat.{plain_terms, contributions, with_term, quad_of, IsFlat}
 use Rattle.quad_form.specs.laws.Flattened.{length-fold, flat_contributions}
 use Rattle.quad_form.specs.Pairs.{IsPair, AreSummed}
 use Rattle.quad_form.proofs.NodeEnergies.{weights-append}
-use Rattle.quad_form.proofs.FlatSums.{terms_total-multiplied_out, terms_total-contributions}
-use Rattle.quad_form.proofs.FlatForms.{quad_total-placed, quad_total-fold, quad_total-of, couplers_of, pairs_of}
+use Rattle.quad_form.proofs.FlatSums.{terms_total-plain_terms, terms_total-contributions}
+use Rattle.quad_form.proofs.FlatForms.{quad_total-with_term, quad_total-fold, quad_total-of, couplers_of, pairs_of}
 
 -- ---- terms that are placed
 
-pub total-one : (q r : QuadForm) (ls : List Literal) (c : ℤ) → r ≡ placed q (ls, c)
+pub total-one : (q r : QuadContent) (ls : List Literal) (c : ℤ) → r ≡ with_term q (ls, c)
     → quad_total r ≤ quad_total q + unsigned_abs c
-total-one q r ls c e = omega (arith, ap quad_total e, quad_total-placed q ls c)
+total-one q r ls c e = omega (arith, ap quad_total e, quad_total-with_term q ls c)
 
-pub width-all : (q r : QuadForm) (ts : List Term) → r ≡ fold placed q ts
+pub width-all : (q r : QuadContent) (ts : List Term) → r ≡ fold with_term q ts
     → length r.diagonal ≡ length q.diagonal
-width-all q r ts e = ap (λ (p : QuadForm). length p.diagonal) e ∙ length-fold q ts
+width-all q r ts e = ap (λ (p : QuadContent). length p.diagonal) e ∙ length-fold q ts
 
-pub total-all : (q r : QuadForm) (ts : List Term) → r ≡ fold placed q ts
+pub total-all : (q r : QuadContent) (ts : List Term) → r ≡ fold with_term q ts
     → quad_total r ≤ quad_total q + terms_total ts
 total-all q r ts e = omega (arith, ap quad_total e, quad_total-fold q ts)
 
 -- ---- one more term of a table, multiplied out
 
-pub placed_more : (q r : QuadForm) (ls : List Literal) (c : ℤ) (it rest : List Term) (whole : QuadForm)
-    → it ≡ (ls, c) ∷ rest → r ≡ fold placed q (multiplied_out ls c)
-    → fold placed q (contributions it) ≡ whole → fold placed r (contributions rest) ≡ whole
+pub placed_more : (q r : QuadContent) (ls : List Literal) (c : ℤ) (it rest : List Term) (whole : QuadContent)
+    → it ≡ (ls, c) ∷ rest → r ≡ fold with_term q (plain_terms ls c)
+    → fold with_term q (contributions it) ≡ whole → fold with_term r (contributions rest) ≡ whole
 placed_more q r ls c it rest whole e f h =
-    ap (λ (p : QuadForm). fold placed p (contributions rest)) f
-    ∙ sym (fold-append placed q (multiplied_out ls c) (contributions rest))
-    ∙ sym (ap (λ (ts : List Term). fold placed q (contributions ts)) e)
+    ap (λ (p : QuadContent). fold with_term p (contributions rest)) f
+    ∙ sym (fold-append with_term q (plain_terms ls c) (contributions rest))
+    ∙ sym (ap (λ (ts : List Term). fold with_term q (contributions ts)) e)
     ∙ h
 
 -- the sum of the sizes with the terms that are left, each grown to at most 4 times as much
-pub total_more : (q r : QuadForm) (ls : List Literal) (c : ℤ) (it rest : List Term) (n : ℕ)
-    → it ≡ (ls, c) ∷ rest → r ≡ fold placed q (multiplied_out ls c) → length ls ≤ 2
+pub total_more : (q r : QuadContent) (ls : List Literal) (c : ℤ) (it rest : List Term) (n : ℕ)
+    → it ≡ (ls, c) ∷ rest → r ≡ fold with_term q (plain_terms ls c) → length ls ≤ 2
     → quad_total q + 4 * terms_total it ≤ n → quad_total r + 4 * terms_total rest ≤ n
 total_more q r ls c it rest n e f short h =
     let same : terms_total it ≡ terms_total ((ls, c) ∷ rest) = ap terms_total e in
     omega (
       arith,
-      total-all q r (multiplied_out ls c) f,
-      terms_total-multiplied_out ls c short,
+      total-all q r (plain_terms ls c) f,
+      terms_total-plain_terms ls c short,
       terms_total-cons (ls, c) rest,
     )
 
@@ -81,16 +81,16 @@ pairs_within width ((l ∷ k ∷ [], c) ∷ ts) flat =
     (record { upward = pair.2; within = pair.1.within }, pairs_within width ts flat.1)
 pairs_within width ((l ∷ k ∷ m ∷ ls, c) ∷ ts) flat = absurd flat.0
 
-pub pairs_placed : (t : TableForm) (q : QuadForm) → IsTable t → IsLow t
+pub pairs_placed : (t : TableContent) (q : QuadContent) → IsTable t → IsLow t
     → q ≡ quad_of t.width (contributions t.terms) → All (IsPair t.width) q.couplers
 pairs_placed t q table low made =
     let flat = flat_contributions t.width t.terms (recursion_from_All _ _ table.terms.sets) (recursion_from_All _ _ low) in
     let same : q.couplers ≡ pairs_of (contributions t.terms) =
-    ap (λ (p : QuadForm). p.couplers) made ∙ couplers_of t.width (contributions t.terms) in
+    ap (λ (p : QuadContent). p.couplers) made ∙ couplers_of t.width (contributions t.terms) in
     rw same
     (All-from_recursion _ _ (pairs_within t.width (contributions t.terms) (recursion_from_All _ _ flat)))
 
-pub total_placed : (t : TableForm) (q : QuadForm) → IsLow t
+pub total_placed : (t : TableContent) (q : QuadContent) → IsLow t
     → q ≡ quad_of t.width (contributions t.terms) → quad_total q ≤ 4 * terms_total t.terms
 total_placed t q low made =
     omega (
@@ -108,7 +108,7 @@ couplers_from_pairs n [] pairs nonzero = tt
 couplers_from_pairs n (e ∷ es) pairs nonzero =
     (record { upward = pairs.0.upward; within = pairs.0.within; nonzero = nonzero.0 }, couplers_from_pairs n es pairs.1 nonzero.1)
 
-pub IsQuad-settled : (q : QuadForm) (diagonal : List ℤ) (made couplers : List Entry)
+pub IsQuad-settled : (q : QuadContent) (diagonal : List ℤ) (made couplers : List Entry)
     → length q.diagonal < 2 ^ 32 → All (IsPair (length q.diagonal)) q.couplers
     → quad_total q ≤ 2 ^ 124 → diagonal ≡ q.diagonal → AreSummed q.couplers made → couplers ≡ made
     → IsQuad (record { constant = q.constant; diagonal = diagonal; couplers = couplers })

@@ -3,7 +3,7 @@ use Rattle.std.proofs.Common.{◌≡◌, ℕ, ◌<◌, ◌≤◌, ℤ, List, [],
 use Rattle.problem_form.specs.declared.literal.Literal.{Literal}
 use Rattle.problem_form.specs.Literals.{IsLiteralSet}
 use Rattle.term_table.specs.Terms.{IsTermSet}
-use Rattle.term_table.specs.Tables.{TableForm, with_added}
+use Rattle.term_table.specs.Tables.{TableContent, with_added}
 use Rattle.term_table.proofs.SmallSets.{IsTermSet-none, IsTermSet-one, IsTermSet-two}
 use Rattle.quad_form.specs.Flat.{IsFlat}
 use Rattle.quad_form.specs.laws.Flattened.{two_in_order}
@@ -16,9 +16,9 @@ IsTermSet-flat width (l ∷ k ∷ m ∷ ls) flat = absurd flat
 
 -- ---- a table to which a set was added
 
-pub width-added : (t r : TableForm) (ls : List Literal) (c : ℤ) → r ≡ with_added t ls c
+pub width-added : (t r : TableContent) (ls : List Literal) (c : ℤ) → r ≡ with_added t ls c
     → r.width ≡ t.width
-width-added t r ls c e = ap (λ (s : TableForm). s.width) e
+width-added t r ls c e = ap (λ (s : TableContent). s.width) e
 
 -- ---- the literals of a set, by place
 

@@ -1,5 +1,5 @@
--- A quadratic form is told by its constant, its weights of nodes and the sum that it has for each pair, and
--- for terms over variables these are the sums of the coefficients of a set.
+-- A quadratic form is told by its constant, its weights of nodes and the sum that it has for each
+-- pair, and for terms over variables these are the sums of the coefficients of a set.
 use Rattle.std.proofs.Common.{◌≡◌, inl, inr, ℕ, ◌*◌, ◌<◌, ◌≤◌, ◌^◌, Bool, true, false, ◌&&◌, eqb, ℤ, pos, ◌+ℤ◌, List, [], ◌∷◌, length, get_or, fold, refl, sym, ap, subst, ◌∙◌, arith}
 use Rattle.std.specs.Prelude.{slice_set}
 use Rattle.std.specs.List.{AllByRecursion, slice_index_or}
@@ -16,13 +16,13 @@ use Rattle.integers.proofs.Totals.{total_by_push}
 use Rattle.bits_model.specs.declared.output.Entry.{Entry}
 use Rattle.problem_form.specs.declared.literal.Literal.{Literal}
 use Rattle.problem_form.specs.Literals.{literal_cmp}
-use Rattle.term_table.specs.Terms.{Term, set_cmp, coefficient_of, collected, terms_total}
-use Rattle.term_table.specs.Tables.{TableForm, IsTable, IsLow}
-use Rattle.term_table.proofs.Additions.{coefficient_of-collected, terms_total-collected}
-use Rattle.term_table.proofs.KeptTerms.{OfSet, AreTerms-collected}
-use Rattle.quad_form.specs.Quads.{QuadForm, IsCoupler, IsQuad}
-use Rattle.quad_form.specs.Flat.{contributions, pair_entry, placed, zero_form, quad_of, image, IsFlat}
-use Rattle.quad_form.specs.laws.Flattened.{length-placed, flat_sets, flat_contributions}
+use Rattle.term_table.specs.Terms.{Term, set_cmp, coefficient_of, with_additions, terms_total}
+use Rattle.term_table.specs.Tables.{TableContent, IsTable, IsLow}
+use Rattle.term_table.proofs.Additions.{coefficient_of-with_additions, terms_total-with_additions}
+use Rattle.term_table.proofs.KeptTerms.{OfSet, AreTerms-with_additions}
+use Rattle.quad_form.specs.Quads.{QuadContent, IsCoupler, IsQuad}
+use Rattle.quad_form.specs.Flat.{contributions, pair_entry, with_term, zero_quad, quad_of, image, IsFlat}
+use Rattle.quad_form.specs.laws.Flattened.{length-with_term, flat_sets, flat_contributions}
 use Rattle.quad_form.specs.Pairs.{IsNonzero, weight_for, weight_at, pair_number, IsSettled}
 use Rattle.quad_form.proofs.FlatForms.{width_of, IsQuad-of}
 use Rattle.quad_form.proofs.FlatSets.{IsTermSet-flat}
@@ -156,13 +156,13 @@ two_are i j l k e f =
 abbrev AreFlat : ℕ → List Term → Type 0
 AreFlat width ts = AllByRecursion (OfSet (IsFlat width)) ts
 
-constant-fold : (q : QuadForm) (ts : List Term)
-    → (fold placed q ts).constant ≡ q.constant +ℤ coefficient_of [] ts
+constant-fold : (q : QuadContent) (ts : List Term)
+    → (fold with_term q ts).constant ≡ q.constant +ℤ coefficient_of [] ts
 constant-fold q [] = omega (arith, ints)
-constant-fold q (([], c) ∷ ts) = omega (arith, ints, constant-fold (placed q ([], c)) ts)
-constant-fold q ((l ∷ [], c) ∷ ts) = omega (arith, ints, constant-fold (placed q (l ∷ [], c)) ts)
+constant-fold q (([], c) ∷ ts) = omega (arith, ints, constant-fold (with_term q ([], c)) ts)
+constant-fold q ((l ∷ [], c) ∷ ts) = omega (arith, ints, constant-fold (with_term q (l ∷ [], c)) ts)
 constant-fold q ((l ∷ k ∷ ls, c) ∷ ts) =
-    omega (arith, ints, constant-fold (placed q (l ∷ k ∷ ls, c)) ts)
+    omega (arith, ints, constant-fold (with_term q (l ∷ k ∷ ls, c)) ts)
 
 -- a node's weight grows by the coefficients of its own terms alone
 grown : (ws : List ℤ) (i n : ℕ) (c : ℤ) → n < length ws
@@ -179,18 +179,18 @@ grown ws i n c in' = go (eqb i n) (Decides-eqb i n)
         let kept = get_or-set_other ws n i (slice_index_or ws n (pos 0) +ℤ c) (pos 0) (λ e. let yes = d.1 e in cc) in
         omega (arith, ints, kept)
 
-node-placed : (q : QuadForm) (i : ℕ) (ls : List Literal) (c : ℤ) → IsFlat (length q.diagonal) ls
-    → get_or (placed q (ls, c)).diagonal i (pos 0)
+node-with_term : (q : QuadContent) (i : ℕ) (ls : List Literal) (c : ℤ) → IsFlat (length q.diagonal) ls
+    → get_or (with_term q (ls, c)).diagonal i (pos 0)
     ≡ get_or q.diagonal i (pos 0) +ℤ if_so (is_eq (set_cmp (node i ∷ []) ls)) c
-node-placed q i [] c flat = omega (arith, ints)
-node-placed q i (l ∷ []) c flat =
+node-with_term q i [] c flat = omega (arith, ints)
+node-with_term q i (l ∷ []) c flat =
     rw (one_is i l flat.plain) (grown q.diagonal i l.variable c flat.within)
-node-placed q i (l ∷ k ∷ ls) c flat =
+node-with_term q i (l ∷ k ∷ ls) c flat =
     rw (then_less (literal_cmp (node i) l)) (omega (arith, ints))
 
-node-fold : (q : QuadForm) (width i : ℕ) (ts : List Term) → length q.diagonal ≡ width
+node-fold : (q : QuadContent) (width i : ℕ) (ts : List Term) → length q.diagonal ≡ width
     → AreFlat width ts
-    → get_or (fold placed q ts).diagonal i (pos 0)
+    → get_or (fold with_term q ts).diagonal i (pos 0)
     ≡ get_or q.diagonal i (pos 0) +ℤ coefficient_of (node i ∷ []) ts
 node-fold q width i [] same flat = omega (arith, ints)
 node-fold q width i (t ∷ ts) same flat =
@@ -198,77 +198,77 @@ node-fold q width i (t ∷ ts) same flat =
     omega (
       arith,
       ints,
-      node-fold (placed q t) width i ts (length-placed q t ∙ same) flat.1,
-      node-placed q i t.0 t.1 (subst P (sym same) flat.0),
+      node-fold (with_term q t) width i ts (length-with_term q t ∙ same) flat.1,
+      node-with_term q i t.0 t.1 (subst P (sym same) flat.0),
     )
 
-pair-placed : (q : QuadForm) (i j width : ℕ) (ls : List Literal) (c : ℤ) → IsFlat width ls
-    → weight_at i j (placed q (ls, c)).couplers
+pair-with_term : (q : QuadContent) (i j width : ℕ) (ls : List Literal) (c : ℤ) → IsFlat width ls
+    → weight_at i j (with_term q (ls, c)).couplers
     ≡ weight_at i j q.couplers +ℤ if_so (is_eq (set_cmp (node i ∷ node j ∷ []) ls)) c
-pair-placed q i j width [] c flat = omega (arith, ints)
-pair-placed q i j width (l ∷ []) c flat =
+pair-with_term q i j width [] c flat = omega (arith, ints)
+pair-with_term q i j width (l ∷ []) c flat =
     rw (then_greater (literal_cmp (node i) l)) (omega (arith, ints))
-pair-placed q i j width (l ∷ k ∷ []) c flat =
+pair-with_term q i j width (l ∷ k ∷ []) c flat =
     rw (two_are i j l k flat.0.plain flat.1.plain)
     (total_by_push (weight_for i j) q.couplers (pair_entry l k c))
-pair-placed q i j width (l ∷ k ∷ m ∷ ls) c flat = absurd flat
+pair-with_term q i j width (l ∷ k ∷ m ∷ ls) c flat = absurd flat
 
-pair-fold : (q : QuadForm) (i j width : ℕ) (ts : List Term) → AreFlat width ts
-    → weight_at i j (fold placed q ts).couplers
+pair-fold : (q : QuadContent) (i j width : ℕ) (ts : List Term) → AreFlat width ts
+    → weight_at i j (fold with_term q ts).couplers
     ≡ weight_at i j q.couplers +ℤ coefficient_of (node i ∷ node j ∷ []) ts
 pair-fold q i j width [] flat = omega (arith, ints)
 pair-fold q i j width (t ∷ ts) flat =
     omega (
       arith,
       ints,
-      pair-fold (placed q t) i j width ts flat.1,
-      pair-placed q i j width t.0 t.1 flat.0,
+      pair-fold (with_term q t) i j width ts flat.1,
+      pair-with_term q i j width t.0 t.1 flat.0,
     )
 
 -- ---- terms and the table of their sums
 
 constants_agree : (width : ℕ) (ts : List Term)
-    → (quad_of width ts).constant ≡ (quad_of width (collected [] ts)).constant
+    → (quad_of width ts).constant ≡ (quad_of width (with_additions [] ts)).constant
 constants_agree width ts =
     omega (
       arith,
       ints,
-      constant-fold (zero_form width) ts,
-      constant-fold (zero_form width) (collected [] ts),
-      coefficient_of-collected [] ts,
+      constant-fold (zero_quad width) ts,
+      constant-fold (zero_quad width) (with_additions [] ts),
+      coefficient_of-with_additions [] ts,
     )
 
-nodes_agree : (width i : ℕ) (ts : List Term) → AreFlat width ts → AreFlat width (collected [] ts)
+nodes_agree : (width i : ℕ) (ts : List Term) → AreFlat width ts → AreFlat width (with_additions [] ts)
     → get_or (quad_of width ts).diagonal i (pos 0)
-    ≡ get_or (quad_of width (collected [] ts)).diagonal i (pos 0)
+    ≡ get_or (quad_of width (with_additions [] ts)).diagonal i (pos 0)
 nodes_agree width i ts flat sums =
     omega (
       arith,
       ints,
-      node-fold (zero_form width) width i ts (length-replicate width (pos 0)) flat,
-      node-fold (zero_form width) width i (collected [] ts) (length-replicate width (pos 0)) sums,
-      coefficient_of-collected (node i ∷ []) ts,
+      node-fold (zero_quad width) width i ts (length-replicate width (pos 0)) flat,
+      node-fold (zero_quad width) width i (with_additions [] ts) (length-replicate width (pos 0)) sums,
+      coefficient_of-with_additions (node i ∷ []) ts,
     )
 
-diagonals_agree : (width : ℕ) (ts : List Term) → AreFlat width ts → AreFlat width (collected [] ts)
-    → (quad_of width ts).diagonal ≡ (quad_of width (collected [] ts)).diagonal
+diagonals_agree : (width : ℕ) (ts : List Term) → AreFlat width ts → AreFlat width (with_additions [] ts)
+    → (quad_of width ts).diagonal ≡ (quad_of width (with_additions [] ts)).diagonal
 diagonals_agree width ts flat sums =
-    let lengths = width_of width ts ∙ sym (width_of width (collected [] ts)) in
+    let lengths = width_of width ts ∙ sym (width_of width (with_additions [] ts)) in
     same_lists _ _ lengths (λ k d in'.
     get_or_default (quad_of width ts).diagonal k d (pos 0) in'
     ∙ nodes_agree width k ts flat sums
-    ∙ get_or_default (quad_of width (collected [] ts)).diagonal k (pos 0) d (subst (λ n. k < n) lengths in'))
+    ∙ get_or_default (quad_of width (with_additions [] ts)).diagonal k (pos 0) d (subst (λ n. k < n) lengths in'))
 
-pairs_agree : (width i j : ℕ) (ts : List Term) → AreFlat width ts → AreFlat width (collected [] ts)
+pairs_agree : (width i j : ℕ) (ts : List Term) → AreFlat width ts → AreFlat width (with_additions [] ts)
     → weight_at i j (quad_of width ts).couplers
-    ≡ weight_at i j (quad_of width (collected [] ts)).couplers
+    ≡ weight_at i j (quad_of width (with_additions [] ts)).couplers
 pairs_agree width i j ts flat sums =
     omega (
       arith,
       ints,
-      pair-fold (zero_form width) i j width ts flat,
-      pair-fold (zero_form width) i j width (collected [] ts) sums,
-      coefficient_of-collected (node i ∷ node j ∷ []) ts,
+      pair-fold (zero_quad width) i j width ts flat,
+      pair-fold (zero_quad width) i j width (with_additions [] ts) sums,
+      coefficient_of-with_additions (node i ∷ node j ∷ []) ts,
     )
 
 -- ---- the image
@@ -284,7 +284,7 @@ nonzero_couplers : (n : ℕ) (es : List Entry) → AllByRecursion (IsCoupler n) 
 nonzero_couplers n [] all = tt
 nonzero_couplers n (e ∷ es) all = (all.0.nonzero, nonzero_couplers n es all.1)
 
-same_couplers : (q r : QuadForm) → IsQuad q → IsQuad r
+same_couplers : (q r : QuadContent) → IsQuad q → IsQuad r
     → ((i j : ℕ) → weight_at i j q.couplers ≡ weight_at i j r.couplers)
     → q.couplers ≡ r.couplers
 same_couplers q r a b same =
@@ -297,18 +297,18 @@ same_couplers q r a b same =
     (rising_from_ordered r.couplers other_pairs b.ordered)
     (nonzero_couplers _ q.couplers all) (nonzero_couplers _ r.couplers others) same
 
-IsQuad-image : (t : TableForm) → IsTable t → IsLow t → t.width < 2 ^ 32
+IsQuad-image : (t : TableContent) → IsTable t → IsLow t → t.width < 2 ^ 32
     → 4 * terms_total t.terms ≤ 2 ^ 124 → IsQuad (image t)
 IsQuad-image t table low narrow small =
     let ts = contributions t.terms in
     let short = recursion_from_All _ _ low in
     let flat = flat_contributions t.width t.terms (recursion_from_All _ _ table.terms.sets) short in
-    IsQuad-of t.width (collected [] ts) narrow (flat_sets t table low)
-    (AreTerms-collected t.width ts (All-weaker _ _ (λ (u : Term) h. IsTermSet-flat t.width u.0 h) ts flat))
-    (omega (arith, terms_total-collected ts, terms_total-contributions t.terms short))
+    IsQuad-of t.width (with_additions [] ts) narrow (flat_sets t table low)
+    (AreTerms-with_additions t.width ts (All-weaker _ _ (λ (u : Term) h. IsTermSet-flat t.width u.0 h) ts flat))
+    (omega (arith, terms_total-with_additions ts, terms_total-contributions t.terms short))
 
 -- what the terms of a table place, each pair once, is the table's image
-pub settled_is_image : (t : TableForm) (q r : QuadForm) → IsTable t → IsLow t → t.width < 2 ^ 32
+pub settled_is_image : (t : TableContent) (q r : QuadContent) → IsTable t → IsLow t → t.width < 2 ^ 32
     → 4 * terms_total t.terms ≤ 2 ^ 124
     → q ≡ quad_of t.width (contributions t.terms) → IsSettled q r → IsQuad r → r ≡ image t
 settled_is_image t q r table low narrow small made settled kept =
@@ -316,10 +316,10 @@ settled_is_image t q r table low narrow small made settled kept =
     let flat = recursion_from_All _ _ (flat_contributions t.width t.terms (recursion_from_All _ _ table.terms.sets) (recursion_from_All _ _ low)) in
     let sums = recursion_from_All _ _ (flat_sets t table low) in
     let constant : r.constant ≡ (image t).constant =
-    settled.constant ∙ ap (λ (p : QuadForm). p.constant) made ∙ constants_agree t.width ts in
+    settled.constant ∙ ap (λ (p : QuadContent). p.constant) made ∙ constants_agree t.width ts in
     let diagonal : r.diagonal ≡ (image t).diagonal =
-    settled.diagonal ∙ ap (λ (p : QuadForm). p.diagonal) made ∙ diagonals_agree t.width ts flat sums in
+    settled.diagonal ∙ ap (λ (p : QuadContent). p.diagonal) made ∙ diagonals_agree t.width ts flat sums in
     let couplers : r.couplers ≡ (image t).couplers =
     same_couplers r (image t) kept (IsQuad-image t table low narrow small)
-    (λ i j. settled.sums i j ∙ ap (λ (p : QuadForm). weight_at i j p.couplers) made ∙ pairs_agree t.width i j ts flat sums) in
+    (λ i j. settled.sums i j ∙ ap (λ (p : QuadContent). weight_at i j p.couplers) made ∙ pairs_agree t.width i j ts flat sums) in
     λ k. record { constant = constant k; diagonal = diagonal k; couplers = couplers k }

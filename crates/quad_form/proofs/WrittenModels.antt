@@ -1,4 +1,5 @@
--- The model of a quadratic form: it is well formed, and has the form's energies but for the constant.
+-- The model of a quadratic form: it is well formed, and has the form's energies but for the
+-- constant.
 use Rattle.std.proofs.Common.{◌≡◌, ℕ, ◌≤◌, ◌⊎◌, inl, inr, ℤ, pos, neg_ℤ, ◌+ℤ◌, ◌*ℤ◌, ◌≤ℤ◌, ◌<ℤ◌, Bool, List, length, take, refl, sym, ap, ◌∙◌, arith}
 use Rattle.std.proofs.lemmas.Int.{ints}
 use Rattle.std.proofs.lemmas.List.Elements.{recursion_from_All}
@@ -7,11 +8,11 @@ use Rattle.bits_model.specs.declared.costs.Figures.{Figures}
 use Rattle.bits_model.specs.Costs.{Form}
 use Rattle.bits_model.specs.Relations.{Decoding, Relaxes}
 use Rattle.bits_model.specs.Output.{IsWellFormed, bits_energy}
-use Rattle.quad_form.specs.Quads.{QuadForm, IsQuad, form_of, written_of, entries_of}
+use Rattle.quad_form.specs.Quads.{QuadContent, IsQuad, form_of, written_of, entries_of}
 use Rattle.quad_form.specs.Stated.{RelaxesAsWritten}
 use Rattle.quad_form.proofs.NodeEntries.{nodes_ordered, couplers_up, all_placed, has_each_node, all_nonzero}
 
-pub written_is_well_formed : (q : QuadForm) (variables : ℕ) (figures : Figures) (unit : ℤ)
+pub written_is_well_formed : (q : QuadContent) (variables : ℕ) (figures : Figures) (unit : ℤ)
     → IsQuad q → variables ≤ length q.diagonal → pos 1 ≤ℤ figures.scale → pos 1 ≤ℤ unit
     → IsWellFormed (written_of q variables figures unit)
 written_is_well_formed q variables figures unit quad enough scale one = record {
@@ -30,9 +31,9 @@ written_is_well_formed q variables figures unit quad enough scale one = record {
 }
 
 -- in a unit that is 1, or without a constant, the constant is counted once
-counted_once : (u c e : ℤ) → (u ≡ pos 1) ⊎ (c ≡ pos 0) → u *ℤ (c +ℤ e) ≡ c +ℤ u *ℤ e
-counted_once u c e (inl one) = rw one (omega (arith, ints))
-counted_once u c e (inr none) =
+count_afterce : (u c e : ℤ) → (u ≡ pos 1) ⊎ (c ≡ pos 0) → u *ℤ (c +ℤ e) ≡ c +ℤ u *ℤ e
+count_afterce u c e (inl one) = rw one (omega (arith, ints))
+count_afterce u c e (inr none) =
     let sum : pos 0 +ℤ e ≡ e = omega (arith, ints) in
     rw none (ap (λ z. u *ℤ z) sum ∙ omega (arith, ints))
 
@@ -53,7 +54,7 @@ moved_below : (s v b c t : ℤ) → (s *ℤ v +ℤ b) ≤ℤ t
     → (s *ℤ v +ℤ (b +ℤ neg_ℤ c)) ≤ℤ (t +ℤ neg_ℤ c)
 moved_below s v b c t h = omega (arith, ints)
 
-pub written_relaxes : (source : Form) (q : QuadForm) (d : Decoding) (variables : ℕ)
+pub written_relaxes : (source : Form) (q : QuadContent) (d : Decoding) (variables : ℕ)
     (figures : Figures) (unit : ℤ) → (unit ≡ pos 1) ⊎ (q.constant ≡ pos 0)
     → ((y : List Bool) → d.decoded y ≡ take variables y)
     → Relaxes source (form_of q) d unit figures
@@ -86,4 +87,4 @@ written_relaxes source q d variables n unit counted same p = record {
     sum y = total_by (bits_energy y) (entries_of q)
 
     once : (y : List Bool) → unit *ℤ (q.constant +ℤ sum y) ≡ q.constant +ℤ unit *ℤ sum y
-    once y = counted_once unit q.constant (sum y) counted
+    once y = count_afterce unit q.constant (sum y) counted

@@ -1,17 +1,17 @@
 -- The quadratic form of a table whose terms have at most two literals.
 --
--- Each complement is replaced by 1 - x and everything is multiplied out: the sum for the empty set is
--- the constant, the sum for a single variable is that node's weight, and the sums for pairs that are
--- not 0 are the couplers, in order.
+-- Each complement is replaced by 1 - x and everything is multiplied out: the sum for the empty set
+-- is the constant, the sum for a single variable is that node's weight, and the sums for pairs that
+-- are not 0 are the couplers, in order.
 use Rattle.std.specs.Prelude.{◌≡◌, ℕ, ◌<◌, ⊤, ℤ, pos, neg_ℤ, ◌+ℤ◌, false, List, [], ◌∷◌, ◌++◌, map, fold, replicate, slice_set, if◌then◌else◌}
 use Rattle.std.specs.List.{flat_map, slice_index_or}
 use Rattle.bits_model.specs.declared.output.Entry.{Entry}
 use Rattle.bits_model.specs.declared.layer.BitsLink.{BitsLink}
 use Rattle.bits_model.specs.Relations.{Decoding}
 use Rattle.problem_form.specs.declared.literal.Literal.{Literal}
-use Rattle.term_table.specs.Terms.{Term, collected}
-use Rattle.term_table.specs.Tables.{TableForm, IsTable, IsLow}
-use Rattle.quad_form.specs.Quads.{QuadForm}
+use Rattle.term_table.specs.Terms.{Term, with_additions}
+use Rattle.term_table.specs.Tables.{TableContent, IsTable, IsLow}
+use Rattle.quad_form.specs.Quads.{QuadContent}
 
 -- ---- a term, multiplied out
 
@@ -24,16 +24,16 @@ abbrev pub with_front : Literal → List Term → List Term
 with_front l ts = map (λ t. (l ∷ t.0, t.1)) ts
 
 -- the terms over variables that a term is the sum of
-abbrev pub multiplied_out : List Literal → ℤ → List Term
-multiplied_out [] c = ([], c) ∷ []
-multiplied_out (l ∷ ls) c =
+abbrev pub plain_terms : List Literal → ℤ → List Term
+plain_terms [] c = ([], c) ∷ []
+plain_terms (l ∷ ls) c =
     if l.negated
-    then multiplied_out ls c ++ with_front (plain l) (multiplied_out ls (neg_ℤ c))
-    else with_front (plain l) (multiplied_out ls c)
+    then plain_terms ls c ++ with_front (plain l) (plain_terms ls (neg_ℤ c))
+    else with_front (plain l) (plain_terms ls c)
 
 -- all terms, multiplied out one after another
 abbrev pub contributions : List Term → List Term
-contributions ts = flat_map (λ t. multiplied_out t.0 t.1) ts
+contributions ts = flat_map (λ t. plain_terms t.0 t.1) ts
 
 -- ---- the sets that are left
 
@@ -55,27 +55,27 @@ IsFlat width (l ∷ k ∷ m ∷ ls) = ⊥
 abbrev pub pair_entry : Literal → Literal → ℤ → Entry
 pair_entry l k c = record { first = l.variable; second = k.variable; weight = c }
 
--- a term with its place: the constant, a node's weight or a coupler
-abbrev pub placed : QuadForm → Term → QuadForm
-placed q ([], c) = record q { constant = q.constant +ℤ c }
-placed q (l ∷ [], c) = record q {
+-- a form with one more term in its place: the constant, a node's weight or a coupler
+abbrev pub with_term : QuadContent → Term → QuadContent
+with_term q ([], c) = record q { constant = q.constant +ℤ c }
+with_term q (l ∷ [], c) = record q {
   diagonal = slice_set q.diagonal l.variable (slice_index_or q.diagonal l.variable (pos 0) +ℤ c);
 }
-placed q (l ∷ k ∷ ls, c) = record q { couplers = q.couplers ++ pair_entry l k c ∷ [] }
+with_term q (l ∷ k ∷ ls, c) = record q { couplers = q.couplers ++ pair_entry l k c ∷ [] }
 
 -- the form of so many nodes that is 0
-abbrev pub zero_form : ℕ → QuadForm
-zero_form width = record { constant = pos 0; diagonal = replicate width (pos 0); couplers = [] }
+abbrev pub zero_quad : ℕ → QuadContent
+zero_quad width = record { constant = pos 0; diagonal = replicate width (pos 0); couplers = [] }
 
 -- the form that terms over variables make, one after another
-abbrev pub quad_of : ℕ → List Term → QuadForm
-quad_of width ts = fold placed (zero_form width) ts
+abbrev pub quad_of : ℕ → List Term → QuadContent
+quad_of width ts = fold with_term (zero_quad width) ts
 
 -- ---- the layer's members
 
 -- the quadratic form of the sums
-abbrev pub image : TableForm → QuadForm
-image t = quad_of t.width (collected [] (contributions t.terms))
+abbrev pub image : TableContent → QuadContent
+image t = quad_of t.width (with_additions [] (contributions t.terms))
 
 -- states are assignments
 abbrev pub same_bits : BitsLink → Decoding
@@ -90,7 +90,7 @@ abbrev pub IsSound : BitsLink → Type 0
 IsSound link = link.source_width ≡ link.target_width
 
 -- a link between a table of low terms and its image, which adds no nodes
-pub record Fits (link : BitsLink) (t : TableForm) : Type 0 where
+pub record Fits (link : BitsLink) (t : TableContent) : Type 0 where
   pub source : link.source_width ≡ t.width
   pub target : link.target_width ≡ t.width
   pub table : IsTable t

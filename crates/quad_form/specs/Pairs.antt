@@ -5,7 +5,7 @@ use Rattle.std.specs.Ordering.{int_eq}
 use Rattle.integers.specs.Sums.{total_by, if_so}
 use Rattle.bits_model.specs.declared.output.Entry.{Entry}
 use Rattle.bits_model.specs.Output.{entry_cmp, weight_total}
-use Rattle.quad_form.specs.Quads.{QuadForm}
+use Rattle.quad_form.specs.Quads.{QuadContent}
 
 -- a pair of the first n nodes
 pub record IsPair (n : ℕ) (e : Entry) : Type 0 where
@@ -39,17 +39,17 @@ abbrev pub entry_in_front : Entry → List Entry → List Entry
 entry_in_front e es = if int_eq e.weight (pos 0) then es else e ∷ es
 
 -- entries after a first one, with those of one pair that stand side by side as one
-abbrev pub summed_from : Entry → List Entry → List Entry
-summed_from e [] = entry_in_front e []
-summed_from e (f ∷ fs) =
+abbrev pub sums_from : Entry → List Entry → List Entry
+sums_from e [] = entry_in_front e []
+sums_from e (f ∷ fs) =
     if pair_number e == pair_number f
-    then summed_from (heavier e f.weight) fs
-    else entry_in_front e (summed_from f fs)
+    then sums_from (heavier e f.weight) fs
+    else entry_in_front e (sums_from f fs)
 
 -- neighbours of one pair as one entry with their sum, and none of weight 0
-abbrev pub summed : List Entry → List Entry
-summed [] = []
-summed (e ∷ es) = summed_from e es
+abbrev pub sums_of : List Entry → List Entry
+sums_of [] = []
+sums_of (e ∷ es) = sums_from e es
 
 -- ---- each pair once
 
@@ -62,7 +62,7 @@ pub record AreSummed (from to : List Entry) : Type 0 where
   pub small : weight_total to ≤ weight_total from
 
 -- a form with the same constant, the same weights of nodes, and the same sum for each pair
-pub record IsSettled (q r : QuadForm) : Type 0 where
+pub record IsSettled (q r : QuadContent) : Type 0 where
   pub constant : r.constant ≡ q.constant
   pub diagonal : r.diagonal ≡ q.diagonal
   pub sums : (i j : ℕ) → weight_at i j r.couplers ≡ weight_at i j q.couplers

@@ -13,7 +13,7 @@ use Rattle.bits_model.specs.Relations.{figures_moved}
 use Rattle.bits_model.specs.Output.{Written, entry_cmp, bits_energy, weight_total, entry_size}
 
 -- what a quadratic form says
-pub record QuadForm : Type 0 where
+pub record QuadContent : Type 0 where
   pub constant : ℤ
   pub diagonal : List ℤ
   pub couplers : List Entry
@@ -24,25 +24,25 @@ node_entries n [] = []
 node_entries n (w ∷ ws) = record { first = n; second = n; weight = w } ∷ node_entries (suc n) ws
 
 -- the entries of nodes, and then those of couplers
-abbrev pub entries_of : QuadForm → List Entry
+abbrev pub entries_of : QuadContent → List Entry
 entries_of q = node_entries 0 q.diagonal ++ q.couplers
 
 -- the constant, the weights of the nodes that are 1 and those of the couplers whose ends are both 1
-abbrev pub quad_value : QuadForm → List Bool → ℤ
+abbrev pub quad_value : QuadContent → List Bool → ℤ
 quad_value q y = q.constant +ℤ total_by (bits_energy y) (entries_of q)
 
 -- its width is the number of nodes, and its cost the value
-abbrev pub form_of : QuadForm → Form
+abbrev pub form_of : QuadContent → Form
 form_of q = record { bits = length q.diagonal; cost = λ y. Whole (quad_value q y) }
 
 -- ---- its sizes
 
 -- the sizes of all weights and of the constant
-abbrev pub quad_total : QuadForm → ℕ
+abbrev pub quad_total : QuadContent → ℕ
 quad_total q = unsigned_abs q.constant + weight_total (entries_of q)
 
 -- the nodes, and the squares of the degrees of all terms
-abbrev pub quad_size : QuadForm → ℕ
+abbrev pub quad_size : QuadContent → ℕ
 quad_size q =
     length q.diagonal + (if int_eq q.constant (pos 0) then 0 else 1)
     + sum_by entry_size (entries_of q)
@@ -56,7 +56,7 @@ pub record IsCoupler (n : ℕ) (e : Entry) : Type 0 where
   pub nonzero : e.weight ≢ pos 0
 
 -- couplers of its nodes, in order and none twice
-pub record IsQuad (q : QuadForm) : Type 0 where
+pub record IsQuad (q : QuadContent) : Type 0 where
   pub ordered : IsStrictlySortedBy entry_cmp q.couplers
   pub couplers : All (IsCoupler (length q.diagonal)) q.couplers
   pub narrow : length q.diagonal < 2 ^ 32
@@ -66,7 +66,7 @@ pub record IsQuad (q : QuadForm) : Type 0 where
 
 -- the model of a form, in a unit: entries carry no constant, and so it is taken off the offset and
 -- the threshold
-abbrev pub written_of : QuadForm → ℕ → Figures → ℤ → Written
+abbrev pub written_of : QuadContent → ℕ → Figures → ℤ → Written
 written_of q variables figures unit = record {
   kind = Qubo;
   variables = variables;

@@ -5,11 +5,11 @@ use Rattle.bits_model.specs.Costs.{Form}
 use Rattle.bits_model.specs.Relations.{Decoding, Relaxes}
 use Rattle.bits_model.specs.Output.{Written, IsWellFormed, decoding_of}
 use Rattle.bits_model.specs.Output as output
-use Rattle.quad_form.specs.Quads.{QuadForm, IsQuad, form_of, written_of}
+use Rattle.quad_form.specs.Quads.{QuadContent, IsQuad, form_of, written_of}
 
 -- the model of a quadratic form is well formed
 abbrev pub WrittenIsWellFormed : Type 0
-WrittenIsWellFormed = (q : QuadForm) (variables : ℕ) (figures : Figures) (unit : ℤ) → IsQuad q
+WrittenIsWellFormed = (q : QuadContent) (variables : ℕ) (figures : Figures) (unit : ℤ) → IsQuad q
     → variables ≤ length q.diagonal → pos 1 ≤ℤ figures.scale → pos 1 ≤ℤ unit
     → IsWellFormed (written_of q variables figures unit)
 
@@ -20,8 +20,8 @@ RelaxesAsWritten source m = Relaxes source (output.form_of m) (decoding_of m) m.
 -- where the form relaxes a source in a unit, and its states decode to their first bits, its model
 -- does too; the unit is 1, or the form has no constant
 abbrev pub WrittenRelaxes : Type 0
-WrittenRelaxes = (source : Form) (q : QuadForm) (d : Decoding) (variables : ℕ) (figures : Figures)
-    (unit : ℤ) → (unit ≡ pos 1) ⊎ (q.constant ≡ pos 0)
+WrittenRelaxes = (source : Form) (q : QuadContent) (d : Decoding) (variables : ℕ)
+    (figures : Figures) (unit : ℤ) → (unit ≡ pos 1) ⊎ (q.constant ≡ pos 0)
     → ((y : List Bool) → d.decoded y ≡ take variables y)
     → Relaxes source (form_of q) d unit figures
     → RelaxesAsWritten source (written_of q variables figures unit)

@@ -1,10 +1,10 @@
 //! Couplers that were gathered in any order, as those of a form.
 //!
-//! They are sorted by their pairs, neighbours of one pair are summed in place, and sums of 0 are left
-//! out. Couplers that are in order already cost one pass.
+//! They are sorted by their pairs, neighbours of one pair are summed in place, and sums of 0 are
+//! left out. Couplers that are in order already cost one pass.
 ghost use Rattle.std.specs.Prelude.{◌≡◌, ◌+◌, ◌<◌, ◌≤◌, ◌^◌, ◌++◌, [], ℕ, All, drop, length, take};
 ghost use Rattle.bits_model.specs.Output.{weight_total};
-ghost use Rattle.quad_form.specs.Pairs.{pair_number, entry_in_front, summed, IsPair, AreSummed};
+ghost use Rattle.quad_form.specs.Pairs.{pair_number, entry_in_front, sums_of, IsPair, AreSummed};
 
 use bits_model::Entry;
 
@@ -18,8 +18,8 @@ fn pair_number(entry: &Entry) -> u64
     entry.first as u64 * NODE_LIMIT + entry.second as u64
 }
 
-/// Stores an entry after the first `kept`, unless its weight is 0. The result says how many are kept
-/// then.
+/// Stores an entry after the first `kept`, unless its weight is 0. The result says how many are
+/// kept then.
 fn store(entries: &mut [Entry], kept: usize, entry: Entry) -> usize
     requires { kept < length entries.old }
     ensures stored { take result entries.new ≡ take kept entries.old ++ entry_in_front entry [] }
@@ -36,7 +36,7 @@ fn store(entries: &mut [Entry], kept: usize, entry: Entry) -> usize
 /// Sums neighbours of one pair, and says how many entries are kept.
 fn sum_neighbours(entries: &mut [Entry]) -> usize
     requires { weight_total entries.old ≤ 2 ^ 124 }
-    ensures { take result entries.new ≡ summed entries.old }
+    ensures { take result entries.new ≡ sums_of entries.old }
 {
     if entries.is_empty() {
         return 0;
@@ -56,7 +56,7 @@ fn sum_neighbours(entries: &mut [Entry]) -> usize
 }
 
 /// The couplers in order, one for each pair whose sum is not 0.
-pub fn settled(mut couplers: Vec<Entry>) -> Vec<Entry>
+pub fn sorted_sums(mut couplers: Vec<Entry>) -> Vec<Entry>
     requires pairs { All (IsPair (2 ^ 32)) couplers.items }
     requires small { weight_total couplers.items ≤ 2 ^ 124 }
     ensures { AreSummed couplers.items result.items }

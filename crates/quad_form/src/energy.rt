@@ -18,7 +18,7 @@ fn bit_at(y: &[bool], node: usize) -> bool
 }
 
 /// The weight of a node that is 1, and 0 for one that is not.
-fn counted(bit: bool, weight: &i128) -> i128
+fn node_energy(bit: bool, weight: &i128) -> i128
     ensures { result ≡ if_so bit weight.now }
 {
     if bit { *weight } else { 0 }
@@ -31,7 +31,7 @@ fn diagonal_energy(y: &[bool], diagonal: &[i128]) -> i128
 {
     let mut energy: i128 = 0;
     for (i, weight) in diagonal.iter().enumerate() {
-        energy += counted(bit_at(y, i), weight);
+        energy += node_energy(bit_at(y, i), weight);
     }
     energy
 }

@@ -1,14 +1,14 @@
 //! The layer that makes a quadratic form of a table of low terms.
 //!
-//! Each complement is replaced by 1 less its variable. What that gives goes to its place at once: to
-//! the constant, to a node's weight, or among the couplers, of which a pair may have several. In the
-//! end they are sorted, so that each pair has one coupler, and a pair whose sum is 0 has none.
+//! Each complement is replaced by 1 less its variable. What that gives goes to its place at once:
+//! to the constant, to a node's weight, or among the couplers, of which a pair may have several. In
+//! the end they are sorted, so that each pair has one coupler, and a pair whose sum is 0 has none.
 ghost use Rattle.std.specs.Prelude.{◌≡◌, ◌+◌, ◌*◌, ◌<◌, ◌≤◌, ◌^◌, [], ◌∷◌, false, IfOk, OnOk, fold, length, unsigned_abs};
 ghost use Rattle.problem_form.specs.Literals.{IsLiteralSet};
 ghost use Rattle.term_table.specs.Terms.{terms_total};
 ghost use Rattle.term_table.specs.Tables.{IsTable, IsLow};
 ghost use Rattle.quad_form.specs.Quads.{quad_total};
-ghost use Rattle.quad_form.specs.Flat.{plain, with_front, multiplied_out, contributions, placed, quad_of};
+ghost use Rattle.quad_form.specs.Flat.{plain, with_front, plain_terms, contributions, with_term, quad_of};
 
 use crate::parts::Parts;
 use crate::quad::Quad;
@@ -37,7 +37,7 @@ fn place_one(parts: &mut Parts, literal: &Literal, coefficient: i128) -> Result<
     requires narrow { length parts.old.diagonal < 2 ^ 32 }
     requires small { quad_total parts.old + 2 * unsigned_abs coefficient ≤ 2 ^ 124 }
     ensures { OnOk result
-        (parts.new ≡ fold placed parts.old (multiplied_out (literal.now ∷ []) coefficient)) }
+        (parts.new ≡ fold with_term parts.old (plain_terms (literal.now ∷ []) coefficient)) }
 {
     let variable = plain(literal);
     if literal.negated {
@@ -60,8 +60,8 @@ fn place_after(
     requires within { literal.now.variable < length parts.old.diagonal }
     requires narrow { length parts.old.diagonal < 2 ^ 32 }
     requires small { quad_total parts.old + 2 * unsigned_abs coefficient ≤ 2 ^ 124 }
-    ensures { OnOk result (parts.new ≡ fold placed parts.old
-        (with_front variable (multiplied_out (literal.now ∷ []) coefficient))) }
+    ensures { OnOk result (parts.new ≡ fold with_term parts.old
+        (with_front variable (plain_terms (literal.now ∷ []) coefficient))) }
 {
     let second = plain(literal);
     if literal.negated {
@@ -83,8 +83,8 @@ fn place_two(
     requires within { second.now.variable < length parts.old.diagonal }
     requires narrow { length parts.old.diagonal < 2 ^ 32 }
     requires small { quad_total parts.old + 4 * unsigned_abs coefficient ≤ 2 ^ 124 }
-    ensures { OnOk result (parts.new ≡ fold placed parts.old
-        (multiplied_out (first.now ∷ second.now ∷ []) coefficient)) }
+    ensures { OnOk result (parts.new ≡ fold with_term parts.old
+        (plain_terms (first.now ∷ second.now ∷ []) coefficient)) }
 {
     let variable = plain(first);
     if first.negated {
@@ -102,7 +102,7 @@ fn place_term(parts: &mut Parts, literals: &[Literal], coefficient: i128) -> Res
     requires narrow { length parts.old.diagonal < 2 ^ 32 }
     requires small { quad_total parts.old + 4 * unsigned_abs coefficient ≤ 2 ^ 124 }
     ensures { OnOk result
-        (parts.new ≡ fold placed parts.old (multiplied_out literals.now coefficient)) }
+        (parts.new ≡ fold with_term parts.old (plain_terms literals.now coefficient)) }
 {
     match literals {
         [] => parts.place(literals, coefficient),
@@ -112,7 +112,7 @@ fn place_term(parts: &mut Parts, literals: &[Literal], coefficient: i128) -> Res
 }
 
 /// What the terms are multiplied out to, each in its place.
-fn placed(alloc: Global, table: &LowTable) -> Result<Parts, NoMemory>
+fn parts_of(alloc: Global, table: &LowTable) -> Result<Parts, NoMemory>
     requires narrow { table.now.width < 2 ^ 32 }
     requires total { (terms_total table.now.terms + 1) * 2 ^ 2 ≤ 2 ^ 124 }
     ensures placed { IfOk result (λ parts.
@@ -179,7 +179,7 @@ impl Layer for Flatten {
 
     fn lower(&self, alloc: Global, source: &LowTable) -> Result<Lowered<Quad, BitsLink>, NoMemory> {
         let width = source.width();
-        let parts = placed(alloc, source)?;
+        let parts = parts_of(alloc, source)?;
         Ok(Lowered {
             target: parts.into_quad(),
             link: BitsLink {

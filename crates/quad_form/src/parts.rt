@@ -1,10 +1,10 @@
 //! A quadratic form that is being made.
 ghost use Rattle.std.specs.Prelude.{◌≡◌, ◌+◌, ◌<◌, ◌≤◌, ◌^◌, All, IfOk, OnOk, length, unsigned_abs};
 ghost use Rattle.quad_form.specs.Quads.{quad_total, IsQuad};
-ghost use Rattle.quad_form.specs.Flat.{placed, zero_form, IsFlat};
+ghost use Rattle.quad_form.specs.Flat.{with_term, zero_quad, IsFlat};
 ghost use Rattle.quad_form.specs.Pairs.{IsPair, IsSettled};
 
-use crate::couplers::settled;
+use crate::couplers::sorted_sums;
 use crate::quad::{NumberList, Quad};
 use bits_model::{Entry, EntryList, NoMemory};
 use problem_form::Literal;
@@ -20,9 +20,9 @@ pub struct Parts {
 }
 
 impl Model for Parts {
-    ghost use Rattle.quad_form.specs.Quads.{QuadForm};
+    ghost use Rattle.quad_form.specs.Quads.{QuadContent};
 
-    ghost Value = { QuadForm };
+    ghost Value = { QuadContent };
 
     ghost view = { λ p. record {
       constant = p.constant;
@@ -34,7 +34,7 @@ impl Model for Parts {
 impl Parts {
     /// The form of so many nodes that is 0.
     pub fn zero(alloc: Global, width: usize) -> Result<Parts, NoMemory>
-        ensures { IfOk result (λ p. p ≡ zero_form width) }
+        ensures { IfOk result (λ p. p ≡ zero_quad width) }
     {
         Ok(Parts {
             constant: 0,
@@ -48,7 +48,7 @@ impl Parts {
         requires flat { IsFlat (length self.old.diagonal) literals.now }
         requires narrow { length self.old.diagonal < 2 ^ 32 }
         requires small { quad_total self.old + unsigned_abs coefficient ≤ 2 ^ 124 }
-        ensures { OnOk result (self.new ≡ placed self.old (literals.now, coefficient)) }
+        ensures { OnOk result (self.new ≡ with_term self.old (literals.now, coefficient)) }
     {
         match literals {
             [] => self.constant += coefficient,
@@ -73,7 +73,7 @@ impl Parts {
         Quad {
             constant: self.constant,
             diagonal: NumberList::new(self.diagonal),
-            couplers: EntryList::new(settled(self.couplers)),
+            couplers: EntryList::new(sorted_sums(self.couplers)),
         }
     }
 }

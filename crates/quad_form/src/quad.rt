@@ -19,9 +19,9 @@ pub struct Quad {
 }
 
 impl Model for Quad {
-    ghost use Rattle.quad_form.specs.Quads.{QuadForm, IsQuad};
+    ghost use Rattle.quad_form.specs.Quads.{QuadContent, IsQuad};
 
-    ghost Value = { QuadForm };
+    ghost Value = { QuadContent };
 
     ghost view = { λ q. record {
       constant = q.constant;

@@ -1,5 +1,5 @@
-//! The same program as `compile_program`, with the error line on the standard output, so that a stored
-//! run shows an exit status other than 0 and the line for it.
+//! The same program as `compile_program`, with the error line on the standard output, so that a
+//! stored run shows an exit status other than 0 and the line for it.
 #![tactic(auto)]
 
 use edge_io::RealSink;

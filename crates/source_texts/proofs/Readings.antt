@@ -6,7 +6,7 @@ use Rattle.bits_model.specs.Costs.{Form, Source, IsOf}
 use Rattle.bits_model.specs.Relations.{Decoding, Relaxes}
 use Rattle.bits_model.specs.Stated.{HasSameCosts, DecodesAlike}
 use Rattle.bits_model.proofs.Alike.{relaxes_alike}
-use Rattle.problem_form.specs.Problems.{ProblemForm, form_of}
+use Rattle.problem_form.specs.Problems.{ProblemContent, form_of}
 use Rattle.problem_form.specs.Limits.{upper}
 use Rattle.source_texts.specs.Sources.{own, first_decoded, StandsFor}
 
@@ -17,7 +17,7 @@ all_bits_first f g d u n p y w =
     take_all f.bits (d.decoded y) (omega (arith, p.width y w))
 
 -- a problem with the costs of a source, and its upper bound, stands for it
-pub same_costs_stand : (s : Source) (p : ProblemForm) → HasSameCosts (form_of p) s.form
+pub same_costs_stand : (s : Source) (p : ProblemContent) → HasSameCosts (form_of p) s.form
     → upper p ≡ s.upper → StandsFor s (own p)
 same_costs_stand s p same bound = record {
   variables = same.width;

@@ -3,7 +3,7 @@ use Rattle.std.proofs.Common.{◌≡◌, ℕ, List, [], Ok, Err, Result, refl, a
 use Rattle.bits_model.specs.Costs.{Source}
 use Rattle.whole_text.specs.declared.faults.TextFault.{TextFault}
 use Rattle.whole_text.specs.Steps.{◌>>=◌}
-use Rattle.problem_form.specs.Problems.{ProblemForm}
+use Rattle.problem_form.specs.Problems.{ProblemContent}
 use Rattle.problem_form.specs.NormalForm.{normal_form}
 use Rattle.wcnf_reader.specs.Wcnf.{Wcnf, reading}
 use Rattle.wcnf_reader.specs.Cost.{problem_of, normal_reading, source_of}
@@ -35,15 +35,15 @@ wcnf_stands text r e = from_reading (reading text) r e
 
 -- ---- its problem
 
-unconstrained_from : (said : Result Wcnf TextFault) (p : ProblemForm)
+unconstrained_from : (said : Result Wcnf TextFault) (p : ProblemContent)
     → (said >>= λ s. Ok (normal_form (problem_of s))) ≡ Ok p → p.constraints ≡ []
 unconstrained_from (Err fault) p e = absurd cc
 unconstrained_from (Ok s) p e =
     let same : normal_form (problem_of s) ≡ p = cc in
-    sym (ap (λ (q : ProblemForm). q.constraints) same)
+    sym (ap (λ (q : ProblemContent). q.constraints) same)
 
 -- it has clauses alone
-pub wcnf_is_unconstrained : (text : List ℕ) (p : ProblemForm) → normal_reading text ≡ Ok p
+pub wcnf_is_unconstrained : (text : List ℕ) (p : ProblemContent) → normal_reading text ≡ Ok p
     → p.constraints ≡ []
 unfolding normal_reading
 wcnf_is_unconstrained text p e = unconstrained_from (reading text) p e

@@ -5,7 +5,7 @@ use Rattle.bits_model.specs.Costs.{Form, Source}
 use Rattle.bits_model.specs.Relations.{Decoding, Relaxes}
 use Rattle.whole_text.specs.declared.faults.TextFault.{TextFault}
 use Rattle.whole_text.specs.Steps.{◌>>=◌}
-use Rattle.problem_form.specs.Problems.{ProblemForm, form_of}
+use Rattle.problem_form.specs.Problems.{ProblemContent, form_of}
 use Rattle.problem_form.specs.Limits.{upper}
 use Rattle.command_words.specs.declared.commands.Format.{Format}
 use Rattle.command_words.specs.declared.commands.Format.TheVariants.{Wcnf}
@@ -18,7 +18,7 @@ abbrev pub source_of : Format → List ℕ → Result Source TextFault
 source_of Wcnf text = wcnf.reading text >>= λ s. Ok (wcnf_cost.source_of s)
 
 -- a problem whose variables are all the source's own
-abbrev pub own : ProblemForm → Read
+abbrev pub own : ProblemContent → Read
 own p = record { problem = p; variables = p.variables }
 
 -- its problem in normal form, or the first fault of the text

@@ -20,8 +20,8 @@ abbrev pub is_one : ℕ → Bool
 is_one byte = (byte == 49) || (byte == 43)
 
 -- a line without the blanks at both of its ends
-abbrev pub trimmed : List ℕ → List ℕ
-trimmed line =
+abbrev pub trimmed_line : List ℕ → List ℕ
+trimmed_line line =
     let rest = drop (prefix_len is_blank line) line in
     take (length rest - suffix_len is_blank rest) rest
 
@@ -35,7 +35,7 @@ is_state width bytes = (length bytes == width) && list_all is_bit bytes
 
 -- the lines of a text, without the blanks at their ends
 abbrev pub lines_of : List ℕ → List (List ℕ)
-lines_of text = map trimmed (slice_split is_feed text)
+lines_of text = map trimmed_line (slice_split is_feed text)
 
 -- the bits of the first line that is a state of this many bits
 abbrev pub state_of : ℕ → List ℕ → Option (List Bool)

@@ -5,6 +5,7 @@ ghost use Rattle.state_file.specs.declared.answer.StateAnswer.TheVariants.{NoMem
 
 use bits_model::NoMemory;
 
+/// Why no state was read from a text.
 #[derive(Clone, Copy, Debug, PartialEq, Eq)]
 pub enum StateAnswer {
     /// No line of the text is a state of the length that was asked for.

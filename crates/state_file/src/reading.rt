@@ -21,7 +21,7 @@ ghost use Rattle.state_file.specs.States.{
   is_one,
   is_bit,
   is_state,
-  trimmed,
+  trimmed_line,
   lines_of,
   state_of,
 };
@@ -65,8 +65,8 @@ fn blanks_at_end(line: &[u8]) -> usize
         .count()
 }
 
-fn trimmed(line: &[u8]) -> &[u8]
-    ensures { result.now ≡ trimmed line.now }
+fn trimmed_line(line: &[u8]) -> &[u8]
+    ensures { result.now ≡ trimmed_line line.now }
 {
     let rest = &line[blanks_in_front(line)..];
     &rest[..rest.len() - blanks_at_end(rest)]
@@ -96,7 +96,7 @@ fn state_line(text: &[u8], width: usize) -> Option<&[u8]>
     ensures { option_copied result ≡ find (is_state width) (lines_of text.now) }
 {
     text.split(|byte| *byte == b'\n')
-        .map(|line| trimmed(line))
+        .map(|line| trimmed_line(line))
         .find(|line| is_state(line, width))
 }
 

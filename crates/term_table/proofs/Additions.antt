@@ -1,8 +1,8 @@
 -- What additions do to sums over a table.
 --
--- A sum of the coefficients of the sets that pass a test grows by exactly what is added; a sum of sizes
--- grows by at most that. Each is proved for one addition, by the order of the added set and the first
--- one, and then for a list of additions.
+-- A sum of the coefficients of the sets that pass a test grows by exactly what is added; a sum of
+-- sizes grows by at most that. Each is proved for one addition, by the order of the added set and
+-- the first one, and then for a list of additions.
 use Rattle.std.proofs.Common.{◌≡◌, ℕ, ◌+◌, ◌≤◌, Bool, true, false, cond, arith, sym, ap, refl, List, [], ◌∷◌, ℤ, pos, ◌+ℤ◌, unsigned_abs, sum_by, ◌++◌}
 use Rattle.std.specs.Ordering.{int_eq, is_eq, match_ordering}
 use Rattle.std.specs.declared.cmp.Ordering.{Ordering}
@@ -15,7 +15,7 @@ use Rattle.integers.specs.Sums.{total_by, if_so}
 use Rattle.integers.proofs.Totals.{size-plus}
 use Rattle.problem_form.specs.declared.literal.Literal.{Literal}
 use Rattle.problem_form.specs.Literals.{all_hold}
-use Rattle.term_table.specs.Terms.{Term, set_cmp, set_size, terms_cost, terms_total, terms_size, coefficient_of, in_front, added, collected}
+use Rattle.term_table.specs.Terms.{Term, set_cmp, set_size, terms_cost, terms_total, terms_size, coefficient_of, in_front, with_addition, with_additions}
 use Rattle.term_table.proofs.SetOrder.{same_set}
 
 -- ---- the sum of the coefficients whose sets pass a test
@@ -40,14 +40,14 @@ weight-in_front test ls c ts = go (int_eq c (pos 0)) (Decides-int_eq c (pos 0))
     go true d = omega (arith, ints, if_so-zero (test ls) c (d.0 refl))
     go false d = refl
 
-weight-added : (test : List Literal → Bool) (ts : List Term) (ls : List Literal) (c : ℤ)
-    → weight test (added ts ls c) ≡ weight test ts +ℤ if_so (test ls) c
-weight-added test [] ls c = omega (arith, ints, weight-in_front test ls c [])
-weight-added test (t ∷ ts) ls c = go (set_cmp ls t.0) refl (weight-added test ts ls c)
+weight-with_addition : (test : List Literal → Bool) (ts : List Term) (ls : List Literal) (c : ℤ)
+    → weight test (with_addition ts ls c) ≡ weight test ts +ℤ if_so (test ls) c
+weight-with_addition test [] ls c = omega (arith, ints, weight-in_front test ls c [])
+weight-with_addition test (t ∷ ts) ls c = go (set_cmp ls t.0) refl (weight-with_addition test ts ls c)
   where
     go : (o : Ordering) → set_cmp ls t.0 ≡ o
-        → weight test (added ts ls c) ≡ weight test ts +ℤ if_so (test ls) c
-        → weight test (match_ordering o (in_front ls c (t ∷ ts)) (in_front t.0 (t.1 +ℤ c) ts) (t ∷ added ts ls c))
+        → weight test (with_addition ts ls c) ≡ weight test ts +ℤ if_so (test ls) c
+        → weight test (match_ordering o (in_front ls c (t ∷ ts)) (in_front t.0 (t.1 +ℤ c) ts) (t ∷ with_addition ts ls c))
         ≡ weight test (t ∷ ts) +ℤ if_so (test ls) c
     go Less e rest = omega (arith, ints, weight-in_front test ls c (t ∷ ts))
     go Equal e rest =
@@ -62,29 +62,29 @@ weight-added test (t ∷ ts) ls c = go (set_cmp ls t.0) refl (weight-added test 
         )
     go Greater e rest = omega (arith, ints)
 
-weight-collected : (test : List Literal → Bool) (table ts : List Term)
-    → weight test (collected table ts) ≡ weight test table +ℤ weight test ts
-weight-collected test table [] = omega (arith, ints)
-weight-collected test table (t ∷ ts) =
+weight-with_additions : (test : List Literal → Bool) (table ts : List Term)
+    → weight test (with_additions table ts) ≡ weight test table +ℤ weight test ts
+weight-with_additions test table [] = omega (arith, ints)
+weight-with_additions test table (t ∷ ts) =
     omega (
       arith,
       ints,
-      weight-collected test (added table t.0 t.1) ts,
-      weight-added test table t.0 t.1,
+      weight-with_additions test (with_addition table t.0 t.1) ts,
+      weight-with_addition test table t.0 t.1,
     )
 
-pub terms_cost-added : (x : List Bool) (ts : List Term) (ls : List Literal) (c : ℤ)
-    → terms_cost x (added ts ls c) ≡ terms_cost x ts +ℤ if_so (all_hold x ls) c
-terms_cost-added x ts ls c = weight-added (all_hold x) ts ls c
+pub terms_cost-with_addition : (x : List Bool) (ts : List Term) (ls : List Literal) (c : ℤ)
+    → terms_cost x (with_addition ts ls c) ≡ terms_cost x ts +ℤ if_so (all_hold x ls) c
+terms_cost-with_addition x ts ls c = weight-with_addition (all_hold x) ts ls c
 
-pub terms_cost-collected : (x : List Bool) (ts : List Term)
-    → terms_cost x (collected [] ts) ≡ terms_cost x ts
-terms_cost-collected x ts = omega (arith, ints, weight-collected (all_hold x) [] ts)
+pub terms_cost-with_additions : (x : List Bool) (ts : List Term)
+    → terms_cost x (with_additions [] ts) ≡ terms_cost x ts
+terms_cost-with_additions x ts = omega (arith, ints, weight-with_additions (all_hold x) [] ts)
 
-pub coefficient_of-collected : (ls : List Literal) (ts : List Term)
-    → coefficient_of ls (collected [] ts) ≡ coefficient_of ls ts
-coefficient_of-collected ls ts =
-    omega (arith, ints, weight-collected (λ ks. is_eq (set_cmp ls ks)) [] ts)
+pub coefficient_of-with_additions : (ls : List Literal) (ts : List Term)
+    → coefficient_of ls (with_additions [] ts) ≡ coefficient_of ls ts
+coefficient_of-with_additions ls ts =
+    omega (arith, ints, weight-with_additions (λ ks. is_eq (set_cmp ls ks)) [] ts)
 
 -- ---- the sum of the sizes of the coefficients
 
@@ -101,13 +101,13 @@ terms_total-in_front ls c ts = go (int_eq c (pos 0))
     go true = omega arith
     go false = omega (arith, terms_total-cons (ls, c) ts)
 
-pub terms_total-added : (ts : List Term) (ls : List Literal) (c : ℤ)
-    → terms_total (added ts ls c) ≤ terms_total ts + unsigned_abs c
-terms_total-added [] ls c = omega (arith, terms_total-in_front ls c [])
-terms_total-added (t ∷ ts) ls c = go (set_cmp ls t.0) (terms_total-added ts ls c)
+pub terms_total-with_addition : (ts : List Term) (ls : List Literal) (c : ℤ)
+    → terms_total (with_addition ts ls c) ≤ terms_total ts + unsigned_abs c
+terms_total-with_addition [] ls c = omega (arith, terms_total-in_front ls c [])
+terms_total-with_addition (t ∷ ts) ls c = go (set_cmp ls t.0) (terms_total-with_addition ts ls c)
   where
-    go : (o : Ordering) → terms_total (added ts ls c) ≤ terms_total ts + unsigned_abs c
-        → terms_total (match_ordering o (in_front ls c (t ∷ ts)) (in_front t.0 (t.1 +ℤ c) ts) (t ∷ added ts ls c))
+    go : (o : Ordering) → terms_total (with_addition ts ls c) ≤ terms_total ts + unsigned_abs c
+        → terms_total (match_ordering o (in_front ls c (t ∷ ts)) (in_front t.0 (t.1 +ℤ c) ts) (t ∷ with_addition ts ls c))
         ≤ terms_total (t ∷ ts) + unsigned_abs c
     go Less rest = omega (arith, terms_total-in_front ls c (t ∷ ts))
     go Equal rest =
@@ -117,22 +117,22 @@ terms_total-added (t ∷ ts) ls c = go (set_cmp ls t.0) (terms_total-added ts ls
           size-plus t.1 c,
           terms_total-cons t ts,
         )
-    go Greater rest = omega (arith, terms_total-cons t ts, terms_total-cons t (added ts ls c))
+    go Greater rest = omega (arith, terms_total-cons t ts, terms_total-cons t (with_addition ts ls c))
 
 -- the additions to a table that isn't empty
 pub terms_total-more : (table ts : List Term)
-    → terms_total (collected table ts) ≤ terms_total table + terms_total ts
+    → terms_total (with_additions table ts) ≤ terms_total table + terms_total ts
 terms_total-more table [] = omega arith
 terms_total-more table (t ∷ ts) =
     omega (
       arith,
-      terms_total-more (added table t.0 t.1) ts,
-      terms_total-added table t.0 t.1,
+      terms_total-more (with_addition table t.0 t.1) ts,
+      terms_total-with_addition table t.0 t.1,
       terms_total-cons t ts,
     )
 
-pub terms_total-collected : (ts : List Term) → terms_total (collected [] ts) ≤ terms_total ts
-terms_total-collected ts = omega (arith, terms_total-more [] ts)
+pub terms_total-with_additions : (ts : List Term) → terms_total (with_additions [] ts) ≤ terms_total ts
+terms_total-with_additions ts = omega (arith, terms_total-more [] ts)
 
 pub terms_total-append : (ts us : List Term)
     → terms_total (ts ++ us) ≡ terms_total ts + terms_total us
@@ -156,34 +156,34 @@ sets_sum-in_front f ls c ts = go (int_eq c (pos 0))
     go true = omega arith
     go false = omega (arith, sets_sum-cons f (ls, c) ts)
 
-sets_sum-added : (f : List Literal → ℕ) (ts : List Term) (ls : List Literal) (c : ℤ)
-    → sets_sum f (added ts ls c) ≤ sets_sum f ts + f ls
-sets_sum-added f [] ls c = omega (arith, sets_sum-in_front f ls c [])
-sets_sum-added f (t ∷ ts) ls c = go (set_cmp ls t.0) (sets_sum-added f ts ls c)
+sets_sum-with_addition : (f : List Literal → ℕ) (ts : List Term) (ls : List Literal) (c : ℤ)
+    → sets_sum f (with_addition ts ls c) ≤ sets_sum f ts + f ls
+sets_sum-with_addition f [] ls c = omega (arith, sets_sum-in_front f ls c [])
+sets_sum-with_addition f (t ∷ ts) ls c = go (set_cmp ls t.0) (sets_sum-with_addition f ts ls c)
   where
-    go : (o : Ordering) → sets_sum f (added ts ls c) ≤ sets_sum f ts + f ls
-        → sets_sum f (match_ordering o (in_front ls c (t ∷ ts)) (in_front t.0 (t.1 +ℤ c) ts) (t ∷ added ts ls c))
+    go : (o : Ordering) → sets_sum f (with_addition ts ls c) ≤ sets_sum f ts + f ls
+        → sets_sum f (match_ordering o (in_front ls c (t ∷ ts)) (in_front t.0 (t.1 +ℤ c) ts) (t ∷ with_addition ts ls c))
         ≤ sets_sum f (t ∷ ts) + f ls
     go Less rest = omega (arith, sets_sum-in_front f ls c (t ∷ ts))
     go Equal rest =
         omega (arith, sets_sum-in_front f t.0 (t.1 +ℤ c) ts, sets_sum-cons f t ts)
-    go Greater rest = omega (arith, sets_sum-cons f t ts, sets_sum-cons f t (added ts ls c))
+    go Greater rest = omega (arith, sets_sum-cons f t ts, sets_sum-cons f t (with_addition ts ls c))
 
 sets_sum-more : (f : List Literal → ℕ) (table ts : List Term)
-    → sets_sum f (collected table ts) ≤ sets_sum f table + sets_sum f ts
+    → sets_sum f (with_additions table ts) ≤ sets_sum f table + sets_sum f ts
 sets_sum-more f table [] = omega arith
 sets_sum-more f table (t ∷ ts) =
     omega (
       arith,
-      sets_sum-more f (added table t.0 t.1) ts,
-      sets_sum-added f table t.0 t.1,
+      sets_sum-more f (with_addition table t.0 t.1) ts,
+      sets_sum-with_addition f table t.0 t.1,
       sets_sum-cons f t ts,
     )
 
 -- each set of the table stands among the additions, once
-pub sets_sum-collected : (f : List Literal → ℕ) (ts : List Term)
-    → sets_sum f (collected [] ts) ≤ sets_sum f ts
-sets_sum-collected f ts = omega (arith, sets_sum-more f [] ts)
+pub sets_sum-with_additions : (f : List Literal → ℕ) (ts : List Term)
+    → sets_sum f (with_additions [] ts) ≤ sets_sum f ts
+sets_sum-with_additions f ts = omega (arith, sets_sum-more f [] ts)
 
 -- ---- the sum of the squares of the degrees
 
@@ -191,9 +191,9 @@ pub terms_size-cons : (t : Term) (ts : List Term)
     → terms_size (t ∷ ts) ≡ set_size t.0 + terms_size ts
 terms_size-cons t ts = sets_sum-cons set_size t ts
 
-pub terms_size-added : (ts : List Term) (ls : List Literal) (c : ℤ)
-    → terms_size (added ts ls c) ≤ terms_size ts + set_size ls
-terms_size-added ts ls c = sets_sum-added set_size ts ls c
+pub terms_size-with_addition : (ts : List Term) (ls : List Literal) (c : ℤ)
+    → terms_size (with_addition ts ls c) ≤ terms_size ts + set_size ls
+terms_size-with_addition ts ls c = sets_sum-with_addition set_size ts ls c
 
-pub terms_size-collected : (ts : List Term) → terms_size (collected [] ts) ≤ terms_size ts
-terms_size-collected ts = sets_sum-collected set_size ts
+pub terms_size-with_additions : (ts : List Term) → terms_size (with_additions [] ts) ≤ terms_size ts
+terms_size-with_additions ts = sets_sum-with_additions set_size ts

@@ -1,5 +1,5 @@
--- What additions keep: the terms stay in order, none is 0, and what holds of the sets of the table and
--- of the added sets holds of all sets.
+-- What additions keep: the terms stay in order, none is 0, and what holds of the sets of the table
+-- and of the added sets holds of all sets.
 use Rattle.std.proofs.Common.{◌≡◌, ◌≢◌, ℕ, Bool, true, false, cond, ap, ◌∙◌, refl, List, [], ◌∷◌, ℤ, pos, ◌+ℤ◌}
 use Rattle.std.specs.Prelude.{All}
 use Rattle.std.specs.List.{AllByRecursion}
@@ -12,7 +12,7 @@ use Rattle.std.specs.Bool.{Decides}
 use Rattle.std.proofs.lemmas.Bool.Decides.{Decides-int_eq}
 use Rattle.std.proofs.lemmas.List.Elements.{All-nil, All-cons, All-head, All-tail}
 use Rattle.problem_form.specs.declared.literal.Literal.{Literal}
-use Rattle.term_table.specs.Terms.{Term, set_cmp, in_front, added, collected, Ascends, AreTerms, IsTermSet}
+use Rattle.term_table.specs.Terms.{Term, set_cmp, in_front, with_addition, with_additions, Ascends, AreTerms, IsTermSet}
 use Rattle.term_table.proofs.SetOrder.{set_total}
 
 -- ---- what holds of each set
@@ -29,34 +29,34 @@ All-in_front P ls c ts here all = go (int_eq c (pos 0))
     go true = all
     go false = All-cons (OfSet P) (ls, c) ts here all
 
-pub All-added : (P : List Literal → Type 0) (ts : List Term) (ls : List Literal) (c : ℤ)
-    → All (OfSet P) ts → P ls → All (OfSet P) (added ts ls c)
-All-added P [] ls c all here = All-in_front P ls c [] here all
-All-added P (t ∷ ts) ls c all here =
-    go (set_cmp ls t.0) (All-added P ts ls c (All-tail (OfSet P) t ts all) here)
+pub All-with_addition : (P : List Literal → Type 0) (ts : List Term) (ls : List Literal) (c : ℤ)
+    → All (OfSet P) ts → P ls → All (OfSet P) (with_addition ts ls c)
+All-with_addition P [] ls c all here = All-in_front P ls c [] here all
+All-with_addition P (t ∷ ts) ls c all here =
+    go (set_cmp ls t.0) (All-with_addition P ts ls c (All-tail (OfSet P) t ts all) here)
   where
-    go : (o : Ordering) → All (OfSet P) (added ts ls c)
+    go : (o : Ordering) → All (OfSet P) (with_addition ts ls c)
         → All (OfSet P)
-        (match_ordering o (in_front ls c (t ∷ ts)) (in_front t.0 (t.1 +ℤ c) ts) (t ∷ added ts ls c))
+        (match_ordering o (in_front ls c (t ∷ ts)) (in_front t.0 (t.1 +ℤ c) ts) (t ∷ with_addition ts ls c))
     go Less rest = All-in_front P ls c (t ∷ ts) here all
     go Equal rest =
         All-in_front P t.0 (t.1 +ℤ c) ts (All-head (OfSet P) t ts all)
         (All-tail (OfSet P) t ts all)
     go Greater rest =
-        All-cons (OfSet P) t (added ts ls c) (All-head (OfSet P) t ts all) rest
+        All-cons (OfSet P) t (with_addition ts ls c) (All-head (OfSet P) t ts all) rest
 
 All-more : (P : List Literal → Type 0) (table ts : List Term) → All (OfSet P) table
-    → All (OfSet P) ts → All (OfSet P) (collected table ts)
+    → All (OfSet P) ts → All (OfSet P) (with_additions table ts)
 All-more P table [] all each = all
 All-more P table (t ∷ ts) all each =
-    All-more P (added table t.0 t.1) ts
-    (All-added P table t.0 t.1 all (All-head (OfSet P) t ts each))
+    All-more P (with_addition table t.0 t.1) ts
+    (All-with_addition P table t.0 t.1 all (All-head (OfSet P) t ts each))
     (All-tail (OfSet P) t ts each)
 
 -- what holds of each added set holds of each set of the table
-pub All-collected : (P : List Literal → Type 0) (ts : List Term) → All (OfSet P) ts
-    → All (OfSet P) (collected [] ts)
-All-collected P ts each = All-more P [] ts (All-nil (OfSet P)) each
+pub All-with_additions : (P : List Literal → Type 0) (ts : List Term) → All (OfSet P) ts
+    → All (OfSet P) (with_additions [] ts)
+All-with_additions P ts each = All-more P [] ts (All-nil (OfSet P)) each
 
 -- ---- no coefficient is 0
 
@@ -71,18 +71,18 @@ nonzero-in_front ls c ts all = go (int_eq c (pos 0)) (Decides-int_eq c (pos 0))
     go true d = all
     go false d = All-cons IsNonzero (ls, c) ts (λ e. let yes = d.1 e in cc) all
 
-nonzero-added : (ts : List Term) (ls : List Literal) (c : ℤ) → All IsNonzero ts
-    → All IsNonzero (added ts ls c)
-nonzero-added [] ls c all = nonzero-in_front ls c [] all
-nonzero-added (t ∷ ts) ls c all =
-    go (set_cmp ls t.0) (nonzero-added ts ls c (All-tail IsNonzero t ts all))
+nonzero-with_addition : (ts : List Term) (ls : List Literal) (c : ℤ) → All IsNonzero ts
+    → All IsNonzero (with_addition ts ls c)
+nonzero-with_addition [] ls c all = nonzero-in_front ls c [] all
+nonzero-with_addition (t ∷ ts) ls c all =
+    go (set_cmp ls t.0) (nonzero-with_addition ts ls c (All-tail IsNonzero t ts all))
   where
-    go : (o : Ordering) → All IsNonzero (added ts ls c)
+    go : (o : Ordering) → All IsNonzero (with_addition ts ls c)
         → All IsNonzero
-        (match_ordering o (in_front ls c (t ∷ ts)) (in_front t.0 (t.1 +ℤ c) ts) (t ∷ added ts ls c))
+        (match_ordering o (in_front ls c (t ∷ ts)) (in_front t.0 (t.1 +ℤ c) ts) (t ∷ with_addition ts ls c))
     go Less rest = nonzero-in_front ls c (t ∷ ts) all
     go Equal rest = nonzero-in_front t.0 (t.1 +ℤ c) ts (All-tail IsNonzero t ts all)
-    go Greater rest = All-cons IsNonzero t (added ts ls c) (All-head IsNonzero t ts all) rest
+    go Greater rest = All-cons IsNonzero t (with_addition ts ls c) (All-head IsNonzero t ts all) rest
 
 -- ---- the order
 
@@ -98,15 +98,15 @@ Under-in_front ks ls c ts less under = go (int_eq c (pos 0))
     go true = under
     go false = (less, under)
 
-Under-added : (ks : List Literal) (ts : List Term) (ls : List Literal) (c : ℤ)
-    → set_cmp ks ls ≡ Less → Under ks ts → Under ks (added ts ls c)
-Under-added ks [] ls c less under = Under-in_front ks ls c [] less under
-Under-added ks (t ∷ ts) ls c less under =
-    go (set_cmp ls t.0) (Under-added ks ts ls c less under.1)
+Under-with_addition : (ks : List Literal) (ts : List Term) (ls : List Literal) (c : ℤ)
+    → set_cmp ks ls ≡ Less → Under ks ts → Under ks (with_addition ts ls c)
+Under-with_addition ks [] ls c less under = Under-in_front ks ls c [] less under
+Under-with_addition ks (t ∷ ts) ls c less under =
+    go (set_cmp ls t.0) (Under-with_addition ks ts ls c less under.1)
   where
-    go : (o : Ordering) → Under ks (added ts ls c)
+    go : (o : Ordering) → Under ks (with_addition ts ls c)
         → Under ks
-        (match_ordering o (in_front ls c (t ∷ ts)) (in_front t.0 (t.1 +ℤ c) ts) (t ∷ added ts ls c))
+        (match_ordering o (in_front ls c (t ∷ ts)) (in_front t.0 (t.1 +ℤ c) ts) (t ∷ with_addition ts ls c))
     go Less rest = Under-in_front ks ls c (t ∷ ts) less under
     go Equal rest = Under-in_front ks t.0 (t.1 +ℤ c) ts under.0 under.1
     go Greater rest = (under.0, rest)
@@ -129,19 +129,19 @@ Ascends-in_front ls c ts under ascends = go (int_eq c (pos 0))
     go true = ascends
     go false = (under, ascends)
 
-Ascends-added : (ts : List Term) (ls : List Literal) (c : ℤ) → Ascends ts → Ascends (added ts ls c)
+Ascends-with_addition : (ts : List Term) (ls : List Literal) (c : ℤ) → Ascends ts → Ascends (with_addition ts ls c)
 unfolding IsStrictlySortedBy
-Ascends-added [] ls c ascends = Ascends-in_front ls c [] ascends ascends
-Ascends-added (t ∷ ts) ls c ascends =
-    go (set_cmp ls t.0) refl (Ascends-added ts ls c ascends.1)
+Ascends-with_addition [] ls c ascends = Ascends-in_front ls c [] ascends ascends
+Ascends-with_addition (t ∷ ts) ls c ascends =
+    go (set_cmp ls t.0) refl (Ascends-with_addition ts ls c ascends.1)
   where
-    go : (o : Ordering) → set_cmp ls t.0 ≡ o → Ascends (added ts ls c)
+    go : (o : Ordering) → set_cmp ls t.0 ≡ o → Ascends (with_addition ts ls c)
         → Ascends
-        (match_ordering o (in_front ls c (t ∷ ts)) (in_front t.0 (t.1 +ℤ c) ts) (t ∷ added ts ls c))
+        (match_ordering o (in_front ls c (t ∷ ts)) (in_front t.0 (t.1 +ℤ c) ts) (t ∷ with_addition ts ls c))
     go Less e rest =
         Ascends-in_front ls c (t ∷ ts) (e, Under-further ls t.0 ts e ascends.0) ascends
     go Equal e rest = Ascends-in_front t.0 (t.1 +ℤ c) ts ascends.0 ascends.1
-    go Greater e rest = (Under-added t.0 ts ls c (greater_back ls t.0 e) ascends.0, rest)
+    go Greater e rest = (Under-with_addition t.0 ts ls c (greater_back ls t.0 e) ascends.0, rest)
 
 -- ---- all three
 
@@ -156,40 +156,40 @@ AreTerms-nil width = record {
   nonzero = All-nil IsNonzero;
 }
 
-pub AreTerms-added : (width : ℕ) (ts : List Term) (ls : List Literal) (c : ℤ) → AreTerms width ts
-    → IsTermSet width ls → AreTerms width (added ts ls c)
-AreTerms-added width ts ls c terms here = record {
-  ordered = Ascends-added ts ls c terms.ordered;
-  sets = All-added (IsTermSet width) ts ls c terms.sets here;
-  nonzero = nonzero-added ts ls c terms.nonzero;
+pub AreTerms-with_addition : (width : ℕ) (ts : List Term) (ls : List Literal) (c : ℤ) → AreTerms width ts
+    → IsTermSet width ls → AreTerms width (with_addition ts ls c)
+AreTerms-with_addition width ts ls c terms here = record {
+  ordered = Ascends-with_addition ts ls c terms.ordered;
+  sets = All-with_addition (IsTermSet width) ts ls c terms.sets here;
+  nonzero = nonzero-with_addition ts ls c terms.nonzero;
 }
 
 AreTerms-more : (width : ℕ) (table ts : List Term) → AreTerms width table
-    → All (OfSet (IsTermSet width)) ts → AreTerms width (collected table ts)
+    → All (OfSet (IsTermSet width)) ts → AreTerms width (with_additions table ts)
 AreTerms-more width table [] terms each = terms
 AreTerms-more width table (t ∷ ts) terms each =
     let first = All-head (OfSet (IsTermSet width)) t ts each in
-    AreTerms-more width (added table t.0 t.1) ts (AreTerms-added width table t.0 t.1 terms first)
+    AreTerms-more width (with_addition table t.0 t.1) ts (AreTerms-with_addition width table t.0 t.1 terms first)
     (All-tail (OfSet (IsTermSet width)) t ts each)
 
-pub AreTerms-collected : (width : ℕ) (ts : List Term) → All (OfSet (IsTermSet width)) ts
-    → AreTerms width (collected [] ts)
-AreTerms-collected width ts each = AreTerms-more width [] ts (AreTerms-nil width) each
+pub AreTerms-with_additions : (width : ℕ) (ts : List Term) → All (OfSet (IsTermSet width)) ts
+    → AreTerms width (with_additions [] ts)
+AreTerms-with_additions width ts each = AreTerms-more width [] ts (AreTerms-nil width) each
 
 -- ---- the order, and that no coefficient is 0, of any additions
 
-Ascends-more : (table ts : List Term) → Ascends table → Ascends (collected table ts)
+Ascends-more : (table ts : List Term) → Ascends table → Ascends (with_additions table ts)
 Ascends-more table [] ascends = ascends
 Ascends-more table (t ∷ ts) ascends =
-    Ascends-more (added table t.0 t.1) ts (Ascends-added table t.0 t.1 ascends)
+    Ascends-more (with_addition table t.0 t.1) ts (Ascends-with_addition table t.0 t.1 ascends)
 
-pub Ascends-collected : (ts : List Term) → Ascends (collected [] ts)
-Ascends-collected ts = Ascends-more [] ts Ascends-nil
+pub Ascends-with_additions : (ts : List Term) → Ascends (with_additions [] ts)
+Ascends-with_additions ts = Ascends-more [] ts Ascends-nil
 
-nonzero-more : (table ts : List Term) → All IsNonzero table → All IsNonzero (collected table ts)
+nonzero-more : (table ts : List Term) → All IsNonzero table → All IsNonzero (with_additions table ts)
 nonzero-more table [] all = all
 nonzero-more table (t ∷ ts) all =
-    nonzero-more (added table t.0 t.1) ts (nonzero-added table t.0 t.1 all)
+    nonzero-more (with_addition table t.0 t.1) ts (nonzero-with_addition table t.0 t.1 all)
 
-pub nonzero-collected : (ts : List Term) → All IsNonzero (collected [] ts)
-nonzero-collected ts = nonzero-more [] ts (All-nil IsNonzero)
+pub nonzero-with_additions : (ts : List Term) → All IsNonzero (with_additions [] ts)
+nonzero-with_additions ts = nonzero-more [] ts (All-nil IsNonzero)

@@ -1,5 +1,5 @@
--- What an addition does to terms, by what a look-up finds: it writes the sum in its place, takes the
--- set out, puts it in, or leaves all as it is.
+-- What an addition does to terms, by what a look-up finds: it writes the sum in its place, takes
+-- the set out, puts it in, or leaves all as it is.
 use Rattle.std.proofs.Common.{◌≡◌, ◌≢◌, ◌≤◌, Bool, true, false, cond, arith, sym, ap, ◌∙◌, refl, List, [], ◌∷◌, ℤ, pos, ◌+ℤ◌, Option, Some, None, unsigned_abs}
 use Rattle.std.specs.Bool.{Decides}
 use Rattle.std.specs.Option.{unwrap_or}
@@ -14,7 +14,7 @@ use Rattle.std.proofs.lemmas.Map.{lookup-none, NonePasses}
 use Rattle.std.proofs.lemmas.Map.Keys.{sorted_tail}
 use Rattle.std.proofs.lemmas.Map.Entries.{none_below_head}
 use Rattle.problem_form.specs.declared.literal.Literal.{Literal}
-use Rattle.term_table.specs.Terms.{Term, set_cmp, terms_total, in_front, added, Ascends}
+use Rattle.term_table.specs.Terms.{Term, set_cmp, terms_total, in_front, with_addition, Ascends}
 use Rattle.term_table.specs.Entries.{IsRaised}
 use Rattle.term_table.proofs.SetOrder.{set_total}
 use Rattle.term_table.proofs.Additions.{terms_total-cons}
@@ -62,18 +62,18 @@ in_front-nonzero ls c ts nonzero = go (int_eq c (pos 0)) (Decides-int_eq c (pos 
     go true d = absurd (nonzero (d.0 refl))
     go false d = refl
 
-added-nonzero : (ts : List Term) (ls : List Literal) (c sum : ℤ) → Ascends ts
-    → sum ≡ current ls ts +ℤ c → sum ≢ pos 0 → added ts ls c ≡ insert_entry set_cmp ts ls sum
-added-nonzero [] ls c sum ascends e nonzero =
+with_addition-nonzero : (ts : List Term) (ls : List Literal) (c sum : ℤ) → Ascends ts
+    → sum ≡ current ls ts +ℤ c → sum ≢ pos 0 → with_addition ts ls c ≡ insert_entry set_cmp ts ls sum
+with_addition-nonzero [] ls c sum ascends e nonzero =
     let same : c ≡ sum = omega (arith, ints) in
     ap (λ d. in_front ls d []) same ∙ in_front-nonzero ls sum [] nonzero
-added-nonzero (t ∷ ts) ls c sum ascends e nonzero =
+with_addition-nonzero (t ∷ ts) ls c sum ascends e nonzero =
     go (set_cmp ls t.0) refl e
-    (added-nonzero ts ls c sum (sorted_tail set_cmp t.0 (keys_of ts) ascends))
+    (with_addition-nonzero ts ls c sum (sorted_tail set_cmp t.0 (keys_of ts) ascends))
   where
     go : (o : Ordering) → set_cmp ls t.0 ≡ o → sum ≡ current_by o t ls ts +ℤ c
-        → (sum ≡ current ls ts +ℤ c → sum ≢ pos 0 → added ts ls c ≡ insert_entry set_cmp ts ls sum)
-        → match_ordering o (in_front ls c (t ∷ ts)) (in_front t.0 (t.1 +ℤ c) ts) (t ∷ added ts ls c)
+        → (sum ≡ current ls ts +ℤ c → sum ≢ pos 0 → with_addition ts ls c ≡ insert_entry set_cmp ts ls sum)
+        → match_ordering o (in_front ls c (t ∷ ts)) (in_front t.0 (t.1 +ℤ c) ts) (t ∷ with_addition ts ls c)
         ≡ match_ordering o ((ls, sum) ∷ t ∷ ts) ((t.0, sum) ∷ ts) (t ∷ insert_entry set_cmp ts ls sum)
     go Less less here rest =
         let same : c ≡ sum = omega (arith, ints, current-below t ts ls ascends less) in
@@ -89,18 +89,18 @@ remove_entry-none test (t ∷ ts) none =
     ap (λ b. cond b ts (t ∷ remove_entry test ts)) none.0
     ∙ ap (λ us. t ∷ us) (remove_entry-none test ts none.1)
 
-added-zero : (ts : List Term) (ls : List Literal) (c sum : ℤ) → Ascends ts
+with_addition-zero : (ts : List Term) (ls : List Literal) (c sum : ℤ) → Ascends ts
     → sum ≡ current ls ts +ℤ c → sum ≡ pos 0
-    → added ts ls c ≡ remove_entry (is_at (set_cmp ls)) ts
-added-zero [] ls c sum ascends e zero = in_front-zero ls c [] (omega (arith, ints))
-added-zero (t ∷ ts) ls c sum ascends e zero =
+    → with_addition ts ls c ≡ remove_entry (is_at (set_cmp ls)) ts
+with_addition-zero [] ls c sum ascends e zero = in_front-zero ls c [] (omega (arith, ints))
+with_addition-zero (t ∷ ts) ls c sum ascends e zero =
     go (set_cmp ls t.0) refl e
-    (added-zero ts ls c sum (sorted_tail set_cmp t.0 (keys_of ts) ascends))
+    (with_addition-zero ts ls c sum (sorted_tail set_cmp t.0 (keys_of ts) ascends))
   where
     go : (o : Ordering) → set_cmp ls t.0 ≡ o → sum ≡ current_by o t ls ts +ℤ c
         → (sum ≡ current ls ts +ℤ c → sum ≡ pos 0
-        → added ts ls c ≡ remove_entry (is_at (set_cmp ls)) ts)
-        → match_ordering o (in_front ls c (t ∷ ts)) (in_front t.0 (t.1 +ℤ c) ts) (t ∷ added ts ls c)
+        → with_addition ts ls c ≡ remove_entry (is_at (set_cmp ls)) ts)
+        → match_ordering o (in_front ls c (t ∷ ts)) (in_front t.0 (t.1 +ℤ c) ts) (t ∷ with_addition ts ls c)
         ≡ cond (is_eq o) ts (t ∷ remove_entry (is_at (set_cmp ls)) ts)
     go Less less here rest =
         let none = none_below_head set_total ls t ts ascends less in
@@ -162,30 +162,30 @@ raised-sum : (old new : List Term) (ls : List Literal) (c sum : ℤ) → IsRaise
 raised-sum old new ls c sum raised =
     raised.found.2 ∙ sym (ap (λ o. unwrap_or o (pos 0) +ℤ c) raised.found.1)
 
-pub added-raised : (old new : List Term) (ls : List Literal) (c sum : ℤ) → Ascends old
-    → IsRaised old new ls c sum → sum ≢ pos 0 → added old ls c ≡ new
-added-raised old new ls c sum ascends raised nonzero =
-    added-nonzero old ls c sum ascends (raised-sum old new ls c sum raised) nonzero
+pub with_addition-raised : (old new : List Term) (ls : List Literal) (c sum : ℤ) → Ascends old
+    → IsRaised old new ls c sum → sum ≢ pos 0 → with_addition old ls c ≡ new
+with_addition-raised old new ls c sum ascends raised nonzero =
+    with_addition-nonzero old ls c sum ascends (raised-sum old new ls c sum raised) nonzero
     ∙ insert_entry-found old ls raised.found.0 sum ascends raised.found.1
     ∙ sym raised.written
 
-pub added-cancelled : (old new : List Term) (ls : List Literal) (c sum : ℤ) → Ascends old
+pub with_addition-cancelled : (old new : List Term) (ls : List Literal) (c sum : ℤ) → Ascends old
     → IsRaised old new ls c sum → sum ≡ pos 0
-    → added old ls c ≡ remove_entry (is_at (set_cmp ls)) new
-added-cancelled old new ls c sum ascends raised zero =
-    added-zero old ls c sum ascends (raised-sum old new ls c sum raised) zero
+    → with_addition old ls c ≡ remove_entry (is_at (set_cmp ls)) new
+with_addition-cancelled old new ls c sum ascends raised zero =
+    with_addition-zero old ls c sum ascends (raised-sum old new ls c sum raised) zero
     ∙ sym (remove_entry-set_value (is_at (set_cmp ls)) old sum)
     ∙ sym (ap (remove_entry (is_at (set_cmp ls))) raised.written)
 
-pub added-missing : (ts : List Term) (ls : List Literal) (c : ℤ) → Ascends ts
-    → found ls ts ≡ None → c ≢ pos 0 → added ts ls c ≡ insert_entry set_cmp ts ls c
-added-missing ts ls c ascends none nonzero =
+pub with_addition-missing : (ts : List Term) (ls : List Literal) (c : ℤ) → Ascends ts
+    → found ls ts ≡ None → c ≢ pos 0 → with_addition ts ls c ≡ insert_entry set_cmp ts ls c
+with_addition-missing ts ls c ascends none nonzero =
     let absent : current ls ts ≡ pos 0 = ap (λ o. unwrap_or o (pos 0)) none in
-    added-nonzero ts ls c c ascends (omega (arith, ints, absent)) nonzero
+    with_addition-nonzero ts ls c c ascends (omega (arith, ints, absent)) nonzero
 
-pub added-nothing : (ts : List Term) (ls : List Literal) (c : ℤ) → Ascends ts
-    → found ls ts ≡ None → c ≡ pos 0 → added ts ls c ≡ ts
-added-nothing ts ls c ascends none zero =
+pub with_addition-nothing : (ts : List Term) (ls : List Literal) (c : ℤ) → Ascends ts
+    → found ls ts ≡ None → c ≡ pos 0 → with_addition ts ls c ≡ ts
+with_addition-nothing ts ls c ascends none zero =
     let absent : current ls ts ≡ pos 0 = ap (λ o. unwrap_or o (pos 0)) none in
-    added-zero ts ls c c ascends (omega (arith, ints, absent)) zero
+    with_addition-zero ts ls c c ascends (omega (arith, ints, absent)) zero
     ∙ remove_entry-missing (is_at (set_cmp ls)) ts none

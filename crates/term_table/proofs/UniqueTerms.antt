@@ -1,7 +1,7 @@
 -- Two ascending lists of terms, none of them 0, that give each set one coefficient are equal.
 --
--- The first set of a list has the coefficient of the first term, and a set below the first has 0. So the
--- first sets are equal, with equal coefficients, and the rest follows.
+-- The first set of a list has the coefficient of the first term, and a set below the first has 0.
+-- So the first sets are equal, with equal coefficients, and the rest follows.
 use Rattle.std.proofs.Common.{◌≡◌, ◌≢◌, ℕ, arith, sym, ap, ◌∙◌, refl, List, [], ◌∷◌, ℤ, pos}
 use Rattle.std.specs.Prelude.{All}
 use Rattle.std.specs.List.Sorted.{IsStrictlySortedBy}

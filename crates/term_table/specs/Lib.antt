@@ -2,6 +2,6 @@ pub mod Terms
 pub mod Tables
 pub mod Entries
 pub mod Held
-pub mod Keys
+pub mod laws
 pub mod Kept
 pub mod Summed

@@ -3,47 +3,47 @@ use Rattle.std.specs.Prelude.{◌≡◌, ℕ, ◌+◌, ◌≤◌, ◌^◌, ℤ, 
 use Rattle.bits_model.specs.declared.costs.Cost.TheVariants.{Whole}
 use Rattle.bits_model.specs.Costs.{Form}
 use Rattle.problem_form.specs.declared.literal.Literal.{Literal}
-use Rattle.term_table.specs.Terms.{Term, terms_cost, terms_total, terms_size, added, collected, coefficient_of, AreTerms, IsTermSet}
+use Rattle.term_table.specs.Terms.{Term, terms_cost, terms_total, terms_size, with_addition, with_additions, coefficient_of, AreTerms, IsTermSet}
 
 -- a width, and terms over the variables below it
-pub record TableForm : Type 0 where
+pub record TableContent : Type 0 where
   pub width : ℕ
   pub terms : List Term
 
 -- its width, and the cost of its terms
-abbrev pub form_of : TableForm → Form
+abbrev pub form_of : TableContent → Form
 form_of t = record { bits = t.width; cost = λ x. Whole (terms_cost x t.terms) }
 
 -- the width, and the squares of the degrees
-abbrev pub table_size : TableForm → ℕ
+abbrev pub table_size : TableContent → ℕ
 table_size t = t.width + terms_size t.terms
 
 -- what a table keeps
-pub record IsTable (t : TableForm) : Type 0 where
+pub record IsTable (t : TableContent) : Type 0 where
   pub terms : AreTerms t.width t.terms
   pub small : terms_total t.terms ≤ 2 ^ 124
 
 -- no term has more than two literals
-abbrev pub IsLow : TableForm → Type 0
+abbrev pub IsLow : TableContent → Type 0
 IsLow t = All (λ u. length u.0 ≤ 2) t.terms
 
 -- a table with one more addition
-abbrev pub with_added : TableForm → List Literal → ℤ → TableForm
-with_added t ls c = record t { terms = added t.terms ls c }
+abbrev pub with_added : TableContent → List Literal → ℤ → TableContent
+with_added t ls c = record t { terms = with_addition t.terms ls c }
 
 -- ---- additions that are to be summed
 
 -- additions of which a table can be made
-pub record AreAdditions (t : TableForm) : Type 0 where
+pub record AreAdditions (t : TableContent) : Type 0 where
   pub sets : All (λ u. IsTermSet t.width u.0) t.terms
   pub small : terms_total t.terms ≤ 2 ^ 124
 
 -- additions to be summed, and one more
-abbrev pub appended : TableForm → List Literal → ℤ → TableForm
-appended t ls c = record t { terms = t.terms ++ (ls, c) ∷ [] }
+abbrev pub with_appended : TableContent → List Literal → ℤ → TableContent
+with_appended t ls c = record t { terms = t.terms ++ (ls, c) ∷ [] }
 
 -- additions to be summed, and more of them
-abbrev pub with_more : TableForm → List Term → TableForm
+abbrev pub with_more : TableContent → List Term → TableContent
 with_more t ts = record t { terms = t.terms ++ ts }
 
 -- ---- laws of the table that additions give
@@ -51,12 +51,12 @@ with_more t ts = record t { terms = t.terms ++ ts }
 -- it costs what the additions cost, under every assignment
 abbrev pub AdditionsKeepCosts : Type 0
 AdditionsKeepCosts =
-    (x : List Bool) (ts : List Term) → terms_cost x (collected [] ts) ≡ terms_cost x ts
+    (x : List Bool) (ts : List Term) → terms_cost x (with_additions [] ts) ≡ terms_cost x ts
 
 -- each set has the sum of its coefficients
 abbrev pub AdditionsSum : Type 0
 AdditionsSum = (ls : List Literal) (ts : List Term)
-    → coefficient_of ls (collected [] ts) ≡ coefficient_of ls ts
+    → coefficient_of ls (with_additions [] ts) ≡ coefficient_of ls ts
 
 -- it is the only list of terms in order, none of them 0, with these coefficients
 abbrev pub TermsAreSums : Type 0

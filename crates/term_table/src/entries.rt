@@ -3,7 +3,7 @@ ghost use Rattle.std.specs.Prelude.{◌≡◌, ◌+◌, ◌≤◌, ◌^◌, unsi
 ghost use Rattle.std.specs.Prelude.{None, IfOk, IfSome, IfNone};
 ghost use Rattle.std.specs.Map.{lookup};
 ghost use Rattle.std.specs.BTreeMap.{is_at, insert_entry};
-ghost use Rattle.term_table.specs.Terms.{added, set_cmp, terms_total, Ascends};
+ghost use Rattle.term_table.specs.Terms.{with_addition, set_cmp, terms_total, Ascends};
 ghost use Rattle.term_table.specs.Entries.{IsRaised};
 ghost use Rattle.term_table.specs.Kept.{entries_terms};
 
@@ -68,7 +68,7 @@ fn add_to_map(
 ) -> Result<(), NoMemory>
     requires { terms_total entries.old.entries + unsigned_abs coefficient ≤ 2 ^ 124 }
     ensures added { OnOk result
-        (entries.new.entries ≡ added entries.old.entries literals.now coefficient) }
+        (entries.new.entries ≡ with_addition entries.old.entries literals.now coefficient) }
     ensures unchanged { OnErr result (entries.new.entries ≡ entries.old.entries) }
 {
     let key = LiteralSet::from_slice(alloc, literals)?;
@@ -110,7 +110,8 @@ pub fn add_to(
     requires ascends { Ascends (entries_terms entries.old) }
     requires small { terms_total (entries_terms entries.old) + unsigned_abs coefficient ≤ 2 ^ 124 }
     ensures added { OnOk result
-        (entries_terms entries.new ≡ added (entries_terms entries.old) literals.now coefficient) }
+        (entries_terms entries.new
+        ≡ with_addition (entries_terms entries.old) literals.now coefficient) }
     ensures unchanged { OnErr result (entries_terms entries.new ≡ entries_terms entries.old) }
 {
     match entries {

@@ -1,13 +1,14 @@
 //! Additions that are gathered first, and become a table at once.
 //!
-//! An addition is appended, and all are sorted and summed in the end, in place of one look-up for each.
+//! An addition is appended, and all are sorted and summed in the end, in place of one look-up for
+//! each.
 ghost use Rattle.std.specs.Prelude.{◌≡◌, ◌+◌, ◌≤◌, ◌^◌, ◌∷◌, ◌++◌, [], unsigned_abs, OnOk, OnErr};
-ghost use Rattle.term_table.specs.Terms.{collected, terms_total, IsTermSet};
-ghost use Rattle.term_table.specs.Tables.{appended};
+ghost use Rattle.term_table.specs.Terms.{with_additions, terms_total, IsTermSet};
+ghost use Rattle.term_table.specs.Tables.{with_appended};
 
 use crate::entries::Entries;
 use crate::literal_set::LiteralSet;
-use crate::sums::settled;
+use crate::sums::sorted_sums;
 use crate::table::Table;
 use bits_model::NoMemory;
 use problem_form::Literal;
@@ -34,9 +35,9 @@ pub struct GatheredTerms {
 }
 
 impl Model for GatheredTerms {
-    ghost use Rattle.term_table.specs.Tables.{TableForm, AreAdditions};
+    ghost use Rattle.term_table.specs.Tables.{TableContent, AreAdditions};
 
-    ghost Value = { TableForm };
+    ghost Value = { TableContent };
 
     ghost view = { λ a. record { width = a.width; terms = a.terms.items } };
 
@@ -60,7 +61,7 @@ impl GatheredTerms {
     pub fn add(&mut self, literals: &[Literal], coefficient: i128) -> Result<(), NoMemory>
         requires set { IsTermSet self.old.width literals.now }
         requires small { terms_total self.old.terms + unsigned_abs coefficient ≤ 2 ^ 124 }
-        ensures added { OnOk result (self.new ≡ appended self.old literals.now coefficient) }
+        ensures added { OnOk result (self.new ≡ with_appended self.old literals.now coefficient) }
         ensures unchanged { OnErr result (self.new ≡ self.old) }
     {
         let key = LiteralSet::from_slice(self.alloc, literals)?;
@@ -69,7 +70,7 @@ impl GatheredTerms {
 
     /// The table of the sums. Takes no memory.
     pub fn into_table(self) -> Table
-        ensures { result ≡ record { width = self.width; terms = collected [] self.terms } }
+        ensures { result ≡ record { width = self.width; terms = with_additions [] self.terms } }
     {
         let GatheredTerms {
             width,
@@ -79,7 +80,7 @@ impl GatheredTerms {
         Table {
             width,
             alloc,
-            entries: Entries::Listed(settled(terms)),
+            entries: Entries::Listed(sorted_sums(terms)),
         }
     }
 }

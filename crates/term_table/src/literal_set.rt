@@ -7,7 +7,7 @@ ghost use Rattle.std.proofs.Common.{refl};
 ghost use Rattle.std.specs.Cmp.{partial_order_from_total};
 ghost use Rattle.std.specs.Ordering.{eq_by_cmp};
 ghost use Rattle.term_table.specs.Terms.{set_cmp};
-ghost use Rattle.term_table.specs.Keys.{key_total, key_equal, key_alike};
+ghost use Rattle.term_table.specs.laws.Keys.{key_total, key_equal, key_alike};
 
 use bits_model::NoMemory;
 use problem_form::Literal;

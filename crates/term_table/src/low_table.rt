@@ -16,9 +16,9 @@ pub struct LowTable {
 }
 
 impl Model for LowTable {
-    ghost use Rattle.term_table.specs.Tables.{TableForm, IsLow};
+    ghost use Rattle.term_table.specs.Tables.{TableContent, IsLow};
 
-    ghost Value = { TableForm };
+    ghost Value = { TableContent };
 
     ghost view = { λ t. t.table };
 

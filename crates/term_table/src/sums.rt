@@ -1,9 +1,10 @@
 //! Additions in any order, as the terms of a table.
 //!
-//! They are sorted by their sets, neighbours of one set are summed in place, and sums of 0 are left out.
+//! They are sorted by their sets, neighbours of one set are summed in place, and sums of 0 are left
+//! out.
 ghost use Rattle.std.specs.Prelude.{◌≡◌, ◌+◌, ◌<◌, ◌≤◌, ◌^◌, ◌++◌, [], get_or, length, take};
-ghost use Rattle.term_table.specs.Terms.{Term, collected, terms_total};
-ghost use Rattle.term_table.specs.Summed.{summed, term_in_front};
+ghost use Rattle.term_table.specs.Terms.{Term, with_additions, terms_total};
+ghost use Rattle.term_table.specs.Summed.{sums_of, term_in_front};
 
 use crate::literal_set::LiteralSet;
 
@@ -21,7 +22,7 @@ fn place_after(terms: &[(LiteralSet, i128)], last: usize) -> usize
 /// Sums neighbours of one set, and says how many terms are kept.
 fn sum_neighbours(terms: &mut [(LiteralSet, i128)]) -> usize
     requires { terms_total terms.old ≤ 2 ^ 124 }
-    ensures { take result terms.new ≡ summed terms.old }
+    ensures { take result terms.new ≡ sums_of terms.old }
 {
     if terms.is_empty() {
         return 0;
@@ -41,9 +42,9 @@ fn sum_neighbours(terms: &mut [(LiteralSet, i128)]) -> usize
 }
 
 /// The terms of the table that additions give. Takes no memory.
-pub fn settled(mut terms: Vec<(LiteralSet, i128)>) -> Vec<(LiteralSet, i128)>
+pub fn sorted_sums(mut terms: Vec<(LiteralSet, i128)>) -> Vec<(LiteralSet, i128)>
     requires { terms_total terms.items ≤ 2 ^ 124 }
-    ensures { result.items ≡ collected [] terms.items }
+    ensures { result.items ≡ with_additions [] terms.items }
 {
     terms.sort_unstable_by(|left, right| left.0.cmp(&right.0));
     let kept = sum_neighbours(&mut terms);

@@ -1,7 +1,7 @@
 //! A table: literal sets in order, with coefficients that are not 0.
 //!
-//! The sets are the keys of a B-tree, so an addition takes time logarithmic in the number of terms. A
-//! table that was made at once keeps its terms in a list, up to the first addition.
+//! The sets are the keys of a B-tree, so an addition takes time logarithmic in the number of terms.
+//! A table that was made at once keeps its terms in a list, up to the first addition.
 ghost use Rattle.std.specs.Prelude.{◌≡◌, ◌+◌, ◌≤◌, ◌^◌, [], unsigned_abs, OnOk, OnErr};
 ghost use Rattle.term_table.specs.Terms.{terms_total, IsTermSet};
 ghost use Rattle.term_table.specs.Tables.{with_added, IsTable};
@@ -23,10 +23,10 @@ pub struct Table {
 }
 
 impl Model for Table {
-    ghost use Rattle.term_table.specs.Tables.{TableForm, IsTable};
+    ghost use Rattle.term_table.specs.Tables.{TableContent, IsTable};
     ghost use Rattle.term_table.specs.Kept.{entries_terms};
 
-    ghost Value = { TableForm };
+    ghost Value = { TableContent };
 
     ghost view = { λ t. record { width = t.width; terms = entries_terms t.entries } };
 

@@ -1,7 +1,7 @@
 //! Tables of a few terms, against lists and costs by hand.
 ghost use Rattle.std.specs.Prelude.{◌≡◌, ◌+◌, ◌≤◌, ◌^◌, [], All, IfOk, map};
 ghost use Rattle.std.specs.Bool.{OnTrue};
-ghost use Rattle.term_table.specs.Terms.{collected, terms_total, IsTermSet};
+ghost use Rattle.term_table.specs.Terms.{with_additions, terms_total, IsTermSet};
 
 use crate::gathered::GatheredTerms;
 use crate::low_table::low;
@@ -47,7 +47,7 @@ fn table_of(
     requires small { terms_total (map (λ a. (a.0.now, a.1)) additions.now) ≤ 2 ^ 124 }
     ensures { IfOk result (λ t. t ≡ record {
       width = width;
-      terms = collected [] (map (λ a. (a.0.now, a.1)) additions.now);
+      terms = with_additions [] (map (λ a. (a.0.now, a.1)) additions.now);
     }) }
 {
     let mut table = Table::new(alloc, width);
@@ -90,8 +90,8 @@ fn table_at_once(
         + terms_total (map (λ a. (a.0.now, a.1)) later.now) ≤ 2 ^ 124 }
     ensures { IfOk result (λ t. t ≡ record {
       width = width;
-      terms = collected
-          (collected [] (map (λ a. (a.0.now, a.1)) first.now))
+      terms = with_additions
+          (with_additions [] (map (λ a. (a.0.now, a.1)) first.now))
           (map (λ a. (a.0.now, a.1)) later.now);
     }) }
 {

@@ -9,7 +9,7 @@ use Rattle.problem_form.specs.Literals.{holds, some_holds}
 use Rattle.problem_form.specs.Problems.{fails_hard, soft_cost, problem_cost}
 use Rattle.problem_form.proofs.NormalForms.{normal_form-cost}
 use Rattle.wcnf_reader.specs.Wcnf.{Listed, Wcnf}
-use Rattle.wcnf_reader.specs.Cost.{is_true, is_satisfied, is_hard, is_broken, unsatisfied, wcnf_cost, literal_of, clause_of, problem_of, ReadingKeepsCosts}
+use Rattle.wcnf_reader.specs.Cost.{is_true, is_satisfied, is_hard, is_broken, unsatisfied_weight, wcnf_cost, literal_of, clause_of, problem_of, ReadingKeepsCosts}
 
 holds-literal_of : (x : List Bool) (z : ℤ) → holds x (literal_of z) ≡ is_true x z
 holds-literal_of x (pos k) = refl
@@ -72,7 +72,7 @@ problem_of-cost : (s : Wcnf) (x : List Bool) → problem_cost (problem_of s) x �
 problem_of-cost s x =
     let soft = soft_cost-clauses s.top x s.clauses in
     let whole :
-    pos 0 +ℤ pos 0 +ℤ total_by (soft_cost x) (map (clause_of s.top) s.clauses) ≡ unsatisfied s x =
+    pos 0 +ℤ pos 0 +ℤ total_by (soft_cost x) (map (clause_of s.top) s.clauses) ≡ unsatisfied_weight s x =
     omega (arith, ints, soft) in
     let broken = or_nothing (list_any (fails_hard x) (map (clause_of s.top) s.clauses))
     (is_broken s x) (fails_hard-clauses s.top x s.clauses) in

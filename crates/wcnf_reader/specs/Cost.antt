@@ -9,8 +9,8 @@ use Rattle.whole_text.specs.declared.faults.TextFault.{TextFault}
 use Rattle.whole_text.specs.Steps.{◌>>=◌}
 use Rattle.problem_form.specs.declared.literal.Literal.{Literal}
 use Rattle.problem_form.specs.declared.terms.Clause.{Clause}
-use Rattle.problem_form.specs.Problems.{ProblemForm, problem_cost}
-use Rattle.problem_form.specs.NormalForm.{normal_form, blank, widened}
+use Rattle.problem_form.specs.Problems.{ProblemContent, problem_cost}
+use Rattle.problem_form.specs.NormalForm.{normal_form, blank, with_variables}
 use Rattle.problem_form.specs.Limits.{upper}
 use Rattle.wcnf_reader.specs.Wcnf.{Listed, Wcnf, reading}
 
@@ -35,14 +35,14 @@ abbrev pub is_broken : Wcnf → List Bool → Bool
 is_broken s x = list_any (λ c. is_hard s.top c.weight && not (is_satisfied x c)) s.clauses
 
 -- the weights of the soft clauses that have no true literal
-abbrev pub unsatisfied : Wcnf → List Bool → ℤ
-unsatisfied s x =
+abbrev pub unsatisfied_weight : Wcnf → List Bool → ℤ
+unsatisfied_weight s x =
     total_by (λ c. if_so (not (is_hard s.top c.weight) && not (is_satisfied x c)) (pos c.weight))
     s.clauses
 
 -- infinite where a hard clause is broken, else the sum of the unsatisfied soft weights
 abbrev pub wcnf_cost : Wcnf → List Bool → Cost
-wcnf_cost s x = if is_broken s x then Infinite else Whole (unsatisfied s x)
+wcnf_cost s x = if is_broken s x then Infinite else Whole (unsatisfied_weight s x)
 
 -- the text as a form: its bits and its cost
 abbrev pub form_of : Wcnf → Form
@@ -66,15 +66,16 @@ clause_of top c = record {
 }
 
 -- the problem as written
-abbrev pub problem_of : Wcnf → ProblemForm
-problem_of s = record (widened blank s.variables) { clauses = map (clause_of s.top) s.clauses }
+abbrev pub problem_of : Wcnf → ProblemContent
+problem_of s =
+    record (with_variables blank s.variables) { clauses = map (clause_of s.top) s.clauses }
 
 -- the text as a source: its cost as written, and the upper bound of its problem
 abbrev pub source_of : Wcnf → Source
 source_of s = record { form = form_of s; upper = upper (normal_form (problem_of s)) }
 
 -- the reading of a text, as a problem in normal form
-unfoldable pub normal_reading : List ℕ → Result ProblemForm TextFault
+unfoldable pub normal_reading : List ℕ → Result ProblemContent TextFault
 normal_reading text = reading text >>= λ s. Ok (normal_form (problem_of s))
 
 -- the problem that is read costs what its text costs, under every assignment

@@ -5,7 +5,7 @@ use Rattle.whole_text.specs.Tokens.{Word}
 use Rattle.whole_text.specs.Steps.{◌>>=◌}
 use Rattle.problem_form.specs.declared.literal.Literal.{Literal}
 use Rattle.problem_form.specs.declared.terms.Clause.{Clause}
-use Rattle.problem_form.specs.Problems.{ProblemForm}
+use Rattle.problem_form.specs.Problems.{ProblemContent}
 use Rattle.problem_form.specs.NormalForm.{normal_form}
 use Rattle.wcnf_reader.specs.declared.header.Start.{Start}
 use Rattle.wcnf_reader.specs.Wcnf.{Header, Listed, literal_at, literals_at, clause_at, clauses_at, wcnf_of}
@@ -34,15 +34,15 @@ clause_read top variables end ws =
     clause_at variables end ws >>= λ x. Ok (clause_of top x.0, x.1)
 
 -- listed clauses, as a problem in normal form
-abbrev pub listed_problem : Header → List Listed → ProblemForm
+abbrev pub listed_problem : Header → List Listed → ProblemContent
 listed_problem h cs =
     normal_form (problem_of (record { variables = h.variables; top = h.top; clauses = cs }))
 
 -- the clauses that the header counts, as a problem, and what is left
-abbrev pub problem_read : Header → ℕ → List Word → Result (ProblemForm × List Word) TextFault
+abbrev pub problem_read : Header → ℕ → List Word → Result (ProblemContent × List Word) TextFault
 problem_read h end ws =
     clauses_at h.clauses h.variables end ws >>= λ x. Ok (listed_problem h x.0, x.1)
 
 -- the problem of the whole text
-abbrev pub whole_read : List Word → Result ProblemForm TextFault
+abbrev pub whole_read : List Word → Result ProblemContent TextFault
 whole_read ws = wcnf_of ws >>= λ s. Ok (normal_form (problem_of s))

@@ -31,8 +31,8 @@ pub record Wcnf : Type 0 where
 -- ---- the header: `p wcnf VARIABLES CLAUSES TOP` on one line, TOP left out or not
 
 -- these bytes, on this line
-unfoldable pub wanted : ℕ → List ℕ → Word → Result ℕ TextFault
-wanted line bytes w =
+unfoldable pub wanted_word : ℕ → List ℕ → Word → Result ℕ TextFault
+wanted_word line bytes w =
     if (w.line == line) && bytes_eq w.bytes bytes then Ok line else Err (fault kinds.Word w.line)
 
 -- a number on this line
@@ -41,9 +41,9 @@ header_number line w =
     if w.line == line then natural_at 0 w else Err (fault kinds.Word w.line)
 
 -- nothing more on this line
-unfoldable pub line_ended : {A : Type 0} → ℕ → A → List Word → Result (A × List Word) TextFault
-line_ended line x [] = Ok (x, [])
-line_ended line x (w ∷ ws) =
+unfoldable pub at_line_end : {A : Type 0} → ℕ → A → List Word → Result (A × List Word) TextFault
+at_line_end line x [] = Ok (x, [])
+at_line_end line x (w ∷ ws) =
     if w.line == line then Err (fault kinds.Extra line) else Ok (x, w ∷ ws)
 
 -- a number of at least 1, if anything more stands on this line
@@ -51,16 +51,16 @@ unfoldable pub top_at : ℕ → List Word → Result (Option ℕ × List Word) T
 top_at line [] = Ok (None, [])
 top_at line (w ∷ ws) =
     if w.line == line
-    then natural_at 1 w >>= (λ n. line_ended line (Some n) ws)
+    then natural_at 1 w >>= (λ n. at_line_end line (Some n) ws)
     else Ok (None, w ∷ ws)
 
 -- the numbers of the header, and what is left
 unfoldable pub header_at : ℕ → List Word → Result (Header × List Word) TextFault
 header_at end ws = do
   p ← next_of end ws
-  line ← wanted p.0.line (codes "p") p.0
+  line ← wanted_word p.0.line (codes "p") p.0
   format ← next_of end p.1
-  same ← wanted line (codes "wcnf") format.0
+  same ← wanted_word line (codes "wcnf") format.0
   variables ← next_of end format.1
   v ← header_number line variables.0
   clauses ← next_of end variables.1
@@ -102,16 +102,16 @@ clauses_at (suc n) variables end ws = do
   Ok (first.0 ∷ others.0, others.1)
 
 -- nothing is left
-abbrev pub ended : {A : Type 0} → A → List Word → Result A TextFault
-ended x [] = Ok x
-ended x (w ∷ ws) = Err (fault kinds.Extra w.line)
+abbrev pub at_end : {A : Type 0} → A → List Word → Result A TextFault
+at_end x [] = Ok x
+at_end x (w ∷ ws) = Err (fault kinds.Extra w.line)
 
 -- the header, its clauses, and nothing more
 unfoldable pub wcnf_of : List Word → Result Wcnf TextFault
 wcnf_of ws = do
   h ← header_at (end_line ws) ws
   cs ← clauses_at h.0.clauses h.0.variables (end_line ws) h.1
-  ended (record { variables = h.0.variables; top = h.0.top; clauses = cs.0 }) cs.1
+  at_end (record { variables = h.0.variables; top = h.0.top; clauses = cs.0 }) cs.1
 
 -- the reading of a text
 unfoldable pub reading : List ℕ → Result Wcnf TextFault

@@ -2,7 +2,7 @@
 ghost use Rattle.std.specs.Prelude.{◌≡◌, ◌≤◌, length, All, IfOk};
 ghost use Rattle.whole_text.specs.Tokens.{word_at, words_at, IsWithin};
 ghost use Rattle.whole_text.specs.Steps.{GivesAlways};
-ghost use Rattle.wcnf_reader.specs.Wcnf.{wanted, header_number, top_at, header_at};
+ghost use Rattle.wcnf_reader.specs.Wcnf.{wanted_word, header_number, top_at, header_at};
 ghost use Rattle.wcnf_reader.specs.Views.{header_of};
 
 use whole_text::{TextFault, TextKind, Token, bytes_at, fault, natural, next};
@@ -16,10 +16,10 @@ pub(crate) struct Start {
 }
 
 /// These bytes, on this line.
-#[tactic(auto, unfolding(crate::specs::Wcnf::wanted))]
-fn wanted(text: &[u8], token: Token, line: u64, bytes: &[u8]) -> Result<u64, TextFault>
+#[tactic(auto, unfolding(crate::specs::Wcnf::wanted_word))]
+fn wanted_word(text: &[u8], token: Token, line: u64, bytes: &[u8]) -> Result<u64, TextFault>
     requires { IsWithin text.now token }
-    ensures { result ≡ wanted line bytes.now (word_at text.now token) }
+    ensures { result ≡ wanted_word line bytes.now (word_at text.now token) }
 {
     if token.line == line && bytes_at(text, token) == bytes {
         Ok(line)
@@ -42,7 +42,7 @@ fn header_number(text: &[u8], token: Token, line: u64) -> Result<u64, TextFault>
 }
 
 /// The last number of the header, if anything more stands on its line.
-#[tactic(auto, unfolding(crate::specs::Wcnf::top_at, crate::specs::Wcnf::line_ended))]
+#[tactic(auto, unfolding(crate::specs::Wcnf::top_at, crate::specs::Wcnf::at_line_end))]
 fn top<'a>(
     text: &[u8],
     tokens: &'a [Token],
@@ -80,9 +80,9 @@ pub(crate) fn header<'a>(
     ensures shorter { IfOk result (λ x. length x.1.now ≤ length tokens.now) }
 {
     let (p, rest) = next(text, tokens, end)?;
-    let line = wanted(text, p, p.line, b"p")?;
+    let line = wanted_word(text, p, p.line, b"p")?;
     let (format, rest) = next(text, rest, end)?;
-    wanted(text, format, line, b"wcnf")?;
+    wanted_word(text, format, line, b"wcnf")?;
     let (variables, rest) = next(text, rest, end)?;
     let variables = header_number(text, variables, line)?;
     let (clauses, rest) = next(text, rest, end)?;

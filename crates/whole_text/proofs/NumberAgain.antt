@@ -1,5 +1,5 @@
--- The text of a number is read as the number: it has a `-` or none, no point, and digits that have the
--- number's size as their value.
+-- The text of a number is read as the number: it has a `-` or none, no point, and digits that have
+-- the number's size as their value.
 use Rattle.std.proofs.Common.{◌≡◌, ℕ, suc, ◌^◌, ◌+◌, ◌<◌, ◌≤◌, true, false, ℤ, pos, negsuc, List, [], ◌∷◌, length, Some, refl, arith}
 use Rattle.std.specs.Prelude.{nat_abs}
 use Rattle.std.specs.Char.{is_ascii_digit}

@@ -40,6 +40,7 @@ Reaches-trans {d} a1 b1 a2 b2 v p q = record {
   energy = q.energy ∙ ap (λ e. a2 *ℤ e +ℤ b2) p.energy ∙ scaled_twice a2 a1 v b1 b2;
 }
 
+-- what keeps a form that keeps another keeps the other
 pub keeps_after_keeps : {f g h : Form} {d e : Decoding} {a1 b1 a2 b2 : ℤ}
     → Keeps f g d a1 b1 → Keeps g h e a2 b2
     → Keeps f h (decoding_after d e) (a1 *ℤ a2) (a2 *ℤ b1 +ℤ b2)
@@ -49,7 +50,8 @@ keeps_after_keeps {f} {g} {h} {d} {e} {a1} {b1} {a2} {b2} p q = record {
   bound = λ z w.
       let first = p.bound (e.decoded z) (q.width z w) in
       let cost = energy f (d.decoded (e.decoded z)) in
-      bound_twice a1 b1 a2 b2 cost (energy g (e.decoded z)) (energy h z) q.positive first (q.bound z w);
+      let middle = energy g (e.decoded z) in
+      bound_twice a1 b1 a2 b2 cost middle (energy h z) q.positive first (q.bound z w);
   reached = λ x w.
       let y = p.reached x w in
       let z = q.reached y.0 y.1.width in
@@ -68,7 +70,8 @@ keeps_after_plain {f} {g} {h} {d} {e} {n} {a} {b} p q = record {
       bound_twice n.scale n.offset a b v middle (energy h z) q.positive first (q.bound z w);
   above = λ z w infinite.
       let first = p.above (e.decoded z) (q.width z w) infinite in
-      above_twice a b n.threshold (energy g (e.decoded z)) (energy h z) q.positive first (q.bound z w);
+      let middle = energy g (e.decoded z) in
+      above_twice a b n.threshold middle (energy h z) q.positive first (q.bound z w);
   reached = λ x w v whole.
       let y = p.reached x w v whole in
       let z = q.reached y.0 y.1.width in
@@ -81,11 +84,13 @@ keeps_after_plain {f} {g} {h} {d} {e} {n} {a} {b} p q = record {
       (z.0, z.1.width, ap d.decoded z.1.decodes ∙ y.2);
 }
 
+-- what keeps a form that relaxes a source relaxes the source
 pub keeps_after_relaxes : {f g h : Form} {d e : Decoding} {n : Figures} {a b : ℤ}
     → Relaxes f g d (pos 1) n → Keeps g h e a b
     → Relaxes f h (decoding_after d e) (pos 1) (figures_after n a b)
 keeps_after_relaxes p q = relaxes_in_one (keeps_after_plain (relaxes_plainly p) q)
 
+-- a form that relaxes a source, divided by a unit, relaxes it in this unit
 pub reduces_after_relaxes : {f g h : Form} {d : Decoding} {n : Figures} {u b : ℤ}
     → Relaxes f g d (pos 1) n → Reduces g h u b → Relaxes f h d u (figures_moved n b)
 reduces_after_relaxes {f} {g} {h} {d} {n} {u} {b} r q =
@@ -111,10 +116,12 @@ reduces_after_relaxes {f} {g} {h} {d} {n} {u} {b} r q =
       onto = λ x w. let y = p.onto x w in (y.0, y.1 ∙ sym q.width, y.2);
     }
 
+-- two steps that meet join the first form to the last
 pub joins_both : {f g h : Form} {d e : Decoding} → Joins f g d → Joins g h e
     → Joins f h (decoding_after d e)
 joins_both p q = record { source = p.source; target = q.target }
 
+-- the second step's states are as wide as the first step gives them
 pub widths_meet : {f g h : Form} {d e : Decoding} → Joins f g d → Joins g h e
     → d.target_width ≡ e.source_width
 widths_meet p q = p.target ∙ sym q.source

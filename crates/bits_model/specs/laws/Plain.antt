@@ -13,16 +13,19 @@ pub record RelaxesPlainly (f g : Form) (d : Decoding) (n : Figures) : Type 0 whe
   pub width : (y : List Bool) → IsOf g y → IsOf f (d.decoded y)
   pub bound : (y : List Bool) → IsOf g y → (v : ℤ) → f.cost (d.decoded y) ≡ Whole v
       → (n.scale *ℤ v +ℤ n.offset) ≤ℤ energy g y
-  pub above : (y : List Bool) → IsOf g y → f.cost (d.decoded y) ≡ Infinite → n.threshold <ℤ energy g y
+  pub above : (y : List Bool) → IsOf g y → f.cost (d.decoded y) ≡ Infinite
+      → n.threshold <ℤ energy g y
   pub reached : (x : List Bool) → IsOf f x → (v : ℤ) → f.cost x ≡ Whole v
       → (y : List Bool) × Reaches g d x (n.scale *ℤ v +ℤ n.offset) y
   pub below : (x : List Bool) → IsOf f x → (v : ℤ) → f.cost x ≡ Whole v
       → (n.scale *ℤ v +ℤ n.offset) ≤ℤ n.threshold
   pub onto : (x : List Bool) → IsOf f x → (y : List Bool) × IsOf g y × (d.decoded y ≡ x)
 
+-- a product with 1 is the other factor
 one-times : (v : ℤ) → pos 1 *ℤ v ≡ v
 one-times v = omega (arith, ints)
 
+-- what relaxes plainly relaxes in the unit 1
 pub relaxes_in_one : {f g : Form} {d : Decoding} {n : Figures} → RelaxesPlainly f g d n
     → Relaxes f g d (pos 1) n
 relaxes_in_one {f} {g} {d} {n} p = record {
@@ -44,6 +47,7 @@ relaxes_in_one {f} {g} {d} {n} p = record {
   onto = p.onto;
 }
 
+-- what relaxes in the unit 1 relaxes plainly
 pub relaxes_plainly : {f g : Form} {d : Decoding} {n : Figures} → Relaxes f g d (pos 1) n
     → RelaxesPlainly f g d n
 relaxes_plainly {f} {g} {d} {n} p = record {

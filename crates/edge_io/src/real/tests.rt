@@ -22,7 +22,7 @@ impl Write for TwoBytes {
 }
 
 #[test]
-fn each_error_is_counted_once(rt: HostRuntime) -> Result<(), Fail> {
+fn each_error_is_count_afterce(rt: HostRuntime) -> Result<(), Fail> {
     let alloc = rt.alloc();
     let mut sink = RealSink::new(TwoBytes { room: 2 });
     assert_eq!(rt; sink.write(b"abc"), Ok(2));

@@ -1,8 +1,8 @@
 -- The replaced terms keep costs. Nothing here has to be believed.
 --
--- Under every state, what stands for a term costs no less than the term, and the state that adds the
--- bits of the new nodes to an assignment reaches the cost of each term. The new nodes lie above the
--- variables, so a state costs what its first bits cost in the terms.
+-- Under every state, what stands for a term costs no less than the term, and the state that adds
+-- the bits of the new nodes to an assignment reaches the cost of each term. The new nodes lie above
+-- the variables, so a state costs what its first bits cost in the terms.
 use Rattle.std.specs.Prelude.{◌≡◌, ℕ, zero, suc, ◌+◌, ◌<◌, ◌≤◌, ◌⊎◌, Bool, true, false, not, cond, ◌&&◌, leb, List, [], ◌∷◌, ◌++◌, length, take, get_or, pos, ◌+ℤ◌, ◌≤ℤ◌, int_lt}
 use Rattle.std.specs.List.{AllByRecursion, flat_map, sum_by}
 use Rattle.std.proofs.Common.{arith, sym, ap, ◌∙◌, refl, subst, inl, inr}
@@ -21,10 +21,10 @@ use Rattle.bits_model.specs.Links.{first_bits, HasFirstBits}
 use Rattle.problem_form.specs.declared.literal.Literal.{Literal}
 use Rattle.problem_form.specs.Literals.{holds, all_hold}
 use Rattle.term_table.specs.Terms.{Term, term_cost, terms_cost, IsTermSet}
-use Rattle.term_table.specs.Tables.{TableForm, IsTable}
+use Rattle.term_table.specs.Tables.{TableContent, IsTable}
 use Rattle.term_table.specs.Tables as tables
-use Rattle.term_table.proofs.Additions.{terms_cost-collected}
-use Rattle.monomial_layer.specs.Monomials.{negative_terms, positive_terms, nodes_for, new_nodes, new_terms, replaced, image, Fits, is_taken, first_values, true_literals, new_bits, extension}
+use Rattle.term_table.proofs.Additions.{terms_cost-with_additions}
+use Rattle.monomial_layer.specs.Monomials.{negative_terms, positive_terms, nodes_for, new_nodes, new_terms, all_new_terms, image, Fits, is_taken, first_values, true_literals, new_bits, extension}
 use Rattle.monomial_layer.specs.laws.TermCosts.{true_literals-cons, positive_terms-le, positive_terms_reach, negative_terms-le, negative_terms_reach}
 
 -- ---- no state costs less
@@ -40,22 +40,23 @@ new_terms-le y t n =
     go : (a b : Bool) → (a ≡ false → 3 ≤ length t.0) → (b ≡ true → t.1 ≤ℤ pos 0)
         → (b ≡ false → pos 0 ≤ℤ t.1)
         → term_cost y t
-        ≤ℤ terms_cost y (cond a (t ∷ []) (cond b (negative_terms t.0 t.1 n) (positive_terms t.0 t.1 n)))
+        ≤ℤ terms_cost y
+        (cond a (t ∷ []) (cond b (negative_terms t.0 t.1 n) (positive_terms t.0 t.1 n)))
     go true b f g h = omega (arith, ints)
     go false true f g h = negative_terms-le y t.0 t.1 n (omega (arith, f refl)) (g refl)
     go false false f g h = positive_terms-le y t.0 t.1 n (f refl) (h refl)
 
 -- what stands for the terms costs no less than they do
-pub replaced-le : (y : List Bool) (ts : List Term) (n : ℕ)
-    → terms_cost y ts ≤ℤ terms_cost y (replaced ts n)
-replaced-le y [] n = omega (arith, ints)
-replaced-le y (t ∷ ts) n =
+pub all_new_terms-le : (y : List Bool) (ts : List Term) (n : ℕ)
+    → terms_cost y ts ≤ℤ terms_cost y (all_new_terms ts n)
+all_new_terms-le y [] n = omega (arith, ints)
+all_new_terms-le y (t ∷ ts) n =
     omega (
       arith,
       ints,
       new_terms-le y t n,
-      replaced-le y ts (n + new_nodes t),
-      total_by-append (term_cost y) (new_terms t n) (replaced ts (n + new_nodes t)),
+      all_new_terms-le y ts (n + new_nodes t),
+      total_by-append (term_cost y) (new_terms t n) (all_new_terms ts (n + new_nodes t)),
     )
 
 -- ---- two states that agree on the first bits
@@ -145,7 +146,8 @@ new_terms_reach x y n m t agrees below has =
 
     go : (a b : Bool) → (a ≡ false → 3 ≤ length t.0)
         → Has y m (cond a [] (cond b (all_hold x t.0 ∷ []) values))
-        → terms_cost y (cond a (t ∷ []) (cond b (negative_terms t.0 t.1 m) (positive_terms t.0 t.1 m)))
+        → terms_cost y
+        (cond a (t ∷ []) (cond b (negative_terms t.0 t.1 m) (positive_terms t.0 t.1 m)))
         ≡ term_cost y t
     go true b f h = omega (arith, ints)
     go false true f h =
@@ -175,7 +177,7 @@ length-new_bits x t = go (leb (length t.0) 2) (int_lt t.1 (pos 0))
     go false false = length-first_values (is_taken (true_literals x t.0)) (nodes_for (length t.0))
 
 replaced_reach : (x y : List Bool) (n m : ℕ) (ts : List Term) → Agrees n x y → AllBelow n ts
-    → Has y m (flat_map (new_bits x) ts) → terms_cost y (replaced ts m) ≡ terms_cost y ts
+    → Has y m (flat_map (new_bits x) ts) → terms_cost y (all_new_terms ts m) ≡ terms_cost y ts
 replaced_reach x y n m [] agrees below has = refl
 replaced_reach x y n m (t ∷ ts) agrees below has =
     let bits = flat_map (new_bits x) ts in
@@ -183,11 +185,11 @@ replaced_reach x y n m (t ∷ ts) agrees below has =
     let P : ℕ → Type 0 = λ k. Has y (m + k) bits in
     let after = subst P (length-new_bits x t) (has_right y m (new_bits x t) bits has) in
     let rest = replaced_reach x y n (m + new_nodes t) ts agrees below.1 after in
-    total_by-append (term_cost y) (new_terms t m) (replaced ts (m + new_nodes t))
+    total_by-append (term_cost y) (new_terms t m) (all_new_terms ts (m + new_nodes t))
     ∙ (λ i. first i +ℤ rest i)
 
 extension_reach : (x : List Bool) (ts : List Term) → AllBelow (length x) ts
-    → terms_cost (extension x ts) (replaced ts (length x)) ≡ terms_cost x ts
+    → terms_cost (extension x ts) (all_new_terms ts (length x)) ≡ terms_cost x ts
 extension_reach x ts below =
     let bits = flat_map (new_bits x) ts in
     let agrees : Agrees (length x) x (x ++ bits) =
@@ -198,7 +200,7 @@ extension_reach x ts below =
 
 -- ---- the layer's laws
 
-below_width : (t : TableForm) → IsTable t → AllBelow t.width t.terms
+below_width : (t : TableContent) → IsTable t → AllBelow t.width t.terms
 below_width t table = go t.terms (recursion_from_All _ _ table.terms.sets)
   where
     go : (ts : List Term) → AllByRecursion (λ (u : Term). IsTermSet t.width u.0) ts
@@ -207,7 +209,7 @@ below_width t table = go t.terms (recursion_from_All _ _ table.terms.sets)
     go (u ∷ us) sets = (recursion_from_All _ _ sets.0.set.within, go us sets.1)
 
 -- a state costs no less than its first bits in the source
-pub image_bound : (t : TableForm) → IsTable t → (y : List Bool)
+pub image_bound : (t : TableContent) → IsTable t → (y : List Bool)
     → terms_cost (take t.width y) t.terms ≤ℤ terms_cost y (image t).terms
 image_bound t table y =
     let agrees : Agrees t.width (take t.width y) y = λ i l. get_or-take t.width y i false l in
@@ -215,8 +217,8 @@ image_bound t table y =
       arith,
       ints,
       cost-agrees t.width (take t.width y) y t.terms agrees (below_width t table),
-      replaced-le y t.terms t.width,
-      terms_cost-collected y (replaced t.terms t.width),
+      all_new_terms-le y t.terms t.width,
+      terms_cost-with_additions y (all_new_terms t.terms t.width),
     )
 
 length-bits : (x : List Bool) (ts : List Term)
@@ -232,16 +234,16 @@ length-bits x (t ∷ ts) =
     )
 
 -- a link that fits can be decoded by
-pub mono_sound : (link : BitsLink) (t : TableForm) → Fits link t → HasFirstBits link
+pub mono_sound : (link : BitsLink) (t : TableContent) → Fits link t → HasFirstBits link
 mono_sound link t fits = let from = fits.source in let to = fits.target in omega arith
 
 -- it has the widths of the table and of its image
-pub mono_joins : (link : BitsLink) (t : TableForm) → Fits link t
+pub mono_joins : (link : BitsLink) (t : TableContent) → Fits link t
     → Joins (tables.form_of t) (tables.form_of (image t)) (first_bits link)
 mono_joins link t fits = record { source = fits.source; target = fits.target }
 
 -- an assignment is reached by its extension
-pub mono_reaches : (link : BitsLink) (t : TableForm) (x : List Bool) → Fits link t
+pub mono_reaches : (link : BitsLink) (t : TableContent) (x : List Bool) → Fits link t
     → length x ≡ t.width
     → Extends (tables.form_of t) (tables.form_of (image t)) (first_bits link) (pos 1) (pos 0) x
     (extension x t.terms)
@@ -250,8 +252,9 @@ mono_reaches link t x fits width =
     let from : link.source_width ≡ length x = fits.source ∙ sym width in
     let P : ℕ → Type 0 = λ n. AllBelow n t.terms in
     let below = subst P (sym width) (below_width t fits.table) in
-    let reached : terms_cost (extension x t.terms) (replaced t.terms t.width) ≡ terms_cost x t.terms =
-    ap (λ n. terms_cost (extension x t.terms) (replaced t.terms n)) (sym width)
+    let reached : terms_cost (extension x t.terms) (all_new_terms t.terms t.width)
+    ≡ terms_cost x t.terms =
+    ap (λ n. terms_cost (extension x t.terms) (all_new_terms t.terms n)) (sym width)
     ∙ extension_reach x t.terms below in
     record {
       width = omega (arith, length-append x bits, width, length-bits x t.terms);
@@ -263,13 +266,13 @@ mono_reaches link t x fits width =
           omega (
             arith,
             ints,
-            terms_cost-collected (extension x t.terms) (replaced t.terms t.width),
+            terms_cost-with_additions (extension x t.terms) (all_new_terms t.terms t.width),
             reached,
           );
     }
 
 -- the image keeps the costs of the table
-pub mono_keeps : (link : BitsLink) (t : TableForm) → Fits link t
+pub mono_keeps : (link : BitsLink) (t : TableContent) → Fits link t
     → Keeps (tables.form_of t) (tables.form_of (image t)) (first_bits link) (pos 1) (pos 0)
 mono_keeps link t fits = record {
   positive = omega (arith, ints);
@@ -283,9 +286,9 @@ mono_keeps link t fits = record {
 }
 
 -- the costs of a table are whole
-pub mono_whole_source : (t : TableForm) → IsNeverInfinite (tables.form_of t)
+pub mono_whole_source : (t : TableContent) → IsNeverInfinite (tables.form_of t)
 mono_whole_source t y infinite = cc
 
 -- the costs of an image are whole
-pub mono_whole : (t : TableForm) → IsNeverInfinite (tables.form_of (image t))
+pub mono_whole : (t : TableContent) → IsNeverInfinite (tables.form_of (image t))
 mono_whole t y infinite = cc

@@ -1,11 +1,12 @@
 -- The nodes of a positive term, in whole numbers. Nothing here has to be believed.
 --
--- The term has d literals, of which s are true, and n nodes.
--- Node k can save max(0, f * (s - 2 * k - 2) + 1), and saves it exactly where it is 1 if and only if at
--- least 2 * k + 2 literals are true. All nodes together can save as much as the pairs of true literals
--- cost, and 1 less where all literals are true: with factors of 2 throughout, the first n nodes save
--- n * (2 * s + 1) - 2 * n * (n + 1) as long as 2 * n is at most s. For an even d that falls short of the
--- pairs by 1 where s is d. For an odd d the last node has the factor 1, and the same holds.
+-- The term has d literals, of which s are true, and n nodes. Node k can save
+-- max(0, f * (s - 2 * k - 2) + 1), and saves it exactly where it is 1 if and only if at least
+-- 2 * k + 2 literals are true. All nodes together can save as much as the pairs of true literals
+-- cost, and 1 less where all literals are true: with factors of 2 throughout, the first n nodes
+-- save n * (2 * s + 1) - 2 * n * (n + 1) as long as 2 * n is at most s. For an even d that falls
+-- short of the pairs by 1 where s is d. For an odd d the last node has the factor 1, and the same
+-- holds.
 use Rattle.std.proofs.Common.{◌≡◌, ℕ, zero, suc, ◌+◌, ◌-◌, ◌*◌, ◌<◌, ◌≤◌, ◌⊎◌, inl, inr, Bool, true, false, cond, arith, sym, ap, subst, refl, eqb, leb}
 use Rattle.std.proofs.lemmas.Bool.{cases_lt}
 use Rattle.std.proofs.lemmas.Bool.Decides.{nat_tests}
@@ -193,7 +194,8 @@ gain_is d s n (two, inr e) h =
 
 -- ---- the law
 
--- whatever the nodes are, the pairs and nodes cost at least 1 where all literals are true, and else 0
+-- whatever the nodes are, the pairs and nodes cost at least 1 where all literals are true, and
+-- else 0
 pub positive_bound : (d s n : ℕ) (w : ℕ → Bool) → IsSized d n → s ≤ d
     → cond (eqb s d) 1 0 + below d s w n ≤ pairs s + above d w n
 positive_bound d s n w sized within = omega (arith, saves d s w n, gain_is d s n sized within)

@@ -1,10 +1,10 @@
 -- What the terms cost that stand for one term. Nothing here has to be believed.
 --
 -- For a term of degree 3 or more they cost never less than it, and as much where each new node is 1
--- exactly where what it is multiplied by is negative.
--- For a negative coefficient, (d - 1) less the number of true literals is negative only where all d are
--- true. For a positive one, the nodes save as much as the pairs of true literals cost, and 1 less where
--- all are true; the coefficient comes in last.
+-- exactly where what it is multiplied by is negative. For a negative coefficient, (d - 1) less the
+-- number of true literals is negative only where all d are true. For a positive one, the nodes save
+-- as much as the pairs of true literals cost, and 1 less where all are true; the coefficient comes
+-- in last.
 use Rattle.std.proofs.Common.{◌≡◌, ℕ, zero, suc, ◌+◌, ◌-◌, ◌*◌, ◌<◌, ◌≤◌, inl, inr, Bool, true, false, cond, ◌&&◌, eqb, arith, sym, ap, ◌∙◌, refl, List, [], ◌∷◌, length, ℤ, pos, ◌+ℤ◌, ◌-ℤ◌, ◌*ℤ◌, neg_ℤ, ◌≤ℤ◌}
 use Rattle.std.proofs.lemmas.List.Sums.{sum_by-cons, count_by-le-length}
 use Rattle.std.proofs.lemmas.Int.{ints}
@@ -158,7 +158,9 @@ pub positive_terms-le : (y : List Bool) (ls : List Literal) (c : ℤ) (n : ℕ) 
     → pos 0 ≤ℤ c → term_cost y (ls, c) ≤ℤ terms_cost y (positive_terms ls c n)
 positive_terms-le y ls c n high positive =
     let d = length ls in
-    let bound = positive_bound d (true_literals y ls) (nodes_for d) (nodes_at y n) (sized d high) (true_literals-le y ls) in
+    let bound =
+    positive_bound d (true_literals y ls) (nodes_for d) (nodes_at y n) (sized d high)
+    (true_literals-le y ls) in
     rw (term_cost-count y ls c, cost-positive_terms y ls c n)
     (times-le c _ _ positive (omega (arith, ints, bound)))
 

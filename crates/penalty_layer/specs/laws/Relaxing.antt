@@ -11,29 +11,30 @@ use Rattle.bits_model.specs.declared.layer.BitsLink.{BitsLink}
 use Rattle.bits_model.specs.Costs.{IsNeverInfinite}
 use Rattle.bits_model.specs.Relations.{Relaxes, Joins, ExtendsLeast}
 use Rattle.bits_model.specs.laws.Plain.{relaxes_in_one}
-use Rattle.problem_form.specs.Problems.{ProblemForm, sum_of, soft_cost, fails_hard, fails, problem_cost}
+use Rattle.problem_form.specs.Problems.{ProblemContent, sum_of, soft_cost, fails_hard, fails, problem_cost}
 use Rattle.problem_form.specs.Problems as problems
 use Rattle.problem_form.specs.Limits.{penalty, upper}
 use Rattle.term_table.specs.Terms.{term_cost, terms_cost}
 use Rattle.term_table.specs.Tables as tables
-use Rattle.term_table.proofs.Additions.{terms_cost-collected}
+use Rattle.term_table.proofs.Additions.{terms_cost-with_additions}
 use Rattle.penalty_layer.specs.Penalty.{contributions, clause_term, product_term, image, figures, Fits}
 use Rattle.bits_model.specs.Links.{first_bits, HasFirstBits}
 use Rattle.penalty_layer.specs.laws.Violations.{clause_cost, clause_terms_cost, product_terms_cost, clauses_at_least, clauses_soft, soft_costs_upper, sum_lower, sum_upper}
 
 -- ---- the cost of the table
 
-image_value : (x : List Bool) (p : ProblemForm)
+image_value : (x : List Bool) (p : ProblemContent)
     → terms_cost x (image p).terms
     ≡ p.constant +ℤ (sum_of x p.objective +ℤ total_by (clause_cost x (penalty p)) p.clauses)
 image_value x p =
-    terms_cost-collected x (contributions p)
+    terms_cost-with_additions x (contributions p)
     ∙ ap (λ z. p.constant +ℤ z)
-    (total_by-append (term_cost x) (map product_term p.objective) (map (clause_term (penalty p)) p.clauses)
+    (total_by-append (term_cost x) (map product_term p.objective)
+    (map (clause_term (penalty p)) p.clauses)
     ∙ (λ i. product_terms_cost x p.objective i +ℤ clause_terms_cost x (penalty p) p.clauses i))
 
 -- what breaks a hard clause lies above the threshold
-broken_above : (x : List Bool) (p : ProblemForm) → list_any (fails_hard x) p.clauses ≡ true
+broken_above : (x : List Bool) (p : ProblemContent) → list_any (fails_hard x) p.clauses ≡ true
     → upper p <ℤ terms_cost x (image p).terms
 broken_above x p h =
     omega (
@@ -45,12 +46,12 @@ broken_above x p h =
     )
 
 -- what breaks none costs what the problem costs
-kept_value : (x : List Bool) (p : ProblemForm) → list_any (fails_hard x) p.clauses ≡ false
+kept_value : (x : List Bool) (p : ProblemContent) → list_any (fails_hard x) p.clauses ≡ false
     → terms_cost x (image p).terms
     ≡ p.constant +ℤ sum_of x p.objective +ℤ total_by (soft_cost x) p.clauses
 kept_value x p h = omega (arith, ints, image_value x p, clauses_soft x (penalty p) p.clauses h)
 
-whole_below : (x : List Bool) (p : ProblemForm)
+whole_below : (x : List Bool) (p : ProblemContent)
     → (p.constant +ℤ sum_of x p.objective +ℤ total_by (soft_cost x) p.clauses) ≤ℤ upper p
 whole_below x p = omega (arith, ints, sum_upper x p.objective, soft_costs_upper x p.clauses)
 
@@ -60,7 +61,7 @@ or_false : (b : Bool) → (b || false) ≡ b
 or_false true = refl
 or_false false = refl
 
-by_clauses : (x : List Bool) (p : ProblemForm) → p.constraints ≡ []
+by_clauses : (x : List Bool) (p : ProblemContent) → p.constraints ≡ []
     → problem_cost p x
     ≡ cond (list_any (fails_hard x) p.clauses) Infinite
     (Whole (p.constant +ℤ sum_of x p.objective +ℤ total_by (soft_cost x) p.clauses))
@@ -70,7 +71,8 @@ by_clauses x p none =
     (ap (λ ks. list_any (fails_hard x) p.clauses || list_any (fails x) ks) none
     ∙ or_false (list_any (fails_hard x) p.clauses))
 
-whole_is_unbroken : (b : Bool) (u v : ℤ) → cond b Infinite (Whole u) ≡ Whole v → (b ≡ false) × (u ≡ v)
+whole_is_unbroken : (b : Bool) (u v : ℤ) → cond b Infinite (Whole u) ≡ Whole v
+    → (b ≡ false) × (u ≡ v)
 whole_is_unbroken true u v e = absurd cc
 whole_is_unbroken false u v e = (refl, cc)
 
@@ -79,14 +81,14 @@ infinite_is_broken true u e = refl
 infinite_is_broken false u e = absurd cc
 
 -- an assignment of whole cost has that cost in the table, and it is at most the threshold
-pub whole_value : (x : List Bool) (p : ProblemForm) (v : ℤ) → p.constraints ≡ []
+pub whole_value : (x : List Bool) (p : ProblemContent) (v : ℤ) → p.constraints ≡ []
     → problem_cost p x ≡ Whole v → (terms_cost x (image p).terms ≡ v) × (v ≤ℤ upper p)
 whole_value x p v none whole =
     let cases = whole_is_unbroken _ _ v (sym (by_clauses x p none) ∙ whole) in
     (kept_value x p cases.0 ∙ cases.1, omega (arith, ints, whole_below x p, cases.1))
 
 -- an assignment of infinite cost lies above the upper bound in the table
-pub infinite_value : (x : List Bool) (p : ProblemForm) → p.constraints ≡ []
+pub infinite_value : (x : List Bool) (p : ProblemContent) → p.constraints ≡ []
     → problem_cost p x ≡ Infinite → upper p <ℤ terms_cost x (image p).terms
 infinite_value x p none infinite =
     broken_above x p (infinite_is_broken _ _ (sym (by_clauses x p none) ∙ infinite))
@@ -94,12 +96,12 @@ infinite_value x p none infinite =
 -- ---- the relations
 
 -- a state decodes to itself
-pub decoded_whole : (link : BitsLink) (p : ProblemForm) (y : List Bool) → Fits link p
+pub decoded_whole : (link : BitsLink) (p : ProblemContent) (y : List Bool) → Fits link p
     → length y ≡ p.variables → (first_bits link).decoded y ≡ y
 decoded_whole link p y fit w = let wide = fit.source in take_all link.source_width y (omega arith)
 
 -- the table relaxes the problem
-pub penalty_relaxes : (link : BitsLink) (p : ProblemForm) → Fits link p
+pub penalty_relaxes : (link : BitsLink) (p : ProblemContent) → Fits link p
     → Relaxes (problems.form_of p) (tables.form_of (image p)) (first_bits link) (pos 1) (figures p)
 penalty_relaxes link p fit = relaxes_in_one (record {
   positive = omega (arith, ints);
@@ -123,7 +125,7 @@ penalty_relaxes link p fit = relaxes_in_one (record {
 })
 
 -- an assignment is its own least extension, since no other state decodes to it
-pub penalty_extends : (link : BitsLink) (p : ProblemForm) (x : List Bool) → Fits link p
+pub penalty_extends : (link : BitsLink) (p : ProblemContent) (x : List Bool) → Fits link p
     → length x ≡ p.variables
     → ExtendsLeast (problems.form_of p) (tables.form_of (image p)) (first_bits link) (figures p) x x
 penalty_extends link p x fit w = record {
@@ -137,14 +139,14 @@ penalty_extends link p x fit w = record {
 }
 
 -- a link that fits has the widths of the problem and of its image
-pub penalty_joins : (link : BitsLink) (p : ProblemForm) → Fits link p
+pub penalty_joins : (link : BitsLink) (p : ProblemContent) → Fits link p
     → Joins (problems.form_of p) (tables.form_of (image p)) (first_bits link)
 penalty_joins link p fit = record { source = fit.source; target = fit.target }
 
 -- it can be decoded by
-pub penalty_sound : (link : BitsLink) (p : ProblemForm) → Fits link p → HasFirstBits link
+pub penalty_sound : (link : BitsLink) (p : ProblemContent) → Fits link p → HasFirstBits link
 penalty_sound link p fit = let from = fit.source in let to = fit.target in omega arith
 
 -- the costs of an image are whole
-pub penalty_whole : (p : ProblemForm) → IsNeverInfinite (tables.form_of (image p))
+pub penalty_whole : (p : ProblemContent) → IsNeverInfinite (tables.form_of (image p))
 penalty_whole p y e = cc

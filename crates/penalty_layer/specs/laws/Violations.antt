@@ -68,7 +68,8 @@ clause_at_least : (x : List Bool) (n : ℕ) (c : Clause) → fails_hard x c ≡ 
     → pos n ≤ℤ clause_cost x n c
 clause_at_least x n c = go c.weight (is_violated x c)
   where
-    go : (w : Option ℕ) (t : Bool) → (is_none w && t) ≡ true → pos n ≤ℤ if_so t (pos (unwrap_or w n))
+    go : (w : Option ℕ) (t : Bool) → (is_none w && t) ≡ true
+        → pos n ≤ℤ if_so t (pos (unwrap_or w n))
     go None true h = omega (arith, ints)
     go None false h = cc
     go (Some w) t h = cc

@@ -17,14 +17,14 @@ use Rattle.bits_model.specs.Output.{bit_at, bits_energy}
 use Rattle.bits_model.specs.Relations.{Keeps, Extends, Joins}
 use Rattle.problem_form.specs.declared.literal.Literal.{Literal}
 use Rattle.problem_form.specs.Literals.{holds, all_hold, are_opposite, IsLiteralSet}
-use Rattle.term_table.specs.Terms.{Term, term_cost, terms_cost, collected, IsTermSet}
-use Rattle.term_table.specs.Tables.{TableForm, IsTable, IsLow}
+use Rattle.term_table.specs.Terms.{Term, term_cost, terms_cost, with_additions, IsTermSet}
+use Rattle.term_table.specs.Tables.{TableContent, IsTable, IsLow}
 use Rattle.term_table.specs.Tables as tables
 use Rattle.term_table.proofs.SmallSets.{in_order}
-use Rattle.term_table.proofs.Additions.{terms_cost-collected}
-use Rattle.term_table.proofs.KeptTerms.{OfSet, All-collected}
-use Rattle.quad_form.specs.Quads.{QuadForm, node_entries, quad_value, form_of}
-use Rattle.quad_form.specs.Flat.{plain, with_front, multiplied_out, contributions, IsPlain, IsFlat, pair_entry, placed, zero_form, image, same_bits, IsSound, Fits}
+use Rattle.term_table.proofs.Additions.{terms_cost-with_additions}
+use Rattle.term_table.proofs.KeptTerms.{OfSet, All-with_additions}
+use Rattle.quad_form.specs.Quads.{QuadContent, node_entries, quad_value, form_of}
+use Rattle.quad_form.specs.Flat.{plain, with_front, plain_terms, contributions, IsPlain, IsFlat, pair_entry, with_term, zero_quad, image, same_bits, IsSound, Fits}
 
 -- ---- a term, multiplied out, costs the same
 
@@ -56,15 +56,15 @@ complement_value true false c = refl
 complement_value false true c = omega (arith, ints)
 complement_value false false c = refl
 
-terms_cost-multiplied_out : (y : List Bool) (ls : List Literal) (c : ℤ)
-    → terms_cost y (multiplied_out ls c) ≡ term_cost y (ls, c)
-terms_cost-multiplied_out y [] c = omega (arith, ints)
-terms_cost-multiplied_out y (l ∷ ls) c =
-    let rest = multiplied_out ls c in
-    let less = multiplied_out ls (neg_ℤ c) in
+terms_cost-plain_terms : (y : List Bool) (ls : List Literal) (c : ℤ)
+    → terms_cost y (plain_terms ls c) ≡ term_cost y (ls, c)
+terms_cost-plain_terms y [] c = omega (arith, ints)
+terms_cost-plain_terms y (l ∷ ls) c =
+    let rest = plain_terms ls c in
+    let less = plain_terms ls (neg_ℤ c) in
     go l.negated (slice_index_or y l.variable false) (all_hold y ls) rest less
-    (terms_cost-multiplied_out y ls c)
-    (terms_cost-multiplied_out y ls (neg_ℤ c))
+    (terms_cost-plain_terms y ls c)
+    (terms_cost-plain_terms y ls (neg_ℤ c))
     (terms_cost-with_front y (plain l) rest)
     (terms_cost-with_front y (plain l) less)
   where
@@ -83,9 +83,9 @@ terms_cost-multiplied_out y (l ∷ ls) c =
 terms_cost-contributions : (y : List Bool) (ts : List Term)
     → terms_cost y (contributions ts) ≡ terms_cost y ts
 terms_cost-contributions y ts =
-    total_by-flat_map (term_cost y) (λ (t : Term). multiplied_out t.0 t.1) ts
-    ∙ total_by-same (λ (t : Term). terms_cost y (multiplied_out t.0 t.1)) (term_cost y) ts
-    (λ t. terms_cost-multiplied_out y t.0 t.1)
+    total_by-flat_map (term_cost y) (λ (t : Term). plain_terms t.0 t.1) ts
+    ∙ total_by-same (λ (t : Term). terms_cost y (plain_terms t.0 t.1)) (term_cost y) ts
+    (λ t. terms_cost-plain_terms y t.0 t.1)
 
 -- ---- the sets that are left
 
@@ -118,7 +118,7 @@ two_out n m v w c =
     else with_front v (one_out m w c)
 
 flat_one : (width : ℕ) (l : Literal) (c : ℤ) → l.variable < width
-    → AreFlat width (multiplied_out (l ∷ []) c)
+    → AreFlat width (plain_terms (l ∷ []) c)
 flat_one width l c in' = go l.negated
   where
     variable : IsPlain width (plain l)
@@ -129,7 +129,7 @@ flat_one width l c in' = go l.negated
     go false = (variable, tt)
 
 flat_two : (width : ℕ) (l k : Literal) (c : ℤ) → l.variable < k.variable → k.variable < width
-    → AreFlat width (multiplied_out (l ∷ k ∷ []) c)
+    → AreFlat width (plain_terms (l ∷ k ∷ []) c)
 flat_two width l k c up in' = go l.negated k.negated
   where
     first : IsPlain width (plain l)
@@ -145,7 +145,7 @@ flat_two width l k c up in' = go l.negated k.negated
     go false false = ((first, second, up), tt)
 
 flat_term : (width : ℕ) (ls : List Literal) (c : ℤ) → IsLiteralSet width ls → length ls ≤ 2
-    → AreFlat width (multiplied_out ls c)
+    → AreFlat width (plain_terms ls c)
 flat_term width [] c set short = (tt, tt)
 flat_term width (l ∷ []) c set short =
     flat_one width l c (All-head (λ k. k.variable < width) l [] set.within)
@@ -162,15 +162,15 @@ pub flat_contributions : (width : ℕ) (ts : List Term)
     → All (OfSet (IsFlat width)) (contributions ts)
 flat_contributions width [] sets low = All-nil (OfSet (IsFlat width))
 flat_contributions width (t ∷ ts) sets low =
-    All-append (OfSet (IsFlat width)) (multiplied_out t.0 t.1) (contributions ts)
+    All-append (OfSet (IsFlat width)) (plain_terms t.0 t.1) (contributions ts)
     (All-from_recursion _ _ (flat_term width t.0 t.1 sets.0.set low.0))
     (flat_contributions width ts sets.1 low.1)
 
 -- the sets of a table of low terms, multiplied out and collected
-pub flat_sets : (t : TableForm) → IsTable t → IsLow t
-    → All (OfSet (IsFlat t.width)) (collected [] (contributions t.terms))
+pub flat_sets : (t : TableContent) → IsTable t → IsLow t
+    → All (OfSet (IsFlat t.width)) (with_additions [] (contributions t.terms))
 flat_sets t table low =
-    All-collected (IsFlat t.width) (contributions t.terms)
+    All-with_additions (IsFlat t.width) (contributions t.terms)
     (flat_contributions t.width t.terms (recursion_from_All _ _ table.terms.sets)
     (recursion_from_All _ _ low))
 
@@ -214,16 +214,17 @@ all_hold-two y l k is ks =
     go false false is same = refl
 
 -- a placed term adds no node
-pub length-placed : (q : QuadForm) (t : Term) → length (placed q t).diagonal ≡ length q.diagonal
-length-placed q ([], c) = refl
-length-placed q (l ∷ [], c) = length-set q.diagonal l.variable _
-length-placed q (l ∷ k ∷ ls, c) = refl
+pub length-with_term : (q : QuadContent) (t : Term)
+    → length (with_term q t).diagonal ≡ length q.diagonal
+length-with_term q ([], c) = refl
+length-with_term q (l ∷ [], c) = length-set q.diagonal l.variable _
+length-with_term q (l ∷ k ∷ ls, c) = refl
 
-quad_value-placed : (y : List Bool) (q : QuadForm) (ls : List Literal) (c : ℤ)
+quad_value-with_term : (y : List Bool) (q : QuadContent) (ls : List Literal) (c : ℤ)
     → IsFlat (length q.diagonal) ls
-    → quad_value (placed q (ls, c)) y ≡ quad_value q y +ℤ term_cost y (ls, c)
-quad_value-placed y q [] c flat = omega (arith, ints)
-quad_value-placed y q (l ∷ []) c flat =
+    → quad_value (with_term q (ls, c)) y ≡ quad_value q y +ℤ term_cost y (ls, c)
+quad_value-with_term y q [] c flat = omega (arith, ints)
+quad_value-with_term y q (l ∷ []) c flat =
     let old = slice_index_or q.diagonal l.variable (pos 0) in
     let grown = slice_set q.diagonal l.variable (old +ℤ c) in
     let cost : term_cost y (l ∷ [], c) ≡ if_so (bit_at y l.variable) c =
@@ -236,7 +237,7 @@ quad_value-placed y q (l ∷ []) c flat =
       total_by-append (bits_energy y) (node_entries 0 grown) q.couplers,
       total_by-append (bits_energy y) (node_entries 0 q.diagonal) q.couplers,
     )
-quad_value-placed y q (l ∷ k ∷ []) c flat =
+quad_value-with_term y q (l ∷ k ∷ []) c flat =
     let entry = pair_entry l k c in
     let cost : term_cost y (l ∷ k ∷ [], c) ≡ bits_energy y entry =
     ap (λ b. if_so b c) (all_hold-two y l k flat.0.plain flat.1.plain) in
@@ -248,19 +249,19 @@ quad_value-placed y q (l ∷ k ∷ []) c flat =
       total_by-append (bits_energy y) (node_entries 0 q.diagonal) (q.couplers ++ entry ∷ []),
       total_by-append (bits_energy y) (node_entries 0 q.diagonal) q.couplers,
     )
-quad_value-placed y q (l ∷ k ∷ m ∷ ls) c flat = absurd flat
+quad_value-with_term y q (l ∷ k ∷ m ∷ ls) c flat = absurd flat
 
-quad_value-fold : (y : List Bool) (q : QuadForm) (width : ℕ) (ts : List Term)
+quad_value-fold : (y : List Bool) (q : QuadContent) (width : ℕ) (ts : List Term)
     → length q.diagonal ≡ width → AreFlat width ts
-    → quad_value (fold placed q ts) y ≡ quad_value q y +ℤ terms_cost y ts
+    → quad_value (fold with_term q ts) y ≡ quad_value q y +ℤ terms_cost y ts
 quad_value-fold y q width [] same flat = omega (arith, ints)
 quad_value-fold y q width (t ∷ ts) same flat =
     let P : ℕ → Type 0 = λ n. IsFlat n t.0 in
     omega (
       arith,
       ints,
-      quad_value-fold y (placed q t) width ts (length-placed q t ∙ same) flat.1,
-      quad_value-placed y q t.0 t.1 (subst P (sym same) flat.0),
+      quad_value-fold y (with_term q t) width ts (length-with_term q t ∙ same) flat.1,
+      quad_value-with_term y q t.0 t.1 (subst P (sym same) flat.0),
     )
 
 quad_value-zero : (y : List Bool) (n width : ℕ)
@@ -276,38 +277,38 @@ quad_value-zero y n (suc width) =
 -- ---- the layer's laws
 
 -- the image costs what the table costs
-pub image_value : (t : TableForm) → IsTable t → IsLow t → (y : List Bool)
+pub image_value : (t : TableContent) → IsTable t → IsLow t → (y : List Bool)
     → quad_value (image t) y ≡ terms_cost y t.terms
 image_value t table low y =
-    let ts = collected [] (contributions t.terms) in
+    let ts = with_additions [] (contributions t.terms) in
     omega (
       arith,
       ints,
-      quad_value-fold y (zero_form t.width) t.width ts (length-replicate t.width (pos 0))
+      quad_value-fold y (zero_quad t.width) t.width ts (length-replicate t.width (pos 0))
           (recursion_from_All _ _ (flat_sets t table low)),
       quad_value-zero y 0 t.width,
-      terms_cost-collected y (contributions t.terms),
+      terms_cost-with_additions y (contributions t.terms),
       terms_cost-contributions y t.terms,
     )
 
 -- placed terms add no nodes
-pub length-fold : (q : QuadForm) (ts : List Term)
-    → length (fold placed q ts).diagonal ≡ length q.diagonal
+pub length-fold : (q : QuadContent) (ts : List Term)
+    → length (fold with_term q ts).diagonal ≡ length q.diagonal
 length-fold q [] = refl
-length-fold q (t ∷ ts) = length-fold (placed q t) ts ∙ length-placed q t
+length-fold q (t ∷ ts) = length-fold (with_term q t) ts ∙ length-with_term q t
 
 -- the image has a node for each variable
-pub length-image : (t : TableForm) → length (image t).diagonal ≡ t.width
+pub length-image : (t : TableContent) → length (image t).diagonal ≡ t.width
 length-image t =
-    length-fold (zero_form t.width) (collected [] (contributions t.terms))
+    length-fold (zero_quad t.width) (with_additions [] (contributions t.terms))
     ∙ length-replicate t.width (pos 0)
 
 -- a link that fits can be decoded by
-pub flat_sound : (link : BitsLink) (t : TableForm) → Fits link t → IsSound link
+pub flat_sound : (link : BitsLink) (t : TableContent) → Fits link t → IsSound link
 flat_sound link t fits = fits.source ∙ sym fits.target
 
 -- it has the widths of the table and of its image
-pub flat_joins : (link : BitsLink) (t : TableForm) → Fits link t
+pub flat_joins : (link : BitsLink) (t : TableContent) → Fits link t
     → Joins (tables.form_of t) (form_of (image t)) (same_bits link)
 flat_joins link t fits = record {
   source = fits.source;
@@ -315,7 +316,7 @@ flat_joins link t fits = record {
 }
 
 -- each assignment reaches itself
-pub flat_reaches : (link : BitsLink) (t : TableForm) (x : List Bool) → Fits link t
+pub flat_reaches : (link : BitsLink) (t : TableContent) (x : List Bool) → Fits link t
     → length x ≡ t.width
     → Extends (tables.form_of t) (form_of (image t)) (same_bits link) (pos 1) (pos 0) x x
 flat_reaches link t x fits width = record {
@@ -325,7 +326,7 @@ flat_reaches link t x fits width = record {
 }
 
 -- the image keeps the costs of the table
-pub flat_keeps : (link : BitsLink) (t : TableForm) → Fits link t
+pub flat_keeps : (link : BitsLink) (t : TableContent) → Fits link t
     → Keeps (tables.form_of t) (form_of (image t)) (same_bits link) (pos 1) (pos 0)
 flat_keeps link t fits = record {
   positive = omega (arith, ints);
@@ -335,9 +336,9 @@ flat_keeps link t fits = record {
 }
 
 -- the costs of a table are whole
-pub flat_whole_source : (t : TableForm) → IsNeverInfinite (tables.form_of t)
+pub flat_whole_source : (t : TableContent) → IsNeverInfinite (tables.form_of t)
 flat_whole_source t y infinite = cc
 
 -- the costs of an image are whole
-pub flat_whole : (t : TableForm) → IsNeverInfinite (form_of (image t))
+pub flat_whole : (t : TableContent) → IsNeverInfinite (form_of (image t))
 flat_whole t y infinite = cc

@@ -1,5 +1,5 @@
 use Rattle.std.proofs.Common.{◌≡◌, ◌≤◌, ◌+◌, ◌-◌, length, string_bytes}
-use Rattle.edge_io.specs.Counts.{counted_on}
+use Rattle.edge_io.specs.Counts.{count_after}
 use Rattle.edge_io.specs.Held.{IsFront}
 use Rattle.edge_io.proofs.whole.read_all.Given as goal
 
@@ -11,7 +11,7 @@ invariant-loop-count g l = record {
   filled : (g.F.Files.counts l.files).empty_reads ≡ 0;
   front : IsFront (g.F.Files.held l.fn.files) (string_bytes l.fn.name) l.all.items (g.F.Files.rest l.files);
   held : g.F.Files.held l.files ≡ g.F.Files.held l.fn.files;
-  begun : (g.F.Files.counts l.files).begun ≡ counted_on (g.F.Files.counts l.fn.files).begun 1;
+  begun : (g.F.Files.counts l.files).begun ≡ count_after (g.F.Files.counts l.fn.files).begun 1;
   marked : (g.F.Files.counts l.files).faults_at_begin ≡ (g.F.Files.counts l.fn.files).faults;
   named : (g.F.Files.counts l.files).name ≡ string_bytes l.fn.name;
   later : (g.F.Files.counts l.fn.files).faults ≤ (g.F.Files.counts l.files).faults;

@@ -1,7 +1,7 @@
 use Rattle.std.proofs.Common.{◌≡◌, arith, ap, sym, subst, ◌∙◌}
 use Rattle.bits_model.specs.declared.costs.Figures.{Figures}
 use Rattle.problem_form.specs.Limits.{upper}
-use Rattle.quad_form.specs.Quads.{QuadForm, IsQuad, written_of}
+use Rattle.quad_form.specs.Quads.{QuadContent, IsQuad, written_of}
 use Rattle.std.specs.Prelude.{length, pos}
 use Rattle.penalty_layer.proofs.Admitted.{threshold_within}
 use Rattle.problem_form.specs.Limits.{limit_fault}
@@ -13,7 +13,7 @@ use Rattle.model_pipeline.proofs.model.model_of.Goals as goal
 pub output-requires-clause-enough : goal.output-requires-clause-enough
 output-requires-clause-enough c =
     let made = c.in_ok-made.ensures in
-    let nodes = ap (λ (q : QuadForm). length q.diagonal) made.image in
+    let nodes = ap (λ (q : QuadContent). length q.diagonal) made.image in
     omega (arith, nodes, nodes_enough c.args.problem c.in_ok-made.made.third made.third, c.requires.own)
 
 pub output-requires-clause-threshold : goal.output-requires-clause-threshold

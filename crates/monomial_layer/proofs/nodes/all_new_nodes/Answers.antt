@@ -4,7 +4,7 @@ use Rattle.std.proofs.lemmas.Int.{to_z-of_z}
 use Rattle.std.proofs.lemmas.Map.Iter.{rest_more}
 use Rattle.term_table.specs.Terms.{Term}
 use Rattle.monomial_layer.specs.Monomials.{new_nodes}
-use Rattle.monomial_layer.proofs.Sizes.{size-replaced}
+use Rattle.monomial_layer.proofs.Sizes.{size-all_new_terms}
 use Rattle.monomial_layer.proofs.Adding.{nodes_left}
 use Rattle.monomial_layer.proofs.nodes.all_new_nodes.Goals as goal
 
@@ -17,7 +17,7 @@ overflow_add-nodes c =
     omega (
       arith,
       nodes_left c.loop-literals.nodes c.new_nodes-nodes.result _ t _ _ left new c.loop-literals.invariant.whole,
-      size-replaced c.args.table.now.terms 0,
+      size-all_new_terms c.args.table.now.terms 0,
       c.requires,
     )
 

@@ -3,14 +3,14 @@ use Rattle.std.specs.Int.{w128}
 use Rattle.std.proofs.lemmas.Int.{to_z-of_z}
 use Rattle.problem_form.specs.declared.literal.Literal.{Literal}
 use Rattle.term_table.specs.Terms.{Term}
-use Rattle.term_table.specs.Tables.{TableForm}
+use Rattle.term_table.specs.Tables.{TableContent}
 use Rattle.term_table.proofs.Loops.{made_more, fits_next}
 use Rattle.monomial_layer.proofs.Sets.{IsTermSet-before}
 use Rattle.monomial_layer.proofs.replace.add_each_with.Goals as goal
 
 pub add-requires-clause-set : goal.add-requires-clause-set
 add-requires-clause-set c =
-    let width = ap (λ (t : TableForm). t.width) c.loop-literal.invariant in
+    let width = ap (λ (t : TableContent). t.width) c.loop-literal.invariant in
     IsTermSet-before c.loop-literal.quadratic.width c.args.last c.args.literals.now c.loop-literal.literal-index _ c.loop-literal-test.true c.requires.above (omega (arith, width, c.requires.within))
 
 pub add-requires-clause-small : goal.add-requires-clause-small

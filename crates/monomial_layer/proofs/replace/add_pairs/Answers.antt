@@ -1,7 +1,7 @@
 use Rattle.std.proofs.Common.{◌∙◌, ap}
 use Rattle.std.specs.Int.{w128}
 use Rattle.std.proofs.lemmas.Int.{to_z-of_z}
-use Rattle.term_table.specs.Tables.{TableForm}
+use Rattle.term_table.specs.Tables.{TableContent}
 use Rattle.monomial_layer.proofs.Adding.{pairs_above, pairs_fit, pairs_more, pairs_fit_more}
 use Rattle.monomial_layer.proofs.replace.add_pairs.Goals as goal
 
@@ -28,6 +28,6 @@ loop-i-preserved c =
     rw back
     (record {
       whole = pairs_more now next ls c.loop-i.i _ c.args.coefficient _ c.loop-i-test.true made whole;
-      width = ap (λ (t : TableForm). t.width) made ∙ c.loop-i.invariant.width;
+      width = ap (λ (t : TableContent). t.width) made ∙ c.loop-i.invariant.width;
       small = pairs_fit_more now next ls c.loop-i.i _ c.args.coefficient _ c.loop-i-test.true made small;
     })

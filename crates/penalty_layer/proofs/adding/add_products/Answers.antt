@@ -2,7 +2,7 @@ use Rattle.std.proofs.Common.{rules, ◌≡◌, ◌∙◌, ap, get_or}
 use Rattle.std.specs.Int.{w128}
 use Rattle.std.proofs.lemmas.Int.{to_z-of_z}
 use Rattle.problem_form.specs.declared.terms.Product.{Product}
-use Rattle.term_table.specs.Tables.{appended}
+use Rattle.term_table.specs.Tables.{with_appended}
 use Rattle.penalty_layer.specs.Penalty.{product_term}
 use Rattle.term_table.proofs.Loops.{made_more, small_more}
 use Rattle.penalty_layer.proofs.adding.add_products.Goals as goal
@@ -15,11 +15,11 @@ loop-product-preserved c =
     let ts = c.args.products.now in
     let i = c.loop-product.product-index in
     let below = c.loop-product-test.true in
-    let added : next ≡ appended now t.literals t.coefficient =
+    let added : next ≡ with_appended now t.literals t.coefficient =
     c.in_ok-add.ensures.added
-    ∙ (λ k. appended now (c.as_slice.ensures k) (to_z-of_z w128 t.coefficient (search rules) k)) in
-    let one : next ≡ appended now (get_or ts i t).literals (get_or ts i t).coefficient =
-    added ∙ ap (λ (u : Product). appended now u.literals u.coefficient) c.product-item.is in
+    ∙ (λ k. with_appended now (c.as_slice.ensures k) (to_z-of_z w128 t.coefficient (search rules) k)) in
+    let one : next ≡ with_appended now (get_or ts i t).literals (get_or ts i t).coefficient =
+    added ∙ ap (λ (u : Product). with_appended now u.literals u.coefficient) c.product-item.is in
     record {
       made = made_more product_term c.args.terms.now now next ts i t below c.loop-product.invariant.made one;
       small = small_more product_term now next ts i t _ below c.loop-product.invariant.small one;

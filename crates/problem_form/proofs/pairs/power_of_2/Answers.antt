@@ -1,5 +1,5 @@
-use Rattle.problem_form.proofs.CountedNumbers.{answered-power}
+use Rattle.problem_form.proofs.CountedNumbers.{answered_number-power}
 use Rattle.problem_form.proofs.pairs.power_of_2.Goals as goal
 
 pub returns-else-exponent-lt128 : goal.returns-else-exponent-lt128
-returns-else-exponent-lt128 c = answered-power c.args.exponent c.if-exponent-lt128.false
+returns-else-exponent-lt128 c = answered_number-power c.args.exponent c.if-exponent-lt128.false

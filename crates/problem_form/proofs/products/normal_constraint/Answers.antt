@@ -1,8 +1,9 @@
 use Rattle.std.proofs.Common.{◌≡◌, arith, ap, ◌∙◌, ◌-ℤ◌, to_z, of_z}
 use Rattle.std.specs.Int.{w128}
+use Rattle.std.specs.List.{flat_map}
 use Rattle.std.proofs.lemmas.Int.{ints}
 use Rattle.integers.specs.Sums.{total_by}
-use Rattle.problem_form.specs.NormalForm.{product_constant}
+use Rattle.problem_form.specs.NormalForm.{kept_product, product_constant}
 use Rattle.problem_form.proofs.KeptProducts.{kept_products-size}
 use Rattle.problem_form.proofs.products.normal_constraint.Goals as goal
 
@@ -21,4 +22,5 @@ returns c =
     -ℤ to_z w128 (of_z w128 c.constants_of-constants.result)))
     ≡ k.bound -ℤ total_by product_constant k.products =
     omega (arith, ints, constants, kept_products-size k.products) in
-    λ i. record { products = c.keep.ensures i; bound = bound i; exact = k.exact }
+    let products = c.keep_products.ensures ∙ ap (flat_map kept_product) c.products.view_is in
+    λ i. record { products = products i; bound = bound i; exact = k.exact }

@@ -1,12 +1,12 @@
 use Rattle.std.proofs.Common.{◌≡◌, ◌+◌, ◌≤◌, ◌^◌, arith, ap, Result, Ok, Err, OnOk, unsigned_abs}
 use Rattle.std.proofs.lemmas.Int.{ints}
 use Rattle.problem_form.specs.declared.terms.Product.{Product}
-use Rattle.problem_form.specs.Problems.{ProblemForm, problem_total}
+use Rattle.problem_form.specs.Problems.{ProblemContent, problem_total}
 use Rattle.problem_form.specs.NormalForm.{with_product}
 use Rattle.problem_form.proofs.KeptProducts.{with_product-total}
 use Rattle.problem_form.proofs.tests.add_term.Goals as goal
 
-total_after : {T E : Type 0} (r : Result T E) (p q : ProblemForm) (t : Product)
+total_after : {T E : Type 0} (r : Result T E) (p q : ProblemContent) (t : Product)
     → OnOk r (q ≡ with_product p t) → unsigned_abs t.coefficient ≤ 2 ^ 16
     → OnOk r (problem_total q ≤ problem_total p + 2 ^ 16)
 total_after (Ok x) p q t added small =

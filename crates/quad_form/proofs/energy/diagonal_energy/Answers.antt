@@ -12,7 +12,7 @@ overflow_add-energy c =
     let i = c.loop-i.i in
     let w = get_or ws i (pos 0) in
     let bit = bit_at c.args.y.now i in
-    let added : c.counted-energy.result ≡ if_so bit w = c.counted-energy.ensures ∙ ap (λ b. if_so b w) c.bit_at.ensures in
+    let added : c.node_energy-energy.result ≡ if_so bit w = c.node_energy-energy.ensures ∙ ap (λ b. if_so b w) c.bit_at.ensures in
     let within = weights_within ws i (pos 0) c.loop-i-test.true in
     omega (arith, ints, added, c.loop-i.invariant.small, size-if_so bit w, within)
 
@@ -24,10 +24,10 @@ loop-i-preserved c =
     let y = c.args.y.now in
     let bit = bit_at y i in
     let so_far = to_z w128 c.loop-i.energy-bits in
-    let added : c.counted-energy.result ≡ if_so bit w = c.counted-energy.ensures ∙ ap (λ b. if_so b w) c.bit_at.ensures in
+    let added : c.node_energy-energy.result ≡ if_so bit w = c.node_energy-energy.ensures ∙ ap (λ b. if_so b w) c.bit_at.ensures in
     let within = weights_within ws i (pos 0) c.loop-i-test.true in
     let small = c.loop-i.invariant.small in
-    let next : to_z w128 (of_z w128 (so_far +ℤ to_z w128 (of_z w128 c.counted-energy.result))) ≡ so_far +ℤ if_so bit w =
+    let next : to_z w128 (of_z w128 (so_far +ℤ to_z w128 (of_z w128 c.node_energy-energy.result))) ≡ so_far +ℤ if_so bit w =
     omega (arith, ints, added, small, size-if_so bit w, within) in
     record {
       so_far = rw next (energy_more y ws i (pos 0) so_far c.loop-i-test.true c.loop-i.invariant.so_far);

@@ -1,7 +1,7 @@
 use Rattle.std.proofs.Common.{◌∷◌, [], arith}
 use Rattle.std.specs.Int.{w128}
 use Rattle.std.proofs.lemmas.Int.{ints, to_z-of_z}
-use Rattle.quad_form.specs.Flat.{multiplied_out}
+use Rattle.quad_form.specs.Flat.{plain_terms}
 use Rattle.quad_form.proofs.FlatSums.{total-one}
 use Rattle.quad_form.proofs.FlatParts.{total-all}
 use Rattle.quad_form.proofs.flatten.place_two.Goals as goal
@@ -16,5 +16,5 @@ place_after-requires-clause-small c =
       ints,
       back,
       total-one second c.args.coefficient,
-      total-all c.args.parts.now c.place_one.new.parts (multiplied_out (second ∷ []) c.args.coefficient) done,
+      total-all c.args.parts.now c.place_one.new.parts (plain_terms (second ∷ []) c.args.coefficient) done,
     )

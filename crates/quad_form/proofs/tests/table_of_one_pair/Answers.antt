@@ -1,5 +1,5 @@
 use Rattle.std.proofs.Common.{[], ◌∷◌, ap, ◌∙◌, arith}
-use Rattle.term_table.specs.Tables.{TableForm}
+use Rattle.term_table.specs.Tables.{TableContent}
 use Rattle.term_table.proofs.SmallSets.{IsTermSet-two}
 use Rattle.quad_form.proofs.FlatSets.{width-added}
 use Rattle.quad_form.proofs.tests.table_of_one_pair.Goals as goal
@@ -14,7 +14,7 @@ add-requires-2-clause-set c =
     let width =
     width-added c.new-table.result c.add.new.self (c.literal-first.result ∷ c.literal-second.result ∷ []) _
     c.in_ok-add.ensures.added
-    ∙ ap (λ (t : TableForm). t.width) c.new-table.ensures in
+    ∙ ap (λ (t : TableContent). t.width) c.new-table.ensures in
     rw (width, c.literal-first.ensures, c.literal.ensures)
     (IsTermSet-two 2 _ _ (omega arith) (omega arith))
 
@@ -25,6 +25,6 @@ add-requires-3-clause-set c =
     c.in_ok-add-2.ensures.added
     ∙ width-added c.new-table.result c.add.new.self (c.literal-first.result ∷ c.literal-second.result ∷ []) _
     c.in_ok-add.ensures.added
-    ∙ ap (λ (t : TableForm). t.width) c.new-table.ensures in
+    ∙ ap (λ (t : TableContent). t.width) c.new-table.ensures in
     rw (width, c.literal-2.ensures, c.literal-second.ensures)
     (IsTermSet-two 2 _ _ (omega arith) (omega arith))

@@ -5,13 +5,13 @@ use Rattle.std.proofs.lemmas.Iterator.{YieldsList-from_map_by}
 use Rattle.std.proofs.lemmas.Iterator.Consumers.{YieldsList-at}
 use Rattle.std.proofs.lemmas.Iterator.Search.{find_from_yields_List}
 use Rattle.std.proofs.lemmas.Iterator.Splits.{YieldsList-from_slice_split}
-use Rattle.state_file.specs.States.{is_feed, trimmed, is_state}
+use Rattle.state_file.specs.States.{is_feed, trimmed_line, is_state}
 use Rattle.state_file.proofs.reading.state_line.Goals as goal
 
 pub returns : goal.returns
 returns c =
     find_from_yields_List (is_state c.args.width) _ _ _ c.find.ensures.ran
-    (YieldsList-from_map_by _ (λ line. line.now) trimmed
+    (YieldsList-from_map_by _ (λ line. line.now) trimmed_line
     (YieldsList-at c.map.ensures.source
     (YieldsList-from_slice_split _ is_feed c.args.text.now c.split.ensures.rest c.split.ensures.done
     c.split.ensures.closure (λ x r q k. search (rules, tests))))

@@ -2,8 +2,8 @@ use Rattle.std.proofs.Common.{rules, arith, ◌≡◌, ◌≢◌, ◌∙◌, ap,
 use Rattle.std.specs.Int.{w128}
 use Rattle.std.proofs.lemmas.Int.{to_z-of_z, ints}
 use Rattle.problem_form.specs.declared.literal.Literal.{Literal}
-use Rattle.term_table.specs.Terms.{added}
-use Rattle.term_table.proofs.MapTerms.{added-raised, added-cancelled, added-missing, added-nothing}
+use Rattle.term_table.specs.Terms.{with_addition}
+use Rattle.term_table.proofs.MapTerms.{with_addition-raised, with_addition-cancelled, with_addition-missing, with_addition-nothing}
 use Rattle.term_table.proofs.entries.add_to_map.Goals as goal
 use Rattle.term_table.proofs.entries.add_to_map.Goals.{then-sum-eq0, else-sum-eq0}
 
@@ -17,8 +17,8 @@ returns-after-sum-eq0-clause-added c =
     let fits : FitsSigned w128 c.in-Some.sum = search rules in
     let zero : of_z w128 c.in-Some.sum ≡ 0 → c.in-Some.sum ≡ pos 0 = λ e. omega (arith, ints, e) in
     let nonzero : (of_z w128 c.in-Some.sum ≡ 0 → ⊥) → c.in-Some.sum ≢ pos 0 = λ e z. e (ap (of_z w128) z) in
-    let added_is = ap (λ ks. added old ks c.args.coefficient) same in
-    elim c.if-sum-eq0.branch [ then-sum-eq0 w ↦ ap (λ m. m.entries) w.entries-is ∙ w.remove.ensures.entries ∙ sym (added-cancelled old _ ls c.args.coefficient _ c.in-Some.ensures.ascends raised (zero w.if-sum-eq0.true)) ∙ added_is | else-sum-eq0 w ↦ ap (λ m. m.entries) w.entries-is ∙ sym (added-raised old _ ls c.args.coefficient _ c.in-Some.ensures.ascends raised (nonzero w.if-sum-eq0.false)) ∙ added_is ]
+    let added_is = ap (λ ks. with_addition old ks c.args.coefficient) same in
+    elim c.if-sum-eq0.branch [ then-sum-eq0 w ↦ ap (λ m. m.entries) w.entries-is ∙ w.remove.ensures.entries ∙ sym (with_addition-cancelled old _ ls c.args.coefficient _ c.in-Some.ensures.ascends raised (zero w.if-sum-eq0.true)) ∙ added_is | else-sum-eq0 w ↦ ap (λ m. m.entries) w.entries-is ∙ sym (with_addition-raised old _ ls c.args.coefficient _ c.in-Some.ensures.ascends raised (nonzero w.if-sum-eq0.false)) ∙ added_is ]
 
 pub returns-in-None-clause-added : goal.returns-in-None-clause-added
 returns-in-None-clause-added c =
@@ -27,8 +27,8 @@ returns-in-None-clause-added c =
     let same : ls ≡ c.args.literals.now = search rules in
     let zero : c.args.coefficient ≡ pos 0 = omega (arith, ints) in
     c.in-None.ensures.unchanged
-    ∙ sym (added-nothing old ls _ c.in-None.ensures.ascends c.in-None.ensures.missing zero)
-    ∙ ap (λ ks. added old ks c.args.coefficient) same
+    ∙ sym (with_addition-nothing old ls _ c.in-None.ensures.ascends c.in-None.ensures.missing zero)
+    ∙ ap (λ ks. with_addition old ks c.args.coefficient) same
 
 pub returns-in-None-2-clause-added : goal.returns-in-None-2-clause-added
 returns-in-None-2-clause-added c =
@@ -37,5 +37,5 @@ returns-in-None-2-clause-added c =
     let same : ls ≡ c.args.literals.now = search rules in
     let nonzero : c.args.coefficient ≢ pos 0 = λ e. c.if-coefficient-eq0.false (ap (of_z w128) e) in
     let back = to_z-of_z w128 c.args.coefficient c.ranges.coefficient in
-    rw (sym same, added-missing old ls c.args.coefficient c.in-None.ensures.ascends c.in-None.ensures.missing nonzero, sym c.in-None.ensures.unchanged, sym back)
+    rw (sym same, with_addition-missing old ls c.args.coefficient c.in-None.ensures.ascends c.in-None.ensures.missing nonzero, sym c.in-None.ensures.unchanged, sym back)
     c.put.ensures.put

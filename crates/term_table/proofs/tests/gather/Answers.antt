@@ -4,7 +4,7 @@ use Rattle.std.proofs.lemmas.Int.{to_z-of_z}
 use Rattle.std.proofs.lemmas.List.Sums.{sum_by_more_le}
 use Rattle.problem_form.specs.declared.literal.Literal.{Literal}
 use Rattle.term_table.specs.Terms.{Term, terms_total}
-use Rattle.term_table.specs.Tables.{TableForm}
+use Rattle.term_table.specs.Tables.{TableContent}
 use Rattle.term_table.proofs.Steps.{terms_total-map}
 use Rattle.term_table.proofs.tests.gather.Goals as goal
 
@@ -15,7 +15,7 @@ add-requires-clause-small c =
     let xs = c.args.terms.now in
     let back = to_z-of_z w128 (get_or xs i d).1 (search rules) in
     let f : Bor (List Literal) × ℤ → Term = λ a. (a.0.now, a.1) in
-    let so_far = ap (λ (t : TableForm). terms_total t.terms) c.loop-literals.invariant in
+    let so_far = ap (λ (t : TableContent). terms_total t.terms) c.loop-literals.invariant in
     rw back
     (omega (
       arith,

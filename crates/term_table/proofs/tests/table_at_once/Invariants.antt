@@ -1,5 +1,5 @@
 use Rattle.std.proofs.Common.{◌≡◌, map, take}
-use Rattle.term_table.specs.Terms.{collected}
+use Rattle.term_table.specs.Terms.{with_additions}
 use Rattle.term_table.proofs.tests.table_at_once.Given as goal
 
 -- the table with the additions so far
@@ -9,6 +9,6 @@ invariant-loop-literals l =
     ≡ record {
       width = l.initial.table.width;
       terms =
-          collected l.initial.table.terms
+          with_additions l.initial.table.terms
           (map (λ a. (a.0.now, a.1)) (take l.literals-index l.later));
     }

@@ -3,7 +3,7 @@ use Rattle.std.specs.Int.{w128}
 use Rattle.std.proofs.lemmas.Int.{to_z-of_z}
 use Rattle.problem_form.specs.declared.literal.Literal.{Literal}
 use Rattle.term_table.specs.Terms.{Term, terms_total}
-use Rattle.term_table.specs.Tables.{TableForm}
+use Rattle.term_table.specs.Tables.{TableContent}
 use Rattle.term_table.proofs.Steps.{total_more}
 use Rattle.term_table.proofs.tests.table_of.Goals as goal
 
@@ -15,5 +15,5 @@ add-requires-clause-small c =
     let k = (get_or xs i d).1 in
     let back = to_z-of_z w128 k (search rules) in
     let f : Bor (List Literal) × ℤ → Term = λ a. (a.0.now, a.1) in
-    let so_far = ap (λ (t : TableForm). terms_total t.terms) c.loop-literals.invariant in
+    let so_far = ap (λ (t : TableContent). terms_total t.terms) c.loop-literals.invariant in
     rw back (omega (arith, so_far, total_more f xs i d c.loop-literals-test.true))

@@ -1,5 +1,5 @@
 use Rattle.std.proofs.Common.{◌≡◌, [], map, take}
-use Rattle.term_table.specs.Terms.{collected}
+use Rattle.term_table.specs.Terms.{with_additions}
 use Rattle.term_table.proofs.tests.table_of.Given as goal
 
 -- the table is that of the additions so far
@@ -8,5 +8,5 @@ invariant-loop-literals l =
     l.table
     ≡ record {
       width = l.width;
-      terms = collected [] (map (λ a. (a.0.now, a.1)) (take l.literals-index l.additions));
+      terms = with_additions [] (map (λ a. (a.0.now, a.1)) (take l.literals-index l.additions));
     }

@@ -1,7 +1,7 @@
 use Rattle.std.proofs.Common.{sym, ◌∙◌, arith}
 use Rattle.std.proofs.lemmas.Result.{err_from_is_err_and}
 use Rattle.whole_text.specs.Tokens.{words_at}
-use Rattle.problem_form.specs.NormalForm.{blank, widened}
+use Rattle.problem_form.specs.NormalForm.{blank, with_variables}
 use Rattle.problem_form.proofs.KeptClauses.{with_clause-total}
 use Rattle.wcnf_reader.specs.Wcnf.{clauses_at}
 use Rattle.wcnf_reader.specs.Views.{header_of, problem_read}
@@ -25,7 +25,7 @@ loop-preserved c =
     let text = c.args.text.now in
     let h = header_of c.args.start in
     let clause = c.in_ok-clause.clause in
-    let all = read_into h.top (widened blank h.variables)
+    let all = read_into h.top (with_variables blank h.variables)
     (clauses_at h.clauses h.variables c.args.end (words_at text c.args.tokens.now)) in
     let added = c.in_ok-add_clause.ensures.added in
     record {

@@ -1,7 +1,7 @@
 use Rattle.std.proofs.Common.{◌≡◌, ◌+◌, ◌-◌, ◌*◌, ◌^◌, ◌≤◌, length, All}
 use Rattle.whole_text.specs.Tokens.{words_at, IsWithin}
 use Rattle.problem_form.specs.Problems.{problem_total}
-use Rattle.problem_form.specs.NormalForm.{blank, widened}
+use Rattle.problem_form.specs.NormalForm.{blank, with_variables}
 use Rattle.wcnf_reader.specs.Wcnf.{clauses_at}
 use Rattle.wcnf_reader.proofs.Clauses.{read_into}
 use Rattle.wcnf_reader.proofs.reading.clauses.Given as goal
@@ -13,7 +13,7 @@ invariant-loop l = record {
   within : All (IsWithin l.text) l.rest;
   read : read_into l.start.top l.problem
       (clauses_at (l.start.clauses - l.counter) l.start.variables l.fn.end (words_at l.text l.rest))
-      ≡ read_into l.start.top (widened blank l.start.variables)
+      ≡ read_into l.start.top (with_variables blank l.start.variables)
       (clauses_at l.start.clauses l.start.variables l.fn.end (words_at l.text l.tokens));
   variables : l.problem.variables ≡ l.start.variables;
   small : problem_total l.problem + length l.rest * 2 ^ 64 ≤ length l.tokens * 2 ^ 64;

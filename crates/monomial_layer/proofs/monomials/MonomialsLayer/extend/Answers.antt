@@ -13,5 +13,5 @@ returns-clause-reaches c =
     let t = c.args.source.now in
     let x = c.args.x.now in
     let reaches = mono_reaches c.args._link.now t x c.requires.fits c.requires.width in
-    if_ok-then c.extended.result c.extended.ensures
+    if_ok-then c.extension_of.result c.extension_of.ensures
     (λ y same. subst (Extends (form_of t) (form_of (image t)) (first_bits c.args._link.now) (pos 1) (pos 0) x) (sym same) reaches)

@@ -4,7 +4,7 @@ use Rattle.bits_model.specs.declared.layer.BitsLink.{BitsLink}
 use Rattle.bits_model.specs.Links.{first_bits}
 use Rattle.bits_model.specs.Relations.{Keeps}
 use Rattle.term_table.specs.Terms.{terms_total}
-use Rattle.term_table.specs.Tables.{TableForm, IsLow, form_of, table_size}
+use Rattle.term_table.specs.Tables.{TableContent, IsLow, form_of, table_size}
 use Rattle.monomial_layer.specs.Monomials.{Fits}
 use Rattle.monomial_layer.specs.laws.Kept.{mono_keeps}
 use Rattle.monomial_layer.proofs.Sets.{IsLow-image}
@@ -13,7 +13,7 @@ use Rattle.monomial_layer.proofs.monomials.MonomialsLayer.lower.Goals as goal
 
 pub width-requires-2 : goal.width-requires-2
 width-requires-2 c =
-    let width = ap (λ (t : TableForm). t.width) c.in_ok-target.ensures.made in
+    let width = ap (λ (t : TableContent). t.width) c.in_ok-target.ensures.made in
     omega (arith, width, all_nodes-le c.args.source.now.terms, c.requires.size)
 
 pub known_low-requires : goal.known_low-requires
@@ -27,7 +27,7 @@ returns-clause-keeps c =
     let made = c.in_ok-target.ensures.made in
     let fits : Fits link t = record {
       source = c.width.ensures;
-      target = c.width-2.ensures ∙ ap (λ (u : TableForm). u.width) made;
+      target = c.width-2.ensures ∙ ap (λ (u : TableContent). u.width) made;
       table = c.in_ok-target.ensures.kept;
     } in
     subst (λ u. Keeps (form_of t) (form_of u) (first_bits link) (pos 1) (pos 0))
@@ -36,7 +36,7 @@ returns-clause-keeps c =
 pub returns-clause-total : goal.returns-clause-total
 returns-clause-total c =
     let t = c.args.source.now in
-    let same = ap (λ (u : TableForm). terms_total u.terms) (c.known_low.ensures ∙ c.in_ok-target.ensures.made) in
+    let same = ap (λ (u : TableContent). terms_total u.terms) (c.known_low.ensures ∙ c.in_ok-target.ensures.made) in
     omega (arith, same, total-image_terms t c.in_ok-target.ensures.kept)
 
 pub returns-clause-size : goal.returns-clause-size

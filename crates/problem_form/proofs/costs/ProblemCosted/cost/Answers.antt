@@ -2,7 +2,7 @@ use Rattle.std.proofs.Common.{◌≡◌, false, arith, ap, sym, ◌∙◌}
 use Rattle.std.specs.List.{list_any}
 use Rattle.std.proofs.lemmas.Int.{ints}
 use Rattle.integers.specs.Sums.{total_by}
-use Rattle.problem_form.specs.Fields.{form_within}
+use Rattle.problem_form.specs.Fields.{content_within}
 use Rattle.problem_form.specs.Problems.{fails, fails_hard, problem_cost, soft_cost, sum_of}
 use Rattle.problem_form.proofs.CostSizes.{cost_parts, problem_cost-whole}
 use Rattle.problem_form.proofs.costs.ProblemCosted.cost.Goals as goal
@@ -10,14 +10,14 @@ use Rattle.problem_form.proofs.costs.ProblemCosted.cost.Goals as goal
 pub overflow_add-result : goal.overflow_add-result
 overflow_add-result c =
     let x = c.args.x.now in
-    let p = form_within c.self.inside in
+    let p = content_within c.self.inside in
     let sum = c.sum_of_products-sum.ensures ∙ ap (sum_of x) c.as_slice-2.ensures in
     omega (arith, ints, sum, cost_parts p x, c.self.invariant.1)
 
 pub overflow_add-result-2 : goal.overflow_add-result-2
 overflow_add-result-2 c =
     let x = c.args.x.now in
-    let p = form_within c.self.inside in
+    let p = content_within c.self.inside in
     let sum = c.sum_of_products-sum.ensures ∙ ap (sum_of x) c.as_slice-2.ensures in
     let soft = c.soft_costs.ensures ∙ ap (total_by (soft_cost x)) c.as_slice-clauses.ensures in
     omega (arith, ints, sum, soft, cost_parts p x, c.self.invariant.1)
@@ -25,7 +25,7 @@ overflow_add-result-2 c =
 pub returns : goal.returns
 returns c =
     let x = c.args.x.now in
-    let p = form_within c.self.inside in
+    let p = content_within c.self.inside in
     let sum = c.sum_of_products-sum.ensures ∙ ap (sum_of x) c.as_slice-2.ensures in
     let soft = c.soft_costs.ensures ∙ ap (total_by (soft_cost x)) c.as_slice-clauses.ensures in
     let hard : list_any (fails_hard x) p.clauses ≡ false =

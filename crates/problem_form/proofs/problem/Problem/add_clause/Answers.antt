@@ -2,18 +2,18 @@ use Rattle.std.proofs.Common.{◌≡◌, ◌+◌, ◌<◌, ◌^◌, subst, sym, 
 use Rattle.std.specs.Option.{option_to_list}
 use Rattle.problem_form.specs.declared.terms.Clause.{Clause}
 use Rattle.problem_form.specs.NormalForm.{kept_clause}
-use Rattle.problem_form.specs.Fields.{IsSound, form_within}
-use Rattle.problem_form.specs.Problems.{ProblemForm, problem_total, soft_weight}
+use Rattle.problem_form.specs.Fields.{IsSound, content_within}
+use Rattle.problem_form.specs.Problems.{ProblemContent, problem_total, soft_weight}
 use Rattle.problem_form.proofs.KeptClauses.{by_result, with_clause-sound, with_clause-push}
 use Rattle.problem_form.proofs.problem.Problem.add_clause.Goals as goal
 
 pub invariant_of-self : goal.invariant_of-self
 invariant_of-self c =
-    let p = form_within c.self.inside in
+    let p = content_within c.self.inside in
     let added = c.args.clause in
-    let Fits : ProblemForm → Type 0 = λ f. problem_total f + soft_weight added < 2 ^ 100 in
+    let Fits : ProblemContent → Type 0 = λ f. problem_total f + soft_weight added < 2 ^ 100 in
     let small : Fits p = subst Fits (sym c.self.view_is) c.requires.small in
-    let Within : ProblemForm → Type 0 = λ f. All (λ l. l.variable < f.variables) added.literals in
+    let Within : ProblemContent → Type 0 = λ f. All (λ l. l.variable < f.variables) added.literals in
     let within : Within p = subst Within (sym c.self.view_is) c.requires.within in
     let same : c.in-Some.clause ∷ [] ≡ kept_clause added =
     ap option_to_list (sym c.in-Some.is) ∙ c.kept_clause.ensures in

@@ -1,18 +1,18 @@
 use Rattle.std.proofs.Common.{◌+◌, ◌<◌, ◌^◌, subst, sym, List, [], ◌∷◌, ◌++◌}
 use Rattle.problem_form.specs.declared.terms.Constraint.{Constraint}
-use Rattle.problem_form.specs.Fields.{IsSound, form_within}
-use Rattle.problem_form.specs.Problems.{ProblemForm, constraint_total, problem_total}
+use Rattle.problem_form.specs.Fields.{IsSound, content_within}
+use Rattle.problem_form.specs.Problems.{ProblemContent, constraint_total, problem_total}
 use Rattle.problem_form.proofs.KeptClauses.{by_result}
 use Rattle.problem_form.proofs.KeptProducts.{AreWithin, with_constraint-sound}
 use Rattle.problem_form.proofs.problem.Problem.add_constraint.Goals as goal
 
 pub invariant_of-self : goal.invariant_of-self
 invariant_of-self c =
-    let p = form_within c.self.inside in
+    let p = content_within c.self.inside in
     let added = c.args.constraint in
-    let Fits : ProblemForm → Type 0 = λ f. problem_total f + constraint_total added < 2 ^ 100 in
+    let Fits : ProblemContent → Type 0 = λ f. problem_total f + constraint_total added < 2 ^ 100 in
     let small : Fits p = subst Fits (sym c.self.view_is) c.requires.small in
-    let Within : ProblemForm → Type 0 = λ f. AreWithin f.variables added.products in
+    let Within : ProblemContent → Type 0 = λ f. AreWithin f.variables added.products in
     let within : Within p = subst Within (sym c.self.view_is) c.requires.within in
     let With : List Constraint → Type 0 = λ ks. IsSound (record p { constraints = ks }) in
     let set : With (p.constraints ++ c.normal_constraint.result ∷ []) =

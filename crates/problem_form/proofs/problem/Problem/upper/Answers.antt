@@ -5,7 +5,7 @@ use Rattle.std.proofs.lemmas.Int.{ints}
 use Rattle.problem_form.specs.declared.terms.Product.{Product}
 use Rattle.problem_form.specs.Problems.{soft_weight}
 use Rattle.problem_form.specs.Limits.{positive_total, upper}
-use Rattle.problem_form.specs.Fields.{form_within}
+use Rattle.problem_form.specs.Fields.{content_within}
 use Rattle.problem_form.proofs.CountedNumbers.{positive_total-le}
 use Rattle.problem_form.proofs.problem.Problem.upper.Goals as goal
 
@@ -42,6 +42,6 @@ returns c =
     let constant = c.self.inside.constant in
     let first : c.positive_coefficients.result ≡ positive_total products = c.positive_coefficients.ensures ∙ ap positive_total c.as_slice.ensures in
     let second : c.soft_weights.result ≡ sum_by soft_weight c.self.inside.clauses = c.soft_weights.ensures ∙ ap (sum_by soft_weight) c.as_slice-2.ensures in
-    let sum : to_z w128 (of_z w128 (to_z w128 (of_z w128 constant) +ℤ to_z w128 (c.positive_coefficients.result + c.soft_weights.result))) ≡ upper (form_within c.self.inside) =
+    let sum : to_z w128 (of_z w128 (to_z w128 (of_z w128 constant) +ℤ to_z w128 (c.positive_coefficients.result + c.soft_weights.result))) ≡ upper (content_within c.self.inside) =
     omega (arith, ints, first, second, positive_total-le products, c.self.invariant.1) in
     sum ∙ ap upper c.self.view_is

@@ -5,7 +5,7 @@ use Rattle.integers.specs.Sums.{total_by}
 use Rattle.integers.proofs.Totals.{total_by-append}
 use Rattle.bits_model.specs.declared.costs.Cost.TheVariants.{Whole}
 use Rattle.bits_model.specs.Output.{bits_energy}
-use Rattle.quad_form.specs.Quads.{QuadForm, node_entries, quad_value}
+use Rattle.quad_form.specs.Quads.{QuadContent, node_entries, quad_value}
 use Rattle.quad_form.proofs.NodeEnergies.{size-energy, weights-append}
 use Rattle.quad_form.proofs.energy.QuadCosted.cost.Goals as goal
 
@@ -30,11 +30,11 @@ overflow_add-result-2 c =
 pub returns : goal.returns
 returns c =
     let y = c.args.y.now in
-    let q : QuadForm = record { constant = c.self.inside.constant; diagonal = c.self.inside.diagonal; couplers = c.self.inside.couplers } in
+    let q : QuadContent = record { constant = c.self.inside.constant; diagonal = c.self.inside.diagonal; couplers = c.self.inside.couplers } in
     let nodes = node_entries 0 q.diagonal in
     let first = c.diagonal_energy-nodes.ensures ∙ ap (λ (ws : List ℤ). total_by (bits_energy y) (node_entries 0 ws)) c.as_slice.ensures in
     let second = c.total_energy-couplers.ensures ∙ ap (total_by (bits_energy y)) c.as_slice-2.ensures in
     let whole = total_by-append (bits_energy y) nodes q.couplers in
     let sum : to_z w128 (of_z w128 (to_z w128 (of_z w128 q.constant) +ℤ to_z w128 (of_z w128 (to_z w128 (of_z w128 c.diagonal_energy-nodes.result) +ℤ to_z w128 (of_z w128 c.total_energy-couplers.result))))) ≡ quad_value q y =
     omega (arith, ints, first, second, whole, size-energy y nodes, size-energy y q.couplers, weights-append nodes q.couplers, c.self.invariant.small) in
-    ap Whole (sum ∙ ap (λ (f : QuadForm). quad_value f y) c.self.view_is)
+    ap Whole (sum ∙ ap (λ (f : QuadContent). quad_value f y) c.self.view_is)

@@ -1,6 +1,6 @@
 use Rattle.std.proofs.Common.{◌≡◌, ℕ, length, All, subst, sym, ap, ◌∙◌, arith}
 use Rattle.bits_model.specs.declared.layer.BitsLink.{BitsLink}
-use Rattle.quad_form.specs.Quads.{QuadForm, quad_total, quad_size}
+use Rattle.quad_form.specs.Quads.{QuadContent, quad_total, quad_size}
 use Rattle.quad_form.specs.Flat.{Fits, contributions}
 use Rattle.quad_form.specs.laws.Flattened.{flat_keeps}
 use Rattle.quad_form.specs.Pairs.{IsPair}
@@ -12,7 +12,7 @@ use Rattle.quad_form.proofs.flatten.FlattenLayer.lower.Goals as goal
 pub into_quad-requires-clause-narrow : goal.into_quad-requires-clause-narrow
 into_quad-requires-clause-narrow c =
     let t = c.args.source.now in
-    let width = ap (λ (q : QuadForm). length q.diagonal) c.in_ok-parts.ensures.placed in
+    let width = ap (λ (q : QuadContent). length q.diagonal) c.in_ok-parts.ensures.placed in
     omega (arith, width, width_of t.width (contributions t.terms), c.requires.size)
 
 pub into_quad-requires-clause-pairs : goal.into_quad-requires-clause-pairs
@@ -21,19 +21,19 @@ into_quad-requires-clause-pairs c =
     let parts = c.in_ok-parts.parts in
     let made = c.in_ok-parts.ensures.placed in
     let width : length parts.diagonal ≡ t.width =
-    ap (λ (q : QuadForm). length q.diagonal) made ∙ width_of t.width (contributions t.terms) in
+    ap (λ (q : QuadContent). length q.diagonal) made ∙ width_of t.width (contributions t.terms) in
     let P : ℕ → Type 0 = λ n. All (IsPair n) parts.couplers in
-    subst P (sym width) (pairs_placed t parts c.placed.ensures.kept c.placed.ensures.low made)
+    subst P (sym width) (pairs_placed t parts c.parts_of.ensures.kept c.parts_of.ensures.low made)
 
 pub into_quad-requires-clause-small : goal.into_quad-requires-clause-small
 into_quad-requires-clause-small c =
     let made = c.in_ok-parts.ensures.placed in
-    omega (arith, total_placed c.args.source.now c.in_ok-parts.parts c.placed.ensures.low made, c.requires.total)
+    omega (arith, total_placed c.args.source.now c.in_ok-parts.parts c.parts_of.ensures.low made, c.requires.total)
 
 pub returns-clause-image : goal.returns-clause-image
 returns-clause-image c =
-    settled_is_image c.args.source.now c.in_ok-parts.parts c.into_quad.result c.placed.ensures.kept
-    c.placed.ensures.low (omega (arith, c.requires.size)) (omega (arith, c.requires.total))
+    settled_is_image c.args.source.now c.in_ok-parts.parts c.into_quad.result c.parts_of.ensures.kept
+    c.parts_of.ensures.low (omega (arith, c.requires.size)) (omega (arith, c.requires.total))
     c.in_ok-parts.ensures.placed c.into_quad.ensures.settled c.into_quad.ensures.kept
 
 pub returns-clause-keeps : goal.returns-clause-keeps
@@ -42,15 +42,15 @@ returns-clause-keeps c =
     let fits : Fits link c.args.source.now = record {
       source = c.width-width.ensures;
       target = c.width-width.ensures;
-      table = c.placed.ensures.kept;
-      low = c.placed.ensures.low;
+      table = c.parts_of.ensures.kept;
+      low = c.parts_of.ensures.low;
     } in
     rw (returns-clause-image c) (flat_keeps link c.args.source.now fits)
 
 pub returns-clause-total : goal.returns-clause-total
 returns-clause-total c =
-    omega (arith, ap quad_total (returns-clause-image c), quad_total-image c.args.source.now c.placed.ensures.low)
+    omega (arith, ap quad_total (returns-clause-image c), quad_total-image c.args.source.now c.parts_of.ensures.low)
 
 pub returns-clause-size : goal.returns-clause-size
 returns-clause-size c =
-    omega (arith, ap quad_size (returns-clause-image c), quad_size-image c.args.source.now c.placed.ensures.low)
+    omega (arith, ap quad_size (returns-clause-image c), quad_size-image c.args.source.now c.parts_of.ensures.low)

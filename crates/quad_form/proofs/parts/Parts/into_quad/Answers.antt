@@ -1,22 +1,22 @@
 use Rattle.std.proofs.Common.{◌≡◌, ◌<◌, ◌≤◌, ◌^◌, length, All, subst, sym, rules}
 use Rattle.std.specs.Int.{w128}
 use Rattle.std.proofs.lemmas.Int.{to_z-of_z}
-use Rattle.quad_form.specs.Quads.{QuadForm, quad_total}
+use Rattle.quad_form.specs.Quads.{QuadContent, quad_total}
 use Rattle.quad_form.specs.Pairs.{IsPair}
 use Rattle.quad_form.proofs.FlatParts.{IsQuad-settled}
 use Rattle.quad_form.proofs.parts.Parts.into_quad.Goals as goal
 
 pub invariant_of-result : goal.invariant_of-result
 invariant_of-result c =
-    let q : QuadForm = record { constant = c.self.inside.constant; diagonal = c.self.inside.diagonal.items; couplers = c.self.inside.couplers.items } in
+    let q : QuadContent = record { constant = c.self.inside.constant; diagonal = c.self.inside.diagonal.items; couplers = c.self.inside.couplers.items } in
     let same : q ≡ c.args.self = c.self.view_is in
     let back = to_z-of_z w128 c.self.inside.constant (search rules) in
     rw back
-    (IsQuad-settled q c.new.result c.settled.result.items c.new-2.result
-    (subst (λ (p : QuadForm). length p.diagonal < 2 ^ 32) (sym same) c.requires.narrow)
-    (subst (λ (p : QuadForm). All (IsPair (length p.diagonal)) p.couplers) (sym same) c.requires.pairs)
-    (subst (λ (p : QuadForm). quad_total p ≤ 2 ^ 124) (sym same) c.requires.small)
-    c.new.ensures c.settled.ensures c.new-2.ensures)
+    (IsQuad-settled q c.new.result c.sorted_sums.result.items c.new-2.result
+    (subst (λ (p : QuadContent). length p.diagonal < 2 ^ 32) (sym same) c.requires.narrow)
+    (subst (λ (p : QuadContent). All (IsPair (length p.diagonal)) p.couplers) (sym same) c.requires.pairs)
+    (subst (λ (p : QuadContent). quad_total p ≤ 2 ^ 124) (sym same) c.requires.small)
+    c.new.ensures c.sorted_sums.ensures c.new-2.ensures)
 
 pub returns-clause-kept : goal.returns-clause-kept
 returns-clause-kept c = invariant_of-result c

@@ -4,7 +4,7 @@ use Rattle.std.proofs.lemmas.Int.{ints, to_z-of_z}
 use Rattle.bits_model.specs.declared.output.Kind.TheVariants.{Qubo}
 use Rattle.bits_model.specs.Output.{Written, IsWellFormed, weight_total}
 use Rattle.bits_model.specs.Relations.{figures_moved}
-use Rattle.quad_form.specs.Quads.{QuadForm, IsQuad, entries_of, node_entries, written_of}
+use Rattle.quad_form.specs.Quads.{QuadContent, IsQuad, entries_of, node_entries, written_of}
 use Rattle.quad_form.proofs.WrittenModels.{written_is_well_formed}
 use Rattle.quad_form.proofs.quad.Quad.output.Goals as goal
 
@@ -25,7 +25,7 @@ made_is : (c : goal.After-empty)
     → made c ≡ written_of c.args.self.now c.args.variables c.args.figures c.args.unit
 made_is c =
     let inside = c.self.inside in
-    let q : QuadForm = record { constant = inside.constant; diagonal = inside.diagonal; couplers = inside.couplers } in
+    let q : QuadContent = record { constant = inside.constant; diagonal = inside.diagonal; couplers = inside.couplers } in
     let less : to_z w128 (of_z w128 (pos 0 -ℤ to_z w128 (of_z w128 q.constant))) ≡ neg_ℤ q.constant = omega (arith, ints, c.self.invariant.small) in
     let figures = c.moved.ensures ∙ ap (figures_moved c.args.figures) less in
     let unit = to_z-of_z w128 c.args.unit (search rules) in
@@ -41,7 +41,7 @@ made_is c =
       chains = c.empty.ensures i;
     } in
     whole
-    ∙ ap (λ (f : QuadForm). written_of f c.args.variables c.args.figures c.args.unit) c.self.view_is
+    ∙ ap (λ (f : QuadContent). written_of f c.args.variables c.args.figures c.args.unit) c.self.view_is
 
 pub invariant_of-result : goal.invariant_of-result
 invariant_of-result c =

@@ -1,9 +1,9 @@
-use Rattle.term_table.specs.Tables.{TableForm}
-use Rattle.term_table.proofs.KeptTables.{IsTable-collected}
+use Rattle.term_table.specs.Tables.{TableContent}
+use Rattle.term_table.proofs.KeptTables.{IsTable-with_additions}
 use Rattle.term_table.proofs.gathered.GatheredTerms.into_table.Goals as goal
 
 pub invariant_of-result : goal.invariant_of-result
 invariant_of-result c =
-    let additions : TableForm =
+    let additions : TableContent =
     record { width = c.self.inside.width; terms = c.self.inside.terms.items } in
-    rw c.settled.ensures (IsTable-collected additions c.self.invariant)
+    rw c.sorted_sums.ensures (IsTable-with_additions additions c.self.invariant)

@@ -2,9 +2,9 @@ use Rattle.std.proofs.Common.{◌≡◌, ℕ, List, [], ◌++◌, length, take, 
 use Rattle.std.proofs.lemmas.List.{drop_all, take_all}
 use Rattle.std.proofs.lemmas.List.Sorted.{IsNonDecreasingBy-from_sort_by_key}
 use Rattle.bits_model.specs.declared.output.Entry.{Entry}
-use Rattle.quad_form.specs.Pairs.{pair_number, summed}
+use Rattle.quad_form.specs.Pairs.{pair_number, sums_of}
 use Rattle.quad_form.proofs.SummedPairs.{are_summed}
-use Rattle.quad_form.proofs.couplers.settled.Goals as goal
+use Rattle.quad_form.proofs.couplers.sorted_sums.Goals as goal
 
 -- a list after its items were changed as those of a slice
 changed : (xs ys : List Entry) (n : ℕ) → length xs ≡ n → length ys ≡ n
@@ -22,6 +22,6 @@ returns c =
     let size = ap length value in
     let sorted = IsNonDecreasingBy-from_sort_by_key pair_number _ c.sort_unstable_by_key.ensures.sorted (λ a r q k. search rules) in
     let slice = changed xs ys c.sort_unstable_by_key.new.self.len (omega (arith, size, c.deref_mut.ensures.len)) (omega (arith, c.sum_neighbours-kept.auto.entries, c.deref_mut.ensures.len)) in
-    let made : c.truncate.new.self.items ≡ summed xs =
-    c.truncate.ensures.items ∙ ap (take c.sum_neighbours-kept.result) slice ∙ c.sum_neighbours-kept.ensures ∙ ap summed value in
+    let made : c.truncate.new.self.items ≡ sums_of xs =
+    c.truncate.ensures.items ∙ ap (take c.sum_neighbours-kept.result) slice ∙ c.sum_neighbours-kept.ensures ∙ ap sums_of value in
     rw made (are_summed _ xs c.requires.pairs c.sort_unstable_by_key.ensures.permutation sorted)

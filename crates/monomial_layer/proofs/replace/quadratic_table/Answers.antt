@@ -6,13 +6,13 @@ use Rattle.std.proofs.lemmas.Map.Iter.{rest_more}
 use Rattle.std.proofs.lemmas.List.Elements.{All-rest, All-same}
 use Rattle.std.proofs.lemmas.List.Sums.{sum_by-cons}
 use Rattle.term_table.specs.Terms.{Term, terms_total, IsTermSet}
-use Rattle.term_table.specs.Tables.{TableForm, with_more}
+use Rattle.term_table.specs.Tables.{TableContent, with_more}
 use Rattle.term_table.proofs.SmallSets.{IsTermSet-wider}
 use Rattle.term_table.proofs.Steps.{first_left}
-use Rattle.monomial_layer.specs.Monomials.{new_nodes, new_terms, replaced}
+use Rattle.monomial_layer.specs.Monomials.{new_nodes, new_terms, all_new_terms}
 use Rattle.monomial_layer.proofs.Sizes.{all_nodes-le, total-image}
 use Rattle.monomial_layer.proofs.Adding.{nodes_left, replaced_left, replaced_fits, replaced_fit_more}
-use Rattle.monomial_layer.proofs.replace.replaced.Goals as goal
+use Rattle.monomial_layer.proofs.replace.quadratic_table.Goals as goal
 
 pub overflow_add-next : goal.overflow_add-next
 overflow_add-next c =
@@ -29,13 +29,13 @@ loop-literals-init c =
     let t = c.args.table.now in
     let left : c.into_iter-literals-iterator.result ≡ t.terms =
     c.into_iter-literals-iterator.ensures.into_iter_gives ∙ c.terms-literals-items.ensures.terms in
-    let empty : c.new-quadratic.result.terms ≡ [] = ap (λ (u : TableForm). u.terms) c.new-quadratic.ensures in
+    let empty : c.new-quadratic.result.terms ≡ [] = ap (λ (u : TableContent). u.terms) c.new-quadratic.ensures in
     let start = c.width-next.ensures in
-    let sum : terms_total (replaced c.into_iter-literals-iterator.result c.width-next.result) ≡ terms_total (replaced t.terms t.width) =
-    λ i. terms_total (replaced (left i) (start i)) in
+    let sum : terms_total (all_new_terms c.into_iter-literals-iterator.result c.width-next.result) ≡ terms_total (all_new_terms t.terms t.width) =
+    λ i. terms_total (all_new_terms (left i) (start i)) in
     record {
-      whole = λ i. empty i ++ replaced (left i) (start i);
-      width = ap (λ (u : TableForm). u.width) c.new-quadratic.ensures ∙ (λ i. start i + c.all_new_nodes.ensures i);
+      whole = λ i. empty i ++ all_new_terms (left i) (start i);
+      width = ap (λ (u : TableContent). u.width) c.new-quadratic.ensures ∙ (λ i. start i + c.all_new_nodes.ensures i);
       numbered = λ i. start i + sum_by new_nodes (left i);
       above = omega (arith, start);
       sets = All-same (λ (u : Term). IsTermSet t.width u.0) _ _ left c.terms-literals-items.ensures.kept.terms.sets;
@@ -100,7 +100,7 @@ loop-literals-preserved c =
     let number = ap (λ k. next + k) found in
     record {
       whole = replaced_left now after t _ _ next _ _ left number made c.loop-literals.invariant.whole;
-      width = ap (λ (u : TableForm). u.width) made ∙ c.loop-literals.invariant.width;
+      width = ap (λ (u : TableContent). u.width) made ∙ c.loop-literals.invariant.width;
       numbered = nodes_left next c.new_nodes-next.result _ t _ _ left found c.loop-literals.invariant.numbered;
       above = let up = c.loop-literals.invariant.above in omega (arith, up);
       sets = All-rest (λ (u : Term). IsTermSet c.args.table.now.width u.0) _ _ _ left c.loop-literals.invariant.sets;

@@ -1,13 +1,13 @@
 use Rattle.std.proofs.Common.{◌≡◌, ◌+◌, ◌*◌, ◌≤◌, ◌^◌, All, fold, length}
 use Rattle.term_table.specs.Terms.{Term, terms_total, IsTermSet}
 use Rattle.quad_form.specs.Quads.{quad_total}
-use Rattle.quad_form.specs.Flat.{contributions, placed, quad_of}
-use Rattle.quad_form.proofs.flatten.placed.Given as goal
+use Rattle.quad_form.specs.Flat.{contributions, with_term, quad_of}
+use Rattle.quad_form.proofs.flatten.parts_of.Given as goal
 
 -- what the terms that are left give makes up the rest of the form, and they are low
 abbrev pub invariant-loop-literals : goal.invariant-loop-literals
 invariant-loop-literals l = record {
-  whole : fold placed l.parts (contributions l.literals-iterator) ≡ quad_of l.table.width (contributions l.table.terms);
+  whole : fold with_term l.parts (contributions l.literals-iterator) ≡ quad_of l.table.width (contributions l.table.terms);
   width : length l.parts.diagonal ≡ l.table.width;
   sets : All (λ (t : Term). IsTermSet l.table.width t.0) l.literals-iterator;
   low : All (λ (t : Term). length t.0 ≤ 2) l.literals-iterator;

@@ -6,7 +6,7 @@ use Rattle.std.proofs.lemmas.List.Elements.{All-rest}
 use Rattle.term_table.specs.Terms.{Term, IsTermSet}
 use Rattle.monomial_layer.specs.Monomials.{new_bits}
 use Rattle.monomial_layer.proofs.Adding.{bits_left}
-use Rattle.monomial_layer.proofs.monomials.extended.Goals as goal
+use Rattle.monomial_layer.proofs.monomials.extension_of.Goals as goal
 
 pub loop-literals-preserved : goal.loop-literals-preserved
 loop-literals-preserved c =
