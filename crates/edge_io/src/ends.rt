@@ -3,7 +3,7 @@
 ghost use Rattle.std.specs.Prelude.{◌≡◌, ℕ, List, [], IfOk, OnErr, Option, string_bytes};
 ghost use Rattle.std.specs.Io.{ReadsAtMost};
 ghost use Rattle.std.specs.Io.KnownBytes.{ReadConsumes, WriteAppends, IsAtEnd};
-ghost use Rattle.edge_io.specs.Counts.{counted_on, CountsNothing, HasCause};
+ghost use Rattle.edge_io.specs.Counts.{counted_on, CountsErr, CountsNothing, HasCause};
 ghost use Rattle.edge_io.specs.Held.{NamedFiles, Begins};
 ghost use Rattle.edge_io.specs.Sinks.{TakesSome};
 
@@ -41,6 +41,7 @@ pub trait Files {
     fn begin(&mut self, name: String) -> Result<(), Failed>
         ensures held { held self.new ≡ held self.old }
         ensures rest { Begins (held self.old) (string_bytes name) result (rest self.new) }
+        ensures faults { CountsErr (faults self.old) (faults self.new) result }
         ensures cause { HasCause (faults self.old) (faults self.new) result }
         ensures none_taken { taken self.new ≡ 0 }
         ensures none_empty { empty_reads self.new ≡ 0 }
@@ -53,6 +54,7 @@ pub trait Files {
         ensures held { held self.new ≡ held self.old }
         ensures bound { ReadsAtMost result into.new }
         ensures rest { ReadConsumes (rest self.old) (rest self.new) result into.new }
+        ensures faults { CountsErr (faults self.old) (faults self.new) result }
         ensures cause { HasCause (faults self.old) (faults self.new) result }
         ensures counted { IfOk result (λ n. taken self.new ≡ counted_on (taken self.old) n) }
         ensures none_taken { OnErr result (taken self.new ≡ taken self.old) }
@@ -78,5 +80,6 @@ pub trait Sink {
     fn write(&mut self, piece: &[u8]) -> Result<usize, Failed>
         ensures bytes { WriteAppends (bytes self.old) (bytes self.new) result piece.now }
         ensures bound { TakesSome result piece.now }
+        ensures faults { CountsErr (faults self.old) (faults self.new) result }
         ensures cause { HasCause (faults self.old) (faults self.new) result };
 }

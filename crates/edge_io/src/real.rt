@@ -139,6 +139,3 @@ impl<W: Write> Sink for RealSink<W> {
         }
     }
 }
-
-#[cfg(test)]
-mod tests;

@@ -50,7 +50,7 @@ module _ (job : Job) (s : Source) (r : Read) (m : Written) (stands : StandsFor s
   alike y w =
       ap (λ n. read_off m.kind n m.chains y) bits
       ∙ sym (take-read_off m.kind s.form.bits r.problem.variables m.chains y
-          (omega (arith, stands.own, stands.variables)))
+      (omega (arith, stands.own, stands.variables)))
 
   source_relaxed : Relaxes s.form (form_of m) (decoding_of m) m.unit m.figures
   source_relaxed =

@@ -64,7 +64,7 @@ source_is_taken words held command read e =
     let name = name_of words command Source in
     let check : Read → Step Read = λ r. from_limits r (limit_fault job.choices.normal r.problem) in
     let taken = bound (taking held Source name)
-        (λ bytes. from_text Source (problem_of job.format bytes) >>= check) read e in
+    (λ bytes. from_text Source (problem_of job.format bytes) >>= check) read e in
     let found = bound (from_text Source (problem_of job.format taken.0)) check read taken.2 in
     record {
       bytes = taken.0;
