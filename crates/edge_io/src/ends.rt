@@ -3,7 +3,7 @@
 ghost use Rattle.std.specs.Prelude.{◌≡◌, ℕ, List, [], IfOk, OnErr, Option, string_bytes};
 ghost use Rattle.std.specs.Io.{ReadsAtMost};
 ghost use Rattle.std.specs.Io.KnownBytes.{ReadConsumes, WriteAppends, IsAtEnd};
-ghost use Rattle.edge_io.specs.Counts.{Counts, count_after, CountsNothing, HasCause};
+ghost use Rattle.edge_io.specs.Counts.{Counts, count_after, CountsErr, CountsNothing, HasCause};
 ghost use Rattle.edge_io.specs.Held.{NamedFiles, Begins};
 ghost use Rattle.edge_io.specs.Sinks.{TakesSome};
 
@@ -26,6 +26,7 @@ pub trait Files {
     fn begin(&mut self, name: String) -> Result<(), Failed>
         ensures held { held self.new ≡ held self.old }
         ensures rest { Begins (held self.old) (string_bytes name) result (rest self.new) }
+        ensures faults { CountsErr (counts self.old).faults (counts self.new).faults result }
         ensures cause { HasCause (counts self.old).faults (counts self.new).faults result }
         ensures none_taken { (counts self.new).taken ≡ 0 }
         ensures none_empty { (counts self.new).empty_reads ≡ 0 }
@@ -38,10 +39,13 @@ pub trait Files {
         ensures held { held self.new ≡ held self.old }
         ensures bound { ReadsAtMost result into.new }
         ensures rest { ReadConsumes (rest self.old) (rest self.new) result into.new }
+        ensures faults { CountsErr (counts self.old).faults (counts self.new).faults result }
         ensures cause { HasCause (counts self.old).faults (counts self.new).faults result }
-        ensures counted { IfOk result (λ n. (counts self.new).taken ≡ count_after (counts self.old).taken n) }
+        ensures counted { IfOk result (λ n.
+            (counts self.new).taken ≡ count_after (counts self.old).taken n) }
         ensures none_taken { OnErr result ((counts self.new).taken ≡ (counts self.old).taken) }
-        ensures nothing { CountsNothing (counts self.old).empty_reads (counts self.new).empty_reads result }
+        ensures nothing { CountsNothing
+            (counts self.old).empty_reads (counts self.new).empty_reads result }
         ensures same_begin { (counts self.new).begun ≡ (counts self.old).begun }
         ensures same_mark { (counts self.new).faults_at_begin ≡ (counts self.old).faults_at_begin }
         ensures same_name { (counts self.new).name ≡ (counts self.old).name };
@@ -63,5 +67,6 @@ pub trait Sink {
     fn write(&mut self, piece: &[u8]) -> Result<usize, Failed>
         ensures bytes { WriteAppends (bytes self.old) (bytes self.new) result piece.now }
         ensures bound { TakesSome result piece.now }
+        ensures faults { CountsErr (faults self.old) (faults self.new) result }
         ensures cause { HasCause (faults self.old) (faults self.new) result };
 }

@@ -16,6 +16,3 @@ pub use memory_files::MemoryFiles;
 pub use memory_sink::MemorySink;
 pub use real::{RealFiles, RealSink};
 pub use whole::{ReadAnswer, WriteFault, read_all, write_all, write_pieces};
-
-#[cfg(test)]
-mod tests;

@@ -134,6 +134,3 @@ impl<W: Write> Sink for RealSink<W> {
         }
     }
 }
-
-#[cfg(test)]
-mod tests;

@@ -6,6 +6,3 @@ mod reading;
 
 pub use answer::StateAnswer;
 pub use reading::read_state;
-
-#[cfg(test)]
-mod tests;

@@ -11,8 +11,3 @@ mod reading;
 
 pub use laws::laws_of_readings;
 pub use reading::read_wcnf;
-
-#[cfg(test)]
-mod plain_reader;
-#[cfg(test)]
-mod tests;

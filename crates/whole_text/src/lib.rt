@@ -17,6 +17,3 @@ pub use laws::laws_of_numbers;
 pub use numbers::{number, push_number};
 pub use steps::{bytes_at, end_line, fault, integer, natural, next};
 pub use token::{Style, Token};
-
-#[cfg(test)]
-mod tests;

@@ -1,5 +1,14 @@
-// Lines that are the first state of a text, each beside the nearest that are none.
-use crate::{StateAnswer, read_state};
+//! Lines that are the first state of a text, each beside the nearest that are none.
+use state_file::{StateAnswer, read_state};
+use std::alloc::Global;
+
+/// Whether a text has this state.
+fn has_state(alloc: Global, text: &[u8], length: usize, wanted: Option<&[bool]>) -> bool {
+    match read_state(alloc, text, length) {
+        Ok(bits) => Some(bits.as_slice()) == wanted,
+        Err(answer) => answer == StateAnswer::NoState && wanted.is_none(),
+    }
+}
 
 #[test]
 fn first_line_that_fits(rt: HostRuntime) {
@@ -27,12 +36,6 @@ fn first_line_that_fits(rt: HostRuntime) {
         (b"1\n", usize::MAX, None),
     ];
     for (text, length, wanted) in cases {
-        match read_state(rt.alloc(), text, length) {
-            Ok(bits) => assert_eq!(rt; Some(bits.as_slice()), wanted, "{text:?}"),
-            Err(answer) => {
-                assert_eq!(rt; answer, StateAnswer::NoState, "{text:?}");
-                assert_eq!(rt; None, wanted, "{text:?}");
-            }
-        }
+        assert!(rt; has_state(rt.alloc(), text, length, wanted), "{text:?}");
     }
 }

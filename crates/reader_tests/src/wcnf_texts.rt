@@ -1,0 +1,173 @@
+//! Weighted CNF texts, read by both readers: the problem of each or its first fault.
+ghost use Rattle.std.specs.Prelude.{◌<◌};
+
+use crate::plain_reader::{PlainClause, PlainReading, plain_reading};
+use command_words::Format;
+use problem_form::{Clause, Problem};
+use source_texts::read_source;
+use std::alloc::Global;
+use std::test::Fail;
+use wcnf_reader::read_wcnf;
+use whole_text::{TextAnswer, TextFault, TextKind};
+
+/// The weight of a clause and its literals, each as its variable and whether it is negated.
+type Row<'a> = (Option<u64>, &'a [(u64, bool)]);
+
+fn is_clause(clause: &Clause, weight: Option<u64>, literals: &[(u64, bool)]) -> bool {
+    let found = clause.literals.as_slice();
+    clause.weight == weight
+        && found.len() == literals.len()
+        && found.iter().zip(literals).all(|(literal, wanted)| (literal.variable, literal.negated)
+            == *wanted)
+}
+
+fn are_clauses(clauses: &[Clause], rows: &[Row]) -> bool {
+    clauses.len() == rows.len()
+        && clauses
+            .iter()
+            .zip(rows)
+            .all(|(clause, row)| is_clause(clause, row.0, row.1))
+}
+
+#[test]
+fn clauses_over_lines_and_several_on_one(rt: HostRuntime) -> Result<(), Fail> {
+    let text =
+        b"c soft below 10\n p wcnf 3 5 10\r\n9 1 -2\n 3 0 10 -1 0\r\nc\n11 2\n\n-0 4 -3 -3 0 7 0";
+    let rows: [Row; 4] = [
+        (Some(9), &[(0, false), (1, true), (2, false)]),
+        (None, &[(0, true)]),
+        (None, &[(1, false)]),
+        (Some(4), &[(2, true)]),
+    ];
+    let problem = read_wcnf(rt.alloc(), text)?;
+    let numbers = (problem.variables, problem.constant);
+    assert!(rt; numbers == (3, 7) && are_clauses(problem.clauses.as_slice(), &rows));
+    Ok(())
+}
+
+#[test]
+fn a_source_is_read_in_its_format(rt: HostRuntime) -> Result<(), Fail> {
+    let rows: [Row; 2] = [(None, &[(0, false)]), (Some(3), &[(0, true), (1, false)])];
+    let text = b"p wcnf 2 2 10\n10 1 0\n3 2 -1 0\n";
+    let read = read_source(rt.alloc(), Format::Wcnf, text)?;
+    let numbers = (
+        read.variables,
+        read.problem.variables,
+        read.problem.constant,
+    );
+    assert!(rt; numbers == (2, 2, 0) && are_clauses(read.problem.clauses.as_slice(), &rows));
+    Ok(())
+}
+
+/// What is wrong with a text, if anything is.
+fn fault_of(alloc: Global, text: &[u8]) -> Option<TextAnswer> {
+    if text.len() > 1 << 24 {
+        return None;
+    }
+    read_source(alloc, Format::Wcnf, text).err()
+}
+
+#[test]
+fn faults_and_their_lines(rt: HostRuntime) {
+    let table = [
+        (b"".as_slice(), TextKind::End, 1),
+        (b"p cnf 1 1\n", TextKind::Word, 1),
+        (b"p wcnf -1 1\n", TextKind::Range, 1),
+        (b"p wcnf 1\n1\n", TextKind::Word, 2),
+        (b"p wcnf 1 1 0\n", TextKind::Range, 1),
+        (b"p wcnf 1 1 9 9\n", TextKind::Extra, 1),
+        (b"p wcnf 1 1\n0.5 1 0\n", TextKind::Number, 2),
+        (b"p wcnf 1 1\n1 2 0\n", TextKind::Range, 2),
+        (b"p wcnf 2 2 9\n9 1 0\n", TextKind::End, 2),
+        (b"p wcnf 1 1\n1 1 0\n1 1 0\n", TextKind::Extra, 3),
+    ];
+    for (text, kind, line) in table {
+        let wanted = TextAnswer::Bad(TextFault { kind, line });
+        assert!(rt; fault_of(rt.alloc(), text) == Some(wanted), "{text:?}");
+    }
+}
+
+/// Has clauses of each kind: hard, soft, on two lines, empty, of weight 0, always true, and equal.
+const GOOD: [u8; 73] =
+    *b" c a\np wcnf 3 7 9\r\n9 1 -2 0 4 3\n3 -1 0 7 0\n-0 2 0 8 1 -1 0\n+8. 2 0 8 2 0\n";
+
+/// What each byte is changed to. The form feed is no blank.
+const BYTES: [u8; 12] = *b" \t\n\r\x0c+-.019c";
+
+fn same_clause(clause: &Clause, plain: &PlainClause) -> bool {
+    is_clause(clause, plain.0, plain.1.as_slice())
+}
+
+fn same_problem(problem: &Problem, plain: &PlainReading) -> bool {
+    let clauses = problem.clauses.as_slice();
+    problem.variables == plain.variables
+        && problem.constant == plain.constant
+        && problem.objective.as_slice().is_empty()
+        && problem.constraints.as_slice().is_empty()
+        && clauses.len() == plain.clauses.len()
+        && clauses
+            .iter()
+            .zip(plain.clauses.iter())
+            .all(|(a, b)| same_clause(a, b))
+}
+
+/// What both readers answer to a text: its fault's kind, or `None` for a good text. No answer where
+/// they differ.
+fn same_answer(alloc: Global, text: &[u8]) -> Option<Option<TextKind>> {
+    if text.len() > 1 << 24 {
+        return None;
+    }
+    let read = read_wcnf(alloc, text);
+    let plain = plain_reading(alloc, text);
+    match (&read, &plain) {
+        (Ok(problem), Ok(plain)) if same_problem(problem, plain) => Some(None),
+        (Err(TextAnswer::Bad(fault)), Err(TextAnswer::Bad(plain))) if fault == plain => {
+            Some(Some(fault.kind))
+        }
+        _ => None,
+    }
+}
+
+fn place_of(kind: Option<TextKind>) -> usize
+    ensures { result < 6 }
+{
+    match kind {
+        None => 0,
+        Some(TextKind::Word) => 1,
+        Some(TextKind::Number) => 2,
+        Some(TextKind::Range) => 3,
+        Some(TextKind::End) => 4,
+        Some(TextKind::Extra) => 5,
+    }
+}
+
+/// Counts the answer to a text, by its place. Whether the readers answer alike.
+fn count(alloc: Global, counts: &mut [u32; 6], text: &[u8]) -> bool {
+    let Some(kind) = same_answer(alloc, text) else {
+        return false;
+    };
+    let place = place_of(kind);
+    counts[place] = counts[place].saturating_add(1);
+    true
+}
+
+#[test]
+fn every_prefix_and_changed_byte_is_answered_as_a_plain_reader_does(rt: HostRuntime) {
+    let mut counts = [0; 6];
+    for end in 0..=GOOD.len() {
+        assert!(rt;
+            count(rt.alloc(), &mut counts, &GOOD[..end]),
+            "the front to {end}"
+        );
+    }
+    for byte in BYTES {
+        for place in 0..GOOD.len() {
+            let mut text = GOOD;
+            text[place] = byte;
+            assert!(rt; count(rt.alloc(), &mut counts, &text), "{byte} at {place}");
+        }
+    }
+    // Of the 950 texts, worked out from the definition, apart from both readers: good ones, and those
+    // with a fault of the kinds Word, Number, Range, End and Extra.
+    assert_eq!(rt; counts, [310, 113, 319, 105, 88, 15]);
+}

@@ -1,0 +1,22 @@
+//! What no clause says of whole runs: the texts that are written, on values from outside.
+//!
+//! The tests stand apart from the crates that they call, so that these are proved once and not
+//! again with their tests.
+#![tactic(auto)]
+
+#[cfg(test)]
+mod endless;
+#[cfg(test)]
+mod faults;
+#[cfg(test)]
+mod runs;
+#[cfg(test)]
+mod sizes;
+#[cfg(test)]
+mod states;
+#[cfg(test)]
+mod steps;
+#[cfg(test)]
+mod texts;
+#[cfg(test)]
+mod worked;
