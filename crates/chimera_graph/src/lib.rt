@@ -8,6 +8,3 @@ mod place;
 pub use chimera::Chimera;
 pub use hardware::Hardware;
 pub use place::Place;
-
-#[cfg(test)]
-mod tests;

@@ -3,4 +3,3 @@ pub mod Numerals
 pub mod ModelRows
 pub mod QubitNumbers
 pub mod WholeTexts
-pub mod SmallModels

@@ -11,6 +11,3 @@ mod writing;
 
 pub use laws::laws_of_texts;
 pub use writing::written_text;
-
-#[cfg(test)]
-mod tests;

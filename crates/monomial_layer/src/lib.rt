@@ -7,8 +7,6 @@ mod laws;
 mod monomials;
 mod nodes;
 mod replace;
-#[cfg(test)]
-mod tests;
 
 pub use laws::laws_of_replacements;
 pub use monomials::Monomials;

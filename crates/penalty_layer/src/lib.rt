@@ -5,6 +5,3 @@ mod adding;
 mod penalty;
 
 pub use penalty::Penalty;
-
-#[cfg(test)]
-mod tests;

@@ -19,6 +19,3 @@ pub use limits::{Choices, High, LimitFault, LimitKind, MOST_BYTES, Normal, check
 pub use literal::{Literal, LiteralList, all_hold};
 pub use problem::Problem;
 pub use terms::{Clause, ClauseList, Constraint, ConstraintList, Product, ProductList};
-
-#[cfg(test)]
-mod tests;

@@ -11,6 +11,3 @@ mod quad;
 pub use flatten::Flatten;
 pub use laws::written_stands_for_its_form;
 pub use quad::{NumberList, Quad};
-
-#[cfg(test)]
-mod tests;

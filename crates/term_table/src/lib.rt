@@ -12,8 +12,6 @@ mod sets;
 mod sums;
 mod table;
 mod terms;
-#[cfg(test)]
-mod tests;
 
 pub use gathered::GatheredTerms;
 pub use laws::laws_of_additions;

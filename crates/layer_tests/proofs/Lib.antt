@@ -1,0 +1,3 @@
+mod SmallModels
+mod ChainedModels
+mod SmallTables

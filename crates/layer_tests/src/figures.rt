@@ -1,0 +1,71 @@
+//! Figures, lists of items, and sums of energies.
+ghost use Rattle.std.specs.Prelude.{◌≡◌};
+
+use bits_model::{Entry, Figures, Items, Kind, NoMemory, total_energy};
+use std::alloc::Global;
+use std::test::Fail;
+
+const fn figures(scale: i128, offset: i128, threshold: i128) -> Figures {
+    Figures {
+        scale,
+        offset,
+        threshold,
+    }
+}
+
+#[test]
+fn figures_of_steps(rt: HostRuntime) -> Result<(), Fail> {
+    let first = Figures {
+        scale: 2,
+        offset: -3,
+        threshold: 7,
+    };
+    // 5 times, and 4 more; and moved down by 10
+    assert_eq!(rt; first.after(5, 4), figures(10, -11, 39));
+    assert_eq!(rt; first.moved(-10), figures(2, -13, -3));
+    Ok(())
+}
+
+/// Two items, one of a list that was made before, and whether they are seen in order.
+fn two_items(alloc: Global) -> Result<bool, NoMemory> {
+    let mut first = Items::empty(alloc);
+    first.push(4)?;
+    let mut items = Items::new(first.into_vec());
+    items.push(2)?;
+    Ok(items.as_slice() == [4, 2].as_slice())
+}
+
+#[test]
+fn items_keep_their_order(rt: HostRuntime) -> Result<(), Fail> {
+    let kept = two_items(rt.alloc())?;
+    assert!(rt; kept);
+    Ok(())
+}
+
+#[test]
+fn energies_of_bits_and_of_spins(rt: HostRuntime) -> Result<(), Fail> {
+    // 3, 5 and 7 times the nodes, and 2 times the first with the last
+    let entries = [(0, 0, 3), (1, 1, 5), (2, 2, 7), (0, 2, 2)].map(|(first, second, weight)| Entry {
+        first,
+        second,
+        weight,
+    });
+    let rows = [
+        ([false, false, false], 0, -13),
+        ([true, false, false], 3, -11),
+        ([false, true, false], 5, -3),
+        ([true, true, false], 8, -1),
+        ([false, false, true], 7, -3),
+        ([true, false, true], 12, 7),
+        ([false, true, true], 12, 7),
+        ([true, true, true], 17, 17),
+    ];
+    for (y, bits, spins) in rows {
+        let found = (
+            total_energy(Kind::Qubo, &y, &entries),
+            total_energy(Kind::Ising, &y, &entries),
+        );
+        assert_eq!(rt; found, (bits, spins));
+    }
+    Ok(())
+}

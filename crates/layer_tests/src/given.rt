@@ -1,0 +1,212 @@
+//! Literals, problems and tables that the tests are given, and what is asked of them.
+ghost use Rattle.std.specs.Prelude.{◌≡◌, ◌↔◌, ◌+◌, ◌*◌, ◌<◌, ◌≤◌, ◌^◌, All, IsTrue, IfOk, OnOk, length};
+ghost use Rattle.problem_form.specs.Problems.{problem_total};
+ghost use Rattle.term_table.specs.Terms.{terms_total, terms_size};
+
+use bits_model::{Cost, Costed, NoMemory};
+use problem_form::{
+    Choices, Clause, High, LimitKind, Literal, LiteralList, Normal, Problem, check_limits,
+};
+use std::alloc::Global;
+use term_table::{Table, Terms, is_set};
+
+pub const A: Literal = Literal {
+    variable: 0,
+    negated: false,
+};
+
+pub const NOT_A: Literal = Literal {
+    variable: 0,
+    negated: true,
+};
+
+pub const B: Literal = Literal {
+    variable: 1,
+    negated: false,
+};
+
+pub const NOT_B: Literal = Literal {
+    variable: 1,
+    negated: true,
+};
+
+pub const C: Literal = Literal {
+    variable: 2,
+    negated: false,
+};
+
+pub const NOT_C: Literal = Literal {
+    variable: 2,
+    negated: true,
+};
+
+pub const D: Literal = Literal {
+    variable: 3,
+    negated: false,
+};
+
+pub const E: Literal = Literal {
+    variable: 4,
+    negated: false,
+};
+
+pub const F: Literal = Literal {
+    variable: 5,
+    negated: false,
+};
+
+pub const G: Literal = Literal {
+    variable: 6,
+    negated: false,
+};
+
+// ---- problems
+
+pub fn are_within(literals: &[Literal], variables: u64) -> bool
+    ensures { IsTrue result ↔ All (λ l. l.variable < variables) literals.now }
+{
+    literals.iter().all(|literal| literal.variable < variables)
+}
+
+/// Adds a clause, where its variables are those of the problem.
+pub fn add_clause(
+    alloc: Global,
+    problem: &mut Problem,
+    literals: &[Literal],
+    weight: Option<u64>,
+) -> Result<(), NoMemory>
+    requires { problem_total problem.old < 2 ^ 99 }
+    ensures width { OnOk result (problem.new.variables ≡ problem.old.variables) }
+    ensures total { OnOk result (problem_total problem.new ≤ problem_total problem.old + 2 ^ 64) }
+{
+    if !are_within(literals, problem.variables) {
+        return Ok(());
+    }
+    let literals = LiteralList::new(Vec::from_slice(alloc, literals)?);
+    problem.add_clause(Clause { literals, weight })
+}
+
+/// A problem that has clauses alone, each as its literals and its weight.
+pub fn problem_of(
+    alloc: Global,
+    variables: u64,
+    clauses: &[(&[Literal], Option<u64>)],
+) -> Result<Problem, NoMemory>
+    requires { length clauses.now < 100 }
+    ensures { IfOk result (λ p. p.variables ≡ variables) }
+{
+    let mut problem = Problem::new(alloc);
+    problem.widen(variables);
+    for (literals, weight) in clauses {
+        add_clause(alloc, &mut problem, literals, *weight)?;
+    }
+    Ok(problem)
+}
+
+/// The first limit that the problem passes, and the number that is counted against it.
+pub fn passed_limit(problem: &Problem, normal: Normal) -> Option<(LimitKind, u128)> {
+    let choices = Choices {
+        normal,
+        high: High::Monomial,
+    };
+    match check_limits(problem, &choices) {
+        Ok(()) => None,
+        Err(fault) => Some((fault.kind, fault.number)),
+    }
+}
+
+// ---- tables
+
+/// Adds a term, where it is a set of at most five literals and its coefficient is small.
+fn add_term(
+    table: &mut Table,
+    width: usize,
+    literals: &[Literal],
+    coefficient: i128,
+) -> Result<(), NoMemory>
+    requires width { table.old.width ≡ width }
+    requires total { terms_total table.old.terms ≤ 2 ^ 40 }
+    ensures width { OnOk result (table.new.width ≡ width) }
+    ensures total { OnOk result
+        (terms_total table.new.terms ≤ terms_total table.old.terms + 1000) }
+    ensures size { OnOk result (terms_size table.new.terms ≤ terms_size table.old.terms + 25) }
+{
+    if literals.len() > 5 || coefficient.unsigned_abs() > 1000 || !is_set(literals, width) {
+        return Ok(());
+    }
+    table.add(literals, coefficient)
+}
+
+/// Adds terms, one after another.
+pub fn add_terms(
+    table: &mut Table,
+    width: usize,
+    terms: &[(&[Literal], i128)],
+) -> Result<(), NoMemory>
+    requires few { length terms.now < 100 }
+    requires width { table.old.width ≡ width }
+    requires total { terms_total table.old.terms ≤ 100000 }
+    ensures width { OnOk result (table.new.width ≡ width) }
+    ensures total { OnOk result
+        (terms_total table.new.terms ≤ terms_total table.old.terms + 100000) }
+    ensures size { OnOk result (terms_size table.new.terms ≤ terms_size table.old.terms + 2500) }
+{
+    for (literals, coefficient) in terms {
+        add_term(table, width, literals, *coefficient)?;
+    }
+    Ok(())
+}
+
+/// A table of these terms, which is small.
+pub fn table_of(
+    alloc: Global,
+    width: usize,
+    terms: &[(&[Literal], i128)],
+) -> Result<Table, NoMemory>
+    requires { length terms.now < 100 }
+    ensures width { IfOk result (λ t. t.width ≡ width) }
+    ensures total { IfOk result (λ t. terms_total t.terms ≤ 100000) }
+    ensures size { IfOk result (λ t. terms_size t.terms ≤ 2500) }
+{
+    let mut table = Table::new(alloc, width);
+    add_terms(&mut table, width, terms)?;
+    Ok(table)
+}
+
+/// Whether these are all terms that are left, in order.
+pub fn are_terms(mut terms: Terms<'_>, rows: &[(&[Literal], i128)]) -> bool {
+    for (literals, coefficient) in rows {
+        match terms.next() {
+            Some((found, sum)) if found == *literals && sum == *coefficient => {}
+            _ => return false,
+        }
+    }
+    terms.next().is_none()
+}
+
+// ---- costs
+
+/// The costs at no variable, a, b and both.
+pub fn costs_of_two<F: Costed>(form: &F) -> [Cost; 4]
+    requires { (F.form form.now).bits ≡ 2 }
+{
+    [
+        form.cost(&[false, false]),
+        form.cost(&[true, false]),
+        form.cost(&[false, true]),
+        form.cost(&[true, true]),
+    ]
+}
+
+/// The lowest bits of a number, as a state of so many nodes.
+pub fn state(alloc: Global, width: usize, number: u64) -> Result<Vec<bool>, NoMemory>
+    ensures { IfOk result (λ y. length y.items ≡ width) }
+{
+    let mut bits = Vec::new(alloc);
+    let mut rest = number;
+    for _ in 0..width {
+        bits.push(rest % 2 == 1)?;
+        rest /= 2;
+    }
+    Ok(bits)
+}

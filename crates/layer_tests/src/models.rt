@@ -1,0 +1,266 @@
+//! Models of each kind: their texts, and the energies of their states.
+ghost use Rattle.std.specs.Prelude.{◌≡◌, ◌∷◌, [], pos, negsuc, IfOk};
+
+use bits_model::{
+    ChainList, Cost, Costed, Entry, EntryList, Figures, Items, Kind, NoMemory, OutputModel,
+};
+use model_text::written_text;
+use std::alloc::Global;
+use std::test::Fail;
+
+const FIGURES: Figures = Figures {
+    scale: 3,
+    offset: -4,
+    threshold: -1,
+};
+
+fn entry(first: u32, second: u32, weight: i128) -> Entry
+    ensures { result ≡ record { first = first; second = second; weight = weight } }
+{
+    Entry {
+        first,
+        second,
+        weight,
+    }
+}
+
+/// Two nodes and the coupler between them.
+fn entries(alloc: Global) -> Result<EntryList, NoMemory>
+    ensures { IfOk result (λ es. es ≡
+        record { first = 0; second = 0; weight = pos 0 }
+        ∷ record { first = 1; second = 1; weight = negsuc 19 }
+        ∷ record { first = 0; second = 1; weight = pos 5 }
+        ∷ []) }
+{
+    let mut list = Vec::new(alloc);
+    list.extend_from_slice(&[entry(0, 0, 0), entry(1, 1, -20), entry(0, 1, 5)])?;
+    Ok(EntryList::new(list))
+}
+
+/// The second qubit for the first node, and the first for the second.
+fn chains(alloc: Global) -> Result<ChainList, NoMemory>
+    ensures { IfOk result (λ cs. cs ≡ (1 ∷ []) ∷ (0 ∷ []) ∷ []) }
+{
+    let mut first = Items::empty(alloc);
+    first.push(1)?;
+    let mut second = Items::empty(alloc);
+    second.push(0)?;
+    let mut list = ChainList::empty(alloc);
+    list.push(first)?;
+    list.push(second)?;
+    Ok(list)
+}
+
+fn qubo(alloc: Global) -> Result<OutputModel, NoMemory> {
+    let entries = entries(alloc)?;
+    let model = OutputModel {
+        kind: Kind::Qubo,
+        variables: 1,
+        figures: FIGURES,
+        unit: 1,
+        nodes: 2,
+        entries,
+        chains: ChainList::empty(alloc),
+    };
+    Ok(model)
+}
+
+fn ising(alloc: Global) -> Result<OutputModel, NoMemory> {
+    let entries = entries(alloc)?;
+    let model = OutputModel {
+        kind: Kind::Ising,
+        variables: 1,
+        figures: FIGURES,
+        unit: 2,
+        nodes: 2,
+        entries,
+        chains: ChainList::empty(alloc),
+    };
+    Ok(model)
+}
+
+fn chimera(alloc: Global) -> Result<OutputModel, NoMemory> {
+    let entries = entries(alloc)?;
+    let chains = chains(alloc)?;
+    let model = OutputModel {
+        kind: Kind::Chimera {
+            rows: 1,
+            cols: 1,
+            shore: 1,
+        },
+        variables: 1,
+        figures: FIGURES,
+        unit: 5,
+        nodes: 2,
+        entries,
+        chains,
+    };
+    Ok(model)
+}
+
+/// The fields of five qubits of a cell of six, the couplers inside the chains 0, 3 and 1, 4, 2, and one
+/// between them.
+fn chained_entries(alloc: Global) -> Result<EntryList, NoMemory>
+    ensures { IfOk result (λ es. es ≡
+        record { first = 0; second = 0; weight = pos 1 }
+        ∷ record { first = 1; second = 1; weight = negsuc 1 }
+        ∷ record { first = 2; second = 2; weight = pos 4 }
+        ∷ record { first = 3; second = 3; weight = pos 8 }
+        ∷ record { first = 4; second = 4; weight = negsuc 15 }
+        ∷ record { first = 0; second = 3; weight = negsuc 31 }
+        ∷ record { first = 1; second = 3; weight = pos 64 }
+        ∷ record { first = 1; second = 4; weight = negsuc 127 }
+        ∷ record { first = 2; second = 4; weight = negsuc 255 }
+        ∷ []) }
+{
+    let mut list = Vec::new(alloc);
+    list.extend_from_slice(&[
+        entry(0, 0, 1),
+        entry(1, 1, -2),
+        entry(2, 2, 4),
+        entry(3, 3, 8),
+        entry(4, 4, -16),
+        entry(0, 3, -32),
+        entry(1, 3, 64),
+        entry(1, 4, -128),
+        entry(2, 4, -256),
+    ])?;
+    Ok(EntryList::new(list))
+}
+
+/// Two qubits for the first node, and three for the second.
+fn longer_chains(alloc: Global) -> Result<ChainList, NoMemory>
+    ensures { IfOk result (λ cs. cs ≡ (0 ∷ 3 ∷ []) ∷ (1 ∷ 4 ∷ 2 ∷ []) ∷ []) }
+{
+    let mut first = Vec::new(alloc);
+    first.extend_from_slice(&[0, 3])?;
+    let mut second = Vec::new(alloc);
+    second.extend_from_slice(&[1, 4, 2])?;
+    let mut list = ChainList::empty(alloc);
+    list.push(Items::new(first))?;
+    list.push(Items::new(second))?;
+    Ok(list)
+}
+
+/// A model of two nodes on a cell of six qubits, of which the last is in no chain.
+fn chained(alloc: Global) -> Result<OutputModel, NoMemory> {
+    let entries = chained_entries(alloc)?;
+    let chains = longer_chains(alloc)?;
+    let model = OutputModel {
+        kind: Kind::Chimera {
+            rows: 1,
+            cols: 1,
+            shore: 3,
+        },
+        variables: 2,
+        figures: FIGURES,
+        unit: 1,
+        nodes: 6,
+        entries,
+        chains,
+    };
+    Ok(model)
+}
+
+// ---- texts
+
+fn has_text(alloc: Global, model: &OutputModel, text: &[u8]) -> Result<bool, NoMemory> {
+    Ok(written_text(alloc, model)?.as_slice() == text)
+}
+
+const QUBO_TEXT: &[u8] = b"c scale 3\nc offset -4\nc threshold -1\nc unit 1\nc variables 1\n\
+    p qubo 0 2 2 1\n0 0 0\n1 1 -20\n0 1 5\n";
+
+const ISING_TEXT: &[u8] = b"c scale 3\nc offset -4\nc threshold -1\nc unit 2\nc variables 1\n\
+    p ising 2 2 1\n0 0 0\n1 1 -20\n0 1 5\n";
+
+const CHIMERA_TEXT: &[u8] = b"c scale 3\nc offset -4\nc threshold -1\nc unit 5\nc variables 1\n\
+    c chimera 1 1 1\nc chain 0 1\nc chain 1 0\np ising 2 2 1\n0 0 0\n1 1 -20\n0 1 5\n";
+
+const CHAINED_TEXT: &[u8] = b"c scale 3\nc offset -4\nc threshold -1\nc unit 1\nc variables 2\n\
+    c chimera 1 1 3\nc chain 0 0 3\nc chain 1 1 4 2\np ising 6 5 4\n0 0 1\n1 1 -2\n2 2 4\n3 3 8\n\
+    4 4 -16\n0 3 -32\n1 3 64\n1 4 -128\n2 4 -256\n";
+
+/// Whether the text of each model is the one by hand.
+fn have_texts(alloc: Global) -> Result<[bool; 4], NoMemory> {
+    Ok([
+        has_text(alloc, &qubo(alloc)?, QUBO_TEXT)?,
+        has_text(alloc, &ising(alloc)?, ISING_TEXT)?,
+        has_text(alloc, &chimera(alloc)?, CHIMERA_TEXT)?,
+        has_text(alloc, &chained(alloc)?, CHAINED_TEXT)?,
+    ])
+}
+
+#[test]
+fn texts_of_models_of_each_kind(rt: HostRuntime) -> Result<(), Fail> {
+    let texts = have_texts(rt.alloc())?;
+    assert_eq!(rt; texts, [true; 4]);
+    Ok(())
+}
+
+// ---- energies
+
+fn energy_of_two(model: &OutputModel, y: [bool; 2]) -> Option<Cost> {
+    if model.nodes != 2 {
+        return None;
+    }
+    Some(model.cost(&y))
+}
+
+/// The energies of a state under a QUBO, an Ising model and one with chains.
+fn energies_of_two(alloc: Global, y: [bool; 2]) -> Result<[Option<Cost>; 3], NoMemory> {
+    Ok([
+        energy_of_two(&qubo(alloc)?, y),
+        energy_of_two(&ising(alloc)?, y),
+        energy_of_two(&chimera(alloc)?, y),
+    ])
+}
+
+#[test]
+fn energies_of_two_nodes(rt: HostRuntime) -> Result<(), Fail> {
+    let rows = [
+        ([false, false], 0, 25),
+        ([true, false], 0, 15),
+        ([false, true], -20, -25),
+        ([true, true], -15, -15),
+    ];
+    for (y, bits, spins) in rows {
+        let found = energies_of_two(rt.alloc(), y)?;
+        assert_eq!(rt;
+            found,
+            [bits, spins, spins].map(|energy| Some(Cost::Whole(energy)))
+        );
+    }
+    Ok(())
+}
+
+fn energy_of_chained(alloc: Global, y: [bool; 6]) -> Result<Option<Cost>, NoMemory> {
+    let model = chained(alloc)?;
+    if model.nodes != 6 {
+        return Ok(None);
+    }
+    Ok(Some(model.cost(&y)))
+}
+
+#[test]
+fn energies_of_chains(rt: HostRuntime) -> Result<(), Fail> {
+    let (up, down) = (true, false);
+    // The fields are 1, -2, 4, 8 and -16, and the couplings -32 and -128 and -256 inside the chains and
+    // 64 between them. The last qubit counts nothing.
+    let rows = [
+        ([down, down, down, down, down, down], 5 - 352),
+        ([up, up, up, up, up, up], -5 - 352),
+        ([up, down, down, up, down, down], 23 - 480),
+        ([up, down, down, up, down, up], 23 - 480),
+        ([down, up, up, down, up, down], -23 - 480),
+        // a broken first chain, and a second one that is broken at either end
+        ([up, down, down, down, down, down], 7 - 288),
+        ([down, up, down, down, down, down], 1 - 224),
+        ([down, down, up, down, down, down], 13 + 160),
+    ];
+    for (y, energy) in rows {
+        let found = energy_of_chained(rt.alloc(), y)?;
+        assert_eq!(rt; found, Some(Cost::Whole(energy)));
+    }
+    Ok(())
+}

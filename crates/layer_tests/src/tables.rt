@@ -1,0 +1,147 @@
+//! Tables of a few terms, against lists and costs by hand.
+ghost use Rattle.std.specs.Prelude.{◌≡◌, ◌+◌, ◌*◌, ◌<◌, ◌≤◌, ◌^◌, IfOk, OnOk, length};
+ghost use Rattle.term_table.specs.Terms.{terms_total};
+
+use crate::given::{A, B, C, NOT_A, NOT_B, add_terms, are_terms, table_of};
+use bits_model::{Cost, Costed, NoMemory};
+use problem_form::Literal;
+use std::alloc::Global;
+use std::test::Fail;
+use term_table::{GatheredTerms, Table, is_set, low};
+
+/// Appends a term, where it is a set and its coefficient is small.
+fn gather(
+    terms: &mut GatheredTerms,
+    width: usize,
+    literals: &[Literal],
+    coefficient: i128,
+) -> Result<(), NoMemory>
+    requires width { terms.old.width ≡ width }
+    requires total { terms_total terms.old.terms ≤ 2 ^ 40 }
+    ensures width { OnOk result (terms.new.width ≡ width) }
+    ensures total { OnOk result
+        (terms_total terms.new.terms ≤ terms_total terms.old.terms + 1000) }
+{
+    if coefficient.unsigned_abs() > 1000 || !is_set(literals, width) {
+        return Ok(());
+    }
+    terms.add(literals, coefficient)
+}
+
+/// A table of terms that are summed at once.
+fn table_at_once(
+    alloc: Global,
+    width: usize,
+    terms: &[(&[Literal], i128)],
+) -> Result<Table, NoMemory>
+    requires { length terms.now < 100 }
+    ensures width { IfOk result (λ t. t.width ≡ width) }
+    ensures total { IfOk result (λ t. terms_total t.terms ≤ 100000) }
+{
+    let mut gathered = GatheredTerms::new(alloc, width);
+    for (literals, coefficient) in terms {
+        gather(&mut gathered, width, literals, *coefficient)?;
+    }
+    Ok(gathered.into_table())
+}
+
+/// Whether additions give a table of these terms: the first ones at once where it is asked, and the
+/// later ones one by one.
+fn gives_terms(
+    alloc: Global,
+    at_once: bool,
+    first: &[(&[Literal], i128)],
+    later: &[(&[Literal], i128)],
+    rows: &[(&[Literal], i128)],
+) -> Result<bool, NoMemory>
+    requires first { length first.now < 100 }
+    requires later { length later.now < 100 }
+{
+    let mut table = if at_once {
+        table_at_once(alloc, 2, first)?
+    } else {
+        table_of(alloc, 2, first)?
+    };
+    add_terms(&mut table, 2, later)?;
+    Ok(are_terms(table.terms(), rows))
+}
+
+const SOME: [(&[Literal], i128); 7] = [
+    (&[A, B], 2),
+    (&[B], 5),
+    (&[NOT_A], 7),
+    (&[], -1),
+    (&[A, B], -2),
+    (&[A, NOT_B], 1),
+    (&[NOT_A], -3),
+];
+
+const OTHERS: [(&[Literal], i128); 6] = [
+    (&[A, NOT_B], 1),
+    (&[NOT_A], 4),
+    (&[NOT_B], 0),
+    (&[B], 6),
+    (&[B], -1),
+    (&[], -1),
+];
+
+const SUMS: [(&[Literal], i128); 4] = [(&[], -1), (&[A, NOT_B], 1), (&[NOT_A], 4), (&[B], 5)];
+
+const SUMS_OF_BOTH: [(&[Literal], i128); 4] = [
+    (&[], -2),
+    (&[A, NOT_B], 2),
+    (&[NOT_A], 8),
+    (&[B], 10),
+];
+
+#[test]
+fn additions_in_any_order_give_one_list(rt: HostRuntime) -> Result<(), Fail> {
+    let rows: [(
+        bool,
+        &[(&[Literal], i128)],
+        &[(&[Literal], i128)],
+        &[(&[Literal], i128)],
+    ); 6] = [
+        (false, &SOME, &[], &SUMS),
+        (false, &OTHERS, &[], &SUMS),
+        (false, &SOME, &OTHERS, &SUMS_OF_BOTH),
+        (true, &SOME, &[], &SUMS),
+        (true, &OTHERS, &[], &SUMS),
+        (true, &SOME, &OTHERS, &SUMS_OF_BOTH),
+    ];
+    for (at_once, first, later, sums) in rows {
+        assert!(rt; first.len() < 100 && later.len() < 100);
+        let found = gives_terms(rt.alloc(), at_once, first, later, sums)?;
+        assert!(rt; found);
+    }
+    Ok(())
+}
+
+#[test]
+fn two_literals_are_low(rt: HostRuntime) -> Result<(), Fail> {
+    let terms: [(&[Literal], i128); 3] = [(&[A, NOT_B], 1), (&[], -1), (&[NOT_A], 4)];
+    let Ok(kept) = low(table_of(rt.alloc(), 2, &terms)?) else {
+        return Err(Fail::from("two literals were refused"));
+    };
+    assert!(rt; kept.width() == 2 && kept.terms().next() == Some(terms[1]));
+    let costs = [
+        ([false, false], 3),
+        ([false, true], 3),
+        ([true, false], 0),
+        ([true, true], -1),
+    ];
+    for (x, cost) in costs {
+        assert_eq!(rt; kept.cost(&x), Cost::Whole(cost));
+    }
+    Ok(())
+}
+
+#[test]
+fn three_literals_are_not_low(rt: HostRuntime) -> Result<(), Fail> {
+    let terms: [(&[Literal], i128); 2] = [(&[A, NOT_B, C], 1), (&[C], -2)];
+    match low(table_of(rt.alloc(), 3, &terms)?) {
+        Ok(_) => panic!(rt; "three literals have passed"),
+        Err(table) => assert_eq!(rt; table.terms().next(), Some(terms[0])),
+    }
+    Ok(())
+}

@@ -1,7 +1,0 @@
-use Rattle.std.proofs.Common.{◌*◌, ◌^◌, ◌≤◌}
-use Rattle.problem_form.specs.Problems.{problem_total}
-use Rattle.problem_form.proofs.tests.problem_of.Given as goal
-
--- each clause adds less than 2^64 to the sizes
-abbrev pub invariant-loop-literals : goal.invariant-loop-literals
-invariant-loop-literals l = problem_total l.problem ≤ l.literals-index * 2 ^ 64
