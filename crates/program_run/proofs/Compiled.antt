@@ -1,5 +1,5 @@
 -- A model of the problem that a source is read into is compiled from the source.
-use Rattle.std.proofs.Common.{◌≡◌, ◌≤◌, ℕ, ℤ, ◌+ℤ◌, ◌*ℤ◌, Bool, List, map, take, Ok, Some, None, refl, sym, ap, ◌∙◌, subst, arith}
+use Rattle.std.proofs.Common.{◌≡◌, ◌≤◌, ℕ, ◌+ℤ◌, ◌*ℤ◌, Bool, List, map, take, Ok, Some, None, refl, sym, ap, ◌∙◌, subst, arith}
 use Rattle.std.specs.declared.option.Option.{Option}
 use Rattle.std.proofs.lemmas.List.{take-take, take-map}
 use Rattle.edge_io.specs.Held.{NamedFiles, WhereTold}

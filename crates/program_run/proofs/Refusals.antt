@@ -1,12 +1,9 @@
 -- What files tell where a limit is passed.
-use Rattle.std.proofs.Common.{◌≡◌, ◌≢◌, ◌≤◌, ◌+◌, ℕ, List, length, refl, arith, sym, ◌∙◌, ap, Some, None}
-use Rattle.std.specs.declared.option.Option.{Option}
+use Rattle.std.proofs.Common.{◌≢◌, ℕ, List, refl}
 use Rattle.problem_form.specs.declared.limits.LimitKind.{LimitKind}
 use Rattle.problem_form.specs.declared.limits.LimitKind.TheVariants.{Bytes, Variables, Degree, Negations, Pairs, Weight}
-use Rattle.command_words.specs.declared.names.Which.{Which}
-use Rattle.command_words.specs.declared.names.Which.TheVariants.{Source, Map, State}
-use Rattle.program_run.specs.declared.status.Status.{Status}
-use Rattle.program_run.specs.declared.status.Status.TheVariants.{Done, Usage, ReadFault, WriteFault, BadText, Limit, NoState, NoMemory}
+use Rattle.command_words.specs.declared.names.Which.TheVariants.{Source}
+use Rattle.program_run.specs.declared.status.Status.TheVariants.{Limit}
 use Rattle.edge_io.specs.Counts.{Counts}
 use Rattle.program_run.specs.Causes.{IsRefusedBy, AreRead}
 

@@ -8,7 +8,7 @@ use Rattle.command_words.specs.declared.names.Which.TheVariants.{Source, State}
 use Rattle.command_words.specs.declared.commands.Command.{Command}
 use Rattle.command_words.specs.Names.{name_of, files_of, number_in}
 use Rattle.program_run.specs.declared.status.Status.{Status}
-use Rattle.program_run.specs.declared.status.Status.TheVariants.{Done, Usage, ReadFault, WriteFault, BadText, Limit, NoState, NoMemory}
+use Rattle.program_run.specs.declared.status.Status.TheVariants.{Usage, ReadFault, BadText, Limit, NoState, NoMemory}
 
 -- so many files were begun
 abbrev pub AreBegun : ℕ → Counts → Counts → Type 0

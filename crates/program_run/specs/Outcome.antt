@@ -21,7 +21,7 @@ use Rattle.source_texts.specs.Sources.{problem_of}
 use Rattle.model_pipeline.specs.Models.{model}
 use Rattle.program_run.specs.Statuses.{IsDoneOrWant}
 use Rattle.program_run.specs.declared.status.Status.{Status}
-use Rattle.program_run.specs.declared.status.Status.TheVariants.{Done, Usage, ReadFault, WriteFault, BadText, Limit, NoState, NoMemory}
+use Rattle.program_run.specs.declared.status.Status.TheVariants.{Done, Usage, ReadFault, WriteFault, BadText, Limit, NoMemory}
 
 -- ---- steps
 

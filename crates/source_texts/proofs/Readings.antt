@@ -1,8 +1,8 @@
 -- A problem with the costs of a source stands for the source.
-use Rattle.std.proofs.Common.{◌≡◌, ◌≤◌, ℤ, Bool, List, length, take, refl, sym, ◌∙◌, subst, arith, rules}
+use Rattle.std.proofs.Common.{◌≡◌, ℤ, subst, arith}
 use Rattle.std.proofs.lemmas.List.{take_all}
 use Rattle.bits_model.specs.declared.costs.Figures.{Figures}
-use Rattle.bits_model.specs.Costs.{Form, Source, IsOf}
+use Rattle.bits_model.specs.Costs.{Form, Source}
 use Rattle.bits_model.specs.Relations.{Decoding, Relaxes}
 use Rattle.bits_model.specs.Stated.{HasSameCosts, DecodesAlike}
 use Rattle.bits_model.proofs.Alike.{relaxes_alike}

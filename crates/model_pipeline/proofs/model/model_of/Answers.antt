@@ -1,13 +1,12 @@
 use Rattle.std.proofs.Common.{◌≡◌, arith, ap, sym, subst, ◌∙◌}
 use Rattle.bits_model.specs.declared.costs.Figures.{Figures}
-use Rattle.problem_form.specs.Limits.{upper}
 use Rattle.quad_form.specs.Quads.{QuadContent, IsQuad, written_of}
 use Rattle.std.specs.Prelude.{length, pos}
 use Rattle.penalty_layer.proofs.Admitted.{threshold_within}
 use Rattle.problem_form.specs.Limits.{limit_fault}
 use Rattle.std.specs.Prelude.{None}
 use Rattle.model_pipeline.specs.Models.{IsModelOf}
-use Rattle.model_pipeline.proofs.Standing.{AreSteps, model_of, nodes_enough, steps_model, if_ok-then}
+use Rattle.model_pipeline.proofs.Standing.{AreSteps, nodes_enough, steps_model, if_ok-then}
 use Rattle.model_pipeline.proofs.model.model_of.Goals as goal
 
 pub output-requires-clause-enough : goal.output-requires-clause-enough
