@@ -196,8 +196,8 @@ fn kept_cost(
     })
 }
 
-/// How many assignments have the least energy that their cost asks for: those whose cost is whole, and
-/// those whose cost is infinite.
+/// How many assignments have the least energy that their cost asks for: those whose cost is whole,
+/// and those whose cost is infinite.
 fn kept_costs(alloc: Global, problem: &Problem) -> Result<(u64, u64), NoMemory>
     requires { Admits problem.now }
 {

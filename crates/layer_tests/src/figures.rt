@@ -1,6 +1,4 @@
 //! Figures, lists of items, and sums of energies.
-ghost use Rattle.std.specs.Prelude.{◌≡◌};
-
 use bits_model::{Entry, Figures, Items, Kind, NoMemory, total_energy};
 use std::alloc::Global;
 use std::test::Fail;

@@ -1,5 +1,5 @@
 //! Literals, problems and tables that the tests are given, and what is asked of them.
-ghost use Rattle.std.specs.Prelude.{◌≡◌, ◌↔◌, ◌+◌, ◌*◌, ◌<◌, ◌≤◌, ◌^◌, All, IsTrue, IfOk, OnOk, length};
+ghost use Rattle.std.specs.Prelude.{◌≡◌, ◌↔◌, ◌+◌, ◌<◌, ◌≤◌, ◌^◌, All, IsTrue, IfOk, OnOk, length};
 ghost use Rattle.problem_form.specs.Problems.{problem_total};
 ghost use Rattle.term_table.specs.Terms.{terms_total, terms_size};
 

@@ -1,6 +1,8 @@
-//! Tests of the forms and of the steps between them, over values by hand and over all states of small
-//! problems. The crate is a library without items: it stands above what it tests, so that no library
-//! is proved once more with its tests.
+//! Tests of the forms and of the steps between them, over values by hand and over all states of
+//! small problems.
+//!
+//! The crate is a library without items. It stands above what it tests, so that no library is
+//! proved once more with its tests.
 #![tactic(auto)]
 
 #[cfg(test)]

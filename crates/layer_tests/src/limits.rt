@@ -1,5 +1,5 @@
 //! Limits, and the numbers that are counted against them.
-ghost use Rattle.std.specs.Prelude.{◌≡◌, ◌+◌, ◌*◌, ◌<◌, ◌≤◌, ◌^◌, All, IfOk, OnOk, length};
+ghost use Rattle.std.specs.Prelude.{◌≡◌, ◌+◌, ◌<◌, ◌≤◌, ◌^◌, All, IfOk, OnOk};
 ghost use Rattle.problem_form.specs.Problems.{constraint_total, problem_total};
 
 use crate::given::{A, B, C, NOT_A, NOT_B, add_clause, are_within, passed_limit, problem_of};
@@ -92,8 +92,8 @@ fn bound_of(alloc: Global, exact: bool) -> Result<Constraint, NoMemory>
     })
 }
 
-/// Hard clauses that have 2^20 pairs each, of complements that are none when multiplied out: sixteen
-/// of them where there are so many variables, and none where there are fewer.
+/// Sixteen hard clauses that have 2^20 pairs each, also when they are multiplied out, and none
+/// where there are fewer than 1,024 variables.
 fn add_wide_clauses(alloc: Global, problem: &mut Problem) -> Result<(), NoMemory>
     requires { problem_total problem.old ≡ 0 }
     ensures same { OnOk result (problem.new.variables ≡ problem.old.variables) }
@@ -112,8 +112,8 @@ fn add_wide_clauses(alloc: Global, problem: &mut Problem) -> Result<(), NoMemory
     Ok(())
 }
 
-/// 4 + 3 a - 2 ~b and a number, where a + 2 b is at least 2, or is 2. With 1,024 variables or more there
-/// are wide clauses too.
+/// 4 + 3 a - 2 ~b and a number, where a + 2 b is at least 2, or is 2. With 1,024 variables or more
+/// there are wide clauses too.
 pub fn bounded(alloc: Global, variables: u64, exact: bool, number: u64) -> Result<Problem, NoMemory>
     requires { 2 ≤ variables }
 {
@@ -131,8 +131,8 @@ pub fn bounded(alloc: Global, variables: u64, exact: bool, number: u64) -> Resul
 #[test]
 fn pairs_of_a_bounded_sum(rt: HostRuntime) -> Result<(), Fail> {
     // At least 2: the sum of two products, one slack bit and the bound is squared. The two products
-    // outside have two pairs, or three where the complement is multiplied out. The wide clauses have
-    // as many as are accepted.
+    // outside have two pairs, or three where the complement is multiplied out. The wide clauses
+    // have as many as are accepted.
     let most: u128 = 1 << 24;
     let rows = [
         (false, Normal::Literal, most + 2 + 16),

@@ -98,8 +98,8 @@ fn chimera(alloc: Global) -> Result<OutputModel, NoMemory> {
     Ok(model)
 }
 
-/// The fields of five qubits of a cell of six, the couplers inside the chains 0, 3 and 1, 4, 2, and one
-/// between them.
+/// The fields of five qubits of a cell of six, the couplers inside the chains 0, 3 and 1, 4, 2, and
+/// one between them.
 fn chained_entries(alloc: Global) -> Result<EntryList, NoMemory>
     ensures { IfOk result (λ es. es ≡
         record { first = 0; second = 0; weight = pos 1 }
@@ -245,8 +245,8 @@ fn energy_of_chained(alloc: Global, y: [bool; 6]) -> Result<Option<Cost>, NoMemo
 #[test]
 fn energies_of_chains(rt: HostRuntime) -> Result<(), Fail> {
     let (up, down) = (true, false);
-    // The fields are 1, -2, 4, 8 and -16, and the couplings -32 and -128 and -256 inside the chains and
-    // 64 between them. The last qubit counts nothing.
+    // The fields are 1, -2, 4, 8 and -16, and the couplings -32 and -128 and -256 inside the chains
+    // and 64 between them. The last qubit counts nothing.
     let rows = [
         ([down, down, down, down, down, down], 5 - 352),
         ([up, up, up, up, up, up], -5 - 352),

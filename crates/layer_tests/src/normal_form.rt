@@ -1,6 +1,4 @@
 //! Clauses as they are kept, and the costs of clauses and of bounded sums.
-ghost use Rattle.std.specs.Prelude.{◌≡◌};
-
 use crate::given::{A, B, NOT_A, NOT_B, costs_of_two, problem_of};
 use crate::limits::bounded;
 use bits_model::Cost;

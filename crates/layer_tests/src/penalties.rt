@@ -1,5 +1,4 @@
 //! Hard and soft clauses, under penalties, and then with new nodes, against hand arithmetic.
-ghost use Rattle.std.specs.Prelude.{◌≡◌};
 ghost use Rattle.std.specs.Bool.{OnTrue};
 ghost use Rattle.bits_model.specs.Costs.{IsOf};
 ghost use Rattle.penalty_layer.specs.Penalty.{Admits};
@@ -37,8 +36,8 @@ const FIGURES: Figures = Figures {
     threshold: 3,
 };
 
-/// A penalty of 4 times ~a ~b ~c, which is 4 (~a ~b + ~a ~c + ~b ~c) + 4 d (1 - ~a - ~b - ~c) at its
-/// least, and 3 a.
+/// A penalty of 4 times ~a ~b ~c, which is 4 (~a ~b + ~a ~c + ~b ~c) + 4 d (1 - ~a - ~b - ~c) at
+/// its least, and 3 a.
 const WITH_A_NODE: [(&[Literal], i128); 8] = [
     (&[A], 3),
     (&[NOT_A, NOT_B], 4),

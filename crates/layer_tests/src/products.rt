@@ -1,5 +1,5 @@
 //! Products of three, four and five variables, against tables by hand and all their states.
-ghost use Rattle.std.specs.Prelude.{◌≡◌, ◌≤◌, ◌^◌, length};
+ghost use Rattle.std.specs.Prelude.{◌≡◌, ◌≤◌, length};
 ghost use Rattle.monomial_layer.specs.Monomials.{image, Fits};
 
 use crate::given::{A, B, C, D, E, F, G, are_terms, state, table_of};
@@ -39,7 +39,8 @@ const OF_FOUR: [(&[Literal], i128); 11] = [
     (&[E], 3),
 ];
 
-/// a b c d e is the sum of its pairs, and f (3 - 2 s) + g (3 - s) with s true variables, at its least.
+/// a b c d e is the sum of its pairs, and f (3 - 2 s) + g (3 - s) with s true variables, at its
+/// least.
 const OF_FIVE: [(&[Literal], i128); 22] = [
     (&[A, B], 1),
     (&[A, C], 1),
@@ -103,8 +104,8 @@ fn is_within(cost: Cost, energy: Cost) -> bool {
     }
 }
 
-/// Whether the state of a number costs no less than the assignment of its first bits, which is reached
-/// by its extension.
+/// Whether the state of a number costs no less than the assignment of its first bits, which is
+/// reached by its extension.
 fn keeps_cost(
     alloc: Global,
     source: &Table,
@@ -125,8 +126,8 @@ fn keeps_cost(
     Ok(is_within(cost, made.target.cost(&y)) && made.target.cost(&again) == cost)
 }
 
-/// Whether no state costs less than the assignment of its first bits, and each assignment is reached
-/// by its extension.
+/// Whether no state costs less than the assignment of its first bits, and each assignment is
+/// reached by its extension.
 fn keeps_costs(alloc: Global, literals: &[Literal], coefficient: i128) -> Result<bool, NoMemory>
     requires { length literals.now ≤ 5 }
 {

@@ -1,6 +1,6 @@
 //! Tables over two and three variables, their quadratic forms and the written model, against hand
 //! arithmetic.
-ghost use Rattle.std.specs.Prelude.{◌≡◌, ◌+◌, ◌*◌, ◌≤◌, ◌<◌, ◌^◌, ◌≤ℤ◌, length, pos};
+ghost use Rattle.std.specs.Prelude.{◌+◌, ◌*◌, ◌≤◌, ◌<◌, ◌^◌, ◌≤ℤ◌, length, pos};
 ghost use Rattle.bits_model.specs.Costs.{IsOf};
 
 use crate::given::{A, B, C, NOT_A, NOT_B, costs_of_two, table_of};
@@ -165,7 +165,8 @@ fn an_assignment_is_its_own_state(rt: HostRuntime) -> Result<(), Fail> {
     Ok(())
 }
 
-/// The scale and offset of two layers, new nodes and multiplying out, and whether they make this form.
+/// The scale and offset of two layers, new nodes and multiplying out, and whether they make this
+/// form.
 fn scale_and_offset(
     alloc: Global,
     width: usize,

@@ -1,5 +1,5 @@
 //! Tables of a few terms, against lists and costs by hand.
-ghost use Rattle.std.specs.Prelude.{◌≡◌, ◌+◌, ◌*◌, ◌<◌, ◌≤◌, ◌^◌, IfOk, OnOk, length};
+ghost use Rattle.std.specs.Prelude.{◌≡◌, ◌+◌, ◌<◌, ◌≤◌, ◌^◌, IfOk, OnOk, length};
 ghost use Rattle.term_table.specs.Terms.{terms_total};
 
 use crate::given::{A, B, C, NOT_A, NOT_B, add_terms, are_terms, table_of};
