@@ -3,7 +3,7 @@ use Rattle.std.proofs.Common.{◌≡◌, ◌+◌, ◌≤◌, ℤ, List, [], ◌�
 use Rattle.problem_form.specs.declared.literal.Literal.{Literal}
 use Rattle.term_table.specs.Terms.{set_size, terms_total, terms_size}
 use Rattle.term_table.specs.Tables.{TableContent, with_added}
-use Rattle.term_table.proofs.Additions.{terms_total-added, terms_size-added}
+use Rattle.term_table.proofs.Additions.{terms_total-with_addition, terms_size-with_addition}
 
 set_size-few : (ls : List Literal) → length ls ≤ 5 → set_size ls ≤ 25
 set_size-few [] few = omega arith
@@ -18,7 +18,7 @@ pub total_after : {T E : Type 0} (r : Result T E) (t u : TableContent) (ls : Lis
     → OnOk r (u ≡ with_added t ls k) → unsigned_abs k ≤ 1000
     → OnOk r (terms_total u.terms ≤ terms_total t.terms + 1000)
 total_after (Ok x) t u ls k added small =
-    omega (arith, ap (λ (s : TableContent). terms_total s.terms) added, terms_total-added t.terms ls k)
+    omega (arith, ap (λ (s : TableContent). terms_total s.terms) added, terms_total-with_addition t.terms ls k)
 total_after (Err x) t u ls k added small = tt
 
 pub size_after : {T E : Type 0} (r : Result T E) (t u : TableContent) (ls : List Literal) (k : ℤ)
@@ -28,7 +28,7 @@ size_after (Ok x) t u ls k added few =
     omega (
       arith,
       ap (λ (s : TableContent). terms_size s.terms) added,
-      terms_size-added t.terms ls k,
+      terms_size-with_addition t.terms ls k,
       set_size-few ls few,
     )
 size_after (Err x) t u ls k added few = tt
