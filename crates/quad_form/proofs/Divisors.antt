@@ -1,14 +1,13 @@
 -- Common divisors of weights, and the greatest of them.
-use Rattle.std.proofs.Common.{◌≡◌, ◌⊎◌, inl, inr, ℕ, zero, suc, ◌+◌, ◌*◌, ◌<◌, ◌≤◌, ◌%◌, Bool, true, false, ◌&&◌, ℤ, pos, negsuc, neg_ℤ, ◌*ℤ◌, int_div, int_rem, unsigned_abs, List, [], ◌∷◌, ◌++◌, All, take, length, get_or, map, if◌then◌else◌, refl, sym, ap, ◌∙◌, subst, arith}
+use Rattle.std.proofs.Common.{◌≡◌, ◌⊎◌, inl, inr, ℕ, zero, suc, ◌*◌, ◌≤◌, Bool, true, false, ◌&&◌, ℤ, pos, negsuc, neg_ℤ, ◌*ℤ◌, int_rem, unsigned_abs, List, [], ◌∷◌, ◌++◌, if◌then◌else◌, refl, sym, ap, ◌∙◌, subst, arith}
 use Rattle.std.specs.Int.{◌∣◌, IsGcd}
 use Rattle.std.specs.List.{AllByRecursion, list_all, sum_by}
 use Rattle.std.proofs.Math.Nat.{one-dvd, eq-zero_of_zero-dvd, dvd_trans, dvd_refl}
 use Rattle.std.proofs.lemmas.Bool.{eq-eqb, eqb-true}
 use Rattle.std.proofs.lemmas.Int.{ints, quot-rem, unsigned_abs-mul}
-use Rattle.std.proofs.lemmas.List.{take_more}
 use Rattle.std.proofs.lemmas.List.Sums.{sum_by-cons}
 use Rattle.std.proofs.lemmas.List.Elements.{recursion_from_All, All-from_recursion, All-append, All-nil}
-use Rattle.std.proofs.lemmas.Nat.Gcd.{dvd_antisymm, dvd-zero, le_of_dvd, dvd_of_mod-eq-zero, mod-eq-zero_of_dvd}
+use Rattle.std.proofs.lemmas.Nat.Gcd.{dvd-zero, le_of_dvd, dvd_of_mod-eq-zero, mod-eq-zero_of_dvd}
 use Rattle.quad_form.specs.Units.{is_multiple, greatest_within, unit_of, counted_in, IsCommonDivisor}
 
 -- d divides the size of each weight
@@ -31,11 +30,10 @@ and_both false b p q = cc
 
 Divides-from_test : (d : ℕ) (ws : List ℤ) → list_all (is_multiple d) ws ≡ true → Divides d ws
 Divides-from_test d [] h = tt
-Divides-from_test d (w ∷ ws) h =
-    (
-      dvd_of_mod-eq-zero d (eqb-true _ _ (and_left (is_multiple d w) _ h)),
-      Divides-from_test d ws (and_right (is_multiple d w) _ h),
-    )
+Divides-from_test d (w ∷ ws) h = (
+  dvd_of_mod-eq-zero d (eqb-true _ _ (and_left (is_multiple d w) _ h)),
+  Divides-from_test d ws (and_right (is_multiple d w) _ h),
+)
 
 test-from_Divides : (d : ℕ) (ws : List ℤ) → Divides d ws → list_all (is_multiple d) ws ≡ true
 test-from_Divides d [] h = refl

@@ -1,21 +1,17 @@
 -- Quadratic forms whose weights are counted in their greatest unit.
-use Rattle.std.proofs.Common.{◌≡◌, ℕ, ◌+◌, ◌*◌, ◌≤◌, Bool, true, false, ℤ, pos, neg_ℤ, ◌+ℤ◌, ◌*ℤ◌, ◌≤ℤ◌, unsigned_abs, List, ◌++◌, length, map, All, refl, sym, ap, ◌∙◌, subst, arith}
+use Rattle.std.proofs.Common.{◌≡◌, ℕ, ◌+◌, ◌*◌, ◌≤◌, Bool, true, false, ℤ, pos, neg_ℤ, ◌+ℤ◌, ◌*ℤ◌, ◌≤ℤ◌, unsigned_abs, List, length, map, All, sym, ap, ◌∙◌, subst, arith}
 use Rattle.std.specs.Int.{◌∣◌}
 use Rattle.std.proofs.Math.Nat.{mul-le-mul_right}
 use Rattle.std.proofs.lemmas.Int.{ints}
 use Rattle.std.proofs.lemmas.List.{length-map}
-use Rattle.std.proofs.lemmas.List.Elements.{recursion_from_All}
 use Rattle.integers.specs.Sums.{total_by, if_so}
-use Rattle.bits_model.specs.declared.costs.Figures.{Figures}
 use Rattle.bits_model.specs.declared.output.Entry.{Entry}
 use Rattle.bits_model.specs.Relations.{Reduces}
-use Rattle.bits_model.specs.Output.{bit_at, bits_energy, weight_total}
-use Rattle.bits_model.specs.Faithful.{IsReduced}
-use Rattle.quad_form.specs.Quads.{QuadForm, IsQuad, IsCoupler, entries_of, node_entries, quad_total, quad_value, form_of, written_of}
+use Rattle.bits_model.specs.Output.{bits_energy, weight_total}
+use Rattle.quad_form.specs.Quads.{QuadForm, IsQuad, IsCoupler, entries_of, node_entries, quad_total, form_of}
 use Rattle.quad_form.specs.Units.{unit_of, counted_in, entry_in, quad_unit, reduced, IsReducedAsWritten}
 use Rattle.quad_form.proofs.Divisors.{exact}
-use Rattle.quad_form.proofs.NodeEnergies.{weights-append}
-use Rattle.quad_form.proofs.UnitEntries.{DividesEach, IsZero, unit_in, unit_divides, one_le_unit, weights-entries, entries-in, total-in, energy-in, ordered-in, couplers-in, quotients_coprime, unit_of_zeros, each_of_rest}
+use Rattle.quad_form.proofs.UnitEntries.{DividesEach, unit_in, unit_divides, one_le_unit, weights-entries, entries-in, total-in, energy-in, ordered-in, couplers-in, quotients_coprime, unit_of_zeros, each_of_rest}
 
 -- the form whose weights are counted in a unit
 abbrev counted_form : ℤ → QuadForm → QuadForm

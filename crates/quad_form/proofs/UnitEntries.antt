@@ -1,5 +1,5 @@
 -- Entries whose weights are counted in a unit that divides them.
-use Rattle.std.proofs.Common.{◌≡◌, ◌≢◌, ◌⊎◌, inl, inr, ℕ, zero, suc, ◌+◌, ◌*◌, ◌<◌, ◌≤◌, Bool, true, false, ℤ, pos, ◌+ℤ◌, ◌*ℤ◌, ◌≤ℤ◌, unsigned_abs, List, [], ◌∷◌, ◌++◌, All, map, refl, sym, ap, ◌∙◌, subst, arith}
+use Rattle.std.proofs.Common.{◌≡◌, ◌≢◌, inl, inr, ℕ, zero, suc, ◌+◌, ◌*◌, ◌<◌, ◌≤◌, ℤ, pos, ◌+ℤ◌, ◌*ℤ◌, unsigned_abs, List, [], ◌∷◌, ◌++◌, All, map, refl, sym, ap, ◌∙◌, subst, arith}
 use Rattle.std.specs.Int.{◌∣◌}
 use Rattle.std.specs.List.{AllByRecursion, sum_by}
 use Rattle.std.specs.List.Sorted.{IsStrictlySortedBy}
@@ -15,7 +15,7 @@ use Rattle.bits_model.specs.declared.output.Entry.{Entry}
 use Rattle.bits_model.specs.Faithful.{IsMultiple}
 use Rattle.bits_model.specs.Output.{entry_cmp, weight_total}
 use Rattle.quad_form.specs.Quads.{node_entries, IsCoupler}
-use Rattle.quad_form.specs.Units.{greatest_within, IsCommonDivisor, unit_of, weight_of, weights_of, counted_in, entry_in}
+use Rattle.quad_form.specs.Units.{greatest_within, IsCommonDivisor, weight_of, weights_of, counted_in, entry_in}
 use Rattle.quad_form.proofs.Divisors.{Divides, greatest_divides, one_le_greatest, greatest_above, none_or_within, unit_of_nothing, divisor_of_both, divisor_within, exact, size-exact}
 
 -- d divides the size of each entry's weight
@@ -131,15 +131,14 @@ nonzero-in u w h some none =
 couplers-by-recursion : (u n : ℕ) (es : List Entry) → DividesEach u es
     → AllByRecursion (IsCoupler n) es → AllByRecursion (IsCoupler n) (map (entry_in (pos u)) es)
 couplers-by-recursion u n [] h all = tt
-couplers-by-recursion u n (e ∷ es) h all =
-    (
-      record {
-        upward = all.0.upward;
-        within = all.0.within;
-        nonzero = nonzero-in u e.weight h.0 all.0.nonzero;
-      },
-      couplers-by-recursion u n es h.1 all.1,
-    )
+couplers-by-recursion u n (e ∷ es) h all = (
+  record {
+    upward = all.0.upward;
+    within = all.0.within;
+    nonzero = nonzero-in u e.weight h.0 all.0.nonzero;
+  },
+  couplers-by-recursion u n es h.1 all.1,
+)
 
 pub couplers-in : (u n : ℕ) (es : List Entry) → DividesEach u es → All (IsCoupler n) es
     → All (IsCoupler n) (map (entry_in (pos u)) es)
@@ -176,8 +175,7 @@ product_divides : (u d : ℕ) (es : List Entry) → DividesEach u es
 product_divides u d [] h all = tt
 product_divides u d (e ∷ es) h all =
     let quotient = counted_in (pos u) e.weight in
-    let this = mul-dvd-mul_left d u (size-multiple d quotient all.0) in
-    (
+    let this = mul-dvd-mul_left d u (size-multiple d quotient all.0) in (
       subst (λ n. u * d ∣ n) (size-exact u e.weight h.0) this,
       product_divides u d es h.1 all.1,
     )

@@ -1,4 +1,4 @@
-use Rattle.std.proofs.Common.{◌≡◌, to_z, of_z, rules, ◌++◌, ℤ, pos, unsigned_abs, List, take, drop, get_or, subst, sym, ap, ◌∙◌}
+use Rattle.std.proofs.Common.{◌≡◌, to_z, of_z, rules, ℤ, pos, unsigned_abs, List, take, drop, get_or, subst, ap, ◌∙◌}
 use Rattle.std.specs.Int.{w128}
 use Rattle.std.proofs.lemmas.Int.{to_z-of_z}
 use Rattle.std.proofs.lemmas.List.{take_more, take-append-drop}

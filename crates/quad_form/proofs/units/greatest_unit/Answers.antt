@@ -1,4 +1,4 @@
-use Rattle.std.proofs.Common.{◌≡◌, ◌≤◌, ◌^◌, ℕ, pos, sym, subst, arith}
+use Rattle.std.proofs.Common.{◌≤◌, ◌^◌, ℕ, sym, subst, arith}
 use Rattle.std.proofs.lemmas.Int.{ints}
 use Rattle.quad_form.specs.Units.{IsCommonDivisor, weights_of}
 use Rattle.quad_form.proofs.Divisors.{unit_from_zero, unit_from_divisor}

@@ -1,10 +1,9 @@
-use Rattle.std.proofs.Common.{◌≡◌, ℤ, List, pos, neg_ℤ, ◌-ℤ◌, ◌*◌, ◌≤◌, ◌≤ℤ◌, unsigned_abs, map, FitsSigned, to_z, of_z, sym, ap, ◌∙◌, subst, arith, rules}
+use Rattle.std.proofs.Common.{◌≡◌, ℤ, List, pos, neg_ℤ, ◌-ℤ◌, ◌≤ℤ◌, map, FitsSigned, to_z, of_z, sym, ap, ◌∙◌, subst, arith, rules}
 use Rattle.std.specs.Int.{w128}
 use Rattle.std.proofs.lemmas.Int.{ints, to_z-of_z}
 use Rattle.bits_model.specs.declared.output.Entry.{Entry}
-use Rattle.bits_model.specs.Relations.{Reduces}
-use Rattle.quad_form.specs.Quads.{QuadForm, IsQuad, quad_total, form_of}
-use Rattle.quad_form.specs.Units.{unit_of, weights_of, counted_in, entry_in, quad_unit, reduced, IsReducedAsWritten}
+use Rattle.quad_form.specs.Quads.{QuadForm, IsQuad}
+use Rattle.quad_form.specs.Units.{unit_of, weights_of, counted_in, entry_in, quad_unit, reduced}
 use Rattle.quad_form.proofs.ReducedForms.{one_le_quad_unit, reduced_is_quad, made_reduces, made_total, made_is_reduced}
 use Rattle.quad_form.proofs.quad.Quad.reduce.Goals as goal
 
