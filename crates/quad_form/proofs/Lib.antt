@@ -8,3 +8,6 @@ pub mod FlatParts
 pub mod PairOrder
 pub mod SummedPairs
 pub mod UniqueForms
+pub mod Divisors
+pub mod UnitEntries
+pub mod ReducedForms

@@ -31,26 +31,26 @@ written_is_well_formed q variables figures unit quad enough scale one = record {
 }
 
 -- in a unit that is 1, or without a constant, the constant is counted once
-count_afterce : (u c e : ℤ) → (u ≡ pos 1) ⊎ (c ≡ pos 0) → u *ℤ (c +ℤ e) ≡ c +ℤ u *ℤ e
-count_afterce u c e (inl one) = rw one (omega (arith, ints))
-count_afterce u c e (inr none) =
+pub counted_once : (u c e : ℤ) → (u ≡ pos 1) ⊎ (c ≡ pos 0) → u *ℤ (c +ℤ e) ≡ c +ℤ u *ℤ e
+counted_once u c e (inl one) = rw one (omega (arith, ints))
+counted_once u c e (inr none) =
     let sum : pos 0 +ℤ e ≡ e = omega (arith, ints) in
     rw none (ap (λ z. u *ℤ z) sum ∙ omega (arith, ints))
 
 -- the constant c is moved from the energies, which count u each, to the figures
-moved_bound : (s v b c u e : ℤ) → u *ℤ (c +ℤ e) ≡ c +ℤ u *ℤ e
+pub moved_bound : (s v b c u e : ℤ) → u *ℤ (c +ℤ e) ≡ c +ℤ u *ℤ e
     → (s *ℤ v +ℤ b) ≤ℤ (u *ℤ (c +ℤ e)) → (s *ℤ v +ℤ (b +ℤ neg_ℤ c)) ≤ℤ (u *ℤ e)
 moved_bound s v b c u e once h = omega (arith, ints)
 
-moved_above : (t c u e : ℤ) → u *ℤ (c +ℤ e) ≡ c +ℤ u *ℤ e
+pub moved_above : (t c u e : ℤ) → u *ℤ (c +ℤ e) ≡ c +ℤ u *ℤ e
     → t <ℤ (u *ℤ (c +ℤ e)) → (t +ℤ neg_ℤ c) <ℤ (u *ℤ e)
 moved_above t c u e once h = omega (arith, ints)
 
-moved_reach : (s v b c u e : ℤ) → u *ℤ (c +ℤ e) ≡ c +ℤ u *ℤ e
+pub moved_reach : (s v b c u e : ℤ) → u *ℤ (c +ℤ e) ≡ c +ℤ u *ℤ e
     → u *ℤ (c +ℤ e) ≡ s *ℤ v +ℤ b → u *ℤ e ≡ s *ℤ v +ℤ (b +ℤ neg_ℤ c)
 moved_reach s v b c u e once h = omega (arith, ints)
 
-moved_below : (s v b c t : ℤ) → (s *ℤ v +ℤ b) ≤ℤ t
+pub moved_below : (s v b c t : ℤ) → (s *ℤ v +ℤ b) ≤ℤ t
     → (s *ℤ v +ℤ (b +ℤ neg_ℤ c)) ≤ℤ (t +ℤ neg_ℤ c)
 moved_below s v b c t h = omega (arith, ints)
 
@@ -87,4 +87,4 @@ written_relaxes source q d variables n unit counted same p = record {
     sum y = total_by (bits_energy y) (entries_of q)
 
     once : (y : List Bool) → unit *ℤ (q.constant +ℤ sum y) ≡ q.constant +ℤ unit *ℤ sum y
-    once y = count_afterce unit q.constant (sum y) counted
+    once y = counted_once unit q.constant (sum y) counted

@@ -7,7 +7,10 @@ mod flatten;
 mod laws;
 mod parts;
 mod quad;
+mod reduce;
+mod units;
 
 pub use flatten::Flatten;
 pub use laws::written_stands_for_its_form;
-pub use quad::{NumberList, Quad};
+pub use quad::{NumberList, Quad, entries_of};
+pub use units::{entries_in, greatest_unit, weights_in};

@@ -82,7 +82,11 @@ impl Quad {
 }
 
 /// The entries of nodes with these weights, and then the couplers.
-fn entries_of(alloc: Global, diagonal: &[i128], couplers: &[Entry]) -> Result<Vec<Entry>, NoMemory>
+pub fn entries_of(
+    alloc: Global,
+    diagonal: &[i128],
+    couplers: &[Entry],
+) -> Result<Vec<Entry>, NoMemory>
     requires { length diagonal.now < 2 ^ 32 }
     ensures { IfOk result (λ es. es.items ≡ node_entries 0 diagonal.now ++ couplers.now) }
 {

@@ -1,0 +1,6 @@
+pub mod FieldEnergies
+pub mod FieldSums
+pub mod Images
+pub mod ReducedForms
+pub mod ChainedNodes
+pub mod WrittenModels

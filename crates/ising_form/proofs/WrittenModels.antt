@@ -1,0 +1,194 @@
+-- The models of an Ising form: they are well formed, and have the form's energies but for the constant.
+use Rattle.std.proofs.Common.{◌≡◌, ◌⊎◌, ℕ, ◌+◌, ◌<◌, ◌≤◌, Bool, ℤ, pos, ◌+ℤ◌, ◌*ℤ◌, ◌≤ℤ◌, List, length, map, All, refl, sym, ap, ◌∙◌, subst, arith}
+use Rattle.std.specs.List.{filter}
+use Rattle.std.proofs.lemmas.Int.{ints}
+use Rattle.std.proofs.lemmas.List.Elements.{recursion_from_All, All-from_recursion}
+use Rattle.integers.specs.Sums.{total_by}
+use Rattle.integers.proofs.Totals.{total_by-append}
+use Rattle.bits_model.specs.declared.costs.Figures.{Figures}
+use Rattle.bits_model.specs.declared.output.Entry.{Entry}
+use Rattle.bits_model.specs.declared.output.Kind.{Kind}
+use Rattle.bits_model.specs.declared.output.Kind.TheVariants.{Qubo, Ising, Chimera}
+use Rattle.bits_model.specs.Costs.{Form}
+use Rattle.bits_model.specs.Relations.{Decoding, Relaxes}
+use Rattle.bits_model.specs.Faithful.{IsMultiple}
+use Rattle.bits_model.specs.Output.{IsWellFormed, IsPlaced, is_chained, entry_energy, spins_energy, read_off, weight_total}
+use Rattle.quad_form.specs.Quads.{node_entries}
+use Rattle.quad_form.specs.Units.{entry_in}
+use Rattle.quad_form.specs.Stated.{RelaxesAsWritten}
+use Rattle.quad_form.proofs.NodeEntries.{nodes_ordered, couplers_up, all_placed, has_each_node, all_nonzero}
+use Rattle.quad_form.proofs.WrittenModels.{counted_once, moved_bound, moved_above, moved_reach, moved_below}
+use Rattle.quad_form.proofs.UnitEntries.{quotients_coprime, unit_of_zeros}
+use Rattle.ising_form.specs.Isings.{IsingContent, IsIsing, entries_of, form_of}
+use Rattle.ising_form.specs.Outputs.{FitsOutput, is_on_chain, written_entries, written_of}
+use Rattle.ising_form.specs.Reduction.{ising_unit, reduced, IsReducedAsWritten}
+use Rattle.ising_form.proofs.ChainedNodes.{AreUnchained, AllRec-filter, sorted-filter, chained_listed, chained_energy, all_from_chained, chained_total}
+use Rattle.ising_form.proofs.ReducedForms.{counted_form, unit_number, unit_is, entries_counted}
+
+-- ---- well formed
+
+pub written_is_well_formed : (f : IsingContent) (variables : ℕ) (figures : Figures) (unit : ℤ)
+    (kind : Kind) (chains : List (List ℕ)) → IsIsing f → FitsOutput kind chains variables f
+    → pos 1 ≤ℤ figures.scale → pos 1 ≤ℤ unit
+    → IsWellFormed (written_of f variables figures unit kind chains)
+written_is_well_formed f variables figures unit Qubo chains ising fits scale one = absurd fits
+written_is_well_formed f variables figures unit Ising chains ising fits scale one = record {
+  unit = one;
+  scale = scale;
+  ordered = nodes_ordered 0 f.fields f.couplings
+      (couplers_up (length f.fields) f.couplings (recursion_from_All _ f.couplings ising.couplings))
+      ising.ordered;
+  placed = all_placed f.fields f.couplings ising.couplings;
+  kind = record {
+    listed = λ i h. has_each_node 0 f.fields f.couplings i (omega arith) (omega arith);
+    nonzero = all_nonzero f.fields f.couplings ising.couplings;
+    unchained = fits.0;
+    enough = fits.1;
+  };
+}
+written_is_well_formed f variables figures unit (Chimera rows cols shore) chains ising fits scale one =
+    record {
+      unit = one;
+      scale = scale;
+      ordered = sorted-filter (is_on_chain chains) nodes f.couplings
+          (nodes_ordered 0 f.fields f.couplings
+          (couplers_up (length f.fields) f.couplings (recursion_from_All _ f.couplings ising.couplings))
+          ising.ordered);
+      placed = All-from_recursion _ _ (AllRec-filter (IsPlaced (length f.fields)) (is_on_chain chains) nodes f.couplings
+          (recursion_from_All _ _ (all_placed f.fields f.couplings ising.couplings)));
+      kind = record {
+        sized = fits.sized;
+        filled = fits.filled;
+        listed = chained_listed chains f.fields f.couplings
+            (subst (λ n. All (λ chain. All (λ q. q < n) chain) chains) (sym fits.sized) fits.placed)
+            ising.couplings;
+        enough = fits.enough;
+      };
+    }
+  where
+    nodes : List Entry
+    nodes = node_entries 0 f.fields
+
+-- ---- its energies
+
+unchained_from : (f : IsingContent) (rows cols shore : ℕ) (chains : List (List ℕ)) (variables : ℕ)
+    → FitsOutput (Chimera rows cols shore) chains variables f → AreUnchained chains 0 f.fields
+unchained_from f rows cols shore chains variables fits k not =
+    let same : k ≡ 0 + k = omega arith in
+    fits.unchained k (ap (is_chained chains) same ∙ not)
+
+-- the entries of a model have the energy of all entries
+pub written_energy : (f : IsingContent) (variables : ℕ) (kind : Kind) (chains : List (List ℕ))
+    → FitsOutput kind chains variables f → (y : List Bool)
+    → total_by (entry_energy kind y) (written_entries kind chains f)
+    ≡ total_by (spins_energy y) (entries_of f)
+written_energy f variables Qubo chains fits y = absurd fits
+written_energy f variables Ising chains fits y = refl
+written_energy f variables (Chimera rows cols shore) chains fits y =
+    total_by-append (spins_energy y) (filter (is_on_chain chains) (node_entries 0 f.fields)) f.couplings
+    ∙ ap (λ z. z +ℤ total_by (spins_energy y) f.couplings)
+    (chained_energy y chains 0 f.fields (unchained_from f rows cols shore chains variables fits))
+    ∙ sym (total_by-append (spins_energy y) (node_entries 0 f.fields) f.couplings)
+
+pub written_total : (f : IsingContent) (kind : Kind) (chains : List (List ℕ))
+    → weight_total (written_entries kind chains f) ≤ weight_total (entries_of f)
+written_total f Qubo chains = omega arith
+written_total f Ising chains = omega arith
+written_total f (Chimera rows cols shore) chains =
+    chained_total (is_on_chain chains) (node_entries 0 f.fields) f.couplings
+
+pub written_relaxes : (source : Form) (f : IsingContent) (d : Decoding) (variables : ℕ)
+    (figures : Figures) (unit : ℤ) (kind : Kind) (chains : List (List ℕ))
+    → FitsOutput kind chains variables f
+    → (unit ≡ pos 1) ⊎ (f.constant ≡ pos 0)
+    → ((y : List Bool) → d.decoded y ≡ read_off kind variables chains y)
+    → Relaxes source (form_of f) d unit figures
+    → RelaxesAsWritten source (written_of f variables figures unit kind chains)
+written_relaxes source f d variables n unit kind chains fits counted same p = record {
+  unit = p.unit;
+  positive = p.positive;
+  width = λ y w. rw (← same y) (p.width y w);
+  bound = λ y w v whole.
+      let cost = ap source.cost (same y) ∙ whole in
+      rw (energy_is y)
+      (moved_bound n.scale v n.offset f.constant unit (sum y) (once y) (p.bound y w v cost));
+  above = λ y w infinite.
+      let cost = ap source.cost (same y) ∙ infinite in
+      rw (energy_is y)
+      (moved_above n.threshold f.constant unit (sum y) (once y) (p.above y w cost));
+  reached = λ x w v whole.
+      let y = p.reached x w v whole in
+      let e = moved_reach n.scale v n.offset f.constant unit (sum y.0) (once y.0) y.1.energy in (
+        y.0,
+        record {
+          width = y.1.width;
+          decodes = sym (same y.0) ∙ y.1.decodes;
+          energy = ap (λ z. unit *ℤ z) (energy_is y.0) ∙ e;
+        },
+      );
+  below = λ x w v whole.
+      moved_below n.scale v n.offset f.constant n.threshold (p.below x w v whole);
+  onto = λ x w. let y = p.onto x w in (y.0, y.1, sym (same y.0) ∙ y.2);
+}
+  where
+    sum : List Bool → ℤ
+    sum y = total_by (spins_energy y) (entries_of f)
+
+    once : (y : List Bool) → unit *ℤ (f.constant +ℤ sum y) ≡ f.constant +ℤ unit *ℤ sum y
+    once y = counted_once unit f.constant (sum y) counted
+
+    energy_is : (y : List Bool)
+        → total_by (entry_energy kind y) (written_entries kind chains f) ≡ sum y
+    energy_is y = written_energy f variables kind chains fits y
+
+-- ---- its unit
+
+-- the entries of all weights, counted in a unit, and those of a model
+all_counted : (P : ℤ → Type 0) (f : IsingContent) (variables : ℕ) (kind : Kind)
+    (chains : List (List ℕ)) → P (pos 0) → FitsOutput kind chains variables f
+    → All (λ (e : Entry). P e.weight) (written_entries kind chains f)
+    → All (λ (e : Entry). P e.weight) (entries_of f)
+all_counted P f variables Qubo chains of_zero fits all = absurd fits
+all_counted P f variables Ising chains of_zero fits all = all
+all_counted P f variables (Chimera rows cols shore) chains of_zero fits all =
+    All-from_recursion _ _
+    (all_from_chained P chains 0 f.fields f.couplings of_zero
+    (unchained_from f rows cols shore chains variables fits) (recursion_from_All _ _ all))
+
+all_written : (P : ℤ → Type 0) (f : IsingContent) (kind : Kind) (chains : List (List ℕ))
+    → All (λ (e : Entry). P e.weight) (entries_of f)
+    → All (λ (e : Entry). P e.weight) (written_entries kind chains f)
+all_written P f Qubo chains all = all
+all_written P f Ising chains all = all
+all_written P f (Chimera rows cols shore) chains all =
+    All-from_recursion _ _
+    (AllRec-filter (λ (e : Entry). P e.weight) (is_on_chain chains) (node_entries 0 f.fields) f.couplings
+    (recursion_from_All _ _ all))
+
+zero_multiple : (d : ℕ) → IsMultiple d (pos 0)
+zero_multiple d = (pos 0, omega (arith, ints))
+
+reduced_is_reduced : (f : IsingContent) → IsReducedAsWritten (reduced f) (ising_unit f)
+reduced_is_reduced f =
+    subst (λ u. IsReducedAsWritten (counted_form u f) u) (unit_is f) counted
+  where
+    u : ℕ
+    u = unit_number f
+
+    same : entries_of (counted_form (pos u) f) ≡ map (entry_in (pos u)) (entries_of f)
+    same = entries_counted (pos u) f
+
+    counted : IsReducedAsWritten (counted_form (pos u) f) (pos u)
+    counted variables figures kind chains fits = record {
+      coprime = λ d more all.
+          let whole = all_counted (IsMultiple d) (counted_form (pos u) f) variables kind chains (zero_multiple d) fits all in
+          let none = quotients_coprime (entries_of f) d more (rw same at whole) in
+          all_written (λ z. z ≡ pos 0) (counted_form (pos u) f) kind chains (rw same none);
+      zero = λ all.
+          let whole = all_counted (λ z. z ≡ pos 0) (counted_form (pos u) f) variables kind chains refl fits all in
+          unit_of_zeros (entries_of f) (rw same at whole);
+    }
+
+pub made_is_reduced : (f g : IsingContent) (unit : ℤ) → g ≡ reduced f → unit ≡ ising_unit f
+    → IsReducedAsWritten g unit
+made_is_reduced f g unit is same = rw (is, same) (reduced_is_reduced f)

@@ -1,0 +1,11 @@
+use Rattle.std.proofs.Common.{◌≡◌, ℕ, false, length, take}
+use Rattle.std.specs.List.{slice_index_or}
+use Rattle.bits_model.specs.Output.{is_chained}
+use Rattle.ising_form.proofs.chained.marked.Given as goal
+
+-- the qubits of the chains so far are marked
+abbrev pub invariant-loop-chain : goal.invariant-loop-chain
+invariant-loop-chain l = record {
+  length : length l.marks.items ≡ l.nodes;
+  marked : (q : ℕ) → slice_index_or l.marks.items q false ≡ is_chained (take l.chain-index l.chains) q;
+}

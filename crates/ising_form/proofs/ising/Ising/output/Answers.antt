@@ -1,0 +1,58 @@
+use Rattle.std.proofs.Common.{◌≡◌, ◌≤◌, ◌^◌, length, subst, sym, ap, ◌∙◌, to_z, of_z, pos, neg_ℤ, ◌-ℤ◌, arith, rules}
+use Rattle.std.specs.Int.{w128}
+use Rattle.std.proofs.lemmas.Int.{ints, to_z-of_z}
+use Rattle.bits_model.specs.Output.{Written, IsWellFormed, weight_total}
+use Rattle.bits_model.specs.Relations.{figures_moved}
+use Rattle.ising_form.specs.Isings.{IsingContent, IsIsing}
+use Rattle.ising_form.specs.Outputs.{written_entries, written_of}
+use Rattle.ising_form.proofs.WrittenModels.{written_is_well_formed, written_total}
+use Rattle.ising_form.proofs.ising.Ising.output.Goals as goal
+
+-- what the code makes
+abbrev made : (c : goal.After-new) → Written
+made c = record {
+  kind = c.args.kind;
+  variables = c.args.variables;
+  figures = c.moved.result;
+  unit = to_z w128 (of_z w128 c.args.unit);
+  nodes = length c.as_slice.result.now;
+  entries = c.new.result;
+  chains = c.args.chains;
+}
+
+-- .. is the model of the form
+made_is : (c : goal.After-new)
+    → made c
+    ≡ written_of c.args.self.now c.args.variables c.args.figures c.args.unit c.args.kind c.args.chains
+made_is c =
+    let f = c.args.self.now in
+    let less : to_z w128 (of_z w128 (pos 0 -ℤ to_z w128 (of_z w128 c.self.inside.constant))) ≡ neg_ℤ c.self.inside.constant = omega (arith, ints, c.self.invariant.small) in
+    let constant = less ∙ ap (λ (g : IsingContent). neg_ℤ g.constant) c.self.view_is in
+    let figures = c.moved.ensures ∙ ap (figures_moved c.args.figures) constant in
+    let unit = to_z-of_z w128 c.args.unit (search rules) in
+    let nodes = ap length c.as_slice.ensures ∙ ap (λ (g : IsingContent). length g.fields) c.self.view_is in
+    let entries = c.new.ensures ∙ c.in_ok-entries.ensures in
+    λ i. record {
+      kind = c.args.kind;
+      variables = c.args.variables;
+      figures = figures i;
+      unit = unit i;
+      nodes = nodes i;
+      entries = entries i;
+      chains = c.args.chains;
+    }
+
+pub invariant_of-result : goal.invariant_of-result
+invariant_of-result c =
+    let f = c.args.self.now in
+    let kind = c.args.kind in
+    let chains = c.args.chains in
+    let ising : IsIsing f = subst IsIsing c.self.view_is c.self.invariant in
+    let formed = written_is_well_formed f c.args.variables c.args.figures c.args.unit kind chains ising c.requires.kind c.requires.scale c.requires.unit in
+    let small : weight_total (written_entries kind chains f) ≤ 2 ^ 124 = omega (arith, ising.small, written_total f kind chains) in (
+      subst IsWellFormed (sym (made_is c)) formed,
+      subst (λ (m : Written). weight_total m.entries ≤ 2 ^ 124) (sym (made_is c)) small,
+    )
+
+pub returns : goal.returns
+returns c = made_is c

@@ -1,0 +1,48 @@
+use Rattle.std.proofs.Common.{◌≡◌, to_z, of_z, ap, sym, subst, ◌∙◌, arith, rules}
+use Rattle.std.specs.Int.{w128}
+use Rattle.std.proofs.lemmas.Int.{to_z-of_z}
+use Rattle.bits_model.specs.declared.layer.BitsLink.{BitsLink}
+use Rattle.quad_form.specs.Quads.{QuadContent}
+use Rattle.ising_form.specs.Isings.{IsIsing, ising_total, ising_size}
+use Rattle.ising_form.specs.Spins.{image, Fits}
+use Rattle.ising_form.proofs.Images.{image_is_ising, total-image, size-image, made_keeps}
+use Rattle.ising_form.proofs.to_spins.ToSpinsLayer.lower.Goals as goal
+
+pub invariant_of-result : goal.invariant_of-result
+invariant_of-result c =
+    let q = c.args.source.now in
+    let back = to_z-of_z w128 c.in_ok-spins.spins.constant (search rules) in
+    let items : c.in_ok-couplings.couplings.items ≡ c.as_slice.result.now = search rules in
+    let constant = back ∙ c.in_ok-spins.ensures.constant in
+    let fields = c.new.ensures ∙ c.in_ok-spins.ensures.fields in
+    let couplings = c.new-2.ensures ∙ items ∙ c.as_slice.ensures ∙ ap (λ (f : QuadContent). f.couplers) c.source.view_is in
+    let made : record { constant = to_z w128 (of_z w128 c.in_ok-spins.spins.constant); fields = c.new.result; couplings = c.new-2.result } ≡ image q =
+    λ i. record { constant = constant i; fields = fields i; couplings = couplings i } in
+    subst IsIsing (sym made) (image_is_ising q c.in_ok-spins.ensures.kept c.requires.total)
+
+pub returns-clause-image : goal.returns-clause-image
+returns-clause-image c =
+    let back = to_z-of_z w128 c.in_ok-spins.spins.constant (search rules) in
+    let items : c.in_ok-couplings.couplings.items ≡ c.as_slice.result.now = search rules in
+    let constant = back ∙ c.in_ok-spins.ensures.constant in
+    let fields = c.new.ensures ∙ c.in_ok-spins.ensures.fields in
+    let couplings = c.new-2.ensures ∙ items ∙ c.as_slice.ensures ∙ ap (λ (f : QuadContent). f.couplers) c.source.view_is in
+    λ i. record { constant = constant i; fields = fields i; couplings = couplings i }
+
+pub returns-clause-keeps : goal.returns-clause-keeps
+returns-clause-keeps c =
+    let link : BitsLink = record { source_width = c.width-width.result; target_width = c.width-width.result } in
+    let fits : Fits link c.args.source.now = record {
+      source = c.width-width.ensures;
+      target = c.width-width.ensures;
+      quad = c.in_ok-spins.ensures.kept;
+    } in
+    made_keeps link c.args.source.now _ fits (returns-clause-image c)
+
+pub returns-clause-total : goal.returns-clause-total
+returns-clause-total c =
+    omega (arith, ap ising_total (returns-clause-image c), total-image c.args.source.now)
+
+pub returns-clause-size : goal.returns-clause-size
+returns-clause-size c =
+    omega (arith, ap ising_size (returns-clause-image c), size-image c.args.source.now)

@@ -1,0 +1,56 @@
+-- The models that are written for Ising forms.
+use Rattle.std.specs.Prelude.{◌≡◌, ◌≢◌, ℕ, ◌*◌, ◌≤◌, ◌<◌, ℤ, pos, neg_ℤ, Bool, false, List, [], ◌++◌, length, All}
+use Rattle.std.specs.List.{filter, slice_index_or}
+use Rattle.bits_model.specs.declared.costs.Figures.{Figures}
+use Rattle.bits_model.specs.declared.output.Entry.{Entry}
+use Rattle.bits_model.specs.declared.output.Kind.{Kind}
+use Rattle.bits_model.specs.declared.output.Kind.TheVariants.{Qubo, Ising, Chimera}
+use Rattle.bits_model.specs.Relations.{figures_moved}
+use Rattle.bits_model.specs.Output.{Written, is_chained}
+use Rattle.quad_form.specs.Quads.{node_entries}
+use Rattle.ising_form.specs.Isings.{IsingContent, entries_of}
+
+-- the nodes are the qubits of a graph, and what is not on a chain has no field
+pub record IsOnChains (qubits : ℕ) (chains : List (List ℕ)) (variables : ℕ) (f : IsingContent)
+    : Type 0 where
+  pub sized : length f.fields ≡ qubits
+  pub placed : All (λ chain. All (λ q. q < qubits) chain) chains
+  pub filled : All (λ chain. chain ≢ []) chains
+  pub enough : variables ≤ length chains
+  pub unchained : (q : ℕ) → is_chained chains q ≡ false → slice_index_or f.fields q (pos 0) ≡ pos 0
+
+-- a form for which a model of this kind can be written: over spins, without chains or on those of a
+-- graph
+abbrev pub FitsOutput : Kind → List (List ℕ) → ℕ → IsingContent → Type 0
+FitsOutput Qubo chains variables f = ⊥
+FitsOutput Ising chains variables f = (chains ≡ []) × (variables ≤ length f.fields)
+FitsOutput (Chimera rows cols shore) chains variables f =
+    IsOnChains (2 * rows * cols * shore) chains variables f
+
+-- the mark of the node of an entry
+abbrev pub is_marked : List Bool → Entry → Bool
+is_marked marks e = slice_index_or marks e.first false
+
+-- the entry is that of a qubit on a chain
+abbrev pub is_on_chain : List (List ℕ) → Entry → Bool
+is_on_chain chains e = is_chained chains e.first
+
+-- the entries of nodes, on a graph those of chained qubits alone, and then those of couplers
+abbrev pub written_entries : Kind → List (List ℕ) → IsingContent → List Entry
+written_entries Qubo chains f = entries_of f
+written_entries Ising chains f = entries_of f
+written_entries (Chimera rows cols shore) chains f =
+    filter (is_on_chain chains) (node_entries 0 f.fields) ++ f.couplings
+
+-- the model of a form, in a unit: entries carry no constant, and so it is taken off the offset and
+-- the threshold
+abbrev pub written_of : IsingContent → ℕ → Figures → ℤ → Kind → List (List ℕ) → Written
+written_of f variables figures unit kind chains = record {
+  kind = kind;
+  variables = variables;
+  figures = figures_moved figures (neg_ℤ f.constant);
+  unit = unit;
+  nodes = length f.fields;
+  entries = written_entries kind chains f;
+  chains = chains;
+}

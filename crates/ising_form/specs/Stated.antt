@@ -1,0 +1,27 @@
+-- What a written model says of the form that it is made of.
+use Rattle.std.specs.Prelude.{◌≡◌, ◌⊎◌, ℕ, ℤ, pos, ◌≤ℤ◌, Bool, List}
+use Rattle.bits_model.specs.declared.costs.Figures.{Figures}
+use Rattle.bits_model.specs.declared.output.Kind.{Kind}
+use Rattle.bits_model.specs.Costs.{Form}
+use Rattle.bits_model.specs.Relations.{Decoding, Relaxes}
+use Rattle.bits_model.specs.Output.{IsWellFormed, read_off}
+use Rattle.quad_form.specs.Stated.{RelaxesAsWritten}
+use Rattle.ising_form.specs.Isings.{IsingContent, IsIsing, form_of}
+use Rattle.ising_form.specs.Outputs.{FitsOutput, written_of}
+
+-- the model of an Ising form is well formed, for each kind that it fits
+abbrev pub WrittenIsWellFormed : Type 0
+WrittenIsWellFormed = (f : IsingContent) (variables : ℕ) (figures : Figures) (unit : ℤ) (kind : Kind)
+    (chains : List (List ℕ)) → IsIsing f → FitsOutput kind chains variables f
+    → pos 1 ≤ℤ figures.scale → pos 1 ≤ℤ unit
+    → IsWellFormed (written_of f variables figures unit kind chains)
+
+-- where the form relaxes a source in a unit, and its states decode to what is read off the model, the
+-- model does too; the unit is 1, or the form has no constant
+abbrev pub WrittenRelaxes : Type 0
+WrittenRelaxes = (source : Form) (f : IsingContent) (d : Decoding) (variables : ℕ) (figures : Figures)
+    (unit : ℤ) (kind : Kind) (chains : List (List ℕ)) → FitsOutput kind chains variables f
+    → (unit ≡ pos 1) ⊎ (f.constant ≡ pos 0)
+    → ((y : List Bool) → d.decoded y ≡ read_off kind variables chains y)
+    → Relaxes source (form_of f) d unit figures
+    → RelaxesAsWritten source (written_of f variables figures unit kind chains)

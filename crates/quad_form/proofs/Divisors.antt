@@ -1,0 +1,236 @@
+-- Common divisors of weights, and the greatest of them.
+use Rattle.std.proofs.Common.{◌≡◌, ◌⊎◌, inl, inr, ℕ, zero, suc, ◌*◌, ◌≤◌, Bool, true, false, ◌&&◌, ℤ, pos, negsuc, neg_ℤ, ◌*ℤ◌, int_rem, unsigned_abs, List, [], ◌∷◌, ◌++◌, if◌then◌else◌, refl, sym, ap, ◌∙◌, subst, arith}
+use Rattle.std.specs.Int.{◌∣◌, IsGcd}
+use Rattle.std.specs.List.{AllByRecursion, list_all, sum_by}
+use Rattle.std.proofs.Math.Nat.{one-dvd, eq-zero_of_zero-dvd, dvd_trans, dvd_refl}
+use Rattle.std.proofs.lemmas.Bool.{eq-eqb, eqb-true}
+use Rattle.std.proofs.lemmas.Int.{ints, quot-rem, unsigned_abs-mul}
+use Rattle.std.proofs.lemmas.List.Sums.{sum_by-cons}
+use Rattle.std.proofs.lemmas.List.Elements.{recursion_from_All, All-from_recursion, All-append, All-nil}
+use Rattle.std.proofs.lemmas.Nat.Gcd.{dvd-zero, le_of_dvd, dvd_of_mod-eq-zero, mod-eq-zero_of_dvd}
+use Rattle.quad_form.specs.Units.{is_multiple, greatest_within, unit_of, counted_in, IsCommonDivisor}
+
+-- d divides the size of each weight
+abbrev pub Divides : ℕ → List ℤ → Type 0
+Divides d ws = AllByRecursion (λ w. d ∣ unsigned_abs w) ws
+
+-- ---- one by one
+
+and_left : (a b : Bool) → (a && b) ≡ true → a ≡ true
+and_left true b h = refl
+and_left false b h = cc
+
+and_right : (a b : Bool) → (a && b) ≡ true → b ≡ true
+and_right true b h = h
+and_right false b h = cc
+
+and_both : (a b : Bool) → a ≡ true → b ≡ true → (a && b) ≡ true
+and_both true b p q = q
+and_both false b p q = cc
+
+Divides-from_test : (d : ℕ) (ws : List ℤ) → list_all (is_multiple d) ws ≡ true → Divides d ws
+Divides-from_test d [] h = tt
+Divides-from_test d (w ∷ ws) h = (
+  dvd_of_mod-eq-zero d (eqb-true _ _ (and_left (is_multiple d w) _ h)),
+  Divides-from_test d ws (and_right (is_multiple d w) _ h),
+)
+
+test-from_Divides : (d : ℕ) (ws : List ℤ) → Divides d ws → list_all (is_multiple d) ws ≡ true
+test-from_Divides d [] h = refl
+test-from_Divides d (w ∷ ws) h =
+    and_both (is_multiple d w) _ (eq-eqb _ _ (mod-eq-zero_of_dvd d h.0)) (test-from_Divides d ws h.1)
+
+one_divides : (ws : List ℤ) → Divides 1 ws
+one_divides [] = tt
+one_divides (w ∷ ws) = (one-dvd (unsigned_abs w), one_divides ws)
+
+-- ---- the greatest
+
+pub greatest_divides : (n : ℕ) (ws : List ℤ) → Divides (greatest_within n ws) ws
+greatest_divides zero ws = one_divides ws
+greatest_divides (suc n) ws =
+    go (list_all (is_multiple (suc n)) ws) refl (greatest_divides n ws)
+  where
+    go : (b : Bool) → list_all (is_multiple (suc n)) ws ≡ b → Divides (greatest_within n ws) ws
+        → Divides (if b then suc n else greatest_within n ws) ws
+    go true h rest = Divides-from_test (suc n) ws h
+    go false h rest = rest
+
+pub one_le_greatest : (n : ℕ) (ws : List ℤ) → 1 ≤ greatest_within n ws
+one_le_greatest zero ws = omega arith
+one_le_greatest (suc n) ws = go (list_all (is_multiple (suc n)) ws) (one_le_greatest n ws)
+  where
+    go : (b : Bool) → 1 ≤ greatest_within n ws → 1 ≤ (if b then suc n else greatest_within n ws)
+    go true rest = omega arith
+    go false rest = rest
+
+pub greatest_above : (n d : ℕ) (ws : List ℤ) → 1 ≤ d → d ≤ n → Divides d ws
+    → d ≤ greatest_within n ws
+greatest_above zero d ws one low h = absurd (omega arith)
+greatest_above (suc n) d ws one low h =
+    go (list_all (is_multiple (suc n)) ws) refl (cases d n low)
+    (λ less. greatest_above n d ws one less h)
+  where
+    cases : (d n : ℕ) → d ≤ suc n → (d ≡ suc n) ⊎ (d ≤ n)
+    cases d n low = grind arith
+
+    go : (b : Bool) → list_all (is_multiple (suc n)) ws ≡ b → (d ≡ suc n) ⊎ (d ≤ n)
+        → (d ≤ n → d ≤ greatest_within n ws)
+        → d ≤ (if b then suc n else greatest_within n ws)
+    go true is or rest = low
+    go false is (inr less) rest = rest less
+    go false is (inl same) rest =
+        let all : Divides (suc n) ws = subst (λ k. Divides k ws) same h in
+        let clash : true ≡ false = sym (test-from_Divides (suc n) ws all) ∙ is in
+        cc
+
+-- ---- where all are 0
+
+pub none_or_within : (d : ℕ) (ws : List ℤ) → Divides d ws
+    → (sum_by unsigned_abs ws ≡ 0) ⊎ (d ≤ sum_by unsigned_abs ws)
+none_or_within d [] h = inl refl
+none_or_within d (w ∷ ws) h = go (unsigned_abs w) refl (none_or_within d ws h.1)
+  where
+    go : (n : ℕ) → unsigned_abs w ≡ n
+        → (sum_by unsigned_abs ws ≡ 0) ⊎ (d ≤ sum_by unsigned_abs ws)
+        → (sum_by unsigned_abs (w ∷ ws) ≡ 0) ⊎ (d ≤ sum_by unsigned_abs (w ∷ ws))
+    go zero is (inl none) = inl (omega (arith, sum_by-cons unsigned_abs w ws))
+    go zero is (inr low) = inr (omega (arith, sum_by-cons unsigned_abs w ws))
+    go (suc n) is rest =
+        let low : d ≤ unsigned_abs w = le_of_dvd (omega arith) h.0 in
+        inr (omega (arith, sum_by-cons unsigned_abs w ws))
+
+all_divide : (k : ℕ) (ws : List ℤ) → sum_by unsigned_abs ws ≡ 0 → Divides k ws
+all_divide k [] h = tt
+all_divide k (w ∷ ws) h =
+    let sum = sum_by-cons unsigned_abs w ws in
+    let none : 0 ≡ unsigned_abs w = omega (arith, sum) in
+    (subst (λ n. k ∣ n) none (dvd-zero k), all_divide k ws (omega (arith, sum)))
+
+zero_divides : (ws : List ℤ) → Divides 0 ws → sum_by unsigned_abs ws ≡ 0
+zero_divides [] h = refl
+zero_divides (w ∷ ws) h =
+    omega (arith, sum_by-cons unsigned_abs w ws, eq-zero_of_zero-dvd h.0, zero_divides ws h.1)
+
+-- ---- the unit, from a common divisor
+
+pub unit_of_nothing : (ws : List ℤ) → sum_by unsigned_abs ws ≡ 0 → unit_of ws ≡ pos 1
+unit_of_nothing ws none = ap (λ n. pos (greatest_within n ws)) none
+
+pub unit_from_zero : (ws : List ℤ) → IsCommonDivisor 0 ws 0 → unit_of ws ≡ pos 1
+unit_from_zero ws c = unit_of_nothing ws (zero_divides ws (recursion_from_All _ ws c.weights))
+
+pub unit_from_divisor : (ws : List ℤ) (d : ℕ) → 1 ≤ d → IsCommonDivisor 0 ws d → unit_of ws ≡ pos d
+unit_from_divisor ws d one c =
+    elim (none_or_within d ws all) [
+      | inl none ↦ absurd (too_great none)
+      | inr low ↦ ap pos (same low)
+    ]
+  where
+    all : Divides d ws
+    all = recursion_from_All _ ws c.weights
+
+    most : (k : ℕ) → Divides k ws → k ≤ d
+    most k h = le_of_dvd one (c.greatest k (dvd-zero k) (All-from_recursion _ ws h))
+
+    too_great : sum_by unsigned_abs ws ≡ 0 → ⊥
+    too_great none =
+        let more : suc d ≤ d = most (suc d) (all_divide (suc d) ws none) in
+        omega arith
+
+    same : d ≤ sum_by unsigned_abs ws → greatest_within (sum_by unsigned_abs ws) ws ≡ d
+    same low =
+        let n = sum_by unsigned_abs ws in
+        omega (arith, greatest_above n d ws one low all, most _ (greatest_divides n ws))
+
+-- a common divisor is within the sum of the sizes
+pub divisor_within : (ws : List ℤ) (d : ℕ) → IsCommonDivisor 0 ws d → d ≤ sum_by unsigned_abs ws
+divisor_within ws d c =
+    elim (none_or_within d ws (recursion_from_All _ ws c.weights)) [
+      | inl none ↦ all_zero (c.greatest 0 (dvd-zero 0) (All-from_recursion _ ws (all_divide 0 ws none)))
+      | inr low ↦ low
+    ]
+  where
+    all_zero : 0 ∣ d → d ≤ sum_by unsigned_abs ws
+    all_zero h = omega (arith, eq-zero_of_zero-dvd h)
+
+-- ---- weight by weight
+
+pub divisor_at_first : (start : ℕ) → IsCommonDivisor start [] start
+divisor_at_first start = record {
+  first = dvd_refl start;
+  weights = All-nil _;
+  greatest = λ k p q. p;
+}
+
+Divides-push : (d : ℕ) (ws : List ℤ) (w : ℤ) → Divides d ws → d ∣ unsigned_abs w
+    → Divides d (ws ++ w ∷ [])
+Divides-push d [] w all this = (this, tt)
+Divides-push d (v ∷ ws) w all this = (all.0, Divides-push d ws w all.1 this)
+
+Divides-pushed : (d : ℕ) (ws : List ℤ) (w : ℤ) → Divides d (ws ++ w ∷ [])
+    → Divides d ws × (d ∣ unsigned_abs w)
+Divides-pushed d [] w all = (tt, all.0)
+Divides-pushed d (v ∷ ws) w all =
+    let rest = Divides-pushed d ws w all.1 in ((all.0, rest.0), rest.1)
+
+pub Divides-divisor : (d e : ℕ) (ws : List ℤ) → e ∣ d → Divides d ws → Divides e ws
+Divides-divisor d e [] h all = tt
+Divides-divisor d e (w ∷ ws) h all = (dvd_trans e h all.0, Divides-divisor d e ws h all.1)
+
+pub divisor_more : (start : ℕ) (ws : List ℤ) (w : ℤ) (d e : ℕ) → IsCommonDivisor start ws d
+    → IsGcd d (unsigned_abs w) e → IsCommonDivisor start (ws ++ w ∷ []) e
+divisor_more start ws w d e c gcd = record {
+  first = dvd_trans e gcd.0 c.first;
+  weights = All-from_recursion _ _ (Divides-push e ws w
+      (Divides-divisor d e ws gcd.0 (recursion_from_All _ ws c.weights)) gcd.1);
+  greatest = λ k p q.
+      let all = Divides-pushed k ws w (recursion_from_All _ _ q) in
+      gcd.2 k (c.greatest k p (All-from_recursion _ ws all.0)) all.1;
+}
+
+Divides-of_more : (d : ℕ) (ws vs : List ℤ) → Divides d (ws ++ vs) → Divides d ws
+Divides-of_more d [] vs all = tt
+Divides-of_more d (w ∷ ws) vs all = (all.0, Divides-of_more d ws vs all.1)
+
+-- where it is 1, it stays 1
+pub divisor_stays_one : (start : ℕ) (ws vs : List ℤ) → IsCommonDivisor start ws 1
+    → IsCommonDivisor start (ws ++ vs) 1
+divisor_stays_one start ws vs c = record {
+  first = one-dvd start;
+  weights = All-from_recursion _ _ (one_divides (ws ++ vs));
+  greatest = λ k p q.
+      c.greatest k p (All-from_recursion _ ws (Divides-of_more k ws vs (recursion_from_All _ _ q)));
+}
+
+-- one list after another
+pub divisor_of_both : (ws vs : List ℤ) (d e : ℕ) → IsCommonDivisor 0 ws d → IsCommonDivisor d vs e
+    → IsCommonDivisor 0 (ws ++ vs) e
+divisor_of_both ws vs d e c h = record {
+  first = dvd-zero e;
+  weights = All-append (λ w. e ∣ unsigned_abs w) ws vs
+      (All-from_recursion _ ws (Divides-divisor d e ws h.first (recursion_from_All _ ws c.weights)))
+      h.weights;
+  greatest = λ k p q.
+      let all = recursion_from_All _ _ q in
+      h.greatest k (c.greatest k p (All-from_recursion _ ws (Divides-of_more k ws vs all)))
+      (All-from_recursion _ vs (Divides-of_rest k ws vs all));
+}
+  where
+    Divides-of_rest : (k : ℕ) (ws vs : List ℤ) → Divides k (ws ++ vs) → Divides k vs
+    Divides-of_rest k [] vs all = all
+    Divides-of_rest k (w ∷ ws) vs all = Divides-of_rest k ws vs all.1
+
+-- ---- exact quotients
+
+no_rest : (u : ℕ) (w : ℤ) → u ∣ unsigned_abs w → int_rem w (pos u) ≡ pos 0
+no_rest u (pos n) h = ap pos (mod-eq-zero_of_dvd u h)
+no_rest u (negsuc n) h = ap (λ k. neg_ℤ (pos k)) (mod-eq-zero_of_dvd u h)
+
+pub exact : (u : ℕ) (w : ℤ) → u ∣ unsigned_abs w → pos u *ℤ counted_in (pos u) w ≡ w
+exact u w h = omega (arith, ints, quot-rem w (pos u), no_rest u w h)
+
+pub size-exact : (u : ℕ) (w : ℤ) → u ∣ unsigned_abs w
+    → u * unsigned_abs (counted_in (pos u) w) ≡ unsigned_abs w
+size-exact u w h =
+    sym (unsigned_abs-mul (pos u) (counted_in (pos u) w)) ∙ ap unsigned_abs (exact u w h)
