@@ -5,3 +5,4 @@ pub mod Words
 pub mod Lines
 pub mod DigitLoop
 pub mod NumberAgain
+pub mod Lengths
