@@ -28,7 +28,7 @@ three c i j w =
     >>= λ fewer. integer_at w
     >>= weighed a b fewer
 
-three_words : (end : ℕ) (c : Counts) (i j w : Word) (ws : List Word)
+pub three_words : (end : ℕ) (c : Counts) (i j w : Word) (ws : List Word)
     → entry_at end c (i ∷ j ∷ w ∷ ws) ≡ (three c i j w >>= leaving ws)
 unfolding entry_at
 three_words end c i j w ws = at_i (node_at c.nodes i)

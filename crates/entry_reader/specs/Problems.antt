@@ -24,17 +24,18 @@ plain i = record { variable = i; negated = false }
 abbrev pub times : ℤ → List ℕ → Product
 times c variables = record { literals = map plain variables; coefficient = c }
 
--- with spins 2x - 1 a field h at i is 2h times the variable, less h
+-- a field times the spin 2x - 1: less the field, and twice the field times x
 abbrev pub field_products : ℤ → ℕ → List Product
-field_products h i = times (neg_ℤ h) [] ∷ times (pos 2 *ℤ h) (i ∷ []) ∷ []
+field_products field i = times (neg_ℤ field) [] ∷ times (pos 2 *ℤ field) (i ∷ []) ∷ []
 
--- with spins 2x - 1 a coupling J at i and j is 4J times both, less 2J times each, and J
+-- a coupling times the spins 2x - 1 and 2y - 1: the coupling, four times it times both variables, and
+-- less twice it times each
 abbrev pub coupling_products : ℤ → ℕ → ℕ → List Product
-coupling_products J i j =
-    times J []
-    ∷ times (pos 4 *ℤ J) (i ∷ j ∷ [])
-    ∷ times (negsuc 1 *ℤ J) (i ∷ [])
-    ∷ times (negsuc 1 *ℤ J) (j ∷ [])
+coupling_products coupling i j =
+    times coupling []
+    ∷ times (pos 4 *ℤ coupling) (i ∷ j ∷ [])
+    ∷ times (negsuc 1 *ℤ coupling) (i ∷ [])
+    ∷ times (negsuc 1 *ℤ coupling) (j ∷ [])
     ∷ []
 
 -- the products of an entry: the weight times both variables, which are one for a node entry, or

@@ -7,8 +7,10 @@
 mod added;
 mod entries;
 mod header;
+mod laws;
 mod layout;
 mod reading;
 
+pub use laws::texts_are_read_again;
 pub use layout::{Counts, Layout, Listed};
 pub use reading::read_entries;

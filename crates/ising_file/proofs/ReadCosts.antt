@@ -16,20 +16,20 @@ use Rattle.ising_file.specs.Cost.{entry_cost, ising_cost, ReadingKeepsCosts}
 
 -- ---- spins, by the bits
 
-field_value : (a : Bool) (h : ℤ)
-    → neg_ℤ h +ℤ (if_so (a && true) (pos 2 *ℤ h) +ℤ pos 0) ≡ times_spin a h
-field_value true h = omega (arith, ints)
-field_value false h = omega (arith, ints)
+field_value : (a : Bool) (field : ℤ)
+    → neg_ℤ field +ℤ (if_so (a && true) (pos 2 *ℤ field) +ℤ pos 0) ≡ times_spin a field
+field_value true field = omega (arith, ints)
+field_value false field = omega (arith, ints)
 
-coupling_value : (a b : Bool) (J : ℤ)
-    → J
-    +ℤ (if_so (a && (b && true)) (pos 4 *ℤ J)
-    +ℤ (if_so (a && true) (negsuc 1 *ℤ J) +ℤ (if_so (b && true) (negsuc 1 *ℤ J) +ℤ pos 0)))
-    ≡ times_spin a (times_spin b J)
-coupling_value true true J = omega (arith, ints)
-coupling_value true false J = omega (arith, ints)
-coupling_value false true J = omega (arith, ints)
-coupling_value false false J = omega (arith, ints)
+coupling_value : (a b : Bool) (coupling : ℤ)
+    → coupling
+    +ℤ (if_so (a && (b && true)) (pos 4 *ℤ coupling)
+    +ℤ (if_so (a && true) (negsuc 1 *ℤ coupling) +ℤ (if_so (b && true) (negsuc 1 *ℤ coupling) +ℤ pos 0)))
+    ≡ times_spin a (times_spin b coupling)
+coupling_value true true coupling = omega (arith, ints)
+coupling_value true false coupling = omega (arith, ints)
+coupling_value false true coupling = omega (arith, ints)
+coupling_value false false coupling = omega (arith, ints)
 
 -- ---- the products of an entry count what the entry costs
 

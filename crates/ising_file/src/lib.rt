@@ -8,6 +8,6 @@ mod laws;
 mod reading;
 mod writing;
 
-pub use laws::laws_of_readings;
+pub use laws::{laws_of_readings, laws_of_texts};
 pub use reading::read_ising;
 pub use writing::ising_text;

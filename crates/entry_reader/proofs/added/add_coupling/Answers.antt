@@ -19,14 +19,14 @@ add_product-requires-4-clause-small c =
 
 pub returns-clause-added : goal.returns-clause-added
 returns-clause-added c =
-    let J = c.args.coupling in
-    let kept = to_z-of_z w128 J (search rules) in
-    let four = to_z-of_z w128 (pos 4 *ℤ J) (search rules) in
-    let less = to_z-of_z w128 (negsuc 1 *ℤ J) (search rules) in
+    let coupling = c.args.coupling in
+    let kept = to_z-of_z w128 coupling (search rules) in
+    let four = to_z-of_z w128 (pos 4 *ℤ coupling) (search rules) in
+    let less = to_z-of_z w128 (negsuc 1 *ℤ coupling) (search rules) in
     let last = c.add_product-4 in
-    let both = times (pos 4 *ℤ J) (c.args.first ∷ c.args.second ∷ []) in
-    let one = times (negsuc 1 *ℤ J) (c.args.first ∷ []) in
-    let other = times (negsuc 1 *ℤ J) (c.args.second ∷ []) in
+    let both = times (pos 4 *ℤ coupling) (c.args.first ∷ c.args.second ∷ []) in
+    let one = times (negsuc 1 *ℤ coupling) (c.args.first ∷ []) in
+    let other = times (negsuc 1 *ℤ coupling) (c.args.second ∷ []) in
     let Added : ProblemForm → Type 0 =
     λ p. OnOk last.result (last.new.problem ≡ with_product p other) in
     let at_none = rw kept at c.in_ok-add_product.ensures.added in

@@ -9,14 +9,14 @@ use Rattle.entry_reader.proofs.added.add_field.Goals as goal
 
 pub returns-clause-added : goal.returns-clause-added
 returns-clause-added c =
-    let h = c.args.field in
-    let kept = to_z-of_z w128 h (search rules) in
-    let negated : pos 0 +ℤ neg_ℤ h ≡ neg_ℤ h = omega (arith, ints) in
-    let less = to_z-of_z w128 (pos 0 +ℤ neg_ℤ h) (search rules) ∙ negated in
-    let twice = to_z-of_z w128 (pos 2 *ℤ h) (search rules) in
+    let field = c.args.field in
+    let kept = to_z-of_z w128 field (search rules) in
+    let negated : pos 0 +ℤ neg_ℤ field ≡ neg_ℤ field = omega (arith, ints) in
+    let less = to_z-of_z w128 (pos 0 +ℤ neg_ℤ field) (search rules) ∙ negated in
+    let twice = to_z-of_z w128 (pos 2 *ℤ field) (search rules) in
     let last = c.add_product-2 in
     let Added : ProblemForm → Type 0 =
-    λ p. OnOk last.result (last.new.problem ≡ with_product p (times (pos 2 *ℤ h) (c.args.node ∷ []))) in
+    λ p. OnOk last.result (last.new.problem ≡ with_product p (times (pos 2 *ℤ field) (c.args.node ∷ []))) in
     subst Added (rw (kept, less) at c.in_ok-add_product.ensures.added)
     (rw (kept, twice) at last.ensures.added)
 
