@@ -20,7 +20,7 @@ use Rattle.model_text.proofs.Numerals.{decimal_word, signed_word, decimal_same, 
 
 -- ---- no word of its rows has a space or a line feed
 
-figures_are_rows : (figures : Figures) (unit : ℤ) (variables : ℕ)
+pub figures_are_rows : (figures : Figures) (unit : ℤ) (variables : ℕ)
     → AreRows (figure_rows figures unit variables)
 figures_are_rows figures unit variables = search (rules, signed_word)
 
@@ -33,7 +33,7 @@ chains_are_rows node [] = tt
 chains_are_rows node (chain ∷ chains) =
     search (rules, decimal_word, decimal_words chain, chains_are_rows (suc node) chains)
 
-graph_are_rows : (kind : Kind) (chains : List (List ℕ)) → AreRows (graph_rows kind chains)
+pub graph_are_rows : (kind : Kind) (chains : List (List ℕ)) → AreRows (graph_rows kind chains)
 graph_are_rows Qubo chains = tt
 graph_are_rows Ising chains = tt
 graph_are_rows (Chimera rows cols shore) chains =

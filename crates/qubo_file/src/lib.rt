@@ -1,8 +1,13 @@
-//! The text of a QUBO.
+//! QUBO texts in the layout of qbsolv, read and written.
 //!
-//! A QUBO goes in, and out comes its text, which no other model has.
+//! A text goes in as bytes, and out comes its problem in normal form, or its first fault. A QUBO goes
+//! in, and out comes its text, which no other model has.
 #![tactic(auto)]
 
+mod laws;
+mod reading;
 mod writing;
 
+pub use laws::{laws_of_readings, laws_of_texts};
+pub use reading::read_qubo;
 pub use writing::qubo_text;

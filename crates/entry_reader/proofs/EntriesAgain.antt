@@ -1,0 +1,144 @@
+-- Entries that are written are read again, and the header counts them.
+use Rattle.std.proofs.Common.{◌≡◌, ℕ, ◌+◌, ◌<◌, ◌≤◌, ◌^◌, Bool, true, false, cond, eqb, List, [], ◌∷◌, map, All, Ok, refl, ap, ◌∙◌, arith, zero-add, ◌-◌}
+use Rattle.std.specs.Prelude.{unsigned_abs, nat_lt, count_by}
+use Rattle.std.specs.Fmt.{decimal, signed_decimal}
+use Rattle.std.proofs.lemmas.Bool.{ne_eqb}
+use Rattle.std.proofs.lemmas.Bool.Decides.{nat_tests}
+use Rattle.std.proofs.lemmas.List.Elements.{All-tail}
+use Rattle.std.proofs.lemmas.List.Sums.{sum_by-cons}
+use Rattle.bits_model.specs.declared.output.Entry.{Entry}
+use Rattle.bits_model.specs.Output.{IsPlaced, is_node, is_coupler}
+use Rattle.whole_text.specs.Tokens.{word}
+use Rattle.whole_text.specs.Steps.{◌>>=◌}
+use Rattle.model_text.specs.Rows.{entry_row}
+use Rattle.entry_reader.specs.declared.layout.Counts.{Counts}
+use Rattle.entry_reader.specs.Entries.{one_fewer, counted, none_to_come, entries_at}
+use Rattle.entry_reader.specs.Again.{listed_of}
+use Rattle.entry_reader.proofs.Words.{three, leaving, with_first, others_after, three_words}
+use Rattle.entry_reader.proofs.RowsAgain.{AreInk, tokens_after, row_again, no_rows}
+use Rattle.entry_reader.proofs.NumbersAgain.{decimal_ink, signed_ink, number_first, integer_again, node_again}
+
+-- what the header of these entries counts
+abbrev pub counts_of : ℕ → List Entry → Counts
+counts_of nodes es = record {
+  nodes = nodes;
+  entries = count_by is_node es;
+  couplers = count_by is_coupler es;
+}
+
+-- ---- an entry is counted
+
+count-cons : (p : Entry → Bool) (e : Entry) (es : List Entry)
+    → count_by p (e ∷ es) ≡ cond (p e) 1 0 + count_by p es
+count-cons p e es = sum_by-cons (λ (x : Entry). cond (p x) 1 0) e es
+
+one_fewer-suc : (line k : ℕ) → one_fewer line (1 + k) ≡ Ok k
+unfolding one_fewer
+one_fewer-suc line k =
+    let less : 1 + k - 1 ≡ k = omega arith in
+    rw (ne_eqb (1 + k) 0 (λ e. omega arith)) (ap (λ (n : ℕ). Ok n) less)
+
+node_counted : (line nodes n k i j : ℕ) → eqb i j ≡ true
+    → counted line (record { nodes = nodes; entries = 1 + n; couplers = k }) i j
+    ≡ Ok (record { nodes = nodes; entries = n; couplers = k })
+unfolding counted
+node_counted line nodes n k i j same = rw (same, one_fewer-suc line n) refl
+
+coupler_counted : (line nodes n k i j : ℕ) → eqb i j ≡ false
+    → counted line (record { nodes = nodes; entries = n; couplers = 1 + k }) i j
+    ≡ Ok (record { nodes = nodes; entries = n; couplers = k })
+unfolding counted
+coupler_counted line nodes n k i j other = rw (other, one_fewer-suc line k) refl
+
+not_below : (i j : ℕ) → eqb i j ≡ true → nat_lt i j ≡ false
+not_below i j e = grind (arith, nat_tests)
+
+is_below : (i j : ℕ) → eqb i j ≡ false → i ≤ j → nat_lt i j ≡ true
+is_below i j e upward = grind (arith, nat_tests)
+
+counted_again : (line nodes : ℕ) (e : Entry) (es : List Entry) → e.first ≤ e.second
+    → counted line (counts_of nodes (e ∷ es)) e.first e.second ≡ Ok (counts_of nodes es)
+counted_again line nodes e es upward = go (eqb e.first e.second) refl
+  where
+    some : ℕ
+    some = count_by is_node es
+
+    others : ℕ
+    others = count_by is_coupler es
+
+    go : (same : Bool) → eqb e.first e.second ≡ same
+        → counted line (counts_of nodes (e ∷ es)) e.first e.second ≡ Ok (counts_of nodes es)
+    go true same =
+        let entry : count_by is_node (e ∷ es) ≡ 1 + count_by is_node es =
+        count-cons is_node e es ∙ ap (λ b. cond b 1 0 + count_by is_node es) same in
+        let coupler : count_by is_coupler (e ∷ es) ≡ count_by is_coupler es =
+        count-cons is_coupler e es
+        ∙ ap (λ b. cond b 1 0 + count_by is_coupler es) (not_below e.first e.second same)
+        ∙ zero-add (count_by is_coupler es) in
+        (λ i. counted line (record { nodes = nodes; entries = entry i; couplers = coupler i })
+        e.first e.second)
+        ∙ node_counted line nodes (count_by is_node es) (count_by is_coupler es) e.first e.second same
+    go false same =
+        let entry : count_by is_node (e ∷ es) ≡ count_by is_node es =
+        count-cons is_node e es
+        ∙ ap (λ b. cond b 1 0 + count_by is_node es) same
+        ∙ zero-add (count_by is_node es) in
+        let coupler : count_by is_coupler (e ∷ es) ≡ 1 + count_by is_coupler es =
+        count-cons is_coupler e es
+        ∙ ap (λ b. cond b 1 0 + count_by is_coupler es) (is_below e.first e.second same upward) in
+        (λ i. counted line (record { nodes = nodes; entries = entry i; couplers = coupler i })
+        e.first e.second)
+        ∙ coupler_counted line nodes (count_by is_node es) (count_by is_coupler es) e.first e.second
+        same
+
+-- ---- an entry is read
+
+three_again : (line nodes : ℕ) (e : Entry) (es : List Entry) → nodes < 2 ^ 32 → IsPlaced nodes e
+    → unsigned_abs e.weight < 2 ^ 64
+    → three (counts_of nodes (e ∷ es)) (word line (decimal e.first)) (word line (decimal e.second))
+    (word line (signed_decimal e.weight))
+    ≡ Ok (listed_of e, counts_of nodes es)
+three_again line nodes e es few placed small =
+    rw (
+      node_again nodes line e.first (omega (arith, placed.upward, placed.within)) (omega arith),
+      node_again nodes line e.second placed.within (omega arith),
+      counted_again line nodes e es placed.upward,
+      integer_again line e.weight small,
+    )
+    refl
+
+row_is_ink : (nodes : ℕ) (e : Entry) → nodes < 2 ^ 32 → IsPlaced nodes e
+    → unsigned_abs e.weight < 2 ^ 64 → AreInk (entry_row e)
+row_is_ink nodes e few placed small = (
+  decimal_ink e.first (omega (arith, placed.upward, placed.within)),
+  (decimal_ink e.second (omega (arith, placed.within)), (signed_ink e.weight small, tt)),
+)
+
+abbrev pub AreSmall : List Entry → Type 0
+AreSmall es = All (λ e. unsigned_abs e.weight < 2 ^ 64) es
+
+pub entries_again : (end line nodes : ℕ) (es : List Entry) → nodes < 2 ^ 32
+    → All (IsPlaced nodes) es → AreSmall es
+    → entries_at end (counts_of nodes es) (tokens_after line (map entry_row es))
+    ≡ Ok (map listed_of es)
+unfolding entries_at none_to_come
+entries_again end line nodes [] few placed small = rw (no_rows line) refl
+entries_again end line nodes (e ∷ es) few placed small =
+    let place : IsPlaced nodes e = placed 0 e (omega arith) in
+    let size : unsigned_abs e.weight < 2 ^ 64 = small 0 e (omega arith) in
+    let first = word line (decimal e.first) in
+    let second = word line (decimal e.second) in
+    let weight = word line (signed_decimal e.weight) in
+    let rest = tokens_after (line + 1) (map entry_row es) in
+    let c = counts_of nodes (e ∷ es) in
+    let cut = row_again line (decimal e.first) (decimal e.second ∷ signed_decimal e.weight ∷ [])
+    (map entry_row es) (row_is_ink nodes e few place size)
+    (number_first e.first (decimal e.second ∷ signed_decimal e.weight ∷ [])
+    (omega (arith, place.upward, place.within))) in
+    ap (entries_at end c) cut
+    ∙ ap (λ r. r >>= others_after end rest)
+    (three_words end c first second weight []
+    ∙ ap (λ r. r >>= leaving []) (three_again line nodes e es few place size))
+    ∙ ap (λ r. r >>= with_first (listed_of e))
+    (entries_again end (line + 1) nodes es few (All-tail (IsPlaced nodes) e es placed)
+    (All-tail (λ (x : Entry). unsigned_abs x.weight < 2 ^ 64) e es small))

@@ -1,0 +1,6 @@
+pub mod Words
+pub mod Puttings
+pub mod RowsAgain
+pub mod NumbersAgain
+pub mod EntriesAgain
+pub mod TextsAgain

@@ -1,0 +1,132 @@
+-- Entries that are read one after the other, and put into a problem.
+use Rattle.std.proofs.Common.{◌≡◌, ℕ, ◌<◌, List, [], ◌∷◌, ◌++◌, length, map, fold, Result, Ok, Err, refl, sym, ap, ◌∙◌, append-nil, append_assoc}
+use Rattle.std.specs.List.{flat_map}
+use Rattle.std.proofs.lemmas.List.Folds.{fold-map}
+use Rattle.whole_text.specs.declared.faults.TextFault.{TextFault}
+use Rattle.whole_text.specs.Tokens.{Word}
+use Rattle.whole_text.specs.Steps.{◌>>=◌, end_line}
+use Rattle.problem_form.specs.declared.terms.Product.{Product}
+use Rattle.problem_form.specs.Problems.{ProblemContent}
+use Rattle.problem_form.specs.NormalForm.{Widened, AddedProduct, blank, widened, with_product, with_part, as_written, normal_form}
+use Rattle.problem_form.proofs.AddedParts.{parts_add_up}
+use Rattle.entry_reader.specs.declared.layout.Layout.{Layout}
+use Rattle.entry_reader.specs.declared.layout.Counts.{Counts}
+use Rattle.entry_reader.specs.declared.layout.Listed.{Listed}
+use Rattle.entry_reader.specs.Entries.{none_to_come, header_at, entry_at, entries_at, listing_of}
+use Rattle.entry_reader.specs.Problems.{problem_of, products_of, listed_problem, problem_read, whole_read}
+use Rattle.entry_reader.proofs.Words.{with_first, entry_then, entry_fails}
+
+-- entries as listed, or the problem that they are put into
+abbrev pub Listing : Type 0
+Listing = Result (List Listed) TextFault
+
+abbrev pub Putting : Type 0
+Putting = Result ProblemContent TextFault
+
+-- a problem with the products of an entry, and of listed entries
+abbrev pub with_entry : Layout → ProblemContent → Listed → ProblemContent
+with_entry layout p e = fold with_product p (products_of layout e)
+
+abbrev pub put : Layout → ProblemContent → List Listed → Putting
+put layout p es = Ok (fold (with_entry layout) p es)
+
+-- what was put into the problem before, and what is still read
+abbrev pub read_into : Layout → ProblemContent → Listing → Putting
+read_into layout p read = read >>= put layout p
+
+regroup : (layout : Layout) (p : ProblemContent) (e : Listed) (others : Listing)
+    → read_into layout p (others >>= with_first e) ≡ read_into layout (with_entry layout p e) others
+regroup layout p e (Ok es) = refl
+regroup layout p e (Err f) = refl
+
+pub entries_go_on : (layout : Layout) (end : ℕ) (c fewer : Counts) (p : ProblemContent)
+    (ws rest : List Word) (e : Listed) (total : Putting)
+    → entry_at end c ws ≡ Ok (e, fewer, rest)
+    → read_into layout p (entries_at end c ws) ≡ total
+    → read_into layout (with_entry layout p e) (entries_at end fewer rest) ≡ total
+entries_go_on layout end c fewer p ws rest e total h so_far =
+    sym (regroup layout p e (entries_at end fewer rest))
+    ∙ ap (read_into layout p) (sym (entry_then end c fewer ws rest e h))
+    ∙ so_far
+
+pub entries_fail : (layout : Layout) (end : ℕ) (c : Counts) (p : ProblemContent) (ws : List Word)
+    (f : TextFault) (total : Putting) → 0 < length ws → entry_at end c ws ≡ Err f
+    → read_into layout p (entries_at end c ws) ≡ total → total ≡ Err f
+entries_fail layout end c p ws f total some h so_far =
+    sym so_far ∙ ap (read_into layout p) (entry_fails end c ws f some h)
+
+pub entries_end : (layout : Layout) (end : ℕ) (c : Counts) (p : ProblemContent) (ws : List Word)
+    (last : Listing) (total : Putting) → ws ≡ [] → none_to_come end c ≡ last
+    → read_into layout p (entries_at end c ws) ≡ total → total ≡ read_into layout p last
+unfolding entries_at
+entries_end layout end c p ws last total none h so_far =
+    let before = rw none at so_far in
+    sym before ∙ ap (read_into layout p) h
+
+-- ---- the problem of all entries
+
+-- products that are added one by one give the normal form of them all
+products_written : (p : ProblemContent) (ts : List Product)
+    → fold as_written p (map AddedProduct ts) ≡ record p { objective = p.objective ++ ts }
+products_written p [] = λ i. record p { objective = sym (append-nil p.objective) i }
+products_written p (t ∷ ts) =
+    products_written (record p { objective = p.objective ++ t ∷ [] }) ts
+    ∙ (λ i. record p { objective = append_assoc p.objective (t ∷ []) ts i })
+
+products_add_up : (variables : ℕ) (ts : List Product)
+    → fold with_product (widened blank variables) ts
+    ≡ normal_form (record (widened blank variables) { objective = ts })
+products_add_up variables ts =
+    sym (fold-map with_part AddedProduct (widened blank variables) ts)
+    ∙ parts_add_up (Widened variables ∷ map AddedProduct ts)
+    ∙ ap normal_form (products_written (widened blank variables) ts)
+
+fold-append : (p : ProblemContent) (ts us : List Product)
+    → fold with_product p (ts ++ us) ≡ fold with_product (fold with_product p ts) us
+fold-append p [] us = refl
+fold-append p (t ∷ ts) us = fold-append (with_product p t) ts us
+
+entries_written : (layout : Layout) (p : ProblemContent) (es : List Listed)
+    → fold (with_entry layout) p es ≡ fold with_product p (flat_map (products_of layout) es)
+entries_written layout p [] = refl
+entries_written layout p (e ∷ es) =
+    entries_written layout (with_entry layout p e) es
+    ∙ sym (fold-append p (products_of layout e) (flat_map (products_of layout) es))
+
+-- what is put into a problem that says nothing is the normal form of what is listed
+into_blank : (layout : Layout) (nodes : ℕ) (read : Listing)
+    → read_into layout (widened blank nodes) read
+    ≡ (read >>= λ (es : List Listed). Ok (listed_problem layout nodes es))
+into_blank layout nodes (Ok es) =
+    ap (λ (p : ProblemContent). Ok p)
+    (entries_written layout (widened blank nodes) es
+    ∙ products_add_up nodes (flat_map (products_of layout) es))
+into_blank layout nodes (Err f) = refl
+
+pub problem_read-blank : (layout : Layout) (end : ℕ) (c : Counts) (ws : List Word)
+    → problem_read layout end c ws
+    ≡ read_into layout (widened blank c.nodes) (entries_at end c ws)
+problem_read-blank layout end c ws = sym (into_blank layout c.nodes (entries_at end c ws))
+
+-- ---- the whole text
+
+normal_listed : (layout : Layout) (nodes : ℕ) (read : Listing)
+    → ((read >>= λ (es : List Listed). Ok (record { nodes = nodes; entries = es }))
+    >>= λ s. Ok (normal_form (problem_of layout s)))
+    ≡ (read >>= λ (es : List Listed). Ok (listed_problem layout nodes es))
+normal_listed layout nodes (Ok es) = refl
+normal_listed layout nodes (Err f) = refl
+
+-- what a whole text gives, by its header and what is read after it
+pub whole_read-header : (layout : Layout) (c : Counts) (end : ℕ) (ws rest : List Word)
+    → end ≡ end_line ws → header_at layout end ws ≡ Ok (c, rest)
+    → whole_read layout ws ≡ problem_read layout end c rest
+unfolding listing_of
+whole_read-header layout c end ws rest last head =
+    let head_at = rw last at head in
+    rw (last, head_at) (normal_listed layout c.nodes (entries_at (end_line ws) c rest))
+
+pub whole_read-bad : (layout : Layout) (f : TextFault) (end : ℕ) (ws : List Word)
+    → end ≡ end_line ws → header_at layout end ws ≡ Err f → whole_read layout ws ≡ Err f
+unfolding listing_of
+whole_read-bad layout f end ws last head = let head_at = rw last at head in rw head_at refl

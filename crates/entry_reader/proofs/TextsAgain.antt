@@ -1,0 +1,165 @@
+-- The text of a model is read again: its comments are skipped, and its header and entries are read.
+use Rattle.std.proofs.Common.{◌≡◌, ℕ, suc, ◌+◌, ◌<◌, ◌≤◌, ◌^◌, ℤ, List, [], ◌∷◌, ◌++◌, length, map, Ok, refl, ap, ◌∙◌, arith, length-append}
+use Rattle.std.specs.Prelude.{codes, count_by}
+use Rattle.std.specs.List.{AllByRecursion, join_with_byte}
+use Rattle.std.specs.Fmt.{decimal}
+use Rattle.std.proofs.lemmas.List.{length-map}
+use Rattle.std.proofs.lemmas.List.Sums.{count_by-le-length}
+use Rattle.bits_model.specs.declared.costs.Figures.{Figures}
+use Rattle.bits_model.specs.declared.output.Entry.{Entry}
+use Rattle.bits_model.specs.declared.output.Kind.{Kind}
+use Rattle.bits_model.specs.declared.output.Kind.TheVariants.{Qubo, Ising, Chimera}
+use Rattle.bits_model.specs.Output.{Written, is_node, is_coupler}
+use Rattle.whole_text.specs.Tokens.{Word, word, tokens_of}
+use Rattle.whole_text.specs.Steps.{end_line}
+use Rattle.model_text.specs.Rows.{Row, row_text, rows_text, figure_rows, chain_rows, graph_rows, header_row, entry_row, model_rows, model_text}
+use Rattle.model_text.proofs.RowTexts.{IsRow, all_append}
+use Rattle.model_text.proofs.ModelRows.{figures_are_rows, graph_are_rows}
+use Rattle.entry_reader.specs.declared.layout.Layout.{Layout}
+use Rattle.entry_reader.specs.declared.layout.Counts.{Counts}
+use Rattle.entry_reader.specs.declared.layout.Listed.{Listed}
+use Rattle.entry_reader.specs.Entries.{wanted_at, topology_at, topology_of, count_at, header_at, entries_at, listing_of, reading}
+use Rattle.entry_reader.specs.Again.{layout_of, listed_of, TextsAreReadAgain}
+use Rattle.entry_reader.proofs.RowsAgain.{IsInk, AreInk, IsComment, tokens_after, row_again, comments_skipped}
+use Rattle.entry_reader.proofs.NumbersAgain.{decimal_ink, natural_again}
+use Rattle.entry_reader.proofs.EntriesAgain.{counts_of, entries_again}
+
+-- ---- comments
+
+figures_are_comments : (figures : Figures) (unit : ℤ) (variables : ℕ)
+    → AllByRecursion IsComment (figure_rows figures unit variables)
+figures_are_comments figures unit variables = (refl, (refl, (refl, (refl, (refl, tt)))))
+
+chains_are_comments : (node : ℕ) (chains : List (List ℕ))
+    → AllByRecursion IsComment (chain_rows node chains)
+chains_are_comments node [] = tt
+chains_are_comments node (chain ∷ chains) = (refl, chains_are_comments (suc node) chains)
+
+graph_are_comments : (kind : Kind) (chains : List (List ℕ))
+    → AllByRecursion IsComment (graph_rows kind chains)
+graph_are_comments Qubo chains = tt
+graph_are_comments Ising chains = tt
+graph_are_comments (Chimera rows cols shore) chains = (refl, chains_are_comments 0 chains)
+
+-- ---- the header
+
+p_ink : IsInk (codes "p")
+p_ink = record { filled = omega arith; blank = (refl, tt); feed = (refl, tt) }
+
+zero_ink : IsInk (codes "0")
+zero_ink = record { filled = omega arith; blank = (refl, tt); feed = (refl, tt) }
+
+qubo_ink : IsInk (codes "qubo")
+qubo_ink = record {
+  filled = omega arith;
+  blank = (refl, (refl, (refl, (refl, tt))));
+  feed = (refl, (refl, (refl, (refl, tt))));
+}
+
+ising_ink : IsInk (codes "ising")
+ising_ink = record {
+  filled = omega arith;
+  blank = (refl, (refl, (refl, (refl, (refl, tt)))));
+  feed = (refl, (refl, (refl, (refl, (refl, tt)))));
+}
+
+abbrev AreFew : ℕ → List Entry → Type 0
+AreFew nodes es = (nodes < 2 ^ 32) × (length es ≤ 2 ^ 24)
+
+abbrev header_numbers : ℕ → List Entry → Row
+header_numbers nodes es =
+    decimal nodes ∷ decimal (count_by is_node es) ∷ decimal (count_by is_coupler es) ∷ []
+
+few_ink : (nodes : ℕ) (es : List Entry) → AreFew nodes es
+    → AreInk (header_numbers nodes es)
+few_ink nodes es few = (
+  decimal_ink nodes (omega (arith, few.0)),
+  (
+    decimal_ink (count_by is_node es) (omega (arith, few.1, count_by-le-length is_node es)),
+    (decimal_ink (count_by is_coupler es) (omega (arith, few.1, count_by-le-length is_coupler es)), tt),
+  ),
+)
+
+header_then : (line : ℕ) (kind : Kind) (nodes : ℕ) (es : List Entry) (rows : List Row)
+    → AreFew nodes es
+    → tokens_after line (header_row kind nodes es ∷ rows)
+    ≡ map (word line) (header_row kind nodes es) ++ tokens_after (line + 1) rows
+header_then line Qubo nodes es rows few =
+    row_again line (codes "p") (codes "qubo" ∷ codes "0" ∷ header_numbers nodes es) rows
+    (p_ink, (qubo_ink, (zero_ink, few_ink nodes es few))) refl
+header_then line Ising nodes es rows few =
+    row_again line (codes "p") (codes "ising" ∷ header_numbers nodes es) rows
+    (p_ink, (ising_ink, few_ink nodes es few)) refl
+header_then line (Chimera a b c) nodes es rows few =
+    row_again line (codes "p") (codes "ising" ∷ header_numbers nodes es) rows
+    (p_ink, (ising_ink, few_ink nodes es few)) refl
+
+header_again : (end line : ℕ) (kind : Kind) (nodes : ℕ) (es : List Entry) (rest : List Word)
+    → AreFew nodes es
+    → header_at (layout_of kind) end (map (word line) (header_row kind nodes es) ++ rest)
+    ≡ Ok (counts_of nodes es, rest)
+unfolding header_at wanted_at topology_of topology_at count_at
+header_again end line kind nodes es rest few =
+    let all = natural_again line nodes (omega (arith, few.0)) in
+    let some = natural_again line (count_by is_node es)
+    (omega (arith, few.1, count_by-le-length is_node es)) in
+    let others = natural_again line (count_by is_coupler es)
+    (omega (arith, few.1, count_by-le-length is_coupler es)) in
+    elim kind as (λ k. header_at (layout_of k) end (map (word line) (header_row k nodes es) ++ rest)
+    ≡ Ok (counts_of nodes es, rest)) [
+      | Qubo ↦ rw (all, some, others) refl
+      | Ising ↦ rw (all, some, others) refl
+      | Chimera a b c ↦ rw (all, some, others) refl
+    ]
+
+-- ---- the whole text
+
+rows_long : (rows : List Row) → length rows ≤ length (rows_text rows)
+rows_long [] = omega arith
+rows_long (row ∷ rows) =
+    omega (
+      arith,
+      length-append (row_text row) (rows_text rows),
+      length-append (join_with_byte 32 row) (10 ∷ []),
+      rows_long rows,
+    )
+
+entries_few : (m : Written) → length (model_text m) ≤ 2 ^ 24 → length m.entries ≤ 2 ^ 24
+unfolding model_text
+entries_few m short =
+    let weights = map entry_row m.entries in
+    let above = figure_rows m.figures m.unit m.variables ++ graph_rows m.kind m.chains in
+    omega (
+      arith,
+      rows_long (model_rows m),
+      length-append above (header_row m.kind m.nodes m.entries ∷ weights),
+      length-map m.entries entry_row,
+    )
+
+listing_again : (layout : Layout) (ws rest : List Word) (c : Counts) (es : List Listed)
+    → header_at layout (end_line ws) ws ≡ Ok (c, rest) → entries_at (end_line ws) c rest ≡ Ok es
+    → listing_of layout ws ≡ Ok (record { nodes = c.nodes; entries = es })
+unfolding listing_of
+listing_again layout ws rest c es header entries = rw (header, entries) refl
+
+pub texts_are_read_again : TextsAreReadAgain
+unfolding reading tokens_of model_text
+texts_are_read_again m h =
+    let layout = layout_of m.kind in
+    let figures = figure_rows m.figures m.unit m.variables in
+    let graph = graph_rows m.kind m.chains in
+    let header = header_row m.kind m.nodes m.entries in
+    let weights = map entry_row m.entries in
+    let few : AreFew m.nodes m.entries = (h.fits.nodes, entries_few m h.short) in
+    let skipped = comments_skipped 1 (figures ++ graph) (header ∷ weights)
+    (all_append IsComment figures graph (figures_are_comments m.figures m.unit m.variables)
+    (graph_are_comments m.kind m.chains))
+    (all_append IsRow figures graph (figures_are_rows m.figures m.unit m.variables)
+    (graph_are_rows m.kind m.chains)) in
+    let line = skipped.0 in
+    let rest = tokens_after (line + 1) weights in
+    let ws = map (word line) header ++ rest in
+    ap (listing_of layout) (skipped.1 ∙ header_then line m.kind m.nodes m.entries weights few)
+    ∙ listing_again layout ws rest (counts_of m.nodes m.entries) (map listed_of m.entries)
+    (header_again (end_line ws) line m.kind m.nodes m.entries rest few)
+    (entries_again (end_line ws) (line + 1) m.nodes m.entries h.fits.nodes h.formed.placed h.weights)

@@ -1,0 +1,3 @@
+pub mod Entries
+pub mod Problems
+pub mod Again

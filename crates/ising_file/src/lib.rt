@@ -1,0 +1,13 @@
+//! Ising texts, read and written.
+//!
+//! A text goes in as bytes, and out comes its problem in normal form, or its first fault. A model of
+//! spins goes in, and out comes its text, which no other model has.
+#![tactic(auto)]
+
+mod laws;
+mod reading;
+mod writing;
+
+pub use laws::{laws_of_readings, laws_of_texts};
+pub use reading::read_ising;
+pub use writing::ising_text;
