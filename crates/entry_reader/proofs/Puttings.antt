@@ -7,7 +7,7 @@ use Rattle.whole_text.specs.Tokens.{Word}
 use Rattle.whole_text.specs.Steps.{◌>>=◌, end_line}
 use Rattle.problem_form.specs.declared.terms.Product.{Product}
 use Rattle.problem_form.specs.Problems.{ProblemContent}
-use Rattle.problem_form.specs.NormalForm.{Widened, AddedProduct, blank, widened, with_product, with_part, as_written, normal_form}
+use Rattle.problem_form.specs.NormalForm.{Widened, AddedProduct, blank, with_variables, with_product, with_part, as_written, normal_form}
 use Rattle.problem_form.proofs.AddedParts.{parts_add_up}
 use Rattle.entry_reader.specs.declared.layout.Layout.{Layout}
 use Rattle.entry_reader.specs.declared.layout.Counts.{Counts}
@@ -74,12 +74,12 @@ products_written p (t ∷ ts) =
     ∙ (λ i. record p { objective = append_assoc p.objective (t ∷ []) ts i })
 
 products_add_up : (variables : ℕ) (ts : List Product)
-    → fold with_product (widened blank variables) ts
-    ≡ normal_form (record (widened blank variables) { objective = ts })
+    → fold with_product (with_variables blank variables) ts
+    ≡ normal_form (record (with_variables blank variables) { objective = ts })
 products_add_up variables ts =
-    sym (fold-map with_part AddedProduct (widened blank variables) ts)
+    sym (fold-map with_part AddedProduct (with_variables blank variables) ts)
     ∙ parts_add_up (Widened variables ∷ map AddedProduct ts)
-    ∙ ap normal_form (products_written (widened blank variables) ts)
+    ∙ ap normal_form (products_written (with_variables blank variables) ts)
 
 fold-append : (p : ProblemContent) (ts us : List Product)
     → fold with_product p (ts ++ us) ≡ fold with_product (fold with_product p ts) us
@@ -95,17 +95,17 @@ entries_written layout p (e ∷ es) =
 
 -- what is put into a problem that says nothing is the normal form of what is listed
 into_blank : (layout : Layout) (nodes : ℕ) (read : Listing)
-    → read_into layout (widened blank nodes) read
+    → read_into layout (with_variables blank nodes) read
     ≡ (read >>= λ (es : List Listed). Ok (listed_problem layout nodes es))
 into_blank layout nodes (Ok es) =
     ap (λ (p : ProblemContent). Ok p)
-    (entries_written layout (widened blank nodes) es
+    (entries_written layout (with_variables blank nodes) es
     ∙ products_add_up nodes (flat_map (products_of layout) es))
 into_blank layout nodes (Err f) = refl
 
 pub problem_read-blank : (layout : Layout) (end : ℕ) (c : Counts) (ws : List Word)
     → problem_read layout end c ws
-    ≡ read_into layout (widened blank c.nodes) (entries_at end c ws)
+    ≡ read_into layout (with_variables blank c.nodes) (entries_at end c ws)
 problem_read-blank layout end c ws = sym (into_blank layout c.nodes (entries_at end c ws))
 
 -- ---- the whole text

@@ -7,7 +7,7 @@ use Rattle.whole_text.specs.Steps.{◌>>=◌}
 use Rattle.problem_form.specs.declared.literal.Literal.{Literal}
 use Rattle.problem_form.specs.declared.terms.Product.{Product}
 use Rattle.problem_form.specs.Problems.{ProblemContent}
-use Rattle.problem_form.specs.NormalForm.{normal_form, blank, widened}
+use Rattle.problem_form.specs.NormalForm.{normal_form, blank, with_variables}
 use Rattle.entry_reader.specs.declared.layout.Layout.{Layout}
 use Rattle.entry_reader.specs.declared.layout.Layout.TheVariants.{Qubo, Ising}
 use Rattle.entry_reader.specs.declared.layout.Counts.{Counts}
@@ -52,7 +52,7 @@ products_of Ising e =
 -- the problem as written: the products of the entries, one after the other
 abbrev pub problem_of : Layout → Listing → ProblemContent
 problem_of layout s =
-    record (widened blank s.nodes) { objective = flat_map (products_of layout) s.entries }
+    record (with_variables blank s.nodes) { objective = flat_map (products_of layout) s.entries }
 
 -- the reading of a text, as a problem in normal form
 unfoldable pub normal_reading : Layout → List ℕ → Result ProblemContent TextFault

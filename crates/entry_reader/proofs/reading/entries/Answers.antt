@@ -3,7 +3,7 @@ use Rattle.std.proofs.lemmas.Bool.{eqb-true, eqb-false}
 use Rattle.std.proofs.lemmas.List.{length-map, nil_from_length}
 use Rattle.std.proofs.lemmas.Result.{err_from_is_err_and}
 use Rattle.whole_text.specs.Tokens.{words_at}
-use Rattle.problem_form.specs.NormalForm.{blank, widened}
+use Rattle.problem_form.specs.NormalForm.{blank, with_variables}
 use Rattle.entry_reader.specs.Entries.{entries_at}
 use Rattle.entry_reader.specs.Problems.{problem_read}
 use Rattle.entry_reader.proofs.Puttings.{read_into, entries_go_on, entries_fail, entries_end, problem_read-blank}
@@ -28,7 +28,7 @@ pub loop-rest-preserved : goal.loop-rest-preserved
 loop-rest-preserved c =
     let text = c.args.text.now in
     let entry = c.in_ok-entry.entry in
-    let all = read_into c.args.layout (widened blank c.args.counts.nodes)
+    let all = read_into c.args.layout (with_variables blank c.args.counts.nodes)
     (entries_at c.args.end c.args.counts (words_at text c.args.tokens.now)) in
     let added = c.in_ok-add_entry.ensures.added in
     record {

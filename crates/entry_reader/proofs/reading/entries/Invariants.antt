@@ -1,7 +1,7 @@
 use Rattle.std.proofs.Common.{◌≡◌, ◌+◌, ◌*◌, ◌^◌, ◌≤◌, length, All}
 use Rattle.whole_text.specs.Tokens.{words_at, IsWithin}
 use Rattle.problem_form.specs.Problems.{problem_total}
-use Rattle.problem_form.specs.NormalForm.{blank, widened}
+use Rattle.problem_form.specs.NormalForm.{blank, with_variables}
 use Rattle.entry_reader.specs.Entries.{entries_at}
 use Rattle.entry_reader.proofs.Puttings.{read_into}
 use Rattle.entry_reader.proofs.reading.entries.Given as goal
@@ -12,7 +12,7 @@ abbrev pub invariant-loop-rest : goal.invariant-loop-rest
 invariant-loop-rest l = record {
   within : All (IsWithin l.text) l.rest;
   read : read_into l.layout l.problem (entries_at l.end l.to_come (words_at l.text l.rest))
-      ≡ read_into l.layout (widened blank l.fn.counts.nodes)
+      ≡ read_into l.layout (with_variables blank l.fn.counts.nodes)
       (entries_at l.end l.fn.counts (words_at l.text l.tokens));
   variables : l.problem.variables ≡ l.fn.counts.nodes;
   nodes : l.to_come.nodes ≡ l.fn.counts.nodes;
