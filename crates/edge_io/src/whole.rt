@@ -65,7 +65,8 @@ pub fn read_all<F: Files>(
 
     // One byte beyond the limit tells that a file is too long, and no more is taken.
     ensures at_most { (F.counts files.new).taken ≤ limit + 1 }
-    ensures too_long { IsErrOf result ReadAnswer.TooLong ↔ ((F.counts files.new).taken ≡ limit + 1) }
+    ensures too_long { IsErrOf result ReadAnswer.TooLong
+        ↔ ((F.counts files.new).taken ≡ limit + 1) }
     ensures longer { IsErrOf result ReadAnswer.TooLong →
         WhereTold (F.held files.old) (λ held. IsLonger held (string_bytes name) limit) }
 {
