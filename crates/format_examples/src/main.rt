@@ -4,29 +4,23 @@
 //! Its data are the good and bad examples of the document on formats.
 #![tactic(auto)]
 
+ghost use Rattle.std.specs.Prelude.{◌≡◌, [], ◌∷◌, map, codes, string_bytes, IfOk};
+
 use edge_io::{RealFiles, RealSink, Sink, write_pieces};
-use program_run::{Status, run};
+use program_run::{Status, given_words, run};
 use std::alloc::{AllocError, Global};
-use std::env;
 use std::process::ExitCode;
 
-/// The exit status where the words cannot be taken, or memory is refused.
-const NO_MEMORY: u8 = 9;
-
-/// The words after the program's name.
-fn given_words(rt: &HostRuntime) -> Option<Vec<String>> {
-    let mut words = env::args(rt).ok()?;
-    let _program = words.next();
-    let collected: Result<Vec<String>, AllocError> = words.collect(rt.alloc());
-    collected.ok()
-}
-
 /// The words that compile a file.
-fn compile_words(alloc: Global, name: &str) -> Result<Vec<String>, AllocError> {
+fn compile_words(alloc: Global, name: &str) -> Result<Vec<String>, AllocError>
+    ensures { IfOk result (λ words. map string_bytes words.items
+        ≡ codes "compile" ∷ codes "wcnf" ∷ codes "qubo" ∷ name.now ∷ []) }
+{
     let mut words = Vec::new(alloc);
-    for word in ["compile", "wcnf", "qubo", name] {
-        words.push(String::from_str(alloc, word)?)?;
-    }
+    words.push(String::from_str(alloc, "compile")?)?;
+    words.push(String::from_str(alloc, "wcnf")?)?;
+    words.push(String::from_str(alloc, "qubo")?)?;
+    words.push(String::from_str(alloc, name)?)?;
     Ok(words)
 }
 
@@ -36,8 +30,9 @@ fn print_name<O: Sink>(out: &mut O, name: &str) {
 }
 
 fn main(rt: HostRuntime) -> ExitCode {
-    let Some(names) = given_words(&rt) else {
-        return ExitCode::from(NO_MEMORY);
+    let names = match given_words(&rt) {
+        Ok(names) => names,
+        Err(status) => return ExitCode::from(status.number()),
     };
     let alloc = rt.alloc();
     let mut out = RealSink::new(rt.stdout());

@@ -1,6 +1,6 @@
 -- The model of a problem: what it promises of the problem.
 use Rattle.std.proofs.Common.{◌≡◌, ◌≤◌, ℕ, ◌+◌, ℤ, pos, ◌+ℤ◌, ◌*ℤ◌, Bool, List, length, take, refl, sym, ap, ◌∙◌, subst, arith, inl}
-use Rattle.std.specs.Prelude.{None, Result, Ok, Err, IfOk, unsigned_abs, neg_ℤ}
+use Rattle.std.specs.Prelude.{None, unsigned_abs, neg_ℤ}
 use Rattle.std.proofs.lemmas.Int.{ints}
 use Rattle.std.proofs.lemmas.List.{take-take}
 use Rattle.std.proofs.lemmas.List.Elements.{All-nil}
@@ -30,12 +30,6 @@ use Rattle.quad_form.specs.Flat as flat
 use Rattle.quad_form.specs.laws.Flattened.{flat_joins, flat_keeps}
 use Rattle.quad_form.proofs.WrittenModels.{written_is_well_formed, written_relaxes}
 use Rattle.model_pipeline.specs.Models.{IsModelOf}
-
--- what follows from what holds of an answer
-pub if_ok-then : {T E : Type 0} (r : Result T E) {P Q : T → Type 0} → IfOk r P
-    → ((x : T) → P x → Q x) → IfOk r Q
-if_ok-then (Ok x) p f = f x p
-if_ok-then (Err e) p f = tt
 
 -- a step that neither scales nor moves keeps the figures
 same_figures : (n : Figures) → figures_after n (pos 1) (pos 0) ≡ n

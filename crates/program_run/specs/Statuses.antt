@@ -61,3 +61,14 @@ exit_number (BadText which kind line) = 5
 exit_number (Limit which kind number) = 6
 exit_number (NoState length) = 8
 exit_number NoMemory = 9
+
+-- a number that the program may exit with: that of some status
+abbrev pub IsExitNumber : ℕ → Type 0
+IsExitNumber n = (status : Status) × (n ≡ exit_number status)
+
+-- the words of the command line cannot be taken: memory is refused, or a word, of no position, is no
+-- text
+abbrev pub IsUntaken : Status → Type 0
+IsUntaken NoMemory = ⊤
+IsUntaken (Usage position) = position ≡ 0
+IsUntaken _ = ⊥

@@ -12,6 +12,6 @@ mod status;
 mod steps;
 
 pub use answers::Answer;
-pub use program::exit_number;
+pub use program::{exit_number, given_words};
 pub use running::run;
 pub use status::Status;

@@ -1,37 +1,41 @@
 //! The program, over the real words and files.
+ghost use Rattle.std.specs.Prelude.{IfErr};
+ghost use Rattle.program_run.specs.Statuses.{IsUntaken, IsExitNumber};
 
 use crate::running::run;
+use crate::status::Status;
 use edge_io::{RealFiles, Sink};
 use std::alloc::{AllocError, Global};
 use std::env;
 use std::io::ErrorKind;
 
-/// The exit status where memory is refused before there is a run.
-const NO_MEMORY: u8 = 9;
-
-/// The exit status where a word is no UTF-8.
-const NO_WORDS: u8 = 2;
-
-/// The words after the program's name, or the exit status where they cannot be taken.
-fn given_words(rt: &HostRuntime) -> Result<Vec<String>, u8> {
+/// The words after the program's name, or the status where they cannot be taken: memory is refused, or
+/// a word is no UTF-8.
+pub fn given_words(rt: &HostRuntime) -> Result<Vec<String>, Status>
+    ensures { IfErr result IsUntaken }
+{
     let mut words = match env::args(rt) {
         Ok(words) => words,
-        Err(error) if error.kind() == ErrorKind::OutOfMemory => return Err(NO_MEMORY),
-        Err(_) => return Err(NO_WORDS),
+        Err(error) if error.kind() == ErrorKind::OutOfMemory => return Err(Status::NoMemory),
+        Err(_) => return Err(Status::Usage(0)),
     };
     let _program = words.next();
     let collected: Result<Vec<String>, AllocError> = words.collect(rt.alloc());
-    collected.map_err(|_| NO_MEMORY)
+    collected.map_err(|_| Status::NoMemory)
 }
 
 /// One run on the words of the command line and the files of the system. The result is the number to
-/// exit with.
-pub fn exit_number<O: Sink, E: Sink>(rt: HostRuntime, out: &mut O, err: &mut E) -> u8 {
-    let words = match given_words(&rt) {
-        Ok(words) => words,
-        Err(number) => return number,
+/// exit with: that of the run's status, or of the one where there are no words.
+pub fn exit_number<O: Sink, E: Sink>(rt: HostRuntime, out: &mut O, err: &mut E) -> u8
+    ensures { IsExitNumber result }
+{
+    let status = match given_words(&rt) {
+        Err(status) => status,
+        Ok(words) => {
+            let alloc: Global = rt.alloc();
+            let mut files = RealFiles::new(rt);
+            run(alloc, &words, &mut files, out, err)
+        }
     };
-    let alloc: Global = rt.alloc();
-    let mut files = RealFiles::new(rt);
-    run(alloc, &words, &mut files, out, err).number()
+    status.number()
 }

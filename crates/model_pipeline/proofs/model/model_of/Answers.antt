@@ -1,4 +1,5 @@
 use Rattle.std.proofs.Common.{◌≡◌, arith, ap, sym, subst, ◌∙◌}
+use Rattle.std.proofs.lemmas.Result.{IfOk-weaker}
 use Rattle.bits_model.specs.declared.costs.Figures.{Figures}
 use Rattle.quad_form.specs.Quads.{QuadContent, IsQuad, written_of}
 use Rattle.std.specs.Prelude.{length, pos}
@@ -6,7 +7,7 @@ use Rattle.penalty_layer.proofs.Admitted.{threshold_within}
 use Rattle.problem_form.specs.Limits.{limit_fault}
 use Rattle.std.specs.Prelude.{None}
 use Rattle.model_pipeline.specs.Models.{IsModelOf}
-use Rattle.model_pipeline.proofs.Standing.{AreSteps, nodes_enough, steps_model, if_ok-then}
+use Rattle.model_pipeline.proofs.Standing.{AreSteps, nodes_enough, steps_model}
 use Rattle.model_pipeline.proofs.model.model_of.Goals as goal
 
 pub output-requires-clause-enough : goal.output-requires-clause-enough
@@ -33,7 +34,8 @@ returns-clause-stands c =
       third = made.third;
       kept = subst (λ q. IsQuad q) (c.drop.view_is ∙ made.image) c.drop.invariant;
     } in
-    if_ok-then c.output.result c.output.ensures
+    IfOk-weaker c.output.result _ _
     (λ m same. subst (λ w. IsModelOf p c.args.variables c.args.target w)
     (sym (same ∙ (λ i. written_of (made.image i) c.args.variables (made.figures i) (pos 1))))
     (steps_model c.args.target p c.args.variables c.in_ok-made.made.first c.in_ok-made.made.second c.in_ok-made.made.third steps c.requires.own))
+    c.output.ensures
