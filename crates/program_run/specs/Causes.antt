@@ -1,12 +1,12 @@
 -- Why a file could not be read, how many files were begun, and how much was read of the last one: by
 -- what the store of files counted before and after.
-use Rattle.std.specs.Prelude.{◌≡◌, ◌≤◌, ℕ, zero, suc, List, [], ◌∷◌, length, ⊤}
+use Rattle.std.specs.Prelude.{◌≡◌, ◌≤◌, ℕ, zero, suc, List, [], ◌∷◌, length, IsSome, ⊤}
 use Rattle.edge_io.specs.Counts.{Counts, Rose, count_after}
 use Rattle.problem_form.specs.declared.limits.LimitKind.TheVariants.{Bytes}
 use Rattle.command_words.specs.declared.names.Which.{Which}
 use Rattle.command_words.specs.declared.names.Which.TheVariants.{Source, State}
 use Rattle.command_words.specs.declared.commands.Command.{Command}
-use Rattle.command_words.specs.Names.{name_of, files_of, number_in}
+use Rattle.command_words.specs.Names.{name_of, place_of, files_of, number_in}
 use Rattle.program_run.specs.declared.status.Status.{Status}
 use Rattle.program_run.specs.declared.status.Status.TheVariants.{Usage, ReadFault, BadText, Limit, NoState, NoMemory}
 
@@ -70,19 +70,29 @@ last_of [] = Source
 last_of (file ∷ []) = file
 last_of (file ∷ next ∷ files) = last_of (next ∷ files)
 
--- what files tell at a status of a command: at a read fault its cause, where a file is too long that
--- one byte too many was taken, and else that the files up to the one of the status were read
+-- the command names such a file
+abbrev pub HasFile : Command → Which → Type 0
+HasFile command which = IsSome (place_of command which)
+
+-- what files tell at a status of a command, which speaks only of a file that the command names: at a
+-- read fault its cause, where a file is too long that one byte too many was taken, and else that the
+-- files up to the one of the status were read
 abbrev pub AreFiles : List (List ℕ) → Command → Status → Counts → Counts → Type 0
 AreFiles words command (ReadFault which) old new =
-    IsCause (name_of words command which) (number_in (files_of command) which) old new
+    HasFile command which
+    × IsCause (name_of words command which) (number_in (files_of command) which) old new
 AreFiles words command (Limit which Bytes number) old new =
-    AreTooLong (name_of words command which) (number_in (files_of command) which) old new
+    HasFile command which
+    × AreTooLong (name_of words command which) (number_in (files_of command) which) old new
 AreFiles words command (Limit which kind number) old new =
-    AreRead (name_of words command which) (number_in (files_of command) which) old new
+    HasFile command which
+    × AreRead (name_of words command which) (number_in (files_of command) which) old new
 AreFiles words command (BadText which kind line) old new =
-    AreRead (name_of words command which) (number_in (files_of command) which) old new
+    HasFile command which
+    × AreRead (name_of words command which) (number_in (files_of command) which) old new
 AreFiles words command (NoState width) old new =
-    AreRead (name_of words command State) (number_in (files_of command) State) old new
+    HasFile command State
+    × AreRead (name_of words command State) (number_in (files_of command) State) old new
 AreFiles words command (Usage position) old new = ⊤
 AreFiles words command NoMemory old new = ⊤
 AreFiles words command status old new =
