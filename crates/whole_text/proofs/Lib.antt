@@ -1,7 +1,8 @@
 pub mod Places
 pub mod Slices
+pub mod Strides
 pub mod Order
-pub mod Words
+pub mod LineWords
 pub mod Lines
 pub mod DigitLoop
 pub mod NumberAgain

@@ -1,3 +1,6 @@
 pub mod Numbers
 pub mod Tokens
+pub mod Packed
+pub mod laws
+pub mod TokenTexts
 pub mod Steps

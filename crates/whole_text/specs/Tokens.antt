@@ -1,6 +1,7 @@
 -- The tokens of a text: it is cut into lines at line feeds, and a line that is no comment into
 -- words at blanks.
-use Rattle.std.specs.Prelude.{ℕ, ◌+◌, ◌<◌, ◌≤◌, Bool, true, false, ◌||◌, List, [], ◌∷◌, ◌++◌, length, map, filter, ◌==◌, if◌then◌else◌}
+use Rattle.std.specs.Prelude.{◌≡◌, ℕ, ◌+◌, ◌-◌, ◌<◌, ◌≤◌, Bool, true, false, ◌||◌, List, [], ◌∷◌, ◌++◌, length, map, filter, slice_get, ◌==◌, if◌then◌else◌}
+use Rattle.std.specs.Option.{option_map_or}
 use Rattle.std.specs.List.{slice_split, slice_range}
 use Rattle.whole_text.specs.declared.token.Style.{Style}
 use Rattle.whole_text.specs.declared.token.Style.TheVariants.{Plain}
@@ -75,3 +76,12 @@ IsWithin text t = (t.start < t.end) × (t.end ≤ length text)
 abbrev pub AreInOrder : ℕ → List Token → ℕ → Type 0
 AreInOrder low [] high = low ≤ high
 AreInOrder low (t ∷ ts) high = (low ≤ t.start) × (t.start < t.end) × AreInOrder t.end ts high
+
+-- the tokens, none of them empty, stand one right after another from one place to another
+abbrev pub AreJoined : ℕ → List Token → ℕ → Type 0
+AreJoined low [] high = low ≡ high
+AreJoined low (t ∷ ts) high = (low ≡ t.start) × (t.start < t.end) × AreJoined t.end ts high
+
+-- the line of the last token, or 1 where there is none
+abbrev pub last_line : List Token → ℕ
+last_line ts = option_map_or (λ t. t.line) (slice_get ts (length ts - 1)) 1

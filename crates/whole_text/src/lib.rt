@@ -8,12 +8,20 @@ mod cutting;
 mod faults;
 mod laws;
 mod numbers;
+mod packed;
 mod steps;
 mod token;
+mod token_text;
+mod words;
 
 pub use cutting::tokens;
 pub use faults::{TextAnswer, TextFault, TextKind};
 pub use laws::laws_of_numbers;
 pub use numbers::{number, push_number};
-pub use steps::{bytes_at, end_line, fault, integer, natural, next};
+pub use packed::TokenList;
+pub use steps::{
+    bytes_at, end_line, fault, integer, integer_word, natural, natural_word, next, next_word,
+};
 pub use token::{Style, Token};
+pub use token_text::{ByteList, TokenText};
+pub use words::{WordRef, Words};

@@ -5,11 +5,13 @@
 
 ghost use Rattle.std.specs.Prelude.{◌≡◌, ◌<◌, ◌^◌, nat_abs, All, IfOk, slice_range};
 ghost use Rattle.whole_text.specs.Tokens.{word_at, words_at, IsWithin};
+ghost use Rattle.whole_text.specs.TokenTexts.{word_of};
 ghost use Rattle.whole_text.specs.Steps.{GivesAlways, fault, end_line, next_of, integer_at, natural_at};
 
 use crate::faults::{TextFault, TextKind};
 use crate::numbers::number;
 use crate::token::Token;
+use crate::words::{WordRef, Words};
 
 /// A fault of this kind on this line.
 pub fn fault(kind: TextKind, line: u64) -> TextFault
@@ -54,24 +56,62 @@ pub fn next<'a>(
     }
 }
 
+/// The next word, or the fault that the text ended.
+#[inline(always)]
+pub fn next_word<'a>(words: &mut Words<'a>, end: u64) -> Result<WordRef<'a>, TextFault>
+    ensures { GivesAlways (λ w. (word_of w, words.new)) result (next_of end words.old) }
+{
+    match words.next() {
+        Some(word) => Ok(word),
+        None => Err(fault(TextKind::End, end)),
+    }
+}
+
 /// A number.
 #[tactic(auto, unfolding(crate::specs::Steps::integer_at))]
+#[inline(always)]
+pub fn integer_word(word: WordRef<'_>) -> Result<i128, TextFault>
+    ensures value { result ≡ integer_at (word_of word.entry) }
+    ensures small { IfOk result (λ z. nat_abs z < 2 ^ 64) }
+{
+    number(word.bytes).ok_or(fault(TextKind::Number, word.line))
+}
+
+/// A number that is at least this.
+#[tactic(auto, unfolding(crate::specs::Steps::natural_at))]
+#[inline(always)]
+pub fn natural_word(word: WordRef<'_>, least: u64) -> Result<u64, TextFault>
+    ensures { result ≡ natural_at least (word_of word.entry) }
+{
+    match u64::try_from(integer_word(word)?) {
+        Ok(n) if n >= least => Ok(n),
+        Ok(_) | Err(_) => Err(fault(TextKind::Range, word.line)),
+    }
+}
+
+fn word_at<'a>(text: &'a [u8], token: Token) -> WordRef<'a>
+    requires { IsWithin text.now token }
+    ensures { word_of result ≡ word_at text.now token }
+{
+    WordRef {
+        bytes: bytes_at(text, token),
+        line: token.line,
+    }
+}
+
+/// A number.
 pub fn integer(text: &[u8], token: Token) -> Result<i128, TextFault>
     requires { IsWithin text.now token }
     ensures value { result ≡ integer_at (word_at text.now token) }
     ensures small { IfOk result (λ z. nat_abs z < 2 ^ 64) }
 {
-    number(bytes_at(text, token)).ok_or(fault(TextKind::Number, token.line))
+    integer_word(word_at(text, token))
 }
 
 /// A number that is at least this.
-#[tactic(auto, unfolding(crate::specs::Steps::natural_at))]
 pub fn natural(text: &[u8], token: Token, least: u64) -> Result<u64, TextFault>
     requires { IsWithin text.now token }
     ensures { result ≡ natural_at least (word_at text.now token) }
 {
-    match u64::try_from(integer(text, token)?) {
-        Ok(n) if n >= least => Ok(n),
-        Ok(_) | Err(_) => Err(fault(TextKind::Range, token.line)),
-    }
+    natural_word(word_at(text, token), least)
 }

@@ -1,6 +1,6 @@
 use Rattle.std.proofs.Common.{sym, ap, ◌∙◌, nat_eq}
 use Rattle.std.proofs.lemmas.Bool.{ltb-true, ltb-false}
-use Rattle.whole_text.proofs.Words.{comment_from_byte, comment_none}
+use Rattle.whole_text.proofs.LineWords.{comment_from_byte, comment_none}
 use Rattle.whole_text.proofs.cutting.is_comment.Goals as goal
 
 pub returns-in-Some : goal.returns-in-Some

@@ -5,7 +5,7 @@ use Rattle.whole_text.specs.declared.token.Token.{Token}
 use Rattle.whole_text.specs.Tokens.{Word, words, word, word_at}
 use Rattle.whole_text.proofs.Slices.{slice_none}
 use Rattle.whole_text.proofs.Order.{order_wider, order_pushed}
-use Rattle.whole_text.proofs.Words.{skipped, taken, comment_line, other_line, word_taken, words_none}
+use Rattle.whole_text.proofs.LineWords.{skipped, taken, comment_line, other_line, word_taken, words_none}
 use Rattle.whole_text.proofs.cutting.push_line.Goals as goal
 
 pub returns-then-is_comment-clause-cut : goal.returns-then-is_comment-clause-cut

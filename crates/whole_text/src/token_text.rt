@@ -1,0 +1,46 @@
+//! The words of a text, without blanks and comments.
+ghost use Rattle.std.specs.Prelude.{◌≡◌, ◌≤◌, length};
+ghost use Rattle.whole_text.specs.Tokens.{AreJoined};
+ghost use Rattle.whole_text.specs.laws.Joined.{AreJoined-prop};
+
+use crate::packed::TokenList;
+use crate::words::Words;
+use bits_model::Items;
+
+/// A list of bytes.
+pub type ByteList = Items<u8>;
+
+/// The words of a text: their bytes, one word right after another, and a token for each word.
+#[derive(Drop)]
+pub struct TokenText {
+    pub bytes: ByteList,
+    pub tokens: TokenList,
+    pub ghost joined: { AreJoined 0 tokens (length bytes) } by { AreJoined-prop 0 tokens (length bytes) },
+}
+
+impl TokenText {
+    ghost use Rattle.whole_text.specs.TokenTexts.{words_of};
+    ghost use Rattle.whole_text.specs.Steps.{end_line};
+
+    /// The words, from the first one on.
+    pub fn words(&self) -> Words<'_>
+        ensures { result ≡ words_of self.now }
+    {
+        self.tokens.words_in(self.bytes.as_slice())
+    }
+
+    /// The line of the last word, or 1 where there is none.
+    pub fn end_line(&self) -> u64
+        ensures { result ≡ end_line (words_of self.now) }
+    {
+        self.tokens.last_line()
+    }
+
+    /// How many words there are: at most as many as bytes.
+    pub fn word_count(&self) -> usize
+        ensures count { result ≡ length (words_of self.now) }
+        ensures few { result ≤ length self.now.bytes }
+    {
+        self.tokens.len()
+    }
+}
