@@ -1,11 +1,11 @@
 -- What a sink has taken of a piece, and of several pieces one after the other.
 use Rattle.std.proofs.Common.{◌≡◌, ℕ, ◌+◌, ◌-◌, ◌<◌, List, [], ◌∷◌, ◌++◌, sym, ap, ◌∙◌, subst, append_assoc, length, take, drop, get_or, Bor}
-use Rattle.std.proofs.KnownBytes.{Appends-trans}
+use Rattle.std.proofs.KnownBytes.{Appends-nil, Appends-trans}
 use Rattle.std.proofs.lemmas.List.{take-append-drop, take_rest, take_more, append-nil}
 use Rattle.std.proofs.lemmas.List.Concat.{flat_map-append}
 use Rattle.std.specs.Io.KnownBytes.{Appends}
 use Rattle.std.specs.declared.option.Option.{Option}
-use Rattle.edge_io.specs.Sinks.{AppendsFront, joined_bytes}
+use Rattle.edge_io.specs.Sinks.{AppendsFront, Passes, joined_bytes}
 
 -- a front of the piece was taken, and then n bytes of what was left of it
 pub piece_more : (a b c : Option (List ℕ)) (piece front rest : List ℕ) (n : ℕ) → piece ≡ front ++ rest
@@ -47,3 +47,37 @@ pieces_front a b c pieces i d within before now =
     let split : (done ++ piece) ++ later ≡ (done ++ now.0) ++ (now.1 ++ later) =
     ap (λ l. (done ++ l) ++ later) now.2 ∙ simp append_assoc in
     (done ++ now.0, now.1 ++ later, all ∙ split, Appends-trans a b c _ _ before now.3)
+
+-- ---- pending bytes before a sink
+
+-- one piece and then another
+pub Passes-trans : (a b c : Option (List ℕ)) (p q r xs ys : List ℕ) → Passes a b p q xs → Passes b c q r ys → Passes a c p r (xs ++ ys)
+Passes-trans a b c p q r xs ys h k =
+    let cut : p ++ (xs ++ ys) ≡ (h.0 ++ k.0) ++ r =
+    sym (append_assoc p xs ys) ∙ ap (λ l. l ++ ys) h.1 ∙ append_assoc h.0 q ys ∙ ap (λ l. h.0 ++ l) k.1 ∙ sym (append_assoc h.0 k.0 r) in
+    (h.0 ++ k.0, cut, Appends-trans a b c h.0 k.0 h.2 k.2)
+
+-- one piece, and then of the pending bytes and another piece only a front
+pub Passes-front : (a b c : Option (List ℕ)) (p q xs ys : List ℕ) → Passes a b p q xs → AppendsFront b c (q ++ ys) → AppendsFront a c (p ++ (xs ++ ys))
+Passes-front a b c p q xs ys h k =
+    let cut : p ++ (xs ++ ys) ≡ (h.0 ++ k.0) ++ k.1 =
+    sym (append_assoc p xs ys) ∙ ap (λ l. l ++ ys) h.1 ∙ append_assoc h.0 q ys ∙ ap (λ l. h.0 ++ l) k.2 ∙ sym (append_assoc h.0 k.0 k.1) in
+    (h.0 ++ k.0, k.1, cut, Appends-trans a b c h.0 k.0 h.2 k.3)
+
+-- a piece that stays pending
+pub Passes-kept : (a : Option (List ℕ)) (p left xs : List ℕ) → left ≡ p ++ xs → Passes a a p left xs
+Passes-kept a p left xs e = ([], sym e, Appends-nil a)
+
+-- a piece that went to the sink with all that was pending
+pub Passes-written : (a b : Option (List ℕ)) (p left xs : List ℕ) → left ≡ [] → Appends a b (p ++ xs) → Passes a b p left xs
+Passes-written a b p left xs e h = (p ++ xs, sym (ap (λ l. (p ++ xs) ++ l) e ∙ append-nil (p ++ xs)), h)
+
+-- a front of a front
+pub AppendsFront-more : (a b : Option (List ℕ)) (xs ys : List ℕ) → AppendsFront a b xs → AppendsFront a b (xs ++ ys)
+AppendsFront-more a b xs ys h = (h.0, h.1 ++ ys, ap (λ l. l ++ ys) h.2 ∙ append_assoc h.0 h.1 ys, h.3)
+
+-- the rest of a piece was cut at a place
+pub parts_again : (piece front rest part after : List ℕ) (n : ℕ) → piece ≡ front ++ rest → part ≡ take n rest → after ≡ drop n rest → piece ≡ (front ++ part) ++ after
+parts_again piece front rest part after n e p a =
+    e ∙ ap (λ l. front ++ l) (sym (take-append-drop n rest)) ∙ sym (append_assoc front (take n rest) (drop n rest))
+    ∙ ap (λ l. (front ++ l) ++ drop n rest) (sym p) ∙ ap (λ l. (front ++ part) ++ l) (sym a)

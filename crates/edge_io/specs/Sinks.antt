@@ -16,3 +16,8 @@ joined_bytes pieces = flat_map (λ piece. piece.now) pieces
 abbrev pub AppendsFront : Option (List ℕ) → Option (List ℕ) → List ℕ → Type 0
 AppendsFront old new piece =
     (front : List ℕ) × (rest : List ℕ) × (piece ≡ front ++ rest) × Appends old new front
+
+-- of the pending bytes and the piece behind them a front went to the sink, and the rest is pending
+abbrev pub Passes : Option (List ℕ) → Option (List ℕ) → List ℕ → List ℕ → List ℕ → Type 0
+Passes told now pending left piece =
+    (front : List ℕ) × (pending ++ piece ≡ front ++ left) × Appends told now front

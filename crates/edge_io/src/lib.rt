@@ -4,15 +4,19 @@
 
 mod empties;
 mod ends;
+mod line_buffer;
 mod lists;
 mod memory_files;
 mod memory_sink;
 mod real;
+mod taking;
 mod whole;
 
 pub use ends::{Failed, Files, Sink};
+pub use line_buffer::LineBuffer;
 pub use lists::{CallList, FileList};
 pub use memory_files::MemoryFiles;
 pub use memory_sink::MemorySink;
 pub use real::{RealFiles, RealSink};
+pub use taking::{ReadFault, take_piece};
 pub use whole::{ReadAnswer, WriteFault, read_all, write_all, write_pieces};
