@@ -6,3 +6,5 @@ pub mod LineWords
 pub mod Lines
 pub mod DigitLoop
 pub mod NumberAgain
+pub mod LexerSteps
+pub mod LexerFields

@@ -16,7 +16,7 @@ abbrev pub is_ink : ℕ → Bool
 is_ink c = not (is_blank c)
 
 -- one blank in front is no part of a word
-words_blank : (c : ℕ) (cs : List ℕ) → is_blank c ≡ true → words (c ∷ cs) ≡ words cs
+pub words_blank : (c : ℕ) (cs : List ℕ) → is_blank c ≡ true → words (c ∷ cs) ≡ words cs
 unfolding words
 words_blank c cs e = rw e refl
 
@@ -39,7 +39,7 @@ pub words_none : words [] ≡ []
 unfolding words
 words_none = refl
 
-kept_first : (w : List ℕ) (ws : List (List ℕ)) → 0 < length w → filter is_filled (w ∷ ws) ≡ w ∷ filter is_filled ws
+pub kept_first : (w : List ℕ) (ws : List (List ℕ)) → 0 < length w → filter is_filled (w ∷ ws) ≡ w ∷ filter is_filled ws
 kept_first [] ws some = absurd (omega arith)
 kept_first (c ∷ cs) ws some = refl
 

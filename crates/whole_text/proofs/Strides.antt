@@ -1,10 +1,10 @@
 -- Strides, and the tokens and words that they stand for.
-use Rattle.std.proofs.Common.{◌≡◌, ℕ, zero, suc, ◌+◌, ◌-◌, ◌*◌, ◌/◌, ◌%◌, ◌<◌, ◌≤◌, Bool, true, false, eqb, List, [], ◌∷◌, ◌++◌, length, map, take, drop, refl, sym, ap, ◌∙◌, arith, inl, inr}
+use Rattle.std.proofs.Common.{◌≡◌, ℕ, suc, ◌+◌, ◌-◌, ◌*◌, ◌/◌, ◌<◌, ◌≤◌, eqb, List, [], ◌∷◌, ◌++◌, length, take, drop, refl, ap, ◌∙◌, arith, inl, inr}
 use Rattle.std.specs.Prelude.{slice_get, if◌then◌else◌, Some, None}
 use Rattle.std.specs.Option.{option_map, option_map_or}
 use Rattle.std.specs.declared.option.Option.{Option}
 use Rattle.std.specs.List.{slice_range}
-use Rattle.std.proofs.lemmas.Bool.{cases_Bool, ne_eqb, eqb-true}
+use Rattle.std.proofs.lemmas.Bool.{cases_Bool, ne_eqb}
 use Rattle.std.proofs.lemmas.List.{length-map, drop-drop}
 use Rattle.std.proofs.lemmas.Nat.{mod-mul-add, div-mul-add}
 use Rattle.std.proofs.lemmas.Option.{slice_get-map}
@@ -123,6 +123,13 @@ last_of_rest : {A : Type 0} (f : A → ℕ) (d : ℕ) (x y : A) (xs : List A)
 last_of_rest f d x y xs =
     let k : length (x ∷ y ∷ xs) - 1 ≡ suc (length (y ∷ xs) - 1) = omega arith in
     rw k refl
+
+-- the line of a token that was pushed
+pub last_line_pushed : (ts : List Token) (t : Token) → last_line (ts ++ t ∷ []) ≡ t.line
+last_line_pushed [] t = refl
+last_line_pushed (u ∷ []) t = last_of_rest (λ (v : Token). v.line) 1 u t []
+last_line_pushed (u ∷ v ∷ ts) t =
+    last_of_rest (λ (w : Token). w.line) 1 u v (ts ++ t ∷ []) ∙ last_line_pushed (v ∷ ts) t
 
 last_from : (at line : ℕ) (s : Stride) (ss : List Stride) → last_line (placed at line (s ∷ ss)) ≡ line + lines_along (s ∷ ss)
 last_from at line s [] = omega arith

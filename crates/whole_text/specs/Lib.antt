@@ -4,3 +4,5 @@ pub mod Packed
 pub mod laws
 pub mod TokenTexts
 pub mod Steps
+pub mod Lexing
+pub mod LexerPlaces

@@ -1,7 +1,6 @@
 -- The words of a text, packed: their bytes joined, and for each word its stride, which is its length
 -- and how many lines it stands below the word before.
 use Rattle.std.specs.Prelude.{◌≡◌, ℕ, ◌+◌, ◌/◌, ◌%◌, ◌^◌, ◌<◌, ◌≤◌, List, [], ◌∷◌, length, take, drop, ◌==◌, if◌then◌else◌}
-use Rattle.std.specs.List.{count_by}
 use Rattle.whole_text.specs.declared.packed.Stride.{Stride}
 use Rattle.whole_text.specs.declared.token.Token.{Token}
 use Rattle.whole_text.specs.Tokens.{Word, word}

@@ -1,6 +1,5 @@
 -- A text of words alone: their bytes joined, and a token for each.
-use Rattle.std.specs.Prelude.{◌≡◌, ℕ, ◌<◌, List, [], ◌∷◌}
-use Rattle.whole_text.specs.declared.token.Token.{Token}
+use Rattle.std.specs.Prelude.{List}
 use Rattle.whole_text.specs.declared.words.WordRef.{WordRef}
 use Rattle.whole_text.specs.Tokens.{Word, word, words_at}
 use Rattle.whole_text.specs.declared.token_text.TokenText.{TokenText}

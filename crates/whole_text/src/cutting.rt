@@ -8,14 +8,14 @@ use crate::token::{Style, Token};
 use bits_model::NoMemory;
 use std::alloc::Global;
 
-fn is_blank(byte: u8) -> bool
+pub(crate) fn is_blank(byte: u8) -> bool
     ensures { result ≡ is_blank byte }
 {
     byte == b' ' || byte == b'\t' || byte == b'\r'
 }
 
 /// The byte that begins a comment line.
-fn comment_byte(style: Style) -> u8
+pub(crate) fn comment_byte(style: Style) -> u8
     ensures { result ≡ comment_byte style }
 {
     match style {

@@ -7,8 +7,10 @@
 mod cutting;
 mod faults;
 mod laws;
+mod lexing;
 mod numbers;
 mod packed;
+mod putting;
 mod steps;
 mod token;
 mod token_text;
@@ -17,8 +19,10 @@ mod words;
 pub use cutting::tokens;
 pub use faults::{TextAnswer, TextFault, TextKind};
 pub use laws::laws_of_numbers;
+pub use lexing::Lexer;
 pub use numbers::{number, push_number};
 pub use packed::TokenList;
+pub use putting::put_number;
 pub use steps::{
     bytes_at, end_line, fault, integer, integer_word, natural, natural_word, next, next_word,
 };

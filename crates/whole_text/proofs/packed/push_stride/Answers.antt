@@ -1,6 +1,5 @@
-use Rattle.std.proofs.Common.{arith, ◌≡◌, ◌+◌, ◌*◌, ◌<◌, ◌∷◌, ◌++◌, [], ◌∙◌, ap, List}
+use Rattle.std.proofs.Common.{arith, ◌+◌, ◌*◌, ◌<◌, ◌∷◌, ◌++◌, [], ◌∙◌, ap}
 use Rattle.std.proofs.lemmas.Bool.{ne_eqb}
-use Rattle.whole_text.specs.declared.packed.Stride.{Stride}
 use Rattle.whole_text.specs.Packed.{strides}
 use Rattle.whole_text.proofs.Strides.{strides_mark, stride_again, wide_marks-push}
 use Rattle.whole_text.proofs.packed.push_stride.Goals as goal

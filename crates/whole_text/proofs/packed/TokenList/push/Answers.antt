@@ -1,4 +1,4 @@
-use Rattle.std.proofs.Common.{arith, rules, ◌≡◌, ◌+◌, ◌-◌, ◌≤◌, ◌∙◌, sym, ap, ◌++◌, ◌∷◌, [], List}
+use Rattle.std.proofs.Common.{arith, rules, ◌≡◌, ◌+◌, ◌-◌, ◌∙◌, ap, ◌++◌, ◌∷◌, []}
 use Rattle.whole_text.specs.declared.token.Token.{Token}
 use Rattle.whole_text.specs.Packed.{strides, placed, bytes_along, lines_along}
 use Rattle.whole_text.proofs.Strides.{token_along, last_placed, placed-push, lines_along-push, joined_bytes}

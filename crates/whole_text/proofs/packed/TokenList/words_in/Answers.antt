@@ -1,5 +1,5 @@
-use Rattle.std.proofs.Common.{arith, ◌+◌, ◌≤◌, ◌<◌, ◌^◌, length, ◌∙◌}
-use Rattle.whole_text.specs.Packed.{strides, bytes_along, lines_along}
+use Rattle.std.proofs.Common.{arith, length, ◌∙◌}
+use Rattle.whole_text.specs.Packed.{strides}
 use Rattle.whole_text.proofs.Strides.{joined_bytes, words_placed}
 use Rattle.whole_text.proofs.packed.TokenList.words_in.Goals as goal
 

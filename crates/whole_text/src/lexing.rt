@@ -1,0 +1,222 @@
+//! The words of a text that comes in pieces. The text isn't held, only its words.
+ghost use Rattle.std.specs.Prelude.{◌≡◌, ℕ, ◌+◌, ◌-◌, ◌^◌, ◌<◌, ◌≤◌, ◌++◌, ◌∷◌, [], List, false, length, IfOk, OnOk, OnErr};
+ghost use Rattle.whole_text.specs.Tokens.{is_feed, is_blank, tokens_of, words_at};
+ghost use Rattle.whole_text.specs.TokenTexts.{words_of};
+ghost use Rattle.whole_text.specs.Lexing.{Inside, StandsFor, HasRoom};
+ghost use Rattle.whole_text.specs.LexerPlaces.{ended, begun, after_blank, IsLive};
+
+use crate::cutting::{comment_byte, is_blank};
+use crate::packed::TokenList;
+use crate::token::{Style, Token};
+use crate::token_text::TokenText;
+use bits_model::{Items, NoMemory};
+use std::alloc::Global;
+use std::marker::Model;
+
+/// Where a lexer stands in a line.
+#[derive(Clone, Copy, Debug, PartialEq, Eq)]
+enum At {
+    /// Only blanks so far.
+    Fresh,
+    /// Between two words.
+    Between,
+    /// Inside a word.
+    Inside,
+    /// In a comment.
+    Comment,
+    /// Memory was refused, and no more is read.
+    Spent,
+}
+
+/// The words so far of a text that comes in pieces, and where it stands in a line.
+#[derive(Drop)]
+pub struct Lexer {
+    style: Style,
+    bytes: Vec<u8>,
+    tokens: TokenList,
+    at: At,
+    start: usize,
+    line: u64,
+}
+
+impl Model for Lexer {
+    ghost use Rattle.std.specs.Prelude.{length, drop};
+    ghost use Rattle.whole_text.specs.Tokens.{words_at};
+    ghost use Rattle.whole_text.specs.Lexing.{LexerState};
+    ghost use Rattle.whole_text.specs.LexerPlaces.{place_at, IsLexer};
+
+    ghost Value = { LexerState };
+
+    ghost view = { λ lexer. record {
+      style = lexer.style;
+      words = words_at lexer.bytes.items lexer.tokens;
+      place = place_at lexer.at (drop lexer.start lexer.bytes.items);
+      line = lexer.line;
+      size = length lexer.bytes.items;
+    } };
+
+    ghost invariant = { λ lexer.
+        IsLexer lexer.at lexer.tokens lexer.start (length lexer.bytes.items) lexer.line };
+}
+
+impl Lexer {
+    /// A lexer of no text so far.
+    pub fn new(alloc: Global, style: Style) -> Lexer
+        ensures empty { StandsFor result [] }
+        ensures style { result.style ≡ style }
+    {
+        Lexer {
+            style,
+            bytes: Vec::new(alloc),
+            tokens: TokenList::new(alloc),
+            at: At::Fresh,
+            start: 0,
+            line: 1,
+        }
+    }
+
+    /// Takes the next piece of the text. After `NoMemory` it is spent, and may only be dropped.
+    pub fn feed(&mut self, piece: &[u8]) -> Result<(), NoMemory>
+        requires { HasRoom self.old piece.now (2 ^ 32) }
+        ensures fed { OnOk result ((text : List ℕ) → StandsFor self.old text
+            → StandsFor self.new (text ++ piece.now)) }
+        ensures spent { OnErr result ((text : List ℕ) → StandsFor self.new text → ⊥) }
+        ensures style { self.new.style ≡ self.old.style }
+    {
+        match self.steps(piece) {
+            Ok(()) => Ok(()),
+            Err(_) => {
+                self.at = At::Spent;
+                Err(NoMemory)
+            }
+        }
+    }
+
+    /// The words of the text, which ends here.
+    pub fn finish(mut self) -> Result<TokenText, NoMemory>
+        requires { (text : List ℕ) × StandsFor self text }
+        ensures words { IfOk result (λ t. (text : List ℕ) → StandsFor self text
+            → words_of t ≡ tokens_of self.style text) }
+        ensures size { IfOk result (λ t. (text : List ℕ) → StandsFor self text
+            → length t.bytes ≤ length text) }
+    {
+        self.end_word()?;
+        Ok(TokenText {
+            bytes: Items::new(self.bytes),
+            tokens: self.tokens,
+        })
+    }
+
+    /// A step for each byte. The room for their words is reserved at once.
+    fn steps(&mut self, piece: &[u8]) -> Result<(), NoMemory>
+        requires { HasRoom self.old piece.now (2 ^ 32) }
+        ensures fed { OnOk result ((text : List ℕ) → StandsFor self.old text
+            → StandsFor self.new (text ++ piece.now)) }
+        ensures style { self.new.style ≡ self.old.style }
+    {
+        self.bytes.reserve(piece.len())?;
+        for byte in piece {
+            self.step(*byte)?;
+        }
+        Ok(())
+    }
+
+    /// One byte more.
+    #[inline(always)]
+    fn step(&mut self, byte: u8) -> Result<(), NoMemory>
+        requires live { IsLive self.old.place }
+        requires few { self.old.line < 2 ^ 64 - 1 }
+        ensures stepped { OnOk result ((text : List ℕ) → StandsFor self.old text
+            → StandsFor self.new (text ++ byte ∷ [])) }
+        ensures style { self.new.style ≡ self.old.style }
+    {
+        if byte > b' ' {
+            self.ink(byte)
+        } else if byte == b'\n' {
+            self.line_feed()
+        } else if is_blank(byte) {
+            self.end_word()
+        } else {
+            self.ink(byte)
+        }
+    }
+
+    /// A byte that is neither a blank nor a line feed.
+    #[inline(always)]
+    fn ink(&mut self, byte: u8) -> Result<(), NoMemory>
+        requires live { IsLive self.old.place }
+        requires no_feed { is_feed byte ≡ false }
+        requires no_blank { is_blank byte ≡ false }
+        ensures stepped { OnOk result ((text : List ℕ) → StandsFor self.old text
+            → StandsFor self.new (text ++ byte ∷ [])) }
+        ensures style { self.new.style ≡ self.old.style }
+    {
+        match self.at {
+            At::Comment => Ok(()),
+            At::Fresh => {
+                if byte == comment_byte(self.style) {
+                    self.at = At::Comment;
+                    Ok(())
+                } else {
+                    self.push(byte)
+                }
+            }
+            At::Between => self.push(byte),
+            At::Inside => self.push(byte),
+            At::Spent => Err(NoMemory),
+        }
+    }
+
+    /// Appends a byte to the word that the lexer stands in, or begins a word with it.
+    #[inline(always)]
+    fn push(&mut self, byte: u8) -> Result<(), NoMemory>
+        requires { IsLive self.old.place }
+        ensures pushed { OnOk result (self.new ≡ record self.old {
+          place = Inside (begun self.old.place ++ byte ∷ []);
+          size = self.old.size + 1;
+        }) }
+        ensures style { self.new.style ≡ self.old.style }
+    {
+        self.bytes.push(byte)?;
+        self.at = At::Inside;
+        Ok(())
+    }
+
+    /// A line feed ends the word and the line.
+    #[inline(always)]
+    fn line_feed(&mut self) -> Result<(), NoMemory>
+        requires live { IsLive self.old.place }
+        requires few { self.old.line < 2 ^ 64 - 1 }
+        ensures stepped { OnOk result ((text : List ℕ) → StandsFor self.old text
+            → StandsFor self.new (text ++ 10 ∷ [])) }
+        ensures style { self.new.style ≡ self.old.style }
+    {
+        self.end_word()?;
+        self.line += 1;
+        self.at = At::Fresh;
+        Ok(())
+    }
+
+    /// Ends the word that the lexer stands in, if it stands in one.
+    #[inline(always)]
+    fn end_word(&mut self) -> Result<(), NoMemory>
+        requires { IsLive self.old.place }
+        ensures ended { OnOk result (self.new ≡ record self.old {
+          words = self.old.words ++ ended self.old.line self.old.place;
+          place = after_blank self.old.place;
+        }) }
+        ensures style { self.new.style ≡ self.old.style }
+    {
+        if self.at == At::Inside {
+            let end = self.bytes.len();
+            self.tokens.push(Token {
+                start: self.start,
+                end,
+                line: self.line,
+            })?;
+            self.start = end;
+            self.at = At::Between;
+        }
+        Ok(())
+    }
+}
