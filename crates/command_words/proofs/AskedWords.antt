@@ -5,10 +5,12 @@ use Rattle.std.specs.Option.{option_map_or, ok_or}
 use Rattle.std.proofs.lemmas.List.{drop_more}
 use Rattle.std.proofs.lemmas.Option.{slice_get_within, get_or_from_slice_get}
 use Rattle.std.proofs.lemmas.Slice.Eq.{bytes_eq-Decides}
+use Rattle.bits_model.specs.declared.output.UnitChoice.{UnitChoice}
+use Rattle.bits_model.specs.declared.output.UnitChoice.TheVariants.{One, Reduce}
 use Rattle.command_words.specs.declared.commands.Format.{Format}
-use Rattle.command_words.specs.declared.commands.Format.TheVariants.{Wcnf}
+use Rattle.command_words.specs.declared.commands.Format.TheVariants as formats
 use Rattle.command_words.specs.declared.commands.Target.{Target}
-use Rattle.command_words.specs.declared.commands.Target.TheVariants.{Qubo}
+use Rattle.command_words.specs.declared.commands.Target.TheVariants as targets
 use Rattle.command_words.specs.declared.commands.WordAt.{WordAt}
 use Rattle.command_words.specs.declared.commands.WordAt.TheVariants.{Whole}
 use Rattle.command_words.specs.declared.commands.Job.{Job}
@@ -18,18 +20,21 @@ use Rattle.command_words.specs.declared.names.Which.TheVariants.{Source}
 use Rattle.command_words.specs.declared.keys.Keys.{Keys}
 use Rattle.command_words.specs.declared.words.Verb.{Verb}
 use Rattle.command_words.specs.declared.words.Verb.TheVariants as verbs
-use Rattle.command_words.specs.Asked.{EachJobIsAskedFor, NoOtherWordsAsk, format_word, fourth_word_job, target_word, job_words, words_of}
+use Rattle.command_words.specs.Asked.{EachJobIsAskedFor, EachUnitIsAskedFor, NoUnitIsAskedForTwice, NoOtherWordsAsk, format_word, fourth_word_job, target_word, unit_key, job_words, words_of}
 use Rattle.command_words.specs.Commands.{◌>>=◌, after_verb, format_of, job_of, named, target_of, valued, verb_of}
-use Rattle.command_words.specs.Keys.{choices_of, keys_from, no_keys}
+use Rattle.command_words.specs.Keys.{choices_of, chosen_unit, keys_from, no_keys}
 use Rattle.command_words.specs.Names.{name_of, text_at}
 
 -- ---- the words of a job
 
 format_of-format_word : (format : Format) → format_of (format_word format) ≡ Some format
-format_of-format_word Wcnf = refl
+format_of-format_word formats.Wcnf = refl
+format_of-format_word formats.Ising = refl
+format_of-format_word formats.Qubo = refl
 
 target_of-target_word : (target : Target) → target_of (target_word target) ≡ Some target
-target_of-target_word Qubo = refl
+target_of-target_word targets.Qubo = refl
+target_of-target_word targets.Ising = refl
 
 pub each_job : EachJobIsAskedFor
 each_job format target file keys =
@@ -37,13 +42,28 @@ each_job format target file keys =
     (go (keys_from target no_keys 4 keys))
   where
     chosen : Keys → Job
-    chosen given = fourth_word_job format target (choices_of given)
+    chosen given = fourth_word_job format target given
 
     go : (r : Result Keys ℕ)
         → ((r >>= λ given. Ok (chosen given)) >>= λ job. Ok (Compile job))
         ≡ (r >>= λ given. Ok (Compile (chosen given)))
     go (Ok given) = refl
     go (Err position) = refl
+
+-- a key for the unit alone
+unit_alone : (target : Target) (unit : UnitChoice)
+    → keys_from target no_keys 4 (unit_key unit ∷ []) ≡ Ok (record no_keys { unit = Some unit })
+unit_alone target One = refl
+unit_alone target Reduce = refl
+
+pub each_unit : EachUnitIsAskedFor
+each_unit format target file unit =
+    each_job format target file (unit_key unit ∷ [])
+    ∙ ap (λ (r : Result Keys ℕ). r >>= λ given. Ok (Compile (fourth_word_job format target given)))
+    (unit_alone target unit)
+
+pub no_unit_twice : NoUnitIsAskedForTwice
+no_unit_twice target keys at first word value given named = rw (named, given) refl
 
 -- ---- a step, and the next one
 
@@ -70,10 +90,12 @@ line {A} word_of word x below others = go (bytes_eq word (word_of x)) refl
     go false e = others
 
 format_of-word : (word : List ℕ) → IfSome (format_of word) (λ format. word ≡ format_word format)
-format_of-word word = line format_word word Wcnf None tt
+format_of-word word =
+    line format_word word formats.Wcnf _
+    (line format_word word formats.Ising _ (line format_word word formats.Qubo None tt))
 
 target_of-word : (word : List ℕ) → IfSome (target_of word) (λ target. word ≡ target_word target)
-target_of-word word = line target_word word Qubo None tt
+target_of-word word = line target_word word targets.Qubo _ (line target_word word targets.Ising None tt)
 
 abbrev verb_word : Verb → List ℕ
 verb_word verbs.Compile = codes "compile"
@@ -135,7 +157,13 @@ module _ (words : List (List ℕ)) (keys_at : ℕ) where
   -- the steps of a job, each with those after it
   abbrev with_keys : Format → Target → WordAt → Keys → Result Job ℕ
   with_keys format target file keys =
-      Ok (record { format = format; file = file; target = target; choices = choices_of keys })
+      Ok (record {
+        format = format;
+        file = file;
+        target = target;
+        choices = choices_of keys;
+        unit = chosen_unit keys;
+      })
 
   abbrev with_file : Format → Target → WordAt → Result Job ℕ
   with_file format target file =

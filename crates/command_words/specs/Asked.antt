@@ -1,26 +1,31 @@
 -- Which lists of words ask for a command.
-use Rattle.std.specs.Prelude.{◌≡◌, List, [], ◌∷◌, ◌++◌, ℕ, codes, IfOk, Ok}
-use Rattle.problem_form.specs.declared.limits.Choices.{Choices}
+use Rattle.std.specs.Prelude.{◌≡◌, List, [], ◌∷◌, ◌++◌, ℕ, codes, IfOk, Ok, Some, None}
+use Rattle.bits_model.specs.declared.output.UnitChoice.{UnitChoice}
+use Rattle.bits_model.specs.declared.output.UnitChoice.TheVariants.{One, Reduce}
+use Rattle.command_words.specs.declared.keys.Keys.{Keys}
 use Rattle.command_words.specs.declared.commands.Format.{Format}
-use Rattle.command_words.specs.declared.commands.Format.TheVariants.{Wcnf}
+use Rattle.command_words.specs.declared.commands.Format.TheVariants as formats
 use Rattle.command_words.specs.declared.commands.Target.{Target}
-use Rattle.command_words.specs.declared.commands.Target.TheVariants.{Qubo}
+use Rattle.command_words.specs.declared.commands.Target.TheVariants as targets
 use Rattle.command_words.specs.declared.commands.WordAt.TheVariants.{Whole}
 use Rattle.command_words.specs.declared.commands.Job.{Job}
 use Rattle.command_words.specs.declared.commands.Command.{Command}
 use Rattle.command_words.specs.declared.commands.Command.TheVariants.{Compile}
 use Rattle.command_words.specs.declared.names.Which.TheVariants.{Source}
 use Rattle.command_words.specs.Commands.{◌>>=◌, command_of}
-use Rattle.command_words.specs.Keys.{choices_of, keys_from, no_keys}
+use Rattle.command_words.specs.Keys.{choices_of, chosen_unit, cut, keys_from, no_keys, with_word}
 use Rattle.command_words.specs.Names.{name_of}
 
 -- the word of a format
 abbrev pub format_word : Format → List ℕ
-format_word Wcnf = codes "wcnf"
+format_word formats.Wcnf = codes "wcnf"
+format_word formats.Ising = codes "ising"
+format_word formats.Qubo = codes "qubo"
 
 -- the word of a target
 abbrev pub target_word : Target → List ℕ
-target_word Qubo = codes "qubo"
+target_word targets.Qubo = codes "qubo"
+target_word targets.Ising = codes "ising"
 
 -- the words of a format, a target and a file
 abbrev pub job_words : Format → Target → List ℕ → List (List ℕ)
@@ -31,16 +36,38 @@ abbrev pub words_of : Command → List ℕ → List (List ℕ)
 words_of (Compile job) file = codes "compile" ∷ job_words job.format job.target file
 
 -- the job on the file that the fourth word names
-abbrev pub fourth_word_job : Format → Target → Choices → Job
-fourth_word_job format target choices =
-    record { format = format; file = Whole 3; target = target; choices = choices }
+abbrev pub fourth_word_job : Format → Target → Keys → Job
+fourth_word_job format target keys = record {
+  format = format;
+  file = Whole 3;
+  target = target;
+  choices = choices_of keys;
+  unit = chosen_unit keys;
+}
+
+-- the key that chooses a unit
+abbrev pub unit_key : UnitChoice → List ℕ
+unit_key One = codes "unit=one"
+unit_key Reduce = codes "unit=reduce"
 
 -- every format, target and file can be asked for, with what the keys after them choose
 abbrev pub EachJobIsAskedFor : Type 0
 EachJobIsAskedFor = (format : Format) (target : Target) (file : List ℕ) (keys : List (List ℕ))
     → command_of (codes "compile" ∷ job_words format target file ++ keys)
     ≡ (keys_from target no_keys 4 keys
-    >>= λ given. Ok (Compile (fourth_word_job format target (choices_of given))))
+    >>= λ given. Ok (Compile (fourth_word_job format target given)))
+
+-- each way to choose the unit can be asked for, with every format, target and file
+abbrev pub EachUnitIsAskedFor : Type 0
+EachUnitIsAskedFor = (format : Format) (target : Target) (file : List ℕ) (unit : UnitChoice)
+    → command_of (codes "compile" ∷ job_words format target file ++ unit_key unit ∷ [])
+    ≡ Ok (Compile (fourth_word_job format target (record no_keys { unit = Some unit })))
+
+-- the unit is chosen once: with a key for it, no other word of that name can stand
+abbrev pub NoUnitIsAskedForTwice : Type 0
+NoUnitIsAskedForTwice = (target : Target) (keys : Keys) (at : ℕ) (first : UnitChoice)
+    (word value : List ℕ) → keys.unit ≡ Some first → cut word ≡ Some (codes "unit", value)
+    → with_word target keys at word ≡ None
 
 -- words that ask for a command are its own, with the name of its source, and then keys
 abbrev pub NoOtherWordsAsk : Type 0

@@ -3,9 +3,9 @@
 use Rattle.std.specs.Prelude.{ℕ, ◌+◌, List, drop, String, string_bytes, map, bytes_eq, codes, if◌then◌else◌, Ok, Err, Some, None, Result, Option, slice_get}
 use Rattle.std.specs.Option.{option_map_or, ok_or}
 use Rattle.command_words.specs.declared.commands.Format.{Format}
-use Rattle.command_words.specs.declared.commands.Format.TheVariants.{Wcnf}
+use Rattle.command_words.specs.declared.commands.Format.TheVariants as formats
 use Rattle.command_words.specs.declared.commands.Target.{Target}
-use Rattle.command_words.specs.declared.commands.Target.TheVariants.{Qubo}
+use Rattle.command_words.specs.declared.commands.Target.TheVariants as targets
 use Rattle.command_words.specs.declared.commands.WordAt.{WordAt}
 use Rattle.command_words.specs.declared.commands.WordAt.TheVariants.{Whole}
 use Rattle.command_words.specs.declared.commands.Job.{Job}
@@ -13,7 +13,7 @@ use Rattle.command_words.specs.declared.commands.Command.{Command}
 use Rattle.command_words.specs.declared.commands.Command.TheVariants.{Compile}
 use Rattle.command_words.specs.declared.words.Verb.{Verb}
 use Rattle.command_words.specs.declared.words.Verb.TheVariants as verbs
-use Rattle.command_words.specs.Keys.{choices_of, keys_from, no_keys}
+use Rattle.command_words.specs.Keys.{choices_of, chosen_unit, keys_from, no_keys}
 
 -- a step on the words, and the next one with its value; a word that cannot stand ends it
 infixl 10 ◌>>=◌
@@ -32,11 +32,19 @@ named words i = option_map_or (λ word. Ok (Whole i)) (slice_get words i) (Err (
 
 -- the words of the formats
 abbrev pub format_of : List ℕ → Option Format
-format_of word = if bytes_eq word (codes "wcnf") then Some Wcnf else None
+format_of word =
+    if bytes_eq word (codes "wcnf")
+    then Some formats.Wcnf
+    else if bytes_eq word (codes "ising")
+    then Some formats.Ising
+    else if bytes_eq word (codes "qubo") then Some formats.Qubo else None
 
 -- the words of the targets
 abbrev pub target_of : List ℕ → Option Target
-target_of word = if bytes_eq word (codes "qubo") then Some Qubo else None
+target_of word =
+    if bytes_eq word (codes "qubo")
+    then Some targets.Qubo
+    else if bytes_eq word (codes "ising") then Some targets.Ising else None
 
 -- the job of FORMAT TARGET FILE, from the second word on, with the keys from an index on
 abbrev pub job_of : List (List ℕ) → ℕ → Result Job ℕ
@@ -45,7 +53,13 @@ job_of words keys_at = do
   target ← valued target_of words 2
   file ← named words 3
   keys ← keys_from target no_keys keys_at (drop keys_at words)
-  Ok (record { format = format; file = file; target = target; choices = choices_of keys })
+  Ok (record {
+    format = format;
+    file = file;
+    target = target;
+    choices = choices_of keys;
+    unit = chosen_unit keys;
+  })
 
 -- the words of the verbs
 abbrev pub verb_of : List ℕ → Option Verb

@@ -1,7 +1,9 @@
 -- The keys of a command, in any order, each at most once: words of the form `NAME=VALUE`.
-use Rattle.std.specs.Prelude.{◌≡◌, ℕ, ◌+◌, ◌==◌, List, [], ◌∷◌, take, drop, Bool, Ok, Err, None, Result, Option}
+use Rattle.std.specs.Prelude.{◌≡◌, ℕ, ◌+◌, ◌==◌, List, [], ◌∷◌, take, drop, Bool, codes, bytes_eq, if◌then◌else◌, Ok, Err, Some, None, Result, Option}
 use Rattle.std.specs.List.{position}
 use Rattle.std.specs.Option.{option_map, option_map_or}
+use Rattle.bits_model.specs.declared.output.UnitChoice.{UnitChoice}
+use Rattle.bits_model.specs.declared.output.UnitChoice.TheVariants.{One, Reduce}
 use Rattle.problem_form.specs.declared.limits.Choices.{Choices}
 use Rattle.problem_form.specs.declared.limits.Normal.TheVariants.{Literal}
 use Rattle.problem_form.specs.declared.limits.High.TheVariants.{Monomial}
@@ -10,7 +12,7 @@ use Rattle.command_words.specs.declared.keys.Keys.{Keys}
 
 -- no key is given
 abbrev pub no_keys : Keys
-no_keys = record { normal = None; high = None }
+no_keys = record { normal = None; high = None; unit = None }
 
 -- what keys choose, and the usual choice for each that was not given
 abbrev pub choices_of : Keys → Choices
@@ -18,6 +20,10 @@ choices_of keys = record {
   normal = option_map_or (λ value. value) keys.normal Literal;
   high = option_map_or (λ value. value) keys.high Monomial;
 }
+
+-- how keys choose the unit, which is usually 1
+abbrev pub chosen_unit : Keys → UnitChoice
+chosen_unit keys = option_map_or (λ value. value) keys.unit One
 
 -- the byte `=`
 abbrev pub is_equals : ℕ → Bool
@@ -27,10 +33,25 @@ is_equals byte = byte == 61
 abbrev pub cut : List ℕ → Option (List ℕ × List ℕ)
 cut word = option_map (λ i. (take i word, drop (i + 1) word)) (position is_equals word)
 
+-- the value of a key that is given once: none where there is one already
+abbrev pub once : {A : Type 0} → Option A → Option A → Option A
+once None value = value
+once (Some given) value = None
+
+-- the words of the ways to choose the unit
+abbrev pub unit_of : List ℕ → Option UnitChoice
+unit_of value =
+    if bytes_eq value (codes "one")
+    then Some One
+    else if bytes_eq value (codes "reduce") then Some Reduce else None
+
 -- the table of keys: the keys with one more, whose word stands at an index, or none where it
 -- cannot stand
 abbrev pub with_pair : Target → Keys → ℕ → List ℕ → List ℕ → Option Keys
-with_pair target keys at name value = None
+with_pair target keys at name value =
+    if bytes_eq name (codes "unit")
+    then option_map (λ unit. record keys { unit = Some unit }) (once keys.unit (unit_of value))
+    else None
 
 -- the keys with that of one word more, or none where the word cannot stand
 abbrev pub with_word : Target → Keys → ℕ → List ℕ → Option Keys

@@ -4,7 +4,7 @@ use Rattle.std.specs.Option.{option_map_or}
 use Rattle.command_words.specs.declared.commands.WordAt.{WordAt}
 use Rattle.command_words.specs.declared.commands.WordAt.TheVariants.{Whole, Value}
 use Rattle.command_words.specs.declared.commands.Target.{Target}
-use Rattle.command_words.specs.declared.commands.Target.TheVariants.{Qubo}
+use Rattle.command_words.specs.declared.commands.Target.TheVariants as targets
 use Rattle.command_words.specs.declared.commands.Job.{Job}
 use Rattle.command_words.specs.declared.commands.Command.{Command}
 use Rattle.command_words.specs.declared.commands.Command.TheVariants.{Compile}
@@ -27,7 +27,8 @@ job_in (Compile job) = job
 
 -- the place of the name of the map of chains
 abbrev pub map_of : Target → Option WordAt
-map_of Qubo = None
+map_of targets.Qubo = None
+map_of targets.Ising = None
 
 -- the place of the name of a state or an assignment
 abbrev pub state_of : Command → Option WordAt

@@ -1,18 +1,22 @@
 //! Commands. All of one is `Copy`, since a name stands in it as its place in the words.
 ghost use Rattle.std.specs.Prelude.{◌≡◌};
 
+use bits_model::UnitChoice;
 use problem_form::Choices;
 
 /// The layout of a source.
 #[derive(Clone, Copy, Debug, PartialEq, Eq)]
 pub enum Format {
     Wcnf,
+    Ising,
+    Qubo,
 }
 
 /// What kind of model is written.
 #[derive(Clone, Copy, Debug, PartialEq, Eq)]
 pub enum Target {
     Qubo,
+    Ising,
 }
 
 /// A text in the words: the word at an index, or what stands in it after its first `=`.
@@ -29,6 +33,7 @@ pub struct Job {
     pub file: WordAt,
     pub target: Target,
     pub choices: Choices,
+    pub unit: UnitChoice,
 }
 
 /// What a run does.

@@ -1,8 +1,9 @@
 //! The keys of a command, in any order, each at most once: words of the form `NAME=VALUE`.
 ghost use Rattle.std.specs.Prelude.{◌≡◌, ◌+◌, ◌<◌, ◌^◌, length, map, string_bytes, Some, None, MatchOption, IfOk, IfSome};
-ghost use Rattle.command_words.specs.Keys.{IsOffered, choices_of, cut, keys_from, no_keys, with_pair, with_word};
+ghost use Rattle.command_words.specs.Keys.{IsOffered, chosen_unit, choices_of, cut, keys_from, no_keys, once, unit_of, with_pair, with_word};
 
 use crate::commands::Target;
+use bits_model::UnitChoice;
 use problem_form::{Choices, High, Normal};
 
 /// The keys that were given, each with its value.
@@ -10,6 +11,7 @@ use problem_form::{Choices, High, Normal};
 pub struct Keys {
     pub normal: Option<Normal>,
     pub high: Option<High>,
+    pub unit: Option<UnitChoice>,
 }
 
 /// No key is given.
@@ -19,6 +21,7 @@ pub(crate) fn no_keys() -> Keys
     Keys {
         normal: None,
         high: None,
+        unit: None,
     }
 }
 
@@ -32,6 +35,13 @@ pub(crate) fn choices_of(keys: Keys) -> Choices
     }
 }
 
+/// How the printed unit is chosen, which is usually 1.
+pub(crate) fn chosen_unit(keys: Keys) -> UnitChoice
+    ensures { result ≡ chosen_unit keys }
+{
+    keys.unit.unwrap_or(UnitChoice::One)
+}
+
 /// What stands before the first `=` of a word and what after it, or none where there is no `=`.
 pub(crate) fn cut(word: &str) -> Option<(&str, &str)>
     ensures { MatchOption result
@@ -41,19 +51,47 @@ pub(crate) fn cut(word: &str) -> Option<(&str, &str)>
     word.split_once('=')
 }
 
+/// The value of a key that is given once: none where there is one already.
+fn once<T: Copy>(given: Option<T>, value: Option<T>) -> Option<T>
+    ensures { result ≡ once given value }
+{
+    match given {
+        None => value,
+        Some(_) => None,
+    }
+}
+
+fn unit_of(value: &str) -> Option<UnitChoice>
+    ensures { result ≡ unit_of value.now }
+{
+    match value {
+        "one" => Some(UnitChoice::One),
+        "reduce" => Some(UnitChoice::Reduce),
+        _ => None,
+    }
+}
+
 /// The table of keys: the keys with one more, whose word stands at the index `at`, or none where
-/// it cannot stand. No key is taken yet.
+/// it cannot stand.
 fn with_pair(target: Target, keys: Keys, at: usize, name: &str, value: &str) -> Option<Keys>
     ensures exact { result ≡ with_pair target keys at name.now value.now }
-    ensures offered { IfSome result (λ more. IsOffered (choices_of more)) }
+    ensures offered { IsOffered (choices_of keys)
+        → IfSome result (λ more. IsOffered (choices_of more)) }
 {
-    None
+    match name {
+        "unit" => {
+            let unit = Some(once(keys.unit, unit_of(value))?);
+            Some(Keys { unit, ..keys })
+        }
+        _ => None,
+    }
 }
 
 /// The keys with that of one word more, or none where the word cannot stand.
 fn with_word(target: Target, keys: Keys, at: usize, word: &str) -> Option<Keys>
     ensures exact { result ≡ with_word target keys at word.now }
-    ensures offered { IfSome result (λ more. IsOffered (choices_of more)) }
+    ensures offered { IsOffered (choices_of keys)
+        → IfSome result (λ more. IsOffered (choices_of more)) }
 {
     let (name, value) = cut(word)?;
     with_pair(target, keys, at, name, value)

@@ -42,7 +42,7 @@ fn map_of(target: Target) -> Option<WordAt>
     ensures { result ≡ map_of target }
 {
     match target {
-        Target::Qubo => None,
+        Target::Qubo | Target::Ising => None,
     }
 }
 

@@ -5,7 +5,7 @@ ghost use Rattle.command_words.specs.Names.{job_in};
 ghost use Rattle.command_words.specs.Commands.{command_of, format_of, job_of, named, target_of, valued, verb_of};
 
 use crate::commands::{Command, Format, Job, Target, WordAt};
-use crate::keys::{choices_of, keys_from};
+use crate::keys::{choices_of, chosen_unit, keys_from};
 
 /// What the first word says.
 #[derive(Clone, Copy, Debug, PartialEq, Eq)]
@@ -27,6 +27,8 @@ fn format_of(word: &str) -> Option<Format>
 {
     match word {
         "wcnf" => Some(Format::Wcnf),
+        "ising" => Some(Format::Ising),
+        "qubo" => Some(Format::Qubo),
         _ => None,
     }
 }
@@ -36,6 +38,7 @@ fn target_of(word: &str) -> Option<Target>
 {
     match word {
         "qubo" => Some(Target::Qubo),
+        "ising" => Some(Target::Ising),
         _ => None,
     }
 }
@@ -104,6 +107,7 @@ fn job(words: &[String], keys_at: usize) -> Result<Job, usize>
         file,
         target,
         choices: choices_of(keys),
+        unit: chosen_unit(keys),
     })
 }
 

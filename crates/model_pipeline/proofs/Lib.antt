@@ -1,1 +1,2 @@
+pub mod FormModels
 pub mod Standing

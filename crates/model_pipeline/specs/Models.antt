@@ -1,10 +1,13 @@
 -- The model of a problem: by cases over what a command chooses, built of the images of the steps.
-use Rattle.std.specs.Prelude.{◌≡◌, ℕ, pos, ◌+ℤ◌, ◌*ℤ◌}
+use Rattle.std.specs.Prelude.{◌≡◌, ℕ, pos, ◌+ℤ◌, ◌*ℤ◌, neg_ℤ, []}
 use Rattle.bits_model.specs.declared.output.Kind.{Kind}
 use Rattle.bits_model.specs.declared.output.Kind.TheVariants as kinds
-use Rattle.bits_model.specs.Relations.{Decoding, Relaxes}
+use Rattle.bits_model.specs.declared.costs.Figures.{Figures}
+use Rattle.bits_model.specs.declared.output.UnitChoice.{UnitChoice}
+use Rattle.bits_model.specs.declared.output.UnitChoice.TheVariants.{One, Reduce}
+use Rattle.bits_model.specs.Relations.{Decoding, Relaxes, figures_after, figures_moved}
 use Rattle.bits_model.specs.Output.{Written, IsWellFormed, form_of, read_off}
-use Rattle.bits_model.specs.Faithful.{scale_of}
+use Rattle.bits_model.specs.Faithful.{HasUnit, scale_of}
 use Rattle.model_text.specs.Rows.{FitsFields}
 use Rattle.problem_form.specs.declared.limits.Choices.{Choices}
 use Rattle.problem_form.specs.declared.limits.Normal.{Normal}
@@ -15,12 +18,18 @@ use Rattle.problem_form.specs.Problems.{ProblemContent}
 use Rattle.problem_form.specs.Problems as problems
 use Rattle.problem_form.specs.Limits.{upper}
 use Rattle.command_words.specs.declared.commands.Target.{Target}
-use Rattle.command_words.specs.declared.commands.Target.TheVariants.{Qubo}
+use Rattle.command_words.specs.declared.commands.Target.TheVariants.{Qubo, Ising}
 use Rattle.term_table.specs.Tables.{TableContent}
 use Rattle.penalty_layer.specs.Penalty as penalty
 use Rattle.monomial_layer.specs.Monomials as monomials
-use Rattle.quad_form.specs.Quads.{QuadContent, written_of}
+use Rattle.quad_form.specs.Quads.{QuadContent}
+use Rattle.quad_form.specs.Quads as quads
+use Rattle.quad_form.specs.Units as units
 use Rattle.quad_form.specs.Flat as flat
+use Rattle.ising_form.specs.Isings.{IsingContent}
+use Rattle.ising_form.specs.Spins as spins
+use Rattle.ising_form.specs.Outputs as isings
+use Rattle.ising_form.specs.Reduction as reduction
 
 -- ---- the steps
 
@@ -38,16 +47,44 @@ low_terms_of Rosenberg t = monomials.image t
 abbrev pub quad_of : Choices → ProblemContent → QuadContent
 quad_of choices p = flat.image (low_terms_of choices.high (terms_of choices.normal p))
 
+-- the Ising form of a problem
+abbrev pub ising_of : Choices → ProblemContent → IsingContent
+ising_of choices p = spins.image (quad_of choices p)
+
+-- how the energies of the Ising form stand for costs: four times those of the quadratic form do
+abbrev pub ising_figures : ProblemContent → Figures
+ising_figures p = figures_after (penalty.figures p) (pos 4) (pos 0)
+
+-- ---- what is written
+
+-- the model of a quadratic form: as it is, or counted in its greatest unit without the constant
+abbrev pub qubo_model : UnitChoice → QuadContent → ℕ → Figures → Written
+qubo_model One q variables figures = quads.written_of q variables figures (pos 1)
+qubo_model Reduce q variables figures =
+    quads.written_of (units.reduced q) variables (figures_moved figures (neg_ℤ q.constant))
+    (units.quad_unit q)
+
+-- the model of an Ising form: as it is, or counted in its greatest unit without the constant
+abbrev pub ising_model : UnitChoice → IsingContent → ℕ → Figures → Written
+ising_model One f variables figures =
+    isings.written_of f variables figures (pos 1) kinds.Ising []
+ising_model Reduce f variables figures =
+    isings.written_of (reduction.reduced f) variables
+    (figures_moved figures (neg_ℤ f.constant)) (reduction.ising_unit f) kinds.Ising []
+
 -- the model of a problem, of which so many variables are the source's own
-abbrev pub model : Choices → Target → ℕ → ProblemContent → Written
-model choices Qubo variables p =
-    written_of (quad_of choices p) variables (penalty.figures p) (pos 1)
+abbrev pub model : Choices → Target → UnitChoice → ℕ → ProblemContent → Written
+model choices Qubo unit variables p =
+    qubo_model unit (quad_of choices p) variables (penalty.figures p)
+model choices Ising unit variables p =
+    ising_model unit (ising_of choices p) variables (ising_figures p)
 
 -- ---- what it promises of the problem
 
 -- the kind of a target's models
 abbrev pub kind_of : Target → Kind
 kind_of Qubo = kinds.Qubo
+kind_of Ising = kinds.Ising
 
 -- how a state of the model is read as an assignment of so many variables
 abbrev pub decoding_to : ℕ → Written → Decoding
@@ -58,13 +95,14 @@ decoding_to variables m = record {
 }
 
 -- a well-formed model for this target whose numbers fit their fields, with so many variables, the
--- stated figures and the unit 1, which relaxes the problem
-pub record IsModelOf (p : ProblemContent) (own : ℕ) (target : Target) (m : Written) : Type 0 where
+-- stated figures and the unit that was chosen, which relaxes the problem in this unit
+pub record IsModelOf (p : ProblemContent) (own : ℕ) (target : Target) (choice : UnitChoice)
+    (m : Written) : Type 0 where
   pub kind : m.kind ≡ kind_of target
   pub fits : FitsFields m
   pub well_formed : IsWellFormed m
   pub variables : m.variables ≡ own
   pub scale : m.figures.scale ≡ scale_of m.kind
   pub threshold : m.figures.threshold ≡ m.figures.scale *ℤ upper p +ℤ m.figures.offset
-  pub unit : m.unit ≡ pos 1
+  pub unit : HasUnit choice m
   pub relaxes : Relaxes (problems.form_of p) (form_of m) (decoding_to p.variables m) m.unit m.figures

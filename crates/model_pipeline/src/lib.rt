@@ -3,5 +3,6 @@
 
 mod model;
 mod steps;
+mod written;
 
 pub use model::model_of;

@@ -4,7 +4,8 @@ ghost use Rattle.problem_form.specs.Limits.{limit_fault};
 ghost use Rattle.model_pipeline.specs.Models.{model, IsModelOf};
 
 use crate::steps::quadratic_of;
-use bits_model::{NoMemory, OutputModel};
+use crate::written::{qubo_model, spins_model};
+use bits_model::{NoMemory, OutputModel, UnitChoice};
 use command_words::Target;
 use monomial_layer::Monomials;
 use penalty_layer::Penalty;
@@ -18,19 +19,20 @@ pub fn model_of(
     variables: u64,
     choices: &Choices,
     target: Target,
+    unit: UnitChoice,
 ) -> Result<OutputModel, NoMemory>
     requires literal { choices.now.normal ≡ Normal.Literal }
     requires monomial { choices.now.high ≡ High.Monomial }
     requires within { limit_fault choices.now.normal problem ≡ None }
     requires unconstrained { problem.constraints ≡ [] }
     requires own { variables ≤ problem.variables }
-    ensures image { IfOk result (λ m. m ≡ model choices.now target variables problem) }
-    ensures stands { IfOk result (λ m. IsModelOf problem variables target m) }
+    ensures image { IfOk result (λ m. m ≡ model choices.now target unit variables problem) }
+    ensures stands { IfOk result (λ m. IsModelOf problem variables target unit m) }
 {
+    let made = quadratic_of(alloc, &Penalty, &Monomials, problem)?;
+    let variables = variables as u32;
     match target {
-        Target::Qubo => {
-            let made = quadratic_of(alloc, &Penalty, &Monomials, problem)?;
-            made.quad.output(alloc, variables as u32, made.figures, 1)
-        }
+        Target::Qubo => qubo_model(alloc, made.quad, variables, made.figures, unit),
+        Target::Ising => spins_model(alloc, made.quad, variables, made.figures, unit),
     }
 }

@@ -1,8 +1,8 @@
 //! The steps to a quadratic form, whichever they are.
-ghost use Rattle.std.specs.Prelude.{◌≡◌, ◌≤◌, ◌+◌, pos, IfOk};
+ghost use Rattle.std.specs.Prelude.{◌≡◌, ◌≤◌, ◌+◌, ◌^◌, pos, IfOk};
 ghost use Rattle.bits_model.specs.Relations.{Relaxes, decoding_after};
 ghost use Rattle.problem_form.specs.Problems.{form_of};
-ghost use Rattle.quad_form.specs.Quads as quads;
+ghost use Rattle.quad_form.specs.Quads.{quad_size, quad_total};
 ghost use Rattle.quad_form.specs.Flat.{same_bits, Fits};
 ghost use Rattle.quad_form.specs.Flat as flat;
 
@@ -42,6 +42,12 @@ where
     ensures first { IfOk result (λ made. G.fits made.first problem) }
     ensures second { IfOk result (λ made. H.fits made.second (G.image problem)) }
     ensures third { IfOk result (λ made. Fits made.third (H.image (G.image problem))) }
+
+    // What the next step's sums rest on.
+    ensures total { IfOk result (λ made.
+        quad_total made.quad + 1 ≤ 2 ^ (G.TOTAL_BITS + H.TOTAL_GROWTH + 2)) }
+    ensures size { IfOk result (λ made.
+        quad_size made.quad ≤ 2 ^ (G.SIZE_BITS + H.SIZE_GROWTH + 1)) }
 {
     let guarded = guard.guard(alloc, &problem)?;
     drop(problem);

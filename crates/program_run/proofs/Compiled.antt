@@ -15,7 +15,7 @@ use Rattle.bits_model.proofs.LeastStates.{relaxed_is_faithful}
 use Rattle.model_text.specs.Rows.{model_text}
 use Rattle.model_text.proofs.ModelRows.{texts_tell_models}
 use Rattle.command_words.specs.declared.commands.Target.{Target}
-use Rattle.command_words.specs.declared.commands.Target.TheVariants.{Qubo}
+use Rattle.command_words.specs.declared.commands.Target.TheVariants.{Qubo, Ising}
 use Rattle.command_words.specs.declared.commands.Job.{Job}
 use Rattle.command_words.specs.declared.commands.Command.{Command}
 use Rattle.command_words.specs.Names.{job_in}
@@ -39,9 +39,10 @@ take-read_off (kinds.Chimera rows cols shore) a b chains y few =
 chains_of : (target : Target) (job : Job) (m : Written) → m.kind ≡ kind_of target
     → HasChains m.kind (demand_of job) m
 chains_of Qubo job m kind = subst (λ k. HasChains k (demand_of job) m) (sym kind) tt
+chains_of Ising job m kind = subst (λ k. HasChains k (demand_of job) m) (sym kind) tt
 
 module _ (job : Job) (s : Source) (r : Read) (m : Written) (stands : StandsFor s r)
-    (made : IsModelOf r.problem r.variables job.target m) where
+    (made : IsModelOf r.problem r.variables job.target job.unit m) where
   bits : m.variables ≡ s.form.bits
   bits = made.variables ∙ stands.variables
 
@@ -84,7 +85,7 @@ module _ (job : Job) (s : Source) (r : Read) (m : Written) (stands : StandsFor s
 
 compiled_from : (words : List (List ℕ)) (held : NamedFiles) (command : Command) (r : Read) (m : Written)
     → sourcing words held command ≡ Some (Ok r)
-    → IsModelOf r.problem r.variables (job_in command).target m
+    → IsModelOf r.problem r.variables (job_in command).target (job_in command).unit m
     → IsCompiledFrom words held command (model_text m)
 compiled_from words held command r m e made =
     let taken = source_is_taken words held command r e in
@@ -98,7 +99,7 @@ compiled_from words held command r m e made =
 pub told_is_compiled : (told : Option NamedFiles) (words : List (List ℕ)) (command : Command)
     (r : Read) (m : Written)
     → WhereTold told (λ held. sourcing words held command ≡ Some (Ok r))
-    → IsModelOf r.problem r.variables (job_in command).target m
+    → IsModelOf r.problem r.variables (job_in command).target (job_in command).unit m
     → WhereTold told (λ held. IsCompiledFrom words held command (model_text m))
 told_is_compiled None words command r m e made = tt
 told_is_compiled (Some held) words command r m e made =

@@ -4,7 +4,6 @@ use Rattle.std.specs.declared.option.Option.{Option}
 use Rattle.std.specs.Io.KnownBytes.{Appends}
 use Rattle.edge_io.specs.Held.{NamedFiles, find_file, WhereTold}
 use Rattle.edge_io.specs.Sinks.{AppendsFront}
-use Rattle.bits_model.specs.declared.output.UnitChoice.TheVariants.{One}
 use Rattle.bits_model.specs.Costs.{Source}
 use Rattle.bits_model.specs.Relations.{Relaxes}
 use Rattle.bits_model.specs.Output.{Written, form_of, decoding_of}
@@ -33,9 +32,9 @@ pub record IsHeldSource (words : List (List ℕ)) (held : NamedFiles) (command :
   pub found : find_file held (name_of words command files.Source) ≡ Some bytes
   pub says : source_of (job_in command).format bytes ≡ Ok source
 
--- what a job asks of its model: the unit 1, and no chains
+-- what a job asks of its model: the unit that its command chooses, and no chains
 abbrev pub demand_of : Job → Demand
-demand_of job = record { unit = One; chains = []; joined = λ p q. false }
+demand_of job = record { unit = job.unit; chains = []; joined = λ p q. false }
 
 -- the text is that of one model of the job's kind, every state of which stands for the source, and
 -- whose least states are the least assignments of the source

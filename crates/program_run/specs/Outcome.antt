@@ -70,7 +70,7 @@ sourcing words held command = do
 
 -- the model of a source, as a job chooses its steps
 abbrev pub model_for : Job → Read → Written
-model_for job read = model job.choices job.target read.variables read.problem
+model_for job read = model job.choices job.target job.unit read.variables read.problem
 
 -- the text of the model of the source
 unfoldable pub compiling : List (List ℕ) → NamedFiles → Command → Step (List ℕ)

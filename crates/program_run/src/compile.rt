@@ -42,6 +42,7 @@ pub fn compile<F: Files>(
         read.variables,
         &job.choices,
         job.target,
+        job.unit,
     ) {
         Ok(model) => Ok(Answer::Model(model)),
         Err(_) => Err(Status::NoMemory),

@@ -1,3 +1,5 @@
 pub mod Readings
 pub mod WcnfTexts
+pub mod IsingTexts
+pub mod QuboTexts
 pub mod Standing

@@ -1,13 +1,17 @@
--- A problem with the costs of a source stands for the source.
-use Rattle.std.proofs.Common.{◌≡◌, ℤ, subst, arith}
+-- A problem with the costs of a source stands for the source, and texts that are read into such a
+-- problem.
+use Rattle.std.proofs.Common.{◌≡◌, ℤ, [], Ok, Err, Result, refl, ap, sym, subst, ◌∙◌, arith}
 use Rattle.std.proofs.lemmas.List.{take_all}
 use Rattle.bits_model.specs.declared.costs.Figures.{Figures}
 use Rattle.bits_model.specs.Costs.{Form, Source}
 use Rattle.bits_model.specs.Relations.{Decoding, Relaxes}
 use Rattle.bits_model.specs.Stated.{HasSameCosts, DecodesAlike}
 use Rattle.bits_model.proofs.Alike.{relaxes_alike}
+use Rattle.whole_text.specs.declared.faults.TextFault.{TextFault}
+use Rattle.whole_text.specs.Steps.{◌>>=◌}
 use Rattle.problem_form.specs.Problems.{ProblemContent, form_of}
 use Rattle.problem_form.specs.Limits.{upper}
+use Rattle.source_texts.specs.declared.reading.Read.{Read}
 use Rattle.source_texts.specs.Sources.{own, first_decoded, StandsFor}
 
 -- all bits of what a state is decoded to are its first ones
@@ -28,3 +32,26 @@ same_costs_stand s p same bound = record {
       (relaxes_alike (form_of p) s.form g d (first_decoded (form_of p).bits d) u n same
       (all_bits_first (form_of p) g d u n r) r);
 }
+
+-- ---- texts of which each says a source, and is read into its problem
+
+module _ {S : Type 0} (source : S → Source) (problem : S → ProblemContent) where
+  -- where the text is read into a problem, and each problem stands for its source
+  pub read_stands : ((s : S) → StandsFor (source s) (own (problem s)))
+      → (said : Result S TextFault) (r : Read)
+      → ((said >>= λ s. Ok (problem s)) >>= λ p. Ok (own p)) ≡ Ok r
+      → (s : Source) × ((said >>= λ t. Ok (source t)) ≡ Ok s) × StandsFor s r
+  read_stands each (Err fault) r e = absurd cc
+  read_stands each (Ok s) r e =
+      let same : own (problem s) ≡ r = cc in
+      (source s, refl, subst (λ q. StandsFor (source s) q) same (each s))
+
+-- the problem has no constraints where none has
+pub read_unconstrained : {S : Type 0} (problem : S → ProblemContent)
+    → ((s : S) → (problem s).constraints ≡ [])
+    → (said : Result S TextFault) (p : ProblemContent)
+    → (said >>= λ s. Ok (problem s)) ≡ Ok p → p.constraints ≡ []
+read_unconstrained problem none (Err fault) p e = absurd cc
+read_unconstrained problem none (Ok s) p e =
+    let same : problem s ≡ p = cc in
+    sym (ap (λ (q : ProblemContent). q.constraints) same) ∙ none s

@@ -8,14 +8,21 @@ use Rattle.whole_text.specs.Steps.{◌>>=◌}
 use Rattle.problem_form.specs.Problems.{ProblemContent, form_of}
 use Rattle.problem_form.specs.Limits.{upper}
 use Rattle.command_words.specs.declared.commands.Format.{Format}
-use Rattle.command_words.specs.declared.commands.Format.TheVariants.{Wcnf}
+use Rattle.command_words.specs.declared.commands.Format.TheVariants.{Wcnf, Ising, Qubo}
 use Rattle.wcnf_reader.specs.Wcnf as wcnf
 use Rattle.wcnf_reader.specs.Cost as wcnf_cost
+use Rattle.entry_reader.specs.declared.layout.Layout.TheVariants as layouts
+use Rattle.entry_reader.specs.Entries as entries
+use Rattle.entry_reader.specs.Problems as entry_problems
+use Rattle.ising_file.specs.Cost as ising_cost
+use Rattle.qubo_file.specs.Cost as qubo_cost
 use Rattle.source_texts.specs.declared.reading.Read.{Read}
 
 -- the source that a text says, as it is written, or the first fault of the text
 abbrev pub source_of : Format → List ℕ → Result Source TextFault
 source_of Wcnf text = wcnf.reading text >>= λ s. Ok (wcnf_cost.source_of s)
+source_of Ising text = entries.reading layouts.Ising text >>= λ s. Ok (ising_cost.source_of s)
+source_of Qubo text = entries.reading layouts.Qubo text >>= λ s. Ok (qubo_cost.source_of s)
 
 -- a problem whose variables are all the source's own
 abbrev pub own : ProblemContent → Read
@@ -24,6 +31,8 @@ own p = record { problem = p; variables = p.variables }
 -- its problem in normal form, or the first fault of the text
 abbrev pub problem_of : Format → List ℕ → Result Read TextFault
 problem_of Wcnf text = wcnf_cost.normal_reading text >>= λ p. Ok (own p)
+problem_of Ising text = entry_problems.normal_reading layouts.Ising text >>= λ p. Ok (own p)
+problem_of Qubo text = entry_problems.normal_reading layouts.Qubo text >>= λ p. Ok (own p)
 
 -- the first n bits of what states are decoded to
 abbrev pub first_decoded : ℕ → Decoding → Decoding

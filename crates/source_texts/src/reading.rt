@@ -1,10 +1,12 @@
 //! The reading of a text in a format.
 ghost use Rattle.std.specs.Prelude.{◌≡◌, ◌≤◌, ◌^◌, [], length, IfOk};
 ghost use Rattle.whole_text.specs.Steps.{Gives};
-ghost use Rattle.source_texts.specs.Sources.{problem_of};
+ghost use Rattle.source_texts.specs.Sources.{own, problem_of};
 
 use command_words::Format;
+use ising_file::read_ising;
 use problem_form::Problem;
+use qubo_file::read_qubo;
 use std::alloc::Global;
 use wcnf_reader::read_wcnf;
 use whole_text::TextAnswer;
@@ -17,6 +19,14 @@ pub struct Read {
     pub variables: u64,
 }
 
+/// A problem whose variables are all the source's own.
+fn own(problem: Problem) -> Read
+    ensures { result ≡ own problem }
+{
+    let variables = problem.variables;
+    Read { problem, variables }
+}
+
 /// The problem of a text, in normal form, or the first fault of the text.
 pub fn read_source(alloc: Global, format: Format, text: &[u8]) -> Result<Read, TextAnswer>
     requires { length text.now ≤ 2 ^ 24 }
@@ -25,10 +35,8 @@ pub fn read_source(alloc: Global, format: Format, text: &[u8]) -> Result<Read, T
     ensures unconstrained { IfOk result (λ read. read.problem.constraints ≡ []) }
 {
     match format {
-        Format::Wcnf => {
-            let problem = read_wcnf(alloc, text)?;
-            let variables = problem.variables;
-            Ok(Read { problem, variables })
-        }
+        Format::Wcnf => Ok(own(read_wcnf(alloc, text)?)),
+        Format::Ising => Ok(own(read_ising(alloc, text)?)),
+        Format::Qubo => Ok(own(read_qubo(alloc, text)?)),
     }
 }

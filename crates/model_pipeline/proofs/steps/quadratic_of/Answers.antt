@@ -27,3 +27,19 @@ lower-requires-2-clause-size g c =
     grown_within _ (bits + growth) 1 32
     (grown_bits _ _ bits growth c.in_ok-guarded.ensures.size c.in_ok-low.ensures.size)
     (omega (arith, c.requires.size))
+
+pub returns-clause-total : goal.returns-clause-total
+returns-clause-total g c =
+    let bits = g.G.Guard.TOTAL_BITS in
+    let growth = g.H.Layer.TOTAL_GROWTH in
+    grown_bits _ _ (bits + growth) 2
+    (grown_bits _ _ bits growth c.in_ok-guarded.ensures.total c.in_ok-low.ensures.total)
+    c.in_ok-quad.ensures.total
+
+pub returns-clause-size : goal.returns-clause-size
+returns-clause-size g c =
+    let bits = g.G.Guard.SIZE_BITS in
+    let growth = g.H.Layer.SIZE_GROWTH in
+    grown_bits _ _ (bits + growth) 1
+    (grown_bits _ _ bits growth c.in_ok-guarded.ensures.size c.in_ok-low.ensures.size)
+    c.in_ok-quad.ensures.size

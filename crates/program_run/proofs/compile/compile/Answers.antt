@@ -10,4 +10,4 @@ returns-in-Ok-clause-answer g c =
     let m = c.in-Ok.model in
     told_is_compiled (g.F.Files.held c.args.files.now) (map string_bytes c.args.words.now)
     c.args.command r m c.in_ok-read.ensures.step
-    (subst (λ (job : Job). IsModelOf r.problem r.variables job.target m) c.job-job.ensures c.in-Ok.ensures.stands)
+    (subst (λ (job : Job). IsModelOf r.problem r.variables job.target job.unit m) c.job-job.ensures c.in-Ok.ensures.stands)

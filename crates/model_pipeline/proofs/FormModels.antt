@@ -1,0 +1,220 @@
+-- The models of a form that stands for a problem, as it is and in its greatest unit.
+use Rattle.std.proofs.Common.{◌≡◌, ◌≤◌, ◌⊎◌, inl, inr, ℕ, zero, suc, ◌+◌, ◌^◌, ℤ, pos, ◌+ℤ◌, ◌*ℤ◌, Bool, true, false, List, [], ◌++◌, length, take, if◌then◌else◌, refl, ap, arith}
+use Rattle.std.specs.Prelude.{unsigned_abs, neg_ℤ}
+use Rattle.std.specs.List.{list_all, sum_by}
+use Rattle.std.proofs.lemmas.Int.{ints}
+use Rattle.std.proofs.lemmas.List.{length-map}
+use Rattle.std.proofs.lemmas.List.Elements.{All-nil}
+use Rattle.std.proofs.lemmas.List.Sums.{sum_by-append}
+use Rattle.bits_model.specs.declared.costs.Figures.{Figures}
+use Rattle.bits_model.specs.declared.output.Entry.{Entry}
+use Rattle.bits_model.specs.declared.output.Kind.TheVariants as kinds
+use Rattle.bits_model.specs.declared.output.UnitChoice.{UnitChoice}
+use Rattle.bits_model.specs.declared.output.UnitChoice.TheVariants.{One, Reduce}
+use Rattle.bits_model.specs.Costs.{Form}
+use Rattle.bits_model.specs.Relations.{Decoding, Relaxes, Reduces, figures_moved}
+use Rattle.bits_model.specs.Faithful.{HasUnit}
+use Rattle.bits_model.specs.Output.{weight_total}
+use Rattle.bits_model.specs.laws.Composed.{reduces_after_relaxes}
+use Rattle.model_text.specs.Rows.{FitsFigures}
+use Rattle.problem_form.specs.Problems.{ProblemContent, form_of}
+use Rattle.problem_form.specs.Limits.{upper}
+use Rattle.command_words.specs.declared.commands.Target.TheVariants.{Qubo, Ising}
+use Rattle.quad_form.specs.Quads.{QuadContent, IsQuad, node_entries}
+use Rattle.quad_form.specs.Quads as quads
+use Rattle.quad_form.specs.Units.{is_multiple, greatest_within, weights_of, counted_in, quad_unit}
+use Rattle.quad_form.specs.Units as units
+use Rattle.quad_form.proofs.UnitEntries.{sizes_of_weights}
+use Rattle.quad_form.proofs.ReducedForms as reduced_quads
+use Rattle.quad_form.proofs.WrittenModels as written_quads
+use Rattle.ising_form.specs.Isings.{IsingContent, IsIsing}
+use Rattle.ising_form.specs.Isings as isings
+use Rattle.ising_form.specs.Outputs as outputs
+use Rattle.ising_form.specs.Reduction.{ising_unit}
+use Rattle.ising_form.specs.Reduction as reduction
+use Rattle.ising_form.proofs.ReducedForms as reduced_isings
+use Rattle.ising_form.proofs.WrittenModels as written_isings
+use Rattle.model_pipeline.specs.Models.{IsModelOf, ising_model, qubo_model}
+
+-- ---- what stands for a problem
+
+-- figures of the scale a, with the threshold of the problem, none of them greater than a number
+pub record HasFigures (a : ℤ) (p : ProblemContent) (n : Figures) (most : ℕ) : Type 0 where
+  pub scale : n.scale ≡ a
+  pub threshold : n.threshold ≡ n.scale *ℤ upper p +ℤ n.offset
+  pub offset_low : unsigned_abs n.offset ≤ most
+  pub threshold_low : unsigned_abs n.threshold ≤ most
+
+-- a form that relaxes a problem in this unit, and whose states decode to their first bits
+pub record Stands (p : ProblemContent) (f : Form) (d : Decoding) (u : ℤ) (n : Figures) : Type 0 where
+  pub relaxes : Relaxes (form_of p) f d u n
+  pub decodes : (y : List Bool) → d.decoded y ≡ take p.variables y
+
+moved_low : (a b : ℤ) (most more : ℕ) → unsigned_abs a ≤ most → unsigned_abs b ≤ more
+    → unsigned_abs (a +ℤ b) ≤ most + more
+moved_low a b most more h k = omega (arith, ints)
+
+minus_low : (c : ℤ) (most : ℕ) → unsigned_abs c ≤ most → unsigned_abs (neg_ℤ c) ≤ most
+minus_low c most h = omega (arith, ints)
+
+-- the figures where every energy is moved
+figures_are_moved : (scale : ℤ) (p : ProblemContent) (n : Figures) (most more : ℕ) (b : ℤ)
+    → HasFigures scale p n most → unsigned_abs b ≤ more
+    → HasFigures scale p (figures_moved n b) (most + more)
+figures_are_moved scale p n most more b has small = record {
+  scale = has.scale;
+  threshold = omega (arith, ints, has.threshold);
+  offset_low = moved_low n.offset b most more has.offset_low small;
+  threshold_low = moved_low n.threshold b most more has.threshold_low small;
+}
+
+-- no figure is greater than a greater number
+pub figures_within : (scale : ℤ) (p : ProblemContent) (n : Figures) (most more : ℕ) → most ≤ more
+    → HasFigures scale p n most → HasFigures scale p n more
+figures_within scale p n most more h has = record {
+  scale = has.scale;
+  threshold = has.threshold;
+  offset_low = omega (arith, has.offset_low);
+  threshold_low = omega (arith, has.threshold_low);
+}
+
+-- a form that is counted in a unit stands where the form does
+stands_reduced : (p : ProblemContent) (f g : Form) (d : Decoding) (u : ℤ) (n : Figures) (b : ℤ)
+    → Stands p f d (pos 1) n → Reduces f g u b → Stands p g d u (figures_moved n b)
+stands_reduced p f g d u n b stands reduces = record {
+  relaxes = reduces_after_relaxes stands.relaxes reduces;
+  decodes = stands.decodes;
+}
+
+-- figures fit their fields
+figures_fit : (scale : ℤ) (p : ProblemContent) (n : Figures) (most : ℕ) → unsigned_abs scale ≤ 4
+    → HasFigures scale p n most → most ≤ 2 ^ 127 → FitsFigures n
+figures_fit scale p n most low has fits = record {
+  scale = omega (arith, ap unsigned_abs has.scale);
+  offset = omega (arith, has.offset_low);
+  threshold = omega (arith, has.threshold_low);
+}
+
+-- ---- the greatest unit is no greater than the weights
+
+greatest_low : (n : ℕ) (ws : List ℤ) → greatest_within n ws ≤ n + 1
+greatest_low zero ws = omega arith
+greatest_low (suc n) ws = go (list_all (is_multiple (suc n)) ws) (greatest_low n ws)
+  where
+    go : (b : Bool) → greatest_within n ws ≤ n + 1
+        → (if b then suc n else greatest_within n ws) ≤ suc n + 1
+    go true h = omega arith
+    go false h = omega (arith, h)
+
+unit_low : (ws : List ℤ) (cs : List Entry) (most : ℕ) → weight_total (node_entries 0 ws ++ cs) ≤ most
+    → unsigned_abs (units.unit_of (weights_of ws cs)) ≤ most + 1
+unit_low ws cs most h =
+    let sizes = sizes_of_weights ws cs in
+    let whole = sum_by-append (λ (e : Entry). unsigned_abs e.weight) (node_entries 0 ws) cs in
+    omega (arith, greatest_low (sum_by unsigned_abs (weights_of ws cs)) (weights_of ws cs), sizes, whole)
+
+module _ (p : ProblemContent) (own : ℕ) (d : Decoding) where
+  -- ---- the model of a quadratic form
+
+  -- in any unit
+  qubo_in : (choice : UnitChoice) (q : QuadContent) (u : ℤ) (n : Figures) → IsQuad q
+      → own ≤ length q.diagonal → (u ≡ pos 1) ⊎ (q.constant ≡ pos 0) → unsigned_abs u ≤ 2 ^ 125
+      → HasFigures (pos 1) p n (2 ^ 125) → Stands p (quads.form_of q) d u n
+      → HasUnit choice (quads.written_of q own n u)
+      → IsModelOf p own Qubo choice (quads.written_of q own n u)
+  qubo_in choice q u n quad least counted low has stands unit =
+      let small = quad.small in
+      let moved = figures_are_moved (pos 1) p n (2 ^ 125) (2 ^ 124) (neg_ℤ q.constant) has
+      (minus_low q.constant _ (omega (arith, small))) in record {
+        kind = refl;
+        fits = record {
+          graph = tt;
+          variables = omega (arith, quad.narrow, least);
+          figures = figures_fit (pos 1) p _ _ (omega (arith, ints)) moved (omega arith);
+          unit = omega (arith, low);
+          nodes = quad.narrow;
+          weights = omega (arith, small);
+          qubits = All-nil _;
+        };
+        well_formed = written_quads.written_is_well_formed q own n u quad least stands.relaxes.positive stands.relaxes.unit;
+        variables = refl;
+        scale = has.scale;
+        threshold = moved.threshold;
+        unit = unit;
+        relaxes = written_quads.written_relaxes (form_of p) q d p.variables n u counted stands.decodes stands.relaxes;
+      }
+
+  -- in the unit that is chosen
+  pub qubo_stands : (choice : UnitChoice) (q : QuadContent) (n : Figures) → IsQuad q
+      → own ≤ length q.diagonal → HasFigures (pos 1) p n (2 ^ 124)
+      → Stands p (quads.form_of q) d (pos 1) n
+      → IsModelOf p own Qubo choice (qubo_model choice q own n)
+  qubo_stands One q n quad least has stands =
+      qubo_in One q (pos 1) n quad least (inl refl) (omega (arith, ints))
+      (figures_within (pos 1) p n _ _ (omega arith) has) stands refl
+  qubo_stands Reduce q n quad least has stands =
+      let small = quad.small in
+      let c = neg_ℤ q.constant in
+      let width = length-map q.diagonal (counted_in (quad_unit q)) in
+      let constant_low = minus_low q.constant (2 ^ 124) (omega (arith, small)) in
+      let low = unit_low q.diagonal q.couplers (2 ^ 124) (omega (arith, small)) in
+      qubo_in Reduce (units.reduced q) (quad_unit q) (figures_moved n c)
+      (reduced_quads.reduced_is_quad q quad) (omega (arith, width, least)) (inr refl)
+      (omega (arith, low)) (figures_are_moved (pos 1) p n _ _ c has constant_low)
+      (stands_reduced p (quads.form_of q) _ d (quad_unit q) n c stands
+      (reduced_quads.reduced_reduces q))
+      (reduced_quads.reduced_is_reduced q own (figures_moved n c))
+
+  -- ---- the model of an Ising form
+
+  -- in any unit
+  ising_in : (choice : UnitChoice) (f : IsingContent) (u : ℤ) (n : Figures) → IsIsing f
+      → own ≤ p.variables → p.variables ≤ length f.fields
+      → (u ≡ pos 1) ⊎ (f.constant ≡ pos 0) → unsigned_abs u ≤ 2 ^ 125
+      → HasFigures (pos 4) p n (2 ^ 125) → Stands p (isings.form_of f) d u n
+      → HasUnit choice (outputs.written_of f own n u kinds.Ising [])
+      → IsModelOf p own Ising choice (outputs.written_of f own n u kinds.Ising [])
+  ising_in choice f u n ising few enough counted low has stands unit =
+      let small = ising.small in
+      let least : own ≤ length f.fields = omega (arith, few, enough) in
+      let moved = figures_are_moved (pos 4) p n (2 ^ 125) (2 ^ 124) (neg_ℤ f.constant) has
+      (minus_low f.constant _ (omega (arith, small))) in record {
+        kind = refl;
+        fits = record {
+          graph = tt;
+          variables = omega (arith, ising.narrow, least);
+          figures = figures_fit (pos 4) p _ _ (omega (arith, ints)) moved (omega arith);
+          unit = omega (arith, low);
+          nodes = ising.narrow;
+          weights = omega (arith, small);
+          qubits = All-nil _;
+        };
+        well_formed = written_isings.written_is_well_formed f own n u kinds.Ising [] ising (refl, least) stands.relaxes.positive stands.relaxes.unit;
+        variables = refl;
+        scale = has.scale;
+        threshold = moved.threshold;
+        unit = unit;
+        relaxes = written_isings.written_relaxes (form_of p) f d p.variables n u kinds.Ising [] (refl, enough) counted stands.decodes stands.relaxes;
+      }
+
+  -- in the unit that is chosen
+  pub ising_stands : (choice : UnitChoice) (f : IsingContent) (n : Figures) → IsIsing f
+      → own ≤ p.variables → p.variables ≤ length f.fields → HasFigures (pos 4) p n (2 ^ 124)
+      → Stands p (isings.form_of f) d (pos 1) n
+      → IsModelOf p own Ising choice (ising_model choice f own n)
+  ising_stands One f n ising few enough has stands =
+      ising_in One f (pos 1) n ising few enough (inl refl) (omega (arith, ints))
+      (figures_within (pos 4) p n _ _ (omega arith) has) stands refl
+  ising_stands Reduce f n ising few enough has stands =
+      let small = ising.small in
+      let c = neg_ℤ f.constant in
+      let width = length-map f.fields (counted_in (ising_unit f)) in
+      let constant_low = minus_low f.constant (2 ^ 124) (omega (arith, small)) in
+      let low = unit_low f.fields f.couplings (2 ^ 124) (omega (arith, small)) in
+      let least : own ≤ length (reduction.reduced f).fields = omega (arith, width, few, enough) in
+      ising_in Reduce (reduction.reduced f) (ising_unit f) (figures_moved n c)
+      (reduced_isings.reduced_is_ising f ising) few (omega (arith, width, enough)) (inr refl)
+      (omega (arith, low)) (figures_are_moved (pos 4) p n _ _ c has constant_low)
+      (stands_reduced p (isings.form_of f) _ d (ising_unit f) n c stands
+      (reduced_isings.made_reduces f (reduction.reduced f) (ising_unit f) c refl refl refl))
+      (written_isings.made_is_reduced f (reduction.reduced f) (ising_unit f) refl refl own (figures_moved n c) kinds.Ising [] (refl, least))

@@ -1,0 +1,94 @@
+//! The models of forms, in the unit that is chosen. Reducing is the last step before a model is
+//! written, and a form is let go as soon as its reduced one stands.
+ghost use Rattle.std.specs.Prelude.{◌≡◌, ◌≤◌, ◌<◌, ◌+◌, ◌*◌, ◌^◌, ◌≤ℤ◌, pos, length, unsigned_abs, IfOk};
+ghost use Rattle.bits_model.specs.Relations.{figures_after};
+ghost use Rattle.quad_form.specs.Quads.{IsQuad, quad_size, quad_total};
+ghost use Rattle.ising_form.specs.Spins.{image};
+ghost use Rattle.model_pipeline.specs.Models.{ising_model, qubo_model};
+
+use bits_model::{ChainList, Figures, Kind, Layer, NoMemory, OutputModel, UnitChoice};
+use ising_form::{Ising, ToSpins};
+use quad_form::Quad;
+use std::alloc::Global;
+
+/// The model of a quadratic form.
+pub fn qubo_model(
+    alloc: Global,
+    quad: Quad,
+    variables: u32,
+    figures: Figures,
+    unit: UnitChoice,
+) -> Result<OutputModel, NoMemory>
+    requires enough { variables ≤ length quad.diagonal }
+    requires scale { pos 1 ≤ℤ figures.scale }
+    requires offset { unsigned_abs figures.offset < 2 ^ 124 }
+    requires threshold { unsigned_abs figures.threshold < 2 ^ 124 }
+    ensures model { IfOk result (λ m. m ≡ qubo_model unit quad variables figures) }
+
+    // What the laws of the model rest on.
+    ensures kept { IsQuad quad }
+{
+    match unit {
+        UnitChoice::One => quad.output(alloc, variables, figures, 1),
+        UnitChoice::Reduce => {
+            let made = quad.reduce(alloc)?;
+            drop(quad);
+            made.target
+                .output(alloc, variables, figures.moved(made.offset), made.unit)
+        }
+    }
+}
+
+/// The model of an Ising form, over spins without chains.
+pub fn ising_model(
+    alloc: Global,
+    form: Ising,
+    variables: u32,
+    figures: Figures,
+    unit: UnitChoice,
+) -> Result<OutputModel, NoMemory>
+    requires enough { variables ≤ length form.fields }
+    requires scale { pos 1 ≤ℤ figures.scale }
+    requires offset { unsigned_abs figures.offset < 2 ^ 124 }
+    requires threshold { unsigned_abs figures.threshold < 2 ^ 124 }
+    ensures { IfOk result (λ m. m ≡ ising_model unit form variables figures) }
+{
+    let chains = ChainList::empty(alloc);
+    match unit {
+        UnitChoice::One => form.output(alloc, variables, figures, 1, Kind::Ising, chains),
+        UnitChoice::Reduce => {
+            let made = form.reduce(alloc)?;
+            drop(form);
+            let figures = figures.moved(made.offset);
+            made.target
+                .output(alloc, variables, figures, made.unit, Kind::Ising, chains)
+        }
+    }
+}
+
+/// The model over spins of a quadratic form.
+pub fn spins_model(
+    alloc: Global,
+    quad: Quad,
+    variables: u32,
+    figures: Figures,
+    unit: UnitChoice,
+) -> Result<OutputModel, NoMemory>
+    requires enough { variables ≤ length quad.diagonal }
+    requires total { (quad_total quad + 1) * 2 ^ 2 ≤ 2 ^ 124 }
+    requires size { quad_size quad * 2 ^ 1 ≤ 2 ^ 32 }
+    requires scale_low { pos 1 ≤ℤ figures.scale }
+    requires scale { unsigned_abs figures.scale < 2 ^ 122 }
+    requires offset { unsigned_abs figures.offset < 2 ^ 122 }
+    requires threshold { unsigned_abs figures.threshold < 2 ^ 122 }
+    ensures model { IfOk result (λ m.
+        m ≡ ising_model unit (image quad) variables (figures_after figures (pos 4) (pos 0))) }
+
+    // What the laws of the model rest on.
+    ensures kept { IsQuad quad }
+{
+    let made = ToSpins.lower(alloc, &quad)?;
+    drop(quad);
+    let figures = figures.after(made.scale, made.offset);
+    ising_model(alloc, made.target, variables, figures, unit)
+}

@@ -1,0 +1,37 @@
+-- QUBO texts: their problems stand for what they say.
+use Rattle.std.proofs.Common.{◌≡◌, ℕ, List, [], Ok, refl}
+use Rattle.bits_model.specs.Costs.{Source}
+use Rattle.whole_text.specs.Steps.{◌>>=◌}
+use Rattle.problem_form.specs.Problems.{ProblemContent}
+use Rattle.problem_form.specs.NormalForm.{normal_form}
+use Rattle.entry_reader.specs.declared.layout.Layout.TheVariants.{Qubo}
+use Rattle.entry_reader.specs.Entries.{Listing, reading}
+use Rattle.entry_reader.specs.Problems.{problem_of, normal_reading}
+use Rattle.qubo_file.specs.Cost.{source_of}
+use Rattle.qubo_file.proofs.ReadCosts.{reading_keeps_costs}
+use Rattle.source_texts.specs.declared.reading.Read.{Read}
+use Rattle.source_texts.specs.Sources.{own, StandsFor}
+use Rattle.source_texts.proofs.Readings.{same_costs_stand, read_stands, read_unconstrained}
+
+-- the problem of what a text says
+abbrev normal_problem : Listing → ProblemContent
+normal_problem s = normal_form (problem_of Qubo s)
+
+normal_form_stands : (s : Listing) → StandsFor (source_of s) (own (normal_problem s))
+normal_form_stands s =
+    same_costs_stand (source_of s) (normal_problem s)
+    (record { width = refl; costs = reading_keeps_costs s }) refl
+
+pub qubo_stands : (text : List ℕ) (r : Read)
+    → (normal_reading Qubo text >>= λ p. Ok (own p)) ≡ Ok r
+    → (s : Source) × ((reading Qubo text >>= λ t. Ok (source_of t)) ≡ Ok s) × StandsFor s r
+unfolding normal_reading
+qubo_stands text r e =
+    read_stands source_of normal_problem normal_form_stands (reading Qubo text) r e
+
+-- it has products alone
+pub qubo_is_unconstrained : (text : List ℕ) (p : ProblemContent) → normal_reading Qubo text ≡ Ok p
+    → p.constraints ≡ []
+unfolding normal_reading
+qubo_is_unconstrained text p e =
+    read_unconstrained normal_problem (λ s. refl) (reading Qubo text) p e
