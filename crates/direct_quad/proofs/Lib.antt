@@ -1,1 +1,2 @@
 pub mod Additive
+pub mod Split
