@@ -1,2 +1,4 @@
 pub mod Additive
 pub mod Split
+pub mod NewSets
+pub mod AtOnce

@@ -297,7 +297,7 @@ same_couplers q r a b same =
     (rising_from_ordered r.couplers other_pairs b.ordered)
     (nonzero_couplers _ q.couplers all) (nonzero_couplers _ r.couplers others) same
 
-IsQuad-image : (t : TableContent) → IsTable t → IsLow t → t.width < 2 ^ 32
+pub IsQuad-image : (t : TableContent) → IsTable t → IsLow t → t.width < 2 ^ 32
     → 4 * terms_total t.terms ≤ 2 ^ 124 → IsQuad (image t)
 IsQuad-image t table low narrow small =
     let ts = contributions t.terms in
