@@ -2,3 +2,4 @@ pub mod Additive
 pub mod Split
 pub mod NewSets
 pub mod AtOnce
+pub mod TwoLiterals
