@@ -3,3 +3,5 @@ pub mod Split
 pub mod NewSets
 pub mod AtOnce
 pub mod TwoLiterals
+pub mod LongTerms
+pub mod RowSums
