@@ -197,9 +197,9 @@ same_pairs : (t : TableContent) (q : QuadContent) → IsWithin t
     → weight_at i j q.couplers ≡ weight_at i j (image t).couplers
 same_pairs t q within gives i j = elim (cases_lt i j) [
   | inl up ↦ elim (cases_lt j (all_nodes t)) [
-      | inl in' ↦ gives.pairs i j up in' ∙ sym (pair-image t i j within.additions within.total)
-      | inr out ↦ none (λ h. out)
-    ]
+    | inl in' ↦ gives.pairs i j up in' ∙ sym (pair-image t i j within.additions within.total)
+    | inr out ↦ none (λ h. out)
+  ]
   | inr down ↦ none (λ h. absurd (omega (arith, down, h)))
 ]
   where

@@ -4,4 +4,5 @@ pub mod NewSets
 pub mod AtOnce
 pub mod TwoLiterals
 pub mod LongTerms
+pub mod AllParts
 pub mod RowSums

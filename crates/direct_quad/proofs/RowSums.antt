@@ -1,6 +1,6 @@
 -- Rows of couplers: places and entries of other rows add nothing to a row, and rows in order are a
 -- form's couplers.
-use Rattle.std.proofs.Common.{◌≡◌, ◌⊎◌, inl, inr, ℕ, zero, suc, ◌+◌, ◌*◌, ◌<◌, ◌≤◌, ◌^◌, Bool, true, false, ◌&&◌, eqb, cond, int_lt, arith, sym, ap, ◌∙◌, refl, subst, List, [], ◌∷◌, ◌++◌, map, length, ℤ, pos, ◌+ℤ◌, if◌then◌else◌}
+use Rattle.std.proofs.Common.{◌≡◌, ◌⊎◌, inl, inr, ℕ, zero, suc, ◌+◌, ◌*◌, ◌<◌, ◌≤◌, ◌^◌, Bool, true, false, ◌&&◌, eqb, cond, int_lt, arith, sym, ap, ◌∙◌, refl, subst, List, [], ◌∷◌, ◌++◌, map, length, ℤ, pos, ◌+ℤ◌, ◌*ℤ◌, neg_ℤ, if◌then◌else◌}
 use Rattle.std.specs.Prelude.{All}
 use Rattle.std.specs.List.{AllByRecursion, filter, flat_map}
 use Rattle.std.specs.List.Sorted.{IsPermutation, IsStrictlySortedBy}
@@ -14,7 +14,7 @@ use Rattle.integers.proofs.Totals.{total_by-append, total_by-flat_map, total_by-
 use Rattle.bits_model.specs.declared.output.Entry.{Entry}
 use Rattle.bits_model.specs.Output.{entry_cmp}
 use Rattle.problem_form.specs.declared.literal.Literal.{Literal}
-use Rattle.monomial_layer.specs.Monomials.{nodes_for}
+use Rattle.monomial_layer.specs.Monomials.{factor, nodes_for}
 use Rattle.quad_form.specs.Quads.{IsCoupler}
 use Rattle.quad_form.specs.Pairs.{weight_for, weight_at, pair_number}
 use Rattle.quad_form.proofs.PairOrder.{Before, Rises, ordered_from_rising, rising_from_ordered}
@@ -54,9 +54,14 @@ weight-nodes_other : (i j : ℕ) (l : Literal) (d : ℕ) (c : ℤ) (n k : ℕ) �
     → weight_at i j (node_couplers l d c n k) ≡ pos 0
 weight-nodes_other i j l d c n zero other = refl
 weight-nodes_other i j l d c n (suc k) other =
-    total_by_push (weight_for i j) (node_couplers l d c n k) (node_coupler l _ (n + k))
-    ∙ (λ m. weight-nodes_other i j l d c n k other m
-    +ℤ weight_for-other i j (node_coupler l _ (n + k)) other m)
+    let one = node_coupler l (neg_ℤ (c *ℤ pos (factor d k))) (n + k) in
+    omega (
+      arith,
+      ints,
+      total_by_push (weight_for i j) (node_couplers l d c n k) one,
+      weight-nodes_other i j l d c n k other,
+      weight_for-other i j one other,
+    )
 
 weight-place_other : (i j : ℕ) (p : Place) → is_at i p ≡ false
     → weight_at i j (place_couplers p) ≡ pos 0
