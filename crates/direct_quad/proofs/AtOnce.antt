@@ -34,46 +34,11 @@ use Rattle.direct_quad.specs.Parts.{table_of, image, all_nodes, parts, sum_for, 
 use Rattle.direct_quad.specs.Stated.{IsWithin}
 use Rattle.direct_quad.proofs.Additive.{sum_for-with_additions}
 use Rattle.direct_quad.proofs.Split.{nodes-table, parts-give}
-use Rattle.direct_quad.proofs.NewSets.{sets-all_new_terms}
-
--- ---- the tables between
-
--- the table of quadratic terms
-abbrev pub low_of : TableContent → TableContent
-low_of t = monomials.image (table_of t)
-
--- the sums of additions are a table
-pub IsTable-table_of : (t : TableContent) → AreAdditions t → IsTable (table_of t)
-IsTable-table_of t additions = record {
-  terms = AreTerms-with_additions t.width t.terms additions.sets;
-  small = omega (arith, additions.small, terms_total-with_additions t.terms);
-}
+use Rattle.direct_quad.specs.laws.Between.{low_of, IsTable-low_of, total-low_of}
 
 -- the nodes of all parts
-pub width-low_of : (t : TableContent) → (low_of t).width ≡ all_nodes t
+width-low_of : (t : TableContent) → (low_of t).width ≡ all_nodes t
 width-low_of t = nodes-table t
-
-pub total-low_of : (t : TableContent) → AreAdditions t
-    → terms_total (low_of t).terms + 1 ≤ (terms_total t.terms + 1) * 2 ^ 24
-total-low_of t additions =
-    omega (
-      arith,
-      total-image (table_of t) (IsTable-table_of t additions),
-      terms_total-with_additions (all_new_terms (table_of t).terms t.width),
-      terms_total-with_additions t.terms,
-    )
-
--- they are a table too
-pub IsTable-low_of : (t : TableContent) → AreAdditions t → (terms_total t.terms + 1) * 2 ^ 26 ≤ 2 ^ 124
-    → IsTable (low_of t)
-IsTable-low_of t additions total =
-    let table = IsTable-table_of t additions in
-    let sets = sets-all_new_terms (low_of t).width t.width t.width (table_of t).terms (omega arith)
-    (omega arith) (recursion_from_All _ _ table.terms.sets) in
-    record {
-      terms = AreTerms-with_additions (low_of t).width (all_new_terms (table_of t).terms t.width) sets;
-      small = omega (arith, total, total-low_of t additions);
-    }
 
 -- ---- how large the form is
 

@@ -1,6 +1,5 @@
 pub mod Additive
 pub mod Split
-pub mod NewSets
 pub mod AtOnce
 pub mod TwoLiterals
 pub mod LongTerms

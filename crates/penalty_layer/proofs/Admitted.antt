@@ -121,7 +121,7 @@ made_total p third none made =
     )
 
 -- the sets of all contributions
-contribution_sets : (p : ProblemContent) → Admits p
+pub contribution_sets : (p : ProblemContent) → Admits p
     → All (OfSet (IsTermSet p.variables)) (contributions p)
 contribution_sets p admitted =
     let P = OfSet (IsTermSet p.variables) in
