@@ -40,9 +40,39 @@ fn are_zeros(bytes: &[u8]) -> bool
     bytes.iter().all(|byte| *byte == b'0')
 }
 
+/// The value of 1 to 19 digits, which needs no test for its size. `None` says nothing.
+#[inline(always)]
+fn few_digits(bytes: &[u8]) -> Option<u64>
+    ensures { IfSome result (λ n. size_of bytes.now ≡ Some n) }
+{
+    if bytes.is_empty() || bytes.len() > 19 {
+        return None;
+    }
+    let mut value: u64 = 0;
+    for byte in bytes {
+        if !byte.is_ascii_digit() {
+            return None;
+        }
+        value = value * 10 + u64::from(*byte - b'0');
+    }
+    Some(value)
+}
+
 /// The size of a number, from its text without the sign.
-#[tactic(auto, unfolding(crate::specs::Numbers::size_of))]
+#[inline(always)]
 fn size(bytes: &[u8]) -> Option<u64>
+    ensures { result ≡ size_of bytes.now }
+{
+    match few_digits(bytes) {
+        Some(value) => Some(value),
+        None => any_size(bytes),
+    }
+}
+
+/// The size of a number of any length and form.
+#[tactic(auto, unfolding(crate::specs::Numbers::size_of))]
+#[inline(never)]
+fn any_size(bytes: &[u8]) -> Option<u64>
     ensures { result ≡ size_of bytes.now }
 {
     match point_at(bytes) {
@@ -71,6 +101,7 @@ fn negative(size: u64) -> i128
 
 /// The value of a token, where it is a number.
 #[tactic(auto, unfolding(crate::specs::Numbers::number_of))]
+#[inline(always)]
 pub fn number(token: &[u8]) -> Option<i128>
     ensures value { result ≡ number_of token.now }
     ensures small { IfSome result (λ z. nat_abs z < 2 ^ 64) }
