@@ -1,4 +1,5 @@
-//! A second reader of the same texts, for a test: by lines and words, with a place for each word.
+//! A second reader of the same texts, in both layouts, for a test: by lines and words, with a place
+//! for each word.
 //!
 //! It is written from the definition of the format, and takes no step of the other reader.
 use std::alloc::{AllocError, Global};
@@ -69,6 +70,18 @@ fn at_least(least: u64, line: u64, word: &[u8]) -> Result<u64, TextAnswer> {
     Ok(size)
 }
 
+/// The first word of a clause of the layout of 2022: `h`, or a weight.
+fn marked(line: u64, word: &[u8]) -> Result<Option<u64>, TextAnswer> {
+    if word == b"h".as_slice() {
+        return Ok(None);
+    }
+    let (minus, size) = signed(word).ok_or(bad(TextKind::Word, line))?;
+    if minus && size > 0 {
+        return Err(bad(TextKind::Range, line));
+    }
+    Ok(Some(size))
+}
+
 /// What the next word is.
 #[derive(Clone, Copy)]
 enum Place {
@@ -84,27 +97,32 @@ enum Place {
 /// The weight of a soft clause, and the literals, each as its variable and whether it has a minus.
 pub(crate) type PlainClause = (Option<u64>, Vec<(u64, bool)>);
 
-/// What was read so far. The weight and the literals are those of the clause that is not closed.
+/// What was read so far. The weight and the literals are those of the clause that is not closed. In
+/// the layout of 2022 there is no header line.
 #[derive(Drop)]
 pub(crate) struct PlainReading {
     pub variables: u64,
     pub constant: i128,
     pub clauses: Vec<PlainClause>,
     place: Place,
-    header_line: u64,
+    header_line: Option<u64>,
     clauses_left: u64,
     top: Option<u64>,
-    weight: u64,
+    weight: Option<u64>,
     literals: Vec<(u64, bool)>,
 }
 
 impl PlainReading {
     fn step(&mut self, alloc: Global, line: u64, word: &[u8]) -> Result<(), TextAnswer> {
-        let in_header = line == self.header_line;
+        let in_header = self.header_line == Some(line);
         match (self.place, word) {
             (Place::Start, b"p") => {
-                self.header_line = line;
+                self.header_line = Some(line);
                 self.place = Place::Format;
+            }
+            (Place::Start | Place::Weight, _) if self.header_line.is_none() => {
+                self.weight = marked(line, word)?;
+                self.place = Place::Literal;
             }
             (Place::Format, b"wcnf") if in_header => self.place = Place::Variables,
             (Place::Variables, _) if in_header => {
@@ -123,7 +141,7 @@ impl PlainReading {
             (Place::Top | Place::Weight, _) => {
                 let left = self.clauses_left.checked_sub(1);
                 self.clauses_left = left.ok_or(bad(TextKind::Extra, line))?;
-                self.weight = at_least(0, line, word)?;
+                self.weight = Some(at_least(0, line, word)?);
                 self.place = Place::Literal;
             }
             (Place::Literal, _) => self.literal(alloc, line, word)?,
@@ -134,9 +152,10 @@ impl PlainReading {
 
     fn literal(&mut self, alloc: Global, line: u64, word: &[u8]) -> Result<(), TextAnswer> {
         let (minus, size) = signed(word).ok_or(bad(TextKind::Number, line))?;
-        if size > self.variables {
+        if size > self.variables && self.header_line.is_some() {
             return Err(bad(TextKind::Range, line));
         }
+        self.variables = self.variables.max(size);
         match size.checked_sub(1) {
             None => self.close(alloc)?,
             Some(variable) => self.literals.push((variable, minus))?,
@@ -149,16 +168,19 @@ impl PlainReading {
         literals.sort_unstable();
         literals.dedup();
         self.place = Place::Weight;
-        let hard = self.top.is_some_and(|top| self.weight >= top);
+        let top = self.top;
+        let soft = self
+            .weight
+            .filter(|weight| top.is_none_or(|top| *weight < top));
         if literals.iter().any(|(variable, minus)| literals.contains(&(*variable, !*minus))) {
             return Ok(());
         }
-        if hard {
-            self.clauses.push((None, literals))?;
-        } else if literals.is_empty() {
-            self.constant = self.constant.saturating_add(i128::from(self.weight));
-        } else if self.weight != 0 {
-            self.clauses.push((Some(self.weight), literals))?;
+        match soft {
+            Some(weight) if literals.is_empty() => {
+                self.constant = self.constant.saturating_add(i128::from(weight));
+            }
+            Some(0) => {}
+            _ => self.clauses.push((soft, literals))?,
         }
         Ok(())
     }
@@ -171,10 +193,10 @@ pub(crate) fn plain_reading(alloc: Global, text: &[u8]) -> Result<PlainReading, 
         constant: 0,
         clauses: Vec::new(alloc),
         place: Place::Start,
-        header_line: 0,
+        header_line: None,
         clauses_left: 0,
         top: None,
-        weight: 0,
+        weight: None,
         literals: Vec::new(alloc),
     };
     let mut end = 1;

@@ -2,14 +2,15 @@
 use Rattle.std.specs.Prelude.{pos, negsuc, [], ◌∷◌, Some}
 use Rattle.bits_model.specs.declared.output.Kind.TheVariants.{Qubo}
 use Rattle.bits_model.specs.Output.{Written}
+use Rattle.wcnf_reader.specs.declared.layout.Layout.TheVariants.{Older}
 use Rattle.wcnf_reader.specs.Wcnf.{Wcnf}
 
 -- what its text says
 abbrev pub clash : Wcnf
 clash = record {
+  layout = Older (Some 10);
   variables = 1;
-  top = Some 10;
-  clauses = record { weight = 10; literals = pos 1 ∷ [] } ∷ record { weight = 3; literals = negsuc 0 ∷ [] } ∷ [];
+  clauses = record { weight = Some 10; literals = pos 1 ∷ [] } ∷ record { weight = Some 3; literals = negsuc 0 ∷ [] } ∷ [];
 }
 
 -- the model that is written for it

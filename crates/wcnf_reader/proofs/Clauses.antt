@@ -1,19 +1,21 @@
 -- Clauses that are read one after the other, and put into a problem.
-use Rattle.std.proofs.Common.{◌≡◌, ℕ, suc, ◌+◌, ◌-◌, ◌<◌, ◌≤◌, List, [], ◌∷◌, map, fold, Option, Result, Ok, Err, refl, sym, ap, ◌∙◌, arith}
+use Rattle.std.proofs.Common.{◌≡◌, ℕ, suc, ◌+◌, ◌-◌, ◌<◌, ◌≤◌, List, [], ◌∷◌, map, fold, Option, Some, Result, Ok, Err, refl, sym, ap, ◌∙◌, arith}
 use Rattle.whole_text.specs.declared.faults.TextFault.{TextFault}
 use Rattle.whole_text.specs.declared.faults.TextKind.TheVariants as kinds
 use Rattle.whole_text.specs.declared.faults.TextAnswer.{TextAnswer}
 use Rattle.whole_text.specs.declared.faults.TextAnswer.TheVariants as answers
 use Rattle.whole_text.specs.Tokens.{Word}
-use Rattle.whole_text.specs.Steps.{◌>>=◌, Fails, fault, end_line}
+use Rattle.whole_text.specs.Steps.{◌>>=◌, Fails, fault, next_of}
 use Rattle.problem_form.specs.declared.terms.Clause.{Clause}
 use Rattle.problem_form.specs.Problems.{ProblemContent}
 use Rattle.problem_form.specs.NormalForm.{blank, with_variables, with_clause, normal_form}
 use Rattle.problem_form.proofs.AddedParts.{clauses_add_up}
 use Rattle.wcnf_reader.proofs.Lengths.{both_parts}
-use Rattle.wcnf_reader.specs.Wcnf.{Header, Listed, Wcnf, header_at, clause_at, clauses_at, at_end, wcnf_of}
+use Rattle.wcnf_reader.specs.declared.layout.Layout.{Layout}
+use Rattle.wcnf_reader.specs.declared.layout.Layout.TheVariants.{Older}
+use Rattle.wcnf_reader.specs.Wcnf.{Header, Listed, Wcnf, header_at, clause_at, clauses_at, at_end, older_of}
 use Rattle.wcnf_reader.specs.Cost.{clause_of, problem_of}
-use Rattle.wcnf_reader.specs.Views.{clause_read, problem_read, listed_problem, whole_read}
+use Rattle.wcnf_reader.specs.Views.{clause_read, problem_read, listed_problem, older_read}
 
 -- clauses as listed, or the problem that they are put into, and what is left
 abbrev pub Listing : Type 0
@@ -24,7 +26,7 @@ Putting = Result (ProblemContent × List Word) TextFault
 
 -- a problem with the listed clauses
 abbrev pub put : Option ℕ → ProblemContent → List Listed × List Word → Putting
-put top p x = Ok (fold with_clause p (map (clause_of top) x.0), x.1)
+put top p x = Ok (fold with_clause p (map (clause_of (Older top)) x.0), x.1)
 
 -- what was put into the problem before, and what is still read
 abbrev pub read_into : Option ℕ → ProblemContent → Listing → Putting
@@ -33,12 +35,13 @@ read_into top p read = read >>= put top p
 abbrev with_first : Listed → List Listed × List Word → Listing
 with_first c x = Ok (c ∷ x.0, x.1)
 
-abbrev as_clause : Option ℕ → Listed × List Word → Result (Clause × List Word) TextFault
-as_clause top x = Ok (clause_of top x.0, x.1)
+-- a clause that is read, as the problem has it
+abbrev pub as_clause : Layout → Listed × List Word → Result (Clause × List Word) TextFault
+as_clause layout x = Ok (clause_of layout x.0, x.1)
 
 regroup : (top : Option ℕ) (p : ProblemContent) (c : Listed) (others : Listing)
     → read_into top p (others >>= with_first c)
-    ≡ read_into top (with_clause p (clause_of top c)) others
+    ≡ read_into top (with_clause p (clause_of (Older top) c)) others
 regroup top p c (Ok x) = refl
 regroup top p c (Err f) = refl
 
@@ -48,54 +51,78 @@ next_clause others x = others x.1 >>= with_first x.0
 
 clause_then : (top : Option ℕ) (p : ProblemContent) (c : Clause) (ws : List Word)
     (others : List Word → Listing) (first : Result (Listed × List Word) TextFault)
-    → first >>= as_clause top ≡ Ok (c, ws)
+    → first >>= as_clause (Older top) ≡ Ok (c, ws)
     → read_into top p (first >>= next_clause others) ≡ read_into top (with_clause p c) (others ws)
 clause_then top p c ws others (Err f) h = absurd cc
 clause_then top p c ws others (Ok x) h =
-    let same = both_parts (clause_of top x.0, x.1) (c, ws) h in
+    let same = both_parts (clause_of (Older top) x.0, x.1) (c, ws) h in
     regroup top p x.0 (others x.1)
     ∙ (λ i. read_into top (with_clause p (same.0 i)) (others (same.1 i)))
 
 fault_then : (e : TextAnswer) (top : Option ℕ) (p : ProblemContent) (total : Putting)
     (others : List Word → Listing) (first : Result (Listed × List Word) TextFault)
-    → Fails e (first >>= as_clause top)
+    → Fails e (first >>= as_clause (Older top))
     → read_into top p (first >>= next_clause others) ≡ total → Fails e total
 fault_then answers.NoMemory top p total others first h so_far = tt
 fault_then (answers.Bad f) top p total others (Ok x) h so_far = absurd cc
 fault_then (answers.Bad f) top p total others (Err g) h so_far =
     let same : g ≡ f = cc in sym so_far ∙ ap (λ k. Err k) same
 
-pub clause_goes_on : (top : Option ℕ) (count i variables end : ℕ) (p : ProblemContent)
-    (ws rest : List Word) (c : Clause) (total : Putting) → i < count
-    → clause_read top variables end ws ≡ Ok (c, rest)
-    → read_into top p (clauses_at (count - i) variables end ws) ≡ total
-    → read_into top (with_clause p c) (clauses_at (count - (i + 1)) variables end rest) ≡ total
+-- the clause that begins with this word, and the others after it
+abbrev clause_and_others : Header → ℕ → ℕ → Word × List Word → Listing
+clause_and_others h n end w =
+    clause_at (Older h.top) (Some h.variables) end w.0 w.1 >>= next_clause (clauses_at n h end)
+
+pub clause_goes_on : (h : Header) (count i end : ℕ) (p : ProblemContent) (ws after rest : List Word)
+    (w : Word) (c : Clause) (total : Putting) → i < count → next_of end ws ≡ Ok (w, after)
+    → clause_read (Older h.top) (Some h.variables) end w after ≡ Ok (c, rest)
+    → read_into h.top p (clauses_at (count - i) h end ws) ≡ total
+    → read_into h.top (with_clause p c) (clauses_at (count - (i + 1)) h end rest) ≡ total
 unfolding clauses_at
-clause_goes_on top count i variables end p ws rest c total lt h so_far =
+clause_goes_on h count i end p ws after rest w c total lt next read so_far =
     let k : count - i ≡ suc (count - (i + 1)) = omega arith in
     let before = rw k at so_far in
-    sym (clause_then top p c rest (clauses_at (count - (i + 1)) variables end)
-    (clause_at variables end ws) h)
+    let n = count - (i + 1) in
+    sym (clause_then h.top p c rest (clauses_at n h end)
+    (clause_at (Older h.top) (Some h.variables) end w after) read)
+    ∙ sym (ap (λ (x : Result (Word × List Word) TextFault).
+    read_into h.top p (x >>= clause_and_others h n end)) next)
     ∙ before
 
-pub clauses_fail : (e : TextAnswer) (top : Option ℕ) (count i variables end : ℕ) (p : ProblemContent)
-    (ws : List Word) (total : Putting) → i < count
-    → Fails e (clause_read top variables end ws)
-    → read_into top p (clauses_at (count - i) variables end ws) ≡ total → Fails e total
+pub clause_fails : (e : TextAnswer) (h : Header) (count i end : ℕ) (p : ProblemContent)
+    (ws after : List Word) (w : Word) (total : Putting) → i < count
+    → next_of end ws ≡ Ok (w, after)
+    → Fails e (clause_read (Older h.top) (Some h.variables) end w after)
+    → read_into h.top p (clauses_at (count - i) h end ws) ≡ total → Fails e total
 unfolding clauses_at
-clauses_fail e top count i variables end p ws total lt h so_far =
+clause_fails e h count i end p ws after w total lt next fails so_far =
     let k : count - i ≡ suc (count - (i + 1)) = omega arith in
     let before = rw k at so_far in
-    fault_then e top p total (clauses_at (count - (i + 1)) variables end)
-    (clause_at variables end ws) h before
+    let n = count - (i + 1) in
+    fault_then e h.top p total (clauses_at n h end)
+    (clause_at (Older h.top) (Some h.variables) end w after) fails
+    (sym (ap (λ (x : Result (Word × List Word) TextFault).
+    read_into h.top p (x >>= clause_and_others h n end)) next)
+    ∙ before)
 
-pub clauses_done : (top : Option ℕ) (count i variables end : ℕ) (p : ProblemContent) (ws : List Word)
-    (total : Putting) → count ≤ i
-    → read_into top p (clauses_at (count - i) variables end ws) ≡ total → total ≡ Ok (p, ws)
+pub no_clause : (h : Header) (count i end : ℕ) (p : ProblemContent) (ws : List Word)
+    (f : TextFault) (total : Putting) → i < count → next_of end ws ≡ Err f
+    → read_into h.top p (clauses_at (count - i) h end ws) ≡ total → total ≡ Err f
 unfolding clauses_at
-clauses_done top count i variables end p ws total le so_far =
-    let k : count - i ≡ 0 = omega arith in
-    sym (rw k at so_far)
+no_clause h count i end p ws f total lt next so_far =
+    let k : count - i ≡ suc (count - (i + 1)) = omega arith in
+    let before = rw k at so_far in
+    let n = count - (i + 1) in
+    sym before
+    ∙ ap (λ (x : Result (Word × List Word) TextFault).
+    read_into h.top p (x >>= clause_and_others h n end)) next
+
+pub clauses_done : (h : Header) (count i end : ℕ) (p : ProblemContent) (ws : List Word)
+    (total : Putting) → count ≤ i
+    → read_into h.top p (clauses_at (count - i) h end ws) ≡ total → total ≡ Ok (p, ws)
+unfolding clauses_at
+clauses_done h count i end p ws total le so_far =
+    let k : count - i ≡ 0 = omega arith in sym (rw k at so_far)
 
 -- ---- the whole text
 
@@ -104,16 +131,17 @@ into_blank : (h : Header) (read : Listing)
     → read_into h.top (with_variables blank h.variables) read
     ≡ (read >>= λ (x : List Listed × List Word). Ok (listed_problem h x.0, x.1))
 into_blank h (Ok x) =
-    ap (λ (p : ProblemContent). Ok (p, x.1)) (clauses_add_up h.variables (map (clause_of h.top) x.0))
+    ap (λ (p : ProblemContent). Ok (p, x.1))
+    (clauses_add_up h.variables (map (clause_of (Older h.top)) x.0))
 into_blank h (Err f) = refl
 
 pub problem_read-blank : (h : Header) (end : ℕ) (ws : List Word)
     → problem_read h end ws
-    ≡ read_into h.top (with_variables blank h.variables) (clauses_at h.clauses h.variables end ws)
-problem_read-blank h end ws = sym (into_blank h (clauses_at h.clauses h.variables end ws))
+    ≡ read_into h.top (with_variables blank h.variables) (clauses_at h.clauses h end ws)
+problem_read-blank h end ws = sym (into_blank h (clauses_at h.clauses h end ws))
 
 abbrev pub whole : Header → List Listed → Wcnf
-whole h cs = record { variables = h.variables; top = h.top; clauses = cs }
+whole h cs = record { layout = Older h.top; variables = h.variables; clauses = cs }
 
 abbrev pub as_problem : Header → List Listed × List Word → Putting
 as_problem h x = Ok (listed_problem h x.0, x.1)
@@ -125,26 +153,26 @@ abbrev pub end_of : Header → List Listed × List Word → Result Wcnf TextFaul
 end_of h x = at_end (whole h x.0) x.1
 
 -- what a whole text gives, by its header and what is read after it
-pub whole_read-header : (h : Header) (end : ℕ) (ws rest : List Word) → end ≡ end_line ws
-    → header_at end ws ≡ Ok (h, rest)
-    → whole_read ws ≡ ((clauses_at h.clauses h.variables end rest >>= end_of h) >>= normal)
-unfolding wcnf_of
-whole_read-header h end ws rest last head = let head_at = rw last at head in rw (last, head_at) refl
+pub older_read-header : (h : Header) (line end : ℕ) (ws rest : List Word)
+    → header_at line end ws ≡ Ok (h, rest)
+    → older_read line end ws ≡ ((clauses_at h.clauses h end rest >>= end_of h) >>= normal)
+unfolding older_of
+older_read-header h line end ws rest head = rw head refl
 
-pub nothing_left : (h : Header) (p : ProblemContent) (read : Listing)
-    → read >>= as_problem h ≡ Ok (p, []) → (read >>= end_of h) >>= normal ≡ Ok p
-nothing_left h p (Err f) e = absurd cc
-nothing_left h p (Ok x) e =
-    let parts = both_parts (listed_problem h x.0, x.1) (p, []) e in
-    (λ i. end_of h (x.0, parts.1 i) >>= normal) ∙ ap (λ q. Ok q) parts.0
+pub nothing_left : (h : Header) (p : ProblemContent) (ws : List Word) (read : Listing) → ws ≡ []
+    → read >>= as_problem h ≡ Ok (p, ws) → (read >>= end_of h) >>= normal ≡ Ok p
+nothing_left h p ws (Err f) none e = absurd cc
+nothing_left h p ws (Ok x) none e =
+    let parts = both_parts (listed_problem h x.0, x.1) (p, ws) e in
+    (λ i. end_of h (x.0, (parts.1 ∙ none) i) >>= normal) ∙ ap (λ q. Ok q) parts.0
 
-pub more_left : (h : Header) (p : ProblemContent) (w : Word) (ws : List Word) (read : Listing)
-    → read >>= as_problem h ≡ Ok (p, w ∷ ws)
+pub more_left : (h : Header) (p : ProblemContent) (w : Word) (ws rest : List Word) (read : Listing)
+    → ws ≡ w ∷ rest → read >>= as_problem h ≡ Ok (p, ws)
     → (read >>= end_of h) >>= normal ≡ Err (fault kinds.Extra w.line)
-more_left h p w ws (Err f) e = absurd cc
-more_left h p w ws (Ok x) e =
-    let parts = both_parts (listed_problem h x.0, x.1) (p, w ∷ ws) e in
-    (λ i. end_of h (x.0, parts.1 i) >>= normal)
+more_left h p w ws rest (Err f) some e = absurd cc
+more_left h p w ws rest (Ok x) some e =
+    let parts = both_parts (listed_problem h x.0, x.1) (p, ws) e in
+    (λ i. end_of h (x.0, (parts.1 ∙ some) i) >>= normal)
 
 pub fails_whole : (e : TextAnswer) (h : Header) (read : Listing) → Fails e (read >>= as_problem h)
     → Fails e ((read >>= end_of h) >>= normal)
@@ -152,7 +180,7 @@ fails_whole answers.NoMemory h read fails = tt
 fails_whole (answers.Bad f) h (Ok x) fails = absurd cc
 fails_whole (answers.Bad f) h (Err g) fails = let same : g ≡ f = cc in ap (λ k. Err k) same
 
-pub whole_read-bad : (f : TextFault) (end : ℕ) (ws : List Word) → end ≡ end_line ws
-    → header_at end ws ≡ Err f → whole_read ws ≡ Err f
-unfolding wcnf_of
-whole_read-bad f end ws last head = let head_at = rw last at head in rw head_at refl
+pub older_read-bad : (f : TextFault) (line end : ℕ) (ws : List Word)
+    → header_at line end ws ≡ Err f → older_read line end ws ≡ Err f
+unfolding older_of
+older_read-bad f line end ws head = rw head refl

@@ -4,7 +4,10 @@ use Rattle.std.proofs.lemmas.List.{length-map}
 use Rattle.whole_text.specs.declared.faults.TextFault.{TextFault}
 use Rattle.whole_text.specs.declared.token.Token.{Token}
 use Rattle.whole_text.specs.Tokens.{Word, word_at, words_at, AreInOrder}
+use Rattle.whole_text.specs.declared.token_text.TokenText.{TokenText}
+use Rattle.whole_text.specs.TokenTexts.{words_of}
 use Rattle.whole_text.specs.Steps.{next_of}
+use Rattle.whole_text.proofs.Strides.{length-joined}
 
 -- each token takes at least one byte
 pub length-in_order : (low high : ℕ) (ts : List Token) → AreInOrder low ts high
@@ -28,3 +31,16 @@ next_shorter text end [] rest w h = absurd cc
 next_shorter text end (t ∷ ts) rest w h =
     let same = (both_parts (word_at text t, words_at text ts) (w, words_at text rest) h).1 in
     omega (arith, simp length-map at (ap length same))
+
+pub next_less : (end : ℕ) (ws rest : List Word) (w : Word) → next_of end ws ≡ Ok (w, rest)
+    → length rest < length ws
+next_less end [] rest w h = absurd cc
+next_less end (v ∷ ws) rest w h =
+    let same = (both_parts (v, ws) (w, rest) h).1 in omega (arith, ap length same)
+
+-- a text has at most as many words as bytes
+pub few_words : (text : TokenText) → length (words_of text) ≤ length text.bytes
+few_words text =
+    let same : length (words_of text) ≡ length text.tokens =
+    length-map text.tokens (word_at text.bytes) in
+    omega (arith, same, length-joined 0 text.tokens (length text.bytes) text.joined)

@@ -1,4 +1,6 @@
 pub mod Loops
 pub mod Lengths
 pub mod Clauses
+pub mod Widening
+pub mod Headerless
 pub mod ReadCosts

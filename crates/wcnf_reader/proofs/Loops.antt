@@ -1,20 +1,14 @@
 -- Reading one thing after the other, as a loop does.
-use Rattle.std.proofs.Common.{◌≡◌, ℕ, ◌+◌, ◌<◌, Bool, true, false, cond, eqb, ℤ, List, [], ◌∷◌, ◌++◌, length, map, get_or, drop, Option, Some, None, Result, Ok, Err, refl, sym, ap, ◌∙◌, append_assoc, append-nil}
+use Rattle.std.proofs.Common.{◌≡◌, ℕ, Bool, true, false, cond, eqb, ℤ, List, [], ◌∷◌, ◌++◌, map, Option, Some, None, Result, Ok, Err, refl, sym, ap, ◌∙◌, append_assoc, append-nil}
 use Rattle.std.specs.Prelude.{nat_abs}
-use Rattle.std.proofs.lemmas.List.{drop_more}
 use Rattle.whole_text.specs.declared.faults.TextFault.{TextFault}
 use Rattle.whole_text.specs.declared.faults.TextKind.TheVariants as kinds
-use Rattle.whole_text.specs.declared.token.Token.{Token}
-use Rattle.whole_text.specs.Tokens.{Word, word_at, words_at}
+use Rattle.whole_text.specs.Tokens.{Word}
 use Rattle.whole_text.specs.Steps.{◌>>=◌, fault}
 use Rattle.problem_form.specs.declared.literal.Literal.{Literal}
 use Rattle.wcnf_reader.specs.Wcnf.{literal_at, literals_at}
 use Rattle.wcnf_reader.specs.Cost.{literal_of}
 use Rattle.wcnf_reader.specs.Views.{some_literal, literal_read, literals_read}
-
-pub words_drop : (text : List ℕ) (ts : List Token) (i : ℕ) (d : Token) → i < length ts
-    → words_at text (drop i ts) ≡ word_at text (get_or ts i d) ∷ words_at text (drop (i + 1) ts)
-words_drop text ts i d lt = ap (words_at text) (drop_more ts i d lt)
 
 -- ---- the literals of a clause
 
@@ -89,7 +83,7 @@ fault_then : (front : List Literal) (f : TextFault) (ws : List Word) (others : N
 fault_then front f ws others (Ok z) h = absurd cc
 fault_then front f ws others (Err g) h = let same : g ≡ f = cc in ap (λ k. Err k) same
 
-pub literal_goes_on : (variables end : ℕ) (front : List Literal) (w : Word) (ws : List Word)
+pub literal_goes_on : (variables : Option ℕ) (end : ℕ) (front : List Literal) (w : Word) (ws : List Word)
     (l : Literal) (total : Literals) → literal_read variables w ≡ Ok (Some l)
     → with_front front (literals_read variables end (w ∷ ws)) ≡ total
     → with_front (front ++ l ∷ []) (literals_read variables end ws) ≡ total
@@ -97,21 +91,21 @@ unfolding literals_at
 literal_goes_on variables end front w ws l total h so_far =
     sym (literal_then front l ws (literals_at variables end ws) (literal_at variables w) h) ∙ so_far
 
-pub literals_stop : (variables end : ℕ) (front : List Literal) (w : Word) (ws : List Word)
+pub literals_stop : (variables : Option ℕ) (end : ℕ) (front : List Literal) (w : Word) (ws : List Word)
     (total : Literals) → literal_read variables w ≡ Ok None
     → with_front front (literals_read variables end (w ∷ ws)) ≡ total → total ≡ Ok (front, ws)
 unfolding literals_at
 literals_stop variables end front w ws total h so_far =
     sym so_far ∙ zero_then front ws (literals_at variables end ws) (literal_at variables w) h
 
-pub literals_fail : (variables end : ℕ) (front : List Literal) (w : Word) (ws : List Word)
+pub literals_fail : (variables : Option ℕ) (end : ℕ) (front : List Literal) (w : Word) (ws : List Word)
     (f : TextFault) (total : Literals) → literal_read variables w ≡ Err f
     → with_front front (literals_read variables end (w ∷ ws)) ≡ total → total ≡ Err f
 unfolding literals_at
 literals_fail variables end front w ws f total h so_far =
     sym so_far ∙ fault_then front f ws (literals_at variables end ws) (literal_at variables w) h
 
-pub literals_end : (variables end : ℕ) (front : List Literal) (ws : List Word)
+pub literals_end : (variables : Option ℕ) (end : ℕ) (front : List Literal) (ws : List Word)
     (total : Literals) → ws ≡ [] → with_front front (literals_read variables end ws) ≡ total
     → total ≡ Err (fault kinds.End end)
 unfolding literals_at

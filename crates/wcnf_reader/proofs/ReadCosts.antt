@@ -1,5 +1,5 @@
 -- What the problem of a text costs: what the text costs, clause by clause.
-use Rattle.std.proofs.Common.{◌≡◌, ℕ, suc, ◌-◌, Bool, true, false, cond, not, ◌&&◌, ◌||◌, arith, refl, ap, ◌∙◌, List, [], ◌∷◌, map, Option, Some, None, is_none, unwrap_or, ℤ, pos, negsuc, ◌+ℤ◌}
+use Rattle.std.proofs.Common.{◌≡◌, ℕ, suc, ◌-◌, Bool, true, false, cond, not, ◌&&◌, ◌||◌, arith, refl, ap, ◌∙◌, List, [], ◌∷◌, map, Some, None, is_none, unwrap_or, ℤ, pos, negsuc, ◌+ℤ◌}
 use Rattle.std.specs.Prelude.{if◌then◌else◌}
 use Rattle.std.specs.List.{list_any, slice_index_or}
 use Rattle.std.proofs.lemmas.Int.{ints}
@@ -8,6 +8,7 @@ use Rattle.integers.specs.Sums.{total_by, if_so}
 use Rattle.problem_form.specs.Literals.{holds, some_holds}
 use Rattle.problem_form.specs.Problems.{fails_hard, soft_cost, problem_cost}
 use Rattle.problem_form.proofs.NormalForms.{normal_form-cost}
+use Rattle.wcnf_reader.specs.declared.layout.Layout.{Layout}
 use Rattle.wcnf_reader.specs.Wcnf.{Listed, Wcnf}
 use Rattle.wcnf_reader.specs.Cost.{is_true, is_satisfied, is_hard, is_broken, unsatisfied_weight, wcnf_cost, literal_of, clause_of, problem_of, ReadingKeepsCosts}
 
@@ -34,35 +35,35 @@ soft_cost-weight true true w = refl
 soft_cost-weight true false w = refl
 soft_cost-weight false satisfied w = refl
 
-fails_hard-clause_of : (top : Option ℕ) (x : List Bool) (c : Listed)
-    → fails_hard x (clause_of top c) ≡ is_hard top c.weight && not (is_satisfied x c)
-fails_hard-clause_of top x c =
-    let hard = is_hard top c.weight in
-    ap (λ b. is_none (cond hard None (Some c.weight)) && not b) (some_holds-listed x c.literals)
-    ∙ fails_hard-weight hard (is_satisfied x c) c.weight
+fails_hard-clause_of : (layout : Layout) (x : List Bool) (c : Listed)
+    → fails_hard x (clause_of layout c) ≡ is_hard layout c.weight && not (is_satisfied x c)
+fails_hard-clause_of layout x c =
+    let hard = is_hard layout c.weight in
+    ap (λ b. is_none (cond hard None (Some (unwrap_or c.weight 0))) && not b) (some_holds-listed x c.literals)
+    ∙ fails_hard-weight hard (is_satisfied x c) (unwrap_or c.weight 0)
 
-soft_cost-clause_of : (top : Option ℕ) (x : List Bool) (c : Listed)
-    → soft_cost x (clause_of top c)
-    ≡ if_so (not (is_hard top c.weight) && not (is_satisfied x c)) (pos c.weight)
-soft_cost-clause_of top x c =
-    let hard = is_hard top c.weight in
-    ap (λ b. if_so (not b) (pos (unwrap_or (cond hard None (Some c.weight)) 0)))
+soft_cost-clause_of : (layout : Layout) (x : List Bool) (c : Listed)
+    → soft_cost x (clause_of layout c)
+    ≡ if_so (not (is_hard layout c.weight) && not (is_satisfied x c)) (pos (unwrap_or c.weight 0))
+soft_cost-clause_of layout x c =
+    let hard = is_hard layout c.weight in
+    ap (λ b. if_so (not b) (pos (unwrap_or (cond hard None (Some (unwrap_or c.weight 0))) 0)))
     (some_holds-listed x c.literals)
-    ∙ soft_cost-weight hard (is_satisfied x c) c.weight
+    ∙ soft_cost-weight hard (is_satisfied x c) (unwrap_or c.weight 0)
 
-fails_hard-clauses : (top : Option ℕ) (x : List Bool) (cs : List Listed)
-    → list_any (fails_hard x) (map (clause_of top) cs)
-    ≡ list_any (λ c. is_hard top c.weight && not (is_satisfied x c)) cs
-fails_hard-clauses top x [] = refl
-fails_hard-clauses top x (c ∷ cs) =
-    λ i. fails_hard-clause_of top x c i || fails_hard-clauses top x cs i
+fails_hard-clauses : (layout : Layout) (x : List Bool) (cs : List Listed)
+    → list_any (fails_hard x) (map (clause_of layout) cs)
+    ≡ list_any (λ c. is_hard layout c.weight && not (is_satisfied x c)) cs
+fails_hard-clauses layout x [] = refl
+fails_hard-clauses layout x (c ∷ cs) =
+    λ i. fails_hard-clause_of layout x c i || fails_hard-clauses layout x cs i
 
-soft_cost-clauses : (top : Option ℕ) (x : List Bool) (cs : List Listed)
-    → total_by (soft_cost x) (map (clause_of top) cs)
-    ≡ total_by (λ c. if_so (not (is_hard top c.weight) && not (is_satisfied x c)) (pos c.weight)) cs
-soft_cost-clauses top x [] = refl
-soft_cost-clauses top x (c ∷ cs) =
-    λ i. soft_cost-clause_of top x c i +ℤ soft_cost-clauses top x cs i
+soft_cost-clauses : (layout : Layout) (x : List Bool) (cs : List Listed)
+    → total_by (soft_cost x) (map (clause_of layout) cs)
+    ≡ total_by (λ c. if_so (not (is_hard layout c.weight) && not (is_satisfied x c)) (pos (unwrap_or c.weight 0))) cs
+soft_cost-clauses layout x [] = refl
+soft_cost-clauses layout x (c ∷ cs) =
+    λ i. soft_cost-clause_of layout x c i +ℤ soft_cost-clauses layout x cs i
 
 or_nothing : (a b : Bool) → a ≡ b → a || false ≡ b
 or_nothing true b e = e
@@ -70,12 +71,12 @@ or_nothing false b e = e
 
 problem_of-cost : (s : Wcnf) (x : List Bool) → problem_cost (problem_of s) x ≡ wcnf_cost s x
 problem_of-cost s x =
-    let soft = soft_cost-clauses s.top x s.clauses in
+    let soft = soft_cost-clauses s.layout x s.clauses in
     let whole :
-    pos 0 +ℤ pos 0 +ℤ total_by (soft_cost x) (map (clause_of s.top) s.clauses) ≡ unsatisfied_weight s x =
+    pos 0 +ℤ pos 0 +ℤ total_by (soft_cost x) (map (clause_of s.layout) s.clauses) ≡ unsatisfied_weight s x =
     omega (arith, ints, soft) in
-    let broken = or_nothing (list_any (fails_hard x) (map (clause_of s.top) s.clauses))
-    (is_broken s x) (fails_hard-clauses s.top x s.clauses) in
+    let broken = or_nothing (list_any (fails_hard x) (map (clause_of s.layout) s.clauses))
+    (is_broken s x) (fails_hard-clauses s.layout x s.clauses) in
     λ i. if broken i then Infinite else Whole (whole i)
 
 pub reading_keeps_costs : ReadingKeepsCosts

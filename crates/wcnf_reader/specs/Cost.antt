@@ -1,18 +1,21 @@
 -- What a weighted CNF text costs, before any normal form, and the problem that it becomes.
-use Rattle.std.specs.Prelude.{◌≡◌, ℕ, ◌-◌, ℤ, pos, negsuc, nat_abs, Bool, false, not, ◌&&◌, List, map, Option, Some, None, Result, Ok, nat_le, if◌then◌else◌}
+use Rattle.std.specs.Prelude.{◌≡◌, ℕ, ◌-◌, ℤ, pos, negsuc, nat_abs, Bool, false, not, ◌&&◌, List, map, Option, Some, None, is_none, unwrap_or, Result, Ok, nat_le, if◌then◌else◌}
 use Rattle.std.specs.List.{list_any, slice_index_or}
 use Rattle.integers.specs.Sums.{total_by, if_so}
 use Rattle.bits_model.specs.declared.costs.Cost.{Cost}
 use Rattle.bits_model.specs.declared.costs.Cost.TheVariants.{Whole, Infinite}
 use Rattle.bits_model.specs.Costs.{Form, Source}
 use Rattle.whole_text.specs.declared.faults.TextFault.{TextFault}
+use Rattle.whole_text.specs.Tokens.{Word}
 use Rattle.whole_text.specs.Steps.{◌>>=◌}
 use Rattle.problem_form.specs.declared.literal.Literal.{Literal}
 use Rattle.problem_form.specs.declared.terms.Clause.{Clause}
 use Rattle.problem_form.specs.Problems.{ProblemContent, problem_cost}
 use Rattle.problem_form.specs.NormalForm.{normal_form, blank, with_variables}
 use Rattle.problem_form.specs.Limits.{upper}
-use Rattle.wcnf_reader.specs.Wcnf.{Listed, Wcnf, reading}
+use Rattle.wcnf_reader.specs.declared.layout.Layout.{Layout}
+use Rattle.wcnf_reader.specs.declared.layout.Layout.TheVariants.{Older, WithoutHeader}
+use Rattle.wcnf_reader.specs.Wcnf.{Listed, Wcnf, reading_of_words, reading}
 
 -- ---- the cost of the text as written
 
@@ -25,19 +28,22 @@ is_true x (negsuc k) = not (slice_index_or x k false)
 abbrev pub is_satisfied : List Bool → Listed → Bool
 is_satisfied x c = list_any (is_true x) c.literals
 
--- a clause is hard where there is a TOP and its weight is at least TOP
-abbrev pub is_hard : Option ℕ → ℕ → Bool
-is_hard None weight = false
-is_hard (Some top) weight = nat_le top weight
+-- in the older layout a clause is hard where there is a TOP and its weight is at least TOP, and in
+-- that of 2022 where it has no weight, since it begins with `h`
+abbrev pub is_hard : Layout → Option ℕ → Bool
+is_hard (Older (Some top)) (Some weight) = nat_le top weight
+is_hard (Older top) weight = false
+is_hard WithoutHeader weight = is_none weight
 
 -- some hard clause has no true literal
 abbrev pub is_broken : Wcnf → List Bool → Bool
-is_broken s x = list_any (λ c. is_hard s.top c.weight && not (is_satisfied x c)) s.clauses
+is_broken s x = list_any (λ c. is_hard s.layout c.weight && not (is_satisfied x c)) s.clauses
 
 -- the weights of the soft clauses that have no true literal
 abbrev pub unsatisfied_weight : Wcnf → List Bool → ℤ
 unsatisfied_weight s x =
-    total_by (λ c. if_so (not (is_hard s.top c.weight) && not (is_satisfied x c)) (pos c.weight))
+    total_by
+    (λ c. if_so (not (is_hard s.layout c.weight) && not (is_satisfied x c)) (pos (unwrap_or c.weight 0)))
     s.clauses
 
 -- infinite where a hard clause is broken, else the sum of the unsatisfied soft weights
@@ -59,20 +65,24 @@ literal_of z = record { variable = nat_abs z - 1; negated = is_negative z }
     is_negative _ = not false
 
 -- the clause of these literals, hard or with its weight
-abbrev pub clause_of : Option ℕ → Listed → Clause
-clause_of top c = record {
+abbrev pub clause_of : Layout → Listed → Clause
+clause_of layout c = record {
   literals = map literal_of c.literals;
-  weight = if is_hard top c.weight then None else Some c.weight;
+  weight = if is_hard layout c.weight then None else Some (unwrap_or c.weight 0);
 }
 
 -- the problem as written
 abbrev pub problem_of : Wcnf → ProblemContent
 problem_of s =
-    record (with_variables blank s.variables) { clauses = map (clause_of s.top) s.clauses }
+    record (with_variables blank s.variables) { clauses = map (clause_of s.layout) s.clauses }
 
 -- the text as a source: its cost as written, and the upper bound of its problem
 abbrev pub source_of : Wcnf → Source
 source_of s = record { form = form_of s; upper = upper (normal_form (problem_of s)) }
+
+-- the reading of words, as a problem in normal form
+unfoldable pub problem_of_words : List Word → Result ProblemContent TextFault
+problem_of_words ws = reading_of_words ws >>= λ s. Ok (normal_form (problem_of s))
 
 -- the reading of a text, as a problem in normal form
 unfoldable pub normal_reading : List ℕ → Result ProblemContent TextFault

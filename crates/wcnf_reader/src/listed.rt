@@ -1,100 +1,137 @@
-//! A clause of a text: a weight, literals, and a number of value 0.
-ghost use Rattle.std.specs.Prelude.{◌≡◌, ◌<◌, ◌≤◌, ◌^◌, length, All, IfOk, IfSome};
-ghost use Rattle.whole_text.specs.Tokens.{word_at, words_at, IsWithin};
+//! A clause of a text: a weight or `h`, literals, and a number of value 0.
+ghost use Rattle.std.specs.Prelude.{◌≡◌, ◌+◌, ◌<◌, ◌≤◌, ◌^◌, [], length, Some, None, All, OnOk, IfOk, IfSome, unwrap_or};
+ghost use Rattle.whole_text.specs.TokenTexts.{word_of};
 ghost use Rattle.whole_text.specs.Steps.{Gives, GivesAlways};
-ghost use Rattle.problem_form.specs.Problems.{soft_weight};
-ghost use Rattle.wcnf_reader.specs.Cost.{is_hard};
-ghost use Rattle.wcnf_reader.specs.Views.{literal_read, literals_read, clause_read};
+ghost use Rattle.wcnf_reader.specs.Wcnf.{mark_of};
+ghost use Rattle.wcnf_reader.specs.declared.layout.Layout.TheVariants.{Older};
+ghost use Rattle.wcnf_reader.specs.Views.{weight_kept, weight_read, literal_read, literals_read, bound_of, widened, clause_read};
 
-use crate::header::Start;
-use problem_form::{Clause, Literal, LiteralList};
-use std::alloc::Global;
-use whole_text::{TextAnswer, TextFault, TextKind, Token, fault, integer, natural, next};
+use crate::layout::Layout;
+use problem_form::Literal;
+use whole_text::{
+    TextAnswer, TextFault, TextKind, WordRef, Words, fault, integer_word, natural_word, number,
+};
 
-/// A literal of one of the variables, or `None` for 0.
-#[tactic(auto, unfolding(crate::specs::Wcnf::literal_at))]
-fn literal(text: &[u8], token: Token, variables: u64) -> Result<Option<Literal>, TextFault>
-    requires { IsWithin text.now token }
-    ensures read { GivesAlways (λ l. l) result (literal_read variables (word_at text.now token)) }
-    ensures within { IfOk result (λ o. IfSome o (λ l. l.variable < variables)) }
+/// The weight of a clause of the older layout, or `None` for a hard one: there is a TOP, and the
+/// weight is at least TOP.
+#[inline(always)]
+fn soft_below(top: Option<u64>, weight: u64) -> Option<u64>
+    ensures { result ≡ weight_kept (Older top) (Some weight) }
 {
-    let number = integer(text, token)?;
+    match top {
+        Some(top) if weight >= top => None,
+        _ => Some(weight),
+    }
+}
+
+/// `h` as `None`, or a weight.
+#[inline(always)]
+#[tactic(auto, unfolding(crate::specs::Wcnf::mark_of))]
+fn mark(word: WordRef<'_>) -> Result<Option<u64>, TextFault>
+    ensures { result ≡ mark_of (word_of word.entry) }
+{
+    if word.bytes == b"h".as_slice() {
+        return Ok(None);
+    }
+    let number = number(word.bytes).ok_or(fault(TextKind::Word, word.line))?;
+    match u64::try_from(number) {
+        Ok(weight) => Ok(Some(weight)),
+        Err(_) => Err(fault(TextKind::Range, word.line)),
+    }
+}
+
+/// The weight of a clause, from its first word. `None` for a hard clause.
+#[inline(always)]
+#[tactic(auto, unfolding(crate::specs::Wcnf::weight_of))]
+fn weight(word: WordRef<'_>, layout: Layout) -> Result<Option<u64>, TextFault>
+    ensures { GivesAlways (λ weight. weight) result (weight_read layout (word_of word.entry)) }
+{
+    match layout {
+        Layout::Older(top) => Ok(soft_below(top, natural_word(word, 0)?)),
+        Layout::WithoutHeader => mark(word),
+    }
+}
+
+/// A literal of one of so many variables, or of any without a count. `None` for 0.
+#[inline(always)]
+#[tactic(auto, unfolding(crate::specs::Wcnf::literal_at))]
+fn literal(word: WordRef<'_>, variables: Option<u64>) -> Result<Option<Literal>, TextFault>
+    ensures read { GivesAlways (λ l. l) result (literal_read variables (word_of word.entry)) }
+    ensures within { IfOk result (λ o. IfSome o (λ l. l.variable < bound_of variables)) }
+{
+    let number = integer_word(word)?;
     let size = number.unsigned_abs();
-    if size > u128::from(variables) {
-        return Err(fault(TextKind::Range, token.line));
+    if variables.is_some_and(|variables| size > u128::from(variables)) {
+        return Err(fault(TextKind::Range, word.line));
     }
     if size == 0 {
         return Ok(None);
     }
-    let literal = Literal {
+    Ok(Some(Literal {
         variable: (size - 1) as u64,
         negated: number < 0,
-    };
-    Ok(Some(literal))
+    }))
 }
 
-/// The literals up to a 0.
-fn literals<'a>(
-    alloc: Global,
-    text: &[u8],
-    tokens: &'a [Token],
-    variables: u64,
+/// Puts the literals up to a 0 into a list that is empty.
+#[inline(always)]
+fn literals(
+    words: &mut Words<'_>,
+    list: &mut Vec<Literal>,
+    variables: Option<u64>,
     end: u64,
-) -> Result<(Vec<Literal>, &'a [Token]), TextAnswer>
-    requires { All (IsWithin text.now) tokens.now }
-    ensures read { Gives (λ x. (x.0.items, words_at text.now x.1.now)) result
-        (literals_read variables end (words_at text.now tokens.now)) }
-    ensures literals { IfOk result (λ x. All (λ l. l.variable < variables) x.0.items) }
-    ensures within { IfOk result (λ x. All (IsWithin text.now) x.1.now) }
-    ensures shorter { IfOk result (λ x. length x.1.now ≤ length tokens.now) }
+) -> Result<(), TextAnswer>
+    requires { list.old.items ≡ [] }
+    ensures read { Gives (λ _. (list.new.items, words.new)) result
+        (literals_read variables end words.old) }
+    ensures within { OnOk result (All (λ l. l.variable < bound_of variables) list.new.items) }
+    ensures shorter { OnOk result (length words.new ≤ length words.old) }
 {
-    let mut literals = Vec::new(alloc);
-    for (i, token) in tokens.iter().enumerate() {
-        match literal(text, *token, variables)? {
-            Some(literal) => literals.push(literal)?,
-            None => return Ok((literals, &tokens[i + 1..])),
+    while let Some(word) = words.next() {
+        match literal(word, variables)? {
+            Some(literal) => list.push(literal)?,
+            None => return Ok(()),
         }
     }
     Err(TextAnswer::Bad(fault(TextKind::End, end)))
 }
 
-/// Whether a clause of this weight is hard: there is a TOP, and the weight is at least TOP.
-fn is_hard(top: Option<u64>, weight: u64) -> bool
-    ensures { result ≡ is_hard top weight }
+/// The clause that begins with this word: its literals go into a list that is empty, and its weight
+/// is the answer, `None` for a hard one.
+#[inline(always)]
+#[tactic(auto, unfolding(crate::specs::Wcnf::clause_at))]
+pub(crate) fn clause(
+    first: WordRef<'_>,
+    words: &mut Words<'_>,
+    list: &mut Vec<Literal>,
+    layout: Layout,
+    variables: Option<u64>,
+    end: u64,
+) -> Result<Option<u64>, TextAnswer>
+    requires { list.old.items ≡ [] }
+    ensures read { Gives
+        (λ weight. (record { literals = list.new.items; weight = weight }, words.new)) result
+        (clause_read layout variables end (word_of first.entry) words.old) }
+    ensures within { OnOk result (All (λ l. l.variable < bound_of variables) list.new.items) }
+    ensures small { IfOk result (λ weight. unwrap_or weight 0 < 2 ^ 64) }
+    ensures shorter { OnOk result (length words.new ≤ length words.old) }
 {
-    match top {
-        Some(top) => weight >= top,
-        None => false,
-    }
+    let weight = weight(first, layout)?;
+    literals(words, list, variables, end)?;
+    Ok(weight)
 }
 
-/// A clause, and what is left.
-#[tactic(auto, unfolding(crate::specs::Wcnf::clause_at))]
-pub(crate) fn clause<'a>(
-    alloc: Global,
-    text: &[u8],
-    tokens: &'a [Token],
-    start: Start,
-    end: u64,
-) -> Result<(Clause, &'a [Token]), TextAnswer>
-    requires { All (IsWithin text.now) tokens.now }
-    ensures read { Gives (λ x. (x.0, words_at text.now x.1.now)) result
-        (clause_read start.top start.variables end (words_at text.now tokens.now)) }
-    ensures literals { IfOk result (λ x. All (λ l. l.variable < start.variables) x.0.literals) }
-    ensures small { IfOk result (λ x. soft_weight x.0 < 2 ^ 64) }
-    ensures within { IfOk result (λ x. All (IsWithin text.now) x.1.now) }
-    ensures shorter { IfOk result (λ x. length x.1.now < length tokens.now) }
+/// The least number of variables, at least so many, that has all these literals.
+#[inline(always)]
+pub(crate) fn widened(variables: u64, literals: &[Literal]) -> u64
+    requires { All (λ l. l.variable < bound_of None) literals.now }
+    ensures least { result ≡ widened variables literals.now }
+    ensures wider { variables ≤ result }
+    ensures within { All (λ l. l.variable < result) literals.now }
 {
-    let (first, rest) = next(text, tokens, end)?;
-    let weight = natural(text, first, 0)?;
-    let (literals, rest) = literals(alloc, text, rest, start.variables, end)?;
-    let clause = Clause {
-        literals: LiteralList::new(literals),
-        weight: if is_hard(start.top, weight) {
-            None
-        } else {
-            Some(weight)
-        },
-    };
-    Ok((clause, rest))
+    let mut widened = variables;
+    for literal in literals {
+        widened = widened.max(literal.variable + 1);
+    }
+    widened
 }

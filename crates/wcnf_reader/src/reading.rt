@@ -1,61 +1,120 @@
-//! A whole text: a header, as many clauses as it says, and nothing more.
-ghost use Rattle.std.specs.Prelude.{◌≡◌, ◌≤◌, ◌^◌, length, All, IfOk};
-ghost use Rattle.whole_text.specs.Tokens.{words_at, IsWithin};
+//! A whole text, in the layout that its first word says.
+ghost use Rattle.std.specs.Prelude.{◌≡◌, ◌+◌, ◌<◌, ◌≤◌, ◌^◌, [], length, All, OnOk, IfOk, unwrap_or};
+ghost use Rattle.whole_text.specs.TokenTexts.{words_of};
 ghost use Rattle.whole_text.specs.Steps.{Gives};
-ghost use Rattle.wcnf_reader.specs.Cost.{normal_reading};
-ghost use Rattle.wcnf_reader.specs.Views.{header_of, problem_read, whole_read};
+ghost use Rattle.problem_form.specs.Problems.{problem_total};
+ghost use Rattle.problem_form.specs.NormalForm.{with_clause};
+ghost use Rattle.wcnf_reader.specs.Cost.{normal_reading, problem_of_words};
+ghost use Rattle.wcnf_reader.specs.Views.{header_of, problem_read, older_read, headerless_read};
 
 use crate::header::{Start, header};
-use crate::listed::clause;
-use problem_form::Problem;
+use crate::layout::Layout;
+use crate::listed::{clause, widened};
+use bits_model::NoMemory;
+use problem_form::{Clause, Literal, LiteralList, Problem};
 use std::alloc::Global;
-use whole_text::{Style, TextAnswer, TextKind, Token, end_line, fault, tokens};
+use whole_text::{Lexer, Style, TextAnswer, TextKind, TokenText, Words, fault, next_word};
 
-/// The clauses that the header counts, and what is left.
-fn clauses<'a>(
+/// Adds a clause as written, in normal form, and leaves its list of literals empty.
+#[inline(always)]
+fn add(
     alloc: Global,
-    text: &[u8],
-    tokens: &'a [Token],
+    problem: &mut Problem,
+    literals: &mut Vec<Literal>,
+    weight: Option<u64>,
+) -> Result<(), NoMemory>
+    requires within { All (λ l. l.variable < problem.old.variables) literals.old.items }
+    requires small { problem_total problem.old + unwrap_or weight 0 < 2 ^ 100 }
+    ensures added { OnOk result (problem.new ≡ with_clause problem.old
+        (record { literals = literals.old.items; weight = weight })) }
+    ensures emptied { literals.new.items ≡ [] }
+{
+    let literals = LiteralList::new(std::mem::replace(literals, Vec::new(alloc)));
+    problem.add_clause(Clause { literals, weight })
+}
+
+/// The clauses that the header counts.
+fn counted(
+    alloc: Global,
+    words: &mut Words<'_>,
     start: Start,
     end: u64,
-) -> Result<(Problem, &'a [Token]), TextAnswer>
-    requires within { All (IsWithin text.now) tokens.now }
-    requires few { length tokens.now ≤ 2 ^ 24 }
-    ensures { Gives (λ x. (x.0, words_at text.now x.1.now)) result
-        (problem_read (header_of start) end (words_at text.now tokens.now)) }
+) -> Result<Problem, TextAnswer>
+    requires { length words.old ≤ 2 ^ 24 }
+    ensures { Gives (λ problem. (problem, words.new)) result
+        (problem_read (header_of start) end words.old) }
 {
     let mut problem = Problem::new(alloc);
     problem.widen(start.variables);
-    let mut rest = tokens;
+    let mut literals = Vec::new(alloc);
+    let layout = Layout::Older(start.top);
     for _ in 0..start.clauses {
-        let (clause, after) = clause(alloc, text, rest, start, end)?;
-        problem.add_clause(clause)?;
-        rest = after;
+        let first = next_word(words, end)?;
+        let weight = clause(
+            first,
+            words,
+            &mut literals,
+            layout,
+            Some(start.variables),
+            end,
+        )?;
+        add(alloc, &mut problem, &mut literals, weight)?;
     }
-    Ok((problem, rest))
+    Ok(problem)
 }
 
-/// The problem that the tokens say, or the first fault.
-fn problem(alloc: Global, text: &[u8], tokens: &[Token]) -> Result<Problem, TextAnswer>
-    requires within { All (IsWithin text.now) tokens.now }
-    requires few { length tokens.now ≤ 2 ^ 24 }
-    ensures { Gives (λ problem. problem) result (whole_read (words_at text.now tokens.now)) }
+/// A text of the older layout, after a `p` on this line.
+fn older(alloc: Global, mut words: Words<'_>, line: u64, end: u64) -> Result<Problem, TextAnswer>
+    requires { length words ≤ 2 ^ 24 }
+    ensures { Gives (λ problem. problem) result (older_read line end words.entry) }
 {
-    let end = end_line(text, tokens);
-    let (start, rest) = header(text, tokens, end)?;
-    let (problem, rest) = clauses(alloc, text, rest, start, end)?;
-    match rest {
-        [] => Ok(problem),
-        [token, ..] => Err(TextAnswer::Bad(fault(TextKind::Extra, token.line))),
+    let start = header(&mut words, line, end)?;
+    let problem = counted(alloc, &mut words, start, end)?;
+    match words.next() {
+        None => Ok(problem),
+        Some(word) => Err(TextAnswer::Bad(fault(TextKind::Extra, word.line))),
+    }
+}
+
+/// A text of the layout of 2022. The problem is widened as larger literals come.
+fn headerless(alloc: Global, mut words: Words<'_>, end: u64) -> Result<Problem, TextAnswer>
+    requires { length words ≤ 2 ^ 24 }
+    ensures { Gives (λ problem. problem) result (headerless_read end words.entry) }
+{
+    let mut problem = Problem::new(alloc);
+    let mut literals = Vec::new(alloc);
+    let layout = Layout::WithoutHeader;
+    while let Some(first) = words.next() {
+        let weight = clause(first, &mut words, &mut literals, layout, None, end)?;
+        let variables = widened(problem.variables, &literals);
+        problem.widen(variables);
+        add(alloc, &mut problem, &mut literals, weight)?;
+    }
+    Ok(problem)
+}
+
+/// The problem of a text that was cut into words, in normal form, or the first fault of the text.
+#[tactic(auto, unfolding(crate::specs::Cost::problem_of_words, crate::specs::Wcnf::reading_of_words))]
+pub fn read_wcnf_tokens(alloc: Global, text: &TokenText) -> Result<Problem, TextAnswer>
+    requires { length text.now.bytes ≤ 2 ^ 24 }
+    ensures { Gives (λ problem. problem) result (problem_of_words (words_of text.now)) }
+{
+    let mut words = text.words();
+    let end = text.end_line();
+    match words.next() {
+        None => Err(TextAnswer::Bad(fault(TextKind::End, end))),
+        Some(first) if first.bytes == b"p".as_slice() => older(alloc, words, first.line, end),
+        Some(_) => headerless(alloc, text.words(), end),
     }
 }
 
 /// The problem of a text, in normal form, or the first fault of the text.
-#[tactic(auto, unfolding(crate::specs::Wcnf::reading))]
+#[tactic(auto, unfolding(crate::specs::Cost::normal_reading, crate::specs::Cost::problem_of_words, crate::specs::Wcnf::reading))]
 pub fn read_wcnf(alloc: Global, text: &[u8]) -> Result<Problem, TextAnswer>
     requires { length text.now ≤ 2 ^ 24 }
     ensures { Gives (λ problem. problem) result (normal_reading text.now) }
 {
-    let tokens = tokens(alloc, text, Style::Plain)?;
-    problem(alloc, text, &tokens)
+    let mut lexer = Lexer::new(alloc, Style::Plain);
+    lexer.feed(text)?;
+    read_wcnf_tokens(alloc, &lexer.finish()?)
 }

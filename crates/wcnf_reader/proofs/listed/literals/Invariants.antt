@@ -1,14 +1,16 @@
-use Rattle.std.proofs.Common.{◌≡◌, ◌<◌, drop, All}
-use Rattle.whole_text.specs.Tokens.{words_at}
-use Rattle.wcnf_reader.specs.Views.{literals_read}
+use Rattle.std.proofs.Common.{◌≡◌, ◌<◌, ◌≤◌, length, All}
+use Rattle.wcnf_reader.specs.Views.{literals_read, bound_of}
 use Rattle.wcnf_reader.proofs.Loops.{with_front}
 use Rattle.wcnf_reader.proofs.listed.literals.Given as goal
 
--- the literals so far, and then those of the other tokens, are the literals that the tokens give
-abbrev pub invariant-loop-i : goal.invariant-loop-i
-invariant-loop-i l = record {
-  read : with_front l.literals.items
-      (literals_read l.variables l.end (words_at l.text (drop l.i l.tokens)))
-      ≡ literals_read l.variables l.end (words_at l.text l.tokens);
-  literals : All (λ k. k.variable < l.variables) l.literals.items;
+-- the literals so far, and then those of the other words, are the literals that the words give
+abbrev pub invariant-loop-word : goal.invariant-loop-word
+invariant-loop-word l = record {
+  read : with_front l.list.items (literals_read l.variables l.end l.words)
+      ≡ literals_read l.variables l.end l.fn.words;
+  within : All (λ k. k.variable < bound_of l.variables) l.list.items;
+  shorter : length l.words ≤ length l.fn.words;
 }
+
+abbrev pub decreases-loop-word : goal.decreases-loop-word
+decreases-loop-word l = length l.words
