@@ -1,6 +1,6 @@
 -- The sums of all parts: the constants, the shares of nodes and the couplers of short and long terms
 -- are what the parts give.
-use Rattle.std.proofs.Common.{◌≡◌, ℕ, ◌+◌, ◌≤◌, arith, sym, ap, ◌∙◌, refl, List, [], ◌∷◌, ◌++◌, length, ℤ, pos, ◌+ℤ◌, eqb}
+use Rattle.std.proofs.Common.{◌≡◌, ℕ, ◌+◌, ◌≤◌, arith, sym, ap, ◌∙◌, refl, List, [], ◌∷◌, ◌++◌, length, ℤ, ◌+ℤ◌, eqb}
 use Rattle.std.specs.List.{AllByRecursion, flat_map}
 use Rattle.std.proofs.lemmas.Int.{ints}
 use Rattle.std.proofs.lemmas.Grind.{flat_map-append}
@@ -12,7 +12,7 @@ use Rattle.term_table.specs.Tables.{TableContent}
 use Rattle.monomial_layer.specs.Monomials.{node, new_nodes, new_terms, all_new_terms}
 use Rattle.quad_form.specs.Quads.{QuadContent}
 use Rattle.quad_form.specs.Pairs.{weight_for, weight_at}
-use Rattle.direct_quad.specs.Parts.{image, all_nodes, short_terms, long_terms, parts, sum_for, GivesSums}
+use Rattle.direct_quad.specs.Parts.{image, short_terms, long_terms, parts, sum_for}
 use Rattle.direct_quad.specs.Places.{place_couplers, term_places, all_places, short_couplers, Share, share_at, term_shares, all_shares, short_shares, long_constant, short_constant}
 use Rattle.direct_quad.specs.Gathered.{constant_of, shares_of, couplers_of, IsSumOf}
 use Rattle.direct_quad.specs.Stated.{IsWithin}

@@ -2,30 +2,26 @@
 --
 -- The constant, the weight of each node and the sum of each pair of the image are what the parts
 -- give; couplers in order, none of them 0, are told by the sums of their pairs.
-use Rattle.std.proofs.Common.{◌≡◌, ◌⊎◌, inl, inr, ℕ, ◌+◌, ◌*◌, ◌<◌, ◌≤◌, ◌^◌, Bool, true, false, ◌&&◌, eqb, arith, sym, ap, ◌∙◌, refl, subst, List, [], ◌∷◌, length, get_or, ℤ, pos, ◌+ℤ◌, sum_by}
-use Rattle.std.specs.Prelude.{All}
-use Rattle.std.specs.List.{AllByRecursion, slice_index_or}
+use Rattle.std.proofs.Common.{◌≡◌, inl, inr, ℕ, ◌+◌, ◌*◌, ◌<◌, ◌≤◌, ◌^◌, Bool, true, false, ◌&&◌, eqb, arith, sym, ◌∙◌, refl, subst, List, [], ◌∷◌, length, get_or, pos}
+use Rattle.std.specs.List.{AllByRecursion}
 use Rattle.std.specs.Bool.{Decides}
 use Rattle.std.proofs.lemmas.Int.{ints}
 use Rattle.std.proofs.lemmas.Bool.{cases_lt}
 use Rattle.std.proofs.lemmas.Bool.Decides.{Decides-eqb}
 use Rattle.std.proofs.lemmas.List.{same_lists, get_or_default, get_or-replicate, length-replicate}
-use Rattle.std.proofs.lemmas.List.Elements.{All-weaker, recursion_from_All}
+use Rattle.std.proofs.lemmas.List.Elements.{recursion_from_All}
 use Rattle.integers.specs.Sums.{if_so}
 use Rattle.bits_model.specs.declared.output.Entry.{Entry}
 use Rattle.problem_form.specs.declared.literal.Literal.{Literal}
-use Rattle.term_table.specs.Terms.{Term, coefficient_of, terms_total, with_additions, IsTermSet, AreTerms}
-use Rattle.term_table.specs.Tables.{TableContent, IsTable, IsLow, AreAdditions, table_size}
-use Rattle.term_table.proofs.Additions.{coefficient_of-with_additions, terms_total-with_additions}
-use Rattle.term_table.proofs.KeptTerms.{OfSet, AreTerms-with_additions, All-with_additions}
-use Rattle.monomial_layer.specs.Monomials.{node, new_nodes, all_new_terms}
-use Rattle.monomial_layer.specs.Monomials as monomials
+use Rattle.term_table.specs.Terms.{coefficient_of, terms_total, with_additions}
+use Rattle.term_table.specs.Tables.{TableContent, AreAdditions, table_size}
+use Rattle.term_table.proofs.Additions.{coefficient_of-with_additions}
+use Rattle.monomial_layer.specs.Monomials.{node, all_new_terms}
 use Rattle.monomial_layer.proofs.Sets.{IsLow-image}
-use Rattle.monomial_layer.proofs.Sizes.{total-image, size-image}
+use Rattle.monomial_layer.proofs.Sizes.{size-image}
 use Rattle.quad_form.specs.Quads.{QuadContent, quad_total, quad_size, IsCoupler, IsQuad}
-use Rattle.quad_form.specs.Flat.{contributions, quad_of, zero_quad}
-use Rattle.quad_form.specs.Flat as flat
-use Rattle.quad_form.specs.Pairs.{weight_for, weight_at}
+use Rattle.quad_form.specs.Flat.{contributions, zero_quad}
+use Rattle.quad_form.specs.Pairs.{weight_at}
 use Rattle.quad_form.specs.laws.Flattened.{flat_sets, length-image}
 use Rattle.quad_form.proofs.FlatForms.{quad_total-image, quad_size-image}
 use Rattle.quad_form.proofs.PairOrder.{rising_from_ordered}

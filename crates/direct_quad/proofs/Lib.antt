@@ -5,3 +5,4 @@ pub mod TwoLiterals
 pub mod LongTerms
 pub mod AllParts
 pub mod RowSums
+pub mod Guarded
