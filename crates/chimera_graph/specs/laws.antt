@@ -1,2 +1,3 @@
 -- Laws with their proofs, which the graph's members cite. Nothing here has to be believed.
 pub mod Joins
+pub mod Findable

@@ -3,8 +3,11 @@
 
 mod chimera;
 mod hardware;
+mod lines;
 mod place;
+mod span;
 
 pub use chimera::Chimera;
 pub use hardware::Hardware;
 pub use place::Place;
+pub use span::Span;

@@ -1,0 +1,2 @@
+pub mod ManyParts
+pub mod Occurrences

@@ -1,0 +1,6 @@
+pub mod Chains
+pub mod Parts
+pub mod Valid
+pub mod Faults
+
+

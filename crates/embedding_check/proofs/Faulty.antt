@@ -1,0 +1,244 @@
+-- From the passes to a valid embedding, or to the first fault.
+use Rattle.std.proofs.Common.{◌≡◌, ◌≢◌, ℕ, zero, suc, ◌+◌, ◌<◌, ◌≤◌, ◌==◌, if◌then◌else◌, pos, inl, inr, Bool, true, false, ◌&&◌, ◌||◌, List, [], ◌∷◌, ◌++◌, length, get_or, All, refl, sym, ap, subst, ◌∙◌, arith}
+use Rattle.std.specs.List.{AllZip}
+use Rattle.std.proofs.lemmas.Bool.{cases_eq}
+use Rattle.std.proofs.lemmas.List.{get_or_append_left}
+use Rattle.std.proofs.Math.Seq.{get_or-append_seam}
+use Rattle.std.proofs.lemmas.List.Sums.{sum_by-take-le, sum_by_more}
+use Rattle.bits_model.specs.declared.output.Entry.{Entry}
+use Rattle.ising_form.specs.Isings.{IsingContent}
+use Rattle.chain_map.specs.declared.faults.EmbedFault.{EmbedFault}
+use Rattle.chain_map.specs.declared.faults.EmbedFault.TheVariants.{ChainCount, EmptyChain, TooManyNodes, NoSuchQubit, Repeated, Disconnected, NoCoupler}
+use Rattle.chain_map.specs.declared.faults.CheckAnswer.{CheckAnswer}
+use Rattle.chain_map.specs.declared.faults.CheckAnswer.TheVariants.{Fault, NoMemory}
+use Rattle.chain_map.specs.Chains.{Joins}
+use Rattle.bits_model.specs.Walks.{is_in, IsReached}
+use Rattle.chain_map.specs.Chains.{chain_of, occurrences}
+use Rattle.chain_map.specs.Valid.{IsCrossing, IsValid}
+use Rattle.embedding_check.specs.Checked.{IsPlace}
+use Rattle.embedding_check.specs.Search.{qubit_at, IsSortedChain}
+use Rattle.embedding_check.specs.Least.{IsPlaceIn}
+use Rattle.chain_map.specs.Faults.{IfFault}
+use Rattle.embedding_check.specs.Faults.{IsFault, IsFirstAt, Exists, IsNew, IsReachedAt, IsUncoupled, number_at, IsInside, IsApart, IsLinked}
+use Rattle.std.specs.Prelude.{Option}
+use Rattle.embedding_check.proofs.Noting.{least_pair_same}
+use Rattle.embedding_check.proofs.Sorting.{is_in_at, at_of_in, same_test}
+use Rattle.embedding_check.proofs.Passing.{default_free}
+use Rattle.chain_map.proofs.Occurrences.{occurrences_more, occurrences-take-le}
+
+-- ---- a chain and its sorted one
+
+same_truth : (a b : Bool) → (a ≡ true → b ≡ true) → (b ≡ true → a ≡ true) → a ≡ b
+same_truth true b to from = sym (to refl)
+same_truth false true to from = from refl
+same_truth false false to from = refl
+
+pub sorted_members : (chain qs : List ℕ) → IsSortedChain chain qs → (q : ℕ) → is_in qs q ≡ is_in chain q
+sorted_members chain qs sorted q =
+    same_truth _ _
+    (λ h. let i = at_of_in qs q h in subst (λ x. is_in chain x ≡ true) i.2 (sorted.inside i.0 i.1))
+    (λ h. let i = sorted.found q h in is_in_at qs i.0 q i.1 i.2)
+
+crossing_same : (joined : Joins) (c d c' d' : List ℕ) (p : ℕ × ℕ) → ((q : ℕ) → is_in c q ≡ is_in c' q)
+    → ((q : ℕ) → is_in d q ≡ is_in d' q) → IsCrossing joined c d p → IsCrossing joined c' d' p
+crossing_same joined c d c' d' p same same' x = record {
+  between = record {
+    upward = x.between.upward;
+    ends = sym (λ i. (same p.0 i && same' p.1 i) || (same' p.0 i && same p.1 i)) ∙ x.between.ends;
+  };
+  linked = x.linked;
+}
+
+-- the places between two chains are those between their sorted ones
+pub place_same : (joined : Joins) (c d c' d' : List ℕ) (r : Option (ℕ × ℕ)) → IsSortedChain c c'
+    → IsSortedChain d d' → IsPlaceIn joined c' d' r → IsPlaceIn joined c d r
+place_same joined c d c' d' r sorted sorted' =
+    least_pair_same (IsCrossing joined c' d') (IsCrossing joined c d) r
+    (λ p x. crossing_same joined c' d' c d p (sorted_members c c' sorted) (sorted_members d d' sorted') x)
+    (λ p x. crossing_same joined c d c' d' p (λ q. sym (sorted_members c c' sorted q))
+    (λ q. sym (sorted_members d d' sorted' q)) x)
+
+-- ---- lists in step
+
+pub zip_of_places : {A B : Type 0} (R : A → B → Type 0) (xs : List A) (ys : List B) → length ys ≡ length xs
+    → ((i : ℕ) (d : A) (e : B) → i < length xs → R (get_or xs i d) (get_or ys i e)) → AllZip R xs ys
+zip_of_places R [] [] len all = tt
+zip_of_places R [] (y ∷ ys) len all = absurd (omega (arith, len))
+zip_of_places R (x ∷ xs) [] len all = absurd (omega (arith, len))
+zip_of_places R (x ∷ xs) (y ∷ ys) len all =
+    (all 0 x y (omega arith), zip_of_places R xs ys (omega (arith, len)) (λ i d e h. all (suc i) d e (omega (arith, h))))
+
+pub zip_all : {A B : Type 0} (R : A → B → Type 0) (P : A → Type 0) (xs : List A) (ys : List B)
+    → ((x : A) (y : B) → R x y → P x) → AllZip R xs ys → All P xs
+zip_all R P [] ys weaker all = λ k d h. absurd (omega (arith, h))
+zip_all R P (x ∷ xs) [] weaker all = absurd all
+zip_all {A = A} R P (x ∷ xs) (y ∷ ys) weaker all = go (zip_all R P xs ys weaker all.1)
+  where
+    go : All P xs → (k : ℕ) (d : A) → k < length (x ∷ xs) → P (get_or (x ∷ xs) k d)
+    go rest zero d h = weaker x y all.0
+    go rest (suc k) d h = rest k d (omega (arith, h))
+
+pub placed_more : {A B : Type 0} (R : A → B → Type 0) (xs : List A) (ys : List B) (k : ℕ) (y : B)
+    → length ys ≡ k → k < length xs
+    → ((i : ℕ) (d : A) (e : B) → i < k → R (get_or xs i d) (get_or ys i e))
+    → ((d : A) → R (get_or xs k d) y)
+    → (i : ℕ) (d : A) (e : B) → i < k + 1 → R (get_or xs i d) (get_or (ys ++ (y ∷ [])) i e)
+placed_more R xs ys k y len below before here i d e low = elim (cases_eq i k) [
+  | inl same ↦
+      let last : get_or (ys ++ (y ∷ [])) i e ≡ y =
+      ap (λ j. get_or (ys ++ (y ∷ [])) j e) (same ∙ sym len) ∙ at_end ys y e in
+      subst (λ z. R (get_or xs i d) z) (sym last) (subst (λ j. R (get_or xs j d) y) (sym same) (here d))
+  | inr other ↦
+      let less : i < k = omega (arith, low, other) in
+      subst (λ z. R (get_or xs i d) z) (sym (get_or_append_left ys (y ∷ []) e i (omega (arith, less, len)))) (before i d e less)
+]
+  where
+    at_end : {X : Type 0} (ys : List X) (y e : X) → get_or (ys ++ (y ∷ [])) (length ys) e ≡ y
+    at_end ys y e = get_or-append_seam ys y [] e
+
+-- ---- what the passes before have shown
+
+pub is_filled : (map : List (List ℕ)) → ((u : ℕ) → u < length map → chain_of map u ≢ [])
+    → All (λ chain. chain ≢ []) map
+is_filled map all = λ k d h e. all k h (default_free map k [] d h ∙ e)
+
+pub all_of_places : (map : List (List ℕ)) (P : List ℕ → ℕ → Type 0)
+    → ((u : ℕ) → u < length map → (j : ℕ) → j < length (chain_of map u) → P (chain_of map u) (number_at map u j))
+    → All (λ chain. All (P chain) chain) map
+all_of_places map P all = λ k d h.
+    subst (λ (chain : List ℕ). All (P chain) chain) (default_free map k [] d h)
+    (λ j e low. subst (P (chain_of map k)) (default_free (chain_of map k) j 0 e low) (all k h j low))
+
+pub is_inside : (qubits : ℕ) (f : IsingContent) (map : List (List ℕ)) → length map ≡ length f.fields
+    → ((u : ℕ) → u < length map → chain_of map u ≢ [])
+    → ((u : ℕ) → u < length map → (j : ℕ) → j < length (chain_of map u) → Exists qubits map u j)
+    → IsInside qubits f map
+is_inside qubits f map counted filled within = record {
+  counted = counted;
+  filled = is_filled map filled;
+  within = all_of_places map (λ chain q. q < qubits) within;
+}
+
+pub is_apart : (qubits : ℕ) (f : IsingContent) (map : List (List ℕ)) → IsInside qubits f map
+    → ((q : ℕ) → occurrences q map ≤ 1) → IsApart qubits f map
+is_apart qubits f map inside once = record {
+  counted = inside.counted;
+  filled = inside.filled;
+  within = inside.within;
+  once = once;
+}
+
+pub is_linked : (joined : Joins) (qubits : ℕ) (f : IsingContent) (map : List (List ℕ)) → IsApart qubits f map
+    → ((u : ℕ) → u < length map → (j : ℕ) → j < length (chain_of map u) → IsReachedAt joined map u j)
+    → IsLinked joined qubits f map
+is_linked joined qubits f map apart reached = record {
+  counted = apart.counted;
+  filled = apart.filled;
+  within = apart.within;
+  once = apart.once;
+  connected = all_of_places map (IsReached joined) reached;
+}
+
+pub is_valid : (joined : Joins) (qubits : ℕ) (f : IsingContent) (map : List (List ℕ)) (places : List (ℕ × ℕ))
+    → IsLinked joined qubits f map
+    → AllZip (λ (c : Entry) place. IsPlace joined (chain_of map c.first) (chain_of map c.second) place) f.couplings places
+    → IsValid joined qubits f map
+is_valid joined qubits f map places connected placed = record {
+  counted = connected.counted;
+  filled = connected.filled;
+  within = connected.within;
+  once = connected.once;
+  connected = connected.connected;
+  coupled = zip_all (λ (c : Entry) place. IsPlace joined (chain_of map c.first) (chain_of map c.second) place)
+      (λ (c : Entry). (pair : ℕ × ℕ) × IsCrossing joined (chain_of map c.first) (chain_of map c.second) pair)
+      f.couplings places
+      (λ c place p. (place, p.crossing)) placed;
+}
+
+-- ---- faults
+
+pub if_fault : (e : CheckAnswer) (P Q : EmbedFault → Type 0) → ((f : EmbedFault) → P f → Q f) → IfFault e P → IfFault e Q
+if_fault (Fault f) P Q weaker p = weaker f p
+if_fault NoMemory P Q weaker p = tt
+
+pub repeated_fault : (joined : Joins) (qubits : ℕ) (f : IsingContent) (map : List (List ℕ)) (e : CheckAnswer)
+    → IsInside qubits f map
+    → IfFault e (λ x. (v : ℕ) × (k : ℕ) × IsFirstAt map (IsNew map) v k × (x ≡ Repeated (number_at map v k)))
+    → IfFault e (IsFault joined qubits f map)
+repeated_fault joined qubits f map e inside h =
+    if_fault e _ (IsFault joined qubits f map)
+    (λ x p. subst (IsFault joined qubits f map) (sym p.3) (inside, (p.0, p.1, p.2, refl))) h
+
+pub disconnected_fault : (joined : Joins) (qubits : ℕ) (f : IsingContent) (map : List (List ℕ)) (e : CheckAnswer)
+    → IsApart qubits f map
+    → IfFault e (λ x. (v : ℕ) × (k : ℕ) × IsFirstAt map (IsReachedAt joined map) v k × (x ≡ Disconnected v (number_at map v k)))
+    → IfFault e (IsFault joined qubits f map)
+disconnected_fault joined qubits f map e apart h =
+    if_fault e _ (IsFault joined qubits f map)
+    (λ x p. subst (IsFault joined qubits f map) (sym p.3) (apart, (p.1, p.2, refl))) h
+
+pub uncoupled_fault : (joined : Joins) (qubits : ℕ) (f : IsingContent) (map : List (List ℕ)) (e : CheckAnswer)
+    → IsLinked joined qubits f map
+    → IfFault e (λ x. (u : ℕ) × (v : ℕ) × (k : ℕ) × IsUncoupled joined f.couplings map u v k × (x ≡ NoCoupler u v))
+    → IfFault e (IsFault joined qubits f map)
+uncoupled_fault joined qubits f map e connected h =
+    if_fault e _ (IsFault joined qubits f map)
+    (λ x p. subst (IsFault joined qubits f map) (sym p.4) (connected, (p.2, p.3))) h
+
+-- one more at the end
+pub pushed_more : {B : Type 0} (R : ℕ → B → Type 0) (ys : List B) (k : ℕ) (y e : B)
+    → length ys ≡ k → ((i : ℕ) → i < k → R i (get_or ys i e)) → R k y
+    → (i : ℕ) → i < k + 1 → R i (get_or (ys ++ (y ∷ [])) i e)
+pushed_more R ys k y e len before here i low = elim (cases_eq i k) [
+  | inl same ↦
+      let last : get_or (ys ++ (y ∷ [])) i e ≡ y =
+      ap (λ j. get_or (ys ++ (y ∷ [])) j e) (same ∙ sym len) ∙ get_or-append_seam ys y [] e in
+      subst (λ z. R i z) (sym last) (subst (λ j. R j y) (sym same) here)
+  | inr other ↦
+      let less : i < k = omega (arith, low, other) in
+      subst (λ z. R i z) (sym (get_or_append_left ys (y ∷ []) e i (omega (arith, less, len)))) (before i less)
+]
+
+-- the sorted chain is within, too
+pub sorted_within : (n : ℕ) (chain qs : List ℕ) → ((j : ℕ) → j < length chain → qubit_at chain j < n)
+    → IsSortedChain chain qs → All (λ q. q < n) qs
+sorted_within n chain qs within sorted = λ k d h.
+    let i = at_of_in chain (qubit_at qs k) (sorted.inside k h) in
+    omega (arith, within i.0 i.1, i.2, default_free qs k 0 d h)
+
+-- ---- a fault makes a map invalid
+
+places_of_all : (map : List (List ℕ)) (P : List ℕ → ℕ → Type 0) → All (λ chain. All (P chain) chain) map
+    → (u : ℕ) → u < length map → (j : ℕ) → j < length (chain_of map u) → P (chain_of map u) (number_at map u j)
+places_of_all map P all u below j low = all u [] below j 0 low
+
+-- in a list without repeats, each number is new
+new_of_once : (map : List (List ℕ)) → ((q : ℕ) → occurrences q map ≤ 1)
+    → (u : ℕ) → u < length map → (j : ℕ) → j < length (chain_of map u) → IsNew map u j
+new_of_once map once u below j low =
+    let q = number_at map u j in
+    let chain = chain_of map u in
+    omega (
+      arith,
+      once q,
+      occurrences-take-le q map (u + 1),
+      occurrences_more q map u below,
+      sum_by-take-le (λ p. if p == q then 1 else 0) chain (j + 1),
+      sum_by_more (λ p. if p == q then 1 else 0) chain j 0 low,
+      ap {B = ℕ} (λ (b : Bool). if b then 1 else 0) (same_test q q refl),
+    )
+
+pub fault_invalid : (joined : Joins) (qubits : ℕ) (f : IsingContent) (map : List (List ℕ)) (x : EmbedFault)
+    → IsFault joined qubits f map x → IsValid joined qubits f map → ⊥
+fault_invalid joined qubits f map (ChainCount n) h valid = h.1 valid.counted
+fault_invalid joined qubits f map (EmptyChain v) h valid = h.1.bad (valid.filled v [] h.1.below)
+fault_invalid joined qubits f map (NoSuchQubit v q) h valid =
+    h.1.1.place.bad (places_of_all map (λ chain p. p < qubits) valid.within v h.1.1.chain.below h.1.0 h.1.1.place.below)
+fault_invalid joined qubits f map (Repeated q) h valid =
+    h.1.2.place.bad (new_of_once map valid.once h.1.0 h.1.2.chain.below h.1.1 h.1.2.place.below)
+fault_invalid joined qubits f map (Disconnected v q) h valid =
+    h.1.1.place.bad (places_of_all map (IsReached joined) valid.connected v h.1.1.chain.below h.1.0 h.1.1.place.below)
+fault_invalid joined qubits f map (NoCoupler u v) h valid =
+    let e : Entry = record { first = 0; second = 0; weight = pos 0 } in
+    h.1.1.bad e (valid.coupled h.1.0 e h.1.1.below)
+fault_invalid joined qubits f map (TooManyNodes n m) h valid = h

@@ -1,0 +1,250 @@
+-- The least joined pair between two chains.
+use Rattle.std.proofs.Common.{◌≡◌, ℕ, ◌<◌, ◌≤◌, ◌⊎◌, inl, inr, Bool, true, false, ◌&&◌, ◌||◌, List, length, refl, sym, ap, subst, ◌∙◌, arith}
+use Rattle.std.specs.Prelude.{Option, Some, None}
+use Rattle.std.proofs.lemmas.Bool.{cases_eq, cases_lt, or_cases}
+use Rattle.chimera_graph.specs.declared.span.Span.{Span}
+use Rattle.chimera_graph.specs.Spans.{CanBeJoined}
+use Rattle.chain_map.specs.Chains.{Joins}
+use Rattle.bits_model.specs.Walks.{is_in}
+use Rattle.chain_map.specs.Valid.{IsCrossing}
+use Rattle.embedding_check.specs.Search.{qubit_at}
+use Rattle.embedding_check.specs.Least.{IsLeast, IsLeastPair, IsAhead, IsFacedAhead, IsNumberedAhead, IsArrow, IsPlaceIn}
+use Rattle.embedding_check.specs.Checked.{IsBefore}
+use Rattle.embedding_check.proofs.Taking.{not_both, rising_weak}
+use Rattle.embedding_check.proofs.Sorting.{is_in_at, at_of_in}
+
+-- ---- one span
+
+pub none_faced : (joined : Joins) (a : ℕ) (chain : List ℕ) (span : Span) (k : ℕ)
+    → ((i : ℕ) → i < k → a < qubit_at chain i → span.start ≤ qubit_at chain i → joined a (qubit_at chain i) ≡ false)
+    → ((i : ℕ) → k ≤ i → i < length chain → span.end ≤ qubit_at chain i)
+    → (b : ℕ) → IsFacedAhead joined a chain span b → ⊥
+none_faced joined a chain span k before after b f =
+    let i = at_of_in chain b f.ahead.inside in
+    elim (cases_lt i.0 k) [
+      | inl low ↦
+          not_both _ f.ahead.linked
+          (subst (λ x. joined a x ≡ false) i.2 (before i.0 low (omega (arith, f.ahead.above, i.2)) (omega (arith, f.faced.from, i.2))))
+      | inr high ↦ omega (arith, after i.0 high i.1, i.2, f.faced.below)
+    ]
+
+pub some_faced : (joined : Joins) (a : ℕ) (chain : List ℕ) (span : Span) (k : ℕ)
+    → ((i j : ℕ) → i < j → j < length chain → qubit_at chain i < qubit_at chain j)
+    → ((i : ℕ) → i < k → a < qubit_at chain i → span.start ≤ qubit_at chain i → joined a (qubit_at chain i) ≡ false)
+    → k < length chain → a < qubit_at chain k → span.start ≤ qubit_at chain k → qubit_at chain k < span.end
+    → joined a (qubit_at chain k) ≡ true → IsLeast (IsFacedAhead joined a chain span) (Some (qubit_at chain k))
+some_faced joined a chain span k rising before below above from end linked = (
+  record {
+    ahead = record {
+      inside = is_in_at chain k (qubit_at chain k) below refl;
+      above = above;
+      linked = linked;
+    };
+    faced = record { from = from; below = end };
+  },
+  λ b f.
+      let i = at_of_in chain b f.ahead.inside in
+      elim (cases_lt i.0 k) [
+        | inl low ↦
+            absurd (not_both _ f.ahead.linked
+            (subst (λ x. joined a x ≡ false) i.2 (before i.0 low (omega (arith, f.ahead.above, i.2)) (omega (arith, f.faced.from, i.2)))))
+        | inr high ↦ omega (arith, rising_weak chain rising k i.0 high i.1, i.2)
+      ],
+)
+
+-- ---- the lesser of two
+
+pub least_of_two : (S T : ℕ → Type 0) (x y r : Option ℕ) → IsLeast S x → IsLeast T y → (x ≡ None → r ≡ y)
+    → (y ≡ None → r ≡ x)
+    → ((m n : ℕ) → x ≡ Some m → y ≡ Some n → ((m ≤ n) × (r ≡ Some m)) ⊎ ((n ≤ m) × (r ≡ Some n)))
+    → IsLeast (λ b. S b ⊎ T b) r
+least_of_two S T None None r s t left right both =
+    subst (IsLeast (λ b. S b ⊎ T b)) (sym (left refl)) (λ b. elim [
+      | inl p ↦ s b p
+      | inr p ↦ t b p
+    ])
+least_of_two S T None (Some n) r s t left right both =
+    subst (IsLeast (λ b. S b ⊎ T b)) (sym (left refl)) (
+      inr t.0,
+      λ b. elim [
+        | inl p ↦ absurd (s b p)
+        | inr p ↦ t.1 b p
+      ],
+    )
+least_of_two S T (Some m) None r s t left right both =
+    subst (IsLeast (λ b. S b ⊎ T b)) (sym (right refl)) (
+      inl s.0,
+      λ b. elim [
+        | inl p ↦ s.1 b p
+        | inr p ↦ absurd (t b p)
+      ],
+    )
+least_of_two S T (Some m) (Some n) r s t left right both = elim (both m n refl refl) [
+  | inl h ↦ subst (IsLeast (λ b. S b ⊎ T b)) (sym h.1) (
+    inl s.0,
+    λ b. elim [
+      | inl p ↦ s.1 b p
+      | inr p ↦ omega (arith, h.0, t.1 b p)
+    ],
+  )
+  | inr h ↦ subst (IsLeast (λ b. S b ⊎ T b)) (sym h.1) (
+    inr t.0,
+    λ b. elim [
+      | inl p ↦ omega (arith, h.0, s.1 b p)
+      | inr p ↦ t.1 b p
+    ],
+  )
+]
+
+pub least_same : (S T : ℕ → Type 0) (r : Option ℕ) → ((b : ℕ) → S b → T b) → ((b : ℕ) → T b → S b)
+    → IsLeast S r → IsLeast T r
+least_same S T None to from least = λ b t. least b (from b t)
+least_same S T (Some r) to from least = (to r least.0, λ b t. least.1 b (from b t))
+
+pub ahead_ways : (joined : Joins) (a : ℕ) (chain : List ℕ) (span : Span) (before after x y z w r : Option ℕ)
+    → ((b : ℕ) → IsAhead joined a chain b → CanBeJoined span before after b)
+    → IsLeast (IsFacedAhead joined a chain span) x
+    → IsLeast (λ b. IsNumberedAhead joined a chain before b ⊎ IsNumberedAhead joined a chain after b) w
+    → (x ≡ None → r ≡ w) → (w ≡ None → r ≡ x)
+    → ((m n : ℕ) → x ≡ Some m → w ≡ Some n → ((m ≤ n) × (r ≡ Some m)) ⊎ ((n ≤ m) × (r ≡ Some n)))
+    → IsLeast (IsAhead joined a chain) r
+ahead_ways joined a chain span before after x y z w r findable faced line left right both =
+    least_same
+    (λ b. IsFacedAhead joined a chain span b ⊎ (IsNumberedAhead joined a chain before b ⊎ IsNumberedAhead joined a chain after b))
+    (IsAhead joined a chain) r
+    (λ b. elim [
+      | inl f ↦ f.ahead
+      | inr l ↦ elim l [
+        | inl n ↦ n.ahead
+        | inr n ↦ n.ahead
+      ]
+    ])
+    (λ b h. elim (findable b h) [
+      | inl f ↦ inl (record { ahead = h; faced = f })
+      | inr l ↦ elim l [
+        | inl e ↦ inr (inl (record { ahead = h; is = e }))
+        | inr e ↦ inr (inr (record { ahead = h; is = e }))
+      ]
+    ])
+    (least_of_two (IsFacedAhead joined a chain span)
+    (λ b. IsNumberedAhead joined a chain before b ⊎ IsNumberedAhead joined a chain after b) x w r faced line left right both)
+
+-- ---- arrows
+
+pub arrow_none : (joined : Joins) (c d : List ℕ)
+    → ((i : ℕ) → i < length c → (b : ℕ) → IsAhead joined (qubit_at c i) d b → ⊥)
+    → (p : ℕ × ℕ) → IsArrow joined c d p → ⊥
+arrow_none joined c d none p f =
+    let i = at_of_in c p.0 f.from in
+    none i.0 i.1 p.1 (subst (λ x. IsAhead joined x d p.1) (sym i.2) f.ahead)
+
+pub arrow_some : (joined : Joins) (c d : List ℕ) (k b : ℕ)
+    → ((i j : ℕ) → i < j → j < length c → qubit_at c i < qubit_at c j) → k < length c
+    → ((i : ℕ) → i < k → (b : ℕ) → IsAhead joined (qubit_at c i) d b → ⊥)
+    → IsLeast (IsAhead joined (qubit_at c k) d) (Some b)
+    → IsLeastPair (IsArrow joined c d) (Some (qubit_at c k, b))
+arrow_some joined c d k b rising below none least = (
+  record { from = is_in_at c k (qubit_at c k) below refl; ahead = least.0 },
+  λ q f.
+      let i = at_of_in c q.0 f.from in
+      let ahead = subst (λ x. IsAhead joined x d q.1) (sym i.2) f.ahead in
+      elim (cases_lt i.0 k) [
+        | inl low ↦ absurd (none i.0 low q.1 ahead)
+        | inr high ↦ elim (cases_eq i.0 k) [
+          | inl e ↦ inr (ap (λ j. qubit_at c j) (sym e) ∙ i.2, least.1 q.1 (subst (λ j. IsAhead joined (qubit_at c j) d q.1) e ahead))
+          | inr e ↦ inl (omega (arith, rising k i.0 (omega (arith, high, e)) i.1, i.2))
+        ]
+      ],
+)
+
+pub before_trans : (p q r : ℕ × ℕ) → IsBefore p q → IsBefore q r → IsBefore p r
+before_trans p q r (inl a) (inl b) = inl (omega (arith, a, b))
+before_trans p q r (inl a) (inr b) = inl (omega (arith, a, b.0))
+before_trans p q r (inr a) (inl b) = inl (omega (arith, a.0, b))
+before_trans p q r (inr a) (inr b) = inr (a.0 ∙ b.0, omega (arith, a.1, b.1))
+
+pub least_pair_of_two : (S T : ℕ × ℕ → Type 0) (x y r : Option (ℕ × ℕ)) → IsLeastPair S x → IsLeastPair T y
+    → (x ≡ None → r ≡ y) → (y ≡ None → r ≡ x)
+    → ((m n : ℕ × ℕ) → x ≡ Some m → y ≡ Some n → (IsBefore m n × (r ≡ Some m)) ⊎ (IsBefore n m × (r ≡ Some n)))
+    → IsLeastPair (λ p. S p ⊎ T p) r
+least_pair_of_two S T None None r s t left right both =
+    subst (IsLeastPair (λ p. S p ⊎ T p)) (sym (left refl)) (λ b. elim [
+      | inl p ↦ s b p
+      | inr p ↦ t b p
+    ])
+least_pair_of_two S T None (Some n) r s t left right both =
+    subst (IsLeastPair (λ p. S p ⊎ T p)) (sym (left refl)) (
+      inr t.0,
+      λ b. elim [
+        | inl p ↦ absurd (s b p)
+        | inr p ↦ t.1 b p
+      ],
+    )
+least_pair_of_two S T (Some m) None r s t left right both =
+    subst (IsLeastPair (λ p. S p ⊎ T p)) (sym (right refl)) (
+      inl s.0,
+      λ b. elim [
+        | inl p ↦ s.1 b p
+        | inr p ↦ absurd (t b p)
+      ],
+    )
+least_pair_of_two S T (Some m) (Some n) r s t left right both = elim (both m n refl refl) [
+  | inl h ↦ subst (IsLeastPair (λ p. S p ⊎ T p)) (sym h.1) (
+    inl s.0,
+    λ b. elim [
+      | inl p ↦ s.1 b p
+      | inr p ↦ before_trans m n b h.0 (t.1 b p)
+    ],
+  )
+  | inr h ↦ subst (IsLeastPair (λ p. S p ⊎ T p)) (sym h.1) (
+    inr t.0,
+    λ b. elim [
+      | inl p ↦ before_trans n m b h.0 (s.1 b p)
+      | inr p ↦ t.1 b p
+    ],
+  )
+]
+
+pub both_true : (a b : Bool) → (a && b) ≡ true → (a ≡ true) × (b ≡ true)
+both_true true true h = (refl, refl)
+both_true true false h = absurd cc
+both_true false b h = absurd cc
+
+pub true_both : (a b : Bool) → a ≡ true → b ≡ true → (a && b) ≡ true
+true_both a b p q = rw (p, q) refl
+
+pub true_left : (a b : Bool) → a ≡ true → (a || b) ≡ true
+true_left a b p = rw p refl
+
+pub true_right : (a b : Bool) → b ≡ true → (a || b) ≡ true
+true_right true b p = refl
+true_right false b p = p
+
+pub place_of_arrows : (joined : Joins) (c d : List ℕ) (r : Option (ℕ × ℕ))
+    → IsLeastPair (λ p. IsArrow joined c d p ⊎ IsArrow joined d c p) r → IsPlaceIn joined c d r
+place_of_arrows joined c d None least = λ p x. least p (way p x)
+  where
+    way : (p : ℕ × ℕ) → IsCrossing joined c d p → IsArrow joined c d p ⊎ IsArrow joined d c p
+    way p x = elim (or_cases (is_in c p.0 && is_in d p.1) (is_in d p.0 && is_in c p.1) x.between.ends) [
+      | inl h ↦ let e = both_true _ _ h in inl (record { from = e.0; ahead = record { inside = e.1; above = x.between.upward; linked = x.linked } })
+      | inr h ↦ let e = both_true _ _ h in inr (record { from = e.0; ahead = record { inside = e.1; above = x.between.upward; linked = x.linked } })
+    ]
+place_of_arrows joined c d (Some r) least = (
+  elim least.0 [
+    | inl f ↦ record {
+      between = record { upward = f.ahead.above; ends = true_left _ _ (true_both _ _ f.from f.ahead.inside) };
+      linked = f.ahead.linked;
+    }
+    | inr f ↦ record {
+      between = record { upward = f.ahead.above; ends = true_right _ _ (true_both _ _ f.from f.ahead.inside) };
+      linked = f.ahead.linked;
+    }
+  ],
+  λ q x. least.1 q (way q x),
+)
+  where
+    way : (p : ℕ × ℕ) → IsCrossing joined c d p → IsArrow joined c d p ⊎ IsArrow joined d c p
+    way p x = elim (or_cases (is_in c p.0 && is_in d p.1) (is_in d p.0 && is_in c p.1) x.between.ends) [
+      | inl h ↦ let e = both_true _ _ h in inl (record { from = e.0; ahead = record { inside = e.1; above = x.between.upward; linked = x.linked } })
+      | inr h ↦ let e = both_true _ _ h in inr (record { from = e.0; ahead = record { inside = e.1; above = x.between.upward; linked = x.linked } })
+    ]

@@ -1,0 +1,357 @@
+-- Levels against walks: the distance of a qubit is its level, and the first of the level before that is
+-- joined to it is its parent.
+use Rattle.std.proofs.Common.{◌≡◌, ℕ, zero, suc, ◌<◌, ◌≤◌, inl, inr, true, false, List, [], ◌∷◌, ◌++◌, length, refl, sym, ap, subst, ◌∙◌, arith}
+use Rattle.std.specs.List.{Contains}
+use Rattle.std.proofs.lemmas.Bool.{cases_eq, cases_lt}
+use Rattle.std.proofs.lemmas.List.{length-append}
+use Rattle.std.proofs.lemmas.Grind.{get_or_default_zero}
+use Rattle.std.proofs.lemmas.List.Elements.{Contains-get_or}
+use Rattle.chain_map.specs.Chains.{Joins}
+use Rattle.bits_model.specs.Walks.{is_in, first_of, IsWalk, end_of, WalksTo}
+use Rattle.embedding_check.specs.Distances.{HasDistance}
+use Rattle.embedding_check.specs.Distances.{IsParent}
+use Rattle.embedding_check.specs.Search.{Found, waits_at, parent_at, qubit_at, NoneJoined, IsFirst, LevelTakes, IsSortedChain, IsSearched, IsWithin, AtLevel, emptied}
+use Rattle.embedding_check.proofs.Taking.{true_or_false, not_both, rising_once, rising_weak}
+use Rattle.embedding_check.proofs.Checked.{one_distance, nearest}
+
+-- ---- walks and their last join
+
+walk_on : (joined : Joins) (chain : List ℕ) (from q : ℕ) (steps : List ℕ) → IsWalk joined chain from steps
+    → is_in chain q ≡ true → joined (end_of from steps) q ≡ true
+    → IsWalk joined chain from (steps ++ (q ∷ []))
+walk_on joined chain from q [] walk inside linked = (inside, linked, tt)
+walk_on joined chain from q (p ∷ ps) walk inside linked =
+    (walk.0, walk.1, walk_on joined chain p q ps walk.2 inside linked)
+
+end_on : (from q : ℕ) (steps : List ℕ) → end_of from (steps ++ (q ∷ [])) ≡ q
+end_on from q [] = refl
+end_on from q (p ∷ ps) = end_on p q ps
+
+-- one more join
+pub further : (joined : Joins) (chain : List ℕ) (p q : ℕ) (steps : List ℕ) → WalksTo joined chain p steps
+    → is_in chain q ≡ true → joined p q ≡ true → WalksTo joined chain q (steps ++ (q ∷ []))
+further joined chain p q steps w inside linked = record {
+  walk = walk_on joined chain (first_of chain) q steps w.walk inside (rw w.ends linked);
+  ends = end_on (first_of chain) q steps;
+}
+
+-- the last join of a walk
+record LastJoin (joined : Joins) (chain : List ℕ) (from q n : ℕ) : Type 0 where
+  before : ℕ
+  steps : List ℕ
+  walk : IsWalk joined chain from steps
+  ends : end_of from steps ≡ before
+  short : length steps ≡ n
+  linked : joined before q ≡ true
+  inside : is_in chain q ≡ true
+
+last_join : (joined : Joins) (chain : List ℕ) (from q n : ℕ) (steps : List ℕ) → IsWalk joined chain from steps
+    → end_of from steps ≡ q → length steps ≡ suc n → LastJoin joined chain from q n
+last_join joined chain from q n [] walk ends long = absurd (omega (arith, long))
+last_join joined chain from q n (p ∷ []) walk ends long = record {
+  before = from;
+  steps = [];
+  walk = tt;
+  ends = refl;
+  short = omega (arith, long);
+  linked = rw (← ends) walk.1;
+  inside = rw (← ends) walk.0;
+}
+last_join joined chain from q zero (p ∷ r ∷ rs) walk ends long = absurd (omega (arith, long))
+last_join joined chain from q (suc n) (p ∷ r ∷ rs) walk ends long =
+    let last = last_join joined chain p q n (r ∷ rs) walk.2 ends (omega (arith, long)) in
+    record {
+      before = last.before;
+      steps = p ∷ last.steps;
+      walk = (walk.0, walk.1, last.walk);
+      ends = last.ends;
+      short = omega (arith, last.short);
+      linked = last.linked;
+      inside = last.inside;
+    }
+
+-- a walk ends at the first qubit or at one of the chain
+walk_inside : (joined : Joins) (chain : List ℕ) (from : ℕ) (steps : List ℕ) → is_in chain from ≡ true
+    → IsWalk joined chain from steps → is_in chain (end_of from steps) ≡ true
+walk_inside joined chain from [] inside walk = inside
+walk_inside joined chain from (p ∷ ps) inside walk = walk_inside joined chain p ps walk.0 walk.2
+
+-- a walk to q of one join more than d passes a qubit of the chain to which a walk of d leads
+record Passes (joined : Joins) (chain : List ℕ) (q d : ℕ) : Type 0 where
+  before : ℕ
+  steps : List ℕ
+  walks : WalksTo joined chain before steps
+  short : length steps ≡ d
+  linked : joined before q ≡ true
+  inside : is_in chain before ≡ true
+
+passes : (joined : Joins) (chain : List ℕ) (q d : ℕ) (steps : List ℕ) → is_in chain (first_of chain) ≡ true
+    → WalksTo joined chain q steps → length steps ≡ suc d → Passes joined chain q d
+passes joined chain q d steps first w long =
+    let last = last_join joined chain (first_of chain) q d steps w.walk w.ends long in
+    record {
+      before = last.before;
+      steps = last.steps;
+      walks = record { walk = last.walk; ends = last.ends };
+      short = last.short;
+      linked = last.linked;
+      inside = subst (λ p. is_in chain p ≡ true) last.ends (walk_inside joined chain (first_of chain) last.steps first last.walk);
+    }
+
+-- ---- from one level to the next
+
+-- the qubit before a waiting one at d + 1 joins is in the level
+before_in_level : (joined : Joins) (chain qs level : List ℕ) (d : ℕ) (s : Found)
+    → IsSortedChain chain qs → AtLevel joined chain qs level d s
+    → (i : ℕ) → i < length qs → waits_at s i ≡ true
+    → (p : Passes joined chain (qubit_at qs i) d)
+    → (j : ℕ) × Contains level j × (j < length qs) × (qubit_at qs j ≡ p.before)
+before_in_level joined chain qs level d s sorted at i below waits p =
+    let here = sorted.found p.before p.inside in
+    let inside = sorted.inside i below in
+    let distance : HasDistance joined chain p.before d = record {
+      reached = (p.steps, p.walks, p.short);
+      least = λ steps w.
+          let longer = at.far i below waits (steps ++ (qubit_at qs i ∷ [])) (further joined chain p.before (qubit_at qs i) steps w inside p.linked) in
+          omega (arith, longer, length-append steps (qubit_at qs i ∷ []));
+    } in
+    (here.0, at.all here.0 here.1 (subst (λ q. HasDistance joined chain q d) (sym here.2) distance), here.1, here.2)
+
+-- what still waits after a level is further than d + 1
+far_more : (joined : Joins) (chain qs level : List ℕ) (d : ℕ) (s t : Found) → is_in chain (first_of chain) ≡ true
+    → IsSortedChain chain qs → AtLevel joined chain qs level d s
+    → (i : ℕ) → i < length qs → waits_at s i ≡ true
+    → NoneJoined joined qs level (length level) i
+    → (steps : List ℕ) → WalksTo joined chain (qubit_at qs i) steps → suc d < length steps
+far_more joined chain qs level d s t first sorted at i below waits alone steps w =
+    let more = at.far i below waits steps w in
+    elim (cases_eq (length steps) (suc d)) [
+      | inr e ↦ omega (arith, more, e)
+      | inl e ↦
+          let p = passes joined chain (qubit_at qs i) d steps first w e in
+          let here = before_in_level joined chain qs level d s sorted at i below waits p in
+          let m = here.1.0 in
+          let same : qubit_at qs (qubit_at level m) ≡ p.before =
+          ap (λ k. qubit_at qs k) (sym (get_or_default_zero level m here.0 here.1.1) ∙ here.1.2) ∙ here.3 in
+          not_both _ p.linked (subst (λ q. joined q (qubit_at qs i) ≡ false) same (alone m here.1.1))
+    ]
+
+-- the first of a level that reaches q is at the distance d, and q within d + 1
+reached_within : (joined : Joins) (chain qs level : List ℕ) (d : ℕ) (s t : Found) (i m : ℕ)
+    → IsSortedChain chain qs → AtLevel joined chain qs level d s → i < length qs
+    → IsFirst joined qs level (length level) t i m → IsWithin joined chain (suc d) (qubit_at qs i)
+reached_within joined chain qs level d s t i m sorted at below f =
+    let there = at.here (qubit_at level m) (Contains-get_or level m 0 f.below) in
+    let w = there.1.reached in (
+      w.0 ++ (qubit_at qs i ∷ []),
+      further joined chain (qubit_at qs (qubit_at level m)) (qubit_at qs i) w.0 w.1 (sorted.inside i below) f.linked,
+      omega (arith, w.2, length-append w.0 (qubit_at qs i ∷ [])),
+    )
+
+near_more : (joined : Joins) (chain qs level : List ℕ) (d : ℕ) (s t : Found)
+    → IsSortedChain chain qs → AtLevel joined chain qs level d s
+    → LevelTakes joined qs level (length level) s t
+    → (i : ℕ) → i < length qs → waits_at t i ≡ false → IsWithin joined chain (suc d) (qubit_at qs i)
+near_more joined chain qs level d s t sorted at takes i below not = elim (takes.each i below) [
+  | inl rests ↦
+      let w = at.near i below (sym rests.stays.waits ∙ not) in
+      (w.0, w.1, omega (arith, w.2))
+  | inr reached ↦ reached_within joined chain qs level d s t i reached.from.0 sorted at below reached.from.1
+]
+
+far_next : (joined : Joins) (chain qs level : List ℕ) (d : ℕ) (s t : Found) → is_in chain (first_of chain) ≡ true
+    → IsSortedChain chain qs → AtLevel joined chain qs level d s
+    → LevelTakes joined qs level (length level) s t
+    → (i : ℕ) → i < length qs → waits_at t i ≡ true → (steps : List ℕ)
+    → WalksTo joined chain (qubit_at qs i) steps → suc d < length steps
+far_next joined chain qs level d s t first sorted at takes i below is steps w = elim (takes.each i below) [
+  | inl rests ↦ far_more joined chain qs level d s t first sorted at i below (sym rests.stays.waits ∙ is) (rests.alone is) steps w
+  | inr reached ↦ absurd (not_both _ is reached.reached)
+]
+
+-- what was reached in this level has the distance d + 1
+new_distance : (joined : Joins) (chain qs level : List ℕ) (d : ℕ) (s t : Found)
+    → IsSortedChain chain qs → AtLevel joined chain qs level d s
+    → LevelTakes joined qs level (length level) s t
+    → (i : ℕ) → i < length qs → waits_at s i ≡ true → waits_at t i ≡ false
+    → HasDistance joined chain (qubit_at qs i) (suc d)
+new_distance joined chain qs level d s t sorted at takes i below is not =
+    let w = near_more joined chain qs level d s t sorted at takes i below not in
+    record {
+      reached = (w.0, w.1, omega (arith, w.2, at.far i below is w.0 w.1));
+      least = λ steps walk. omega (arith, at.far i below is steps walk);
+    }
+
+first_is_parent : (joined : Joins) (chain qs level : List ℕ) (d : ℕ) (s t : Found) (i m : ℕ)
+    → IsSortedChain chain qs → AtLevel joined chain qs level d s
+    → ((i j : ℕ) → i ≤ j → j < length level → qubit_at level i ≤ qubit_at level j)
+    → i < length qs → HasDistance joined chain (qubit_at qs i) (suc d)
+    → IsFirst joined qs level (length level) t i m
+    → IsParent joined chain (qubit_at qs i) (parent_at t i)
+first_is_parent joined chain qs level d s t i m sorted at rising below distance f =
+    let q = qubit_at qs i in
+    let p = qubit_at qs (qubit_at level m) in
+    let there = at.here (qubit_at level m) (Contains-get_or level m 0 f.below) in
+    let is : IsParent joined chain q p = record {
+      nearer = record {
+        inside = sorted.inside (qubit_at level m) there.0;
+        linked = f.linked;
+        nearer = (d, there.1, distance);
+      };
+      least = λ r n.
+          let e : n.nearer.0 ≡ d = omega (arith, one_distance joined chain q _ _ n.nearer.2 distance) in
+          let j = sorted.found r n.inside in
+          let distance' : HasDistance joined chain (qubit_at qs j.0) d =
+          subst (λ x. HasDistance joined chain x d) (sym j.2) (subst (λ x. HasDistance joined chain r x) e n.nearer.1) in
+          let k = at.all j.0 j.1 distance' in
+          let same : qubit_at level k.0 ≡ j.0 = sym (get_or_default_zero level k.0 j.0 k.1) ∙ k.2 in
+          let same_qubit : qubit_at qs (qubit_at level k.0) ≡ r = ap (λ x. qubit_at qs x) same ∙ j.2 in
+          elim (cases_lt k.0 m) [
+            | inl less ↦ absurd (not_both _ n.linked (subst (λ x. joined x q ≡ false) same_qubit (f.before k.0 less)))
+            | inr more ↦
+                omega (
+                  arith,
+                  same_qubit,
+                  rising_weak qs sorted.rising (qubit_at level m) (qubit_at level k.0) (rising m k.0 more k.1)
+                      (omega (arith, same, j.1)),
+                )
+          ];
+    } in
+    subst (λ x. IsParent joined chain q x) (sym f.parent) is
+
+pub level_next : (joined : Joins) (chain qs level next : List ℕ) (d : ℕ) (s t : Found)
+    → is_in chain (first_of chain) ≡ true
+    → IsSortedChain chain qs → AtLevel joined chain qs level d s → s.next ≡ []
+    → ((i j : ℕ) → i ≤ j → j < length level → qubit_at level i ≤ qubit_at level j)
+    → LevelTakes joined qs level (length level) s t
+    → ((i : ℕ) → Contains next i → Contains t.next i) → ((i : ℕ) → Contains t.next i → Contains next i)
+    → AtLevel joined chain qs next (suc d) (emptied t)
+level_next joined chain qs level next d s t first sorted at empty rising takes from to =
+    let far = far_next joined chain qs level d s t first sorted at takes in
+    let near = near_more joined chain qs level d s t sorted at takes in
+    let new = new_distance joined chain qs level d s t sorted at takes in
+    record {
+      waits = takes.moves.waits ∙ at.waits;
+      near = near;
+      far = far;
+      here = λ i in'. elim (takes.moves.listed i (from i in')) [
+        | inl old ↦ absurd (omega (arith, old.1, ap (λ (xs : List ℕ). length xs) empty))
+        | inr moved ↦ (moved.0, new i moved.0 moved.1 moved.2)
+      ];
+      all = λ i below distance. elim (true_or_false (waits_at s i)) [
+        | inr gone ↦
+            let w = at.near i below gone in
+            absurd (omega (arith, w.2, distance.least w.0 w.1))
+        | inl is ↦ elim (true_or_false (waits_at t i)) [
+          | inl still ↦
+              absurd (omega (arith, distance.reached.2, far i below still distance.reached.0 distance.reached.1))
+          | inr not ↦ to i (takes.moves.lists i below is not)
+        ]
+      ];
+      parent = λ i below not later. elim (takes.each i below) [
+        | inl rests ↦
+            subst (λ x. IsParent joined chain (qubit_at qs i) x) (sym rests.stays.parent)
+            (at.parent i below (sym rests.stays.waits ∙ not) later)
+        | inr reached ↦
+            first_is_parent joined chain qs level d s t i reached.from.0 sorted at rising below
+            (new i below reached.waited reached.reached) reached.from.1
+      ];
+    }
+
+-- ---- the first level
+
+one_in : (x i : ℕ) → Contains (x ∷ []) i → i ≡ x
+one_in x i (zero, below, is) = sym is
+one_in x i (suc k, below, is) = absurd (omega (arith, below))
+
+pub level_first : (joined : Joins) (chain qs : List ℕ) (s : Found) (at : ℕ)
+    → IsSortedChain chain qs → length s.waits ≡ length qs → at < length qs
+    → qubit_at qs at ≡ first_of chain → waits_at s at ≡ false
+    → ((i : ℕ) → i < length qs → (i ≡ at → ⊥) → waits_at s i ≡ true)
+    → AtLevel joined chain qs (at ∷ []) 0 s
+level_first joined chain qs s at sorted len below is gone others =
+    let here : (i : ℕ) → i < length qs → waits_at s i ≡ false → i ≡ at = λ i low not. elim (cases_eq i at) [
+      | inl e ↦ e
+      | inr e ↦ absurd (not_both _ (others i low e) not)
+    ] in
+    record {
+      waits = len;
+      near = λ i low not. ([], record { walk = tt; ends = sym (ap (λ k. qubit_at qs k) (here i low not) ∙ is) }, omega arith);
+      far = λ i low waits steps w. elim (cases_eq (length steps) 0) [
+        | inr e ↦ omega (arith, e)
+        | inl e ↦
+            let same = nearest joined chain (qubit_at qs i) steps w e in
+            let e' = rising_once qs sorted.rising i at low below (same ∙ sym is) in
+            absurd (not_both _ waits (rw e' gone))
+      ];
+      here = λ i in'.
+          let e = one_in at i in' in (
+            rw e below,
+            record {
+              reached = ([], record { walk = tt; ends = sym (ap (λ k. qubit_at qs k) e ∙ is) }, refl);
+              least = λ steps w. omega arith;
+            },
+          );
+      all = λ i low distance.
+          let same = nearest joined chain (qubit_at qs i) distance.reached.0 distance.reached.1 distance.reached.2 in
+          (0, omega arith, sym (rising_once qs sorted.rising i at low below (same ∙ sym is)));
+      parent = λ i low not later. absurd (later (ap (λ k. qubit_at qs k) (here i low not) ∙ is));
+    }
+
+pub one_rising : (x i j : ℕ) → i ≤ j → j < length (x ∷ []) → qubit_at (x ∷ []) i ≤ qubit_at (x ∷ []) j
+one_rising x i j le below =
+    let zero_i : i ≡ 0 = omega (arith, le, below) in
+    let zero_j : j ≡ 0 = omega (arith, below) in
+    omega (arith, ap (λ k. qubit_at (x ∷ []) k) zero_i, ap (λ k. qubit_at (x ∷ []) k) zero_j)
+
+pub nothing_in : (xs : List ℕ) → length xs ≡ 0 → xs ≡ []
+nothing_in [] none = refl
+nothing_in (x ∷ xs) none = absurd (omega (arith, none))
+
+-- ---- the last level
+
+-- what a walk leads to no longer waits once a level is empty
+stuck : (joined : Joins) (chain qs : List ℕ) (d : ℕ) (s : Found) → is_in chain (first_of chain) ≡ true
+    → IsSortedChain chain qs → AtLevel joined chain qs [] d s
+    → (n i : ℕ) → i < length qs → (steps : List ℕ) → WalksTo joined chain (qubit_at qs i) steps
+    → length steps ≡ n → waits_at s i ≡ true → ⊥
+stuck joined chain qs d s first sorted at zero i below steps w long waits =
+    omega (arith, long, at.far i below waits steps w)
+stuck joined chain qs d s first sorted at (suc n) i below steps w long waits =
+    let p = passes joined chain (qubit_at qs i) n steps first w long in
+    let j = sorted.found p.before p.inside in
+    elim (true_or_false (waits_at s j.0)) [
+      | inl is ↦
+          stuck joined chain qs d s first sorted at n j.0 j.1 p.steps
+          (subst (λ x. WalksTo joined chain x p.steps) (sym j.2) p.walks) p.short is
+      | inr gone ↦
+          let near = at.near j.0 j.1 gone in
+          let walks = subst (λ x. WalksTo joined chain x near.0) j.2 near.1 in
+          let inside = sorted.inside i below in
+          let longer : (more : List ℕ) → WalksTo joined chain p.before more → d ≤ length more = λ more walk.
+          let all = at.far i below waits (more ++ (qubit_at qs i ∷ [])) (further joined chain p.before (qubit_at qs i) more walk inside p.linked) in
+          omega (arith, all, length-append more (qubit_at qs i ∷ [])) in
+          let at_least = longer near.0 walks in
+          let here = before_in_level joined chain qs [] d s sorted at i below waits (record {
+            before = p.before;
+            steps = near.0;
+            walks = walks;
+            short = omega (arith, near.2, at_least);
+            linked = p.linked;
+            inside = p.inside;
+          }) in
+          omega (arith, here.1.1)
+    ]
+
+pub level_last : (joined : Joins) (chain qs level : List ℕ) (d : ℕ) (s : Found) → is_in chain (first_of chain) ≡ true
+    → IsSortedChain chain qs → AtLevel joined chain qs level d s → level ≡ [] → length s.parents ≡ length qs
+    → IsSearched joined chain qs s
+level_last joined chain qs level d s first sorted at empty parents =
+    let at' = subst (λ l. AtLevel joined chain qs l d s) empty at in
+    record {
+      waits = at.waits;
+      parents = parents;
+      reached = λ i below not. let w = at.near i below not in (w.0, w.1);
+      unreached = λ i below is reaches. stuck joined chain qs d s first sorted at' (length reaches.0) i below reaches.0 reaches.1 refl is;
+      parent = at.parent;
+    }

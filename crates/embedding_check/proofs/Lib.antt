@@ -1,0 +1,9 @@
+pub mod Checked
+pub mod Taking
+pub mod Levels
+pub mod Sorting
+pub mod Passing
+pub mod LeastPairs
+pub mod Faulty
+pub mod Owning
+pub mod Noting

@@ -1,0 +1,51 @@
+-- One chain more in the passes over a map.
+use Rattle.std.proofs.Common.{◌≡◌, ℕ, zero, suc, ◌∷◌, ◌+◌, ◌<◌, ◌≤◌, ◌==◌, inl, inr, List, [], length, get_or, refl, sym, subst, arith}
+use Rattle.std.specs.List.{count_by}
+use Rattle.std.proofs.lemmas.Bool.{cases_eq}
+use Rattle.chain_map.proofs.Occurrences.{occurrences-chain-le}
+use Rattle.chain_map.specs.Chains.{chain_of, occurrences}
+use Rattle.std.specs.Prelude.{Bool, true, false, if◌then◌else◌}
+use Rattle.embedding_check.specs.Marks.{marked}
+use Rattle.embedding_check.specs.Reached.{IsFirstBad}
+use Rattle.embedding_check.specs.Faults.{IsFirstAt}
+
+pub once_each : (map : List (List ℕ)) → ((q : ℕ) → occurrences q map ≤ 1) → (v : ℕ) → v < length map → (q : ℕ)
+    → count_by (λ p. p == q) (chain_of map v) ≤ 1
+once_each map once v below q =
+    omega (arith, once q, occurrences-chain-le q map v below)
+
+-- what holds of all places before a chain and in it
+pub places_more : (map : List (List ℕ)) (Good : ℕ → ℕ → Type 0) (v : ℕ)
+    → ((u : ℕ) → u < v → (j : ℕ) → j < length (chain_of map u) → Good u j)
+    → ((j : ℕ) → j < length (chain_of map v) → Good v j)
+    → (u : ℕ) → u < v + 1 → (j : ℕ) → j < length (chain_of map u) → Good u j
+places_more map Good v before here u low = elim (cases_eq u v) [
+  | inl e ↦ subst (λ w. (j : ℕ) → j < length (chain_of map w) → Good w j) (sym e) here
+  | inr e ↦ before u (omega (arith, low, e))
+]
+
+pub first_at : (map : List (List ℕ)) (Good : ℕ → ℕ → Type 0) (v k : ℕ) → v < length map
+    → ((u : ℕ) → u < v → (j : ℕ) → j < length (chain_of map u) → Good u j)
+    → IsFirstBad (length (chain_of map v)) (Good v) k → IsFirstAt map Good v k
+first_at map Good v k below before bad = record {
+  chain = record {
+    below = below;
+    bad = λ all. bad.bad (all k bad.below);
+    before = before;
+  };
+  place = bad;
+}
+
+-- a place inside a list has no default
+pub default_free : {X : Type 0} (xs : List X) (i : ℕ) (d e : X) → i < length xs → get_or xs i d ≡ get_or xs i e
+default_free [] i d e below = absurd (omega (arith, below))
+default_free (x ∷ xs) zero d e below = refl
+default_free (x ∷ xs) (suc i) d e below = default_free xs i d e (omega (arith, below))
+
+-- a mark counts once
+pub marked-le : (seen : List Bool) (q : ℕ) → marked seen q ≤ 1
+marked-le seen q = go (get_or seen q false)
+  where
+    go : (b : Bool) → (if b then 1 else 0) ≤ 1
+    go true = omega arith
+    go false = omega arith

@@ -1,0 +1,30 @@
+use Rattle.std.proofs.Common.{◌+◌, inl, inr, subst, arith}
+use Rattle.std.proofs.lemmas.Bool.{cases_eq}
+use Rattle.embedding_check.specs.Search.{qubit_at}
+use Rattle.embedding_check.specs.Noted.{IsQubitJoin, IsChainJoin}
+use Rattle.embedding_check.proofs.Noting.{notes_same, notes_both}
+use Rattle.embedding_check.proofs.noted.Noted.note_all.Goals as goal
+
+pub loop-k-preserved : goal.loop-k-preserved
+loop-k-preserved g c =
+    let joined = g.H.Hardware.joined c.args.hardware.now in
+    let owners = c.args.owners.now in
+    let node = c.args.node in
+    let chain = c.args.chain.now in
+    let k = c.loop-k.k in
+    let Old = IsChainJoin joined owners node chain k in
+    let New = IsQubitJoin joined owners node (qubit_at chain k) in
+    record {
+      noted = notes_same _ (IsChainJoin joined owners node chain (k + 1)) c.args.self.now
+          c.note_qubit.new.self
+          (λ v p low. elim [
+            | inl x ↦ (x.0, omega (arith, x.1), x.2)
+            | inr x ↦ (k, omega arith, x)
+          ])
+          (λ v p low x. elim (cases_eq x.0 k) [
+            | inl e ↦ inr (subst (λ i. IsQubitJoin joined owners node (qubit_at chain i) v p) e x.2)
+            | inr e ↦ inl (x.0, omega (arith, x.1, e), x.2)
+          ])
+          (notes_both Old New c.args.self.now c.loop-k.self c.note_qubit.new.self
+          c.loop-k.invariant.noted c.note_qubit.ensures);
+    }

@@ -1,0 +1,9 @@
+use Rattle.embedding_check.specs.Noted.{Notes, IsChainJoin}
+use Rattle.embedding_check.proofs.noted.Noted.note_all.Given as goal
+
+-- the joins of the qubits so far are noted
+abbrev pub invariant-loop-k : goal.invariant-loop-k
+invariant-loop-k g l = record {
+  noted : Notes (IsChainJoin (g.H.Hardware.joined l.hardware) l.owners l.node l.chain l.k)
+      l.fn.self l.self;
+}

@@ -1,0 +1,21 @@
+use Rattle.std.proofs.Common.{◌≡◌, ℕ, ◌⊎◌, true, List, subst, ◌∙◌, arith}
+use Rattle.bits_model.specs.Walks.{is_in}
+use Rattle.embedding_check.specs.Owners.{owner_of}
+use Rattle.embedding_check.proofs.Owning.{own_more, owned_all}
+use Rattle.embedding_check.proofs.owners.own_all.Goals as goal
+
+pub loop-node-preserved : goal.loop-node-preserved
+loop-node-preserved c =
+    let chains = c.args.chains.now in
+    let node = c.loop-node.node in
+    let new = c.own.new.owners in
+    record {
+      len = c.own.ensures.len ∙ c.loop-node.invariant.len;
+      owned = own_more chains c.loop-node.owners new node c.requires.once (omega (arith, c.loop-node-test.true, c.len-node-end.ensures)) c.requires.few c.loop-node.invariant.owned c.own.ensures.len
+          (subst (λ (xs : List ℕ). (b : ℕ) → is_in xs b ≡ true → owner_of new b ≡ node) c.chain.ensures c.own.ensures.inside)
+          (subst (λ (xs : List ℕ). (b : ℕ) → (is_in xs b ≡ true) ⊎ (owner_of new b ≡ owner_of c.loop-node.owners b)) c.chain.ensures c.own.ensures.outside);
+    }
+
+pub returns-clause-owners : goal.returns-clause-owners
+returns-clause-owners c =
+    owned_all c.args.chains.now c.loop-node.owners c.loop-node.node (omega (arith, c.loop-node-test.false, c.len-node-end.ensures)) c.loop-node.invariant.owned

@@ -1,0 +1,50 @@
+use Rattle.std.proofs.Common.{◌≡◌, ◌+◌, ℕ, ◌<◌, ◌≤◌, ◌==◌, List, [], ◌∷◌, length, take, get_or, ◌++◌, ◌∙◌, sym, subst, ap, arith}
+use Rattle.std.specs.List.{count_by, AllZip}
+use Rattle.std.proofs.lemmas.List.Elements.{all_zip_more}
+use Rattle.chain_map.specs.Chains.{chain_of}
+use Rattle.bits_model.specs.Walks.{IsReached}
+use Rattle.embedding_check.specs.Distances.{AreParents}
+use Rattle.embedding_check.specs.Reached.{AreFound, IsFirstBad}
+use Rattle.embedding_check.specs.Faults.{IsReachedAt}
+use Rattle.chain_map.specs.declared.faults.EmbedFault.TheVariants.{Disconnected}
+use Rattle.embedding_check.specs.declared.search.Parents.TheVariants.{All}
+use Rattle.embedding_check.proofs.Passing.{once_each, places_more, first_at, default_free}
+use Rattle.embedding_check.proofs.passes.all_parents.Goals as goal
+
+pub parents_of-requires-clause-once : goal.parents_of-requires-clause-once
+parents_of-requires-clause-once g c = λ q.
+    subst (λ (xs : List ℕ). count_by (λ p. p == q) xs ≤ 1) (sym c.chain-listed.ensures)
+    (once_each c.args.chains.now c.requires.once c.loop-node.node (omega (arith, c.loop-node-test.true, c.len-node-end.ensures)) q)
+
+pub returns-in-Unreached-clause-fault : goal.returns-in-Unreached-clause-fault
+returns-in-Unreached-clause-fault g c =
+    let joined = g.H.Hardware.joined c.args.hardware.now in
+    let chains = c.args.chains.now in
+    let node = c.loop-node.node in
+    let k = c.in-Unreached.k in
+    let same : c.chain-listed.result.now ≡ chain_of chains node = c.chain-listed.ensures in
+    let found = subst (λ r. AreFound joined c.chain-listed.result.now r) c.in-Unreached.is c.in_ok-found.ensures in
+    let bad = subst (λ (xs : List ℕ). IsFirstBad (length xs) (λ j. IsReached joined xs (get_or xs j 0)) k) same found in (
+      node,
+      k,
+      first_at chains (IsReachedAt joined chains) node k (omega (arith, c.loop-node-test.true, c.len-node-end.ensures)) c.loop-node.invariant.reached bad,
+      ap (λ (xs : List ℕ). Disconnected node (get_or xs k 0)) same,
+    )
+
+pub loop-node-preserved : goal.loop-node-preserved
+loop-node-preserved g c =
+    let joined = g.H.Hardware.joined c.args.hardware.now in
+    let chains = c.args.chains.now in
+    let node = c.loop-node.node in
+    let below : node < length chains = omega (arith, c.loop-node-test.true, c.len-node-end.ensures) in
+    let same : c.chain-listed.result.now ≡ chain_of chains node = c.chain-listed.ensures in
+    let found = subst (λ r. AreFound joined c.chain-listed.result.now r) c.in-All.is c.in_ok-found.ensures in
+    let both = subst (λ (xs : List ℕ). AreFound joined xs (All c.in-All.found)) same found in
+    record {
+      parents = subst (AllZip (AreParents joined) (take (node + 1) chains))
+          (sym (c.in_ok-push-in-All.ensures.items ∙ ap (λ xs. c.loop-node.parents.items ++ xs ∷ []) c.new.ensures))
+          (all_zip_more (AreParents joined) chains c.loop-node.parents.items node (chain_of chains node)
+          c.in-All.found.items below (default_free chains node [] (chain_of chains node) below)
+          c.loop-node.invariant.parents both.0);
+      reached = places_more chains (IsReachedAt joined chains) node c.loop-node.invariant.reached (λ j low. both.1 j 0 low);
+    }

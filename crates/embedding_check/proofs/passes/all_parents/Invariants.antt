@@ -1,0 +1,12 @@
+use Rattle.std.proofs.Common.{ℕ, ◌<◌, take, length}
+use Rattle.std.specs.List.{AllZip}
+use Rattle.chain_map.specs.Chains.{chain_of}
+use Rattle.embedding_check.specs.Distances.{AreParents}
+use Rattle.embedding_check.specs.Faults.{IsReachedAt}
+use Rattle.embedding_check.proofs.passes.all_parents.Given as goal
+
+abbrev pub invariant-loop-node : goal.invariant-loop-node
+invariant-loop-node g l = record {
+  parents : AllZip (AreParents (g.H.Hardware.joined l.hardware)) (take l.node l.chains) l.parents.items;
+  reached : (u : ℕ) → u < l.node → (j : ℕ) → j < length (chain_of l.chains u) → IsReachedAt (g.H.Hardware.joined l.hardware) l.chains u j;
+}

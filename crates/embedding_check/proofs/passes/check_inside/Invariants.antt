@@ -1,0 +1,9 @@
+use Rattle.std.proofs.Common.{ℕ, ◌<◌, length}
+use Rattle.chain_map.specs.Chains.{chain_of}
+use Rattle.embedding_check.specs.Faults.{Exists}
+use Rattle.embedding_check.proofs.passes.check_inside.Given as goal
+
+-- all numbers of the chains so far are qubits
+abbrev pub invariant-loop-node : goal.invariant-loop-node
+invariant-loop-node l =
+    (u : ℕ) → u < l.node → (j : ℕ) → j < length (chain_of l.map u) → Exists l.qubits l.map u j

@@ -1,0 +1,35 @@
+use Rattle.std.proofs.Common.{◌≡◌, ◌+◌, ℕ, ◌<◌, ◌==◌, List, length, take, get_or, refl, sym, subst, ap, ◌∙◌, arith}
+use Rattle.std.specs.List.{count_by}
+use Rattle.chain_map.specs.Chains.{chain_of, occurrences}
+use Rattle.embedding_check.specs.Faults.{IsNew}
+use Rattle.embedding_check.proofs.Passing.{places_more}
+use Rattle.chain_map.proofs.Occurrences.{occurrences_more}
+use Rattle.std.proofs.lemmas.List.{take_all}
+use Rattle.embedding_check.proofs.Passing.{marked-le}
+use Rattle.embedding_check.proofs.passes.first_repeated.Goals as goal
+
+pub loop-node-preserved : goal.loop-node-preserved
+loop-node-preserved c =
+    let map = c.args.map.now in
+    let node = c.loop-node.node in
+    let below : node < length map = omega (arith, c.loop-node-test.true, c.len-node-end.ensures) in
+    let chain : List ℕ = c.chain.result.now in
+    let same : chain ≡ chain_of map node = c.chain.ensures in
+    let none = c.in-None.ensures in
+    record {
+      same = c.mark.auto.seen ∙ c.loop-node.invariant.same;
+      all = λ q.
+          let one = none.all refl q in
+          let count = ap (λ (xs : List ℕ). count_by (λ p. p == q) xs) same in
+          omega (arith, one, count, c.loop-node.invariant.all q, occurrences_more q map node below);
+      before = places_more map (IsNew map) node c.loop-node.invariant.before
+          (subst (λ (xs : List ℕ). (j : ℕ) → j < length xs → occurrences (get_or xs j 0) (take node map) + count_by (λ p. p == get_or xs j 0) (take j xs) ≡ 0) same
+          (λ j low. sym (ap (λ n. n + count_by (λ p. p == get_or chain j 0) (take j chain)) (c.loop-node.invariant.all (get_or chain j 0))) ∙ none.first j low));
+    }
+
+pub returns-clause-once : goal.returns-clause-once
+returns-clause-once c = λ none q.
+    let map = c.args.map.now in
+    let node = c.loop-node.node in
+    let all : take node map ≡ map = take_all node map (omega (arith, c.loop-node-test.false, c.len-node-end.ensures)) in
+    omega (arith, marked-le c.loop-node.seen q, c.loop-node.invariant.all q, ap (occurrences q) all)

@@ -1,0 +1,86 @@
+use Rattle.std.proofs.Common.{◌≡◌, ◌≤◌, ◌<◌, ℕ, suc, true, List, [], ◌∷◌, length, get_or, sym, subst, ap, ◌∙◌, arith, rules}
+use Rattle.std.proofs.lemmas.Bool.Decides.{nat_tests}
+use Rattle.std.proofs.lemmas.List.Elements.{Contains-get_or}
+use Rattle.std.proofs.lemmas.List.Sorted.{Contains-permutation, IsPermutation-sym, length_permutation}
+use Rattle.bits_model.specs.Walks.{is_in, first_of}
+use Rattle.embedding_check.specs.Search.{Found, qubit_at, AtLevel, LevelTakes, waiting}
+use Rattle.embedding_check.proofs.Levels.{level_first, level_next, level_last, one_rising, nothing_in}
+use Rattle.embedding_check.proofs.search.search_chain.Goals as goal
+
+pub levels-init : goal.levels-init
+levels-init g c =
+    let joined = g.H.Hardware.joined c.args.hardware.now in
+    let chain = c.args.chain.now in
+    let qs = c.args.sorted.now in
+    let s = c.in_ok-search.search in
+    let first = c.args.first in
+    let begun = c.in_ok-search.ensures in
+    let one : c.in_ok-level.level.items ≡ first ∷ [] = c.in_ok-level.ensures.items in
+    record {
+      at = (
+        0,
+        subst (λ (l : List ℕ). AtLevel joined chain qs l 0 s) (sym one)
+            (level_first joined chain qs s first c.requires.sorted begun.waits c.requires.below c.requires.first begun.gone begun.others),
+      );
+      rising = subst (λ (l : List ℕ). (i j : ℕ) → i ≤ j → j < length l → qubit_at l i ≤ qubit_at l j) (sym one) (one_rising first);
+      none = begun.none;
+      parents = begun.parents;
+    }
+
+pub spread_level-requires-clause-level : goal.spread_level-requires-clause-level
+spread_level-requires-clause-level g c =
+    let qs = c.args.sorted.now in
+    let at = c.levels.invariant.at.1 in
+    subst (λ (l : List ℕ). (k d : ℕ) → k < length l → get_or l k d < length qs) (sym c.deref.ensures.value)
+    (λ k d h. (at.here (get_or c.levels.level.items k d) (Contains-get_or c.levels.level.items k d h)).0)
+
+pub levels-smaller : goal.levels-smaller
+levels-smaller g c =
+    let level = c.levels.level.items in
+    let joined = g.H.Hardware.joined c.args.hardware.now in
+    let takes = c.in_ok-spread_level.ensures in
+    let some : 0 < length level = search (rules, nat_tests, c.is_empty.ensures, c.levels-test.true) in
+    let waits : waiting c.next_level-level.new.self ≡ waiting c.spread_level.new.self = ap (λ (f : Found). waiting f) c.next_level-level.ensures.rest in
+    omega (
+      arith,
+      some,
+      waits,
+      length_permutation _ _ c.next_level-level.ensures.permutation,
+      takes.moves.counted,
+      ap (λ (l : List ℕ). length l) c.levels.invariant.none,
+    )
+
+pub levels-preserved : goal.levels-preserved
+levels-preserved g c =
+    let joined = g.H.Hardware.joined c.args.hardware.now in
+    let chain = c.args.chain.now in
+    let qs = c.args.sorted.now in
+    let s = c.levels.search in
+    let level = c.levels.level.items in
+    let next = c.next_level-level.result.items in
+    let t = c.spread_level.new.self in
+    let d = c.levels.invariant.at.0 in
+    let rest = c.next_level-level.ensures.rest in
+    let moved = c.next_level-level.ensures.permutation in
+    let in' : is_in chain (first_of chain) ≡ true =
+    subst (λ q. is_in chain q ≡ true) c.requires.first (c.requires.sorted.inside c.args.first c.requires.below) in
+    let takes = subst (λ (l : List ℕ). LevelTakes joined qs l (length l) s t) c.deref.ensures.value c.in_ok-spread_level.ensures in
+    let after = level_next joined chain qs level next d s t in' c.requires.sorted c.levels.invariant.at.1 c.levels.invariant.none c.levels.invariant.rising takes
+    (λ i h. Contains-permutation next t.next i (IsPermutation-sym t.next next moved) h)
+    (λ i h. Contains-permutation t.next next i moved h) in
+    record {
+      at = (suc d, subst (λ (f : Found). AtLevel joined chain qs next (suc d) f) (sym rest) after);
+      rising = λ i j le below. c.next_level-level.ensures.sorted i j 0 le below;
+      none = ap (λ (f : Found). f.next) rest;
+      parents = ap (λ (f : Found). length f.parents) rest ∙ takes.moves.parents ∙ c.levels.invariant.parents;
+    }
+
+pub returns : goal.returns
+returns g c =
+    let joined = g.H.Hardware.joined c.args.hardware.now in
+    let chain = c.args.chain.now in
+    let qs = c.args.sorted.now in
+    let in' : is_in chain (first_of chain) ≡ true =
+    subst (λ q. is_in chain q ≡ true) c.requires.first (c.requires.sorted.inside c.args.first c.requires.below) in
+    let none : length c.levels.level.items ≡ 0 = search (rules, nat_tests, c.is_empty.ensures, c.levels-test.false) in
+    level_last joined chain qs c.levels.level.items c.levels.invariant.at.0 c.levels.search in' c.requires.sorted c.levels.invariant.at.1 (nothing_in c.levels.level.items none) c.levels.invariant.parents

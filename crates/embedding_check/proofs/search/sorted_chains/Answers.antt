@@ -1,0 +1,29 @@
+use Rattle.std.proofs.Common.{◌≡◌, ◌≤◌, ◌==◌, ◌<◌, ◌+◌, ℕ, List, [], ◌∷◌, ◌++◌, length, get_or, sym, subst, ap, ◌∙◌, arith}
+use Rattle.std.specs.List.{count_by}
+use Rattle.std.proofs.lemmas.List.{length-append}
+use Rattle.chain_map.specs.Chains.{chain_of}
+use Rattle.embedding_check.specs.Search.{IsSortedChain}
+use Rattle.embedding_check.proofs.Passing.{once_each}
+use Rattle.embedding_check.proofs.Faulty.{pushed_more}
+use Rattle.embedding_check.proofs.search.sorted_chains.Goals as goal
+
+pub sorted_chain-requires : goal.sorted_chain-requires
+sorted_chain-requires c = λ q.
+    subst (λ (xs : List ℕ). count_by (λ p. p == q) xs ≤ 1) (sym c.chain.ensures)
+    (once_each c.args.chains.now c.requires c.loop-node.node (omega (arith, c.loop-node-test.true, c.len-node-end.ensures)) q)
+
+pub loop-node-preserved : goal.loop-node-preserved
+loop-node-preserved c =
+    let chains = c.args.chains.now in
+    let node = c.loop-node.node in
+    let old = c.loop-node.sorted.items in
+    let new = c.in_ok-chain.chain in
+    let items = c.in_ok-push.ensures.items in
+    let here = subst (λ (xs : List ℕ). IsSortedChain xs new.items) c.chain.ensures c.in_ok-chain.ensures.sorted in
+    let pushed : c.push.new.self.items ≡ old ++ new.items ∷ [] = items ∙ ap (λ xs. old ++ xs ∷ []) c.new.ensures in
+    record {
+      len = ap length pushed ∙ (let l : length (old ++ new.items ∷ []) ≡ node + 1 = omega (arith, length-append old (new.items ∷ []), c.loop-node.invariant.len) in l);
+      sorted = subst (λ (ys : List (List ℕ)). (u : ℕ) → u < node + 1 → IsSortedChain (chain_of chains u) (get_or ys u [])) (sym pushed)
+          (pushed_more (λ u ys. IsSortedChain (chain_of chains u) ys) old node new.items []
+          c.loop-node.invariant.len c.loop-node.invariant.sorted here);
+    }

@@ -1,0 +1,31 @@
+-- What a check gives: the map with its parents and places on the graph.
+use Rattle.std.specs.Prelude.{◌≡◌, ℕ, ◌≤◌, ◌<◌, ◌⊎◌, List}
+use Rattle.std.specs.List.{AllZip}
+use Rattle.bits_model.specs.declared.output.Entry.{Entry}
+use Rattle.ising_form.specs.Isings.{IsingContent}
+use Rattle.chain_map.specs.Chains.{Joins, chain_of}
+use Rattle.chain_map.specs.Valid.{IsCrossing}
+use Rattle.embedding_check.specs.Embeddings.{Embedding}
+use Rattle.embedding_check.specs.Distances.{AreParents}
+
+-- the first pair is not above the second, by the first numbers and then by the second ones
+abbrev pub IsBefore : ℕ × ℕ → ℕ × ℕ → Type 0
+IsBefore p q = (p.0 < q.0) ⊎ ((p.0 ≡ q.0) × (p.1 ≤ q.1))
+
+-- the least of the joined pairs between two chains
+pub record IsPlace (joined : Joins) (c d : List ℕ) (place : ℕ × ℕ) : Type 0 where
+  pub crossing : IsCrossing joined c d place
+  pub least : (pair : ℕ × ℕ) → IsCrossing joined c d pair → IsBefore place pair
+
+-- the place of a coupling
+abbrev pub IsPlaceOf : Joins → List (List ℕ) → Entry → ℕ × ℕ → Type 0
+IsPlaceOf joined chains c place =
+    IsPlace joined (chain_of chains c.first) (chain_of chains c.second) place
+
+-- the given form and chains on the graph, with their parents and the places of the couplings
+pub record IsChecked (joined : Joins) (n : ℕ) (f : IsingContent) (map : List (List ℕ)) (e : Embedding) : Type 0 where
+  pub ising : e.ising ≡ f
+  pub chains : e.chains ≡ map
+  pub qubits : e.qubits ≡ n
+  pub parents : AllZip (AreParents joined) e.chains e.parents
+  pub places : AllZip (IsPlaceOf joined e.chains) e.ising.couplings e.places

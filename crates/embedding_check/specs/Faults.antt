@@ -1,0 +1,93 @@
+-- Which fault a map of chains has first.
+use Rattle.std.specs.Prelude.{◌≡◌, ◌≢◌, ℕ, ◌+◌, ◌<◌, ◌≤◌, ◌==◌, List, [], length, take, All, count_by, Option, Some, None}
+use Rattle.chain_map.specs.Valid.{IsCoupled}
+use Rattle.std.specs.List.{slice_index_or}
+use Rattle.bits_model.specs.declared.output.Entry.{Entry}
+use Rattle.ising_form.specs.Isings.{IsingContent}
+use Rattle.chain_map.specs.declared.faults.EmbedFault.{EmbedFault}
+use Rattle.chain_map.specs.declared.faults.EmbedFault.TheVariants.{ChainCount, EmptyChain, NoSuchQubit, Repeated, Disconnected, NoCoupler, TooManyNodes}
+use Rattle.chain_map.specs.Chains.{Joins}
+use Rattle.bits_model.specs.Walks.{IsReached}
+use Rattle.chain_map.specs.Chains.{chain_of, occurrences}
+use Rattle.embedding_check.specs.Reached.{IsFirstBad}
+
+-- the first bad number, where there is one
+abbrev pub IsFound : ℕ → (ℕ → Type 0) → Option ℕ → Type 0
+IsFound n Good None = (k : ℕ) → k < n → Good k
+IsFound n Good (Some k) = IsFirstBad n Good k
+
+abbrev pub number_at : List (List ℕ) → ℕ → ℕ → ℕ
+number_at map v k = slice_index_or (chain_of map v) k 0
+
+-- the first number, chain after chain, whose place is not good
+pub record IsFirstAt (map : List (List ℕ)) (Good : ℕ → ℕ → Type 0) (v k : ℕ) : Type 0 where
+  pub chain : IsFirstBad (length map) (λ u. (j : ℕ) → j < length (chain_of map u) → Good u j) v
+  pub place : IsFirstBad (length (chain_of map v)) (Good v) k
+
+-- ---- what each pass asks of a place
+
+abbrev pub Exists : ℕ → List (List ℕ) → ℕ → ℕ → Type 0
+Exists qubits map u j = number_at map u j < qubits
+
+-- how often a number is listed before a place
+abbrev pub listed_before : ℕ → List (List ℕ) → ℕ → ℕ → ℕ
+listed_before q map u j = occurrences q (take u map) + count_by (λ p. p == q) (take j (chain_of map u))
+
+abbrev pub IsNew : List (List ℕ) → ℕ → ℕ → Type 0
+IsNew map u j = listed_before (number_at map u j) map u j ≡ 0
+
+abbrev pub IsReachedAt : Joins → List (List ℕ) → ℕ → ℕ → Type 0
+IsReachedAt joined map u j = IsReached joined (chain_of map u) (number_at map u j)
+
+-- ---- the passes before each
+
+pub record IsCounted (f : IsingContent) (map : List (List ℕ)) : Type 0 where
+  pub counted : length map ≡ length f.fields
+
+pub record IsFilled (f : IsingContent) (map : List (List ℕ)) : Type 0 where
+  pub counted : length map ≡ length f.fields
+  pub filled : All (λ chain. chain ≢ []) map
+
+pub record IsInside (qubits : ℕ) (f : IsingContent) (map : List (List ℕ)) : Type 0 where
+  pub counted : length map ≡ length f.fields
+  pub filled : All (λ chain. chain ≢ []) map
+  pub within : All (λ chain. All (λ q. q < qubits) chain) map
+
+pub record IsApart (qubits : ℕ) (f : IsingContent) (map : List (List ℕ)) : Type 0 where
+  pub counted : length map ≡ length f.fields
+  pub filled : All (λ chain. chain ≢ []) map
+  pub within : All (λ chain. All (λ q. q < qubits) chain) map
+  pub once : (q : ℕ) → occurrences q map ≤ 1
+
+pub record IsLinked (joined : Joins) (qubits : ℕ) (f : IsingContent) (map : List (List ℕ)) : Type 0 where
+  pub counted : length map ≡ length f.fields
+  pub filled : All (λ chain. chain ≢ []) map
+  pub within : All (λ chain. All (λ q. q < qubits) chain) map
+  pub once : (q : ℕ) → occurrences q map ≤ 1
+  pub connected : All (λ chain. All (IsReached joined chain) chain) map
+
+-- ---- the faults
+
+-- the least pair, in the order of the couplings, without joined qubits
+pub record IsUncoupled (joined : Joins) (couplings : List Entry) (map : List (List ℕ)) (u v k : ℕ) : Type 0 where
+  pub below : k < length couplings
+  pub bad : (d : Entry) → IsCoupled joined map (slice_index_or couplings k d) → ⊥
+  pub before : (i : ℕ) (d : Entry) → i < k → IsCoupled joined map (slice_index_or couplings i d)
+  pub first : (d : Entry) → (slice_index_or couplings k d).first ≡ u
+  pub second : (d : Entry) → (slice_index_or couplings k d).second ≡ v
+
+abbrev pub IsFault : Joins → ℕ → IsingContent → List (List ℕ) → EmbedFault → Type 0
+IsFault joined qubits f map (ChainCount n) = (n ≡ length map) × (length map ≢ length f.fields)
+IsFault joined qubits f map (EmptyChain v) =
+    IsCounted f map × IsFirstBad (length map) (λ u. chain_of map u ≢ []) v
+IsFault joined qubits f map (NoSuchQubit v q) =
+    IsFilled f map × ((k : ℕ) × IsFirstAt map (Exists qubits map) v k × (number_at map v k ≡ q))
+IsFault joined qubits f map (Repeated q) =
+    IsInside qubits f map
+    × ((v : ℕ) × (k : ℕ) × IsFirstAt map (IsNew map) v k × (number_at map v k ≡ q))
+IsFault joined qubits f map (Disconnected v q) =
+    IsApart qubits f map
+    × ((k : ℕ) × IsFirstAt map (IsReachedAt joined map) v k × (number_at map v k ≡ q))
+IsFault joined qubits f map (NoCoupler u v) =
+    IsLinked joined qubits f map × ((k : ℕ) × IsUncoupled joined f.couplings map u v k)
+IsFault joined qubits f map (TooManyNodes n m) = ⊥

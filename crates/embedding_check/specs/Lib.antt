@@ -1,0 +1,11 @@
+pub mod Embeddings
+pub mod Distances
+pub mod Checked
+pub mod Faults
+pub mod Reached
+pub mod Search
+pub mod Steps
+pub mod Marks
+pub mod Least
+pub mod Owners
+pub mod Noted

@@ -1,0 +1,182 @@
+//! The passes over a map, one for each fault.
+ghost use Rattle.std.specs.Prelude.{◌≡◌, ◌≢◌, ◌==◌, ◌+◌, ◌≤◌, ◌<◌, ◌^◌, ℕ, [], length, take, count_by, All, Option, Some, None, IfOk, IfErr, IfSome, MatchOption, if◌then◌else◌};
+ghost use Rattle.std.specs.List.{slice_index_or, AllZip};
+ghost use Rattle.chain_map.specs.Chains.{chain_of, occurrences};
+ghost use Rattle.chain_map.specs.Faults.{IfFault};
+ghost use Rattle.embedding_check.specs.Distances.{AreParents};
+ghost use Rattle.embedding_check.specs.Reached.{IsFirstBad};
+ghost use Rattle.embedding_check.specs.Marks.{marked};
+ghost use Rattle.embedding_check.specs.Search.{IsSortedChain};
+ghost use Rattle.embedding_check.specs.Faults.{
+  IsFound,
+  IsFirstAt,
+  Exists,
+  IsNew,
+  IsReachedAt,
+  number_at,
+};
+
+use crate::chains::{chain, len};
+use crate::search::{Parents, parents_of};
+use bits_model::{ChainList, Items};
+use chain_map::{ChainMap, CheckAnswer, EmbedFault};
+use chimera_graph::Hardware;
+use std::alloc::Global;
+
+/// The least node with an empty chain.
+pub(crate) fn first_empty(map: &ChainMap) -> Option<usize>
+    ensures { IsFound (length map.now) (λ u. chain_of map.now u ≢ []) result }
+{
+    for node in 0..map.len() {
+        if map.chain(node).is_empty() {
+            return Some(node);
+        }
+    }
+    None
+}
+
+/// The first number of a chain that is not below `qubits`.
+fn first_unknown(chain: &[u64], qubits: u32) -> Option<usize>
+    ensures { IsFound (length chain.now) (λ j. slice_index_or chain.now j 0 < qubits) result }
+{
+    for k in 0..chain.len() {
+        if chain[k] >= qubits as u64 {
+            return Some(k);
+        }
+    }
+    None
+}
+
+/// Whether each number of a map is a qubit, or the first one that is not.
+pub(crate) fn check_inside(map: &ChainMap, qubits: u32) -> Result<(), CheckAnswer>
+    ensures within { IfOk result (λ _. (u : ℕ) → u < length map.now
+        → (j : ℕ) → j < length (chain_of map.now u) → Exists qubits map.now u j) }
+    ensures fault { IfErr result (λ e. IfFault e (λ f. (v : ℕ) × (k : ℕ)
+        × IsFirstAt map.now (Exists qubits map.now) v k
+        × (f ≡ EmbedFault.NoSuchQubit v (number_at map.now v k)))) }
+{
+    for node in 0..map.len() {
+        let chain = map.chain(node);
+        match first_unknown(chain, qubits) {
+            Some(k) => return Err(CheckAnswer::Fault(EmbedFault::NoSuchQubit(node, chain[k]))),
+            None => {}
+        }
+    }
+    Ok(())
+}
+
+/// Marks the qubits of a chain, up to the first one that is marked already.
+fn mark(seen: &mut [bool], chain: &[u64]) -> Option<usize>
+    requires { (j : ℕ) → j < length chain.now → slice_index_or chain.now j 0 < length seen.old }
+    ensures first { IsFound (length chain.now) (λ j. marked seen.old (slice_index_or chain.now j 0)
+        + count_by (λ p. p == slice_index_or chain.now j 0) (take j chain.now) ≡ 0) result }
+    ensures all { result ≡ None → (q : ℕ) →
+        marked seen.new q ≡ marked seen.old q + count_by (λ p. p == q) chain.now }
+{
+    for k in 0..chain.len() {
+        let qubit = chain[k] as usize;
+        if seen[qubit] {
+            return Some(k);
+        }
+        seen[qubit] = true;
+    }
+    None
+}
+
+/// The first place whose qubit was listed before.
+fn first_repeated(seen: &mut [bool], map: &ChainMap) -> Option<(usize, usize)>
+    requires within { (u : ℕ) → u < length map.now → (j : ℕ) → j < length (chain_of map.now u)
+        → number_at map.now u j < length seen.old }
+    requires none { (q : ℕ) → marked seen.old q ≡ 0 }
+    ensures once { result ≡ None → (q : ℕ) → occurrences q map.now ≤ 1 }
+    ensures first { IfSome result (λ p. IsFirstAt map.now (IsNew map.now) p.0 p.1) }
+{
+    for node in 0..map.len() {
+        match mark(seen, map.chain(node)) {
+            Some(k) => return Some((node, k)),
+            None => {}
+        }
+    }
+    None
+}
+
+/// Whether each qubit occurs once, or the first one that was listed before.
+pub(crate) fn check_once(alloc: Global, map: &ChainMap, qubits: u32) -> Result<(), CheckAnswer>
+    requires { (u : ℕ) → u < length map.now → (j : ℕ) → j < length (chain_of map.now u)
+        → Exists qubits map.now u j }
+    ensures once { IfOk result (λ _. (q : ℕ) → occurrences q map.now ≤ 1) }
+    ensures fault { IfErr result (λ e. IfFault e (λ f. (v : ℕ) × (k : ℕ)
+        × IsFirstAt map.now (IsNew map.now) v k
+        × (f ≡ EmbedFault.Repeated (number_at map.now v k)))) }
+{
+    let mut seen = vec![in alloc; false; qubits as usize]?;
+    match first_repeated(&mut seen, map) {
+        Some((node, k)) => Err(CheckAnswer::Fault(EmbedFault::Repeated(map.chain(node)[k]))),
+        None => Ok(()),
+    }
+}
+
+/// Numbers of qubits, as qubits.
+fn narrow(alloc: Global, chain: &[u64]) -> Result<Vec<u32>, CheckAnswer>
+    requires { (j : ℕ) → j < length chain.now → slice_index_or chain.now j 0 < 2 ^ 32 }
+    ensures same { IfOk result (λ v. v.items ≡ chain.now) }
+    ensures memory { IfErr result (λ e. e ≡ CheckAnswer.NoMemory) }
+{
+    let mut narrowed = Vec::with_capacity(alloc, chain.len())?;
+    for k in 0..chain.len() {
+        narrowed.push(chain[k] as u32)?;
+    }
+    Ok(narrowed)
+}
+
+/// The chains of a map whose numbers are all qubits.
+pub(crate) fn qubits_of(alloc: Global, map: &ChainMap) -> Result<ChainList, CheckAnswer>
+    requires { (u : ℕ) → u < length map.now → (j : ℕ) → j < length (chain_of map.now u)
+        → number_at map.now u j < 2 ^ 32 }
+    ensures same { IfOk result (λ v. v ≡ map.now) }
+    ensures memory { IfErr result (λ e. e ≡ CheckAnswer.NoMemory) }
+{
+    let mut chains = Vec::new(alloc);
+    for node in 0..map.len() {
+        let chain = narrow(alloc, map.chain(node))?;
+        chains.push(Items::new(chain))?;
+    }
+    Ok(Items::new(chains))
+}
+
+/// The parents of all chains, or the first qubit that is not reached.
+pub(crate) fn all_parents<H: Hardware>(
+    alloc: Global,
+    hardware: &H,
+    chains: &ChainList,
+    sorted: &ChainList,
+) -> Result<ChainList, CheckAnswer>
+    requires filled { (u : ℕ) → u < length chains.now → 0 < length (chain_of chains.now u) }
+    requires within { (u : ℕ) → u < length chains.now → (j : ℕ) → j < length (chain_of chains.now u)
+        → Exists (H.qubits hardware.now) chains.now u j }
+    requires once { (q : ℕ) → occurrences q chains.now ≤ 1 }
+    requires len { length sorted.now ≡ length chains.now }
+    requires sorted { (u : ℕ) → u < length chains.now
+        → IsSortedChain (chain_of chains.now u) (chain_of sorted.now u) }
+    ensures parents { IfOk result (AllZip (AreParents (H.joined hardware.now)) chains.now) }
+    ensures connected { IfOk result (λ _. (u : ℕ) → u < length chains.now
+        → (j : ℕ) → j < length (chain_of chains.now u)
+        → IsReachedAt (H.joined hardware.now) chains.now u j) }
+    ensures fault { IfErr result (λ e. IfFault e (λ f. (v : ℕ) × (k : ℕ)
+        × IsFirstAt chains.now (IsReachedAt (H.joined hardware.now) chains.now) v k
+        × (f ≡ EmbedFault.Disconnected v (number_at chains.now v k)))) }
+{
+    let mut parents = Vec::new(alloc);
+    for node in 0..len(chains) {
+        let listed = chain(chains, node);
+        match parents_of(alloc, hardware, listed, chain(sorted, node))? {
+            Parents::All(found) => {
+                parents.push(Items::new(found))?;
+            }
+            Parents::Unreached(k) => {
+                return Err(CheckAnswer::Fault(EmbedFault::Disconnected(node, listed[k] as u64)));
+            }
+        }
+    }
+    Ok(Items::new(parents))
+}
