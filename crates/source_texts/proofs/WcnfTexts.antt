@@ -4,8 +4,10 @@ use Rattle.bits_model.specs.Costs.{Source}
 use Rattle.whole_text.specs.Steps.{◌>>=◌}
 use Rattle.problem_form.specs.Problems.{ProblemContent}
 use Rattle.problem_form.specs.NormalForm.{normal_form}
-use Rattle.wcnf_reader.specs.Wcnf.{Wcnf, reading}
-use Rattle.wcnf_reader.specs.Cost.{problem_of, normal_reading, source_of}
+use Rattle.whole_text.specs.Tokens.{Word, tokens_of}
+use Rattle.whole_text.specs.declared.token.Style.TheVariants.{Plain}
+use Rattle.wcnf_reader.specs.Wcnf.{Wcnf, reading, reading_of_words}
+use Rattle.wcnf_reader.specs.Cost.{problem_of, normal_reading, problem_of_words, source_of}
 use Rattle.wcnf_reader.proofs.ReadCosts.{reading_keeps_costs}
 use Rattle.source_texts.specs.declared.reading.Read.{Read}
 use Rattle.source_texts.specs.Sources.{own, StandsFor}
@@ -31,3 +33,16 @@ pub wcnf_is_unconstrained : (text : List ℕ) (p : ProblemContent) → normal_re
     → p.constraints ≡ []
 unfolding normal_reading
 wcnf_is_unconstrained text p e = read_unconstrained normal_problem (λ s. refl) (reading text) p e
+
+-- so has the problem of its words
+pub words_are_unconstrained : (words : List Word) (p : ProblemContent) → problem_of_words words ≡ Ok p
+    → p.constraints ≡ []
+unfolding problem_of_words
+words_are_unconstrained words p e =
+    read_unconstrained normal_problem (λ s. refl) (reading_of_words words) p e
+
+-- the words of a text are read as the text is
+pub normal_reading_of_words : (text : List ℕ)
+    → normal_reading text ≡ problem_of_words (tokens_of Plain text)
+unfolding normal_reading problem_of_words reading
+normal_reading_of_words text = refl

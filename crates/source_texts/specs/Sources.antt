@@ -4,6 +4,8 @@ use Rattle.bits_model.specs.declared.costs.Figures.{Figures}
 use Rattle.bits_model.specs.Costs.{Form, Source}
 use Rattle.bits_model.specs.Relations.{Decoding, Relaxes}
 use Rattle.whole_text.specs.declared.faults.TextFault.{TextFault}
+use Rattle.whole_text.specs.declared.token.Style.TheVariants.{Plain}
+use Rattle.whole_text.specs.Tokens.{Word, tokens_of}
 use Rattle.whole_text.specs.Steps.{◌>>=◌}
 use Rattle.problem_form.specs.Problems.{ProblemContent, form_of}
 use Rattle.problem_form.specs.Limits.{upper}
@@ -33,6 +35,15 @@ abbrev pub problem_of : Format → List ℕ → Result Read TextFault
 problem_of Wcnf text = wcnf_cost.normal_reading text >>= λ p. Ok (own p)
 problem_of Ising text = entry_problems.normal_reading layouts.Ising text >>= λ p. Ok (own p)
 problem_of Qubo text = entry_problems.normal_reading layouts.Qubo text >>= λ p. Ok (own p)
+
+-- the problem of a weighted CNF text in normal form, from the words of the text
+abbrev pub problem_of_words : List Word → Result Read TextFault
+problem_of_words words = wcnf_cost.problem_of_words words >>= λ p. Ok (own p)
+
+-- the words of a text say what the text says
+abbrev pub WordsAreReadAsTexts : Type 0
+WordsAreReadAsTexts = (text : List ℕ)
+    → problem_of Wcnf text ≡ problem_of_words (tokens_of Plain text)
 
 -- the first n bits of what states are decoded to
 abbrev pub first_decoded : ℕ → Decoding → Decoding

@@ -1,7 +1,12 @@
-//! A law, as a function without code: its contract is a statement of `specs/`.
-ghost use Rattle.source_texts.specs.Sources.{ProblemsStandForSources};
+//! Laws, as functions without code: each contract is a statement of `specs/`.
+ghost use Rattle.source_texts.specs.Sources.{ProblemsStandForSources, WordsAreReadAsTexts};
 
 /// The problem that a text is read into stands for the source that the text says.
 pub fn problems_stand_for_sources()
     ensures { ProblemsStandForSources }
+{}
+
+/// The words of a weighted CNF text are read as the text is, however it was cut into pieces.
+pub fn words_are_read_as_texts()
+    ensures { WordsAreReadAsTexts }
 {}

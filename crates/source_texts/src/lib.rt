@@ -4,5 +4,5 @@
 mod laws;
 mod reading;
 
-pub use laws::problems_stand_for_sources;
-pub use reading::{Read, read_source};
+pub use laws::{problems_stand_for_sources, words_are_read_as_texts};
+pub use reading::{Read, read_source, read_words};

@@ -1,15 +1,16 @@
 //! The reading of a text in a format.
 ghost use Rattle.std.specs.Prelude.{◌≡◌, ◌≤◌, ◌^◌, [], length, IfOk};
 ghost use Rattle.whole_text.specs.Steps.{Gives};
-ghost use Rattle.source_texts.specs.Sources.{own, problem_of};
+ghost use Rattle.whole_text.specs.TokenTexts.{words_of};
+ghost use Rattle.source_texts.specs.Sources.{own, problem_of, problem_of_words};
 
 use command_words::Format;
 use ising_file::read_ising;
 use problem_form::Problem;
 use qubo_file::read_qubo;
 use std::alloc::Global;
-use wcnf_reader::read_wcnf;
-use whole_text::TextAnswer;
+use wcnf_reader::{read_wcnf, read_wcnf_tokens};
+use whole_text::{TextAnswer, TokenText};
 
 /// What a text is read into: its problem, and how many of the problem's first variables are the
 /// source's own.
@@ -39,4 +40,15 @@ pub fn read_source(alloc: Global, format: Format, text: &[u8]) -> Result<Read, T
         Format::Ising => Ok(own(read_ising(alloc, text)?)),
         Format::Qubo => Ok(own(read_qubo(alloc, text)?)),
     }
+}
+
+/// The problem of a weighted CNF text that was cut into words, in normal form, or the first fault of
+/// the text.
+pub fn read_words(alloc: Global, text: &TokenText) -> Result<Read, TextAnswer>
+    requires { length text.now.bytes ≤ 2 ^ 24 }
+    ensures read { Gives (λ read. read) result (problem_of_words (words_of text.now)) }
+    ensures own { IfOk result (λ read. read.variables ≤ read.problem.variables) }
+    ensures unconstrained { IfOk result (λ read. read.problem.constraints ≡ []) }
+{
+    Ok(own(read_wcnf_tokens(alloc, text)?))
 }
