@@ -1,3 +1,4 @@
 pub mod Refusals
 pub mod Taken
 pub mod Compiled
+pub mod Cutting

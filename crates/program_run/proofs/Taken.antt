@@ -13,10 +13,10 @@ use Rattle.command_words.specs.Names.{name_of, job_in}
 use Rattle.source_texts.specs.declared.reading.Read.{Read}
 use Rattle.source_texts.specs.Sources.{problem_of}
 use Rattle.program_run.specs.declared.status.Status.{Status}
-use Rattle.program_run.specs.Outcome.{Step, ◌>>=◌, not_too_long, taking, from_text, from_limits, sourcing}
+use Rattle.program_run.specs.Outcome.{Step, ◌>>=◌, not_too_long, taking, from_text, from_limits, reading, sourcing}
 
 -- where two steps succeed, so does each
-bound : {A B : Type 0} (m : Step A) (f : A → Step B) (b : B) → (m >>= f) ≡ Some (Ok b)
+pub bound : {A B : Type 0} (m : Step A) (f : A → Step B) (b : B) → (m >>= f) ≡ Some (Ok b)
     → (a : A) × (m ≡ Some (Ok a)) × (f a ≡ Some (Ok b))
 bound None f b e = absurd cc
 bound (Some (Ok a)) f b e = (a, refl, e)
@@ -58,18 +58,18 @@ pub record IsTaken (words : List (List ℕ)) (held : NamedFiles) (command : Comm
 
 pub source_is_taken : (words : List (List ℕ)) (held : NamedFiles) (command : Command) (read : Read)
     → sourcing words held command ≡ Some (Ok read) → IsTaken words held command read
-unfolding sourcing
+unfolding sourcing reading
 source_is_taken words held command read e =
     let job = job_in command in
     let name = name_of words command Source in
-    let check : Read → Step Read = λ r. from_limits r (limit_fault job.choices.normal r.problem) in
+    let checked = bound (reading words held command)
+    (λ r. from_limits r (limit_fault job.choices.normal r.problem)) read e in
+    let same = limits_keep checked.0 read (limit_fault job.choices.normal checked.0.problem) checked.2 in
     let taken = bound (taking held Source name)
-    (λ bytes. from_text Source (problem_of job.format bytes) >>= check) read e in
-    let found = bound (from_text Source (problem_of job.format taken.0)) check read taken.2 in
+    (λ bytes. from_text Source (problem_of job.format bytes)) checked.0 checked.1 in
     record {
       bytes = taken.0;
       found = taken_is_held held Source name taken.0 taken.1;
-      read = subst (λ r. problem_of job.format taken.0 ≡ Ok r)
-          (limits_keep found.0 read (limit_fault job.choices.normal found.0.problem) found.2)
-          (text_is_read Source (problem_of job.format taken.0) found.0 found.1);
+      read = subst (λ r. problem_of job.format taken.0 ≡ Ok r) same
+          (text_is_read Source (problem_of job.format taken.0) checked.0 taken.2);
     }

@@ -3,3 +3,4 @@ pub mod Causes
 pub mod Outcome
 pub mod Answers
 pub mod Lines
+pub mod Cut

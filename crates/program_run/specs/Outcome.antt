@@ -59,11 +59,16 @@ abbrev pub from_limits : {A : Type 0} → A → Option LimitFault → Step A
 from_limits x None = Some (Ok x)
 from_limits x (Some fault) = Some (Err (Limit Source fault.kind fault.number))
 
--- taking the source, reading it and checking its limits
+-- taking the source and reading it
+unfoldable pub reading : List (List ℕ) → NamedFiles → Command → Step Read
+reading words held command = do
+  bytes ← taking held Source (name_of words command Source)
+  from_text Source (problem_of (job_in command).format bytes)
+
+-- and then checking its limits
 unfoldable pub sourcing : List (List ℕ) → NamedFiles → Command → Step Read
 sourcing words held command = do
-  bytes ← taking held Source (name_of words command Source)
-  read ← from_text Source (problem_of (job_in command).format bytes)
+  read ← reading words held command
   from_limits read (limit_fault (job_in command).choices.normal read.problem)
 
 -- ---- commands

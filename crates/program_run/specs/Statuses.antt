@@ -1,6 +1,7 @@
 -- What holds at one status.
 use Rattle.std.specs.Prelude.{◌≡◌, ℕ, Ok, Err, Result, ⊤}
 use Rattle.command_words.specs.declared.commands.Command.{Command}
+use Rattle.command_words.specs.declared.names.Which.TheVariants.{Source}
 use Rattle.program_run.specs.declared.status.Status.{Status}
 use Rattle.program_run.specs.declared.status.Status.TheVariants.{Done, Usage, ReadFault, WriteFault, BadText, Limit, NoState, NoMemory}
 
@@ -72,3 +73,9 @@ abbrev pub IsUntaken : Status → Type 0
 IsUntaken NoMemory = ⊤
 IsUntaken (Usage position) = position ≡ 0
 IsUntaken _ = ⊥
+
+-- a status of a text: it is bad, or memory was wanting
+abbrev pub IsTextRefusal : Status → Type 0
+IsTextRefusal (BadText which kind line) = which ≡ Source
+IsTextRefusal NoMemory = ⊤
+IsTextRefusal status = ⊥

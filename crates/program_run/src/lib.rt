@@ -4,6 +4,7 @@
 
 mod answers;
 mod compile;
+mod cut;
 mod delivery;
 mod lines;
 mod program;

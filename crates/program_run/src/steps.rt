@@ -1,18 +1,26 @@
 //! The steps of a command: each gives a value, or the status that refuses.
-ghost use Rattle.std.specs.Prelude.{◌≡◌, ◌≤◌, ◌^◌, None, [], map, string_bytes, length, IfOk, OnOk, IfErr};
+ghost use Rattle.std.specs.Prelude.{◌≡◌, ◌≤◌, ◌^◌, None, Ok, Result, [], map, string_bytes, length, IfOk, OnOk, IfErr};
 ghost use Rattle.edge_io.specs.Held.{WhereTold};
 ghost use Rattle.problem_form.specs.Limits.{limit_fault};
 ghost use Rattle.command_words.specs.Names.{name_of, job_in};
-ghost use Rattle.program_run.specs.Outcome.{Meets, taking, sourcing};
+ghost use Rattle.whole_text.specs.declared.faults.TextFault.{TextFault};
+ghost use Rattle.whole_text.specs.TokenTexts.{words_of};
+ghost use Rattle.whole_text.specs.Steps.{Gives};
+ghost use Rattle.source_texts.specs.declared.reading.Read.{Read};
+ghost use Rattle.command_words.specs.declared.commands.Format.TheVariants.{Wcnf};
+ghost use Rattle.program_run.specs.Outcome.{Meets, taking, from_text, reading, sourcing};
+ghost use Rattle.program_run.specs.Statuses.{IsTextRefusal};
+ghost use Rattle.program_run.specs.Cut.{cutting};
 ghost use Rattle.program_run.specs.Causes.{IsRefusedBy, IsPassed};
 
+use crate::cut::read_words;
 use crate::status::Status;
-use command_words::{Command, Which, name_of};
+use command_words::{Command, Format, Which, name_of};
 use edge_io::{Files, ReadAnswer, read_all};
 use problem_form::{LimitKind, MOST_BYTES, check_limits};
-use source_texts::{Read, read_source};
+use source_texts::{Read, read_source, read_source_words};
 use std::alloc::Global;
-use whole_text::TextAnswer;
+use whole_text::{TextAnswer, TokenText};
 
 /// Takes a file of a command.
 #[tactic(auto, unfolding(crate::specs::Outcome::taking))]
@@ -45,6 +53,114 @@ pub fn take_file<F: Files>(
     }
 }
 
+/// Takes a file of a command, and cuts it into words as it comes.
+#[tactic(auto, unfolding(crate::specs::Outcome::taking, crate::specs::Cut::cutting))]
+fn take_words<F: Files>(
+    alloc: Global,
+    words: &[String],
+    command: Command,
+    which: Which,
+    files: &mut F,
+) -> Result<TokenText, Status>
+    ensures step { WhereTold (F.held files.old) (λ held. Meets words_of result
+        (cutting held which (name_of (map string_bytes words.now) command which))) }
+    ensures held { F.held files.new ≡ F.held files.old }
+    ensures short { IfOk result (λ text. length text.bytes ≤ 2 ^ 24) }
+    ensures passed { OnOk result (IsPassed
+        (name_of (map string_bytes words.now) command which) 1
+        (F.counts files.old) (F.counts files.new)) }
+    ensures refused { IfErr result (λ status.
+        IsRefusedBy which (name_of (map string_bytes words.now) command which) 1 status
+        (F.counts files.old) (F.counts files.new)) }
+{
+    let Ok(name) = String::from_str(alloc, name_of(words, command, which)) else {
+        return Err(Status::NoMemory);
+    };
+    match read_words(alloc, files, name, MOST_BYTES) {
+        Ok(text) => Ok(text),
+        Err(ReadAnswer::ReadFault) => Err(Status::ReadFault(which)),
+        Err(ReadAnswer::TooLong) => Err(Status::Limit(which, LimitKind::Bytes, 16_777_217)),
+        Err(ReadAnswer::NoMemory) => Err(Status::NoMemory),
+    }
+}
+
+/// The problem that a source is read into, or the status of its fault.
+fn judged(read: Result<Read, TextAnswer>) -> Result<Read, Status>
+    ensures step { (said : Result Read TextFault) → Gives (λ read. read) read said
+        → Meets (λ read. read) result (from_text Which.Source said) }
+    ensures good { IfOk result (λ problem. read ≡ Ok problem) }
+    ensures bad { IfErr result IsTextRefusal }
+{
+    match read {
+        Ok(read) => Ok(read),
+        Err(TextAnswer::Bad(fault)) => {
+            Err(Status::BadText(Which::Source, fault.kind, fault.line))
+        }
+        Err(TextAnswer::NoMemory) => Err(Status::NoMemory),
+    }
+}
+
+/// Takes a weighted CNF source, cut into words as it comes, and reads it.
+fn take_cut<F: Files>(
+    alloc: Global,
+    words: &[String],
+    command: Command,
+    files: &mut F,
+) -> Result<Read, Status>
+    requires { (job_in command).format ≡ Wcnf }
+    ensures step { WhereTold (F.held files.old) (λ held. Meets (λ read. read) result
+        (reading (map string_bytes words.now) held command)) }
+    ensures held { F.held files.new ≡ F.held files.old }
+    ensures own { IfOk result (λ read. read.variables ≤ read.problem.variables) }
+    ensures unconstrained { IfOk result (λ read. read.problem.constraints ≡ []) }
+    ensures passed { OnOk result (IsPassed
+        (name_of (map string_bytes words.now) command Which.Source) 1
+        (F.counts files.old) (F.counts files.new)) }
+    ensures refused { IfErr result (λ status.
+        IsRefusedBy Which.Source
+        (name_of (map string_bytes words.now) command Which.Source) 1 status
+        (F.counts files.old) (F.counts files.new)) }
+{
+    let text = match take_words(alloc, words, command, Which::Source, files) {
+        Ok(text) => text,
+        Err(status) => return Err(status),
+    };
+    let read = read_source_words(alloc, &text);
+    drop(text);
+    judged(read)
+}
+
+/// Takes the source and reads it. A weighted CNF file is cut into words as it comes, and the others
+/// are taken whole.
+#[tactic(auto, unfolding(crate::specs::Outcome::reading))]
+fn take_read<F: Files>(
+    alloc: Global,
+    words: &[String],
+    command: Command,
+    files: &mut F,
+) -> Result<Read, Status>
+    ensures step { WhereTold (F.held files.old) (λ held. Meets (λ read. read) result
+        (reading (map string_bytes words.now) held command)) }
+    ensures held { F.held files.new ≡ F.held files.old }
+    ensures own { IfOk result (λ read. read.variables ≤ read.problem.variables) }
+    ensures unconstrained { IfOk result (λ read. read.problem.constraints ≡ []) }
+    ensures passed { OnOk result (IsPassed
+        (name_of (map string_bytes words.now) command Which.Source) 1
+        (F.counts files.old) (F.counts files.new)) }
+    ensures refused { IfErr result (λ status.
+        IsRefusedBy Which.Source
+        (name_of (map string_bytes words.now) command Which.Source) 1 status
+        (F.counts files.old) (F.counts files.new)) }
+{
+    match command.job().format {
+        Format::Wcnf => take_cut(alloc, words, command, files),
+        format => {
+            let bytes = take_file(alloc, words, command, Which::Source, files)?;
+            judged(read_source(alloc, format, &bytes))
+        }
+    }
+}
+
 /// Takes the source, reads it and checks its limits.
 #[tactic(auto, unfolding(crate::specs::Outcome::sourcing), using(crate::proofs::Refusals::limits_refused))]
 pub fn take_source<F: Files>(
@@ -68,16 +184,8 @@ pub fn take_source<F: Files>(
         (name_of (map string_bytes words.now) command Which.Source) 1 status
         (F.counts files.old) (F.counts files.new)) }
 {
-    let job = command.job();
-    let bytes = take_file(alloc, words, command, Which::Source, files)?;
-    let read = match read_source(alloc, job.format, &bytes) {
-        Ok(read) => read,
-        Err(TextAnswer::Bad(fault)) => {
-            return Err(Status::BadText(Which::Source, fault.kind, fault.line));
-        }
-        Err(TextAnswer::NoMemory) => return Err(Status::NoMemory),
-    };
-    match check_limits(&read.problem, &job.choices) {
+    let read = take_read(alloc, words, command, files)?;
+    match check_limits(&read.problem, &command.job().choices) {
         Ok(()) => Ok(read),
         Err(fault) => Err(Status::Limit(Which::Source, fault.kind, fault.number)),
     }

@@ -1,5 +1,5 @@
 -- Weighted CNF texts: their problems stand for what they say.
-use Rattle.std.proofs.Common.{◌≡◌, ℕ, List, [], Ok, refl}
+use Rattle.std.proofs.Common.{◌≡◌, ℕ, List, [], Ok, refl, ap}
 use Rattle.bits_model.specs.Costs.{Source}
 use Rattle.whole_text.specs.Steps.{◌>>=◌}
 use Rattle.problem_form.specs.Problems.{ProblemContent}
@@ -41,8 +41,11 @@ unfolding problem_of_words
 words_are_unconstrained words p e =
     read_unconstrained normal_problem (λ s. refl) (reading_of_words words) p e
 
--- the words of a text are read as the text is
-pub normal_reading_of_words : (text : List ℕ)
-    → normal_reading text ≡ problem_of_words (tokens_of Plain text)
+same_reading : (text : List ℕ) → normal_reading text ≡ problem_of_words (tokens_of Plain text)
 unfolding normal_reading problem_of_words reading
-normal_reading_of_words text = refl
+same_reading text = refl
+
+-- the words of a text are read as the text is
+pub words_read : (text : List ℕ)
+    → (normal_reading text >>= λ p. Ok (own p)) ≡ (problem_of_words (tokens_of Plain text) >>= λ p. Ok (own p))
+words_read text = ap (λ said. said >>= λ p. Ok (own p)) (same_reading text)

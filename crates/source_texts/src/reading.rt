@@ -44,7 +44,7 @@ pub fn read_source(alloc: Global, format: Format, text: &[u8]) -> Result<Read, T
 
 /// The problem of a weighted CNF text that was cut into words, in normal form, or the first fault of
 /// the text.
-pub fn read_words(alloc: Global, text: &TokenText) -> Result<Read, TextAnswer>
+pub fn read_source_words(alloc: Global, text: &TokenText) -> Result<Read, TextAnswer>
     requires { length text.now.bytes ≤ 2 ^ 24 }
     ensures read { Gives (λ read. read) result (problem_of_words (words_of text.now)) }
     ensures own { IfOk result (λ read. read.variables ≤ read.problem.variables) }
