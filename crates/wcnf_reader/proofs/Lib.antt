@@ -1,4 +1,3 @@
 pub mod Loops
-pub mod Lengths
 pub mod Clauses
 pub mod ReadCosts

@@ -64,6 +64,7 @@ impl TokenList {
     }
 
     /// Appends a token, which begins where the last one ends.
+    #[inline(always)]
     pub fn push(&mut self, token: Token) -> Result<(), NoMemory>
         requires joined { AreJoined 0 self.old token.start }
         requires some { token.start < token.end }
@@ -108,6 +109,7 @@ fn push_stride(marks: &mut Vec<u8>, wide: &mut Vec<Stride>, stride: Stride) -> R
 }
 
 /// Appends a stride that no mark can say, with its mark of 0.
+#[inline(never)]
 fn push_wide(marks: &mut Vec<u8>, wide: &mut Vec<Stride>, stride: Stride) -> Result<(), NoMemory>
     requires { wide_marks marks.old.items ≡ length wide.old.items }
     ensures pushed { OnOk result (strides marks.new.items wide.new.items

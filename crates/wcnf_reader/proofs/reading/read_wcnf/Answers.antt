@@ -3,7 +3,7 @@ use Rattle.whole_text.specs.declared.token.Style.TheVariants.{Plain}
 use Rattle.whole_text.specs.Tokens.{words_at, tokens_of}
 use Rattle.wcnf_reader.specs.Wcnf.{reading}
 use Rattle.wcnf_reader.specs.Cost.{normal_reading}
-use Rattle.wcnf_reader.proofs.Lengths.{length-in_order}
+use Rattle.whole_text.proofs.Lengths.{length-in_order}
 use Rattle.wcnf_reader.proofs.reading.read_wcnf.Goals as goal
 
 pub problem-requires-clause-few : goal.problem-requires-clause-few
