@@ -1,6 +1,6 @@
 //! Tokens that stand one right after another, packed: a byte a token.
 ghost use Rattle.std.specs.Prelude.{◌≡◌, ◌++◌, ◌∷◌, [], ◌<◌, ◌≤◌, ◌/◌, ◌%◌, length, OnOk, OnErr};
-ghost use Rattle.whole_text.specs.Tokens.{AreJoined, words_at, last_line};
+ghost use Rattle.whole_text.specs.Tokens.{AreJoined, TakeAll, words_at, last_line};
 ghost use Rattle.whole_text.specs.Packed.{strides, wide_marks};
 
 use crate::token::Token;
@@ -83,7 +83,7 @@ impl TokenList {
 
     /// The words of these bytes, one after the other.
     pub(crate) fn words_in<'a>(&'a self, bytes: &'a [u8]) -> Words<'a>
-        requires { AreJoined 0 self.now (length bytes.now) }
+        requires { TakeAll self.now bytes.now }
         ensures { result ≡ words_at bytes.now self.now }
     {
         Words::new(bytes, &self.marks, &self.wide)
