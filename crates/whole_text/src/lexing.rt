@@ -151,15 +151,18 @@ impl Lexer {
             → StandsFor self.new (text ++ byte ∷ [])) }
         ensures style { self.new.style ≡ self.old.style }
     {
-        match self.at {
-            At::Inside => self.push(byte),
-            At::Between => self.push(byte),
-            _ => self.first_ink(byte),
+        if self.at == At::Inside {
+            return self.push(byte);
         }
+        if self.at == At::Between {
+            return self.push(byte);
+        }
+        self.first_ink(byte)
     }
 
-    /// A byte that is neither a blank nor a line feed, where no word has begun in the line.
-    #[inline(always)]
+    /// A byte that is neither a blank nor a line feed, where no word has begun in the line. It
+    /// stands apart, so that the usual byte of a word takes one test of the place.
+    #[inline(never)]
     fn first_ink(&mut self, byte: u8) -> Result<(), NoMemory>
         requires live { IsLive self.old.place }
         requires no_feed { is_feed byte ≡ false }

@@ -2,7 +2,7 @@ use Rattle.std.proofs.Common.{◌≡◌, ◌+◌, ◌∷◌, ◌++◌, [], ℕ, 
 use Rattle.std.proofs.lemmas.Bool.{ne_eqb}
 use Rattle.whole_text.specs.Tokens.{comment_byte}
 use Rattle.whole_text.specs.declared.lexing.At.{At}
-use Rattle.whole_text.specs.Lexing.{Fresh, Between, Inside, Comment, LexerState, StandsFor}
+use Rattle.whole_text.specs.Lexing.{Fresh, Inside, Comment, LexerState, StandsFor}
 use Rattle.whole_text.specs.LexerPlaces.{place_at, begun, IsLive}
 use Rattle.whole_text.proofs.LexerSteps.{after_ink}
 use Rattle.whole_text.proofs.LexerFields.{stands_on, ink_comment, ink_begins, ink_pushed, ink_fresh, ink_other}
