@@ -85,12 +85,3 @@ ink_between style place b here = rw here refl
 
 pub ink_inside : (style : Style) (place : Place) (w : List ℕ) (b : ℕ) → place ≡ Inside w → after_ink style place b ≡ Inside (begun place ++ b ∷ [])
 ink_inside style place w b here = rw here refl
-
--- neither in a comment nor before the first word of a line
-pub ink_other : (style : Style) (a : At) (w : List ℕ) (b : ℕ) → (a ≡ at.Comment → ⊥) → (a ≡ at.Fresh → ⊥) → IsLive (place_at a w)
-    → after_ink style (place_at a w) b ≡ Inside (begun (place_at a w) ++ b ∷ [])
-ink_other style at.Fresh w b comment fresh live = absurd (fresh refl)
-ink_other style at.Between w b comment fresh live = refl
-ink_other style at.Inside w b comment fresh live = refl
-ink_other style at.Comment w b comment fresh live = absurd (comment refl)
-ink_other style at.Spent w b comment fresh live = absurd live

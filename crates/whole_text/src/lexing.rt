@@ -151,18 +151,16 @@ impl Lexer {
             → StandsFor self.new (text ++ byte ∷ [])) }
         ensures style { self.new.style ≡ self.old.style }
     {
-        if self.at == At::Inside {
-            return self.push(byte);
+        match self.at {
+            At::Inside => self.push(byte),
+            At::Between => self.push(byte),
+            _ => self.first_ink(byte),
         }
-        if self.at == At::Between {
-            return self.push(byte);
-        }
-        self.first_ink(byte)
     }
 
-    /// A byte that is neither a blank nor a line feed, where no word has begun in the line. It
-    /// stands apart, so that the usual byte of a word takes one test of the place.
-    #[inline(never)]
+    /// A byte that is neither a blank nor a line feed, at any place; `ink` takes the two usual
+    /// places before it.
+    #[inline(always)]
     fn first_ink(&mut self, byte: u8) -> Result<(), NoMemory>
         requires live { IsLive self.old.place }
         requires no_feed { is_feed byte ≡ false }
@@ -181,7 +179,9 @@ impl Lexer {
                     self.push(byte)
                 }
             }
-            _ => self.push(byte),
+            At::Between => self.push(byte),
+            At::Inside => self.push(byte),
+            At::Spent => Err(NoMemory),
         }
     }
 

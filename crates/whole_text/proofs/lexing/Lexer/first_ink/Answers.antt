@@ -2,10 +2,9 @@ use Rattle.std.proofs.Common.{◌≡◌, ◌+◌, ◌∷◌, ◌++◌, [], ℕ, 
 use Rattle.std.proofs.lemmas.Bool.{ne_eqb}
 use Rattle.whole_text.specs.Tokens.{comment_byte}
 use Rattle.whole_text.specs.declared.lexing.At.{At}
-use Rattle.whole_text.specs.Lexing.{Fresh, Inside, Comment, LexerState, StandsFor}
-use Rattle.whole_text.specs.LexerPlaces.{place_at, begun, IsLive}
-use Rattle.whole_text.proofs.LexerSteps.{after_ink}
-use Rattle.whole_text.proofs.LexerFields.{stands_on, ink_comment, ink_begins, ink_pushed, ink_fresh, ink_other}
+use Rattle.whole_text.specs.Lexing.{Fresh, Between, Inside, Comment, LexerState, StandsFor}
+use Rattle.whole_text.specs.LexerPlaces.{place_at, begun}
+use Rattle.whole_text.proofs.LexerFields.{stands_on, ink_comment, ink_begins, ink_pushed, ink_fresh, ink_between, ink_inside}
 use Rattle.whole_text.proofs.lexing.Lexer.first_ink.Goals as goal
 
 -- the state with one byte more in its word
@@ -37,13 +36,18 @@ returns-else-byte-comment_byte-clause-stepped c =
     let other : eqb byte (comment_byte now.style) ≡ false = rw (← mark) (ne_eqb byte c.comment_byte.result c.if-byte-comment_byte.false) in
     stands_on _ now c.push.new.self (pushed now byte) byte c.push.ensures.pushed (λ text h. ink_pushed now text byte (ink_fresh now.style now.place byte here other) c.requires.no_feed c.requires.no_blank h)
 
-pub returns-in_default-clause-stepped : goal.returns-in_default-clause-stepped
-returns-in_default-clause-stepped c =
+pub returns-in-Between-clause-stepped : goal.returns-in-Between-clause-stepped
+returns-in-Between-clause-stepped c =
     let w = drop c.self.inside.start c.self.inside.bytes.items in
     let byte = c.args.byte in
     let now = c.args.self.now in
-    let live : IsLive (place_at c.self.inside.at w) = rw (← c.self.view_is) at c.requires.live in
-    let same : after_ink now.style now.place byte ≡ Inside (begun now.place ++ byte ∷ []) =
-    subst (λ (s : LexerState). after_ink now.style s.place byte ≡ Inside (begun s.place ++ byte ∷ [])) c.self.view_is
-    (ink_other now.style c.self.inside.at w byte c.in_default.not-Comment c.in_default.not-Fresh live) in
-    stands_on _ now c.push-in_default.new.self (pushed now byte) byte c.push-in_default.ensures.pushed (λ text h. ink_pushed now text byte same c.requires.no_feed c.requires.no_blank h)
+    let here : now.place ≡ Between = sym (ap (λ (s : LexerState). s.place) c.self.view_is) ∙ ap (λ (a : At). place_at a w) c.in-Between.is in
+    stands_on _ now c.push-in-Between.new.self (pushed now byte) byte c.push-in-Between.ensures.pushed (λ text h. ink_pushed now text byte (ink_between now.style now.place byte here) c.requires.no_feed c.requires.no_blank h)
+
+pub returns-in-Inside-clause-stepped : goal.returns-in-Inside-clause-stepped
+returns-in-Inside-clause-stepped c =
+    let w = drop c.self.inside.start c.self.inside.bytes.items in
+    let byte = c.args.byte in
+    let now = c.args.self.now in
+    let here : now.place ≡ Inside w = sym (ap (λ (s : LexerState). s.place) c.self.view_is) ∙ ap (λ (a : At). place_at a w) c.in-Inside.is in
+    stands_on _ now c.push-in-Inside.new.self (pushed now byte) byte c.push-in-Inside.ensures.pushed (λ text h. ink_pushed now text byte (ink_inside now.style now.place w byte here) c.requires.no_feed c.requires.no_blank h)
