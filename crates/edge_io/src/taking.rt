@@ -32,9 +32,9 @@ pub fn take_piece<F: Files>(files: &mut F, into: &mut [u8]) -> Result<usize, Rea
     ensures cause { HasCause (F.counts files.old).faults (F.counts files.new).faults result }
 
     // No file was begun.
-    ensures same_begin { (F.counts files.new).begun ≡ (F.counts files.old).begun }
-    ensures same_mark { (F.counts files.new).faults_at_begin ≡ (F.counts files.old).faults_at_begin }
-    ensures same_name { (F.counts files.new).name ≡ (F.counts files.old).name }
+    ensures begun { (F.counts files.new).begun ≡ (F.counts files.old).begun }
+    ensures mark { (F.counts files.new).faults_at_begin ≡ (F.counts files.old).faults_at_begin }
+    ensures name { (F.counts files.new).name ≡ (F.counts files.old).name }
 {
     match files.read(into) {
         Ok(count) => Ok(count),

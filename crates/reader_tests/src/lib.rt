@@ -9,6 +9,8 @@ mod command_rows;
 #[cfg(test)]
 mod memory_ends;
 #[cfg(test)]
+mod pieces;
+#[cfg(test)]
 mod plain_reader;
 #[cfg(test)]
 mod real_ends;

@@ -10,7 +10,7 @@ use Rattle.problem_form.specs.declared.terms.Clause.{Clause}
 use Rattle.problem_form.specs.Problems.{ProblemContent}
 use Rattle.problem_form.specs.NormalForm.{blank, with_variables, with_clause, normal_form}
 use Rattle.problem_form.proofs.AddedParts.{clauses_add_up}
-use Rattle.wcnf_reader.proofs.Lengths.{both_parts}
+use Rattle.whole_text.proofs.Lengths.{both_parts}
 use Rattle.wcnf_reader.specs.declared.layout.Layout.{Layout}
 use Rattle.wcnf_reader.specs.declared.layout.Layout.TheVariants.{Older}
 use Rattle.wcnf_reader.specs.Wcnf.{Header, Listed, Wcnf, header_at, clause_at, clauses_at, at_end, older_of}

@@ -17,7 +17,7 @@ use Rattle.wcnf_reader.specs.declared.layout.Layout.TheVariants.{WithoutHeader}
 use Rattle.wcnf_reader.specs.Wcnf.{Listed, Wcnf, first_of, literal_at, literals_at, clause_at, clauses_within, clauses_to_end, WordsAreEnough, largest, headerless_of}
 use Rattle.wcnf_reader.specs.Cost.{clause_of, problem_of}
 use Rattle.wcnf_reader.specs.Views.{clause_read, widened, headerless_read}
-use Rattle.wcnf_reader.proofs.Lengths.{both_parts}
+use Rattle.whole_text.proofs.Lengths.{both_parts}
 use Rattle.wcnf_reader.proofs.Clauses.{as_clause}
 use Rattle.wcnf_reader.proofs.Widening.{AreLiterals, sizes_needed}
 

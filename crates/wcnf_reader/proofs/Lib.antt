@@ -1,5 +1,4 @@
 pub mod Loops
-pub mod Lengths
 pub mod Clauses
 pub mod Widening
 pub mod Headerless

@@ -59,7 +59,7 @@ fn top(words: &mut Words<'_>, line: u64) -> Result<Option<u64>, TextFault>
 }
 
 /// The header, and what is left.
-#[tactic(auto, using(crate::proofs::Lengths::next_less), unfolding(crate::specs::Wcnf::header_at))]
+#[tactic(auto, using(whole_text::proofs::Lengths::next_less), unfolding(crate::specs::Wcnf::header_at))]
 pub(crate) fn header(words: &mut Words<'_>, line: u64, end: u64) -> Result<Start, TextFault>
     ensures read { GivesAlways (λ start. (header_of start, words.new)) result
         (header_at line end words.old) }

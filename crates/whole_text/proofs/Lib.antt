@@ -1,6 +1,7 @@
 pub mod Places
 pub mod Slices
 pub mod Strides
+pub mod Lengths
 pub mod Order
 pub mod LineWords
 pub mod Lines

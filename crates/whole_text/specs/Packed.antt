@@ -1,5 +1,5 @@
--- The words of a text, packed: their bytes joined, and for each word its stride, which is its length
--- and how many lines it stands below the word before.
+-- The words of a text, packed: their bytes joined, and for each word its stride, which is its
+-- length and how many lines it stands below the word before.
 use Rattle.std.specs.Prelude.{◌≡◌, ℕ, ◌+◌, ◌/◌, ◌%◌, ◌^◌, ◌<◌, ◌≤◌, List, [], ◌∷◌, length, take, drop, ◌==◌, if◌then◌else◌}
 use Rattle.whole_text.specs.declared.packed.Stride.{Stride}
 use Rattle.whole_text.specs.declared.token.Token.{Token}

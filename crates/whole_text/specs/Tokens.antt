@@ -82,6 +82,10 @@ abbrev pub AreJoined : ℕ → List Token → ℕ → Type 0
 AreJoined low [] high = low ≡ high
 AreJoined low (t ∷ ts) high = (low ≡ t.start) × (t.start < t.end) × AreJoined t.end ts high
 
+-- the tokens take all of the bytes, one right after another
+abbrev pub TakeAll : List Token → List ℕ → Type 0
+TakeAll tokens bytes = AreJoined 0 tokens (length bytes)
+
 -- the line of the last token, or 1 where there is none
 abbrev pub last_line : List Token → ℕ
 last_line ts = option_map_or (λ t. t.line) (slice_get ts (length ts - 1)) 1

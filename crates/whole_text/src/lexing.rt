@@ -152,6 +152,24 @@ impl Lexer {
         ensures style { self.new.style ≡ self.old.style }
     {
         match self.at {
+            At::Inside => self.push(byte),
+            At::Between => self.push(byte),
+            _ => self.first_ink(byte),
+        }
+    }
+
+    /// A byte that is neither a blank nor a line feed, at any place; `ink` takes the two usual
+    /// places before it.
+    #[inline(always)]
+    fn first_ink(&mut self, byte: u8) -> Result<(), NoMemory>
+        requires live { IsLive self.old.place }
+        requires no_feed { is_feed byte ≡ false }
+        requires no_blank { is_blank byte ≡ false }
+        ensures stepped { OnOk result ((text : List ℕ) → StandsFor self.old text
+            → StandsFor self.new (text ++ byte ∷ [])) }
+        ensures style { self.new.style ≡ self.old.style }
+    {
+        match self.at {
             At::Comment => Ok(()),
             At::Fresh => {
                 if byte == comment_byte(self.style) {

@@ -1,7 +1,8 @@
 //! The tokens of a text, the numbers in it, and the steps that readers are made of.
 //!
-//! A text goes in as bytes, and out come its tokens, each with its place and its line. A reader
-//! takes them one by one, by steps that give a value or the first fault.
+//! A text goes in as bytes, and out come its tokens, each with its place and its line. Or it goes in
+//! piece by piece, and out come its words alone, packed. A reader takes them one by one, by steps
+//! that give a value or the first fault.
 #![tactic(auto)]
 
 mod cutting;

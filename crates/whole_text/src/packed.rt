@@ -1,6 +1,6 @@
 //! Tokens that stand one right after another, packed: a byte a token.
 ghost use Rattle.std.specs.Prelude.{◌≡◌, ◌++◌, ◌∷◌, [], ◌<◌, ◌≤◌, ◌/◌, ◌%◌, length, OnOk, OnErr};
-ghost use Rattle.whole_text.specs.Tokens.{AreJoined, words_at, last_line};
+ghost use Rattle.whole_text.specs.Tokens.{AreJoined, TakeAll, words_at, last_line};
 ghost use Rattle.whole_text.specs.Packed.{strides, wide_marks};
 
 use crate::token::Token;
@@ -64,6 +64,7 @@ impl TokenList {
     }
 
     /// Appends a token, which begins where the last one ends.
+    #[inline(always)]
     pub fn push(&mut self, token: Token) -> Result<(), NoMemory>
         requires joined { AreJoined 0 self.old token.start }
         requires some { token.start < token.end }
@@ -82,7 +83,7 @@ impl TokenList {
 
     /// The words of these bytes, one after the other.
     pub(crate) fn words_in<'a>(&'a self, bytes: &'a [u8]) -> Words<'a>
-        requires { AreJoined 0 self.now (length bytes.now) }
+        requires { TakeAll self.now bytes.now }
         ensures { result ≡ words_at bytes.now self.now }
     {
         Words::new(bytes, &self.marks, &self.wide)
@@ -108,6 +109,7 @@ fn push_stride(marks: &mut Vec<u8>, wide: &mut Vec<Stride>, stride: Stride) -> R
 }
 
 /// Appends a stride that no mark can say, with its mark of 0.
+#[inline(never)]
 fn push_wide(marks: &mut Vec<u8>, wide: &mut Vec<Stride>, stride: Stride) -> Result<(), NoMemory>
     requires { wide_marks marks.old.items ≡ length wide.old.items }
     ensures pushed { OnOk result (strides marks.new.items wide.new.items

@@ -1,7 +1,7 @@
 //! The words of a text, without blanks and comments.
 ghost use Rattle.std.specs.Prelude.{◌≡◌, ◌≤◌, length};
-ghost use Rattle.whole_text.specs.Tokens.{AreJoined};
-ghost use Rattle.whole_text.specs.laws.Joined.{AreJoined-prop};
+ghost use Rattle.whole_text.specs.Tokens.{TakeAll};
+ghost use Rattle.whole_text.specs.laws.Joined.{TakeAll-prop};
 
 use crate::packed::TokenList;
 use crate::words::Words;
@@ -15,7 +15,7 @@ pub type ByteList = Items<u8>;
 pub struct TokenText {
     pub bytes: ByteList,
     pub tokens: TokenList,
-    pub ghost joined: { AreJoined 0 tokens (length bytes) } by { AreJoined-prop 0 tokens (length bytes) },
+    pub ghost joined: { TakeAll tokens bytes } by { TakeAll-prop tokens bytes },
 }
 
 impl TokenText {

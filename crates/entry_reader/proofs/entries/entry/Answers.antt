@@ -1,5 +1,5 @@
 use Rattle.std.proofs.Common.{arith}
-use Rattle.wcnf_reader.proofs.Lengths.{next_shorter}
+use Rattle.whole_text.proofs.Lengths.{next_shorter}
 use Rattle.entry_reader.proofs.entries.entry.Goals as goal
 
 pub returns-clause-shorter : goal.returns-clause-shorter

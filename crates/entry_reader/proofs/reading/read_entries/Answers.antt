@@ -1,7 +1,7 @@
 use Rattle.std.proofs.Common.{◌≡◌, ◌∙◌, ap, arith}
 use Rattle.whole_text.specs.declared.token.Style.TheVariants.{Plain}
 use Rattle.whole_text.specs.Tokens.{words_at, tokens_of}
-use Rattle.wcnf_reader.proofs.Lengths.{length-in_order}
+use Rattle.whole_text.proofs.Lengths.{length-in_order}
 use Rattle.entry_reader.specs.Entries.{reading}
 use Rattle.entry_reader.specs.Problems.{normal_reading}
 use Rattle.entry_reader.proofs.reading.read_entries.Goals as goal

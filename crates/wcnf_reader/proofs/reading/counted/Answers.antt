@@ -6,7 +6,7 @@ use Rattle.problem_form.specs.NormalForm.{blank, with_variables}
 use Rattle.problem_form.proofs.KeptClauses.{with_clause-total}
 use Rattle.wcnf_reader.specs.Wcnf.{clauses_at}
 use Rattle.wcnf_reader.specs.Views.{header_of, problem_read}
-use Rattle.wcnf_reader.proofs.Lengths.{next_less}
+use Rattle.whole_text.proofs.Lengths.{next_less}
 use Rattle.wcnf_reader.proofs.Clauses.{read_into, clause_goes_on, clause_fails, no_clause, clauses_done, problem_read-blank}
 use Rattle.wcnf_reader.proofs.reading.counted.Goals as goal
 

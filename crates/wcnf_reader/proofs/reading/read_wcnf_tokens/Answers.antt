@@ -1,5 +1,5 @@
 use Rattle.std.proofs.Common.{sym, ◌∙◌, ap, length, arith}
-use Rattle.wcnf_reader.proofs.Lengths.{few_words}
+use Rattle.whole_text.proofs.Lengths.{few_words}
 use Rattle.wcnf_reader.proofs.reading.read_wcnf_tokens.Goals as goal
 
 pub older-requires : goal.older-requires

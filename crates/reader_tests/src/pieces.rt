@@ -1,0 +1,129 @@
+//! Texts that come in pieces, and lines that go to a sink through a buffer.
+ghost use Rattle.std.specs.Prelude.{◌<◌, ◌≤◌, ◌^◌, length};
+
+use bits_model::NoMemory;
+use edge_io::{CallList, LineBuffer, MemorySink, WriteFault};
+use std::alloc::Global;
+use std::test::Fail;
+use whole_text::{Lexer, Style, TokenText, put_number};
+
+/// The words of a text that is cut at two places.
+fn cut_text(alloc: Global, text: &[u8], first: usize, second: usize) -> Result<TokenText, NoMemory>
+    requires ordered { first ≤ second }
+    requires within { second ≤ length text.now }
+    requires small { length text.now ≤ 2 ^ 16 }
+{
+    let mut lexer = Lexer::new(alloc, Style::Plain);
+    lexer.feed(&text[..first])?;
+    lexer.feed(&text[first..second])?;
+    lexer.feed(&text[second..])?;
+    lexer.finish()
+}
+
+/// Whether the text has these words, each with its line, and no other bytes.
+fn has_words(text: &TokenText, wanted: &[(&[u8], u64)], bytes: &[u8]) -> bool {
+    let mut words = text.words();
+    for (word, line) in wanted {
+        match words.next() {
+            Some(found) if found.bytes == *word && found.line == *line => {}
+            _ => return false,
+        }
+    }
+    words.next().is_none() && text.bytes.as_slice() == bytes
+}
+
+/// Whether each pair of cuts gives these words.
+fn is_cut_anywhere(
+    alloc: Global,
+    text: &[u8],
+    words: &[(&[u8], u64)],
+    bytes: &[u8],
+) -> Result<bool, NoMemory>
+    requires { length text.now ≤ 2 ^ 16 }
+{
+    for second in 0..text.len() + 1 {
+        for first in 0..second + 1 {
+            let cut = cut_text(alloc, text, first, second)?;
+            if !has_words(&cut, words, bytes) {
+                return Ok(false);
+            }
+        }
+    }
+    Ok(true)
+}
+
+#[test]
+fn a_text_may_be_cut_anywhere(rt: HostRuntime) -> Result<(), Fail> {
+    let words: [(&[u8], u64); 8] = [
+        (b"p", 2),
+        (b"wcnf", 2),
+        (b"1", 2),
+        (b"2", 2),
+        (b"10", 2),
+        (b"10", 5),
+        (b"-1", 5),
+        (b"0", 6),
+    ];
+    let text = b" c 1 x\np wcnf 1\t2 10\r\n\nc\n10 -1\n0";
+    let same = is_cut_anywhere(rt.alloc(), text, &words, b"pwcnf121010-10")?;
+    assert!(rt; same);
+    Ok(())
+}
+
+/// Puts short pieces, a number, and a piece that is longer than the buffer.
+fn put_lines(buffer: &mut LineBuffer, sink: &mut MemorySink) -> Result<(), WriteFault> {
+    buffer.put(sink, b"p ")?;
+    put_number(buffer, sink, -120)?;
+    buffer.put(sink, &[b'x'; 5000])?;
+    buffer.put(sink, b"\n")?;
+    buffer.flush(sink)
+}
+
+/// The byte of the lines at a place.
+fn line_byte(at: usize) -> u8 {
+    match at {
+        0 => b'p',
+        1 => b' ',
+        2 => b'-',
+        3 => b'1',
+        4 => b'2',
+        5 => b'0',
+        5006 => b'\n',
+        _ => b'x',
+    }
+}
+
+/// Whether so many bytes of the lines come to a sink of one byte a call, of which one call fails.
+fn are_put(alloc: Global, failing: u64, count: usize) -> Result<bool, Fail> {
+    let failing = CallList::new(Vec::from_slice(alloc, &[failing])?);
+    let mut sink = MemorySink::new(alloc, 1, 6000, failing)?;
+    let mut buffer = LineBuffer::new(alloc)?;
+    let whole = put_lines(&mut buffer, &mut sink).is_ok();
+    let bytes = sink.bytes();
+    Ok(
+        whole == (count == 5007)
+            && bytes.len() == count
+            && bytes
+                .iter()
+                .enumerate()
+                .all(|(i, byte)| *byte == line_byte(i)),
+    )
+}
+
+#[test]
+fn lines_go_to_a_sink_byte_by_byte(rt: HostRuntime) -> Result<(), Fail> {
+    let rows = [
+        (5008, 5007),
+        (1, 0),
+        (3, 2),
+        (4096, 4095),
+        (4097, 4096),
+        (4098, 4097),
+        (5007, 5006),
+    ];
+    for (failing, count) in rows {
+        let put = are_put(rt.alloc(), failing, count)?;
+        assert!(rt; put, "{failing} {count}");
+    }
+    Ok(())
+}
