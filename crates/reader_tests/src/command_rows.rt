@@ -1,4 +1,5 @@
 //! Words, what they ask for, and the file that they name.
+use bits_model::UnitChoice;
 use command_words::{Command, Format, Job, Target, Which, WordAt, command, name_of};
 use problem_form::{Choices, High, Normal};
 use std::alloc::{AllocError, Global};
@@ -26,7 +27,22 @@ const COMPILE: Command = Command::Compile(Job {
         normal: Normal::Literal,
         high: High::Monomial,
     },
+    unit: UnitChoice::One,
 });
+
+/// The command `compile` on the file that the fourth word names.
+fn compile(format: Format, target: Target, unit: UnitChoice) -> Command {
+    Command::Compile(Job {
+        format,
+        file: WordAt::Whole(3),
+        target,
+        choices: Choices {
+            normal: Normal::Literal,
+            high: High::Monomial,
+        },
+        unit,
+    })
+}
 
 #[test]
 fn each_wrong_or_missing_word_has_its_position(rt: HostRuntime) -> Result<(), Fail> {
@@ -45,8 +61,8 @@ fn each_wrong_or_missing_word_has_its_position(rt: HostRuntime) -> Result<(), Fa
         (&["compile", "wcnf", "qub", "FILE"], Err(3)),
         // the first of several, and before what is missing
         (&["", "", ""], Err(1)),
-        (&["compile", "qubo", "wcnf"], Err(2)),
-        (&["compile", "wcnf", "ising"], Err(3)),
+        (&["compile", "opb", "wcnf"], Err(2)),
+        (&["compile", "wcnf", "wcnf"], Err(3)),
         // a key, and a further word that is none
         (
             &["compile", "wcnf", "qubo", "FILE", "normal=literal"],
@@ -56,6 +72,56 @@ fn each_wrong_or_missing_word_has_its_position(rt: HostRuntime) -> Result<(), Fa
         (
             &["compile", "wcnf", "qubo", "normal=literal", "a", "b"],
             Err(5),
+        ),
+    ];
+    for (words, wanted) in rows {
+        assert!(rt; asked(rt.alloc(), words)? == wanted, "{words:?}");
+    }
+    Ok(())
+}
+
+#[test]
+fn each_format_and_target_in_each_unit(rt: HostRuntime) -> Result<(), Fail> {
+    let one = UnitChoice::One;
+    let reduce = UnitChoice::Reduce;
+    let rows: [(&[&str], Result<Command, usize>); 13] = [
+        (
+            &["compile", "wcnf", "ising", "FILE"],
+            Ok(compile(Format::Wcnf, Target::Ising, one)),
+        ),
+        (
+            &["compile", "ising", "qubo", "FILE", "unit=one"],
+            Ok(compile(Format::Ising, Target::Qubo, one)),
+        ),
+        (
+            &["compile", "ising", "ising", "FILE", "unit=reduce"],
+            Ok(compile(Format::Ising, Target::Ising, reduce)),
+        ),
+        (
+            &["compile", "qubo", "qubo", "FILE", "unit=reduce"],
+            Ok(compile(Format::Qubo, Target::Qubo, reduce)),
+        ),
+        (
+            &["compile", "qubo", "ising", "unit=reduce"],
+            Ok(compile(Format::Qubo, Target::Ising, one)),
+        ),
+        // a key that is no key, has no such value, or stands there already
+        (&["compile", "wcnf", "qubo", "FILE", "unit"], Err(5)),
+        (&["compile", "wcnf", "qubo", "FILE", "unit="], Err(5)),
+        (&["compile", "wcnf", "qubo", "FILE", "unit=two"], Err(5)),
+        (&["compile", "wcnf", "qubo", "FILE", "unit=one="], Err(5)),
+        (&["compile", "wcnf", "qubo", "FILE", "Unit=one"], Err(5)),
+        (
+            &["compile", "wcnf", "qubo", "FILE", "unit=one", "unit=one"],
+            Err(6),
+        ),
+        (
+            &["compile", "wcnf", "qubo", "FILE", "unit=reduce", "unit=one"],
+            Err(6),
+        ),
+        (
+            &["compile", "wcnf", "ising", "FILE", "unit=reduce", "FILE"],
+            Err(6),
         ),
     ];
     for (words, wanted) in rows {

@@ -71,7 +71,7 @@ fn the_position_of_a_wrong_word(rt: HostRuntime) -> Result<(), Fail> {
         (&[], 1, b"usage: word 1\n"),
         (&["solve", "wcnf", "qubo", "a"], 1, b"usage: word 1\n"),
         (&["compile", "cnf", "qubo", "a"], 2, b"usage: word 2\n"),
-        (&["compile", "wcnf", "ising"], 3, b"usage: word 3\n"),
+        (&["compile", "wcnf", "wcnf"], 3, b"usage: word 3\n"),
         (&["compile", "wcnf", "qubo"], 4, b"usage: word 4\n"),
         (
             &["compile", "wcnf", "qubo", "a", "a"],

@@ -2,7 +2,7 @@
 ghost use Rattle.std.specs.Prelude.{◌≡◌, IfSome};
 ghost use Rattle.bits_model.specs.declared.output.Kind.TheVariants.{Qubo};
 
-use bits_model::{Cost, Costed, Figures, NoMemory, OutputModel};
+use bits_model::{Cost, Costed, Figures, NoMemory, OutputModel, UnitChoice};
 use command_words::{Format, Target};
 use model_pipeline::model_of;
 use model_text::written_text;
@@ -34,7 +34,8 @@ fn model_of_text(alloc: Global, text: &str) -> Option<OutputModel>
     }
     let read = read_source(alloc, Format::Wcnf, text.as_bytes()).ok()?;
     check_limits(&read.problem, &CHOICES).ok()?;
-    model_of(alloc, read.problem, read.variables, &CHOICES, Target::Qubo).ok()
+    let one = UnitChoice::One;
+    model_of(alloc, read.problem, read.variables, &CHOICES, Target::Qubo, one).ok()
 }
 
 /// Whether the energy is the cost and the offset, or lies above the threshold of an infinite cost.
