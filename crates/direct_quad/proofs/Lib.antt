@@ -6,3 +6,4 @@ pub mod LongTerms
 pub mod AllParts
 pub mod RowSums
 pub mod Guarded
+pub mod Gathering
