@@ -32,8 +32,8 @@ pub short-more : (ts : List Term) (t : Term) → is_low t ≡ true
 short-more ts t low = (
   filter-append is_low ts (t ∷ []) ∙ ap (λ b. short_terms ts ++ cond b (t ∷ []) []) low,
   filter-append is_long ts (t ∷ [])
-  ∙ ap (λ b. long_additions ts ++ cond (not b) (t ∷ []) []) low
-  ∙ append-nil (long_additions ts),
+      ∙ ap (λ b. long_additions ts ++ cond (not b) (t ∷ []) []) low
+      ∙ append-nil (long_additions ts),
 )
 
 -- a long one to the long ones
@@ -42,8 +42,8 @@ pub long-more : (ts : List Term) (t : Term) → is_low t ≡ false
     × (long_additions (ts ++ t ∷ []) ≡ long_additions ts ++ t ∷ [])
 long-more ts t high = (
   filter-append is_low ts (t ∷ [])
-  ∙ ap (λ b. short_terms ts ++ cond b (t ∷ []) []) high
-  ∙ append-nil (short_terms ts),
+      ∙ ap (λ b. short_terms ts ++ cond b (t ∷ []) []) high
+      ∙ append-nil (short_terms ts),
   filter-append is_long ts (t ∷ []) ∙ ap (λ b. long_additions ts ++ cond (not b) (t ∷ []) []) high,
 )
 

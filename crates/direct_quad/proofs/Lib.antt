@@ -7,3 +7,5 @@ pub mod AllParts
 pub mod RowSums
 pub mod Guarded
 pub mod Gathering
+pub mod PartSizes
+pub mod PartPairs
