@@ -1,8 +1,8 @@
 -- Steps of making the form of additions: one addition more, one share of a node's weight more, and
 -- the rows from the first to the last.
-use Rattle.std.proofs.Common.{◌≡◌, ℕ, ◌+◌, ◌*◌, ◌<◌, ◌≤◌, ◌^◌, Bool, true, false, not, leb, cond, eqb, arith, sym, ap, ◌∙◌, refl, List, [], ◌∷◌, ◌++◌, append-nil, length, get_or, replicate, ℤ, pos, ◌+ℤ◌}
-use Rattle.std.specs.Prelude.{All, slice_set}
-use Rattle.std.specs.List.{filter, flat_map, slice_index_or}
+use Rattle.std.proofs.Common.{◌≡◌, ℕ, ◌<◌, true, false, not, cond, eqb, arith, sym, ap, ◌∙◌, List, [], ◌∷◌, ◌++◌, append-nil, length, replicate, ℤ, pos, ◌+ℤ◌}
+use Rattle.std.specs.Prelude.{slice_set}
+use Rattle.std.specs.List.{flat_map, slice_index_or}
 use Rattle.std.specs.List.Sorted.{IsStrictlySortedBy}
 use Rattle.std.proofs.lemmas.Int.{ints}
 use Rattle.std.proofs.lemmas.List.{get_or-replicate, length-replicate, length-set}
@@ -20,7 +20,7 @@ use Rattle.quad_form.proofs.UniqueForms.{grown}
 use Rattle.direct_quad.specs.Parts.{is_long, short_terms, long_additions, long_terms, all_nodes}
 use Rattle.direct_quad.specs.Places.{Share, share_at, short_couplers, place_couplers, all_places}
 use Rattle.direct_quad.specs.Gathered.{constant_of, shares_of, couplers_of, IsSumOf}
-use Rattle.direct_quad.specs.Rows.{row_of, places_of, IsRow, AreRows}
+use Rattle.direct_quad.specs.Rows.{row_of, places_of, AreRows}
 use Rattle.direct_quad.proofs.RowSums.{weight-row, places_make_rows}
 
 -- ---- one addition more

@@ -3,17 +3,16 @@
 --
 -- With d literals, of which e are complements, a term of coefficient c gives at most c * d ^ 2 to
 -- its pairs, and each of its at most d / 2 new nodes at most 4 * c * d.
-use Rattle.std.proofs.Common.{◌≡◌, ◌⊎◌, inl, inr, ℕ, zero, suc, ◌+◌, ◌-◌, ◌*◌, ◌/◌, ◌≤◌, ◌<◌, ◌^◌, Bool, true, false, not, ◌&&◌, cond, eqb, leb, int_lt, arith, sym, ap, ◌∙◌, refl, List, [], ◌∷◌, ◌++◌, map, length, sum_by, ℤ, pos, ◌+ℤ◌, ◌-ℤ◌, ◌*ℤ◌, neg_ℤ, unsigned_abs, if◌then◌else◌}
-use Rattle.std.specs.List.{AllByRecursion, count_by, filter, flat_map}
+use Rattle.std.proofs.Common.{◌≡◌, ◌⊎◌, inl, inr, ℕ, zero, suc, ◌+◌, ◌-◌, ◌*◌, ◌≤◌, ◌^◌, Bool, true, false, ◌&&◌, eqb, int_lt, arith, ap, ◌∙◌, refl, List, [], ◌∷◌, ◌++◌, map, length, sum_by, ℤ, pos, ◌+ℤ◌, ◌-ℤ◌, ◌*ℤ◌, neg_ℤ, unsigned_abs, if◌then◌else◌}
+use Rattle.std.specs.List.{AllByRecursion, flat_map}
 use Rattle.std.proofs.Math.Nat.{mul-le-mul, mul-le-mul_left, mul-le-mul_right}
 use Rattle.std.proofs.lemmas.Int.{ints, unsigned_abs-mul}
-use Rattle.std.proofs.lemmas.Bool.Decides.{nat_tests}
 use Rattle.std.proofs.lemmas.List.Sums.{sum_by-cons, sum_by-append, count_by-le-length}
 use Rattle.std.proofs.lemmas.Grind.{flat_map-append}
 use Rattle.std.proofs.lemmas.List.Elements.{All-filter, All-weaker, recursion_from_All}
 use Rattle.std.proofs.lemmas.List.Filters.{sum_by-filter_both}
 use Rattle.integers.specs.Sums.{total_by, if_so}
-use Rattle.integers.proofs.Totals.{size-plus, size-total_by}
+use Rattle.integers.proofs.Totals.{size-plus}
 use Rattle.bits_model.specs.declared.output.Entry.{Entry}
 use Rattle.bits_model.specs.Output.{weight_total}
 use Rattle.problem_form.specs.declared.literal.Literal.{Literal}
@@ -23,7 +22,7 @@ use Rattle.term_table.specs.Tables.{TableContent, AreAdditions}
 use Rattle.term_table.proofs.KeptTerms.{OfSet, All-with_additions}
 use Rattle.term_table.proofs.Additions.{terms_total-cons, terms_total-with_additions}
 use Rattle.monomial_layer.specs.Monomials.{factor, nodes_for, new_nodes, is_low}
-use Rattle.monomial_layer.specs.laws.Positive.{pairs, factor_cases}
+use Rattle.monomial_layer.specs.laws.Positive.{factor_cases}
 use Rattle.monomial_layer.proofs.Sizes.{abs_times}
 use Rattle.direct_quad.specs.Parts.{is_long, short_terms, long_additions, long_terms}
 use Rattle.direct_quad.specs.Places.{signed, complements, pairs_among, pair_coupler, node_coupler, node_couplers, Place, place_couplers, places_in, term_places, all_places, Share, share_at, literal_share, node_share, node_shares, term_shares, all_shares, moved_share, short_shares, short_couplers, long_constant, short_constant}
