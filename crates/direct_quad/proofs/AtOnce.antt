@@ -33,7 +33,7 @@ use Rattle.direct_quad.proofs.Split.{nodes-table, parts-give}
 use Rattle.direct_quad.specs.laws.Between.{low_of, IsTable-low_of, total-low_of}
 
 -- the nodes of all parts
-width-low_of : (t : TableContent) → (low_of t).width ≡ all_nodes t
+pub width-low_of : (t : TableContent) → (low_of t).width ≡ all_nodes t
 width-low_of t = nodes-table t
 
 -- ---- how large the form is
@@ -65,7 +65,7 @@ sums-image ls t =
     ∙ sum_for-with_additions ls (all_new_terms (table_of t).terms t.width)
     ∙ parts-give ls t
 
-constant-image : (t : TableContent) → (image t).constant ≡ sum_for [] (parts t)
+pub constant-image : (t : TableContent) → (image t).constant ≡ sum_for [] (parts t)
 constant-image t =
     omega (
       arith,
@@ -74,7 +74,7 @@ constant-image t =
       sums-image [] t,
     )
 
-weight-image : (t : TableContent) (i : ℕ) → AreAdditions t
+pub weight-image : (t : TableContent) (i : ℕ) → AreAdditions t
     → (terms_total t.terms + 1) * 2 ^ 26 ≤ 2 ^ 124 → i < (low_of t).width
     → get_or (image t).diagonal i (pos 0) ≡ sum_for (node i ∷ []) (parts t)
 weight-image t i additions total within =
@@ -91,7 +91,7 @@ weight-image t i additions total within =
       sums-image (node i ∷ []) t,
     )
 
-pair-image : (t : TableContent) (i j : ℕ) → AreAdditions t
+pub pair-image : (t : TableContent) (i j : ℕ) → AreAdditions t
     → (terms_total t.terms + 1) * 2 ^ 26 ≤ 2 ^ 124
     → weight_at i j (image t).couplers ≡ sum_for (node i ∷ node j ∷ []) (parts t)
 pair-image t i j additions total =
@@ -140,10 +140,14 @@ weight-none n i j (e ∷ es) all outside =
     go true false d g = refl
     go false b d g = refl
 
+-- the image has a node for each that the parts have
+pub nodes-image : (t : TableContent) → length (image t).diagonal ≡ all_nodes t
+nodes-image t = length-image (low_of t) ∙ width-low_of t
+
 same_diagonals : (t : TableContent) (q : QuadContent) → IsWithin t
     → GivesSums (all_nodes t) (parts t) q → q.diagonal ≡ (image t).diagonal
 same_diagonals t q within gives =
-    let wide : length (image t).diagonal ≡ all_nodes t = length-image (low_of t) ∙ width-low_of t in
+    let wide = nodes-image t in
     let lengths = gives.width ∙ sym wide in
     same_lists q.diagonal (image t).diagonal lengths (λ k d in'.
     let here : k < all_nodes t = subst (λ n. k < n) gives.width in' in

@@ -6,3 +6,6 @@ pub mod LongTerms
 pub mod AllParts
 pub mod RowSums
 pub mod Guarded
+pub mod Gathering
+pub mod PartSizes
+pub mod PartPairs

@@ -54,6 +54,10 @@ CouplersClose = (t : Term) (n i j : ℕ) → 3 ≤ length t.0
 abbrev pub SumIsImage : Type 0
 SumIsImage = (t : TableContent) (q : QuadContent) → IsWithin t → IsSumOf t q → q ≡ image t
 
+-- and the image has them
+abbrev pub ImageHasSums : Type 0
+ImageHasSums = (t : TableContent) → IsWithin t → IsSumOf t (image t)
+
 -- ---- row by row
 
 -- a row has the couplers of the places of its variable alone
