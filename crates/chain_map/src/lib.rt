@@ -5,8 +5,12 @@
 //! means that a map is valid on a graph is defined here; whether it is, another crate checks.
 #![tactic(auto)]
 
+mod clique;
 mod faults;
 mod map;
+mod reading;
 
+pub use clique::clique_map;
 pub use faults::{CheckAnswer, EmbedFault};
 pub use map::ChainMap;
+pub use reading::read_map;

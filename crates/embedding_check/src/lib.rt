@@ -17,6 +17,6 @@ mod places;
 mod search;
 mod waiting;
 
-pub use chain_map::{ChainMap, CheckAnswer, EmbedFault};
+pub use chain_map::{ChainMap, CheckAnswer, EmbedFault, clique_map, read_map};
 pub use checking::check;
 pub use embedded::{Embedded, PairList};
