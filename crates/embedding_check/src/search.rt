@@ -237,13 +237,16 @@ pub(crate) fn position_of(sorted: &[u32], start: u32) -> usize
     }
 }
 
-/// Where the chain's qubit at `k` is in ascending order.
+/// Where the chain's qubit at `k` is in ascending order: often at `k` itself.
 fn position_in(chain: &[u32], sorted: &[u32], k: usize) -> usize
     requires below { k < length chain.now }
     requires sorted { IsSortedChain chain.now sorted.now }
     ensures within { result < length sorted.now }
     ensures same { qubit_at sorted.now result ≡ qubit_at chain.now k }
 {
+    if k < sorted.len() && sorted[k] == chain[k] {
+        return k;
+    }
     position_of(sorted, chain[k])
 }
 
