@@ -87,7 +87,7 @@ path_len graph i k cell =
       arith,
       cell,
       length-append (map (down_qubit graph i k) (range_with_len 0 (i + 1)))
-      (map (along_qubit graph i k) (range_with_len i (diagonal_of graph - i))),
+          (map (along_qubit graph i k) (range_with_len i (diagonal_of graph - i))),
       length-map-range_with_len (down_qubit graph i k) 0 (i + 1),
       length-map-range_with_len (along_qubit graph i k) i (diagonal_of graph - i),
     )
@@ -218,7 +218,7 @@ sum_once h F w a (suc n) none once = elim (cases_eq a w) [
         sum_by-cons h (F a) (map F (range_with_len (a + 1) n)),
         none a (omega arith) (omega arith) e,
         sum_once h F w (a + 1) n (λ v low high. none v (omega (arith, low)) (omega (arith, high)))
-        (λ v low high. once v (omega (arith, low)) (omega (arith, high))),
+            (λ v low high. once v (omega (arith, low)) (omega (arith, high))),
       )
 ]
 
@@ -266,20 +266,20 @@ path_once graph i k q cell at =
             arith,
             count_path graph i k q,
             sum_once h (down_qubit graph i k) place.row 0 (i + 1)
-            (λ v low high other. is_other _ _ (λ e. other (sym (ap (λ (p : Place). p.row) (place_down graph i k v q cell at (omega (arith, high)) e)))))
-            (λ v low high. is_once _ _),
+                (λ v low high other. is_other _ _ (λ e. other (sym (ap (λ (p : Place). p.row) (place_down graph i k v q cell at (omega (arith, high)) e)))))
+                (λ v low high. is_once _ _),
             sum_none h (along_qubit graph i k) i (diagonal_of graph - i)
-            (λ v low high. is_other _ _ (λ e. omega (arith, zero_side, ap (λ (p : Place). p.side) (place_along graph i k v q cell at (omega (arith, low, high, cell)) e)))),
+                (λ v low high. is_other _ _ (λ e. omega (arith, zero_side, ap (λ (p : Place). p.side) (place_along graph i k v q cell at (omega (arith, low, high, cell)) e)))),
           )
       | inr one_side ↦
           omega (
             arith,
             count_path graph i k q,
             sum_none h (down_qubit graph i k) 0 (i + 1)
-            (λ v low high. is_other _ _ (λ e. one_side (ap (λ (p : Place). p.side) (place_down graph i k v q cell at (omega (arith, high)) e)))),
+                (λ v low high. is_other _ _ (λ e. one_side (ap (λ (p : Place). p.side) (place_down graph i k v q cell at (omega (arith, high)) e)))),
             sum_once h (along_qubit graph i k) place.col i (diagonal_of graph - i)
-            (λ v low high other. is_other _ _ (λ e. other (sym (ap (λ (p : Place). p.col) (place_along graph i k v q cell at (omega (arith, low, high, cell)) e)))))
-            (λ v low high. is_once _ _),
+                (λ v low high other. is_other _ _ (λ e. other (sym (ap (λ (p : Place). p.col) (place_along graph i k v q cell at (omega (arith, low, high, cell)) e)))))
+                (λ v low high. is_once _ _),
           )
     ]
 
@@ -297,9 +297,9 @@ path_none graph i k q cell at other =
       arith,
       count_path graph i k q,
       sum_none h (down_qubit graph i k) 0 (i + 1)
-      (λ v low high. is_other _ _ (λ e. other (ap (owner_at graph) (place_down graph i k v q cell at (omega (arith, high)) e)))),
+          (λ v low high. is_other _ _ (λ e. other (ap (owner_at graph) (place_down graph i k v q cell at (omega (arith, high)) e)))),
       sum_none h (along_qubit graph i k) i (diagonal_of graph - i)
-      (λ v low high. is_other _ _ (λ e. other (ap (owner_at graph) (place_along graph i k v q cell at (omega (arith, low, high, cell)) e)))),
+          (λ v low high. is_other _ _ (λ e. other (ap (owner_at graph) (place_along graph i k v q cell at (omega (arith, low, high, cell)) e)))),
     )
 
 -- ---- all chains
@@ -322,11 +322,11 @@ clique_once graph nodes q fits =
       arith,
       occurrences-sum q (clique_of graph nodes),
       sum_once (λ chain. count_by (λ p. p == q) chain) (clique_chain graph)
-      (owner_at graph (place_of graph q)) 0 nodes
-      (λ v low high other. path_none graph (v / T) (v % T) q (cell_of graph v (omega (arith, high, fits)))
-      (mod-lt v graph.shape.some_shore) (λ e. other (sym (e ∙ div-add-mod' v T))))
-      (λ v low high. path_once graph (v / T) (v % T) q (cell_of graph v (omega (arith, high, fits)))
-      (mod-lt v graph.shape.some_shore)),
+          (owner_at graph (place_of graph q)) 0 nodes
+          (λ v low high other. path_none graph (v / T) (v % T) q (cell_of graph v (omega (arith, high, fits)))
+          (mod-lt v graph.shape.some_shore) (λ e. other (sym (e ∙ div-add-mod' v T))))
+          (λ v low high. path_once graph (v / T) (v % T) q (cell_of graph v (omega (arith, high, fits)))
+          (mod-lt v graph.shape.some_shore)),
     )
 
 chain_at_node : (graph : Chimera) (nodes v : ℕ) (d : List ℕ) → v < nodes

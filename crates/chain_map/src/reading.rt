@@ -1,12 +1,14 @@
 //! The text of a map: a line for each node, with its number and the qubits of its chain.
-ghost use Rattle.std.specs.Prelude.{◌≡◌, ◌≤◌, ◌<◌, ◌∷◌, length, take, drop, All};
+ghost use Rattle.std.specs.Prelude.{◌≡◌, length, All};
 ghost use Rattle.whole_text.specs.Tokens.{word_at, words_at, IsWithin};
 ghost use Rattle.whole_text.specs.Steps.{Gives, GivesAlways};
-ghost use Rattle.chain_map.specs.Maps.{node_at, qubits_at, after_front, chain_at, chains_at, rows_of, reading};
+ghost use Rattle.chain_map.specs.Maps.{node_at, qubits_at, after_front, chain_at, reading};
 
 use crate::map::ChainMap;
 use std::alloc::Global;
-use whole_text::{Style, TextAnswer, TextFault, TextKind, Token, fault, natural, tokens};
+use whole_text::{
+    Style, TextAnswer, TextFault, TextKind, Token, fault, line_len, natural, push_line,
+};
 
 /// Whether a token is the number of this node.
 #[tactic(auto, unfolding(crate::specs::Maps::node_at))]
@@ -34,65 +36,48 @@ fn push_qubits(text: &[u8], row: &[Token], qubits: &mut Vec<u64>) -> Result<(), 
     Ok(())
 }
 
-/// The chain of a node, in place of what the list had.
+/// Adds the chain that the tokens of a line say, if there are any. The list of qubits is used again.
 #[tactic(auto, unfolding(crate::specs::Maps::chain_at))]
-fn fill_chain(
+fn push_row(
     text: &[u8],
     row: &[Token],
-    node: u64,
+    map: &mut ChainMap,
     qubits: &mut Vec<u64>,
 ) -> Result<(), TextAnswer>
     requires { All (IsWithin text.now) row.now }
-    ensures { Gives (λ _. qubits.new.items) result (chain_at node (words_at text.now row.now)) }
+    ensures { Gives (λ _. map.new) result
+        (after_front map.old (chain_at (length map.old) (words_at text.now row.now))) }
 {
-    qubits.clear();
     match row {
         [] => Ok(()),
         [token, rest @ ..] => {
-            node_at(text, *token, node)?;
-            push_qubits(text, rest, qubits)
+            node_at(text, *token, map.len() as u64)?;
+            qubits.clear();
+            push_qubits(text, rest, qubits)?;
+            map.push(qubits.as_slice())?;
+            Ok(())
         }
     }
 }
 
-/// How many of the tokens stand on one line, from the first on.
-fn row_len(text: &[u8], tokens: &[Token]) -> usize
-    requires { 0 < length tokens.now }
-    ensures some { 0 < result }
-    ensures within { result ≤ length tokens.now }
-    ensures row { rows_of (words_at text.now tokens.now)
-        ≡ words_at text.now (take result tokens.now)
-        ∷ rows_of (words_at text.now (drop result tokens.now)) }
-{
-    let line = tokens[0].line;
-    let mut len = 1;
-    while len < tokens.len() && tokens[len].line == line {
-        len += 1;
-    }
-    len
-}
-
-/// The chains that the tokens say, a line for each.
-fn chains(alloc: Global, text: &[u8], tokens: &[Token]) -> Result<ChainMap, TextAnswer>
-    requires { All (IsWithin text.now) tokens.now }
-    ensures { Gives (λ map. map) result (chains_at 0 (rows_of (words_at text.now tokens.now))) }
-{
-    let mut map = ChainMap::new(alloc);
-    let mut qubits = Vec::new(alloc);
-    let mut rest = tokens;
-    while !rest.is_empty() {
-        let (row, others) = rest.split_at(row_len(text, rest));
-        fill_chain(text, row, map.len() as u64, &mut qubits)?;
-        map.push(&qubits)?;
-        rest = others;
-    }
-    Ok(map)
-}
-
-/// The map of a text, or the first fault of the text.
+/// The map of a text, or the first fault of the text. Tokens are held for one line at a time.
 pub fn read_map(alloc: Global, text: &[u8]) -> Result<ChainMap, TextAnswer>
     ensures { Gives (λ map. map) result (reading text.now) }
 {
-    let tokens = tokens(alloc, text, Style::Plain)?;
-    chains(alloc, text, &tokens)
+    let mut map = ChainMap::new(alloc);
+    let mut tokens = Vec::new(alloc);
+    let mut qubits = Vec::new(alloc);
+    let mut start = 0;
+    let mut line = 1;
+    loop {
+        let end = start + line_len(&text[start..]);
+        tokens.clear();
+        push_line(&mut tokens, text, start, end, line, Style::Plain)?;
+        push_row(text, &tokens, &mut map, &mut qubits)?;
+        if end == text.len() {
+            return Ok(map);
+        }
+        start = end + 1;
+        line += 1;
+    }
 }

@@ -152,7 +152,9 @@ pub(crate) fn all_places<H: Hardware>(
     for k in 0..couplings.len() {
         let coupling = couplings[k];
         let (node, rest) = (coupling.first, &couplings[k..]);
-        noting = is_noted(hardware, &owners, chains, rest, node, last, noting, &mut noted);
+        noting = is_noted(
+            hardware, &owners, chains, rest, node, last, noting, &mut noted,
+        );
         last = node;
         match place_of(hardware, sorted, chains, noting, &noted, coupling) {
             Some(place) => {

@@ -11,7 +11,7 @@ mod numbers;
 mod steps;
 mod token;
 
-pub use cutting::tokens;
+pub use cutting::{line_len, push_line, tokens};
 pub use faults::{TextAnswer, TextFault, TextKind};
 pub use laws::laws_of_numbers;
 pub use numbers::{number, push_number};
