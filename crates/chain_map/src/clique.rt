@@ -89,8 +89,8 @@ fn clique_places(graph: &Chimera) -> u32
     graph.shore * min(graph.rows, graph.cols)
 }
 
-/// Chains for so many nodes, each two of them with a join. It is refused exactly where there are more
-/// nodes than places.
+/// Chains for so many nodes, each two of them with a join. It is refused exactly where there are
+/// more nodes than places.
 pub fn clique_map(alloc: Global, graph: &Chimera, nodes: usize) -> Result<ChainMap, CheckAnswer>
     ensures chains { IfOk result (λ map. map ≡ clique_of graph.now nodes) }
     ensures valid { IfOk result (IsForClique graph.now nodes) }

@@ -36,7 +36,8 @@ fn push_qubits(text: &[u8], row: &[Token], qubits: &mut Vec<u64>) -> Result<(), 
     Ok(())
 }
 
-/// Adds the chain that the tokens of a line say, if there are any. The list of qubits is used again.
+/// Adds the chain that the tokens of a line say, if there are any. The list of qubits is used
+/// again.
 #[tactic(auto, unfolding(crate::specs::Maps::chain_at))]
 fn push_row(
     text: &[u8],

@@ -1,8 +1,8 @@
 //! The places of all couplings.
 //!
-//! The couplings of a node stand next to each other. Either the joins of its chain are noted once for
-//! all of them, or the two chains of each coupling are walked along up to the first join: what costs
-//! less.
+//! The couplings of a node stand next to each other. Either the joins of its chain are noted
+//! once for all of them, or the two chains of each coupling are walked along up to the first
+//! join: what costs less.
 ghost use Rattle.std.specs.Prelude.{◌≡◌, ◌≤◌, ◌<◌, ◌^◌, ℕ, true, length, All, Option, IfOk, IfErr, IfSome, IfNone};
 ghost use Rattle.std.specs.List.{AllZip};
 ghost use Rattle.quad_form.specs.Quads.{IsCoupler};
@@ -58,8 +58,8 @@ fn is_noting_cheap<H: Hardware>(hardware: &H, chain: &[u32], cost: u64) -> bool
     true
 }
 
-/// Whether the joins of a node are now noted: they are where this costs less than to walk for each of
-/// its couplings, with which the couplings begin. For the last node this is known.
+/// Whether the joins of a node are now noted: they are where this costs less than to walk for
+/// each of its couplings, with which the couplings begin. For the last node this is known.
 fn is_noted<H: Hardware>(
     hardware: &H,
     owners: &[u32],

@@ -1,7 +1,8 @@
 //! A Chimera graph with some joins taken away.
 use chimera_graph::{Chimera, Hardware, Span};
 
-/// The graph without the joins of one class: a and b are of the class of (a + 1) * (b + 1), modulo 5.
+/// The graph without the joins of one class: a and b are of the class of (a + 1) * (b + 1),
+/// modulo 5.
 #[derive(Drop)]
 pub(crate) struct Cut {
     pub graph: Chimera,
