@@ -1,2 +1,5 @@
 pub mod ManyParts
 pub mod Occurrences
+pub mod Rows
+pub mod CliqueChains
+pub mod Paths

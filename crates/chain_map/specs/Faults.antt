@@ -1,5 +1,4 @@
 -- What an answer says of a map.
-use Rattle.std.specs.Prelude.{ℕ}
 use Rattle.chain_map.specs.declared.faults.EmbedFault.{EmbedFault}
 use Rattle.chain_map.specs.declared.faults.CheckAnswer.{CheckAnswer}
 use Rattle.chain_map.specs.declared.faults.CheckAnswer.TheVariants.{Fault, NoMemory}

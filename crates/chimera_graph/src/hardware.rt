@@ -9,9 +9,9 @@ use crate::span::Span;
 /// A graph of qubits that are numbered from 0 on: at most 2^20 of them, and joins that go both
 /// ways, none of them from a qubit to itself.
 ///
-/// `joined` alone says which qubits are joined. `facing`, `before` and `after` say where the joins
-/// of a qubit can be, so that whoever looks for them need not try all pairs: a graph with more joins
-/// than these allow has no proof, and one with fewer may keep them as they are.
+/// `joined` alone says which qubits are joined. `facing`, `before` and `after` say where the
+/// joins of a qubit can be, so that whoever looks for them need not try all pairs: a graph with
+/// more joins than these allow has no proof, and one with fewer may keep them as they are.
 pub trait Hardware {
     // how many qubits there are
     ghost qubits: { Self → ℕ };

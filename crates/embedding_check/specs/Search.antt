@@ -23,6 +23,10 @@ parent_at s i = slice_index_or s.parents i 0
 abbrev pub qubit_at : List ℕ → ℕ → ℕ
 qubit_at qs i = slice_index_or qs i 0
 
+-- the qubits ascend, and none is listed twice
+abbrev pub IsRising : List ℕ → Type 0
+IsRising qs = (i j : ℕ) → i < j → j < length qs → qubit_at qs i < qubit_at qs j
+
 -- how many wait
 abbrev pub waiting : Found → ℕ
 waiting s = sum_by (λ b. if b then 1 else 0) s.waits

@@ -45,7 +45,13 @@ pub fn check<H: Hardware>(
     let chains = qubits_of(alloc, map)?;
     let sorted = sorted_chains(alloc, &chains)?;
     let parents = all_parents(alloc, hardware, &chains, &sorted)?;
-    let places = all_places(alloc, hardware, ising.couplings.as_slice(), &chains, &sorted)?;
+    let places = all_places(
+        alloc,
+        hardware,
+        ising.couplings.as_slice(),
+        &chains,
+        &sorted,
+    )?;
     Ok(Embedded {
         ising,
         chains,

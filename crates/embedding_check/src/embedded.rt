@@ -9,9 +9,9 @@ pub type PairList = Items<(u32, u32)>;
 /// An Ising form, a chain of qubits for each of its nodes, the parents of the qubits of each chain,
 /// and the pairs of qubits on which its couplings are placed.
 ///
-/// It is kept that there is a chain for each node, none empty; that no qubit is listed twice, and
-/// there are at most 2^20; that the parents of a chain make a tree on it; and that each coupling has
-/// a place with one end in each of its chains.
+/// It is kept that there is a chain for each node, none empty; that no qubit is listed twice,
+/// and there are at most 2^20; that the parents of a chain make a tree on it; and that each
+/// coupling has a place with one end in each of its chains.
 #[derive(Drop)]
 pub struct Embedded {
     pub(crate) ising: Ising,

@@ -1,7 +1,7 @@
 //! The least joined pair of qubits between two chains.
 ghost use Rattle.std.specs.Prelude.{◌≡◌, ◌+◌, ◌≤◌, ◌<◌, ◌⊎◌, ◌^◌, ℕ, length, All};
 ghost use Rattle.embedding_check.specs.Checked.{IsBefore};
-ghost use Rattle.embedding_check.specs.Search.{qubit_at};
+ghost use Rattle.embedding_check.specs.Search.{IsRising};
 ghost use Rattle.embedding_check.specs.Least.{
   IsLeast,
   IsLeastPair,
@@ -19,7 +19,8 @@ use chimera_graph::{Hardware, Span};
 fn lesser(x: Option<u32>, y: Option<u32>) -> Option<u32>
     ensures left { x ≡ None → result ≡ y }
     ensures right { y ≡ None → result ≡ x }
-    ensures both { (m n : ℕ) → x ≡ Some m → y ≡ Some n → ((m ≤ n) × (result ≡ Some m)) ⊎ ((n ≤ m) × (result ≡ Some n)) }
+    ensures both { (m n : ℕ) → x ≡ Some m → y ≡ Some n
+        → ((m ≤ n) × (result ≡ Some m)) ⊎ ((n ≤ m) × (result ≡ Some n)) }
 {
     match (x, y) {
         (Some(m), Some(n)) => { if m <= n { Some(m) } else { Some(n) } }
@@ -42,7 +43,7 @@ fn first_above(span: Span, a: u32) -> u32
 fn least_faced<H: Hardware>(hardware: &H, a: u32, chain: &[u32], span: Span) -> Option<u32>
     requires qubit { a < H.qubits hardware.now }
     requires within { All (λ q. q < H.qubits hardware.now) chain.now }
-    requires rising { (i j : ℕ) → i < j → j < length chain.now → qubit_at chain.now i < qubit_at chain.now j }
+    requires rising { IsRising chain.now }
     ensures { IsLeast (IsFacedAhead (H.joined hardware.now) a chain.now span) result }
 {
     for k in position_of(chain, first_above(span, a))..chain.len() {
@@ -60,7 +61,7 @@ fn least_faced<H: Hardware>(hardware: &H, a: u32, chain: &[u32], span: Span) -> 
 fn numbered<H: Hardware>(hardware: &H, a: u32, chain: &[u32], number: Option<u32>) -> Option<u32>
     requires qubit { a < H.qubits hardware.now }
     requires within { All (λ q. q < H.qubits hardware.now) chain.now }
-    requires rising { (i j : ℕ) → i < j → j < length chain.now → qubit_at chain.now i < qubit_at chain.now j }
+    requires rising { IsRising chain.now }
     ensures { IsLeast (IsNumberedAhead (H.joined hardware.now) a chain.now number) result }
 {
     let b = number?;
@@ -80,7 +81,7 @@ fn numbered<H: Hardware>(hardware: &H, a: u32, chain: &[u32], number: Option<u32
 fn least_ahead<H: Hardware>(hardware: &H, a: u32, chain: &[u32]) -> Option<u32>
     requires qubit { a < H.qubits hardware.now }
     requires within { All (λ q. q < H.qubits hardware.now) chain.now }
-    requires rising { (i j : ℕ) → i < j → j < length chain.now → qubit_at chain.now i < qubit_at chain.now j }
+    requires rising { IsRising chain.now }
     ensures { IsLeast (IsAhead (H.joined hardware.now) a chain.now) result }
 {
     let span = hardware.facing(a);
@@ -97,8 +98,8 @@ fn least_ahead<H: Hardware>(hardware: &H, a: u32, chain: &[u32]) -> Option<u32>
 fn arrow<H: Hardware>(hardware: &H, c: &[u32], d: &[u32]) -> Option<(u32, u32)>
     requires from { All (λ q. q < H.qubits hardware.now) c.now }
     requires to { All (λ q. q < H.qubits hardware.now) d.now }
-    requires rising { (i j : ℕ) → i < j → j < length c.now → qubit_at c.now i < qubit_at c.now j }
-    requires rising_to { (i j : ℕ) → i < j → j < length d.now → qubit_at d.now i < qubit_at d.now j }
+    requires rising { IsRising c.now }
+    requires rising_to { IsRising d.now }
     ensures { IsLeastPair (IsArrow (H.joined hardware.now) c.now d.now) result }
 {
     for k in 0..c.len() {
@@ -114,7 +115,8 @@ fn arrow<H: Hardware>(hardware: &H, c: &[u32], d: &[u32]) -> Option<(u32, u32)>
 fn lesser_pair(x: Option<(u32, u32)>, y: Option<(u32, u32)>) -> Option<(u32, u32)>
     ensures left { x ≡ None → result ≡ y }
     ensures right { y ≡ None → result ≡ x }
-    ensures both { (m n : ℕ × ℕ) → x ≡ Some m → y ≡ Some n → (IsBefore m n × (result ≡ Some m)) ⊎ (IsBefore n m × (result ≡ Some n)) }
+    ensures both { (m n : ℕ × ℕ) → x ≡ Some m → y ≡ Some n
+        → (IsBefore m n × (result ≡ Some m)) ⊎ (IsBefore n m × (result ≡ Some n)) }
 {
     match (x, y) {
         (Some(m), Some(n)) => {
@@ -133,8 +135,8 @@ fn lesser_pair(x: Option<(u32, u32)>, y: Option<(u32, u32)>) -> Option<(u32, u32
 pub(crate) fn place_between<H: Hardware>(hardware: &H, c: &[u32], d: &[u32]) -> Option<(u32, u32)>
     requires from { All (λ q. q < H.qubits hardware.now) c.now }
     requires to { All (λ q. q < H.qubits hardware.now) d.now }
-    requires rising { (i j : ℕ) → i < j → j < length c.now → qubit_at c.now i < qubit_at c.now j }
-    requires rising_to { (i j : ℕ) → i < j → j < length d.now → qubit_at d.now i < qubit_at d.now j }
+    requires rising { IsRising c.now }
+    requires rising_to { IsRising d.now }
     ensures { IsPlaceIn (H.joined hardware.now) c.now d.now result }
 {
     let up = arrow(hardware, c, d);

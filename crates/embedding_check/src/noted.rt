@@ -166,7 +166,14 @@ impl Noted {
     }
 
     /// Notes the joins of a qubit to those of a span.
-    fn note_span<H: Hardware>(&mut self, hardware: &H, owners: &[u32], node: u32, a: u32, span: Span)
+    fn note_span<H: Hardware>(
+        &mut self,
+        hardware: &H,
+        owners: &[u32],
+        node: u32,
+        a: u32,
+        span: Span,
+    )
         requires owners { length owners.now ≡ H.qubits hardware.now }
         requires qubit { a < H.qubits hardware.now }
         ensures { Notes (IsSpanJoin (H.joined hardware.now) owners.now node a span)

@@ -38,7 +38,11 @@ fn own_all(owners: &mut [u32], chains: &ChainList)
 }
 
 /// The owner of each qubit.
-pub(crate) fn owners_of(alloc: Global, chains: &ChainList, qubits: u32) -> Result<Vec<u32>, NoMemory>
+pub(crate) fn owners_of(
+    alloc: Global,
+    chains: &ChainList,
+    qubits: u32,
+) -> Result<Vec<u32>, NoMemory>
     requires within { (u : ℕ) → u < length chains.now → (j : ℕ) → j < length (chain_of chains.now u)
         → number_at chains.now u j < qubits }
     requires once { (q : ℕ) → occurrences q chains.now ≤ 1 }

@@ -1,8 +1,8 @@
 //! The places of all couplings.
 //!
-//! The couplings of a node stand next to each other. Either the joins of its chain are noted once for
-//! all of them, or the two chains of each coupling are walked along up to the first join: what costs
-//! less.
+//! The couplings of a node stand next to each other. Either the joins of its chain are noted
+//! once for all of them, or the two chains of each coupling are walked along up to the first
+//! join: what costs less.
 ghost use Rattle.std.specs.Prelude.{◌≡◌, ◌≤◌, ◌<◌, ◌^◌, ℕ, true, length, All, Option, IfOk, IfErr, IfSome, IfNone};
 ghost use Rattle.std.specs.List.{AllZip};
 ghost use Rattle.quad_form.specs.Quads.{IsCoupler};
@@ -58,8 +58,8 @@ fn is_noting_cheap<H: Hardware>(hardware: &H, chain: &[u32], cost: u64) -> bool
     true
 }
 
-/// Whether the joins of a node are now noted: they are where this costs less than to walk for each of
-/// its couplings, with which the couplings begin. For the last node this is known.
+/// Whether the joins of a node are now noted: they are where this costs less than to walk for
+/// each of its couplings, with which the couplings begin. For the last node this is known.
 fn is_noted<H: Hardware>(
     hardware: &H,
     owners: &[u32],
@@ -152,7 +152,9 @@ pub(crate) fn all_places<H: Hardware>(
     for k in 0..couplings.len() {
         let coupling = couplings[k];
         let (node, rest) = (coupling.first, &couplings[k..]);
-        noting = is_noted(hardware, &owners, chains, rest, node, last, noting, &mut noted);
+        noting = is_noted(
+            hardware, &owners, chains, rest, node, last, noting, &mut noted,
+        );
         last = node;
         match place_of(hardware, sorted, chains, noting, &noted, coupling) {
             Some(place) => {

@@ -1,8 +1,8 @@
 //! The search for the qubits of one chain, level by level from its first qubit.
 //!
-//! Levels are in ascending order, so the first qubit that reaches another is its parent. What a qubit
-//! faces is a span of numbers, so the waiting qubits of the chain there are next to each other in its
-//! ascending list, and each of them is met once more only where it is not joined.
+//! Levels are in ascending order, so the first qubit that reaches another is its parent. What a
+//! qubit faces is a span of numbers, so the waiting qubits of the chain there are next to each
+//! other in its ascending list, and each of them is met once more only where it is not joined.
 ghost use Rattle.std.specs.Prelude.{◌≡◌, ◌==◌, count_by, ◌+◌, ◌≤◌, ◌<◌, ℕ, true, false, [], length, All, Some, IfOk, OnOk};
 ghost use Rattle.std.specs.List.Sorted.{IsNonDecreasing, IsPermutation};
 ghost use Rattle.bits_model.specs.Walks.{first_of};
@@ -12,6 +12,7 @@ ghost use Rattle.embedding_check.specs.Search.{
   Found,
   waits_at,
   qubit_at,
+  IsRising,
   taken,
   Takes,
   Spreads,
@@ -30,7 +31,8 @@ use std::alloc::Global;
 use std::marker::Model;
 use std::mem;
 
-/// The positions that wait, the parents of those that don't, and the positions that were reached last.
+/// The positions that wait, the parents of those that don't, and the positions that were reached
+/// last.
 #[derive(Drop)]
 pub(crate) struct Search {
     waiting: Waiting,
@@ -44,7 +46,11 @@ impl Model for Search {
 
     ghost Value = { Found };
 
-    ghost view = { λ s. record { waits = s.waiting; parents = s.parents.items; next = s.next.items } };
+    ghost view = { λ s. record {
+      waits = s.waiting;
+      parents = s.parents.items;
+      next = s.next.items;
+    } };
 
     ghost invariant = { λ s. length s.parents.items ≡ length s.waiting };
 }
@@ -98,8 +104,10 @@ impl Search {
         requires same { length self.old.waits ≡ length sorted.now }
         requires qubit { qubit < H.qubits hardware.now }
         requires within { All (λ q. q < H.qubits hardware.now) sorted.now }
-        ensures takes { OnOk result (Takes (H.joined hardware.now) sorted.now qubit self.old self.new) }
-        ensures done { OnOk result (waits_at self.new at ≡ true → H.joined hardware.now qubit (qubit_at sorted.now at) ≡ false) }
+        ensures takes { OnOk result
+            (Takes (H.joined hardware.now) sorted.now qubit self.old self.new) }
+        ensures done { OnOk result (waits_at self.new at ≡ true
+            → H.joined hardware.now qubit (qubit_at sorted.now at) ≡ false) }
     {
         if self.waiting.has(at) && hardware.joined(qubit, sorted[at]) {
             return self.take(at, qubit);
@@ -107,8 +115,8 @@ impl Search {
         Ok(())
     }
 
-    /// IsReached the waiting positions of the numbers from `start` on and below `end` that are joined to a
-    /// qubit.
+    /// Reaches the waiting positions of the numbers from `start` on and below `end` that are
+    /// joined to a qubit.
     fn take_span<H: Hardware>(
         &mut self,
         hardware: &H,
@@ -121,9 +129,12 @@ impl Search {
         requires same { length self.old.waits ≡ length sorted.now }
         requires qubit { qubit < H.qubits hardware.now }
         requires within { All (λ q. q < H.qubits hardware.now) sorted.now }
-        requires rising { (i j : ℕ) → i < j → j < length sorted.now → qubit_at sorted.now i < qubit_at sorted.now j }
-        ensures takes { OnOk result (Takes (H.joined hardware.now) sorted.now qubit self.old self.new) }
-        ensures done { OnOk result ((i : ℕ) → from ≤ i → i < length sorted.now → qubit_at sorted.now i < end → waits_at self.new i ≡ true → H.joined hardware.now qubit (qubit_at sorted.now i) ≡ false) }
+        requires rising { IsRising sorted.now }
+        ensures takes { OnOk result
+            (Takes (H.joined hardware.now) sorted.now qubit self.old self.new) }
+        ensures done { OnOk result ((i : ℕ) → from ≤ i → i < length sorted.now
+            → qubit_at sorted.now i < end → waits_at self.new i ≡ true
+            → H.joined hardware.now qubit (qubit_at sorted.now i) ≡ false) }
     {
         let mut at = self.waiting.next_from(from);
         while at < sorted.len() && sorted[at] < end {
@@ -144,9 +155,12 @@ impl Search {
         requires same { length self.old.waits ≡ length sorted.now }
         requires qubit { qubit < H.qubits hardware.now }
         requires within { All (λ q. q < H.qubits hardware.now) sorted.now }
-        requires rising { (i j : ℕ) → i < j → j < length sorted.now → qubit_at sorted.now i < qubit_at sorted.now j }
-        ensures takes { OnOk result (Takes (H.joined hardware.now) sorted.now qubit self.old self.new) }
-        ensures done { OnOk result ((i : ℕ) → i < length sorted.now → number ≡ Some (qubit_at sorted.now i) → waits_at self.new i ≡ true → H.joined hardware.now qubit (qubit_at sorted.now i) ≡ false) }
+        requires rising { IsRising sorted.now }
+        ensures takes { OnOk result
+            (Takes (H.joined hardware.now) sorted.now qubit self.old self.new) }
+        ensures done { OnOk result ((i : ℕ) → i < length sorted.now
+            → number ≡ Some (qubit_at sorted.now i) → waits_at self.new i ≡ true
+            → H.joined hardware.now qubit (qubit_at sorted.now i) ≡ false) }
     {
         match number {
             Some(other) => match sorted.binary_search(&other) {
@@ -167,7 +181,7 @@ impl Search {
         requires same { length self.old.waits ≡ length sorted.now }
         requires qubit { qubit < H.qubits hardware.now }
         requires within { All (λ q. q < H.qubits hardware.now) sorted.now }
-        requires rising { (i j : ℕ) → i < j → j < length sorted.now → qubit_at sorted.now i < qubit_at sorted.now j }
+        requires rising { IsRising sorted.now }
         ensures { OnOk result (Spreads (H.joined hardware.now) sorted.now qubit self.old self.new) }
     {
         let faced = hardware.facing(qubit);
@@ -190,8 +204,9 @@ impl Search {
         requires same { length self.old.waits ≡ length sorted.now }
         requires within { All (λ q. q < H.qubits hardware.now) sorted.now }
         requires level { All (λ i. i < length sorted.now) level.now }
-        requires rising { (i j : ℕ) → i < j → j < length sorted.now → qubit_at sorted.now i < qubit_at sorted.now j }
-        ensures { OnOk result (LevelTakes (H.joined hardware.now) sorted.now level.now (length level.now) self.old self.new) }
+        requires rising { IsRising sorted.now }
+        ensures { OnOk result (LevelTakes (H.joined hardware.now) sorted.now level.now
+            (length level.now) self.old self.new) }
     {
         for at in level {
             self.spread(hardware, sorted, sorted[*at])?;
@@ -225,7 +240,7 @@ fn search_chain<H: Hardware>(
 
 /// Where the numbers from `start` on begin.
 pub(crate) fn position_of(sorted: &[u32], start: u32) -> usize
-    requires { (i j : ℕ) → i < j → j < length sorted.now → qubit_at sorted.now i < qubit_at sorted.now j }
+    requires { IsRising sorted.now }
     ensures within { result ≤ length sorted.now }
     ensures before { (i : ℕ) → i < result → qubit_at sorted.now i < start }
     ensures after { (i : ℕ) → result ≤ i → i < length sorted.now → start ≤ qubit_at sorted.now i }
@@ -237,13 +252,16 @@ pub(crate) fn position_of(sorted: &[u32], start: u32) -> usize
     }
 }
 
-/// Where the chain's qubit at `k` is in ascending order.
+/// Where the chain's qubit at `k` is in ascending order: often at `k` itself.
 fn position_in(chain: &[u32], sorted: &[u32], k: usize) -> usize
     requires below { k < length chain.now }
     requires sorted { IsSortedChain chain.now sorted.now }
     ensures within { result < length sorted.now }
     ensures same { qubit_at sorted.now result ≡ qubit_at chain.now k }
 {
+    if k < sorted.len() && sorted[k] == chain[k] {
+        return k;
+    }
     position_of(sorted, chain[k])
 }
 
@@ -273,8 +291,8 @@ pub(crate) fn sorted_chains(alloc: Global, chains: &ChainList) -> Result<ChainLi
     Ok(Items::new(sorted))
 }
 
-/// The parents of a chain's qubits from its second on, or the position of the first listed one that no
-/// walk reaches.
+/// The parents of a chain's qubits from its second on, or the position of the first listed one
+/// that no walk reaches.
 pub(crate) fn parents_of<H: Hardware>(
     alloc: Global,
     hardware: &H,

@@ -24,7 +24,7 @@ pub(crate) fn comment_byte(style: Style) -> u8
 }
 
 /// How many bytes stand before the first line feed.
-fn line_len(bytes: &[u8]) -> usize
+pub fn line_len(bytes: &[u8]) -> usize
     ensures first { result ≡ position_or_len is_feed bytes.now }
     ensures within { result ≤ length bytes.now }
 {
@@ -67,7 +67,7 @@ fn is_comment(line: &[u8], style: Style) -> bool
 }
 
 /// Appends the tokens of the line that stands from `start` to `end`.
-fn push_line(
+pub fn push_line(
     tokens: &mut Vec<Token>,
     text: &[u8],
     start: usize,

@@ -60,7 +60,7 @@ returns g c =
       omega (
         arith,
         c.lesser-b-end.ensures.between x.0 x.1.below
-        (omega (arith, x.2.below, c.requires.owners, c.qubits.ensures)),
+            (omega (arith, x.2.below, c.requires.owners, c.qubits.ensures)),
         c.loop-b-test.false,
       ),
       x.2,

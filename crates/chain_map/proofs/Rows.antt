@@ -1,0 +1,106 @@
+-- The words of a text by lines, and what their readings are made of.
+use Rattle.std.proofs.Common.{◌≡◌, ℕ, zero, suc, ◌+◌, ◌<◌, List, [], ◌∷◌, ◌++◌, length, get_or, Ok, Err, refl, sym, ap, ◌∙◌, arith}
+use Rattle.std.specs.Prelude.{Result}
+use Rattle.whole_text.specs.declared.faults.TextFault.{TextFault}
+use Rattle.whole_text.specs.declared.token.Style.TheVariants.{Plain}
+use Rattle.whole_text.specs.Tokens.{Word, tokens_of_line}
+use Rattle.whole_text.specs.Steps.{◌>>=◌, natural_at, Fails}
+use Rattle.whole_text.specs.declared.faults.TextAnswer.{TextAnswer}
+use Rattle.whole_text.specs.declared.faults.TextAnswer.TheVariants.{Bad, NoMemory}
+use Rattle.std.proofs.lemmas.List.{append_assoc, append-nil, length-append}
+use Rattle.chain_map.specs.Maps.{rows_from, qubits_at, chain_at, chains_at, after_front}
+
+-- ---- readings
+
+qubits_go : (front : List ℕ) (q : ℕ) (rest : Result (List ℕ) TextFault)
+    → after_front front (rest >>= (λ others. Ok (q ∷ others))) ≡ after_front (front ++ q ∷ []) rest
+qubits_go front q (Ok xs) = ap Ok (sym (append_assoc front (q ∷ []) xs))
+qubits_go front q (Err f) = refl
+
+-- one qubit more
+pub qubits_more : (front : List ℕ) (w : Word) (ws : List Word) (q : ℕ) → natural_at 0 w ≡ Ok q
+    → after_front front (qubits_at (w ∷ ws)) ≡ after_front (front ++ q ∷ []) (qubits_at ws)
+unfolding qubits_at
+qubits_more front w ws q read = rw read (qubits_go front q (qubits_at ws))
+
+pub qubits_fail : (front : List ℕ) (w : Word) (ws : List Word) (f : TextFault) → natural_at 0 w ≡ Err f
+    → after_front front (qubits_at (w ∷ ws)) ≡ Err f
+unfolding qubits_at
+qubits_fail front w ws f read = rw read refl
+
+pub qubits_end : (front : List ℕ) → after_front front (qubits_at []) ≡ Ok front
+unfolding qubits_at
+qubits_end front = ap Ok (append-nil front)
+
+-- a place inside a list has no default
+pub default_free : {X : Type 0} (xs : List X) (i : ℕ) (d e : X) → i < length xs
+    → get_or xs i d ≡ get_or xs i e
+default_free [] i d e below = absurd (omega (arith, below))
+default_free (x ∷ xs) zero d e below = refl
+default_free (x ∷ xs) (suc i) d e below = default_free xs i d e (omega (arith, below))
+
+-- ---- lines
+
+abbrev said_of : Result (List (List ℕ)) TextFault → List (List ℕ)
+said_of (Ok xs) = xs
+said_of (Err f) = []
+
+none_more : (rest : Result (List (List ℕ)) TextFault) → (rest >>= (λ others. Ok others)) ≡ rest
+none_more (Ok xs) = refl
+none_more (Err f) = refl
+
+joined_go : (front chain : List (List ℕ)) (rest : Result (List (List ℕ)) TextFault)
+    → after_front front (rest >>= (λ others. Ok (chain ++ others)))
+    ≡ after_front (front ++ chain) rest
+joined_go front chain (Ok xs) = ap Ok (sym (append_assoc front chain xs))
+joined_go front chain (Err f) = refl
+
+-- what one line says, and then the others
+pub row_more : (front next : List (List ℕ)) (row : List Word) (rows : List (List Word))
+    → after_front front (chain_at (length front) row) ≡ Ok next
+    → after_front front (chains_at (length front) (row ∷ rows)) ≡ after_front next (chains_at (length next) rows)
+unfolding chains_at
+row_more front next row rows read = go (chain_at (length front) row) read
+  where
+    go : (said : Result (List (List ℕ)) TextFault) → after_front front said ≡ Ok next
+        → after_front front (said >>= (λ chain. chains_at (length front + length chain) rows >>= (λ others. Ok (chain ++ others))))
+        ≡ after_front next (chains_at (length next) rows)
+    go (Ok chain) read =
+        let same : front ++ chain ≡ next = ap said_of read in
+        let len : length front + length chain ≡ length next = sym (length-append front chain) ∙ ap length same in
+        joined_go front chain (chains_at (length front + length chain) rows)
+        ∙ (λ i. after_front (same i) (chains_at (len i) rows))
+    go (Err f) read = absurd cc
+
+-- a fault of one line
+pub row_fails : (front : List (List ℕ)) (row : List Word) (rows : List (List Word)) (e : TextAnswer)
+    → Fails e (after_front front (chain_at (length front) row))
+    → Fails e (after_front front (chains_at (length front) (row ∷ rows)))
+unfolding chains_at
+row_fails front row rows e fails = go (chain_at (length front) row) e fails
+  where
+    go : (said : Result (List (List ℕ)) TextFault) (e : TextAnswer) → Fails e (after_front front said)
+        → Fails e (after_front front (said >>= (λ chain. chains_at (length front + length chain) rows >>= (λ others. Ok (chain ++ others)))))
+    go said NoMemory fails = tt
+    go (Ok chain) (Bad f) fails = absurd cc
+    go (Err g) (Bad f) fails = fails
+
+-- after the last line there is nothing
+pub rows_end : (front : List (List ℕ)) (node : ℕ) → after_front front (chains_at node []) ≡ Ok front
+unfolding chains_at
+rows_end front node = ap Ok (append-nil front)
+
+-- the rows of the next line and of those after it
+pub rows_next : (n : ℕ) (line : List ℕ) (before after : List (List ℕ)) → before ≡ line ∷ after
+    → rows_from n before ≡ tokens_of_line Plain n line ∷ rows_from (n + 1) after
+unfolding rows_from
+rows_next n line before after cut = ap (rows_from n) cut
+
+pub rows_last : (n : ℕ) (line : List ℕ) (before : List (List ℕ)) → before ≡ line ∷ []
+    → rows_from n before ≡ tokens_of_line Plain n line ∷ []
+unfolding rows_from
+rows_last n line before cut = ap (rows_from n) cut
+
+pub front_none : (rest : Result (List (List ℕ)) TextFault) → after_front [] rest ≡ rest
+front_none (Ok xs) = refl
+front_none (Err f) = refl

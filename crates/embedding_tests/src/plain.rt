@@ -1,0 +1,184 @@
+//! What a map is on a graph, by a plain search over walks and pairs.
+use chain_map::{ChainMap, EmbedFault};
+use chimera_graph::Hardware;
+
+/// Whether two numbers are joined qubits.
+fn are_joined<H: Hardware>(hardware: &H, a: u64, b: u64) -> bool {
+    let qubits = hardware.qubits() as u64;
+    a < qubits && b < qubits && hardware.joined(a as u32, b as u32)
+}
+
+fn is_marked(marks: u64, at: usize) -> bool {
+    at < 64 && (marks >> at) % 2 == 1
+}
+
+/// Whether a qubit is joined to one of the marked places of a chain.
+fn meets<H: Hardware>(hardware: &H, chain: &[u64], marks: u64, qubit: u64) -> bool {
+    for (at, other) in chain.iter().enumerate() {
+        if is_marked(marks, at) && are_joined(hardware, *other, qubit) {
+            return true;
+        }
+    }
+    false
+}
+
+/// The places to which walks lead that are one join longer.
+fn next_marks<H: Hardware>(hardware: &H, chain: &[u64], marks: u64) -> u64 {
+    let mut next = 0;
+    for (at, qubit) in chain.iter().enumerate() {
+        if at < 64 && meets(hardware, chain, marks, *qubit) {
+            next |= 1 << at;
+        }
+    }
+    next
+}
+
+/// The length of the shortest walk inside a chain from its first place to another.
+pub(crate) fn distance<H: Hardware>(hardware: &H, chain: &[u64], at: usize) -> Option<u64> {
+    let mut marks = 1;
+    for joins in 0..9 {
+        if is_marked(marks, at) {
+            return Some(joins);
+        }
+        marks = next_marks(hardware, chain, marks);
+    }
+    None
+}
+
+/// The least of the qubits that are joined to the one at a place and one nearer to the first.
+pub(crate) fn parent<H: Hardware>(
+    hardware: &H,
+    chain: &[u64],
+    at: usize,
+    qubit: u64,
+) -> Option<u64> {
+    let far = distance(hardware, chain, at)?;
+    let mut least = None;
+    for (k, other) in chain.iter().enumerate() {
+        let near = distance(hardware, chain, k)?;
+        let is_less = least.is_none_or(|found| *other < found);
+        if near < far && far - near == 1 && are_joined(hardware, *other, qubit) && is_less {
+            least = Some(*other);
+        }
+    }
+    least
+}
+
+fn lesser(found: Option<(u64, u64)>, pair: (u64, u64)) -> (u64, u64) {
+    match found {
+        Some(least) => if pair < least { pair } else { least },
+        None => pair,
+    }
+}
+
+/// The least of what was found and of the joined pairs of a qubit and a chain.
+fn place_from<H: Hardware>(
+    hardware: &H,
+    qubit: u64,
+    chain: &[u64],
+    found: Option<(u64, u64)>,
+) -> Option<(u64, u64)> {
+    let mut least = found;
+    for other in chain {
+        if are_joined(hardware, qubit, *other) {
+            let pair = if qubit < *other {
+                (qubit, *other)
+            } else {
+                (*other, qubit)
+            };
+            least = Some(lesser(least, pair));
+        }
+    }
+    least
+}
+
+/// The least joined pair between two chains.
+pub(crate) fn place<H: Hardware>(
+    hardware: &H,
+    first: &[u64],
+    second: &[u64],
+) -> Option<(u64, u64)> {
+    let mut least = None;
+    for qubit in first {
+        least = place_from(hardware, *qubit, second, least);
+    }
+    least
+}
+
+fn first_empty(map: &ChainMap) -> Option<EmbedFault> {
+    for node in 0..map.len() {
+        if map.chain(node).is_empty() {
+            return Some(EmbedFault::EmptyChain(node));
+        }
+    }
+    None
+}
+
+fn first_unknown(map: &ChainMap, qubits: u32) -> Option<EmbedFault> {
+    for node in 0..map.len() {
+        for number in map.chain(node) {
+            if *number >= qubits as u64 {
+                return Some(EmbedFault::NoSuchQubit(node, *number));
+            }
+        }
+    }
+    None
+}
+
+fn first_repeated(map: &ChainMap) -> Option<EmbedFault> {
+    let mut seen: u64 = 0;
+    for node in 0..map.len() {
+        for number in map.chain(node) {
+            if *number < 64 {
+                if (seen >> *number) % 2 == 1 {
+                    return Some(EmbedFault::Repeated(*number));
+                }
+                seen |= 1 << *number;
+            }
+        }
+    }
+    None
+}
+
+fn first_unreached<H: Hardware>(hardware: &H, map: &ChainMap) -> Option<EmbedFault> {
+    for node in 0..map.len() {
+        let chain = map.chain(node);
+        for (at, number) in chain.iter().enumerate() {
+            if distance(hardware, chain, at).is_none() {
+                return Some(EmbedFault::Disconnected(node, *number));
+            }
+        }
+    }
+    None
+}
+
+fn first_uncoupled<H: Hardware>(
+    hardware: &H,
+    map: &ChainMap,
+    pairs: &[(u32, u32)],
+) -> Option<EmbedFault> {
+    for (first, second) in pairs {
+        let (u, v) = (*first as usize, *second as usize);
+        if u < map.len() && v < map.len() && place(hardware, map.chain(u), map.chain(v)).is_none() {
+            return Some(EmbedFault::NoCoupler(u, v));
+        }
+    }
+    None
+}
+
+/// The first fault of a map, for so many nodes with these couplings.
+pub(crate) fn first_fault<H: Hardware>(
+    hardware: &H,
+    nodes: usize,
+    pairs: &[(u32, u32)],
+    map: &ChainMap,
+) -> Option<EmbedFault> {
+    if map.len() != nodes {
+        return Some(EmbedFault::ChainCount(map.len()));
+    }
+    first_empty(map)
+        .or(first_unknown(map, hardware.qubits()))
+        .or(first_repeated(map))
+        .or(first_unreached(hardware, map))
+        .or(first_uncoupled(hardware, map, pairs))
+}
