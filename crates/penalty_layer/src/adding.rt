@@ -7,18 +7,28 @@ ghost use Rattle.term_table.specs.Tables.{with_more};
 ghost use Rattle.penalty_layer.specs.Weights.{clause_weights};
 
 use bits_model::NoMemory;
-use problem_form::{Clause, Literal, Product};
+use problem_form::{ClauseList, ClauseRef, Literal, Literals, ProductList, ProductRef};
 use std::alloc::Global;
 use term_table::GatheredTerms;
 
 /// Adds the products with their coefficients.
-pub(crate) fn add_products(terms: &mut GatheredTerms, products: &[Product]) -> Result<(), NoMemory>
+pub(crate) fn add_products(
+    alloc: Global,
+    terms: &mut GatheredTerms,
+    products: &ProductList,
+) -> Result<(), NoMemory>
     requires sets { All (λ t. IsTermSet terms.old.width t.literals) products.now }
     requires small { terms_total terms.old.terms + products_total products.now ≤ 2 ^ 124 }
     ensures { OnOk result (terms.new ≡ with_more terms.old (map product_term products.now)) }
 {
-    for product in products {
-        terms.add(product.literals.as_slice(), product.coefficient)?;
+    let mut set = Vec::new(alloc);
+    for product in products.iter() {
+        let ProductRef {
+            literals,
+            coefficient,
+        } = product;
+        literals.copy_into(&mut set)?;
+        terms.add(&set, coefficient)?;
     }
     Ok(())
 }
@@ -33,22 +43,22 @@ fn opposite(literal: Literal) -> Literal
 }
 
 /// Makes a list that of the complements, in its own memory.
-fn set_opposites(list: &mut Vec<Literal>, literals: &[Literal]) -> Result<(), NoMemory>
-    ensures { OnOk result (list.new.items ≡ map opposite literals.now) }
+fn set_opposites(list: &mut Vec<Literal>, literals: Literals<'_>) -> Result<(), NoMemory>
+    ensures { OnOk result (list.new.items ≡ map opposite literals.entry) }
 {
     list.clear();
     for literal in literals {
-        list.push(opposite(*literal))?;
+        list.push(opposite(literal))?;
     }
     Ok(())
 }
 
 /// The weight of a soft clause, and the penalty for a hard one.
-fn weight_or(clause: &Clause, penalty: u128) -> i128
+fn weight_or(weight: Option<u64>, penalty: u128) -> i128
     requires { penalty ≤ 2 ^ 100 }
-    ensures { result ≡ pos (unwrap_or clause.now.weight penalty) }
+    ensures { result ≡ pos (unwrap_or weight penalty) }
 {
-    match clause.weight {
+    match weight {
         Some(weight) => i128::from(weight),
         None => penalty as i128,
     }
@@ -59,7 +69,7 @@ fn weight_or(clause: &Clause, penalty: u128) -> i128
 pub(crate) fn add_clauses(
     alloc: Global,
     terms: &mut GatheredTerms,
-    clauses: &[Clause],
+    clauses: &ClauseList,
     penalty: u128,
 ) -> Result<(), NoMemory>
     requires sets { All (λ c. IsTermSet terms.old.width (map opposite c.literals)) clauses.now }
@@ -69,9 +79,10 @@ pub(crate) fn add_clauses(
         (terms.new ≡ with_more terms.old (map (clause_term penalty) clauses.now)) }
 {
     let mut opposites = Vec::new(alloc);
-    for clause in clauses {
-        set_opposites(&mut opposites, clause.literals.as_slice())?;
-        terms.add(&opposites, weight_or(clause, penalty))?;
+    for clause in clauses.iter() {
+        let ClauseRef { literals, weight } = clause;
+        set_opposites(&mut opposites, literals)?;
+        terms.add(&opposites, weight_or(weight, penalty))?;
     }
     Ok(())
 }

@@ -57,9 +57,9 @@ impl Guard for Penalty {
         let width = source.variables as usize;
         let mut terms = GatheredTerms::new(alloc, width);
         terms.add(&[], source.constant)?;
-        add_products(&mut terms, source.objective.as_slice())?;
+        add_products(alloc, &mut terms, &source.objective)?;
         let penalty = source.penalty();
-        add_clauses(alloc, &mut terms, source.clauses.as_slice(), penalty)?;
+        add_clauses(alloc, &mut terms, &source.clauses, penalty)?;
         Ok(Guarded {
             target: terms.into_table(),
             link: BitsLink {

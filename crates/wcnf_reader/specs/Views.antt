@@ -28,6 +28,10 @@ abbrev pub literals_read : ℕ → ℕ → List Word → Result (List Literal ×
 literals_read variables end ws =
     literals_at variables end ws >>= λ x. Ok (map literal_of x.0, x.1)
 
+-- the clause of these literals, with this weight
+abbrev pub weighed : List Literal → Option ℕ → Clause
+weighed ls weight = record { literals = ls; weight = weight }
+
 -- a clause as the problem has it, and what is left
 abbrev pub clause_read : Option ℕ → ℕ → ℕ → List Word → Result (Clause × List Word) TextFault
 clause_read top variables end ws =

@@ -26,10 +26,11 @@ fn clauses<'a>(
 {
     let mut problem = Problem::new(alloc);
     problem.widen(start.variables);
+    let mut literals = Vec::new(alloc);
     let mut rest = tokens;
     for _ in 0..start.clauses {
-        let (clause, after) = clause(alloc, text, rest, start, end)?;
-        problem.add_clause(clause)?;
+        let (weight, after) = clause(&mut literals, text, rest, start, end)?;
+        problem.add_literals(&mut literals, weight)?;
         rest = after;
     }
     Ok((problem, rest))

@@ -1,4 +1,4 @@
-use Rattle.std.proofs.Common.{◌≡◌, ◌+◌, ◌-◌, ◌*◌, ◌^◌, ◌≤◌, length, All}
+use Rattle.std.proofs.Common.{◌≡◌, ◌+◌, ◌-◌, ◌*◌, ◌^◌, ◌≤◌, length, All, []}
 use Rattle.whole_text.specs.Tokens.{words_at, IsWithin}
 use Rattle.problem_form.specs.Problems.{problem_total}
 use Rattle.problem_form.specs.NormalForm.{blank, with_variables}
@@ -16,5 +16,6 @@ invariant-loop l = record {
       ≡ read_into l.start.top (with_variables blank l.start.variables)
       (clauses_at l.start.clauses l.start.variables l.fn.end (words_at l.text l.tokens));
   variables : l.problem.variables ≡ l.start.variables;
+  empty : l.literals.items ≡ [];
   small : problem_total l.problem + length l.rest * 2 ^ 64 ≤ length l.tokens * 2 ^ 64;
 }

@@ -1,4 +1,4 @@
-use Rattle.std.proofs.Common.{rules, arith, ◌≡◌, ap, ◌∙◌}
+use Rattle.std.proofs.Common.{rules, arith, ◌≡◌, ap, ◌∙◌, refl}
 use Rattle.std.specs.Int.{w128}
 use Rattle.std.proofs.lemmas.Int.{to_z-of_z}
 use Rattle.bits_model.specs.declared.layer.BitsLink.{BitsLink}
@@ -15,10 +15,10 @@ add-requires-clause-set c = empty_set c.new-terms.result.width
 
 pub add_products-requires-clause-sets : goal.add_products-requires-clause-sets
 add_products-requires-clause-sets c =
-    let objective = c.as_slice.ensures ∙ ap (λ (q : ProblemContent). q.objective) c.source.view_is in
+    let objective = ap (λ (q : ProblemContent). q.objective) c.source.view_is in
     let width = ap (λ (t : TableContent). t.width) c.in_ok-add.ensures.added in
     let wide = ap (λ (t : TableContent). t.width) c.new-terms.ensures in
-    product_sets c.args.source.now c.as_slice.result.now c.add.new.self.width c.requires objective
+    product_sets c.args.source.now c.source.inside.objective c.add.new.self.width c.requires objective
     (width ∙ wide ∙ ap (λ (q : ProblemContent). q.variables) c.source.view_is)
 
 pub add_clauses-requires-clause-sets : goal.add_clauses-requires-clause-sets
@@ -27,11 +27,11 @@ add_clauses-requires-clause-sets c =
     let same = c.source.view_is in
     let first = constant_added p _ c.new-terms.result c.add.new.self _ same c.new-terms.ensures
     c.in_ok-add.ensures.added (to_z-of_z w128 _ (search rules)) in
-    let second = products_added p _ c.add.new.self c.add_products.new.terms c.as_slice.result.now same
-    c.in_ok-add_products.ensures c.as_slice.ensures in
+    let second = products_added p _ c.add.new.self c.add_products.new.terms c.source.inside.objective same
+    c.in_ok-add_products.ensures refl in
     let width = ap (λ (t : TableContent). t.width) second ∙ ap (λ (t : TableContent). t.width) first in
-    clause_sets p c.as_slice-2.result.now c.add_products.new.terms.width c.requires
-    (c.as_slice-2.ensures ∙ ap (λ (q : ProblemContent). q.clauses) same) width
+    clause_sets p c.source.inside.clauses c.add_products.new.terms.width c.requires
+    (ap (λ (q : ProblemContent). q.clauses) same) width
 
 pub add_clauses-requires-clause-small : goal.add_clauses-requires-clause-small
 add_clauses-requires-clause-small c =
@@ -39,12 +39,12 @@ add_clauses-requires-clause-small c =
     let same = c.source.view_is in
     let first = constant_added p _ c.new-terms.result c.add.new.self _ same c.new-terms.ensures
     c.in_ok-add.ensures.added (to_z-of_z w128 _ (search rules)) in
-    let second = products_added p _ c.add.new.self c.add_products.new.terms c.as_slice.result.now same
-    c.in_ok-add_products.ensures c.as_slice.ensures in
+    let second = products_added p _ c.add.new.self c.add_products.new.terms c.source.inside.objective same
+    c.in_ok-add_products.ensures refl in
     let fit = clauses_fit p c.add.new.self c.add_products.new.terms c.requires.within first second in
     let number = c.penalty-penalty.ensures.value in
-    let clauses = c.as_slice-2.ensures ∙ ap (λ (q : ProblemContent). q.clauses) same in
-    let weights : clause_weights c.penalty-penalty.result c.as_slice-2.result.now ≡ clause_weights (penalty p) p.clauses =
+    let clauses = ap (λ (q : ProblemContent). q.clauses) same in
+    let weights : clause_weights c.penalty-penalty.result c.source.inside.clauses ≡ clause_weights (penalty p) p.clauses =
     λ i. clause_weights (number i) (clauses i) in
     omega (arith, fit, weights)
 
@@ -54,11 +54,11 @@ returns-clause-relaxes c =
     let same = c.source.view_is in
     let first = constant_added p _ c.new-terms.result c.add.new.self _ same c.new-terms.ensures
     c.in_ok-add.ensures.added (to_z-of_z w128 _ (search rules)) in
-    let second = products_added p _ c.add.new.self c.add_products.new.terms c.as_slice.result.now same
-    c.in_ok-add_products.ensures c.as_slice.ensures in
+    let second = products_added p _ c.add.new.self c.add_products.new.terms c.source.inside.objective same
+    c.in_ok-add_products.ensures refl in
     let third = clauses_added p _ c.add_products.new.terms c.add_clauses.new.terms _
-    c.as_slice-2.result.now same c.in_ok-add_clauses.ensures
-    c.penalty-penalty.ensures.value c.as_slice-2.ensures in
+    c.source.inside.clauses same c.in_ok-add_clauses.ensures
+    c.penalty-penalty.ensures.value refl in
     let made = made_image p c.add.new.self c.add_products.new.terms c.add_clauses.new.terms c.into_table.result first second third c.into_table.ensures in
     let width = ap (λ (q : ProblemContent). q.variables) same in
     let link : BitsLink = record { source_width = c.source.inside.variables; target_width = c.source.inside.variables } in
@@ -77,11 +77,11 @@ returns-clause-total c =
     let same = c.source.view_is in
     let first = constant_added p _ c.new-terms.result c.add.new.self _ same c.new-terms.ensures
     c.in_ok-add.ensures.added (to_z-of_z w128 _ (search rules)) in
-    let second = products_added p _ c.add.new.self c.add_products.new.terms c.as_slice.result.now same
-    c.in_ok-add_products.ensures c.as_slice.ensures in
+    let second = products_added p _ c.add.new.self c.add_products.new.terms c.source.inside.objective same
+    c.in_ok-add_products.ensures refl in
     let third = clauses_added p _ c.add_products.new.terms c.add_clauses.new.terms _
-    c.as_slice-2.result.now same c.in_ok-add_clauses.ensures
-    c.penalty-penalty.ensures.value c.as_slice-2.ensures in
+    c.source.inside.clauses same c.in_ok-add_clauses.ensures
+    c.penalty-penalty.ensures.value refl in
     let made = made_image p c.add.new.self c.add_products.new.terms c.add_clauses.new.terms c.into_table.result first second third c.into_table.ensures in
     made_total p c.into_table.result c.requires.within made
 
@@ -91,10 +91,10 @@ returns-clause-size c =
     let same = c.source.view_is in
     let first = constant_added p _ c.new-terms.result c.add.new.self _ same c.new-terms.ensures
     c.in_ok-add.ensures.added (to_z-of_z w128 _ (search rules)) in
-    let second = products_added p _ c.add.new.self c.add_products.new.terms c.as_slice.result.now same
-    c.in_ok-add_products.ensures c.as_slice.ensures in
+    let second = products_added p _ c.add.new.self c.add_products.new.terms c.source.inside.objective same
+    c.in_ok-add_products.ensures refl in
     let third = clauses_added p _ c.add_products.new.terms c.add_clauses.new.terms _
-    c.as_slice-2.result.now same c.in_ok-add_clauses.ensures
-    c.penalty-penalty.ensures.value c.as_slice-2.ensures in
+    c.source.inside.clauses same c.in_ok-add_clauses.ensures
+    c.penalty-penalty.ensures.value refl in
     let made = made_image p c.add.new.self c.add_products.new.terms c.add_clauses.new.terms c.into_table.result first second third c.into_table.ensures in
     made_size p c.into_table.result c.requires made
