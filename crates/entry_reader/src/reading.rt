@@ -28,11 +28,12 @@ fn entries(
 {
     let mut problem = Problem::new(alloc);
     problem.widen(counts.nodes);
+    let mut literals = Vec::new(alloc);
     let mut to_come = counts;
     let mut rest = tokens;
     while !rest.is_empty() {
         let (entry, fewer, after) = entry(text, rest, to_come, end)?;
-        add_entry(alloc, &mut problem, layout, entry)?;
+        add_entry(&mut literals, &mut problem, layout, entry)?;
         to_come = fewer;
         rest = after;
     }

@@ -81,12 +81,12 @@ fn bound_of(alloc: Global, exact: bool) -> Result<Constraint, NoMemory>
         (λ k. All (λ t. All (λ l. l.variable < 2) t.literals) k.products) }
     ensures small { IfOk result (λ k. constraint_total k ≡ 15) }
 {
-    let mut products = Vec::new(alloc);
-    products.push(product(alloc, &[A], 1)?)?;
-    products.push(product(alloc, &[B, B], 2)?)?;
-    products.push(product(alloc, &[], 5)?)?;
+    let mut products = ProductList::empty(alloc);
+    products.push(&[A], 1)?;
+    products.push(&[B, B], 2)?;
+    products.push(&[], 5)?;
     Ok(Constraint {
-        products: ProductList::new(products),
+        products,
         bound: 7,
         exact,
     })
@@ -195,10 +195,10 @@ fn sum_of_one(alloc: Global, literals: &[Literal], variables: u64) -> Result<Con
         (λ k. All (λ t. All (λ l. l.variable < variables) t.literals) k.products) }
     ensures small { IfOk result (λ k. constraint_total k ≡ 3) }
 {
-    let mut products = Vec::new(alloc);
-    products.push(product(alloc, literals, 2)?)?;
+    let mut products = ProductList::empty(alloc);
+    products.push(literals, 2)?;
     Ok(Constraint {
-        products: ProductList::new(products),
+        products,
         bound: 1,
         exact: false,
     })

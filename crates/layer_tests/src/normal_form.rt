@@ -2,16 +2,21 @@
 use crate::given::{A, B, NOT_A, NOT_B, costs_of_two, problem_of};
 use crate::limits::bounded;
 use bits_model::Cost;
-use problem_form::{Literal, Problem};
+use problem_form::{ClauseRef, Literal, Problem};
 use std::test::Fail;
+
+fn is_clause(clause: ClauseRef<'_>, literals: &[Literal], weight: Option<u64>) -> bool {
+    clause.weight == weight
+        && clause.literals.len() == literals.len()
+        && clause.literals.zip(literals).all(|(found, wanted)| found == *wanted)
+}
 
 /// Whether the problem has no clause but this one.
 fn has_clause(problem: &Problem, kept: Option<&[Literal]>, weight: Option<u64>) -> bool {
-    match (problem.clauses.as_slice(), kept) {
-        ([], None) => true,
-        ([only], Some(kept)) => only.literals.as_slice() == kept && only.weight == weight,
-        _ => false,
-    }
+    let Some(kept) = kept else {
+        return problem.clauses.len() == 0;
+    };
+    problem.clauses.len() == 1 && is_clause(problem.clauses.at(0), kept, weight)
 }
 
 #[test]

@@ -14,19 +14,29 @@ ghost use Rattle.penalty_layer.specs.Weights.{clause_weights};
 
 use crate::gather::Gather;
 use bits_model::NoMemory;
-use problem_form::{Clause, Literal, Problem, Product};
+use problem_form::{ClauseList, ClauseRef, Literal, Literals, Problem, ProductList, ProductRef};
 use std::alloc::Global;
 
 /// Adds the products with their coefficients.
-fn add_products<T: Gather>(terms: &mut T, products: &[Product]) -> Result<(), NoMemory>
+fn add_products<T: Gather>(
+    alloc: Global,
+    terms: &mut T,
+    products: &ProductList,
+) -> Result<(), NoMemory>
     requires sets { All (λ t. IsTermSet (T.additions terms.old).width t.literals) products.now }
     requires small { terms_total (T.additions terms.old).terms + products_total products.now
         ≤ 2 ^ 97 }
     ensures { OnOk result (T.additions terms.new
         ≡ with_more (T.additions terms.old) (map product_term products.now)) }
 {
-    for product in products {
-        terms.gather(product.literals.as_slice(), product.coefficient)?;
+    let mut set = Vec::new(alloc);
+    for product in products.iter() {
+        let ProductRef {
+            literals,
+            coefficient,
+        } = product;
+        literals.copy_into(&mut set)?;
+        terms.gather(&set, coefficient)?;
     }
     Ok(())
 }
@@ -41,22 +51,22 @@ fn opposite(literal: Literal) -> Literal
 }
 
 /// Makes a list that of the complements, in its own memory.
-fn set_opposites(list: &mut Vec<Literal>, literals: &[Literal]) -> Result<(), NoMemory>
-    ensures { OnOk result (list.new.items ≡ map opposite literals.now) }
+fn set_opposites(list: &mut Vec<Literal>, literals: Literals<'_>) -> Result<(), NoMemory>
+    ensures { OnOk result (list.new.items ≡ map opposite literals.entry) }
 {
     list.clear();
     for literal in literals {
-        list.push(opposite(*literal))?;
+        list.push(opposite(literal))?;
     }
     Ok(())
 }
 
 /// The weight of a soft clause, and the penalty for a hard one.
-fn weight_or(clause: &Clause, penalty: u128) -> i128
+fn weight_or(weight: Option<u64>, penalty: u128) -> i128
     requires { penalty ≤ 2 ^ 100 }
-    ensures { result ≡ pos (unwrap_or clause.now.weight penalty) }
+    ensures { result ≡ pos (unwrap_or weight penalty) }
 {
-    match clause.weight {
+    match weight {
         Some(weight) => i128::from(weight),
         None => penalty as i128,
     }
@@ -67,7 +77,7 @@ fn weight_or(clause: &Clause, penalty: u128) -> i128
 fn add_clauses<T: Gather>(
     alloc: Global,
     terms: &mut T,
-    clauses: &[Clause],
+    clauses: &ClauseList,
     penalty: u128,
 ) -> Result<(), NoMemory>
     requires sets { All (λ c. IsTermSet (T.additions terms.old).width (map opposite c.literals))
@@ -79,9 +89,10 @@ fn add_clauses<T: Gather>(
         ≡ with_more (T.additions terms.old) (map (clause_term penalty) clauses.now)) }
 {
     let mut opposites = Vec::new(alloc);
-    for clause in clauses {
-        set_opposites(&mut opposites, clause.literals.as_slice())?;
-        terms.gather(&opposites, weight_or(clause, penalty))?;
+    for clause in clauses.iter() {
+        let ClauseRef { literals, weight } = clause;
+        set_opposites(&mut opposites, literals)?;
+        terms.gather(&opposites, weight_or(weight, penalty))?;
     }
     Ok(())
 }
@@ -99,7 +110,7 @@ pub fn add_contributions<T: Gather>(
         ≡ record { width = problem.now.variables; terms = contributions problem.now }) }
 {
     terms.gather(&[], problem.constant)?;
-    add_products(terms, problem.objective.as_slice())?;
+    add_products(alloc, terms, &problem.objective)?;
     let penalty = problem.penalty();
-    add_clauses(alloc, terms, problem.clauses.as_slice(), penalty)
+    add_clauses(alloc, terms, &problem.clauses, penalty)
 }

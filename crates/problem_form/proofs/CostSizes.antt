@@ -1,9 +1,9 @@
 -- Sums over products and clauses lie within the sizes of their numbers.
-use Rattle.std.proofs.Common.{◌≡◌, ℕ, ◌+◌, ◌<◌, ◌≤◌, Bool, true, false, arith, ap, sym, ◌∙◌, List, length, get_or, take, ℤ, pos, ◌+ℤ◌, unsigned_abs}
+use Rattle.std.proofs.Common.{◌≡◌, ℕ, ◌+◌, ◌≤◌, Bool, true, false, arith, ap, List, ℤ, pos, ◌+ℤ◌, unsigned_abs}
 use Rattle.std.specs.List.{sum_by, list_any}
-use Rattle.std.proofs.lemmas.List.Sums.{sum_by-le-sum_by, sum_by-take-le}
+use Rattle.std.proofs.lemmas.List.Sums.{sum_by-le-sum_by}
 use Rattle.integers.specs.Sums.{total_by, if_so}
-use Rattle.integers.proofs.Totals.{size-total_by, total_by_more}
+use Rattle.integers.proofs.Totals.{size-total_by}
 use Rattle.bits_model.specs.declared.costs.Cost.TheVariants.{Whole}
 use Rattle.problem_form.specs.declared.terms.Product.{Product}
 use Rattle.problem_form.specs.declared.terms.Clause.{Clause}
@@ -19,23 +19,6 @@ total_within : {X : Type 0} (f : X → ℤ) (size : X → ℕ) (xs : List X)
     → ((x : X) → unsigned_abs (f x) ≤ size x) → unsigned_abs (total_by f xs) ≤ sum_by size xs
 total_within f size xs each =
     omega (arith, size-total_by f xs, sum_by-le-sum_by (λ x. unsigned_abs (f x)) size xs each)
-
--- and so is the sum up to a place, and one more
-pub more_within : {X : Type 0} (f : X → ℤ) (size : X → ℕ) (xs : List X) (i : ℕ) (x : X) (sum : ℤ)
-    → ((y : X) → unsigned_abs (f y) ≤ size y) → i < length xs → x ≡ get_or xs i x
-    → sum ≡ total_by f (take i xs)
-    → (sum +ℤ f x ≡ total_by f (take (i + 1) xs)) × (unsigned_abs (sum +ℤ f x) ≤ sum_by size xs)
-more_within f size xs i x sum each in' item so_far =
-    let more : sum +ℤ f x ≡ total_by f (take (i + 1) xs) =
-    (λ j. so_far j +ℤ f (item j)) ∙ sym (total_by_more f xs i x in') in (
-      more,
-      omega (
-        arith,
-        ap unsigned_abs more,
-        total_within f size (take (i + 1) xs) each,
-        sum_by-take-le size xs (i + 1),
-      ),
-    )
 
 pub product-size : (x : List Bool) (t : Product)
     → unsigned_abs (product_value x t) ≤ unsigned_abs t.coefficient

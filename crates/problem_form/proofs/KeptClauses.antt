@@ -1,13 +1,13 @@
 -- Clauses in normal form: what is kept of one, and what it adds to the sizes of a problem.
-use Rattle.std.proofs.Common.{◌≡◌, ◌≢◌, ℕ, ◌+◌, ◌<◌, ◌≤◌, ◌^◌, Bool, true, false, cond, ◌||◌, eqb, arith, refl, sym, ap, subst, ◌∙◌, List, [], ◌∷◌, ◌++◌, Option, Some, None, Result, Ok, Err, OnOk, OnErr, pos, ◌+ℤ◌, unsigned_abs, unwrap_or}
+use Rattle.std.proofs.Common.{◌≡◌, ◌≢◌, ℕ, ◌+◌, ◌<◌, ◌≤◌, ◌^◌, Bool, true, false, cond, ◌||◌, eqb, arith, refl, sym, ap, subst, ◌∙◌, List, [], ◌∷◌, length, Option, Some, None, Result, Ok, Err, OnOk, OnErr, pos, unsigned_abs, unwrap_or}
 use Rattle.std.specs.Prelude.{All}
 use Rattle.std.specs.Ordering.{match_ordering}
 use Rattle.std.proofs.Common.{Ordering, Less, Equal, Greater}
 use Rattle.std.specs.List.{sum_by}
-use Rattle.std.proofs.lemmas.Int.{ints}
 use Rattle.std.proofs.lemmas.Bool.{or_parts, or_left, or_right, or_from, eqb-false}
 use Rattle.std.proofs.lemmas.List.Elements.{All-append, All-cons, All-nil}
 use Rattle.std.proofs.lemmas.List.Sums.{sum_by-append}
+use Rattle.std.proofs.Math.Dec.{eqb-suc-zero}
 use Rattle.integers.proofs.Totals.{size-plus}
 use Rattle.problem_form.specs.declared.literal.Literal.{Literal}
 use Rattle.problem_form.specs.declared.terms.Clause.{Clause}
@@ -27,6 +27,10 @@ with_literal-filled l (k ∷ ks) = go (literal_cmp l k)
     go Less = refl
     go Equal = refl
     go Greater = refl
+
+pub is_empty-length : (ls : List Literal) → eqb (length ls) 0 ≡ is_empty ls
+is_empty-length [] = refl
+is_empty-length (l ∷ ls) = eqb-suc-zero (length ls)
 
 pub is_empty-literal_set : (ls : List Literal) → is_empty (literal_set ls) ≡ is_empty ls
 is_empty-literal_set [] = refl
@@ -151,24 +155,6 @@ pub with_clause-sound : (p : ProblemContent) (c : Clause) → IsSound p
     → problem_total p + soft_weight c < 2 ^ 100 → IsSound (with_clause p c)
 with_clause-sound p c sound within small =
     (with_clause-normal p c sound.0 within, omega (arith, with_clause-total p c))
-
-kept_constant : (w : Option ℕ) (ls s : List Literal) (k : Clause) (b : Bool) → is_dropped w ls ≡ b
-    → k ∷ [] ≡ cond b [] (record { literals = s; weight = w } ∷ []) → weight_constant w ls ≡ pos 0
-kept_constant None ls s k b e same = refl
-kept_constant (Some w) ls s k true e same = absurd cc
-kept_constant (Some w) ls s k false e same =
-    let plain = or_parts (has_clash ls) ((eqb w 0) || is_empty ls) e in
-    let filled = or_parts (eqb w 0) (is_empty ls) plain.1 in
-    rw filled.1 refl
-
-pub with_clause-push : (p : ProblemContent) (c k : Clause) → k ∷ [] ≡ kept_clause c
-    → record p { clauses = p.clauses ++ k ∷ [] } ≡ with_clause p c
-with_clause-push p c k same =
-    let none =
-    kept_constant c.weight c.literals (literal_set c.literals) k
-    (is_dropped c.weight c.literals) refl same in
-    let constant : p.constant ≡ p.constant +ℤ clause_constant c = omega (arith, ints, none) in
-    λ i. record p { constant = constant i; clauses = p.clauses ++ same i }
 
 -- a value that a call sets where it succeeds, and leaves where it fails
 pub by_result : {T E A : Type 0} (r : Result T E) (P : A → Type 0) (new set left : A)

@@ -6,3 +6,6 @@ pub mod BinaryDigits
 pub mod CostSizes
 pub mod NormalForms
 pub mod AddedParts
+pub mod FlatParts
+pub mod WeighedParts
+pub mod LeftSums

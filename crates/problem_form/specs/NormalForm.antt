@@ -33,13 +33,6 @@ kept_product t =
 abbrev pub product_constant : Product → ℤ
 product_constant t = if is_empty t.literals then t.coefficient else pos 0
 
--- a product with its literals in order, and with the coefficient 0 where it is dropped
-abbrev pub ordered_product : Product → Product
-ordered_product t = record {
-  literals = literal_set t.literals;
-  coefficient = if has_clash t.literals || is_empty t.literals then pos 0 else t.coefficient;
-}
-
 -- ---- clauses
 
 -- a soft clause that is dropped, or goes into the constant

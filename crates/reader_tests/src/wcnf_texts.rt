@@ -3,7 +3,7 @@ ghost use Rattle.std.specs.Prelude.{◌<◌};
 
 use crate::plain_reader::{PlainClause, PlainReading, plain_reading};
 use command_words::Format;
-use problem_form::{Clause, Problem};
+use problem_form::{ClauseList, ClauseRef, Problem};
 use source_texts::read_source;
 use std::alloc::Global;
 use std::test::Fail;
@@ -13,15 +13,16 @@ use whole_text::{TextAnswer, TextFault, TextKind};
 /// The weight of a clause and its literals, each as its variable and whether it is negated.
 type Row<'a> = (Option<u64>, &'a [(u64, bool)]);
 
-fn is_clause(clause: &Clause, weight: Option<u64>, literals: &[(u64, bool)]) -> bool {
-    let found = clause.literals.as_slice();
+fn is_clause(clause: ClauseRef<'_>, weight: Option<u64>, literals: &[(u64, bool)]) -> bool {
     clause.weight == weight
-        && found.len() == literals.len()
-        && found.iter().zip(literals).all(|(literal, wanted)| (literal.variable, literal.negated)
-            == *wanted)
+        && clause.literals.len() == literals.len()
+        && clause
+            .literals
+            .zip(literals)
+            .all(|(literal, wanted)| (literal.variable, literal.negated) == *wanted)
 }
 
-fn are_clauses(clauses: &[Clause], rows: &[Row]) -> bool {
+fn are_clauses(clauses: &ClauseList, rows: &[Row]) -> bool {
     clauses.len() == rows.len()
         && clauses
             .iter()
@@ -41,7 +42,7 @@ fn clauses_over_lines_and_several_on_one(rt: HostRuntime) -> Result<(), Fail> {
     ];
     let problem = read_wcnf(rt.alloc(), text)?;
     let numbers = (problem.variables, problem.constant);
-    assert!(rt; numbers == (3, 7) && are_clauses(problem.clauses.as_slice(), &rows));
+    assert!(rt; numbers == (3, 7) && are_clauses(&problem.clauses, &rows));
     Ok(())
 }
 
@@ -55,7 +56,7 @@ fn a_source_is_read_in_its_format(rt: HostRuntime) -> Result<(), Fail> {
         read.problem.variables,
         read.problem.constant,
     );
-    assert!(rt; numbers == (2, 2, 0) && are_clauses(read.problem.clauses.as_slice(), &rows));
+    assert!(rt; numbers == (2, 2, 0) && are_clauses(&read.problem.clauses, &rows));
     Ok(())
 }
 
@@ -134,18 +135,18 @@ const HEADERLESS_GOOD: [u8; 73] =
 /// What each byte is changed to. The form feed is no blank.
 const BYTES: [u8; 13] = *b" \t\n\r\x0c+-.019ch";
 
-fn same_clause(clause: &Clause, plain: &PlainClause) -> bool {
+fn same_clause(clause: ClauseRef<'_>, plain: &PlainClause) -> bool {
     is_clause(clause, plain.0, plain.1.as_slice())
 }
 
 fn same_problem(problem: &Problem, plain: &PlainReading) -> bool {
-    let clauses = problem.clauses.as_slice();
     problem.variables == plain.variables
         && problem.constant == plain.constant
-        && problem.objective.as_slice().is_empty()
+        && problem.objective.len() == 0
         && problem.constraints.as_slice().is_empty()
-        && clauses.len() == plain.clauses.len()
-        && clauses
+        && problem.clauses.len() == plain.clauses.len()
+        && problem
+            .clauses
             .iter()
             .zip(plain.clauses.iter())
             .all(|(a, b)| same_clause(a, b))

@@ -1,37 +1,16 @@
 //! A whole text, in the layout that its first word says.
-ghost use Rattle.std.specs.Prelude.{◌≡◌, ◌+◌, ◌<◌, ◌≤◌, ◌^◌, [], length, All, OnOk, IfOk, unwrap_or};
+ghost use Rattle.std.specs.Prelude.{◌≡◌, ◌≤◌, ◌^◌, length};
 ghost use Rattle.whole_text.specs.TokenTexts.{words_of};
 ghost use Rattle.whole_text.specs.Steps.{Gives};
-ghost use Rattle.problem_form.specs.Problems.{problem_total};
-ghost use Rattle.problem_form.specs.NormalForm.{with_clause};
 ghost use Rattle.wcnf_reader.specs.Cost.{normal_reading, problem_of_words};
 ghost use Rattle.wcnf_reader.specs.Views.{header_of, problem_read, older_read, headerless_read};
 
 use crate::header::{Start, header};
 use crate::layout::Layout;
 use crate::listed::{clause, widened};
-use bits_model::NoMemory;
-use problem_form::{Clause, Literal, LiteralList, Problem};
+use problem_form::Problem;
 use std::alloc::Global;
 use whole_text::{Lexer, Style, TextAnswer, TextKind, TokenText, Words, fault, next_word};
-
-/// Adds a clause as written, in normal form, and leaves its list of literals empty.
-#[inline(always)]
-fn add(
-    alloc: Global,
-    problem: &mut Problem,
-    literals: &mut Vec<Literal>,
-    weight: Option<u64>,
-) -> Result<(), NoMemory>
-    requires within { All (λ l. l.variable < problem.old.variables) literals.old.items }
-    requires small { problem_total problem.old + unwrap_or weight 0 < 2 ^ 100 }
-    ensures added { OnOk result (problem.new ≡ with_clause problem.old
-        (record { literals = literals.old.items; weight = weight })) }
-    ensures emptied { literals.new.items ≡ [] }
-{
-    let literals = LiteralList::new(std::mem::replace(literals, Vec::new(alloc)));
-    problem.add_clause(Clause { literals, weight })
-}
 
 /// The clauses that the header counts.
 fn counted(
@@ -58,7 +37,7 @@ fn counted(
             Some(start.variables),
             end,
         )?;
-        add(alloc, &mut problem, &mut literals, weight)?;
+        problem.add_literals(&mut literals, weight)?;
     }
     Ok(problem)
 }
@@ -88,7 +67,7 @@ fn headerless(alloc: Global, mut words: Words<'_>, end: u64) -> Result<Problem, 
         let weight = clause(first, &mut words, &mut literals, layout, None, end)?;
         let variables = widened(problem.variables, &literals);
         problem.widen(variables);
-        add(alloc, &mut problem, &mut literals, weight)?;
+        problem.add_literals(&mut literals, weight)?;
     }
     Ok(problem)
 }

@@ -40,6 +40,7 @@ loop-rest-preserved c =
           c.loop-rest.invariant.read);
       variables = c.in_ok-add_entry.ensures.same ∙ c.loop-rest.invariant.variables;
       nodes = c.in_ok-entry.ensures.same ∙ c.loop-rest.invariant.nodes;
+      empty = c.in_ok-add_entry.ensures.emptied;
       small = omega (
         arith,
         c.in_ok-add_entry.ensures.total,

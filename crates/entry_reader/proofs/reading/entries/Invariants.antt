@@ -1,4 +1,4 @@
-use Rattle.std.proofs.Common.{◌≡◌, ◌+◌, ◌*◌, ◌^◌, ◌≤◌, length, All}
+use Rattle.std.proofs.Common.{◌≡◌, ◌+◌, ◌*◌, ◌^◌, ◌≤◌, length, All, []}
 use Rattle.whole_text.specs.Tokens.{words_at, IsWithin}
 use Rattle.problem_form.specs.Problems.{problem_total}
 use Rattle.problem_form.specs.NormalForm.{blank, with_variables}
@@ -16,6 +16,7 @@ invariant-loop-rest l = record {
       (entries_at l.end l.fn.counts (words_at l.text l.tokens));
   variables : l.problem.variables ≡ l.fn.counts.nodes;
   nodes : l.to_come.nodes ≡ l.fn.counts.nodes;
+  empty : l.literals.items ≡ [];
   small : problem_total l.problem + length l.rest * 2 ^ 68 ≤ length l.tokens * 2 ^ 68;
 }
 

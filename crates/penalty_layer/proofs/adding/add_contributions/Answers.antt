@@ -1,4 +1,4 @@
-use Rattle.std.proofs.Common.{rules, arith, ◌≡◌, ap, ◌∙◌}
+use Rattle.std.proofs.Common.{rules, arith, ◌≡◌, refl, ap, ◌∙◌}
 use Rattle.std.specs.Int.{w128}
 use Rattle.std.proofs.lemmas.Int.{to_z-of_z}
 use Rattle.problem_form.specs.Problems.{ProblemContent}
@@ -13,10 +13,10 @@ gather-requires-clause-set g c = empty_set (g.T.Gather.additions c.args.terms.no
 
 pub add_products-requires-clause-sets : goal.add_products-requires-clause-sets
 add_products-requires-clause-sets g c =
-    let objective = c.as_slice.ensures ∙ ap (λ (q : ProblemContent). q.objective) c.problem.view_is in
+    let objective = ap (λ (q : ProblemContent). q.objective) c.problem.view_is in
     let width = ap (λ (t : TableContent). t.width) c.in_ok-gather.ensures.added in
     let wide = ap (λ (t : TableContent). t.width) c.requires.empty in
-    product_sets c.args.problem.now c.as_slice.result.now (g.T.Gather.additions c.gather.new.self).width
+    product_sets c.args.problem.now c.problem.inside.objective (g.T.Gather.additions c.gather.new.self).width
     c.requires.admits objective (width ∙ wide)
 
 pub add_clauses-requires-clause-sets : goal.add_clauses-requires-clause-sets
@@ -27,11 +27,11 @@ add_clauses-requires-clause-sets g c =
     let added = g.T.Gather.additions c.add_products.new.terms in
     let first = constant_added p _ (g.T.Gather.additions c.args.terms.now) begun _ same c.requires.empty
     c.in_ok-gather.ensures.added (to_z-of_z w128 _ (search rules)) in
-    let second = products_added p _ begun added c.as_slice.result.now same
-    c.in_ok-add_products.ensures c.as_slice.ensures in
+    let second = products_added p _ begun added c.problem.inside.objective same
+    c.in_ok-add_products.ensures refl in
     let width = ap (λ (t : TableContent). t.width) second ∙ ap (λ (t : TableContent). t.width) first in
-    clause_sets p c.as_slice-2.result.now added.width c.requires.admits
-    (c.as_slice-2.ensures ∙ ap (λ (q : ProblemContent). q.clauses) same) width
+    clause_sets p c.problem.inside.clauses added.width c.requires.admits
+    (ap (λ (q : ProblemContent). q.clauses) same) width
 
 pub add_clauses-requires-clause-small : goal.add_clauses-requires-clause-small
 add_clauses-requires-clause-small g c =
@@ -41,11 +41,11 @@ add_clauses-requires-clause-small g c =
     let added = g.T.Gather.additions c.add_products.new.terms in
     let first = constant_added p _ (g.T.Gather.additions c.args.terms.now) begun _ same c.requires.empty
     c.in_ok-gather.ensures.added (to_z-of_z w128 _ (search rules)) in
-    let second = products_added p _ begun added c.as_slice.result.now same
-    c.in_ok-add_products.ensures c.as_slice.ensures in
+    let second = products_added p _ begun added c.problem.inside.objective same
+    c.in_ok-add_products.ensures refl in
     let fit = clauses_fit p begun added c.requires.admits.within first second in
     let number = c.penalty-penalty.ensures.value in
-    let clauses = c.as_slice-2.ensures ∙ ap (λ (q : ProblemContent). q.clauses) same in
-    let weights : clause_weights c.penalty-penalty.result c.as_slice-2.result.now ≡ clause_weights (penalty p) p.clauses =
+    let clauses = ap (λ (q : ProblemContent). q.clauses) same in
+    let weights : clause_weights c.penalty-penalty.result c.problem.inside.clauses ≡ clause_weights (penalty p) p.clauses =
     λ i. clause_weights (number i) (clauses i) in
     omega (arith, fit, weights)

@@ -1,7 +1,7 @@
-use Rattle.std.proofs.Common.{◌≡◌, map, take}
+use Rattle.std.proofs.Common.{◌≡◌, ◌++◌, map}
 use Rattle.penalty_layer.specs.Penalty.{opposite}
 use Rattle.penalty_layer.proofs.adding.set_opposites.Given as goal
 
--- the complements of the literals so far
+-- the complements so far, with those of the literals that are left, are all
 abbrev pub invariant-loop-literal : goal.invariant-loop-literal
-invariant-loop-literal l = l.list.items ≡ map opposite (take l.literal-index l.literals)
+invariant-loop-literal l = l.list.items ++ map opposite l.literal-iterator ≡ map opposite l.fn.literals

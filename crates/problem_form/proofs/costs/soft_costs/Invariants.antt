@@ -1,8 +1,11 @@
-use Rattle.std.proofs.Common.{◌≡◌, take}
+use Rattle.std.specs.List.{sum_by}
 use Rattle.integers.specs.Sums.{total_by}
-use Rattle.problem_form.specs.Problems.{soft_cost}
+use Rattle.problem_form.specs.Problems.{soft_cost, soft_weight}
+use Rattle.problem_form.proofs.LeftSums.{Sums}
 use Rattle.problem_form.proofs.costs.soft_costs.Given as goal
 
--- the costs of the clauses so far
+-- the costs so far and those of the clauses that are left are the whole
 abbrev pub invariant-loop-clause : goal.invariant-loop-clause
-invariant-loop-clause l = l.sum ≡ total_by (soft_cost l.x) (take l.clause-index l.clauses)
+invariant-loop-clause l =
+    Sums (soft_cost l.x) soft_weight l.sum l.clause-iterator
+    (total_by (soft_cost l.x) l.clauses) (sum_by soft_weight l.clauses)

@@ -1,7 +1,11 @@
-use Rattle.std.proofs.Common.{◌≡◌, take}
-use Rattle.problem_form.specs.Problems.{sum_of}
+use Rattle.std.proofs.Common.{unsigned_abs}
+use Rattle.problem_form.specs.declared.terms.Product.{Product}
+use Rattle.problem_form.specs.Problems.{product_value, products_total, sum_of}
+use Rattle.problem_form.proofs.LeftSums.{Sums}
 use Rattle.problem_form.proofs.costs.sum_of_products.Given as goal
 
--- the sum of the products so far
+-- the sum so far and that of the products that are left are the whole
 abbrev pub invariant-loop-product : goal.invariant-loop-product
-invariant-loop-product l = l.sum ≡ sum_of l.x (take l.product-index l.products)
+invariant-loop-product l =
+    Sums (product_value l.x) (λ (t : Product). unsigned_abs t.coefficient) l.sum
+    l.product-iterator (sum_of l.x l.products) (products_total l.products)

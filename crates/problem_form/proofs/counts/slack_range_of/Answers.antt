@@ -8,22 +8,22 @@ use Rattle.problem_form.proofs.counts.slack_range_of.Goals as goal
 
 pub positive_coefficients-most-requires : goal.positive_coefficients-most-requires
 positive_coefficients-most-requires c =
-    rw c.as_slice.ensures (omega (arith, positive_total-le c.args.constraint.now.products))
+    omega (arith, positive_total-le c.args.constraint.now.products)
 
 pub overflow_cast-most : goal.overflow_cast-most
 overflow_cast-most c =
-    let value = c.positive_coefficients-most.ensures ∙ ap positive_total c.as_slice.ensures in
+    let value = c.positive_coefficients-most.ensures in
     omega (arith, ints, value, positive_total-le c.args.constraint.now.products)
 
 pub overflow_sub-most : goal.overflow_sub-most
 overflow_sub-most c =
-    let value = c.positive_coefficients-most.ensures ∙ ap positive_total c.as_slice.ensures in
+    let value = c.positive_coefficients-most.ensures in
     omega (arith, ints, value, positive_total-le c.args.constraint.now.products)
 
 pub returns : goal.returns
 returns c =
     let k = c.args.constraint.now in
-    let value = c.positive_coefficients-most.ensures ∙ ap positive_total c.as_slice.ensures in
+    let value = c.positive_coefficients-most.ensures in
     let gap : to_z w128 (of_z w128 (to_z w128 c.positive_coefficients-most.result
     -ℤ to_z w128 (of_z w128 k.bound))) ≡ pos (positive_total k.products) -ℤ k.bound =
     omega (arith, ints, value, positive_total-le k.products) in

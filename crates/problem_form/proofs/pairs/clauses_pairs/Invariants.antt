@@ -1,9 +1,9 @@
-use Rattle.std.proofs.Common.{◌≡◌, take}
 use Rattle.std.specs.List.{sum_by}
-use Rattle.problem_form.specs.Limits.{answered_number, clause_pairs}
+use Rattle.problem_form.specs.Limits.{clause_pairs}
+use Rattle.problem_form.proofs.LeftSums.{Answered}
 use Rattle.problem_form.proofs.pairs.clauses_pairs.Given as goal
 
--- the pairs of the clauses so far
+-- the pairs so far and those of the clauses that are left are the whole
 abbrev pub invariant-loop-clause : goal.invariant-loop-clause
 invariant-loop-clause l =
-    l.total ≡ answered_number (sum_by (clause_pairs l.normal) (take l.clause-index l.clauses))
+    Answered (clause_pairs l.normal) l.total l.clause-iterator (sum_by (clause_pairs l.normal) l.clauses)

@@ -1,9 +1,13 @@
-use Rattle.std.proofs.Common.{◌≡◌, take}
+use Rattle.std.proofs.Common.{unsigned_abs}
 use Rattle.integers.specs.Sums.{total_by}
+use Rattle.problem_form.specs.declared.terms.Product.{Product}
 use Rattle.problem_form.specs.NormalForm.{product_constant}
+use Rattle.problem_form.specs.Problems.{products_total}
+use Rattle.problem_form.proofs.LeftSums.{Sums}
 use Rattle.problem_form.proofs.products.constants_of.Given as goal
 
--- the constants of the products so far
+-- the constants so far and those of the products that are left are the whole
 abbrev pub invariant-loop-product : goal.invariant-loop-product
 invariant-loop-product l =
-    l.sum ≡ total_by product_constant (take l.product-index l.products)
+    Sums product_constant (λ (t : Product). unsigned_abs t.coefficient) l.sum
+    l.product-iterator (total_by product_constant l.products) (products_total l.products)

@@ -41,7 +41,7 @@ loop-preserved c =
     let clause : Clause = record { literals = c.clause.new.list.items; weight = c.in_ok-weight.weight } in
     let all = read_into h.top (with_variables blank h.variables)
     (clauses_at h.clauses h end c.args.words.now) in
-    let added = c.in_ok-add.ensures.added in
+    let added = c.in_ok-add_literals.ensures.added in
     let less = next_less end c.loop.words c.next_word.new.words (word_of c.in_ok-first.first)
     c.in_ok-first.ensures in
     record {
@@ -60,7 +60,7 @@ loop-preserved c =
             less,
             c.loop.invariant.small,
           ));
-      emptied = c.in_ok-add.ensures.emptied;
+      emptied = c.in_ok-add_literals.ensures.emptied;
     }
 
 pub returns : goal.returns

@@ -36,8 +36,8 @@ loop-first-preserved c =
     let least : c.widened-variables.result ≡ widened p.variables clause.literals =
     c.widened-variables.ensures.least
     ∙ (λ i. widened (before_it i) (c.deref.ensures.value i)) in
-    let state : c.add.new.problem ≡ widened_with p clause =
-    c.in_ok-add.ensures.added
+    let state : c.add_literals.new.self ≡ widened_with p clause =
+    c.in_ok-add_literals.ensures.added
     ∙ ap (λ (q : ProblemContent). with_clause q clause)
     (c.widen.ensures ∙ ap (with_variables p) least) in
     record {
@@ -53,7 +53,7 @@ loop-first-preserved c =
             ap length c.in-Some.ensures,
             c.loop-first.invariant.small,
           ));
-      emptied = c.in_ok-add.ensures.emptied;
+      emptied = c.in_ok-add_literals.ensures.emptied;
     }
 
 pub returns : goal.returns

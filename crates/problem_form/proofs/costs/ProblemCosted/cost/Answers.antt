@@ -1,9 +1,8 @@
 use Rattle.std.proofs.Common.{◌≡◌, false, arith, ap, sym, ◌∙◌}
 use Rattle.std.specs.List.{list_any}
 use Rattle.std.proofs.lemmas.Int.{ints}
-use Rattle.integers.specs.Sums.{total_by}
 use Rattle.problem_form.specs.Fields.{content_within}
-use Rattle.problem_form.specs.Problems.{fails, fails_hard, problem_cost, soft_cost, sum_of}
+use Rattle.problem_form.specs.Problems.{fails, fails_hard, problem_cost}
 use Rattle.problem_form.proofs.CostSizes.{cost_parts, problem_cost-whole}
 use Rattle.problem_form.proofs.costs.ProblemCosted.cost.Goals as goal
 
@@ -11,26 +10,25 @@ pub overflow_add-result : goal.overflow_add-result
 overflow_add-result c =
     let x = c.args.x.now in
     let p = content_within c.self.inside in
-    let sum = c.sum_of_products-sum.ensures ∙ ap (sum_of x) c.as_slice-2.ensures in
+    let sum = c.sum_of_products-sum.ensures in
     omega (arith, ints, sum, cost_parts p x, c.self.invariant.1)
 
 pub overflow_add-result-2 : goal.overflow_add-result-2
 overflow_add-result-2 c =
     let x = c.args.x.now in
     let p = content_within c.self.inside in
-    let sum = c.sum_of_products-sum.ensures ∙ ap (sum_of x) c.as_slice-2.ensures in
-    let soft = c.soft_costs.ensures ∙ ap (total_by (soft_cost x)) c.as_slice-clauses.ensures in
+    let sum = c.sum_of_products-sum.ensures in
+    let soft = c.soft_costs.ensures in
     omega (arith, ints, sum, soft, cost_parts p x, c.self.invariant.1)
 
 pub returns : goal.returns
 returns c =
     let x = c.args.x.now in
     let p = content_within c.self.inside in
-    let sum = c.sum_of_products-sum.ensures ∙ ap (sum_of x) c.as_slice-2.ensures in
-    let soft = c.soft_costs.ensures ∙ ap (total_by (soft_cost x)) c.as_slice-clauses.ensures in
+    let sum = c.sum_of_products-sum.ensures in
+    let soft = c.soft_costs.ensures in
     let hard : list_any (fails_hard x) p.clauses ≡ false =
-    ap (list_any (fails_hard x)) (sym c.as_slice-clauses.ensures)
-    ∙ sym c.a_hard_clause_fails.ensures ∙ c.if-a_hard_clause_fails.false in
+    sym c.a_hard_clause_fails.ensures ∙ c.if-a_hard_clause_fails.false in
     let constraints : list_any (fails x) p.constraints ≡ false =
     ap (list_any (fails x)) (sym c.as_slice.ensures)
     ∙ sym c.a_constraint_fails.ensures ∙ c.if-a_constraint_fails.false in

@@ -15,8 +15,8 @@ invariant_of-self c =
     let Within : ProblemContent → Type 0 = λ f. AreWithin f.variables added.products in
     let within : Within p = subst Within (sym c.self.view_is) c.requires.within in
     let With : List Constraint → Type 0 = λ ks. IsSound (record p { constraints = ks }) in
-    let set : With (p.constraints ++ c.normal_constraint.result ∷ []) =
-    subst (λ k. With (p.constraints ++ k ∷ [])) (sym c.normal_constraint.ensures)
+    let set : With (p.constraints ++ c.in_ok-normal.normal ∷ []) =
+    subst (λ k. With (p.constraints ++ k ∷ [])) (sym c.in_ok-normal.ensures)
     (with_constraint-sound p added c.self.invariant within small) in
-    by_result c.push.result With c.push.new.self (p.constraints ++ c.normal_constraint.result ∷ [])
+    by_result c.push.result With c.push.new.self (p.constraints ++ c.in_ok-normal.normal ∷ [])
     p.constraints c.push.ensures.pushed c.push.ensures.unchanged set c.self.invariant

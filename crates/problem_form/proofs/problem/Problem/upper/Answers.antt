@@ -1,8 +1,7 @@
-use Rattle.std.proofs.Common.{◌≡◌, ◌<◌, ◌^◌, ◌+◌, List, ◌+ℤ◌, to_z, of_z, subst, sym, ap, ◌∙◌, arith}
+use Rattle.std.proofs.Common.{◌≡◌, ◌<◌, ◌^◌, ◌+◌, ◌+ℤ◌, to_z, of_z, ap, ◌∙◌, arith}
 use Rattle.std.specs.Int.{w128}
 use Rattle.std.specs.List.{sum_by}
 use Rattle.std.proofs.lemmas.Int.{ints}
-use Rattle.problem_form.specs.declared.terms.Product.{Product}
 use Rattle.problem_form.specs.Problems.{soft_weight}
 use Rattle.problem_form.specs.Limits.{positive_total, upper}
 use Rattle.problem_form.specs.Fields.{content_within}
@@ -13,35 +12,35 @@ pub positive_coefficients-requires : goal.positive_coefficients-requires
 positive_coefficients-requires c =
     let products = c.self.inside.objective in
     let small : positive_total products < 2 ^ 100 = omega (arith, positive_total-le products, c.self.invariant.1) in
-    subst (λ (ps : List Product). positive_total ps < 2 ^ 100) (sym c.as_slice.ensures) small
+    small
 
 pub overflow_add-most : goal.overflow_add-most
 overflow_add-most c =
     let products = c.self.inside.objective in
-    let first : c.positive_coefficients.result ≡ positive_total products = c.positive_coefficients.ensures ∙ ap positive_total c.as_slice.ensures in
-    let second : c.soft_weights.result ≡ sum_by soft_weight c.self.inside.clauses = c.soft_weights.ensures ∙ ap (sum_by soft_weight) c.as_slice-2.ensures in
+    let first : c.positive_coefficients.result ≡ positive_total products = c.positive_coefficients.ensures in
+    let second : c.soft_weights.result ≡ sum_by soft_weight c.self.inside.clauses = c.soft_weights.ensures in
     omega (arith, first, second, positive_total-le products, c.self.invariant.1)
 
 pub overflow_cast-result : goal.overflow_cast-result
 overflow_cast-result c =
     let products = c.self.inside.objective in
-    let first : c.positive_coefficients.result ≡ positive_total products = c.positive_coefficients.ensures ∙ ap positive_total c.as_slice.ensures in
-    let second : c.soft_weights.result ≡ sum_by soft_weight c.self.inside.clauses = c.soft_weights.ensures ∙ ap (sum_by soft_weight) c.as_slice-2.ensures in
+    let first : c.positive_coefficients.result ≡ positive_total products = c.positive_coefficients.ensures in
+    let second : c.soft_weights.result ≡ sum_by soft_weight c.self.inside.clauses = c.soft_weights.ensures in
     omega (arith, ints, first, second, positive_total-le products, c.self.invariant.1)
 
 pub overflow_add-result : goal.overflow_add-result
 overflow_add-result c =
     let products = c.self.inside.objective in
-    let first : c.positive_coefficients.result ≡ positive_total products = c.positive_coefficients.ensures ∙ ap positive_total c.as_slice.ensures in
-    let second : c.soft_weights.result ≡ sum_by soft_weight c.self.inside.clauses = c.soft_weights.ensures ∙ ap (sum_by soft_weight) c.as_slice-2.ensures in
+    let first : c.positive_coefficients.result ≡ positive_total products = c.positive_coefficients.ensures in
+    let second : c.soft_weights.result ≡ sum_by soft_weight c.self.inside.clauses = c.soft_weights.ensures in
     omega (arith, ints, first, second, positive_total-le products, c.self.invariant.1)
 
 pub returns : goal.returns
 returns c =
     let products = c.self.inside.objective in
     let constant = c.self.inside.constant in
-    let first : c.positive_coefficients.result ≡ positive_total products = c.positive_coefficients.ensures ∙ ap positive_total c.as_slice.ensures in
-    let second : c.soft_weights.result ≡ sum_by soft_weight c.self.inside.clauses = c.soft_weights.ensures ∙ ap (sum_by soft_weight) c.as_slice-2.ensures in
+    let first : c.positive_coefficients.result ≡ positive_total products = c.positive_coefficients.ensures in
+    let second : c.soft_weights.result ≡ sum_by soft_weight c.self.inside.clauses = c.soft_weights.ensures in
     let sum : to_z w128 (of_z w128 (to_z w128 (of_z w128 constant) +ℤ to_z w128 (c.positive_coefficients.result + c.soft_weights.result))) ≡ upper (content_within c.self.inside) =
     omega (arith, ints, first, second, positive_total-le products, c.self.invariant.1) in
     sum ∙ ap upper c.self.view_is

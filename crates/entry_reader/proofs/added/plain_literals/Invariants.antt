@@ -1,7 +1,0 @@
-use Rattle.std.proofs.Common.{◌≡◌, map, take}
-use Rattle.entry_reader.specs.Problems.{plain}
-use Rattle.entry_reader.proofs.added.plain_literals.Given as goal
-
--- the literals so far are the variables so far
-abbrev pub invariant-loop-variable : goal.invariant-loop-variable
-invariant-loop-variable l = l.literals.items ≡ map plain (take l.variable-index l.variables)

@@ -1,0 +1,24 @@
+-- Clauses and products whose literals and numbers lie apart.
+use Rattle.std.specs.Prelude.{ℕ, zero, suc, ℤ, Option, Some, None, List, [], ◌∷◌}
+use Rattle.problem_form.specs.declared.literal.Literal.{Literal}
+use Rattle.problem_form.specs.declared.terms.Clause.{Clause}
+use Rattle.problem_form.specs.declared.terms.Product.{Product}
+
+-- what a function makes of two lists, place by place, as far as the shorter one
+abbrev pub zip_with : {A B C : Type 0} → (A → B → C) → List A → List B → List C
+zip_with f [] bs = []
+zip_with f (a ∷ as') [] = []
+zip_with f (a ∷ as') (b ∷ bs) = f a b ∷ zip_with f as' bs
+
+-- the weight that a number stands for: 0 stands for a hard clause
+abbrev pub weight_of : ℕ → Option ℕ
+weight_of zero = None
+weight_of (suc n) = Some (suc n)
+
+-- the clause of these literals, with the weight that a number stands for
+abbrev pub clause_of : List Literal → ℕ → Clause
+clause_of ls n = record { literals = ls; weight = weight_of n }
+
+-- the product of these literals
+abbrev pub product_of : List Literal → ℤ → Product
+product_of ls c = record { literals = ls; coefficient = c }
