@@ -32,4 +32,4 @@ pub use nodes::{NodeEntries, NodeWeights};
 pub use output::{ChainList, Entry, Kind, OutputModel, UnitChoice};
 pub use row::Row;
 pub use then::{Then, ThenLink};
-pub use weights::WeightList;
+pub use weights::{WeightList, divide_weights};

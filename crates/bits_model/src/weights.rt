@@ -57,6 +57,7 @@ fn quotient(weight: i128, unit: i128) -> i128
     weight / unit
 }
 
+/// Narrow weights divided by a unit, and rounded towards 0, in their own memory.
 fn divide_narrow(mut weights: Vec<i64>, unit: i128) -> Vec<i64>
     requires { pos 1 ≤ℤ unit }
     ensures { result.items ≡ map (λ w. int_div w unit) weights.items }
@@ -67,7 +68,8 @@ fn divide_narrow(mut weights: Vec<i64>, unit: i128) -> Vec<i64>
     weights
 }
 
-fn divide_wide(mut weights: Vec<i128>, unit: i128) -> Vec<i128>
+/// Weights divided by a unit, and rounded towards 0, in their own memory.
+pub fn divide_weights(mut weights: Vec<i128>, unit: i128) -> Vec<i128>
     requires { pos 1 ≤ℤ unit }
     ensures { result.items ≡ map (λ w. int_div w unit) weights.items }
 {
@@ -155,7 +157,7 @@ impl WeightList {
         let WeightList { alloc, held } = self;
         let held = match held {
             Held::Narrow(weights) => Held::Narrow(divide_narrow(weights, unit)),
-            Held::Wide(weights) => Held::Wide(divide_wide(weights, unit)),
+            Held::Wide(weights) => Held::Wide(divide_weights(weights, unit)),
         };
         WeightList { alloc, held }
     }
