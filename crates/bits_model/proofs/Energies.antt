@@ -1,7 +1,7 @@
 -- The energy of a state, entry by entry.
-use Rattle.std.proofs.Common.{◌≡◌, ℕ, ◌+◌, ◌≤◌, ℤ, ◌+ℤ◌, unsigned_abs, Bool, true, false, cond, List, ◌∷◌, ap, ◌∙◌, arith}
+use Rattle.std.proofs.Common.{◌≡◌, ℕ, ◌+◌, ◌≤◌, ℤ, ◌+ℤ◌, unsigned_abs, Bool, true, false, cond, List, ◌∷◌, ap, ◌∙◌, ◌<◌, length, take, get_or, arith}
 use Rattle.std.proofs.lemmas.Int.{ints}
-use Rattle.std.proofs.lemmas.List.Sums.{sum_by-cons}
+use Rattle.std.proofs.lemmas.List.Sums.{sum_by-cons, sum_by_more_le}
 use Rattle.integers.specs.Sums.{if_so, total_by}
 use Rattle.integers.proofs.Totals.{size-plus}
 use Rattle.bits_model.specs.declared.output.Entry.{Entry}
@@ -60,3 +60,8 @@ size_left kind y es rest e so_far n left small =
       size-plus so_far (entry_energy kind y e),
       size-entry_energy kind y e,
     )
+
+-- a weight, and those before it, are within all
+pub weight_within : (es : List Entry) (i : ℕ) (d : Entry) → i < length es
+    → weight_total (take i es) + unsigned_abs (get_or es i d).weight ≤ weight_total es
+weight_within es i d h = sum_by_more_le (λ (e : Entry). unsigned_abs e.weight) es i d h
