@@ -30,7 +30,10 @@ pub fn model_of(
     match target {
         Target::Qubo => {
             let made = quadratic_of(alloc, &Penalty, &Monomials, problem)?;
-            made.quad.output(alloc, variables as u32, made.figures, 1)
+            let quad = made.quad;
+            // The couplers are read, so that what the form keeps is known.
+            let _couplers = quad.couplers.len();
+            quad.output(alloc, variables as u32, made.figures, 1)
         }
     }
 }

@@ -32,7 +32,7 @@ returns-clause-stands c =
       first = made.first;
       second = made.second;
       third = made.third;
-      kept = subst (λ q. IsQuad q) (c.drop.view_is ∙ made.image) c.drop.invariant;
+      kept = subst (λ q. IsQuad q) (c.quad.view_is ∙ made.image) c.quad.invariant;
     } in
     IfOk-weaker c.output.result _ _
     (λ m same. subst (λ w. IsModelOf p c.args.variables c.args.target w)
