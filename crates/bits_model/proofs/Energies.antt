@@ -1,9 +1,9 @@
 -- The energy of a state, entry by entry.
-use Rattle.std.proofs.Common.{◌≡◌, ℕ, ◌+◌, ◌<◌, ◌≤◌, ℤ, ◌+ℤ◌, unsigned_abs, Bool, true, false, cond, List, length, take, get_or, arith}
+use Rattle.std.proofs.Common.{◌≡◌, ℕ, ◌+◌, ◌≤◌, ℤ, ◌+ℤ◌, unsigned_abs, Bool, true, false, cond, List, ◌∷◌, ap, ◌∙◌, ◌<◌, length, take, get_or, arith}
 use Rattle.std.proofs.lemmas.Int.{ints}
-use Rattle.std.proofs.lemmas.List.Sums.{sum_by_more, sum_by_more_le}
+use Rattle.std.proofs.lemmas.List.Sums.{sum_by-cons, sum_by_more_le}
 use Rattle.integers.specs.Sums.{if_so, total_by}
-use Rattle.integers.proofs.Totals.{total_by_more, size-plus}
+use Rattle.integers.proofs.Totals.{size-plus}
 use Rattle.bits_model.specs.declared.output.Entry.{Entry}
 use Rattle.bits_model.specs.declared.output.Kind.{Kind}
 use Rattle.bits_model.specs.declared.output.Kind.TheVariants.{Qubo, Ising, Chimera}
@@ -37,27 +37,31 @@ size-entry_energy Qubo y e = size-if_so _ e.weight
 size-entry_energy Ising y e = size-spins_energy y e
 size-entry_energy (Chimera rows cols shore) y e = size-spins_energy y e
 
--- the energy of the first entries, and of one more
-pub energy_more : (kind : Kind) (y : List Bool) (es : List Entry) (i : ℕ) (d : Entry) (so_far : ℤ)
-    → i < length es → so_far ≡ total_by (entry_energy kind y) (take i es)
-    → so_far +ℤ entry_energy kind y (get_or es i d) ≡ total_by (entry_energy kind y) (take (i + 1) es)
-energy_more kind y es i d so_far h same =
-    omega (arith, ints, same, total_by_more (entry_energy kind y) es i d h)
+-- ---- entries that are left, of which one is taken
 
--- its size is within the weights
-pub size_more : (kind : Kind) (y : List Bool) (es : List Entry) (i : ℕ) (d : Entry) (so_far : ℤ)
-    → i < length es → unsigned_abs so_far ≤ weight_total (take i es)
-    → unsigned_abs (so_far +ℤ entry_energy kind y (get_or es i d)) ≤ weight_total (take (i + 1) es)
-size_more kind y es i d so_far h small =
-    let e = get_or es i d in
+pub energy_left : (kind : Kind) (y : List Bool) (es rest : List Entry) (e : Entry) → es ≡ e ∷ rest
+    → total_by (entry_energy kind y) es ≡ entry_energy kind y e +ℤ total_by (entry_energy kind y) rest
+energy_left kind y es rest e left = ap (total_by (entry_energy kind y)) left
+
+pub weight_left : (es rest : List Entry) (e : Entry) → es ≡ e ∷ rest
+    → weight_total es ≡ unsigned_abs e.weight + weight_total rest
+weight_left es rest e left =
+    ap weight_total left ∙ sum_by-cons (λ (d : Entry). unsigned_abs d.weight) e rest
+
+-- the energy so far is small with one entry more
+pub size_left : (kind : Kind) (y : List Bool) (es rest : List Entry) (e : Entry) (so_far : ℤ) (n : ℕ)
+    → es ≡ e ∷ rest → unsigned_abs so_far + weight_total es ≤ n
+    → unsigned_abs (so_far +ℤ entry_energy kind y e) + weight_total rest ≤ n
+size_left kind y es rest e so_far n left small =
     omega (
       arith,
       small,
+      weight_left es rest e left,
       size-plus so_far (entry_energy kind y e),
       size-entry_energy kind y e,
-      sum_by_more (λ (e : Entry). unsigned_abs e.weight) es i d h,
     )
 
+-- a weight, and those before it, are within all
 pub weight_within : (es : List Entry) (i : ℕ) (d : Entry) → i < length es
     → weight_total (take i es) + unsigned_abs (get_or es i d).weight ≤ weight_total es
 weight_within es i d h = sum_by_more_le (λ (e : Entry). unsigned_abs e.weight) es i d h

@@ -1,10 +1,13 @@
 -- The laws of the relations and of written models, as statements.
 use Rattle.std.specs.Prelude.{◌≡◌, ℤ, pos, ◌+ℤ◌, ◌*ℤ◌, Bool, List}
+use Rattle.std.specs.List.{flat_map}
 use Rattle.bits_model.specs.declared.costs.Figures.{Figures}
+use Rattle.bits_model.specs.declared.output.Entry.{Entry}
 use Rattle.bits_model.specs.Costs.{Form, Source, IsOf}
 use Rattle.bits_model.specs.Relations.{Decoding, Keeps, Relaxes, Reduces, decoding_after, figures_after, figures_moved}
 use Rattle.bits_model.specs.Output.{Written, IsWellFormed, form_of, decoding_of}
 use Rattle.bits_model.specs.Faithful.{Demand, Faithful, IsStated}
+use Rattle.bits_model.specs.Entries.{rows_of}
 
 -- a well-formed model that relaxes the source, with what is stated, is faithful to it
 abbrev pub RelaxedIsFaithful : Type 0
@@ -45,3 +48,7 @@ abbrev pub RelaxesAlike : Type 0
 RelaxesAlike =
     (f f' g : Form) (d d' : Decoding) (u : ℤ) (n : Figures) → HasSameCosts f f'
     → DecodesAlike g d d' → Relaxes f g d u n → Relaxes f' g d' u n
+
+-- the rows of entries, one after another, are the entries
+abbrev pub RowsMakeUp : Type 0
+RowsMakeUp = (es : List Entry) → flat_map (λ row. row) (rows_of es) ≡ es

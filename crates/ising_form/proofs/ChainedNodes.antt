@@ -11,6 +11,7 @@ use Rattle.std.proofs.lemmas.List.Elements.{recursion_from_All}
 use Rattle.integers.specs.Sums.{total_by}
 use Rattle.bits_model.specs.declared.output.Entry.{Entry}
 use Rattle.bits_model.specs.Output.{bit_at, times_spin, spins_energy, entry_cmp, has_node, is_chained, weight_total}
+use Rattle.bits_model.specs.Entries.{listed_entries}
 use Rattle.quad_form.specs.Quads.{node_entries, IsCoupler}
 use Rattle.quad_form.proofs.NodeEntries.{node_entries_more}
 use Rattle.ising_form.specs.Outputs.{is_marked, is_on_chain}
@@ -317,3 +318,13 @@ pub filter-same : (p q : Entry → Bool) (xs : List Entry) → ((e : Entry) → 
     → filter p xs ≡ filter q xs
 filter-same p q [] same = refl
 filter-same p q (x ∷ xs) same = (λ i. cond (same x i) (x ∷ filter-same p q xs same i) (filter-same p q xs same i))
+
+-- one node more is listed
+pub listed_push : (ns : List ℕ) (ws : List ℤ) (n : ℕ) (w : ℤ) → length ns ≡ length ws
+    → listed_entries (ns ++ n ∷ []) (ws ++ w ∷ [])
+    ≡ listed_entries ns ws ++ record { first = n; second = n; weight = w } ∷ []
+listed_push [] [] n w h = refl
+listed_push [] (v ∷ ws) n w h = absurd (omega arith)
+listed_push (m ∷ ns) [] n w h = absurd (omega arith)
+listed_push (m ∷ ns) (v ∷ ws) n w h =
+    ap (λ es. record { first = m; second = m; weight = v } ∷ es) (listed_push ns ws n w (omega arith))

@@ -4,3 +4,4 @@ pub mod Images
 pub mod ReducedForms
 pub mod ChainedNodes
 pub mod WrittenModels
+pub mod CouplerSteps

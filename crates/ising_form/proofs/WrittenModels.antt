@@ -1,5 +1,5 @@
 -- The models of an Ising form: they are well formed, and have the form's energies but for the constant.
-use Rattle.std.proofs.Common.{◌≡◌, ◌⊎◌, ℕ, ◌+◌, ◌<◌, ◌≤◌, Bool, ℤ, pos, ◌+ℤ◌, ◌*ℤ◌, ◌≤ℤ◌, List, length, map, All, refl, sym, ap, ◌∙◌, subst, arith}
+use Rattle.std.proofs.Common.{◌≡◌, ◌⊎◌, ℕ, ◌+◌, ◌<◌, ◌≤◌, Bool, ℤ, pos, ◌+ℤ◌, ◌*ℤ◌, ◌≤ℤ◌, List, ◌++◌, length, map, All, refl, sym, ap, ◌∙◌, subst, arith}
 use Rattle.std.specs.List.{filter}
 use Rattle.std.proofs.lemmas.Int.{ints}
 use Rattle.std.proofs.lemmas.List.Elements.{recursion_from_All, All-from_recursion}
@@ -20,7 +20,7 @@ use Rattle.quad_form.proofs.NodeEntries.{nodes_ordered, couplers_up, all_placed,
 use Rattle.quad_form.proofs.WrittenModels.{counted_once, moved_bound, moved_above, moved_reach, moved_below}
 use Rattle.quad_form.proofs.UnitEntries.{quotients_coprime, unit_of_zeros}
 use Rattle.ising_form.specs.Isings.{IsingContent, IsIsing, entries_of, form_of}
-use Rattle.ising_form.specs.Outputs.{FitsOutput, is_on_chain, written_entries, written_of}
+use Rattle.ising_form.specs.Outputs.{FitsOutput, AreNodes, is_on_chain, written_nodes, written_entries, written_of}
 use Rattle.ising_form.specs.Reduction.{ising_unit, reduced, IsReducedAsWritten}
 use Rattle.ising_form.proofs.ChainedNodes.{AreUnchained, AllRec-filter, sorted-filter, chained_listed, chained_energy, all_from_chained, chained_total}
 use Rattle.ising_form.proofs.ReducedForms.{counted_form, unit_number, unit_is, entries_counted}
@@ -192,3 +192,18 @@ reduced_is_reduced f =
 pub made_is_reduced : (f g : IsingContent) (unit : ℤ) → g ≡ reduced f → unit ≡ ising_unit f
     → IsReducedAsWritten g unit
 made_is_reduced f g unit is same = rw (is, same) (reduced_is_reduced f)
+
+-- ---- parts of its entries
+
+pub nodes_and_couplings : (kind : Kind) (chains : List (List ℕ)) (f : IsingContent)
+    → written_nodes kind chains f.fields ++ f.couplings ≡ written_entries kind chains f
+nodes_and_couplings Qubo chains f = refl
+nodes_and_couplings Ising chains f = refl
+nodes_and_couplings (Chimera rows cols shore) chains f = refl
+
+pub are_nodes : (kind : Kind) (chains : List (List ℕ)) (variables : ℕ) (f : IsingContent)
+    → FitsOutput kind chains variables f → AreNodes kind chains (length f.fields)
+are_nodes Qubo chains variables f fits = tt
+are_nodes Ising chains variables f fits = tt
+are_nodes (Chimera rows cols shore) chains variables f fits =
+    subst (λ n. All (λ chain. All (λ q. q < n) chain) chains) (sym fits.sized) fits.placed

@@ -35,6 +35,19 @@ is_marked marks e = slice_index_or marks e.first false
 abbrev pub is_on_chain : List (List ℕ) → Entry → Bool
 is_on_chain chains e = is_chained chains e.first
 
+-- on a graph each qubit of a chain is one of so many nodes
+abbrev pub AreNodes : Kind → List (List ℕ) → ℕ → Type 0
+AreNodes Qubo chains n = Unit {0}
+AreNodes Ising chains n = Unit {0}
+AreNodes (Chimera rows cols shore) chains n = All (λ chain. All (λ q. q < n) chain) chains
+
+-- the entries of nodes, on a graph those of chained qubits alone
+abbrev pub written_nodes : Kind → List (List ℕ) → List ℤ → List Entry
+written_nodes Qubo chains fields = node_entries 0 fields
+written_nodes Ising chains fields = node_entries 0 fields
+written_nodes (Chimera rows cols shore) chains fields =
+    filter (is_on_chain chains) (node_entries 0 fields)
+
 -- the entries of nodes, on a graph those of chained qubits alone, and then those of couplers
 abbrev pub written_entries : Kind → List (List ℕ) → IsingContent → List Entry
 written_entries Qubo chains f = entries_of f

@@ -1,13 +1,13 @@
-//! The entries of a model on the qubits of a graph: a node has one where it is on a chain.
+//! The nodes of a model on the qubits of a graph: one has an entry where it is on a chain.
 //!
 //! The qubits of chains are marked first, so that each qubit and each chain is seen once.
-ghost use Rattle.std.specs.Prelude.{◌≡◌, ◌<◌, ◌^◌, ◌++◌, ◌==◌, ◌||◌, ℕ, All, IfOk, false, length};
+ghost use Rattle.std.specs.Prelude.{◌≡◌, ◌<◌, ◌^◌, ◌++◌, ◌∷◌, [], ◌==◌, ◌||◌, ℕ, All, IfOk, OnOk, false, length};
 ghost use Rattle.std.specs.List.{filter, list_any, slice_index_or};
 ghost use Rattle.bits_model.specs.Output.{is_chained};
 ghost use Rattle.quad_form.specs.Quads.{node_entries};
 ghost use Rattle.ising_form.specs.Outputs.{is_marked, is_on_chain};
 
-use bits_model::{Entry, Items, NoMemory};
+use bits_model::{Items, NoMemory, NodeWeights};
 use std::alloc::Global;
 
 /// Marks the qubits of a chain.
@@ -36,41 +36,49 @@ fn marked(alloc: Global, nodes: usize, chains: &[Items<u32>]) -> Result<Vec<bool
     Ok(marks)
 }
 
-/// The entries of the nodes that are marked.
-fn marked_nodes(alloc: Global, fields: &[i128], marks: &[bool]) -> Result<Vec<Entry>, NoMemory>
-    requires narrow { length fields.now < 2 ^ 32 }
-    requires marks { length marks.now ≡ length fields.now }
-    ensures { IfOk result (λ es. es.items
-        ≡ filter (is_marked marks.now) (node_entries 0 fields.now)) }
+/// Appends a node's number and its field.
+fn push_node(
+    numbers: &mut Vec<u32>,
+    weights: &mut Vec<i128>,
+    node: u32,
+    field: i128,
+) -> Result<(), NoMemory>
+    ensures numbers { OnOk result (numbers.new.items ≡ numbers.old.items ++ node ∷ []) }
+    ensures weights { OnOk result (weights.new.items ≡ weights.old.items ++ field ∷ []) }
 {
-    let mut entries = Vec::new(alloc);
-    for (i, field) in fields.iter().enumerate() {
-        if marks[i] {
-            let node = i as u32;
-            entries.push(Entry {
-                first: node,
-                second: node,
-                weight: *field,
-            })?;
-        }
-    }
-    Ok(entries)
+    numbers.push(node)?;
+    weights.push(field)?;
+    Ok(())
 }
 
-/// The entries of the nodes on chains, and then the couplings.
-pub fn chained_entries(
+/// The fields of the nodes that are marked.
+fn marked_nodes(alloc: Global, fields: &[i128], marks: &[bool]) -> Result<NodeWeights, NoMemory>
+    requires narrow { length fields.now < 2 ^ 32 }
+    requires marks { length marks.now ≡ length fields.now }
+    ensures { IfOk result (λ nodes. nodes
+        ≡ filter (is_marked marks.now) (node_entries 0 fields.now)) }
+{
+    let mut numbers = Vec::new(alloc);
+    let mut weights = Vec::new(alloc);
+    for (i, field) in fields.iter().enumerate() {
+        if marks[i] {
+            push_node(&mut numbers, &mut weights, i as u32, *field)?;
+        }
+    }
+    Ok(NodeWeights::listed(numbers, weights))
+}
+
+/// The fields of the nodes on chains.
+pub fn chained_nodes(
     alloc: Global,
     fields: &[i128],
-    couplings: &[Entry],
     chains: &[Items<u32>],
-) -> Result<Vec<Entry>, NoMemory>
+) -> Result<NodeWeights, NoMemory>
     requires narrow { length fields.now < 2 ^ 32 }
     requires placed { All (λ chain. All (λ q. q < length fields.now) chain) chains.now }
-    ensures { IfOk result (λ es. es.items
-        ≡ filter (is_on_chain chains.now) (node_entries 0 fields.now) ++ couplings.now) }
+    ensures { IfOk result (λ nodes. nodes
+        ≡ filter (is_on_chain chains.now) (node_entries 0 fields.now)) }
 {
     let marks = marked(alloc, fields.len(), chains)?;
-    let mut entries = marked_nodes(alloc, fields, &marks)?;
-    entries.extend_from_slice(couplings)?;
-    Ok(entries)
+    marked_nodes(alloc, fields, &marks)
 }

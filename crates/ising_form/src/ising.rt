@@ -1,9 +1,8 @@
 //! Ising forms, and their weights counted in the greatest unit.
 ghost use Rattle.std.specs.Prelude.{◌≡◌, ◌≤◌, ◌^◌, IfOk};
 
-use bits_model::{EntryList, NoMemory, Reduced};
-use quad_form::{NumberList, entries_in, greatest_unit, weights_in};
-use std::alloc::Global;
+use bits_model::{CouplerList, NoMemory, Reduced, divide_weights};
+use quad_form::{NumberList, greatest_unit};
 use std::marker::Model;
 
 /// An Ising form over spins: a constant, a field for each node, and couplings in order, whose weights
@@ -12,7 +11,7 @@ use std::marker::Model;
 pub struct Ising {
     pub constant: i128,
     pub fields: NumberList,
-    pub couplings: EntryList,
+    pub couplings: CouplerList,
 }
 
 impl Model for Ising {
@@ -39,29 +38,33 @@ impl Ising {
     ghost use Rattle.ising_form.specs.Isings.{form_of, ising_total};
     ghost use Rattle.ising_form.specs.Reduction.{ising_unit, reduced, IsReducedAsWritten};
 
-    /// The form whose weights are counted in their greatest unit, without the constant.
-    pub fn reduce(&self, alloc: Global) -> Result<Reduced<Ising>, NoMemory>
-        ensures target { IfOk result (λ made. made.target ≡ reduced self.now) }
-        ensures unit { IfOk result (λ made. made.unit ≡ ising_unit self.now) }
-        ensures offset { IfOk result (λ made. made.offset ≡ neg_ℤ self.now.constant) }
+    /// The form whose weights are counted in their greatest unit, without the constant. The weights
+    /// are divided in place.
+    pub fn reduce(self) -> Result<Reduced<Ising>, NoMemory>
+        ensures target { IfOk result (λ made. made.target ≡ reduced self) }
+        ensures unit { IfOk result (λ made. made.unit ≡ ising_unit self) }
+        ensures offset { IfOk result (λ made. made.offset ≡ neg_ℤ self.constant) }
 
         ensures reduces { IfOk result (λ made.
-            Reduces (form_of self.now) (form_of made.target) made.unit made.offset) }
+            Reduces (form_of self) (form_of made.target) made.unit made.offset) }
         ensures total { IfOk result (λ made.
-            unsigned_abs made.unit * ising_total made.target ≤ ising_total self.now) }
+            unsigned_abs made.unit * ising_total made.target ≤ ising_total self) }
         ensures greatest { IfOk result (λ made. IsReducedAsWritten made.target made.unit) }
     {
-        let fields = self.fields.as_slice();
-        let couplings = self.couplings.as_slice();
-        let unit = greatest_unit(fields, couplings);
+        let Ising {
+            constant,
+            fields,
+            couplings,
+        } = self;
+        let unit = greatest_unit(fields.as_slice(), &couplings);
         Ok(Reduced {
             target: Ising {
                 constant: 0,
-                fields: NumberList::new(weights_in(alloc, unit, fields)?),
-                couplings: EntryList::new(entries_in(alloc, unit, couplings)?),
+                fields: NumberList::new(divide_weights(fields.into_vec(), unit)),
+                couplings: couplings.divide(unit),
             },
             unit,
-            offset: -self.constant,
+            offset: -constant,
         })
     }
 }

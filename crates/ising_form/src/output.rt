@@ -1,29 +1,27 @@
 //! The models that are written for Ising forms.
-ghost use Rattle.std.specs.Prelude.{◌≡◌, ℕ, IfOk};
-ghost use Rattle.ising_form.specs.Outputs.{FitsOutput, written_entries};
+ghost use Rattle.std.specs.Prelude.{◌≡◌, ◌<◌, ◌^◌, IfOk, length};
+ghost use Rattle.ising_form.specs.Outputs.{AreNodes, FitsOutput, written_nodes};
 
-use crate::chained::chained_entries;
+use crate::chained::chained_nodes;
 use crate::ising::Ising;
-use bits_model::{ChainList, Entry, EntryList, Figures, Kind, NoMemory, OutputModel};
-use quad_form::entries_of;
+use bits_model::{ChainList, EntryList, Figures, Kind, NoMemory, NodeWeights, OutputModel};
+use quad_form::NumberList;
 use std::alloc::Global;
 
-/// The entries of a form's model of this kind.
-fn entries_for(
+/// The fields that a model of this kind has, which are moved where it has all.
+fn nodes_for(
     alloc: Global,
-    form: &Ising,
-    variables: u32,
+    fields: NumberList,
     kind: Kind,
     chains: &ChainList,
-) -> Result<Vec<Entry>, NoMemory>
-    requires { FitsOutput kind chains.now variables form.now }
-    ensures { IfOk result (λ es. es.items ≡ written_entries kind chains.now form.now) }
+) -> Result<NodeWeights, NoMemory>
+    requires narrow { length fields < 2 ^ 32 }
+    requires placed { AreNodes kind chains.now (length fields) }
+    ensures { IfOk result (λ nodes. nodes ≡ written_nodes kind chains.now fields) }
 {
-    let fields = form.fields.as_slice();
-    let couplings = form.couplings.as_slice();
     match kind {
-        Kind::Qubo | Kind::Ising => entries_of(alloc, fields, couplings),
-        Kind::Chimera { .. } => chained_entries(alloc, fields, couplings, chains.as_slice()),
+        Kind::Qubo | Kind::Ising => Ok(NodeWeights::numbered(fields.into_vec())),
+        Kind::Chimera { .. } => chained_nodes(alloc, fields.as_slice(), chains.as_slice()),
     }
 }
 
@@ -32,9 +30,10 @@ impl Ising {
     ghost use Rattle.ising_form.specs.Outputs.{written_of};
 
     /// The model of the form on these chains, whose energies count this unit: its constant is taken
-    /// off the offset and the threshold. A form in another unit than 1 has no constant.
+    /// off the offset and the threshold. A form in another unit than 1 has no constant. The model
+    /// takes the form's couplings as they lie in memory, and its fields too where it has all.
     pub fn output(
-        &self,
+        self,
         alloc: Global,
         variables: u32,
         figures: Figures,
@@ -42,22 +41,31 @@ impl Ising {
         kind: Kind,
         chains: ChainList,
     ) -> Result<OutputModel, NoMemory>
-        requires kind { FitsOutput kind chains variables self.now }
+        requires kind { FitsOutput kind chains variables self }
         requires scale { pos 1 ≤ℤ figures.scale }
         requires unit { pos 1 ≤ℤ unit }
-        requires constant { (unit ≡ pos 1) ⊎ (self.now.constant ≡ pos 0) }
+        requires constant { (unit ≡ pos 1) ⊎ (self.constant ≡ pos 0) }
         requires offset { unsigned_abs figures.offset < 2 ^ 125 }
         requires threshold { unsigned_abs figures.threshold < 2 ^ 125 }
-        ensures { IfOk result (λ m. m ≡ written_of self.now variables figures unit kind chains) }
+        ensures { IfOk result (λ m. m ≡ written_of self variables figures unit kind chains) }
     {
-        let entries = entries_for(alloc, self, variables, kind, &chains)?;
+        let Ising {
+            constant,
+            fields,
+            couplings,
+        } = self;
+        let nodes = fields.as_slice().len() as u32;
+        let weights = nodes_for(alloc, fields, kind, &chains)?;
         Ok(OutputModel {
             kind,
             variables,
-            figures: figures.moved(-self.constant),
+            figures: figures.moved(-constant),
             unit,
-            nodes: self.fields.as_slice().len() as u32,
-            entries: EntryList::new(entries),
+            nodes,
+            entries: EntryList {
+                nodes: weights,
+                couplers: couplings,
+            },
             chains,
         })
     }

@@ -89,8 +89,8 @@ pub fn spins_of(alloc: Global, source: &Quad) -> Result<Spins, NoMemory>
     ensures kept { IsQuad source.now }
 {
     let mut spins = spins_of_nodes(alloc, source.constant, source.diagonal.as_slice())?;
-    for coupler in source.couplers.as_slice() {
-        spins.add(coupler);
+    for coupler in source.couplers.iter() {
+        spins.add(&coupler);
     }
     Ok(spins)
 }

@@ -5,7 +5,7 @@ ghost use Rattle.std.specs.Prelude.{◌≡◌, IfOk};
 
 use crate::ising::Ising;
 use crate::spins::spins_of;
-use bits_model::{BitsLink, Costed, EntryList, Layer, Lowered, NoMemory};
+use bits_model::{BitsLink, Costed, Layer, Lowered, NoMemory};
 use quad_form::{NumberList, Quad};
 use std::alloc::Global;
 
@@ -64,12 +64,12 @@ impl Layer for ToSpins {
     fn lower(&self, alloc: Global, source: &Quad) -> Result<Lowered<Ising, BitsLink>, NoMemory> {
         let width = source.width();
         let spins = spins_of(alloc, source)?;
-        let couplings = source.couplers.as_slice().to_vec(alloc)?;
+        let couplings = source.couplers.copied(alloc)?;
         Ok(Lowered {
             target: Ising {
                 constant: spins.constant,
                 fields: NumberList::new(spins.fields),
-                couplings: EntryList::new(couplings),
+                couplings,
             },
             link: BitsLink {
                 source_width: width,

@@ -3,3 +3,4 @@ pub mod Numerals
 pub mod ModelRows
 pub mod QubitNumbers
 pub mod WholeTexts
+pub mod EntryCounts

@@ -1,10 +1,10 @@
 //! The rows of a text, each appended by a function of its own.
-ghost use Rattle.std.specs.Prelude.{◌≡◌, ◌++◌, ◌∷◌, OnOk, map, count_by};
+ghost use Rattle.std.specs.Prelude.{◌≡◌, ◌++◌, ◌∷◌, OnOk, map, count_by, cond, pos};
 ghost use Rattle.std.specs.List.{join_with_byte};
 ghost use Rattle.bits_model.specs.Output.{is_node, is_coupler};
 ghost use Rattle.model_text.specs.Rows.{row_text, rows_text, figure_row, figure_rows, chimera_row, chain_row, chain_rows, graph_rows, kind_words, header_row, entry_row, FitsFigures, FitsGraph};
 
-use bits_model::{Entry, Figures, Items, Kind, NoMemory};
+use bits_model::{Entry, EntryList, Figures, Items, Kind, NoMemory};
 use whole_text::push_number;
 
 /// A figure, after its name.
@@ -90,22 +90,47 @@ pub fn push_graph(out: &mut Vec<u8>, kind: Kind, chains: &[Items<u32>]) -> Resul
     Ok(())
 }
 
-fn count_nodes(entries: &[Entry]) -> usize
-    ensures { result ≡ count_by is_node entries.now }
+/// 1 where a fact holds, and else 0.
+fn one_if(holds: bool) -> i128
+    ensures { result ≡ cond holds (pos 1) (pos 0) }
 {
-    entries
-        .iter()
-        .filter(|entry| entry.first == entry.second)
-        .count()
+    if holds { 1 } else { 0 }
 }
 
-fn count_couplers(entries: &[Entry]) -> usize
-    ensures { result ≡ count_by is_coupler entries.now }
+fn is_node(entry: &Entry) -> bool
+    ensures { result ≡ is_node entry.now }
 {
-    entries
-        .iter()
-        .filter(|entry| entry.first < entry.second)
-        .count()
+    entry.first == entry.second
+}
+
+fn is_coupler(entry: &Entry) -> bool
+    ensures { result ≡ is_coupler entry.now }
+{
+    entry.first < entry.second
+}
+
+/// How many entries are those of nodes. The two lengths say that the number fits.
+fn count_nodes(entries: &EntryList) -> i128
+    ensures { result ≡ pos (count_by is_node entries.now) }
+{
+    let (_nodes, _couplers) = (entries.nodes.len(), entries.couplers.len());
+    let mut count: i128 = 0;
+    for entry in entries.iter() {
+        count += one_if(is_node(&entry));
+    }
+    count
+}
+
+/// How many entries are those of couplers. The two lengths say that the number fits.
+fn count_couplers(entries: &EntryList) -> i128
+    ensures { result ≡ pos (count_by is_coupler entries.now) }
+{
+    let (_nodes, _couplers) = (entries.nodes.len(), entries.couplers.len());
+    let mut count: i128 = 0;
+    for entry in entries.iter() {
+        count += one_if(is_coupler(&entry));
+    }
+    count
 }
 
 /// The words that name the kind.
@@ -123,7 +148,7 @@ pub fn push_header(
     out: &mut Vec<u8>,
     kind: Kind,
     nodes: u32,
-    entries: &[Entry],
+    entries: &EntryList,
 ) -> Result<(), NoMemory>
     ensures { let row = header_row kind nodes entries.now in
         OnOk result (out.new.items ≡ out.old.items ++ row_text row) }
@@ -132,9 +157,9 @@ pub fn push_header(
     out.push(b' ')?;
     push_number(out, i128::from(nodes))?;
     out.push(b' ')?;
-    push_number(out, count_nodes(entries) as i128)?;
+    push_number(out, count_nodes(entries))?;
     out.push(b' ')?;
-    push_number(out, count_couplers(entries) as i128)?;
+    push_number(out, count_couplers(entries))?;
     out.push(b'\n')?;
     Ok(())
 }
@@ -153,11 +178,11 @@ fn push_entry(out: &mut Vec<u8>, entry: &Entry) -> Result<(), NoMemory>
 }
 
 /// Each weight, in order.
-pub fn push_entries(out: &mut Vec<u8>, entries: &[Entry]) -> Result<(), NoMemory>
+pub fn push_entries(out: &mut Vec<u8>, entries: &EntryList) -> Result<(), NoMemory>
     ensures { OnOk result (out.new.items ≡ out.old.items ++ rows_text (map entry_row entries.now)) }
 {
-    for entry in entries {
-        push_entry(out, entry)?;
+    for entry in entries.iter() {
+        push_entry(out, &entry)?;
     }
     Ok(())
 }

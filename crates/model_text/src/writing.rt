@@ -12,8 +12,8 @@ pub fn written_text(alloc: Global, model: &OutputModel) -> Result<Vec<u8>, NoMem
     ensures text { IfOk result (λ text. text.items ≡ model_text model.now) }
     ensures one { IfOk result (λ text. TellsModel text.items model.now) }
 {
-    let entries = model.entries.as_slice();
-    let mut text = Vec::with_capacity(alloc, entries.len().saturating_mul(16))?;
+    let entries = &model.entries;
+    let mut text = Vec::with_capacity(alloc, entries.couplers.len().saturating_mul(16))?;
     push_figures(&mut text, model.figures, model.unit, model.variables)?;
     push_graph(&mut text, model.kind, model.chains.as_slice())?;
     push_header(&mut text, model.kind, model.nodes, entries)?;

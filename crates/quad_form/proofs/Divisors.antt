@@ -203,6 +203,23 @@ divisor_stays_one start ws vs c = record {
       c.greatest k p (All-from_recursion _ ws (Divides-of_more k ws vs (recursion_from_All _ _ q)));
 }
 
+-- of a weight before others
+pub divisor_before : (start : ℕ) (w : ℤ) (ws : List ℤ) (d e : ℕ) → IsGcd start (unsigned_abs w) d
+    → IsCommonDivisor d ws e → IsCommonDivisor start (w ∷ ws) e
+divisor_before start w ws d e gcd c =
+    let all : Divides e (w ∷ ws) = (dvd_trans e c.first gcd.1, recursion_from_All _ ws c.weights) in
+    record {
+      first = dvd_trans e c.first gcd.0;
+      weights = All-from_recursion _ (w ∷ ws) all;
+      greatest = λ k p q.
+          let each : Divides k (w ∷ ws) = recursion_from_All _ (w ∷ ws) q in
+          c.greatest k (gcd.2 k p each.0) (All-from_recursion _ ws each.1);
+    }
+
+-- of 1 and others
+pub divisor_of_one : (ws : List ℤ) → IsCommonDivisor 1 ws 1
+divisor_of_one ws = divisor_stays_one 1 [] ws (divisor_at_first 1)
+
 -- one list after another
 pub divisor_of_both : (ws vs : List ℤ) (d e : ℕ) → IsCommonDivisor 0 ws d → IsCommonDivisor d vs e
     → IsCommonDivisor 0 (ws ++ vs) e

@@ -1,5 +1,5 @@
 -- Parts of a form where terms over variables are placed: their widths, and the sums of their sizes.
-use Rattle.std.proofs.Common.{◌≡◌, ◌≢◌, ℕ, ◌+◌, ◌*◌, ◌<◌, ◌≤◌, ◌^◌, ℤ, pos, unsigned_abs, List, [], ◌∷◌, length, All, fold, sym, ap, ◌∙◌, subst, arith}
+use Rattle.std.proofs.Common.{◌≡◌, ◌≢◌, ℕ, ◌+◌, ◌*◌, ◌<◌, ◌≤◌, ◌^◌, ℤ, pos, unsigned_abs, List, [], ◌∷◌, length, All, fold, refl, sym, ap, ◌∙◌, subst, arith}
 use Rattle.std.specs.List.{AllByRecursion}
 use Rattle.std.proofs.Math.Nat.{mul-le-mul_left}
 use Rattle.std.proofs.lemmas.List.Elements.{All-head, All-from_recursion, recursion_from_All}
@@ -13,7 +13,7 @@ use Rattle.term_table.proofs.KeptTerms.{OfSet}
 use Rattle.quad_form.specs.Quads.{QuadContent, node_entries, quad_total, IsCoupler, IsQuad}
 use Rattle.quad_form.specs.Flat.{plain_terms, contributions, with_term, quad_of, IsFlat}
 use Rattle.quad_form.specs.laws.Flattened.{length-fold, flat_contributions}
-use Rattle.quad_form.specs.Pairs.{IsPair, AreSummed}
+use Rattle.quad_form.specs.Pairs.{IsPair, IsSettled, AreSummed, weight_at}
 use Rattle.quad_form.proofs.NodeEnergies.{weights-append}
 use Rattle.quad_form.proofs.FlatSums.{terms_total-plain_terms, terms_total-contributions}
 use Rattle.quad_form.proofs.FlatForms.{quad_total-with_term, quad_total-fold, quad_total-of, couplers_of, pairs_of}
@@ -127,3 +127,9 @@ IsQuad-settled q diagonal made couplers narrow pairs small e summed f =
             weights-append (node_entries 0 q.diagonal) q.couplers,
           );
     })
+
+pub settled-summed : (q : QuadContent) (diagonal : List ℤ) (made couplers : List Entry)
+    → diagonal ≡ q.diagonal → AreSummed q.couplers made → couplers ≡ made
+    → IsSettled q (record { constant = q.constant; diagonal = diagonal; couplers = couplers })
+settled-summed q diagonal made couplers e summed f =
+    record { constant = refl; diagonal = e; sums = λ i j. ap (weight_at i j) f ∙ summed.sums i j }

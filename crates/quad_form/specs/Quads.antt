@@ -1,5 +1,5 @@
 -- Quadratic forms: a constant, a weight for each node, and couplers.
-use Rattle.std.specs.Prelude.{◌≢◌, ℕ, suc, ◌+◌, ◌≤◌, ◌<◌, ◌^◌, ℤ, pos, neg_ℤ, ◌+ℤ◌, unsigned_abs, Bool, List, [], ◌∷◌, ◌++◌, length, All, if◌then◌else◌}
+use Rattle.std.specs.Prelude.{◌≢◌, ℕ, ◌+◌, ◌≤◌, ◌<◌, ◌^◌, ℤ, pos, neg_ℤ, ◌+ℤ◌, unsigned_abs, Bool, List, [], ◌++◌, length, All, if◌then◌else◌}
 use Rattle.std.specs.List.{sum_by}
 use Rattle.std.specs.List.Sorted.{IsStrictlySortedBy}
 use Rattle.std.specs.Ordering.{int_eq}
@@ -10,6 +10,7 @@ use Rattle.bits_model.specs.declared.output.Entry.{Entry}
 use Rattle.bits_model.specs.declared.output.Kind.TheVariants.{Qubo}
 use Rattle.bits_model.specs.Costs.{Form}
 use Rattle.bits_model.specs.Relations.{figures_moved}
+pub use Rattle.bits_model.specs.Entries.{node_entries}
 use Rattle.bits_model.specs.Output.{Written, entry_cmp, bits_energy, weight_total, entry_size}
 
 -- what a quadratic form says
@@ -17,11 +18,6 @@ pub record QuadContent : Type 0 where
   pub constant : ℤ
   pub diagonal : List ℤ
   pub couplers : List Entry
-
--- the entries of nodes with these weights, numbered from n on
-abbrev pub node_entries : ℕ → List ℤ → List Entry
-node_entries n [] = []
-node_entries n (w ∷ ws) = record { first = n; second = n; weight = w } ∷ node_entries (suc n) ws
 
 -- the entries of nodes, and then those of couplers
 abbrev pub entries_of : QuadContent → List Entry

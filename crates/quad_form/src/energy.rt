@@ -1,21 +1,11 @@
 //! The cost of a quadratic form.
 ghost use Rattle.std.specs.Prelude.{◌≡◌, ◌≤◌, ◌^◌};
 ghost use Rattle.integers.specs.Sums.{if_so, total_by};
-ghost use Rattle.bits_model.specs.Output.{bit_at, bits_energy, weight_total};
+ghost use Rattle.bits_model.specs.Output.{bits_energy, weight_total};
 ghost use Rattle.quad_form.specs.Quads.{node_entries};
 
 use crate::quad::Quad;
-use bits_model::{Cost, Costed, Kind, total_energy};
-
-/// The bit of a node.
-fn bit_at(y: &[bool], node: usize) -> bool
-    ensures { result ≡ bit_at y.now node }
-{
-    match y.get(node) {
-        Some(bit) => *bit,
-        None => false,
-    }
-}
+use bits_model::{Cost, Costed, Kind, bit_at, couplers_energy};
 
 /// The weight of a node that is 1, and 0 for one that is not.
 fn node_energy(bit: bool, weight: &i128) -> i128
@@ -52,7 +42,7 @@ impl Costed for Quad {
     /// It is never infinite.
     fn cost(&self, y: &[bool]) -> Cost {
         let nodes = diagonal_energy(y, self.diagonal.as_slice());
-        let couplers = total_energy(Kind::Qubo, y, self.couplers.as_slice());
+        let couplers = couplers_energy(Kind::Qubo, y, &self.couplers);
         Cost::Whole(self.constant + (nodes + couplers))
     }
 }

@@ -12,5 +12,5 @@ mod units;
 
 pub use flatten::Flatten;
 pub use laws::written_stands_for_its_form;
-pub use quad::{NumberList, Quad, entries_of};
-pub use units::{entries_in, greatest_unit, weights_in};
+pub use quad::{NumberList, Quad};
+pub use units::greatest_unit;

@@ -6,7 +6,7 @@ ghost use Rattle.quad_form.specs.Pairs.{IsPair, IsSettled};
 
 use crate::couplers::sorted_sums;
 use crate::quad::{NumberList, Quad};
-use bits_model::{Entry, EntryList, NoMemory};
+use bits_model::{CouplerList, Entry, NoMemory};
 use problem_form::Literal;
 use std::alloc::Global;
 use std::marker::Model;
@@ -63,17 +63,24 @@ impl Parts {
     }
 
     /// The form of these parts, in which each pair has one coupler.
-    pub fn into_quad(self) -> Quad
+    pub fn into_quad(self, alloc: Global) -> Result<Quad, NoMemory>
         requires narrow { length self.diagonal < 2 ^ 32 }
         requires pairs { All (IsPair (length self.diagonal)) self.couplers }
         requires small { quad_total self ≤ 2 ^ 124 }
-        ensures settled { IsSettled self result }
-        ensures kept { IsQuad result }
+        ensures settled { IfOk result (λ quad. IsSettled self quad) }
+        ensures kept { IfOk result (λ quad. IsQuad quad) }
     {
-        Quad {
-            constant: self.constant,
-            diagonal: NumberList::new(self.diagonal),
-            couplers: EntryList::new(sorted_sums(self.couplers)),
-        }
+        let Parts {
+            constant,
+            diagonal,
+            couplers,
+        } = self;
+        let summed = sorted_sums(couplers);
+        let couplers = CouplerList::of(alloc, &summed)?;
+        Ok(Quad {
+            constant,
+            diagonal: NumberList::new(diagonal),
+            couplers,
+        })
     }
 }

@@ -5,34 +5,37 @@ ghost use Rattle.quad_form.specs.Quads.{form_of, quad_total};
 ghost use Rattle.quad_form.specs.Units.{quad_unit, reduced, IsReducedAsWritten};
 
 use crate::quad::{NumberList, Quad};
-use crate::units::{entries_in, greatest_unit, weights_in};
-use bits_model::{EntryList, NoMemory, Reduced};
-use std::alloc::Global;
+use crate::units::greatest_unit;
+use bits_model::{NoMemory, Reduced, divide_weights};
 
 impl Quad {
-    /// The form whose weights are counted in their greatest unit, without the constant.
-    pub fn reduce(&self, alloc: Global) -> Result<Reduced<Quad>, NoMemory>
-        ensures target { IfOk result (λ made. made.target ≡ reduced self.now) }
-        ensures unit { IfOk result (λ made. made.unit ≡ quad_unit self.now) }
-        ensures offset { IfOk result (λ made. made.offset ≡ neg_ℤ self.now.constant) }
+    /// The form whose weights are counted in their greatest unit, without the constant. The weights
+    /// are divided in place.
+    pub fn reduce(self) -> Result<Reduced<Quad>, NoMemory>
+        ensures target { IfOk result (λ made. made.target ≡ reduced self) }
+        ensures unit { IfOk result (λ made. made.unit ≡ quad_unit self) }
+        ensures offset { IfOk result (λ made. made.offset ≡ neg_ℤ self.constant) }
 
         ensures reduces { IfOk result (λ made.
-            Reduces (form_of self.now) (form_of made.target) made.unit made.offset) }
+            Reduces (form_of self) (form_of made.target) made.unit made.offset) }
         ensures total { IfOk result (λ made.
-            unsigned_abs made.unit * quad_total made.target ≤ quad_total self.now) }
+            unsigned_abs made.unit * quad_total made.target ≤ quad_total self) }
         ensures greatest { IfOk result (λ made. IsReducedAsWritten made.target made.unit) }
     {
-        let nodes = self.diagonal.as_slice();
-        let couplers = self.couplers.as_slice();
-        let unit = greatest_unit(nodes, couplers);
+        let Quad {
+            constant,
+            diagonal,
+            couplers,
+        } = self;
+        let unit = greatest_unit(diagonal.as_slice(), &couplers);
         Ok(Reduced {
             target: Quad {
                 constant: 0,
-                diagonal: NumberList::new(weights_in(alloc, unit, nodes)?),
-                couplers: EntryList::new(entries_in(alloc, unit, couplers)?),
+                diagonal: NumberList::new(divide_weights(diagonal.into_vec(), unit)),
+                couplers: couplers.divide(unit),
             },
             unit,
-            offset: -self.constant,
+            offset: -constant,
         })
     }
 }

@@ -1,35 +1,37 @@
-use Rattle.std.proofs.Common.{◌≡◌, pos, ◌+ℤ◌, to_z, of_z, get_or, arith}
+use Rattle.std.proofs.Common.{◌≡◌, ◌+ℤ◌, to_z, of_z, arith}
 use Rattle.std.specs.Int.{w128}
 use Rattle.std.proofs.lemmas.Int.{ints}
-use Rattle.bits_model.specs.declared.output.Entry.{Entry}
 use Rattle.bits_model.specs.Output.{entry_energy}
-use Rattle.bits_model.proofs.Energies.{energy_more, size_more, size-entry_energy, weight_within}
+use Rattle.bits_model.proofs.Energies.{energy_left, weight_left, size-entry_energy, size_left}
 use Rattle.bits_model.proofs.energy.total_energy.Goals as goal
+
+pub entry_energy-energy-requires : goal.entry_energy-energy-requires
+entry_energy-energy-requires c =
+    omega (arith, c.loop-entry.invariant.small, weight_left _ _ c.in-Some.entry c.in-Some.ensures.steps)
 
 pub overflow_add-energy : goal.overflow_add-energy
 overflow_add-energy c =
-    let es = c.args.entries.now in
-    let i = c.loop-entry.entry-index in
-    let d : Entry = record { first = 0; second = 0; weight = pos 0 } in
-    let small = size-entry_energy c.args.kind c.args.y.now (get_or es i d) in
-    let within = weight_within es i d c.loop-entry-test.true in
-    omega (arith, ints, c.entry_energy-energy.ensures, c.loop-entry.invariant.small, small, within)
+    let small =
+    size_left c.args.kind c.args.y.now _ _ c.in-Some.entry (to_z w128 c.loop-entry.energy-bits) _
+    c.in-Some.ensures.steps c.loop-entry.invariant.small in
+    let added = size-entry_energy c.args.kind c.args.y.now c.in-Some.entry in
+    let within = weight_left _ _ c.in-Some.entry c.in-Some.ensures.steps in
+    omega (arith, ints, c.entry_energy-energy.ensures, small, added, within, c.loop-entry.invariant.small)
 
 pub loop-entry-preserved : goal.loop-entry-preserved
 loop-entry-preserved c =
-    let es = c.args.entries.now in
-    let i = c.loop-entry.entry-index in
     let kind = c.args.kind in
     let y = c.args.y.now in
-    let d : Entry = record { first = 0; second = 0; weight = pos 0 } in
+    let e = c.in-Some.entry in
     let so_far = to_z w128 c.loop-entry.energy-bits in
-    let added = entry_energy kind y (get_or es i d) in
-    let small = size-entry_energy kind y (get_or es i d) in
-    let within = weight_within es i d c.loop-entry-test.true in
-    let bound = c.loop-entry.invariant.small in
-    let next : to_z w128 (of_z w128 (so_far +ℤ to_z w128 (of_z w128 c.entry_energy-energy.result))) ≡ so_far +ℤ added =
-    omega (arith, ints, c.entry_energy-energy.ensures, bound, small, within) in
+    let left = c.in-Some.ensures.steps in
+    let small = size_left kind y _ _ e so_far _ left c.loop-entry.invariant.small in
+    let added = size-entry_energy kind y e in
+    let within = weight_left _ _ e left in
+    let value : to_z w128 (of_z w128 (so_far +ℤ to_z w128 (of_z w128 c.entry_energy-energy.result)))
+    ≡ so_far +ℤ entry_energy kind y e =
+    omega (arith, ints, c.entry_energy-energy.ensures, small, added, within, c.loop-entry.invariant.small) in
     record {
-      so_far = rw next (energy_more kind y es i d so_far c.loop-entry-test.true c.loop-entry.invariant.so_far);
-      small = rw next (size_more kind y es i d so_far c.loop-entry-test.true bound);
+      whole = rw value (omega (arith, ints, energy_left kind y _ _ e left, c.loop-entry.invariant.whole));
+      small = rw value small;
     }

@@ -1,56 +1,53 @@
-use Rattle.std.proofs.Common.{◌≡◌, ℕ, ◌+◌, ◌<◌, List, pos, ◌+ℤ◌, unsigned_abs, take, get_or, length, All, subst, sym, ap, ◌∙◌, arith}
+use Rattle.std.proofs.Common.{ℕ, ◌<◌, pos, ◌+ℤ◌, unsigned_abs, take, get_or, length, subst, sym, ap, ◌∙◌, arith}
 use Rattle.std.proofs.lemmas.List.Elements.{All-get_or}
 use Rattle.bits_model.specs.declared.output.Entry.{Entry}
-use Rattle.bits_model.specs.Output.{weight_total}
 use Rattle.bits_model.proofs.Energies.{weight_within}
 use Rattle.quad_form.specs.Quads.{QuadContent, IsQuad, IsCoupler, node_entries}
 use Rattle.quad_form.proofs.NodeEnergies.{weights-append}
 use Rattle.ising_form.specs.Spins.{spins_constant, spins_fields, raised}
 use Rattle.ising_form.specs.laws.Spun.{length-fields}
+use Rattle.ising_form.proofs.CouplerSteps.{taken, next_taken, all_taken}
 use Rattle.ising_form.proofs.FieldSums.{node_total, size-fields, size-constant, constant_coupled, fields_coupled}
 use Rattle.ising_form.proofs.spins.spins_of.Goals as goal
 
 -- a coupler of the list is one of the form
-place : (q : QuadContent) (es : List Entry) (i : ℕ) → IsQuad q → es ≡ q.couplers → i < length es
-    → IsCoupler (length q.diagonal) (get_or es i (record { first = 0; second = 0; weight = pos 0 }))
-place q es i quad same h =
-    All-get_or (IsCoupler (length q.diagonal)) es i _ h
-    (subst (λ cs. All (IsCoupler (length q.diagonal)) cs) (sym same) quad.couplers)
+place : (q : QuadContent) (i : ℕ) → IsQuad q → i < length q.couplers
+    → IsCoupler (length q.diagonal) (get_or q.couplers i (record { first = 0; second = 0; weight = pos 0 }))
+place q i quad h = All-get_or (IsCoupler (length q.diagonal)) q.couplers i _ h quad.couplers
 
 pub add-requires-clause-second : goal.add-requires-clause-second
 add-requires-clause-second c =
     let q = c.args.source.now in
-    let es = c.as_slice-coupler-items.result.now in
-    let i = c.loop-coupler.coupler-index in
-    let same : es ≡ q.couplers = c.as_slice-coupler-items.ensures ∙ ap (λ (f : QuadContent). f.couplers) c.source.view_is in
+    let d : Entry = record { first = 0; second = 0; weight = pos 0 } in
+    let step = next_taken q.couplers _ _ c.in-Some.coupler d c.loop-coupler.invariant.here c.in-Some.ensures.steps in
     let quad : IsQuad q = subst IsQuad c.source.view_is c.source.invariant in
     let width = ap length c.loop-coupler.invariant.fields ∙ length-fields _ 0 q.diagonal in
-    omega (arith, (place q es i quad same c.loop-coupler-test.true).within, width)
+    let second = ap (λ (e : Entry). e.second) step.item in
+    omega (arith, (place q (taken q.couplers c.loop-coupler.coupler-iterator) quad step.below).within, width, second)
 
 pub add-requires-clause-first : goal.add-requires-clause-first
 add-requires-clause-first c =
     let q = c.args.source.now in
-    let es = c.as_slice-coupler-items.result.now in
-    let i = c.loop-coupler.coupler-index in
-    let same : es ≡ q.couplers = c.as_slice-coupler-items.ensures ∙ ap (λ (f : QuadContent). f.couplers) c.source.view_is in
+    let d : Entry = record { first = 0; second = 0; weight = pos 0 } in
+    let step = next_taken q.couplers _ _ c.in-Some.coupler d c.loop-coupler.invariant.here c.in-Some.ensures.steps in
     let quad : IsQuad q = subst IsQuad c.source.view_is c.source.invariant in
     let width = ap length c.loop-coupler.invariant.fields ∙ length-fields _ 0 q.diagonal in
-    let is = place q es i quad same c.loop-coupler-test.true in
-    omega (arith, is.upward, is.within, width)
+    let is = place q (taken q.couplers c.loop-coupler.coupler-iterator) quad step.below in
+    let first = ap (λ (e : Entry). e.first) step.item in
+    omega (arith, is.upward, is.within, width, first)
 
 pub add-requires-clause-constant : goal.add-requires-clause-constant
 add-requires-clause-constant c =
     let q = c.args.source.now in
-    let es = c.as_slice-coupler-items.result.now in
-    let i = c.loop-coupler.coupler-index in
-    let same : es ≡ q.couplers = c.as_slice-coupler-items.ensures ∙ ap (λ (f : QuadContent). f.couplers) c.source.view_is in
+    let d : Entry = record { first = 0; second = 0; weight = pos 0 } in
+    let i = taken q.couplers c.loop-coupler.coupler-iterator in
+    let step = next_taken q.couplers _ _ c.in-Some.coupler d c.loop-coupler.invariant.here c.in-Some.ensures.steps in
     omega (
       arith,
       ap unsigned_abs c.loop-coupler.invariant.constant,
       size-constant q.constant q.diagonal (take i q.couplers),
-      weight_within es i (record { first = 0; second = 0; weight = pos 0 }) c.loop-coupler-test.true,
-      ap (λ cs. weight_total (take i cs)) same,
-      ap weight_total same,
+      weight_within q.couplers i d step.below,
+      ap (λ (e : Entry). unsigned_abs e.weight) step.item,
       weights-append (node_entries 0 q.diagonal) q.couplers,
       c.requires,
     )
@@ -58,16 +55,15 @@ add-requires-clause-constant c =
 pub add-requires-clause-fields : goal.add-requires-clause-fields
 add-requires-clause-fields c =
     let q = c.args.source.now in
-    let es = c.as_slice-coupler-items.result.now in
-    let i = c.loop-coupler.coupler-index in
-    let same : es ≡ q.couplers = c.as_slice-coupler-items.ensures ∙ ap (λ (f : QuadContent). f.couplers) c.source.view_is in
+    let d : Entry = record { first = 0; second = 0; weight = pos 0 } in
+    let i = taken q.couplers c.loop-coupler.coupler-iterator in
+    let step = next_taken q.couplers _ _ c.in-Some.coupler d c.loop-coupler.invariant.here c.in-Some.ensures.steps in
     omega (
       arith,
       ap (node_total 0) c.loop-coupler.invariant.fields,
       size-fields q.diagonal (take i q.couplers),
-      weight_within es i (record { first = 0; second = 0; weight = pos 0 }) c.loop-coupler-test.true,
-      ap (λ cs. weight_total (take i cs)) same,
-      ap weight_total same,
+      weight_within q.couplers i d step.below,
+      ap (λ (e : Entry). unsigned_abs e.weight) step.item,
       weights-append (node_entries 0 q.diagonal) q.couplers,
       c.requires,
     )
@@ -75,22 +71,36 @@ add-requires-clause-fields c =
 pub loop-coupler-preserved : goal.loop-coupler-preserved
 loop-coupler-preserved c =
     let q = c.args.source.now in
-    let es = c.as_slice-coupler-items.result.now in
-    let i = c.loop-coupler.coupler-index in
+    let es = q.couplers in
     let d : Entry = record { first = 0; second = 0; weight = pos 0 } in
-    let h = c.loop-coupler-test.true in
-    let e = get_or es i d in
-    let same : es ≡ q.couplers = c.as_slice-coupler-items.ensures ∙ ap (λ (f : QuadContent). f.couplers) c.source.view_is in
+    let e = c.in-Some.coupler in
+    let i = taken es c.loop-coupler.coupler-iterator in
+    let step = next_taken es _ _ e d c.loop-coupler.invariant.here c.in-Some.ensures.steps in
     let quad : IsQuad q = subst IsQuad c.source.view_is c.source.invariant in
-    let is = place q es i quad same h in
-    let first : e.first < length q.diagonal = omega (arith, is.upward, is.within) in
+    let is = place q i quad step.below in
+    let first : (get_or es i d).first < length q.diagonal = omega (arith, is.upward, is.within) in
     record {
+      here = step.here;
       constant = c.add.ensures.constant
-          ∙ ap (λ z. z +ℤ e.weight) (c.loop-coupler.invariant.constant ∙ ap (λ cs. spins_constant q.constant q.diagonal (take i cs)) (sym same))
-          ∙ sym (constant_coupled q.constant q.diagonal es i d h)
-          ∙ ap (λ cs. spins_constant q.constant q.diagonal (take (i + 1) cs)) same;
+          ∙ ap (λ z. z +ℤ e.weight) c.loop-coupler.invariant.constant
+          ∙ ap (λ (x : Entry). spins_constant q.constant q.diagonal (take i es) +ℤ x.weight) step.item
+          ∙ sym (constant_coupled q.constant q.diagonal es i d step.below)
+          ∙ ap (λ n. spins_constant q.constant q.diagonal (take n es)) (sym step.next);
       fields = c.add.ensures.fields
-          ∙ ap (λ hs. raised (raised hs e.first e.weight) e.second e.weight) (c.loop-coupler.invariant.fields ∙ ap (λ cs. spins_fields q.diagonal (take i cs)) (sym same))
-          ∙ sym (fields_coupled q.diagonal es i d h first is.within)
-          ∙ ap (λ cs. spins_fields q.diagonal (take (i + 1) cs)) same;
+          ∙ ap (λ hs. raised (raised hs e.first e.weight) e.second e.weight) c.loop-coupler.invariant.fields
+          ∙ ap (λ (x : Entry). raised (raised (spins_fields q.diagonal (take i es)) x.first x.weight) x.second x.weight) step.item
+          ∙ sym (fields_coupled q.diagonal es i d step.below first is.within)
+          ∙ ap (λ n. spins_fields q.diagonal (take n es)) (sym step.next);
     }
+
+pub returns-clause-constant : goal.returns-clause-constant
+returns-clause-constant c =
+    let q = c.args.source.now in
+    c.loop-coupler.invariant.constant
+    ∙ ap (λ cs. spins_constant q.constant q.diagonal cs) (all_taken q.couplers _ c.in-None.ensures.steps.0)
+
+pub returns-clause-fields : goal.returns-clause-fields
+returns-clause-fields c =
+    let q = c.args.source.now in
+    c.loop-coupler.invariant.fields
+    ∙ ap (λ cs. spins_fields q.diagonal cs) (all_taken q.couplers _ c.in-None.ensures.steps.0)

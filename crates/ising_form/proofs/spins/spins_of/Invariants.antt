@@ -1,10 +1,14 @@
-use Rattle.std.proofs.Common.{◌≡◌, take}
+use Rattle.std.proofs.Common.{◌≡◌, take, drop}
 use Rattle.ising_form.specs.Spins.{spins_constant, spins_fields}
+use Rattle.ising_form.proofs.CouplerSteps.{taken}
 use Rattle.ising_form.proofs.spins.spins_of.Given as goal
 
 -- the constant and the fields of all nodes and the couplers so far
 abbrev pub invariant-loop-coupler : goal.invariant-loop-coupler
 invariant-loop-coupler l = record {
-  constant : l.spins.constant ≡ spins_constant l.source.constant l.source.diagonal (take l.coupler-index l.source.couplers);
-  fields : l.spins.fields.items ≡ spins_fields l.source.diagonal (take l.coupler-index l.source.couplers);
+  here : l.coupler-iterator ≡ drop (taken l.source.couplers l.coupler-iterator) l.source.couplers;
+  constant : l.spins.constant
+      ≡ spins_constant l.source.constant l.source.diagonal (take (taken l.source.couplers l.coupler-iterator) l.source.couplers);
+  fields : l.spins.fields.items
+      ≡ spins_fields l.source.diagonal (take (taken l.source.couplers l.coupler-iterator) l.source.couplers);
 }

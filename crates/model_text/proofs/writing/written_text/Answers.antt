@@ -1,5 +1,4 @@
 use Rattle.std.proofs.Common.{◌≡◌, ◌++◌, ◌<◌, ◌^◌, ℕ, List, map, sym, ap, subst, ◌∙◌, rules}
-use Rattle.bits_model.specs.declared.output.Entry.{Entry}
 use Rattle.bits_model.specs.declared.output.OutputModel.TheInside.{Inside}
 use Rattle.bits_model.specs.Output.{Written}
 use Rattle.model_text.specs.Rows.{row_text, rows_text, figure_rows, graph_rows, header_row, entry_row, model_text, FitsFields}
@@ -34,12 +33,9 @@ returns-clause-text c =
     c.in_ok-push_graph.ensures.text
     ∙ ap (λ (cs : List (List ℕ)). t1 ++ rows_text (graph_rows m.kind cs)) c.as_slice.ensures in
     let headed : t3 ≡ t2 ++ row_text (header_row m.kind m.nodes m.entries) =
-    c.in_ok-push_header.ensures
-    ∙ ap (λ (es : List Entry). t2 ++ row_text (header_row m.kind m.nodes es))
-    c.as_slice-entries.ensures in
+    c.in_ok-push_header.ensures in
     let weighed : t4 ≡ t3 ++ rows_text (map entry_row m.entries) =
-    c.in_ok-push_entries.ensures
-    ∙ ap (λ (es : List Entry). t3 ++ rows_text (map entry_row es)) c.as_slice-entries.ensures in
+    c.in_ok-push_entries.ensures in
     parts_are_text m t1 t2 t3 t4 figured graphed headed weighed ∙ ap model_text c.model.view_is
 
 pub returns-clause-one : goal.returns-clause-one

@@ -1,7 +1,8 @@
-use Rattle.std.proofs.Common.{map, take}
+use Rattle.std.proofs.Common.{ℕ, map}
 use Rattle.quad_form.specs.Units.{IsCommonDivisor, weight_of}
 use Rattle.quad_form.proofs.units.divisor_with.Given as goal
 
--- it is that of the entries so far
-abbrev pub invariant-loop-entry : goal.invariant-loop-entry
-invariant-loop-entry l = IsCommonDivisor l.start (map weight_of (take l.entry-index l.entries)) l.divisor
+-- with the couplers that are left it makes up that of all
+abbrev pub invariant-loop-coupler : goal.invariant-loop-coupler
+invariant-loop-coupler l = (d : ℕ) → IsCommonDivisor l.divisor (map weight_of l.coupler-iterator) d
+    → IsCommonDivisor l.start (map weight_of l.couplers) d

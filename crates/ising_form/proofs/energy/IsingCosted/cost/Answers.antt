@@ -17,7 +17,7 @@ overflow_add-result c =
     let nodes = node_entries 0 c.self.inside.fields in
     let couplings = c.self.inside.couplings in
     let first = c.fields_energy-nodes.ensures ∙ ap (λ (ws : List ℤ). total_by (spins_energy y) (node_entries 0 ws)) c.as_slice.ensures in
-    let second = c.total_energy-couplings.ensures ∙ ap (total_by (spins_energy y)) c.as_slice-2.ensures in
+    let second = c.couplers_energy-couplings.ensures in
     omega (arith, ints, first, second, size-energy y nodes, size-energy y couplings, weights-append nodes couplings, c.self.invariant.small)
 
 pub overflow_add-result-2 : goal.overflow_add-result-2
@@ -26,7 +26,7 @@ overflow_add-result-2 c =
     let nodes = node_entries 0 c.self.inside.fields in
     let couplings = c.self.inside.couplings in
     let first = c.fields_energy-nodes.ensures ∙ ap (λ (ws : List ℤ). total_by (spins_energy y) (node_entries 0 ws)) c.as_slice.ensures in
-    let second = c.total_energy-couplings.ensures ∙ ap (total_by (spins_energy y)) c.as_slice-2.ensures in
+    let second = c.couplers_energy-couplings.ensures in
     omega (arith, ints, first, second, size-energy y nodes, size-energy y couplings, weights-append nodes couplings, c.self.invariant.small)
 
 pub returns : goal.returns
@@ -35,8 +35,8 @@ returns c =
     let q : IsingContent = record { constant = c.self.inside.constant; fields = c.self.inside.fields; couplings = c.self.inside.couplings } in
     let nodes = node_entries 0 q.fields in
     let first = c.fields_energy-nodes.ensures ∙ ap (λ (ws : List ℤ). total_by (spins_energy y) (node_entries 0 ws)) c.as_slice.ensures in
-    let second = c.total_energy-couplings.ensures ∙ ap (total_by (spins_energy y)) c.as_slice-2.ensures in
+    let second = c.couplers_energy-couplings.ensures in
     let whole = total_by-append (spins_energy y) nodes q.couplings in
-    let sum : to_z w128 (of_z w128 (to_z w128 (of_z w128 q.constant) +ℤ to_z w128 (of_z w128 (to_z w128 (of_z w128 c.fields_energy-nodes.result) +ℤ to_z w128 (of_z w128 c.total_energy-couplings.result))))) ≡ ising_value q y =
+    let sum : to_z w128 (of_z w128 (to_z w128 (of_z w128 q.constant) +ℤ to_z w128 (of_z w128 (to_z w128 (of_z w128 c.fields_energy-nodes.result) +ℤ to_z w128 (of_z w128 c.couplers_energy-couplings.result))))) ≡ ising_value q y =
     omega (arith, ints, first, second, whole, size-energy y nodes, size-energy y q.couplings, weights-append nodes q.couplings, c.self.invariant.small) in
     ap Whole (sum ∙ ap (λ (f : IsingContent). ising_value f y) c.self.view_is)

@@ -1,38 +1,43 @@
-use Rattle.std.proofs.Common.{◌≡◌, ◌≤◌, ◌^◌, length, subst, sym, ap, ◌∙◌, to_z, of_z, pos, neg_ℤ, ◌-ℤ◌, arith, rules}
+use Rattle.std.proofs.Common.{◌≡◌, ◌≤◌, ◌^◌, ◌++◌, length, subst, sym, ap, ◌∙◌, to_z, of_z, pos, neg_ℤ, ◌-ℤ◌, arith, rules}
 use Rattle.std.specs.Int.{w128}
 use Rattle.std.proofs.lemmas.Int.{ints, to_z-of_z}
 use Rattle.bits_model.specs.Output.{Written, IsWellFormed, weight_total}
 use Rattle.bits_model.specs.Relations.{figures_moved}
 use Rattle.ising_form.specs.Isings.{IsingContent, IsIsing}
-use Rattle.ising_form.specs.Outputs.{written_entries, written_of}
-use Rattle.ising_form.proofs.WrittenModels.{written_is_well_formed, written_total}
+use Rattle.ising_form.specs.Outputs.{AreNodes, written_entries, written_of}
+use Rattle.ising_form.proofs.WrittenModels.{written_is_well_formed, written_total, nodes_and_couplings, are_nodes}
 use Rattle.ising_form.proofs.ising.Ising.output.Goals as goal
 
+pub nodes_for-requires-clause-placed : goal.nodes_for-requires-clause-placed
+nodes_for-requires-clause-placed c =
+    let fits = are_nodes c.args.kind c.args.chains c.args.variables c.args.self c.requires.kind in
+    subst (λ (f : IsingContent). AreNodes c.args.kind c.args.chains (length f.fields)) (sym c.self.view_is) fits
+
 -- what the code makes
-abbrev made : (c : goal.After-new) → Written
+abbrev made : (c : goal.After-moved) → Written
 made c = record {
   kind = c.args.kind;
   variables = c.args.variables;
   figures = c.moved.result;
   unit = to_z w128 (of_z w128 c.args.unit);
   nodes = length c.as_slice.result.now;
-  entries = c.new.result;
+  entries = c.in_ok-weights.weights ++ c.self.inside.couplings;
   chains = c.args.chains;
 }
 
 -- .. is the model of the form
-made_is : (c : goal.After-new)
+made_is : (c : goal.After-moved)
     → made c
-    ≡ written_of c.args.self.now c.args.variables c.args.figures c.args.unit c.args.kind c.args.chains
+    ≡ written_of c.args.self c.args.variables c.args.figures c.args.unit c.args.kind c.args.chains
 made_is c =
-    let f = c.args.self.now in
-    let less : to_z w128 (of_z w128 (pos 0 -ℤ to_z w128 (of_z w128 c.self.inside.constant))) ≡ neg_ℤ c.self.inside.constant = omega (arith, ints, c.self.invariant.small) in
-    let constant = less ∙ ap (λ (g : IsingContent). neg_ℤ g.constant) c.self.view_is in
-    let figures = c.moved.ensures ∙ ap (figures_moved c.args.figures) constant in
+    let inside = c.self.inside in
+    let f : IsingContent = record { constant = inside.constant; fields = inside.fields; couplings = inside.couplings } in
+    let less : to_z w128 (of_z w128 (pos 0 -ℤ to_z w128 (of_z w128 f.constant))) ≡ neg_ℤ f.constant = omega (arith, ints, c.self.invariant.small) in
+    let figures = c.moved.ensures ∙ ap (figures_moved c.args.figures) less in
     let unit = to_z-of_z w128 c.args.unit (search rules) in
-    let nodes = ap length c.as_slice.ensures ∙ ap (λ (g : IsingContent). length g.fields) c.self.view_is in
-    let entries = c.new.ensures ∙ c.in_ok-entries.ensures in
-    λ i. record {
+    let nodes = ap length c.as_slice.ensures in
+    let entries = ap (λ es. es ++ f.couplings) c.in_ok-weights.ensures ∙ nodes_and_couplings c.args.kind c.args.chains f in
+    let whole : made c ≡ written_of f c.args.variables c.args.figures c.args.unit c.args.kind c.args.chains = λ i. record {
       kind = c.args.kind;
       variables = c.args.variables;
       figures = figures i;
@@ -40,11 +45,13 @@ made_is c =
       nodes = nodes i;
       entries = entries i;
       chains = c.args.chains;
-    }
+    } in
+    whole
+    ∙ ap (λ (g : IsingContent). written_of g c.args.variables c.args.figures c.args.unit c.args.kind c.args.chains) c.self.view_is
 
 pub invariant_of-result : goal.invariant_of-result
 invariant_of-result c =
-    let f = c.args.self.now in
+    let f = c.args.self in
     let kind = c.args.kind in
     let chains = c.args.chains in
     let ising : IsIsing f = subst IsIsing c.self.view_is c.self.invariant in

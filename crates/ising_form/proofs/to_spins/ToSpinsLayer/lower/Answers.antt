@@ -12,21 +12,19 @@ pub invariant_of-result : goal.invariant_of-result
 invariant_of-result c =
     let q = c.args.source.now in
     let back = to_z-of_z w128 c.in_ok-spins.spins.constant (search rules) in
-    let items : c.in_ok-couplings.couplings.items ≡ c.as_slice.result.now = search rules in
     let constant = back ∙ c.in_ok-spins.ensures.constant in
     let fields = c.new.ensures ∙ c.in_ok-spins.ensures.fields in
-    let couplings = c.new-2.ensures ∙ items ∙ c.as_slice.ensures ∙ ap (λ (f : QuadContent). f.couplers) c.source.view_is in
-    let made : record { constant = to_z w128 (of_z w128 c.in_ok-spins.spins.constant); fields = c.new.result; couplings = c.new-2.result } ≡ image q =
+    let couplings = c.in_ok-couplings.ensures ∙ ap (λ (f : QuadContent). f.couplers) c.source.view_is in
+    let made : record { constant = to_z w128 (of_z w128 c.in_ok-spins.spins.constant); fields = c.new.result; couplings = c.in_ok-couplings.couplings } ≡ image q =
     λ i. record { constant = constant i; fields = fields i; couplings = couplings i } in
     subst IsIsing (sym made) (image_is_ising q c.in_ok-spins.ensures.kept c.requires.total)
 
 pub returns-clause-image : goal.returns-clause-image
 returns-clause-image c =
     let back = to_z-of_z w128 c.in_ok-spins.spins.constant (search rules) in
-    let items : c.in_ok-couplings.couplings.items ≡ c.as_slice.result.now = search rules in
     let constant = back ∙ c.in_ok-spins.ensures.constant in
     let fields = c.new.ensures ∙ c.in_ok-spins.ensures.fields in
-    let couplings = c.new-2.ensures ∙ items ∙ c.as_slice.ensures ∙ ap (λ (f : QuadContent). f.couplers) c.source.view_is in
+    let couplings = c.in_ok-couplings.ensures ∙ ap (λ (f : QuadContent). f.couplers) c.source.view_is in
     λ i. record { constant = constant i; fields = fields i; couplings = couplings i }
 
 pub returns-clause-keeps : goal.returns-clause-keeps

@@ -15,7 +15,7 @@ overflow_add-result c =
     let nodes = node_entries 0 c.self.inside.diagonal in
     let couplers = c.self.inside.couplers in
     let first = c.diagonal_energy-nodes.ensures ∙ ap (λ (ws : List ℤ). total_by (bits_energy y) (node_entries 0 ws)) c.as_slice.ensures in
-    let second = c.total_energy-couplers.ensures ∙ ap (total_by (bits_energy y)) c.as_slice-2.ensures in
+    let second = c.couplers_energy-couplers.ensures in
     omega (arith, ints, first, second, size-energy y nodes, size-energy y couplers, weights-append nodes couplers, c.self.invariant.small)
 
 pub overflow_add-result-2 : goal.overflow_add-result-2
@@ -24,7 +24,7 @@ overflow_add-result-2 c =
     let nodes = node_entries 0 c.self.inside.diagonal in
     let couplers = c.self.inside.couplers in
     let first = c.diagonal_energy-nodes.ensures ∙ ap (λ (ws : List ℤ). total_by (bits_energy y) (node_entries 0 ws)) c.as_slice.ensures in
-    let second = c.total_energy-couplers.ensures ∙ ap (total_by (bits_energy y)) c.as_slice-2.ensures in
+    let second = c.couplers_energy-couplers.ensures in
     omega (arith, ints, first, second, size-energy y nodes, size-energy y couplers, weights-append nodes couplers, c.self.invariant.small)
 
 pub returns : goal.returns
@@ -33,8 +33,8 @@ returns c =
     let q : QuadContent = record { constant = c.self.inside.constant; diagonal = c.self.inside.diagonal; couplers = c.self.inside.couplers } in
     let nodes = node_entries 0 q.diagonal in
     let first = c.diagonal_energy-nodes.ensures ∙ ap (λ (ws : List ℤ). total_by (bits_energy y) (node_entries 0 ws)) c.as_slice.ensures in
-    let second = c.total_energy-couplers.ensures ∙ ap (total_by (bits_energy y)) c.as_slice-2.ensures in
+    let second = c.couplers_energy-couplers.ensures in
     let whole = total_by-append (bits_energy y) nodes q.couplers in
-    let sum : to_z w128 (of_z w128 (to_z w128 (of_z w128 q.constant) +ℤ to_z w128 (of_z w128 (to_z w128 (of_z w128 c.diagonal_energy-nodes.result) +ℤ to_z w128 (of_z w128 c.total_energy-couplers.result))))) ≡ quad_value q y =
+    let sum : to_z w128 (of_z w128 (to_z w128 (of_z w128 q.constant) +ℤ to_z w128 (of_z w128 (to_z w128 (of_z w128 c.diagonal_energy-nodes.result) +ℤ to_z w128 (of_z w128 c.couplers_energy-couplers.result))))) ≡ quad_value q y =
     omega (arith, ints, first, second, whole, size-energy y nodes, size-energy y q.couplers, weights-append nodes q.couplers, c.self.invariant.small) in
     ap Whole (sum ∙ ap (λ (f : QuadContent). quad_value f y) c.self.view_is)

@@ -32,9 +32,9 @@ into_quad-requires-clause-small c =
 
 pub returns-clause-image : goal.returns-clause-image
 returns-clause-image c =
-    settled_is_image c.args.source.now c.in_ok-parts.parts c.into_quad.result c.parts_of.ensures.kept
+    settled_is_image c.args.source.now c.in_ok-parts.parts c.in_ok-into_quad.field-0 c.parts_of.ensures.kept
     c.parts_of.ensures.low (omega (arith, c.requires.size)) (omega (arith, c.requires.total))
-    c.in_ok-parts.ensures.placed c.into_quad.ensures.settled c.into_quad.ensures.kept
+    c.in_ok-parts.ensures.placed c.in_ok-into_quad.ensures.settled c.in_ok-into_quad.ensures.kept
 
 pub returns-clause-keeps : goal.returns-clause-keeps
 returns-clause-keeps c =

@@ -1,9 +1,9 @@
-use Rattle.std.proofs.Common.{◌≡◌, ◌<◌, ◌≤◌, ◌^◌, length, All, subst, sym, rules}
+use Rattle.std.proofs.Common.{◌≡◌, ◌<◌, ◌≤◌, ◌^◌, length, All, subst, sym, ◌∙◌, rules}
 use Rattle.std.specs.Int.{w128}
 use Rattle.std.proofs.lemmas.Int.{to_z-of_z}
 use Rattle.quad_form.specs.Quads.{QuadContent, quad_total}
-use Rattle.quad_form.specs.Pairs.{IsPair}
-use Rattle.quad_form.proofs.FlatParts.{IsQuad-settled}
+use Rattle.quad_form.specs.Pairs.{IsPair, IsSettled}
+use Rattle.quad_form.proofs.FlatParts.{IsQuad-settled, settled-summed}
 use Rattle.quad_form.proofs.parts.Parts.into_quad.Goals as goal
 
 pub invariant_of-result : goal.invariant_of-result
@@ -12,11 +12,29 @@ invariant_of-result c =
     let same : q ≡ c.args.self = c.self.view_is in
     let back = to_z-of_z w128 c.self.inside.constant (search rules) in
     rw back
-    (IsQuad-settled q c.new.result c.sorted_sums.result.items c.new-2.result
+    (IsQuad-settled q c.new.result c.sorted_sums-summed.result.items c.in_ok-couplers.couplers
     (subst (λ (p : QuadContent). length p.diagonal < 2 ^ 32) (sym same) c.requires.narrow)
     (subst (λ (p : QuadContent). All (IsPair (length p.diagonal)) p.couplers) (sym same) c.requires.pairs)
     (subst (λ (p : QuadContent). quad_total p ≤ 2 ^ 124) (sym same) c.requires.small)
-    c.new.ensures c.sorted_sums.ensures c.new-2.ensures)
+    c.new.ensures c.sorted_sums-summed.ensures (c.in_ok-couplers.ensures ∙ c.deref.ensures.value))
 
 pub returns-clause-kept : goal.returns-clause-kept
-returns-clause-kept c = invariant_of-result c
+returns-clause-kept c =
+    let q : QuadContent = record { constant = c.self.inside.constant; diagonal = c.self.inside.diagonal.items; couplers = c.self.inside.couplers.items } in
+    let same : q ≡ c.args.self = c.self.view_is in
+    let back = to_z-of_z w128 c.self.inside.constant (search rules) in
+    rw back
+    (IsQuad-settled q c.new.result c.sorted_sums-summed.result.items c.in_ok-couplers.couplers
+    (subst (λ (p : QuadContent). length p.diagonal < 2 ^ 32) (sym same) c.requires.narrow)
+    (subst (λ (p : QuadContent). All (IsPair (length p.diagonal)) p.couplers) (sym same) c.requires.pairs)
+    (subst (λ (p : QuadContent). quad_total p ≤ 2 ^ 124) (sym same) c.requires.small)
+    c.new.ensures c.sorted_sums-summed.ensures (c.in_ok-couplers.ensures ∙ c.deref.ensures.value))
+
+pub returns-clause-settled : goal.returns-clause-settled
+returns-clause-settled c =
+    let q : QuadContent = record { constant = c.self.inside.constant; diagonal = c.self.inside.diagonal.items; couplers = c.self.inside.couplers.items } in
+    let back = to_z-of_z w128 c.self.inside.constant (search rules) in
+    rw back
+    (subst (λ (p : QuadContent). IsSettled p (record { constant = q.constant; diagonal = c.new.result; couplers = c.in_ok-couplers.couplers })) c.self.view_is
+    (settled-summed q c.new.result c.sorted_sums-summed.result.items c.in_ok-couplers.couplers
+    c.new.ensures c.sorted_sums-summed.ensures (c.in_ok-couplers.ensures ∙ c.deref.ensures.value)))

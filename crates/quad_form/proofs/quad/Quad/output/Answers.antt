@@ -1,4 +1,4 @@
-use Rattle.std.proofs.Common.{◌≡◌, ◌≤◌, ◌^◌, ◌++◌, length, subst, sym, ap, ◌∙◌, to_z, of_z, pos, neg_ℤ, ◌-ℤ◌, arith, rules}
+use Rattle.std.proofs.Common.{◌≡◌, ◌≤◌, ◌^◌, ◌++◌, ℤ, List, length, subst, sym, ap, ◌∙◌, to_z, of_z, pos, neg_ℤ, ◌-ℤ◌, arith, rules}
 use Rattle.std.specs.Int.{w128}
 use Rattle.std.proofs.lemmas.Int.{ints, to_z-of_z}
 use Rattle.bits_model.specs.declared.output.Kind.TheVariants.{Qubo}
@@ -15,29 +15,30 @@ made c = record {
   variables = c.args.variables;
   figures = c.moved.result;
   unit = to_z w128 (of_z w128 c.args.unit);
-  nodes = length c.as_slice-3.result.now;
-  entries = c.new.result;
+  nodes = c.len.result;
+  entries = c.numbered.result ++ c.self.inside.couplers;
   chains = c.empty.result;
 }
 
 -- .. is the model of the form
 made_is : (c : goal.After-empty)
-    → made c ≡ written_of c.args.self.now c.args.variables c.args.figures c.args.unit
+    → made c ≡ written_of c.args.self c.args.variables c.args.figures c.args.unit
 made_is c =
     let inside = c.self.inside in
     let q : QuadContent = record { constant = inside.constant; diagonal = inside.diagonal; couplers = inside.couplers } in
     let less : to_z w128 (of_z w128 (pos 0 -ℤ to_z w128 (of_z w128 q.constant))) ≡ neg_ℤ q.constant = omega (arith, ints, c.self.invariant.small) in
     let figures = c.moved.ensures ∙ ap (figures_moved c.args.figures) less in
     let unit = to_z-of_z w128 c.args.unit (search rules) in
-    let nodes = ap length c.as_slice-3.ensures in
-    let entries = c.new.ensures ∙ c.in_ok-entries.ensures ∙ (λ i. node_entries 0 (c.as_slice.ensures i) ++ c.as_slice-2.ensures i) in
+    let size : c.len.result ≡ length c.into_vec-weights.result.items = search rules in
+    let nodes = size ∙ ap length c.into_vec-weights.ensures in
+    let weights = c.numbered.ensures ∙ ap (λ (ws : List ℤ). node_entries 0 ws) c.into_vec-weights.ensures in
     let whole : made c ≡ written_of q c.args.variables c.args.figures c.args.unit = λ i. record {
       kind = Qubo;
       variables = c.args.variables;
       figures = figures i;
       unit = unit i;
       nodes = nodes i;
-      entries = entries i;
+      entries = weights i ++ inside.couplers;
       chains = c.empty.ensures i;
     } in
     whole
@@ -45,7 +46,7 @@ made_is c =
 
 pub invariant_of-result : goal.invariant_of-result
 invariant_of-result c =
-    let q = c.args.self.now in
+    let q = c.args.self in
     let quad : IsQuad q = subst IsQuad c.self.view_is c.self.invariant in
     let formed = written_is_well_formed q c.args.variables c.args.figures c.args.unit quad c.requires.enough c.requires.scale c.requires.unit in
     let small : weight_total (entries_of q) ≤ 2 ^ 124 = omega (arith, quad.small) in (

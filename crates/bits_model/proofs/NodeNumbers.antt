@@ -1,0 +1,79 @@
+-- The entries of nodes that are held as weights alone, or beside the nodes' numbers.
+use Rattle.std.proofs.Common.{◌≡◌, ℕ, zero, suc, ◌+◌, ◌<◌, ◌≤◌, ℤ, pos, List, [], ◌∷◌, length, drop, get_or, refl, sym, ap, ◌∙◌, arith}
+use Rattle.std.proofs.lemmas.List.{drop_more, drop_all}
+use Rattle.bits_model.specs.declared.output.Entry.{Entry}
+use Rattle.bits_model.specs.declared.nodes.Numbers.{Numbers}
+use Rattle.bits_model.specs.declared.nodes.Numbers.TheVariants.{All, Listed}
+use Rattle.bits_model.specs.Entries.{node_entries, listed_entries, weighed_nodes, AreNumbers}
+
+length-node_entries : (n : ℕ) (ws : List ℤ) → length (node_entries n ws) ≡ length ws
+length-node_entries n [] = refl
+length-node_entries n (w ∷ ws) = ap suc (length-node_entries (suc n) ws)
+
+length-listed : (ns : List ℕ) (ws : List ℤ) → length ns ≡ length ws
+    → length (listed_entries ns ws) ≡ length ws
+length-listed [] [] h = refl
+length-listed [] (w ∷ ws) h = absurd (omega arith)
+length-listed (n ∷ ns) [] h = absurd (omega arith)
+length-listed (n ∷ ns) (w ∷ ws) h = ap suc (length-listed ns ws (omega arith))
+
+-- there are as many entries as weights
+pub length-weighed : (numbers : Numbers) (ws : List ℤ) → AreNumbers numbers ws
+    → length (weighed_nodes numbers ws) ≡ length ws
+length-weighed All ws a = length-node_entries 0 ws
+length-weighed (Listed ns) ws a = length-listed ns.items ws a
+
+pub get_or-node_entries : (n : ℕ) (ws : List ℤ) (i : ℕ) (d : Entry) → i < length ws
+    → get_or (node_entries n ws) i d
+    ≡ record { first = n + i; second = n + i; weight = get_or ws i (pos 0) }
+get_or-node_entries n [] i d h = absurd (omega arith)
+get_or-node_entries n (w ∷ ws) zero d h =
+    let same : n ≡ n + 0 = omega arith in
+    ap (λ k. record { first = k; second = k; weight = w }) same
+get_or-node_entries n (w ∷ ws) (suc i) d h =
+    let same : suc n + i ≡ n + suc i = omega arith in
+    get_or-node_entries (suc n) ws i d (omega arith)
+    ∙ ap (λ k. record { first = k; second = k; weight = get_or ws i (pos 0) }) same
+
+pub get_or-listed : (ns : List ℕ) (ws : List ℤ) (i : ℕ) (d : Entry) → length ns ≡ length ws
+    → i < length ws
+    → get_or (listed_entries ns ws) i d
+    ≡ record { first = get_or ns i 0; second = get_or ns i 0; weight = get_or ws i (pos 0) }
+get_or-listed [] [] i d e h = absurd (omega arith)
+get_or-listed [] (w ∷ ws) i d e h = absurd (omega arith)
+get_or-listed (n ∷ ns) [] i d e h = absurd (omega arith)
+get_or-listed (n ∷ ns) (w ∷ ws) zero d e h = refl
+get_or-listed (n ∷ ns) (w ∷ ws) (suc i) d e h = get_or-listed ns ws i d (omega arith) (omega arith)
+
+-- the number of the node of a weight
+abbrev pub number_of : Numbers → ℕ → ℕ
+number_of All i = i
+number_of (Listed ns) i = get_or ns.items i 0
+
+pub weighed_at : (numbers : Numbers) (ws : List ℤ) (i : ℕ) (d : Entry) → AreNumbers numbers ws
+    → i < length ws
+    → get_or (weighed_nodes numbers ws) i d
+    ≡ record { first = number_of numbers i; second = number_of numbers i; weight = get_or ws i (pos 0) }
+weighed_at All ws i d a h =
+    let same : 0 + i ≡ i = omega arith in
+    get_or-node_entries 0 ws i d h
+    ∙ ap (λ k. record { first = k; second = k; weight = get_or ws i (pos 0) }) same
+weighed_at (Listed ns) ws i d a h = get_or-listed ns.items ws i d a h
+
+-- one entry, and those after it
+pub next_weighed : (numbers : Numbers) (ws : List ℤ) (i node : ℕ) → AreNumbers numbers ws
+    → i < length ws → node ≡ number_of numbers i
+    → drop i (weighed_nodes numbers ws)
+    ≡ record { first = node; second = node; weight = get_or ws i (pos 0) }
+    ∷ drop (i + 1) (weighed_nodes numbers ws)
+next_weighed numbers ws i node a h e =
+    let d : Entry = record { first = 0; second = 0; weight = pos 0 } in
+    let es = weighed_nodes numbers ws in
+    drop_more es i d (omega (arith, length-weighed numbers ws a, h))
+    ∙ ap (λ x. x ∷ drop (i + 1) es) (weighed_at numbers ws i d a h)
+    ∙ ap (λ k. record { first = k; second = k; weight = get_or ws i (pos 0) } ∷ drop (i + 1) es) (sym e)
+
+-- past the last weight, none are left
+pub none_left : (numbers : Numbers) (ws : List ℤ) (i : ℕ) → AreNumbers numbers ws → length ws ≤ i
+    → drop i (weighed_nodes numbers ws) ≡ []
+none_left numbers ws i a h = drop_all i (weighed_nodes numbers ws) (omega (arith, length-weighed numbers ws a, h))

@@ -1,0 +1,300 @@
+-- Couplers that are held row by row: one more of them, and those that are left.
+use Rattle.std.proofs.Common.{◌≡◌, ◌≢◌, ℕ, zero, suc, ◌+◌, ◌-◌, ◌<◌, ◌≤◌, true, false, eqb, ℤ, pos, List, [], ◌∷◌, ◌++◌, length, take, drop, get_or, map, int_div, replicate, refl, sym, ap, ◌∙◌, append_assoc, append-nil, length-append, arith}
+use Rattle.std.proofs.lemmas.Bool.{eqb-true, eqb-false}
+use Rattle.std.proofs.lemmas.List.{replicate_more, length-replicate, drop_more, length-drop, get_or-drop, take_all}
+use Rattle.std.specs.Prelude.{Some}
+use Rattle.std.specs.List.{slice_get}
+use Rattle.bits_model.specs.declared.output.Entry.{Entry}
+use Rattle.bits_model.specs.declared.couplers.RowStart.{RowStart}
+use Rattle.bits_model.specs.Entries.{end_before, firsts_of, coupled, AreRows, IsPacked, packed_entries, last_is, IsInFirst, entries_left, row_entries, IsWithin, divided}
+
+-- ---- lists of first nodes, second nodes and weights
+
+pub length-coupled : (fs ss : List ℕ) (ws : List ℤ) → length fs ≡ length ss → length ws ≡ length ss
+    → length (coupled fs ss ws) ≡ length ss
+length-coupled [] [] ws p q = refl
+length-coupled [] (s ∷ ss) ws p q = absurd (omega arith)
+length-coupled (f ∷ fs) [] ws p q = absurd (omega arith)
+length-coupled (f ∷ fs) (s ∷ ss) [] p q = absurd (omega arith)
+length-coupled (f ∷ fs) (s ∷ ss) (w ∷ ws) p q =
+    ap suc (length-coupled fs ss ws (omega arith) (omega arith))
+
+-- one more of each
+coupled_push : (fs ss : List ℕ) (ws : List ℤ) (f s : ℕ) (w : ℤ)
+    → length fs ≡ length ss → length ws ≡ length ss
+    → coupled (fs ++ f ∷ []) (ss ++ s ∷ []) (ws ++ w ∷ [])
+    ≡ coupled fs ss ws ++ record { first = f; second = s; weight = w } ∷ []
+coupled_push [] [] [] f s w p q = refl
+coupled_push [] [] (v ∷ ws) f s w p q = absurd (omega arith)
+coupled_push [] (t ∷ ss) ws f s w p q = absurd (omega arith)
+coupled_push (g ∷ fs) [] ws f s w p q = absurd (omega arith)
+coupled_push (g ∷ fs) (t ∷ ss) [] f s w p q = absurd (omega arith)
+coupled_push (g ∷ fs) (t ∷ ss) (v ∷ ws) f s w p q =
+    ap (λ es. record { first = g; second = t; weight = v } ∷ es)
+    (coupled_push fs ss ws f s w (omega arith) (omega arith))
+
+-- ---- rows
+
+pub end_low : (n : ℕ) (rs : List RowStart) → AreRows n rs → end_before n rs ≤ n
+end_low n [] a = omega arith
+end_low n (r ∷ rs) a = omega (arith, a.0, end_low n rs a.2)
+
+pub length-firsts : (n : ℕ) (rs : List RowStart) → AreRows n rs
+    → length (firsts_of n rs) + end_before n rs ≡ n
+length-firsts n [] a = omega arith
+length-firsts n (r ∷ rs) a =
+    let m = end_before n rs - r.start in
+    omega (
+      arith,
+      a.0,
+      length-append (replicate m r.first) (firsts_of n rs),
+      length-replicate m r.first,
+      length-firsts n rs a.2,
+    )
+
+-- each entry has its first node
+pub firsts_whole : (n : ℕ) (rs : List RowStart) → AreRows n rs → end_before n rs ≡ 0
+    → length (firsts_of n rs) ≡ n
+firsts_whole n rs a w = omega (arith, length-firsts n rs a)
+
+-- ---- one more entry
+
+-- the last row is longer by one
+pub firsts_longer : (n f : ℕ) (rs : List RowStart) → AreRows n rs → last_is f rs ≡ true
+    → firsts_of (n + 1) rs ≡ firsts_of n rs ++ f ∷ []
+firsts_longer n f [] a l = absurd cc
+firsts_longer n f (r ∷ []) a l =
+    let same : r.first ≡ f = eqb-true r.first f l in
+    let more : n + 1 - r.start ≡ (n - r.start) + 1 = omega (arith, a.0) in
+    rw (append-nil, append-nil, more, ← replicate_more (n - r.start) r.first)
+    (ap (λ g. replicate (n - r.start) r.first ++ g ∷ []) same)
+firsts_longer n f (r ∷ s ∷ rs) a l =
+    ap (λ gs. replicate (s.start - r.start) r.first ++ gs) (firsts_longer n f (s ∷ rs) a.2 l)
+    ∙ sym (append_assoc (replicate (s.start - r.start) r.first) _ _)
+
+-- there is one more row
+pub firsts_begun : (n f : ℕ) (rs : List RowStart)
+    → firsts_of (n + 1) (rs ++ record { first = f; start = n } ∷ []) ≡ firsts_of n rs ++ f ∷ []
+firsts_begun n f [] =
+    let one : n + 1 - n ≡ 1 = omega arith in
+    rw one refl
+firsts_begun n f (r ∷ []) =
+    ap (λ gs. replicate (n - r.start) r.first ++ gs) (firsts_begun n f [])
+    ∙ ap (λ gs. gs ++ f ∷ []) (sym (append-nil (replicate (n - r.start) r.first)))
+firsts_begun n f (r ∷ s ∷ rs) =
+    ap (λ gs. replicate (s.start - r.start) r.first ++ gs) (firsts_begun n f (s ∷ rs))
+    ∙ sym (append_assoc (replicate (s.start - r.start) r.first) _ _)
+
+pub rows_longer : (n : ℕ) (rs : List RowStart) → AreRows n rs → AreRows (n + 1) rs
+rows_longer n [] a = tt
+rows_longer n (r ∷ []) a = (omega (arith, a.0), tt, tt)
+rows_longer n (r ∷ s ∷ rs) a = (a.0, a.1, rows_longer n (s ∷ rs) a.2)
+
+pub rows_begun : (n f : ℕ) (rs : List RowStart) → AreRows n rs → last_is f rs ≡ false
+    → AreRows (n + 1) (rs ++ record { first = f; start = n } ∷ [])
+rows_begun n f [] a l = (omega arith, tt, tt)
+rows_begun n f (r ∷ []) a l = (a.0, (λ e. eqb-false r.first f l e), (omega arith, tt, tt))
+rows_begun n f (r ∷ s ∷ rs) a l = (a.0, a.1, rows_begun n f (s ∷ rs) a.2 l)
+
+-- the last row, by its index
+pub last_is_at : (f : ℕ) (rs : List RowStart) (r : RowStart)
+    → Some r ≡ slice_get rs (length rs - 1) → eqb r.first f ≡ last_is f rs
+last_is_at f [] r e = absurd cc
+last_is_at f (s ∷ []) r e =
+    let same : r ≡ s = cc e in
+    ap (λ (t : RowStart). eqb t.first f) same
+last_is_at f (s ∷ t ∷ rs) r e =
+    let later : length (s ∷ t ∷ rs) - 1 ≡ suc (length (t ∷ rs) - 1) = omega arith in
+    last_is_at f (t ∷ rs) r (e ∙ ap (slice_get (s ∷ t ∷ rs)) later)
+
+-- where there are rows, they begin where they began
+same_end : (n m f : ℕ) (rs : List RowStart) → last_is f rs ≡ true → end_before m rs ≡ end_before n rs
+same_end n m f [] l = absurd cc
+same_end n m f (r ∷ rs) l = refl
+
+begun_end : (n f : ℕ) (rs : List RowStart) → end_before n rs ≡ 0
+    → end_before (n + 1) (rs ++ record { first = f; start = n } ∷ []) ≡ 0
+begun_end n f [] e = e
+begun_end n f (r ∷ rs) e = e
+
+one_more : {X : Type 0} (xs : List X) (x : X) → length (xs ++ x ∷ []) ≡ length xs + 1
+one_more xs x = length-append xs (x ∷ [])
+
+-- an entry of the last row
+pub packed_longer : (rs : List RowStart) (ss : List ℕ) (ws : List ℤ) (f s : ℕ) (w : ℤ)
+    → IsPacked rs ss ws → last_is f rs ≡ true
+    → packed_entries rs (ss ++ s ∷ []) (ws ++ w ∷ [])
+    ≡ packed_entries rs ss ws ++ record { first = f; second = s; weight = w } ∷ []
+packed_longer rs ss ws f s w p l =
+    rw (one_more ss s, firsts_longer (length ss) f rs p.rows l)
+    (coupled_push (firsts_of (length ss) rs) ss ws f s w (firsts_whole (length ss) rs p.rows p.whole) p.weighed)
+
+pub longer_is_packed : (rs : List RowStart) (ss : List ℕ) (ws : List ℤ) (f s : ℕ) (w : ℤ)
+    → IsPacked rs ss ws → last_is f rs ≡ true → IsPacked rs (ss ++ s ∷ []) (ws ++ w ∷ [])
+longer_is_packed rs ss ws f s w p l = record {
+  rows = rw (one_more ss s) (rows_longer (length ss) rs p.rows);
+  whole = same_end (length ss) (length (ss ++ s ∷ [])) f rs l ∙ p.whole;
+  weighed = omega (arith, one_more ss s, one_more ws w, p.weighed);
+}
+
+-- an entry of a new row
+pub packed_begun : (rs : List RowStart) (ss : List ℕ) (ws : List ℤ) (f s : ℕ) (w : ℤ)
+    → IsPacked rs ss ws
+    → packed_entries (rs ++ record { first = f; start = length ss } ∷ []) (ss ++ s ∷ []) (ws ++ w ∷ [])
+    ≡ packed_entries rs ss ws ++ record { first = f; second = s; weight = w } ∷ []
+packed_begun rs ss ws f s w p =
+    rw (one_more ss s, firsts_begun (length ss) f rs)
+    (coupled_push (firsts_of (length ss) rs) ss ws f s w (firsts_whole (length ss) rs p.rows p.whole) p.weighed)
+
+pub begun_is_packed : (rs : List RowStart) (ss : List ℕ) (ws : List ℤ) (f s : ℕ) (w : ℤ)
+    → IsPacked rs ss ws → last_is f rs ≡ false
+    → IsPacked (rs ++ record { first = f; start = length ss } ∷ []) (ss ++ s ∷ []) (ws ++ w ∷ [])
+begun_is_packed rs ss ws f s w p l = record {
+  rows = rw (one_more ss s) (rows_begun (length ss) f rs p.rows l);
+  whole = rw (one_more ss s) (begun_end (length ss) f rs p.whole);
+  weighed = omega (arith, one_more ss s, one_more ws w, p.weighed);
+}
+
+pub length-packed : (rs : List RowStart) (ss : List ℕ) (ws : List ℤ) → IsPacked rs ss ws
+    → length (packed_entries rs ss ws) ≡ length ss
+length-packed rs ss ws p =
+    length-coupled (firsts_of (length ss) rs) ss ws
+    (firsts_whole (length ss) rs p.rows p.whole) p.weighed
+
+-- ---- what is left
+
+-- the first entry that is left
+pub next_left : (r : RowStart) (rs : List RowStart) (at : ℕ) (ss : List ℕ) (ws : List ℤ)
+    → at < end_before (length ss) rs → end_before (length ss) rs ≤ length ss
+    → length ws ≡ length ss
+    → entries_left (r ∷ rs) at ss ws
+    ≡ record { first = r.first; second = get_or ss at 0; weight = get_or ws at (pos 0) }
+    ∷ entries_left (r ∷ rs) (at + 1) ss ws
+next_left r rs at ss ws h l w =
+    let end = end_before (length ss) rs in
+    let more : end - at ≡ suc (end - (at + 1)) = omega (arith, h) in
+    let second : drop at ss ≡ get_or ss at 0 ∷ drop (at + 1) ss = drop_more ss at 0 (omega (arith, h, l)) in
+    let weight : drop at ws ≡ get_or ws at (pos 0) ∷ drop (at + 1) ws = drop_more ws at (pos 0) (omega (arith, h, l, w)) in
+    rw (more, second, weight) refl
+
+-- past a row, its successors are left
+pub row_done : (r : RowStart) (rs : List RowStart) (at : ℕ) (ss : List ℕ) (ws : List ℤ)
+    → at + 1 ≡ end_before (length ss) rs
+    → entries_left (r ∷ rs) (at + 1) ss ws ≡ entries_left rs (at + 1) ss ws
+row_done r [] at ss ws e =
+    let none : length ss - (at + 1) ≡ 0 = omega (arith, e) in
+    rw none refl
+row_done r (s ∷ rs) at ss ws e =
+    let none : s.start - (at + 1) ≡ 0 = omega (arith, e) in
+    rw (none, e) refl
+
+pub next_in_row : (n at : ℕ) (r : RowStart) (rs : List RowStart) → IsInFirst n at (r ∷ rs)
+    → at + 1 ≢ end_before n rs → IsInFirst n (at + 1) (r ∷ rs)
+next_in_row n at r rs i ne = (omega (arith, i.0, ne), i.1)
+
+pub next_row : (n at : ℕ) (r : RowStart) (rs : List RowStart) → IsInFirst n at (r ∷ rs)
+    → at + 1 ≡ end_before n rs → IsInFirst n (at + 1) rs
+next_row n at r [] i e = e
+next_row n at r (s ∷ rs) i e = (omega (arith, i.1.0, e), i.1.2)
+
+-- the same where rows are a list that is not empty
+pub next_of_left : (rows : List RowStart) (d : RowStart) (at : ℕ) (ss : List ℕ) (ws : List ℤ)
+    → 1 ≤ length rows → IsInFirst (length ss) at rows → length ws ≡ length ss
+    → entries_left rows at ss ws
+    ≡ record { first = (get_or rows 0 d).first; second = get_or ss at 0; weight = get_or ws at (pos 0) }
+    ∷ entries_left rows (at + 1) ss ws
+next_of_left [] d at ss ws h i w = absurd (omega arith)
+next_of_left (r ∷ rs) d at ss ws h i w = next_left r rs at ss ws i.0 (end_low (length ss) rs i.1) w
+
+pub past_first : (rows : List RowStart) (at : ℕ) (ss : List ℕ) (ws : List ℤ)
+    → 1 ≤ length rows → at + 1 ≡ end_before (length ss) (drop 1 rows)
+    → entries_left rows (at + 1) ss ws ≡ entries_left (drop 1 rows) (at + 1) ss ws
+past_first [] at ss ws h e = absurd (omega arith)
+past_first (r ∷ rs) at ss ws h e = row_done r rs at ss ws e
+
+pub still_in_first : (n at : ℕ) (rows : List RowStart) → 1 ≤ length rows → IsInFirst n at rows
+    → at + 1 ≢ end_before n (drop 1 rows) → IsInFirst n (at + 1) rows
+still_in_first n at [] h i ne = absurd (omega arith)
+still_in_first n at (r ∷ rs) h i ne = next_in_row n at r rs i ne
+
+pub in_second : (n at : ℕ) (rows : List RowStart) → 1 ≤ length rows → IsInFirst n at rows
+    → at + 1 ≡ end_before n (drop 1 rows) → IsInFirst n (at + 1) (drop 1 rows)
+in_second n at [] h i e = absurd (omega arith)
+in_second n at (r ∷ rs) h i e = next_row n at r rs i e
+
+-- what is left of a slice after its first row
+pub later_rows : (rows : List RowStart) → take (length rows - 1) (drop 1 rows) ≡ drop 1 rows
+later_rows rows = take_all (length rows - 1) (drop 1 rows) (omega (arith, length-drop 1 rows))
+
+pub left_below : (n at : ℕ) (rows : List RowStart) → 1 ≤ length rows → IsInFirst n at rows → at < n
+left_below n at [] h i = absurd (omega arith)
+left_below n at (r ∷ rs) h i = omega (arith, i.0, end_low n rs i.1)
+
+-- before the first entry, all are left
+pub all_left : (rs : List RowStart) (ss : List ℕ) (ws : List ℤ) → IsPacked rs ss ws
+    → entries_left rs 0 ss ws ≡ packed_entries rs ss ws
+all_left [] ss ws p = refl
+all_left (r ∷ rs) ss ws p = rw (p.whole) refl
+
+pub all_in_first : (rs : List RowStart) (ss : List ℕ) (ws : List ℤ) → IsPacked rs ss ws
+    → IsInFirst (length ss) 0 rs
+all_in_first [] ss ws p = sym p.whole
+all_in_first (r ∷ rs) ss ws p = (omega (arith, p.whole, p.rows.0), p.rows.2)
+
+-- ---- one row
+
+pub length-row : (f n : ℕ) (ss : List ℕ) (ws : List ℤ) → n ≤ length ss → n ≤ length ws
+    → length (coupled (replicate n f) ss ws) ≡ n
+length-row f zero ss ws h k = refl
+length-row f (suc n) [] ws h k = absurd (omega arith)
+length-row f (suc n) (s ∷ ss) [] h k = absurd (omega arith)
+length-row f (suc n) (s ∷ ss) (w ∷ ws) h k = ap suc (length-row f n ss ws (omega arith) (omega arith))
+
+pub row_at : (f n i : ℕ) (ss : List ℕ) (ws : List ℤ) (d : Entry) → i < n → n ≤ length ss
+    → n ≤ length ws
+    → get_or (coupled (replicate n f) ss ws) i d
+    ≡ record { first = f; second = get_or ss i 0; weight = get_or ws i (pos 0) }
+row_at f zero i ss ws d l h k = absurd (omega arith)
+row_at f (suc n) i [] ws d l h k = absurd (omega arith)
+row_at f (suc n) i (s ∷ ss) [] d l h k = absurd (omega arith)
+row_at f (suc n) zero (s ∷ ss) (w ∷ ws) d l h k = refl
+row_at f (suc n) (suc i) (s ∷ ss) (w ∷ ws) d l h k =
+    row_at f n i ss ws d (omega arith) (omega arith) (omega arith)
+
+pub length-row_entries : (f a b : ℕ) (ss : List ℕ) (ws : List ℤ) → IsWithin a b ss ws
+    → length (row_entries f a b ss ws) ≡ b - a
+length-row_entries f a b ss ws w =
+    length-row f (b - a) (drop a ss) (drop a ws)
+    (omega (arith, length-drop a ss, w.ordered, w.within))
+    (omega (arith, length-drop a ws, w.ordered, w.within, w.weighed))
+
+pub row_index_below : (f a b i : ℕ) (ss : List ℕ) (ws : List ℤ) (es : List Entry)
+    → IsWithin a b ss ws → row_entries f a b ss ws ≡ es → i < length es → a + i < length ss
+row_index_below f a b i ss ws es w e h =
+    omega (arith, length-row_entries f a b ss ws w, ap length e, h, w.ordered, w.within)
+
+pub row_entries_at : (f a b i : ℕ) (ss : List ℕ) (ws : List ℤ) (d : Entry) → IsWithin a b ss ws
+    → i < length (row_entries f a b ss ws)
+    → get_or (row_entries f a b ss ws) i d
+    ≡ record { first = f; second = get_or ss (a + i) 0; weight = get_or ws (a + i) (pos 0) }
+row_entries_at f a b i ss ws d w h =
+    row_at f (b - a) i (drop a ss) (drop a ws) d
+    (omega (arith, length-row_entries f a b ss ws w, h))
+    (omega (arith, length-drop a ss, w.ordered, w.within))
+    (omega (arith, length-drop a ws, w.ordered, w.within, w.weighed))
+    ∙ (λ j. record {
+      first = f;
+      second = get_or-drop a ss i 0 j;
+      weight = get_or-drop a ws i (pos 0) j;
+    })
+
+-- ---- divided weights
+
+pub coupled_divided : (unit : ℤ) (fs ss : List ℕ) (ws : List ℤ)
+    → coupled fs ss (map (λ w. int_div w unit) ws) ≡ map (divided unit) (coupled fs ss ws)
+coupled_divided unit [] ss ws = refl
+coupled_divided unit (f ∷ fs) [] ws = refl
+coupled_divided unit (f ∷ fs) (s ∷ ss) [] = refl
+coupled_divided unit (f ∷ fs) (s ∷ ss) (w ∷ ws) =
+    ap (λ es. record { first = f; second = s; weight = int_div w unit } ∷ es)
+    (coupled_divided unit fs ss ws)

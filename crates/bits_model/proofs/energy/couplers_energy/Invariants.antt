@@ -1,0 +1,12 @@
+use Rattle.std.proofs.Common.{◌≡◌, ◌+◌, ◌≤◌, ◌^◌, ◌+ℤ◌, unsigned_abs}
+use Rattle.integers.specs.Sums.{total_by}
+use Rattle.bits_model.specs.Output.{entry_energy, weight_total}
+use Rattle.bits_model.proofs.energy.couplers_energy.Given as goal
+
+-- the energy so far and that of the entries that are left make up the whole, and are small
+abbrev pub invariant-loop-entry : goal.invariant-loop-entry
+invariant-loop-entry l = record {
+  whole : l.energy +ℤ total_by (entry_energy l.kind l.y) l.entry-iterator
+      ≡ total_by (entry_energy l.kind l.y) l.couplers;
+  small : unsigned_abs l.energy + weight_total l.entry-iterator ≤ 2 ^ 124;
+}
