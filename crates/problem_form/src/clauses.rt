@@ -1,18 +1,18 @@
 //! Clauses in normal form.
-ghost use Rattle.std.specs.Prelude.{◌≡◌, pos};
-ghost use Rattle.std.specs.Option.{option_to_list};
-ghost use Rattle.problem_form.specs.NormalForm.{clause_constant, is_plain_cost, kept_clause};
+ghost use Rattle.std.specs.Prelude.{◌≡◌, ◌++◌, pos, OnOk, OnErr};
+ghost use Rattle.problem_form.specs.NormalForm.{is_plain_cost, kept_clause, weight_constant};
 
+use crate::clause_list::ClauseList;
 use crate::literal::Literal;
 use crate::sets::{clashes, make_set};
-use crate::terms::Clause;
+use bits_model::NoMemory;
 
 /// What a clause adds to the constant: the weight of a soft one without literals.
-pub(crate) fn clause_constant(clause: &Clause) -> u64
-    ensures { pos result ≡ clause_constant clause.now }
+pub(crate) fn weight_constant(weight: Option<u64>, literals: &[Literal]) -> u64
+    ensures { pos result ≡ weight_constant weight literals.now }
 {
-    match clause.weight {
-        Some(weight) if clause.literals.as_slice().is_empty() => weight,
+    match weight {
+        Some(weight) if literals.is_empty() => weight,
         _ => 0,
     }
 }
@@ -27,20 +27,20 @@ fn is_number(weight: Option<u64>, literals: &[Literal]) -> bool
     }
 }
 
-/// The clause in normal form, where it is kept.
-pub(crate) fn kept_clause(clause: Clause) -> Option<Clause>
-    ensures { option_to_list result ≡ kept_clause clause }
+/// Appends a clause as written in normal form, where it is kept, and puts its literals in order.
+/// Where memory is refused the list stays as it was.
+pub(crate) fn keep_clause(
+    clauses: &mut ClauseList,
+    literals: &mut Vec<Literal>,
+    weight: Option<u64>,
+) -> Result<(), NoMemory>
+    ensures kept { OnOk result (clauses.new ≡ clauses.old
+        ++ kept_clause (record { literals = literals.old.items; weight = weight })) }
+    ensures unchanged { OnErr result (clauses.new ≡ clauses.old) }
 {
-    let Clause {
-        mut literals,
-        weight,
-    } = clause;
-    make_set(&mut literals.items);
-    if clashes(literals.as_slice()) {
-        return None;
+    make_set(literals);
+    if clashes(literals) || is_number(weight, literals) {
+        return Ok(());
     }
-    if is_number(weight, literals.as_slice()) {
-        return None;
-    }
-    Some(Clause { literals, weight })
+    clauses.push(literals, weight)
 }

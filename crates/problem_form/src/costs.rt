@@ -2,7 +2,7 @@
 ghost use Rattle.std.specs.Prelude.{◌≡◌, ◌<◌, ◌^◌};
 ghost use Rattle.std.specs.List.{list_any, sum_by};
 ghost use Rattle.integers.specs.Sums.{total_by};
-ghost use Rattle.problem_form.specs.Literals.{some_holds};
+ghost use Rattle.problem_form.specs.Literals.{all_hold, some_holds};
 ghost use Rattle.problem_form.specs.Problems.{
   constraint_total,
   fails,
@@ -17,65 +17,79 @@ ghost use Rattle.problem_form.specs.Problems.{
   sum_of,
 };
 
-use crate::literal::{Literal, all_hold};
+use crate::clause_list::{ClauseList, ClauseRef};
+use crate::literals::Literals;
 use crate::problem::Problem;
-use crate::terms::{Clause, Constraint, Product};
+use crate::product_list::{ProductList, ProductRef};
+use crate::terms::Constraint;
 use bits_model::{Cost, Costed};
 
-fn a_literal_holds(literals: &[Literal], x: &[bool]) -> bool
-    ensures { result ≡ some_holds x.now literals.now }
+fn a_literal_holds(mut literals: Literals<'_>, x: &[bool]) -> bool
+    ensures { result ≡ some_holds x.now literals.entry }
 {
-    literals.iter().any(|literal| literal.holds(x))
+    literals.any(|literal| literal.holds(x))
 }
 
-fn value_of(product: &Product, x: &[bool]) -> i128
-    ensures { result ≡ product_value x.now product.now }
+fn all_literals_hold(mut literals: Literals<'_>, x: &[bool]) -> bool
+    ensures { result ≡ all_hold x.now literals.entry }
 {
-    if all_hold(product.literals.as_slice(), x) {
-        product.coefficient
+    literals.all(|literal| literal.holds(x))
+}
+
+fn value_of(product: ProductRef<'_>, x: &[bool]) -> i128
+    ensures { result ≡ product_value x.now product.entry }
+{
+    let ProductRef {
+        literals,
+        coefficient,
+    } = product;
+    if all_literals_hold(literals, x) {
+        coefficient
     } else {
         0
     }
 }
 
-fn sum_of_products(products: &[Product], x: &[bool]) -> i128
+fn sum_of_products(products: &ProductList, x: &[bool]) -> i128
     requires { products_total products.now < 2 ^ 100 }
     ensures { result ≡ sum_of x.now products.now }
 {
     let mut sum: i128 = 0;
-    for product in products {
+    for product in products.iter() {
         sum += value_of(product, x);
     }
     sum
 }
 
-fn soft_cost_of(clause: &Clause, x: &[bool]) -> i128
-    ensures { result ≡ soft_cost x.now clause.now }
+fn soft_cost_of(clause: ClauseRef<'_>, x: &[bool]) -> i128
+    ensures { result ≡ soft_cost x.now clause.entry }
 {
-    match clause.weight {
-        Some(weight) if !a_literal_holds(clause.literals.as_slice(), x) => i128::from(weight),
+    let ClauseRef { literals, weight } = clause;
+    match weight {
+        Some(weight) if !a_literal_holds(literals, x) => i128::from(weight),
         _ => 0,
     }
 }
 
-fn soft_costs(clauses: &[Clause], x: &[bool]) -> i128
+fn soft_costs(clauses: &ClauseList, x: &[bool]) -> i128
     requires { sum_by soft_weight clauses.now < 2 ^ 100 }
     ensures { result ≡ total_by (soft_cost x.now) clauses.now }
 {
     let mut sum: i128 = 0;
-    for clause in clauses {
+    for clause in clauses.iter() {
         sum += soft_cost_of(clause, x);
     }
     sum
 }
 
-fn hard_clause_fails(clause: &Clause, x: &[bool]) -> bool
-    ensures { result ≡ fails_hard x.now clause.now }
+fn hard_clause_fails(clause: ClauseRef<'_>, x: &[bool]) -> bool
+    ensures { result ≡ fails_hard x.now clause.entry }
 {
-    clause.weight.is_none() && !a_literal_holds(clause.literals.as_slice(), x)
+    let ClauseRef { literals, weight } = clause;
+    weight.is_none() && !a_literal_holds(literals, x)
 }
 
-fn a_hard_clause_fails(clauses: &[Clause], x: &[bool]) -> bool
+fn a_hard_clause_fails(clauses: &ClauseList, x: &[bool]) -> bool
     ensures { result ≡ list_any (fails_hard x.now) clauses.now }
 {
     clauses.iter().any(|clause| hard_clause_fails(clause, x))
@@ -85,7 +99,7 @@ fn constraint_fails(constraint: &Constraint, x: &[bool]) -> bool
     requires { constraint_total constraint.now < 2 ^ 100 }
     ensures { result ≡ fails x.now constraint.now }
 {
-    let sum = sum_of_products(constraint.products.as_slice(), x);
+    let sum = sum_of_products(&constraint.products, x);
     if constraint.exact {
         sum != constraint.bound
     } else {
@@ -117,14 +131,13 @@ impl Costed for Problem {
     }
 
     fn cost(&self, x: &[bool]) -> Cost {
-        let clauses = self.clauses.as_slice();
-        if a_hard_clause_fails(clauses, x) {
+        if a_hard_clause_fails(&self.clauses, x) {
             return Cost::Infinite;
         }
         if a_constraint_fails(self.constraints.as_slice(), x) {
             return Cost::Infinite;
         }
-        let sum = sum_of_products(self.objective.as_slice(), x);
-        Cost::Whole(self.constant + sum + soft_costs(clauses, x))
+        let sum = sum_of_products(&self.objective, x);
+        Cost::Whole(self.constant + sum + soft_costs(&self.clauses, x))
     }
 }

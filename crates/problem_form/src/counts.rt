@@ -5,29 +5,29 @@ ghost use Rattle.integers.specs.Sums.{positive_part};
 ghost use Rattle.problem_form.specs.Problems.{constraint_total, products_total, soft_weight};
 ghost use Rattle.problem_form.specs.Limits.{answered_number, degree, positive_total, reach, slack_range, weight};
 
+use crate::clause_list::{ClauseList, ClauseRef};
 use crate::problem::Problem;
-use crate::terms::{Clause, Constraint, Product};
+use crate::product_list::ProductList;
+use crate::terms::Constraint;
 
 // ---- degrees
 
 /// The greatest of `most` and the degrees of the products.
-pub(crate) fn products_degree(most: usize, products: &[Product]) -> usize
+pub(crate) fn products_degree(most: usize, products: &ProductList) -> usize
     ensures { result ≡ fold max most (map (λ t. length t.literals) products.now) }
 {
-    products.iter().fold(
-        most,
-        |most, product| most.max(product.literals.as_slice().len()),
-    )
+    products
+        .iter()
+        .fold(most, |most, product| most.max(product.literals.len()))
 }
 
 /// The greatest of `most` and the numbers of literals of the clauses.
-fn clauses_degree(most: usize, clauses: &[Clause]) -> usize
+fn clauses_degree(most: usize, clauses: &ClauseList) -> usize
     ensures { result ≡ fold max most (map (λ c. length c.literals) clauses.now) }
 {
-    clauses.iter().fold(
-        most,
-        |most, clause| most.max(clause.literals.as_slice().len()),
-    )
+    clauses
+        .iter()
+        .fold(most, |most, clause| most.max(clause.literals.len()))
 }
 
 /// The greatest of `most` and the degrees of the products of the constraints.
@@ -38,7 +38,7 @@ fn constraints_degree(most: usize, constraints: &[Constraint]) -> usize
 {
     constraints.iter().fold(
         most,
-        |most, constraint| products_degree(most, constraint.products.as_slice()),
+        |most, constraint| products_degree(most, &constraint.products),
     )
 }
 
@@ -46,14 +46,14 @@ fn constraints_degree(most: usize, constraints: &[Constraint]) -> usize
 pub(crate) fn degree_of(problem: &Problem) -> usize
     ensures { result ≡ degree problem.now }
 {
-    let most = products_degree(0, problem.objective.as_slice());
-    let most = clauses_degree(most, problem.clauses.as_slice());
+    let most = products_degree(0, &problem.objective);
+    let most = clauses_degree(most, &problem.clauses);
     constraints_degree(most, problem.constraints.as_slice())
 }
 
 // ---- sizes
 
-pub(crate) fn size_of_products(products: &[Product]) -> u128
+pub(crate) fn size_of_products(products: &ProductList) -> u128
     requires { products_total products.now < 2 ^ 100 }
     ensures { result ≡ products_total products.now }
 {
@@ -63,8 +63,8 @@ pub(crate) fn size_of_products(products: &[Product]) -> u128
         .sum()
 }
 
-fn soft_weight_of(clause: &Clause) -> u128
-    ensures { result ≡ soft_weight clause.now }
+fn soft_weight_of(clause: ClauseRef<'_>) -> u128
+    ensures { result ≡ soft_weight clause.entry }
 {
     match clause.weight {
         Some(weight) => u128::from(weight),
@@ -72,14 +72,14 @@ fn soft_weight_of(clause: &Clause) -> u128
     }
 }
 
-pub(crate) fn soft_weights(clauses: &[Clause]) -> u128
+pub(crate) fn soft_weights(clauses: &ClauseList) -> u128
     requires { sum_by soft_weight clauses.now < 2 ^ 100 }
     ensures { result ≡ sum_by soft_weight clauses.now }
 {
     clauses.iter().map(soft_weight_of).sum()
 }
 
-fn hard_clauses(clauses: &[Clause]) -> usize
+fn hard_clauses(clauses: &ClauseList) -> usize
     ensures { result ≡ count_by (λ c. is_none c.weight) clauses.now }
 {
     clauses
@@ -94,7 +94,7 @@ fn positive_part_of(number: i128) -> u128
     if number < 0 { 0 } else { number.unsigned_abs() }
 }
 
-pub(crate) fn positive_coefficients(products: &[Product]) -> u128
+pub(crate) fn positive_coefficients(products: &ProductList) -> u128
     requires { positive_total products.now < 2 ^ 100 }
     ensures { result ≡ positive_total products.now }
 {
@@ -112,7 +112,7 @@ pub(crate) fn slack_range_of(constraint: &Constraint) -> u128
     if constraint.exact {
         return 0;
     }
-    let most = positive_coefficients(constraint.products.as_slice());
+    let most = positive_coefficients(&constraint.products);
     positive_part_of(most as i128 - constraint.bound)
 }
 
@@ -122,7 +122,7 @@ fn reach_of(constraint: &Constraint) -> u128
     ensures { result ≡ reach constraint.now }
 {
     let range = slack_range_of(constraint);
-    size_of_products(constraint.products.as_slice()) + constraint.bound.unsigned_abs() + range
+    size_of_products(&constraint.products) + constraint.bound.unsigned_abs() + range
 }
 
 /// The sizes of all coefficients of squares, where one violation adds `penalty` at least. It stops
@@ -146,7 +146,7 @@ pub(crate) fn weight_of(problem: &Problem) -> u128
 {
     let costs = problem.cost_size();
     let penalty = problem.penalty();
-    let hard = penalty.saturating_mul(hard_clauses(problem.clauses.as_slice()) as u128);
+    let hard = penalty.saturating_mul(hard_clauses(&problem.clauses) as u128);
     (problem.constant.unsigned_abs() + costs)
         .saturating_add(hard)
         .saturating_add(squares(penalty, problem.constraints.as_slice()))

@@ -2,20 +2,30 @@
 #![tactic(auto)]
 
 mod bounds;
+mod clause_list;
 mod clauses;
 mod costs;
 mod counts;
 mod laws;
 mod limits;
 mod literal;
+mod literal_lists;
+mod literals;
+mod narrow_lists;
 mod pairs;
 mod problem;
+mod product_list;
 mod products;
 mod sets;
 mod terms;
+mod wide_lists;
 
+pub use clause_list::{ClauseList, ClauseRef, Clauses};
 pub use laws::{digits_are_least, normal_form_keeps_costs, parts_add_up};
 pub use limits::{Choices, High, LimitFault, LimitKind, MOST_BYTES, Normal, check_limits};
 pub use literal::{Literal, LiteralList, all_hold};
+pub use literal_lists::LiteralLists;
+pub use literals::Literals;
 pub use problem::Problem;
-pub use terms::{Clause, ClauseList, Constraint, ConstraintList, Product, ProductList};
+pub use product_list::{ProductList, ProductRef, Products};
+pub use terms::{Clause, Constraint, ConstraintList, Product};

@@ -4,38 +4,31 @@ ghost use Rattle.std.specs.List.{sum_by};
 ghost use Rattle.problem_form.specs.Problems.{constraint_total};
 ghost use Rattle.problem_form.specs.Limits.{answered_number, binary_digits, clause_complements, clause_pairs, complements, constraint_degree, constraint_pairs, factor, most_complements, negations, pairs, product_pairs, slack_bits, summands};
 
+use crate::clause_list::{ClauseList, ClauseRef};
 use crate::counts::{products_degree, slack_range_of};
 use crate::limits::Normal;
+use crate::literals::Literals;
 use crate::problem::Problem;
-use crate::terms::{Clause, Constraint, Product};
+use crate::product_list::{ProductList, ProductRef};
+use crate::terms::Constraint;
 
 // ---- complements
 
-fn complements_of(product: &Product) -> usize
-    ensures { result ≡ complements product.now }
+fn complements_of(product: ProductRef<'_>) -> usize
+    ensures { result ≡ complements product.entry }
 {
-    product
-        .literals
-        .as_slice()
-        .iter()
-        .filter(|literal| literal.negated)
-        .count()
+    product.literals.filter(|literal| literal.negated).count()
 }
 
 /// The complements in a clause's product, whose literals are the complements of the clause's.
-fn clause_complements_of(clause: &Clause) -> usize
-    ensures { result ≡ clause_complements clause.now }
+fn clause_complements_of(clause: ClauseRef<'_>) -> usize
+    ensures { result ≡ clause_complements clause.entry }
 {
-    clause
-        .literals
-        .as_slice()
-        .iter()
-        .filter(|literal| !literal.negated)
-        .count()
+    clause.literals.filter(|literal| !literal.negated).count()
 }
 
 /// The greatest of `most` and the complements of the products.
-fn products_complements(most: usize, products: &[Product]) -> usize
+fn products_complements(most: usize, products: &ProductList) -> usize
     ensures { result ≡ fold max most (map complements products.now) }
 {
     products
@@ -44,7 +37,7 @@ fn products_complements(most: usize, products: &[Product]) -> usize
 }
 
 /// The greatest of `most` and the complements of the products of the clauses.
-fn clauses_complements(most: usize, clauses: &[Clause]) -> usize
+fn clauses_complements(most: usize, clauses: &ClauseList) -> usize
     ensures { result ≡ fold max most (map clause_complements clauses.now) }
 {
     clauses.iter().fold(most, |most, clause| most.max(clause_complements_of(clause)))
@@ -53,7 +46,7 @@ fn clauses_complements(most: usize, clauses: &[Clause]) -> usize
 fn most_complements_of(constraint: &Constraint) -> usize
     ensures { result ≡ most_complements constraint.now }
 {
-    products_complements(0, constraint.products.as_slice())
+    products_complements(0, &constraint.products)
 }
 
 fn constraints_complements(constraints: &[Constraint]) -> usize
@@ -72,8 +65,8 @@ pub(crate) fn negations_of(problem: &Problem, normal: Normal) -> u128
     match normal {
         Normal::Literal => 0,
         Normal::Multilinear => {
-            let most = products_complements(0, problem.objective.as_slice());
-            let most = clauses_complements(most, problem.clauses.as_slice());
+            let most = products_complements(0, &problem.objective);
+            let most = clauses_complements(most, &problem.clauses);
             let squared = 2 * constraints_complements(problem.constraints.as_slice()) as u128;
             squared.max(most as u128)
         }
@@ -110,18 +103,18 @@ fn square(degree: usize) -> u128
     degree as u128 * degree as u128
 }
 
-fn product_pairs_of(product: &Product, normal: Normal) -> u128
-    ensures { result ≡ answered_number (product_pairs normal product.now) }
+fn product_pairs_of(product: ProductRef<'_>, normal: Normal) -> u128
+    ensures { result ≡ answered_number (product_pairs normal product.entry) }
 {
-    let factor = factor_of(normal, complements_of(product));
-    factor.saturating_mul(square(product.literals.as_slice().len()))
+    let degree = product.literals.len();
+    factor_of(normal, complements_of(product)).saturating_mul(square(degree))
 }
 
-fn clause_pairs_of(clause: &Clause, normal: Normal) -> u128
-    ensures { result ≡ answered_number (clause_pairs normal clause.now) }
+fn clause_pairs_of(clause: ClauseRef<'_>, normal: Normal) -> u128
+    ensures { result ≡ answered_number (clause_pairs normal clause.entry) }
 {
-    let factor = factor_of(normal, clause_complements_of(clause));
-    factor.saturating_mul(square(clause.literals.as_slice().len()))
+    let degree = clause.literals.len();
+    factor_of(normal, clause_complements_of(clause)).saturating_mul(square(degree))
 }
 
 /// How many binary digits a number has.
@@ -138,7 +131,7 @@ fn summands_of(constraint: &Constraint, normal: Normal) -> u128
     ensures { result ≡ answered_number (summands normal constraint.now) }
 {
     let slack = binary_digits_of(slack_range_of(constraint));
-    let listed = constraint.products.as_slice().len() as u128 + u128::from(slack) + 1;
+    let listed = constraint.products.len() as u128 + u128::from(slack) + 1;
     factor_of(normal, most_complements_of(constraint)).saturating_mul(listed)
 }
 
@@ -146,7 +139,7 @@ fn summands_of(constraint: &Constraint, normal: Normal) -> u128
 fn constraint_degree_of(constraint: &Constraint) -> usize
     ensures { result ≡ constraint_degree constraint.now }
 {
-    products_degree(0, constraint.products.as_slice())
+    products_degree(0, &constraint.products)
 }
 
 fn constraint_pairs_of(constraint: &Constraint, normal: Normal) -> u128
@@ -164,22 +157,22 @@ fn constraint_pairs_of(constraint: &Constraint, normal: Normal) -> u128
 }
 
 /// The pairs of the products. It stops at the greatest number of 128 bits.
-fn products_pairs(products: &[Product], normal: Normal) -> u128
+fn products_pairs(products: &ProductList, normal: Normal) -> u128
     ensures { result ≡ answered_number (sum_by (product_pairs normal) products.now) }
 {
     let mut total: u128 = 0;
-    for product in products {
+    for product in products.iter() {
         total = total.saturating_add(product_pairs_of(product, normal));
     }
     total
 }
 
 /// The pairs of the clauses, likewise.
-fn clauses_pairs(clauses: &[Clause], normal: Normal) -> u128
+fn clauses_pairs(clauses: &ClauseList, normal: Normal) -> u128
     ensures { result ≡ answered_number (sum_by (clause_pairs normal) clauses.now) }
 {
     let mut total: u128 = 0;
-    for clause in clauses {
+    for clause in clauses.iter() {
         total = total.saturating_add(clause_pairs_of(clause, normal));
     }
     total
@@ -202,7 +195,7 @@ fn constraints_pairs(constraints: &[Constraint], normal: Normal) -> u128
 pub(crate) fn pairs_of(problem: &Problem, normal: Normal) -> u128
     ensures { result ≡ answered_number (pairs normal problem.now) }
 {
-    products_pairs(problem.objective.as_slice(), normal)
-        .saturating_add(clauses_pairs(problem.clauses.as_slice(), normal))
+    products_pairs(&problem.objective, normal)
+        .saturating_add(clauses_pairs(&problem.clauses, normal))
         .saturating_add(constraints_pairs(problem.constraints.as_slice(), normal))
 }

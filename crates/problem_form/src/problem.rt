@@ -1,11 +1,14 @@
 //! A problem in normal form.
-ghost use Rattle.std.specs.Prelude.{◌≡◌, ◌+◌, ◌<◌, ◌≤◌, ◌^◌, All, OnOk, OnErr, unsigned_abs};
+ghost use Rattle.std.specs.Prelude.{◌≡◌, ◌+◌, ◌<◌, ◌≤◌, ◌^◌, All, OnOk, OnErr, unsigned_abs, unwrap_or, []};
 ghost use Rattle.problem_form.specs.NormalForm.{blank, with_variables, with_clause, with_constraint, with_product};
 ghost use Rattle.problem_form.specs.Problems.{constraint_total, problem_total, soft_weight};
 
-use crate::clauses::{clause_constant, kept_clause};
-use crate::products::{kept_product, normal_constraint, product_constant};
-use crate::terms::{Clause, ClauseList, Constraint, ConstraintList, Product, ProductList};
+use crate::clause_list::ClauseList;
+use crate::clauses::{keep_clause, weight_constant};
+use crate::literal::Literal;
+use crate::product_list::ProductList;
+use crate::products::{coefficient_constant, keep_product, normal_constraint};
+use crate::terms::{Clause, Constraint, ConstraintList, Product};
 use bits_model::NoMemory;
 use std::alloc::Global;
 use std::marker::Model;
@@ -19,6 +22,7 @@ pub struct Problem {
     pub objective: ProductList,
     pub clauses: ClauseList,
     pub constraints: ConstraintList,
+    alloc: Global,
 }
 
 impl Model for Problem {
@@ -44,6 +48,7 @@ impl Problem {
             objective: ProductList::empty(alloc),
             clauses: ClauseList::empty(alloc),
             constraints: ConstraintList::empty(alloc),
+            alloc,
         }
     }
 
@@ -55,6 +60,53 @@ impl Problem {
         self.variables = variables;
     }
 
+    /// Adds the product of literals as written to the objective, in normal form. The literals are
+    /// put in order in their own list, which is left empty. Where memory is refused the problem
+    /// stays as it was.
+    pub fn add_term(
+        &mut self,
+        literals: &mut Vec<Literal>,
+        coefficient: i128,
+    ) -> Result<(), NoMemory>
+        requires within { All (λ l. l.variable < self.old.variables) literals.old.items }
+        requires small { problem_total self.old + unsigned_abs coefficient < 2 ^ 100 }
+        ensures added { OnOk result (self.new ≡ with_product self.old
+            (record { literals = literals.old.items; coefficient = coefficient })) }
+        ensures unchanged { OnErr result (self.new ≡ self.old) }
+        ensures emptied { literals.new.items ≡ [] }
+    {
+        let constant = coefficient_constant(literals.len(), coefficient);
+        let kept = keep_product(&mut self.objective, literals, coefficient);
+        literals.clear();
+        if kept.is_ok() {
+            self.constant += constant;
+        }
+        kept
+    }
+
+    /// Adds the clause of literals as written, in normal form. The literals are put in order in
+    /// their own list, which is left empty. Where memory is refused the problem stays as it was.
+    pub fn add_literals(
+        &mut self,
+        literals: &mut Vec<Literal>,
+        weight: Option<u64>,
+    ) -> Result<(), NoMemory>
+        requires within { All (λ l. l.variable < self.old.variables) literals.old.items }
+        requires small { problem_total self.old + unwrap_or weight 0 < 2 ^ 100 }
+        ensures added { OnOk result (self.new ≡ with_clause self.old
+            (record { literals = literals.old.items; weight = weight })) }
+        ensures unchanged { OnErr result (self.new ≡ self.old) }
+        ensures emptied { literals.new.items ≡ [] }
+    {
+        let constant = weight_constant(weight, literals);
+        let kept = keep_clause(&mut self.clauses, literals, weight);
+        literals.clear();
+        if kept.is_ok() {
+            self.constant += i128::from(constant);
+        }
+        kept
+    }
+
     /// Adds a product as written to the objective, in normal form. Where memory is refused the
     /// problem stays as it was.
     pub fn add_product(&mut self, product: Product) -> Result<(), NoMemory>
@@ -63,14 +115,11 @@ impl Problem {
         ensures added { OnOk result (self.new ≡ with_product self.old product) }
         ensures unchanged { OnErr result (self.new ≡ self.old) }
     {
-        let constant = product_constant(&product);
-        match kept_product(product) {
-            Some(product) => self.objective.push(product),
-            None => {
-                self.constant += constant;
-                Ok(())
-            }
-        }
+        let Product {
+            literals,
+            coefficient,
+        } = product;
+        self.add_term(&mut literals.into_vec(), coefficient)
     }
 
     /// Adds a clause as written, in normal form. Where memory is refused the problem stays as it
@@ -81,14 +130,8 @@ impl Problem {
         ensures added { OnOk result (self.new ≡ with_clause self.old clause) }
         ensures unchanged { OnErr result (self.new ≡ self.old) }
     {
-        let constant = clause_constant(&clause);
-        match kept_clause(clause) {
-            Some(clause) => self.clauses.push(clause),
-            None => {
-                self.constant += i128::from(constant);
-                Ok(())
-            }
-        }
+        let Clause { literals, weight } = clause;
+        self.add_literals(&mut literals.into_vec(), weight)
     }
 
     /// Adds a constraint as written, in normal form. Where memory is refused the problem stays as
@@ -100,6 +143,7 @@ impl Problem {
         ensures added { OnOk result (self.new ≡ with_constraint self.old constraint) }
         ensures unchanged { OnErr result (self.new ≡ self.old) }
     {
-        self.constraints.push(normal_constraint(constraint))
+        self.constraints
+            .push(normal_constraint(self.alloc, &constraint)?)
     }
 }

@@ -1,6 +1,7 @@
-//! Products, clauses and constraints, and lists of them.
+//! Products, clauses and constraints, each by itself.
 
 use crate::literal::LiteralList;
+use crate::product_list::ProductList;
 use bits_model::Items;
 
 /// Counts its coefficient where all its literals are true.
@@ -24,12 +25,6 @@ pub struct Constraint {
     pub bound: i128,
     pub exact: bool,
 }
-
-/// Products, which contracts see as a list.
-pub type ProductList = Items<Product>;
-
-/// Clauses, which contracts see as a list.
-pub type ClauseList = Items<Clause>;
 
 /// Constraints, which contracts see as a list.
 pub type ConstraintList = Items<Constraint>;

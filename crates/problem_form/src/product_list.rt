@@ -1,0 +1,136 @@
+//! Products that lie flat.
+ghost use Rattle.std.specs.Prelude.{◌≡◌, ◌<◌, ◌++◌, ◌∷◌, [], OnOk, OnErr, length, slice_get, Some};
+
+use crate::literal::Literal;
+use crate::literal_lists::LiteralLists;
+use crate::literals::Literals;
+use bits_model::NoMemory;
+use std::alloc::Global;
+use std::marker::Model;
+
+/// A product that is lent from a list. Contracts see the product.
+#[derive(Drop)]
+pub struct ProductRef<'a> {
+    pub literals: Literals<'a>,
+    pub coefficient: i128,
+}
+
+impl<'a> Model for ProductRef<'a> {
+    ghost use Rattle.problem_form.specs.declared.terms.Product.{Product};
+
+    ghost Value = { Product };
+
+    ghost view = { λ a. record { literals = a.literals; coefficient = a.coefficient } };
+}
+
+/// Products, which contracts see as a list. A product takes no memory of its own.
+#[derive(Drop)]
+pub struct ProductList {
+    lists: LiteralLists,
+    coefficients: Vec<i128>,
+}
+
+impl Model for ProductList {
+    ghost use Rattle.std.specs.Prelude.{◌≡◌, List, length};
+    ghost use Rattle.problem_form.specs.declared.terms.Product.{Product};
+
+    ghost Value = { List Product };
+
+    ghost use Rattle.problem_form.specs.WeighedLists.{products_of};
+
+    ghost view = { λ a. products_of a.lists a.coefficients.items };
+
+    ghost invariant = { λ a. length a.lists ≡ length a.coefficients.items };
+}
+
+impl ProductList {
+    /// No products. It takes no memory.
+    pub fn empty(alloc: Global) -> ProductList
+        ensures { result ≡ [] }
+    {
+        ProductList {
+            lists: LiteralLists::empty(alloc),
+            coefficients: Vec::new(alloc),
+        }
+    }
+
+    /// How many products there are.
+    pub fn len(&self) -> usize
+        ensures { result ≡ length self.now }
+    {
+        self.coefficients.len()
+    }
+
+    /// The product at a place.
+    pub fn at(&self, i: usize) -> ProductRef<'_>
+        requires { i < length self.now }
+        ensures { slice_get self.now i ≡ Some result }
+    {
+        ProductRef {
+            literals: self.lists.at(i),
+            coefficient: self.coefficients[i],
+        }
+    }
+
+    /// All products, one after another.
+    pub fn iter(&self) -> Products<'_>
+        ensures { result ≡ self.now }
+    {
+        Products {
+            list: self,
+            next: 0,
+        }
+    }
+
+    /// Appends a product. Where memory is refused the list stays as it was.
+    pub fn push(&mut self, literals: &[Literal], coefficient: i128) -> Result<(), NoMemory>
+        ensures pushed { OnOk result (self.new
+            ≡ self.old ++ record { literals = literals.now; coefficient = coefficient } ∷ []) }
+        ensures unchanged { OnErr result (self.new ≡ self.old) }
+    {
+        let count = self.coefficients.len();
+        self.coefficients.push(coefficient)?;
+        if self.lists.push(literals).is_err() {
+            self.coefficients.truncate(count);
+            return Err(NoMemory);
+        }
+        Ok(())
+    }
+}
+
+/// Products of a list, one after another. Contracts see the list of those that are left.
+#[derive(Drop)]
+pub struct Products<'a> {
+    list: &'a ProductList,
+    next: usize,
+}
+
+impl<'a> Model for Products<'a> {
+    ghost use Rattle.std.specs.Prelude.{List, drop};
+    ghost use Rattle.problem_form.specs.declared.terms.Product.{Product};
+
+    ghost Value = { List Product };
+
+    ghost view = { λ a. drop a.next a.list.now };
+}
+
+impl<'a> Iterator for Products<'a> {
+    type Item = ProductRef<'a>;
+
+    ghost use Rattle.std.specs.Prelude.{length};
+    ghost use Rattle.std.specs.Iterator.{at_most};
+    ghost use Rattle.std.specs.Map.Iter.{TakesFirst};
+
+    ghost next_gives = { TakesFirst (λ t. t) };
+
+    ghost remaining = { λ s. at_most (length s) };
+
+    fn next(&mut self) -> Option<ProductRef<'a>> {
+        if self.next >= self.list.len() {
+            return None;
+        }
+        let product = self.list.at(self.next);
+        self.next += 1;
+        Some(product)
+    }
+}

@@ -1,0 +1,69 @@
+//! Lists of literals of any variables, as many as memory holds: sixteen bytes a literal.
+ghost use Rattle.std.specs.Prelude.{◌≡◌, ◌<◌, ◌++◌, ◌∷◌, [], OnOk, OnErr, length, slice_get, Some};
+ghost use Rattle.problem_form.specs.FlatLists.{AreEnds, parts};
+
+use crate::literal::Literal;
+use crate::literals::{HeldLiterals, Literals};
+use bits_model::NoMemory;
+use std::marker::Model;
+
+/// Literals one after another, and where each list ends. Contracts see the lists.
+#[derive(Drop)]
+pub(crate) struct WideLists {
+    literals: Vec<Literal>,
+    ends: Vec<usize>,
+}
+
+impl Model for WideLists {
+    ghost use Rattle.std.specs.Prelude.{List, length};
+    ghost use Rattle.problem_form.specs.declared.literal.Literal.{Literal};
+
+    ghost Value = { List (List Literal) };
+
+    ghost use Rattle.problem_form.specs.FlatLists.{AreEnds, parts};
+
+    ghost view = { λ a. parts a.literals.items 0 a.ends.items };
+
+    ghost invariant = { λ a. AreEnds 0 a.ends.items (length a.literals.items) };
+}
+
+impl WideLists {
+    /// The lists of these literals with these ends.
+    pub(crate) fn new(literals: Vec<Literal>, ends: Vec<usize>) -> WideLists
+        requires { AreEnds 0 ends.items (length literals.items) }
+        ensures { result ≡ parts literals.items 0 ends.items }
+    {
+        WideLists { literals, ends }
+    }
+
+    pub(crate) fn len(&self) -> usize
+        ensures { result ≡ length self.now }
+    {
+        self.ends.len()
+    }
+
+    /// The list at a place.
+    pub(crate) fn at(&self, i: usize) -> Literals<'_>
+        requires { i < length self.now }
+        ensures { slice_get self.now i ≡ Some result }
+    {
+        let start = if i == 0 { 0 } else { self.ends[i - 1] };
+        Literals {
+            held: HeldLiterals::Listed(self.literals[start..self.ends[i]].iter()),
+        }
+    }
+
+    /// Appends a list. Where memory is refused the lists stay as they were.
+    pub(crate) fn push(&mut self, literals: &[Literal]) -> Result<(), NoMemory>
+        ensures pushed { OnOk result (self.new ≡ self.old ++ literals.now ∷ []) }
+        ensures unchanged { OnErr result (self.new ≡ self.old) }
+    {
+        let start = self.literals.len();
+        self.literals.extend_from_slice(literals)?;
+        if self.ends.push(self.literals.len()).is_err() {
+            self.literals.truncate(start);
+            return Err(NoMemory);
+        }
+        Ok(())
+    }
+}
