@@ -5,5 +5,6 @@ pub mod laws
 pub mod Least
 pub mod Walks
 pub mod Output
+pub mod Entries
 pub mod Faithful
 pub mod Stated

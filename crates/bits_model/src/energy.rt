@@ -5,20 +5,22 @@ ghost use Rattle.bits_model.specs.Output.{bit_at, times_spin, bits_energy, spins
 
 use crate::costed::Costed;
 use crate::costs::Cost;
+use crate::couplers::CouplerList;
+use crate::entries::EntryList;
 use crate::output::{Entry, Kind, OutputModel};
 
-/// The bit of a node.
-fn bit_at(y: &[bool], node: u32) -> bool
+/// The bit of a node, which is 0 past the state's end.
+pub fn bit_at(y: &[bool], node: usize) -> bool
     ensures { result ≡ bit_at y.now node }
 {
-    match y.get(node as usize) {
+    match y.get(node) {
         Some(bit) => *bit,
         None => false,
     }
 }
 
 /// A number times a spin.
-fn times_spin(bit: bool, number: i128) -> i128
+pub fn times_spin(bit: bool, number: i128) -> i128
     requires { unsigned_abs number ≤ 2 ^ 124 }
     ensures { result ≡ times_spin bit number }
 {
@@ -28,7 +30,7 @@ fn times_spin(bit: bool, number: i128) -> i128
 fn bits_energy(y: &[bool], entry: &Entry) -> i128
     ensures { result ≡ bits_energy y.now entry.now }
 {
-    if bit_at(y, entry.first) && bit_at(y, entry.second) {
+    if bit_at(y, entry.first as usize) && bit_at(y, entry.second as usize) {
         entry.weight
     } else {
         0
@@ -39,11 +41,11 @@ fn spins_energy(y: &[bool], entry: &Entry) -> i128
     requires { unsigned_abs entry.now.weight ≤ 2 ^ 124 }
     ensures { result ≡ spins_energy y.now entry.now }
 {
-    let first = bit_at(y, entry.first);
+    let first = bit_at(y, entry.first as usize);
     if entry.first == entry.second {
         times_spin(first, entry.weight)
     } else {
-        times_spin(first, times_spin(bit_at(y, entry.second), entry.weight))
+        times_spin(first, times_spin(bit_at(y, entry.second as usize), entry.weight))
     }
 }
 
@@ -58,14 +60,26 @@ fn entry_energy(kind: Kind, y: &[bool], entry: &Entry) -> i128
     }
 }
 
+/// The sum of what couplers add to the energy of a state of a model of this kind.
+pub fn couplers_energy(kind: Kind, y: &[bool], couplers: &CouplerList) -> i128
+    requires { weight_total couplers.now ≤ 2 ^ 124 }
+    ensures { result ≡ total_by (entry_energy kind y.now) couplers.now }
+{
+    let mut energy: i128 = 0;
+    for entry in couplers.iter() {
+        energy += entry_energy(kind, y, &entry);
+    }
+    energy
+}
+
 /// The sum of what the entries of a model of this kind add to the energy of a state.
-pub fn total_energy(kind: Kind, y: &[bool], entries: &[Entry]) -> i128
+pub fn total_energy(kind: Kind, y: &[bool], entries: &EntryList) -> i128
     requires { weight_total entries.now ≤ 2 ^ 124 }
     ensures { result ≡ total_by (entry_energy kind y.now) entries.now }
 {
     let mut energy: i128 = 0;
-    for entry in entries {
-        energy += entry_energy(kind, y, entry);
+    for entry in entries.iter() {
+        energy += entry_energy(kind, y, &entry);
     }
     energy
 }
@@ -87,6 +101,6 @@ impl Costed for OutputModel {
 
     /// The energy of a state. It is never infinite.
     fn cost(&self, y: &[bool]) -> Cost {
-        Cost::Whole(total_energy(self.kind, y, self.entries.as_slice()))
+        Cost::Whole(total_energy(self.kind, y, &self.entries))
     }
 }

@@ -4,20 +4,32 @@
 
 mod costed;
 mod costs;
+mod coupler_entries;
+mod couplers;
 mod energy;
+mod entries;
 mod guard;
 mod items;
 mod laws;
 mod layer;
+mod nodes;
 mod output;
+mod row;
 mod then;
+mod weights;
 
 pub use costed::Costed;
 pub use costs::{Cost, Figures, NoMemory};
-pub use energy::total_energy;
+pub use coupler_entries::CouplerEntries;
+pub use couplers::CouplerList;
+pub use energy::{bit_at, couplers_energy, times_spin, total_energy};
+pub use entries::{Entries, EntryList};
 pub use guard::{Guard, Guarded};
 pub use items::Items;
 pub use laws::{relations_compose, relaxed_is_faithful};
+pub use nodes::{NodeEntries, NodeWeights};
 pub use layer::{BitsLink, Layer, Lowered, Reduced};
-pub use output::{ChainList, Entry, EntryList, Kind, OutputModel, UnitChoice};
+pub use output::{ChainList, Entry, Kind, OutputModel, UnitChoice};
+pub use row::Row;
 pub use then::{Then, ThenLink};
+pub use weights::WeightList;

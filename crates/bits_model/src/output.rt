@@ -4,6 +4,7 @@ ghost use Rattle.std.specs.List.{slice_index_or};
 
 use crate::costed::Costed;
 use crate::costs::{Cost, Figures};
+use crate::entries::EntryList;
 use crate::items::Items;
 use std::alloc::Global;
 use std::marker::Model;
@@ -31,9 +32,6 @@ pub struct Entry {
     pub second: u32,
     pub weight: i128,
 }
-
-/// The entries of a model.
-pub type EntryList = Items<Entry>;
 
 /// The qubits of each node's chain, in the chain's order.
 pub type ChainList = Items<Items<u32>>;

@@ -1,0 +1,146 @@
+//! Whole numbers in as few bytes as they need.
+ghost use Rattle.std.specs.Prelude.{◌≡◌, ◌++◌, ◌∷◌, [], ◌<◌, ◌≤ℤ◌, IfOk, OnOk, OnErr, length, map, pos, int_div};
+ghost use Rattle.std.specs.List.{slice_index_or};
+
+use crate::costs::NoMemory;
+use std::alloc::Global;
+use std::marker::Model;
+
+/// How many bits a number takes.
+#[derive(Drop)]
+pub enum Held {
+    Narrow(Vec<i64>),
+    Wide(Vec<i128>),
+}
+
+/// Weights, which contracts see as the list of their values: in 8 bytes each as long as all fit, and
+/// in 16 from the first one on that does not.
+#[derive(Drop)]
+pub struct WeightList {
+    alloc: Global,
+    held: Held,
+}
+
+impl Model for WeightList {
+    ghost use Rattle.std.specs.Prelude.{List, ℤ};
+    ghost use Rattle.bits_model.specs.Entries.{held_weights};
+
+    ghost Value = { List ℤ };
+
+    ghost view = { λ a. held_weights a.held };
+}
+
+/// The same numbers, and room for one more.
+fn widened(alloc: Global, narrow: &[i64]) -> Result<Vec<i128>, NoMemory>
+    ensures { IfOk result (λ wide. wide.items ≡ narrow.now) }
+{
+    let mut wide = Vec::with_capacity(alloc, narrow.len().saturating_add(1))?;
+    for weight in narrow {
+        wide.push(i128::from(*weight))?;
+    }
+    Ok(wide)
+}
+
+impl WeightList {
+    /// The list without weights. Takes no memory.
+    pub fn empty(alloc: Global) -> WeightList
+        ensures { result ≡ [] }
+    {
+        WeightList {
+            alloc,
+            held: Held::Narrow(Vec::new(alloc)),
+        }
+    }
+
+    /// The list without weights, with room for so many narrow ones.
+    pub fn with_room(alloc: Global, count: usize) -> Result<WeightList, NoMemory>
+        ensures { IfOk result (λ list. list ≡ []) }
+    {
+        Ok(WeightList {
+            alloc,
+            held: Held::Narrow(Vec::with_capacity(alloc, count)?),
+        })
+    }
+
+    pub fn len(&self) -> usize
+        ensures { result ≡ length self.now }
+    {
+        match &self.held {
+            Held::Narrow(weights) => weights.len(),
+            Held::Wide(weights) => weights.len(),
+        }
+    }
+
+    /// The weight at an index.
+    pub fn get(&self, index: usize) -> i128
+        requires { index < length self.now }
+        ensures { result ≡ slice_index_or self.now index (pos 0) }
+    {
+        match &self.held {
+            Held::Narrow(weights) => i128::from(weights[index]),
+            Held::Wide(weights) => weights[index],
+        }
+    }
+
+    pub fn push(&mut self, weight: i128) -> Result<(), NoMemory>
+        ensures pushed { OnOk result (self.new ≡ self.old ++ weight ∷ []) }
+        ensures unchanged { OnErr result (self.new ≡ self.old) }
+    {
+        match &mut self.held {
+            Held::Narrow(weights) => match i64::try_from(weight) {
+                Ok(narrow) => weights.push(narrow)?,
+                Err(_) => {
+                    let mut wide = widened(self.alloc, weights)?;
+                    wide.push(weight)?;
+                    self.held = Held::Wide(wide);
+                }
+            },
+            Held::Wide(weights) => weights.push(weight)?,
+        }
+        Ok(())
+    }
+
+    /// The same weights in memory of their own.
+    pub fn copied(&self, alloc: Global) -> Result<WeightList, NoMemory>
+        ensures { IfOk result (λ list. list ≡ self.now) }
+    {
+        let held = match &self.held {
+            Held::Narrow(weights) => Held::Narrow(weights.to_vec(alloc)?),
+            Held::Wide(weights) => Held::Wide(weights.to_vec(alloc)?),
+        };
+        Ok(WeightList { alloc, held })
+    }
+
+    /// The weights divided by a unit, and rounded towards 0. Takes no memory.
+    pub fn divide(self, unit: i128) -> WeightList
+        requires { pos 1 ≤ℤ unit }
+        ensures { result ≡ map (λ w. int_div w unit) self }
+    {
+        let WeightList { alloc, held } = self;
+        let held = match held {
+            Held::Narrow(weights) => Held::Narrow(narrow_divided(weights, unit)),
+            Held::Wide(weights) => Held::Wide(wide_divided(weights, unit)),
+        };
+        WeightList { alloc, held }
+    }
+}
+
+fn narrow_divided(mut weights: Vec<i64>, unit: i128) -> Vec<i64>
+    requires { pos 1 ≤ℤ unit }
+    ensures { result.items ≡ map (λ w. int_div w unit) weights.items }
+{
+    for weight in weights.iter_mut() {
+        *weight = (i128::from(*weight) / unit) as i64;
+    }
+    weights
+}
+
+fn wide_divided(mut weights: Vec<i128>, unit: i128) -> Vec<i128>
+    requires { pos 1 ≤ℤ unit }
+    ensures { result.items ≡ map (λ w. int_div w unit) weights.items }
+{
+    for weight in weights.iter_mut() {
+        *weight /= unit;
+    }
+    weights
+}
