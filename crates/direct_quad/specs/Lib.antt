@@ -1,0 +1,5 @@
+pub mod Parts
+pub mod Places
+pub mod Gathered
+pub mod Rows
+pub mod Stated

@@ -1,0 +1,72 @@
+-- Additions of terms, and the quadratic form that they give at once.
+--
+-- In place of all new terms, those of at most two literals need not be summed before they are
+-- multiplied out, since the form has the sums of all. Longer ones are summed first: what stands for
+-- a term goes by the sign of its sum, and its new nodes are numbered in the order of the table.
+use Rattle.std.specs.Prelude.{◌≡◌, ℕ, ◌+◌, ◌<◌, ℤ, pos, Bool, not, List, [], ◌∷◌, ◌++◌, length, All}
+use Rattle.std.specs.List.{filter, slice_index_or, sum_by}
+use Rattle.std.specs.List.Sorted.{IsStrictlySortedBy}
+use Rattle.bits_model.specs.Output.{entry_cmp}
+use Rattle.problem_form.specs.declared.literal.Literal.{Literal}
+use Rattle.term_table.specs.Terms.{Term, with_additions, coefficient_of}
+use Rattle.term_table.specs.Tables.{TableContent}
+use Rattle.monomial_layer.specs.Monomials.{node, is_low, new_nodes, all_new_terms}
+use Rattle.monomial_layer.specs.Monomials as monomials
+use Rattle.quad_form.specs.Quads.{QuadContent, IsCoupler}
+use Rattle.quad_form.specs.Flat.{contributions}
+use Rattle.quad_form.specs.Flat as flat
+use Rattle.quad_form.specs.Pairs.{weight_at}
+
+-- ---- three steps in a row
+
+-- the table of additions
+abbrev pub table_of : TableContent → TableContent
+table_of t = record { width = t.width; terms = with_additions [] t.terms }
+
+-- additions summed to a table, its longer terms replaced, and the result multiplied out
+abbrev pub image : TableContent → QuadContent
+image t = flat.image (monomials.image (table_of t))
+
+-- ---- short and long terms
+
+-- three literals or more
+abbrev pub is_long : Term → Bool
+is_long t = not (is_low t)
+
+-- the additions of at most two literals, in the order in which they came
+abbrev pub short_terms : List Term → List Term
+short_terms ts = filter is_low ts
+
+-- the additions of three literals or more, in the order in which they came
+abbrev pub long_additions : List Term → List Term
+long_additions ts = filter is_long ts
+
+-- the sums of the additions of three literals or more, in the order of a table
+abbrev pub long_terms : List Term → List Term
+long_terms ts = with_additions [] (long_additions ts)
+
+-- the variables, and the new nodes of the long terms
+abbrev pub all_nodes : TableContent → ℕ
+all_nodes t = t.width + sum_by new_nodes (long_terms t.terms)
+
+-- the short terms as they came, and what stands for the long ones
+abbrev pub parts : TableContent → List Term
+parts t = short_terms t.terms ++ all_new_terms (long_terms t.terms) t.width
+
+-- ---- the form that terms give
+
+-- what terms give a set of variables, multiplied out
+abbrev pub sum_for : List Literal → List Term → ℤ
+sum_for ls ts = coefficient_of ls (contributions ts)
+
+-- a form of so many nodes in which the constant, each weight and each coupler is the sum of what
+-- the terms give
+pub record GivesSums (nodes : ℕ) (ts : List Term) (q : QuadContent) : Type 0 where
+  pub constant : q.constant ≡ sum_for [] ts
+  pub width : length q.diagonal ≡ nodes
+  pub weights : (i : ℕ) → i < nodes
+      → slice_index_or q.diagonal i (pos 0) ≡ sum_for (node i ∷ []) ts
+  pub ordered : IsStrictlySortedBy entry_cmp q.couplers
+  pub couplers : All (IsCoupler nodes) q.couplers
+  pub pairs : (i j : ℕ) → i < j → j < nodes
+      → weight_at i j q.couplers ≡ sum_for (node i ∷ node j ∷ []) ts

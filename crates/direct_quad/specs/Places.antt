@@ -1,0 +1,149 @@
+-- What a term gives a quadratic form, without any term in between.
+--
+-- Let c be the coefficient of a term of three literals or more, d its degree, e the number of its
+-- complements. Where c is positive, each pair of its literals is multiplied out, and each of its
+-- new nodes with all its literals. Where c is negative, its one new node is. A complement turns the
+-- sign of its couplers, and moves as much to the other node, or to the constant.
+use Rattle.std.specs.Prelude.{ℕ, zero, suc, ◌+◌, ◌-◌, ◌*◌, ◌/◌, ◌==◌, ℤ, pos, neg_ℤ, ◌-ℤ◌, ◌*ℤ◌, ◌&&◌, int_lt, List, [], ◌∷◌, ◌++◌, map, length, if◌then◌else◌}
+use Rattle.std.specs.List.{count_by, flat_map}
+use Rattle.integers.specs.Sums.{total_by, if_so}
+use Rattle.bits_model.specs.declared.output.Entry.{Entry}
+use Rattle.problem_form.specs.declared.literal.Literal.{Literal}
+use Rattle.term_table.specs.Terms.{Term}
+use Rattle.monomial_layer.specs.Monomials.{factor, nodes_for, new_nodes}
+
+-- a number, whose sign a complement turns
+abbrev pub signed : Literal → ℤ → ℤ
+signed l c = if l.negated then neg_ℤ c else c
+
+-- how many literals are complements
+abbrev pub complements : List Literal → ℕ
+complements ls = count_by (λ l. l.negated) ls
+
+-- how many pairs there are among n
+abbrev pub pairs_among : ℕ → ℕ
+pairs_among n = n * (n - 1) / 2
+
+-- ---- couplers
+
+-- the coupler of two literals
+abbrev pub pair_coupler : Literal → ℤ → Literal → Entry
+pair_coupler l c k = record {
+  first = l.variable;
+  second = k.variable;
+  weight = signed l (signed k c);
+}
+
+-- the coupler of a literal and a new node
+abbrev pub node_coupler : Literal → ℤ → ℕ → Entry
+node_coupler l c n = record { first = l.variable; second = n; weight = signed l c }
+
+-- the couplers of a literal and the first k new nodes, numbered from n on, of a positive term
+abbrev pub node_couplers : Literal → ℕ → ℤ → ℕ → ℕ → List Entry
+node_couplers l d c n zero = []
+node_couplers l d c n (suc k) =
+    node_couplers l d c n k ++ node_coupler l (neg_ℤ (c *ℤ pos (factor d k))) (n + k) ∷ []
+
+-- a literal in a long term, the literals after it, and the term's degree, coefficient and first
+-- new node
+pub record Place : Type 0 where
+  pub literal : Literal
+  pub later : List Literal
+  pub degree : ℕ
+  pub coefficient : ℤ
+  pub first_node : ℕ
+
+-- the couplers of a literal with those after it, and with the new nodes
+abbrev pub place_couplers : Place → List Entry
+place_couplers p =
+    if int_lt p.coefficient (pos 0)
+    then node_coupler p.literal p.coefficient p.first_node ∷ []
+    else (
+    map (pair_coupler p.literal p.coefficient) p.later
+    ++ node_couplers p.literal p.degree p.coefficient p.first_node (nodes_for p.degree)
+    )
+
+-- the places of these literals in a term
+abbrev pub places_in : List Literal → ℕ → ℤ → ℕ → List Place
+places_in [] d c n = []
+places_in (l ∷ ls) d c n =
+    record { literal = l; later = ls; degree = d; coefficient = c; first_node = n }
+    ∷ places_in ls d c n
+
+-- the places of a term, whose new nodes are numbered from n on
+abbrev pub term_places : Term → ℕ → List Place
+term_places t n = places_in t.0 (length t.0) t.1 n
+
+-- the places of long terms, their new nodes being numbered from n on
+abbrev pub all_places : List Term → ℕ → List Place
+all_places [] n = []
+all_places (t ∷ ts) n = term_places t n ++ all_places ts (n + new_nodes t)
+
+-- the coupler of a term of two literals
+abbrev pub short_couplers : Term → List Entry
+short_couplers ([], c) = []
+short_couplers (l ∷ [], c) = []
+short_couplers (l ∷ k ∷ ls, c) = pair_coupler l c k ∷ []
+
+-- ---- weights of nodes
+
+-- a node, and what is added to its weight
+abbrev pub Share : Type 0
+Share = ℕ × ℤ
+
+-- what is added to the weight of a node
+abbrev pub share_at : ℕ → List Share → ℤ
+share_at i shares = total_by (λ s. if_so (i == s.0) s.1) shares
+
+-- of a literal's variable, in a positive term with e complements: one for each other complement
+abbrev pub literal_share : ℕ → ℤ → Literal → Share
+literal_share e c l =
+    (l.variable, if l.negated then neg_ℤ (c *ℤ pos (e - 1)) else (c *ℤ pos e))
+
+-- of the new node after k others, in a positive term
+abbrev pub node_share : ℕ → ℕ → ℤ → ℕ → ℕ → Share
+node_share d e c n k =
+    (n + k, c *ℤ (pos (factor d k) *ℤ (pos (2 * k + 2) -ℤ pos e) -ℤ pos 1))
+
+-- of the first k new nodes, numbered from n on, of a positive term
+abbrev pub node_shares : ℕ → ℕ → ℤ → ℕ → ℕ → List Share
+node_shares d e c n zero = []
+node_shares d e c n (suc k) = node_shares d e c n k ++ node_share d e c n k ∷ []
+
+-- of a long term, whose new nodes are numbered from n on
+abbrev pub term_shares : Term → ℕ → List Share
+term_shares t n =
+    if int_lt t.1 (pos 0)
+    then (n, t.1 *ℤ (pos (complements t.0 + 1) -ℤ pos (length t.0))) ∷ []
+    else (
+    map (literal_share (complements t.0) t.1) t.0
+    ++ node_shares (length t.0) (complements t.0) t.1 n (nodes_for (length t.0))
+    )
+
+-- of long terms, their new nodes being numbered from n on
+abbrev pub all_shares : List Term → ℕ → List Share
+all_shares [] n = []
+all_shares (t ∷ ts) n = term_shares t n ++ all_shares ts (n + new_nodes t)
+
+-- what a pair moves to the weight of one literal, where the other is a complement
+abbrev pub moved_share : Literal → Literal → ℤ → List Share
+moved_share l other c = if other.negated then (l.variable, signed l c) ∷ [] else []
+
+-- of a term of at most two literals
+abbrev pub short_shares : Term → List Share
+short_shares ([], c) = []
+short_shares (l ∷ [], c) = (l.variable, signed l c) ∷ []
+short_shares (l ∷ k ∷ ls, c) = moved_share l k c ++ moved_share k l c
+
+-- ---- constants
+
+-- of a long term: where it is positive, once for each pair of complements
+abbrev pub long_constant : Term → ℤ
+long_constant t =
+    if int_lt t.1 (pos 0) then pos 0 else (t.1 *ℤ pos (pairs_among (complements t.0)))
+
+-- of a term of at most two literals: where all are complements
+abbrev pub short_constant : Term → ℤ
+short_constant ([], c) = c
+short_constant (l ∷ [], c) = if_so l.negated c
+short_constant (l ∷ k ∷ ls, c) = if_so (l.negated && k.negated) c

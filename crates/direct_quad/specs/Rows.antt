@@ -1,0 +1,43 @@
+-- Couplers row by row: a row has those whose first node is one.
+--
+-- Each row is summed by itself, and the rows follow one another. See Gustavson, Two fast algorithms
+-- for sparse matrices: multiplication and permuted transposition (1978).
+use Rattle.std.specs.Prelude.{◌≡◌, ℕ, ◌<◌, ◌==◌, Bool, List, All}
+use Rattle.std.specs.List.{filter}
+use Rattle.std.specs.List.Sorted.{IsStrictlySortedBy}
+use Rattle.bits_model.specs.declared.output.Entry.{Entry}
+use Rattle.bits_model.specs.Output.{entry_cmp}
+use Rattle.quad_form.specs.Quads.{IsCoupler}
+use Rattle.quad_form.specs.Pairs.{weight_at}
+use Rattle.direct_quad.specs.Places.{Place}
+
+-- the first node of the entry is i
+abbrev pub is_of : ℕ → Entry → Bool
+is_of i e = i == e.first
+
+-- the entries of one row
+abbrev pub row_of : ℕ → List Entry → List Entry
+row_of i es = filter (is_of i) es
+
+-- the literal at the place has this variable
+abbrev pub is_at : ℕ → Place → Bool
+is_at i p = i == p.literal.variable
+
+-- the places of one variable
+abbrev pub places_of : ℕ → List Place → List Place
+places_of i ps = filter (is_at i) ps
+
+-- the couplers of a row, in order and none of them 0, with the sums of what is to be summed
+pub record IsRow (nodes i : ℕ) (all row : List Entry) : Type 0 where
+  pub first : All (λ e. e.first ≡ i) row
+  pub ordered : IsStrictlySortedBy entry_cmp row
+  pub couplers : All (IsCoupler nodes) row
+  pub sums : (j : ℕ) → weight_at i j row ≡ weight_at i j all
+
+-- the couplers of the first rows, in order and none of them 0, with the sums of what is to be
+-- summed
+pub record AreRows (nodes rows : ℕ) (all couplers : List Entry) : Type 0 where
+  pub first : All (λ e. e.first < rows) couplers
+  pub ordered : IsStrictlySortedBy entry_cmp couplers
+  pub couplers : All (IsCoupler nodes) couplers
+  pub sums : (i j : ℕ) → i < rows → weight_at i j couplers ≡ weight_at i j all
