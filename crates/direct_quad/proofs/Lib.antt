@@ -1,0 +1,7 @@
+pub mod Additive
+pub mod Split
+pub mod AtOnce
+pub mod TwoLiterals
+pub mod LongTerms
+pub mod AllParts
+pub mod RowSums

@@ -36,8 +36,8 @@ pub record IsRow (nodes i : ℕ) (all row : List Entry) : Type 0 where
 
 -- the couplers of the first rows, in order and none of them 0, with the sums of what is to be
 -- summed
-pub record AreRows (nodes rows : ℕ) (all couplers : List Entry) : Type 0 where
-  pub first : All (λ e. e.first < rows) couplers
-  pub ordered : IsStrictlySortedBy entry_cmp couplers
-  pub couplers : All (IsCoupler nodes) couplers
-  pub sums : (i j : ℕ) → i < rows → weight_at i j couplers ≡ weight_at i j all
+pub record AreRows (nodes rows : ℕ) (all made : List Entry) : Type 0 where
+  pub first : All (λ e. e.first < rows) made
+  pub ordered : IsStrictlySortedBy entry_cmp made
+  pub couplers : All (IsCoupler nodes) made
+  pub sums : (i j : ℕ) → i < rows → weight_at i j made ≡ weight_at i j all

@@ -70,7 +70,7 @@ PlacesPermute = (i j : ℕ) (ps qs : List Place) → IsPermutation ps qs
 
 -- one row after the first ones
 abbrev pub RowsFollow : Type 0
-RowsFollow = (nodes i : ℕ) (all couplers row : List Entry) → nodes ≤ 2 ^ 32
+RowsFollow = (nodes i : ℕ) (all couplers row : List Entry) → nodes < 2 ^ 32
     → AreRows nodes i all couplers → IsRow nodes i all row
     → AreRows nodes (i + 1) all (couplers ++ row)
 

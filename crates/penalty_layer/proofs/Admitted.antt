@@ -57,12 +57,12 @@ clause_sets p cs width admitted same wide =
 
 -- q is what the code sees of the problem p
 pub constant_added : (p q : ProblemContent) (empty first : TableContent) (k : ℤ) → q ≡ p
-    → empty ≡ record { width = q.variables; terms = [] } → first ≡ with_appended empty [] k → k ≡ q.constant
+    → empty ≡ record { width = p.variables; terms = [] } → first ≡ with_appended empty [] k → k ≡ q.constant
     → first ≡ with_appended (record { width = p.variables; terms = [] }) [] p.constant
 constant_added p q empty first k same blank one constant =
     one
-    ∙ (λ i. with_appended (blank i) [] (constant i))
-    ∙ ap (λ (u : ProblemContent). with_appended (record { width = u.variables; terms = [] }) [] u.constant) same
+    ∙ (λ i. with_appended (blank i) []
+    ((constant ∙ ap (λ (u : ProblemContent). u.constant) same) i))
 
 pub products_added : (p q : ProblemContent) (first second : TableContent) (ts : List Product) → q ≡ p
     → second ≡ with_more first (map product_term ts) → ts ≡ q.objective
@@ -80,19 +80,25 @@ clauses_added p q second third n cs same made number clauses =
     ∙ (λ i. with_more second
     (map (clause_term (number i)) ((clauses ∙ ap (λ (u : ProblemContent). u.clauses) same) i)))
 
--- the constant, the products and then the clauses were appended, and summed
-pub made_image : (p : ProblemContent) (first second third table : TableContent)
+-- the constant, the products and then the clauses were appended
+pub all_added : (p : ProblemContent) (first second third : TableContent)
     → first ≡ with_appended (record { width = p.variables; terms = [] }) [] p.constant
     → second ≡ with_more first (map product_term p.objective)
     → third ≡ with_more second (map (clause_term (penalty p)) p.clauses)
-    → table ≡ record { width = third.width; terms = with_additions [] third.terms }
-    → table ≡ image p
-made_image p first second third table constant products clauses summed =
-    let listed =
+    → third ≡ record { width = p.variables; terms = contributions p }
+all_added p first second third constant products clauses =
     clauses
     ∙ ap (λ t. with_more t (map (clause_term (penalty p)) p.clauses))
-    (products ∙ ap (λ t. with_more t (map product_term p.objective)) constant) in
-    summed ∙ ap (λ (t : TableContent). record { width = t.width; terms = with_additions [] t.terms }) listed
+    (products ∙ ap (λ t. with_more t (map product_term p.objective)) constant)
+
+-- and summed
+pub made_image : (p : ProblemContent) (gathered table : TableContent)
+    → gathered ≡ record { width = p.variables; terms = contributions p }
+    → table ≡ record { width = gathered.width; terms = with_additions [] gathered.terms }
+    → table ≡ image p
+made_image p gathered table added summed =
+    summed
+    ∙ ap (λ (t : TableContent). record { width = t.width; terms = with_additions [] t.terms }) added
 
 -- after the products the clauses fit
 pub clauses_fit : (p : ProblemContent) (first second : TableContent) → limit_fault normals.Literal p ≡ None
@@ -121,7 +127,7 @@ made_total p third none made =
     )
 
 -- the sets of all contributions
-contribution_sets : (p : ProblemContent) → Admits p
+pub contribution_sets : (p : ProblemContent) → Admits p
     → All (OfSet (IsTermSet p.variables)) (contributions p)
 contribution_sets p admitted =
     let P = OfSet (IsTermSet p.variables) in

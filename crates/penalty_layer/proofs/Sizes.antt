@@ -104,18 +104,24 @@ clauses_terms_total n (c ∷ cs) =
       sum_by-cons (λ (u : Clause). unwrap_or u.weight n) c cs,
     )
 
--- the whole table
-pub image_total : (p : ProblemContent)
-    → terms_total (image p).terms
-    ≤ unsigned_abs p.constant + products_total p.objective + clause_weights (penalty p) p.clauses
-image_total p =
+-- all contributions
+pub contributions_total : (p : ProblemContent)
+    → terms_total (contributions p)
+    ≡ unsigned_abs p.constant + products_total p.objective + clause_weights (penalty p) p.clauses
+contributions_total p =
     let products = map product_term p.objective in
     let clauses = map (clause_term (penalty p)) p.clauses in
     omega (
       arith,
-      terms_total-with_additions (contributions p),
       terms_total-cons ([], p.constant) (products ++ clauses),
       sum_by-append (λ (t : Term). unsigned_abs t.1) products clauses,
       products_terms_total p.objective,
       clauses_terms_total (penalty p) p.clauses,
     )
+
+-- the whole table
+pub image_total : (p : ProblemContent)
+    → terms_total (image p).terms
+    ≤ unsigned_abs p.constant + products_total p.objective + clause_weights (penalty p) p.clauses
+image_total p =
+    omega (arith, terms_total-with_additions (contributions p), contributions_total p)

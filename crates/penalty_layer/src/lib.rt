@@ -2,6 +2,9 @@
 #![tactic(auto)]
 
 mod adding;
+mod gather;
 mod penalty;
 
+pub use adding::add_contributions;
+pub use gather::Gather;
 pub use penalty::Penalty;

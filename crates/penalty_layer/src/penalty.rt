@@ -4,7 +4,7 @@ ghost use Rattle.penalty_layer.specs.Penalty.{Admits, image, figures, Fits};
 ghost use Rattle.bits_model.specs.Links.{first_bits, HasFirstBits};
 ghost use Rattle.penalty_layer.specs.laws.Relaxing.{penalty_relaxes, penalty_joins, penalty_sound, penalty_whole};
 
-use crate::adding::{add_clauses, add_products};
+use crate::adding::add_contributions;
 use bits_model::{BitsLink, Figures, Guard, Guarded, NoMemory};
 use problem_form::Problem;
 use std::alloc::Global;
@@ -56,10 +56,7 @@ impl Guard for Penalty {
     fn guard(&self, alloc: Global, source: &Problem) -> Result<Guarded<Table, BitsLink>, NoMemory> {
         let width = source.variables as usize;
         let mut terms = GatheredTerms::new(alloc, width);
-        terms.add(&[], source.constant)?;
-        add_products(&mut terms, source.objective.as_slice())?;
-        let penalty = source.penalty();
-        add_clauses(alloc, &mut terms, source.clauses.as_slice(), penalty)?;
+        add_contributions(alloc, &mut terms, source)?;
         Ok(Guarded {
             target: terms.into_table(),
             link: BitsLink {

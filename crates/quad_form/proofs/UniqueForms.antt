@@ -31,7 +31,7 @@ use Rattle.quad_form.proofs.PairOrder.{compared, ArePairs, Before, Rises, same_p
 
 -- ---- couplers with the same sums
 
-weight_for-other : (e f : Entry) → pair_number e < pair_number f → weight_for e.first e.second f ≡ pos 0
+pub weight_for-other : (e f : Entry) → pair_number e < pair_number f → weight_for e.first e.second f ≡ pos 0
 weight_for-other e f less =
     go (eqb e.first f.first) (eqb e.second f.second) (Decides-eqb e.first f.first)
     (Decides-eqb e.second f.second)
@@ -109,7 +109,7 @@ same_entries (e ∷ es) (f ∷ fs) p q a b m n same =
 
 -- ---- the sets of a constant, a node and a pair
 
-abbrev node : ℕ → Literal
+abbrev pub node : ℕ → Literal
 node i = record { variable = i; negated = false }
 
 equal_numbers : (a b : ℕ) → is_eq (nat_cmp a b) ≡ eqb a b
@@ -120,17 +120,17 @@ then_equal Less = refl
 then_equal Equal = refl
 then_equal Greater = refl
 
-then_less : (o : Ordering) → is_eq (ordering_then o Less) ≡ false
+pub then_less : (o : Ordering) → is_eq (ordering_then o Less) ≡ false
 then_less Less = refl
 then_less Equal = refl
 then_less Greater = refl
 
-then_greater : (o : Ordering) → is_eq (ordering_then o Greater) ≡ false
+pub then_greater : (o : Ordering) → is_eq (ordering_then o Greater) ≡ false
 then_greater Less = refl
 then_greater Equal = refl
 then_greater Greater = refl
 
-then_both : (o p : Ordering) → is_eq (ordering_then o p) ≡ (is_eq o && is_eq p)
+pub then_both : (o p : Ordering) → is_eq (ordering_then o p) ≡ (is_eq o && is_eq p)
 then_both Less p = refl
 then_both Equal p = refl
 then_both Greater p = refl
@@ -138,13 +138,13 @@ then_both Greater p = refl
 literal_is : (i : ℕ) (l : Literal) → l.negated ≡ false → literal_cmp (node i) l ≡ nat_cmp i l.variable
 literal_is i l e = rw e (then_equal (nat_cmp i l.variable))
 
-one_is : (i : ℕ) (l : Literal) → l.negated ≡ false
+pub one_is : (i : ℕ) (l : Literal) → l.negated ≡ false
     → is_eq (set_cmp (node i ∷ []) (l ∷ [])) ≡ eqb i l.variable
 one_is i l e =
     ap is_eq (then_equal (literal_cmp (node i) l) ∙ literal_is i l e)
     ∙ equal_numbers i l.variable
 
-two_are : (i j : ℕ) (l k : Literal) → l.negated ≡ false → k.negated ≡ false
+pub two_are : (i j : ℕ) (l k : Literal) → l.negated ≡ false → k.negated ≡ false
     → is_eq (set_cmp (node i ∷ node j ∷ []) (l ∷ k ∷ [])) ≡ (eqb i l.variable && eqb j k.variable)
 two_are i j l k e f =
     then_both (literal_cmp (node i) l) (set_cmp (node j ∷ []) (k ∷ []))
@@ -153,10 +153,10 @@ two_are i j l k e f =
 
 -- ---- what terms over variables place
 
-abbrev AreFlat : ℕ → List Term → Type 0
+abbrev pub AreFlat : ℕ → List Term → Type 0
 AreFlat width ts = AllByRecursion (OfSet (IsFlat width)) ts
 
-constant-fold : (q : QuadContent) (ts : List Term)
+pub constant-fold : (q : QuadContent) (ts : List Term)
     → (fold with_term q ts).constant ≡ q.constant +ℤ coefficient_of [] ts
 constant-fold q [] = omega (arith, ints)
 constant-fold q (([], c) ∷ ts) = omega (arith, ints, constant-fold (with_term q ([], c)) ts)
@@ -165,7 +165,7 @@ constant-fold q ((l ∷ k ∷ ls, c) ∷ ts) =
     omega (arith, ints, constant-fold (with_term q (l ∷ k ∷ ls, c)) ts)
 
 -- a node's weight grows by the coefficients of its own terms alone
-grown : (ws : List ℤ) (i n : ℕ) (c : ℤ) → n < length ws
+pub grown : (ws : List ℤ) (i n : ℕ) (c : ℤ) → n < length ws
     → get_or (slice_set ws n (slice_index_or ws n (pos 0) +ℤ c)) i (pos 0)
     ≡ get_or ws i (pos 0) +ℤ if_so (eqb i n) c
 grown ws i n c in' = go (eqb i n) (Decides-eqb i n)
@@ -188,7 +188,7 @@ node-with_term q i (l ∷ []) c flat =
 node-with_term q i (l ∷ k ∷ ls) c flat =
     rw (then_less (literal_cmp (node i) l)) (omega (arith, ints))
 
-node-fold : (q : QuadContent) (width i : ℕ) (ts : List Term) → length q.diagonal ≡ width
+pub node-fold : (q : QuadContent) (width i : ℕ) (ts : List Term) → length q.diagonal ≡ width
     → AreFlat width ts
     → get_or (fold with_term q ts).diagonal i (pos 0)
     ≡ get_or q.diagonal i (pos 0) +ℤ coefficient_of (node i ∷ []) ts
@@ -213,7 +213,7 @@ pair-with_term q i j width (l ∷ k ∷ []) c flat =
     (total_by_push (weight_for i j) q.couplers (pair_entry l k c))
 pair-with_term q i j width (l ∷ k ∷ m ∷ ls) c flat = absurd flat
 
-pair-fold : (q : QuadContent) (i j width : ℕ) (ts : List Term) → AreFlat width ts
+pub pair-fold : (q : QuadContent) (i j width : ℕ) (ts : List Term) → AreFlat width ts
     → weight_at i j (fold with_term q ts).couplers
     ≡ weight_at i j q.couplers +ℤ coefficient_of (node i ∷ node j ∷ []) ts
 pair-fold q i j width [] flat = omega (arith, ints)
@@ -273,13 +273,13 @@ pairs_agree width i j ts flat sums =
 
 -- ---- the image
 
-couplers_are_pairs : (n : ℕ) (es : List Entry) → n < 2 ^ 32 → AllByRecursion (IsCoupler n) es → ArePairs es
+pub couplers_are_pairs : (n : ℕ) (es : List Entry) → n < 2 ^ 32 → AllByRecursion (IsCoupler n) es → ArePairs es
 couplers_are_pairs n [] narrow all = tt
 couplers_are_pairs n (e ∷ es) narrow all =
     let in' = all.0.within in
     (record { upward = all.0.upward; within = omega arith }, couplers_are_pairs n es narrow all.1)
 
-nonzero_couplers : (n : ℕ) (es : List Entry) → AllByRecursion (IsCoupler n) es
+pub nonzero_couplers : (n : ℕ) (es : List Entry) → AllByRecursion (IsCoupler n) es
     → AllByRecursion IsNonzero es
 nonzero_couplers n [] all = tt
 nonzero_couplers n (e ∷ es) all = (all.0.nonzero, nonzero_couplers n es all.1)
@@ -297,7 +297,7 @@ same_couplers q r a b same =
     (rising_from_ordered r.couplers other_pairs b.ordered)
     (nonzero_couplers _ q.couplers all) (nonzero_couplers _ r.couplers others) same
 
-IsQuad-image : (t : TableContent) → IsTable t → IsLow t → t.width < 2 ^ 32
+pub IsQuad-image : (t : TableContent) → IsTable t → IsLow t → t.width < 2 ^ 32
     → 4 * terms_total t.terms ≤ 2 ^ 124 → IsQuad (image t)
 IsQuad-image t table low narrow small =
     let ts = contributions t.terms in

@@ -7,7 +7,7 @@ use Rattle.penalty_layer.proofs.adding.add_clauses.Given as goal
 
 -- the clauses so far were added, and what is left fits
 abbrev pub invariant-loop-clause : goal.invariant-loop-clause
-invariant-loop-clause l = record {
-  made : l.terms ≡ with_more l.fn.terms (map (clause_term l.penalty) (take l.clause-index l.clauses));
-  small : terms_total l.terms.terms + clause_weights l.penalty (drop l.clause-index l.clauses) ≤ 2 ^ 124;
+invariant-loop-clause g l = record {
+  made : g.T.Gather.additions l.terms ≡ with_more (g.T.Gather.additions l.fn.terms) (map (clause_term l.penalty) (take l.clause-index l.clauses));
+  small : terms_total (g.T.Gather.additions l.terms).terms + clause_weights l.penalty (drop l.clause-index l.clauses) ≤ 2 ^ 97;
 }

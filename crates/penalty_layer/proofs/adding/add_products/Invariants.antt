@@ -7,7 +7,7 @@ use Rattle.penalty_layer.proofs.adding.add_products.Given as goal
 
 -- the products so far were added, and what is left fits
 abbrev pub invariant-loop-product : goal.invariant-loop-product
-invariant-loop-product l = record {
-  made : l.terms ≡ with_more l.fn.terms (map product_term (take l.product-index l.products));
-  small : terms_total l.terms.terms + products_total (drop l.product-index l.products) ≤ 2 ^ 124;
+invariant-loop-product g l = record {
+  made : g.T.Gather.additions l.terms ≡ with_more (g.T.Gather.additions l.fn.terms) (map product_term (take l.product-index l.products));
+  small : terms_total (g.T.Gather.additions l.terms).terms + products_total (drop l.product-index l.products) ≤ 2 ^ 97;
 }

@@ -1,0 +1,218 @@
+-- Sums over terms of what is additive in the coefficient: a table of sums has that of the additions.
+--
+-- What terms give a set, multiplied out, is such a sum.
+use Rattle.std.proofs.Common.{◌≡◌, ℕ, Bool, true, false, ◌&&◌, cond, arith, sym, ap, ◌∙◌, refl, List, [], ◌∷◌, ◌++◌, ℤ, pos, ◌+ℤ◌, neg_ℤ, if◌then◌else◌}
+use Rattle.std.specs.List.{filter}
+use Rattle.std.specs.Ordering.{int_eq, is_eq, match_ordering}
+use Rattle.std.specs.declared.cmp.Ordering.{Ordering}
+use Rattle.std.specs.declared.cmp.Ordering.TheVariants.{Less, Equal, Greater}
+use Rattle.std.specs.Bool.{Decides}
+use Rattle.std.proofs.lemmas.Int.{ints}
+use Rattle.std.proofs.lemmas.Bool.Decides.{Decides-int_eq}
+use Rattle.integers.specs.Sums.{total_by, if_so}
+use Rattle.integers.proofs.Totals.{total_by-append, total_by-flat_map}
+use Rattle.problem_form.specs.declared.literal.Literal.{Literal}
+use Rattle.problem_form.specs.Literals.{literal_cmp}
+use Rattle.term_table.specs.Terms.{Term, set_cmp, coefficient_of, in_front, with_addition, with_additions}
+use Rattle.term_table.proofs.SetOrder.{same_set}
+use Rattle.term_table.proofs.Additions.{if_so-plus}
+use Rattle.quad_form.specs.Flat.{plain, with_front, plain_terms, contributions}
+use Rattle.quad_form.proofs.UniqueForms.{then_both}
+use Rattle.direct_quad.specs.Parts.{sum_for}
+
+-- ---- what is additive in the coefficient
+
+-- a number for a set and a coefficient
+abbrev pub Amount : Type 0
+Amount = List Literal → ℤ → ℤ
+
+abbrev pub IsAdditive : Amount → Type 0
+IsAdditive f = (ls : List Literal) (c d : ℤ) → f ls (c +ℤ d) ≡ f ls c +ℤ f ls d
+
+-- the sum over terms
+abbrev pub given : Amount → List Term → ℤ
+given f ts = total_by (λ t. f t.0 t.1) ts
+
+additive-zero : (f : Amount) → IsAdditive f → (ls : List Literal) → f ls (pos 0) ≡ pos 0
+additive-zero f plus ls =
+    let twice : f ls (pos 0) ≡ f ls (pos 0) +ℤ f ls (pos 0) = plus ls (pos 0) (pos 0) in
+    omega (arith, ints, twice)
+
+given-in_front : (f : Amount) → IsAdditive f → (ls : List Literal) (c : ℤ) (ts : List Term)
+    → given f (in_front ls c ts) ≡ f ls c +ℤ given f ts
+given-in_front f plus ls c ts = go (int_eq c (pos 0)) (Decides-int_eq c (pos 0))
+  where
+    go : (zero : Bool) → Decides zero (c ≡ pos 0)
+        → given f (cond zero ts ((ls, c) ∷ ts)) ≡ f ls c +ℤ given f ts
+    go true d = omega (arith, ints, ap (f ls) (d.0 refl), additive-zero f plus ls)
+    go false d = refl
+
+given-with_addition : (f : Amount) → IsAdditive f → (ts : List Term) (ls : List Literal) (c : ℤ)
+    → given f (with_addition ts ls c) ≡ given f ts +ℤ f ls c
+given-with_addition f plus [] ls c = omega (arith, ints, given-in_front f plus ls c [])
+given-with_addition f plus (t ∷ ts) ls c =
+    go (set_cmp ls t.0) refl (given-with_addition f plus ts ls c)
+  where
+    go : (o : Ordering) → set_cmp ls t.0 ≡ o
+        → given f (with_addition ts ls c) ≡ given f ts +ℤ f ls c
+        → given f (match_ordering o (in_front ls c (t ∷ ts)) (in_front t.0 (t.1 +ℤ c) ts) (t ∷ with_addition ts ls c))
+        ≡ given f (t ∷ ts) +ℤ f ls c
+    go Less e rest = omega (arith, ints, given-in_front f plus ls c (t ∷ ts))
+    go Equal e rest =
+        let same : f t.0 c ≡ f ls c = ap (λ ks. f ks c) (sym (same_set ls t.0 e)) in
+        omega (arith, ints, given-in_front f plus t.0 (t.1 +ℤ c) ts, plus t.0 t.1 c, same)
+    go Greater e rest = omega (arith, ints)
+
+given-more : (f : Amount) → IsAdditive f → (table ts : List Term)
+    → given f (with_additions table ts) ≡ given f table +ℤ given f ts
+given-more f plus table [] = omega (arith, ints)
+given-more f plus table (t ∷ ts) =
+    omega (
+      arith,
+      ints,
+      given-more f plus (with_addition table t.0 t.1) ts,
+      given-with_addition f plus table t.0 t.1,
+    )
+
+-- a table of sums has the sum of the additions
+pub given-with_additions : (f : Amount) → IsAdditive f → (ts : List Term)
+    → given f (with_additions [] ts) ≡ given f ts
+given-with_additions f plus ts = omega (arith, ints, given-more f plus [] ts)
+
+-- ---- the terms that pass a test of their sets
+
+-- only for sets that pass
+abbrev pub only : (List Literal → Bool) → Amount → Amount
+only test f ls c = if_so (test ls) (f ls c)
+
+pub additive-only : (test : List Literal → Bool) (f : Amount) → IsAdditive f
+    → IsAdditive (only test f)
+additive-only test f plus ls c d =
+    ap (if_so (test ls)) (plus ls c d) ∙ if_so-plus (test ls) (f ls c) (f ls d)
+
+pub given-filter : (test : List Literal → Bool) (f : Amount) (ts : List Term)
+    → given f (filter (λ t. test t.0) ts) ≡ given (only test f) ts
+given-filter test f [] = refl
+given-filter test f (t ∷ ts) = go (test t.0) (given-filter test f ts)
+  where
+    go : (passes : Bool) → given f (filter (λ t. test t.0) ts) ≡ given (only test f) ts
+        → given f (cond passes (t ∷ filter (λ t. test t.0) ts) (filter (λ t. test t.0) ts))
+        ≡ if_so passes (f t.0 t.1) +ℤ given (only test f) ts
+    go true rest = omega (arith, ints, rest)
+    go false rest = omega (arith, ints, rest)
+
+-- ---- what a term gives a set, multiplied out
+
+-- the coefficient of a set
+abbrev pub share_of : List Literal → Amount
+share_of ls ks c = coefficient_of ls (plain_terms ks c)
+
+if_so-and : (a b : Bool) (c : ℤ) → if_so (a && b) c ≡ if_so a (if_so b c)
+if_so-and true b c = refl
+if_so-and false b c = refl
+
+if_so-zero : (a : Bool) → pos 0 ≡ if_so a (pos 0)
+if_so-zero true = refl
+if_so-zero false = refl
+
+front-none : (l : Literal) (ts : List Term) → coefficient_of [] (with_front l ts) ≡ pos 0
+front-none l [] = refl
+front-none l (t ∷ ts) = omega (arith, ints, front-none l ts)
+
+front-some : (k : Literal) (ks : List Literal) (l : Literal) (ts : List Term)
+    → coefficient_of (k ∷ ks) (with_front l ts)
+    ≡ if_so (is_eq (literal_cmp k l)) (coefficient_of ks ts)
+front-some k ks l [] = if_so-zero (is_eq (literal_cmp k l))
+front-some k ks l (t ∷ ts) =
+    let same = is_eq (literal_cmp k l) in
+    let first : if_so (is_eq (set_cmp (k ∷ ks) (l ∷ t.0))) t.1
+    ≡ if_so same (if_so (is_eq (set_cmp ks t.0)) t.1) =
+    ap (λ b. if_so b t.1) (then_both (literal_cmp k l) (set_cmp ks t.0))
+    ∙ if_so-and same (is_eq (set_cmp ks t.0)) t.1 in
+    omega (
+      arith,
+      ints,
+      first,
+      front-some k ks l ts,
+      if_so-plus same (if_so (is_eq (set_cmp ks t.0)) t.1) (coefficient_of ks ts),
+    )
+
+-- what is added in front of all terms is additive where they are
+front-plus : (l : Literal) (ks : List Literal)
+    → ((ls : List Literal) (c d : ℤ) → share_of ls ks (c +ℤ d) ≡ share_of ls ks c +ℤ share_of ls ks d)
+    → (ls : List Literal) (c d : ℤ)
+    → coefficient_of ls (with_front l (plain_terms ks (c +ℤ d)))
+    ≡ coefficient_of ls (with_front l (plain_terms ks c))
+    +ℤ coefficient_of ls (with_front l (plain_terms ks d))
+front-plus l ks plus [] c d =
+    omega (
+      arith,
+      ints,
+      front-none l (plain_terms ks (c +ℤ d)),
+      front-none l (plain_terms ks c),
+      front-none l (plain_terms ks d),
+    )
+front-plus l ks plus (m ∷ ms) c d =
+    let same = is_eq (literal_cmp m l) in
+    front-some m ms l (plain_terms ks (c +ℤ d))
+    ∙ ap (if_so same) (plus ms c d)
+    ∙ if_so-plus same (share_of ms ks c) (share_of ms ks d)
+    ∙ sym (λ i. front-some m ms l (plain_terms ks c) i +ℤ front-some m ms l (plain_terms ks d) i)
+
+pub share-plus : (ks ls : List Literal) (c d : ℤ)
+    → share_of ls ks (c +ℤ d) ≡ share_of ls ks c +ℤ share_of ls ks d
+share-plus [] ls c d = omega (arith, ints, if_so-plus (is_eq (set_cmp ls [])) c d)
+share-plus (k ∷ ks) ls c d =
+    go k.negated (share-plus ks ls c d)
+    (front-plus (plain k) ks (share-plus ks) ls (neg_ℤ c) (neg_ℤ d))
+    (front-plus (plain k) ks (share-plus ks) ls c d)
+  where
+    turned : neg_ℤ (c +ℤ d) ≡ neg_ℤ c +ℤ neg_ℤ d
+    turned = omega (arith, ints)
+
+    out : Bool → ℤ → List Term
+    out n z =
+        if n
+        then plain_terms ks z ++ with_front (plain k) (plain_terms ks (neg_ℤ z))
+        else with_front (plain k) (plain_terms ks z)
+
+    front : ℤ → List Term
+    front z = with_front (plain k) (plain_terms ks z)
+
+    go : (n : Bool)
+        → share_of ls ks (c +ℤ d) ≡ share_of ls ks c +ℤ share_of ls ks d
+        → coefficient_of ls (front (neg_ℤ c +ℤ neg_ℤ d))
+        ≡ coefficient_of ls (front (neg_ℤ c)) +ℤ coefficient_of ls (front (neg_ℤ d))
+        → coefficient_of ls (front (c +ℤ d)) ≡ coefficient_of ls (front c) +ℤ coefficient_of ls (front d)
+        → coefficient_of ls (out n (c +ℤ d)) ≡ coefficient_of ls (out n c) +ℤ coefficient_of ls (out n d)
+    go true rest negative positive =
+        let weigh = λ (t : Term). if_so (is_eq (set_cmp ls t.0)) t.1 in
+        let moved : coefficient_of ls (front (neg_ℤ (c +ℤ d))) ≡ coefficient_of ls (front (neg_ℤ c +ℤ neg_ℤ d)) =
+        ap (λ z. coefficient_of ls (front z)) turned in
+        omega (
+          arith,
+          ints,
+          total_by-append weigh (plain_terms ks (c +ℤ d)) (front (neg_ℤ (c +ℤ d))),
+          total_by-append weigh (plain_terms ks c) (front (neg_ℤ c)),
+          total_by-append weigh (plain_terms ks d) (front (neg_ℤ d)),
+          rest,
+          moved,
+          negative,
+        )
+    go false rest negative positive = positive
+
+pub share-additive : (ls : List Literal) → IsAdditive (share_of ls)
+share-additive ls = λ ks c d. share-plus ks ls c d
+
+-- term by term
+pub sum_for-given : (ls : List Literal) (ts : List Term) → sum_for ls ts ≡ given (share_of ls) ts
+sum_for-given ls ts =
+    total_by-flat_map (λ (t : Term). if_so (is_eq (set_cmp ls t.0)) t.1) (λ (t : Term). plain_terms t.0 t.1) ts
+
+-- collecting terms before they are multiplied out changes nothing
+pub sum_for-with_additions : (ls : List Literal) (ts : List Term)
+    → sum_for ls (with_additions [] ts) ≡ sum_for ls ts
+sum_for-with_additions ls ts =
+    sum_for-given ls (with_additions [] ts)
+    ∙ given-with_additions (share_of ls) (share-additive ls) ts
+    ∙ sym (sum_for-given ls ts)

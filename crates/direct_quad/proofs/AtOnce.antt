@@ -1,0 +1,197 @@
+-- A form that has the sums of the parts is the image of the three steps.
+--
+-- The constant, the weight of each node and the sum of each pair of the image are what the parts
+-- give; couplers in order, none of them 0, are told by the sums of their pairs.
+use Rattle.std.proofs.Common.{◌≡◌, ◌⊎◌, inl, inr, ℕ, ◌+◌, ◌*◌, ◌<◌, ◌≤◌, ◌^◌, Bool, true, false, ◌&&◌, eqb, arith, sym, ap, ◌∙◌, refl, subst, List, [], ◌∷◌, length, get_or, ℤ, pos, ◌+ℤ◌, sum_by}
+use Rattle.std.specs.Prelude.{All}
+use Rattle.std.specs.List.{AllByRecursion, slice_index_or}
+use Rattle.std.specs.Bool.{Decides}
+use Rattle.std.proofs.lemmas.Int.{ints}
+use Rattle.std.proofs.lemmas.Bool.{cases_lt}
+use Rattle.std.proofs.lemmas.Bool.Decides.{Decides-eqb}
+use Rattle.std.proofs.lemmas.List.{same_lists, get_or_default, get_or-replicate, length-replicate}
+use Rattle.std.proofs.lemmas.List.Elements.{All-weaker, recursion_from_All}
+use Rattle.integers.specs.Sums.{if_so}
+use Rattle.bits_model.specs.declared.output.Entry.{Entry}
+use Rattle.problem_form.specs.declared.literal.Literal.{Literal}
+use Rattle.term_table.specs.Terms.{Term, coefficient_of, terms_total, with_additions, IsTermSet, AreTerms}
+use Rattle.term_table.specs.Tables.{TableContent, IsTable, IsLow, AreAdditions, table_size}
+use Rattle.term_table.proofs.Additions.{coefficient_of-with_additions, terms_total-with_additions}
+use Rattle.term_table.proofs.KeptTerms.{OfSet, AreTerms-with_additions, All-with_additions}
+use Rattle.monomial_layer.specs.Monomials.{node, new_nodes, all_new_terms}
+use Rattle.monomial_layer.specs.Monomials as monomials
+use Rattle.monomial_layer.proofs.Sets.{IsLow-image}
+use Rattle.monomial_layer.proofs.Sizes.{total-image, size-image}
+use Rattle.quad_form.specs.Quads.{QuadContent, quad_total, quad_size, IsCoupler, IsQuad}
+use Rattle.quad_form.specs.Flat.{contributions, quad_of, zero_quad}
+use Rattle.quad_form.specs.Flat as flat
+use Rattle.quad_form.specs.Pairs.{weight_for, weight_at}
+use Rattle.quad_form.specs.laws.Flattened.{flat_sets, length-image}
+use Rattle.quad_form.proofs.FlatForms.{quad_total-image, quad_size-image}
+use Rattle.quad_form.proofs.PairOrder.{rising_from_ordered}
+use Rattle.quad_form.proofs.UniqueForms.{same_entries, couplers_are_pairs, nonzero_couplers, constant-fold, node-fold, pair-fold, IsQuad-image}
+use Rattle.direct_quad.specs.Parts.{table_of, image, all_nodes, parts, sum_for, GivesSums}
+use Rattle.direct_quad.specs.Stated.{IsWithin}
+use Rattle.direct_quad.proofs.Additive.{sum_for-with_additions}
+use Rattle.direct_quad.proofs.Split.{nodes-table, parts-give}
+use Rattle.direct_quad.specs.laws.Between.{low_of, IsTable-low_of, total-low_of}
+
+-- the nodes of all parts
+width-low_of : (t : TableContent) → (low_of t).width ≡ all_nodes t
+width-low_of t = nodes-table t
+
+-- ---- how large the form is
+
+pub total-grows : (t : TableContent) → AreAdditions t
+    → quad_total (image t) + 1 ≤ (terms_total t.terms + 1) * 2 ^ 26
+total-grows t additions =
+    omega (
+      arith,
+      quad_total-image (low_of t) (IsLow-image (table_of t)),
+      total-low_of t additions,
+    )
+
+pub size-grows : (t : TableContent) → quad_size (image t) ≤ table_size (table_of t) * 2 ^ 3
+size-grows t =
+    omega (
+      arith,
+      quad_size-image (low_of t) (IsLow-image (table_of t)),
+      size-image (table_of t),
+    )
+
+-- ---- the sums of the image
+
+-- what is collected in between gives what the parts give
+sums-image : (ls : List Literal) (t : TableContent)
+    → coefficient_of ls (with_additions [] (contributions (low_of t).terms)) ≡ sum_for ls (parts t)
+sums-image ls t =
+    coefficient_of-with_additions ls (contributions (low_of t).terms)
+    ∙ sum_for-with_additions ls (all_new_terms (table_of t).terms t.width)
+    ∙ parts-give ls t
+
+constant-image : (t : TableContent) → (image t).constant ≡ sum_for [] (parts t)
+constant-image t =
+    omega (
+      arith,
+      ints,
+      constant-fold (zero_quad (low_of t).width) (with_additions [] (contributions (low_of t).terms)),
+      sums-image [] t,
+    )
+
+weight-image : (t : TableContent) (i : ℕ) → AreAdditions t
+    → (terms_total t.terms + 1) * 2 ^ 26 ≤ 2 ^ 124 → i < (low_of t).width
+    → get_or (image t).diagonal i (pos 0) ≡ sum_for (node i ∷ []) (parts t)
+weight-image t i additions total within =
+    let low = low_of t in
+    let sets = recursion_from_All _ _ (flat_sets low (IsTable-low_of t additions total) (IsLow-image (table_of t))) in
+    let none : get_or (zero_quad low.width).diagonal i (pos 0) ≡ pos 0 =
+    get_or-replicate low.width i (pos 0) (pos 0) within in
+    omega (
+      arith,
+      ints,
+      node-fold (zero_quad low.width) low.width i (with_additions [] (contributions low.terms))
+          (length-replicate low.width (pos 0)) sets,
+      none,
+      sums-image (node i ∷ []) t,
+    )
+
+pair-image : (t : TableContent) (i j : ℕ) → AreAdditions t
+    → (terms_total t.terms + 1) * 2 ^ 26 ≤ 2 ^ 124
+    → weight_at i j (image t).couplers ≡ sum_for (node i ∷ node j ∷ []) (parts t)
+pair-image t i j additions total =
+    let low = low_of t in
+    let sets = recursion_from_All _ _ (flat_sets low (IsTable-low_of t additions total) (IsLow-image (table_of t))) in
+    omega (
+      arith,
+      ints,
+      pair-fold (zero_quad low.width) i j low.width (with_additions [] (contributions low.terms)) sets,
+      sums-image (node i ∷ node j ∷ []) t,
+    )
+
+-- ---- what has these sums
+
+-- the image is a quadratic form
+pub image-quad : (t : TableContent) → IsWithin t → IsQuad (image t)
+image-quad t within =
+    let additions = within.additions in
+    let total = within.total in
+    let narrow = within.narrow in
+    IsQuad-image (low_of t) (IsTable-low_of t additions total) (IsLow-image (table_of t))
+    (omega (arith, narrow, width-low_of t))
+    (omega (arith, total, total-low_of t additions))
+
+-- a pair that is none, or lies outside, has no weight
+weight-none : (n i j : ℕ) (es : List Entry) → AllByRecursion (IsCoupler n) es → (i < j → n ≤ j)
+    → weight_at i j es ≡ pos 0
+weight-none n i j [] all outside = refl
+weight-none n i j (e ∷ es) all outside =
+    omega (
+      arith,
+      ints,
+      go (eqb i e.first) (eqb j e.second) (Decides-eqb i e.first) (Decides-eqb j e.second),
+      weight-none n i j es all.1 outside,
+    )
+  where
+    go : (a b : Bool) → Decides a (i ≡ e.first) → Decides b (j ≡ e.second)
+        → if_so (a && b) e.weight ≡ pos 0
+    go true true d g =
+        let first = d.0 refl in
+        let second = g.0 refl in
+        let up = all.0.upward in
+        let in' = all.0.within in
+        let below = outside (omega arith) in
+        absurd (omega arith)
+    go true false d g = refl
+    go false b d g = refl
+
+same_diagonals : (t : TableContent) (q : QuadContent) → IsWithin t
+    → GivesSums (all_nodes t) (parts t) q → q.diagonal ≡ (image t).diagonal
+same_diagonals t q within gives =
+    let wide : length (image t).diagonal ≡ all_nodes t = length-image (low_of t) ∙ width-low_of t in
+    let lengths = gives.width ∙ sym wide in
+    same_lists q.diagonal (image t).diagonal lengths (λ k d in'.
+    let here : k < all_nodes t = subst (λ n. k < n) gives.width in' in
+    let low : k < (low_of t).width = subst (λ n. k < n) (sym (width-low_of t)) here in
+    get_or_default q.diagonal k d (pos 0) in'
+    ∙ gives.weights k here
+    ∙ sym (weight-image t k within.additions within.total low)
+    ∙ get_or_default (image t).diagonal k (pos 0) d (subst (λ n. k < n) lengths in'))
+
+same_pairs : (t : TableContent) (q : QuadContent) → IsWithin t
+    → GivesSums (all_nodes t) (parts t) q → (i j : ℕ)
+    → weight_at i j q.couplers ≡ weight_at i j (image t).couplers
+same_pairs t q within gives i j = elim (cases_lt i j) [
+  | inl up ↦ elim (cases_lt j (all_nodes t)) [
+    | inl in' ↦ gives.pairs i j up in' ∙ sym (pair-image t i j within.additions within.total)
+    | inr out ↦ none (λ h. out)
+  ]
+  | inr down ↦ none (λ h. absurd (omega (arith, down, h)))
+]
+  where
+    none : (i < j → all_nodes t ≤ j) → weight_at i j q.couplers ≡ weight_at i j (image t).couplers
+    none outside =
+        let couplers = recursion_from_All _ _ gives.couplers in
+        let others = recursion_from_All _ _ (image-quad t within).couplers in
+        let wide : all_nodes t ≡ length (image t).diagonal =
+        sym (length-image (low_of t) ∙ width-low_of t) in
+        weight-none (all_nodes t) i j q.couplers couplers outside
+        ∙ sym (weight-none (length (image t).diagonal) i j (image t).couplers others (subst (λ n. i < j → n ≤ j) wide outside))
+
+-- what has the sums of the parts is the image
+pub sums_give_image : (t : TableContent) (q : QuadContent) → IsWithin t
+    → GivesSums (all_nodes t) (parts t) q → q ≡ image t
+sums_give_image t q within gives =
+    let kept = image-quad t within in
+    let couplers = recursion_from_All _ _ gives.couplers in
+    let others = recursion_from_All _ _ kept.couplers in
+    let pairs = couplers_are_pairs _ q.couplers within.narrow couplers in
+    let other_pairs = couplers_are_pairs _ (image t).couplers kept.narrow others in
+    let constant : q.constant ≡ (image t).constant = gives.constant ∙ sym (constant-image t) in
+    let diagonal = same_diagonals t q within gives in
+    let same : q.couplers ≡ (image t).couplers =
+    same_entries q.couplers (image t).couplers pairs other_pairs
+    (rising_from_ordered q.couplers pairs gives.ordered)
+    (rising_from_ordered (image t).couplers other_pairs kept.ordered)
+    (nonzero_couplers _ q.couplers couplers) (nonzero_couplers _ (image t).couplers others)
+    (same_pairs t q within gives) in
+    λ k. record { constant = constant k; diagonal = diagonal k; couplers = same k }

@@ -1,0 +1,4 @@
+-- Laws with their proofs, which the guard's members cite. Nothing here has to be believed.
+pub mod NewSets
+pub mod Between
+pub mod Relaxing
