@@ -5,3 +5,7 @@ pub mod TwoLiterals
 pub mod LongTerms
 pub mod AllParts
 pub mod RowSums
+pub mod SummedRows
+pub mod KeyLists
+pub mod KeyRuns
+pub mod LongPlaces
