@@ -1,5 +1,5 @@
 -- Pairs that are held apart, and the keys of pairs and of places.
-use Rattle.std.proofs.Common.{◌≡◌, ◌≢◌, inl, inr, ℕ, zero, suc, ◌+◌, ◌*◌, ◌/◌, ◌%◌, ◌<◌, ◌≤◌, ◌^◌, Bool, true, false, cond, eqb, arith, sym, ap, ◌∙◌, refl, subst, List, [], ◌∷◌, ◌++◌, map, length, get_or, take, drop, ℤ, pos, Some, slice_get, append_assoc, append-nil, neg_ℤ, ◌*ℤ◌, to_z, of_z, unsigned_abs, if◌then◌else◌}
+use Rattle.std.proofs.Common.{◌≡◌, ◌≢◌, inl, inr, ℕ, zero, suc, ◌+◌, ◌*◌, ◌/◌, ◌%◌, ◌<◌, ◌≤◌, ◌^◌, Bool, true, false, cond, eqb, arith, sym, ap, ◌∙◌, refl, subst, List, [], ◌∷◌, ◌++◌, map, length, get_or, take, drop, ℤ, pos, Some, slice_get, append_assoc, append-nil, neg_ℤ, ◌*ℤ◌, ◌-ℤ◌, to_z, of_z, unsigned_abs, if◌then◌else◌}
 use Rattle.std.specs.Prelude.{All}
 use Rattle.std.proofs.lemmas.Int.{ints}
 use Rattle.std.proofs.lemmas.List.{take_more, length-take-le}
@@ -156,10 +156,17 @@ factor-le d k = go (eqb d (2 * k + 3))
     go true = omega arith
     go false = omega arith
 
-pub turned : (c f : ℤ) (m : ℕ) → f ≡ pos m → m ≤ 2 → unsigned_abs c ≤ 2 ^ 124
-    → to_z w128 (of_z w128 (neg_ℤ (to_z w128 (of_z w128 (to_z w128 (of_z w128 c) *ℤ to_z w128 (of_z w128 f))))))
+pub factor-low : (d k : ℕ) → 1 ≤ factor d k
+factor-low d k = go (eqb d (2 * k + 3))
+  where
+    go : (last : Bool) → 1 ≤ (if last then 1 else 2)
+    go true = omega arith
+    go false = omega arith
+
+pub turned : (c f : ℤ) (m : ℕ) → f ≡ pos m → 1 ≤ m → m ≤ 2 → unsigned_abs c ≤ 2 ^ 124
+    → to_z w128 (of_z w128 (pos 0 -ℤ to_z w128 (of_z w128 (to_z w128 (of_z w128 c) *ℤ to_z w128 (of_z w128 f)))))
     ≡ neg_ℤ (c *ℤ pos m)
-turned c f zero is le small = omega (arith, ints, is, small)
-turned c f (suc zero) is le small = omega (arith, ints, is, small)
-turned c f (suc (suc zero)) is le small = omega (arith, ints, is, small)
-turned c f (suc (suc (suc m))) is le small = absurd (omega arith)
+turned c f zero is low le small = absurd (omega arith)
+turned c f (suc zero) is low le small = rw is (omega (arith, ints, small))
+turned c f (suc (suc zero)) is low le small = rw is (omega (arith, ints, small))
+turned c f (suc (suc (suc m))) is low le small = absurd (omega arith)

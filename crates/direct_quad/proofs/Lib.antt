@@ -9,3 +9,5 @@ pub mod SummedRows
 pub mod KeyLists
 pub mod KeyRuns
 pub mod LongPlaces
+pub mod KeyPlaces
+pub mod RowForms

@@ -195,7 +195,7 @@ all_taken first sums (j ∷ js) =
 
 -- ---- their order
 
-AreFrom-weaker : (m n : ℕ) → m ≤ n → (es : List Entry) → AreFrom n es → AreFrom m es
+pub AreFrom-weaker : (m n : ℕ) → m ≤ n → (es : List Entry) → AreFrom n es → AreFrom m es
 AreFrom-weaker m n le [] from = tt
 AreFrom-weaker m n le (e ∷ es) from = (omega (arith, from.0), from.1)
 

@@ -177,6 +177,7 @@ fn add_places(
     keys: &[u64],
 ) -> Result<(), NoMemory>
     requires width { length sums.old ≡ long.now.width }
+    requires narrow { long.now.width ≤ 2 ^ 32 }
     requires keys { All (IsPlaceKey long.now variable) keys.now }
     requires small { size_of sums.old
         + weight_total (flat_map pair_part (places_at long.now variable keys.now)) ≤ 2 ^ 126 }
@@ -239,7 +240,8 @@ fn push_all_nodes(
     variable: u64,
     keys: &[u64],
 ) -> Result<(), NoMemory>
-    requires { All (IsPlaceKey long.now variable) keys.now }
+    requires narrow { node_count long.now ≤ 2 ^ 32 }
+    requires keys { All (IsPlaceKey long.now variable) keys.now }
     ensures { OnOk result (couplers.new
         ≡ couplers.old ++ flat_map node_part (places_at long.now variable keys.now)) }
 {
@@ -260,7 +262,8 @@ fn push_row(
     place_keys: &[u64],
 ) -> Result<(), NoMemory>
     requires zeros { sums.old ≡ replicate long.now.width (pos 0) }
-    requires variable { variable < 2 ^ 32 }
+    requires variable { variable < long.now.width }
+    requires narrow { node_count long.now ≤ 2 ^ 32 }
     requires pairs { All (IsPair long.now.width) pairs.now }
     requires pair_keys { All (λ k. index_of k < length pairs.now) pair_keys.now }
     requires place_keys { All (IsPlaceKey long.now variable) place_keys.now }
@@ -277,7 +280,8 @@ fn push_row(
     add_pairs(sums, pairs, pair_keys)?;
     add_places(sums, long, variable, place_keys)?;
     sums.put_into(couplers, variable as u32)?;
-    push_all_nodes(couplers, long, variable, place_keys)
+    push_all_nodes(couplers, long, variable, place_keys)?;
+    Ok(())
 }
 
 /// The couplers of pairs and of long terms, in order. Each pair of nodes has one, with the sum of
