@@ -1,7 +1,7 @@
 -- Sums over terms of what is additive in the coefficient: a table of sums has that of the additions.
 --
 -- What terms give a set, multiplied out, is such a sum.
-use Rattle.std.proofs.Common.{◌≡◌, ℕ, Bool, true, false, ◌&&◌, cond, arith, sym, ap, ◌∙◌, refl, List, [], ◌∷◌, ◌++◌, ℤ, pos, ◌+ℤ◌, neg_ℤ, if◌then◌else◌}
+use Rattle.std.proofs.Common.{◌≡◌, Bool, true, false, ◌&&◌, cond, arith, sym, ap, ◌∙◌, refl, List, [], ◌∷◌, ◌++◌, ℤ, pos, ◌+ℤ◌, neg_ℤ, if◌then◌else◌}
 use Rattle.std.specs.List.{filter}
 use Rattle.std.specs.Ordering.{int_eq, is_eq, match_ordering}
 use Rattle.std.specs.declared.cmp.Ordering.{Ordering}
@@ -16,7 +16,7 @@ use Rattle.problem_form.specs.Literals.{literal_cmp}
 use Rattle.term_table.specs.Terms.{Term, set_cmp, coefficient_of, in_front, with_addition, with_additions}
 use Rattle.term_table.proofs.SetOrder.{same_set}
 use Rattle.term_table.proofs.Additions.{if_so-plus}
-use Rattle.quad_form.specs.Flat.{plain, with_front, plain_terms, contributions}
+use Rattle.quad_form.specs.Flat.{plain, with_front, plain_terms}
 use Rattle.quad_form.proofs.UniqueForms.{then_both}
 use Rattle.direct_quad.specs.Parts.{sum_for}
 

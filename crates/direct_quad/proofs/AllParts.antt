@@ -1,6 +1,7 @@
 -- The sums of all parts: the constants, the shares of nodes and the couplers of short and long terms
 -- are what the parts give.
-use Rattle.std.proofs.Common.{◌≡◌, ℕ, ◌+◌, ◌≤◌, arith, sym, ap, ◌∙◌, refl, List, [], ◌∷◌, ◌++◌, length, ℤ, pos, ◌+ℤ◌, eqb}
+use Rattle.std.proofs.Common.{◌≡◌, ℕ, ◌+◌, ◌≤◌, arith, sym, ap, ◌∙◌, refl, List, [], ◌∷◌, ◌++◌, length, ℤ, ◌+ℤ◌, eqb, ◌<◌, subst}
+use Rattle.std.specs.Prelude.{All}
 use Rattle.std.specs.List.{AllByRecursion, flat_map}
 use Rattle.std.proofs.lemmas.Int.{ints}
 use Rattle.std.proofs.lemmas.Grind.{flat_map-append}
@@ -10,15 +11,16 @@ use Rattle.problem_form.specs.declared.literal.Literal.{Literal}
 use Rattle.term_table.specs.Terms.{Term}
 use Rattle.term_table.specs.Tables.{TableContent}
 use Rattle.monomial_layer.specs.Monomials.{node, new_nodes, new_terms, all_new_terms}
-use Rattle.quad_form.specs.Quads.{QuadContent}
+use Rattle.quad_form.specs.Quads.{QuadContent, IsCoupler}
 use Rattle.quad_form.specs.Pairs.{weight_for, weight_at}
-use Rattle.direct_quad.specs.Parts.{image, all_nodes, short_terms, long_terms, parts, sum_for, GivesSums}
+use Rattle.direct_quad.specs.Parts.{image, short_terms, long_terms, parts, sum_for}
 use Rattle.direct_quad.specs.Places.{place_couplers, term_places, all_places, short_couplers, Share, share_at, term_shares, all_shares, short_shares, long_constant, short_constant}
 use Rattle.direct_quad.specs.Gathered.{constant_of, shares_of, couplers_of, IsSumOf}
 use Rattle.direct_quad.specs.Stated.{IsWithin}
 use Rattle.direct_quad.proofs.Additive.{Amount, given, share_of, sum_for-given}
 use Rattle.direct_quad.proofs.Split.{sum_for-append, short_terms-short, long_terms-long}
-use Rattle.direct_quad.proofs.AtOnce.{sums_give_image}
+use Rattle.direct_quad.proofs.AtOnce.{sums_give_image, image-quad, constant-image, weight-image, pair-image, nodes-image, width-low_of}
+use Rattle.direct_quad.specs.laws.Between.{low_of}
 use Rattle.direct_quad.proofs.TwoLiterals.{short_constant-is, short_shares-are, short_couplers-are}
 use Rattle.direct_quad.proofs.LongTerms.{constants_close, shares_close, couplers_close}
 
@@ -142,3 +144,18 @@ sum_is_image t q within sum =
       couplers = sum.couplers;
       pairs = λ i j up in'. sum.pairs i j up in' ∙ sym (couplers-parts t i j);
     })
+
+-- and the image has them
+pub image_has_sums : (t : TableContent) → IsWithin t → IsSumOf t (image t)
+image_has_sums t within =
+    let kept = image-quad t within in
+    record {
+      constant = constant-image t ∙ constant-parts t;
+      width = nodes-image t;
+      weights = λ i in'.
+          let low : i < (low_of t).width = subst (λ n. i < n) (sym (width-low_of t)) in' in
+          weight-image t i within.additions within.total low ∙ shares-parts t i;
+      ordered = kept.ordered;
+      couplers = subst (λ n. All (IsCoupler n) (image t).couplers) (nodes-image t) kept.couplers;
+      pairs = λ i j up in'. pair-image t i j within.additions within.total ∙ couplers-parts t i j;
+    }

@@ -2,30 +2,26 @@
 --
 -- The constant, the weight of each node and the sum of each pair of the image are what the parts
 -- give; couplers in order, none of them 0, are told by the sums of their pairs.
-use Rattle.std.proofs.Common.{◌≡◌, ◌⊎◌, inl, inr, ℕ, ◌+◌, ◌*◌, ◌<◌, ◌≤◌, ◌^◌, Bool, true, false, ◌&&◌, eqb, arith, sym, ap, ◌∙◌, refl, subst, List, [], ◌∷◌, length, get_or, ℤ, pos, ◌+ℤ◌, sum_by}
-use Rattle.std.specs.Prelude.{All}
-use Rattle.std.specs.List.{AllByRecursion, slice_index_or}
+use Rattle.std.proofs.Common.{◌≡◌, inl, inr, ℕ, ◌+◌, ◌*◌, ◌<◌, ◌≤◌, ◌^◌, Bool, true, false, ◌&&◌, eqb, arith, sym, ◌∙◌, refl, subst, List, [], ◌∷◌, length, get_or, pos}
+use Rattle.std.specs.List.{AllByRecursion}
 use Rattle.std.specs.Bool.{Decides}
 use Rattle.std.proofs.lemmas.Int.{ints}
 use Rattle.std.proofs.lemmas.Bool.{cases_lt}
 use Rattle.std.proofs.lemmas.Bool.Decides.{Decides-eqb}
 use Rattle.std.proofs.lemmas.List.{same_lists, get_or_default, get_or-replicate, length-replicate}
-use Rattle.std.proofs.lemmas.List.Elements.{All-weaker, recursion_from_All}
+use Rattle.std.proofs.lemmas.List.Elements.{recursion_from_All}
 use Rattle.integers.specs.Sums.{if_so}
 use Rattle.bits_model.specs.declared.output.Entry.{Entry}
 use Rattle.problem_form.specs.declared.literal.Literal.{Literal}
-use Rattle.term_table.specs.Terms.{Term, coefficient_of, terms_total, with_additions, IsTermSet, AreTerms}
-use Rattle.term_table.specs.Tables.{TableContent, IsTable, IsLow, AreAdditions, table_size}
-use Rattle.term_table.proofs.Additions.{coefficient_of-with_additions, terms_total-with_additions}
-use Rattle.term_table.proofs.KeptTerms.{OfSet, AreTerms-with_additions, All-with_additions}
-use Rattle.monomial_layer.specs.Monomials.{node, new_nodes, all_new_terms}
-use Rattle.monomial_layer.specs.Monomials as monomials
+use Rattle.term_table.specs.Terms.{coefficient_of, terms_total, with_additions}
+use Rattle.term_table.specs.Tables.{TableContent, AreAdditions, table_size}
+use Rattle.term_table.proofs.Additions.{coefficient_of-with_additions}
+use Rattle.monomial_layer.specs.Monomials.{node, all_new_terms}
 use Rattle.monomial_layer.proofs.Sets.{IsLow-image}
-use Rattle.monomial_layer.proofs.Sizes.{total-image, size-image}
+use Rattle.monomial_layer.proofs.Sizes.{size-image}
 use Rattle.quad_form.specs.Quads.{QuadContent, quad_total, quad_size, IsCoupler, IsQuad}
-use Rattle.quad_form.specs.Flat.{contributions, quad_of, zero_quad}
-use Rattle.quad_form.specs.Flat as flat
-use Rattle.quad_form.specs.Pairs.{weight_for, weight_at}
+use Rattle.quad_form.specs.Flat.{contributions, zero_quad}
+use Rattle.quad_form.specs.Pairs.{weight_at}
 use Rattle.quad_form.specs.laws.Flattened.{flat_sets, length-image}
 use Rattle.quad_form.proofs.FlatForms.{quad_total-image, quad_size-image}
 use Rattle.quad_form.proofs.PairOrder.{rising_from_ordered}
@@ -37,7 +33,7 @@ use Rattle.direct_quad.proofs.Split.{nodes-table, parts-give}
 use Rattle.direct_quad.specs.laws.Between.{low_of, IsTable-low_of, total-low_of}
 
 -- the nodes of all parts
-width-low_of : (t : TableContent) → (low_of t).width ≡ all_nodes t
+pub width-low_of : (t : TableContent) → (low_of t).width ≡ all_nodes t
 width-low_of t = nodes-table t
 
 -- ---- how large the form is
@@ -69,7 +65,7 @@ sums-image ls t =
     ∙ sum_for-with_additions ls (all_new_terms (table_of t).terms t.width)
     ∙ parts-give ls t
 
-constant-image : (t : TableContent) → (image t).constant ≡ sum_for [] (parts t)
+pub constant-image : (t : TableContent) → (image t).constant ≡ sum_for [] (parts t)
 constant-image t =
     omega (
       arith,
@@ -78,7 +74,7 @@ constant-image t =
       sums-image [] t,
     )
 
-weight-image : (t : TableContent) (i : ℕ) → AreAdditions t
+pub weight-image : (t : TableContent) (i : ℕ) → AreAdditions t
     → (terms_total t.terms + 1) * 2 ^ 26 ≤ 2 ^ 124 → i < (low_of t).width
     → get_or (image t).diagonal i (pos 0) ≡ sum_for (node i ∷ []) (parts t)
 weight-image t i additions total within =
@@ -95,7 +91,7 @@ weight-image t i additions total within =
       sums-image (node i ∷ []) t,
     )
 
-pair-image : (t : TableContent) (i j : ℕ) → AreAdditions t
+pub pair-image : (t : TableContent) (i j : ℕ) → AreAdditions t
     → (terms_total t.terms + 1) * 2 ^ 26 ≤ 2 ^ 124
     → weight_at i j (image t).couplers ≡ sum_for (node i ∷ node j ∷ []) (parts t)
 pair-image t i j additions total =
@@ -144,10 +140,14 @@ weight-none n i j (e ∷ es) all outside =
     go true false d g = refl
     go false b d g = refl
 
+-- the image has a node for each that the parts have
+pub nodes-image : (t : TableContent) → length (image t).diagonal ≡ all_nodes t
+nodes-image t = length-image (low_of t) ∙ width-low_of t
+
 same_diagonals : (t : TableContent) (q : QuadContent) → IsWithin t
     → GivesSums (all_nodes t) (parts t) q → q.diagonal ≡ (image t).diagonal
 same_diagonals t q within gives =
-    let wide : length (image t).diagonal ≡ all_nodes t = length-image (low_of t) ∙ width-low_of t in
+    let wide = nodes-image t in
     let lengths = gives.width ∙ sym wide in
     same_lists q.diagonal (image t).diagonal lengths (λ k d in'.
     let here : k < all_nodes t = subst (λ n. k < n) gives.width in' in

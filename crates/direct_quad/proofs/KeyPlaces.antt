@@ -53,7 +53,7 @@ size-with_entries sums (e ∷ es) within =
 key-variable : (v n : ℕ) → n < 2 ^ 32 → key_of v n / 2 ^ 32 ≡ v
 key-variable v n narrow = omega (arith, narrow)
 
-key-index : (v n : ℕ) → n < 2 ^ 32 → index_of (key_of v n) ≡ n
+pub key-index : (v n : ℕ) → n < 2 ^ 32 → index_of (key_of v n) ≡ n
 key-index v n narrow = omega (arith, narrow)
 
 is_key : (v u n : ℕ) → n < 2 ^ 32 → is_key_of v (key_of u n) ≡ eqb v u
@@ -86,7 +86,7 @@ pairs_are v n (e ∷ es) pairs narrow at =
     go true rest = λ i. own i ∷ rest i
     go false rest = rest
 
-climbs_down : (n m : ℕ) (ks : List ℕ) → n ≤ m → Climbs m ks → Climbs n ks
+pub climbs_down : (n m : ℕ) (ks : List ℕ) → n ≤ m → Climbs m ks → Climbs n ks
 climbs_down n m [] le up = tt
 climbs_down n m (k ∷ ks) le up = (omega (arith, le, up.0), up.1)
 
@@ -132,6 +132,7 @@ pub record IsOnly (v m : ℕ) (ls : List Literal) (d : ℕ) (c : ℤ) (n : ℕ) 
   pub here : literal.variable ≡ v
   pub above : IsBelow literal later
   pub there : IsTrue (has_variable v ls)
+  pub shorter : length later ≤ length ls
   pub kept : (w : ℕ) → AllByRecursion (λ l. l.variable < w) ls → AllByRecursion (λ l. l.variable < w) later
 
 not_true : (v u : ℕ) → (v ≡ u → ⊥) → eqb v u ≡ false
@@ -198,6 +199,7 @@ term_cases v m (k ∷ ks) d c n narrow up =
           here = sym same;
           above = up.0;
           there = subst IsTrue (ap (λ b. b || has_variable v ks) (sym is)) refl;
+          shorter = omega arith;
           kept = λ w all. all.1;
         })
     go false is dec (inl none) = inl (record {
@@ -212,6 +214,7 @@ term_cases v m (k ∷ ks) d c n narrow up =
       here = only.here;
       above = only.above;
       there = subst IsTrue (ap (λ b. b || has_variable v ks) (sym is)) only.there;
+      shorter = omega (arith, only.shorter);
       kept = λ w all. only.kept w all.1;
     })
 

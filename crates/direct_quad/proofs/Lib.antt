@@ -11,3 +11,8 @@ pub mod KeyRuns
 pub mod LongPlaces
 pub mod KeyPlaces
 pub mod RowForms
+pub mod Guarded
+pub mod Gathering
+pub mod PartSizes
+pub mod PartPairs
+pub mod RowRuns

@@ -3,7 +3,7 @@
 --
 -- With e complements, a pair of literals gives the constant where both are complements, and a
 -- literal's variable once for each other complement. A new node is paired with all literals.
-use Rattle.std.proofs.Common.{◌≡◌, ◌⊎◌, inl, inr, ℕ, zero, suc, ◌+◌, ◌-◌, ◌*◌, ◌/◌, ◌≤◌, Bool, true, false, ◌&&◌, cond, eqb, leb, int_lt, arith, sym, ap, ◌∙◌, refl, subst, List, [], ◌∷◌, ◌++◌, map, length, ℤ, pos, ◌+ℤ◌, ◌-ℤ◌, ◌*ℤ◌, neg_ℤ, if◌then◌else◌}
+use Rattle.std.proofs.Common.{◌≡◌, ◌⊎◌, inl, inr, ℕ, zero, suc, ◌+◌, ◌-◌, ◌*◌, ◌≤◌, Bool, true, false, ◌&&◌, cond, eqb, leb, int_lt, arith, sym, ap, ◌∙◌, refl, List, [], ◌∷◌, ◌++◌, map, length, ℤ, pos, ◌+ℤ◌, ◌-ℤ◌, ◌*ℤ◌, neg_ℤ, if◌then◌else◌}
 use Rattle.std.specs.List.{flat_map}
 use Rattle.std.proofs.lemmas.Int.{ints}
 use Rattle.std.proofs.lemmas.Bool.Decides.{nat_tests}
@@ -11,7 +11,6 @@ use Rattle.std.proofs.lemmas.List.Sums.{sum_by-cons}
 use Rattle.integers.specs.Sums.{total_by, if_so}
 use Rattle.integers.proofs.Products.{multiply_out, integers, times-plus, neg-times}
 use Rattle.integers.proofs.Totals.{total_by-append, total_by-map, total_by-same, total_by-plus, total_by-if_so, total_by_push}
-use Rattle.bits_model.specs.declared.output.Entry.{Entry}
 use Rattle.problem_form.specs.declared.literal.Literal.{Literal}
 use Rattle.term_table.specs.Terms.{Term}
 use Rattle.term_table.proofs.Additions.{if_so-plus}
@@ -19,7 +18,7 @@ use Rattle.monomial_layer.specs.Monomials.{node, with_each, each_with, pair_term
 use Rattle.monomial_layer.specs.laws.Positive.{pairs, pairs_is, factor_cases}
 use Rattle.quad_form.specs.Pairs.{weight_for, weight_at}
 use Rattle.direct_quad.specs.Parts.{sum_for}
-use Rattle.direct_quad.specs.Places.{signed, complements, pairs_among, pair_coupler, node_coupler, node_couplers, Place, place_couplers, places_in, term_places, Share, share_at, literal_share, node_share, node_shares, term_shares, moved_share, long_constant}
+use Rattle.direct_quad.specs.Places.{signed, complements, pairs_among, pair_coupler, node_coupler, node_couplers, Place, place_couplers, places_in, term_places, Share, share_at, literal_share, node_share, node_shares, term_shares, long_constant}
 use Rattle.direct_quad.proofs.Additive.{Amount, given, share_of, sum_for-given}
 use Rattle.direct_quad.proofs.TwoLiterals.{constant-two, share-one, share-two, pair-one, pair-two}
 

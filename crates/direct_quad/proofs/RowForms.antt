@@ -196,3 +196,235 @@ own_places v w n m (t ∷ ts) kept le =
           nodes = AreFrom-append n (n + new_nodes t) (node_part p) later part.0 below (omega arith) rest.nodes;
           good = together (IsGood v m) (node_part p) later good rest.good;
         })
+
+-- ---- what is summed
+
+-- a coupler of a first node, with a second one above it and below a width
+pub record IsUp (i w : ℕ) (e : Entry) : Type 0 where
+  pub first : e.first ≡ i
+  pub upward : i < e.second
+  pub within : e.second < w
+
+up_of_pairs : (i w : ℕ) (es : List Entry) → AllByRecursion (IsPair w) es
+    → AllByRecursion (IsUp i w) (row_of i es)
+up_of_pairs i w [] all = tt
+up_of_pairs i w (e ∷ es) all = go (eqb i e.first) (Decides-eqb i e.first) (up_of_pairs i w es all.1)
+  where
+    go : (here : Bool) → Decides here (i ≡ e.first) → AllByRecursion (IsUp i w) (row_of i es)
+        → AllByRecursion (IsUp i w) (cond here (e ∷ row_of i es) (row_of i es))
+    go true d rest =
+        let same = d.0 refl in
+        (
+          record {
+            first = sym same;
+            upward = omega (arith, same, all.0.upward);
+            within = all.0.within;
+          },
+          rest,
+        )
+    go false d rest = rest
+
+up_of_later : (i w : ℕ) (l : Literal) (c : ℤ) (ks : List Literal) → l.variable ≡ i → IsBelow l ks
+    → AllByRecursion (λ k. k.variable < w) ks → AllByRecursion (IsUp i w) (map (pair_coupler l c) ks)
+up_of_later i w l c [] here above within = tt
+up_of_later i w l c (k ∷ ks) here above within =
+    let less = above.0 in
+    (
+      record { first = here; upward = omega (arith, here, less); within = within.0 },
+      up_of_later i w l c ks here above.1 within.1,
+    )
+
+up_of_part : (i w : ℕ) (p : Place) → IsOwn i w p → AllByRecursion (IsUp i w) (pair_part p)
+up_of_part i w p own = go (int_lt p.coefficient (pos 0))
+  where
+    go : (negative : Bool)
+        → AllByRecursion (IsUp i w)
+        (if negative then [] else map (pair_coupler p.literal p.coefficient) p.later)
+    go true = tt
+    go false = up_of_later i w p.literal p.coefficient p.later own.here own.above own.within
+
+up_of_places : (i w : ℕ) (ps : List Place) → AllByRecursion (IsOwn i w) ps
+    → AllByRecursion (IsUp i w) (flat_map pair_part ps)
+up_of_places i w [] own = tt
+up_of_places i w (p ∷ ps) own =
+    together (IsUp i w) (pair_part p) (flat_map pair_part ps) (up_of_part i w p own.0)
+    (up_of_places i w ps own.1)
+
+of_up : (i w : ℕ) (es : List Entry) → AllByRecursion (IsUp i w) es → AreOf i w es
+of_up i w es up =
+    each (IsUp i w) (λ e. (e.first ≡ i) × (e.second < w)) (λ e h. (h.first, h.within)) es up
+
+weight_none : (i j w : ℕ) (es : List Entry) → AllByRecursion (IsUp i w) es → j ≤ i
+    → weight_at i j es ≡ pos 0
+weight_none i j w [] up le = refl
+weight_none i j w (e ∷ es) up le =
+    let above = up.0.upward in
+    let other : j ≢ e.second = λ z. omega (arith, z, above, le) in
+    let here : weight_for i j e ≡ pos 0 = go (eqb i e.first) (eqb j e.second) (Decides-eqb j e.second) other in
+    omega (arith, ints, here, weight_none i j w es up.1 le)
+  where
+    go : (a b : Bool) → Decides b (j ≡ e.second) → j ≢ e.second → if_so (a && b) e.weight ≡ pos 0
+    go a true d ne = absurd (ne (d.0 refl))
+    go true false d ne = refl
+    go false false d ne = refl
+
+value_of : (i j w : ℕ) (es fs : List Entry) → AllByRecursion (IsUp i w) es
+    → AllByRecursion (IsUp i w) fs
+    → get_or (with_entries (with_entries (replicate w (pos 0)) es) fs) j (pos 0)
+    ≡ weight_at i j es +ℤ weight_at i j fs
+value_of i j w es fs up more =
+    let zeros = replicate w (pos 0) in
+    let size : length zeros ≡ w = length-replicate w (pos 0) in
+    let next : length (with_entries zeros es) ≡ w = length-with_entries zeros es ∙ size in
+    let first = value-with_entries i j zeros es (subst (λ n. AreOf i n es) (sym size) (of_up i w es up)) in
+    let second = value-with_entries i j (with_entries zeros es) fs (subst (λ n. AreOf i n fs) (sym next) (of_up i w fs more)) in
+    omega (arith, ints, first, second, value-zeros w j)
+
+-- ---- the parts of places
+
+weight_parts : (i j : ℕ) (p : Place)
+    → weight_at i j (place_couplers p) ≡ weight_at i j (pair_part p) +ℤ weight_at i j (node_part p)
+weight_parts i j p = go (int_lt p.coefficient (pos 0))
+  where
+    one : List Entry
+    one = node_coupler p.literal p.coefficient p.first_node ∷ []
+
+    go : (negative : Bool)
+        → weight_at i j
+        (if negative
+        then node_coupler p.literal p.coefficient p.first_node ∷ []
+        else (
+        map (pair_coupler p.literal p.coefficient) p.later
+        ++ node_couplers p.literal p.degree p.coefficient p.first_node (nodes_for p.degree)
+        ))
+        ≡ weight_at i j (if negative then [] else map (pair_coupler p.literal p.coefficient) p.later)
+        +ℤ weight_at i j
+        (if negative
+        then node_coupler p.literal p.coefficient p.first_node ∷ []
+        else node_couplers p.literal p.degree p.coefficient p.first_node (nodes_for p.degree))
+    go true = omega (arith, ints)
+    go false =
+        total_by-append (weight_for i j) (map (pair_coupler p.literal p.coefficient) p.later)
+        (node_couplers p.literal p.degree p.coefficient p.first_node (nodes_for p.degree))
+
+weight_split : (i j : ℕ) (ps : List Place)
+    → weight_at i j (flat_map place_couplers ps)
+    ≡ weight_at i j (flat_map pair_part ps) +ℤ weight_at i j (flat_map node_part ps)
+weight_split i j [] = refl
+weight_split i j (p ∷ ps) =
+    omega (
+      arith,
+      ints,
+      total_by-append (weight_for i j) (place_couplers p) (flat_map place_couplers ps),
+      total_by-append (weight_for i j) (pair_part p) (flat_map pair_part ps),
+      total_by-append (weight_for i j) (node_part p) (flat_map node_part ps),
+      weight_parts i j p,
+      weight_split i j ps,
+    )
+
+-- ---- a row
+
+both : (P Q : Entry → Type 0) (es : List Entry) → AllByRecursion P es → AllByRecursion Q es
+    → AllByRecursion (λ e. P e × Q e) es
+both P Q [] p q = tt
+both P Q (e ∷ es) p q = ((p.0, q.0), both P Q es p.1 q.1)
+
+pub kept_of : (t : TableContent) → AreLong t → AllByRecursion (IsKept t.width) t.terms
+kept_of t kept =
+    go t.terms
+    (recursion_from_All (λ (u : Term). IsTermSet t.width u.0) t.terms kept.terms.sets)
+    (recursion_from_All (λ (u : Term). 3 ≤ length u.0) t.terms kept.long)
+    (recursion_from_All (λ (u : Term). u.1 ≢ pos 0) t.terms kept.terms.nonzero)
+  where
+    go : (ts : List Term) → AllByRecursion (λ (u : Term). IsTermSet t.width u.0) ts
+        → AllByRecursion (λ (u : Term). 3 ≤ length u.0) ts
+        → AllByRecursion (λ (u : Term). u.1 ≢ pos 0) ts → AllByRecursion (IsKept t.width) ts
+    go [] sets long some = tt
+    go (u ∷ us) sets long some =
+        (record { set = sets.0; long = long.0; nonzero = some.0 }, go us sets.1 long.1 some.1)
+
+-- couplers with new nodes, which are above all variables
+each_good : (i w m : ℕ) (ps : List Place) → i < w → AreOwn i w w m ps
+    → AllByRecursion (IsCoupler m) (flat_map node_part ps)
+each_good i w m ps in' own = go w (flat_map node_part ps) (omega arith) own.nodes own.good
+  where
+    go : (n : ℕ) (es : List Entry) → w ≤ n → AreFrom n es → AllByRecursion (IsGood i m) es
+        → AllByRecursion (IsCoupler m) es
+    go n [] le from good = tt
+    go n (e ∷ es) le from good =
+        let one = from.0 in
+        (
+          record {
+            upward = omega (arith, one, le, in', good.0.first);
+            within = good.0.within;
+            nonzero = good.0.nonzero;
+          },
+          go (suc e.second) es (omega (arith, one, le)) from.1 good.1,
+        )
+
+pub row_is : (t : TableContent) (pairs : List Entry) (i : ℕ) (row : List Entry) → AreLong t
+    → All (IsPair t.width) pairs → i < t.width
+    → AreSums i
+    (with_entries (with_entries (replicate t.width (pos 0)) (row_of i pairs))
+    (flat_map pair_part (places_of i (all_places t.terms t.width)))) row
+    → IsRow (node_count t) i (pairs ++ flat_map place_couplers (all_places t.terms t.width))
+    (row ++ flat_map node_part (places_of i (all_places t.terms t.width)))
+row_is t pairs i row kept all in' h =
+    let w = t.width in
+    let m = node_count t in
+    let every = all_places t.terms w in
+    let ps = places_of i every in
+    let es = row_of i pairs in
+    let fs = flat_map pair_part ps in
+    let nodes = flat_map node_part ps in
+    let sums = with_entries (with_entries (replicate w (pos 0)) es) fs in
+    let own = own_places i w w m t.terms (kept_of t kept) (omega arith) in
+    let up = up_of_pairs i w pairs (recursion_from_All (IsPair w) pairs all) in
+    let more = up_of_places i w ps own.own in
+    let value : (j : ℕ) → get_or sums j (pos 0) ≡ weight_at i j es +ℤ weight_at i j fs = λ j. value_of i j w es fs up more in
+    let size : length sums ≡ w =
+    length-with_entries (with_entries (replicate w (pos 0)) es) fs ∙ length-with_entries (replicate w (pos 0)) es ∙ length-replicate w (pos 0) in
+    let firsts = recursion_from_All (λ (e : Entry). e.first ≡ i) row h.firsts in
+    let below = recursion_from_All (λ (e : Entry). e.second < length sums) row h.within in
+    let some = recursion_from_All IsNonzero row h.nonzero in
+    let weights = recursion_from_All (λ (e : Entry). e.weight ≡ get_or sums e.second (pos 0)) row h.weights in
+    let facts = both (λ (e : Entry). (e.first ≡ i) × (e.second < length sums)) (λ (e : Entry). IsNonzero e × (e.weight ≡ get_or sums e.second (pos 0))) row
+    (both (λ (e : Entry). e.first ≡ i) (λ (e : Entry). e.second < length sums) row firsts below)
+    (both IsNonzero (λ (e : Entry). e.weight ≡ get_or sums e.second (pos 0)) row some weights) in
+    let couplers : AllByRecursion (IsCoupler m) row =
+    each (λ (e : Entry). ((e.first ≡ i) × (e.second < length sums)) × (IsNonzero e × (e.weight ≡ get_or sums e.second (pos 0)))) (IsCoupler m)
+    (λ e f. record {
+      upward =
+          elim (cases_lt i e.second) [
+            | inl lt ↦ omega (arith, lt, f.0.0)
+            | inr le ↦
+                absurd (f.1.0 (let a = weight_none i e.second w es up le in let b = weight_none i e.second w fs more le in omega (arith, ints, f.1.1, value e.second, a, b)))
+          ];
+      within = omega (arith, f.0.1, size);
+      nonzero = f.1.0;
+    })
+    row facts in
+    let others : AllByRecursion (IsCoupler m) nodes =
+    each_good i w m ps in' own in
+    let whole = together (IsCoupler m) row nodes couplers others in
+    let ones = together (λ (e : Entry). e.first ≡ i) row nodes firsts (each (IsGood i m) (λ (e : Entry). e.first ≡ i) (λ e g. g.first) nodes own.good) in
+    let inside = each (λ (e : Entry). e.second < length sums) (λ (e : Entry). e.second < w) (λ e f. omega (arith, f, size)) row below in
+    record {
+      first = All-from_recursion (λ (e : Entry). e.first ≡ i) (row ++ nodes) ones;
+      ordered =
+          ordered_from_rising (row ++ nodes) (couplers_are_pairs m (row ++ nodes) kept.narrow whole)
+          (rises i 0 (row ++ nodes) ones (AreFrom-append 0 w row nodes h.ascending inside (omega arith) own.nodes));
+      couplers = All-from_recursion (IsCoupler m) (row ++ nodes) whole;
+      sums = λ j.
+      omega (
+        arith,
+        ints,
+        total_by-append (weight_for i j) row nodes,
+        total_by-append (weight_for i j) pairs (flat_map place_couplers every),
+        h.totals j,
+        value j,
+        weight-row i j pairs,
+        places_make_rows i j every,
+        weight_split i j ps,
+      );
+    }

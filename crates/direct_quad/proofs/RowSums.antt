@@ -1,26 +1,25 @@
 -- Rows of couplers: places and entries of other rows add nothing to a row, and rows in order are a
 -- form's couplers.
-use Rattle.std.proofs.Common.{◌≡◌, ◌⊎◌, inl, inr, ℕ, zero, suc, ◌+◌, ◌*◌, ◌<◌, ◌≤◌, ◌^◌, Bool, true, false, ◌&&◌, eqb, cond, int_lt, arith, sym, ap, ◌∙◌, refl, subst, List, [], ◌∷◌, ◌++◌, map, length, ℤ, pos, ◌+ℤ◌, ◌*ℤ◌, neg_ℤ, if◌then◌else◌}
+use Rattle.std.proofs.Common.{◌≡◌, ◌⊎◌, inl, inr, ℕ, zero, suc, ◌+◌, ◌<◌, ◌≤◌, ◌^◌, Bool, true, false, ◌&&◌, eqb, cond, int_lt, arith, sym, ap, ◌∙◌, refl, subst, List, [], ◌∷◌, ◌++◌, map, ℤ, pos, ◌+ℤ◌, ◌*ℤ◌, neg_ℤ, if◌then◌else◌}
 use Rattle.std.specs.Prelude.{All}
-use Rattle.std.specs.List.{AllByRecursion, filter, flat_map}
-use Rattle.std.specs.List.Sorted.{IsPermutation, IsStrictlySortedBy}
+use Rattle.std.specs.List.{AllByRecursion, flat_map}
+use Rattle.std.specs.List.Sorted.{IsPermutation}
 use Rattle.std.specs.Bool.{Decides}
 use Rattle.std.proofs.lemmas.Int.{ints}
 use Rattle.std.proofs.lemmas.Bool.{cases_lt}
 use Rattle.std.proofs.lemmas.Bool.Decides.{Decides-eqb}
-use Rattle.std.proofs.lemmas.List.Elements.{All-append, All-from_recursion, All-weaker, recursion_from_All}
-use Rattle.integers.specs.Sums.{total_by, if_so}
+use Rattle.std.proofs.lemmas.List.Elements.{All-append, All-weaker, recursion_from_All}
+use Rattle.integers.specs.Sums.{if_so}
 use Rattle.integers.proofs.Totals.{total_by-append, total_by-flat_map, total_by-IsPermutation, total_by_push}
 use Rattle.bits_model.specs.declared.output.Entry.{Entry}
-use Rattle.bits_model.specs.Output.{entry_cmp}
 use Rattle.problem_form.specs.declared.literal.Literal.{Literal}
 use Rattle.monomial_layer.specs.Monomials.{factor, nodes_for}
 use Rattle.quad_form.specs.Quads.{IsCoupler}
-use Rattle.quad_form.specs.Pairs.{weight_for, weight_at, pair_number}
+use Rattle.quad_form.specs.Pairs.{weight_for, weight_at}
 use Rattle.quad_form.proofs.PairOrder.{Before, Rises, ordered_from_rising, rising_from_ordered}
 use Rattle.quad_form.proofs.UniqueForms.{couplers_are_pairs}
 use Rattle.direct_quad.specs.Places.{pair_coupler, node_coupler, node_couplers, Place, place_couplers}
-use Rattle.direct_quad.specs.Rows.{is_at, is_of, row_of, places_of, IsRow, AreRows}
+use Rattle.direct_quad.specs.Rows.{is_at, row_of, places_of, IsRow, AreRows}
 
 -- ---- entries of other rows
 

@@ -1,11 +1,9 @@
 -- Short and long terms apart: the long ones of a table are the table of the long additions, they
 -- alone have new nodes, and the short ones give what they give unsummed.
 use Rattle.std.proofs.Common.{◌≡◌, ℕ, ◌+◌, ◌≤◌, Bool, true, false, not, leb, cond, int_lt, arith, sym, ap, ◌∙◌, refl, List, [], ◌∷◌, ◌++◌, length, ℤ, pos, ◌+ℤ◌, sum_by}
-use Rattle.std.specs.Prelude.{All}
 use Rattle.std.specs.List.{filter, AllByRecursion}
 use Rattle.std.specs.List.Sorted.{IsStrictlySortedBy}
 use Rattle.std.specs.Ordering.{is_eq}
-use Rattle.std.specs.declared.cmp.Ordering.TheVariants.{Less}
 use Rattle.std.proofs.lemmas.Int.{ints}
 use Rattle.std.proofs.lemmas.Bool.Decides.{nat_tests}
 use Rattle.std.proofs.lemmas.List.Elements.{All-filter, filter_passes, All-weaker, recursion_from_All}
@@ -13,14 +11,13 @@ use Rattle.std.proofs.lemmas.List.Sums.{sum_by-cons}
 use Rattle.integers.specs.Sums.{if_so}
 use Rattle.integers.proofs.Totals.{total_by-append}
 use Rattle.problem_form.specs.declared.literal.Literal.{Literal}
-use Rattle.term_table.specs.Terms.{Term, set_cmp, coefficient_of, with_additions, Ascends, IsTermSet}
+use Rattle.term_table.specs.Terms.{Term, set_cmp, with_additions, Ascends}
 use Rattle.term_table.specs.Tables.{TableContent}
 use Rattle.term_table.proofs.Additions.{if_so-plus}
 use Rattle.term_table.proofs.KeptTerms.{OfSet, IsNonzero, Under, Ascends-with_additions, nonzero-with_additions, All-with_additions}
 use Rattle.term_table.proofs.UniqueTerms.{same_terms}
 use Rattle.monomial_layer.specs.Monomials.{is_low, new_nodes, new_terms, all_new_terms, nodes_for, negative_terms, positive_terms}
-use Rattle.quad_form.specs.Flat.{plain_terms, contributions}
-use Rattle.direct_quad.specs.Parts.{is_long, short_terms, long_additions, long_terms, all_nodes, parts, sum_for, table_of}
+use Rattle.direct_quad.specs.Parts.{is_long, short_terms, long_additions, long_terms, all_nodes, parts, sum_for}
 use Rattle.direct_quad.proofs.Additive.{Amount, IsAdditive, given, given-with_additions, only, additive-only, given-filter, share_of, share-additive, sum_for-given}
 
 -- ---- the long terms of a table

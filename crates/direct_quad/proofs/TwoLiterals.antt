@@ -1,18 +1,17 @@
 -- What a term of at most two literals gives a quadratic form.
-use Rattle.std.proofs.Common.{◌≡◌, ℕ, ◌+◌, ◌≤◌, Bool, true, false, ◌&&◌, eqb, arith, sym, ap, ◌∙◌, refl, List, [], ◌∷◌, ◌++◌, length, ℤ, pos, ◌+ℤ◌, neg_ℤ, if◌then◌else◌}
+use Rattle.std.proofs.Common.{◌≡◌, ℕ, ◌≤◌, Bool, true, false, ◌&&◌, eqb, arith, ap, refl, List, [], ◌∷◌, ◌++◌, length, ℤ, pos, neg_ℤ, if◌then◌else◌}
 use Rattle.std.specs.Ordering.{is_eq}
 use Rattle.std.proofs.lemmas.Int.{ints}
-use Rattle.integers.specs.Sums.{total_by, if_so}
-use Rattle.integers.proofs.Totals.{total_by-append}
+use Rattle.integers.specs.Sums.{if_so}
 use Rattle.problem_form.specs.declared.literal.Literal.{Literal}
 use Rattle.problem_form.specs.Literals.{literal_cmp}
 use Rattle.term_table.specs.Terms.{Term, set_cmp, coefficient_of}
 use Rattle.monomial_layer.specs.Monomials.{node}
-use Rattle.quad_form.specs.Flat.{plain, plain_terms}
+use Rattle.quad_form.specs.Flat.{plain}
 use Rattle.quad_form.specs.Pairs.{weight_for, weight_at}
 use Rattle.quad_form.specs.laws.Flattened.{one_out, two_out}
 use Rattle.quad_form.proofs.UniqueForms.{then_less, then_greater, one_is, two_are}
-use Rattle.direct_quad.specs.Places.{signed, pair_coupler, Share, share_at, moved_share, short_couplers, short_shares, short_constant}
+use Rattle.direct_quad.specs.Places.{signed, pair_coupler, Share, share_at, short_couplers, short_shares, short_constant}
 use Rattle.direct_quad.proofs.Additive.{share_of}
 
 -- ---- the constant

@@ -1,6 +1,6 @@
 -- The quadratic form of a problem at once: penalties for hard clauses, quadratic terms in place of
 -- longer ones, and all multiplied out.
-use Rattle.std.specs.Prelude.{◌≡◌, ℕ, Bool, List, length}
+use Rattle.std.specs.Prelude.{◌≡◌, Bool, List, length}
 use Rattle.bits_model.specs.declared.layer.BitsLink.{BitsLink}
 use Rattle.problem_form.specs.Problems.{ProblemContent}
 use Rattle.term_table.specs.Tables.{TableContent}

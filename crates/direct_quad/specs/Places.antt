@@ -5,7 +5,7 @@
 -- new nodes with all its literals. Where c is negative, its one new node is. A complement turns the
 -- sign of its couplers, and moves as much to the other node, or to the constant.
 use Rattle.std.specs.Prelude.{ℕ, zero, suc, ◌+◌, ◌-◌, ◌*◌, ◌/◌, ◌==◌, ℤ, pos, neg_ℤ, ◌-ℤ◌, ◌*ℤ◌, ◌&&◌, int_lt, List, [], ◌∷◌, ◌++◌, map, length, if◌then◌else◌}
-use Rattle.std.specs.List.{count_by, flat_map}
+use Rattle.std.specs.List.{count_by}
 use Rattle.integers.specs.Sums.{total_by, if_so}
 use Rattle.bits_model.specs.declared.output.Entry.{Entry}
 use Rattle.problem_form.specs.declared.literal.Literal.{Literal}

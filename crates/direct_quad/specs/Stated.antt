@@ -1,18 +1,17 @@
 -- The laws of a form that is made at once, as statements.
-use Rattle.std.specs.Prelude.{◌≡◌, ℕ, suc, ◌+◌, ◌*◌, ◌≤◌, ◌<◌, ◌^◌, ℤ, List, [], ◌∷◌, ◌++◌, length, All}
+use Rattle.std.specs.Prelude.{◌≡◌, ℕ, ◌+◌, ◌*◌, ◌≤◌, ◌<◌, ◌^◌, List, [], ◌∷◌, ◌++◌, length}
 use Rattle.std.specs.List.{flat_map}
 use Rattle.std.specs.List.Sorted.{IsPermutation}
-use Rattle.integers.specs.Sums.{total_by}
 use Rattle.bits_model.specs.declared.output.Entry.{Entry}
 use Rattle.term_table.specs.Terms.{Term, terms_total}
 use Rattle.term_table.specs.Tables.{TableContent, AreAdditions, table_size}
-use Rattle.monomial_layer.specs.Monomials.{node, new_terms, all_new_terms}
+use Rattle.monomial_layer.specs.Monomials.{node, new_terms}
 use Rattle.quad_form.specs.Quads.{QuadContent, quad_total, quad_size, IsQuad}
 use Rattle.quad_form.specs.Pairs.{weight_at}
 use Rattle.direct_quad.specs.Parts.{table_of, image, all_nodes, parts, sum_for, GivesSums}
-use Rattle.direct_quad.specs.Places.{Place, term_places, all_places, place_couplers, share_at, term_shares, all_shares, long_constant}
+use Rattle.direct_quad.specs.Places.{Place, term_places, place_couplers, share_at, term_shares, long_constant}
 use Rattle.direct_quad.specs.Gathered.{IsSumOf}
-use Rattle.direct_quad.specs.Rows.{places_of, row_of, IsRow, AreRows}
+use Rattle.direct_quad.specs.Rows.{places_of, IsRow, AreRows}
 
 -- the numbers of the form fit their fields
 pub record IsWithin (t : TableContent) : Type 0 where
@@ -54,6 +53,10 @@ CouplersClose = (t : Term) (n i j : ℕ) → 3 ≤ length t.0
 -- what has these sums is the image
 abbrev pub SumIsImage : Type 0
 SumIsImage = (t : TableContent) (q : QuadContent) → IsWithin t → IsSumOf t q → q ≡ image t
+
+-- and the image has them
+abbrev pub ImageHasSums : Type 0
+ImageHasSums = (t : TableContent) → IsWithin t → IsSumOf t (image t)
 
 -- ---- row by row
 

@@ -2,6 +2,7 @@
 ghost use Rattle.direct_quad.specs.Stated.{
   ConstantsClose,
   CouplersClose,
+  ImageHasSums,
   ImageIsQuad,
   PlacesMakeRows,
   PlacesPermute,
@@ -17,6 +18,7 @@ ghost use Rattle.direct_quad.specs.Stated.{
 pub fn laws_of_sums()
     ensures parts { SumsGiveImage }
     ensures closed { SumIsImage }
+    ensures has { ImageHasSums }
     ensures quad { ImageIsQuad }
     ensures total { TotalsGrow }
     ensures size { SizesGrow }

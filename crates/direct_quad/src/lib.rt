@@ -3,6 +3,8 @@
 
 mod accumulator;
 mod additions;
+mod direct;
+mod gathered;
 mod laws;
 mod long_table;
 mod new_nodes;
@@ -10,6 +12,7 @@ mod pairs;
 mod rows;
 mod shares;
 
+pub use direct::DirectQuad;
 pub use laws::{laws_of_long_terms, laws_of_rows, laws_of_sums};
 pub use long_table::{LongTable, LongTerm};
 pub use pairs::Pairs;

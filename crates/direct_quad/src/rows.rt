@@ -47,7 +47,8 @@ fn index_of(key: u64) -> usize
 
 /// The keys of pairs, in the order of the pairs.
 fn keys_of_pairs(alloc: Global, pairs: &Pairs) -> Result<Vec<u64>, NoMemory>
-    ensures { IfOk result (λ keys. keys.items ≡ pair_keys 0 pairs.now) }
+    ensures keys { IfOk result (λ keys. keys.items ≡ pair_keys 0 pairs.now) }
+    ensures narrow { IfOk result (λ _. length pairs.now < 2 ^ 32) }
 {
     let mut keys = Vec::with_capacity(alloc, pairs.len())?;
     for i in 0..pairs.len() {

@@ -1,9 +1,9 @@
 -- The tables between additions and their quadratic form, which are never made. Nothing here has to
 -- be believed.
-use Rattle.std.specs.Prelude.{◌≡◌, ℕ, ◌+◌, ◌*◌, ◌≤◌, ◌^◌}
+use Rattle.std.specs.Prelude.{◌+◌, ◌*◌, ◌≤◌, ◌^◌}
 use Rattle.std.proofs.Common.{arith}
 use Rattle.std.proofs.lemmas.List.Elements.{recursion_from_All}
-use Rattle.term_table.specs.Terms.{terms_total, AreTerms}
+use Rattle.term_table.specs.Terms.{terms_total}
 use Rattle.term_table.specs.Tables.{TableContent, IsTable, AreAdditions}
 use Rattle.term_table.proofs.Additions.{terms_total-with_additions}
 use Rattle.term_table.proofs.KeptTerms.{AreTerms-with_additions}

@@ -1,6 +1,6 @@
 -- The sets of the terms that stand for a list of terms: literal sets over the variables and the new
 -- nodes.
-use Rattle.std.proofs.Common.{◌≡◌, ℕ, zero, suc, ◌+◌, ◌<◌, ◌≤◌, Bool, true, false, cond, leb, int_lt, arith, ap, List, [], ◌∷◌, ◌++◌, length, ℤ, pos, sum_by}
+use Rattle.std.proofs.Common.{ℕ, zero, suc, ◌+◌, ◌<◌, ◌≤◌, Bool, true, false, cond, leb, int_lt, arith, List, [], ◌∷◌, length, ℤ, pos, sum_by}
 use Rattle.std.specs.Prelude.{All}
 use Rattle.std.specs.List.{AllByRecursion}
 use Rattle.std.proofs.lemmas.List.Elements.{All-nil, All-cons, All-append, recursion_from_All}

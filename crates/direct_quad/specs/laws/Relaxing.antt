@@ -1,7 +1,6 @@
 -- The quadratic form of a problem relaxes it, as the three steps in a row do. Nothing here has to be
 -- believed.
-use Rattle.std.specs.Prelude.{◌≡◌, ℕ, ◌+◌, ◌*◌, ◌≤◌, ◌<◌, ◌^◌, None, ℤ, pos, ◌+ℤ◌, ◌*ℤ◌, Bool, List, length, take}
-use Rattle.std.specs.List.{sum_by}
+use Rattle.std.specs.Prelude.{◌≡◌, ◌+◌, ◌≤◌, ◌^◌, None, pos, ◌+ℤ◌, ◌*ℤ◌, Bool, List, length, take}
 use Rattle.std.proofs.Common.{arith, sym, ap, ◌∙◌, refl, subst}
 use Rattle.std.proofs.lemmas.Int.{ints}
 use Rattle.std.proofs.lemmas.List.{take-take}
@@ -17,22 +16,20 @@ use Rattle.problem_form.specs.Problems.{ProblemContent}
 use Rattle.problem_form.specs.Problems as problems
 use Rattle.problem_form.specs.Limits.{limit_fault}
 use Rattle.term_table.specs.Terms.{terms_total}
-use Rattle.term_table.specs.Tables.{TableContent, IsTable, AreAdditions, table_size}
-use Rattle.term_table.specs.Tables as tables
+use Rattle.term_table.specs.Tables.{AreAdditions}
 use Rattle.penalty_layer.specs.Penalty.{contributions, figures, Admits}
 use Rattle.penalty_layer.specs.Penalty as penalty
 use Rattle.penalty_layer.specs.laws.Relaxing.{penalty_relaxes, penalty_extends}
 use Rattle.penalty_layer.proofs.Bounds.{within_limits, weights_within}
 use Rattle.penalty_layer.proofs.Sizes.{contributions_total}
-use Rattle.penalty_layer.proofs.Admitted.{contribution_sets, made_size}
+use Rattle.penalty_layer.proofs.Admitted.{contribution_sets}
 use Rattle.monomial_layer.specs.Monomials as monomials
 use Rattle.monomial_layer.specs.laws.Kept.{mono_keeps, mono_reaches}
 use Rattle.monomial_layer.proofs.Sets.{IsLow-image}
-use Rattle.monomial_layer.proofs.Sizes.{size-all_new_terms}
 use Rattle.quad_form.specs.Quads as quads
 use Rattle.quad_form.specs.Flat.{same_bits}
 use Rattle.quad_form.specs.Flat as flat
-use Rattle.quad_form.specs.laws.Flattened.{length-image, flat_keeps, flat_reaches, flat_whole}
+use Rattle.quad_form.specs.laws.Flattened.{length-image, flat_keeps, flat_reaches}
 use Rattle.direct_quad.specs.Direct.{additions_of, image, extension, Fits}
 use Rattle.direct_quad.specs.laws.Between.{low_of, IsTable-table_of, IsTable-low_of}
 

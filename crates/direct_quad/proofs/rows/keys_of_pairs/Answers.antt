@@ -13,6 +13,6 @@ loop-i-preserved c =
     pair_keys_more c.args.pairs.now c.loop-i.i c.at.result c.loop-i.keys.items c.push.new.self.items c.at.ensures
     c.loop-i.invariant (pushed ∙ ap (λ n. c.loop-i.keys.items ++ n ∷ []) (c.key_of.ensures ∙ ap (λ n. key_of n c.loop-i.i) c.from.ensures))
 
-pub returns : goal.returns
-returns c =
+pub returns-clause-keys : goal.returns-clause-keys
+returns-clause-keys c =
     c.loop-i.invariant ∙ ap (pair_keys 0) (take_all c.loop-i.i c.args.pairs.now (omega (arith, c.loop-i-test.false, c.len-i-end.ensures.count)))

@@ -5,7 +5,7 @@ use Rattle.problem_form.specs.Problems.{ProblemContent}
 use Rattle.problem_form.specs.Limits.{penalty}
 use Rattle.term_table.specs.Tables.{TableContent}
 use Rattle.penalty_layer.specs.Weights.{clause_weights}
-use Rattle.penalty_layer.proofs.Admitted.{empty_set, product_sets, clause_sets, constant_added, products_added, clauses_added, all_added, clauses_fit}
+use Rattle.penalty_layer.proofs.Admitted.{empty_set, product_sets, clause_sets, constant_added, products_added, clauses_fit}
 use Rattle.penalty_layer.proofs.adding.add_contributions.Goals as goal
 
 pub gather-requires-clause-set : goal.gather-requires-clause-set

@@ -1,0 +1,95 @@
+//! The guard from a problem to its quadratic form.
+use crate::gathered::DirectTerms;
+use bits_model::{BitsLink, Costed, Figures, Guard, Guarded, Layer, NoMemory};
+use monomial_layer::Monomials;
+use penalty_layer::{Penalty, add_contributions};
+use problem_form::Problem;
+use quad_form::Quad;
+use std::alloc::Global;
+
+/// Penalties for hard clauses, quadratic terms in place of longer ones, each by itself and over
+/// literals, and all multiplied out: what `Penalty`, `Monomials` and `Flatten` make in a row,
+/// without the tables between. A state decodes to its first bits.
+#[derive(Drop)]
+pub struct DirectQuad;
+
+impl Guard for DirectQuad {
+    type Source = Problem;
+
+    type Target = Quad;
+
+    type Link = BitsLink;
+
+    ghost use Rattle.std.specs.Prelude.{◌^◌};
+    ghost use Rattle.bits_model.specs.Links.{first_bits, HasFirstBits};
+    ghost use Rattle.penalty_layer.specs.Penalty.{Admits, figures};
+    ghost use Rattle.direct_quad.specs.Direct.{image, extension, Fits};
+    ghost use Rattle.direct_quad.specs.laws.Relaxing.{
+      direct_joins,
+      direct_relaxes,
+      direct_sound,
+      direct_whole,
+    };
+
+    ghost TOTAL_BITS = { 90 };
+
+    ghost SIZE_BITS = { 29 };
+
+    ghost FIGURE_BOUND = { 2 ^ 64 };
+
+    ghost admits = { Admits };
+
+    ghost image = { image };
+
+    ghost figures = { figures };
+
+    ghost extension = { extension };
+
+    ghost decoding = { first_bits };
+
+    ghost is_sound = { HasFirstBits };
+
+    ghost fits = { λ link problem. Fits link problem };
+
+    ghost sound = { direct_sound };
+
+    ghost joins = { direct_joins };
+
+    ghost relaxes = { direct_relaxes };
+
+    ghost whole = { direct_whole };
+
+    fn guard(&self, alloc: Global, source: &Problem) -> Result<Guarded<Quad, BitsLink>, NoMemory> {
+        let width = source.variables as usize;
+        let mut terms = DirectTerms::new(alloc, width)?;
+        add_contributions(alloc, &mut terms, source)?;
+        let quad = terms.into_quad()?;
+        Ok(Guarded {
+            link: BitsLink {
+                source_width: width,
+                target_width: quad.width(),
+            },
+            target: quad,
+            figures: Figures {
+                scale: 1,
+                offset: 0,
+                threshold: source.upper(),
+            },
+        })
+    }
+
+    fn decode(&self, alloc: Global, link: &BitsLink, y: &[bool]) -> Result<Vec<bool>, NoMemory> {
+        Monomials.decode(alloc, link, y)
+    }
+
+    fn extend(
+        &self,
+        alloc: Global,
+        source: &Problem,
+        link: &BitsLink,
+        x: &[bool],
+    ) -> Result<Vec<bool>, NoMemory> {
+        let guarded = Penalty.guard(alloc, source)?;
+        Monomials.extend(alloc, &guarded.target, link, x)
+    }
+}
