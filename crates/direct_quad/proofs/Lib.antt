@@ -16,3 +16,5 @@ pub mod Gathering
 pub mod PartSizes
 pub mod PartPairs
 pub mod RowRuns
+pub mod SortedAdditions
+pub mod SetKeys

@@ -1,11 +1,12 @@
 -- Terms of three literals or more, as they are kept for what is made of them.
-use Rattle.std.specs.Prelude.{◌≡◌, ℕ, ◌+◌, ◌≤◌, ◌<◌, ◌^◌, ◌*◌, pos, int_lt, unsigned_abs, List, [], ◌∷◌, map, take, length, All, if◌then◌else◌}
+use Rattle.std.specs.Prelude.{◌≡◌, ℕ, ◌+◌, ◌≤◌, ◌<◌, ◌^◌, ◌*◌, pos, int_lt, unsigned_abs, ℤ, ◌+ℤ◌, Bool, List, [], ◌∷◌, map, take, length, All, if◌then◌else◌}
 use Rattle.std.specs.List.{sum_by, slice_index_or}
 use Rattle.problem_form.specs.declared.literal.Literal.{Literal}
 use Rattle.problem_form.specs.declared.terms.Product.{Product}
 use Rattle.direct_quad.specs.declared.additions.Keyed.{Keyed}
 use Rattle.term_table.specs.Terms.{Term, terms_total, AreTerms}
 use Rattle.term_table.specs.Tables.{TableContent}
+use Rattle.term_table.specs.Summed.{sums_from}
 use Rattle.monomial_layer.specs.Monomials.{new_nodes, nodes_for}
 use Rattle.direct_quad.specs.Places.{Place}
 
@@ -73,6 +74,10 @@ set_key [] = 0
 set_key (l ∷ []) = 0
 set_key (l ∷ k ∷ ls) = pair_key l k
 
+-- the key by which a set is sorted first: 0 for all where some literal has no code of 32 bits
+abbrev pub key_for : Bool → List Literal → ℕ
+key_for coded ls = if coded then set_key ls else 0
+
 -- the term of an addition
 abbrev pub addition_at : List Product → ℕ → Term
 addition_at additions i =
@@ -81,3 +86,14 @@ addition_at additions i =
 -- the terms of additions in an order
 abbrev pub additions_at : List Product → List Keyed → List Term
 additions_at additions order = map (λ k. addition_at additions k.index) order
+
+-- indices of additions with their keys, in the order of the additions
+pub record AreKeyed (coded : Bool) (additions : List Product) (order : List Keyed) : Type 0 where
+  pub within : All (λ k. k.index < length additions) order
+  pub keys : All (λ k. k.key ≡ key_for coded (addition_at additions k.index).0) order
+  pub whole : additions_at additions order ≡ map product_term additions
+
+-- the sums of neighbours of one set, the first of which has a sum of earlier ones added
+abbrev pub sums_with : ℤ → List Term → List Term
+sums_with c [] = []
+sums_with c (t ∷ ts) = sums_from (t.0, c +ℤ t.1) ts

@@ -93,7 +93,8 @@ fn numbered(
     width: usize,
     products: &ProductList,
 ) -> Result<(Vec<u32>, u32), NoMemory>
-    requires { node_count (terms_of width products.now) < 2 ^ 32 }
+    requires long { All (λ p. 3 ≤ length p.literals) products.now }
+    requires narrow { node_count (terms_of width products.now) < 2 ^ 32 }
     ensures firsts { IfOk result (λ numbers.
         numbers.0.items ≡ first_nodes width (map product_term products.now)) }
     ensures next { IfOk result (λ numbers.
