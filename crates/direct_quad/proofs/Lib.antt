@@ -5,7 +5,16 @@ pub mod TwoLiterals
 pub mod LongTerms
 pub mod AllParts
 pub mod RowSums
+pub mod SummedRows
+pub mod KeyLists
+pub mod KeyRuns
+pub mod LongPlaces
+pub mod KeyPlaces
+pub mod RowForms
 pub mod Guarded
 pub mod Gathering
 pub mod PartSizes
 pub mod PartPairs
+pub mod RowRuns
+pub mod SortedAdditions
+pub mod SetKeys

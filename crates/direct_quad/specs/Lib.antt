@@ -5,3 +5,7 @@ pub mod Rows
 pub mod Stated
 pub mod Direct
 pub mod laws
+pub mod Long
+pub mod PairLists
+pub mod RowSums
+pub mod Keys

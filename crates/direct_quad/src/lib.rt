@@ -1,9 +1,20 @@
 //! The quadratic form of a problem at once: without a table, and without one of quadratic terms.
 #![tactic(auto)]
 
+mod accumulator;
+mod additions;
 mod direct;
 mod gathered;
 mod laws;
+mod long_table;
+mod new_nodes;
+mod pairs;
+mod rows;
+mod shares;
 
 pub use direct::DirectQuad;
 pub use laws::{laws_of_long_terms, laws_of_rows, laws_of_sums};
+pub use long_table::{LongTable, LongTerm};
+pub use pairs::Pairs;
+pub use rows::couplers_of;
+pub use shares::add_shares;

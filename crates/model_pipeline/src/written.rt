@@ -1,5 +1,5 @@
 //! The models of forms, in the unit that is chosen. Reducing is the last step before a model is
-//! written, and a form is let go as soon as its reduced one stands.
+//! written, and is done in the form's own memory.
 ghost use Rattle.std.specs.Prelude.{◌≡◌, ◌≤◌, ◌<◌, ◌+◌, ◌*◌, ◌^◌, ◌≤ℤ◌, pos, length, unsigned_abs, IfOk};
 ghost use Rattle.bits_model.specs.Relations.{figures_after};
 ghost use Rattle.quad_form.specs.Quads.{IsQuad, quad_size, quad_total};
@@ -31,8 +31,7 @@ pub fn qubo_model(
     match unit {
         UnitChoice::One => quad.output(alloc, variables, figures, 1),
         UnitChoice::Reduce => {
-            let made = quad.reduce(alloc)?;
-            drop(quad);
+            let made = quad.reduce()?;
             made.target
                 .output(alloc, variables, figures.moved(made.offset), made.unit)
         }
@@ -57,8 +56,7 @@ pub fn ising_model(
     match unit {
         UnitChoice::One => form.output(alloc, variables, figures, 1, Kind::Ising, chains),
         UnitChoice::Reduce => {
-            let made = form.reduce(alloc)?;
-            drop(form);
+            let made = form.reduce()?;
             let figures = figures.moved(made.offset);
             made.target
                 .output(alloc, variables, figures, made.unit, Kind::Ising, chains)

@@ -1,0 +1,430 @@
+-- The row of a variable: what is summed of its pairs and places, and then the couplers with new
+-- nodes, which are in order since the places are.
+use Rattle.std.proofs.Common.{◌≡◌, ◌≢◌, ◌⊎◌, inl, inr, ℕ, zero, suc, ◌+◌, ◌*◌, ◌<◌, ◌≤◌, ◌^◌, Bool, true, false, cond, ◌&&◌, eqb, int_lt, arith, sym, ap, ◌∙◌, refl, subst, List, [], ◌∷◌, ◌++◌, map, length, get_or, take, replicate, ℤ, pos, neg_ℤ, ◌+ℤ◌, ◌*ℤ◌, unsigned_abs, if◌then◌else◌}
+use Rattle.std.specs.Prelude.{All}
+use Rattle.std.specs.List.{AllByRecursion, filter, flat_map, sum_by}
+use Rattle.std.specs.Bool.{Decides}
+use Rattle.std.proofs.lemmas.Int.{ints}
+use Rattle.std.proofs.lemmas.Bool.{cases_lt}
+use Rattle.std.proofs.lemmas.Bool.Decides.{Decides-eqb}
+use Rattle.std.proofs.lemmas.List.{length-replicate}
+use Rattle.std.proofs.lemmas.List.Elements.{All-from_recursion, recursion_from_All, All-append, filter-append}
+use Rattle.std.proofs.lemmas.List.Sums.{sum_by-cons}
+use Rattle.integers.specs.Sums.{if_so}
+use Rattle.integers.proofs.Totals.{total_by-append, total_by_push}
+use Rattle.bits_model.specs.declared.output.Entry.{Entry}
+use Rattle.problem_form.specs.declared.literal.Literal.{Literal}
+use Rattle.term_table.specs.Terms.{Term, IsTermSet}
+use Rattle.term_table.specs.Tables.{TableContent}
+use Rattle.term_table.proofs.SmallSets.{IsBelow, Ascend, IsLiteralSet-ascends}
+use Rattle.monomial_layer.specs.Monomials.{new_nodes, nodes_for, factor}
+use Rattle.quad_form.specs.Quads.{IsCoupler}
+use Rattle.quad_form.specs.Pairs.{IsPair, IsNonzero, weight_for, weight_at, pair_number}
+use Rattle.quad_form.proofs.PairOrder.{ArePairs, Before, Rises, ordered_from_rising}
+use Rattle.quad_form.proofs.UniqueForms.{couplers_are_pairs}
+use Rattle.direct_quad.specs.Places.{Place, signed, pair_coupler, node_coupler, node_couplers, place_couplers, term_places, all_places}
+use Rattle.direct_quad.specs.Rows.{is_of, row_of, is_at, places_of, IsRow}
+use Rattle.direct_quad.specs.Long.{node_count, place_nodes, AreLong}
+use Rattle.direct_quad.specs.RowSums.{with_entries, AreFrom, AreSums, pair_part, node_part}
+use Rattle.direct_quad.proofs.RowSums.{weight-row, places_make_rows}
+use Rattle.direct_quad.proofs.SummedRows.{AreOf, AreFrom-weaker, value-with_entries, value-zeros, length-with_entries}
+use Rattle.direct_quad.proofs.KeyLists.{factor-low, factor-le}
+use Rattle.direct_quad.proofs.LongPlaces.{long_nodes}
+use Rattle.direct_quad.proofs.KeyPlaces.{IsNone, IsOnly, term_cases}
+
+-- ---- entries in order
+
+AreFrom-append : (n m : ℕ) (es fs : List Entry) → AreFrom n es
+    → AllByRecursion (λ e. e.second < m) es → n ≤ m → AreFrom m fs → AreFrom n (es ++ fs)
+AreFrom-append n m [] fs from below le next = AreFrom-weaker n m le fs next
+AreFrom-append n m (e ∷ es) fs from below le next =
+    let less = below.0 in
+    (from.0, AreFrom-append (suc e.second) m es fs from.1 below.1 (omega (arith, less)) next)
+
+before : (i n : ℕ) (e : Entry) (es : List Entry) → e.first ≡ i → e.second < n
+    → AllByRecursion (λ f. f.first ≡ i) es → AreFrom n es → Before e es
+before i n e [] first less firsts from = tt
+before i n e (f ∷ fs) first less firsts from =
+    let one = firsts.0 in
+    let up = from.0 in
+    (
+      omega (arith, first, one, up, less),
+      before i (suc f.second) e fs first (omega (arith, less, up)) firsts.1 from.1,
+    )
+
+-- entries of one first node whose second nodes ascend
+rises : (i n : ℕ) (es : List Entry) → AllByRecursion (λ e. e.first ≡ i) es → AreFrom n es → Rises es
+rises i n [] firsts from = tt
+rises i n (e ∷ es) firsts from = (
+  before i (suc e.second) e es firsts.0 (omega arith) firsts.1 from.1,
+  rises i (suc e.second) es firsts.1 from.1,
+)
+
+each : (P Q : Entry → Type 0) → ((e : Entry) → P e → Q e) → (es : List Entry)
+    → AllByRecursion P es → AllByRecursion Q es
+each P Q f [] all = tt
+each P Q f (e ∷ es) all = (f e all.0, each P Q f es all.1)
+
+together : (P : Entry → Type 0) (es fs : List Entry) → AllByRecursion P es → AllByRecursion P fs
+    → AllByRecursion P (es ++ fs)
+together P [] fs all more = more
+together P (e ∷ es) fs all more = (all.0, together P es fs all.1 more)
+
+-- ---- the couplers of a place with new nodes
+
+-- a coupler of a first node, with a second one below a number, that is not 0
+pub record IsGood (i m : ℕ) (e : Entry) : Type 0 where
+  pub first : e.first ≡ i
+  pub within : e.second < m
+  pub nonzero : IsNonzero e
+
+signed-nonzero : (l : Literal) (c : ℤ) → c ≢ pos 0 → signed l c ≢ pos 0
+signed-nonzero l c some = go l.negated
+  where
+    go : (b : Bool) → (if b then neg_ℤ c else c) ≢ pos 0
+    go true = λ z. some (omega (arith, ints, z))
+    go false = some
+
+turned-nonzero : (c : ℤ) (m : ℕ) → c ≢ pos 0 → 1 ≤ m → m ≤ 2 → neg_ℤ (c *ℤ pos m) ≢ pos 0
+turned-nonzero c zero some low le = absurd (omega arith)
+turned-nonzero c (suc zero) some low le = λ z. some (omega (arith, ints, z))
+turned-nonzero c (suc (suc zero)) some low le = λ z. some (omega (arith, ints, z))
+turned-nonzero c (suc (suc (suc m))) some low le = absurd (omega arith)
+
+good_nodes : (l : Literal) (d : ℕ) (c : ℤ) (n k : ℕ) → c ≢ pos 0
+    → AreFrom n (node_couplers l d c n k)
+    × AllByRecursion (IsGood l.variable (n + k)) (node_couplers l d c n k)
+good_nodes l d c n zero some = (tt, tt)
+good_nodes l d c n (suc k) some =
+    let rest = good_nodes l d c n k some in
+    let e = node_coupler l (neg_ℤ (c *ℤ pos (factor d k))) (n + k) in
+    let below = each (IsGood l.variable (n + k)) (λ f. f.second < n + k) (λ f h. h.within) (node_couplers l d c n k) rest.1 in
+    let more = each (IsGood l.variable (n + k)) (IsGood l.variable (n + suc k)) (λ f h. record { first = h.first; within = omega (arith, h.within); nonzero = h.nonzero }) (node_couplers l d c n k) rest.1 in
+    let good : IsGood l.variable (n + suc k) e = record {
+      first = refl;
+      within = omega arith;
+      nonzero = signed-nonzero l (neg_ℤ (c *ℤ pos (factor d k))) (turned-nonzero c (factor d k) some (factor-low d k) (factor-le d k));
+    } in
+    (
+      AreFrom-append n (n + k) (node_couplers l d c n k) (e ∷ []) rest.0 below (omega arith) (omega arith, tt),
+      together (IsGood l.variable (n + suc k)) (node_couplers l d c n k) (e ∷ []) more (good, tt),
+    )
+
+good_part : (p : Place) → p.coefficient ≢ pos 0
+    → AreFrom p.first_node (node_part p)
+    × AllByRecursion (IsGood p.literal.variable (p.first_node + place_nodes p)) (node_part p)
+good_part p some = go (int_lt p.coefficient (pos 0))
+  where
+    go : (negative : Bool)
+        → AreFrom p.first_node
+        (if negative
+        then node_coupler p.literal p.coefficient p.first_node ∷ []
+        else node_couplers p.literal p.degree p.coefficient p.first_node (nodes_for p.degree))
+        × AllByRecursion (IsGood p.literal.variable (p.first_node + (if negative then 1 else nodes_for p.degree)))
+        (if negative
+        then node_coupler p.literal p.coefficient p.first_node ∷ []
+        else node_couplers p.literal p.degree p.coefficient p.first_node (nodes_for p.degree))
+    go true = (
+      (omega arith, tt),
+      (
+        record {
+          first = refl;
+          within = omega arith;
+          nonzero = signed-nonzero p.literal p.coefficient some;
+        },
+        tt,
+      ),
+    )
+    go false = good_nodes p.literal p.degree p.coefficient p.first_node (nodes_for p.degree) some
+
+-- ---- the places of a variable
+
+-- a place of the variable, with later literals below a width
+pub record IsOwn (v w : ℕ) (p : Place) : Type 0 where
+  pub here : p.literal.variable ≡ v
+  pub above : IsBelow p.literal p.later
+  pub within : AllByRecursion (λ l. l.variable < w) p.later
+
+-- the places of a variable, whose new nodes are numbered from n on and below m
+pub record AreOwn (v w n m : ℕ) (ps : List Place) : Type 0 where
+  pub own : AllByRecursion (IsOwn v w) ps
+  pub nodes : AreFrom n (flat_map node_part ps)
+  pub good : AllByRecursion (IsGood v m) (flat_map node_part ps)
+
+-- what is kept of each term
+pub record IsKept (w : ℕ) (t : Term) : Type 0 where
+  pub set : IsTermSet w t.0
+  pub long : 3 ≤ length t.0
+  pub nonzero : t.1 ≢ pos 0
+
+pub own_places : (v w n m : ℕ) (ts : List Term) → AllByRecursion (IsKept w) ts
+    → n + sum_by new_nodes ts ≤ m → AreOwn v w n m (places_of v (all_places ts n))
+own_places v w n m [] kept le = record { own = tt; nodes = tt; good = tt }
+own_places v w n m (t ∷ ts) kept le =
+    subst (AreOwn v w n m) (sym (filter-append (is_at v) (term_places t n) (all_places ts (n + new_nodes t))))
+    (go (term_cases v 0 t.0 (length t.0) t.1 n (omega arith) (IsLiteralSet-ascends w t.0 kept.0.set.set))
+    (own_places v w (n + new_nodes t) m ts kept.1 (omega (arith, le, sum_by-cons new_nodes t ts))))
+  where
+    go : IsNone v 0 t.0 (length t.0) t.1 n ⊎ IsOnly v 0 t.0 (length t.0) t.1 n
+        → AreOwn v w (n + new_nodes t) m (places_of v (all_places ts (n + new_nodes t)))
+        → AreOwn v w n m (places_of v (term_places t n) ++ places_of v (all_places ts (n + new_nodes t)))
+    go (inl none) rest =
+        subst (λ ps. AreOwn v w n m (ps ++ places_of v (all_places ts (n + new_nodes t)))) (sym none.places)
+        (record {
+          own = rest.own;
+          nodes = AreFrom-weaker n (n + new_nodes t) (omega arith) (flat_map node_part (places_of v (all_places ts (n + new_nodes t)))) rest.nodes;
+          good = rest.good;
+        })
+    go (inr only) rest =
+        let p : Place = record { literal = only.literal; later = only.later; degree = length t.0; coefficient = t.1; first_node = n } in
+        let later = flat_map node_part (places_of v (all_places ts (n + new_nodes t))) in
+        let part = good_part p kept.0.nonzero in
+        let count : place_nodes p ≡ new_nodes t = sym (long_nodes t.0 t.1 kept.0.long) in
+        let end : n + new_nodes t ≤ m = omega (arith, le, sum_by-cons new_nodes t ts) in
+        let below = each (IsGood p.literal.variable (n + place_nodes p)) (λ e. e.second < n + new_nodes t) (λ e h. omega (arith, h.within, count)) (node_part p) part.1 in
+        let good = each (IsGood p.literal.variable (n + place_nodes p)) (IsGood v m) (λ e h. record { first = h.first ∙ only.here; within = omega (arith, h.within, count, end); nonzero = h.nonzero }) (node_part p) part.1 in
+        subst (λ ps. AreOwn v w n m (ps ++ places_of v (all_places ts (n + new_nodes t)))) (sym only.places)
+        (record {
+          own = (
+            record {
+              here = only.here;
+              above = only.above;
+              within = only.kept w (recursion_from_All (λ (l : Literal). l.variable < w) t.0 kept.0.set.set.within);
+            },
+            rest.own,
+          );
+          nodes = AreFrom-append n (n + new_nodes t) (node_part p) later part.0 below (omega arith) rest.nodes;
+          good = together (IsGood v m) (node_part p) later good rest.good;
+        })
+
+-- ---- what is summed
+
+-- a coupler of a first node, with a second one above it and below a width
+pub record IsUp (i w : ℕ) (e : Entry) : Type 0 where
+  pub first : e.first ≡ i
+  pub upward : i < e.second
+  pub within : e.second < w
+
+up_of_pairs : (i w : ℕ) (es : List Entry) → AllByRecursion (IsPair w) es
+    → AllByRecursion (IsUp i w) (row_of i es)
+up_of_pairs i w [] all = tt
+up_of_pairs i w (e ∷ es) all = go (eqb i e.first) (Decides-eqb i e.first) (up_of_pairs i w es all.1)
+  where
+    go : (here : Bool) → Decides here (i ≡ e.first) → AllByRecursion (IsUp i w) (row_of i es)
+        → AllByRecursion (IsUp i w) (cond here (e ∷ row_of i es) (row_of i es))
+    go true d rest =
+        let same = d.0 refl in
+        (
+          record {
+            first = sym same;
+            upward = omega (arith, same, all.0.upward);
+            within = all.0.within;
+          },
+          rest,
+        )
+    go false d rest = rest
+
+up_of_later : (i w : ℕ) (l : Literal) (c : ℤ) (ks : List Literal) → l.variable ≡ i → IsBelow l ks
+    → AllByRecursion (λ k. k.variable < w) ks → AllByRecursion (IsUp i w) (map (pair_coupler l c) ks)
+up_of_later i w l c [] here above within = tt
+up_of_later i w l c (k ∷ ks) here above within =
+    let less = above.0 in
+    (
+      record { first = here; upward = omega (arith, here, less); within = within.0 },
+      up_of_later i w l c ks here above.1 within.1,
+    )
+
+up_of_part : (i w : ℕ) (p : Place) → IsOwn i w p → AllByRecursion (IsUp i w) (pair_part p)
+up_of_part i w p own = go (int_lt p.coefficient (pos 0))
+  where
+    go : (negative : Bool)
+        → AllByRecursion (IsUp i w)
+        (if negative then [] else map (pair_coupler p.literal p.coefficient) p.later)
+    go true = tt
+    go false = up_of_later i w p.literal p.coefficient p.later own.here own.above own.within
+
+up_of_places : (i w : ℕ) (ps : List Place) → AllByRecursion (IsOwn i w) ps
+    → AllByRecursion (IsUp i w) (flat_map pair_part ps)
+up_of_places i w [] own = tt
+up_of_places i w (p ∷ ps) own =
+    together (IsUp i w) (pair_part p) (flat_map pair_part ps) (up_of_part i w p own.0)
+    (up_of_places i w ps own.1)
+
+of_up : (i w : ℕ) (es : List Entry) → AllByRecursion (IsUp i w) es → AreOf i w es
+of_up i w es up =
+    each (IsUp i w) (λ e. (e.first ≡ i) × (e.second < w)) (λ e h. (h.first, h.within)) es up
+
+weight_none : (i j w : ℕ) (es : List Entry) → AllByRecursion (IsUp i w) es → j ≤ i
+    → weight_at i j es ≡ pos 0
+weight_none i j w [] up le = refl
+weight_none i j w (e ∷ es) up le =
+    let above = up.0.upward in
+    let other : j ≢ e.second = λ z. omega (arith, z, above, le) in
+    let here : weight_for i j e ≡ pos 0 = go (eqb i e.first) (eqb j e.second) (Decides-eqb j e.second) other in
+    omega (arith, ints, here, weight_none i j w es up.1 le)
+  where
+    go : (a b : Bool) → Decides b (j ≡ e.second) → j ≢ e.second → if_so (a && b) e.weight ≡ pos 0
+    go a true d ne = absurd (ne (d.0 refl))
+    go true false d ne = refl
+    go false false d ne = refl
+
+value_of : (i j w : ℕ) (es fs : List Entry) → AllByRecursion (IsUp i w) es
+    → AllByRecursion (IsUp i w) fs
+    → get_or (with_entries (with_entries (replicate w (pos 0)) es) fs) j (pos 0)
+    ≡ weight_at i j es +ℤ weight_at i j fs
+value_of i j w es fs up more =
+    let zeros = replicate w (pos 0) in
+    let size : length zeros ≡ w = length-replicate w (pos 0) in
+    let next : length (with_entries zeros es) ≡ w = length-with_entries zeros es ∙ size in
+    let first = value-with_entries i j zeros es (subst (λ n. AreOf i n es) (sym size) (of_up i w es up)) in
+    let second = value-with_entries i j (with_entries zeros es) fs (subst (λ n. AreOf i n fs) (sym next) (of_up i w fs more)) in
+    omega (arith, ints, first, second, value-zeros w j)
+
+-- ---- the parts of places
+
+weight_parts : (i j : ℕ) (p : Place)
+    → weight_at i j (place_couplers p) ≡ weight_at i j (pair_part p) +ℤ weight_at i j (node_part p)
+weight_parts i j p = go (int_lt p.coefficient (pos 0))
+  where
+    one : List Entry
+    one = node_coupler p.literal p.coefficient p.first_node ∷ []
+
+    go : (negative : Bool)
+        → weight_at i j
+        (if negative
+        then node_coupler p.literal p.coefficient p.first_node ∷ []
+        else (
+        map (pair_coupler p.literal p.coefficient) p.later
+        ++ node_couplers p.literal p.degree p.coefficient p.first_node (nodes_for p.degree)
+        ))
+        ≡ weight_at i j (if negative then [] else map (pair_coupler p.literal p.coefficient) p.later)
+        +ℤ weight_at i j
+        (if negative
+        then node_coupler p.literal p.coefficient p.first_node ∷ []
+        else node_couplers p.literal p.degree p.coefficient p.first_node (nodes_for p.degree))
+    go true = omega (arith, ints)
+    go false =
+        total_by-append (weight_for i j) (map (pair_coupler p.literal p.coefficient) p.later)
+        (node_couplers p.literal p.degree p.coefficient p.first_node (nodes_for p.degree))
+
+weight_split : (i j : ℕ) (ps : List Place)
+    → weight_at i j (flat_map place_couplers ps)
+    ≡ weight_at i j (flat_map pair_part ps) +ℤ weight_at i j (flat_map node_part ps)
+weight_split i j [] = refl
+weight_split i j (p ∷ ps) =
+    omega (
+      arith,
+      ints,
+      total_by-append (weight_for i j) (place_couplers p) (flat_map place_couplers ps),
+      total_by-append (weight_for i j) (pair_part p) (flat_map pair_part ps),
+      total_by-append (weight_for i j) (node_part p) (flat_map node_part ps),
+      weight_parts i j p,
+      weight_split i j ps,
+    )
+
+-- ---- a row
+
+both : (P Q : Entry → Type 0) (es : List Entry) → AllByRecursion P es → AllByRecursion Q es
+    → AllByRecursion (λ e. P e × Q e) es
+both P Q [] p q = tt
+both P Q (e ∷ es) p q = ((p.0, q.0), both P Q es p.1 q.1)
+
+pub kept_of : (t : TableContent) → AreLong t → AllByRecursion (IsKept t.width) t.terms
+kept_of t kept =
+    go t.terms
+    (recursion_from_All (λ (u : Term). IsTermSet t.width u.0) t.terms kept.terms.sets)
+    (recursion_from_All (λ (u : Term). 3 ≤ length u.0) t.terms kept.long)
+    (recursion_from_All (λ (u : Term). u.1 ≢ pos 0) t.terms kept.terms.nonzero)
+  where
+    go : (ts : List Term) → AllByRecursion (λ (u : Term). IsTermSet t.width u.0) ts
+        → AllByRecursion (λ (u : Term). 3 ≤ length u.0) ts
+        → AllByRecursion (λ (u : Term). u.1 ≢ pos 0) ts → AllByRecursion (IsKept t.width) ts
+    go [] sets long some = tt
+    go (u ∷ us) sets long some =
+        (record { set = sets.0; long = long.0; nonzero = some.0 }, go us sets.1 long.1 some.1)
+
+-- couplers with new nodes, which are above all variables
+each_good : (i w m : ℕ) (ps : List Place) → i < w → AreOwn i w w m ps
+    → AllByRecursion (IsCoupler m) (flat_map node_part ps)
+each_good i w m ps in' own = go w (flat_map node_part ps) (omega arith) own.nodes own.good
+  where
+    go : (n : ℕ) (es : List Entry) → w ≤ n → AreFrom n es → AllByRecursion (IsGood i m) es
+        → AllByRecursion (IsCoupler m) es
+    go n [] le from good = tt
+    go n (e ∷ es) le from good =
+        let one = from.0 in
+        (
+          record {
+            upward = omega (arith, one, le, in', good.0.first);
+            within = good.0.within;
+            nonzero = good.0.nonzero;
+          },
+          go (suc e.second) es (omega (arith, one, le)) from.1 good.1,
+        )
+
+pub row_is : (t : TableContent) (pairs : List Entry) (i : ℕ) (row : List Entry) → AreLong t
+    → All (IsPair t.width) pairs → i < t.width
+    → AreSums i
+    (with_entries (with_entries (replicate t.width (pos 0)) (row_of i pairs))
+    (flat_map pair_part (places_of i (all_places t.terms t.width)))) row
+    → IsRow (node_count t) i (pairs ++ flat_map place_couplers (all_places t.terms t.width))
+    (row ++ flat_map node_part (places_of i (all_places t.terms t.width)))
+row_is t pairs i row kept all in' h =
+    let w = t.width in
+    let m = node_count t in
+    let every = all_places t.terms w in
+    let ps = places_of i every in
+    let es = row_of i pairs in
+    let fs = flat_map pair_part ps in
+    let nodes = flat_map node_part ps in
+    let sums = with_entries (with_entries (replicate w (pos 0)) es) fs in
+    let own = own_places i w w m t.terms (kept_of t kept) (omega arith) in
+    let up = up_of_pairs i w pairs (recursion_from_All (IsPair w) pairs all) in
+    let more = up_of_places i w ps own.own in
+    let value : (j : ℕ) → get_or sums j (pos 0) ≡ weight_at i j es +ℤ weight_at i j fs = λ j. value_of i j w es fs up more in
+    let size : length sums ≡ w =
+    length-with_entries (with_entries (replicate w (pos 0)) es) fs ∙ length-with_entries (replicate w (pos 0)) es ∙ length-replicate w (pos 0) in
+    let firsts = recursion_from_All (λ (e : Entry). e.first ≡ i) row h.firsts in
+    let below = recursion_from_All (λ (e : Entry). e.second < length sums) row h.within in
+    let some = recursion_from_All IsNonzero row h.nonzero in
+    let weights = recursion_from_All (λ (e : Entry). e.weight ≡ get_or sums e.second (pos 0)) row h.weights in
+    let facts = both (λ (e : Entry). (e.first ≡ i) × (e.second < length sums)) (λ (e : Entry). IsNonzero e × (e.weight ≡ get_or sums e.second (pos 0))) row
+    (both (λ (e : Entry). e.first ≡ i) (λ (e : Entry). e.second < length sums) row firsts below)
+    (both IsNonzero (λ (e : Entry). e.weight ≡ get_or sums e.second (pos 0)) row some weights) in
+    let couplers : AllByRecursion (IsCoupler m) row =
+    each (λ (e : Entry). ((e.first ≡ i) × (e.second < length sums)) × (IsNonzero e × (e.weight ≡ get_or sums e.second (pos 0)))) (IsCoupler m)
+    (λ e f. record {
+      upward =
+          elim (cases_lt i e.second) [
+            | inl lt ↦ omega (arith, lt, f.0.0)
+            | inr le ↦
+                absurd (f.1.0 (let a = weight_none i e.second w es up le in let b = weight_none i e.second w fs more le in omega (arith, ints, f.1.1, value e.second, a, b)))
+          ];
+      within = omega (arith, f.0.1, size);
+      nonzero = f.1.0;
+    })
+    row facts in
+    let others : AllByRecursion (IsCoupler m) nodes =
+    each_good i w m ps in' own in
+    let whole = together (IsCoupler m) row nodes couplers others in
+    let ones = together (λ (e : Entry). e.first ≡ i) row nodes firsts (each (IsGood i m) (λ (e : Entry). e.first ≡ i) (λ e g. g.first) nodes own.good) in
+    let inside = each (λ (e : Entry). e.second < length sums) (λ (e : Entry). e.second < w) (λ e f. omega (arith, f, size)) row below in
+    record {
+      first = All-from_recursion (λ (e : Entry). e.first ≡ i) (row ++ nodes) ones;
+      ordered =
+          ordered_from_rising (row ++ nodes) (couplers_are_pairs m (row ++ nodes) kept.narrow whole)
+          (rises i 0 (row ++ nodes) ones (AreFrom-append 0 w row nodes h.ascending inside (omega arith) own.nodes));
+      couplers = All-from_recursion (IsCoupler m) (row ++ nodes) whole;
+      sums = λ j.
+      omega (
+        arith,
+        ints,
+        total_by-append (weight_for i j) row nodes,
+        total_by-append (weight_for i j) pairs (flat_map place_couplers every),
+        h.totals j,
+        value j,
+        weight-row i j pairs,
+        places_make_rows i j every,
+        weight_split i j ps,
+      );
+    }

@@ -1,0 +1,51 @@
+use Rattle.std.proofs.Common.{◌≡◌, ◌≢◌, ◌<◌, ◌+◌, ◌++◌, pos, ℤ, ℕ, List, [], ◌∷◌, length, get_or, set, drop, sym, ap, ◌∙◌, refl, subst, append-nil, arith, rules, to_z, of_z}
+use Rattle.std.specs.Int.{w128}
+use Rattle.std.proofs.lemmas.Int.{ints, to_z-of_z}
+use Rattle.std.proofs.lemmas.List.{drop_more, drop_all, get_or_default}
+use Rattle.bits_model.specs.declared.output.Entry.{Entry}
+use Rattle.direct_quad.specs.RowSums.{taken, emptied}
+use Rattle.direct_quad.proofs.SummedRows.{entry_at, kept-emptied_one, taken_zero, taken_one}
+use Rattle.direct_quad.proofs.accumulator.take_sums.Goals as goal
+use Rattle.direct_quad.proofs.accumulator.take_sums.Goals.{then-sum-ne0+in_ok-push, else-sum-ne0}
+
+pub loop-index-init : goal.loop-index-init
+loop-index-init c = record { couplers = refl; sums = refl; kept = λ i there. there }
+
+pub loop-index-preserved : goal.loop-index-preserved
+loop-index-preserved c =
+    let first = c.args.first in
+    let js = c.args.indices.now in
+    let i = c.loop-index.index-index in
+    let j = get_or js i 0 in
+    let sums = c.loop-index.sums in
+    let more : drop i js ≡ j ∷ drop (i + 1) js = drop_more js i 0 c.loop-index-test.true in
+    let couplers = ap (λ ks. c.loop-index.couplers ++ taken first sums ks) (sym more) ∙ c.loop-index.invariant.couplers in
+    let left = ap (λ ks. emptied sums ks) (sym more) ∙ c.loop-index.invariant.sums in
+    elim c.if-sum-ne0.branch [
+      | then-sum-ne0+in_ok-push w ↦
+          let pushed : c.if-sum-ne0.couplers ≡ c.loop-index.couplers ++ entry_at first sums j ∷ [] =
+          w.couplers-is ∙ w.in_ok-push.ensures.pushed
+          ∙ (λ k. c.loop-index.couplers ++ record { first = first; second = j; weight = to_z-of_z w128 (get_or sums j (pos 0)) (search rules) k } ∷ []) in
+          record {
+            couplers = ap (λ es. es ++ taken first (set sums j (pos 0)) (drop (i + 1) js)) pushed ∙ sym (taken_one first sums j (drop (i + 1) js) c.loop-index.couplers (λ z. w.if-sum-ne0.true (ap (of_z w128) z))) ∙ couplers;
+            sums = left;
+            kept = λ i there. c.loop-index.invariant.kept i (kept-emptied_one sums i j there);
+          }
+      | else-sum-ne0 w ↦ record {
+          couplers = ap (λ es. es ++ taken first (set sums j (pos 0)) (drop (i + 1) js)) w.couplers-is ∙ sym (taken_zero first sums j (drop (i + 1) js) c.loop-index.couplers (let none : get_or sums j (pos 0) ≡ pos 0 = omega (arith, ints, w.if-sum-ne0.false) in none)) ∙ couplers;
+          sums = left;
+          kept = λ i there. c.loop-index.invariant.kept i (kept-emptied_one sums i j there);
+        }
+    ]
+
+pub returns-clause-taken : goal.returns-clause-taken
+returns-clause-taken c =
+    sym (ap (λ ks. c.loop-index.couplers ++ taken c.args.first c.loop-index.sums ks)
+    (drop_all c.loop-index.index-index c.args.indices.now c.loop-index-test.false) ∙ append-nil c.loop-index.couplers)
+    ∙ c.loop-index.invariant.couplers
+
+pub returns-clause-emptied : goal.returns-clause-emptied
+returns-clause-emptied c =
+    sym (ap (λ ks. emptied c.loop-index.sums ks)
+    (drop_all c.loop-index.index-index c.args.indices.now c.loop-index-test.false))
+    ∙ c.loop-index.invariant.sums

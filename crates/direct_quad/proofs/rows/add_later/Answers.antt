@@ -1,0 +1,65 @@
+use Rattle.std.proofs.Common.{◌≡◌, ◌<◌, ◌≤◌, ◌+◌, ◌^◌, ◌∷◌, [], List, ℕ, ℤ, length, map, pos, sym, ap, ◌∙◌, refl, subst, arith, rules, to_z, of_z, unsigned_abs}
+use Rattle.std.specs.Prelude.{All}
+use Rattle.std.specs.Int.{w128}
+use Rattle.std.proofs.lemmas.Int.{ints, to_z-of_z}
+use Rattle.std.proofs.lemmas.Map.Iter.{rest_more, rest_all}
+use Rattle.std.proofs.lemmas.List.Elements.{All-rest, All-head}
+use Rattle.bits_model.specs.declared.output.Entry.{Entry}
+use Rattle.bits_model.specs.Output.{weight_total}
+use Rattle.problem_form.specs.declared.literal.Literal.{Literal}
+use Rattle.direct_quad.specs.Places.{signed, pair_coupler}
+use Rattle.direct_quad.specs.RowSums.{with_weight, with_entries, size_of}
+use Rattle.direct_quad.proofs.SummedRows.{length-with_weight}
+use Rattle.direct_quad.proofs.KeyLists.{added_size, first_size, signed_comm, size-signed}
+use Rattle.direct_quad.proofs.rows.add_later.Goals as goal
+
+pub add-requires-clause-small : goal.add-requires-clause-small
+add-requires-clause-small c =
+    let l = c.args.literal in
+    let k = c.args.coefficient in
+    let e = pair_coupler l k c.in-Some.other in
+    let back = to_z-of_z w128 k c.ranges.coefficient in
+    let small = rw back at c.loop-other.invariant.small in
+    let left = rest_more _ c.loop-other.other-iterator c.next.new.self c.next.result c.in-Some.other c.in-Some.is c.next.ensures.steps in
+    let first = first_size (size_of c.loop-other.sums) e (map (pair_coupler l k) c.next.new.self) (2 ^ 126)
+    (subst (λ (ls : List Literal). size_of c.loop-other.sums + weight_total (map (pair_coupler l k) ls) ≤ 2 ^ 126) left small) in
+    let weighs : c.signed.result ≡ e.weight =
+    c.signed.ensures ∙ ap (signed c.in-Some.other) (to_z-of_z w128 c.signed-weight.result (search rules) ∙ c.signed-weight.ensures ∙ ap (signed l) back) ∙ signed_comm l c.in-Some.other k in
+    let same = to_z-of_z w128 c.signed.result (search rules) in
+    rw (same, weighs) first
+
+pub loop-other-preserved : goal.loop-other-preserved
+loop-other-preserved c =
+    let l = c.args.literal in
+    let k = c.args.coefficient in
+    let e = pair_coupler l k c.in-Some.other in
+    let sums = c.loop-other.sums in
+    let rest = map (pair_coupler l k) c.next.new.self in
+    let back = to_z-of_z w128 k c.ranges.coefficient in
+    let small = rw back at c.loop-other.invariant.small in
+    let whole = rw back at c.loop-other.invariant.whole in
+    let left = rest_more _ c.loop-other.other-iterator c.next.new.self c.next.result c.in-Some.other c.in-Some.is c.next.ensures.steps in
+    let weighs : to_z w128 (of_z w128 c.signed.result) ≡ e.weight =
+    to_z-of_z w128 c.signed.result (search rules) ∙ c.signed.ensures ∙ ap (signed c.in-Some.other) (to_z-of_z w128 c.signed-weight.result (search rules) ∙ c.signed-weight.ensures ∙ ap (signed l) back) ∙ signed_comm l c.in-Some.other k in
+    let made : c.add.new.self ≡ with_weight sums e.second e.weight = c.in_ok-add.ensures ∙ ap (with_weight sums e.second) weighs in
+    let P : Literal → Type 0 = λ m. m.variable < length c.args.sums.now in
+    let in' : P c.in-Some.other = All-head P _ _ (subst (λ (ls : List Literal). All P ls) left c.loop-other.invariant.within) in
+    let size : length sums ≡ length c.args.sums.now = c.loop-other.invariant.width in
+    rw back (record {
+      whole = ap (λ ss. with_entries ss rest) made ∙ ap (λ ls. with_entries sums (map (pair_coupler l k) ls)) (sym left) ∙ whole;
+      width = ap length made ∙ length-with_weight sums e.second e.weight ∙ size;
+      within = All-rest P _ _ _ left c.loop-other.invariant.within;
+      small =
+          added_size sums c.add.new.self e rest (2 ^ 126) (omega (arith, in', size)) made
+          (subst (λ (ls : List Literal). size_of sums + weight_total (map (pair_coupler l k) ls) ≤ 2 ^ 126) left small);
+    })
+
+pub returns : goal.returns
+returns c =
+    let l = c.args.literal in
+    let k = c.args.coefficient in
+    let back = to_z-of_z w128 k c.ranges.coefficient in
+    let items : c.into_iter-other-iterator.result ≡ c.args.later = search rules in
+    let whole = rw back at c.loop-other.invariant.whole in
+    sym (ap (λ ls. with_entries c.loop-other.sums (map (pair_coupler l k) ls)) c.in-None.ensures.steps.0) ∙ whole
+    ∙ ap (λ ls. with_entries c.args.sums.now (map (pair_coupler l k) ls)) items

@@ -1,0 +1,19 @@
+use Rattle.std.proofs.Common.{◌≡◌, ◌+◌, ◌≤◌, ◌^◌, length, drop}
+use Rattle.std.specs.List.{flat_map}
+use Rattle.bits_model.specs.Output.{weight_total}
+use Rattle.direct_quad.specs.Keys.{places_at}
+use Rattle.direct_quad.specs.RowSums.{with_entries, size_of, pair_part}
+use Rattle.direct_quad.proofs.rows.add_places.Given as goal
+
+-- the places that are left make the sums those of all, and stay small
+abbrev pub invariant-loop-key : goal.invariant-loop-key
+invariant-loop-key l = record {
+  whole :
+      with_entries l.sums (flat_map pair_part (places_at l.long l.variable (drop l.key-index l.keys)))
+      ≡ with_entries l.initial.sums (flat_map pair_part (places_at l.long l.variable l.keys));
+  width : length l.sums ≡ l.long.width;
+  small :
+      size_of l.sums
+      + weight_total (flat_map pair_part (places_at l.long l.variable (drop l.key-index l.keys)))
+      ≤ 2 ^ 126;
+}

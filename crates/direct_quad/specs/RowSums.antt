@@ -1,0 +1,85 @@
+-- The weights of one row, summed in a place for each second node.
+--
+-- See Gustavson, Two fast algorithms for sparse matrices: multiplication and permuted transposition
+-- (1978).
+use Rattle.std.specs.Prelude.{◌≡◌, ◌≢◌, ℕ, suc, ◌≤◌, ◌<◌, ◌^◌, ◌+◌, ℤ, pos, ◌+ℤ◌, unsigned_abs, int_lt, List, [], ◌∷◌, ◌++◌, map, length, fold, slice_set, All, Contains, ⊤, if◌then◌else◌}
+use Rattle.std.specs.List.{slice_index_or, sum_by}
+use Rattle.bits_model.specs.declared.output.Entry.{Entry}
+use Rattle.quad_form.specs.Pairs.{weight_at, IsNonzero, entry_in_front}
+use Rattle.monomial_layer.specs.Monomials.{nodes_for}
+use Rattle.direct_quad.specs.Places.{Place, pair_coupler, node_coupler, node_couplers}
+
+-- a weight added to that of a second node
+abbrev pub with_weight : List ℤ → ℕ → ℤ → List ℤ
+with_weight sums j c = slice_set sums j (slice_index_or sums j (pos 0) +ℤ c)
+
+-- the weights of entries added, each to that of its second node
+abbrev pub with_entries : List ℤ → List Entry → List ℤ
+with_entries sums es = fold (λ s e. with_weight s e.second e.weight) sums es
+
+-- the sum of the sizes
+abbrev pub size_of : List ℤ → ℕ
+size_of sums = sum_by unsigned_abs sums
+
+-- a list has each index whose sum is not 0, and no index past the end
+pub record AreTouched (sums : List ℤ) (touched : List ℕ) : Type 0 where
+  pub all : (i : ℕ) → slice_index_or sums i (pos 0) ≢ pos 0 → Contains touched i
+  pub within : All (λ i. i < length sums) touched
+  pub narrow : length sums ≤ 2 ^ 32
+
+-- the second nodes ascend, from n on
+abbrev pub AreFrom : ℕ → List Entry → Type 0
+AreFrom n [] = ⊤
+AreFrom n (e ∷ es) = (n ≤ e.second) × AreFrom (suc e.second) es
+
+-- the entries of a first node, in order, one for each sum that is not 0
+pub record AreSums (first : ℕ) (sums : List ℤ) (row : List Entry) : Type 0 where
+  pub firsts : All (λ e. e.first ≡ first) row
+  pub ascending : AreFrom 0 row
+  pub within : All (λ e. e.second < length sums) row
+  pub nonzero : All IsNonzero row
+  pub weights : All (λ e. e.weight ≡ slice_index_or sums e.second (pos 0)) row
+  pub totals : (j : ℕ) → weight_at first j row ≡ slice_index_or sums j (pos 0)
+
+-- such entries appended
+pub record Appends (first : ℕ) (sums : List ℤ) (old new : List Entry) : Type 0 where
+  pub row : List Entry
+  pub appended : new ≡ old ++ row
+  pub summed : AreSums first sums row
+
+-- such entries of added ones appended, and then others
+pub record AppendsBoth (first : ℕ) (sums : List ℤ) (others old new : List Entry) : Type 0 where
+  pub row : List Entry
+  pub appended : new ≡ (old ++ row) ++ others
+  pub summed : AreSums first sums row
+
+-- ---- sums taken one by one
+
+-- the entries of the sums at these indices: a sum that was taken is 0 from then on, and has no entry
+abbrev pub taken : ℕ → List ℤ → List ℕ → List Entry
+taken first sums [] = []
+taken first sums (j ∷ js) =
+    entry_in_front
+    (record { first = first; second = j; weight = slice_index_or sums j (pos 0) })
+    (taken first (slice_set sums j (pos 0)) js)
+
+-- the sums after that
+abbrev pub emptied : List ℤ → List ℕ → List ℤ
+emptied sums [] = sums
+emptied sums (j ∷ js) = emptied (slice_set sums j (pos 0)) js
+
+-- ---- the couplers of a place, apart
+
+-- those with the literals after it
+abbrev pub pair_part : Place → List Entry
+pair_part p =
+    if int_lt p.coefficient (pos 0)
+    then []
+    else map (pair_coupler p.literal p.coefficient) p.later
+
+-- those with new nodes
+abbrev pub node_part : Place → List Entry
+node_part p =
+    if int_lt p.coefficient (pos 0)
+    then node_coupler p.literal p.coefficient p.first_node ∷ []
+    else node_couplers p.literal p.degree p.coefficient p.first_node (nodes_for p.degree)

@@ -1,0 +1,311 @@
+//! Couplers row by row.
+//!
+//! Pairs and places are sorted by their variables. For each variable its pairs, and the couplers of
+//! its places with later literals, are summed: that is the first part of its row. Those with new
+//! nodes follow: they are in order, since new nodes are numbered after all variables, in the order
+//! of the terms. See Gustavson, Two fast algorithms for sparse matrices: multiplication and permuted
+//! transposition (1978).
+ghost use Rattle.std.specs.Prelude.{◌≡◌, ◌+◌, ◌*◌, ◌/◌, ◌%◌, ◌≤◌, ◌<◌, ◌^◌, ◌++◌, All, IfOk, OnOk, length, map, pos, replicate, take, unsigned_abs, ℕ, ◌≢◌, IsTrue, ◌∷◌, []};
+ghost use Rattle.std.specs.List.{flat_map, slice_index_or};
+ghost use Rattle.bits_model.specs.Output.{weight_total};
+ghost use Rattle.problem_form.specs.declared.literal.Literal.{Literal};
+ghost use Rattle.term_table.specs.Terms.{terms_total};
+ghost use Rattle.quad_form.specs.Pairs.{IsPair};
+ghost use Rattle.monomial_layer.specs.Monomials.{nodes_for};
+ghost use Rattle.direct_quad.specs.Places.{pair_coupler, node_couplers, place_couplers, all_places};
+ghost use Rattle.direct_quad.specs.Rows.{AreRows};
+ghost use Rattle.direct_quad.specs.Long.{node_count, place_nodes};
+ghost use Rattle.direct_quad.specs.RowSums.{with_entries, size_of, pair_part, node_part, AppendsBoth};
+ghost use Rattle.direct_quad.specs.Keys.{index_of, keys_of, pair_keys, place_keys, literal_keys, pair_at, places_at, AreOrdered, AreKeysFrom, IsPlaceKey};
+
+use crate::accumulator::Accumulator;
+use crate::long_table::{LongTable, PlaceRef};
+use crate::new_nodes::{factor, nodes_for, signed};
+use crate::pairs::Pairs;
+use bits_model::{CouplerList, NoMemory};
+use problem_form::{Literal, Literals};
+use std::alloc::Global;
+
+/// Indices are below it, and a key has its variable times it.
+const INDEX_LIMIT: u64 = 1 << 32;
+
+/// The number by which an index at a variable is sorted.
+fn key_of(variable: u64, index: usize) -> u64
+    requires variable { variable < 2 ^ 32 }
+    requires index { index < 2 ^ 32 }
+    ensures { result ≡ variable * 2 ^ 32 + index }
+{
+    variable * INDEX_LIMIT + index as u64
+}
+
+/// The index of a key.
+fn index_of(key: u64) -> usize
+    ensures { result ≡ index_of key }
+{
+    (key % INDEX_LIMIT) as usize
+}
+
+/// The keys of pairs, in the order of the pairs.
+fn keys_of_pairs(alloc: Global, pairs: &Pairs) -> Result<Vec<u64>, NoMemory>
+    ensures keys { IfOk result (λ keys. keys.items ≡ pair_keys 0 pairs.now) }
+    ensures narrow { IfOk result (λ _. length pairs.now < 2 ^ 32) }
+{
+    let mut keys = Vec::with_capacity(alloc, pairs.len())?;
+    for i in 0..pairs.len() {
+        keys.push(key_of(u64::from(pairs.at(i).first), i))?;
+    }
+    Ok(keys)
+}
+
+/// Appends the keys of the literals of a term.
+fn push_literal_keys(keys: &mut Vec<u64>, literals: Literals, index: usize) -> Result<(), NoMemory>
+    requires within { All (λ l. l.variable < 2 ^ 32) literals }
+    requires index { index < 2 ^ 32 }
+    ensures { OnOk result (keys.new.items ≡ keys.old.items ++ literal_keys index literals.entry) }
+{
+    for literal in literals {
+        keys.push(key_of(literal.variable, index))?;
+    }
+    Ok(())
+}
+
+/// The keys of places, in the order of the terms.
+fn keys_of_places(alloc: Global, long: &LongTable) -> Result<Vec<u64>, NoMemory>
+    ensures { IfOk result (λ keys. keys.items ≡ place_keys 0 long.now.terms) }
+{
+    let mut keys = Vec::new(alloc);
+    for i in 0..long.len() {
+        push_literal_keys(&mut keys, long.at(i).literals, i)?;
+    }
+    Ok(keys)
+}
+
+/// Keys in order.
+fn ordered(mut keys: Vec<u64>) -> Vec<u64>
+    ensures { AreOrdered keys.items result.items }
+{
+    keys.sort_unstable();
+    keys
+}
+
+/// How many keys in front are those of a variable.
+fn count_of(keys: &[u64], variable: u64) -> usize
+    ensures within { result ≤ length keys.now }
+    ensures own { All (λ k. k / 2 ^ 32 ≡ variable) (take result keys.now) }
+    ensures other { result < length keys.now
+        → slice_index_or keys.now result 0 / 2 ^ 32 ≢ variable }
+{
+    for (i, key) in keys.iter().enumerate() {
+        if *key / INDEX_LIMIT != variable {
+            return i;
+        }
+    }
+    keys.len()
+}
+
+/// The keys of a variable, and those of the variables after it.
+fn split_keys(keys: &[u64], variable: u64) -> (&[u64], &[u64])
+    requires { AreKeysFrom variable keys.now }
+    ensures own { result.0.now ≡ keys_of variable keys.now }
+    ensures later { AreKeysFrom (variable + 1) result.1.now }
+    ensures same { (v : ℕ) → variable < v → keys_of v result.1.now ≡ keys_of v keys.now }
+{
+    let count = count_of(keys, variable);
+    (&keys[..count], &keys[count..])
+}
+
+/// Adds the weights of the pairs of keys.
+fn add_pairs(sums: &mut Accumulator, pairs: &Pairs, keys: &[u64]) -> Result<(), NoMemory>
+    requires within { All (λ k. index_of k < length pairs.now) keys.now }
+    requires seconds { All (λ e. e.second < length sums.old) pairs.now }
+    requires small { size_of sums.old + weight_total (map (pair_at pairs.now) keys.now) ≤ 2 ^ 126 }
+    ensures { OnOk result (sums.new ≡ with_entries sums.old (map (pair_at pairs.now) keys.now)) }
+{
+    for key in keys {
+        let pair = pairs.at(index_of(*key));
+        sums.add(pair.second, pair.weight)?;
+    }
+    Ok(())
+}
+
+/// Adds the weights of the couplers of a literal with later ones.
+fn add_later(
+    sums: &mut Accumulator,
+    literal: Literal,
+    coefficient: i128,
+    later: Literals<'_>,
+) -> Result<(), NoMemory>
+    requires narrow { length sums.old ≤ 2 ^ 32 }
+    requires within { All (λ l. l.variable < length sums.old) later }
+    requires coefficient { unsigned_abs coefficient ≤ 2 ^ 124 }
+    requires small { size_of sums.old
+        + weight_total (map (pair_coupler literal coefficient) later) ≤ 2 ^ 126 }
+    ensures { OnOk result (sums.new
+        ≡ with_entries sums.old (map (pair_coupler literal coefficient) later.entry)) }
+{
+    let weight = signed(literal, coefficient);
+    for other in later {
+        sums.add(other.variable as u32, signed(other, weight))?;
+    }
+    Ok(())
+}
+
+/// Adds the weights of a place's couplers with later literals.
+fn add_place(sums: &mut Accumulator, place: PlaceRef<'_>) -> Result<(), NoMemory>
+    requires narrow { length sums.old ≤ 2 ^ 32 }
+    requires within { All (λ l. l.variable < length sums.old) place.later }
+    requires coefficient { unsigned_abs place.coefficient ≤ 2 ^ 124 }
+    requires small { size_of sums.old + weight_total (pair_part place) ≤ 2 ^ 126 }
+    ensures { OnOk result (sums.new ≡ with_entries sums.old (pair_part place.entry)) }
+{
+    let PlaceRef {
+        literal,
+        later,
+        coefficient,
+        ..
+    } = place;
+    if coefficient < 0 {
+        return Ok(());
+    }
+    add_later(sums, literal, coefficient, later)
+}
+
+/// Adds the weights of places' couplers with later literals.
+fn add_places(
+    sums: &mut Accumulator,
+    long: &LongTable,
+    variable: u64,
+    keys: &[u64],
+) -> Result<(), NoMemory>
+    requires width { length sums.old ≡ long.now.width }
+    requires narrow { long.now.width ≤ 2 ^ 32 }
+    requires keys { All (IsPlaceKey long.now variable) keys.now }
+    requires small { size_of sums.old
+        + weight_total (flat_map pair_part (places_at long.now variable keys.now)) ≤ 2 ^ 126 }
+    ensures { OnOk result (sums.new
+        ≡ with_entries sums.old (flat_map pair_part (places_at long.now variable keys.now))) }
+{
+    for key in keys {
+        add_place(sums, long.place(variable, index_of(*key)))?;
+    }
+    Ok(())
+}
+
+/// Appends the couplers of a literal with the new nodes of its term, which is positive.
+fn push_nodes(
+    couplers: &mut CouplerList,
+    literal: Literal,
+    degree: usize,
+    coefficient: i128,
+    first_node: u32,
+) -> Result<(), NoMemory>
+    requires variable { literal.variable < 2 ^ 32 }
+    requires nodes { first_node + nodes_for degree ≤ 2 ^ 32 }
+    requires small { unsigned_abs coefficient ≤ 2 ^ 124 }
+    ensures { OnOk result (couplers.new ≡ couplers.old
+        ++ node_couplers literal degree coefficient first_node (nodes_for degree)) }
+{
+    let first = literal.variable as u32;
+    for k in 0..nodes_for(degree) {
+        let weight = signed(literal, -(coefficient * factor(degree, k)));
+        couplers.push(first, first_node + k as u32, weight)?;
+    }
+    Ok(())
+}
+
+/// Appends the couplers of a place with new nodes.
+fn push_place(couplers: &mut CouplerList, place: PlaceRef<'_>) -> Result<(), NoMemory>
+    requires variable { place.literal.variable < 2 ^ 32 }
+    requires nodes { place.first_node + place_nodes place ≤ 2 ^ 32 }
+    requires small { unsigned_abs place.coefficient ≤ 2 ^ 124 }
+    ensures { OnOk result (couplers.new ≡ couplers.old ++ node_part place.entry) }
+{
+    let PlaceRef {
+        literal,
+        degree,
+        coefficient,
+        first_node,
+        ..
+    } = place;
+    if coefficient < 0 {
+        let first = literal.variable as u32;
+        return couplers.push(first, first_node, signed(literal, coefficient));
+    }
+    push_nodes(couplers, literal, degree, coefficient, first_node)
+}
+
+/// Appends the couplers of places with new nodes.
+fn push_all_nodes(
+    couplers: &mut CouplerList,
+    long: &LongTable,
+    variable: u64,
+    keys: &[u64],
+) -> Result<(), NoMemory>
+    requires narrow { node_count long.now ≤ 2 ^ 32 }
+    requires keys { All (IsPlaceKey long.now variable) keys.now }
+    ensures { OnOk result (couplers.new
+        ≡ couplers.old ++ flat_map node_part (places_at long.now variable keys.now)) }
+{
+    for key in keys {
+        push_place(couplers, long.place(variable, index_of(*key)))?;
+    }
+    Ok(())
+}
+
+/// Appends the row of a variable. All sums are 0 before and afterwards.
+fn push_row(
+    couplers: &mut CouplerList,
+    sums: &mut Accumulator,
+    pairs: &Pairs,
+    long: &LongTable,
+    variable: u64,
+    pair_keys: &[u64],
+    place_keys: &[u64],
+) -> Result<(), NoMemory>
+    requires zeros { sums.old ≡ replicate long.now.width (pos 0) }
+    requires variable { variable < long.now.width }
+    requires narrow { node_count long.now ≤ 2 ^ 32 }
+    requires pairs { All (IsPair long.now.width) pairs.now }
+    requires pair_keys { All (λ k. index_of k < length pairs.now) pair_keys.now }
+    requires place_keys { All (IsPlaceKey long.now variable) place_keys.now }
+    requires small { weight_total (map (pair_at pairs.now) pair_keys.now)
+        + weight_total (flat_map pair_part (places_at long.now variable place_keys.now))
+        ≤ 2 ^ 126 }
+    ensures row { OnOk result (AppendsBoth variable
+        (with_entries (with_entries sums.old (map (pair_at pairs.now) pair_keys.now))
+        (flat_map pair_part (places_at long.now variable place_keys.now)))
+        (flat_map node_part (places_at long.now variable place_keys.now))
+        couplers.old couplers.new) }
+    ensures zeros { OnOk result (sums.new ≡ sums.old) }
+{
+    add_pairs(sums, pairs, pair_keys)?;
+    add_places(sums, long, variable, place_keys)?;
+    sums.put_into(couplers, variable as u32)?;
+    push_all_nodes(couplers, long, variable, place_keys)?;
+    Ok(())
+}
+
+/// The couplers of pairs and of long terms, in order. Each pair of nodes has one, with the sum of
+/// what all give it, or none where the sum is 0.
+pub fn couplers_of(alloc: Global, pairs: &Pairs, long: &LongTable) -> Result<CouplerList, NoMemory>
+    requires pairs { All (IsPair long.now.width) pairs.now }
+    requires small { weight_total pairs.now + terms_total long.now.terms * 2 ^ 24 ≤ 2 ^ 126 }
+    ensures { IfOk result (λ couplers. AreRows (node_count long.now) long.now.width
+        (pairs.now ++ flat_map place_couplers (all_places long.now.terms long.now.width))
+        couplers) }
+{
+    let pair_keys = ordered(keys_of_pairs(alloc, pairs)?);
+    let place_keys = ordered(keys_of_places(alloc, long)?);
+    let mut sums = Accumulator::zeros(alloc, long.width())?;
+    let mut couplers = CouplerList::empty(alloc);
+    let mut pairs_left = &pair_keys[..];
+    let mut places_left = &place_keys[..];
+    for variable in 0..long.width() as u64 {
+        let (own_pairs, later_pairs) = split_keys(pairs_left, variable);
+        let (own_places, later_places) = split_keys(places_left, variable);
+        push_row(&mut couplers, &mut sums, pairs, long, variable, own_pairs, own_places)?;
+        pairs_left = later_pairs;
+        places_left = later_places;
+    }
+    Ok(couplers)
+}
