@@ -1,5 +1,10 @@
 //! Figures, lists of items, and sums of energies.
-use bits_model::{Entry, Figures, Items, Kind, NoMemory, total_energy};
+ghost use Rattle.std.specs.Prelude.{◌≤◌, ◌^◌, IfOk};
+ghost use Rattle.bits_model.specs.Output.{weight_total};
+
+use bits_model::{
+    CouplerList, EntryList, Figures, Items, Kind, NoMemory, NodeWeights, total_energy,
+};
 use std::alloc::Global;
 use std::test::Fail;
 
@@ -40,14 +45,23 @@ fn items_keep_their_order(rt: HostRuntime) -> Result<(), Fail> {
     Ok(())
 }
 
+/// The weights 3, 5 and 7 of nodes, and 2 of the first with the last.
+fn three_nodes(alloc: Global) -> Result<EntryList, NoMemory>
+    ensures { IfOk result (λ es. weight_total es ≤ 2 ^ 124) }
+{
+    let mut weights = Vec::new(alloc);
+    weights.extend_from_slice(&[3, 5, 7])?;
+    let mut couplers = CouplerList::empty(alloc);
+    couplers.push(0, 2, 2)?;
+    Ok(EntryList {
+        nodes: NodeWeights::numbered(weights),
+        couplers,
+    })
+}
+
 #[test]
 fn energies_of_bits_and_of_spins(rt: HostRuntime) -> Result<(), Fail> {
-    // 3, 5 and 7 times the nodes, and 2 times the first with the last
-    let entries = [(0, 0, 3), (1, 1, 5), (2, 2, 7), (0, 2, 2)].map(|(first, second, weight)| Entry {
-        first,
-        second,
-        weight,
-    });
+    let entries = three_nodes(rt.alloc())?;
     let rows = [
         ([false, false, false], 0, -13),
         ([true, false, false], 3, -11),

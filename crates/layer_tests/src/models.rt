@@ -2,7 +2,8 @@
 ghost use Rattle.std.specs.Prelude.{◌≡◌, ◌∷◌, [], pos, negsuc, IfOk};
 
 use bits_model::{
-    ChainList, Cost, Costed, Entry, EntryList, Figures, Items, Kind, NoMemory, OutputModel,
+    ChainList, Cost, Costed, CouplerList, Entry, EntryList, Figures, Items, Kind, NoMemory,
+    NodeWeights, OutputModel,
 };
 use model_text::written_text;
 use std::alloc::Global;
@@ -32,9 +33,14 @@ fn entries(alloc: Global) -> Result<EntryList, NoMemory>
         ∷ record { first = 0; second = 1; weight = pos 5 }
         ∷ []) }
 {
-    let mut list = Vec::new(alloc);
-    list.extend_from_slice(&[entry(0, 0, 0), entry(1, 1, -20), entry(0, 1, 5)])?;
-    Ok(EntryList::new(list))
+    let mut weights = Vec::new(alloc);
+    weights.extend_from_slice(&[0, -20])?;
+    let mut couplers = CouplerList::empty(alloc);
+    couplers.push(0, 1, 5)?;
+    Ok(EntryList {
+        nodes: NodeWeights::numbered(weights),
+        couplers,
+    })
 }
 
 /// The second qubit for the first node, and the first for the second.
@@ -113,19 +119,19 @@ fn chained_entries(alloc: Global) -> Result<EntryList, NoMemory>
         ∷ record { first = 2; second = 4; weight = negsuc 255 }
         ∷ []) }
 {
-    let mut list = Vec::new(alloc);
-    list.extend_from_slice(&[
-        entry(0, 0, 1),
-        entry(1, 1, -2),
-        entry(2, 2, 4),
-        entry(3, 3, 8),
-        entry(4, 4, -16),
+    let mut weights = Vec::new(alloc);
+    weights.extend_from_slice(&[1, -2, 4, 8, -16])?;
+    let couplings = [
         entry(0, 3, -32),
         entry(1, 3, 64),
         entry(1, 4, -128),
         entry(2, 4, -256),
-    ])?;
-    Ok(EntryList::new(list))
+    ];
+    let couplers = CouplerList::of(alloc, &couplings)?;
+    Ok(EntryList {
+        nodes: NodeWeights::numbered(weights),
+        couplers,
+    })
 }
 
 /// Two qubits for the first node, and three for the second.

@@ -4,7 +4,7 @@ ghost use Rattle.std.specs.Prelude.{◌+◌, ◌*◌, ◌≤◌, ◌<◌, ◌^�
 ghost use Rattle.bits_model.specs.Costs.{IsOf};
 
 use crate::given::{A, B, C, NOT_A, NOT_B, costs_of_two, table_of};
-use bits_model::{Cost, Entry, Figures, Layer, NoMemory, Then};
+use bits_model::{Cost, Entry, Figures, Layer, NoMemory, OutputModel, Then};
 use monomial_layer::Monomials;
 use problem_form::Literal;
 use quad_form::{Flatten, Quad};
@@ -44,11 +44,35 @@ fn flattened(
     }
 }
 
+/// Whether the couplers of a form are these.
+fn has_couplers(form: &Quad, couplers: &[Entry]) -> bool {
+    let mut others = couplers.iter();
+    for coupler in form.couplers.iter() {
+        match others.next() {
+            Some(other) if *other == coupler => {}
+            _ => return false,
+        }
+    }
+    others.next().is_none()
+}
+
+/// Whether the entries of a model are these.
+fn has_entries(model: &OutputModel, entries: &[Entry]) -> bool {
+    let mut others = entries.iter();
+    for entry in model.entries.iter() {
+        match others.next() {
+            Some(other) if *other == entry => {}
+            _ => return false,
+        }
+    }
+    others.next().is_none()
+}
+
 /// Whether a form has these parts.
 fn has_parts(form: &Quad, constant: i128, diagonal: &[i128], couplers: &[Entry]) -> bool {
     form.constant == constant
         && form.diagonal.as_slice() == diagonal
-        && form.couplers.as_slice() == couplers
+        && has_couplers(form, couplers)
 }
 
 fn costs_of(form: &Quad) -> Option<[Cost; 4]> {
@@ -105,7 +129,7 @@ fn written(
         return Ok(None);
     }
     let model = form.output(alloc, 2, figures, unit)?;
-    if model.unit != unit || model.entries.as_slice() != entries {
+    if model.unit != unit || !has_entries(&model, entries) {
         return Ok(None);
     }
     Ok(Some(model.figures))
