@@ -48,7 +48,7 @@ pub fn check<H: Hardware>(
     let places = all_places(
         alloc,
         hardware,
-        ising.couplings.as_slice(),
+        &ising.couplings,
         &chains,
         &sorted,
     )?;

@@ -20,7 +20,7 @@ use crate::embedded::PairList;
 use crate::least::place_between;
 use crate::noted::Noted;
 use crate::owners::owners_of;
-use bits_model::{ChainList, Entry, Items};
+use bits_model::{ChainList, CouplerList, Entry, Items, NoMemory};
 use chain_map::{CheckAnswer, EmbedFault};
 use chimera_graph::Hardware;
 use std::alloc::Global;
@@ -122,8 +122,19 @@ fn place_of<H: Hardware>(
     place_between(hardware, chain(sorted, first), chain(sorted, second))
 }
 
-/// The place of each coupling, or the first coupling without joined qubits.
-pub(crate) fn all_places<H: Hardware>(
+/// The couplings in a list, so that those from an index on can be looked at.
+fn listed(alloc: Global, couplings: &CouplerList) -> Result<Vec<Entry>, NoMemory>
+    ensures { IfOk result (λ list. list.items ≡ couplings.now) }
+{
+    let mut list = Vec::with_capacity(alloc, couplings.len())?;
+    for entry in couplings.iter() {
+        list.push(entry)?;
+    }
+    Ok(list)
+}
+
+/// The place of each listed coupling, or the first coupling without joined qubits.
+fn listed_places<H: Hardware>(
     alloc: Global,
     hardware: &H,
     couplings: &[Entry],
@@ -167,4 +178,30 @@ pub(crate) fn all_places<H: Hardware>(
         }
     }
     Ok(Items::new(places))
+}
+
+/// The place of each coupling, or the first coupling without joined qubits.
+pub(crate) fn all_places<H: Hardware>(
+    alloc: Global,
+    hardware: &H,
+    couplings: &CouplerList,
+    chains: &ChainList,
+    sorted: &ChainList,
+) -> Result<PairList, CheckAnswer>
+    requires nodes { All (IsCoupler (length chains.now)) couplings.now }
+    requires few { length chains.now < 2 ^ 32 }
+    requires within { (u : ℕ) → u < length chains.now → (j : ℕ) → j < length (chain_of chains.now u)
+        → Exists (H.qubits hardware.now) chains.now u j }
+    requires once { (q : ℕ) → occurrences q chains.now ≤ 1 }
+    requires len { length sorted.now ≡ length chains.now }
+    requires sorted { (u : ℕ) → u < length chains.now
+        → IsSortedChain (chain_of chains.now u) (chain_of sorted.now u) }
+    ensures places { IfOk result
+        (AllZip (IsPlaceOf (H.joined hardware.now) chains.now) couplings.now) }
+    ensures fault { IfErr result (λ e. IfFault e (λ f. (u : ℕ) × (v : ℕ) × (k : ℕ)
+        × IsUncoupled (H.joined hardware.now) couplings.now chains.now u v k
+        × (f ≡ EmbedFault.NoCoupler u v))) }
+{
+    let couplings = listed(alloc, couplings)?;
+    listed_places(alloc, hardware, &couplings, chains, sorted)
 }

@@ -3,7 +3,7 @@ ghost use Rattle.std.specs.Prelude.{◌≡◌, ◌<◌, ◌≤◌, ◌^◌, pos,
 ghost use Rattle.quad_form.specs.Quads.{IsCoupler};
 ghost use Rattle.embedding_tests.specs.Pairs.{AreUnitPairs};
 
-use bits_model::{Entry, EntryList, NoMemory};
+use bits_model::{CouplerList, Entry, NoMemory};
 use ising_form::Ising;
 use quad_form::NumberList;
 use std::alloc::Global;
@@ -46,7 +46,7 @@ pub(crate) fn coupled_form(
         Some(couplings) => Ok(Some(Ising {
             constant: 0,
             fields: NumberList::new(fields),
-            couplings: EntryList::new(couplings),
+            couplings: CouplerList::of(alloc, &couplings)?,
         })),
         None => Ok(None),
     }

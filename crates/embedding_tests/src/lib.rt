@@ -1,11 +1,10 @@
 //! Tests of chain maps and of their check: over maps by hand, and over random maps on small graphs
 //! with some joins taken away, against a plain search.
 //!
-//! The crate is a library without items. It stands above what it tests, so that no library is
-//! proved once more with its tests.
+//! The crate stands above what it tests, so that no library is proved once more with its tests. Its
+//! only item beside them is a graph with some joins taken away.
 #![tactic(auto)]
 
-#[cfg(test)]
 mod cut;
 #[cfg(test)]
 mod forms;

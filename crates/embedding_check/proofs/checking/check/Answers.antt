@@ -70,7 +70,7 @@ returns-in_err-places-clause-fault g c =
     let apart : IsApart n f map = is_apart n f map inside c.in_ok-check_once.ensures.once in
     let connected : IsLinked joined n f map = is_linked joined n f map apart
     (subst (λ (m : List (List ℕ)). (u : ℕ) → u < length m → (j : ℕ) → j < length (chain_of m u) → IsReachedAt joined m u j) same c.in_ok-parents.ensures.connected) in
-    let couplings : c.as_slice-2.result.now ≡ f.couplings = c.as_slice-2.ensures ∙ ap (λ (x : IsingContent). x.couplings) c.ising.view_is in
+    let couplings : c.ising.inside.couplings ≡ f.couplings = ap (λ (x : IsingContent). x.couplings) c.ising.view_is in
     let p = err_from_is_err_and c.from_residual-in_err-places.result c.from_residual-in_err-places.ensures.1 in
     rw (p.1, p.2)
     (uncoupled_fault joined n f map c.in_err-places.field-0.0 connected
@@ -94,7 +94,7 @@ invariant_of-result g c =
     let apart : IsApart n f map = is_apart n f map inside c.in_ok-check_once.ensures.once in
     let connected : IsLinked joined n f map = is_linked joined n f map apart
     (subst (λ (m : List (List ℕ)). (u : ℕ) → u < length m → (j : ℕ) → j < length (chain_of m u) → IsReachedAt joined m u j) same c.in_ok-parents.ensures.connected) in
-    let couplings : c.as_slice-2.result.now ≡ f.couplings = c.as_slice-2.ensures ∙ ap (λ (x : IsingContent). x.couplings) c.ising.view_is in
+    let couplings : c.ising.inside.couplings ≡ f.couplings = ap (λ (x : IsingContent). x.couplings) c.ising.view_is in
     let places = c.in_ok-places.places in
     let placed : AllZip (IsPlaceOf joined map) f.couplings places =
     subst (λ (m : List (List ℕ)). AllZip (IsPlaceOf joined m) f.couplings places) same
@@ -131,7 +131,7 @@ returns-clause-valid g c =
     let apart : IsApart n f map = is_apart n f map inside c.in_ok-check_once.ensures.once in
     let connected : IsLinked joined n f map = is_linked joined n f map apart
     (subst (λ (m : List (List ℕ)). (u : ℕ) → u < length m → (j : ℕ) → j < length (chain_of m u) → IsReachedAt joined m u j) same c.in_ok-parents.ensures.connected) in
-    let couplings : c.as_slice-2.result.now ≡ f.couplings = c.as_slice-2.ensures ∙ ap (λ (x : IsingContent). x.couplings) c.ising.view_is in
+    let couplings : c.ising.inside.couplings ≡ f.couplings = ap (λ (x : IsingContent). x.couplings) c.ising.view_is in
     let places = c.in_ok-places.places in
     let placed : AllZip (IsPlaceOf joined map) f.couplings places =
     subst (λ (m : List (List ℕ)). AllZip (IsPlaceOf joined m) f.couplings places) same

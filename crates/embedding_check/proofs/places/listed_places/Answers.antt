@@ -6,7 +6,7 @@ use Rattle.chain_map.specs.Valid.{IsCoupled}
 use Rattle.embedding_check.specs.Checked.{IsPlaceOf}
 use Rattle.embedding_check.proofs.Passing.{default_free}
 use Rattle.embedding_check.proofs.Faulty.{zip_of_places, placed_more}
-use Rattle.embedding_check.proofs.places.all_places.Goals as goal
+use Rattle.embedding_check.proofs.places.listed_places.Goals as goal
 
 pub returns-in-None-clause-fault : goal.returns-in-None-clause-fault
 returns-in-None-clause-fault g c =

@@ -2,7 +2,7 @@ use Rattle.std.proofs.Common.{◌≡◌, ℕ, ◌<◌, true, length, get_or}
 use Rattle.bits_model.specs.declared.output.Entry.{Entry}
 use Rattle.embedding_check.specs.Checked.{IsPlaceOf}
 use Rattle.embedding_check.specs.Noted.{AreNoted}
-use Rattle.embedding_check.proofs.places.all_places.Given as goal
+use Rattle.embedding_check.proofs.places.listed_places.Given as goal
 
 -- the couplings so far have their places; and the joins of the last node are noted, where it says so
 abbrev pub invariant-loop-k : goal.invariant-loop-k
