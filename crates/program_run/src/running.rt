@@ -78,7 +78,11 @@ pub fn run<F: Files, O: Sink, E: Sink>(
         Err(position) => Status::Usage(position),
         Ok(command) => match answer_to(alloc, words, command, files) {
             Err(status) => status,
-            Ok(answer) => deliver(alloc, &answer, out),
+            Ok(answer) => {
+                let status = deliver(alloc, &answer, out);
+                drop(answer);
+                status
+            }
         },
     };
     say(status, name_in(words, asked, status), err);
