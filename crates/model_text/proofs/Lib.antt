@@ -4,3 +4,5 @@ pub mod ModelRows
 pub mod QubitNumbers
 pub mod WholeTexts
 pub mod EntryCounts
+pub mod Puts
+pub mod RowPieces

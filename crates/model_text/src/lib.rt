@@ -2,12 +2,14 @@
 //!
 //! A model of any kind goes in, and out comes its text: rows of words for its figures, for its
 //! graph and chains where it has any, for what it counts, and for each weight. No other model has
-//! that text, so a reader of it loses nothing.
+//! that text, so a reader of it loses nothing. The text is put to a sink row by row and never held, or
+//! appended to a vector.
 #![tactic(auto)]
 
 mod laws;
+mod lines;
 mod rows;
 mod writing;
 
 pub use laws::laws_of_texts;
-pub use writing::written_text;
+pub use writing::{write_text, written_text};

@@ -110,7 +110,7 @@ fn is_coupler(entry: &Entry) -> bool
 }
 
 /// How many entries are those of nodes. The two lengths say that the number fits.
-fn count_nodes(entries: &EntryList) -> i128
+pub fn count_nodes(entries: &EntryList) -> i128
     ensures { result ≡ pos (count_by is_node entries.now) }
 {
     let (_nodes, _couplers) = (entries.nodes.len(), entries.couplers.len());
@@ -122,7 +122,7 @@ fn count_nodes(entries: &EntryList) -> i128
 }
 
 /// How many entries are those of couplers. The two lengths say that the number fits.
-fn count_couplers(entries: &EntryList) -> i128
+pub fn count_couplers(entries: &EntryList) -> i128
     ensures { result ≡ pos (count_by is_coupler entries.now) }
 {
     let (_nodes, _couplers) = (entries.nodes.len(), entries.couplers.len());
@@ -134,7 +134,7 @@ fn count_couplers(entries: &EntryList) -> i128
 }
 
 /// The words that name the kind.
-fn words_of(kind: Kind) -> &'static [u8]
+pub fn words_of(kind: Kind) -> &'static [u8]
     ensures { result.now ≡ join_with_byte 32 (kind_words kind) }
 {
     match kind {

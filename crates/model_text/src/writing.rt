@@ -1,10 +1,15 @@
 //! The text of a model as a whole.
-ghost use Rattle.std.specs.Prelude.{◌≡◌, IfOk};
+ghost use Rattle.std.specs.Prelude.{◌≡◌, ◌++◌, [], IfOk, OnOk, OnErr};
+ghost use Rattle.std.specs.Io.KnownBytes.{Appends};
+ghost use Rattle.edge_io.specs.Counts.{HasCause};
+ghost use Rattle.edge_io.specs.Sinks.{AppendsFront, Passes};
 ghost use Rattle.model_text.specs.Rows.{model_text};
 ghost use Rattle.model_text.specs.Told.{TellsModel};
 
+use crate::lines::{put_entries, put_figures, put_graph, put_header};
 use crate::rows::{push_entries, push_figures, push_graph, push_header};
 use bits_model::{NoMemory, OutputModel};
+use edge_io::{LineBuffer, Sink, WriteFault};
 use std::alloc::Global;
 
 /// The text of a model, which no other model has.
@@ -19,4 +24,43 @@ pub fn written_text(alloc: Global, model: &OutputModel) -> Result<Vec<u8>, NoMem
     push_header(&mut text, model.kind, model.nodes, entries)?;
     push_entries(&mut text, entries)?;
     Ok(text)
+}
+
+/// Puts each row of a model.
+fn put_text<S: Sink>(
+    model: &OutputModel,
+    buffer: &mut LineBuffer,
+    sink: &mut S,
+) -> Result<(), WriteFault>
+    ensures passed { OnOk result (Passes (S.bytes sink.old) (S.bytes sink.new)
+        buffer.old buffer.new (model_text model.now)) }
+    ensures front { OnErr result (AppendsFront (S.bytes sink.old) (S.bytes sink.new)
+        (buffer.old ++ model_text model.now)) }
+    ensures lost { OnErr result (buffer.new ≡ []) }
+    ensures cause { HasCause (S.faults sink.old) (S.faults sink.new) result }
+{
+    let entries = &model.entries;
+    put_figures(buffer, sink, model.figures, model.unit, model.variables)?;
+    put_graph(buffer, sink, model.kind, model.chains.as_slice())?;
+    put_header(buffer, sink, model.kind, model.nodes, entries)?;
+    put_entries(buffer, sink, entries)
+}
+
+/// Writes the text of a model row by row, or a front of it where the sink fails. It takes no memory,
+/// and nothing is pending after it.
+pub fn write_text<S: Sink>(
+    model: &OutputModel,
+    buffer: &mut LineBuffer,
+    sink: &mut S,
+) -> Result<(), WriteFault>
+    requires { buffer.old ≡ [] }
+    ensures whole { OnOk result
+        (Appends (S.bytes sink.old) (S.bytes sink.new) (model_text model.now)) }
+    ensures front { OnErr result
+        (AppendsFront (S.bytes sink.old) (S.bytes sink.new) (model_text model.now)) }
+    ensures empty { buffer.new ≡ [] }
+    ensures cause { HasCause (S.faults sink.old) (S.faults sink.new) result }
+{
+    put_text(model, buffer, sink)?;
+    buffer.flush(sink)
 }

@@ -42,7 +42,7 @@ front_more (Some files) name front piece (Some xs) None is taken = absurd taken
 front_more (Some files) name front piece (Some xs) (Some ys) is taken =
     let same : xs ≡ is.0 = let e = is.2 in cc in
     let cut : front ++ is.0 ≡ (front ++ piece) ++ ys =
-        ap (λ l. front ++ l) (sym same ∙ taken) ∙ sym (append_assoc front piece ys) in
+    ap (λ l. front ++ l) (sym same ∙ taken) ∙ sym (append_assoc front piece ys) in
     (ys, is.1 ∙ ap Some cut, refl)
 
 -- one piece more, which came in the first bytes of a buffer
@@ -72,7 +72,7 @@ whole_words (Some files) name text limit None words is end within cut =
 whole_words (Some files) name text limit (Some xs) words is end within cut =
     let none : is.0 ≡ [] = let e = is.2 in cc in
     let found : find_file files name ≡ Some text =
-        is.1 ∙ ap Some (ap (λ l. text ++ l) none ∙ append-nil text) in
+    is.1 ∙ ap Some (ap (λ l. text ++ l) none ∙ append-nil text) in
     subst (λ file. AreWordsOf file limit words) (sym found) (within, cut)
 
 -- the words of the whole file
@@ -118,8 +118,8 @@ read_once held words command cut result wcnf e meets =
     (λ bytes. Some (Ok (tokens_of Plain bytes))) cut e in
     let same : tokens_of Plain taken.0 ≡ cut = let two = taken.2 in cc in
     let read : problem_of (job_in command).format taken.0 ≡ problem_of_words cut =
-        ap (λ (format : Format). problem_of format taken.0) wcnf
-        ∙ words_read taken.0 ∙ ap problem_of_words same in
+    ap (λ (format : Format). problem_of format taken.0) wcnf
+    ∙ words_read taken.0 ∙ ap problem_of_words same in
     let step : Step Read = reading words held command in
     subst (λ (m : Step (List ℕ)). Meets (λ r. r) result
     (m >>= λ bytes. from_text Source (problem_of (job_in command).format bytes))) (sym taken.1)

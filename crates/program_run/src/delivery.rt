@@ -5,8 +5,8 @@ ghost use Rattle.program_run.specs.Answers.{text_of, IsDelivered};
 
 use crate::answers::Answer;
 use crate::status::Status;
-use edge_io::{Sink, write_all};
-use model_text::written_text;
+use edge_io::{LineBuffer, Sink};
+use model_text::write_text;
 use std::alloc::Global;
 
 /// Writes the text of an answer, or a front of it where the sink fails. All memory is taken before
@@ -18,10 +18,10 @@ pub fn deliver<O: Sink>(alloc: Global, answer: &Answer, out: &mut O) -> Status
     ensures unwritten { result ≡ Status.NoMemory → out.new ≡ out.old }
 {
     let Answer::Model(model) = answer;
-    let Ok(text) = written_text(alloc, model) else {
+    let Ok(mut buffer) = LineBuffer::new(alloc) else {
         return Status::NoMemory;
     };
-    match write_all(out, &text) {
+    match write_text(model, &mut buffer, out) {
         Ok(()) => Status::Done,
         Err(_) => Status::WriteFault,
     }

@@ -1,11 +1,15 @@
 //! The text of a QUBO as a whole.
-ghost use Rattle.std.specs.Prelude.{◌≡◌, IfOk};
+ghost use Rattle.std.specs.Prelude.{◌≡◌, [], IfOk, OnOk, OnErr};
+ghost use Rattle.std.specs.Io.KnownBytes.{Appends};
+ghost use Rattle.edge_io.specs.Counts.{HasCause};
+ghost use Rattle.edge_io.specs.Sinks.{AppendsFront};
 ghost use Rattle.bits_model.specs.declared.output.Kind.TheVariants.{Qubo};
 ghost use Rattle.model_text.specs.Rows.{model_text};
 ghost use Rattle.model_text.specs.Told.{TellsModel};
 
 use bits_model::{NoMemory, OutputModel};
-use model_text::written_text;
+use edge_io::{LineBuffer, Sink, WriteFault};
+use model_text::{write_text, written_text};
 use std::alloc::Global;
 
 /// The text of a QUBO, which no other model has.
@@ -15,4 +19,23 @@ pub fn qubo_text(alloc: Global, model: &OutputModel) -> Result<Vec<u8>, NoMemory
     ensures one { IfOk result (λ text. TellsModel text.items model.now) }
 {
     written_text(alloc, model)
+}
+
+/// Writes the text of a QUBO row by row, or a front of it where the sink fails. It takes no memory,
+/// and nothing is pending after it.
+pub fn write_qubo<S: Sink>(
+    model: &OutputModel,
+    buffer: &mut LineBuffer,
+    sink: &mut S,
+) -> Result<(), WriteFault>
+    requires kind { model.now.kind ≡ Qubo }
+    requires unused { buffer.old ≡ [] }
+    ensures whole { OnOk result
+        (Appends (S.bytes sink.old) (S.bytes sink.new) (model_text model.now)) }
+    ensures front { OnErr result
+        (AppendsFront (S.bytes sink.old) (S.bytes sink.new) (model_text model.now)) }
+    ensures empty { buffer.new ≡ [] }
+    ensures cause { HasCause (S.faults sink.old) (S.faults sink.new) result }
+{
+    write_text(model, buffer, sink)
 }

@@ -1,0 +1,83 @@
+use Rattle.std.proofs.Common.{[], ◌++◌, refl, sym, ap, ◌∙◌, append-nil, rules, subst, ℤ}
+use Rattle.std.specs.Int.{w128}
+use Rattle.std.proofs.lemmas.Int.{to_z-of_z}
+use Rattle.bits_model.specs.declared.output.OutputModel.TheInside.{Inside}
+use Rattle.bits_model.specs.Output.{Written}
+use Rattle.edge_io.specs.Sinks.{AppendsFront, Passes}
+use Rattle.model_text.specs.Rows.{rows_text, figure_rows, model_text}
+use Rattle.model_text.proofs.Puts.{put_none, put_more, put_fault, put_all, at_error, then_ok, then_error}
+use Rattle.model_text.proofs.RowPieces.{text_parts}
+use Rattle.model_text.proofs.writing.put_text.Goals as goal
+
+-- the model of these fields
+abbrev written : Inside → Written
+written m = record {
+  kind = m.kind;
+  variables = m.variables;
+  figures = m.figures;
+  unit = m.unit;
+  nodes = m.nodes;
+  entries = m.entries;
+  chains = m.chains;
+}
+
+pub returns-in_err-put_figures-clause-front : goal.returns-in_err-put_figures-clause-front
+returns-in_err-put_figures-clause-front g c =
+    let m = written c.model.inside in
+    let of_unit = λ (unit : ℤ). AppendsFront (g.S.Sink.bytes c.args.sink.now) (g.S.Sink.bytes c.put_figures.new.sink) (c.args.buffer.now ++ rows_text (figure_rows m.figures unit m.variables)) in
+    let figures = subst of_unit (to_z-of_z w128 m.unit (search rules)) c.in_err-put_figures.ensures.front in
+    let cut = sym (ap model_text c.model.view_is) ∙ text_parts m m.chains refl in
+    at_error c.from_residual.result
+    (put_fault _ _ _ c.args.buffer.now c.args.buffer.now _ _ _ _ cut (put_none _ c.args.buffer.now _) figures)
+
+pub returns-in_err-put_graph-clause-front : goal.returns-in_err-put_graph-clause-front
+returns-in_err-put_graph-clause-front g c =
+    let m = written c.model.inside in
+    let figures : Passes (g.S.Sink.bytes c.args.sink.now) (g.S.Sink.bytes c.put_figures.new.sink) c.args.buffer.now c.put_figures.new.buffer (rows_text (figure_rows m.figures m.unit m.variables)) =
+    search rules in
+    let cut = sym (ap model_text c.model.view_is) ∙ text_parts m c.as_slice.result.now c.as_slice.ensures in
+    let figured =
+    put_more _ _ _ c.args.buffer.now c.args.buffer.now c.put_figures.new.buffer _ _ _ _ cut (put_none _ c.args.buffer.now _) figures in
+    at_error c.from_residual-in_err-put_graph.result
+    (put_fault _ _ _ c.args.buffer.now c.put_figures.new.buffer _ _ _ _ refl figured c.in_err-put_graph.ensures.front)
+
+pub returns-in_err-put_header-clause-front : goal.returns-in_err-put_header-clause-front
+returns-in_err-put_header-clause-front g c =
+    let m = written c.model.inside in
+    let figures : Passes (g.S.Sink.bytes c.args.sink.now) (g.S.Sink.bytes c.put_figures.new.sink) c.args.buffer.now c.put_figures.new.buffer (rows_text (figure_rows m.figures m.unit m.variables)) =
+    search rules in
+    let cut = sym (ap model_text c.model.view_is) ∙ text_parts m c.as_slice.result.now c.as_slice.ensures in
+    let figured =
+    put_more _ _ _ c.args.buffer.now c.args.buffer.now c.put_figures.new.buffer _ _ _ _ cut (put_none _ c.args.buffer.now _) figures in
+    let graphed = put_more _ _ _ c.args.buffer.now c.put_figures.new.buffer c.put_graph.new.buffer _ _ _ _ refl figured c.in_ok-put_graph.ensures.passed in
+    at_error c.from_residual-in_err-put_header.result
+    (put_fault _ _ _ c.args.buffer.now c.put_graph.new.buffer _ _ _ _ refl graphed c.in_err-put_header.ensures.front)
+
+pub returns-clause-passed : goal.returns-clause-passed
+returns-clause-passed g c =
+    let m = written c.model.inside in
+    let figures : Passes (g.S.Sink.bytes c.args.sink.now) (g.S.Sink.bytes c.put_figures.new.sink) c.args.buffer.now c.put_figures.new.buffer (rows_text (figure_rows m.figures m.unit m.variables)) =
+    search rules in
+    let cut = sym (ap model_text c.model.view_is) ∙ text_parts m c.as_slice.result.now c.as_slice.ensures in
+    let figured =
+    put_more _ _ _ c.args.buffer.now c.args.buffer.now c.put_figures.new.buffer _ _ _ _ cut (put_none _ c.args.buffer.now _) figures in
+    let graphed = put_more _ _ _ c.args.buffer.now c.put_figures.new.buffer c.put_graph.new.buffer _ _ _ _ refl figured c.in_ok-put_graph.ensures.passed in
+    let headed = put_more _ _ _ c.args.buffer.now c.put_graph.new.buffer c.put_header.new.buffer _ _ _ _ refl graphed c.in_ok-put_header.ensures.passed in
+    then_ok c.put_entries.result
+    (λ weighed. put_all _ _ c.args.buffer.now c.put_entries.new.buffer _ [] refl
+    (put_more _ _ _ c.args.buffer.now c.put_header.new.buffer c.put_entries.new.buffer _ _ _ [] (sym (append-nil _)) headed weighed))
+    c.put_entries.ensures.passed
+
+pub returns-clause-front : goal.returns-clause-front
+returns-clause-front g c =
+    let m = written c.model.inside in
+    let figures : Passes (g.S.Sink.bytes c.args.sink.now) (g.S.Sink.bytes c.put_figures.new.sink) c.args.buffer.now c.put_figures.new.buffer (rows_text (figure_rows m.figures m.unit m.variables)) =
+    search rules in
+    let cut = sym (ap model_text c.model.view_is) ∙ text_parts m c.as_slice.result.now c.as_slice.ensures in
+    let figured =
+    put_more _ _ _ c.args.buffer.now c.args.buffer.now c.put_figures.new.buffer _ _ _ _ cut (put_none _ c.args.buffer.now _) figures in
+    let graphed = put_more _ _ _ c.args.buffer.now c.put_figures.new.buffer c.put_graph.new.buffer _ _ _ _ refl figured c.in_ok-put_graph.ensures.passed in
+    let headed = put_more _ _ _ c.args.buffer.now c.put_graph.new.buffer c.put_header.new.buffer _ _ _ _ refl graphed c.in_ok-put_header.ensures.passed in
+    then_error c.put_entries.result
+    (λ fault. put_fault _ _ _ c.args.buffer.now c.put_header.new.buffer _ _ _ [] (sym (append-nil _)) headed fault)
+    c.put_entries.ensures.front

@@ -1,0 +1,281 @@
+//! The rows of a text, each put to a sink through a buffer by a function of its own. None takes
+//! memory, and after a fault nothing is pending.
+ghost use Rattle.std.specs.Prelude.{◌≡◌, ◌++◌, [], ◌∷◌, OnOk, OnErr, map};
+ghost use Rattle.edge_io.specs.Counts.{HasCause};
+ghost use Rattle.edge_io.specs.Sinks.{AppendsFront, Passes, joined_bytes};
+ghost use Rattle.model_text.specs.Rows.{row_text, rows_text, figure_rows, chimera_row, chain_row, chain_rows, graph_rows, header_row, entry_row};
+ghost use Rattle.model_text.specs.Lines.{spaced_numbers};
+
+use crate::rows::{count_couplers, count_nodes, words_of};
+use bits_model::{Entry, EntryList, Figures, Items, Kind};
+use edge_io::{LineBuffer, Sink, WriteFault};
+use itoa::Buffer;
+
+/// Puts the pieces one after the other.
+#[inline(always)]
+fn put_pieces<S: Sink>(
+    buffer: &mut LineBuffer,
+    sink: &mut S,
+    pieces: &[&[u8]],
+) -> Result<(), WriteFault>
+    ensures passed { OnOk result (Passes (S.bytes sink.old) (S.bytes sink.new)
+        buffer.old buffer.new (joined_bytes pieces.now)) }
+    ensures front { OnErr result (AppendsFront (S.bytes sink.old) (S.bytes sink.new)
+        (buffer.old ++ joined_bytes pieces.now)) }
+    ensures lost { OnErr result (buffer.new ≡ []) }
+    ensures cause { HasCause (S.faults sink.old) (S.faults sink.new) result }
+{
+    for piece in pieces {
+        buffer.put(sink, piece)?;
+    }
+    Ok(())
+}
+
+/// The figures, the unit and the number of variables.
+pub fn put_figures<S: Sink>(
+    buffer: &mut LineBuffer,
+    sink: &mut S,
+    figures: Figures,
+    unit: i128,
+    variables: u32,
+) -> Result<(), WriteFault>
+    ensures passed { let rows = figure_rows figures unit variables in
+        OnOk result (Passes (S.bytes sink.old) (S.bytes sink.new)
+        buffer.old buffer.new (rows_text rows)) }
+    ensures front { let rows = figure_rows figures unit variables in
+        OnErr result (AppendsFront (S.bytes sink.old) (S.bytes sink.new)
+        (buffer.old ++ rows_text rows)) }
+    ensures lost { OnErr result (buffer.new ≡ []) }
+    ensures cause { HasCause (S.faults sink.old) (S.faults sink.new) result }
+{
+    let mut scale = Buffer::new();
+    let mut offset = Buffer::new();
+    let mut threshold = Buffer::new();
+    let mut counted = Buffer::new();
+    let mut number = Buffer::new();
+    let scale = scale.format(figures.scale).as_bytes();
+    let offset = offset.format(figures.offset).as_bytes();
+    let threshold = threshold.format(figures.threshold).as_bytes();
+    let counted = counted.format(unit).as_bytes();
+    let number = number.format(variables).as_bytes();
+    put_pieces(
+        buffer,
+        sink,
+        &[
+            b"c scale ",
+            scale,
+            b"\nc offset ",
+            offset,
+            b"\nc threshold ",
+            threshold,
+            b"\nc unit ",
+            counted,
+            b"\nc variables ",
+            number,
+            b"\n",
+        ],
+    )
+}
+
+/// The qubits, each after a space.
+fn put_qubits<S: Sink>(
+    buffer: &mut LineBuffer,
+    sink: &mut S,
+    qubits: &[u32],
+) -> Result<(), WriteFault>
+    ensures passed { OnOk result (Passes (S.bytes sink.old) (S.bytes sink.new)
+        buffer.old buffer.new (spaced_numbers qubits.now)) }
+    ensures front { OnErr result (AppendsFront (S.bytes sink.old) (S.bytes sink.new)
+        (buffer.old ++ spaced_numbers qubits.now)) }
+    ensures lost { OnErr result (buffer.new ≡ []) }
+    ensures cause { HasCause (S.faults sink.old) (S.faults sink.new) result }
+{
+    for qubit in qubits {
+        let mut digits = Buffer::new();
+        let number = digits.format(*qubit).as_bytes();
+        put_pieces(buffer, sink, &[b" ", number])?;
+    }
+    Ok(())
+}
+
+/// The qubits of a node's chain.
+fn put_chain<S: Sink>(
+    buffer: &mut LineBuffer,
+    sink: &mut S,
+    node: usize,
+    qubits: &[u32],
+) -> Result<(), WriteFault>
+    ensures passed { let row = chain_row node qubits.now in
+        OnOk result (Passes (S.bytes sink.old) (S.bytes sink.new)
+        buffer.old buffer.new (row_text row)) }
+    ensures front { let row = chain_row node qubits.now in
+        OnErr result (AppendsFront (S.bytes sink.old) (S.bytes sink.new)
+        (buffer.old ++ row_text row)) }
+    ensures lost { OnErr result (buffer.new ≡ []) }
+    ensures cause { HasCause (S.faults sink.old) (S.faults sink.new) result }
+{
+    let mut digits = Buffer::new();
+    let number = digits.format(node).as_bytes();
+    put_pieces(buffer, sink, &[b"c chain ", number])?;
+    put_qubits(buffer, sink, qubits)?;
+    buffer.put(sink, b"\n")
+}
+
+/// Each chain, in order.
+fn put_chains<S: Sink>(
+    buffer: &mut LineBuffer,
+    sink: &mut S,
+    chains: &[Items<u32>],
+) -> Result<(), WriteFault>
+    ensures passed { let rows = chain_rows 0 chains.now in
+        OnOk result (Passes (S.bytes sink.old) (S.bytes sink.new)
+        buffer.old buffer.new (rows_text rows)) }
+    ensures front { let rows = chain_rows 0 chains.now in
+        OnErr result (AppendsFront (S.bytes sink.old) (S.bytes sink.new)
+        (buffer.old ++ rows_text rows)) }
+    ensures lost { OnErr result (buffer.new ≡ []) }
+    ensures cause { HasCause (S.faults sink.old) (S.faults sink.new) result }
+{
+    for (node, chain) in chains.iter().enumerate() {
+        put_chain(buffer, sink, node, chain.as_slice())?;
+    }
+    Ok(())
+}
+
+/// The numbers of a graph.
+fn put_chimera<S: Sink>(
+    buffer: &mut LineBuffer,
+    sink: &mut S,
+    rows: u32,
+    cols: u32,
+    shore: u32,
+) -> Result<(), WriteFault>
+    ensures passed { let row = chimera_row rows cols shore in
+        OnOk result (Passes (S.bytes sink.old) (S.bytes sink.new)
+        buffer.old buffer.new (row_text row)) }
+    ensures front { let row = chimera_row rows cols shore in
+        OnErr result (AppendsFront (S.bytes sink.old) (S.bytes sink.new)
+        (buffer.old ++ row_text row)) }
+    ensures lost { OnErr result (buffer.new ≡ []) }
+    ensures cause { HasCause (S.faults sink.old) (S.faults sink.new) result }
+{
+    let mut first = Buffer::new();
+    let mut second = Buffer::new();
+    let mut third = Buffer::new();
+    let first = first.format(rows).as_bytes();
+    let second = second.format(cols).as_bytes();
+    let third = third.format(shore).as_bytes();
+    put_pieces(
+        buffer,
+        sink,
+        &[b"c chimera ", first, b" ", second, b" ", third, b"\n"],
+    )
+}
+
+/// The graph and the chains, where there are any.
+pub fn put_graph<S: Sink>(
+    buffer: &mut LineBuffer,
+    sink: &mut S,
+    kind: Kind,
+    chains: &[Items<u32>],
+) -> Result<(), WriteFault>
+    ensures passed { let rows = graph_rows kind chains.now in
+        OnOk result (Passes (S.bytes sink.old) (S.bytes sink.new)
+        buffer.old buffer.new (rows_text rows)) }
+    ensures front { let rows = graph_rows kind chains.now in
+        OnErr result (AppendsFront (S.bytes sink.old) (S.bytes sink.new)
+        (buffer.old ++ rows_text rows)) }
+    ensures lost { OnErr result (buffer.new ≡ []) }
+    ensures cause { HasCause (S.faults sink.old) (S.faults sink.new) result }
+{
+    if let Kind::Chimera { rows, cols, shore } = kind {
+        put_chimera(buffer, sink, rows, cols, shore)?;
+        put_chains(buffer, sink, chains)?;
+    }
+    Ok(())
+}
+
+/// The kind, how many nodes there are, and how many entries of nodes and of couplers.
+pub fn put_header<S: Sink>(
+    buffer: &mut LineBuffer,
+    sink: &mut S,
+    kind: Kind,
+    nodes: u32,
+    entries: &EntryList,
+) -> Result<(), WriteFault>
+    ensures passed { let row = header_row kind nodes entries.now in
+        OnOk result (Passes (S.bytes sink.old) (S.bytes sink.new)
+        buffer.old buffer.new (row_text row)) }
+    ensures front { let row = header_row kind nodes entries.now in
+        OnErr result (AppendsFront (S.bytes sink.old) (S.bytes sink.new)
+        (buffer.old ++ row_text row)) }
+    ensures lost { OnErr result (buffer.new ≡ []) }
+    ensures cause { HasCause (S.faults sink.old) (S.faults sink.new) result }
+{
+    let mut first = Buffer::new();
+    let mut second = Buffer::new();
+    let mut third = Buffer::new();
+    let first = first.format(nodes).as_bytes();
+    let second = second.format(count_nodes(entries)).as_bytes();
+    let third = third.format(count_couplers(entries)).as_bytes();
+    put_pieces(
+        buffer,
+        sink,
+        &[
+            words_of(kind),
+            b" ",
+            first,
+            b" ",
+            second,
+            b" ",
+            third,
+            b"\n",
+        ],
+    )
+}
+
+/// A weight, after the numbers of its nodes.
+#[inline(always)]
+fn put_entry<S: Sink>(
+    buffer: &mut LineBuffer,
+    sink: &mut S,
+    entry: &Entry,
+) -> Result<(), WriteFault>
+    ensures passed { let row = entry_row entry.now in
+        OnOk result (Passes (S.bytes sink.old) (S.bytes sink.new)
+        buffer.old buffer.new (row_text row)) }
+    ensures front { let row = entry_row entry.now in
+        OnErr result (AppendsFront (S.bytes sink.old) (S.bytes sink.new)
+        (buffer.old ++ row_text row)) }
+    ensures lost { OnErr result (buffer.new ≡ []) }
+    ensures cause { HasCause (S.faults sink.old) (S.faults sink.new) result }
+{
+    let mut first = Buffer::new();
+    let mut second = Buffer::new();
+    let mut weight = Buffer::new();
+    let first = first.format(entry.first).as_bytes();
+    let second = second.format(entry.second).as_bytes();
+    let weight = weight.format(entry.weight).as_bytes();
+    put_pieces(buffer, sink, &[first, b" ", second, b" ", weight, b"\n"])
+}
+
+/// Each weight, in order.
+pub fn put_entries<S: Sink>(
+    buffer: &mut LineBuffer,
+    sink: &mut S,
+    entries: &EntryList,
+) -> Result<(), WriteFault>
+    ensures passed { let rows = map entry_row entries.now in
+        OnOk result (Passes (S.bytes sink.old) (S.bytes sink.new)
+        buffer.old buffer.new (rows_text rows)) }
+    ensures front { let rows = map entry_row entries.now in
+        OnErr result (AppendsFront (S.bytes sink.old) (S.bytes sink.new)
+        (buffer.old ++ rows_text rows)) }
+    ensures lost { OnErr result (buffer.new ≡ []) }
+    ensures cause { HasCause (S.faults sink.old) (S.faults sink.new) result }
+{
+    for entry in entries.iter() {
+        put_entry(buffer, sink, &entry)?;
+    }
+    Ok(())
+}
