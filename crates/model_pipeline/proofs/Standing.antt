@@ -1,8 +1,7 @@
 -- The model of a problem: what it promises of the problem.
-use Rattle.std.proofs.Common.{◌≡◌, ◌≤◌, ◌^◌, ◌*◌, ℕ, ◌+◌, ℤ, pos, ◌+ℤ◌, ◌*ℤ◌, Bool, List, length, take, refl, sym, ap, ◌∙◌, subst, arith}
+use Rattle.std.proofs.Common.{◌≡◌, ◌≤◌, ◌^◌, ◌*◌, ℕ, ◌+◌, ℤ, pos, ◌+ℤ◌, ◌*ℤ◌, Bool, List, length, take, refl, ap, arith}
 use Rattle.std.specs.Prelude.{None, unsigned_abs}
 use Rattle.std.proofs.lemmas.Int.{ints}
-use Rattle.bits_model.specs.declared.costs.Figures.{Figures}
 use Rattle.bits_model.specs.declared.layer.BitsLink.{BitsLink}
 use Rattle.bits_model.specs.declared.output.UnitChoice.{UnitChoice}
 use Rattle.bits_model.specs.Relations.{decoding_after}
@@ -11,7 +10,7 @@ use Rattle.bits_model.specs.Links.{first_bits}
 use Rattle.problem_form.specs.declared.limits.Choices.{Choices}
 use Rattle.problem_form.specs.declared.limits.Normal.TheVariants as normals
 use Rattle.problem_form.specs.declared.limits.High.TheVariants as highs
-use Rattle.problem_form.specs.Problems.{ProblemContent, form_of}
+use Rattle.problem_form.specs.Problems.{ProblemContent}
 use Rattle.problem_form.specs.Limits.{upper, limit_fault}
 use Rattle.command_words.specs.declared.commands.Target.{Target}
 use Rattle.command_words.specs.declared.commands.Target.TheVariants.{Qubo, Ising}
