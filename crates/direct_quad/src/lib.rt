@@ -10,11 +10,9 @@ mod long_table;
 mod new_nodes;
 mod pairs;
 mod rows;
-mod shares;
 
 pub use direct::DirectQuad;
 pub use laws::{laws_of_long_terms, laws_of_rows, laws_of_sums};
 pub use long_table::{LongTable, LongTerm};
 pub use pairs::Pairs;
 pub use rows::couplers_of;
-pub use shares::add_shares;

@@ -6,3 +6,4 @@ mod steps;
 mod written;
 
 pub use model::model_of;
+pub use steps::{Quadratic, quadratic_of};
