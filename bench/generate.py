@@ -1,7 +1,7 @@
 #!/usr/bin/env python3
-"""Writes a random weighted CNF, older layout, to the standard output.
+"""Writes a random weighted CNF to the standard output.
 
-    generate.py KIND SIZE [--clauses] [--seed N] [--variables N]
+    generate.py KIND SIZE [--clauses] [--seed N] [--variables N] [--headerless]
 
     KIND    literals of a clause    SIZE
     unit    1                       bytes, which the text comes close to and never passes
@@ -15,6 +15,9 @@ With --clauses SIZE is the number of clauses for every kind. One clause in eight
 weigh 1 to 9. Without --variables there are about ten clauses for each variable; for `forty` and
 `wide` as many variables as clauses, and at least four times as many as a clause has literals. One
 seed gives one text, and each text is within the program's limits.
+
+With --headerless the text is in the layout of 2022: without the `p` line, and `h` in place of the
+weight of a hard clause. The clauses are the same.
 
 `mixed` is laid out like a file of a MaxSAT evaluation, with comments and the hard clauses first.
 Half of its clauses are hard and have 2 to 12 literals. The soft ones have 1 to 12 and weigh 1 to
@@ -65,6 +68,12 @@ def parts(source, degree, variables, clauses):
         yield line(source, source.randint(1, 1000), source.randint(1, degree), variables)
 
 
+def marked(text):
+    """A clause in the layout of 2022: `h` in place of the weight TOP."""
+    weight, rest = text.split(' ', 1)
+    return f'h {rest}' if weight == str(TOP) else text
+
+
 def usual_variables(kind, clauses):
     """The number of variables that is taken where none is given."""
     return max(clauses, 4 * DEGREES[kind]) if kind in ('forty', 'wide') else clauses // 10
@@ -77,6 +86,7 @@ def arguments():
     parser.add_argument('--clauses', action='store_true')
     parser.add_argument('--seed', type=int, default=1)
     parser.add_argument('--variables', type=int)
+    parser.add_argument('--headerless', action='store_true')
     return parser.parse_args()
 
 
@@ -96,8 +106,11 @@ def main():
     else:
         body = lines(source, degree, variables, most_bytes, most_clauses)
         count = len(body)
-    sys.stdout.write(f'p wcnf {variables} {count} {TOP}\n')
-    sys.stdout.writelines(body)
+    if given.headerless:
+        sys.stdout.writelines(marked(text) for text in body)
+    else:
+        sys.stdout.write(f'p wcnf {variables} {count} {TOP}\n')
+        sys.stdout.writelines(body)
 
 
 if __name__ == '__main__':
