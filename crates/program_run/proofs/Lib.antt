@@ -2,4 +2,3 @@ pub mod Refusals
 pub mod Taken
 pub mod Compiled
 pub mod Cutting
-pub mod Delivered
