@@ -284,7 +284,7 @@ places_are v m n F (t ∷ ts) narrow up at =
     later i d in' =
         let up : suc m + i ≡ m + suc i = omega arith in
         let node : n + sum_by new_nodes (t ∷ take i ts) ≡ n + new_nodes t + sum_by new_nodes (take i ts) =
-            omega (arith, sum_by-cons new_nodes t (take i ts)) in
+        omega (arith, sum_by-cons new_nodes t (take i ts)) in
         ap (λ k. F (key_of v k)) up ∙ at (suc i) d (omega arith)
         ∙ ap (λ k. places_of v (term_places (get_or ts i d) k)) node
 
@@ -350,8 +350,10 @@ place_keys-of v m t (u ∷ us) le narrow up at =
     go (inl none) rest =
         subst (λ ks. AllByRecursion (IsPlaceKey t v) (ks ++ keys_of v (place_keys (suc m) us))) (sym none.keys) rest
     go (inr only) rest =
-        subst (λ ks. AllByRecursion (IsPlaceKey t v) (ks ++ keys_of v (place_keys (suc m) us))) (sym only.keys)
-        (record {
-          within = omega (arith, key-index v m less, le);
-          there = subst (λ (w : Term). IsTrue (has_variable v w.0)) (sym term) only.there;
-        }, rest)
+        subst (λ ks. AllByRecursion (IsPlaceKey t v) (ks ++ keys_of v (place_keys (suc m) us))) (sym only.keys) (
+          record {
+            within = omega (arith, key-index v m less, le);
+            there = subst (λ (w : Term). IsTrue (has_variable v w.0)) (sym term) only.there;
+          },
+          rest,
+        )

@@ -49,14 +49,14 @@ later_above : (v n : ℕ) (ks : List ℕ) → AreKeysFrom v ks
 later_above v n ks from other =
     All-from_get_or (λ k. v + 1 ≤ k / 2 ^ 32) (drop n ks) 0
     (λ i in'.
-      let size = length-drop n ks in
-      let here : n + i < length ks = omega (arith, size, in') in
-      let up = from.ordered n (n + i) 0 (omega arith) here in
-      let first = All-get_or (λ k. v ≤ k / 2 ^ 32) ks n 0 (omega (arith, here)) from.from in
-      let ne = other (omega (arith, here)) in
-      let above : v + 1 ≤ get_or ks (n + i) 0 / 2 ^ 32 = omega (arith, up, first, ne) in
-      let P : ℕ → Type 0 = λ k. v + 1 ≤ k / 2 ^ 32 in
-      subst P (sym (get_or-drop n ks i 0)) above)
+    let size = length-drop n ks in
+    let here : n + i < length ks = omega (arith, size, in') in
+    let up = from.ordered n (n + i) 0 (omega arith) here in
+    let first = All-get_or (λ k. v ≤ k / 2 ^ 32) ks n 0 (omega (arith, here)) from.from in
+    let ne = other (omega (arith, here)) in
+    let above : v + 1 ≤ get_or ks (n + i) 0 / 2 ^ 32 = omega (arith, up, first, ne) in
+    let P : ℕ → Type 0 = λ k. v + 1 ≤ k / 2 ^ 32 in
+    subst P (sym (get_or-drop n ks i 0)) above)
 
 pub later_from : (v n : ℕ) (ks : List ℕ) → AreKeysFrom v ks
     → (n < length ks → get_or ks n 0 / 2 ^ 32 ≢ v) → AreKeysFrom (v + 1) (drop n ks)
@@ -73,10 +73,10 @@ own_keys v n ks from own other =
     let later = none_of v (drop n ks) (changed_all (λ k. v + 1 ≤ k / 2 ^ 32) (λ k. k / 2 ^ 32 ≢ v) (λ k h. λ e. omega (arith, h, e)) (drop n ks) above) in
     let first = all_of v (take n ks) (recursion_from_All (λ k. k / 2 ^ 32 ≡ v) (take n ks) own) in
     sym (
-      ap (keys_of v) (sym (take-append-drop n ks))
-      ∙ filter-append (is_key_of v) (take n ks) (drop n ks)
-      ∙ (λ i. first i ++ later i)
-      ∙ append-nil (take n ks)
+    ap (keys_of v) (sym (take-append-drop n ks))
+    ∙ filter-append (is_key_of v) (take n ks) (drop n ks)
+    ∙ (λ i. first i ++ later i)
+    ∙ append-nil (take n ks)
     )
 
 pub other_keys : (v w n : ℕ) (ks : List ℕ) → v < w → All (λ k. k / 2 ^ 32 ≡ v) (take n ks)
@@ -84,9 +84,9 @@ pub other_keys : (v w n : ℕ) (ks : List ℕ) → v < w → All (λ k. k / 2 ^ 
 other_keys v w n ks less own =
     let first = none_of w (take n ks) (changed_all (λ k. k / 2 ^ 32 ≡ v) (λ k. k / 2 ^ 32 ≢ w) (λ k h. λ e. omega (arith, h, e, less)) (take n ks) (recursion_from_All (λ k. k / 2 ^ 32 ≡ v) (take n ks) own)) in
     sym (
-      ap (keys_of w) (sym (take-append-drop n ks))
-      ∙ filter-append (is_key_of w) (take n ks) (drop n ks)
-      ∙ ap (λ front. front ++ keys_of w (drop n ks)) first
+    ap (keys_of w) (sym (take-append-drop n ks))
+    ∙ filter-append (is_key_of w) (take n ks) (drop n ks)
+    ∙ ap (λ front. front ++ keys_of w (drop n ks)) first
     )
 
 -- ---- numbers in order with equal counts are the same

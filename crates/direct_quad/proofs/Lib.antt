@@ -18,3 +18,5 @@ pub mod PartPairs
 pub mod RowRuns
 pub mod SortedAdditions
 pub mod SetKeys
+pub mod HeldTerms
+pub mod GainedShares

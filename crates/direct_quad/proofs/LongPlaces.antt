@@ -166,8 +166,7 @@ from_all P v (k ∷ ks) l later all is =
         → P l × AllByRecursion P later × (l.variable ≡ v)
     go true d same rest =
         let first : k ≡ l = cc in
-        let left : ks ≡ later = cc in
-        (
+        let left : ks ≡ later = cc in (
           subst P first all.0,
           subst (AllByRecursion P) left all.1,
           ap (λ m. m.variable) (sym first) ∙ sym (d.0 refl),
@@ -175,7 +174,7 @@ from_all P v (k ∷ ks) l later all is =
     go false d same rest = rest same
 
 -- the new nodes of a term have numbers below the count
-nodes_below : (t : TableContent) (i : ℕ) (u : Term) → slice_get t.terms i ≡ Some u
+pub nodes_below : (t : TableContent) (i : ℕ) (u : Term) → slice_get t.terms i ≡ Some u
     → node_at t i + new_nodes u ≤ node_count t
 nodes_below t i u at =
     let in' = slice_get_within t.terms i u at in

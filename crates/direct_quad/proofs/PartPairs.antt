@@ -20,7 +20,7 @@ use Rattle.direct_quad.specs.Gathered.{shares_of, couplers_of}
 use Rattle.direct_quad.proofs.Split.{long_terms-long}
 
 -- the variables lie below n
-abbrev Below : ℕ → List Literal → Type 0
+abbrev pub Below : ℕ → List Literal → Type 0
 Below n ls = AllByRecursion (λ l. l.variable < n) ls
 
 -- the share is of one of the first n nodes
@@ -30,7 +30,7 @@ IsWithin n s = s.0 < n
 abbrev AreWithin : ℕ → List Share → Type 0
 AreWithin n shares = AllByRecursion (IsWithin n) shares
 
-abbrev ArePairs : ℕ → List Entry → Type 0
+abbrev pub ArePairs : ℕ → List Entry → Type 0
 ArePairs n es = AllByRecursion (IsPair n) es
 
 join : {X : Type 0} (P : X → Type 0) (xs ys : List X) → AllByRecursion P xs → AllByRecursion P ys
@@ -40,7 +40,7 @@ join P (x ∷ xs) ys here there = (here.0, join P xs ys here.1 there)
 
 -- ---- short terms
 
-short_couplers-pairs : (n : ℕ) (t : Term) → Ascend t.0 → Below n t.0 → ArePairs n (short_couplers t)
+pub short_couplers-pairs : (n : ℕ) (t : Term) → Ascend t.0 → Below n t.0 → ArePairs n (short_couplers t)
 short_couplers-pairs n ([], c) up below = tt
 short_couplers-pairs n (l ∷ [], c) up below = tt
 short_couplers-pairs n (l ∷ k ∷ ls, c) up below =

@@ -27,11 +27,8 @@ use Rattle.monomial_layer.proofs.Sizes.{abs_times}
 use Rattle.direct_quad.specs.Parts.{is_long, short_terms, long_additions, long_terms}
 use Rattle.direct_quad.specs.Places.{signed, complements, pairs_among, pair_coupler, node_coupler, node_couplers, Place, place_couplers, places_in, term_places, all_places, Share, share_at, literal_share, node_share, node_shares, term_shares, all_shares, moved_share, short_shares, short_couplers, long_constant, short_constant}
 use Rattle.direct_quad.specs.Gathered.{constant_of, shares_of, couplers_of}
+use Rattle.direct_quad.specs.Held.{shares_total}
 use Rattle.direct_quad.proofs.Split.{long_terms-long}
-
--- the sum of the sizes of shares
-abbrev pub shares_total : List Share → ℕ
-shares_total shares = sum_by (λ s. unsigned_abs s.1) shares
 
 -- a node's weight is within it
 pub share_at-le : (i : ℕ) (shares : List Share) → unsigned_abs (share_at i shares) ≤ shares_total shares
@@ -93,7 +90,7 @@ short_couplers-size (l ∷ k ∷ ls, c) = omega (arith, size-signed l (signed k 
 
 -- ---- long terms: shares
 
-literal_share-size : (e : ℕ) (c : ℤ) (l : Literal)
+pub literal_share-size : (e : ℕ) (c : ℤ) (l : Literal)
     → unsigned_abs (literal_share e c l).1 ≤ unsigned_abs c * e
 literal_share-size e c l = go l.negated
   where
@@ -106,7 +103,7 @@ literal_share-size e c l = go l.negated
         omega (arith, turned, abs_times c (e - 1), mul-le-mul_left (unsigned_abs c) less)
     go false = omega (arith, abs_times c e)
 
-literal_shares-size : (e : ℕ) (c : ℤ) (ls : List Literal)
+pub literal_shares-size : (e : ℕ) (c : ℤ) (ls : List Literal)
     → shares_total (map (literal_share e c) ls) ≤ length ls * (unsigned_abs c * e)
 literal_shares-size e c [] = omega arith
 literal_shares-size e c (l ∷ ls) =
@@ -117,7 +114,7 @@ literal_shares-size e c (l ∷ ls) =
       literal_shares-size e c ls,
     )
 
-node-size : (f a e d : ℕ) → (f ≡ 1) ⊎ (f ≡ 2) → a ≤ d → e ≤ d → 1 ≤ d
+pub node-size : (f a e d : ℕ) → (f ≡ 1) ⊎ (f ≡ 2) → a ≤ d → e ≤ d → 1 ≤ d
     → unsigned_abs (pos f *ℤ (pos a -ℤ pos e) -ℤ pos 1) ≤ 4 * d
 node-size f a e d (inl one) up in' some =
     let value : pos f *ℤ (pos a -ℤ pos e) ≡ pos a -ℤ pos e =
@@ -128,7 +125,7 @@ node-size f a e d (inr two) up in' some =
     ap (λ k. pos k *ℤ (pos a -ℤ pos e)) two ∙ omega (arith, ints) in
     rw value (omega (arith, ints))
 
-node_shares-size : (d e : ℕ) (c : ℤ) (n k : ℕ) → e ≤ d → 1 ≤ d → 2 * k ≤ d
+pub node_shares-size : (d e : ℕ) (c : ℤ) (n k : ℕ) → e ≤ d → 1 ≤ d → 2 * k ≤ d
     → shares_total (node_shares d e c n k) ≤ k * (unsigned_abs c * (4 * d))
 node_shares-size d e c n zero in' some few = omega arith
 node_shares-size d e c n (suc k) in' some few =
@@ -150,7 +147,7 @@ squares x d short =
     let square : d * d ≤ 2048 * 2048 = mul-le-mul short short in
     omega (arith, mul-le-mul_left x square)
 
-complements-le : (ls : List Literal) → complements ls ≤ length ls
+pub complements-le : (ls : List Literal) → complements ls ≤ length ls
 complements-le ls = count_by-le-length (λ (l : Literal). l.negated) ls
 
 pub term_shares-size : (t : Term) (n : ℕ) → 3 ≤ length t.0 → length t.0 ≤ 2048
@@ -311,7 +308,7 @@ long_constant-size t short = go (int_lt t.1 (pos 0))
 
 -- ---- all terms
 
-abbrev AreLong : List Term → Type 0
+abbrev pub AreLong : List Term → Type 0
 AreLong ts = AllByRecursion (λ (t : Term). (3 ≤ length t.0) × (length t.0 ≤ 2048)) ts
 
 pub all_shares-size : (ts : List Term) (n : ℕ) → AreLong ts

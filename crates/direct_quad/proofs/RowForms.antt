@@ -46,8 +46,7 @@ before : (i n : ℕ) (e : Entry) (es : List Entry) → e.first ≡ i → e.secon
 before i n e [] first less firsts from = tt
 before i n e (f ∷ fs) first less firsts from =
     let one = firsts.0 in
-    let up = from.0 in
-    (
+    let up = from.0 in (
       omega (arith, first, one, up, less),
       before i (suc f.second) e fs first (omega (arith, less, up)) firsts.1 from.1,
     )
@@ -104,8 +103,7 @@ good_nodes l d c n (suc k) some =
       first = refl;
       within = omega arith;
       nonzero = signed-nonzero l (neg_ℤ (c *ℤ pos (factor d k))) (turned-nonzero c (factor d k) some (factor-low d k) (factor-le d k));
-    } in
-    (
+    } in (
       AreFrom-append n (n + k) (node_couplers l d c n k) (e ∷ []) rest.0 below (omega arith) (omega arith, tt),
       together (IsGood l.variable (n + suc k)) (node_couplers l d c n k) (e ∷ []) more (good, tt),
     )
@@ -213,8 +211,7 @@ up_of_pairs i w (e ∷ es) all = go (eqb i e.first) (Decides-eqb i e.first) (up_
     go : (here : Bool) → Decides here (i ≡ e.first) → AllByRecursion (IsUp i w) (row_of i es)
         → AllByRecursion (IsUp i w) (cond here (e ∷ row_of i es) (row_of i es))
     go true d rest =
-        let same = d.0 refl in
-        (
+        let same = d.0 refl in (
           record {
             first = sym same;
             upward = omega (arith, same, all.0.upward);
@@ -228,8 +225,7 @@ up_of_later : (i w : ℕ) (l : Literal) (c : ℤ) (ks : List Literal) → l.vari
     → AllByRecursion (λ k. k.variable < w) ks → AllByRecursion (IsUp i w) (map (pair_coupler l c) ks)
 up_of_later i w l c [] here above within = tt
 up_of_later i w l c (k ∷ ks) here above within =
-    let less = above.0 in
-    (
+    let less = above.0 in (
       record { first = here; upward = omega (arith, here, less); within = within.0 },
       up_of_later i w l c ks here above.1 within.1,
     )
@@ -352,8 +348,7 @@ each_good i w m ps in' own = go w (flat_map node_part ps) (omega arith) own.node
         → AllByRecursion (IsCoupler m) es
     go n [] le from good = tt
     go n (e ∷ es) le from good =
-        let one = from.0 in
-        (
+        let one = from.0 in (
           record {
             upward = omega (arith, one, le, in', good.0.first);
             within = good.0.within;
@@ -416,15 +411,15 @@ row_is t pairs i row kept all in' h =
           (rises i 0 (row ++ nodes) ones (AreFrom-append 0 w row nodes h.ascending inside (omega arith) own.nodes));
       couplers = All-from_recursion (IsCoupler m) (row ++ nodes) whole;
       sums = λ j.
-      omega (
-        arith,
-        ints,
-        total_by-append (weight_for i j) row nodes,
-        total_by-append (weight_for i j) pairs (flat_map place_couplers every),
-        h.totals j,
-        value j,
-        weight-row i j pairs,
-        places_make_rows i j every,
-        weight_split i j ps,
-      );
+          omega (
+            arith,
+            ints,
+            total_by-append (weight_for i j) row nodes,
+            total_by-append (weight_for i j) pairs (flat_map place_couplers every),
+            h.totals j,
+            value j,
+            weight-row i j pairs,
+            places_make_rows i j every,
+            weight_split i j ps,
+          );
     }

@@ -55,9 +55,9 @@ pub place_run : (v : ℕ) (t : TableContent) → AreLong t
 place_run v t kept =
     places_are v 0 t.width (places_in_term t v) t.terms (omega (arith, few_terms t kept)) (ascending t kept)
     (λ i d in'.
-      let e : index_of (key_of v (0 + i)) ≡ i = key-index v (0 + i) (omega (arith, in', few_terms t kept)) ∙ plain i in
-      ap (λ m. places_of v (term_places (get_or t.terms m ([], pos 0)) (node_at t m))) e
-      ∙ ap (λ (u : Term). places_of v (term_places u (node_at t i))) (get_or_default t.terms i ([], pos 0) d in'))
+    let e : index_of (key_of v (0 + i)) ≡ i = key-index v (0 + i) (omega (arith, in', few_terms t kept)) ∙ plain i in
+    ap (λ m. places_of v (term_places (get_or t.terms m ([], pos 0)) (node_at t m))) e
+    ∙ ap (λ (u : Term). places_of v (term_places u (node_at t i))) (get_or_default t.terms i ([], pos 0) d in'))
   where
     plain : (i : ℕ) → 0 + i ≡ i
     plain i = omega arith

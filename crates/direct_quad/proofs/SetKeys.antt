@@ -163,7 +163,7 @@ are_additions coded w ps sets long low =
       record {
         long = long.0;
         low = λ yes.
-        below w q.literals (low yes) (recursion_from_All (λ (l : Literal). l.variable < w) q.literals sets.0.set.within);
+            below w q.literals (low yes) (recursion_from_All (λ (l : Literal). l.variable < w) q.literals sets.0.set.within);
       },
       go qs sets.1 long.1,
     )

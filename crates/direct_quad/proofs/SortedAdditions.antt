@@ -33,7 +33,7 @@ first_nodes_push : (n : ℕ) (ts : List Term) (t : Term)
 first_nodes_push n [] t = let z : n ≡ n + 0 = omega arith in ap (λ m. m ∷ []) z
 first_nodes_push n (u ∷ us) t =
     let e : n + new_nodes u + sum_by new_nodes us ≡ n + sum_by new_nodes (u ∷ us) =
-        omega (arith, sum_by-cons new_nodes u us) in
+    omega (arith, sum_by-cons new_nodes u us) in
     ap (λ ns. n ∷ ns) (first_nodes_push (n + new_nodes u) us t)
     ∙ ap (λ m. n ∷ (first_nodes (n + new_nodes u) us ++ m ∷ [])) e
 
@@ -91,14 +91,13 @@ keyed_more coded additions i key p order new at is pushed within keys whole =
     let same : get_or additions i d ≡ p = get_or_from_slice_get additions i p d at in
     let W : Keyed → Type 0 = λ k. k.index < length additions in
     let K : Keyed → Type 0 = λ k. k.key ≡ key_for coded (addition_at additions k.index).0 in
-    let own : K k = is ∙ ap (λ (q : Product). key_for coded q.literals) (sym same) in
-    (
+    let own : K k = is ∙ ap (λ (q : Product). key_for coded q.literals) (sym same) in (
       subst (All W) (sym pushed) (All-push W order k within (slice_get_within additions i p at)),
       subst (All K) (sym pushed) (All-push K order k keys own),
       ap (additions_at additions) pushed
-      ∙ map_push (λ (m : Keyed). addition_at additions m.index) order k
-      ∙ (λ j. whole j ++ product_term (same j) ∷ [])
-      ∙ sym (take_product additions i p at),
+          ∙ map_push (λ (m : Keyed). addition_at additions m.index) order k
+          ∙ (λ j. whole j ++ product_term (same j) ∷ [])
+          ∙ sym (take_product additions i p at),
     )
 
 -- ---- lists of products as lists of terms

@@ -125,7 +125,7 @@ pub kept-emptied_one : (sums : List ℤ) (i j : ℕ) → get_or (set sums j (pos
     → get_or sums i (pos 0) ≢ pos 0
 kept-emptied_one sums i j there =
     let other : i ≢ j =
-        λ e. there (ap (λ k. get_or (set sums j (pos 0)) k (pos 0)) e ∙ zero_at sums j) in
+    λ e. there (ap (λ k. get_or (set sums j (pos 0)) k (pos 0)) e ∙ zero_at sums j) in
     λ z. there (get_or-set_other sums j i (pos 0) (pos 0) other ∙ z)
 
 in_range : (sums : List ℤ) (j : ℕ) → get_or sums j (pos 0) ≢ pos 0 → j < length sums
@@ -146,8 +146,7 @@ taken_before : (first : ℕ) (sums : List ℤ) (j : ℕ) (e : Entry)
     → IsTaken first (set sums j (pos 0)) e → IsTaken first sums e × (e.second ≢ j)
 taken_before first sums j e h =
     let other : e.second ≢ j =
-        λ same. h.nonzero (h.weighs ∙ ap (λ k. get_or (set sums j (pos 0)) k (pos 0)) same ∙ zero_at sums j) in
-    (
+    λ same. h.nonzero (h.weighs ∙ ap (λ k. get_or (set sums j (pos 0)) k (pos 0)) same ∙ zero_at sums j) in (
       record {
         of = h.of;
         weighs = h.weighs ∙ get_or-set_other sums j e.second (pos 0) (pos 0) other;
@@ -290,18 +289,18 @@ total_taken first j sums (t ∷ ts) there =
     go true d rest =
         let e : j ≡ t = d.0 refl in
         let none : get_or (set sums t (pos 0)) j (pos 0) ≡ pos 0 =
-            ap (λ k. get_or (set sums t (pos 0)) k (pos 0)) e ∙ zero_at sums t in
+        ap (λ k. get_or (set sums t (pos 0)) k (pos 0)) e ∙ zero_at sums t in
         let here : weight_for first j (entry_at first sums t) ≡ get_or sums j (pos 0) =
-            own ∙ ap (λ b. if_so b (get_or sums t (pos 0))) (eq-eqb j t e)
-            ∙ ap (λ k. get_or sums k (pos 0)) (sym e) in
+        own ∙ ap (λ b. if_so b (get_or sums t (pos 0))) (eq-eqb j t e)
+        ∙ ap (λ k. get_or sums k (pos 0)) (sym e) in
         omega (arith, ints, here, none, rest (λ h. absurd (h none)))
     go false d rest =
         let other : j ≢ t = λ e. let both : false ≡ true = d.1 e in cc in
         let back : t ≢ j = λ e. other (sym e) in
         let same : get_or (set sums t (pos 0)) j (pos 0) ≡ get_or sums j (pos 0) =
-            get_or-set_other sums t j (pos 0) (pos 0) other in
+        get_or-set_other sums t j (pos 0) (pos 0) other in
         let here : weight_for first j (entry_at first sums t) ≡ pos 0 =
-            own ∙ if_not (eqb j t) other (Decides-eqb j t) in
+        own ∙ if_not (eqb j t) other (Decides-eqb j t) in
         omega (
           arith,
           ints,
@@ -336,12 +335,12 @@ value-emptied i sums (j ∷ js) there =
         → get_or (emptied (set sums j (pos 0)) js) i (pos 0) ≡ pos 0
     go true d rest =
         let none : get_or (set sums j (pos 0)) i (pos 0) ≡ pos 0 =
-            ap (λ k. get_or (set sums j (pos 0)) k (pos 0)) (d.0 refl) ∙ zero_at sums j in
+        ap (λ k. get_or (set sums j (pos 0)) k (pos 0)) (d.0 refl) ∙ zero_at sums j in
         rest (λ h. absurd (h none))
     go false d rest =
         let other : i ≢ j = λ e. let both : false ≡ true = d.1 e in cc in
         let same : get_or (set sums j (pos 0)) i (pos 0) ≡ get_or sums i (pos 0) =
-            get_or-set_other sums j i (pos 0) (pos 0) other in
+        get_or-set_other sums j i (pos 0) (pos 0) other in
         rest (λ h. Contains-tail j i js (λ e. other (sym e)) (there (λ z. h (same ∙ z))))
 
 -- all sums are 0 once those that were not are taken
@@ -362,7 +361,7 @@ AreSums-taken first sums js climbs there =
     let row = taken first sums js in
     let all = all_taken first sums js in
     let each : (P : Entry → Type 0) → ((e : Entry) → IsTaken first sums e → P e) → All P row =
-        λ P f. All-from_recursion P row (weaker (IsTaken first sums) P f row all) in
+    λ P f. All-from_recursion P row (weaker (IsTaken first sums) P f row all) in
     record {
       firsts = each (λ e. e.first ≡ first) (λ e h. h.of);
       ascending = ascending_taken first 0 sums js climbs;
@@ -383,7 +382,7 @@ Climbs-from n [] up from = tt
 Climbs-from n (j ∷ js) up from = (
   from 0 (omega arith),
   Climbs-from j js (λ i k d le in'. up (suc i) (suc k) d (omega arith) (omega arith))
-  (λ d some. up 0 1 d (omega arith) (omega arith)),
+      (λ d some. up 0 1 d (omega arith) (omega arith)),
 )
 
 -- ---- which sums are in use

@@ -9,3 +9,4 @@ pub mod Long
 pub mod PairLists
 pub mod RowSums
 pub mod Keys
+pub mod Held

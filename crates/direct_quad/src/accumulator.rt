@@ -81,7 +81,11 @@ impl Accumulator {
     }
 
     /// Appends the entries of the sums that are not 0 to couplers, in order, and makes all sums 0.
-    pub(crate) fn put_into(&mut self, couplers: &mut CouplerList, first: u32) -> Result<(), NoMemory>
+    pub(crate) fn put_into(
+        &mut self,
+        couplers: &mut CouplerList,
+        first: u32,
+    ) -> Result<(), NoMemory>
         ensures put { OnOk result (Appends first self.old couplers.old couplers.new) }
         ensures zeros { OnOk result (self.new ≡ replicate (length self.old) (pos 0)) }
     {

@@ -156,7 +156,9 @@ pub(crate) fn summed_additions(
     for i in 0..order.len() {
         let index = order[i].index;
         sum += additions.at(index).coefficient;
-        if i + 1 < order.len() && compared_at(additions, index, order[i + 1].index) == Ordering::Equal {
+        if i + 1 < order.len()
+            && compared_at(additions, index, order[i + 1].index) == Ordering::Equal
+        {
             continue;
         }
         if sum != 0 {

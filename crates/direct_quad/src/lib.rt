@@ -10,6 +10,8 @@ mod long_table;
 mod new_nodes;
 mod pairs;
 mod rows;
+mod shares;
+mod short;
 
 pub use direct::DirectQuad;
 pub use laws::{laws_of_long_terms, laws_of_rows, laws_of_sums};

@@ -112,11 +112,7 @@ fn numbered(
 
 impl LongTable {
     /// The sums of additions over the variables below a width.
-    pub fn of(
-        alloc: Global,
-        width: usize,
-        additions: &ProductList,
-    ) -> Result<LongTable, NoMemory>
+    pub fn of(alloc: Global, width: usize, additions: &ProductList) -> Result<LongTable, NoMemory>
         requires additions { AreAdditions (terms_of width additions.now) }
         requires long { All (λ p. 3 ≤ length p.literals) additions.now }
         requires narrow { node_count (table_of (terms_of width additions.now)) < 2 ^ 32 }

@@ -35,5 +35,9 @@ pub(crate) fn new_nodes(degree: usize, coefficient: i128) -> usize
     ensures { (ls : List Literal) → length ls ≡ degree → 3 ≤ degree
         → result ≡ new_nodes (ls, coefficient) }
 {
-    if coefficient < 0 { 1 } else { nodes_for(degree) }
+    if coefficient < 0 {
+        1
+    } else {
+        nodes_for(degree)
+    }
 }

@@ -303,7 +303,15 @@ pub fn couplers_of(alloc: Global, pairs: &Pairs, long: &LongTable) -> Result<Cou
     for variable in 0..long.width() as u64 {
         let (own_pairs, later_pairs) = split_keys(pairs_left, variable);
         let (own_places, later_places) = split_keys(places_left, variable);
-        push_row(&mut couplers, &mut sums, pairs, long, variable, own_pairs, own_places)?;
+        push_row(
+            &mut couplers,
+            &mut sums,
+            pairs,
+            long,
+            variable,
+            own_pairs,
+            own_places,
+        )?;
         pairs_left = later_pairs;
         places_left = later_places;
     }

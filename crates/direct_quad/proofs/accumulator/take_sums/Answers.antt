@@ -32,10 +32,10 @@ loop-index-preserved c =
             kept = λ i there. c.loop-index.invariant.kept i (kept-emptied_one sums i j there);
           }
       | else-sum-ne0 w ↦ record {
-          couplers = ap (λ es. es ++ taken first (set sums j (pos 0)) (drop (i + 1) js)) w.couplers-is ∙ sym (taken_zero first sums j (drop (i + 1) js) c.loop-index.couplers (let none : get_or sums j (pos 0) ≡ pos 0 = omega (arith, ints, w.if-sum-ne0.false) in none)) ∙ couplers;
-          sums = left;
-          kept = λ i there. c.loop-index.invariant.kept i (kept-emptied_one sums i j there);
-        }
+        couplers = ap (λ es. es ++ taken first (set sums j (pos 0)) (drop (i + 1) js)) w.couplers-is ∙ sym (taken_zero first sums j (drop (i + 1) js) c.loop-index.couplers (let none : get_or sums j (pos 0) ≡ pos 0 = omega (arith, ints, w.if-sum-ne0.false) in none)) ∙ couplers;
+        sums = left;
+        kept = λ i there. c.loop-index.invariant.kept i (kept-emptied_one sums i j there);
+      }
     ]
 
 pub returns-clause-taken : goal.returns-clause-taken

@@ -56,11 +56,11 @@ loop-variable-init c =
       pairs = subst (AreKeysFrom 0) (sym c.deref.ensures.value) (all_from _ _ c.ordered-pair_keys.ensures);
       places = subst (AreKeysFrom 0) (sym c.deref-2.ensures.value) (all_from _ _ c.ordered-place_keys.ensures);
       pair_runs = λ v le.
-      ap (keys_of v) c.deref.ensures.value
-      ∙ runs_of v (pair_keys 0 pairs) _ _ c.in_ok-keys_of_pairs.ensures.keys c.ordered-pair_keys.ensures (pair_run-climbs v pairs c.in_ok-keys_of_pairs.ensures.narrow);
+          ap (keys_of v) c.deref.ensures.value
+          ∙ runs_of v (pair_keys 0 pairs) _ _ c.in_ok-keys_of_pairs.ensures.keys c.ordered-pair_keys.ensures (pair_run-climbs v pairs c.in_ok-keys_of_pairs.ensures.narrow);
       place_runs = λ v le.
-      ap (keys_of v) c.deref-2.ensures.value
-      ∙ runs_of v (place_keys 0 t.terms) _ _ c.in_ok-keys_of_places.ensures c.ordered-place_keys.ensures (place_run-climbs v t c.width.ensures.kept);
+          ap (keys_of v) c.deref-2.ensures.value
+          ∙ runs_of v (place_keys 0 t.terms) _ _ c.in_ok-keys_of_places.ensures c.ordered-place_keys.ensures (place_run-climbs v t c.width.ensures.kept);
     }
 
 pub loop-variable-preserved : goal.loop-variable-preserved

@@ -19,8 +19,8 @@ loop-k-preserved c =
     to_z-of_z w128 c.signed-weight.result (search rules) ∙ c.signed-weight.ensures
     ∙ ap (signed l) (turned k c.factor.result (factor d i) c.factor.ensures (factor-low d i) (factor-le d i) c.requires.small) in
     rw back (
-      c.in_ok-push.ensures.pushed
-      ∙ (λ j. so_far j ++ record { first = l.variable; second = n + i; weight = weighs j } ∷ [])
-      ∙ append_assoc c.args.couplers.now (node_couplers l d k n i) _
-      ∙ ap (λ es. c.args.couplers.now ++ es) (sym (node_couplers-more l d k n i))
+    c.in_ok-push.ensures.pushed
+    ∙ (λ j. so_far j ++ record { first = l.variable; second = n + i; weight = weighs j } ∷ [])
+    ∙ append_assoc c.args.couplers.now (node_couplers l d k n i) _
+    ∙ ap (λ es. c.args.couplers.now ++ es) (sym (node_couplers-more l d k n i))
     )
