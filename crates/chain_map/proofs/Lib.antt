@@ -1,5 +1,6 @@
 pub mod ManyParts
 pub mod Occurrences
 pub mod Rows
+pub mod LineNumbers
 pub mod CliqueChains
 pub mod Paths

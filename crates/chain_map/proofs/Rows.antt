@@ -8,9 +8,13 @@ use Rattle.whole_text.specs.Steps.{◌>>=◌, natural_at, Fails}
 use Rattle.whole_text.specs.declared.faults.TextAnswer.{TextAnswer}
 use Rattle.whole_text.specs.declared.faults.TextAnswer.TheVariants.{Bad, NoMemory}
 use Rattle.std.proofs.lemmas.List.{append_assoc, append-nil, length-append}
-use Rattle.chain_map.specs.Maps.{rows_from, qubits_at, chain_at, chains_at, after_front}
+use Rattle.chain_map.specs.Maps.{rows_from, node_at, qubits_at, one_chain, chain_at, chains_at, after_front}
 
 -- ---- readings
+
+abbrev numbers_said : Result (List ℕ) TextFault → List ℕ
+numbers_said (Ok xs) = xs
+numbers_said (Err f) = []
 
 qubits_go : (front : List ℕ) (q : ℕ) (rest : Result (List ℕ) TextFault)
     → after_front front (rest >>= (λ others. Ok (q ∷ others))) ≡ after_front (front ++ q ∷ []) rest
@@ -31,6 +35,28 @@ qubits_fail front w ws f read = rw read refl
 pub qubits_end : (front : List ℕ) → after_front front (qubits_at []) ≡ Ok front
 unfolding qubits_at
 qubits_end front = ap Ok (append-nil front)
+
+-- the one chain of the qubits that are read
+pub one_from : (xs zs : List ℕ) (read : Result (List ℕ) TextFault) (m now : List (List ℕ))
+    → after_front xs read ≡ Ok zs → ((ys : List ℕ) → zs ≡ xs ++ ys → now ≡ m ++ ys ∷ [])
+    → after_front m (one_chain read) ≡ Ok now
+one_from xs zs (Ok ys) m now e more = ap Ok (sym (more ys (sym (ap numbers_said e))))
+one_from xs zs (Err f) m now e more = absurd cc
+
+-- the chain of a line
+pub chain_none : (m : List (List ℕ)) (node : ℕ) → after_front m (chain_at node []) ≡ Ok m
+unfolding chain_at
+chain_none m node = ap Ok (append-nil m)
+
+pub chain_fail : (m : List (List ℕ)) (node : ℕ) (w : Word) (ws : List Word) (f : TextFault)
+    → node_at node w ≡ Err f → after_front m (chain_at node (w ∷ ws)) ≡ Err f
+unfolding chain_at
+chain_fail m node w ws f read = rw read refl
+
+pub chain_one : (m : List (List ℕ)) (node : ℕ) (w : Word) (ws : List Word) → node_at node w ≡ Ok node
+    → after_front m (chain_at node (w ∷ ws)) ≡ after_front m (one_chain (qubits_at ws))
+unfolding chain_at
+chain_one m node w ws read = rw read refl
 
 -- a place inside a list has no default
 pub default_free : {X : Type 0} (xs : List X) (i : ℕ) (d e : X) → i < length xs

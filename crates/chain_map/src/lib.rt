@@ -7,6 +7,8 @@
 #![tactic(auto)]
 
 mod clique;
+mod cutting;
+mod digits;
 mod faults;
 mod map;
 mod reading;

@@ -1,10 +1,15 @@
 //! Maps of chains, whose numbers stand in one list, so that a chain takes no memory of its own.
-ghost use Rattle.std.specs.Prelude.{◌≡◌, ◌<◌, ◌++◌, ◌∷◌, [], length, OnOk, OnErr};
+ghost use Rattle.std.specs.Prelude.{◌≡◌, ◌<◌, ◌≤◌, ◌++◌, ◌∷◌, [], length, map, slice_range, OnOk, OnErr};
+ghost use Rattle.whole_text.specs.Tokens.{word, words};
+ghost use Rattle.whole_text.specs.Steps.{Gives};
+ghost use Rattle.chain_map.specs.Maps.{qubits_at, after_front, one_chain};
 ghost use Rattle.chain_map.specs.Chains.{chain_of};
 
+use crate::reading::push_qubits;
 use bits_model::NoMemory;
 use std::alloc::Global;
 use std::marker::Model;
+use whole_text::TextAnswer;
 
 /// Where the numbers of a chain begin and end in the list of all.
 #[derive(Clone, Copy, Debug, PartialEq, Eq)]
@@ -67,6 +72,27 @@ impl ChainMap {
         self.numbers.extend_from_slice(chain)?;
         let end = self.numbers.len();
         self.parts.push(Part { start, end })?;
+        Ok(())
+    }
+
+    /// Adds the chain of the next node: the numbers of the words from `from` to `to`, all of them on
+    /// this line. They are read into the list of all numbers at once.
+    pub(crate) fn push_words(
+        &mut self,
+        text: &[u8],
+        from: usize,
+        to: usize,
+        line: u64,
+    ) -> Result<(), TextAnswer>
+        requires ordered { from ≤ to }
+        requires within { to ≤ length text.now }
+        ensures { Gives (λ _. self.new) result (after_front self.old (one_chain
+            (qubits_at (map (word line) (words (slice_range text.now from to)))))) }
+    {
+        let start = self.numbers.len();
+        push_qubits(text, from, to, line, &mut self.numbers)?;
+        let stop = self.numbers.len();
+        self.parts.push(Part { start, end: stop })?;
         Ok(())
     }
 }

@@ -1,80 +1,90 @@
 //! The text of a map: a line for each node, with its number and the qubits of its chain.
-ghost use Rattle.std.specs.Prelude.{◌≡◌, length, All};
-ghost use Rattle.whole_text.specs.Tokens.{word_at, words_at, IsWithin};
+ghost use Rattle.std.specs.Prelude.{◌≡◌, ℕ, ◌≤◌, ◌++◌, List, length, map, take, slice_range, IfOk};
+ghost use Rattle.std.specs.List.{position_or_len};
+ghost use Rattle.whole_text.specs.declared.token.Style.TheVariants.{Plain};
+ghost use Rattle.whole_text.specs.Tokens.{is_blank, word, words, tokens_of_line};
 ghost use Rattle.whole_text.specs.Steps.{Gives, GivesAlways};
 ghost use Rattle.chain_map.specs.Maps.{node_at, qubits_at, after_front, chain_at, reading};
 
+use crate::cutting::{blank_len, is_blank};
+use crate::digits::first_number;
 use crate::map::ChainMap;
 use std::alloc::Global;
-use whole_text::{
-    Style, TextAnswer, TextFault, TextKind, Token, fault, line_len, natural, push_line,
-};
+use whole_text::{TextAnswer, TextFault, TextKind, fault, line_len};
 
-/// Whether a token is the number of this node.
+/// The length of the first word, where it is the number of this node.
 #[tactic(auto, unfolding(crate::specs::Maps::node_at))]
-fn node_at(text: &[u8], token: Token, node: u64) -> Result<u64, TextFault>
-    requires { IsWithin text.now token }
-    ensures { result ≡ node_at node (word_at text.now token) }
+fn node_len(bytes: &[u8], line: u64, node: u64) -> Result<usize, TextFault>
+    ensures value { GivesAlways (λ _. node) result
+        (node_at node (word line (take (position_or_len is_blank bytes.now) bytes.now))) }
+    ensures len { IfOk result (λ len. len ≡ position_or_len is_blank bytes.now) }
 {
-    let found = natural(text, token, 0)?;
+    let (found, len) = first_number(bytes, line)?;
     if found == node {
-        Ok(found)
+        Ok(len)
     } else {
-        Err(fault(TextKind::Range, token.line))
+        Err(fault(TextKind::Range, line))
     }
 }
 
-/// Adds the numbers of these tokens.
-fn push_qubits(text: &[u8], row: &[Token], qubits: &mut Vec<u64>) -> Result<(), TextAnswer>
-    requires { All (IsWithin text.now) row.now }
-    ensures { Gives (λ _. qubits.new.items) result
-        (after_front qubits.old.items (qubits_at (words_at text.now row.now))) }
+/// Adds the numbers of the words that stand from `from` to `end`, all of them on this line.
+pub(crate) fn push_qubits(
+    text: &[u8],
+    from: usize,
+    end: usize,
+    line: u64,
+    qubits: &mut Vec<u64>,
+) -> Result<(), TextAnswer>
+    requires ordered { from ≤ end }
+    requires within { end ≤ length text.now }
+    ensures read { Gives (λ _. qubits.new.items) result (after_front qubits.old.items
+        (qubits_at (map (word line) (words (slice_range text.now from end))))) }
+    ensures grown { (more : List ℕ) × (qubits.new.items ≡ qubits.old.items ++ more) }
 {
-    for k in 0..row.len() {
-        qubits.push(natural(text, row[k], 0)?)?;
+    let mut at = from;
+    while at < end {
+        if is_blank(text[at]) {
+            at += 1;
+        } else {
+            let (qubit, len) = first_number(&text[at..end], line)?;
+            qubits.push(qubit)?;
+            at += len;
+        }
     }
     Ok(())
 }
 
-/// Adds the chain that the tokens of a line say, if there are any. The list of qubits is used
-/// again.
-#[tactic(auto, unfolding(crate::specs::Maps::chain_at))]
+/// Adds the chain that the words of a line say, if it has words and is no comment.
 fn push_row(
     text: &[u8],
-    row: &[Token],
+    start: usize,
+    end: usize,
+    line: u64,
     map: &mut ChainMap,
-    qubits: &mut Vec<u64>,
 ) -> Result<(), TextAnswer>
-    requires { All (IsWithin text.now) row.now }
-    ensures { Gives (λ _. map.new) result
-        (after_front map.old (chain_at (length map.old) (words_at text.now row.now))) }
+    requires ordered { start ≤ end }
+    requires within { end ≤ length text.now }
+    ensures { Gives (λ _. map.new) result (after_front map.old
+        (chain_at (length map.old) (tokens_of_line Plain line (slice_range text.now start end)))) }
 {
-    match row {
-        [] => Ok(()),
-        [token, rest @ ..] => {
-            node_at(text, *token, map.len() as u64)?;
-            qubits.clear();
-            push_qubits(text, rest, qubits)?;
-            map.push(qubits.as_slice())?;
-            Ok(())
-        }
+    let at = start + blank_len(&text[start..end]);
+    if at == end || text[at] == b'c' {
+        return Ok(());
     }
+    let len = node_len(&text[at..end], line, map.len() as u64)?;
+    map.push_words(text, at + len, end, line)
 }
 
-/// The map of a text, or the first fault of the text. Tokens are held for one line at a time.
+/// The map of a text, or the first fault of the text. Each number is added as it is read.
 pub fn read_map(alloc: Global, text: &[u8]) -> Result<ChainMap, TextAnswer>
     ensures { Gives (λ map. map) result (reading text.now) }
 {
     let mut map = ChainMap::new(alloc);
-    let mut tokens = Vec::new(alloc);
-    let mut qubits = Vec::new(alloc);
     let mut start = 0;
     let mut line = 1;
     loop {
         let end = start + line_len(&text[start..]);
-        tokens.clear();
-        push_line(&mut tokens, text, start, end, line, Style::Plain)?;
-        push_row(text, &tokens, &mut map, &mut qubits)?;
+        push_row(text, start, end, line, &mut map)?;
         if end == text.len() {
             return Ok(map);
         }

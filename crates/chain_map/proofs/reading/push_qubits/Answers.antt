@@ -1,48 +1,92 @@
-use Rattle.std.proofs.Common.{◌≡◌, suc, ◌+◌, drop, get_or, sym, ap, ◌∙◌, arith}
-use Rattle.std.proofs.Math.Seq.{drop-cons}
-use Rattle.std.proofs.lemmas.List.{drop_all}
+use Rattle.std.proofs.Common.{◌≡◌, ◌+◌, false, [], ◌∷◌, ◌++◌, map, take, get_or, refl, sym, ap, ◌∙◌, arith, append_assoc}
+use Rattle.std.specs.List.{slice_range, position_or_len}
 use Rattle.std.proofs.lemmas.Result.{err_from_is_err_and}
-use Rattle.whole_text.specs.declared.token.Token.{Token}
-use Rattle.whole_text.specs.Tokens.{word_at, words_at}
+use Rattle.whole_text.specs.Tokens.{is_blank, word, words}
+use Rattle.whole_text.proofs.LineWords.{words_none}
+use Rattle.whole_text.proofs.Slices.{slice_none}
 use Rattle.chain_map.specs.Maps.{qubits_at, after_front}
+use Rattle.chain_map.proofs.LineNumbers.{blank_passed, first_word}
 use Rattle.chain_map.proofs.Rows.{qubits_more, qubits_fail, qubits_end}
 use Rattle.chain_map.proofs.reading.push_qubits.Goals as goal
 
-abbrev no_token : Token
-no_token = record { start = 0; end = 0; line = 0 }
-
-pub returns-in_err-natural : goal.returns-in_err-natural
-returns-in_err-natural c =
+pub loop-at-preserved-then-is_blank : goal.loop-at-preserved-then-is_blank
+loop-at-preserved-then-is_blank c =
     let text = c.args.text.now in
-    let row = c.args.row.now in
-    let k = c.loop-k.k in
-    let front = c.loop-k.qubits.items in
-    let token = get_or row k no_token in
+    let line = c.args.line in
+    let front = c.loop-at.qubits.items in
+    let passed = blank_passed text c.loop-at.at c.args.end c.loop-at-test.true c.requires.within
+    (sym c.is_blank.ensures ∙ c.if-is_blank.true) in
+    record {
+      high = omega (arith, c.loop-at-test.true);
+      read = ap (λ ws. after_front front (qubits_at (map (word line) ws))) (sym passed)
+          ∙ c.loop-at.invariant.read;
+      grown = c.loop-at.invariant.grown;
+    }
+
+pub returns-in_err-qubit-clause-read : goal.returns-in_err-qubit-clause-read
+returns-in_err-qubit-clause-read c =
+    let text = c.args.text.now in
+    let line = c.args.line in
+    let at = c.loop-at.at in
+    let end = c.args.end in
+    let front = c.loop-at.qubits.items in
+    let bytes = slice_range text at end in
+    let n = position_or_len is_blank bytes in
+    let ink : is_blank (get_or text at 0) ≡ false = sym c.is_blank.ensures ∙ c.if-is_blank.false in
+    let w = first_word text at end n line c.loop-at-test.true c.requires.within ink refl in
     let p = err_from_is_err_and c.from_residual.result c.from_residual.ensures.1 in
     rw (p.1, p.2)
-    (sym c.loop-k.invariant
-    ∙ ap (λ ts. after_front front (qubits_at (words_at text ts))) (drop-cons row k no_token c.loop-k-test.true)
-    ∙ qubits_fail front (word_at text token) (words_at text (drop (suc k) row)) _ (sym c.in_err-natural.ensures))
+    (sym c.loop-at.invariant.read
+    ∙ ap (λ ws. after_front front (qubits_at ws)) w.2
+    ∙ qubits_fail front (word line (take n bytes))
+    (map (word line) (words (slice_range text (at + n) end))) _ c.in_err-qubit.ensures.value)
 
-pub loop-k-preserved : goal.loop-k-preserved
-loop-k-preserved c =
-    let text = c.args.text.now in
-    let row = c.args.row.now in
-    let k = c.loop-k.k in
-    let front = c.loop-k.qubits.items in
-    let token = get_or row k no_token in
-    let next : k + 1 ≡ suc k = omega arith in
-    ap (λ n. after_front c.push.new.self.items (qubits_at (words_at text (drop n row)))) next
-    ∙ ap (λ xs. after_front xs (qubits_at (words_at text (drop (suc k) row)))) c.in_ok-push.ensures.items
-    ∙ sym (qubits_more front (word_at text token) (words_at text (drop (suc k) row)) _ (sym c.in_ok-natural.ensures))
-    ∙ sym (ap (λ ts. after_front front (qubits_at (words_at text ts))) (drop-cons row k no_token c.loop-k-test.true))
-    ∙ c.loop-k.invariant
+pub loop-at-smaller : goal.loop-at-smaller
+loop-at-smaller c =
+    let ink : is_blank (get_or c.args.text.now c.loop-at.at 0) ≡ false =
+    sym c.is_blank.ensures ∙ c.if-is_blank.false in
+    let w = first_word c.args.text.now c.loop-at.at c.args.end c.in_ok-qubit.len c.args.line
+    c.loop-at-test.true c.requires.within ink c.in_ok-qubit.ensures.len in
+    omega (arith, w.0, c.loop-at-test.true)
 
-pub returns : goal.returns
-returns c =
+pub loop-at-preserved : goal.loop-at-preserved
+loop-at-preserved c =
     let text = c.args.text.now in
-    let row = c.args.row.now in
-    let front = c.loop-k.qubits.items in
-    sym c.loop-k.invariant
-    ∙ ap (λ ts. after_front front (qubits_at (words_at text ts))) (drop_all c.loop-k.k row c.loop-k-test.false)
+    let line = c.args.line in
+    let at = c.loop-at.at in
+    let end = c.args.end in
+    let front = c.loop-at.qubits.items in
+    let n = c.in_ok-qubit.len in
+    let q = c.in_ok-qubit.qubit in
+    let bytes = slice_range text at end in
+    let rest = map (word line) (words (slice_range text (at + n) end)) in
+    let more = c.loop-at.invariant.grown in
+    let ink : is_blank (get_or text at 0) ≡ false = sym c.is_blank.ensures ∙ c.if-is_blank.false in
+    let w = first_word text at end n line c.loop-at-test.true c.requires.within ink c.in_ok-qubit.ensures.len in
+    record {
+      high = w.1;
+      read = ap (λ xs. after_front xs (qubits_at rest)) c.in_ok-push.ensures.items
+          ∙ sym (qubits_more front (word line (take (position_or_len is_blank bytes) bytes)) rest q
+          c.in_ok-qubit.ensures.value)
+          ∙ sym (ap (λ ws. after_front front (qubits_at ws)) w.2)
+          ∙ c.loop-at.invariant.read;
+      grown = (
+        more.0 ++ q ∷ [],
+        c.in_ok-push.ensures.items
+            ∙ ap (λ xs. xs ++ q ∷ []) more.1
+            ∙ append_assoc c.args.qubits.now.items more.0 (q ∷ []),
+      );
+    }
+
+pub returns-clause-read : goal.returns-clause-read
+returns-clause-read c =
+    let text = c.args.text.now in
+    let line = c.args.line in
+    let end = c.args.end in
+    let front = c.loop-at.qubits.items in
+    let here : c.loop-at.at ≡ end = omega (arith, c.loop-at.invariant.high, c.loop-at-test.false) in
+    let none : words (slice_range text c.loop-at.at end) ≡ [] =
+    ap (λ k. words (slice_range text k end)) here ∙ ap words (slice_none text end) ∙ words_none in
+    sym c.loop-at.invariant.read
+    ∙ ap (λ ws. after_front front (qubits_at (map (word line) ws))) none
     ∙ qubits_end front

@@ -1,10 +1,17 @@
-use Rattle.std.proofs.Common.{◌≡◌, drop}
-use Rattle.whole_text.specs.Tokens.{words_at}
+use Rattle.std.proofs.Common.{◌≡◌, ℕ, ◌-◌, ◌≤◌, List, ◌++◌, map}
+use Rattle.std.specs.List.{slice_range}
+use Rattle.whole_text.specs.Tokens.{word, words}
 use Rattle.chain_map.specs.Maps.{qubits_at, after_front}
 use Rattle.chain_map.proofs.reading.push_qubits.Given as goal
 
--- the qubits so far, in front of what the other tokens say, are all of them
-abbrev pub invariant-loop-k : goal.invariant-loop-k
-invariant-loop-k l =
-    after_front l.qubits.items (qubits_at (words_at l.text (drop l.k l.row)))
-    ≡ after_front l.fn.qubits.items (qubits_at (words_at l.text l.row))
+-- the qubits so far, in front of what the other words say, are all of them
+abbrev pub invariant-loop-at : goal.invariant-loop-at
+invariant-loop-at l = record {
+  high : l.at ≤ l.end;
+  read : after_front l.qubits.items (qubits_at (map (word l.line) (words (slice_range l.text l.at l.end))))
+      ≡ after_front l.fn.qubits.items (qubits_at (map (word l.line) (words (slice_range l.text l.fn.from l.end))));
+  grown : (more : List ℕ) × (l.qubits.items ≡ l.fn.qubits.items ++ more);
+}
+
+abbrev pub decreases-loop-at : goal.decreases-loop-at
+decreases-loop-at l = l.end - l.at

@@ -1,0 +1,11 @@
+use Rattle.std.proofs.Common.{rules, tests}
+use Rattle.std.proofs.lemmas.Iterator.{YieldsList-from_slice}
+use Rattle.std.proofs.lemmas.Iterator.Search.{position_from_yields_List}
+use Rattle.whole_text.specs.Tokens.{is_blank}
+use Rattle.whole_text.proofs.Places.{first_or_len}
+use Rattle.chain_map.proofs.cutting.word_len.Goals as goal
+
+pub returns-clause-first : goal.returns-clause-first
+returns-clause-first c =
+    let found = position_from_yields_List is_blank _ _ c.position.result c.position.ensures.ran (YieldsList-from_slice c.args.bytes.now cc) (λ x b q k. search (rules, tests)) in
+    first_or_len is_blank c.args.bytes.now c.position.result _ found c.unwrap_or.ensures
