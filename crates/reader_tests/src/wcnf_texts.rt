@@ -76,7 +76,7 @@ fn the_largest_literal_says_how_many_variables(rt: HostRuntime) -> Result<(), Fa
     for (text, variables, row) in HEADERLESS {
         let problem = read_wcnf(rt.alloc(), text)?;
         assert!(rt;
-            problem.variables == variables && are_clauses(problem.clauses.as_slice(), &[row]),
+            problem.variables == variables && are_clauses(&problem.clauses, &[row]),
             "{text:?}"
         );
     }
@@ -87,7 +87,7 @@ fn the_largest_literal_says_how_many_variables(rt: HostRuntime) -> Result<(), Fa
 fn h_begins_a_hard_clause(rt: HostRuntime) -> Result<(), Fail> {
     let rows: [Row; 2] = [(None, &[(0, false)]), (Some(3), &[(0, true)])];
     let problem = read_wcnf(rt.alloc(), b"c made by a tool\nh 1 0\n3 -1 0\n")?;
-    assert!(rt; problem.variables == 1 && are_clauses(problem.clauses.as_slice(), &rows));
+    assert!(rt; problem.variables == 1 && are_clauses(&problem.clauses, &rows));
     Ok(())
 }
 
