@@ -16,10 +16,8 @@ type Row<'a> = (Option<u64>, &'a [(u64, bool)]);
 fn is_clause(clause: ClauseRef<'_>, weight: Option<u64>, literals: &[(u64, bool)]) -> bool {
     clause.weight == weight
         && clause.literals.len() == literals.len()
-        && clause
-            .literals
-            .zip(literals)
-            .all(|(literal, wanted)| (literal.variable, literal.negated) == *wanted)
+        && clause.literals.zip(literals).all(|(literal, wanted)| (literal.variable, literal.negated)
+            == *wanted)
 }
 
 fn are_clauses(clauses: &ClauseList, rows: &[Row]) -> bool {
@@ -169,7 +167,8 @@ fn same_answer(alloc: Global, text: &[u8]) -> Option<Option<TextKind>> {
     }
 }
 
-fn place_of(kind: Option<TextKind>) -> usize
+/// The place of an answer in a tally.
+pub(crate) fn place_of(kind: Option<TextKind>) -> usize
     ensures { result < 6 }
 {
     match kind {
