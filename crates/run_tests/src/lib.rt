@@ -9,6 +9,8 @@ mod endless;
 #[cfg(test)]
 mod faults;
 #[cfg(test)]
+mod read_back;
+#[cfg(test)]
 mod runs;
 #[cfg(test)]
 mod sizes;

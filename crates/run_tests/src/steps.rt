@@ -35,7 +35,15 @@ fn model_of_text(alloc: Global, text: &str) -> Option<OutputModel>
     let read = read_source(alloc, Format::Wcnf, text.as_bytes()).ok()?;
     check_limits(&read.problem, &CHOICES).ok()?;
     let one = UnitChoice::One;
-    model_of(alloc, read.problem, read.variables, &CHOICES, Target::Qubo, one).ok()
+    model_of(
+        alloc,
+        read.problem,
+        read.variables,
+        &CHOICES,
+        Target::Qubo,
+        one,
+    )
+    .ok()
 }
 
 /// Whether the energy is the cost and the offset, or lies above the threshold of an infinite cost.
