@@ -7,9 +7,13 @@
 #[cfg(test)]
 mod command_rows;
 #[cfg(test)]
+mod entry_texts;
+#[cfg(test)]
 mod memory_ends;
 #[cfg(test)]
 mod pieces;
+#[cfg(test)]
+mod plain_entries;
 #[cfg(test)]
 mod plain_reader;
 #[cfg(test)]

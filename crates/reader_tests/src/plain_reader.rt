@@ -25,7 +25,7 @@ fn push_words<'a>(
     Ok(())
 }
 
-fn words<'a>(alloc: Global, text: &'a [u8]) -> Result<Vec<(u64, &'a [u8])>, AllocError> {
+pub(crate) fn words<'a>(alloc: Global, text: &'a [u8]) -> Result<Vec<(u64, &'a [u8])>, AllocError> {
     let mut words = Vec::new(alloc);
     let mut number: u64 = 0;
     for line in text.split(|byte| *byte == b'\n') {
@@ -36,7 +36,7 @@ fn words<'a>(alloc: Global, text: &'a [u8]) -> Result<Vec<(u64, &'a [u8])>, Allo
 }
 
 /// A number: whether it has a minus, and its size.
-fn signed(word: &[u8]) -> Option<(bool, u64)> {
+pub(crate) fn signed(word: &[u8]) -> Option<(bool, u64)> {
     let (minus, rest) = match word {
         [b'-', rest @ ..] => (true, rest),
         [b'+', rest @ ..] => (false, rest),
@@ -58,11 +58,11 @@ fn signed(word: &[u8]) -> Option<(bool, u64)> {
     Some((minus, size?))
 }
 
-fn bad(kind: TextKind, line: u64) -> TextAnswer {
+pub(crate) fn bad(kind: TextKind, line: u64) -> TextAnswer {
     TextAnswer::Bad(TextFault { kind, line })
 }
 
-fn at_least(least: u64, line: u64, word: &[u8]) -> Result<u64, TextAnswer> {
+pub(crate) fn at_least(least: u64, line: u64, word: &[u8]) -> Result<u64, TextAnswer> {
     let (minus, size) = signed(word).ok_or(bad(TextKind::Number, line))?;
     if size < least || minus && size > 0 {
         return Err(bad(TextKind::Range, line));

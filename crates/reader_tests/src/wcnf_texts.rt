@@ -16,10 +16,8 @@ type Row<'a> = (Option<u64>, &'a [(u64, bool)]);
 fn is_clause(clause: ClauseRef<'_>, weight: Option<u64>, literals: &[(u64, bool)]) -> bool {
     clause.weight == weight
         && clause.literals.len() == literals.len()
-        && clause
-            .literals
-            .zip(literals)
-            .all(|(literal, wanted)| (literal.variable, literal.negated) == *wanted)
+        && clause.literals.zip(literals).all(|(literal, wanted)| (literal.variable, literal.negated)
+            == *wanted)
 }
 
 fn are_clauses(clauses: &ClauseList, rows: &[Row]) -> bool {
@@ -76,7 +74,7 @@ fn the_largest_literal_says_how_many_variables(rt: HostRuntime) -> Result<(), Fa
     for (text, variables, row) in HEADERLESS {
         let problem = read_wcnf(rt.alloc(), text)?;
         assert!(rt;
-            problem.variables == variables && are_clauses(problem.clauses.as_slice(), &[row]),
+            problem.variables == variables && are_clauses(&problem.clauses, &[row]),
             "{text:?}"
         );
     }
@@ -87,7 +85,7 @@ fn the_largest_literal_says_how_many_variables(rt: HostRuntime) -> Result<(), Fa
 fn h_begins_a_hard_clause(rt: HostRuntime) -> Result<(), Fail> {
     let rows: [Row; 2] = [(None, &[(0, false)]), (Some(3), &[(0, true)])];
     let problem = read_wcnf(rt.alloc(), b"c made by a tool\nh 1 0\n3 -1 0\n")?;
-    assert!(rt; problem.variables == 1 && are_clauses(problem.clauses.as_slice(), &rows));
+    assert!(rt; problem.variables == 1 && are_clauses(&problem.clauses, &rows));
     Ok(())
 }
 
@@ -169,7 +167,8 @@ fn same_answer(alloc: Global, text: &[u8]) -> Option<Option<TextKind>> {
     }
 }
 
-fn place_of(kind: Option<TextKind>) -> usize
+/// The place of an answer in a tally.
+pub(crate) fn place_of(kind: Option<TextKind>) -> usize
     ensures { result < 6 }
 {
     match kind {

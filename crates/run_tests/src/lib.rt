@@ -11,6 +11,8 @@ mod faults;
 #[cfg(test)]
 mod pieces;
 #[cfg(test)]
+mod read_back;
+#[cfg(test)]
 mod runs;
 #[cfg(test)]
 mod sizes;

@@ -57,7 +57,26 @@ fn file_a(alloc: Global, text: &str, failing: u64) -> Result<MemoryFiles, Fail> 
     Ok(MemoryFiles::new(FileList::new(files), calls(alloc, failing)?))
 }
 
-/// One run on a name over the file `a` of this text: its status, and the sinks of its text and line.
+/// One run with these words over the file `a` of this text: its status, and the sinks of its text
+/// and line.
+pub(crate) fn run_words(
+    alloc: Global,
+    words: &[&str],
+    text: &str,
+    ends: Ends,
+) -> Result<(Status, MemorySink, MemorySink), Fail>
+    requires takes { 1 ≤ ends.most }
+    requires small { ends.room < 2 ^ 32 }
+{
+    let given = owned(alloc, words)?;
+    let mut files = file_a(alloc, text, ends.read)?;
+    let mut out = sink(alloc, ends.most, ends.room, ends.write)?;
+    let mut err = sink(alloc, 1000, 1000, 0)?;
+    let status = run(alloc, &given, &mut files, &mut out, &mut err);
+    Ok((status, out, err))
+}
+
+/// One run on a name, from weighted CNF to a QUBO.
 pub(crate) fn run_on(
     alloc: Global,
     name: &str,
@@ -67,12 +86,7 @@ pub(crate) fn run_on(
     requires takes { 1 ≤ ends.most }
     requires small { ends.room < 2 ^ 32 }
 {
-    let given = owned(alloc, &["compile", "wcnf", "qubo", name])?;
-    let mut files = file_a(alloc, text, ends.read)?;
-    let mut out = sink(alloc, ends.most, ends.room, ends.write)?;
-    let mut err = sink(alloc, 1000, 1000, 0)?;
-    let status = run(alloc, &given, &mut files, &mut out, &mut err);
-    Ok((status, out, err))
+    run_words(alloc, &["compile", "wcnf", "qubo", name], text, ends)
 }
 
 /// Whether a run over the file `a` of this text, of which no call fails, writes these bytes and this

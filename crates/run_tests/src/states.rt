@@ -10,7 +10,7 @@ fn number(word: &[u8]) -> Option<i64> {
 }
 
 /// The numbers among the words of a text.
-fn numbers(alloc: Global, text: &[u8]) -> Result<Vec<i64>, AllocError> {
+pub(crate) fn numbers(alloc: Global, text: &[u8]) -> Result<Vec<i64>, AllocError> {
     let mut numbers = Vec::new(alloc);
     for word in text.split(|byte| matches!(*byte, b' ' | b'\n')) {
         if let Some(number) = number(word) {
@@ -21,7 +21,7 @@ fn numbers(alloc: Global, text: &[u8]) -> Result<Vec<i64>, AllocError> {
 }
 
 /// Whether the bit at a place is 1.
-fn bit(state: u64, place: i64) -> bool {
+pub(crate) fn bit(state: u64, place: i64) -> bool {
     match u32::try_from(place) {
         Ok(place) => state.checked_shr(place).is_some_and(|rest| rest % 2 == 1),
         Err(_) => false,
@@ -75,7 +75,7 @@ struct Written<'a> {
     entries: &'a [i64],
 }
 
-fn energy(entries: &[i64], state: u64) -> i64 {
+pub(crate) fn energy(entries: &[i64], state: u64) -> i64 {
     let mut energy: i64 = 0;
     for entry in entries.chunks_exact(3) {
         if let [first, second, weight] = entry {
