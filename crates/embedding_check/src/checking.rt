@@ -45,13 +45,7 @@ pub fn check<H: Hardware>(
     let chains = qubits_of(alloc, map)?;
     let sorted = sorted_chains(alloc, &chains)?;
     let parents = all_parents(alloc, hardware, &chains, &sorted)?;
-    let places = all_places(
-        alloc,
-        hardware,
-        &ising.couplings,
-        &chains,
-        &sorted,
-    )?;
+    let places = all_places(alloc, hardware, &ising.couplings, &chains, &sorted)?;
     Ok(Embedded {
         ising,
         chains,
