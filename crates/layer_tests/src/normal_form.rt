@@ -8,7 +8,10 @@ use std::test::Fail;
 fn is_clause(clause: ClauseRef<'_>, literals: &[Literal], weight: Option<u64>) -> bool {
     clause.weight == weight
         && clause.literals.len() == literals.len()
-        && clause.literals.zip(literals).all(|(found, wanted)| found == *wanted)
+        && clause
+            .literals
+            .zip(literals)
+            .all(|(found, wanted)| found == *wanted)
 }
 
 /// Whether the problem has no clause but this one.
