@@ -26,4 +26,6 @@ mod products;
 #[cfg(test)]
 mod quadratics;
 #[cfg(test)]
+mod spins;
+#[cfg(test)]
 mod tables;

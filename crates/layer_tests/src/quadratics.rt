@@ -13,15 +13,19 @@ use std::test::Fail;
 use term_table::low;
 
 /// 3 a + 5 (1 - b) + 7 a (1 - b), which is 5 + 10 a - 5 b - 7 a b.
-const SMALL: [(&[Literal], i128); 3] = [(&[A], 3), (&[NOT_B], 5), (&[A, NOT_B], 7)];
+pub(crate) const SMALL: [(&[Literal], i128); 3] = [(&[A], 3), (&[NOT_B], 5), (&[A, NOT_B], 7)];
 
 /// 5 a b + 2 a (1 - b) + 3 (1 - a) b, which is 2 a + 3 b.
-const ONE_PAIR: [(&[Literal], i128); 3] = [(&[A, B], 5), (&[A, NOT_B], 2), (&[NOT_A, B], 3)];
+pub(crate) const ONE_PAIR: [(&[Literal], i128); 3] = [
+    (&[A, B], 5),
+    (&[A, NOT_B], 2),
+    (&[NOT_A, B], 3),
+];
 
 /// 5 a b c, which is 5 (a b + a c + b c) + 5 d (1 - a - b - c) at its least.
 const OF_THREE: [(&[Literal], i128); 1] = [(&[A, B, C], 5)];
 
-const fn entry(first: u32, second: u32, weight: i128) -> Entry {
+pub(crate) const fn entry(first: u32, second: u32, weight: i128) -> Entry {
     Entry {
         first,
         second,
@@ -30,7 +34,7 @@ const fn entry(first: u32, second: u32, weight: i128) -> Entry {
 }
 
 /// The quadratic form of a table of few terms, or `None` where they are not low.
-fn flattened(
+pub(crate) fn flattened(
     alloc: Global,
     width: usize,
     terms: &[(&[Literal], i128)],
@@ -57,7 +61,7 @@ fn has_couplers(form: &Quad, couplers: &[Entry]) -> bool {
 }
 
 /// Whether the entries of a model are these.
-fn has_entries(model: &OutputModel, entries: &[Entry]) -> bool {
+pub(crate) fn has_entries(model: &OutputModel, entries: &[Entry]) -> bool {
     let mut others = entries.iter();
     for entry in model.entries.iter() {
         match others.next() {
@@ -69,7 +73,12 @@ fn has_entries(model: &OutputModel, entries: &[Entry]) -> bool {
 }
 
 /// Whether a form has these parts.
-fn has_parts(form: &Quad, constant: i128, diagonal: &[i128], couplers: &[Entry]) -> bool {
+pub(crate) fn has_parts(
+    form: &Quad,
+    constant: i128,
+    diagonal: &[i128],
+    couplers: &[Entry],
+) -> bool {
     form.constant == constant
         && form.diagonal.as_slice() == diagonal
         && has_couplers(form, couplers)
