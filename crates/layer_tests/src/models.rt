@@ -170,8 +170,10 @@ fn chained(alloc: Global) -> Result<OutputModel, NoMemory> {
 
 // ---- texts
 
-fn has_text(alloc: Global, model: &OutputModel, text: &[u8]) -> Result<bool, NoMemory> {
-    Ok(written_text(alloc, model)?.as_slice() == text)
+fn has_text(alloc: Global, model: OutputModel, text: &[u8]) -> Result<bool, NoMemory> {
+    let written = written_text(alloc, &model);
+    drop(model);
+    Ok(written?.as_slice() == text)
 }
 
 const QUBO_TEXT: &[u8] = b"c scale 3\nc offset -4\nc threshold -1\nc unit 1\nc variables 1\n\
@@ -190,10 +192,10 @@ const CHAINED_TEXT: &[u8] = b"c scale 3\nc offset -4\nc threshold -1\nc unit 1\n
 /// Whether the text of each model is the one by hand.
 fn have_texts(alloc: Global) -> Result<[bool; 4], NoMemory> {
     Ok([
-        has_text(alloc, &qubo(alloc)?, QUBO_TEXT)?,
-        has_text(alloc, &ising(alloc)?, ISING_TEXT)?,
-        has_text(alloc, &chimera(alloc)?, CHIMERA_TEXT)?,
-        has_text(alloc, &chained(alloc)?, CHAINED_TEXT)?,
+        has_text(alloc, qubo(alloc)?, QUBO_TEXT)?,
+        has_text(alloc, ising(alloc)?, ISING_TEXT)?,
+        has_text(alloc, chimera(alloc)?, CHIMERA_TEXT)?,
+        has_text(alloc, chained(alloc)?, CHAINED_TEXT)?,
     ])
 }
 
@@ -206,19 +208,22 @@ fn texts_of_models_of_each_kind(rt: HostRuntime) -> Result<(), Fail> {
 
 // ---- energies
 
-fn energy_of_two(model: &OutputModel, y: [bool; 2]) -> Option<Cost> {
-    if model.nodes != 2 {
-        return None;
-    }
-    Some(model.cost(&y))
+fn energy_of_two(model: OutputModel, y: [bool; 2]) -> Option<Cost> {
+    let energy = if model.nodes == 2 {
+        Some(model.cost(&y))
+    } else {
+        None
+    };
+    drop(model);
+    energy
 }
 
 /// The energies of a state under a QUBO, an Ising model and one with chains.
 fn energies_of_two(alloc: Global, y: [bool; 2]) -> Result<[Option<Cost>; 3], NoMemory> {
     Ok([
-        energy_of_two(&qubo(alloc)?, y),
-        energy_of_two(&ising(alloc)?, y),
-        energy_of_two(&chimera(alloc)?, y),
+        energy_of_two(qubo(alloc)?, y),
+        energy_of_two(ising(alloc)?, y),
+        energy_of_two(chimera(alloc)?, y),
     ])
 }
 
@@ -242,10 +247,13 @@ fn energies_of_two_nodes(rt: HostRuntime) -> Result<(), Fail> {
 
 fn energy_of_chained(alloc: Global, y: [bool; 6]) -> Result<Option<Cost>, NoMemory> {
     let model = chained(alloc)?;
-    if model.nodes != 6 {
-        return Ok(None);
-    }
-    Ok(Some(model.cost(&y)))
+    let energy = if model.nodes == 6 {
+        Some(model.cost(&y))
+    } else {
+        None
+    };
+    drop(model);
+    Ok(energy)
 }
 
 #[test]
