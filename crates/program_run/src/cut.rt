@@ -42,6 +42,7 @@ pub fn read_words<F: Files>(
         find_file held (string_bytes name) ≡ None → IsErrOf result ReadAnswer.ReadFault) }
 
     // One byte beyond the limit tells that a file is too long, and no more is taken.
+    ensures at_most { (F.counts files.new).taken ≤ limit + 1 }
     ensures too_long { IsErrOf result ReadAnswer.TooLong
         ↔ ((F.counts files.new).taken ≡ limit + 1) }
     ensures longer { IsErrOf result ReadAnswer.TooLong →
