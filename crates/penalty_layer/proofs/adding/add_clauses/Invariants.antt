@@ -7,5 +7,5 @@ use Rattle.penalty_layer.proofs.adding.add_clauses.Given as goal
 -- the clauses so far were added, and what is left fits
 abbrev pub invariant-loop-clause : goal.invariant-loop-clause
 invariant-loop-clause g l =
-    Appended (clause_term l.penalty) (λ (c : Clause). unwrap_or c.weight l.penalty) (g.T.Gather.additions l.fn.terms)
-    (g.T.Gather.additions l.terms) l.clause-iterator l.clauses
+    Appended g.T.Gather.holds g.T.Gather.width g.T.Gather.total (clause_term l.penalty) (λ (c : Clause). unwrap_or c.weight l.penalty)
+    l.fn.terms l.terms l.clause-iterator l.clauses

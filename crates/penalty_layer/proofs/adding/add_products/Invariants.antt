@@ -7,5 +7,5 @@ use Rattle.penalty_layer.proofs.adding.add_products.Given as goal
 -- the products so far were added, and what is left fits
 abbrev pub invariant-loop-product : goal.invariant-loop-product
 invariant-loop-product g l =
-    Appended product_term (λ (t : Product). unsigned_abs t.coefficient) (g.T.Gather.additions l.fn.terms) (g.T.Gather.additions l.terms)
-    l.product-iterator l.products
+    Appended g.T.Gather.holds g.T.Gather.width g.T.Gather.total product_term (λ (t : Product). unsigned_abs t.coefficient)
+    l.fn.terms l.terms l.product-iterator l.products
