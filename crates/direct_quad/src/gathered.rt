@@ -10,7 +10,7 @@ ghost use Rattle.direct_quad.specs.Gathered.{IsSumOf};
 use crate::long_table::LongTable;
 use crate::pairs::Pairs;
 use crate::rows::couplers_of;
-use crate::shares::add_shares;
+use crate::shares::with_long;
 use crate::short::{add_short_shares, constant_of, push_short};
 use bits_model::{CouplerList, NoMemory};
 use penalty_layer::Gather;
@@ -123,7 +123,7 @@ impl DirectTerms {
     {
         let DirectTerms {
             constant,
-            mut weights,
+            weights,
             pairs,
             long,
             ..
@@ -132,10 +132,9 @@ impl DirectTerms {
         drop(long);
         let couplers = couplers_of(alloc, &pairs, &table)?;
         drop(pairs);
-        weights.resize(table.node_count() as usize, 0)?;
-        let constant = constant + add_shares(&mut weights, &table);
+        let (weights, more) = with_long(weights, &table)?;
         Ok(Sums {
-            constant,
+            constant: constant + more,
             weights,
             couplers,
         })
