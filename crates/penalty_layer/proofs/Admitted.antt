@@ -18,10 +18,10 @@ use Rattle.term_table.proofs.KeptTerms.{OfSet, AreTerms-with_additions}
 use Rattle.penalty_layer.specs.Penalty.{Admits, contributions, opposite, product_term, clause_term, image, Fits}
 use Rattle.bits_model.specs.Links.{first_bits}
 use Rattle.penalty_layer.specs.laws.Relaxing.{penalty_relaxes}
-use Rattle.penalty_layer.specs.Weights.{clause_weights}
+use Rattle.penalty_layer.specs.Weights.{clause_weights, product_squares, clause_squares}
 use Rattle.penalty_layer.proofs.OppositeSets.{opposites_set, opposites_length}
 use Rattle.penalty_layer.proofs.Bounds.{within_limits, degrees_within, weights_within, upper_within}
-use Rattle.penalty_layer.proofs.Sizes.{size_within, products_within, image_total}
+use Rattle.penalty_layer.proofs.Sizes.{size_within, products_within, image_total, product_squares_are, clause_squares_are}
 
 -- ---- the sets that are added
 
@@ -68,6 +68,12 @@ made_image p gathered table added summed =
 pub clauses_fit : (p : ProblemContent) → limit_fault normals.Literal p ≡ None
     → unsigned_abs p.constant + products_total p.objective + clause_weights (penalty p) p.clauses ≤ 2 ^ 64 - 1
 clauses_fit p none = omega (arith, weights_within p, (within_limits p none).weight)
+
+-- so do the squares of all degrees
+pub squares_fit : (p : ProblemContent) → limit_fault normals.Literal p ≡ None
+    → product_squares p.objective + clause_squares p.clauses ≤ 2 ^ 24
+squares_fit p none =
+    omega (arith, product_squares_are p.objective, clause_squares_are p.clauses, (within_limits p none).pairs)
 
 pub made_total : (p : ProblemContent) (third : TableContent) → limit_fault normals.Literal p ≡ None → third ≡ image p
     → terms_total third.terms + 1 ≤ 2 ^ 64

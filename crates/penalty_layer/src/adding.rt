@@ -10,7 +10,7 @@ ghost use Rattle.penalty_layer.specs.Penalty.{
   Admits,
 };
 ghost use Rattle.term_table.specs.Tables.{TableContent, with_more};
-ghost use Rattle.penalty_layer.specs.Weights.{clause_weights};
+ghost use Rattle.penalty_layer.specs.Weights.{clause_weights, product_squares, clause_squares};
 
 use crate::gather::Gather;
 use bits_model::NoMemory;
@@ -25,11 +25,14 @@ fn add_products<T: Gather>(
 ) -> Result<(), NoMemory>
     requires sets { All (λ t. IsTermSet (T.width terms.old) t.literals) products.now }
     requires small { T.total terms.old + products_total products.now ≤ 2 ^ 97 }
+    requires few { T.pairs terms.old + product_squares products.now ≤ 2 ^ 24 }
     ensures added { (t : TableContent) → T.holds terms.old t
         → OnOk result (T.holds terms.new (with_more t (map product_term products.now))) }
     ensures width { OnOk result (T.width terms.new ≡ T.width terms.old) }
     ensures total { OnOk result
         (T.total terms.new ≡ T.total terms.old + products_total products.now) }
+    ensures pairs { OnOk result
+        (T.pairs terms.new ≤ T.pairs terms.old + product_squares products.now) }
 {
     let mut set = Vec::new(alloc);
     for product in products.iter() {
@@ -84,6 +87,7 @@ fn add_clauses<T: Gather>(
 ) -> Result<(), NoMemory>
     requires sets { All (λ c. IsTermSet (T.width terms.old) (map opposite c.literals)) clauses.now }
     requires small { T.total terms.old + clause_weights penalty clauses.now ≤ 2 ^ 97 }
+    requires few { T.pairs terms.old + clause_squares clauses.now ≤ 2 ^ 24 }
     requires penalty { penalty ≤ 2 ^ 100 }
     ensures { (t : TableContent) → T.holds terms.old t
         → OnOk result (T.holds terms.new (with_more t (map (clause_term penalty) clauses.now))) }
@@ -107,6 +111,7 @@ pub fn add_contributions<T: Gather>(
     requires empty { T.holds terms.old (record { width = problem.now.variables; terms = [] }) }
     requires width { T.width terms.old ≡ problem.now.variables }
     requires total { T.total terms.old ≡ 0 }
+    requires pairs { T.pairs terms.old ≡ 0 }
     ensures { OnOk result (T.holds terms.new
         (record { width = problem.now.variables; terms = contributions problem.now })) }
 {

@@ -3,8 +3,8 @@ use Rattle.std.specs.Int.{w128}
 use Rattle.std.proofs.lemmas.Int.{to_z-of_z}
 use Rattle.problem_form.specs.Problems.{ProblemContent, products_total}
 use Rattle.problem_form.specs.Limits.{penalty}
-use Rattle.penalty_layer.specs.Weights.{clause_weights}
-use Rattle.penalty_layer.proofs.Admitted.{empty_set, product_sets, clause_sets, clauses_fit}
+use Rattle.penalty_layer.specs.Weights.{clause_weights, product_squares, clause_squares}
+use Rattle.penalty_layer.proofs.Admitted.{empty_set, product_sets, clause_sets, clauses_fit, squares_fit}
 use Rattle.penalty_layer.proofs.adding.add_contributions.Goals as goal
 
 pub gather-requires-clause-set : goal.gather-requires-clause-set
@@ -39,4 +39,26 @@ add_clauses-requires-clause-small g c =
       c.in_ok-add_products.ensures.total,
       c.in_ok-gather.ensures.total,
       c.requires.total,
+    )
+
+pub add_products-requires-clause-few : goal.add_products-requires-clause-few
+add_products-requires-clause-few g c =
+    omega (
+      arith,
+      squares_fit c.args.problem.now c.requires.admits.within,
+      ap (λ (q : ProblemContent). product_squares q.objective) c.problem.view_is,
+      c.in_ok-gather.ensures.pairs,
+      c.requires.pairs,
+    )
+
+pub add_clauses-requires-clause-few : goal.add_clauses-requires-clause-few
+add_clauses-requires-clause-few g c =
+    omega (
+      arith,
+      squares_fit c.args.problem.now c.requires.admits.within,
+      ap (λ (q : ProblemContent). product_squares q.objective) c.problem.view_is,
+      ap (λ (q : ProblemContent). clause_squares q.clauses) c.problem.view_is,
+      c.in_ok-add_products.ensures.pairs,
+      c.in_ok-gather.ensures.pairs,
+      c.requires.pairs,
     )
