@@ -20,3 +20,4 @@ pub mod SortedAdditions
 pub mod SetKeys
 pub mod HeldTerms
 pub mod GainedShares
+pub mod HeldSums

@@ -133,7 +133,7 @@ pub found_here : (v : ℕ) (l : Literal) (ls : List Literal) → l.variable ≡ 
 found_here v l ls e =
     ap (λ b. if b then l ∷ ls else from_variable v ls) (eq-eqb v l.variable (sym e))
 
-differs : (v n : ℕ) → (n ≡ v → ⊥) → eqb v n ≡ false
+pub differs : (v n : ℕ) → (n ≡ v → ⊥) → eqb v n ≡ false
 differs v n ne = go (eqb v n) (Decides-eqb v n)
   where
     go : (same : Bool) → Decides same (v ≡ n) → same ≡ false

@@ -62,7 +62,7 @@ weight-nodes_other i j l d c n (suc k) other =
       weight_for-other i j one other,
     )
 
-weight-place_other : (i j : ℕ) (p : Place) → is_at i p ≡ false
+pub weight-place_other : (i j : ℕ) (p : Place) → is_at i p ≡ false
     → weight_at i j (place_couplers p) ≡ pos 0
 weight-place_other i j p other = go (int_lt p.coefficient (pos 0))
   where
@@ -159,7 +159,7 @@ weight-other_rows i k j (f ∷ fs) less first =
     go true d = let same = d.0 refl in let here = first.0 in absurd (omega arith)
     go false d = refl
 
-weight-below : (i j : ℕ) (es : List Entry) → AllByRecursion (λ e. e.first < i) es
+pub weight-below : (i j : ℕ) (es : List Entry) → AllByRecursion (λ e. e.first < i) es
     → weight_at i j es ≡ pos 0
 weight-below i j [] below = refl
 weight-below i j (e ∷ es) below =

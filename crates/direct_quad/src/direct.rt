@@ -1,10 +1,10 @@
 //! The guard from a problem to its quadratic form.
-use crate::gathered::DirectTerms;
+use crate::gathered::{DirectTerms, Sums};
 use bits_model::{BitsLink, Costed, Figures, Guard, Guarded, Layer, NoMemory};
 use monomial_layer::Monomials;
 use penalty_layer::{Penalty, add_contributions};
 use problem_form::Problem;
-use quad_form::Quad;
+use quad_form::{NumberList, Quad};
 use std::alloc::Global;
 
 /// Penalties for hard clauses, quadratic terms in place of longer ones, each by itself and over
@@ -63,7 +63,16 @@ impl Guard for DirectQuad {
         let width = source.variables as usize;
         let mut terms = DirectTerms::new(alloc, width)?;
         add_contributions(alloc, &mut terms, source)?;
-        let quad = terms.into_quad()?;
+        let Sums {
+            constant,
+            weights,
+            couplers,
+        } = terms.into_sums(alloc)?;
+        let quad = Quad {
+            constant,
+            diagonal: NumberList::new(weights),
+            couplers,
+        };
         Ok(Guarded {
             link: BitsLink {
                 source_width: width,

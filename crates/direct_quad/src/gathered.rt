@@ -1,75 +1,165 @@
-//! Additions that are gathered first, and become a quadratic form at once.
-ghost use Rattle.std.specs.Prelude.{◌≡◌, ◌+◌, ◌≤◌, ◌<◌, ◌^◌, [], IfOk, OnOk, OnErr, unsigned_abs};
-ghost use Rattle.term_table.specs.Terms.{terms_total, IsTermSet};
-ghost use Rattle.term_table.specs.Tables.{table_size, with_appended};
-ghost use Rattle.direct_quad.specs.Parts.{image, table_of};
+//! Additions that are gathered, and become a quadratic form at once.
+ghost use Rattle.std.specs.Prelude.{◌≡◌, ◌+◌, ◌*◌, ◌≤◌, ◌<◌, ◌^◌, [], IfOk, OnOk, OnErr, length, unsigned_abs};
+ghost use Rattle.term_table.specs.Terms.{IsTermSet};
+ghost use Rattle.term_table.specs.Tables.{TableContent, AreAdditions, with_appended};
+ghost use Rattle.direct_quad.specs.Parts.{table_of};
+ghost use Rattle.direct_quad.specs.Long.{terms_of, node_count};
+ghost use Rattle.direct_quad.specs.Held.{AreHeld};
+ghost use Rattle.direct_quad.specs.Gathered.{IsSumOf};
 
-use bits_model::{Layer, NoMemory};
-use monomial_layer::Monomials;
+use crate::long_table::LongTable;
+use crate::pairs::Pairs;
+use crate::rows::couplers_of;
+use crate::shares::with_long;
+use crate::short::{add_short_shares, constant_of, push_short};
+use bits_model::{CouplerList, NoMemory};
 use penalty_layer::Gather;
-use problem_form::Literal;
-use quad_form::{Flatten, Quad};
+use problem_form::{Literal, ProductList};
 use std::alloc::Global;
 use std::marker::Model;
-use term_table::GatheredTerms;
 
-/// Sets with coefficients, of which a quadratic form is to be made.
+/// What a quadratic form is made of: its constant, the weights of its nodes, and its couplers.
+#[derive(Drop)]
+pub(crate) struct Sums {
+    pub(crate) constant: i128,
+    pub(crate) weights: Vec<i128>,
+    pub(crate) couplers: CouplerList,
+}
+
+/// Sets with coefficients, of which a quadratic form is to be made. Those of at most two literals
+/// go at once to the constant, the weights of nodes and the pairs, and longer ones are kept.
 #[derive(Drop)]
 pub(crate) struct DirectTerms {
-    alloc: Global,
-    terms: GatheredTerms,
+    total: u128,
+    constant: i128,
+    weights: Vec<i128>,
+    pairs: Pairs,
+    long: ProductList,
 }
 
 impl Model for DirectTerms {
-    ghost use Rattle.term_table.specs.Tables.{TableContent};
-    ghost use Rattle.direct_quad.specs.Gathered.{AreSmall};
+    ghost use Rattle.direct_quad.specs.Held.{HeldContent, IsHeld};
 
-    ghost Value = { TableContent };
+    ghost Value = { HeldContent };
 
-    ghost view = { λ t. t.terms };
+    ghost view = { λ a. record {
+      total = a.total;
+      constant = a.constant;
+      weights = a.weights.items;
+      pairs = a.pairs;
+      long = a.long;
+    } };
 
-    ghost invariant = { λ t. AreSmall t.terms };
+    ghost invariant = { λ a. IsHeld (record {
+      total = a.total;
+      constant = a.constant;
+      weights = a.weights.items;
+      pairs = a.pairs;
+      long = a.long;
+    }) };
 }
 
 impl DirectTerms {
     /// No additions yet.
     pub(crate) fn new(alloc: Global, width: usize) -> Result<DirectTerms, NoMemory>
         requires narrow { width < 2 ^ 32 }
-        ensures { IfOk result (λ t. t ≡ record { width = width; terms = [] }) }
+        ensures empty { IfOk result (AreHeld (record { width = width; terms = [] })) }
+        ensures width { IfOk result (λ terms. length terms.weights ≡ width) }
+        ensures total { IfOk result (λ terms. terms.total ≡ 0) }
+        ensures pairs { IfOk result (λ terms. length terms.pairs ≡ 0) }
     {
         Ok(DirectTerms {
-            alloc,
-            terms: GatheredTerms::new(alloc, width),
+            total: 0,
+            constant: 0,
+            weights: vec![in alloc; 0; width]?,
+            pairs: Pairs::empty(alloc),
+            long: ProductList::empty(alloc),
         })
     }
 
-    /// Adds to the coefficient of a set.
-    pub(crate) fn add(&mut self, literals: &[Literal], coefficient: i128) -> Result<(), NoMemory>
-        requires set { IsTermSet self.old.width literals.now }
-        requires small { terms_total self.old.terms + unsigned_abs coefficient ≤ 2 ^ 97 }
-        ensures added { OnOk result (self.new ≡ with_appended self.old literals.now coefficient) }
+    /// Adds to the coefficient of a set of at most two literals.
+    fn add_short(&mut self, literals: &[Literal], coefficient: i128) -> Result<(), NoMemory>
+        requires set { IsTermSet (length self.old.weights) literals.now }
+        requires short { length literals.now ≤ 2 }
+        requires small { self.old.total + unsigned_abs coefficient ≤ 2 ^ 97 }
+        requires few { length self.old.pairs + 1 < 2 ^ 32 }
+        ensures added { (t : TableContent) → AreHeld t self.old
+            → OnOk result (AreHeld (with_appended t literals.now coefficient) self.new) }
+        ensures width { OnOk result (length self.new.weights ≡ length self.old.weights) }
+        ensures total { OnOk result (self.new.total ≡ self.old.total + unsigned_abs coefficient) }
+        ensures pairs { OnOk result (4 * length self.new.pairs
+            ≤ 4 * length self.old.pairs + length literals.now ^ 2) }
         ensures unchanged { OnErr result (self.new ≡ self.old) }
     {
-        self.terms.add(literals, coefficient)
+        push_short(&mut self.pairs, literals, coefficient)?;
+        add_short_shares(&mut self.weights, literals, coefficient);
+        self.constant += constant_of(literals, coefficient);
+        self.total += coefficient.unsigned_abs();
+        Ok(())
     }
 
-    /// The quadratic form of the sums, with new nodes for long terms.
-    pub(crate) fn into_quad(self) -> Result<Quad, NoMemory>
-        requires size { table_size (table_of self) ≤ 2 ^ 28 }
-        ensures { IfOk result (λ q. q ≡ image self) }
+    /// Adds to the coefficient of a longer set.
+    fn add_long(&mut self, literals: &[Literal], coefficient: i128) -> Result<(), NoMemory>
+        requires set { IsTermSet (length self.old.weights) literals.now }
+        requires long { 2 < length literals.now }
+        requires small { self.old.total + unsigned_abs coefficient ≤ 2 ^ 97 }
+        ensures added { (t : TableContent) → AreHeld t self.old
+            → OnOk result (AreHeld (with_appended t literals.now coefficient) self.new) }
+        ensures width { OnOk result (length self.new.weights ≡ length self.old.weights) }
+        ensures total { OnOk result (self.new.total ≡ self.old.total + unsigned_abs coefficient) }
+        ensures pairs { OnOk result (self.new.pairs ≡ self.old.pairs) }
+        ensures unchanged { OnErr result (self.new ≡ self.old) }
     {
-        let table = self.terms.into_table();
-        let low = Monomials.lower(self.alloc, &table)?;
-        drop(table);
-        let quad = Flatten.lower(self.alloc, &low.target)?;
-        Ok(quad.target)
+        self.long.push(literals, coefficient)?;
+        self.total += coefficient.unsigned_abs();
+        Ok(())
+    }
+
+    /// The sums of what all additions give, with new nodes for long terms. Each list is let go as
+    /// soon as it is used.
+    pub(crate) fn into_sums(self, alloc: Global) -> Result<Sums, NoMemory>
+        requires narrow { node_count (table_of (terms_of (length self.weights) self.long)) < 2 ^ 32 }
+        ensures { (t : TableContent) → AreAdditions t → AreHeld t self
+            → IfOk result (λ sums. IsSumOf t (record {
+              constant = sums.constant;
+              diagonal = sums.weights.items;
+              couplers = sums.couplers;
+            })) }
+    {
+        let DirectTerms {
+            constant,
+            weights,
+            pairs,
+            long,
+            ..
+        } = self;
+        let table = LongTable::of(alloc, weights.len(), &long)?;
+        drop(long);
+        let couplers = couplers_of(alloc, &pairs, &table)?;
+        drop(pairs);
+        let (weights, more) = with_long(weights, &table)?;
+        Ok(Sums {
+            constant: constant + more,
+            weights,
+            couplers,
+        })
     }
 }
 
 impl Gather for DirectTerms {
-    ghost additions = { λ terms. terms };
+    ghost width = { λ terms. length terms.weights };
+
+    ghost total = { λ terms. terms.total };
+
+    ghost pairs = { λ terms. 4 * length terms.pairs };
+
+    ghost holds = { λ terms t. AreHeld t terms };
 
     fn gather(&mut self, literals: &[Literal], coefficient: i128) -> Result<(), NoMemory> {
-        self.add(literals, coefficient)
+        if literals.len() <= 2 {
+            self.add_short(literals, coefficient)
+        } else {
+            self.add_long(literals, coefficient)
+        }
     }
 }

@@ -12,6 +12,7 @@ mod pairs;
 mod rows;
 mod shares;
 mod short;
+mod weights;
 
 pub use direct::DirectQuad;
 pub use laws::{laws_of_long_terms, laws_of_rows, laws_of_sums};

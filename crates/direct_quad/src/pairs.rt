@@ -1,5 +1,5 @@
 //! Couplers that are gathered one by one, more than one for some pairs.
-ghost use Rattle.std.specs.Prelude.{◌≡◌, ◌++◌, ◌∷◌, [], ◌<◌, ◌^◌, OnOk, OnErr, length, slice_get, Some};
+ghost use Rattle.std.specs.Prelude.{◌≡◌, ◌+◌, ◌++◌, ◌∷◌, [], ◌<◌, ◌^◌, OnOk, OnErr, length, slice_get, Some};
 
 use bits_model::{Entry, NoMemory, WeightList};
 use std::alloc::Global;
@@ -13,8 +13,7 @@ pub struct Ends {
 }
 
 /// Couplers in the order in which they came, which contracts see as a list of entries: 16 bytes
-/// each, or 24 where some weight needs more than 64 bits. There are fewer than 2^32 of them: one
-/// more is refused as memory is.
+/// each, or 24 where some weight needs more than 64 bits. There are fewer than 2^32 of them.
 #[derive(Drop)]
 pub struct Pairs {
     ends: Vec<Ends>,
@@ -68,13 +67,11 @@ impl Pairs {
 
     /// Appends a coupler. Where memory is refused the list stays as it was.
     pub fn push(&mut self, first: u32, second: u32, weight: i128) -> Result<(), NoMemory>
+        requires few { length self.old + 1 < 2 ^ 32 }
         ensures pushed { OnOk result (self.new
             ≡ self.old ++ record { first = first; second = second; weight = weight } ∷ []) }
         ensures unchanged { OnErr result (self.new ≡ self.old) }
     {
-        if self.ends.len() >= u32::MAX as usize {
-            return Err(NoMemory);
-        }
         self.ends.push(Ends { first, second })?;
         if self.weights.push(weight).is_err() {
             self.ends.pop();

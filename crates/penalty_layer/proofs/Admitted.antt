@@ -8,7 +8,7 @@ use Rattle.bits_model.specs.Relations.{Relaxes}
 use Rattle.problem_form.specs.declared.terms.Product.{Product}
 use Rattle.problem_form.specs.declared.terms.Clause.{Clause}
 use Rattle.problem_form.specs.declared.limits.Normal.TheVariants as normals
-use Rattle.problem_form.specs.Problems.{ProblemContent}
+use Rattle.problem_form.specs.Problems.{ProblemContent, products_total}
 use Rattle.problem_form.specs.Problems as problems
 use Rattle.problem_form.specs.Limits.{penalty, upper, limit_fault}
 use Rattle.term_table.specs.Terms.{IsTermSet, terms_total, with_additions}
@@ -18,10 +18,10 @@ use Rattle.term_table.proofs.KeptTerms.{OfSet, AreTerms-with_additions}
 use Rattle.penalty_layer.specs.Penalty.{Admits, contributions, opposite, product_term, clause_term, image, Fits}
 use Rattle.bits_model.specs.Links.{first_bits}
 use Rattle.penalty_layer.specs.laws.Relaxing.{penalty_relaxes}
-use Rattle.penalty_layer.specs.Weights.{clause_weights}
+use Rattle.penalty_layer.specs.Weights.{clause_weights, product_squares, clause_squares}
 use Rattle.penalty_layer.proofs.OppositeSets.{opposites_set, opposites_length}
 use Rattle.penalty_layer.proofs.Bounds.{within_limits, degrees_within, weights_within, upper_within}
-use Rattle.penalty_layer.proofs.Sizes.{size_within, products_within, image_total}
+use Rattle.penalty_layer.proofs.Sizes.{size_within, products_within, image_total, product_squares_are, clause_squares_are}
 
 -- ---- the sets that are added
 
@@ -55,43 +55,7 @@ clause_sets p cs width admitted same wide =
 
 -- ---- the table that is made
 
--- q is what the code sees of the problem p
-pub constant_added : (p q : ProblemContent) (empty first : TableContent) (k : ℤ) → q ≡ p
-    → empty ≡ record { width = p.variables; terms = [] } → first ≡ with_appended empty [] k → k ≡ q.constant
-    → first ≡ with_appended (record { width = p.variables; terms = [] }) [] p.constant
-constant_added p q empty first k same blank one constant =
-    one
-    ∙ (λ i. with_appended (blank i) []
-    ((constant ∙ ap (λ (u : ProblemContent). u.constant) same) i))
-
-pub products_added : (p q : ProblemContent) (first second : TableContent) (ts : List Product) → q ≡ p
-    → second ≡ with_more first (map product_term ts) → ts ≡ q.objective
-    → second ≡ with_more first (map product_term p.objective)
-products_added p q first second ts same made objective =
-    made
-    ∙ ap (λ us. with_more first (map product_term us))
-    (objective ∙ ap (λ (u : ProblemContent). u.objective) same)
-
-pub clauses_added : (p q : ProblemContent) (second third : TableContent) (n : ℕ) (cs : List Clause) → q ≡ p
-    → third ≡ with_more second (map (clause_term n) cs) → n ≡ penalty p → cs ≡ q.clauses
-    → third ≡ with_more second (map (clause_term (penalty p)) p.clauses)
-clauses_added p q second third n cs same made number clauses =
-    made
-    ∙ (λ i. with_more second
-    (map (clause_term (number i)) ((clauses ∙ ap (λ (u : ProblemContent). u.clauses) same) i)))
-
--- the constant, the products and then the clauses were appended
-pub all_added : (p : ProblemContent) (first second third : TableContent)
-    → first ≡ with_appended (record { width = p.variables; terms = [] }) [] p.constant
-    → second ≡ with_more first (map product_term p.objective)
-    → third ≡ with_more second (map (clause_term (penalty p)) p.clauses)
-    → third ≡ record { width = p.variables; terms = contributions p }
-all_added p first second third constant products clauses =
-    clauses
-    ∙ ap (λ t. with_more t (map (clause_term (penalty p)) p.clauses))
-    (products ∙ ap (λ t. with_more t (map product_term p.objective)) constant)
-
--- and summed
+-- the additions, summed
 pub made_image : (p : ProblemContent) (gathered table : TableContent)
     → gathered ≡ record { width = p.variables; terms = contributions p }
     → table ≡ record { width = gathered.width; terms = with_additions [] gathered.terms }
@@ -101,19 +65,15 @@ made_image p gathered table added summed =
     ∙ ap (λ (t : TableContent). record { width = t.width; terms = with_additions [] t.terms }) added
 
 -- after the products the clauses fit
-pub clauses_fit : (p : ProblemContent) (first second : TableContent) → limit_fault normals.Literal p ≡ None
-    → first ≡ with_appended (record { width = p.variables; terms = [] }) [] p.constant
-    → second ≡ with_more first (map product_term p.objective)
-    → terms_total second.terms + clause_weights (penalty p) p.clauses ≤ 2 ^ 64 - 1
-clauses_fit p first second none constant products =
-    let table = products ∙ ap (λ t. with_more t (map product_term p.objective)) constant in
-    omega (
-      arith,
-      ap (λ (t : TableContent). terms_total t.terms) table,
-      products_within p,
-      weights_within p,
-      (within_limits p none).weight,
-    )
+pub clauses_fit : (p : ProblemContent) → limit_fault normals.Literal p ≡ None
+    → unsigned_abs p.constant + products_total p.objective + clause_weights (penalty p) p.clauses ≤ 2 ^ 64 - 1
+clauses_fit p none = omega (arith, weights_within p, (within_limits p none).weight)
+
+-- so do the squares of all degrees
+pub squares_fit : (p : ProblemContent) → limit_fault normals.Literal p ≡ None
+    → product_squares p.objective + clause_squares p.clauses ≤ 2 ^ 24
+squares_fit p none =
+    omega (arith, product_squares_are p.objective, clause_squares_are p.clauses, (within_limits p none).pairs)
 
 pub made_total : (p : ProblemContent) (third : TableContent) → limit_fault normals.Literal p ≡ None → third ≡ image p
     → terms_total third.terms + 1 ≤ 2 ^ 64

@@ -14,7 +14,7 @@ use Rattle.term_table.specs.Tables.{table_size}
 use Rattle.term_table.proofs.Additions.{sets_sum, sets_sum-cons, sets_sum-with_additions, terms_total-cons, terms_total-with_additions}
 use Rattle.term_table.proofs.SetSizes.{terms_size-once}
 use Rattle.penalty_layer.specs.Penalty.{product_term, clause_term, contributions, image}
-use Rattle.penalty_layer.specs.Weights.{clause_weights}
+use Rattle.penalty_layer.specs.Weights.{clause_weights, product_squares, clause_squares}
 use Rattle.penalty_layer.proofs.OppositeSets.{opposites_length}
 use Rattle.penalty_layer.proofs.Bounds.{within_limits}
 
@@ -43,6 +43,29 @@ clauses_squares n (c ∷ cs) =
       clauses_squares n cs,
       ap (λ m. m ^ 2) (opposites_length c.literals),
       sets_sum-cons square (clause_term n c) (map (clause_term n) cs),
+      sum_by-cons (clause_pairs normals.Literal) c cs,
+    )
+
+-- the pairs that are counted are the squares of the degrees
+pub product_squares_are : (ts : List Product)
+    → product_squares ts ≡ sum_by (product_pairs normals.Literal) ts
+product_squares_are [] = omega arith
+product_squares_are (t ∷ ts) =
+    omega (
+      arith,
+      product_squares_are ts,
+      sum_by-cons (λ (u : Product). length u.literals ^ 2) t ts,
+      sum_by-cons (product_pairs normals.Literal) t ts,
+    )
+
+pub clause_squares_are : (cs : List Clause)
+    → clause_squares cs ≡ sum_by (clause_pairs normals.Literal) cs
+clause_squares_are [] = omega arith
+clause_squares_are (c ∷ cs) =
+    omega (
+      arith,
+      clause_squares_are cs,
+      sum_by-cons (λ (u : Clause). length u.literals ^ 2) c cs,
       sum_by-cons (clause_pairs normals.Literal) c cs,
     )
 

@@ -1,7 +1,7 @@
 //! What each part of a problem contributes to the sums.
 ghost use Rattle.std.specs.Prelude.{◌≡◌, ◌+◌, ◌≤◌, ◌<◌, ◌^◌, [], pos, map, All, OnOk, unwrap_or};
 ghost use Rattle.problem_form.specs.Problems.{products_total};
-ghost use Rattle.term_table.specs.Terms.{IsTermSet, terms_total};
+ghost use Rattle.term_table.specs.Terms.{IsTermSet};
 ghost use Rattle.penalty_layer.specs.Penalty.{
   opposite,
   product_term,
@@ -9,8 +9,8 @@ ghost use Rattle.penalty_layer.specs.Penalty.{
   contributions,
   Admits,
 };
-ghost use Rattle.term_table.specs.Tables.{with_more};
-ghost use Rattle.penalty_layer.specs.Weights.{clause_weights};
+ghost use Rattle.term_table.specs.Tables.{TableContent, with_more};
+ghost use Rattle.penalty_layer.specs.Weights.{clause_weights, product_squares, clause_squares};
 
 use crate::gather::Gather;
 use bits_model::NoMemory;
@@ -23,11 +23,16 @@ fn add_products<T: Gather>(
     terms: &mut T,
     products: &ProductList,
 ) -> Result<(), NoMemory>
-    requires sets { All (λ t. IsTermSet (T.additions terms.old).width t.literals) products.now }
-    requires small { terms_total (T.additions terms.old).terms + products_total products.now
-        ≤ 2 ^ 97 }
-    ensures { OnOk result (T.additions terms.new
-        ≡ with_more (T.additions terms.old) (map product_term products.now)) }
+    requires sets { All (λ t. IsTermSet (T.width terms.old) t.literals) products.now }
+    requires small { T.total terms.old + products_total products.now ≤ 2 ^ 97 }
+    requires few { T.pairs terms.old + product_squares products.now ≤ 2 ^ 24 }
+    ensures added { (t : TableContent) → T.holds terms.old t
+        → OnOk result (T.holds terms.new (with_more t (map product_term products.now))) }
+    ensures width { OnOk result (T.width terms.new ≡ T.width terms.old) }
+    ensures total { OnOk result
+        (T.total terms.new ≡ T.total terms.old + products_total products.now) }
+    ensures pairs { OnOk result
+        (T.pairs terms.new ≤ T.pairs terms.old + product_squares products.now) }
 {
     let mut set = Vec::new(alloc);
     for product in products.iter() {
@@ -80,13 +85,12 @@ fn add_clauses<T: Gather>(
     clauses: &ClauseList,
     penalty: u128,
 ) -> Result<(), NoMemory>
-    requires sets { All (λ c. IsTermSet (T.additions terms.old).width (map opposite c.literals))
-        clauses.now }
-    requires small { terms_total (T.additions terms.old).terms + clause_weights penalty clauses.now
-        ≤ 2 ^ 97 }
+    requires sets { All (λ c. IsTermSet (T.width terms.old) (map opposite c.literals)) clauses.now }
+    requires small { T.total terms.old + clause_weights penalty clauses.now ≤ 2 ^ 97 }
+    requires few { T.pairs terms.old + clause_squares clauses.now ≤ 2 ^ 24 }
     requires penalty { penalty ≤ 2 ^ 100 }
-    ensures { OnOk result (T.additions terms.new
-        ≡ with_more (T.additions terms.old) (map (clause_term penalty) clauses.now)) }
+    ensures { (t : TableContent) → T.holds terms.old t
+        → OnOk result (T.holds terms.new (with_more t (map (clause_term penalty) clauses.now))) }
 {
     let mut opposites = Vec::new(alloc);
     for clause in clauses.iter() {
@@ -104,10 +108,12 @@ pub fn add_contributions<T: Gather>(
     problem: &Problem,
 ) -> Result<(), NoMemory>
     requires admits { Admits problem.now }
-    requires empty { T.additions terms.old
-        ≡ record { width = problem.now.variables; terms = [] } }
-    ensures { OnOk result (T.additions terms.new
-        ≡ record { width = problem.now.variables; terms = contributions problem.now }) }
+    requires empty { T.holds terms.old (record { width = problem.now.variables; terms = [] }) }
+    requires width { T.width terms.old ≡ problem.now.variables }
+    requires total { T.total terms.old ≡ 0 }
+    requires pairs { T.pairs terms.old ≡ 0 }
+    ensures { OnOk result (T.holds terms.new
+        (record { width = problem.now.variables; terms = contributions problem.now })) }
 {
     terms.gather(&[], problem.constant)?;
     add_products(alloc, terms, &problem.objective)?;
