@@ -28,7 +28,7 @@ impl<'a> Model for ConstraintRef<'a> {
 }
 
 /// A constraint whose products lie among those of others, from a place to before another.
-#[derive(Clone, Copy, Debug, PartialEq, Eq)]
+#[derive(Clone, Copy)]
 pub(crate) struct Row {
     pub(crate) start: usize,
     pub(crate) end: usize,
