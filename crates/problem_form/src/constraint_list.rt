@@ -37,7 +37,8 @@ pub(crate) struct Row {
 }
 
 /// Constraints in normal form, which contracts see as a list. A constraint takes no memory of its
-/// own.
+/// own. Where memory was refused for one, some of its products may stay between those of others,
+/// and no constraint has them.
 #[derive(Drop)]
 pub struct ConstraintList {
     products: ProductList,
