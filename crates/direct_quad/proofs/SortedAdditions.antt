@@ -24,7 +24,7 @@ use Rattle.term_table.proofs.KeptTables.{IsTable-with_additions}
 use Rattle.direct_quad.specs.Parts.{table_of}
 use Rattle.monomial_layer.specs.Monomials.{new_nodes}
 use Rattle.direct_quad.specs.declared.additions.Keyed.{Keyed}
-use Rattle.direct_quad.specs.Long.{product_term, terms_of, node_count, first_nodes, key_for, addition_at, additions_at, sums_with, AreLong}
+use Rattle.direct_quad.specs.Long.{product_term, terms_of, node_count, first_nodes, key_for, addition_at, additions_at, sums_with, AreLong, HaveKeys}
 
 -- ---- numbers
 
@@ -195,3 +195,15 @@ next_addition ps order i d in' = ap (additions_at ps) (drop_more order i d in')
 pub index_other : (o : Ordering) → eqb (ordering_index o) 1 ≡ false → o ≢ Equal
 index_other o e same =
     let both : true ≡ false = ap (λ q. eqb (ordering_index q) 1) (sym same) ∙ e in cc
+
+-- ---- keys of equal sets
+
+-- are equal
+pub same_keys : (ps : List Product) (order : List Keyed) (i j : ℕ) (d : Keyed) → HaveKeys ps order
+    → i < length order → j < length order
+    → set_cmp (addition_at ps (get_or order i d).index).0 (addition_at ps (get_or order j d).index).0 ≡ Equal
+    → (get_or order i d).key ≡ (get_or order j d).key
+same_keys ps order i j d have first second equal =
+    have.keys i d first
+    ∙ ap (key_for have.coded) (same_set (addition_at ps (get_or order i d).index).0 (addition_at ps (get_or order j d).index).0 equal)
+    ∙ sym (have.keys j d second)

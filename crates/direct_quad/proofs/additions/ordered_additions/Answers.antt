@@ -45,3 +45,12 @@ returns-clause-ordered c =
     (All-permutation (λ (k : Keyed). k.index < length ps) _ _ moved c.in_ok-order.ensures.within)
     (All-permutation (λ (k : Keyed). k.key ≡ key_for coded (addition_at ps k.index).0) _ _ moved c.in_ok-order.ensures.keys)
     sorted
+
+pub returns-clause-keys : goal.returns-clause-keys
+returns-clause-keys c =
+    let ps = c.args.additions.now in
+    let coded = leb c.args.width (2 ^ 31) in
+    record {
+      coded = coded;
+      keys = All-permutation (λ (k : Keyed). k.key ≡ key_for coded (addition_at ps k.index).0) _ _ c.sort_unstable_by.ensures.permutation c.in_ok-order.ensures.keys;
+    }
