@@ -182,19 +182,10 @@ put_one before c t us other some =
     go true d = absurd (some (d.0 refl))
     go false d = refl
 
-pub index_equal : (o : Ordering) → eqb (ordering_index o) 1 ≡ true → o ≡ Equal
-index_equal Less e = absurd cc
-index_equal Equal e = refl
-index_equal Greater e = absurd cc
-
 pub next_addition : (ps : List Product) (order : List Keyed) (i : ℕ) (d : Keyed) → i < length order
     → additions_at ps (drop i order)
     ≡ addition_at ps (get_or order i d).index ∷ additions_at ps (drop (i + 1) order)
 next_addition ps order i d in' = ap (additions_at ps) (drop_more order i d in')
-
-pub index_other : (o : Ordering) → eqb (ordering_index o) 1 ≡ false → o ≢ Equal
-index_other o e same =
-    let both : true ≡ false = ap (λ q. eqb (ordering_index q) 1) (sym same) ∙ e in cc
 
 -- ---- keys of equal sets
 

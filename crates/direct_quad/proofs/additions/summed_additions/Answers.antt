@@ -9,7 +9,7 @@ use Rattle.term_table.specs.Terms.{Term, terms_total}
 use Rattle.term_table.specs.Summed.{sums_of}
 use Rattle.direct_quad.specs.declared.additions.Keyed.{Keyed}
 use Rattle.direct_quad.specs.Long.{product_term, addition_at, additions_at, sums_with}
-use Rattle.direct_quad.proofs.SortedAdditions.{next_addition, same_step, put_zero, put_one, IsOther, index_equal, index_other}
+use Rattle.direct_quad.proofs.SortedAdditions.{next_addition, same_step, put_zero, put_one, IsOther}
 use Rattle.direct_quad.proofs.additions.summed_additions.Goals as goal
 use Rattle.direct_quad.proofs.additions.summed_additions.Goals.{else-i-order-via-then-i-order+else-are_alike, else-i-order-via-else-i-order, then-sum-ne0+in_ok-copy_into+in_ok-push, else-sum-ne0}
 
