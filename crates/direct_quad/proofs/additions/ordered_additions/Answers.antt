@@ -1,4 +1,4 @@
-use Rattle.std.proofs.Common.{◌≡◌, ℕ, refl, ◌<◌, ◌≤◌, ◌^◌, List, map, length, true, leb, IsTrue, ap, sym, ◌∙◌, subst, rules, arith}
+use Rattle.std.proofs.Common.{◌≡◌, ℕ, refl, ◌<◌, ◌≤◌, ◌^◌, List, length, true, leb, subst, rules, arith}
 use Rattle.std.specs.Prelude.{All}
 use Rattle.std.specs.Ordering.{is_lt}
 use Rattle.std.specs.List.Sorted.{IsPermutation}
@@ -10,7 +10,7 @@ use Rattle.problem_form.specs.declared.literal.Literal.{Literal}
 use Rattle.problem_form.specs.declared.terms.Product.{Product}
 use Rattle.term_table.specs.Terms.{Term}
 use Rattle.direct_quad.specs.declared.additions.Keyed.{Keyed}
-use Rattle.direct_quad.specs.Long.{key_for, product_term, addition_at, additions_at}
+use Rattle.direct_quad.specs.Long.{key_for, addition_at, additions_at}
 use Rattle.direct_quad.proofs.SetKeys.{IsAddition, are_additions, sets_sorted, keyed_cmp, keyed_total}
 use Rattle.direct_quad.proofs.additions.ordered_additions.Goals as goal
 

@@ -1,12 +1,11 @@
-use Rattle.std.proofs.Common.{◌≡◌, ◌≢◌, true, false, ◌<◌, ◌≤◌, ◌+◌, ◌^◌, ◌∷◌, ◌++◌, [], List, ℤ, pos, ◌+ℤ◌, to_z, of_z, unsigned_abs, map, length, drop, get_or, ap, sym, ◌∙◌, refl, subst, arith, rules}
+use Rattle.std.proofs.Common.{◌≡◌, ◌≢◌, true, false, ◌+◌, ◌∷◌, ◌++◌, [], List, ℤ, pos, ◌+ℤ◌, to_z, of_z, unsigned_abs, map, drop, get_or, ap, sym, ◌∙◌, subst, arith}
 use Rattle.std.specs.Int.{w128}
-use Rattle.std.proofs.lemmas.Int.{ints, to_z-of_z}
+use Rattle.std.proofs.lemmas.Int.{ints}
 use Rattle.std.proofs.lemmas.List.{drop_all, map_push}
 use Rattle.std.proofs.lemmas.List.Sums.{sum_by-cons}
 use Rattle.std.proofs.lemmas.Option.{get_or_from_slice_get}
 use Rattle.problem_form.specs.declared.terms.Product.{Product}
 use Rattle.term_table.specs.Terms.{Term, terms_total}
-use Rattle.term_table.specs.Summed.{sums_of}
 use Rattle.direct_quad.specs.declared.additions.Keyed.{Keyed}
 use Rattle.direct_quad.specs.Long.{product_term, addition_at, additions_at, sums_with}
 use Rattle.direct_quad.proofs.SortedAdditions.{next_addition, same_step, put_zero, put_one, IsOther}

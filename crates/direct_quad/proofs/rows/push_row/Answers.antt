@@ -1,10 +1,10 @@
-use Rattle.std.proofs.Common.{◌≡◌, ◌<◌, ◌≤◌, ◌+◌, ◌^◌, ◌++◌, ℕ, List, ℤ, length, map, replicate, pos, sym, ap, ◌∙◌, subst, arith}
+use Rattle.std.proofs.Common.{◌≡◌, ◌<◌, ◌++◌, ℕ, List, ℤ, length, map, replicate, pos, sym, ap, ◌∙◌, subst, arith}
 use Rattle.std.specs.List.{flat_map, AllByRecursion}
 use Rattle.std.proofs.lemmas.List.{length-replicate}
 use Rattle.std.proofs.lemmas.List.Elements.{recursion_from_All}
 use Rattle.bits_model.specs.declared.output.Entry.{Entry}
 use Rattle.direct_quad.specs.Keys.{pair_at, places_at, index_of}
-use Rattle.direct_quad.specs.RowSums.{with_entries, size_of, pair_part, node_part, head_part, Appends, AppendsBoth}
+use Rattle.direct_quad.specs.RowSums.{with_entries, size_of, pair_part, node_part, head_part, AppendsBoth}
 use Rattle.direct_quad.proofs.SummedRows.{length-with_entries, no_size}
 use Rattle.direct_quad.proofs.KeptPlaces.{heads_part}
 use Rattle.direct_quad.proofs.KeyPlaces.{pairs_within, size-with_entries}
