@@ -1,5 +1,5 @@
 -- What the guard makes of a problem that it admits: the form of the three steps, within its bounds.
-use Rattle.std.proofs.Common.{◌≡◌, ℕ, ◌+◌, ◌*◌, ◌<◌, ◌≤◌, ◌^◌, ℤ, pos, List, length, refl, subst, sym, ap, ◌∙◌, arith}
+use Rattle.std.proofs.Common.{◌≡◌, ℕ, ◌+◌, ◌<◌, ◌≤◌, ◌^◌, ℤ, pos, List, length, refl, subst, sym, ap, ◌∙◌, arith}
 use Rattle.bits_model.specs.declared.layer.BitsLink.{BitsLink}
 use Rattle.bits_model.specs.declared.output.Entry.{Entry}
 use Rattle.bits_model.specs.Links.{first_bits}

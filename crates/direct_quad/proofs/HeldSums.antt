@@ -1,11 +1,9 @@
 -- What is held of additions, and what long terms give beside it, are the sums of all parts.
-use Rattle.std.proofs.Common.{◌≡◌, ◌⊎◌, inl, inr, ℕ, ◌+◌, ◌-◌, ◌*◌, ◌<◌, ◌≤◌, ◌^◌, Bool, true, false, eqb, arith, refl, sym, subst, ap, ◌∙◌, List, [], ◌∷◌, ◌++◌, length, map, replicate, get_or, length-append, ℤ, pos, ◌+ℤ◌, unsigned_abs}
+use Rattle.std.proofs.Common.{◌≡◌, inl, inr, ℕ, ◌+◌, ◌-◌, ◌*◌, ◌<◌, ◌≤◌, ◌^◌, arith, refl, sym, subst, ap, ◌∙◌, List, [], ◌∷◌, ◌++◌, length, map, replicate, get_or, length-append, ℤ, pos, ◌+ℤ◌, unsigned_abs}
 use Rattle.std.specs.Prelude.{All}
-use Rattle.std.specs.Bool.{Decides}
-use Rattle.std.specs.List.{AllByRecursion, flat_map, slice_index_or}
+use Rattle.std.specs.List.{AllByRecursion, flat_map}
 use Rattle.std.proofs.lemmas.Int.{ints}
 use Rattle.std.proofs.lemmas.Bool.{cases_lt}
-use Rattle.std.proofs.lemmas.Bool.Decides.{Decides-eqb}
 use Rattle.std.proofs.lemmas.List.{length-replicate, get_or_append_left, get_or-append_right, get_or_past}
 use Rattle.std.proofs.lemmas.List.Elements.{All-from_recursion, All-map, All-weaker, recursion_from_All}
 use Rattle.std.proofs.lemmas.List.Sums.{sum_by-append}
@@ -21,13 +19,13 @@ use Rattle.term_table.proofs.Steps.{terms_total-map}
 use Rattle.monomial_layer.specs.Monomials.{new_nodes}
 use Rattle.quad_form.specs.Pairs.{IsPair, weight_for, weight_at}
 use Rattle.direct_quad.specs.Parts.{table_of, short_terms, long_terms, all_nodes}
-use Rattle.direct_quad.specs.Places.{Place, Share, share_at, short_couplers, short_shares, short_constant, place_couplers, places_in, term_places, all_places, all_shares, long_constant}
+use Rattle.direct_quad.specs.Places.{Place, Share, share_at, short_couplers, short_shares, place_couplers, places_in, term_places, all_places, all_shares, long_constant}
 use Rattle.direct_quad.specs.Long.{product_term, terms_of, node_count, AreLong}
-use Rattle.direct_quad.specs.Gathered.{constant_of, shares_of, couplers_of, IsSumOf}
+use Rattle.direct_quad.specs.Gathered.{couplers_of, IsSumOf}
 use Rattle.direct_quad.specs.Held.{HeldContent, AreHeld, IsHeld, Gain, widened}
 use Rattle.direct_quad.specs.Rows.{AreRows}
 use Rattle.direct_quad.specs.RowSums.{size_of}
-use Rattle.direct_quad.proofs.Gathering.{HasShares, sum-of_rows}
+use Rattle.direct_quad.proofs.Gathering.{sum-of_rows}
 use Rattle.direct_quad.proofs.HeldTerms.{share_at-append}
 use Rattle.direct_quad.proofs.LongPlaces.{differs}
 use Rattle.direct_quad.proofs.PartPairs.{IsWithin, join, long_sets, short_pairs, short_sets, short_within}

@@ -1,5 +1,5 @@
 -- Additions of which the sums of short terms and the long ones are held: one addition more.
-use Rattle.std.proofs.Common.{◌≡◌, ℕ, ◌+◌, ◌*◌, ◌<◌, ◌≤◌, ◌^◌, true, false, eqb, arith, refl, sym, subst, ap, ◌∙◌, List, [], ◌∷◌, ◌++◌, append-nil, length, length-append, map, ℤ, pos, ◌+ℤ◌, unsigned_abs}
+use Rattle.std.proofs.Common.{◌≡◌, ℕ, ◌+◌, ◌*◌, ◌<◌, ◌≤◌, ◌^◌, eqb, arith, refl, sym, subst, ap, ◌∙◌, List, [], ◌∷◌, ◌++◌, append-nil, length, length-append, map, ℤ, pos, ◌+ℤ◌, unsigned_abs}
 use Rattle.std.specs.Prelude.{All}
 use Rattle.std.specs.List.{flat_map, slice_index_or}
 use Rattle.std.proofs.lemmas.Int.{ints}
@@ -15,13 +15,13 @@ use Rattle.bits_model.specs.Output.{weight_total}
 use Rattle.problem_form.specs.declared.literal.Literal.{Literal}
 use Rattle.problem_form.specs.declared.terms.Product.{Product}
 use Rattle.problem_form.specs.Problems.{products_total}
-use Rattle.term_table.specs.Terms.{Term, terms_total, IsTermSet}
+use Rattle.term_table.specs.Terms.{terms_total, IsTermSet}
 use Rattle.term_table.specs.Tables.{TableContent, with_appended}
 use Rattle.term_table.proofs.Additions.{terms_total-cons}
 use Rattle.term_table.proofs.Loops.{total-with_more}
 use Rattle.term_table.proofs.SmallSets.{IsLiteralSet-ascends}
 use Rattle.quad_form.specs.Pairs.{IsPair}
-use Rattle.direct_quad.specs.Parts.{short_terms, long_additions}
+use Rattle.direct_quad.specs.Parts.{short_terms}
 use Rattle.direct_quad.specs.Places.{Share, share_at, short_couplers, short_shares, short_constant}
 use Rattle.direct_quad.specs.Long.{product_term}
 use Rattle.direct_quad.specs.RowSums.{size_of, with_weight}

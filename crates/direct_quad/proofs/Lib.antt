@@ -21,3 +21,4 @@ pub mod SetKeys
 pub mod HeldTerms
 pub mod GainedShares
 pub mod HeldSums
+pub mod KeptPlaces

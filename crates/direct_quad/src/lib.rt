@@ -5,6 +5,7 @@ mod accumulator;
 mod additions;
 mod direct;
 mod gathered;
+mod heads;
 mod laws;
 mod long_table;
 mod new_nodes;

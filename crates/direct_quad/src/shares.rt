@@ -232,10 +232,7 @@ pub(crate) fn add_shares(weights: &mut [i128], long: &LongTable) -> i128
 
 /// The weights of all nodes, of which those of new nodes and what long terms give come to those
 /// given, and what long terms give to the constant.
-pub(crate) fn with_long(
-    weights: Vec<i128>,
-    long: &LongTable,
-) -> Result<(Vec<i128>, i128), NoMemory>
+pub(crate) fn with_long(weights: Vec<i128>, long: &LongTable) -> Result<(Vec<i128>, i128), NoMemory>
     requires width { length weights.items ≡ long.now.width }
     requires small { size_of weights.items + terms_total long.now.terms * 2 ^ 24 ≤ 2 ^ 126 }
     ensures weights { IfOk result (λ made. Gain (all_shares long.now.terms long.now.width)

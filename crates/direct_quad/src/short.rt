@@ -18,7 +18,11 @@ fn add_alone(weights: &mut [i128], literal: Literal, coefficient: i128)
     ensures { Gain ((literal.variable, signed literal coefficient) ∷ []) (unsigned_abs coefficient)
         weights.old weights.new }
 {
-    add_weight(weights, literal.variable as usize, signed(literal, coefficient));
+    add_weight(
+        weights,
+        literal.variable as usize,
+        signed(literal, coefficient),
+    );
 }
 
 /// Adds what a pair moves to the weight of one literal, where the other is a complement.

@@ -21,7 +21,7 @@ use Rattle.penalty_layer.specs.laws.Relaxing.{penalty_relaxes}
 use Rattle.penalty_layer.specs.Weights.{clause_weights, product_squares, clause_squares}
 use Rattle.penalty_layer.proofs.OppositeSets.{opposites_set, opposites_length}
 use Rattle.penalty_layer.proofs.Bounds.{within_limits, degrees_within, weights_within, upper_within}
-use Rattle.penalty_layer.proofs.Sizes.{size_within, products_within, image_total, product_squares_are, clause_squares_are}
+use Rattle.penalty_layer.proofs.Sizes.{size_within, image_total, product_squares_are, clause_squares_are}
 
 -- ---- the sets that are added
 

@@ -1,7 +1,7 @@
-use Rattle.std.proofs.Common.{◌≡◌, ◌≢◌, ◌<◌, ◌+◌, ◌++◌, pos, ℤ, ℕ, List, [], ◌∷◌, length, get_or, set, drop, sym, ap, ◌∙◌, refl, subst, append-nil, arith, rules, to_z, of_z}
+use Rattle.std.proofs.Common.{◌≡◌, ◌+◌, ◌++◌, pos, [], ◌∷◌, get_or, set, drop, sym, ap, ◌∙◌, refl, append-nil, rules}
 use Rattle.std.specs.Int.{w128}
-use Rattle.std.proofs.lemmas.Int.{ints, to_z-of_z}
-use Rattle.std.proofs.lemmas.List.{drop_more, drop_all, get_or_default}
+use Rattle.std.proofs.lemmas.Int.{to_z-of_z}
+use Rattle.std.proofs.lemmas.List.{drop_more, drop_all}
 use Rattle.quad_form.specs.Pairs.{entry_in_front}
 use Rattle.direct_quad.specs.RowSums.{taken, emptied}
 use Rattle.direct_quad.proofs.SummedRows.{entry_at, kept-emptied_one, taken_next}

@@ -1,4 +1,4 @@
-use Rattle.std.proofs.Common.{rules, arith, ◌≡◌, ◌+◌, ap, ◌∙◌, unsigned_abs, to_z, of_z}
+use Rattle.std.proofs.Common.{rules, arith, ◌≡◌, ap, ◌∙◌, unsigned_abs}
 use Rattle.std.specs.Int.{w128}
 use Rattle.std.proofs.lemmas.Int.{to_z-of_z}
 use Rattle.problem_form.specs.Problems.{ProblemContent, products_total}

@@ -1,5 +1,4 @@
 use Rattle.std.proofs.Common.{◌≡◌, sym, ap, ◌∙◌, length, rules}
-use Rattle.direct_quad.specs.PairLists.{weighed}
 use Rattle.direct_quad.proofs.KeyLists.{length-weighed}
 use Rattle.direct_quad.proofs.pairs.Pairs.len.Goals as goal
 

@@ -1,6 +1,5 @@
-use Rattle.std.proofs.Common.{◌≡◌, ◌++◌, [], ◌∷◌, ◌+◌, length, ap, ◌∙◌, arith, rules, List, ℤ}
+use Rattle.std.proofs.Common.{◌≡◌, ◌++◌, [], ◌∷◌, ◌+◌, length, ap, ◌∙◌, arith, rules, List}
 use Rattle.bits_model.specs.declared.output.Entry.{Entry}
-use Rattle.std.specs.Int.{w128}
 use Rattle.std.proofs.lemmas.List.{length_push}
 use Rattle.direct_quad.specs.PairLists.{weighed}
 use Rattle.direct_quad.proofs.KeyLists.{length-weighed, weighed_push}
