@@ -1,14 +1,15 @@
 //! A problem in normal form.
 ghost use Rattle.std.specs.Prelude.{◌≡◌, ◌+◌, ◌<◌, ◌≤◌, ◌^◌, All, OnOk, OnErr, unsigned_abs, unwrap_or, []};
 ghost use Rattle.problem_form.specs.NormalForm.{blank, with_variables, with_clause, with_constraint, with_product};
-ghost use Rattle.problem_form.specs.Problems.{constraint_total, problem_total, soft_weight};
+ghost use Rattle.problem_form.specs.Problems.{constraint_total, problem_total};
 
 use crate::clause_list::ClauseList;
 use crate::clauses::{keep_clause, weight_constant};
+use crate::constraint_list::ConstraintList;
 use crate::literal::Literal;
 use crate::product_list::ProductList;
-use crate::products::{coefficient_constant, keep_product, normal_constraint};
-use crate::terms::{Clause, Constraint, ConstraintList, Product};
+use crate::products::{coefficient_constant, keep_product};
+use crate::terms::Constraint;
 use bits_model::NoMemory;
 use std::alloc::Global;
 use std::marker::Model;
@@ -22,7 +23,6 @@ pub struct Problem {
     pub objective: ProductList,
     pub clauses: ClauseList,
     pub constraints: ConstraintList,
-    alloc: Global,
 }
 
 impl Model for Problem {
@@ -48,7 +48,6 @@ impl Problem {
             objective: ProductList::empty(alloc),
             clauses: ClauseList::empty(alloc),
             constraints: ConstraintList::empty(alloc),
-            alloc,
         }
     }
 
@@ -105,43 +104,16 @@ impl Problem {
         Ok(())
     }
 
-    /// Adds a product as written to the objective, in normal form. Where memory is refused the
-    /// problem stays as it was.
-    pub fn add_product(&mut self, product: Product) -> Result<(), NoMemory>
-        requires within { All (λ l. l.variable < self.old.variables) product.literals }
-        requires small { problem_total self.old + unsigned_abs product.coefficient < 2 ^ 100 }
-        ensures added { OnOk result (self.new ≡ with_product self.old product) }
-        ensures unchanged { OnErr result (self.new ≡ self.old) }
-    {
-        let Product {
-            literals,
-            coefficient,
-        } = product;
-        self.add_term(&mut literals.into_vec(), coefficient)
-    }
-
-    /// Adds a clause as written, in normal form. Where memory is refused the problem stays as it
-    /// was.
-    pub fn add_clause(&mut self, clause: Clause) -> Result<(), NoMemory>
-        requires within { All (λ l. l.variable < self.old.variables) clause.literals }
-        requires small { problem_total self.old + soft_weight clause < 2 ^ 100 }
-        ensures added { OnOk result (self.new ≡ with_clause self.old clause) }
-        ensures unchanged { OnErr result (self.new ≡ self.old) }
-    {
-        let Clause { literals, weight } = clause;
-        self.add_literals(&mut literals.into_vec(), weight)
-    }
-
-    /// Adds a constraint as written, in normal form. Where memory is refused the problem stays as
-    /// it was.
-    pub fn add_constraint(&mut self, constraint: Constraint) -> Result<(), NoMemory>
+    /// Adds a constraint as written, in normal form. Its products are copied, so that one list of
+    /// products serves for one constraint after another. Where memory is refused the problem stays
+    /// as it was.
+    pub fn add_constraint(&mut self, constraint: &Constraint) -> Result<(), NoMemory>
         requires within { All (λ t. All (λ l. l.variable < self.old.variables) t.literals)
-            constraint.products }
-        requires small { problem_total self.old + constraint_total constraint < 2 ^ 100 }
-        ensures added { OnOk result (self.new ≡ with_constraint self.old constraint) }
+            constraint.now.products }
+        requires small { problem_total self.old + constraint_total constraint.now < 2 ^ 100 }
+        ensures added { OnOk result (self.new ≡ with_constraint self.old constraint.now) }
         ensures unchanged { OnErr result (self.new ≡ self.old) }
     {
-        let normal = normal_constraint(self.alloc, &constraint)?;
-        self.constraints.push(normal)
+        self.constraints.push_normal(constraint)
     }
 }
