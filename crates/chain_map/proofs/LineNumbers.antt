@@ -12,7 +12,8 @@ use Rattle.whole_text.specs.Numbers.{number_of, size_of}
 use Rattle.whole_text.specs.Tokens.{word, words, is_blank, is_comment, tokens_of_line}
 use Rattle.whole_text.specs.Steps.{integer_at, natural_at}
 use Rattle.whole_text.proofs.DigitLoop.{size_plain, value_is}
-use Rattle.whole_text.proofs.LineWords.{words_blank, words_none, taken, skipped, comment_from_byte, comment_none, comment_line, other_line}
+use Rattle.whole_text.proofs.LineWords.{words_blank, words_none, taken, skipped, comment_from_byte, comment_none, comment_line}
+use Rattle.whole_text.proofs.Pieces.{other_plain}
 use Rattle.whole_text.proofs.Slices.{slice_length, slice_at, slice_dropped, slice_taken, slice_none}
 use Rattle.chain_map.proofs.Rows.{default_free}
 
@@ -111,7 +112,7 @@ line_blank text a b n line ab le first end =
     let skip = skipped text a b n ab le first in
     let none : words bs ≡ [] =
     skip.0 ∙ ap (λ k. words (slice_range text k b)) end ∙ ap words (slice_none text b) ∙ words_none in
-    other_line Plain line bs (sym (comment_none Plain bs n first (omega arith))) ∙ ap (map (word line)) none
+    other_plain line bs (sym (comment_none Plain bs n first (omega arith))) ∙ ap (map (word line)) none
 
 -- the first byte that is no blank says whether it is a comment
 pub comment_is : (text : List ℕ) (a b n : ℕ) → a ≤ b → b ≤ length text
@@ -144,6 +145,6 @@ line_tokens text a b n m line ab le first lt other e =
     let w = first_word text (a + n) b m line lt le (skip.2 lt) e in (
       w.0,
       w.1,
-      other_line Plain line (slice_range text a b) (sym (comment_is text a b n ab le first lt) ∙ ne_eqb (get_or text (a + n) 0) 99 other)
+      other_plain line (slice_range text a b) (sym (comment_is text a b n ab le first lt) ∙ ne_eqb (get_or text (a + n) 0) 99 other)
           ∙ ap (map (word line)) skip.0 ∙ w.2,
     )

@@ -6,8 +6,7 @@ ghost use Rattle.std.specs.Str.Parse.{digits_value};
 ghost use Rattle.whole_text.specs.Tokens.{is_blank, word};
 ghost use Rattle.whole_text.specs.Steps.{GivesAlways, natural_at};
 
-use crate::cutting::{is_blank, word_len};
-use whole_text::{TextFault, WordRef, natural_word};
+use whole_text::{TextFault, WordRef, is_blank, natural_word, word_len};
 
 /// The value of the digits in front, and how many they are; the first 19 at most.
 #[inline(always)]

@@ -7,7 +7,6 @@
 #![tactic(auto)]
 
 mod clique;
-mod cutting;
 mod digits;
 mod faults;
 mod map;

@@ -6,11 +6,10 @@ ghost use Rattle.whole_text.specs.Tokens.{is_blank, word, words, tokens_of_line}
 ghost use Rattle.whole_text.specs.Steps.{Gives, GivesAlways};
 ghost use Rattle.chain_map.specs.Maps.{node_at, qubits_at, after_front, chain_at, reading};
 
-use crate::cutting::{blank_len, is_blank};
 use crate::digits::first_number;
 use crate::map::ChainMap;
 use std::alloc::Global;
-use whole_text::{TextAnswer, TextFault, TextKind, fault, line_len};
+use whole_text::{TextAnswer, TextFault, TextKind, blank_len, fault, is_blank, line_len};
 
 /// The length of the first word, where it is the number of this node.
 #[tactic(auto, unfolding(crate::specs::Maps::node_at))]

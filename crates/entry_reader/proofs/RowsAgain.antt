@@ -6,6 +6,7 @@ use Rattle.std.proofs.lemmas.List.Elements.{All-from_recursion}
 use Rattle.std.proofs.lemmas.List.Splits.{slice_split_at, slice_split_none}
 use Rattle.whole_text.specs.declared.token.Style.TheVariants.{Plain}
 use Rattle.whole_text.specs.Tokens.{Word, word, is_blank, is_feed, is_filled, words, begins_with, is_comment, tokens_of_line, tokens_from}
+use Rattle.whole_text.proofs.Pieces.{plain_line}
 use Rattle.model_text.specs.Rows.{Row, rows_text}
 use Rattle.model_text.proofs.RowTexts.{Lacks, IsWord, IsRow, AreRows, all_append}
 
@@ -57,18 +58,19 @@ shown n ws = cond (begins_with 99 ws) [] (map (word n) ws)
 line_again : (n : ℕ) (w : List ℕ) (ws : Row) → AreInk (w ∷ ws)
     → begins_with 99 (w ∷ ws) ≡ false
     → tokens_of_line Plain n (join_with_byte 32 (w ∷ ws)) ≡ map (word n) (w ∷ ws)
-unfolding tokens_of_line is_comment
+unfolding is_comment
 line_again n w ws h other =
-    ap (shown n) (words_joined w ws h) ∙ ap (λ b. cond b [] (map (word n) (w ∷ ws))) other
+    plain_line n (join_with_byte 32 (w ∷ ws)) ∙ ap (shown n) (words_joined w ws h)
+    ∙ ap (λ b. cond b [] (map (word n) (w ∷ ws))) other
 
 comment_line : (n : ℕ) (rest : List ℕ) → tokens_of_line Plain n (99 ∷ 32 ∷ rest) ≡ []
-unfolding tokens_of_line is_comment words
+unfolding is_comment words
 comment_line n rest =
     let none : LacksBlanks (99 ∷ []) = (refl, tt) in
     let cut : slice_split is_blank (99 ∷ 32 ∷ rest) ≡ (99 ∷ []) ∷ slice_split is_blank rest =
     slice_split_at is_blank (99 ∷ []) 32 rest
     (All-from_recursion (λ b. is_blank b ≡ false) (99 ∷ []) none) refl in
-    ap (λ (ws : Row). shown n (filter is_filled ws)) cut
+    plain_line n (99 ∷ 32 ∷ rest) ∙ ap (λ (ws : Row). shown n (filter is_filled ws)) cut
 
 -- ---- the rows of a text
 

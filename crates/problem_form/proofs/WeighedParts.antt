@@ -1,8 +1,13 @@
 -- What is made of two lists, place by place: its length, an element, and one more.
-use Rattle.std.proofs.Common.{◌≡◌, ◌≢◌, ℕ, zero, suc, ◌+◌, ◌<◌, List, [], ◌∷◌, ◌++◌, length, get_or, refl, sym, ap, ◌∙◌, arith, Option, Some, None, unwrap_or, drop, drop-cons, add-one}
+use Rattle.std.proofs.Common.{◌≡◌, ◌≢◌, ℕ, zero, suc, ◌+◌, ◌<◌, List, [], ◌∷◌, ◌++◌, length, get_or, refl, sym, ap, ◌∙◌, arith, Option, Some, None, unwrap_or, drop, drop-cons, add-one, map, neg_ℤ, ℤ, unsigned_abs, All}
+use Rattle.std.specs.List.{AllByRecursion}
+use Rattle.std.proofs.lemmas.List.Elements.{All-from_recursion, recursion_from_All}
+use Rattle.problem_form.specs.declared.literal.Literal.{Literal}
+use Rattle.problem_form.specs.declared.terms.Product.{Product}
+use Rattle.problem_form.specs.Problems.{negated}
 use Rattle.std.specs.List.{slice_get}
 use Rattle.std.proofs.lemmas.Option.{slice_get_within, get_or_from_slice_get}
-use Rattle.problem_form.specs.WeighedLists.{zip_with, weight_of}
+use Rattle.problem_form.specs.WeighedLists.{zip_with, weight_of, product_of}
 
 pub length-zip_with : {A B C : Type 0} → (f : A → B → C) (xs : List A) (ys : List B) → length xs ≡ length ys → length (zip_with f xs ys) ≡ length ys
 length-zip_with f [] [] same = refl
@@ -33,3 +38,29 @@ pub drop-at : {A : Type 0} → (xs : List A) (i : ℕ) (x : A) → slice_get xs 
 drop-at xs i x at =
     drop-cons xs i x (slice_get_within xs i x at)
     ∙ (λ j. get_or_from_slice_get xs i x x at j ∷ drop (sym (add-one i) j) xs)
+
+-- other signs
+pub zip_with-negated : (lists : List (List Literal)) (cs : List ℤ)
+    → zip_with product_of lists (map neg_ℤ cs) ≡ map negated (zip_with product_of lists cs)
+zip_with-negated [] cs = refl
+zip_with-negated (ls ∷ lists) [] = refl
+zip_with-negated (ls ∷ lists) (c ∷ cs) =
+    ap (λ others. product_of ls (neg_ℤ c) ∷ others) (zip_with-negated lists cs)
+
+small_coefficients : (n : ℕ) (lists : List (List Literal)) (cs : List ℤ) → length lists ≡ length cs
+    → AllByRecursion (λ (t : Product). unsigned_abs t.coefficient < n) (zip_with product_of lists cs)
+    → AllByRecursion (λ c. unsigned_abs c < n) cs
+small_coefficients n [] [] same h = tt
+small_coefficients n [] (c ∷ cs) same h = absurd (omega (arith, same))
+small_coefficients n (ls ∷ lists) [] same h = tt
+small_coefficients n (ls ∷ lists) (c ∷ cs) same h =
+    (h.0, small_coefficients n lists cs (omega (arith, same)) h.1)
+
+-- the coefficients are as small as those of the products
+pub coefficients-small : (n : ℕ) (lists : List (List Literal)) (cs : List ℤ) → length lists ≡ length cs
+    → All (λ (t : Product). unsigned_abs t.coefficient < n) (zip_with product_of lists cs)
+    → All (λ c. unsigned_abs c < n) cs
+coefficients-small n lists cs same h =
+    All-from_recursion (λ c. unsigned_abs c < n) cs
+    (small_coefficients n lists cs same
+    (recursion_from_All (λ (t : Product). unsigned_abs t.coefficient < n) (zip_with product_of lists cs) h))

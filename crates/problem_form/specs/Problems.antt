@@ -1,5 +1,5 @@
 -- What a problem says, as it is written or in normal form: its cost and its sizes.
-use Rattle.std.specs.Prelude.{◌≡◌, ◌≢◌, ℕ, ◌+◌, ◌^◌, ◌<◌, ℤ, pos, ◌+ℤ◌, unsigned_abs, int_lt, Bool, not, ◌&&◌, ◌||◌, List, [], length, Some, unwrap_or, is_none, All, if◌then◌else◌}
+use Rattle.std.specs.Prelude.{◌≡◌, ◌≢◌, ℕ, ◌+◌, ◌^◌, ◌<◌, ℤ, pos, ◌+ℤ◌, neg_ℤ, unsigned_abs, int_lt, Bool, not, ◌&&◌, ◌||◌, List, [], length, Some, unwrap_or, is_none, All, if◌then◌else◌}
 use Rattle.std.specs.List.{list_any, sum_by}
 use Rattle.std.specs.Ordering.{int_eq}
 use Rattle.integers.specs.Sums.{total_by, if_so}
@@ -24,6 +24,10 @@ pub record ProblemContent : Type 0 where
 -- a product counts where all its literals are true
 abbrev pub product_value : List Bool → Product → ℤ
 product_value x t = if_so (all_hold x t.literals) t.coefficient
+
+-- a product with the other sign
+abbrev pub negated : Product → Product
+negated t = record t { coefficient = neg_ℤ t.coefficient }
 
 -- the sum of the coefficients of the products that count
 abbrev pub sum_of : List Bool → List Product → ℤ

@@ -1,5 +1,6 @@
 //! Products that lie flat.
-ghost use Rattle.std.specs.Prelude.{◌≡◌, ◌<◌, ◌≤◌, ◌++◌, ◌∷◌, [], OnOk, OnErr, length, slice_get, slice_range, Some};
+ghost use Rattle.std.specs.Prelude.{◌≡◌, ◌<◌, ◌≤◌, ◌^◌, ◌++◌, ◌∷◌, [], All, OnOk, OnErr, length, map, neg_ℤ, unsigned_abs, slice_get, slice_range, Some};
+ghost use Rattle.problem_form.specs.Problems.{negated};
 
 use crate::literal::Literal;
 use crate::literal_lists::LiteralLists;
@@ -21,6 +22,23 @@ impl<'a> Model for ProductRef<'a> {
     ghost Value = { Product };
 
     ghost view = { λ a. record { literals = a.literals; coefficient = a.coefficient } };
+}
+
+fn negative(number: i128) -> i128
+    requires { unsigned_abs number < 2 ^ 127 }
+    ensures { result ≡ neg_ℤ number }
+{
+    -number
+}
+
+/// Turns the sign of each number.
+fn negate_all(numbers: &mut Vec<i128>)
+    requires { All (λ z. unsigned_abs z < 2 ^ 127) numbers.old.items }
+    ensures { numbers.new.items ≡ map neg_ℤ numbers.old.items }
+{
+    for number in numbers.iter_mut() {
+        *number = negative(*number);
+    }
 }
 
 /// Products, which contracts see as a list. A product takes no memory of its own.
@@ -98,6 +116,14 @@ impl ProductList {
     {
         self.lists.clear();
         self.coefficients.clear();
+    }
+
+    /// Turns the sign of each coefficient.
+    pub fn negate(&mut self)
+        requires { All (λ t. unsigned_abs t.coefficient < 2 ^ 127) self.old }
+        ensures { self.new ≡ map negated self.old }
+    {
+        negate_all(&mut self.coefficients);
     }
 
     /// Appends a product. Where memory is refused the list stays as it was.

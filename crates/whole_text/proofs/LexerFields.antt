@@ -1,16 +1,16 @@
 -- A lexer's fields, and what it is seen as.
-use Rattle.std.proofs.Common.{◌≡◌, ℕ, ◌+◌, ◌-◌, ◌≤◌, true, false, eqb, List, [], ◌∷◌, ◌++◌, length, take, drop, refl, sym, ap, ◌∙◌, subst, arith}
+use Rattle.std.proofs.Common.{◌≡◌, ℕ, ◌+◌, ◌-◌, ◌<◌, ◌≤◌, true, false, eqb, get_or, List, [], ◌∷◌, ◌++◌, length, take, drop, refl, sym, ap, ◌∙◌, subst, arith}
 use Rattle.std.specs.Prelude.{Result, Ok, Err, OnOk}
 use Rattle.std.specs.List.{slice_range}
-use Rattle.std.proofs.lemmas.List.{drop_all, length-drop, take-append-le, drop-append-le}
+use Rattle.std.proofs.lemmas.List.{drop_all, length-drop, take-append-le, drop-append-le, get_or-drop}
 use Rattle.whole_text.specs.declared.lexing.At.{At}
 use Rattle.whole_text.specs.declared.lexing.At.TheVariants as at
-use Rattle.whole_text.specs.declared.token.Style.{Style}
 use Rattle.whole_text.specs.declared.token.Token.{Token}
-use Rattle.whole_text.specs.Tokens.{Word, word, is_feed, is_blank, comment_byte, words_at, AreJoined}
+use Rattle.whole_text.specs.Tokens.{Word, word, is_feed, is_blank, joins, comment_byte, words_at, AreJoined}
 use Rattle.whole_text.specs.Lexing.{Place, Fresh, Between, Inside, Comment, LexerState, StandsFor}
 use Rattle.whole_text.specs.LexerPlaces.{place_at, IsWordStart, begun, IsLive}
-use Rattle.whole_text.proofs.LexerSteps.{after_ink, stands_ink}
+use Rattle.whole_text.proofs.LexerSteps.{after_ink, cut_off, stands_ink, stands_kept}
+use Rattle.whole_text.proofs.Pieces.{last_of}
 
 -- where a step answers, the lexer is in a state that stands for one byte more
 pub stands_on : {A E : Type 0} (r : Result A E) (old new next : LexerState) (b : ℕ) → OnOk r (new ≡ next)
@@ -58,30 +58,63 @@ begun_held at.Spent bytes start h live = absurd live
 -- in a comment nothing changes
 pub ink_comment : (s : LexerState) (text : List ℕ) (b : ℕ) → s.place ≡ Comment → is_feed b ≡ false → is_blank b ≡ false → StandsFor s text → StandsFor s (text ++ b ∷ [])
 ink_comment s text b here feed ink h =
+    let kept : cut_off s.style s.line s.place b ≡ [] = ap (λ (p : Place). cut_off s.style s.line p b) here in
     let same : after_ink s.style s.place b ≡ s.place = ap (λ (p : Place). after_ink s.style p b) here ∙ sym here in
-    subst (λ (p : Place). StandsFor (record s { place = p }) (text ++ b ∷ [])) same (stands_ink s text b s.size feed ink (omega arith) h)
+    subst (λ (p : Place). StandsFor (record s { place = p }) (text ++ b ∷ [])) same (stands_kept s text b s.size kept feed ink (omega arith) h)
 
 -- the byte that begins a comment
 pub ink_begins : (s : LexerState) (text : List ℕ) (b : ℕ) → s.place ≡ Fresh → b ≡ comment_byte s.style → is_feed b ≡ false → is_blank b ≡ false → StandsFor s text → StandsFor (record s { place = Comment }) (text ++ b ∷ [])
 ink_begins s text b here mark feed ink h =
+    let kept : cut_off s.style s.line s.place b ≡ [] = ap (λ (p : Place). cut_off s.style s.line p b) here in
     let yes : eqb b (comment_byte s.style) ≡ true = rw mark (eqb_self (comment_byte s.style)) in
     let same : after_ink s.style s.place b ≡ Comment = ap (λ (p : Place). after_ink s.style p b) here ∙ rw yes refl in
-    subst (λ (p : Place). StandsFor (record s { place = p }) (text ++ b ∷ [])) same (stands_ink s text b s.size feed ink (omega arith) h)
+    subst (λ (p : Place). StandsFor (record s { place = p }) (text ++ b ∷ [])) same (stands_kept s text b s.size kept feed ink (omega arith) h)
   where
     eqb_self : (n : ℕ) → eqb n n ≡ true
     eqb_self n = grind arith
 
--- the word begins or goes on
-pub ink_pushed : (s : LexerState) (text : List ℕ) (b : ℕ) → after_ink s.style s.place b ≡ Inside (begun s.place ++ b ∷ []) → is_feed b ≡ false → is_blank b ≡ false
+-- the byte begins a token, or goes on with the one that has begun
+pub record GoesOn (s : LexerState) (b : ℕ) : Type 0 where
+  pub kept : cut_off s.style s.line s.place b ≡ []
+  pub after : after_ink s.style s.place b ≡ Inside (begun s.place ++ b ∷ [])
+
+pub ink_pushed : (s : LexerState) (text : List ℕ) (b : ℕ) → GoesOn s b → is_feed b ≡ false → is_blank b ≡ false
     → StandsFor s text → StandsFor (record s { place = Inside (begun s.place ++ b ∷ []); size = s.size + 1 }) (text ++ b ∷ [])
-ink_pushed s text b same feed ink h =
-    subst (λ (p : Place). StandsFor (record s { place = p; size = s.size + 1 }) (text ++ b ∷ [])) same (stands_ink s text b (s.size + 1) feed ink (omega arith) h)
+ink_pushed s text b on feed ink h =
+    subst (λ (p : Place). StandsFor (record s { place = p; size = s.size + 1 }) (text ++ b ∷ [])) on.after (stands_kept s text b (s.size + 1) on.kept feed ink (omega arith) h)
 
-pub ink_fresh : (style : Style) (place : Place) (b : ℕ) → place ≡ Fresh → eqb b (comment_byte style) ≡ false → after_ink style place b ≡ Inside (begun place ++ b ∷ [])
-ink_fresh style place b here other = rw (here, other) refl
+pub ink_fresh : (s : LexerState) (b : ℕ) → s.place ≡ Fresh → eqb b (comment_byte s.style) ≡ false → GoesOn s b
+ink_fresh s b here other = record { kept = rw here refl; after = rw (here, other) refl }
 
-pub ink_between : (style : Style) (place : Place) (b : ℕ) → place ≡ Between → after_ink style place b ≡ Inside (begun place ++ b ∷ [])
-ink_between style place b here = rw here refl
+pub ink_between : (s : LexerState) (b : ℕ) → s.place ≡ Between → GoesOn s b
+ink_between s b here = record { kept = rw here refl; after = rw here refl }
 
-pub ink_inside : (style : Style) (place : Place) (w : List ℕ) (b : ℕ) → place ≡ Inside w → after_ink style place b ≡ Inside (begun place ++ b ∷ [])
-ink_inside style place w b here = rw here refl
+pub ink_inside : (s : LexerState) (w : List ℕ) (b : ℕ) → s.place ≡ Inside w → joins s.style (last_of w) b ≡ true → GoesOn s b
+ink_inside s w b here together = record { kept = rw (here, together) refl; after = rw (here, together) refl }
+
+-- the byte begins the next token
+pub ink_apart : (s : LexerState) (text w : List ℕ) (b : ℕ) → s.place ≡ Inside w → joins s.style (last_of w) b ≡ false
+    → is_feed b ≡ false → is_blank b ≡ false → StandsFor s text
+    → StandsFor (record s { words = s.words ++ word s.line w ∷ []; place = Inside (b ∷ []); size = s.size + 1 }) (text ++ b ∷ [])
+ink_apart s text w b here apart feed ink h =
+    let off : cut_off s.style s.line s.place b ≡ word s.line w ∷ [] = rw (here, apart) refl in
+    let after : after_ink s.style s.place b ≡ Inside (b ∷ []) = rw (here, apart) refl in
+    subst (λ (p : Place). StandsFor (record s { words = s.words ++ word s.line w ∷ []; place = p; size = s.size + 1 }) (text ++ b ∷ [])) after
+    (subst (λ (ws : List Word). StandsFor (record s { words = s.words ++ ws; place = after_ink s.style s.place b; size = s.size + 1 }) (text ++ b ∷ [])) off
+    (stands_ink s text b (s.size + 1) feed ink (omega arith) h))
+
+-- the last byte of all is that of the token that has begun
+pub last_begun : (bytes : List ℕ) (start : ℕ) → start < length bytes → last_of (drop start bytes) ≡ last_of bytes
+last_begun bytes start lt =
+    let len = length-drop start bytes in
+    let k : start + (length (drop start bytes) - 1) ≡ length bytes - 1 = omega arith in
+    get_or-drop start bytes (length (drop start bytes) - 1) 0 ∙ ap (λ n. get_or bytes n 0) k
+
+-- inside a token the bytes behind the last word that has ended are those of the token
+pub held_inside : (a : At) (held : List ℕ) (start size : ℕ) (w : List ℕ) → place_at a held ≡ Inside w
+    → IsWordStart a start size → (held ≡ w) × (start < size)
+held_inside at.Fresh held start size w e h = absurd cc
+held_inside at.Between held start size w e h = absurd cc
+held_inside at.Inside held start size w e h = (cc, h)
+held_inside at.Comment held start size w e h = absurd cc
+held_inside at.Spent held start size w e h = absurd cc

@@ -1,36 +1,18 @@
 -- A lexer that stands for a text stands for one byte more after each of its steps.
-use Rattle.std.proofs.Common.{◌≡◌, ℕ, suc, ◌+◌, ◌<◌, ◌≤◌, Bool, true, false, eqb, List, [], ◌∷◌, ◌++◌, length, refl, sym, ap, ◌∙◌, arith, append_assoc, inl, inr}
+use Rattle.std.proofs.Common.{◌≡◌, ℕ, suc, ◌+◌, ◌≤◌, Bool, true, false, eqb, List, [], ◌∷◌, ◌++◌, length, refl, sym, ap, subst, ◌∙◌, arith, append_assoc, inl, inr}
 use Rattle.std.specs.Prelude.{filter, if◌then◌else◌}
-use Rattle.std.specs.List.{slice_split, onto_first, AllByRecursion}
+use Rattle.std.specs.List.{slice_split, onto_first}
 use Rattle.std.proofs.lemmas.Bool.{cases_Bool}
 use Rattle.std.proofs.lemmas.List.{append-nil, length-append}
-use Rattle.std.proofs.lemmas.List.Elements.{All-from_recursion}
-use Rattle.std.proofs.lemmas.List.Splits.{slice_split_at, slice_split_none, slice_split-cons_yes, slice_split-cons_no}
+use Rattle.std.proofs.lemmas.List.Splits.{slice_split-cons_yes, slice_split-cons_no}
 use Rattle.whole_text.specs.declared.token.Style.{Style}
-use Rattle.whole_text.specs.Tokens.{Word, is_blank, is_feed, is_filled, words, comment_byte, begins_with, is_comment, tokens_of_line, tokens_from, tokens_of}
+use Rattle.whole_text.specs.Tokens.{Word, word, joins, is_blank, is_feed, is_filled, words, comment_byte, begins_with, is_comment, tokens_of_line, tokens_from, tokens_of}
 use Rattle.whole_text.specs.Lexing.{Place, Fresh, Between, Inside, Comment, Spent, LexerState, IsPlace, to_come, feeds, StandsFor}
 use Rattle.whole_text.specs.LexerPlaces.{ended, after_blank}
-use Rattle.whole_text.proofs.LineWords.{words_none, words_blank, kept_first, comment_line, other_line}
+use Rattle.whole_text.proofs.LineWords.{words_none, words_blank, comment_line, other_line}
+use Rattle.whole_text.proofs.Pieces.{last_of, one_begun, begun_more, blank_ends, line_ends, apart_ends}
 
--- ---- the words of a line
-
--- a word, as far as it has been read
-abbrev pub IsBegun : List ℕ → Type 0
-IsBegun w = (0 < length w) × AllByRecursion (λ b. is_blank b ≡ false) w
-
--- a word that a blank ends
-word_ended : (w : List ℕ) (b : ℕ) (l : List ℕ) → IsBegun w → is_blank b ≡ true → words (w ++ b ∷ l) ≡ w ∷ words l
-unfolding words
-word_ended w b l h e =
-    let cut : slice_split is_blank (w ++ b ∷ l) ≡ w ∷ slice_split is_blank l = slice_split_at is_blank w b l (All-from_recursion (λ c. is_blank c ≡ false) w h.1) e in
-    rw cut (kept_first w (slice_split is_blank l) h.0)
-
--- a word that the line ends
-word_last : (w : List ℕ) → IsBegun w → words (w ++ []) ≡ w ∷ []
-unfolding words
-word_last w h =
-    let cut : slice_split is_blank w ≡ w ∷ [] = slice_split_none is_blank w (All-from_recursion (λ c. is_blank c ≡ false) w h.1) in
-    rw (append-nil w, cut) (kept_first w [] h.0)
+-- ---- the tokens of a line
 
 -- an empty line has no tokens
 no_tokens : (style : Style) (n : ℕ) → tokens_of_line style n [] ≡ []
@@ -53,19 +35,19 @@ first_decides style b l e = rw e (begins_first (comment_byte style) b (slice_spl
 
 -- ---- what is still to come
 
-feed_step : (style : Style) (place : Place) (n : ℕ) (lines : List (List ℕ)) → IsPlace place → to_come style place n ([] ∷ lines) ≡ ended n place ++ tokens_from style (n + 1) lines
+feed_step : (style : Style) (place : Place) (n : ℕ) (lines : List (List ℕ)) → IsPlace style place → to_come style place n ([] ∷ lines) ≡ ended n place ++ tokens_from style (n + 1) lines
 unfolding to_come tokens_from
 feed_step style Fresh n lines h = rw (no_tokens style n) refl
 feed_step style Between n lines h = rw words_none refl
-feed_step style (Inside w) n lines h = rw (word_last w h) refl
+feed_step style (Inside w) n lines h = rw (append-nil w, line_ends style w h) refl
 feed_step style Comment n lines h = refl
 feed_step style Spent n lines h = absurd h
 
-blank_step : (style : Style) (place : Place) (n b : ℕ) (l : List ℕ) (lines : List (List ℕ)) → IsPlace place → is_blank b ≡ true → to_come style place n ((b ∷ l) ∷ lines) ≡ ended n place ++ to_come style (after_blank place) n (l ∷ lines)
+blank_step : (style : Style) (place : Place) (n b : ℕ) (l : List ℕ) (lines : List (List ℕ)) → IsPlace style place → is_blank b ≡ true → to_come style place n ((b ∷ l) ∷ lines) ≡ ended n place ++ to_come style (after_blank place) n (l ∷ lines)
 unfolding to_come tokens_from
 blank_step style Fresh n b l lines h e = rw (blank_line style n b l e) refl
 blank_step style Between n b l lines h e = rw (words_blank b l e) refl
-blank_step style (Inside w) n b l lines h e = rw (word_ended w b l h e) refl
+blank_step style (Inside w) n b l lines h e = rw (blank_ends style w b l h e) refl
 blank_step style Comment n b l lines h e = refl
 blank_step style Spent n b l lines h e = absurd h
 
@@ -73,11 +55,23 @@ blank_step style Spent n b l lines h e = absurd h
 abbrev pub after_ink : Style → Place → ℕ → Place
 after_ink style Fresh b = if eqb b (comment_byte style) then Comment else Inside (b ∷ [])
 after_ink style Between b = Inside (b ∷ [])
-after_ink style (Inside w) b = Inside (w ++ b ∷ [])
+after_ink style (Inside w) b =
+    if joins style (last_of w) b then Inside (w ++ b ∷ []) else Inside (b ∷ [])
 after_ink style Comment b = Comment
 after_ink style Spent b = Spent
 
-ink_step : (style : Style) (place : Place) (n b : ℕ) (l : List ℕ) (lines : List (List ℕ)) → IsPlace place → is_blank b ≡ false → to_come style place n ((b ∷ l) ∷ lines) ≡ to_come style (after_ink style place b) n (l ∷ lines)
+-- the token that ends before such a byte
+abbrev pub cut_off : Style → ℕ → Place → ℕ → List Word
+cut_off style n (Inside w) b = if joins style (last_of w) b then [] else word n w ∷ []
+cut_off style n Fresh b = []
+cut_off style n Between b = []
+cut_off style n Comment b = []
+cut_off style n Spent b = []
+
+ink_step : (style : Style) (place : Place) (n b : ℕ) (l : List ℕ) (lines : List (List ℕ))
+    → IsPlace style place → is_blank b ≡ false
+    → to_come style place n ((b ∷ l) ∷ lines)
+    ≡ cut_off style n place b ++ to_come style (after_ink style place b) n (l ∷ lines)
 unfolding to_come tokens_from
 ink_step style Fresh n b l lines h e =
     elim (cases_Bool (eqb b (comment_byte style))) [
@@ -85,31 +79,37 @@ ink_step style Fresh n b l lines h e =
       | inr other ↦ rw (other_line style n (b ∷ l) (first_decides style b l e ∙ other), other) refl
     ]
 ink_step style Between n b l lines h e = refl
-ink_step style (Inside w) n b l lines h e = rw (append_assoc w (b ∷ []) l) refl
+ink_step style (Inside w) n b l lines h e =
+    elim (cases_Bool (joins style (last_of w) b)) [
+      | inl together ↦ rw (together, append_assoc w (b ∷ []) l) refl
+      | inr apart ↦ rw (apart_ends style w b l h e apart, apart) refl
+    ]
 ink_step style Comment n b l lines h e = refl
 ink_step style Spent n b l lines h e = absurd h
 
 -- ---- places go on
 
-place_blank : (place : Place) → IsPlace place → IsPlace (after_blank place)
-place_blank Fresh h = h
-place_blank Between h = h
-place_blank (Inside w) h = tt
-place_blank Comment h = h
-place_blank Spent h = h
+place_blank : (style : Style) (place : Place) → IsPlace style place
+    → IsPlace style (after_blank place)
+place_blank style Fresh h = h
+place_blank style Between h = h
+place_blank style (Inside w) h = tt
+place_blank style Comment h = h
+place_blank style Spent h = h
 
-all_push : (w : List ℕ) (b : ℕ) → AllByRecursion (λ c. is_blank c ≡ false) w → is_blank b ≡ false → AllByRecursion (λ c. is_blank c ≡ false) (w ++ b ∷ [])
-all_push [] b h e = (e, tt)
-all_push (c ∷ w) b h e = (h.0, all_push w b h.1 e)
-
-place_ink : (style : Style) (place : Place) (b : ℕ) → IsPlace place → is_blank b ≡ false → IsPlace (after_ink style place b)
+place_ink : (style : Style) (place : Place) (b : ℕ) → IsPlace style place → is_blank b ≡ false
+    → IsPlace style (after_ink style place b)
 place_ink style Fresh b h e =
-    elim (eqb b (comment_byte style)) as (λ (t : Bool). IsPlace (if t then Comment else Inside (b ∷ []))) [
+    elim (eqb b (comment_byte style)) as (λ (t : Bool). IsPlace style (if t then Comment else Inside (b ∷ []))) [
       | true ↦ tt
-      | false ↦ (omega arith, (e, tt))
+      | false ↦ one_begun style b e
     ]
-place_ink style Between b h e = (omega arith, (e, tt))
-place_ink style (Inside w) b h e = (omega (arith, length-append w (b ∷ [])), all_push w b h.1 e)
+place_ink style Between b h e = one_begun style b e
+place_ink style (Inside w) b h e =
+    elim (cases_Bool (joins style (last_of w) b)) [
+      | inl together ↦ rw together (begun_more style w b h e together)
+      | inr apart ↦ rw apart (one_begun style b e)
+    ]
 place_ink style Comment b h e = tt
 place_ink style Spent b h e = h
 
@@ -164,7 +164,7 @@ stands_feed s text b feed h = record {
 
 pub stands_blank : (s : LexerState) (text : List ℕ) (b : ℕ) → is_feed b ≡ false → is_blank b ≡ true → StandsFor s text → StandsFor (blank_state s) (text ++ b ∷ [])
 stands_blank s text b feed blank h = record {
-  place = place_blank s.place h.place;
+  place = place_blank s.style s.place h.place;
   words = λ rest.
       let more = some_line rest in
       let cut : slice_split is_feed (b ∷ rest) ≡ (b ∷ more.0) ∷ more.1 = slice_split-cons_no is_feed b rest feed ∙ ap (onto_first b) more.2 in
@@ -179,7 +179,11 @@ stands_blank s text b feed blank h = record {
 
 -- the state behind another byte, which counts where it is held
 abbrev pub ink_state : LexerState → ℕ → ℕ → LexerState
-ink_state s b size = record s { place = after_ink s.style s.place b; size = size }
+ink_state s b size = record s {
+  words = s.words ++ cut_off s.style s.line s.place b;
+  place = after_ink s.style s.place b;
+  size = size;
+}
 
 pub stands_ink : (s : LexerState) (text : List ℕ) (b size : ℕ) → is_feed b ≡ false → is_blank b ≡ false → size ≤ s.size + 1 → StandsFor s text → StandsFor (ink_state s b size) (text ++ b ∷ [])
 stands_ink s text b size feed ink le h = record {
@@ -187,13 +191,26 @@ stands_ink s text b size feed ink le h = record {
   words = λ rest.
       let more = some_line rest in
       let cut : slice_split is_feed (b ∷ rest) ≡ (b ∷ more.0) ∷ more.1 = slice_split-cons_no is_feed b rest feed ∙ ap (onto_first b) more.2 in
+      let off = cut_off s.style s.line s.place b in
+      let after = after_ink s.style s.place b in
       ap (tokens_of s.style) (append_assoc text (b ∷ []) rest) ∙ h.words (b ∷ rest)
       ∙ ap (λ (ls : List (List ℕ)). s.words ++ to_come s.style s.place s.line ls) cut
       ∙ ap (λ (ws : List Word). s.words ++ ws) (ink_step s.style s.place s.line b more.0 more.1 h.place ink)
-      ∙ ap (λ (ls : List (List ℕ)). s.words ++ to_come s.style (after_ink s.style s.place b) s.line ls) (sym more.2);
+      ∙ sym (append_assoc s.words off (to_come s.style after s.line (more.0 ∷ more.1)))
+      ∙ ap (λ (ls : List (List ℕ)). (s.words ++ off) ++ to_come s.style after s.line ls) (sym more.2);
   line = rw (feeds-push text b, feed) (omega (arith, h.line));
   size = omega (arith, longer text b s.size h.size);
 }
+
+-- where no token ends before it
+pub stands_kept : (s : LexerState) (text : List ℕ) (b size : ℕ) → cut_off s.style s.line s.place b ≡ []
+    → is_feed b ≡ false → is_blank b ≡ false → size ≤ s.size + 1 → StandsFor s text
+    → StandsFor (record s { place = after_ink s.style s.place b; size = size }) (text ++ b ∷ [])
+stands_kept s text b size kept feed ink le h =
+    let same : s.words ++ cut_off s.style s.line s.place b ≡ s.words =
+    ap (λ (ws : List Word). s.words ++ ws) kept ∙ append-nil s.words in
+    subst (λ (ws : List Word). StandsFor (record s { words = ws; place = after_ink s.style s.place b; size = size }) (text ++ b ∷ []))
+    same (stands_ink s text b size feed ink le h)
 
 -- at the end the words are those of the text
 pub stands_end : (s : LexerState) (text : List ℕ) → StandsFor s text → tokens_of s.style text ≡ s.words ++ ended s.line s.place

@@ -4,6 +4,7 @@ pub mod Strides
 pub mod Lengths
 pub mod Order
 pub mod LineWords
+pub mod Pieces
 pub mod Lines
 pub mod DigitLoop
 pub mod NumberAgain

@@ -9,7 +9,7 @@ use Rattle.std.proofs.lemmas.List.Splits.{slice_split_first, slice_split_none}
 use Rattle.whole_text.proofs.Slices.{slice_length, slice_at, slice_dropped, slice_taken}
 use Rattle.whole_text.specs.declared.token.Style.{Style}
 use Rattle.whole_text.specs.declared.token.Token.{Token}
-use Rattle.whole_text.specs.Tokens.{word, word_at, is_blank, is_filled, words, comment_byte, begins_with, is_comment, tokens_of_line}
+use Rattle.whole_text.specs.Tokens.{word, word_at, is_blank, is_filled, words, pieces_of_line, comment_byte, begins_with, is_comment, tokens_of_line}
 
 -- a byte of a word
 abbrev pub is_ink : ℕ → Bool
@@ -106,20 +106,20 @@ pub comment_none : (style : Style) (bs : List ℕ) (n : ℕ) → n ≡ position_
 unfolding is_comment
 comment_none style bs n first le = sym (ap (begins_with (comment_byte style)) (words_skip bs ∙ ap words (drop_all (position_or_len is_ink bs) bs (rw (← first) le)) ∙ words_none))
 
--- a comment has no tokens, and another line those of its words
+-- a comment has no tokens, and another line its pieces
 pub comment_line : (style : Style) (n : ℕ) (line : List ℕ) → is_comment style line ≡ true → tokens_of_line style n line ≡ []
 unfolding tokens_of_line
 comment_line style n line e = rw e refl
 
-pub other_line : (style : Style) (n : ℕ) (line : List ℕ) → is_comment style line ≡ false → tokens_of_line style n line ≡ map (word n) (words line)
+pub other_line : (style : Style) (n : ℕ) (line : List ℕ) → is_comment style line ≡ false → tokens_of_line style n line ≡ map (word n) (pieces_of_line style line)
 unfolding tokens_of_line
 other_line style n line e = rw e refl
 
--- one more word of a line is pushed
-pub word_taken : (text : List ℕ) (was now : List Token) (t : Token) (before after : List ℕ) → words before ≡ slice_range text t.start t.end ∷ words after → now ≡ was ++ t ∷ []
-    → map (word_at text) now ++ map (word t.line) (words after) ≡ map (word_at text) was ++ map (word t.line) (words before)
-word_taken text was now t before after e n =
-    rw (n, e, map-append (word_at text) was (t ∷ [])) (append_assoc (map (word_at text) was) (word_at text t ∷ []) (map (word t.line) (words after)))
+-- one more token of a line is pushed
+pub token_taken : (text : List ℕ) (was now : List Token) (t : Token) (before after : List (List ℕ)) → before ≡ slice_range text t.start t.end ∷ after → now ≡ was ++ t ∷ []
+    → map (word_at text) now ++ map (word t.line) after ≡ map (word_at text) was ++ map (word t.line) before
+token_taken text was now t before after e n =
+    rw (n, e, map-append (word_at text) was (t ∷ [])) (append_assoc (map (word_at text) was) (word_at text t ∷ []) (map (word t.line) after))
 
 -- the blanks that are skipped at a place of a text, and where that ends
 pub skipped : (text : List ℕ) (a b n : ℕ) → a ≤ b → b ≤ length text → n ≡ position_or_len is_ink (slice_range text a b)

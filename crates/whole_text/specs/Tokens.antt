@@ -1,10 +1,10 @@
--- The tokens of a text: it is cut into lines at line feeds, and a line that is no comment into
--- words at blanks.
-use Rattle.std.specs.Prelude.{◌≡◌, ℕ, ◌+◌, ◌-◌, ◌<◌, ◌≤◌, Bool, true, false, ◌||◌, List, [], ◌∷◌, ◌++◌, length, map, filter, slice_get, ◌==◌, if◌then◌else◌}
+-- The tokens of a text: it is cut into lines at line feeds, a line that is no comment into words at
+-- blanks, and a word between neighbours that do not join.
+use Rattle.std.specs.Prelude.{◌≡◌, ℕ, ◌+◌, ◌-◌, ◌<◌, ◌≤◌, Bool, true, false, not, ◌&&◌, ◌||◌, List, [], ◌∷◌, ◌++◌, length, map, filter, slice_get, ◌==◌, if◌then◌else◌}
 use Rattle.std.specs.Option.{option_map_or}
-use Rattle.std.specs.List.{slice_split, slice_range}
+use Rattle.std.specs.List.{slice_split, slice_range, onto_first, flat_map}
 use Rattle.whole_text.specs.declared.token.Style.{Style}
-use Rattle.whole_text.specs.declared.token.Style.TheVariants.{Plain}
+use Rattle.whole_text.specs.declared.token.Style.TheVariants.{Plain, Opb}
 use Rattle.whole_text.specs.declared.token.Token.{Token}
 
 -- what a token says: its bytes, and the number of its line
@@ -33,9 +33,35 @@ is_filled (c ∷ cs) = true
 unfoldable pub words : List ℕ → List (List ℕ)
 words line = filter is_filled (slice_split is_blank line)
 
--- the byte that begins a comment: `c`
+-- `<`, `=` or `>`
+abbrev pub is_operator : ℕ → Bool
+is_operator c = (c == 60) || ((c == 61) || (c == 62))
+
+-- whether two neighbours in a word stand in one token: in the style of OPB not beside a `;` (59) nor
+-- behind a `:` (58), and else where both or neither is of an operator
+abbrev pub joins : Style → ℕ → ℕ → Bool
+joins Plain c d = true
+joins Opb c d =
+    not ((c == 59) || ((d == 59) || (c == 58)))
+    && (if is_operator c then is_operator d else not (is_operator d))
+
+-- a word, cut between neighbours that do not join
+unfoldable pub pieces : Style → List ℕ → List (List ℕ)
+pieces style [] = []
+pieces style (c ∷ []) = (c ∷ []) ∷ []
+pieces style (c ∷ d ∷ cs) =
+    if joins style c d
+    then onto_first c (pieces style (d ∷ cs))
+    else (c ∷ []) ∷ pieces style (d ∷ cs)
+
+-- the pieces of the words of a line
+abbrev pub pieces_of_line : Style → List ℕ → List (List ℕ)
+pieces_of_line style line = flat_map (pieces style) (words line)
+
+-- the byte that begins a comment: `c`, in the style of OPB `*`
 abbrev pub comment_byte : Style → ℕ
 comment_byte Plain = 99
+comment_byte Opb = 42
 
 -- the first word begins with this byte
 abbrev pub begins_with : ℕ → List (List ℕ) → Bool
@@ -47,9 +73,10 @@ begins_with c ((d ∷ ds) ∷ ws) = d == c
 unfoldable pub is_comment : Style → List ℕ → Bool
 is_comment style line = begins_with (comment_byte style) (words line)
 
--- the tokens of the line with this number: its words, or none where it is a comment
+-- the tokens of the line with this number: its pieces, or none where it is a comment
 unfoldable pub tokens_of_line : Style → ℕ → List ℕ → List Word
-tokens_of_line style n line = if is_comment style line then [] else map (word n) (words line)
+tokens_of_line style n line =
+    if is_comment style line then [] else map (word n) (pieces_of_line style line)
 
 -- the tokens of lines that are numbered from n on
 unfoldable pub tokens_from : Style → ℕ → List (List ℕ) → List Word

@@ -1,14 +1,17 @@
-//! A text is cut into tokens: at line feeds into lines, and these at blanks into words.
+//! A text is cut into tokens: at line feeds into lines, these at blanks into words, and these
+//! between neighbours that do not join.
 
-ghost use Rattle.std.specs.Prelude.{◌≡◌, ◌≤◌, ◌++◌, not, length, All, slice_range, OnOk, IfOk};
+ghost use Rattle.std.specs.Prelude.{◌≡◌, ◌<◌, ◌≤◌, ◌++◌, ◌∷◌, false, not, length, take, drop, All, slice_range, slice_index, OnOk, IfOk};
 ghost use Rattle.std.specs.List.{position_or_len};
-ghost use Rattle.whole_text.specs.Tokens.{is_feed, is_blank, comment_byte, is_comment, tokens_of_line, tokens_of, words_at, AreInOrder, IsWithin};
+ghost use Rattle.whole_text.specs.Tokens.{is_feed, is_blank, is_operator, joins, comment_byte, is_comment, pieces_of_line, tokens_of_line, tokens_of, words_at, AreInOrder, IsWithin};
 
 use crate::token::{Style, Token};
 use bits_model::NoMemory;
 use std::alloc::Global;
 
-pub(crate) fn is_blank(byte: u8) -> bool
+/// Whether a byte stands between words.
+#[inline(always)]
+pub fn is_blank(byte: u8) -> bool
     ensures { result ≡ is_blank byte }
 {
     byte == b' ' || byte == b'\t' || byte == b'\r'
@@ -20,6 +23,28 @@ pub(crate) fn comment_byte(style: Style) -> u8
 {
     match style {
         Style::Plain => b'c',
+        Style::Opb => b'*',
+    }
+}
+
+/// Whether a byte is `<`, `=` or `>`.
+#[inline(always)]
+fn is_operator(byte: u8) -> bool
+    ensures { result ≡ is_operator byte }
+{
+    byte == b'<' || byte == b'=' || byte == b'>'
+}
+
+/// Whether two neighbours in a word stand in one token.
+#[inline(always)]
+pub(crate) fn joins(style: Style, byte: u8, next: u8) -> bool
+    ensures { result ≡ joins style byte next }
+{
+    match style {
+        Style::Plain => true,
+        Style::Opb => {
+            byte != b';' && next != b';' && byte != b':' && is_operator(byte) == is_operator(next)
+        }
     }
 }
 
@@ -35,7 +60,7 @@ pub fn line_len(bytes: &[u8]) -> usize
 }
 
 /// How many bytes stand before the first blank.
-fn word_len(bytes: &[u8]) -> usize
+pub fn word_len(bytes: &[u8]) -> usize
     ensures first { result ≡ position_or_len is_blank bytes.now }
     ensures within { result ≤ length bytes.now }
 {
@@ -46,7 +71,7 @@ fn word_len(bytes: &[u8]) -> usize
 }
 
 /// How many blanks stand in front.
-fn blank_len(bytes: &[u8]) -> usize
+pub fn blank_len(bytes: &[u8]) -> usize
     ensures first { result ≡ position_or_len (λ c. not (is_blank c)) bytes.now }
     ensures within { result ≤ length bytes.now }
 {
@@ -54,6 +79,38 @@ fn blank_len(bytes: &[u8]) -> usize
         .iter()
         .position(|byte| !is_blank(*byte))
         .unwrap_or(bytes.len())
+}
+
+/// How many bytes the piece in front has, whose first byte is no blank.
+fn piece_len(bytes: &[u8], style: Style) -> usize
+    requires some { 0 < length bytes.now }
+    requires ink { is_blank (slice_index bytes.now 0) ≡ false }
+    ensures cut { pieces_of_line style bytes.now
+        ≡ take result bytes.now ∷ pieces_of_line style (drop result bytes.now) }
+    ensures some { 0 < result }
+    ensures within { result ≤ length bytes.now }
+{
+    for i in 1..bytes.len() {
+        if is_blank(bytes[i]) || !joins(style, bytes[i - 1], bytes[i]) {
+            return i;
+        }
+    }
+    bytes.len()
+}
+
+/// How many bytes the token in front has, whose first byte is no blank.
+fn token_len(bytes: &[u8], style: Style) -> usize
+    requires some { 0 < length bytes.now }
+    requires ink { is_blank (slice_index bytes.now 0) ≡ false }
+    ensures cut { pieces_of_line style bytes.now
+        ≡ take result bytes.now ∷ pieces_of_line style (drop result bytes.now) }
+    ensures some { 0 < result }
+    ensures within { result ≤ length bytes.now }
+{
+    match style {
+        Style::Plain => word_len(bytes),
+        Style::Opb => piece_len(bytes, Style::Opb),
+    }
 }
 
 /// Whether the first byte of the line that is no blank begins a comment.
@@ -88,7 +145,7 @@ pub fn push_line(
     }
     let mut at = start + blank_len(&text[start..end]);
     while at < end {
-        let stop = at + word_len(&text[at..end]);
+        let stop = at + token_len(&text[at..end], style);
         tokens.push(Token {
             start: at,
             end: stop,

@@ -1,11 +1,11 @@
 //! The words of a text that comes in pieces. The text isn't held, only its words.
-ghost use Rattle.std.specs.Prelude.{◌≡◌, ℕ, ◌+◌, ◌-◌, ◌^◌, ◌<◌, ◌≤◌, ◌++◌, ◌∷◌, [], List, false, length, IfOk, OnOk, OnErr};
-ghost use Rattle.whole_text.specs.Tokens.{is_feed, is_blank, tokens_of, words_at};
+ghost use Rattle.std.specs.Prelude.{◌≡◌, ℕ, ◌+◌, ◌-◌, ◌^◌, ◌<◌, ◌≤◌, ◌++◌, ◌∷◌, [], List, false, length, slice_index, IfOk, OnOk, OnErr};
+ghost use Rattle.whole_text.specs.Tokens.{is_feed, is_blank, joins, tokens_of, words_at};
 ghost use Rattle.whole_text.specs.TokenTexts.{words_of};
 ghost use Rattle.whole_text.specs.Lexing.{Inside, StandsFor, HasRoom};
 ghost use Rattle.whole_text.specs.LexerPlaces.{ended, begun, after_blank, IsLive};
 
-use crate::cutting::{comment_byte, is_blank};
+use crate::cutting::{comment_byte, is_blank, joins};
 use crate::packed::TokenList;
 use crate::token::{Style, Token};
 use crate::token_text::TokenText;
@@ -59,6 +59,15 @@ impl Model for Lexer {
         IsLexer lexer.at lexer.tokens lexer.start (length lexer.bytes.items) lexer.line };
 }
 
+/// Whether a byte goes on with the token of the last of these bytes.
+#[inline(always)]
+fn goes_on(style: Style, bytes: &[u8], byte: u8) -> bool
+    requires { 0 < length bytes.now }
+    ensures { result ≡ joins style (slice_index bytes.now (length bytes.now - 1)) byte }
+{
+    joins(style, bytes[bytes.len() - 1], byte)
+}
+
 impl Lexer {
     /// A lexer of no text so far.
     pub fn new(alloc: Global, style: Style) -> Lexer
@@ -83,7 +92,11 @@ impl Lexer {
         ensures spent { OnErr result ((text : List ℕ) → StandsFor self.new text → ⊥) }
         ensures style { self.new.style ≡ self.old.style }
     {
-        match self.steps(piece) {
+        let fed = match self.style {
+            Style::Plain => self.steps(piece, Style::Plain),
+            Style::Opb => self.steps(piece, Style::Opb),
+        };
+        match fed {
             Ok(()) => Ok(()),
             Err(_) => {
                 self.at = At::Spent;
@@ -107,44 +120,49 @@ impl Lexer {
         })
     }
 
-    /// A step for each byte. The room for their words is reserved at once.
-    fn steps(&mut self, piece: &[u8]) -> Result<(), NoMemory>
-        requires { HasRoom self.old piece.now (2 ^ 32) }
+    /// A step for each byte. The room for their words is reserved at once. The style is passed
+    /// along, so that each has a loop of its own.
+    #[inline(always)]
+    fn steps(&mut self, piece: &[u8], style: Style) -> Result<(), NoMemory>
+        requires room { HasRoom self.old piece.now (2 ^ 32) }
+        requires own { style ≡ self.old.style }
         ensures fed { OnOk result ((text : List ℕ) → StandsFor self.old text
             → StandsFor self.new (text ++ piece.now)) }
         ensures style { self.new.style ≡ self.old.style }
     {
         self.bytes.reserve(piece.len())?;
         for byte in piece {
-            self.step(*byte)?;
+            self.step(*byte, style)?;
         }
         Ok(())
     }
 
     /// One byte more.
     #[inline(always)]
-    fn step(&mut self, byte: u8) -> Result<(), NoMemory>
+    fn step(&mut self, byte: u8, style: Style) -> Result<(), NoMemory>
         requires live { IsLive self.old.place }
         requires few { self.old.line < 2 ^ 64 - 1 }
+        requires own { style ≡ self.old.style }
         ensures stepped { OnOk result ((text : List ℕ) → StandsFor self.old text
             → StandsFor self.new (text ++ byte ∷ [])) }
         ensures style { self.new.style ≡ self.old.style }
     {
         if byte > b' ' {
-            self.ink(byte)
+            self.ink(byte, style)
         } else if byte == b'\n' {
             self.line_feed()
         } else if is_blank(byte) {
             self.end_word()
         } else {
-            self.ink(byte)
+            self.ink(byte, style)
         }
     }
 
     /// A byte that is neither a blank nor a line feed.
     #[inline(always)]
-    fn ink(&mut self, byte: u8) -> Result<(), NoMemory>
+    fn ink(&mut self, byte: u8, style: Style) -> Result<(), NoMemory>
         requires live { IsLive self.old.place }
+        requires own { style ≡ self.old.style }
         requires no_feed { is_feed byte ≡ false }
         requires no_blank { is_blank byte ≡ false }
         ensures stepped { OnOk result ((text : List ℕ) → StandsFor self.old text
@@ -152,17 +170,37 @@ impl Lexer {
         ensures style { self.new.style ≡ self.old.style }
     {
         match self.at {
-            At::Inside => self.push(byte),
+            At::Inside => self.next_ink(byte, style),
             At::Between => self.push(byte),
-            _ => self.first_ink(byte),
+            _ => self.first_ink(byte, style),
         }
+    }
+
+    /// A byte that is neither a blank nor a line feed, inside a token: it goes on with it, or begins
+    /// the next one.
+    #[inline(always)]
+    fn next_ink(&mut self, byte: u8, style: Style) -> Result<(), NoMemory>
+        requires inside { (w : List ℕ) × (self.old.place ≡ Inside w) }
+        requires own { style ≡ self.old.style }
+        requires no_feed { is_feed byte ≡ false }
+        requires no_blank { is_blank byte ≡ false }
+        ensures stepped { OnOk result ((text : List ℕ) → StandsFor self.old text
+            → StandsFor self.new (text ++ byte ∷ [])) }
+        ensures style { self.new.style ≡ self.old.style }
+    {
+        if goes_on(style, &self.bytes, byte) {
+            return self.push(byte);
+        }
+        self.end_word()?;
+        self.push(byte)
     }
 
     /// A byte that is neither a blank nor a line feed, at any place; `ink` takes the two usual
     /// places before it.
     #[inline(always)]
-    fn first_ink(&mut self, byte: u8) -> Result<(), NoMemory>
+    fn first_ink(&mut self, byte: u8, style: Style) -> Result<(), NoMemory>
         requires live { IsLive self.old.place }
+        requires own { style ≡ self.old.style }
         requires no_feed { is_feed byte ≡ false }
         requires no_blank { is_blank byte ≡ false }
         ensures stepped { OnOk result ((text : List ℕ) → StandsFor self.old text
@@ -180,7 +218,7 @@ impl Lexer {
                 }
             }
             At::Between => self.push(byte),
-            At::Inside => self.push(byte),
+            At::Inside => self.next_ink(byte, style),
             At::Spent => Err(NoMemory),
         }
     }

@@ -17,11 +17,11 @@ mod token;
 mod token_text;
 mod words;
 
-pub use cutting::{line_len, push_line, tokens};
+pub use cutting::{blank_len, is_blank, line_len, push_line, tokens, word_len};
 pub use faults::{TextAnswer, TextFault, TextKind};
 pub use laws::laws_of_numbers;
 pub use lexing::Lexer;
-pub use numbers::{number, push_number};
+pub use numbers::{digits, number, push_number};
 pub use packed::TokenList;
 pub use putting::put_number;
 pub use steps::{

@@ -12,7 +12,8 @@ use bits_model::NoMemory;
 use itoa::Buffer;
 
 /// The value of one or more digits, where it is below 2 ^ 64.
-fn digits(bytes: &[u8]) -> Option<u64>
+#[inline]
+pub fn digits(bytes: &[u8]) -> Option<u64>
     ensures { result ≡ digits_number bytes.now }
 {
     if bytes.is_empty() {

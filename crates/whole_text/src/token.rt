@@ -4,10 +4,13 @@
 ///
 /// In each style a blank is a space, a tab or a carriage return, and a comment is a whole line.
 /// `Plain`: each word between blanks is a token, and a line whose first byte that is no blank is
-/// `c` is a comment.
+/// `c` is a comment. `Opb`: a line whose first byte that is no blank is `*` is a comment, and a word
+/// is cut further. Each `;` is a token of its own, and so is each longest run of `<`, `=` and `>`. A
+/// `:` ends its token and belongs to it.
 #[derive(Clone, Copy, Debug, PartialEq, Eq)]
 pub enum Style {
     Plain,
+    Opb,
 }
 
 /// A token of a text: the place of its first byte, the place after its last, and its line.

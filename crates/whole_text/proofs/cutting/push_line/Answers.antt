@@ -1,11 +1,12 @@
-use Rattle.std.proofs.Common.{◌≡◌, ℕ, List, ◌+◌, ◌++◌, ◌∷◌, [], map, sym, ap, ◌∙◌, arith}
-use Rattle.std.specs.List.{slice_range}
+use Rattle.std.proofs.Common.{◌≡◌, ℕ, List, ◌+◌, ◌++◌, [], map, refl, sym, ap, ◌∙◌, arith}
+use Rattle.std.specs.List.{slice_range, flat_map}
 use Rattle.std.proofs.lemmas.List.{append-nil}
 use Rattle.whole_text.specs.declared.token.Token.{Token}
-use Rattle.whole_text.specs.Tokens.{Word, words, word, word_at}
-use Rattle.whole_text.proofs.Slices.{slice_none}
+use Rattle.whole_text.specs.Tokens.{Word, word, word_at, pieces, pieces_of_line}
+use Rattle.whole_text.proofs.Slices.{slice_length, slice_none}
 use Rattle.whole_text.proofs.Order.{order_wider, order_pushed}
-use Rattle.whole_text.proofs.LineWords.{skipped, taken, comment_line, other_line, word_taken, words_none}
+use Rattle.whole_text.proofs.LineWords.{skipped, comment_line, other_line, token_taken, words_none}
+use Rattle.whole_text.proofs.Pieces.{first_ink, within_line, piece_taken}
 use Rattle.whole_text.proofs.cutting.push_line.Goals as goal
 
 pub returns-then-is_comment-clause-cut : goal.returns-then-is_comment-clause-cut
@@ -28,37 +29,48 @@ loop-at-init c =
       low = omega arith;
       high = skip.1;
       ink = skip.2;
-      cut = ap (λ (ws : List Word). map (word_at text) c.args.tokens.now.items ++ ws) (sym (tokens_are ∙ ap (map (word c.args.line)) skip.0));
+      cut = ap (λ (ws : List Word). map (word_at text) c.args.tokens.now.items ++ ws) (sym (tokens_are ∙ ap (λ (ws : List (List ℕ)). map (word c.args.line) (flat_map (pieces c.args.style) ws)) skip.0));
       in_order = λ h. order_wider 0 c.args.tokens.now.items c.args.start at h (omega arith);
     }
+
+pub token_len-requires-clause-some : goal.token_len-requires-clause-some
+token_len-requires-clause-some c =
+    omega (arith, slice_length c.args.text.now c.loop-at.at c.args.end c.requires.within)
+
+pub token_len-requires-clause-ink : goal.token_len-requires-clause-ink
+token_len-requires-clause-ink c =
+    first_ink c.args.text.now c.loop-at.at c.args.end c.loop-at-test.true
+    (c.loop-at.invariant.ink c.loop-at-test.true)
 
 pub loop-at-preserved : goal.loop-at-preserved
 loop-at-preserved c =
     let text = c.args.text.now in
+    let style = c.args.style in
     let at = c.loop-at.at in
-    let stop = at + c.word_len.result in
+    let n = c.token_len.result in
+    let stop = at + n in
     let next = stop + c.blank_len-in-loop-at.result in
     let end = c.args.end in
     let tok : Token = record { start = at; end = stop; line = c.args.line } in
-    let t = taken text at end c.word_len.result c.loop-at-test.true c.requires.within (c.loop-at.invariant.ink c.loop-at-test.true) c.word_len.ensures.first in
-    let skip = skipped text stop end c.blank_len-in-loop-at.result t.1 c.requires.within c.blank_len-in-loop-at.ensures.first in
-    let cut : words (slice_range text at end) ≡ slice_range text at stop ∷ words (slice_range text next end) = t.2 ∙ ap (λ (ws : List (List ℕ)). slice_range text at stop ∷ ws) skip.0 in
+    let le = within_line text at end n c.requires.within c.token_len.ensures.within in
+    let skip = skipped text stop end c.blank_len-in-loop-at.result (omega (arith, le)) c.requires.within c.blank_len-in-loop-at.ensures.first in
+    let cut = piece_taken style text at end n c.blank_len-in-loop-at.result (omega (arith, le)) c.token_len.ensures.cut skip.0 in
     record {
       low = omega (arith, c.loop-at.invariant.low);
       high = skip.1;
       ink = skip.2;
-      cut = word_taken text c.loop-at.tokens.items c.push.new.self.items tok (slice_range text at end) (slice_range text next end) cut c.in_ok-push.ensures.items ∙ c.loop-at.invariant.cut;
-      in_order = λ h. rw c.in_ok-push.ensures.items (order_pushed 0 c.loop-at.tokens.items at tok next (c.loop-at.invariant.in_order h) (omega arith) (omega arith) (omega arith));
+      cut = token_taken text c.loop-at.tokens.items c.push.new.self.items tok (pieces_of_line style (slice_range text at end)) (pieces_of_line style (slice_range text next end)) cut c.in_ok-push.ensures.items ∙ c.loop-at.invariant.cut;
+      in_order = λ h. rw c.in_ok-push.ensures.items (order_pushed 0 c.loop-at.tokens.items at tok next (c.loop-at.invariant.in_order h) (omega arith) (omega (arith, c.token_len.ensures.some)) (omega arith));
     }
 
 pub returns-clause-cut : goal.returns-clause-cut
 returns-clause-cut c =
     let text = c.args.text.now in
     let here : c.loop-at.at ≡ c.args.end = omega (arith, c.loop-at.invariant.high) in
-    let empty : words (slice_range text c.loop-at.at c.args.end) ≡ [] = rw (here, slice_none text c.args.end) words_none in
+    let empty : pieces_of_line c.args.style (slice_range text c.loop-at.at c.args.end) ≡ [] = rw (here, slice_none text c.args.end, words_none) refl in
     sym (append-nil (map (word_at text) c.loop-at.tokens.items)) ∙ ap (λ (ws : List (List ℕ)). map (word_at text) c.loop-at.tokens.items ++ map (word c.args.line) ws) (sym empty) ∙ c.loop-at.invariant.cut
 
 pub loop-at-smaller : goal.loop-at-smaller
 loop-at-smaller c =
-    let t = taken c.args.text.now c.loop-at.at c.args.end c.word_len.result c.loop-at-test.true c.requires.within (c.loop-at.invariant.ink c.loop-at-test.true) c.word_len.ensures.first in
-    omega arith
+    let le = within_line c.args.text.now c.loop-at.at c.args.end c.token_len.result c.requires.within c.token_len.ensures.within in
+    omega (arith, le, c.token_len.ensures.some)

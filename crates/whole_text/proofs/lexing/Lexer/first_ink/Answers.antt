@@ -4,7 +4,7 @@ use Rattle.whole_text.specs.Tokens.{comment_byte}
 use Rattle.whole_text.specs.declared.lexing.At.{At}
 use Rattle.whole_text.specs.Lexing.{Fresh, Between, Inside, Comment, LexerState, StandsFor}
 use Rattle.whole_text.specs.LexerPlaces.{place_at, begun}
-use Rattle.whole_text.proofs.LexerFields.{stands_on, ink_comment, ink_begins, ink_pushed, ink_fresh, ink_between, ink_inside}
+use Rattle.whole_text.proofs.LexerFields.{stands_on, ink_comment, ink_begins, ink_pushed, ink_fresh, ink_between}
 use Rattle.whole_text.proofs.lexing.Lexer.first_ink.Goals as goal
 
 -- the state with one byte more in its word
@@ -34,7 +34,7 @@ returns-else-byte-comment_byte-clause-stepped c =
     let here : now.place ≡ Fresh = sym (ap (λ (s : LexerState). s.place) c.self.view_is) ∙ ap (λ (a : At). place_at a w) c.in-Fresh.is in
     let mark : c.comment_byte.result ≡ comment_byte now.style = c.comment_byte.ensures ∙ ap (λ (s : LexerState). comment_byte s.style) c.self.view_is in
     let other : eqb byte (comment_byte now.style) ≡ false = rw (← mark) (ne_eqb byte c.comment_byte.result c.if-byte-comment_byte.false) in
-    stands_on _ now c.push.new.self (pushed now byte) byte c.push.ensures.pushed (λ text h. ink_pushed now text byte (ink_fresh now.style now.place byte here other) c.requires.no_feed c.requires.no_blank h)
+    stands_on _ now c.push.new.self (pushed now byte) byte c.push.ensures.pushed (λ text h. ink_pushed now text byte (ink_fresh now byte here other) c.requires.no_feed c.requires.no_blank h)
 
 pub returns-in-Between-clause-stepped : goal.returns-in-Between-clause-stepped
 returns-in-Between-clause-stepped c =
@@ -42,12 +42,4 @@ returns-in-Between-clause-stepped c =
     let byte = c.args.byte in
     let now = c.args.self.now in
     let here : now.place ≡ Between = sym (ap (λ (s : LexerState). s.place) c.self.view_is) ∙ ap (λ (a : At). place_at a w) c.in-Between.is in
-    stands_on _ now c.push-in-Between.new.self (pushed now byte) byte c.push-in-Between.ensures.pushed (λ text h. ink_pushed now text byte (ink_between now.style now.place byte here) c.requires.no_feed c.requires.no_blank h)
-
-pub returns-in-Inside-clause-stepped : goal.returns-in-Inside-clause-stepped
-returns-in-Inside-clause-stepped c =
-    let w = drop c.self.inside.start c.self.inside.bytes.items in
-    let byte = c.args.byte in
-    let now = c.args.self.now in
-    let here : now.place ≡ Inside w = sym (ap (λ (s : LexerState). s.place) c.self.view_is) ∙ ap (λ (a : At). place_at a w) c.in-Inside.is in
-    stands_on _ now c.push-in-Inside.new.self (pushed now byte) byte c.push-in-Inside.ensures.pushed (λ text h. ink_pushed now text byte (ink_inside now.style now.place w byte here) c.requires.no_feed c.requires.no_blank h)
+    stands_on _ now c.push-in-Between.new.self (pushed now byte) byte c.push-in-Between.ensures.pushed (λ text h. ink_pushed now text byte (ink_between now byte here) c.requires.no_feed c.requires.no_blank h)

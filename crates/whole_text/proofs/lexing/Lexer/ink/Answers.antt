@@ -2,7 +2,7 @@ use Rattle.std.proofs.Common.{◌≡◌, ◌+◌, ◌∷◌, ◌++◌, [], ℕ, 
 use Rattle.whole_text.specs.declared.lexing.At.{At}
 use Rattle.whole_text.specs.Lexing.{Between, Inside, LexerState}
 use Rattle.whole_text.specs.LexerPlaces.{place_at, begun}
-use Rattle.whole_text.proofs.LexerFields.{stands_on, ink_pushed, ink_between, ink_inside}
+use Rattle.whole_text.proofs.LexerFields.{stands_on, ink_pushed, ink_between}
 use Rattle.whole_text.proofs.lexing.Lexer.ink.Goals as goal
 
 -- the state with one byte more in its word
@@ -15,12 +15,4 @@ returns-in-Between-clause-stepped c =
     let byte = c.args.byte in
     let now = c.args.self.now in
     let here : now.place ≡ Between = sym (ap (λ (s : LexerState). s.place) c.self.view_is) ∙ ap (λ (a : At). place_at a w) c.in-Between.is in
-    stands_on _ now c.push-in-Between.new.self (pushed now byte) byte c.push-in-Between.ensures.pushed (λ text h. ink_pushed now text byte (ink_between now.style now.place byte here) c.requires.no_feed c.requires.no_blank h)
-
-pub returns-in-Inside-clause-stepped : goal.returns-in-Inside-clause-stepped
-returns-in-Inside-clause-stepped c =
-    let w = drop c.self.inside.start c.self.inside.bytes.items in
-    let byte = c.args.byte in
-    let now = c.args.self.now in
-    let here : now.place ≡ Inside w = sym (ap (λ (s : LexerState). s.place) c.self.view_is) ∙ ap (λ (a : At). place_at a w) c.in-Inside.is in
-    stands_on _ now c.push.new.self (pushed now byte) byte c.push.ensures.pushed (λ text h. ink_pushed now text byte (ink_inside now.style now.place w byte here) c.requires.no_feed c.requires.no_blank h)
+    stands_on _ now c.push.new.self (pushed now byte) byte c.push.ensures.pushed (λ text h. ink_pushed now text byte (ink_between now byte here) c.requires.no_feed c.requires.no_blank h)

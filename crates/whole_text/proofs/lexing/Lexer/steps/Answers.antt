@@ -7,8 +7,8 @@ use Rattle.whole_text.proofs.lexing.Lexer.steps.Goals as goal
 pub step-requires-clause-few : goal.step-requires-clause-few
 step-requires-clause-few c =
     let front = take c.loop-byte.byte-index c.args.piece.now in
-    let stands = c.loop-byte.invariant.stands c.requires.0 c.requires.1 in
-    omega (arith, stands.line, feeds-few (c.requires.0 ++ front), length-append c.requires.0 front, length-take c.loop-byte.byte-index c.args.piece.now, c.requires.2)
+    let stands = c.loop-byte.invariant.stands c.requires.room.0 c.requires.room.1 in
+    omega (arith, stands.line, feeds-few (c.requires.room.0 ++ front), length-append c.requires.room.0 front, length-take c.loop-byte.byte-index c.args.piece.now, c.requires.room.2)
 
 pub loop-byte-preserved : goal.loop-byte-preserved
 loop-byte-preserved c =

@@ -1,0 +1,53 @@
+-- Literals that follow one another, and the variables that they need.
+use Rattle.std.proofs.Common.{◌≡◌, ℕ, true, false, List, [], ◌∷◌, ◌++◌, Result, Ok, Err, refl, sym, ap, append_assoc, append-nil}
+use Rattle.whole_text.specs.declared.faults.TextFault.{TextFault}
+use Rattle.whole_text.specs.Tokens.{Word}
+use Rattle.whole_text.specs.Steps.{◌>>=◌, next_of}
+use Rattle.problem_form.specs.declared.literal.Literal.{Literal}
+use Rattle.opb_reader.specs.Opb.{begins_literal, literal_at, literals_at, product_at}
+use Rattle.opb_reader.specs.Views.{literals_read}
+
+-- literals, and what is left
+abbrev Literals : Type 0
+Literals = Result (List Literal × List Word) TextFault
+
+abbrev behind : List Literal → List Literal × List Word → Literals
+behind front x = Ok (front ++ x.0, x.1)
+
+abbrev with_first : Literal → List Literal × List Word → Literals
+with_first l x = Ok (l ∷ x.0, x.1)
+
+regroup : (front : List Literal) (l : Literal) (rest : Literals)
+    → (rest >>= with_first l) >>= behind front ≡ rest >>= behind (front ++ l ∷ [])
+regroup front l (Ok x) = ap (λ ls. Ok (ls, x.1)) (sym (append_assoc front (l ∷ []) x.0))
+regroup front l (Err e) = refl
+
+pub literal_goes_on : (front : List Literal) (w : Word) (ws : List Word) (l : Literal)
+    → begins_literal w.bytes ≡ true → literal_at w ≡ Ok l
+    → literals_read front (w ∷ ws) ≡ literals_read (front ++ l ∷ []) ws
+unfolding literals_at
+literal_goes_on front w ws l begins read = rw (begins, read) (regroup front l (literals_at ws))
+
+pub literal_fails : (front : List Literal) (w : Word) (ws : List Word) (f : TextFault)
+    → begins_literal w.bytes ≡ true → literal_at w ≡ Err f → literals_read front (w ∷ ws) ≡ Err f
+unfolding literals_at
+literal_fails front w ws f begins read = rw (begins, read) refl
+
+pub literals_stop : (front : List Literal) (w : Word) (ws : List Word)
+    → begins_literal w.bytes ≡ false → literals_read front (w ∷ ws) ≡ Ok (front, w ∷ ws)
+unfolding literals_at
+literals_stop front w ws begins =
+    rw begins (ap (λ (ls : List Literal). Ok (ls, w ∷ ws)) (append-nil front))
+
+pub literals_end : (front : List Literal) (ws : List Word) → ws ≡ []
+    → literals_read front ws ≡ Ok (front, [])
+unfolding literals_at
+literals_end front ws none =
+    rw none (ap (λ (ls : List Literal). Ok (ls, [])) (append-nil front))
+
+-- the first literal, and those that follow
+pub product_first : (end : ℕ) (ws rest : List Word) (w : Word) (l : Literal)
+    → next_of end ws ≡ Ok (w, rest) → literal_at w ≡ Ok l
+    → product_at end ws ≡ literals_read (l ∷ []) rest
+unfolding product_at
+product_first end ws rest w l next read = rw (next, read) refl

@@ -1,0 +1,158 @@
+-- What is read again and again: one more is read, or it ends.
+use Rattle.std.proofs.Common.{◌≡◌, ℕ, zero, suc, ◌+◌, ◌≤◌, Bool, true, false, cond, List, [], ◌∷◌, ◌++◌, length, fold, append-nil, append_assoc, Result, Ok, Err, IfOk, refl, sym, ap, ◌∙◌, arith}
+use Rattle.whole_text.specs.declared.faults.TextFault.{TextFault}
+use Rattle.whole_text.specs.declared.faults.TextAnswer.{TextAnswer}
+use Rattle.whole_text.specs.declared.faults.TextAnswer.TheVariants as answers
+use Rattle.whole_text.specs.Tokens.{Word}
+use Rattle.whole_text.specs.Steps.{◌>>=◌, Fails}
+use Rattle.opb_reader.specs.Opb.{many}
+use Rattle.opb_reader.specs.Views.{put, put_all}
+
+-- what reads one thing, from its first word and those after it
+abbrev pub Reader : Type 0 → Type 0
+Reader A = Word → List Word → Result (A × List Word) TextFault
+
+-- no more words are left than this
+abbrev pub Leaves : {A : Type 0} → ℕ → A × List Word → Type 0
+Leaves most x = length x.1 ≤ most
+
+-- it leaves no more words than there were
+pub record Shrinks {A : Type 0} (read : Reader A) : Type 0 where
+  pub leaves : (w : Word) (ws : List Word) → IfOk (read w ws) (Leaves (length ws))
+
+abbrev with_first : {A : Type 0} → A → List A × List Word → Result (List A × List Word) TextFault
+with_first a y = Ok (a ∷ y.0, y.1)
+
+-- what is read first, before the others
+abbrev others : {A : Type 0} → (List Word → Result (List A × List Word) TextFault)
+    → A × List Word → Result (List A × List Word) TextFault
+others more x = more x.1 >>= with_first x.0
+
+-- ---- as many as there are words are enough
+
+same_others : {A : Type 0} (most : ℕ) (f g : List Word → Result (List A × List Word) TextFault)
+    (first : Result (A × List Word) TextFault) → IfOk first (Leaves most)
+    → ((ws : List Word) → length ws ≤ most → f ws ≡ g ws)
+    → first >>= others f ≡ first >>= others g
+same_others {A = A} most f g (Ok x) h same =
+    ap (λ (read : Result (List A × List Word) TextFault). read >>= with_first x.0)
+    (same x.1 h)
+same_others most f g (Err e) h same = refl
+
+pub many_enough : {A : Type 0} (ends : List ℕ → Bool) (read : Reader A) → Shrinks read
+    → (n m : ℕ) (ws : List Word) → length ws ≤ n → length ws ≤ m
+    → many ends read n ws ≡ many ends read m ws
+unfolding many
+many_enough ends read h n m [] hn hm = refl
+many_enough ends read h zero m (w ∷ ws) hn hm = absurd (omega (arith, hn))
+many_enough ends read h (suc n) zero (w ∷ ws) hn hm = absurd (omega (arith, hm))
+many_enough ends read h (suc n) (suc m) (w ∷ ws) hn hm =
+    ap (λ r. cond (ends w.bytes) (Ok ([], w ∷ ws)) r)
+    (same_others (length ws) (many ends read n) (many ends read m) (read w ws) (h.leaves w ws)
+    (λ rest le. many_enough ends read h n m rest (omega (arith, hn, le)) (omega (arith, hm, le))))
+
+-- ---- no more words are left than there were
+
+others_leave : {A : Type 0} (most : ℕ) (f : List Word → Result (List A × List Word) TextFault)
+    (first : Result (A × List Word) TextFault) → IfOk first (Leaves most)
+    → ((ws : List Word) → IfOk (f ws) (Leaves (length ws)))
+    → IfOk (first >>= others f) (Leaves (suc most))
+others_leave most f (Err e) h all = tt
+others_leave {A = A} most f (Ok x) h all = go (f x.1) (all x.1)
+  where
+    go : (rest : Result (List A × List Word) TextFault) → IfOk rest (Leaves (length x.1))
+        → IfOk (rest >>= with_first x.0) (Leaves (suc most))
+    go (Ok y) k = omega (arith, h, k)
+    go (Err e) k = tt
+
+pub many_leaves : {A : Type 0} (ends : List ℕ → Bool) (read : Reader A) → Shrinks read
+    → (n : ℕ) (ws : List Word) → IfOk (many ends read n ws) (Leaves (length ws))
+unfolding many
+many_leaves ends read h n [] = omega arith
+many_leaves ends read h zero (w ∷ ws) = omega arith
+many_leaves ends read h (suc n) (w ∷ ws) =
+    go (ends w.bytes)
+    (others_leave (length ws) (many ends read n) (read w ws) (h.leaves w ws) (many_leaves ends read h n))
+  where
+    go : (b : Bool) → IfOk (read w ws >>= others (many ends read n)) (Leaves (length (w ∷ ws)))
+        → IfOk (cond b (Ok ([], w ∷ ws)) (read w ws >>= others (many ends read n))) (Leaves (length (w ∷ ws)))
+    go true k = omega arith
+    go false k = k
+
+-- ---- one more, put to what is there
+
+-- all that is read of these words
+abbrev pub all_of : {A : Type 0} → (List ℕ → Bool) → Reader A → List Word
+    → Result (List A × List Word) TextFault
+all_of ends read ws = many ends read (length ws) ws
+
+regroup : {A B : Type 0} (step : B → A → B) (b : B) (a : A)
+    (rest : Result (List A × List Word) TextFault)
+    → put_all step b (rest >>= with_first a) ≡ put_all step (step b a) rest
+regroup step b a (Ok y) = refl
+regroup step b a (Err e) = refl
+
+-- a value that is read
+abbrev read_as : {A : Type 0} → A → Result A TextFault
+read_as a = Ok a
+
+pub two_parts : {A B : Type 0} (p q : A × B) → read_as p ≡ read_as q → (p.0 ≡ q.0) × (p.1 ≡ q.1)
+two_parts p q h = let same : p ≡ q = cc in (ap (λ x. x.0) same, ap (λ x. x.1) same)
+
+one_put : {A B : Type 0} (step : B → A → B) (b b' : B) (rest : List Word)
+    (f : List Word → Result (List A × List Word) TextFault) (first : Result (A × List Word) TextFault)
+    → put step b first ≡ Ok (b', rest)
+    → put_all step b (first >>= others f) ≡ put_all step b' (f rest)
+one_put step b b' rest f (Err e) h = absurd cc
+one_put step b b' rest f (Ok x) h =
+    let same = two_parts (step b x.0, x.1) (b', rest) h in
+    regroup step b x.0 (f x.1) ∙ (λ i. put_all step (same.0 i) (f (same.1 i)))
+
+one_fails : {A B : Type 0} (e : TextAnswer) (step : B → A → B) (b : B)
+    (f : List Word → Result (List A × List Word) TextFault) (first : Result (A × List Word) TextFault)
+    → Fails e (put step b first) → Fails e (put_all step b (first >>= others f))
+one_fails answers.NoMemory step b f first h = tt
+one_fails (answers.Bad g) step b f (Ok x) h = absurd cc
+one_fails (answers.Bad g) step b f (Err k) h = let same : k ≡ g = cc in ap (λ z. Err z) same
+
+pub many_go_on : {A B : Type 0} (step : B → A → B) (b b' : B) (ends : List ℕ → Bool)
+    (read : Reader A) (w : Word) (ws rest : List Word) → Shrinks read → ends w.bytes ≡ false
+    → length rest ≤ length ws → put step b (read w ws) ≡ Ok (b', rest)
+    → put_all step b (all_of ends read (w ∷ ws)) ≡ put_all step b' (all_of ends read rest)
+unfolding many
+many_go_on step b b' ends read w ws rest h going le one =
+    ap (λ t. put_all step b (cond t (Ok ([], w ∷ ws)) (read w ws >>= others (many ends read (length ws))))) going
+    ∙ one_put step b b' rest (many ends read (length ws)) (read w ws) one
+    ∙ ap (put_all step b') (many_enough ends read h (length ws) (length rest) rest le (omega arith))
+
+pub many_fail : {A B : Type 0} (e : TextAnswer) (step : B → A → B) (b : B) (ends : List ℕ → Bool)
+    (read : Reader A) (w : Word) (ws : List Word) → ends w.bytes ≡ false
+    → Fails e (put step b (read w ws)) → Fails e (put_all step b (all_of ends read (w ∷ ws)))
+unfolding many
+many_fail e step b ends read w ws going fails =
+    rw going (one_fails e step b (many ends read (length ws)) (read w ws) fails)
+
+pub many_stop : {A B : Type 0} (step : B → A → B) (b : B) (ends : List ℕ → Bool)
+    (read : Reader A) (w : Word) (ws : List Word) → ends w.bytes ≡ true
+    → put_all step b (all_of ends read (w ∷ ws)) ≡ Ok (b, w ∷ ws)
+unfolding many
+many_stop step b ends read w ws stops = rw stops refl
+
+pub many_end : {A B : Type 0} (step : B → A → B) (b : B) (ends : List ℕ → Bool) (read : Reader A)
+    → put_all step b (all_of ends read []) ≡ Ok (b, [])
+unfolding many
+many_end step b ends read = refl
+
+-- one thing more behind the others
+abbrev pub push : {A : Type 0} → List A → A → List A
+push xs x = xs ++ x ∷ []
+
+pub fold-push : {A : Type 0} (xs ys : List A) → fold push xs ys ≡ xs ++ ys
+fold-push xs [] = sym (append-nil xs)
+fold-push xs (y ∷ ys) = fold-push (xs ++ y ∷ []) ys ∙ append_assoc xs (y ∷ []) ys
+
+-- what is put behind nothing is what is read
+pub put_none : {A : Type 0} (read : Result (List A × List Word) TextFault)
+    → put_all push [] read ≡ read
+put_none (Ok x) = ap (λ xs. Ok (xs, x.1)) (fold-push [] x.0)
+put_none (Err e) = refl

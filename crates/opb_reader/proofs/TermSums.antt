@@ -1,0 +1,110 @@
+-- Sums: one more term is read, or it ends; and the objective, which is a sum and its `;`.
+use Rattle.std.proofs.Common.{◌≡◌, ℕ, ◌≤◌, Bool, true, false, List, [], ◌∷◌, length, fold, Result, Ok, Err, refl, sym, ap, ◌∙◌}
+use Rattle.whole_text.specs.declared.faults.TextFault.{TextFault}
+use Rattle.whole_text.specs.declared.faults.TextKind.TheVariants as kinds
+use Rattle.whole_text.specs.declared.faults.TextAnswer.{TextAnswer}
+use Rattle.whole_text.specs.declared.faults.TextAnswer.TheVariants as answers
+use Rattle.whole_text.specs.Tokens.{Word}
+use Rattle.whole_text.specs.Steps.{◌>>=◌, Fails, fault}
+use Rattle.problem_form.specs.declared.terms.Product.{Product}
+use Rattle.problem_form.specs.Problems.{ProblemContent}
+use Rattle.opb_reader.specs.Opb.{is_semicolon, term_at, sum_at, closed_at, objective_at}
+use Rattle.opb_reader.specs.Views.{put, put_all, with_term, objective_read}
+use Rattle.opb_reader.proofs.Many.{two_parts, many_go_on, many_fail, many_stop, many_end}
+use Rattle.opb_reader.proofs.Shrinking.{term_shrinks}
+
+pub term_goes_on : {B : Type 0} (step : B → Product → B) (b : B) (ends : List ℕ → Bool) (end : ℕ)
+    (w : Word) (ws rest : List Word) (t : Product) → ends w.bytes ≡ false
+    → length rest ≤ length ws → term_at end w ws ≡ Ok (t, rest)
+    → put_all step b (sum_at ends end (w ∷ ws)) ≡ put_all step (step b t) (sum_at ends end rest)
+unfolding sum_at
+term_goes_on step b ends end w ws rest t going le read =
+    many_go_on step b (step b t) ends (term_at end) w ws rest (term_shrinks end) going le
+    (ap (put step b) read)
+
+put_fails : {A B : Type 0} (e : TextAnswer) (step : B → A → B) (b : B)
+    (read : Result (A × List Word) TextFault) → Fails e read → Fails e (put step b read)
+put_fails answers.NoMemory step b read h = tt
+put_fails (answers.Bad f) step b read h = ap (put step b) h
+
+pub term_fails : {B : Type 0} (e : TextAnswer) (step : B → Product → B) (b : B)
+    (ends : List ℕ → Bool) (end : ℕ) (w : Word) (ws : List Word) → ends w.bytes ≡ false
+    → Fails e (term_at end w ws) → Fails e (put_all step b (sum_at ends end (w ∷ ws)))
+unfolding sum_at
+term_fails e step b ends end w ws going fails =
+    many_fail e step b ends (term_at end) w ws going (put_fails e step b (term_at end w ws) fails)
+
+pub sum_stops : {B : Type 0} (step : B → Product → B) (b : B) (ends : List ℕ → Bool) (end : ℕ)
+    (w : Word) (ws : List Word) → ends w.bytes ≡ true
+    → put_all step b (sum_at ends end (w ∷ ws)) ≡ Ok (b, w ∷ ws)
+unfolding sum_at
+sum_stops step b ends end w ws stops = many_stop step b ends (term_at end) w ws stops
+
+pub sum_ends : {B : Type 0} (step : B → Product → B) (b : B) (ends : List ℕ → Bool) (end : ℕ)
+    → put_all step b (sum_at ends end []) ≡ Ok (b, [])
+unfolding sum_at
+sum_ends step b ends end = many_end step b ends (term_at end)
+
+-- ---- the objective
+
+abbrev Terms : Type 0
+Terms = Result (List Product × List Word) TextFault
+
+abbrev with_rest : List Product × List Word → List Word → Terms
+with_rest sum rest = Ok (sum.0, rest)
+
+abbrev close : ℕ → List Product × List Word → Terms
+close end sum = closed_at end sum.1 >>= with_rest sum
+
+closed_by : (end : ℕ) (w : Word) (ws : List Word) → is_semicolon w.bytes ≡ true
+    → closed_at end (w ∷ ws) ≡ Ok ws
+unfolding closed_at
+closed_by end w ws e = rw e refl
+
+not_closed : (end : ℕ) → closed_at end [] ≡ Err (fault kinds.End end)
+unfolding closed_at
+not_closed end = refl
+
+-- the `;` that ends the sum
+pub objective_closed : (p q : ProblemContent) (end : ℕ) (ws rest : List Word) (w : Word)
+    → is_semicolon w.bytes ≡ true
+    → put_all with_term p (sum_at is_semicolon end ws) ≡ Ok (q, w ∷ rest)
+    → objective_read p end ws ≡ Ok (q, rest)
+unfolding objective_at
+objective_closed p q end ws rest w semicolon h = go (sum_at is_semicolon end ws) h
+  where
+    go : (read : Terms) → put_all with_term p read ≡ Ok (q, w ∷ rest)
+        → put_all with_term p (read >>= close end) ≡ Ok (q, rest)
+    go (Err f) e = absurd cc
+    go (Ok x) e =
+        let same = two_parts (fold with_term p x.0, x.1) (q, w ∷ rest) e in
+        ap (λ (ws' : List Word). put_all with_term p (closed_at end ws' >>= with_rest x)) same.1
+        ∙ ap (λ (c : Result (List Word) TextFault). put_all with_term p (c >>= with_rest x)) (closed_by end w rest semicolon)
+        ∙ ap (λ (r : ProblemContent). Ok (r, rest)) same.0
+
+-- the words end before it
+pub objective_open : (p q : ProblemContent) (end : ℕ) (ws : List Word)
+    → put_all with_term p (sum_at is_semicolon end ws) ≡ Ok (q, [])
+    → objective_read p end ws ≡ Err (fault kinds.End end)
+unfolding objective_at
+objective_open p q end ws h = go (sum_at is_semicolon end ws) h
+  where
+    go : (read : Terms) → put_all with_term p read ≡ Ok (q, [])
+        → put_all with_term p (read >>= close end) ≡ Err (fault kinds.End end)
+    go (Err f) e = absurd cc
+    go (Ok x) e =
+        let same = two_parts (fold with_term p x.0, x.1) (q, []) e in
+        ap (λ (ws' : List Word). put_all with_term p (closed_at end ws' >>= with_rest x)) same.1
+        ∙ ap (λ (c : Result (List Word) TextFault). put_all with_term p (c >>= with_rest x)) (not_closed end)
+
+pub objective_fails : (e : TextAnswer) (p : ProblemContent) (end : ℕ) (ws : List Word)
+    → Fails e (put_all with_term p (sum_at is_semicolon end ws))
+    → Fails e (objective_read p end ws)
+unfolding objective_at
+objective_fails e p end ws h = go e (sum_at is_semicolon end ws) h
+  where
+    go : (e : TextAnswer) (read : Terms) → Fails e (put_all with_term p read)
+        → Fails e (put_all with_term p (read >>= close end))
+    go answers.NoMemory read fails = tt
+    go (answers.Bad f) (Ok x) fails = absurd cc
+    go (answers.Bad f) (Err g) fails = fails

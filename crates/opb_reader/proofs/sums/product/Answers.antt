@@ -1,0 +1,20 @@
+use Rattle.std.proofs.Common.{◌≡◌, ◌∷◌, ◌++◌, [], List, sym, ap, subst, ◌∙◌}
+use Rattle.whole_text.specs.TokenTexts.{word_of}
+use Rattle.whole_text.specs.Steps.{Gives}
+use Rattle.problem_form.specs.declared.literal.Literal.{Literal}
+use Rattle.opb_reader.specs.Opb.{product_at}
+use Rattle.opb_reader.specs.Views.{literals_read}
+use Rattle.opb_reader.proofs.Literals.{product_first}
+use Rattle.opb_reader.proofs.sums.product.Goals as goal
+
+pub returns-clause-read : goal.returns-clause-read
+returns-clause-read c =
+    let l : Literal = c.in_ok-literal.field-0 in
+    let list : c.push.new.list.items ≡ l ∷ [] =
+    c.in_ok-push.ensures.pushed ∙ ap (λ (ls : List Literal). ls ++ l ∷ []) c.requires in
+    let same : product_at c.args.end c.args.words.now
+    ≡ literals_read c.push.new.list.items c.next_word.new.words =
+    product_first c.args.end c.args.words.now c.next_word.new.words (word_of c.in_ok-first.first) l
+    c.in_ok-first.ensures (sym c.in_ok-literal.ensures.value)
+    ∙ ap (λ (ls : List Literal). literals_read ls c.next_word.new.words) (sym list) in
+    rw same c.more_literals.ensures.read

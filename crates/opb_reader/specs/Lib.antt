@@ -1,0 +1,3 @@
+pub mod Opb
+pub mod Cost
+pub mod Views

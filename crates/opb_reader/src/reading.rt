@@ -1,0 +1,113 @@
+//! A whole text.
+ghost use Rattle.std.specs.Prelude.{◌≡◌, ◌+◌, ◌*◌, ◌<◌, ◌≤◌, ◌^◌, [], length, OnOk};
+ghost use Rattle.whole_text.specs.TokenTexts.{word_of, words_of};
+ghost use Rattle.whole_text.specs.Steps.{Gives};
+ghost use Rattle.problem_form.specs.Problems.{problem_total};
+ghost use Rattle.opb_reader.specs.Cost.{normal_reading, problem_of_words};
+ghost use Rattle.opb_reader.specs.Views.{head_read, constraint_read, constraints_read};
+
+use crate::comparing::{compare, comparison};
+use crate::sums::{objective, sum};
+use problem_form::{Constraint, Literal, Problem, ProductList};
+use std::alloc::Global;
+use whole_text::{Lexer, Style, TextAnswer, TokenText, WordRef, Words};
+
+/// Adds the objective to a problem, where there is one.
+fn head(
+    problem: &mut Problem,
+    words: &mut Words<'_>,
+    list: &mut Vec<Literal>,
+    end: u64,
+) -> Result<(), TextAnswer>
+    requires emptied { list.old.items ≡ [] }
+    requires small { problem_total problem.old + length words.old * 2 ^ 64 < 2 ^ 100 }
+    ensures read { Gives (λ _. (problem.new, words.new)) result
+        (head_read problem.old end words.old) }
+    ensures small { OnOk result (problem_total problem.new + length words.new * 2 ^ 64
+        ≤ problem_total problem.old + length words.old * 2 ^ 64) }
+    ensures emptied { OnOk result (list.new.items ≡ []) }
+{
+    match words.peek() {
+        Some(word) if word.bytes == b"min:".as_slice() => {
+            words.next();
+            objective(problem, words, list, end)
+        }
+        _ => Ok(()),
+    }
+}
+
+/// Adds the constraint that begins with this word to a problem. It is written down first, in place
+/// of what was written before.
+fn constraint<'a>(
+    first: WordRef<'a>,
+    problem: &mut Problem,
+    written: &mut Constraint,
+    words: &mut Words<'a>,
+    list: &mut Vec<Literal>,
+    end: u64,
+) -> Result<(), TextAnswer>
+    requires emptied { list.old.items ≡ [] }
+    requires small { problem_total problem.old + (1 + length words.old) * 2 ^ 64 < 2 ^ 100 }
+    ensures read { Gives (λ _. (problem.new, words.new)) result
+        (constraint_read problem.old end (word_of first.entry) words.old) }
+    ensures small { OnOk result (problem_total problem.new + length words.new * 2 ^ 64
+        ≤ problem_total problem.old + (1 + length words.old) * 2 ^ 64) }
+    ensures emptied { OnOk result (list.new.items ≡ []) }
+    ensures shorter { OnOk result (length words.new ≤ length words.old) }
+{
+    written.products.clear();
+    let mut variables = problem.variables;
+    let next = sum(first, words, list, &mut written.products, &mut variables, end)?;
+    let (operator, bound) = comparison(next, words, end)?;
+    compare(written, operator, bound);
+    problem.widen(variables);
+    problem.add_constraint(written)?;
+    Ok(())
+}
+
+/// Adds the constraints up to the end.
+fn constraints(
+    alloc: Global,
+    mut problem: Problem,
+    mut words: Words<'_>,
+    mut list: Vec<Literal>,
+    end: u64,
+) -> Result<Problem, TextAnswer>
+    requires emptied { list.items ≡ [] }
+    requires small { problem_total problem + length words * 2 ^ 64 < 2 ^ 100 }
+    ensures { Gives (λ problem. problem) result (constraints_read problem end words.entry) }
+{
+    let mut written = Constraint {
+        products: ProductList::empty(alloc),
+        bound: 0,
+        exact: false,
+    };
+    while let Some(first) = words.next() {
+        constraint(first, &mut problem, &mut written, &mut words, &mut list, end)?;
+    }
+    Ok(problem)
+}
+
+/// The problem of a text that was cut into words, in normal form, or the first fault of the text.
+pub fn read_opb_tokens(alloc: Global, text: &TokenText) -> Result<Problem, TextAnswer>
+    requires { length text.now.bytes ≤ 2 ^ 24 }
+    ensures { Gives (λ problem. problem) result (problem_of_words (words_of text.now)) }
+{
+    let mut words = text.words();
+    let end = text.end_line();
+    let mut problem = Problem::new(alloc);
+    let mut list = Vec::new(alloc);
+    head(&mut problem, &mut words, &mut list, end)?;
+    constraints(alloc, problem, words, list, end)
+}
+
+/// The problem of a text, in normal form, or the first fault of the text.
+#[tactic(auto, unfolding(crate::specs::Cost::normal_reading, crate::specs::Cost::problem_of_words, crate::specs::Opb::reading))]
+pub fn read_opb(alloc: Global, text: &[u8]) -> Result<Problem, TextAnswer>
+    requires { length text.now ≤ 2 ^ 24 }
+    ensures { Gives (λ problem. problem) result (normal_reading text.now) }
+{
+    let mut lexer = Lexer::new(alloc, Style::Opb);
+    lexer.feed(text)?;
+    read_opb_tokens(alloc, &lexer.finish()?)
+}

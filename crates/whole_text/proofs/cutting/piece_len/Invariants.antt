@@ -1,0 +1,7 @@
+use Rattle.std.proofs.Common.{take}
+use Rattle.whole_text.specs.Lexing.{IsBegun}
+use Rattle.whole_text.proofs.cutting.piece_len.Given as goal
+
+-- the bytes so far are the front of one token
+abbrev pub invariant-loop-i : goal.invariant-loop-i
+invariant-loop-i l = IsBegun l.style (take l.i l.bytes)
