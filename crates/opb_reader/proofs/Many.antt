@@ -1,5 +1,5 @@
 -- What is read again and again: one more is read, or it ends.
-use Rattle.std.proofs.Common.{◌≡◌, ℕ, zero, suc, ◌+◌, ◌≤◌, Bool, true, false, cond, List, [], ◌∷◌, ◌++◌, length, fold, append-nil, append_assoc, Result, Ok, Err, IfOk, refl, sym, ap, ◌∙◌, arith}
+use Rattle.std.proofs.Common.{◌≡◌, ℕ, zero, suc, ◌≤◌, Bool, true, false, cond, List, [], ◌∷◌, ◌++◌, length, fold, append-nil, append_assoc, Result, Ok, Err, IfOk, refl, sym, ap, ◌∙◌, arith}
 use Rattle.whole_text.specs.declared.faults.TextFault.{TextFault}
 use Rattle.whole_text.specs.declared.faults.TextAnswer.{TextAnswer}
 use Rattle.whole_text.specs.declared.faults.TextAnswer.TheVariants as answers
@@ -156,3 +156,29 @@ pub put_none : {A : Type 0} (read : Result (List A × List Word) TextFault)
     → put_all push [] read ≡ read
 put_none (Ok x) = ap (λ xs. Ok (xs, x.1)) (fold-push [] x.0)
 put_none (Err e) = refl
+
+-- ---- where nothing ends it
+
+others_none : {A : Type 0} (most : ℕ) (f : List Word → Result (List A × List Word) TextFault)
+    (first : Result (A × List Word) TextFault) → IfOk first (Leaves most)
+    → ((ws : List Word) → length ws ≤ most → IfOk (f ws) (λ x. x.1 ≡ []))
+    → IfOk (first >>= others f) (λ x. x.1 ≡ [])
+others_none most f (Err e) h all = tt
+others_none {A = A} most f (Ok x) h all = go (f x.1) (all x.1 h)
+  where
+    go : (rest : Result (List A × List Word) TextFault) → IfOk rest (λ y. y.1 ≡ [])
+        → IfOk (rest >>= with_first x.0) (λ y. y.1 ≡ [])
+    go (Ok y) k = k
+    go (Err e) k = tt
+
+-- no word is left
+pub many_all : {A : Type 0} (ends : List ℕ → Bool) (read : Reader A) → Shrinks read
+    → ((bytes : List ℕ) → ends bytes ≡ false) → (n : ℕ) (ws : List Word) → length ws ≤ n
+    → IfOk (many ends read n ws) (λ x. x.1 ≡ [])
+unfolding many
+many_all ends read h never n [] le = refl
+many_all ends read h never zero (w ∷ ws) le = absurd (omega (arith, le))
+many_all ends read h never (suc n) (w ∷ ws) le =
+    rw (never w.bytes)
+    (others_none (length ws) (many ends read n) (read w ws) (h.leaves w ws)
+    (λ rest less. many_all ends read h never n rest (omega (arith, le, less))))

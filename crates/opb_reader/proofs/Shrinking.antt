@@ -1,5 +1,5 @@
 -- What is read leaves no more words than there were.
-use Rattle.std.proofs.Common.{◌≡◌, ℕ, ◌+◌, ◌<◌, ◌≤◌, Bool, true, false, cond, ℤ, List, [], ◌∷◌, length, Result, Ok, Err, IfOk, arith}
+use Rattle.std.proofs.Common.{ℕ, ◌<◌, ◌≤◌, Bool, true, false, cond, ℤ, List, [], ◌∷◌, length, Result, Ok, Err, IfOk, refl, arith}
 use Rattle.whole_text.specs.declared.faults.TextFault.{TextFault}
 use Rattle.whole_text.specs.declared.faults.TextKind.TheVariants as kinds
 use Rattle.whole_text.specs.Tokens.{Word}
@@ -7,8 +7,8 @@ use Rattle.whole_text.specs.Steps.{◌>>=◌, fault, next_of, integer_at}
 use Rattle.problem_form.specs.declared.literal.Literal.{Literal}
 use Rattle.problem_form.specs.declared.terms.Product.{Product}
 use Rattle.opb_reader.specs.declared.operator.Operator.{Operator}
-use Rattle.opb_reader.specs.Opb.{Listed, begins_literal, is_operator, is_semicolon, literal_at, literals_at, product_at, coefficient_at, term_at, sum_at, operator_at, closed_at, comparison_at, constraint_at}
-use Rattle.opb_reader.proofs.Many.{Leaves, Shrinks, many_leaves}
+use Rattle.opb_reader.specs.Opb.{Listed, begins_literal, is_operator, is_semicolon, literal_at, literals_at, product_at, coefficient_at, term_at, sum_at, operator_at, closed_at, comparison_at, constraint_at, constraints_at, never, WordsAreEnough}
+use Rattle.opb_reader.proofs.Many.{Leaves, Shrinks, many_leaves, many_enough, many_all}
 
 -- a fact on what a first step gives, and one on what the next gives with it
 bind_if : {A B : Type 0} (P : A → Type 0) (Q : B → Type 0) (first : Result A TextFault)
@@ -145,4 +145,17 @@ constraint_shrinks end = record {
       (compared_part end) (sum_leaves is_operator end (w ∷ ws))
       (λ sum h. bind_if (LeavesLast (length sum.1)) (Leaves (length ws)) (comparison_at end sum.1) (as_listed sum)
       (comparison_leaves end sum.1) (λ x k. omega (arith, h, k)));
+}
+
+-- ---- as many as there are words are enough
+
+pub words_are_enough : WordsAreEnough
+unfolding sum_at constraints_at
+words_are_enough = record {
+  terms = λ ends count end ws h.
+      many_enough ends (term_at end) (term_shrinks end) count (length ws) ws h (omega arith);
+  constraints = λ count end ws h.
+      many_enough never (constraint_at end) (constraint_shrinks end) count (length ws) ws h (omega arith);
+  all = λ end ws.
+      many_all never (constraint_at end) (constraint_shrinks end) (λ bytes. refl) (length ws) ws (omega arith);
 }

@@ -1,5 +1,5 @@
 -- Sums: one more term is read, or it ends; and the objective, which is a sum and its `;`.
-use Rattle.std.proofs.Common.{◌≡◌, ℕ, ◌≤◌, Bool, true, false, List, [], ◌∷◌, length, fold, Result, Ok, Err, refl, sym, ap, ◌∙◌}
+use Rattle.std.proofs.Common.{◌≡◌, ℕ, ◌≤◌, Bool, true, false, List, [], ◌∷◌, length, fold, Result, Ok, Err, refl, ap, ◌∙◌}
 use Rattle.whole_text.specs.declared.faults.TextFault.{TextFault}
 use Rattle.whole_text.specs.declared.faults.TextKind.TheVariants as kinds
 use Rattle.whole_text.specs.declared.faults.TextAnswer.{TextAnswer}

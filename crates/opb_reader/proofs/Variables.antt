@@ -1,13 +1,12 @@
 -- As many variables as literals need.
 use Rattle.std.proofs.Common.{◌≡◌, ℕ, ◌+◌, ◌<◌, ◌≤◌, max, List, [], ◌∷◌, ◌++◌, map, fold, All, ap, ◌∙◌, arith}
-use Rattle.std.specs.List.{AllByRecursion, flat_map}
+use Rattle.std.specs.List.{AllByRecursion}
 use Rattle.std.proofs.Math.Nat.{le-max_left, le-max_right}
 use Rattle.std.proofs.lemmas.List.{map-append}
 use Rattle.std.proofs.lemmas.List.Sums.{fold-append}
 use Rattle.std.proofs.lemmas.List.Elements.{All-from_recursion}
 use Rattle.problem_form.specs.declared.literal.Literal.{Literal}
 use Rattle.problem_form.specs.declared.terms.Product.{Product}
-use Rattle.problem_form.specs.Problems.{negated}
 use Rattle.opb_reader.specs.Opb.{literals_in, widened}
 
 -- variables for more literals
@@ -47,9 +46,10 @@ terms_below : (v w : ℕ) (ts : List Product) → widened v (literals_in ts) ≤
 terms_below v w [] le = tt
 terms_below v w (t ∷ ts) le =
     let u = widened v t.literals in
-    let same = widened-append v t.literals (literals_in ts) in
-    (below-more u w t.literals (omega (arith, le, same, widened-le u (literals_in ts))) (widened_below v t.literals),
-    terms_below u w ts (omega (arith, le, same)))
+    let same = widened-append v t.literals (literals_in ts) in (
+      below-more u w t.literals (omega (arith, le, same, widened-le u (literals_in ts))) (widened_below v t.literals),
+      terms_below u w ts (omega (arith, le, same)),
+    )
 
 abbrev pub AreWithin : ℕ → List Product → Type 0
 AreWithin v ts = All (λ (t : Product). All (λ l. l.variable < v) t.literals) ts

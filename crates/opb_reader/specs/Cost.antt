@@ -1,5 +1,5 @@
 -- What an OPB text costs, before any normal form, and the problem that it becomes.
-use Rattle.std.specs.Prelude.{◌≡◌, ℕ, ℤ, neg_ℤ, int_le, Bool, true, false, not, List, [], map, fold, Result, Ok, if◌then◌else◌}
+use Rattle.std.specs.Prelude.{◌≡◌, ℕ, ℤ, neg_ℤ, int_le, Bool, true, false, not, List, map, Result, Ok, if◌then◌else◌}
 use Rattle.std.specs.List.{list_any}
 use Rattle.std.specs.Ordering.{int_eq}
 use Rattle.bits_model.specs.declared.costs.Cost.{Cost}

@@ -2,7 +2,7 @@
 --
 -- A reading goes through the words in order. The first word that cannot stand in its place makes
 -- the text bad, with a kind and the word's line.
-use Rattle.std.specs.Prelude.{◌≡◌, ℕ, zero, suc, ◌+◌, ◌-◌, ◌≤◌, ℤ, codes, Bool, true, false, not, ◌&&◌, ◌||◌, List, [], ◌∷◌, ◌++◌, length, drop, slice_index, max, map, fold, flat_map, Option, Some, None, Result, Ok, Err, ◌==◌, bytes_eq, if◌then◌else◌}
+use Rattle.std.specs.Prelude.{◌≡◌, ℕ, zero, suc, ◌+◌, ◌-◌, ◌≤◌, ℤ, codes, Bool, true, false, ◌||◌, List, [], ◌∷◌, ◌++◌, length, drop, slice_index, max, map, fold, flat_map, Option, Some, None, Result, Ok, Err, IfOk, ◌==◌, bytes_eq, if◌then◌else◌}
 use Rattle.std.specs.Option.{ok_or}
 use Rattle.whole_text.specs.declared.faults.TextKind.TheVariants as kinds
 use Rattle.whole_text.specs.declared.faults.TextFault.{TextFault}
@@ -218,9 +218,10 @@ reading_of_words ws = do
 unfoldable pub reading : List ℕ → Result Opb TextFault
 reading text = reading_of_words (tokens_of styles.Opb text)
 
--- no greater count reads anything else, and no word is left
+-- no greater count reads anything else, and no word is left behind the constraints
 pub record WordsAreEnough : Type 0 where
   pub terms : (ends : List ℕ → Bool) (count end : ℕ) (ws : List Word) → length ws ≤ count
       → many ends (term_at end) count ws ≡ sum_at ends end ws
   pub constraints : (count end : ℕ) (ws : List Word) → length ws ≤ count
       → many never (constraint_at end) count ws ≡ constraints_at end ws
+  pub all : (end : ℕ) (ws : List Word) → IfOk (constraints_at end ws) (λ x. x.1 ≡ [])

@@ -1,5 +1,5 @@
 -- What the steps of the reader give: the readings of `Opb`, seen as parts of the problem.
-use Rattle.std.specs.Prelude.{ℕ, ℤ, List, [], ◌∷◌, ◌++◌, fold, Option, Some, None, Result, Ok}
+use Rattle.std.specs.Prelude.{ℕ, List, [], ◌∷◌, ◌++◌, fold, Option, Some, None, Result, Ok}
 use Rattle.whole_text.specs.declared.words.WordRef.{WordRef}
 use Rattle.whole_text.specs.declared.faults.TextFault.{TextFault}
 use Rattle.whole_text.specs.Tokens.{Word}

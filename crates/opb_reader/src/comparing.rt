@@ -47,7 +47,7 @@ pub(crate) fn comparison<'a>(
     ensures read { GivesAlways (λ x. (x.0, x.1, words.new)) result
         (comparison_at end (left next.entry words.old)) }
     ensures small { IfOk result (λ x. nat_abs x.1 < 2 ^ 64) }
-    ensures shorter { OnOk result (length words.new ≤ length words.old) }
+    ensures shorter { OnOk result (length words.new < length (left next.entry words.old)) }
 {
     let word = taken(next, end)?;
     let operator = operator(word)?;

@@ -57,7 +57,14 @@ fn constraint<'a>(
 {
     written.products.clear();
     let mut variables = problem.variables;
-    let next = sum(first, words, list, &mut written.products, &mut variables, end)?;
+    let next = sum(
+        first,
+        words,
+        list,
+        &mut written.products,
+        &mut variables,
+        end,
+    )?;
     let (operator, bound) = comparison(next, words, end)?;
     compare(written, operator, bound);
     problem.widen(variables);
@@ -83,7 +90,14 @@ fn constraints(
         exact: false,
     };
     while let Some(first) = words.next() {
-        constraint(first, &mut problem, &mut written, &mut words, &mut list, end)?;
+        constraint(
+            first,
+            &mut problem,
+            &mut written,
+            &mut words,
+            &mut list,
+            end,
+        )?;
     }
     Ok(problem)
 }

@@ -1,5 +1,4 @@
-use Rattle.std.proofs.Common.{◌≡◌, ◌+◌, ◌<◌, ◌≤◌, ◌∷◌, [], All, List, length, true, false, refl, sym, ap, subst, ◌∙◌, to_z, of_z, arith, rules}
-use Rattle.std.specs.Prelude.{unsigned_abs}
+use Rattle.std.proofs.Common.{◌≡◌, true, sym, ap, ◌∙◌, to_z, of_z, arith, rules}
 use Rattle.std.specs.Int.{w128}
 use Rattle.std.proofs.lemmas.Int.{to_z-of_z}
 use Rattle.std.proofs.lemmas.Result.{err_from_is_err_and}
@@ -8,8 +7,8 @@ use Rattle.problem_form.specs.declared.terms.Product.{Product}
 use Rattle.problem_form.specs.Problems.{ProblemContent}
 use Rattle.problem_form.specs.NormalForm.{with_variables, with_product}
 use Rattle.problem_form.proofs.KeptProducts.{with_product-total}
-use Rattle.opb_reader.specs.Opb.{widened, is_semicolon, sum_at}
-use Rattle.opb_reader.specs.Views.{left, put_all, with_term}
+use Rattle.opb_reader.specs.Opb.{widened, is_semicolon}
+use Rattle.opb_reader.specs.Views.{left, with_term}
 use Rattle.opb_reader.proofs.TermSums.{term_goes_on, term_fails, sum_stops, sum_ends, objective_closed, objective_open, objective_fails}
 use Rattle.opb_reader.proofs.Variables.{widened-le, widened_within}
 use Rattle.opb_reader.proofs.sums.objective.Goals as goal

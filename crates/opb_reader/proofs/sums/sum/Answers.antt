@@ -1,12 +1,9 @@
-use Rattle.std.proofs.Common.{◌≡◌, ◌+◌, ◌≤◌, ◌<◌, ◌∷◌, ◌++◌, [], List, length, true, false, refl, sym, ap, ◌∙◌, to_z, of_z, arith, rules}
+use Rattle.std.proofs.Common.{◌≡◌, ◌∷◌, ◌++◌, [], List, refl, sym, ap, ◌∙◌, to_z, of_z, arith, rules}
 use Rattle.std.specs.Int.{w128}
 use Rattle.std.proofs.lemmas.Int.{to_z-of_z}
-use Rattle.std.specs.Prelude.{unsigned_abs}
 use Rattle.std.proofs.lemmas.List.{flat_map_more}
 use Rattle.std.proofs.lemmas.Result.{err_from_is_err_and}
-use Rattle.whole_text.specs.Tokens.{Word}
 use Rattle.whole_text.specs.TokenTexts.{word_of}
-use Rattle.problem_form.specs.declared.literal.Literal.{Literal}
 use Rattle.problem_form.specs.declared.terms.Product.{Product}
 use Rattle.opb_reader.specs.Opb.{widened, literals_in, is_operator, sum_at}
 use Rattle.opb_reader.specs.Views.{left, put_all}

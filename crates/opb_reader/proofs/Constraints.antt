@@ -1,0 +1,158 @@
+-- Constraints: one is a sum and its comparison, and one more is read, or they end.
+use Rattle.std.proofs.Common.{◌≡◌, ℕ, ◌+◌, ◌≤◌, ◌<◌, true, false, ℤ, List, [], ◌∷◌, length, map, fold, All, Option, Some, None, Result, Ok, Err, refl, sym, ap, ◌∙◌, arith}
+use Rattle.std.specs.Prelude.{MatchOption, unsigned_abs, codes}
+use Rattle.std.specs.Str.{bytes_eq}
+use Rattle.std.specs.List.{AllByRecursion}
+use Rattle.std.proofs.lemmas.Int.{ints}
+use Rattle.std.proofs.lemmas.List.Sums.{sum_by-cons}
+use Rattle.std.proofs.lemmas.List.Elements.{All-from_recursion, recursion_from_All}
+use Rattle.whole_text.specs.declared.words.WordRef.{WordRef}
+use Rattle.whole_text.specs.declared.faults.TextFault.{TextFault}
+use Rattle.whole_text.specs.declared.faults.TextAnswer.{TextAnswer}
+use Rattle.whole_text.specs.declared.faults.TextAnswer.TheVariants as answers
+use Rattle.whole_text.specs.Tokens.{Word}
+use Rattle.whole_text.specs.TokenTexts.{word_of}
+use Rattle.whole_text.specs.Steps.{◌>>=◌, Fails}
+use Rattle.problem_form.specs.declared.terms.Product.{Product}
+use Rattle.problem_form.specs.Problems.{ProblemContent, negated, products_total, constraint_total}
+use Rattle.opb_reader.specs.declared.operator.Operator.{Operator}
+use Rattle.opb_reader.specs.declared.operator.Operator.TheVariants.{AtLeast, AtMost, Equal}
+use Rattle.opb_reader.specs.Opb.{Listed, is_operator, never, sum_at, comparison_at, constraint_at, constraints_at, head_at}
+use Rattle.opb_reader.specs.Cost.{compared}
+use Rattle.opb_reader.specs.Views.{put_all, with_listed, objective_read, head_read, constraint_read, constraints_read}
+use Rattle.opb_reader.proofs.Many.{many_go_on, many_fail, many_end}
+use Rattle.opb_reader.proofs.Shrinking.{constraint_shrinks}
+use Rattle.opb_reader.proofs.Variables.{AreWithin}
+
+-- ---- one constraint
+
+pub sum_fails : (e : TextAnswer) (p : ProblemContent) (end : ℕ) (w : Word) (ws : List Word)
+    → Fails e (sum_at is_operator end (w ∷ ws)) → Fails e (constraint_read p end w ws)
+unfolding constraint_at
+sum_fails answers.NoMemory p end w ws h = tt
+sum_fails (answers.Bad f) p end w ws h = rw h refl
+
+pub comparison_fails : (f : TextFault) (p : ProblemContent) (end : ℕ) (w : Word)
+    (ws rest : List Word) (terms : List Product)
+    → sum_at is_operator end (w ∷ ws) ≡ Ok (terms, rest) → comparison_at end rest ≡ Err f
+    → constraint_read p end w ws ≡ Err f
+unfolding constraint_at
+comparison_fails f p end w ws rest terms sum h = rw (sum, h) refl
+
+pub constraint_is : (p : ProblemContent) (end : ℕ) (w : Word) (ws rest after : List Word)
+    (terms : List Product) (operator : Operator) (bound : ℤ)
+    → sum_at is_operator end (w ∷ ws) ≡ Ok (terms, rest)
+    → comparison_at end rest ≡ Ok (operator, bound, after)
+    → constraint_read p end w ws
+    ≡ Ok (with_listed p (record { terms = terms; operator = operator; bound = bound }), after)
+unfolding constraint_at
+constraint_is p end w ws rest after terms operator bound sum h = rw (sum, h) refl
+
+-- ---- terms with the other sign
+
+negated_each : (v : ℕ) (ts : List Product)
+    → AllByRecursion (λ (t : Product). All (λ l. l.variable < v) t.literals) ts
+    → AllByRecursion (λ (t : Product). All (λ l. l.variable < v) t.literals) (map negated ts)
+negated_each v [] h = tt
+negated_each v (t ∷ ts) h = (h.0, negated_each v ts h.1)
+
+pub compared_within : (operator : Operator) (v : ℕ) (ts : List Product) (bound : ℤ)
+    → AreWithin v ts → AreWithin v (compared operator ts bound).products
+compared_within AtLeast v ts bound h = h
+compared_within Equal v ts bound h = h
+compared_within AtMost v ts bound h =
+    let Within : Product → Type 0 = λ t. All (λ l. l.variable < v) t.literals in
+    All-from_recursion Within (map negated ts)
+    (negated_each v ts (recursion_from_All Within ts h))
+
+negated-total : (ts : List Product) → products_total (map negated ts) ≡ products_total ts
+negated-total [] = refl
+negated-total (t ∷ ts) =
+    omega (
+      arith,
+      ints,
+      sum_by-cons (λ (u : Product). unsigned_abs u.coefficient) t ts,
+      sum_by-cons (λ (u : Product). unsigned_abs u.coefficient) (negated t) (map negated ts),
+      negated-total ts,
+    )
+
+pub compared-total : (operator : Operator) (ts : List Product) (bound : ℤ)
+    → constraint_total (compared operator ts bound) ≡ products_total ts + unsigned_abs bound
+compared-total AtLeast ts bound = refl
+compared-total Equal ts bound = refl
+compared-total AtMost ts bound = omega (arith, ints, negated-total ts)
+
+-- ---- all constraints
+
+-- the problem alone
+abbrev pub first_part : ProblemContent × List Word → Result ProblemContent TextFault
+first_part x = Ok x.0
+
+pub constraints_read-put : (p : ProblemContent) (end : ℕ) (ws : List Word)
+    → constraints_read p end ws ≡ put_all with_listed p (constraints_at end ws) >>= first_part
+constraints_read-put p end ws = go (constraints_at end ws)
+  where
+    go : (read : Result (List Listed × List Word) TextFault)
+        → read >>= (λ (x : List Listed × List Word). first_part (fold with_listed p x.0, x.1))
+        ≡ put_all with_listed p read >>= first_part
+    go (Ok x) = refl
+    go (Err f) = refl
+
+pub constraint_goes_on : (p q : ProblemContent) (end : ℕ) (w : Word) (ws rest : List Word)
+    → length rest ≤ length ws → constraint_read p end w ws ≡ Ok (q, rest)
+    → constraints_read p end (w ∷ ws) ≡ constraints_read q end rest
+unfolding constraints_at
+constraint_goes_on p q end w ws rest le one =
+    constraints_read-put p end (w ∷ ws)
+    ∙ ap (λ (r : Result (ProblemContent × List Word) TextFault). r >>= first_part)
+    (many_go_on with_listed p q never (constraint_at end) w ws rest (constraint_shrinks end) refl le one)
+    ∙ sym (constraints_read-put q end rest)
+
+first_fails : (e : TextAnswer) (read : Result (ProblemContent × List Word) TextFault)
+    → Fails e read → Fails e (read >>= first_part)
+first_fails answers.NoMemory read h = tt
+first_fails (answers.Bad f) read h = ap (λ r. r >>= first_part) h
+
+pub constraint_fails : (e : TextAnswer) (p : ProblemContent) (end : ℕ) (w : Word) (ws : List Word)
+    → Fails e (constraint_read p end w ws) → Fails e (constraints_read p end (w ∷ ws))
+unfolding constraints_at
+constraint_fails e p end w ws h =
+    rw (constraints_read-put p end (w ∷ ws))
+    (first_fails e (put_all with_listed p (constraints_at end (w ∷ ws)))
+    (many_fail e with_listed p never (constraint_at end) w ws refl h))
+
+pub constraints_end : (p : ProblemContent) (end : ℕ) → constraints_read p end [] ≡ Ok p
+unfolding constraints_at
+constraints_end p end =
+    constraints_read-put p end []
+    ∙ ap (λ (r : Result (ProblemContent × List Word) TextFault). r >>= first_part)
+    (many_end with_listed p never (constraint_at end))
+
+-- ---- where the objective may stand
+
+pub head_objective : (p : ProblemContent) (end : ℕ) (w : Word) (ws : List Word)
+    → bytes_eq w.bytes (codes "min:") ≡ true → head_read p end (w ∷ ws) ≡ objective_read p end ws
+unfolding head_at
+head_objective p end w ws e = rw e refl
+
+pub head_other : (p : ProblemContent) (end : ℕ) (w : Word) (ws : List Word)
+    → bytes_eq w.bytes (codes "min:") ≡ false → head_read p end (w ∷ ws) ≡ Ok (p, w ∷ ws)
+unfolding head_at
+head_other p end w ws e = rw e refl
+
+pub head_none : (p : ProblemContent) (end : ℕ) → head_read p end [] ≡ Ok (p, [])
+unfolding head_at
+head_none p end = refl
+
+-- the next word is the one that was seen
+pub next_is : (ws new rest : List Word) (o : Option WordRef) (w : Word)
+    → MatchOption o ((ws ≡ []) × (new ≡ [])) (λ v. ws ≡ word_of v ∷ new) → ws ≡ w ∷ rest
+    → ws ≡ w ∷ new
+next_is ws new rest None w h e = absurd (none (sym h.0 ∙ e))
+  where
+    none : [] ≡ w ∷ rest → ⊥
+    none k = absurd cc
+next_is ws new rest (Some v) w h e =
+    let both : word_of v ∷ new ≡ w ∷ rest = sym h ∙ e in
+    let first : word_of v ≡ w = cc in
+    h ∙ ap (λ (u : Word). u ∷ new) first
