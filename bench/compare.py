@@ -1,5 +1,5 @@
 #!/usr/bin/env python3
-"""Runs two programs in turn on files named KIND-SIZE.wcnf, and prints a row for each.
+"""Runs two programs in turn on files named KIND-SIZE.FORMAT, and prints a row for each.
 
     compare.py PROGRAM OTHER FILE..
 
@@ -14,7 +14,7 @@ import tempfile
 
 from measure import peak, run, words_for
 
-ROW = '{:<6} {:>9} {:>9} {:>9} {:>7} {:>9} {:>9} {:>7} {:>5}'
+ROW = '{:<9} {:>9} {:>9} {:>9} {:>7} {:>9} {:>9} {:>7} {:>5}'
 HEADING = ROW.format(
     'kind', 'bytes', 'seconds', 'other', 'time x', 'peak MB', 'other MB', 'peak x', 'same')
 

@@ -10,14 +10,26 @@ need_program() {
     fi
 }
 
+# The format of a kind's files.
+format_of() {
+    case $1 in
+        covers | equations | sacks | sack) echo opb ;;
+        *) echo wcnf ;;
+    esac
+}
+
 # The sizes of a kind, in steps.
 sizes() {
     case $1 in
-        unit | pair | three) echo 16777 167772 1677721 16777216 ;;
+        unit | pair | three | hub | covers | equations) echo 16777 167772 1677721 16777216 ;;
         forty) echo 104 1048 10485 ;;
         wide) echo 1 4 16 ;;
         mixed) echo 400 4000 40000 ;;
-        *) echo "no kind $1: there are unit, pair, three, mixed, forty and wide" >&2; return 2 ;;
+        front) echo 40 400 4000 ;;
+        empty) echo 4000 40000 400000 4000000 ;;
+        sacks) echo 50000 500000 5000000 ;;
+        sack) echo 400 1280 4080 ;;
+        *) echo "no kind $1: there are $all_kinds" >&2; return 2 ;;
     esac
 }
 
@@ -31,11 +43,16 @@ need_kinds() {
 # Writes the files of the kinds into the folder, and prints their names.
 make_files() {
     for kind in "$@"; do
+        case $(format_of "$kind") in
+            opb) generator=programs.py ;;
+            *) generator=generate.py ;;
+        esac
         for size in $(sizes "$kind"); do
-            python3 "$bench/generate.py" "$kind" "$size" > "$folder/$kind-$size.wcnf"
-            echo "$folder/$kind-$size.wcnf"
+            file=$folder/$kind-$size.$(format_of "$kind")
+            python3 "$bench/$generator" "$kind" "$size" > "$file"
+            echo "$file"
         done
     done
 }
 
-all_kinds='unit pair three mixed forty wide'
+all_kinds='unit pair three mixed forty wide front hub empty covers equations sacks sack'

@@ -1,5 +1,5 @@
 #!/usr/bin/env python3
-"""Runs the program on files named KIND-SIZE.wcnf, and prints a row for each.
+"""Runs the program on files named KIND-SIZE.FORMAT, and prints a row for each.
 
     measure.py PROGRAM FILE..
 
@@ -16,7 +16,7 @@ import tempfile
 import time
 
 GNU_TIME = '/usr/bin/time'
-ROW = '{:<6} {:>9} {:>9} {:>9} {:>7} {:>8} {:>9} {:>7} {:>7}'
+ROW = '{:<9} {:>9} {:>9} {:>9} {:>7} {:>8} {:>9} {:>7} {:>7}'
 HEADING = ROW.format(
     'kind', 'bytes', 'seconds', 'clock', 'MB/s', 'out MB', 'peak MB', 'time x', 'peak x')
 
@@ -46,8 +46,8 @@ def peak(words, out):
 
 
 def words_for(program, file):
-    """The command that compiles a file."""
-    return [program, 'compile', 'wcnf', 'qubo', file]
+    """The command that compiles a file, whose name ends in its format."""
+    return [program, 'compile', file.rsplit('.', 1)[1], 'qubo', file]
 
 
 def measured(program, file):

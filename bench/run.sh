@@ -1,7 +1,7 @@
 #!/bin/sh
-# Measures the program on generated files, in steps of ten: clauses of one to three literals from
-# 16 KiB to 16 MiB, clauses of 40 literals up to the limit on pairs, and mixed ones. Clauses of
-# 1,024 literals go in steps of four up to that limit.
+# Measures the program on generated files, in steps: clauses of one to three literals from 16 KiB to
+# 16 MiB, of 40 and of 1,024 literals up to the limit on pairs, mixed ones, and hostile ones; covers,
+# equations and knapsacks.
 #
 #     bench/run.sh [KIND..]        RUNS=5 bench/run.sh        PROGRAM=FILE bench/run.sh
 #

@@ -1,0 +1,95 @@
+#!/usr/bin/env python3
+"""Writes a random 0-1 program in OPB to the standard output.
+
+    programs.py KIND SIZE [--seed N]
+
+    KIND        constraints                                   SIZE
+    covers      at least one of three variables               bytes, which are never passed
+    equations   four of eight variables                       bytes
+    sacks       knapsacks of 14 items, at most half of them   bytes; at most 5,000,000 are written
+    sack        one knapsack                                  items, of which at most 4,080 are taken
+
+Each has an objective over all variables with weights 1 to 9, counted below 0 for knapsacks. One seed
+gives one text, and each text is within the program's limits.
+"""
+import argparse
+import random
+import sys
+
+MOST_BYTES = 1 << 24
+MOST_OF_SACKS = 5_000_000    # more would pass the limit on pairs
+MOST_ITEMS = 4080            # with its slack bits the square of a knapsack has 2^24 pairs at most
+
+
+def terms(weights, variables):
+    """A sum."""
+    return ' '.join(f'{weight} x{variable + 1}' for weight, variable in zip(weights, variables))
+
+
+def objective(source, variables, sign):
+    """A sum over all variables that is to be least."""
+    weights = (sign * source.randint(1, 9) for _ in range(variables))
+    return f'min: {terms(weights, range(variables))} ;\n'
+
+
+def cover(source, variables):
+    return f'{terms((1, 1, 1), source.sample(range(variables), 3))} >= 1 ;\n'
+
+
+def equation(source, variables):
+    return f'{terms([1] * 8, source.sample(range(variables), 8))} = 4 ;\n'
+
+
+def knapsack(source, items):
+    weights = [source.randint(1, 9) for _ in items]
+    return f'{terms(weights, items)} <= {sum(weights) // 2} ;\n'
+
+
+def knapsack_of_14(source, variables):
+    return knapsack(source, source.sample(range(variables), 14))
+
+
+LINES = {
+    'covers': (cover, 60_000, 1),
+    'equations': (equation, 60_000, 1),
+    'sacks': (knapsack_of_14, 20_000, -1),
+}
+
+
+def write_lines(source, kind, most_bytes):
+    """Constraints of a kind, up to the first that would pass the bound."""
+    make, most_variables, sign = LINES[kind]
+    variables = max(16, min(most_variables, most_bytes // 100))
+    head = objective(source, variables, sign)
+    size = len(head)
+    sys.stdout.write(head)
+    while True:
+        constraint = make(source, variables)
+        size += len(constraint)
+        if size > most_bytes:
+            return
+        sys.stdout.write(constraint)
+
+
+def arguments():
+    parser = argparse.ArgumentParser()
+    parser.add_argument('kind', choices=[*LINES, 'sack'])
+    parser.add_argument('size', type=int)
+    parser.add_argument('--seed', type=int, default=1)
+    return parser.parse_args()
+
+
+def main():
+    given = arguments()
+    source = random.Random(given.seed)
+    if given.kind == 'sack':
+        items = min(given.size, MOST_ITEMS)
+        sys.stdout.write(objective(source, items, -1))
+        sys.stdout.write(knapsack(source, range(items)))
+        return
+    most = MOST_OF_SACKS if given.kind == 'sacks' else MOST_BYTES
+    write_lines(source, given.kind, min(given.size, most))
+
+
+if __name__ == '__main__':
+    main()
