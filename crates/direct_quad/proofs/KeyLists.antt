@@ -1,5 +1,5 @@
 -- Pairs that are held apart, and the keys of pairs and of places.
-use Rattle.std.proofs.Common.{◌≡◌, ℕ, zero, suc, ◌+◌, ◌*◌, ◌<◌, ◌≤◌, ◌^◌, Bool, true, false, eqb, arith, sym, ap, ◌∙◌, refl, List, [], ◌∷◌, ◌++◌, length, get_or, take, ℤ, pos, Some, slice_get, append_assoc, append-nil, neg_ℤ, ◌*ℤ◌, ◌-ℤ◌, to_z, of_z, unsigned_abs, if◌then◌else◌}
+use Rattle.std.proofs.Common.{◌≡◌, ℕ, zero, suc, ◌+◌, ◌*◌, ◌<◌, ◌≤◌, ◌^◌, Bool, true, false, eqb, arith, sym, ap, ◌∙◌, refl, List, [], ◌∷◌, ◌++◌, length, take, ℤ, pos, Some, slice_get, append_assoc, append-nil, neg_ℤ, ◌*ℤ◌, ◌-ℤ◌, to_z, of_z, unsigned_abs, if◌then◌else◌}
 use Rattle.std.proofs.lemmas.Int.{ints}
 use Rattle.std.proofs.lemmas.List.{take_more, length-take-le}
 use Rattle.std.proofs.lemmas.List.Sums.{sum_by-cons}
