@@ -61,27 +61,19 @@ fn widened(alloc: Global, narrow: &[NarrowPair]) -> Result<Vec<Entry>, NoMemory>
     Ok(wide)
 }
 
-/// The same couplers in the order of their nodes.
+/// The same couplers in the order of their first nodes.
 fn sorted_narrow(mut pairs: Vec<NarrowPair>) -> Vec<NarrowPair>
     ensures { IsPermutation pairs.items result.items }
 {
-    pairs.sort_unstable_by(|left, right| {
-        left.first
-            .cmp(&right.first)
-            .then(left.second.cmp(&right.second))
-    });
+    pairs.sort_unstable_by(|left, right| left.first.cmp(&right.first));
     pairs
 }
 
-/// The same entries in the order of their nodes.
+/// The same entries in the order of their first nodes.
 fn sorted_wide(mut pairs: Vec<Entry>) -> Vec<Entry>
     ensures { IsPermutation pairs.items result.items }
 {
-    pairs.sort_unstable_by(|left, right| {
-        left.first
-            .cmp(&right.first)
-            .then(left.second.cmp(&right.second))
-    });
+    pairs.sort_unstable_by(|left, right| left.first.cmp(&right.first));
     pairs
 }
 
@@ -118,8 +110,8 @@ impl Pairs {
         }
     }
 
-    /// The same couplers in another order: that of their nodes, so that what reads them row by row
-    /// goes through memory in order.
+    /// The same couplers in another order: that of their first nodes, so that what reads them row
+    /// by row goes through memory in order.
     pub fn sorted(self) -> Pairs
         ensures { IsPermutation self result }
     {
