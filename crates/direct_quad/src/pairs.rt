@@ -1,7 +1,7 @@
 //! Couplers that are gathered one by one, more than one for some pairs.
 ghost use Rattle.std.specs.Prelude.{◌≡◌, ◌+◌, ◌++◌, ◌∷◌, [], ◌<◌, ◌^◌, IfOk, OnOk, OnErr, length, map, slice_get, Some};
 ghost use Rattle.std.specs.List.Sorted.{IsPermutation};
-ghost use Rattle.direct_quad.specs.PairLists.{entry_of};
+ghost use Rattle.direct_quad.specs.PairLists.{entry_of, held_pairs};
 
 use bits_model::{Entry, NoMemory};
 use std::alloc::Global;
@@ -61,7 +61,7 @@ fn widened(alloc: Global, narrow: &[NarrowPair]) -> Result<Vec<Entry>, NoMemory>
     Ok(wide)
 }
 
-/// The same couplers in the order of their first nodes.
+/// Narrow couplers in the order of their first nodes.
 fn sorted_narrow(mut pairs: Vec<NarrowPair>) -> Vec<NarrowPair>
     ensures { IsPermutation pairs.items result.items }
 {
@@ -69,12 +69,22 @@ fn sorted_narrow(mut pairs: Vec<NarrowPair>) -> Vec<NarrowPair>
     pairs
 }
 
-/// The same entries in the order of their first nodes.
+/// Entries in the order of their first nodes.
 fn sorted_wide(mut pairs: Vec<Entry>) -> Vec<Entry>
     ensures { IsPermutation pairs.items result.items }
 {
     pairs.sort_unstable_by(|left, right| left.first.cmp(&right.first));
     pairs
+}
+
+/// The same couplers in the order of their first nodes.
+fn sorted_pairs(held: HeldPairs) -> HeldPairs
+    ensures { IsPermutation (held_pairs held) (held_pairs result) }
+{
+    match held {
+        HeldPairs::Narrow(pairs) => HeldPairs::Narrow(sorted_narrow(pairs)),
+        HeldPairs::Wide(pairs) => HeldPairs::Wide(sorted_wide(pairs)),
+    }
 }
 
 impl Pairs {
@@ -116,15 +126,9 @@ impl Pairs {
         ensures { IsPermutation self result }
     {
         let Pairs { alloc, held } = self;
-        match held {
-            HeldPairs::Narrow(pairs) => Pairs {
-                alloc,
-                held: HeldPairs::Narrow(sorted_narrow(pairs)),
-            },
-            HeldPairs::Wide(pairs) => Pairs {
-                alloc,
-                held: HeldPairs::Wide(sorted_wide(pairs)),
-            },
+        Pairs {
+            alloc,
+            held: sorted_pairs(held),
         }
     }
 
