@@ -2,13 +2,15 @@
 use Rattle.std.proofs.Common.{◌≡◌, inl, inr, ℕ, ◌+◌, ◌-◌, ◌*◌, ◌<◌, ◌≤◌, ◌^◌, arith, refl, sym, subst, ap, ◌∙◌, List, [], ◌∷◌, ◌++◌, length, map, replicate, get_or, length-append, ℤ, pos, ◌+ℤ◌, unsigned_abs}
 use Rattle.std.specs.Prelude.{All}
 use Rattle.std.specs.List.{AllByRecursion, flat_map}
+use Rattle.std.specs.List.Sorted.{IsPermutation}
+use Rattle.std.proofs.lemmas.List.Sorted.{sum_by-IsPermutation}
 use Rattle.std.proofs.lemmas.Int.{ints}
 use Rattle.std.proofs.lemmas.Bool.{cases_lt}
 use Rattle.std.proofs.lemmas.List.{length-replicate, get_or_append_left, get_or-append_right, get_or_past}
 use Rattle.std.proofs.lemmas.List.Elements.{All-from_recursion, All-map, All-weaker, recursion_from_All}
 use Rattle.std.proofs.lemmas.List.Sums.{sum_by-append}
 use Rattle.integers.specs.Sums.{if_so, total_by}
-use Rattle.integers.proofs.Totals.{total_by-append}
+use Rattle.integers.proofs.Totals.{total_by-append, total_by-IsPermutation}
 use Rattle.bits_model.specs.declared.output.Entry.{Entry}
 use Rattle.bits_model.specs.Output.{weight_total}
 use Rattle.problem_form.specs.declared.literal.Literal.{Literal}
@@ -171,6 +173,27 @@ rows-whole nodes w all made le none rows = record {
         weight-below i j made
         (recursion_from_All (λ (e : Entry). e.first < i) made
         (All-weaker (λ (e : Entry). e.first < w) (λ (e : Entry). e.first < i) (λ (e : Entry) h. omega (arith, h, past)) made rows.first))
+
+-- the pairs may stand in another order
+pub rows-permuted : (nodes w : ℕ) (ps qs others made : List Entry) → IsPermutation ps qs
+    → AreRows nodes w (qs ++ others) made → AreRows nodes w (ps ++ others) made
+rows-permuted nodes w ps qs others made moved rows = record {
+  first = rows.first;
+  ordered = rows.ordered;
+  couplers = rows.couplers;
+  sums = λ i j less.
+      omega (
+        arith,
+        ints,
+        rows.sums i j less,
+        total_by-append (weight_for i j) qs others,
+        total_by-append (weight_for i j) ps others,
+        total_by-IsPermutation (weight_for i j) ps qs moved,
+      );
+}
+
+pub total-permuted : (ps qs : List Entry) → IsPermutation ps qs → weight_total qs ≡ weight_total ps
+total-permuted ps qs moved = sum_by-IsPermutation (λ (e : Entry). unsigned_abs e.weight) ps qs moved
 
 -- ---- shares of later nodes
 

@@ -135,6 +135,7 @@ impl DirectTerms {
         } = self;
         let table = LongTable::of(alloc, weights.len(), &long)?;
         drop(long);
+        let pairs = pairs.sorted();
         let couplers = couplers_of(alloc, &pairs, &table)?;
         drop(pairs);
         let (weights, more) = with_long(weights, &table)?;
