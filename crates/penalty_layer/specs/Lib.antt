@@ -1,3 +1,5 @@
+pub mod Slack
+pub mod Squares
 pub mod Penalty
 pub mod Weights
 pub mod laws

@@ -67,6 +67,10 @@ clash_values x ls e =
     let b = Any-from_list_any (are_opposite a.1) ls a.4 in
     clash_at x ls a.0 b.0 a.1 b.1 a.2 a.3 b.2 b.3 (opposite_holds x a.1 b.1 b.4)
 
+-- not all of them are true
+pub all_hold-clash : (x : List Bool) (ls : List Literal) → has_clash ls ≡ true → all_hold x ls ≡ false
+all_hold-clash x ls e = (clash_values x ls e).some_false
+
 empty_is : (ls : List Literal) → is_empty ls ≡ true → ls ≡ []
 empty_is [] e = refl
 empty_is (l ∷ ls) e = absurd cc

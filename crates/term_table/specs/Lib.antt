@@ -1,4 +1,5 @@
 pub mod Terms
+pub mod Products
 pub mod Tables
 pub mod Entries
 pub mod Held

@@ -1,0 +1,23 @@
+-- Products of terms.
+use Rattle.std.specs.Prelude.{ℤ, ◌*ℤ◌, List, [], ◌∷◌, ◌++◌, map, if◌then◌else◌}
+use Rattle.std.specs.List.{flat_map}
+use Rattle.problem_form.specs.declared.literal.Literal.{Literal}
+use Rattle.problem_form.specs.Literals.{has_clash, literal_set}
+use Rattle.term_table.specs.Terms.{Term}
+
+-- the literals of both sets
+abbrev pub union : List Literal → List Literal → List Literal
+union ls ks = literal_set (ls ++ ks)
+
+-- a term times a number
+abbrev pub scaled : ℤ → Term → Term
+scaled c t = (t.0, c *ℤ t.1)
+
+-- the product of two terms; none, where a literal meets its complement
+abbrev pub product_terms : Term → Term → List Term
+product_terms t u =
+    if has_clash (union t.0 u.0) then [] else (union t.0 u.0, t.1 *ℤ u.1) ∷ []
+
+-- the products of a term and each of others
+abbrev pub products_with : Term → List Term → List Term
+products_with t us = flat_map (product_terms t) us
