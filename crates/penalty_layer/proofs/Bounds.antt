@@ -60,7 +60,8 @@ within_limits p none =
 
 -- ---- degrees
 
-most_of : (start : ℕ) (ns : List ℕ) → (start ≤ fold max start ns) × AllByRecursion (λ n. n ≤ fold max start ns) ns
+-- no number is above the greatest of all
+pub most_of : (start : ℕ) (ns : List ℕ) → (start ≤ fold max start ns) × AllByRecursion (λ n. n ≤ fold max start ns) ns
 most_of start [] = (omega arith, tt)
 most_of start (n ∷ ns) =
     let rest = most_of (max start n) ns in

@@ -12,3 +12,5 @@ pub mod Steps
 pub mod SmallSets
 pub mod TermSets
 pub mod Loops
+pub mod TermProducts
+pub mod Merging

@@ -1,8 +1,8 @@
 -- Products of terms.
-use Rattle.std.specs.Prelude.{ℤ, ◌*ℤ◌, List, [], ◌∷◌, ◌++◌, map, if◌then◌else◌}
+use Rattle.std.specs.Prelude.{ℕ, ◌≤◌, ℤ, ◌*ℤ◌, List, [], ◌∷◌, ◌++◌, length, if◌then◌else◌}
 use Rattle.std.specs.List.{flat_map}
 use Rattle.problem_form.specs.declared.literal.Literal.{Literal}
-use Rattle.problem_form.specs.Literals.{has_clash, literal_set}
+use Rattle.problem_form.specs.Literals.{has_clash, literal_set, IsLiteralSet}
 use Rattle.term_table.specs.Terms.{Term}
 
 -- the literals of both sets
@@ -21,3 +21,9 @@ product_terms t u =
 -- the products of a term and each of others
 abbrev pub products_with : Term → List Term → List Term
 products_with t us = flat_map (product_terms t) us
+
+-- a literal set of the width whose union with another is short enough for a term: it has at most
+-- 1,024 literals
+pub record IsFactor (width : ℕ) (ls : List Literal) : Type 0 where
+  pub set : IsLiteralSet width ls
+  pub short : length ls ≤ 1024

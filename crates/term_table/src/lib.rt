@@ -12,6 +12,7 @@ mod sets;
 mod sums;
 mod table;
 mod terms;
+mod unions;
 
 pub use gathered::GatheredTerms;
 pub use laws::laws_of_additions;
@@ -19,3 +20,4 @@ pub use low_table::{LowTable, low};
 pub use sets::is_set;
 pub use table::Table;
 pub use terms::Terms;
+pub use unions::unite;
