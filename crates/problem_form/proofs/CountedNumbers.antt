@@ -1,16 +1,16 @@
 -- The numbers that are counted against limits, and arithmetic that stops at the greatest of 128
 -- bits.
-use Rattle.std.proofs.Common.{◌≡◌, Bool, true, false, cond, leb, ℕ, zero, suc, ◌+◌, ◌-◌, ◌*◌, ◌<◌, ◌≤◌, ◌^◌, min, arith, refl, sym, ap, ◌∙◌, inl, inr, List, [], ◌∷◌, fold, length, get_or, take, ℤ, pos, negsuc, ◌-ℤ◌, unsigned_abs}
-use Rattle.std.specs.List.{sum_by, flat_map}
+use Rattle.std.proofs.Common.{◌≡◌, Bool, true, false, cond, leb, ℕ, zero, suc, ◌+◌, ◌-◌, ◌*◌, ◌<◌, ◌≤◌, ◌^◌, min, arith, refl, sym, ap, ◌∙◌, inl, inr, List, [], ◌∷◌, fold, ℤ, pos, negsuc, ◌-ℤ◌, unsigned_abs}
+use Rattle.std.specs.List.{flat_map}
 use Rattle.std.proofs.lemmas.Int.{ints}
 use Rattle.std.proofs.lemmas.Bool.{cases_lt, le-leb, lt-leb}
-use Rattle.std.proofs.lemmas.List.Sums.{fold-append, sum_by-le-sum_by, sum_by_more}
+use Rattle.std.proofs.lemmas.List.Sums.{fold-append, sum_by-le-sum_by}
 use Rattle.std.proofs.Math.Nat.{pow-zero, pow-suc, pow-le-pow_right}
 use Rattle.integers.specs.Sums.{positive_part}
 use Rattle.problem_form.specs.declared.terms.Product.{Product}
 use Rattle.problem_form.specs.declared.terms.Constraint.{Constraint}
 use Rattle.problem_form.specs.Problems.{products_total, constraint_total}
-use Rattle.problem_form.specs.Limits.{answered_number, positive_total, slack_range, reach}
+use Rattle.problem_form.specs.Limits.{answered_number, positive_total, slack_range}
 
 pub fold_flat_map : {A B C : Type 0} (f : C → B → C) (g : A → List B) (start : C) (xs : List A)
     → fold f start (flat_map g xs) ≡ fold (λ most x. fold f most (g x)) start xs
@@ -85,45 +85,21 @@ slack_range-le k = go k.exact
           rest (positive_total k.products) (unsigned_abs k.bound) k.bound (omega arith),
         )
 
--- ---- one more square
+-- ---- squares
 
 square_is : (r : ℕ) → r * r ≡ r ^ 2
 square_is r = sym (rw (pow-suc, pow-suc, pow-zero) (omega arith))
 
-answered_number-square : (total n r : ℕ)
-    → answered_number (answered_number total + answered_number (n * answered_number (r * r))) ≡ answered_number (total + n * r ^ 2)
-answered_number-square total n r =
-    ap (λ part. answered_number (answered_number total + part))
-    (answered_number-times n (r * r) ∙ ap (λ square. answered_number (n * square)) (square_is r))
-    ∙ answered_number-plus total (n * r ^ 2)
+-- n times the square of r, as the calls answer it
+pub answered_square : (n r r' square part : ℕ) → r' ≡ r → square ≡ answered_number (r' * r')
+    → part ≡ answered_number (n * square) → part ≡ answered_number (n * r ^ 2)
+answered_square n r r' square part at_r at_square at_part =
+    at_part
+    ∙ ap (λ s. answered_number (n * s)) (at_square ∙ ap (λ x. answered_number (x * x)) at_r)
+    ∙ answered_number-times n (r * r)
+    ∙ ap (λ s. answered_number (n * s)) (square_is r)
 
--- a loop's step, by what each call answers
-pub squares_more : (n : ℕ) (ks : List Constraint) (i : ℕ) (k : Constraint) (total r square part next : ℕ)
-    → i < length ks → k ≡ get_or ks i k
-    → total ≡ answered_number (sum_by (λ c. n * reach c ^ 2) (take i ks)) → r ≡ reach k
-    → square ≡ answered_number (r * r) → part ≡ answered_number (n * square) → next ≡ answered_number (total + part)
-    → next ≡ answered_number (sum_by (λ c. n * reach c ^ 2) (take (i + 1) ks))
-squares_more n ks i k total r square part next in' item so_far at_r at_square at_part at_next =
-    let f : Constraint → ℕ = λ c. n * reach c ^ 2 in
-    at_next
-    ∙ (λ j. answered_number (so_far j + (at_part ∙ ap (λ s. answered_number (n * s)) (at_square
-    ∙ ap (λ x. answered_number (x * x)) at_r)) j))
-    ∙ answered_number-square (sum_by f (take i ks)) n (reach k)
-    ∙ ap (λ c. answered_number (sum_by f (take i ks) + f c)) item
-    ∙ ap answered_number (sym (sum_by_more f ks i k in'))
-
--- ---- one more number
--- a loop's step, for a sum of any numbers
-pub answered_more : {X : Type 0} (f : X → ℕ) (xs : List X) (i : ℕ) (x : X) (total part next : ℕ)
-    → i < length xs → x ≡ get_or xs i x → total ≡ answered_number (sum_by f (take i xs))
-    → part ≡ answered_number (f x) → next ≡ answered_number (total + part)
-    → next ≡ answered_number (sum_by f (take (i + 1) xs))
-answered_more f xs i x total part next in' item so_far at_part at_next =
-    at_next
-    ∙ (λ j. answered_number (so_far j + at_part j))
-    ∙ answered_number-plus (sum_by f (take i xs)) (f x)
-    ∙ ap (λ c. answered_number (sum_by f (take i xs) + f c)) item
-    ∙ ap answered_number (sym (sum_by_more f xs i x in'))
+-- ---- sums of several numbers
 
 pub answered_sum : (a b p q r : ℕ) → p ≡ answered_number a → q ≡ answered_number b → r ≡ answered_number (p + q)
     → r ≡ answered_number (a + b)

@@ -7,6 +7,7 @@ use Rattle.std.proofs.lemmas.List.{take-append-le, drop-append-le, take-map, dro
 use Rattle.std.proofs.Math.Dec.{eqb-suc-zero}
 use Rattle.std.proofs.Math.Seq.{drop-append_seam}
 use Rattle.problem_form.specs.declared.literal.Literal.{Literal}
+use Rattle.problem_form.proofs.WeighedParts.{drop-at}
 use Rattle.problem_form.specs.FlatLists.{parts, AreEnds, start_of, literal_parts, literal_of, code_of}
 
 -- there is a part for each end
@@ -72,12 +73,12 @@ part_lies ends len i is within =
 
 -- ---- one more part
 
-slice_range-append : {A : Type 0} → (items more : List A) (start end : ℕ) → start ≤ end → end ≤ length items → slice_range (items ++ more) start end ≡ slice_range items start end
+pub slice_range-append : {A : Type 0} → (items more : List A) (start end : ℕ) → start ≤ end → end ≤ length items → slice_range (items ++ more) start end ≡ slice_range items start end
 slice_range-append items more start end ordered within =
     ap (take (end - start)) (drop-append-le start items more (omega (arith, ordered, within)))
     ∙ take-append-le (end - start) (drop start items) more (omega (arith, length-drop start items, ordered, within))
 
-slice_range-last : {A : Type 0} → (items more : List A) → slice_range (items ++ more) (length items) (length (items ++ more)) ≡ more
+pub slice_range-last : {A : Type 0} → (items more : List A) → slice_range (items ++ more) (length items) (length (items ++ more)) ≡ more
 slice_range-last items more =
     ap (take (length (items ++ more) - length items)) (drop-append_seam items more)
     ∙ take_all (length (items ++ more) - length items) more (omega (arith, length-append items more))
@@ -162,3 +163,10 @@ narrow_pushed codes more ends codes' ends' is at_codes at_ends =
           subst P (sym at_ends') (subst Q (sym at_codes) set),
       (λ i. literal_parts (at_codes i) (at_ends' i)) ∙ literal_parts-push codes ends more is,
     )
+
+-- ---- what is left of a part
+
+pub slice_range-step : {A : Type 0} → (xs : List A) (i end : ℕ) (x : A) → i < end → slice_get xs i ≡ Some x → slice_range xs i end ≡ x ∷ slice_range xs (i + 1) end
+slice_range-step xs i end x before at =
+    let count : end - i ≡ suc (end - (i + 1)) = omega (arith, before) in
+    (λ j. take (count j) (drop-at xs i x at j))

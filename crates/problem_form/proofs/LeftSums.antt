@@ -2,13 +2,27 @@
 use Rattle.std.proofs.Common.{◌≡◌, ℕ, ◌+◌, ◌<◌, ◌≤◌, ◌^◌, arith, ap, ◌∙◌, List, [], ◌∷◌, ℤ, ◌+ℤ◌, unsigned_abs}
 use Rattle.std.specs.List.{sum_by}
 use Rattle.std.proofs.lemmas.List.Sums.{sum_by-cons}
+use Rattle.std.proofs.lemmas.Int.{ints}
 use Rattle.integers.specs.Sums.{total_by}
+use Rattle.integers.proofs.Totals.{size-plus}
 use Rattle.problem_form.specs.Limits.{answered_number}
 
 -- the sum so far and that of what is left are the whole, and their sizes are at most so much
 pub record Sums {X : Type 0} (f : X → ℤ) (size : X → ℕ) (sum : ℤ) (left : List X) (whole : ℤ) (most : ℕ) : Type 0 where
   pub so_far : sum +ℤ total_by f left ≡ whole
   pub small : unsigned_abs sum + sum_by size left ≤ most
+
+pub sums_left : {X : Type 0} (f : X → ℤ) (size : X → ℕ) (left rest : List X) (x : X) (sum part next whole : ℤ) (most : ℕ)
+    → left ≡ x ∷ rest → part ≡ f x → unsigned_abs (f x) ≤ size x → next ≡ sum +ℤ part
+    → Sums f size sum left whole most → Sums f size next rest whole most
+sums_left f size left rest x sum part next whole most step at_part fits at_next before =
+    let total : total_by f left ≡ f x +ℤ total_by f rest = ap (total_by f) step in
+    let sizes : sum_by size left ≡ size x + sum_by size rest = ap (sum_by size) step ∙ sum_by-cons size x rest in
+    let value : next ≡ sum +ℤ f x = at_next ∙ ap (λ p. sum +ℤ p) at_part in
+    record {
+      so_far = omega (arith, ints, total, value, before.so_far);
+      small = omega (arith, sizes, fits, ap unsigned_abs value, size-plus sum (f x), before.small);
+    }
 
 -- the sum so far, which stops at the greatest number, and that of what is left are the whole
 pub record Answered {X : Type 0} (f : X → ℕ) (total : ℕ) (left : List X) (whole : ℕ) : Type 0 where
@@ -30,3 +44,19 @@ pub answered_end : {X : Type 0} (f : X → ℕ) (left : List X) (total whole : �
 answered_end f left total whole step before =
     let sums : sum_by f left ≡ 0 = ap (sum_by f) step in
     omega (arith, sums, before.so_far, before.fits)
+
+-- ---- what is left is within what all is
+
+pub first_within : {X : Type 0} (size : X → ℕ) (left rest : List X) (x : X) (most : ℕ)
+    → left ≡ x ∷ rest → sum_by size left < most → size x < most
+first_within size left rest x most step before =
+    let sums : sum_by size left ≡ size x + sum_by size rest =
+    ap (sum_by size) step ∙ sum_by-cons size x rest in
+    omega (arith, sums, before)
+
+pub rest_within : {X : Type 0} (size : X → ℕ) (left rest : List X) (x : X) (most : ℕ)
+    → left ≡ x ∷ rest → sum_by size left < most → sum_by size rest < most
+rest_within size left rest x most step before =
+    let sums : sum_by size left ≡ size x + sum_by size rest =
+    ap (sum_by size) step ∙ sum_by-cons size x rest in
+    omega (arith, sums, before)

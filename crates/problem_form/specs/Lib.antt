@@ -6,3 +6,4 @@ pub mod Fields
 pub mod FlatLists
 pub mod HeldLists
 pub mod WeighedLists
+pub mod ConstraintRows

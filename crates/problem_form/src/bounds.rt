@@ -12,7 +12,7 @@ impl Problem {
         ensures value { result ≡ cost_size self.now }
         ensures small { result < 2 ^ 100 }
     {
-        size_of_products(&self.objective) + soft_weights(&self.clauses)
+        size_of_products(self.objective.iter()) + soft_weights(&self.clauses)
     }
 
     /// What one violation adds at least: one more than any assignment can gain.
@@ -27,7 +27,7 @@ impl Problem {
     pub fn upper(&self) -> i128
         ensures { result ≡ upper self.now }
     {
-        let most = positive_coefficients(&self.objective) + soft_weights(&self.clauses);
+        let most = positive_coefficients(self.objective.iter()) + soft_weights(&self.clauses);
         self.constant + most as i128
     }
 }

@@ -18,10 +18,10 @@ ghost use Rattle.problem_form.specs.Problems.{
 };
 
 use crate::clause_list::{ClauseList, ClauseRef};
+use crate::constraint_list::{ConstraintList, ConstraintRef};
 use crate::literals::Literals;
 use crate::problem::Problem;
-use crate::product_list::{ProductList, ProductRef};
-use crate::terms::Constraint;
+use crate::product_list::{ProductRef, Products};
 use bits_model::{Cost, Costed};
 
 fn a_literal_holds(mut literals: Literals<'_>, x: &[bool]) -> bool
@@ -50,12 +50,13 @@ fn value_of(product: ProductRef<'_>, x: &[bool]) -> i128
     }
 }
 
-fn sum_of_products(products: &ProductList, x: &[bool]) -> i128
-    requires { products_total products.now < 2 ^ 100 }
-    ensures { result ≡ sum_of x.now products.now }
+/// The sum of the coefficients of the products that are true under an assignment.
+pub fn sum_of_products(products: Products<'_>, x: &[bool]) -> i128
+    requires { products_total products < 2 ^ 100 }
+    ensures { result ≡ sum_of x.now products.entry }
 {
     let mut sum: i128 = 0;
-    for product in products.iter() {
+    for product in products {
         sum += value_of(product, x);
     }
     sum
@@ -95,23 +96,24 @@ fn a_hard_clause_fails(clauses: &ClauseList, x: &[bool]) -> bool
     clauses.iter().any(|clause| hard_clause_fails(clause, x))
 }
 
-fn constraint_fails(constraint: &Constraint, x: &[bool]) -> bool
-    requires { constraint_total constraint.now < 2 ^ 100 }
-    ensures { result ≡ fails x.now constraint.now }
+fn constraint_fails(constraint: ConstraintRef<'_>, x: &[bool]) -> bool
+    requires { constraint_total constraint < 2 ^ 100 }
+    ensures { result ≡ fails x.now constraint.entry }
 {
-    let sum = sum_of_products(&constraint.products, x);
-    if constraint.exact {
-        sum != constraint.bound
-    } else {
-        sum < constraint.bound
-    }
+    let ConstraintRef {
+        products,
+        bound,
+        exact,
+    } = constraint;
+    let sum = sum_of_products(products, x);
+    if exact { sum != bound } else { sum < bound }
 }
 
-fn a_constraint_fails(constraints: &[Constraint], x: &[bool]) -> bool
+fn a_constraint_fails(constraints: &ConstraintList, x: &[bool]) -> bool
     requires { sum_by constraint_total constraints.now < 2 ^ 100 }
     ensures { result ≡ list_any (fails x.now) constraints.now }
 {
-    for constraint in constraints {
+    for constraint in constraints.iter() {
         if constraint_fails(constraint, x) {
             return true;
         }
@@ -134,10 +136,10 @@ impl Costed for Problem {
         if a_hard_clause_fails(&self.clauses, x) {
             return Cost::Infinite;
         }
-        if a_constraint_fails(self.constraints.as_slice(), x) {
+        if a_constraint_fails(&self.constraints, x) {
             return Cost::Infinite;
         }
-        let sum = sum_of_products(&self.objective, x);
+        let sum = sum_of_products(self.objective.iter(), x);
         Cost::Whole(self.constant + sum + soft_costs(&self.clauses, x))
     }
 }

@@ -6,19 +6,17 @@ ghost use Rattle.problem_form.specs.Problems.{constraint_total, products_total, 
 ghost use Rattle.problem_form.specs.Limits.{answered_number, degree, positive_total, reach, slack_range, weight};
 
 use crate::clause_list::{ClauseList, ClauseRef};
+use crate::constraint_list::{ConstraintList, ConstraintRef};
 use crate::problem::Problem;
-use crate::product_list::ProductList;
-use crate::terms::Constraint;
+use crate::product_list::Products;
 
 // ---- degrees
 
 /// The greatest of `most` and the degrees of the products.
-pub(crate) fn products_degree(most: usize, products: &ProductList) -> usize
-    ensures { result ≡ fold max most (map (λ t. length t.literals) products.now) }
+pub(crate) fn products_degree(most: usize, products: Products<'_>) -> usize
+    ensures { result ≡ fold max most (map (λ t. length t.literals) products.entry) }
 {
-    products
-        .iter()
-        .fold(most, |most, product| most.max(product.literals.len()))
+    products.fold(most, |most, product| most.max(product.literals.len()))
 }
 
 /// The greatest of `most` and the numbers of literals of the clauses.
@@ -32,13 +30,13 @@ fn clauses_degree(most: usize, clauses: &ClauseList) -> usize
 
 /// The greatest of `most` and the degrees of the products of the constraints.
 #[tactic(auto, using(crate::proofs::CountedNumbers::fold_flat_map))]
-fn constraints_degree(most: usize, constraints: &[Constraint]) -> usize
+fn constraints_degree(most: usize, constraints: &ConstraintList) -> usize
     ensures { result
         ≡ fold max most (flat_map (λ k. map (λ t. length t.literals) k.products) constraints.now) }
 {
     constraints.iter().fold(
         most,
-        |most, constraint| products_degree(most, &constraint.products),
+        |most, constraint| products_degree(most, constraint.products),
     )
 }
 
@@ -46,19 +44,18 @@ fn constraints_degree(most: usize, constraints: &[Constraint]) -> usize
 pub(crate) fn degree_of(problem: &Problem) -> usize
     ensures { result ≡ degree problem.now }
 {
-    let most = products_degree(0, &problem.objective);
+    let most = products_degree(0, problem.objective.iter());
     let most = clauses_degree(most, &problem.clauses);
-    constraints_degree(most, problem.constraints.as_slice())
+    constraints_degree(most, &problem.constraints)
 }
 
 // ---- sizes
 
-pub(crate) fn size_of_products(products: &ProductList) -> u128
-    requires { products_total products.now < 2 ^ 100 }
-    ensures { result ≡ products_total products.now }
+pub(crate) fn size_of_products(products: Products<'_>) -> u128
+    requires { products_total products < 2 ^ 100 }
+    ensures { result ≡ products_total products.entry }
 {
     products
-        .iter()
         .map(|product| product.coefficient.unsigned_abs())
         .sum()
 }
@@ -95,46 +92,45 @@ fn positive_part_of(number: i128) -> u128
     if number < 0 { 0 } else { number.unsigned_abs() }
 }
 
-pub(crate) fn positive_coefficients(products: &ProductList) -> u128
-    requires { positive_total products.now < 2 ^ 100 }
-    ensures { result ≡ positive_total products.now }
+pub(crate) fn positive_coefficients(products: Products<'_>) -> u128
+    requires { positive_total products < 2 ^ 100 }
+    ensures { result ≡ positive_total products.entry }
 {
     products
-        .iter()
         .map(|product| positive_part_of(product.coefficient))
         .sum()
 }
 
 /// How far the sum of a constraint can lie above its bound, and 0 where it is exact.
-pub(crate) fn slack_range_of(constraint: &Constraint) -> u128
+pub fn slack_range_of(constraint: &ConstraintRef<'_>) -> u128
     requires { constraint_total constraint.now < 2 ^ 100 }
     ensures { result ≡ slack_range constraint.now }
 {
     if constraint.exact {
         return 0;
     }
-    let most = positive_coefficients(&constraint.products);
+    let most = positive_coefficients(constraint.products.again());
     positive_part_of(most as i128 - constraint.bound)
 }
 
 /// The greatest size of the value that is squared for a constraint.
-fn reach_of(constraint: &Constraint) -> u128
+fn reach_of(constraint: &ConstraintRef<'_>) -> u128
     requires { constraint_total constraint.now < 2 ^ 100 }
     ensures { result ≡ reach constraint.now }
 {
     let range = slack_range_of(constraint);
-    size_of_products(&constraint.products) + constraint.bound.unsigned_abs() + range
+    size_of_products(constraint.products.again()) + constraint.bound.unsigned_abs() + range
 }
 
 /// The sizes of all coefficients of squares, where one violation adds `penalty` at least. It stops
 /// at the greatest number of 128 bits.
-fn squares(penalty: u128, constraints: &[Constraint]) -> u128
+fn squares(penalty: u128, constraints: &ConstraintList) -> u128
     requires { sum_by constraint_total constraints.now < 2 ^ 100 }
     ensures { result ≡ answered_number (sum_by (λ k. penalty * reach k ^ 2) constraints.now) }
 {
     let mut total: u128 = 0;
-    for constraint in constraints {
-        let reach = reach_of(constraint);
+    for constraint in constraints.iter() {
+        let reach = reach_of(&constraint);
         let square = reach.saturating_mul(reach);
         total = total.saturating_add(penalty.saturating_mul(square));
     }
@@ -150,5 +146,5 @@ pub(crate) fn weight_of(problem: &Problem) -> u128
     let hard = penalty.saturating_mul(hard_clauses(&problem.clauses) as u128);
     (problem.constant.unsigned_abs() + costs)
         .saturating_add(hard)
-        .saturating_add(squares(penalty, problem.constraints.as_slice()))
+        .saturating_add(squares(penalty, &problem.constraints))
 }

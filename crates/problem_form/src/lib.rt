@@ -4,6 +4,7 @@
 mod bounds;
 mod clause_list;
 mod clauses;
+mod constraint_list;
 mod costs;
 mod counts;
 mod laws;
@@ -21,6 +22,9 @@ mod terms;
 mod wide_lists;
 
 pub use clause_list::{ClauseList, ClauseRef, Clauses};
+pub use constraint_list::{ConstraintList, ConstraintRef, Constraints};
+pub use costs::sum_of_products;
+pub use counts::slack_range_of;
 pub use laws::{digits_are_least, normal_form_keeps_costs, parts_add_up};
 pub use limits::{Choices, High, LimitFault, LimitKind, MOST_BYTES, Normal, check_limits};
 pub use literal::{Literal, LiteralList, all_hold};
@@ -28,4 +32,5 @@ pub use literal_lists::LiteralLists;
 pub use literals::Literals;
 pub use problem::Problem;
 pub use product_list::{ProductList, ProductRef, Products};
-pub use terms::{Clause, Constraint, ConstraintList, Product};
+pub use sets::{clashes, make_set};
+pub use terms::{Clause, Constraint, Product};

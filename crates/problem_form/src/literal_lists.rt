@@ -57,6 +57,16 @@ impl LiteralLists {
         }
     }
 
+    /// Takes all lists out.
+    pub fn clear(&mut self)
+        ensures { self.new ≡ [] }
+    {
+        match &mut self.held {
+            HeldLists::Narrow(lists) => lists.clear(),
+            HeldLists::Wide(lists) => lists.clear(),
+        }
+    }
+
     /// The list at a place.
     pub fn at(&self, i: usize) -> Literals<'_>
         requires { i < length self.now }

@@ -119,6 +119,13 @@ impl NarrowLists {
         self.ends.len()
     }
 
+    pub(crate) fn clear(&mut self)
+        ensures { self.new ≡ [] }
+    {
+        self.codes.clear();
+        self.ends.clear();
+    }
+
     /// The list at a place.
     pub(crate) fn at(&self, i: usize) -> Literals<'_>
         requires { i < length self.now }

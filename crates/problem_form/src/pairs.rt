@@ -5,12 +5,12 @@ ghost use Rattle.problem_form.specs.Problems.{constraint_total};
 ghost use Rattle.problem_form.specs.Limits.{answered_number, binary_digits, clause_complements, clause_pairs, complements, constraint_degree, constraint_pairs, factor, most_complements, negations, pairs, product_pairs, slack_bits, summands};
 
 use crate::clause_list::{ClauseList, ClauseRef};
+use crate::constraint_list::{ConstraintList, ConstraintRef};
 use crate::counts::{products_degree, slack_range_of};
 use crate::limits::Normal;
 use crate::literals::Literals;
 use crate::problem::Problem;
-use crate::product_list::{ProductList, ProductRef};
-use crate::terms::Constraint;
+use crate::product_list::{ProductList, ProductRef, Products};
 
 // ---- complements
 
@@ -28,12 +28,10 @@ fn clause_complements_of(clause: ClauseRef<'_>) -> usize
 }
 
 /// The greatest of `most` and the complements of the products.
-fn products_complements(most: usize, products: &ProductList) -> usize
-    ensures { result ≡ fold max most (map complements products.now) }
+fn products_complements(most: usize, products: Products<'_>) -> usize
+    ensures { result ≡ fold max most (map complements products.entry) }
 {
-    products
-        .iter()
-        .fold(most, |most, product| most.max(complements_of(product)))
+    products.fold(most, |most, product| most.max(complements_of(product)))
 }
 
 /// The greatest of `most` and the complements of the products of the clauses.
@@ -43,18 +41,18 @@ fn clauses_complements(most: usize, clauses: &ClauseList) -> usize
     clauses.iter().fold(most, |most, clause| most.max(clause_complements_of(clause)))
 }
 
-fn most_complements_of(constraint: &Constraint) -> usize
+fn most_complements_of(constraint: &ConstraintRef<'_>) -> usize
     ensures { result ≡ most_complements constraint.now }
 {
-    products_complements(0, &constraint.products)
+    products_complements(0, constraint.products.again())
 }
 
-fn constraints_complements(constraints: &[Constraint]) -> usize
+fn constraints_complements(constraints: &ConstraintList) -> usize
     ensures { result ≡ fold max 0 (map most_complements constraints.now) }
 {
     constraints.iter().fold(
         0,
-        |most, constraint| most.max(most_complements_of(constraint)),
+        |most, constraint| most.max(most_complements_of(&constraint)),
     )
 }
 
@@ -65,9 +63,9 @@ pub(crate) fn negations_of(problem: &Problem, normal: Normal) -> u128
     match normal {
         Normal::Literal => 0,
         Normal::Multilinear => {
-            let most = products_complements(0, &problem.objective);
+            let most = products_complements(0, problem.objective.iter());
             let most = clauses_complements(most, &problem.clauses);
-            let squared = 2 * constraints_complements(problem.constraints.as_slice()) as u128;
+            let squared = 2 * constraints_complements(&problem.constraints) as u128;
             squared.max(most as u128)
         }
     }
@@ -132,7 +130,7 @@ fn binary_digits_of(number: u128) -> u32
 }
 
 /// How many terms the sum has that is squared for a constraint, or the greatest number of 128 bits.
-fn summands_of(constraint: &Constraint, normal: Normal) -> u128
+fn summands_of(constraint: &ConstraintRef<'_>, normal: Normal) -> u128
     requires { constraint_total constraint.now < 2 ^ 100 }
     ensures { result ≡ answered_number (summands normal constraint.now) }
 {
@@ -142,13 +140,13 @@ fn summands_of(constraint: &Constraint, normal: Normal) -> u128
 }
 
 /// The largest degree of a product of a constraint.
-fn constraint_degree_of(constraint: &Constraint) -> usize
+fn constraint_degree_of(constraint: &ConstraintRef<'_>) -> usize
     ensures { result ≡ constraint_degree constraint.now }
 {
-    products_degree(0, &constraint.products)
+    products_degree(0, constraint.products.again())
 }
 
-fn constraint_pairs_of(constraint: &Constraint, normal: Normal) -> u128
+fn constraint_pairs_of(constraint: &ConstraintRef<'_>, normal: Normal) -> u128
     requires { constraint_total constraint.now < 2 ^ 100 }
     ensures { result ≡ answered_number (constraint_pairs normal constraint.now) }
 {
@@ -185,13 +183,13 @@ fn clauses_pairs(clauses: &ClauseList, normal: Normal) -> u128
 }
 
 /// The pairs of the constraints, likewise.
-fn constraints_pairs(constraints: &[Constraint], normal: Normal) -> u128
+fn constraints_pairs(constraints: &ConstraintList, normal: Normal) -> u128
     requires { sum_by constraint_total constraints.now < 2 ^ 100 }
     ensures { result ≡ answered_number (sum_by (constraint_pairs normal) constraints.now) }
 {
     let mut total: u128 = 0;
-    for constraint in constraints {
-        total = total.saturating_add(constraint_pairs_of(constraint, normal));
+    for constraint in constraints.iter() {
+        total = total.saturating_add(constraint_pairs_of(&constraint, normal));
     }
     total
 }
@@ -203,5 +201,5 @@ pub(crate) fn pairs_of(problem: &Problem, normal: Normal) -> u128
 {
     products_pairs(&problem.objective, normal)
         .saturating_add(clauses_pairs(&problem.clauses, normal))
-        .saturating_add(constraints_pairs(problem.constraints.as_slice(), normal))
+        .saturating_add(constraints_pairs(&problem.constraints, normal))
 }

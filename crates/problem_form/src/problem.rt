@@ -5,10 +5,11 @@ ghost use Rattle.problem_form.specs.Problems.{constraint_total, problem_total, s
 
 use crate::clause_list::ClauseList;
 use crate::clauses::{keep_clause, weight_constant};
+use crate::constraint_list::ConstraintList;
 use crate::literal::Literal;
 use crate::product_list::ProductList;
-use crate::products::{coefficient_constant, keep_product, normal_constraint};
-use crate::terms::{Clause, Constraint, ConstraintList, Product};
+use crate::products::{coefficient_constant, keep_product};
+use crate::terms::{Clause, Constraint, Product};
 use bits_model::NoMemory;
 use std::alloc::Global;
 use std::marker::Model;
@@ -22,7 +23,6 @@ pub struct Problem {
     pub objective: ProductList,
     pub clauses: ClauseList,
     pub constraints: ConstraintList,
-    alloc: Global,
 }
 
 impl Model for Problem {
@@ -48,7 +48,6 @@ impl Problem {
             objective: ProductList::empty(alloc),
             clauses: ClauseList::empty(alloc),
             constraints: ConstraintList::empty(alloc),
-            alloc,
         }
     }
 
@@ -134,14 +133,13 @@ impl Problem {
 
     /// Adds a constraint as written, in normal form. Where memory is refused the problem stays as
     /// it was.
-    pub fn add_constraint(&mut self, constraint: Constraint) -> Result<(), NoMemory>
+    pub fn add_constraint(&mut self, constraint: &Constraint) -> Result<(), NoMemory>
         requires within { All (λ t. All (λ l. l.variable < self.old.variables) t.literals)
-            constraint.products }
-        requires small { problem_total self.old + constraint_total constraint < 2 ^ 100 }
-        ensures added { OnOk result (self.new ≡ with_constraint self.old constraint) }
+            constraint.now.products }
+        requires small { problem_total self.old + constraint_total constraint.now < 2 ^ 100 }
+        ensures added { OnOk result (self.new ≡ with_constraint self.old constraint.now) }
         ensures unchanged { OnErr result (self.new ≡ self.old) }
     {
-        let normal = normal_constraint(self.alloc, &constraint)?;
-        self.constraints.push(normal)
+        self.constraints.push_normal(constraint)
     }
 }

@@ -1,5 +1,5 @@
 //! Products that lie flat.
-ghost use Rattle.std.specs.Prelude.{◌≡◌, ◌<◌, ◌++◌, ◌∷◌, [], OnOk, OnErr, length, slice_get, Some};
+ghost use Rattle.std.specs.Prelude.{◌≡◌, ◌<◌, ◌≤◌, ◌++◌, ◌∷◌, [], OnOk, OnErr, length, slice_get, slice_range, Some};
 
 use crate::literal::Literal;
 use crate::literal_lists::LiteralLists;
@@ -76,10 +76,28 @@ impl ProductList {
     pub fn iter(&self) -> Products<'_>
         ensures { result ≡ self.now }
     {
+        self.part(0, self.len())
+    }
+
+    /// The products from a place to before another.
+    pub(crate) fn part(&self, start: usize, end: usize) -> Products<'_>
+        requires ordered { start ≤ end }
+        requires within { end ≤ length self.now }
+        ensures { result ≡ slice_range self.now start end }
+    {
         Products {
             list: self,
-            next: 0,
+            next: start,
+            end,
         }
+    }
+
+    /// Takes all products out. The memory is kept for others.
+    pub fn clear(&mut self)
+        ensures { self.new ≡ [] }
+    {
+        self.lists.clear();
+        self.coefficients.clear();
     }
 
     /// Appends a product. Where memory is refused the list stays as it was.
@@ -103,15 +121,38 @@ impl ProductList {
 pub struct Products<'a> {
     list: &'a ProductList,
     next: usize,
+    end: usize,
 }
 
 impl<'a> Model for Products<'a> {
-    ghost use Rattle.std.specs.Prelude.{List, drop};
+    ghost use Rattle.std.specs.Prelude.{◌≤◌, List, length, slice_range};
     ghost use Rattle.problem_form.specs.declared.terms.Product.{Product};
 
     ghost Value = { List Product };
 
-    ghost view = { λ a. drop a.next a.list.now };
+    ghost view = { λ a. slice_range a.list.now a.next a.end };
+
+    ghost invariant = { λ a. (a.next ≤ a.end) × (a.end ≤ length a.list.now) };
+}
+
+impl<'a> Products<'a> {
+    /// How many are left.
+    pub fn len(&self) -> usize
+        ensures { result ≡ length self.now }
+    {
+        self.end - self.next
+    }
+
+    /// Those that are left, for a walk of their own.
+    pub fn again(&self) -> Products<'a>
+        ensures { result ≡ self.now }
+    {
+        Products {
+            list: self.list,
+            next: self.next,
+            end: self.end,
+        }
+    }
 }
 
 impl<'a> Iterator for Products<'a> {
@@ -124,7 +165,7 @@ impl<'a> Iterator for Products<'a> {
     ghost remaining = { item_count (λ s. s) };
 
     fn next(&mut self) -> Option<ProductRef<'a>> {
-        if self.next >= self.list.len() {
+        if self.next >= self.end {
             return None;
         }
         let product = self.list.at(self.next);

@@ -1,5 +1,5 @@
 //! Products in normal form, and the sums of constraints.
-ghost use Rattle.std.specs.Prelude.{◌≡◌, ◌==◌, if◌then◌else◌, pos, ◌<◌, ◌^◌, ◌||◌, ◌++◌, IfOk, OnOk, OnErr};
+ghost use Rattle.std.specs.Prelude.{◌≡◌, ◌==◌, if◌then◌else◌, pos, ◌<◌, ◌^◌, ◌||◌, ◌++◌, OnOk, OnErr, length, take};
 ghost use Rattle.std.specs.List.{flat_map};
 ghost use Rattle.std.specs.List.Sorted.{IsStrictlySortedBy};
 ghost use Rattle.integers.specs.Sums.{total_by};
@@ -12,7 +12,6 @@ use crate::product_list::{ProductList, ProductRef};
 use crate::sets::{clashes, make_set};
 use crate::terms::Constraint;
 use bits_model::NoMemory;
-use std::alloc::Global;
 
 /// What a product adds to the constant: the coefficient of one without literals.
 pub(crate) fn coefficient_constant(literals: usize, coefficient: i128) -> i128
@@ -57,21 +56,25 @@ pub(crate) fn keep_product(
     products.push(literals, coefficient)
 }
 
-/// The products in normal form.
-fn kept_products(alloc: Global, products: &ProductList) -> Result<ProductList, NoMemory>
-    ensures { IfOk result (λ kept. kept ≡ flat_map kept_product products.now) }
+/// Appends the products as written in normal form, where they are kept. Where memory is refused the
+/// list has some of them.
+pub(crate) fn keep_products(
+    kept: &mut ProductList,
+    products: &ProductList,
+    scratch: &mut Vec<Literal>,
+) -> Result<(), NoMemory>
+    ensures kept { OnOk result (kept.new ≡ kept.old ++ flat_map kept_product products.now) }
+    ensures before { take (length kept.old) kept.new ≡ kept.old }
 {
-    let mut kept = ProductList::empty(alloc);
-    let mut scratch = Vec::new(alloc);
     for product in products.iter() {
         let ProductRef {
             literals,
             coefficient,
         } = product;
-        literals.copy_into(&mut scratch)?;
-        keep_product(&mut kept, &mut scratch, coefficient)?;
+        literals.copy_into(scratch)?;
+        keep_product(kept, scratch, coefficient)?;
     }
-    Ok(kept)
+    Ok(())
 }
 
 /// What the products without literals add to their sum.
@@ -86,18 +89,10 @@ fn constants_of(products: &ProductList) -> i128
     sum
 }
 
-/// The constraint in normal form: the constants of its sum go off its bound.
-pub(crate) fn normal_constraint(
-    alloc: Global,
-    constraint: &Constraint,
-) -> Result<Constraint, NoMemory>
+/// The bound of a constraint in normal form: the constants of its sum go off it.
+pub(crate) fn normal_bound(constraint: &Constraint) -> i128
     requires { constraint_total constraint.now < 2 ^ 100 }
-    ensures { IfOk result (λ normal. normal ≡ normal_constraint constraint.now) }
+    ensures { result ≡ (normal_constraint constraint.now).bound }
 {
-    let products = kept_products(alloc, &constraint.products)?;
-    Ok(Constraint {
-        products,
-        bound: constraint.bound - constants_of(&constraint.products),
-        exact: constraint.exact,
-    })
+    constraint.bound - constants_of(&constraint.products)
 }

@@ -2,7 +2,6 @@
 
 use crate::literal::LiteralList;
 use crate::product_list::ProductList;
-use bits_model::Items;
 
 /// Counts its coefficient where all its literals are true.
 #[derive(Drop)]
@@ -25,6 +24,3 @@ pub struct Constraint {
     pub bound: i128,
     pub exact: bool,
 }
-
-/// Constraints, which contracts see as a list.
-pub type ConstraintList = Items<Constraint>;

@@ -63,6 +63,13 @@ impl WideLists {
         self.ends.len()
     }
 
+    pub(crate) fn clear(&mut self)
+        ensures { self.new ≡ [] }
+    {
+        self.literals.clear();
+        self.ends.clear();
+    }
+
     /// The list at a place.
     pub(crate) fn at(&self, i: usize) -> Literals<'_>
         requires { i < length self.now }

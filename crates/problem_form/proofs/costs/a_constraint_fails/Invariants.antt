@@ -1,9 +1,11 @@
-use Rattle.std.proofs.Common.{◌≡◌, false, take}
-use Rattle.std.specs.List.{list_any}
-use Rattle.problem_form.specs.Problems.{fails}
+use Rattle.std.proofs.Common.{◌≡◌, ◌<◌, ◌^◌}
+use Rattle.std.specs.List.{list_any, sum_by}
+use Rattle.problem_form.specs.Problems.{constraint_total, fails}
 use Rattle.problem_form.proofs.costs.a_constraint_fails.Given as goal
 
--- no constraint so far fails
+-- a constraint that is left fails where one does
 abbrev pub invariant-loop-constraint : goal.invariant-loop-constraint
-invariant-loop-constraint l =
-    list_any (fails l.x) (take l.constraint-index l.constraints) ≡ false
+invariant-loop-constraint l = record {
+  rest : list_any (fails l.x) l.constraint-iterator ≡ list_any (fails l.x) l.constraints;
+  small : sum_by constraint_total l.constraint-iterator < 2 ^ 100;
+}

@@ -8,4 +8,4 @@ use Rattle.problem_form.proofs.costs.sum_of_products.Given as goal
 abbrev pub invariant-loop-product : goal.invariant-loop-product
 invariant-loop-product l =
     Sums (product_value l.x) (λ (t : Product). unsigned_abs t.coefficient) l.sum
-    l.product-iterator (sum_of l.x l.products) (products_total l.products)
+    l.product-iterator (sum_of l.x l.fn.products) (products_total l.fn.products)

@@ -1,9 +1,30 @@
-use Rattle.problem_form.proofs.CountedNumbers.{squares_more}
+use Rattle.std.proofs.Common.{ℕ, ◌*◌, ◌^◌}
+use Rattle.problem_form.specs.declared.terms.Constraint.{Constraint}
+use Rattle.problem_form.specs.Limits.{reach}
+use Rattle.problem_form.specs.Problems.{constraint_total}
+use Rattle.problem_form.proofs.CountedNumbers.{answered_square}
+use Rattle.problem_form.proofs.LeftSums.{answered_left, answered_end, first_within, rest_within}
 use Rattle.problem_form.proofs.counts.squares.Goals as goal
+
+pub reach_of-reach-requires : goal.reach_of-reach-requires
+reach_of-reach-requires c =
+    first_within constraint_total _ _ _ _ c.in-Some.ensures.steps c.loop-constraint.invariant.small
 
 pub loop-constraint-preserved : goal.loop-constraint-preserved
 loop-constraint-preserved c =
-    squares_more c.args.penalty c.args.constraints.now c.loop-constraint.constraint-index
-    c.constraint-item.result c.loop-constraint.total _ _ _ _ c.loop-constraint-test.true
-    c.constraint-item.is c.loop-constraint.invariant c.reach_of-reach.ensures
-    c.saturating_mul-square.ensures c.saturating_mul.ensures c.saturating_add-total.ensures
+    let part = answered_square c.args.penalty (reach c.in-Some.constraint) _ _ _
+    c.reach_of-reach.ensures c.saturating_mul-square.ensures c.saturating_mul.ensures in
+    let square : Constraint → ℕ = λ k. c.args.penalty * reach k ^ 2 in
+    record {
+      counted = answered_left square c.loop-constraint.constraint-iterator c.next.new.self
+          c.in-Some.constraint c.loop-constraint.total _ _ _ c.in-Some.ensures.steps part
+          c.saturating_add-total.ensures c.loop-constraint.invariant.counted;
+      small = rest_within constraint_total _ _ _ _ c.in-Some.ensures.steps
+          c.loop-constraint.invariant.small;
+    }
+
+pub returns : goal.returns
+returns c =
+    let square : Constraint → ℕ = λ k. c.args.penalty * reach k ^ 2 in
+    answered_end square c.loop-constraint.constraint-iterator c.loop-constraint.total _
+    c.in-None.ensures.steps.0 c.loop-constraint.invariant.counted

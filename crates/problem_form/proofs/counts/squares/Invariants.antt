@@ -1,10 +1,14 @@
-use Rattle.std.proofs.Common.{◌≡◌, ◌*◌, ◌^◌, take}
+use Rattle.std.proofs.Common.{◌<◌, ◌*◌, ◌^◌}
 use Rattle.std.specs.List.{sum_by}
-use Rattle.problem_form.specs.Limits.{answered_number, reach}
+use Rattle.problem_form.specs.Limits.{reach}
+use Rattle.problem_form.specs.Problems.{constraint_total}
+use Rattle.problem_form.proofs.LeftSums.{Answered}
 use Rattle.problem_form.proofs.counts.squares.Given as goal
 
--- the sum over the constraints so far
+-- the sum so far and that over the constraints that are left are the whole
 abbrev pub invariant-loop-constraint : goal.invariant-loop-constraint
-invariant-loop-constraint l =
-    l.total
-    ≡ answered_number (sum_by (λ k. l.penalty * reach k ^ 2) (take l.constraint-index l.constraints))
+invariant-loop-constraint l = record {
+  counted : Answered (λ k. l.penalty * reach k ^ 2) l.total l.constraint-iterator
+      (sum_by (λ k. l.penalty * reach k ^ 2) l.constraints);
+  small : sum_by constraint_total l.constraint-iterator < 2 ^ 100;
+}

@@ -1,9 +1,22 @@
 use Rattle.problem_form.specs.Limits.{constraint_pairs}
-use Rattle.problem_form.proofs.CountedNumbers.{answered_more}
+use Rattle.problem_form.specs.Problems.{constraint_total}
+use Rattle.problem_form.proofs.LeftSums.{answered_left, answered_end, first_within, rest_within}
 use Rattle.problem_form.proofs.pairs.constraints_pairs.Goals as goal
 
+pub constraint_pairs_of-requires : goal.constraint_pairs_of-requires
+constraint_pairs_of-requires c =
+    first_within constraint_total _ _ _ _ c.in-Some.ensures.steps c.loop-constraint.invariant.small
+
 pub loop-constraint-preserved : goal.loop-constraint-preserved
-loop-constraint-preserved c =
-    answered_more (constraint_pairs c.args.normal) c.args.constraints.now c.loop-constraint.constraint-index
-    c.constraint-item.result c.loop-constraint.total _ _ c.loop-constraint-test.true c.constraint-item.is
-    c.loop-constraint.invariant c.constraint_pairs_of.ensures c.saturating_add-total.ensures
+loop-constraint-preserved c = record {
+  counted = answered_left (constraint_pairs c.args.normal) c.loop-constraint.constraint-iterator
+      c.next.new.self c.in-Some.constraint c.loop-constraint.total _ _ _ c.in-Some.ensures.steps
+      c.constraint_pairs_of.ensures c.saturating_add-total.ensures c.loop-constraint.invariant.counted;
+  small = rest_within constraint_total _ _ _ _ c.in-Some.ensures.steps
+      c.loop-constraint.invariant.small;
+}
+
+pub returns : goal.returns
+returns c =
+    answered_end (constraint_pairs c.args.normal) c.loop-constraint.constraint-iterator
+    c.loop-constraint.total _ c.in-None.ensures.steps.0 c.loop-constraint.invariant.counted

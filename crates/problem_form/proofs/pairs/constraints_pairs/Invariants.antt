@@ -1,9 +1,14 @@
-use Rattle.std.proofs.Common.{◌≡◌, take}
+use Rattle.std.proofs.Common.{◌<◌, ◌^◌}
 use Rattle.std.specs.List.{sum_by}
-use Rattle.problem_form.specs.Limits.{answered_number, constraint_pairs}
+use Rattle.problem_form.specs.Limits.{constraint_pairs}
+use Rattle.problem_form.specs.Problems.{constraint_total}
+use Rattle.problem_form.proofs.LeftSums.{Answered}
 use Rattle.problem_form.proofs.pairs.constraints_pairs.Given as goal
 
--- the pairs of the constraints so far
+-- the pairs so far and those of the constraints that are left are the whole
 abbrev pub invariant-loop-constraint : goal.invariant-loop-constraint
-invariant-loop-constraint l =
-    l.total ≡ answered_number (sum_by (constraint_pairs l.normal) (take l.constraint-index l.constraints))
+invariant-loop-constraint l = record {
+  counted : Answered (constraint_pairs l.normal) l.total l.constraint-iterator
+      (sum_by (constraint_pairs l.normal) l.constraints);
+  small : sum_by constraint_total l.constraint-iterator < 2 ^ 100;
+}

@@ -1,4 +1,4 @@
-use Rattle.std.proofs.Common.{rules, tests, ℕ, max, sym, ◌∙◌}
+use Rattle.std.proofs.Common.{rules, tests, ℕ, max, refl, sym, ◌∙◌}
 use Rattle.std.proofs.lemmas.Iterator.Consumers.{YieldsList-from_first, fold_from_yields_List}
 use Rattle.std.proofs.lemmas.List.Folds.{fold-map}
 use Rattle.problem_form.specs.declared.terms.Product.{Product}
@@ -9,6 +9,6 @@ pub returns : goal.returns
 returns c =
     let number : Product → ℕ = complements in
     fold_from_yields_List _ (λ most x. max most (number x)) _ _ c.fold.ensures.ran
-    (YieldsList-from_first (λ x. x) (λ s. s) c.args.products.now c.iter.ensures)
+    (YieldsList-from_first (λ x. x) (λ s. s) c.args.products refl)
     (λ a x b q k. search (rules, tests))
-    ∙ sym (fold-map max number c.args.most c.args.products.now)
+    ∙ sym (fold-map max number c.args.most c.args.products)

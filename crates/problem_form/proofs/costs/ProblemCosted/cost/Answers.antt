@@ -2,7 +2,7 @@ use Rattle.std.proofs.Common.{◌≡◌, false, arith, ap, sym, ◌∙◌}
 use Rattle.std.specs.List.{list_any}
 use Rattle.std.proofs.lemmas.Int.{ints}
 use Rattle.problem_form.specs.Fields.{content_within}
-use Rattle.problem_form.specs.Problems.{fails, fails_hard, problem_cost}
+use Rattle.problem_form.specs.Problems.{fails, fails_hard, problem_cost, sum_of}
 use Rattle.problem_form.proofs.CostSizes.{cost_parts, problem_cost-whole}
 use Rattle.problem_form.proofs.costs.ProblemCosted.cost.Goals as goal
 
@@ -10,14 +10,14 @@ pub overflow_add-result : goal.overflow_add-result
 overflow_add-result c =
     let x = c.args.x.now in
     let p = content_within c.self.inside in
-    let sum = c.sum_of_products-sum.ensures in
+    let sum = c.sum_of_products-sum.ensures ∙ ap (sum_of x) c.iter.ensures in
     omega (arith, ints, sum, cost_parts p x, c.self.invariant.1)
 
 pub overflow_add-result-2 : goal.overflow_add-result-2
 overflow_add-result-2 c =
     let x = c.args.x.now in
     let p = content_within c.self.inside in
-    let sum = c.sum_of_products-sum.ensures in
+    let sum = c.sum_of_products-sum.ensures ∙ ap (sum_of x) c.iter.ensures in
     let soft = c.soft_costs.ensures in
     omega (arith, ints, sum, soft, cost_parts p x, c.self.invariant.1)
 
@@ -25,13 +25,12 @@ pub returns : goal.returns
 returns c =
     let x = c.args.x.now in
     let p = content_within c.self.inside in
-    let sum = c.sum_of_products-sum.ensures in
+    let sum = c.sum_of_products-sum.ensures ∙ ap (sum_of x) c.iter.ensures in
     let soft = c.soft_costs.ensures in
     let hard : list_any (fails_hard x) p.clauses ≡ false =
     sym c.a_hard_clause_fails.ensures ∙ c.if-a_hard_clause_fails.false in
     let constraints : list_any (fails x) p.constraints ≡ false =
-    ap (list_any (fails x)) (sym c.as_slice.ensures)
-    ∙ sym c.a_constraint_fails.ensures ∙ c.if-a_constraint_fails.false in
+    sym c.a_constraint_fails.ensures ∙ c.if-a_constraint_fails.false in
     problem_cost-whole p x _ hard constraints
     (omega (arith, ints, sum, soft, cost_parts p x, c.self.invariant.1))
     ∙ ap (λ f. problem_cost f x) c.self.view_is

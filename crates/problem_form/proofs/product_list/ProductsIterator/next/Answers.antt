@@ -1,8 +1,9 @@
-use Rattle.std.proofs.Common.{◌∙◌, sym}
-use Rattle.problem_form.proofs.WeighedParts.{drop-at}
+use Rattle.std.proofs.Common.{◌∙◌, sym, arith}
+use Rattle.problem_form.proofs.FlatParts.{slice_range-step}
 use Rattle.problem_form.proofs.product_list.ProductsIterator.next.Goals as goal
 
 pub returns-clause-steps : goal.returns-clause-steps
 returns-clause-steps c =
+    let fields = c.self.inside in
     sym c.self.view_is
-    ∙ drop-at c.self.inside.list.now c.self.inside.next _ c.at-product.ensures
+    ∙ slice_range-step fields.list.now fields.next fields.end _ (omega arith) c.at-product.ensures

@@ -1,0 +1,87 @@
+-- Constraints whose products lie one after another: more products leave them as they are, and one
+-- more constraint.
+use Rattle.std.proofs.Common.{◌≡◌, ◌+◌, ◌≤◌, arith, refl, sym, ap, subst, ◌∙◌, List, [], ◌∷◌, ◌++◌, length, length-append, map, take, drop}
+use Rattle.std.specs.Prelude.{All, OnErr, Result, Ok, Err, slice_range}
+use Rattle.std.proofs.lemmas.List.{take-append-drop, map-append}
+use Rattle.std.proofs.lemmas.List.Elements.{All-append, All-cons, All-nil, All-tail}
+use Rattle.std.proofs.Math.Seq.{take-append_seam}
+use Rattle.problem_form.specs.declared.terms.Product.{Product}
+use Rattle.problem_form.specs.declared.constraint_list.Row.{Row}
+use Rattle.problem_form.specs.ConstraintRows.{constraint_of, LiesWithin}
+use Rattle.problem_form.proofs.FlatParts.{slice_range-append, slice_range-last}
+
+-- ---- more products
+
+same_rows : (products more : List Product) (rows : List Row)
+    → All (LiesWithin (length products)) rows
+    → map (constraint_of (products ++ more)) rows ≡ map (constraint_of products) rows
+same_rows products more [] within = refl
+same_rows products more (row ∷ rows) within =
+    let here : LiesWithin (length products) row = within 0 row (omega arith) in
+    let part = slice_range-append products more row.start row.end here.0 here.1 in
+    let others = same_rows products more rows (All-tail (LiesWithin (length products)) row rows within) in
+    λ i. record { products = part i; bound = row.bound; exact = row.exact } ∷ others i
+
+-- the list begins with the products that were there, so they are these and more
+begun : (products products' : List Product) → take (length products) products' ≡ products
+    → products ++ drop (length products) products' ≡ products'
+begun products products' before =
+    ap (λ ts. ts ++ drop (length products) products') (sym before)
+    ∙ take-append-drop (length products) products'
+
+pub rows_kept : (products products' : List Product) (rows : List Row)
+    → take (length products) products' ≡ products → All (LiesWithin (length products)) rows
+    → map (constraint_of products') rows ≡ map (constraint_of products) rows
+rows_kept products products' rows before within =
+    ap (λ ts. map (constraint_of ts) rows) (sym (begun products products' before))
+    ∙ same_rows products (drop (length products) products') rows within
+
+pub rows_within : (products products' : List Product) (rows : List Row)
+    → take (length products) products' ≡ products → All (LiesWithin (length products)) rows
+    → All (LiesWithin (length products')) rows
+rows_within products products' rows before within =
+    let count : length products + length (drop (length products) products') ≡ length products' =
+    sym (length-append products (drop (length products) products'))
+    ∙ ap length (begun products products' before) in
+    λ k d h. ((within k d h).0, omega (arith, (within k d h).1, count))
+
+-- ---- one more constraint
+
+pub row_pushed : (products kept products' : List Product) (rows rows' : List Row) (row : Row)
+    → products' ≡ products ++ kept → rows' ≡ rows ++ row ∷ [] → row.start ≡ length products
+    → row.end ≡ length products' → All (LiesWithin (length products)) rows
+    → map (constraint_of products') rows'
+    ≡ map (constraint_of products) rows
+    ++ record { products = kept; bound = row.bound; exact = row.exact } ∷ []
+row_pushed products kept products' rows rows' row at_products at_rows starts ends within =
+    let all = products ++ kept in
+    let part : slice_range all row.start row.end ≡ kept =
+    (λ i. slice_range all (starts i) ((ends ∙ ap length at_products) i)) ∙ slice_range-last products kept in
+    (λ i. map (constraint_of (at_products i)) (at_rows i))
+    ∙ map-append (constraint_of all) rows (row ∷ [])
+    ∙ (λ i. same_rows products kept rows within i
+    ++ record { products = part i; bound = row.bound; exact = row.exact } ∷ [])
+
+pub rows_pushed-within : (products kept products' : List Product) (rows rows' : List Row) (row : Row)
+    → products' ≡ products ++ kept → rows' ≡ rows ++ row ∷ [] → row.start ≡ length products
+    → row.end ≡ length products' → All (LiesWithin (length products)) rows
+    → All (LiesWithin (length products')) rows'
+rows_pushed-within products kept products' rows rows' row at_products at_rows starts ends within =
+    let before : take (length products) products' ≡ products =
+    ap (take (length products)) at_products ∙ take-append_seam products kept in
+    let longer : length products ≤ length products' =
+    omega (arith, ap length at_products, length-append products kept) in
+    let one : LiesWithin (length products') row =
+    (omega (arith, starts, ends, longer), omega (arith, ends)) in
+    let P : Row → Type 0 = LiesWithin (length products') in
+    let both : All P (rows ++ row ∷ []) =
+    All-append P rows (row ∷ []) (rows_within products products' rows before within)
+    (All-cons P row [] one (All-nil P)) in
+    let AllOf : List Row → Type 0 = All P in
+    subst AllOf (sym at_rows) both
+
+-- ---- an answer that is an error
+
+pub on_err : {T E P : Type 0} (r : Result T E) → P → OnErr r P
+on_err (Ok x) p = tt
+on_err (Err x) p = p
