@@ -30,7 +30,9 @@ pub use limits::{Choices, High, LimitFault, LimitKind, MOST_BYTES, Normal, check
 pub use literal::{Literal, LiteralList, all_hold};
 pub use literal_lists::LiteralLists;
 pub use literals::Literals;
+pub use pairs::binary_digits_of;
 pub use problem::Problem;
 pub use product_list::{ProductList, ProductRef, Products};
 pub use sets::{clashes, make_set};
 pub use terms::{Clause, Constraint, Product};
+pub use wide_lists::WideLists;

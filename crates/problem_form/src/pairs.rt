@@ -121,8 +121,8 @@ fn clause_pairs_of(clause: ClauseRef<'_>, normal: Normal) -> u128
     }
 }
 
-/// How many binary digits a number has.
-fn binary_digits_of(number: u128) -> u32
+/// How many binary digits a number has, and 0 for 0.
+pub fn binary_digits_of(number: u128) -> u32
     ensures value { result ≡ binary_digits number }
     ensures few { result ≤ 128 }
 {

@@ -5,6 +5,7 @@ ghost use Rattle.problem_form.specs.FlatLists.{AreEnds, parts, start_of};
 use crate::literal::Literal;
 use crate::literals::{HeldLiterals, Literals, lent_part};
 use bits_model::NoMemory;
+use std::alloc::Global;
 use std::marker::Model;
 
 /// Where the list at a place starts: at the end of the one before it.
@@ -16,21 +17,20 @@ fn start_of(ends: &[usize], i: usize) -> usize
 }
 
 /// The list at a place.
-fn part<'a>(literals: &'a [Literal], ends: &[usize], i: usize) -> Literals<'a>
+fn part<'a>(literals: &'a [Literal], ends: &[usize], i: usize) -> &'a [Literal]
     requires ends { AreEnds 0 ends.now (length literals.now) }
     requires within { i < length ends.now }
-    ensures { slice_get (parts literals.now 0 ends.now) i ≡ Some result }
+    ensures { slice_get (parts literals.now 0 ends.now) i ≡ Some result.now }
 {
     let start = start_of(ends, i);
     let end = ends[i];
-    Literals {
-        held: HeldLiterals::Listed(lent_part(literals, start, end).iter()),
-    }
+    lent_part(literals, start, end)
 }
 
-/// Literals one after another, and where each list ends. Contracts see the lists.
+/// Literals one after another, and where each list ends. Contracts see the lists. A list takes no
+/// memory of its own, and is lent as it lies.
 #[derive(Drop)]
-pub(crate) struct WideLists {
+pub struct WideLists {
     literals: Vec<Literal>,
     ends: Vec<usize>,
 }
@@ -49,6 +49,16 @@ impl Model for WideLists {
 }
 
 impl WideLists {
+    /// No lists. It takes no memory.
+    pub fn empty(alloc: Global) -> WideLists
+        ensures { result ≡ [] }
+    {
+        WideLists {
+            literals: Vec::new(alloc),
+            ends: Vec::new(alloc),
+        }
+    }
+
     /// The lists of these literals with these ends.
     pub(crate) fn new(literals: Vec<Literal>, ends: Vec<usize>) -> WideLists
         requires { AreEnds 0 ends.items (length literals.items) }
@@ -57,13 +67,15 @@ impl WideLists {
         WideLists { literals, ends }
     }
 
-    pub(crate) fn len(&self) -> usize
+    /// How many lists there are.
+    pub fn len(&self) -> usize
         ensures { result ≡ length self.now }
     {
         self.ends.len()
     }
 
-    pub(crate) fn clear(&mut self)
+    /// Takes all lists out. The memory is kept for others.
+    pub fn clear(&mut self)
         ensures { self.new ≡ [] }
     {
         self.literals.clear();
@@ -75,11 +87,21 @@ impl WideLists {
         requires { i < length self.now }
         ensures { slice_get self.now i ≡ Some result }
     {
+        Literals {
+            held: HeldLiterals::Listed(self.lent(i).iter()),
+        }
+    }
+
+    /// The literals of the list at a place.
+    pub fn lent(&self, i: usize) -> &[Literal]
+        requires { i < length self.now }
+        ensures { slice_get self.now i ≡ Some result.now }
+    {
         part(&self.literals, &self.ends, i)
     }
 
     /// Appends a list. Where memory is refused the lists stay as they were.
-    pub(crate) fn push(&mut self, literals: &[Literal]) -> Result<(), NoMemory>
+    pub fn push(&mut self, literals: &[Literal]) -> Result<(), NoMemory>
         ensures pushed { OnOk result (self.new ≡ self.old ++ literals.now ∷ []) }
         ensures unchanged { OnErr result (self.new ≡ self.old) }
     {

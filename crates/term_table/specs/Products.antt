@@ -13,10 +13,13 @@ union ls ks = literal_set (ls ++ ks)
 abbrev pub scaled : ℤ → Term → Term
 scaled c t = (t.0, c *ℤ t.1)
 
--- the product of two terms; none, where a literal meets its complement
+-- a coefficient on the union of two sets; nothing, where a literal meets its complement
+abbrev pub union_terms : List Literal → List Literal → ℤ → List Term
+union_terms ls ks c = if has_clash (union ls ks) then [] else (union ls ks, c) ∷ []
+
+-- the product of two terms
 abbrev pub product_terms : Term → Term → List Term
-product_terms t u =
-    if has_clash (union t.0 u.0) then [] else (union t.0 u.0, t.1 *ℤ u.1) ∷ []
+product_terms t u = union_terms t.0 u.0 (t.1 *ℤ u.1)
 
 -- the products of a term and each of others
 abbrev pub products_with : Term → List Term → List Term

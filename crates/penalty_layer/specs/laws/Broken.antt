@@ -18,7 +18,8 @@ use Rattle.penalty_layer.specs.laws.Violations.{sum_upper}
 use Rattle.penalty_layer.specs.Slack.{slack_weights, slack_value, clamped}
 use Rattle.penalty_layer.specs.laws.SlackValues.{slack_value-le, slack_reaches, HasBits-middle, length-value_bits}
 use Rattle.penalty_layer.specs.Squares.{square_terms, slack_form, constraint_terms, slack_of, slack_state}
-use Rattle.penalty_layer.specs.laws.SquareCosts.{excess, constraint-cost}
+use Rattle.penalty_layer.specs.Stated.{excess}
+use Rattle.penalty_layer.specs.laws.SquareCosts.{constraint-cost}
 use Rattle.penalty_layer.specs.laws.Nearest.{square_at_least, square_not_below, clamped-least, clamped-le, clamped-same}
 use Rattle.penalty_layer.specs.laws.Agreement.{Agrees, ConstraintsWithin, sum_of-agrees}
 

@@ -16,6 +16,7 @@ use Rattle.term_table.specs.Terms.{Term, term_cost, terms_cost}
 use Rattle.term_table.specs.Products.{union, scaled, product_terms, products_with}
 use Rattle.penalty_layer.specs.laws.Violations.{product_terms_cost}
 use Rattle.penalty_layer.specs.Slack.{slack_weights, slack_value}
+use Rattle.penalty_layer.specs.Stated.{excess}
 use Rattle.penalty_layer.specs.Squares.{product_term, square_terms, slack_terms, slack_form}
 
 -- ---- a union is true where both sets are, and never where it clashes
@@ -115,11 +116,6 @@ slack_terms-cost y first (w ∷ ws) =
       weight_taken (get_or y first false) w,
       slack_terms-cost y (suc first) ws,
     )
-
--- what the sum of a constraint has above the bound, less the slack
-abbrev pub excess : List Bool → ℕ → Constraint → ℤ
-excess y first k =
-    (sum_of y k.products -ℤ k.bound) -ℤ pos (slack_value y first (slack_weights (slack_range k)))
 
 slack_form-cost : (y : List Bool) (first : ℕ) (k : Constraint)
     → terms_cost y (slack_form first k) ≡ excess y first k

@@ -17,6 +17,6 @@ pub returns : goal.returns
 returns c =
     let literals = c.args.literals.now in
     let ends = c.args.ends.now in
-    let here = c.iter.ensures.rest ∙ c.lent_part.ensures
+    let here = c.lent_part.ensures
     ∙ ap (λ s. slice_range literals s (get_or ends c.args.i 0)) c.start_of-start.ensures in
     parts-at literals ends c.args.i c.requires.within ∙ ap (λ ls. Some ls) (sym here)

@@ -1,6 +1,6 @@
 use Rattle.std.proofs.Common.{length, ap, arith}
 use Rattle.problem_form.proofs.FlatParts.{length-parts}
-use Rattle.problem_form.proofs.wide_lists.WideLists.at.Goals as goal
+use Rattle.problem_form.proofs.wide_lists.WideLists.lent.Goals as goal
 
 pub part-requires-clause-within : goal.part-requires-clause-within
 part-requires-clause-within c =
