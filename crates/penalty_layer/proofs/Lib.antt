@@ -4,4 +4,4 @@ pub mod Sums
 pub mod Sizes
 pub mod Sets
 pub mod Admitted
-pub mod LeftTerms
+pub mod Gathering
