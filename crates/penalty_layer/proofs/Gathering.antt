@@ -84,3 +84,16 @@ module _ {S : Type 0} (holds : S → TableContent → Type 0) (width total : S �
         terms_total-append before.done left,
         ap terms_total before.whole,
       )
+
+  -- the first of what is left fits
+  pub first_fits : (start now : S) (left later all : List Term) (t : Term) (most : ℕ) → left ≡ t ∷ later
+      → Rest holds width total start now left all → total start + terms_total all ≤ most
+      → total now + unsigned_abs t.1 ≤ most
+  first_fits start now left later all t most step before small =
+      omega (
+        arith,
+        small,
+        rest_fits start now left all before,
+        ap terms_total step,
+        terms_total-cons t later,
+      )

@@ -5,3 +5,6 @@ pub mod Sizes
 pub mod Sets
 pub mod Admitted
 pub mod Gathering
+pub mod SlackSteps
+pub mod WholeSquares
+pub mod SquareSteps

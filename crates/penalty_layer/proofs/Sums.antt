@@ -119,7 +119,7 @@ constraint_terms-total n first (k ∷ ks) =
 
 -- ---- the whole
 
-clauses_terms_total : (n : ℕ) (cs : List Clause)
+pub clauses_terms_total : (n : ℕ) (cs : List Clause)
     → terms_total (map (clause_term n) cs) ≡ clause_weights n cs
 clauses_terms_total n [] = omega arith
 clauses_terms_total n (c ∷ cs) =

@@ -14,3 +14,4 @@ pub mod TermSets
 pub mod Loops
 pub mod TermProducts
 pub mod Merging
+pub mod PairUnions
