@@ -27,6 +27,15 @@ fn scaled(factor: u128, a: &i128) -> i128
     factor as i128 * *a
 }
 
+/// A number times the square of another.
+fn squared(factor: u128, a: &i128) -> i128
+    requires factor { factor ≤ 2 ^ 101 }
+    requires small { factor * (unsigned_abs a.now * unsigned_abs a.now) ≤ 2 ^ 97 }
+    ensures { result ≡ pos factor *ℤ (a.now *ℤ a.now) }
+{
+    times(&scaled(factor, a), a)
+}
+
 /// Adds a coefficient on the union of two literals, where they do not clash.
 fn add_pair<T: Gather>(
     terms: &mut T,
@@ -114,7 +123,7 @@ pub(crate) fn add_square<T: Gather>(
 {
     for i in 0..parts.len() {
         let (ls, coefficient) = parts.at(i);
-        terms.gather(ls, times(&scaled(factor, &coefficient), &coefficient))?;
+        terms.gather(ls, squared(factor, &coefficient))?;
         add_row(terms, set, ls, &scaled(2 * factor, &coefficient), parts, i + 1)?;
     }
     Ok(())
