@@ -17,7 +17,7 @@ use Rattle.problem_form.specs.declared.terms.Constraint.{Constraint}
 use Rattle.problem_form.specs.declared.limits.Normal.TheVariants as normals
 use Rattle.problem_form.specs.Literals.{has_clash}
 use Rattle.problem_form.specs.Problems.{ProblemContent}
-use Rattle.problem_form.specs.Limits.{penalty, product_pairs, clause_pairs, constraint_pairs, constraint_degree, summands, pairs, slack_range, slack_bits, limit_fault}
+use Rattle.problem_form.specs.Limits.{penalty, product_pairs, clause_pairs, constraint_pairs, constraint_degree, summands, slack_range, slack_bits, limit_fault}
 use Rattle.term_table.specs.Terms.{Term, Ascends}
 use Rattle.term_table.specs.Tables.{table_size}
 use Rattle.term_table.specs.Products.{union, scaled, product_terms, products_with}

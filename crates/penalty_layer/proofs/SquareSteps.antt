@@ -1,5 +1,5 @@
 -- Steps of the loops over the parts of a square.
-use Rattle.std.proofs.Common.{◌≡◌, ℕ, zero, suc, ◌+◌, ◌*◌, ◌^◌, ◌≤◌, ◌<◌, unsigned_abs, ℤ, pos, ◌*ℤ◌, List, [], ◌∷◌, ◌++◌, drop, get_or, length, All, Some, subst, sym, ap, ◌∙◌, arith}
+use Rattle.std.proofs.Common.{◌≡◌, ℕ, zero, suc, ◌+◌, ◌*◌, ◌^◌, ◌≤◌, unsigned_abs, ℤ, pos, ◌*ℤ◌, List, ◌∷◌, ◌++◌, drop, All, Some, subst, ap, ◌∙◌, arith}
 use Rattle.std.specs.List.{slice_get}
 use Rattle.std.proofs.lemmas.Int.{unsigned_abs-mul}
 use Rattle.std.proofs.lemmas.Option.{slice_get_within, get_or_from_slice_get}
@@ -7,7 +7,7 @@ use Rattle.std.proofs.lemmas.Nat.{mul-le}
 use Rattle.problem_form.proofs.WeighedParts.{drop-at}
 use Rattle.term_table.specs.Terms.{Term, terms_total}
 use Rattle.term_table.specs.Products.{scaled, product_terms, products_with, IsFactor}
-use Rattle.term_table.proofs.Additions.{terms_total-cons, terms_total-append}
+use Rattle.term_table.proofs.Additions.{terms_total-cons}
 use Rattle.penalty_layer.specs.Squares.{square_terms}
 use Rattle.penalty_layer.proofs.Sums.{square_is}
 

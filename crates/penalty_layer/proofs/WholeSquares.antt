@@ -2,7 +2,7 @@
 --
 -- A union is the same whichever set stands first, and that of a set with itself is the set: so the
 -- whole product has each product of two terms twice, and each term's own square on its own set.
-use Rattle.std.proofs.Common.{◌≡◌, ℕ, ◌+◌, ◌*◌, Bool, true, false, refl, sym, ap, ◌∙◌, arith, List, [], ◌∷◌, ◌++◌, ℤ, pos, ◌+ℤ◌, ◌*ℤ◌, All}
+use Rattle.std.proofs.Common.{◌≡◌, ℕ, ◌*◌, Bool, true, false, refl, sym, ap, ◌∙◌, arith, List, [], ◌∷◌, ℤ, pos, ◌+ℤ◌, ◌*ℤ◌}
 use Rattle.std.specs.Prelude.{if◌then◌else◌}
 use Rattle.std.specs.List.{flat_map, AllByRecursion}
 use Rattle.std.specs.Ordering.{is_eq}
@@ -18,14 +18,14 @@ use Rattle.problem_form.proofs.LiteralSets.{literal_set-turned, literal_set-twic
 use Rattle.term_table.specs.Terms.{Term, set_cmp, coefficient_of}
 use Rattle.term_table.specs.Products.{union, union_terms, scaled, product_terms, products_with}
 use Rattle.penalty_layer.specs.Squares.{square_terms}
-use Rattle.penalty_layer.specs.Stated.{SquaresAreProducts, whole_square}
+use Rattle.penalty_layer.specs.Stated.{SquaresAreProducts}
 
 module _ (ls : List Literal) where
   -- what a term adds to the coefficient of the set
   abbrev share : Term → ℤ
   share t = if_so (is_eq (set_cmp ls t.0)) t.1
 
-  -- what a product of two terms adds, of the coefficient 1
+  -- the union of two sets is the set, and has no clash
   abbrev met : List Literal → List Literal → Bool
   met ks ms = if has_clash (union ks ms) then false else is_eq (set_cmp ls (union ks ms))
 

@@ -82,7 +82,12 @@ fn push_bits(bits: &mut Vec<bool>, range: u128, value: u128) -> Result<(), NoMem
     }
     let count = digits - 1;
     let last = power_of_2(count) - 1 < value;
-    push_digits(bits, count, rest_of(value, last, last_weight(range, count)), last)
+    push_digits(
+        bits,
+        count,
+        rest_of(value, last, last_weight(range, count)),
+        last,
+    )
 }
 
 /// Appends the slack bits of a constraint.

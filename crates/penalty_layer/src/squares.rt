@@ -124,7 +124,14 @@ pub(crate) fn add_square<T: Gather>(
     for i in 0..parts.len() {
         let (ls, coefficient) = parts.at(i);
         terms.gather(ls, squared(factor, &coefficient))?;
-        add_row(terms, set, ls, &scaled(2 * factor, &coefficient), parts, i + 1)?;
+        add_row(
+            terms,
+            set,
+            ls,
+            &scaled(2 * factor, &coefficient),
+            parts,
+            i + 1,
+        )?;
     }
     Ok(())
 }

@@ -1,5 +1,5 @@
 -- The terms of a square cost the square. Nothing here has to be believed.
-use Rattle.std.proofs.Common.{◌≡◌, ℕ, suc, ◌*◌, ◌<◌, Bool, true, false, cond, not, ◌&&◌, eqb, refl, sym, ap, ◌∙◌, arith, List, [], ◌∷◌, ◌++◌, map, length, get_or, ℤ, pos, ◌+ℤ◌, ◌-ℤ◌, ◌*ℤ◌, neg_ℤ}
+use Rattle.std.proofs.Common.{◌≡◌, ℕ, suc, ◌*◌, Bool, true, false, cond, ◌&&◌, refl, sym, ap, ◌∙◌, arith, List, [], ◌∷◌, ◌++◌, map, get_or, ℤ, pos, ◌+ℤ◌, ◌*ℤ◌, neg_ℤ}
 use Rattle.std.specs.Prelude.{if◌then◌else◌}
 use Rattle.std.proofs.lemmas.Int.{ints}
 use Rattle.integers.specs.Sums.{if_so}
@@ -8,7 +8,6 @@ use Rattle.integers.proofs.Totals.{total_by-append, total_by-flat_map, total_by-
 use Rattle.problem_form.specs.declared.literal.Literal.{Literal}
 use Rattle.problem_form.specs.declared.terms.Constraint.{Constraint}
 use Rattle.problem_form.specs.Literals.{holds, all_hold, has_clash}
-use Rattle.problem_form.specs.Problems.{sum_of}
 use Rattle.problem_form.specs.Limits.{slack_range}
 use Rattle.problem_form.proofs.LiteralSets.{list_all-literal_set}
 use Rattle.problem_form.proofs.NormalForms.{all_hold-clash}

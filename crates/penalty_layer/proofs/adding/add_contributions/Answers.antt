@@ -1,4 +1,4 @@
-use Rattle.std.proofs.Common.{rules, arith, ◌≡◌, ◌+◌, ◌*◌, ◌≤◌, ◌^◌, ap, sym, subst, ◌∙◌, unsigned_abs, to_z, of_z, map, ℕ, ℤ, List, All}
+use Rattle.std.proofs.Common.{rules, arith, ◌≡◌, ◌*◌, ◌^◌, ap, sym, subst, ◌∙◌, unsigned_abs, map, ℕ, All}
 use Rattle.std.specs.Int.{w128}
 use Rattle.std.specs.List.{sum_by}
 use Rattle.std.proofs.lemmas.Int.{to_z-of_z}
@@ -7,12 +7,11 @@ use Rattle.problem_form.specs.Limits.{penalty, reach}
 use Rattle.problem_form.specs.declared.terms.Product.{Product}
 use Rattle.problem_form.specs.declared.terms.Clause.{Clause}
 use Rattle.problem_form.specs.declared.terms.Constraint.{Constraint}
-use Rattle.term_table.specs.Terms.{terms_total, IsTermSet}
+use Rattle.term_table.specs.Terms.{IsTermSet}
 use Rattle.term_table.proofs.SmallSets.{IsTermSet-none}
 use Rattle.penalty_layer.specs.Weights.{clause_weights}
 use Rattle.term_table.specs.Products.{IsFactor}
-use Rattle.penalty_layer.specs.Penalty.{opposite, clause_term, node_count}
-use Rattle.penalty_layer.specs.Squares.{product_term}
+use Rattle.penalty_layer.specs.Penalty.{opposite, node_count}
 use Rattle.penalty_layer.proofs.Bounds.{within_limits, all_within}
 use Rattle.penalty_layer.proofs.Sums.{products_terms_total, clauses_terms_total}
 use Rattle.penalty_layer.proofs.Admitted.{nodes_within}

@@ -1,10 +1,10 @@
-use Rattle.std.proofs.Common.{rules, ◌≡◌, ◌+◌, ◌≤◌, ◌^◌, ◌∙◌, ap, subst, map, unsigned_abs, arith, to_z, of_z, ℤ, List, All}
+use Rattle.std.proofs.Common.{rules, ◌≡◌, ◌+◌, ◌^◌, ◌∙◌, ap, subst, map, unsigned_abs, arith, to_z, of_z, ℤ, List, All}
 use Rattle.std.specs.Int.{w128}
 use Rattle.std.proofs.lemmas.Int.{to_z-of_z}
 use Rattle.std.proofs.lemmas.List.Elements.{All-tail}
 use Rattle.problem_form.specs.declared.literal.Literal.{Literal}
 use Rattle.problem_form.specs.declared.terms.Product.{Product}
-use Rattle.term_table.specs.Terms.{terms_total, IsTermSet}
+use Rattle.term_table.specs.Terms.{IsTermSet}
 use Rattle.term_table.specs.Tables.{TableContent, with_appended}
 use Rattle.penalty_layer.specs.Squares.{product_term}
 use Rattle.penalty_layer.proofs.Gathering.{gathers_one, rest_more, first_fits}

@@ -1,9 +1,9 @@
-use Rattle.std.proofs.Common.{FitsSigned, ◌≡◌, ◌++◌, ◌≤◌, ◌-ℤ◌, unsigned_abs, Bool, List, OnOk, ℤ, subst, sym, ap, ◌∙◌, rules, arith, to_z, of_z}
+use Rattle.std.proofs.Common.{FitsSigned, ◌≡◌, ◌++◌, ◌-ℤ◌, Bool, List, OnOk, ℤ, subst, sym, ap, ◌∙◌, rules, arith, to_z, of_z}
 use Rattle.std.specs.Int.{w128}
 use Rattle.std.proofs.lemmas.Int.{ints, to_z-of_z, fits_signed_from_abs}
 use Rattle.problem_form.specs.declared.terms.Product.{Product}
 use Rattle.problem_form.specs.declared.terms.Constraint.{Constraint}
-use Rattle.problem_form.specs.Problems.{sum_of, products_total}
+use Rattle.problem_form.specs.Problems.{sum_of}
 use Rattle.problem_form.proofs.CostSizes.{sum_of-size}
 use Rattle.problem_form.proofs.CountedNumbers.{slack_range-le}
 use Rattle.penalty_layer.specs.Slack.{value_bits, clamped}

@@ -1,4 +1,3 @@
-use Rattle.std.proofs.Common.{arith}
 use Rattle.term_table.proofs.SmallSets.{IsTermSet-one, IsTermSet-two}
 use Rattle.penalty_layer.proofs.squares.add_pair.Goals as goal
 

@@ -1,8 +1,7 @@
-use Rattle.std.proofs.Common.{rules, ◌≡◌, ◌+◌, ◌*◌, ◌≤◌, ◌^◌, ◌∙◌, ap, subst, sym, drop, unsigned_abs, arith, to_z, of_z, ℤ, ◌*ℤ◌, ℕ, List, Some}
+use Rattle.std.proofs.Common.{rules, ◌≡◌, ◌+◌, ◌*◌, ◌^◌, ◌∙◌, ap, subst, sym, drop, unsigned_abs, arith, to_z, of_z, ◌*ℤ◌, ℕ}
 use Rattle.std.specs.Int.{w128}
-use Rattle.std.specs.List.{slice_get}
 use Rattle.std.proofs.lemmas.Int.{to_z-of_z, unsigned_abs-mul}
-use Rattle.term_table.specs.Terms.{Term, terms_total}
+use Rattle.term_table.specs.Terms.{Term}
 use Rattle.term_table.specs.Products.{products_with, union_terms, IsFactor}
 use Rattle.term_table.proofs.TermProducts.{union_terms-total}
 use Rattle.penalty_layer.proofs.Gathering.{gathers_same, rest_more}

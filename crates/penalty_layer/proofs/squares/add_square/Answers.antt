@@ -1,7 +1,6 @@
-use Rattle.std.proofs.Common.{rules, ◌≡◌, ◌+◌, ◌*◌, ◌≤◌, ◌^◌, ◌∙◌, ◌∷◌, ◌++◌, [], ap, subst, sym, drop, unsigned_abs, pos, arith, to_z, of_z, ℤ, ◌*ℤ◌, ℕ, List}
+use Rattle.std.proofs.Common.{rules, ◌≡◌, ◌+◌, ◌*◌, ◌^◌, ◌∙◌, ◌∷◌, [], ap, subst, sym, drop, unsigned_abs, pos, arith, to_z, of_z, ℤ, ◌*ℤ◌, ℕ}
 use Rattle.std.specs.Int.{w128}
 use Rattle.std.proofs.lemmas.Int.{to_z-of_z}
-use Rattle.problem_form.specs.declared.literal.Literal.{Literal}
 use Rattle.term_table.specs.Terms.{Term, terms_total, IsTermSet}
 use Rattle.term_table.specs.Tables.{TableContent, with_appended}
 use Rattle.term_table.specs.Products.{scaled, products_with, IsFactor}

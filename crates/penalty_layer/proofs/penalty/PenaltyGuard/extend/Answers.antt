@@ -1,4 +1,4 @@
-use Rattle.std.proofs.Common.{rules, List, Bool, ◌++◌, subst, sym, ap, ◌∙◌}
+use Rattle.std.proofs.Common.{List, Bool, ◌++◌, subst, sym, ap, ◌∙◌}
 use Rattle.std.specs.List.{flat_map}
 use Rattle.std.proofs.lemmas.Result.{IfOk-weaker}
 use Rattle.bits_model.specs.Links.{first_bits}
