@@ -1,6 +1,6 @@
 -- Shares that are added to weights one after another: what is added so far, and what is left.
 use Rattle.std.proofs.Common.{◌≡◌, ℕ, zero, suc, ◌+◌, ◌-◌, ◌*◌, ◌<◌, ◌≤◌, ◌^◌, arith, refl, sym, subst, ap, ◌∙◌, append_assoc, append-nil, get_or, List, [], ◌∷◌, ◌++◌, length, ℤ, pos, ◌-ℤ◌, ◌*ℤ◌, ◌+ℤ◌, unsigned_abs}
-use Rattle.std.specs.Prelude.{All, Some, slice_get, take}
+use Rattle.std.specs.Prelude.{Some, slice_get, take}
 use Rattle.std.specs.List.{sum_by}
 use Rattle.std.proofs.lemmas.List.{take_more}
 use Rattle.std.proofs.lemmas.List.Elements.{All-take, recursion_from_All}
@@ -8,7 +8,7 @@ use Rattle.std.proofs.lemmas.Option.{slice_get_within, get_or_from_slice_get}
 use Rattle.integers.specs.Sums.{total_by}
 use Rattle.integers.proofs.Totals.{total_by_more}
 use Rattle.std.proofs.Math.Nat.{mul-le-mul}
-use Rattle.std.proofs.lemmas.Int.{ints, unsigned_abs-mul}
+use Rattle.std.proofs.lemmas.Int.{unsigned_abs-mul}
 use Rattle.std.proofs.lemmas.List.Sums.{sum_by-cons, sum_by-append, sum_by-take-le, get_or-le-sum_by}
 use Rattle.term_table.specs.Terms.{Term, IsTermSet, terms_total}
 use Rattle.term_table.specs.Tables.{TableContent}

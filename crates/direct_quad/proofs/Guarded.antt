@@ -1,68 +1,72 @@
 -- What the guard makes of a problem that it admits: the form of the three steps, within its bounds.
-use Rattle.std.proofs.Common.{◌≡◌, ℕ, ◌+◌, ◌*◌, ◌≤◌, ◌^◌, ℤ, pos, length, refl, subst, sym, ap, ◌∙◌, arith}
+use Rattle.std.proofs.Common.{◌≡◌, ℕ, ◌+◌, ◌<◌, ◌≤◌, ◌^◌, ℤ, pos, List, length, refl, subst, sym, ap, ◌∙◌, arith}
 use Rattle.bits_model.specs.declared.layer.BitsLink.{BitsLink}
+use Rattle.bits_model.specs.declared.output.Entry.{Entry}
 use Rattle.bits_model.specs.Links.{first_bits}
 use Rattle.bits_model.specs.Relations.{Relaxes}
 use Rattle.problem_form.specs.Problems.{ProblemContent}
 use Rattle.problem_form.specs.Problems as problems
 use Rattle.problem_form.specs.Limits.{upper}
-use Rattle.term_table.specs.Terms.{terms_total}
-use Rattle.term_table.specs.Tables.{TableContent, table_size}
-use Rattle.term_table.proofs.Additions.{terms_total-with_additions}
+use Rattle.term_table.specs.Tables.{TableContent}
 use Rattle.penalty_layer.specs.Penalty.{Admits}
 use Rattle.penalty_layer.specs.Penalty as penalty
 use Rattle.penalty_layer.proofs.Admitted.{made_size}
-use Rattle.monomial_layer.specs.Monomials.{new_nodes}
 use Rattle.monomial_layer.specs.Monomials as monomials
 use Rattle.monomial_layer.proofs.Sizes.{all_nodes-le}
-use Rattle.quad_form.specs.Quads.{QuadContent, quad_total, quad_size}
+use Rattle.quad_form.specs.Quads.{QuadContent, IsQuad, quad_total, quad_size}
 use Rattle.quad_form.specs.Quads as quads
 use Rattle.quad_form.specs.laws.Flattened.{length-image}
-use Rattle.direct_quad.specs.Parts.{table_of, all_nodes}
-use Rattle.direct_quad.specs.Parts as parts
-use Rattle.direct_quad.specs.Gathered.{AreSmall}
+use Rattle.direct_quad.specs.Parts.{table_of}
+use Rattle.direct_quad.specs.Long.{terms_of, node_count}
+use Rattle.direct_quad.specs.Gathered.{IsSumOf}
+use Rattle.direct_quad.specs.Held.{HeldContent, AreHeld}
 use Rattle.direct_quad.specs.Direct.{additions_of, image, Fits}
 use Rattle.direct_quad.specs.Stated.{IsWithin}
 use Rattle.direct_quad.specs.laws.Between.{low_of, IsTable-table_of}
 use Rattle.direct_quad.specs.laws.Relaxing.{AreAdditions-of, total-additions, direct_relaxes}
 use Rattle.direct_quad.proofs.Split.{nodes-table}
-use Rattle.direct_quad.proofs.AtOnce.{total-grows, size-grows}
-
--- ---- additions of which a form is made
-
--- the table between fits the layers' bounds
-pub table_fits : (t table : TableContent) → AreSmall t → table ≡ table_of t
-    → (terms_total table.terms + 1) * 2 ^ 24 ≤ 2 ^ 122
-table_fits t table small made =
-    omega (
-      arith,
-      small.total,
-      terms_total-with_additions t.terms,
-      ap (λ (u : TableContent). terms_total u.terms) made,
-    )
-
--- the form's numbers fit their fields
-pub IsWithin-small : (t : TableContent) → AreSmall t → table_size (table_of t) ≤ 2 ^ 28 → IsWithin t
-IsWithin-small t small size = record {
-  additions = small.additions;
-  narrow = omega (arith, size, nodes-table t, all_nodes-le (table_of t).terms);
-  total = omega (arith, small.total);
-}
+use Rattle.direct_quad.proofs.AtOnce.{total-grows, size-grows, image-quad}
+use Rattle.direct_quad.proofs.AllParts.{sum_is_image}
+use Rattle.direct_quad.proofs.HeldSums.{same_table}
 
 -- ---- the form of a problem
 
-pub size_fits : (p : ProblemContent) (gathered : TableContent) → Admits p → gathered ≡ additions_of p
-    → table_size (table_of gathered) ≤ 2 ^ 28
-size_fits p gathered admitted made =
+-- its numbers fit their fields
+pub IsWithin-of : (p : ProblemContent) → Admits p → IsWithin (additions_of p)
+IsWithin-of p admitted =
+    let t = additions_of p in
+    record {
+      additions = AreAdditions-of p admitted;
+      narrow = omega (arith, made_size p (penalty.image p) admitted refl, nodes-table t, all_nodes-le (table_of t).terms);
+      total = omega (arith, total-additions p admitted.within);
+    }
+
+-- so do those of the table of long terms that are held
+pub nodes-held : (p : ProblemContent) (h : HeldContent) → Admits p → AreHeld (additions_of p) h
+    → node_count (table_of (terms_of (length h.weights) h.long)) < 2 ^ 32
+nodes-held p h admitted held =
     omega (
       arith,
-      ap (λ (t : TableContent). table_size (table_of t)) made,
-      made_size p (penalty.image p) admitted refl,
+      ap node_count (same_table (additions_of p) h held),
+      (IsWithin-of p admitted).narrow,
     )
 
-pub made_image : (p : ProblemContent) (gathered : TableContent) (q : QuadContent) → gathered ≡ additions_of p
-    → q ≡ parts.image gathered → q ≡ image p
-made_image p gathered q added made = made ∙ ap parts.image added
+-- the sums, where the code has others for the constant and the weights
+pub made_sums : (t : TableContent) (c z : ℤ) (ws ds : List ℤ) (es : List Entry) → z ≡ c → ds ≡ ws
+    → IsSumOf t (record { constant = c; diagonal = ws; couplers = es })
+    → IsSumOf t (record { constant = z; diagonal = ds; couplers = es })
+made_sums t c z ws ds es constant weights sums =
+    subst (IsSumOf t) (λ k. record { constant = sym constant k; diagonal = sym weights k; couplers = es }) sums
+
+-- what has the sums is the image
+pub made_image : (p : ProblemContent) (q : QuadContent) → Admits p → IsSumOf (additions_of p) q
+    → q ≡ image p
+made_image p q admitted sums = sum_is_image (additions_of p) q (IsWithin-of p admitted) sums
+
+pub made_quad : (p : ProblemContent) (q : QuadContent) → Admits p → IsSumOf (additions_of p) q → IsQuad q
+made_quad p q admitted sums =
+    subst IsQuad (sym (made_image p q admitted sums))
+    (image-quad (additions_of p) (IsWithin-of p admitted))
 
 pub made_fits : (p : ProblemContent) (q : QuadContent) (source target : ℕ) → Admits p → q ≡ image p
     → source ≡ p.variables → target ≡ length q.diagonal

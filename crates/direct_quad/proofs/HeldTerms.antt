@@ -1,5 +1,5 @@
 -- Additions of which the sums of short terms and the long ones are held: one addition more.
-use Rattle.std.proofs.Common.{◌≡◌, ℕ, ◌+◌, ◌*◌, ◌<◌, ◌≤◌, ◌^◌, true, false, eqb, arith, refl, sym, subst, ap, ◌∙◌, List, [], ◌∷◌, ◌++◌, append-nil, length, map, ℤ, pos, ◌+ℤ◌, unsigned_abs}
+use Rattle.std.proofs.Common.{◌≡◌, ℕ, ◌+◌, ◌*◌, ◌<◌, ◌≤◌, ◌^◌, eqb, arith, refl, sym, subst, ap, ◌∙◌, List, [], ◌∷◌, ◌++◌, append-nil, length, length-append, map, ℤ, pos, ◌+ℤ◌, unsigned_abs}
 use Rattle.std.specs.Prelude.{All}
 use Rattle.std.specs.List.{flat_map, slice_index_or}
 use Rattle.std.proofs.lemmas.Int.{ints}
@@ -10,17 +10,18 @@ use Rattle.std.proofs.lemmas.List.Sums.{sum_by-append, sum_by-cons}
 use Rattle.std.proofs.lemmas.Bool.{le-leb, lt-leb}
 use Rattle.integers.specs.Sums.{if_so, total_by}
 use Rattle.integers.proofs.Totals.{total_by-append, total_by_push}
+use Rattle.bits_model.specs.declared.output.Entry.{Entry}
 use Rattle.bits_model.specs.Output.{weight_total}
 use Rattle.problem_form.specs.declared.literal.Literal.{Literal}
 use Rattle.problem_form.specs.declared.terms.Product.{Product}
 use Rattle.problem_form.specs.Problems.{products_total}
-use Rattle.term_table.specs.Terms.{Term, terms_total, IsTermSet}
+use Rattle.term_table.specs.Terms.{terms_total, IsTermSet}
 use Rattle.term_table.specs.Tables.{TableContent, with_appended}
 use Rattle.term_table.proofs.Additions.{terms_total-cons}
 use Rattle.term_table.proofs.Loops.{total-with_more}
 use Rattle.term_table.proofs.SmallSets.{IsLiteralSet-ascends}
 use Rattle.quad_form.specs.Pairs.{IsPair}
-use Rattle.direct_quad.specs.Parts.{short_terms, long_additions}
+use Rattle.direct_quad.specs.Parts.{short_terms}
 use Rattle.direct_quad.specs.Places.{Share, share_at, short_couplers, short_shares, short_constant}
 use Rattle.direct_quad.specs.Long.{product_term}
 use Rattle.direct_quad.specs.RowSums.{size_of, with_weight}
@@ -225,3 +226,17 @@ fits-long h k ls c held low set high total constant weights pairs long =
         total,
       );
     }
+
+-- ---- how many pairs there are
+
+-- at most one, where there are two literals
+pub few-short : (ls : List Literal) (c : ℤ) → length ls ≤ 2 → 4 * length (short_couplers (ls, c)) ≤ length ls ^ 2
+few-short [] c short = omega arith
+few-short (l ∷ []) c short = omega arith
+few-short (l ∷ k ∷ []) c short = omega arith
+few-short (l ∷ k ∷ m ∷ ls) c short = absurd (omega arith)
+
+pub more-pairs : (old new : List Entry) (ls : List Literal) (c : ℤ) → length ls ≤ 2
+    → new ≡ old ++ short_couplers (ls, c) → 4 * length new ≤ 4 * length old + length ls ^ 2
+more-pairs old new ls c short pushed =
+    omega (arith, ap length pushed, length-append old (short_couplers (ls, c)), few-short ls c short)

@@ -1,6 +1,5 @@
 -- Pairs that are held apart, and the keys of pairs and of places.
-use Rattle.std.proofs.Common.{◌≡◌, ◌≢◌, inl, inr, ℕ, zero, suc, ◌+◌, ◌*◌, ◌/◌, ◌%◌, ◌<◌, ◌≤◌, ◌^◌, Bool, true, false, cond, eqb, arith, sym, ap, ◌∙◌, refl, subst, List, [], ◌∷◌, ◌++◌, map, length, get_or, take, drop, ℤ, pos, Some, slice_get, append_assoc, append-nil, neg_ℤ, ◌*ℤ◌, ◌-ℤ◌, to_z, of_z, unsigned_abs, if◌then◌else◌}
-use Rattle.std.specs.Prelude.{All}
+use Rattle.std.proofs.Common.{◌≡◌, ℕ, zero, suc, ◌+◌, ◌*◌, ◌<◌, ◌≤◌, ◌^◌, Bool, true, false, eqb, arith, sym, ap, ◌∙◌, refl, List, [], ◌∷◌, ◌++◌, length, get_or, take, ℤ, pos, Some, slice_get, append_assoc, append-nil, neg_ℤ, ◌*ℤ◌, ◌-ℤ◌, to_z, of_z, unsigned_abs, if◌then◌else◌}
 use Rattle.std.proofs.lemmas.Int.{ints}
 use Rattle.std.proofs.lemmas.List.{take_more, length-take-le}
 use Rattle.std.proofs.lemmas.List.Sums.{sum_by-cons}
@@ -9,44 +8,12 @@ use Rattle.bits_model.specs.declared.output.Entry.{Entry}
 use Rattle.bits_model.specs.Output.{weight_total}
 use Rattle.problem_form.specs.declared.literal.Literal.{Literal}
 use Rattle.term_table.specs.Terms.{Term}
-use Rattle.direct_quad.specs.declared.pairs.Ends.{Ends}
 use Rattle.std.specs.Int.{w128}
 use Rattle.monomial_layer.specs.Monomials.{factor}
 use Rattle.direct_quad.specs.Places.{signed, node_coupler, node_couplers}
 use Rattle.direct_quad.specs.RowSums.{with_weight, size_of}
 use Rattle.direct_quad.proofs.SummedRows.{size-with_weight}
-use Rattle.direct_quad.specs.PairLists.{weighed}
 use Rattle.direct_quad.specs.Keys.{key_of, pair_keys, literal_keys, place_keys}
-
--- ---- pairs that are held apart
-
-pub length-weighed : (ps : List Ends) (ws : List ℤ) → length ps ≡ length ws
-    → length (weighed ps ws) ≡ length ps
-length-weighed [] ws same = refl
-length-weighed (p ∷ ps) [] same = absurd (omega arith)
-length-weighed (p ∷ ps) (w ∷ ws) same =
-    let rest = length-weighed ps ws (omega (arith, same)) in omega (arith, rest)
-
-pub weighed_at : (ps : List Ends) (ws : List ℤ) (i : ℕ) (p : Ends) (w : ℤ) → i < length ps
-    → length ps ≡ length ws → p ≡ get_or ps i p → w ≡ get_or ws i (pos 0)
-    → slice_get (weighed ps ws) i
-    ≡ Some (record { first = p.first; second = p.second; weight = w })
-weighed_at [] ws i p w in' same is weighs = absurd (omega arith)
-weighed_at (q ∷ ps) [] i p w in' same is weighs = absurd (omega arith)
-weighed_at (q ∷ ps) (v ∷ ws) zero p w in' same is weighs =
-    λ k. Some (record { first = (sym is k).first; second = (sym is k).second; weight = sym weighs k })
-weighed_at (q ∷ ps) (v ∷ ws) (suc i) p w in' same is weighs =
-    weighed_at ps ws i p w (omega arith) (omega arith) is weighs
-
-pub weighed_push : (ps : List Ends) (ws : List ℤ) (p : Ends) (w : ℤ) → length ps ≡ length ws
-    → weighed (ps ++ p ∷ []) (ws ++ w ∷ [])
-    ≡ weighed ps ws ++ record { first = p.first; second = p.second; weight = w } ∷ []
-weighed_push [] [] p w same = refl
-weighed_push [] (v ∷ ws) p w same = absurd (omega arith)
-weighed_push (q ∷ ps) [] p w same = absurd (omega arith)
-weighed_push (q ∷ ps) (v ∷ ws) p w same =
-    ap (λ es. record { first = q.first; second = q.second; weight = v } ∷ es)
-    (weighed_push ps ws p w (omega (arith, same)))
 
 -- ---- keys, one after another
 

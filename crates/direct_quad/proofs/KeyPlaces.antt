@@ -1,9 +1,8 @@
 -- The pairs and places of one variable, and their keys.
-use Rattle.std.proofs.Common.{◌≡◌, ◌≢◌, ◌⊎◌, inl, inr, ℕ, zero, suc, ◌+◌, ◌*◌, ◌/◌, ◌%◌, ◌<◌, ◌≤◌, ◌^◌, Bool, true, false, cond, ◌||◌, eqb, IsTrue, arith, sym, ap, ◌∙◌, refl, subst, List, [], ◌∷◌, ◌++◌, map, length, get_or, take, drop, fold, ℤ, pos, unsigned_abs, append-nil, int_lt, if◌then◌else◌}
+use Rattle.std.proofs.Common.{◌≡◌, ◌⊎◌, inl, inr, ℕ, suc, ◌+◌, ◌/◌, ◌<◌, ◌≤◌, ◌^◌, Bool, true, false, cond, ◌||◌, eqb, IsTrue, arith, sym, ap, ◌∙◌, refl, subst, List, [], ◌∷◌, ◌++◌, map, length, get_or, take, ℤ, pos, unsigned_abs, int_lt, if◌then◌else◌}
 use Rattle.std.specs.Prelude.{All}
-use Rattle.std.specs.List.{AllByRecursion, filter, flat_map, sum_by}
+use Rattle.std.specs.List.{AllByRecursion, flat_map, sum_by}
 use Rattle.std.specs.Bool.{Decides}
-use Rattle.std.proofs.lemmas.Bool.{eq-eqb}
 use Rattle.std.proofs.lemmas.Bool.Decides.{Decides-eqb}
 use Rattle.std.proofs.lemmas.List.Elements.{filter-append, recursion_from_All, All-get_or}
 use Rattle.std.proofs.lemmas.List.Sums.{fold-append, sum_by-cons, sum_by-append}
@@ -11,13 +10,12 @@ use Rattle.bits_model.specs.declared.output.Entry.{Entry}
 use Rattle.bits_model.specs.Output.{weight_total}
 use Rattle.quad_form.specs.Pairs.{IsPair}
 use Rattle.problem_form.specs.declared.literal.Literal.{Literal}
-use Rattle.term_table.specs.Terms.{Term, IsTermSet}
+use Rattle.term_table.specs.Terms.{Term}
 use Rattle.term_table.specs.Tables.{TableContent}
-use Rattle.term_table.proofs.SmallSets.{IsBelow, Ascend, IsLiteralSet-ascends}
+use Rattle.term_table.proofs.SmallSets.{IsBelow, Ascend}
 use Rattle.monomial_layer.specs.Monomials.{new_nodes}
 use Rattle.direct_quad.specs.Places.{Place, pair_coupler, places_in, term_places, all_places}
-use Rattle.direct_quad.specs.Rows.{is_of, row_of, is_at, places_of}
-use Rattle.direct_quad.specs.Long.{node_at}
+use Rattle.direct_quad.specs.Rows.{row_of, is_at, places_of}
 use Rattle.direct_quad.specs.RowSums.{with_weight, with_entries, size_of, pair_part}
 use Rattle.direct_quad.specs.Keys.{key_of, index_of, is_key_of, keys_of, pair_keys, pair_at, literal_keys, place_keys, term_at, places_in_term, places_at, has_variable, IsPlaceKey}
 use Rattle.direct_quad.proofs.SummedRows.{Climbs, length-with_weight, size-with_weight}

@@ -1,17 +1,16 @@
 -- The keys of one variable among all that are in order.
-use Rattle.std.proofs.Common.{◌≡◌, ◌≢◌, ◌⊎◌, inl, inr, ℕ, zero, suc, ◌+◌, ◌*◌, ◌/◌, ◌%◌, ◌<◌, ◌≤◌, ◌^◌, Bool, true, false, cond, ◌||◌, eqb, arith, sym, ap, ◌∙◌, refl, subst, List, [], ◌∷◌, ◌++◌, map, length, get_or, take, drop, append-nil, pos}
+use Rattle.std.proofs.Common.{◌≡◌, ◌≢◌, inl, inr, ℕ, ◌+◌, ◌/◌, ◌<◌, ◌≤◌, ◌^◌, Bool, true, false, cond, eqb, arith, sym, ap, ◌∙◌, refl, subst, List, [], ◌∷◌, ◌++◌, length, get_or, take, drop, append-nil}
 use Rattle.std.specs.Prelude.{All}
-use Rattle.std.specs.List.{AllByRecursion, filter, flat_map, list_any, sum_by}
-use Rattle.std.specs.List.Sorted.{IsPermutation, IsNonDecreasing}
+use Rattle.std.specs.List.{AllByRecursion, sum_by}
 use Rattle.std.specs.Bool.{Decides}
 use Rattle.std.proofs.lemmas.Bool.{cases_lt, eq-eqb}
 use Rattle.std.proofs.lemmas.Bool.Decides.{Decides-eqb}
 use Rattle.std.proofs.lemmas.List.{take-append-drop, get_or-drop, length-drop}
-use Rattle.std.proofs.lemmas.List.Elements.{All-from_recursion, recursion_from_All, All-drop, filter-append, All-from_get_or, All-get_or}
+use Rattle.std.proofs.lemmas.List.Elements.{recursion_from_All, filter-append, All-from_get_or, All-get_or}
 use Rattle.std.proofs.lemmas.List.Kept.{IsNonDecreasingBy-filter}
 use Rattle.std.proofs.lemmas.List.Sorted.{IsNonDecreasingBy-drop, sum_by-IsPermutation}
 use Rattle.std.proofs.lemmas.List.Sums.{sum_by-cons}
-use Rattle.direct_quad.specs.Keys.{key_of, index_of, is_key_of, keys_of, AreOrdered, AreKeysFrom}
+use Rattle.direct_quad.specs.Keys.{is_key_of, keys_of, AreOrdered, AreKeysFrom}
 use Rattle.direct_quad.proofs.SummedRows.{Climbs, Climbs-from}
 
 -- ---- a variable's keys, and those of others

@@ -20,3 +20,5 @@ pub mod SortedAdditions
 pub mod SetKeys
 pub mod HeldTerms
 pub mod GainedShares
+pub mod HeldSums
+pub mod KeptPlaces

@@ -1,7 +1,6 @@
 -- Long terms and their places: where a variable stands, and how new nodes are numbered.
-use Rattle.std.proofs.Common.{◌≡◌, ◌≢◌, ◌⊎◌, inl, inr, ℕ, zero, suc, ◌+◌, ◌-◌, ◌*◌, ◌/◌, ◌<◌, ◌≤◌, ◌^◌, Bool, true, false, cond, eqb, ◌||◌, int_lt, IsTrue, arith, sym, ap, ◌∙◌, refl, subst, List, [], ◌∷◌, ◌++◌, map, length, get_or, take, drop, ℤ, pos, Some, slice_get, unsigned_abs, if◌then◌else◌}
-use Rattle.std.specs.Prelude.{All}
-use Rattle.std.specs.List.{AllByRecursion, filter, flat_map, list_any, sum_by}
+use Rattle.std.proofs.Common.{◌≡◌, ℕ, zero, suc, ◌+◌, ◌<◌, ◌≤◌, ◌^◌, Bool, true, false, cond, eqb, ◌||◌, int_lt, IsTrue, arith, sym, ap, ◌∙◌, refl, subst, List, [], ◌∷◌, map, length, get_or, take, ℤ, pos, Some, slice_get, unsigned_abs, if◌then◌else◌}
+use Rattle.std.specs.List.{AllByRecursion, sum_by}
 use Rattle.std.specs.Bool.{Decides}
 use Rattle.std.specs.Option.{option_map}
 use Rattle.std.proofs.lemmas.Bool.{eq-eqb}
@@ -13,11 +12,11 @@ use Rattle.problem_form.specs.declared.literal.Literal.{Literal}
 use Rattle.problem_form.specs.declared.terms.Product.{Product}
 use Rattle.term_table.specs.Terms.{Term, IsTermSet}
 use Rattle.term_table.specs.Tables.{TableContent}
-use Rattle.term_table.proofs.SmallSets.{IsBelow, Ascend, IsLiteralSet-ascends}
+use Rattle.term_table.proofs.SmallSets.{IsBelow, Ascend}
 use Rattle.monomial_layer.specs.Monomials.{is_low, new_nodes, nodes_for}
-use Rattle.direct_quad.specs.Places.{Place, places_in, term_places, all_places}
-use Rattle.direct_quad.specs.Rows.{is_at, places_of}
-use Rattle.direct_quad.specs.Long.{product_term, terms_of, node_count, node_at, first_nodes, AreLong, IsPlaceOf}
+use Rattle.direct_quad.specs.Places.{places_in}
+use Rattle.direct_quad.specs.Rows.{places_of}
+use Rattle.direct_quad.specs.Long.{product_term, node_count, node_at, first_nodes, AreLong, IsPlaceOf}
 use Rattle.direct_quad.specs.Keys.{has_variable, from_variable}
 
 -- ---- first nodes
@@ -133,7 +132,7 @@ pub found_here : (v : ℕ) (l : Literal) (ls : List Literal) → l.variable ≡ 
 found_here v l ls e =
     ap (λ b. if b then l ∷ ls else from_variable v ls) (eq-eqb v l.variable (sym e))
 
-differs : (v n : ℕ) → (n ≡ v → ⊥) → eqb v n ≡ false
+pub differs : (v n : ℕ) → (n ≡ v → ⊥) → eqb v n ≡ false
 differs v n ne = go (eqb v n) (Decides-eqb v n)
   where
     go : (same : Bool) → Decides same (v ≡ n) → same ≡ false

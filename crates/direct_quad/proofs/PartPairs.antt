@@ -33,7 +33,7 @@ AreWithin n shares = AllByRecursion (IsWithin n) shares
 abbrev pub ArePairs : ℕ → List Entry → Type 0
 ArePairs n es = AllByRecursion (IsPair n) es
 
-join : {X : Type 0} (P : X → Type 0) (xs ys : List X) → AllByRecursion P xs → AllByRecursion P ys
+pub join : {X : Type 0} (P : X → Type 0) (xs ys : List X) → AllByRecursion P xs → AllByRecursion P ys
     → AllByRecursion P (xs ++ ys)
 join P [] ys here there = there
 join P (x ∷ xs) ys here there = (here.0, join P xs ys here.1 there)
@@ -205,7 +205,7 @@ long_sets t additions =
     recursion_from_All _ (long_terms t.terms)
     (All-with_additions P (long_additions t.terms) (All-filter is_long (OfSet P) t.terms additions.sets))
 
-short_pairs : (width nodes : ℕ) (ts : List Term) → width ≤ nodes → AllByRecursion (IsSet width) ts
+pub short_pairs : (width nodes : ℕ) (ts : List Term) → width ≤ nodes → AllByRecursion (IsSet width) ts
     → ArePairs nodes (flat_map short_couplers ts)
 short_pairs width nodes [] wide sets = tt
 short_pairs width nodes (t ∷ ts) wide sets =
@@ -215,7 +215,7 @@ short_pairs width nodes (t ∷ ts) wide sets =
     (wider width nodes t.0 wide (recursion_from_All _ t.0 set.within)))
     (short_pairs width nodes ts wide sets.1)
 
-short_within : (width nodes : ℕ) (ts : List Term) → width ≤ nodes → AllByRecursion (IsSet width) ts
+pub short_within : (width nodes : ℕ) (ts : List Term) → width ≤ nodes → AllByRecursion (IsSet width) ts
     → AreWithin nodes (flat_map short_shares ts)
 short_within width nodes [] wide sets = tt
 short_within width nodes (t ∷ ts) wide sets =
@@ -224,7 +224,7 @@ short_within width nodes (t ∷ ts) wide sets =
     (wider width nodes t.0 wide (recursion_from_All _ t.0 sets.0.set.within)))
     (short_within width nodes ts wide sets.1)
 
-short_sets : (t : TableContent) → AreAdditions t
+pub short_sets : (t : TableContent) → AreAdditions t
     → AllByRecursion (IsSet t.width) (short_terms t.terms)
 short_sets t additions =
     recursion_from_All _ (short_terms t.terms)

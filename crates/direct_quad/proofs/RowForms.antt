@@ -1,29 +1,29 @@
 -- The row of a variable: what is summed of its pairs and places, and then the couplers with new
 -- nodes, which are in order since the places are.
-use Rattle.std.proofs.Common.{◌≡◌, ◌≢◌, ◌⊎◌, inl, inr, ℕ, zero, suc, ◌+◌, ◌*◌, ◌<◌, ◌≤◌, ◌^◌, Bool, true, false, cond, ◌&&◌, eqb, int_lt, arith, sym, ap, ◌∙◌, refl, subst, List, [], ◌∷◌, ◌++◌, map, length, get_or, take, replicate, ℤ, pos, neg_ℤ, ◌+ℤ◌, ◌*ℤ◌, unsigned_abs, if◌then◌else◌}
+use Rattle.std.proofs.Common.{◌≡◌, ◌≢◌, ◌⊎◌, inl, inr, ℕ, zero, suc, ◌+◌, ◌<◌, ◌≤◌, Bool, true, false, cond, ◌&&◌, eqb, int_lt, arith, sym, ◌∙◌, refl, subst, List, [], ◌∷◌, ◌++◌, map, length, get_or, replicate, ℤ, pos, neg_ℤ, ◌+ℤ◌, ◌*ℤ◌, if◌then◌else◌}
 use Rattle.std.specs.Prelude.{All}
-use Rattle.std.specs.List.{AllByRecursion, filter, flat_map, sum_by}
+use Rattle.std.specs.List.{AllByRecursion, flat_map, sum_by}
 use Rattle.std.specs.Bool.{Decides}
 use Rattle.std.proofs.lemmas.Int.{ints}
 use Rattle.std.proofs.lemmas.Bool.{cases_lt}
 use Rattle.std.proofs.lemmas.Bool.Decides.{Decides-eqb}
 use Rattle.std.proofs.lemmas.List.{length-replicate}
-use Rattle.std.proofs.lemmas.List.Elements.{All-from_recursion, recursion_from_All, All-append, filter-append}
+use Rattle.std.proofs.lemmas.List.Elements.{All-from_recursion, recursion_from_All, filter-append}
 use Rattle.std.proofs.lemmas.List.Sums.{sum_by-cons}
 use Rattle.integers.specs.Sums.{if_so}
-use Rattle.integers.proofs.Totals.{total_by-append, total_by_push}
+use Rattle.integers.proofs.Totals.{total_by-append}
 use Rattle.bits_model.specs.declared.output.Entry.{Entry}
 use Rattle.problem_form.specs.declared.literal.Literal.{Literal}
 use Rattle.term_table.specs.Terms.{Term, IsTermSet}
 use Rattle.term_table.specs.Tables.{TableContent}
-use Rattle.term_table.proofs.SmallSets.{IsBelow, Ascend, IsLiteralSet-ascends}
+use Rattle.term_table.proofs.SmallSets.{IsBelow, IsLiteralSet-ascends}
 use Rattle.monomial_layer.specs.Monomials.{new_nodes, nodes_for, factor}
 use Rattle.quad_form.specs.Quads.{IsCoupler}
-use Rattle.quad_form.specs.Pairs.{IsPair, IsNonzero, weight_for, weight_at, pair_number}
-use Rattle.quad_form.proofs.PairOrder.{ArePairs, Before, Rises, ordered_from_rising}
+use Rattle.quad_form.specs.Pairs.{IsPair, IsNonzero, weight_for, weight_at}
+use Rattle.quad_form.proofs.PairOrder.{Before, Rises, ordered_from_rising}
 use Rattle.quad_form.proofs.UniqueForms.{couplers_are_pairs}
 use Rattle.direct_quad.specs.Places.{Place, signed, pair_coupler, node_coupler, node_couplers, place_couplers, term_places, all_places}
-use Rattle.direct_quad.specs.Rows.{is_of, row_of, is_at, places_of, IsRow}
+use Rattle.direct_quad.specs.Rows.{row_of, is_at, places_of, IsRow}
 use Rattle.direct_quad.specs.Long.{node_count, place_nodes, AreLong}
 use Rattle.direct_quad.specs.RowSums.{with_entries, AreFrom, AreSums, pair_part, node_part}
 use Rattle.direct_quad.proofs.RowSums.{weight-row, places_make_rows}

@@ -1,7 +1,7 @@
 -- What the keys of one variable, out of all in order, stand for, and how large its row is.
-use Rattle.std.proofs.Common.{◌≡◌, ◌≢◌, ◌⊎◌, inl, inr, ℕ, zero, suc, ◌+◌, ◌*◌, ◌/◌, ◌<◌, ◌≤◌, ◌^◌, Bool, true, false, cond, eqb, int_lt, arith, sym, ap, ◌∙◌, refl, subst, List, [], ◌∷◌, ◌++◌, map, length, get_or, take, ℤ, pos, unsigned_abs, if◌then◌else◌}
+use Rattle.std.proofs.Common.{◌≡◌, ◌⊎◌, inl, inr, ℕ, zero, suc, ◌+◌, ◌*◌, ◌/◌, ◌<◌, ◌≤◌, ◌^◌, Bool, true, false, cond, eqb, int_lt, arith, sym, ap, ◌∙◌, subst, List, [], ◌∷◌, ◌++◌, map, length, get_or, ℤ, pos, unsigned_abs, if◌then◌else◌}
 use Rattle.std.specs.Prelude.{All}
-use Rattle.std.specs.List.{AllByRecursion, flat_map, sum_by}
+use Rattle.std.specs.List.{AllByRecursion, flat_map}
 use Rattle.std.proofs.lemmas.List.{get_or_default}
 use Rattle.std.proofs.lemmas.List.Elements.{All-nil, All-from_get_or, All-from_recursion, recursion_from_All, filter-append}
 use Rattle.std.proofs.lemmas.List.Sums.{sum_by-cons}

@@ -1,7 +1,6 @@
 -- Rows of couplers: places and entries of other rows add nothing to a row, and rows in order are a
 -- form's couplers.
 use Rattle.std.proofs.Common.{◌≡◌, ◌⊎◌, inl, inr, ℕ, zero, suc, ◌+◌, ◌<◌, ◌≤◌, ◌^◌, Bool, true, false, ◌&&◌, eqb, cond, int_lt, arith, sym, ap, ◌∙◌, refl, subst, List, [], ◌∷◌, ◌++◌, map, ℤ, pos, ◌+ℤ◌, ◌*ℤ◌, neg_ℤ, if◌then◌else◌}
-use Rattle.std.specs.Prelude.{All}
 use Rattle.std.specs.List.{AllByRecursion, flat_map}
 use Rattle.std.specs.List.Sorted.{IsPermutation}
 use Rattle.std.specs.Bool.{Decides}
@@ -62,7 +61,7 @@ weight-nodes_other i j l d c n (suc k) other =
       weight_for-other i j one other,
     )
 
-weight-place_other : (i j : ℕ) (p : Place) → is_at i p ≡ false
+pub weight-place_other : (i j : ℕ) (p : Place) → is_at i p ≡ false
     → weight_at i j (place_couplers p) ≡ pos 0
 weight-place_other i j p other = go (int_lt p.coefficient (pos 0))
   where
@@ -159,7 +158,7 @@ weight-other_rows i k j (f ∷ fs) less first =
     go true d = let same = d.0 refl in let here = first.0 in absurd (omega arith)
     go false d = refl
 
-weight-below : (i j : ℕ) (es : List Entry) → AllByRecursion (λ e. e.first < i) es
+pub weight-below : (i j : ℕ) (es : List Entry) → AllByRecursion (λ e. e.first < i) es
     → weight_at i j es ≡ pos 0
 weight-below i j [] below = refl
 weight-below i j (e ∷ es) below =
@@ -173,10 +172,6 @@ weight-below i j (e ∷ es) below =
     go : (b : Bool) → Decides b (i ≡ e.first) → b ≡ false
     go true d = let same = d.0 refl in let here = below.0 in absurd (omega arith)
     go false d = refl
-
-couplers_all : (nodes : ℕ) (es : List Entry) → nodes < 2 ^ 32 → All (IsCoupler nodes) es
-    → AllByRecursion (IsCoupler nodes) es
-couplers_all nodes es narrow all = recursion_from_All _ es all
 
 pub rows_follow : (nodes i : ℕ) (all couplers row : List Entry) → nodes < 2 ^ 32
     → AreRows nodes i all couplers → IsRow nodes i all row

@@ -1,5 +1,5 @@
 -- The key of a set's first two literals goes with the order of sets.
-use Rattle.std.proofs.Common.{◌≡◌, ◌≢◌, ◌⊎◌, inl, inr, ℕ, zero, suc, ◌+◌, ◌*◌, ◌<◌, ◌≤◌, ◌^◌, Bool, true, false, arith, sym, ap, ◌∙◌, refl, subst, List, [], ◌∷◌, map, length, get_or, pos, if◌then◌else◌}
+use Rattle.std.proofs.Common.{◌≡◌, inl, inr, ℕ, ◌+◌, ◌*◌, ◌<◌, ◌≤◌, ◌^◌, Bool, true, false, arith, sym, ap, ◌∙◌, refl, List, [], ◌∷◌, map, length, get_or, pos, if◌then◌else◌}
 use Rattle.std.specs.Prelude.{All}
 use Rattle.std.specs.List.{AllByRecursion}
 use Rattle.std.specs.List.Sorted.{IsSortedBy}
@@ -17,7 +17,7 @@ use Rattle.term_table.proofs.SummedTerms.{is_below}
 use Rattle.term_table.proofs.SetOrder.{set_total}
 use Rattle.quad_form.proofs.PairOrder.{compared}
 use Rattle.direct_quad.specs.declared.additions.Keyed.{Keyed}
-use Rattle.direct_quad.specs.Long.{code_of, set_key, key_for, product_term, addition_at, additions_at}
+use Rattle.direct_quad.specs.Long.{code_of, key_for, product_term, addition_at, additions_at}
 
 -- two numbers that are ordered as two pairs are
 as_pairs : (x y a b c d : ℕ) → (a < c → x < y) → (c < a → y < x)

@@ -1,8 +1,8 @@
 -- Additions with their keys, in the order of their sets, and the numbers of new nodes.
-use Rattle.std.proofs.Common.{◌≡◌, ◌≢◌, ◌⊎◌, inl, inr, ℕ, zero, suc, ◌+◌, ◌*◌, ◌<◌, ◌≤◌, ◌^◌, Bool, true, false, cond, eqb, arith, sym, ap, ◌∙◌, refl, subst, List, [], ◌∷◌, ◌++◌, map, length, get_or, append_assoc, take, drop, ℤ, pos, ◌+ℤ◌, unsigned_abs, Some, slice_get, if◌then◌else◌}
+use Rattle.std.proofs.Common.{◌≡◌, ◌≢◌, ℕ, ◌+◌, ◌<◌, ◌≤◌, ◌^◌, Bool, true, false, cond, arith, sym, ap, ◌∙◌, refl, subst, List, [], ◌∷◌, ◌++◌, map, length, get_or, append_assoc, take, drop, ℤ, pos, ◌+ℤ◌, Some, slice_get}
 use Rattle.std.specs.Prelude.{All}
 use Rattle.std.specs.List.{AllByRecursion, sum_by}
-use Rattle.std.specs.Ordering.{nat_cmp, ordering_then, ordering_index, int_eq, is_eq, is_lt}
+use Rattle.std.specs.Ordering.{ordering_then, int_eq, is_eq}
 use Rattle.std.specs.declared.cmp.Ordering.{Ordering}
 use Rattle.std.specs.declared.cmp.Ordering.TheVariants.{Less, Equal, Greater}
 use Rattle.std.proofs.lemmas.List.{take_more, take-map, map_push, drop_more}
@@ -24,7 +24,7 @@ use Rattle.term_table.proofs.KeptTables.{IsTable-with_additions}
 use Rattle.direct_quad.specs.Parts.{table_of}
 use Rattle.monomial_layer.specs.Monomials.{new_nodes}
 use Rattle.direct_quad.specs.declared.additions.Keyed.{Keyed}
-use Rattle.direct_quad.specs.Long.{product_term, terms_of, node_count, first_nodes, key_for, addition_at, additions_at, sums_with, AreLong}
+use Rattle.direct_quad.specs.Long.{product_term, terms_of, node_count, first_nodes, key_for, addition_at, additions_at, sums_with, AreLong, HaveKeys}
 
 -- ---- numbers
 
@@ -182,16 +182,19 @@ put_one before c t us other some =
     go true d = absurd (some (d.0 refl))
     go false d = refl
 
-pub index_equal : (o : Ordering) → eqb (ordering_index o) 1 ≡ true → o ≡ Equal
-index_equal Less e = absurd cc
-index_equal Equal e = refl
-index_equal Greater e = absurd cc
-
 pub next_addition : (ps : List Product) (order : List Keyed) (i : ℕ) (d : Keyed) → i < length order
     → additions_at ps (drop i order)
     ≡ addition_at ps (get_or order i d).index ∷ additions_at ps (drop (i + 1) order)
 next_addition ps order i d in' = ap (additions_at ps) (drop_more order i d in')
 
-pub index_other : (o : Ordering) → eqb (ordering_index o) 1 ≡ false → o ≢ Equal
-index_other o e same =
-    let both : true ≡ false = ap (λ q. eqb (ordering_index q) 1) (sym same) ∙ e in cc
+-- ---- keys of equal sets
+
+-- are equal
+pub same_keys : (ps : List Product) (order : List Keyed) (i j : ℕ) (d : Keyed) → HaveKeys ps order
+    → i < length order → j < length order
+    → set_cmp (addition_at ps (get_or order i d).index).0 (addition_at ps (get_or order j d).index).0 ≡ Equal
+    → (get_or order i d).key ≡ (get_or order j d).key
+same_keys ps order i j d have first second equal =
+    have.keys i d first
+    ∙ ap (key_for have.coded) (same_set (addition_at ps (get_or order i d).index).0 (addition_at ps (get_or order j d).index).0 equal)
+    ∙ sym (have.keys j d second)

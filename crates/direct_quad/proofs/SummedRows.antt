@@ -1,7 +1,7 @@
 -- Weights that are summed in a place for each second node, and taken out again in order.
-use Rattle.std.proofs.Common.{◌≡◌, ◌≢◌, ◌⊎◌, inl, inr, ℕ, zero, suc, ◌+◌, ◌<◌, ◌≤◌, ◌^◌, Bool, true, false, cond, ◌&&◌, eqb, arith, sym, ap, ◌∙◌, refl, subst, List, [], ◌∷◌, ◌++◌, length, get_or, set, replicate, fold, append-nil, append_assoc, take, drop, ℤ, pos, ◌+ℤ◌, unsigned_abs, if◌then◌else◌}
+use Rattle.std.proofs.Common.{◌≡◌, ◌≢◌, inl, inr, ℕ, zero, suc, ◌+◌, ◌<◌, ◌≤◌, ◌^◌, Bool, true, false, ◌&&◌, eqb, arith, sym, ap, ◌∙◌, refl, subst, List, [], ◌∷◌, ◌++◌, length, get_or, set, replicate, append-nil, append_assoc, take, drop, ℤ, pos, ◌+ℤ◌, unsigned_abs, if◌then◌else◌}
 use Rattle.std.specs.Prelude.{All, Contains}
-use Rattle.std.specs.List.{AllByRecursion, sum_by}
+use Rattle.std.specs.List.{AllByRecursion}
 use Rattle.std.specs.Bool.{Decides}
 use Rattle.std.specs.Ordering.{int_eq}
 use Rattle.std.proofs.lemmas.Int.{ints}
@@ -15,7 +15,6 @@ use Rattle.std.proofs.lemmas.List.Sorted.{All-permutation, Contains-permutation}
 use Rattle.integers.specs.Sums.{if_so}
 use Rattle.integers.proofs.Totals.{size-plus}
 use Rattle.bits_model.specs.declared.output.Entry.{Entry}
-use Rattle.bits_model.specs.Output.{weight_total}
 use Rattle.quad_form.specs.Pairs.{weight_for, weight_at, IsNonzero, entry_in_front}
 use Rattle.direct_quad.specs.RowSums.{with_weight, with_entries, size_of, AreTouched, AreFrom, AreSums, taken, emptied}
 
@@ -440,37 +439,33 @@ touched_none n narrow =
 
 -- ---- a sum more is taken
 
-pub taken_zero : (first : ℕ) (sums : List ℤ) (j : ℕ) (js : List ℕ) (before : List Entry)
-    → get_or sums j (pos 0) ≡ pos 0
-    → before ++ taken first sums (j ∷ js) ≡ before ++ taken first (set sums j (pos 0)) js
-taken_zero first sums j js before none =
-    go (int_eq (get_or sums j (pos 0)) (pos 0)) (Decides-int_eq (get_or sums j (pos 0)) (pos 0))
+pub in_front-none : (e : Entry) → e.weight ≡ pos 0 → entry_in_front e [] ≡ []
+in_front-none e none = go (int_eq e.weight (pos 0)) (Decides-int_eq e.weight (pos 0))
   where
-    go : (none_left : Bool) → Decides none_left (get_or sums j (pos 0) ≡ pos 0)
-        → before
-        ++ (if none_left
-        then taken first (set sums j (pos 0)) js
-        else entry_at first sums j ∷ taken first (set sums j (pos 0)) js)
-        ≡ before ++ taken first (set sums j (pos 0)) js
+    go : (b : Bool) → Decides b (e.weight ≡ pos 0) → (if b then [] else e ∷ []) ≡ []
     go true d = refl
     go false d = let both : false ≡ true = d.1 none in cc
 
-pub taken_one : (first : ℕ) (sums : List ℤ) (j : ℕ) (js : List ℕ) (before : List Entry)
-    → get_or sums j (pos 0) ≢ pos 0
-    → before ++ taken first sums (j ∷ js)
-    ≡ (before ++ entry_at first sums j ∷ []) ++ taken first (set sums j (pos 0)) js
-taken_one first sums j js before some =
-    go (int_eq (get_or sums j (pos 0)) (pos 0)) (Decides-int_eq (get_or sums j (pos 0)) (pos 0))
+pub in_front-some : (e : Entry) → e.weight ≢ pos 0 → entry_in_front e [] ≡ e ∷ []
+in_front-some e some = go (int_eq e.weight (pos 0)) (Decides-int_eq e.weight (pos 0))
   where
-    go : (none : Bool) → Decides none (get_or sums j (pos 0) ≡ pos 0)
-        → before
-        ++ (if none
-        then taken first (set sums j (pos 0)) js
-        else entry_at first sums j ∷ taken first (set sums j (pos 0)) js)
-        ≡ (before ++ entry_at first sums j ∷ []) ++ taken first (set sums j (pos 0)) js
+    go : (b : Bool) → Decides b (e.weight ≡ pos 0) → (if b then [] else e ∷ []) ≡ e ∷ []
     go true d = absurd (some (d.0 refl))
-    go false d =
-        sym (append_assoc before (entry_at first sums j ∷ []) (taken first (set sums j (pos 0)) js))
+    go false d = refl
+
+in_front-append : (e : Entry) (es : List Entry) → entry_in_front e [] ++ es ≡ entry_in_front e es
+in_front-append e es = go (int_eq e.weight (pos 0))
+  where
+    go : (b : Bool) → (if b then [] else e ∷ []) ++ es ≡ (if b then es else e ∷ es)
+    go true = refl
+    go false = refl
+
+pub taken_next : (first : ℕ) (sums : List ℤ) (j : ℕ) (js : List ℕ) (before : List Entry)
+    → (before ++ entry_in_front (entry_at first sums j) []) ++ taken first (set sums j (pos 0)) js
+    ≡ before ++ taken first sums (j ∷ js)
+taken_next first sums j js before =
+    append_assoc before (entry_in_front (entry_at first sums j) []) (taken first (set sums j (pos 0)) js)
+    ∙ ap (λ es. before ++ es) (in_front-append (entry_at first sums j) (taken first (set sums j (pos 0)) js))
 
 -- what is in use stays so where the same indices stand in another order, and no sum has come
 pub touched_kept : (sums left : List ℤ) (touched moved : List ℕ) → AreTouched sums touched

@@ -1,21 +1,15 @@
 -- Additions that are gathered, and the quadratic form that is made of them.
-use Rattle.std.specs.Prelude.{◌≡◌, ℕ, ◌<◌, ◌≤◌, ◌^◌, ℤ, pos, ◌+ℤ◌, List, ◌++◌, length, All}
+use Rattle.std.specs.Prelude.{◌≡◌, ℕ, ◌<◌, ℤ, pos, ◌+ℤ◌, List, ◌++◌, length, All}
 use Rattle.std.specs.List.{flat_map, slice_index_or}
 use Rattle.std.specs.List.Sorted.{IsStrictlySortedBy}
 use Rattle.integers.specs.Sums.{total_by}
 use Rattle.bits_model.specs.declared.output.Entry.{Entry}
 use Rattle.bits_model.specs.Output.{entry_cmp}
-use Rattle.term_table.specs.Terms.{terms_total}
-use Rattle.term_table.specs.Tables.{TableContent, AreAdditions}
+use Rattle.term_table.specs.Tables.{TableContent}
 use Rattle.quad_form.specs.Quads.{QuadContent, IsCoupler}
 use Rattle.quad_form.specs.Pairs.{weight_at}
 use Rattle.direct_quad.specs.Parts.{short_terms, long_terms, all_nodes}
 use Rattle.direct_quad.specs.Places.{Share, share_at, short_couplers, short_shares, short_constant, place_couplers, all_places, all_shares, long_constant}
-
--- additions of which a quadratic form can be made
-pub record AreSmall (t : TableContent) : Type 0 where
-  pub additions : AreAdditions t
-  pub total : terms_total t.terms ≤ 2 ^ 97
 
 -- ---- what all parts give
 

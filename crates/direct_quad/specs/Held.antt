@@ -1,6 +1,6 @@
 -- What additions give, as far as it can be said before all of them stand: the sums of short terms,
 -- and the long ones as they came.
-use Rattle.std.specs.Prelude.{◌≡◌, ℕ, ◌+◌, ◌*◌, ◌≤◌, ◌<◌, ◌^◌, ℤ, pos, ◌+ℤ◌, unsigned_abs, List, map, length, All}
+use Rattle.std.specs.Prelude.{◌≡◌, ℕ, ◌+◌, ◌-◌, ◌*◌, ◌≤◌, ◌<◌, ◌^◌, ℤ, pos, ◌+ℤ◌, unsigned_abs, List, ◌++◌, map, length, replicate, All}
 use Rattle.std.specs.List.{flat_map, slice_index_or, sum_by}
 use Rattle.integers.specs.Sums.{total_by}
 use Rattle.bits_model.specs.declared.output.Entry.{Entry}
@@ -45,6 +45,10 @@ pub record IsHeld (h : HeldContent) : Type 0 where
   pub long : All (λ p. 3 ≤ length p.literals) h.long
   pub sets : All (λ p. IsTermSet (length h.weights) p.literals) h.long
   pub long_total : products_total h.long ≤ h.total
+
+-- the weights of so many nodes, of which those after the last one weigh 0
+abbrev pub widened : ℕ → List ℤ → List ℤ
+widened nodes ws = ws ++ replicate (nodes - length ws) (pos 0)
 
 -- the sum of the sizes of shares
 abbrev pub shares_total : List Share → ℕ

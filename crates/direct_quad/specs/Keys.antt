@@ -1,5 +1,5 @@
 -- The numbers by which pairs and places are sorted: that of a variable, and an index of 32 bits.
-use Rattle.std.specs.Prelude.{◌≡◌, ℕ, suc, ◌+◌, ◌*◌, ◌/◌, ◌%◌, ◌≤◌, ◌<◌, ◌^◌, ◌==◌, pos, Bool, IsTrue, List, [], ◌∷◌, ◌++◌, map, length, All, if◌then◌else◌}
+use Rattle.std.specs.Prelude.{ℕ, suc, ◌+◌, ◌*◌, ◌/◌, ◌%◌, ◌≤◌, ◌<◌, ◌^◌, ◌==◌, pos, Bool, IsTrue, List, [], ◌∷◌, ◌++◌, map, length, All, if◌then◌else◌}
 use Rattle.std.specs.List.{filter, flat_map, list_any, slice_index_or}
 use Rattle.std.specs.List.Sorted.{IsPermutation, IsNonDecreasing}
 use Rattle.bits_model.specs.declared.output.Entry.{Entry}

@@ -87,6 +87,11 @@ addition_at additions i =
 abbrev pub additions_at : List Product → List Keyed → List Term
 additions_at additions order = map (λ k. addition_at additions k.index) order
 
+-- the keys of an order are those of their sets
+pub record HaveKeys (additions : List Product) (order : List Keyed) : Type 0 where
+  pub coded : Bool
+  pub keys : All (λ k. k.key ≡ key_for coded (addition_at additions k.index).0) order
+
 -- indices of additions with their keys, in the order of the additions
 pub record AreKeyed (coded : Bool) (additions : List Product) (order : List Keyed) : Type 0 where
   pub within : All (λ k. k.index < length additions) order

@@ -1,11 +1,15 @@
--- Pairs of nodes whose numbers and weights lie apart.
-use Rattle.std.specs.Prelude.{ℤ, List, [], ◌∷◌}
+-- Couplers that are held in as few bytes as their weights need.
+use Rattle.std.specs.Prelude.{List, map}
 use Rattle.bits_model.specs.declared.output.Entry.{Entry}
-use Rattle.direct_quad.specs.declared.pairs.Ends.{Ends}
+use Rattle.direct_quad.specs.declared.pairs.NarrowPair.{NarrowPair}
+use Rattle.direct_quad.specs.declared.pairs.HeldPairs.{HeldPairs}
+use Rattle.direct_quad.specs.declared.pairs.HeldPairs.TheVariants.{Narrow, Wide}
 
--- the entries of these pairs with these weights
-abbrev pub weighed : List Ends → List ℤ → List Entry
-weighed [] ws = []
-weighed (p ∷ ps) [] = []
-weighed (p ∷ ps) (w ∷ ws) =
-    record { first = p.first; second = p.second; weight = w } ∷ weighed ps ws
+-- the entry of a coupler
+abbrev pub entry_of : NarrowPair → Entry
+entry_of p = record { first = p.first; second = p.second; weight = p.weight }
+
+-- the entries of couplers, in however many bits they are held
+abbrev pub held_pairs : HeldPairs → List Entry
+held_pairs (Narrow pairs) = map entry_of pairs.items
+held_pairs (Wide pairs) = pairs.items

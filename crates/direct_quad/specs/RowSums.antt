@@ -7,6 +7,7 @@ use Rattle.std.specs.List.{slice_index_or, sum_by}
 use Rattle.bits_model.specs.declared.output.Entry.{Entry}
 use Rattle.quad_form.specs.Pairs.{weight_at, IsNonzero, entry_in_front}
 use Rattle.monomial_layer.specs.Monomials.{nodes_for}
+use Rattle.direct_quad.specs.declared.heads.Head.{Head}
 use Rattle.direct_quad.specs.Places.{Place, pair_coupler, node_coupler, node_couplers}
 
 -- a weight added to that of a second node
@@ -77,9 +78,27 @@ pair_part p =
     then []
     else map (pair_coupler p.literal p.coefficient) p.later
 
+-- what is kept of a place until its couplers with new nodes are appended
+abbrev pub head_of : Place → Head
+head_of p = record {
+  literal = p.literal;
+  degree = p.degree;
+  coefficient = p.coefficient;
+  first_node = p.first_node;
+}
+
 -- those with new nodes
+abbrev pub head_part : Head → List Entry
+head_part h =
+    if int_lt h.coefficient (pos 0)
+    then node_coupler h.literal h.coefficient h.first_node ∷ []
+    else node_couplers h.literal h.degree h.coefficient h.first_node (nodes_for h.degree)
+
 abbrev pub node_part : Place → List Entry
-node_part p =
-    if int_lt p.coefficient (pos 0)
-    then node_coupler p.literal p.coefficient p.first_node ∷ []
-    else node_couplers p.literal p.degree p.coefficient p.first_node (nodes_for p.degree)
+node_part p = head_part (head_of p)
+
+-- the numbers of a head fit their fields
+pub record IsHead (h : Head) : Type 0 where
+  pub variable : h.literal.variable < 2 ^ 32
+  pub nodes : h.first_node + (if int_lt h.coefficient (pos 0) then 1 else nodes_for h.degree) ≤ 2 ^ 32
+  pub small : unsigned_abs h.coefficient ≤ 2 ^ 124

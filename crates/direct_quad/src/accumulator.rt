@@ -3,8 +3,9 @@
 //! A row costs as much as it has weights, and sorting those of its second nodes that are not 0. See
 //! Gustavson, Two fast algorithms for sparse matrices: multiplication and permuted transposition
 //! (1978).
-ghost use Rattle.std.specs.Prelude.{◌≡◌, ◌≢◌, ℕ, ◌+◌, ◌++◌, ◌≤◌, ◌<◌, ◌^◌, All, IfOk, OnOk, length, pos, replicate, unsigned_abs};
+ghost use Rattle.std.specs.Prelude.{◌≡◌, ◌≢◌, ℕ, ◌+◌, ◌++◌, [], ◌≤◌, ◌<◌, ◌^◌, All, IfOk, OnOk, length, pos, replicate, unsigned_abs};
 ghost use Rattle.std.specs.List.{slice_index_or};
+ghost use Rattle.quad_form.specs.Pairs.{entry_in_front};
 ghost use Rattle.direct_quad.specs.RowSums.{with_weight, size_of, taken, emptied, Appends};
 
 use bits_model::{CouplerList, NoMemory};
@@ -29,6 +30,22 @@ impl Model for Accumulator {
     ghost invariant = { λ a. AreTouched a.sums.items a.touched.items };
 }
 
+/// Appends a coupler, unless its weight is 0.
+fn push_some(
+    couplers: &mut CouplerList,
+    first: u32,
+    second: u32,
+    weight: i128,
+) -> Result<(), NoMemory>
+    ensures { OnOk result (couplers.new ≡ couplers.old
+        ++ entry_in_front (record { first = first; second = second; weight = weight }) []) }
+{
+    if weight == 0 {
+        return Ok(());
+    }
+    couplers.push(first, second, weight)
+}
+
 /// Appends the entries of the sums at these indices, and makes each sum 0 once its entry stands.
 fn take_sums(
     sums: &mut [i128],
@@ -44,10 +61,7 @@ fn take_sums(
         → slice_index_or sums.old i (pos 0) ≢ pos 0 }
 {
     for index in indices {
-        let sum = sums[*index as usize];
-        if sum != 0 {
-            couplers.push(first, *index, sum)?;
-        }
+        push_some(couplers, first, *index, sums[*index as usize])?;
         sums[*index as usize] = 0;
     }
     Ok(())

@@ -1,11 +1,13 @@
 //! Additions in the order of their literals, with those of one set as one.
 ghost use Rattle.std.specs.Prelude.{◌≡◌, ◌≤◌, ◌<◌, ◌^◌, IfOk, All, IsTrue, length, map, []};
 ghost use Rattle.std.specs.List.Sorted.{IsPermutation, IsSortedBy};
+ghost use Rattle.std.specs.Bool.{Decides};
+ghost use Rattle.std.specs.declared.cmp.Ordering.TheVariants.{Equal};
 ghost use Rattle.std.specs.Ordering.{is_lt, nat_cmp, ordering_then};
 ghost use Rattle.term_table.specs.Terms.{set_cmp, terms_total, with_additions};
 ghost use Rattle.term_table.specs.Tables.{AreAdditions};
 ghost use Rattle.term_table.specs.Summed.{sums_of};
-ghost use Rattle.direct_quad.specs.Long.{terms_of, product_term, code_of, set_key, addition_at, additions_at, AreKeyed};
+ghost use Rattle.direct_quad.specs.Long.{terms_of, product_term, code_of, set_key, addition_at, additions_at, AreKeyed, HaveKeys};
 
 use bits_model::NoMemory;
 use problem_form::{Literal, Literals, ProductList};
@@ -133,10 +135,24 @@ pub(crate) fn ordered_additions(
         IsPermutation (map product_term additions.now) (additions_at additions.now order.items)) }
     ensures ordered { IfOk result (λ order. IsSortedBy (λ t u. is_lt (set_cmp t.0 u.0))
         (additions_at additions.now order.items)) }
+    ensures keys { IfOk result (λ order. HaveKeys additions.now order.items) }
 {
     let mut order = with_keys(alloc, width <= CODED_VARIABLES, additions)?;
     order.sort_unstable_by(|left, right| compared_keys(additions, left, right));
     Ok(order)
+}
+
+/// Whether two additions are of one set: most that are not have other keys.
+fn are_alike(additions: &ProductList, left: &Keyed, right: &Keyed) -> bool
+    requires { set_cmp (addition_at additions.now left.now.index).0
+        (addition_at additions.now right.now.index).0 ≡ Equal → left.now.key ≡ right.now.key }
+    ensures { Decides result (set_cmp (addition_at additions.now left.now.index).0
+        (addition_at additions.now right.now.index).0 ≡ Equal) }
+{
+    if left.key != right.key {
+        return false;
+    }
+    compared_at(additions, left.index, right.index) == Ordering::Equal
 }
 
 /// The sums of neighbours of one set. A sum of 0 is left out.
@@ -146,6 +162,7 @@ pub(crate) fn summed_additions(
     order: &[Keyed],
 ) -> Result<ProductList, NoMemory>
     requires indices { All (λ k. k.index < length additions.now) order.now }
+    requires keys { HaveKeys additions.now order.now }
     requires small { terms_total (additions_at additions.now order.now) ≤ 2 ^ 124 }
     ensures { IfOk result (λ products.
         map product_term products ≡ sums_of (additions_at additions.now order.now)) }
@@ -156,9 +173,7 @@ pub(crate) fn summed_additions(
     for i in 0..order.len() {
         let index = order[i].index;
         sum += additions.at(index).coefficient;
-        if i + 1 < order.len()
-            && compared_at(additions, index, order[i + 1].index) == Ordering::Equal
-        {
+        if i + 1 < order.len() && are_alike(additions, &order[i], &order[i + 1]) {
             continue;
         }
         if sum != 0 {

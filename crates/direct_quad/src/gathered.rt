@@ -1,5 +1,5 @@
 //! Additions that are gathered, and become a quadratic form at once.
-ghost use Rattle.std.specs.Prelude.{◌≡◌, ◌+◌, ◌≤◌, ◌<◌, ◌^◌, [], IfOk, OnOk, OnErr, length, unsigned_abs};
+ghost use Rattle.std.specs.Prelude.{◌≡◌, ◌+◌, ◌*◌, ◌≤◌, ◌<◌, ◌^◌, [], IfOk, OnOk, OnErr, length, unsigned_abs};
 ghost use Rattle.term_table.specs.Terms.{IsTermSet};
 ghost use Rattle.term_table.specs.Tables.{TableContent, AreAdditions, with_appended};
 ghost use Rattle.direct_quad.specs.Parts.{table_of};
@@ -10,7 +10,7 @@ ghost use Rattle.direct_quad.specs.Gathered.{IsSumOf};
 use crate::long_table::LongTable;
 use crate::pairs::Pairs;
 use crate::rows::couplers_of;
-use crate::shares::add_shares;
+use crate::shares::with_long;
 use crate::short::{add_short_shares, constant_of, push_short};
 use bits_model::{CouplerList, NoMemory};
 use penalty_layer::Gather;
@@ -66,6 +66,7 @@ impl DirectTerms {
         ensures empty { IfOk result (AreHeld (record { width = width; terms = [] })) }
         ensures width { IfOk result (λ terms. length terms.weights ≡ width) }
         ensures total { IfOk result (λ terms. terms.total ≡ 0) }
+        ensures pairs { IfOk result (λ terms. length terms.pairs ≡ 0) }
     {
         Ok(DirectTerms {
             total: 0,
@@ -81,10 +82,13 @@ impl DirectTerms {
         requires set { IsTermSet (length self.old.weights) literals.now }
         requires short { length literals.now ≤ 2 }
         requires small { self.old.total + unsigned_abs coefficient ≤ 2 ^ 97 }
+        requires few { length self.old.pairs + 1 < 2 ^ 32 }
         ensures added { (t : TableContent) → AreHeld t self.old
             → OnOk result (AreHeld (with_appended t literals.now coefficient) self.new) }
         ensures width { OnOk result (length self.new.weights ≡ length self.old.weights) }
         ensures total { OnOk result (self.new.total ≡ self.old.total + unsigned_abs coefficient) }
+        ensures pairs { OnOk result (4 * length self.new.pairs
+            ≤ 4 * length self.old.pairs + length literals.now ^ 2) }
         ensures unchanged { OnErr result (self.new ≡ self.old) }
     {
         push_short(&mut self.pairs, literals, coefficient)?;
@@ -103,6 +107,7 @@ impl DirectTerms {
             → OnOk result (AreHeld (with_appended t literals.now coefficient) self.new) }
         ensures width { OnOk result (length self.new.weights ≡ length self.old.weights) }
         ensures total { OnOk result (self.new.total ≡ self.old.total + unsigned_abs coefficient) }
+        ensures pairs { OnOk result (self.new.pairs ≡ self.old.pairs) }
         ensures unchanged { OnErr result (self.new ≡ self.old) }
     {
         self.long.push(literals, coefficient)?;
@@ -123,19 +128,19 @@ impl DirectTerms {
     {
         let DirectTerms {
             constant,
-            mut weights,
+            weights,
             pairs,
             long,
             ..
         } = self;
         let table = LongTable::of(alloc, weights.len(), &long)?;
         drop(long);
+        let pairs = pairs.sorted();
         let couplers = couplers_of(alloc, &pairs, &table)?;
         drop(pairs);
-        weights.resize(table.node_count() as usize, 0)?;
-        let constant = constant + add_shares(&mut weights, &table);
+        let (weights, more) = with_long(weights, &table)?;
         Ok(Sums {
-            constant,
+            constant: constant + more,
             weights,
             couplers,
         })
@@ -146,6 +151,8 @@ impl Gather for DirectTerms {
     ghost width = { λ terms. length terms.weights };
 
     ghost total = { λ terms. terms.total };
+
+    ghost pairs = { λ terms. 4 * length terms.pairs };
 
     ghost holds = { λ terms t. AreHeld t terms };
 

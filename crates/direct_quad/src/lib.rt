@@ -5,6 +5,7 @@ mod accumulator;
 mod additions;
 mod direct;
 mod gathered;
+mod heads;
 mod laws;
 mod long_table;
 mod new_nodes;
@@ -12,6 +13,7 @@ mod pairs;
 mod rows;
 mod shares;
 mod short;
+mod weights;
 
 pub use direct::DirectQuad;
 pub use laws::{laws_of_long_terms, laws_of_rows, laws_of_sums};

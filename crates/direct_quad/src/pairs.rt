@@ -1,37 +1,80 @@
 //! Couplers that are gathered one by one, more than one for some pairs.
-ghost use Rattle.std.specs.Prelude.{◌≡◌, ◌++◌, ◌∷◌, [], ◌<◌, ◌^◌, OnOk, OnErr, length, slice_get, Some};
+ghost use Rattle.std.specs.Prelude.{◌≡◌, ◌+◌, ◌++◌, ◌∷◌, [], ◌<◌, ◌^◌, IfOk, OnOk, OnErr, length, map, slice_get, Some};
+ghost use Rattle.std.specs.List.Sorted.{IsPermutation};
+ghost use Rattle.direct_quad.specs.PairLists.{entry_of};
 
-use bits_model::{Entry, NoMemory, WeightList};
+use bits_model::{Entry, NoMemory};
 use std::alloc::Global;
 use std::marker::Model;
 
-/// The two nodes of a pair.
+/// A coupler whose weight has 64 bits.
 #[derive(Clone, Copy)]
-pub struct Ends {
+pub struct NarrowPair {
     pub first: u32,
     pub second: u32,
+    pub weight: i64,
 }
 
-/// Couplers in the order in which they came, which contracts see as a list of entries: 16 bytes
-/// each, or 24 where some weight needs more than 64 bits. There are fewer than 2^32 of them: one
-/// more is refused as memory is.
+/// How many bits the weights have.
+#[derive(Drop)]
+pub enum HeldPairs {
+    Narrow(Vec<NarrowPair>),
+    Wide(Vec<Entry>),
+}
+
+/// Couplers, which contracts see as a list of entries: 16 bytes each as long as all weights have 64
+/// bits, and 32 from the first one on that does not. There are fewer than 2^32 of them.
 #[derive(Drop)]
 pub struct Pairs {
-    ends: Vec<Ends>,
-    weights: WeightList,
+    alloc: Global,
+    held: HeldPairs,
 }
 
 impl Model for Pairs {
-    ghost use Rattle.std.specs.Prelude.{◌≡◌, ◌<◌, ◌^◌, List, length};
+    ghost use Rattle.std.specs.Prelude.{◌<◌, ◌^◌, List, length};
     ghost use Rattle.bits_model.specs.declared.output.Entry.{Entry};
-    ghost use Rattle.direct_quad.specs.PairLists.{weighed};
+    ghost use Rattle.direct_quad.specs.PairLists.{held_pairs};
 
     ghost Value = { List Entry };
 
-    ghost view = { λ a. weighed a.ends.items a.weights };
+    ghost view = { λ a. held_pairs a.held };
 
-    ghost invariant = { λ a. (length a.ends.items ≡ length a.weights)
-        × (length a.ends.items < 2 ^ 32) };
+    ghost invariant = { λ a. length (held_pairs a.held) < 2 ^ 32 };
+}
+
+/// A narrow coupler as an entry.
+fn entry_of(pair: NarrowPair) -> Entry
+    ensures { result ≡ entry_of pair }
+{
+    Entry {
+        first: pair.first,
+        second: pair.second,
+        weight: i128::from(pair.weight),
+    }
+}
+
+/// The same couplers as entries.
+fn widened(alloc: Global, narrow: &[NarrowPair]) -> Result<Vec<Entry>, NoMemory>
+    ensures { IfOk result (λ wide. wide.items ≡ map entry_of narrow.now) }
+{
+    let wide = narrow.iter().map(|pair| entry_of(*pair)).collect(alloc)?;
+    Ok(wide)
+}
+
+/// The same couplers in the order of their first nodes.
+fn sorted_narrow(mut pairs: Vec<NarrowPair>) -> Vec<NarrowPair>
+    ensures { IsPermutation pairs.items result.items }
+{
+    pairs.sort_unstable_by(|left, right| left.first.cmp(&right.first));
+    pairs
+}
+
+/// The same entries in the order of their first nodes.
+fn sorted_wide(mut pairs: Vec<Entry>) -> Vec<Entry>
+    ensures { IsPermutation pairs.items result.items }
+{
+    pairs.sort_unstable_by(|left, right| left.first.cmp(&right.first));
+    pairs
 }
 
 impl Pairs {
@@ -40,8 +83,8 @@ impl Pairs {
         ensures { result ≡ [] }
     {
         Pairs {
-            ends: Vec::new(alloc),
-            weights: WeightList::empty(alloc),
+            alloc,
+            held: HeldPairs::Narrow(Vec::new(alloc)),
         }
     }
 
@@ -50,7 +93,10 @@ impl Pairs {
         ensures count { result ≡ length self.now }
         ensures narrow { result < 2 ^ 32 }
     {
-        self.ends.len()
+        match &self.held {
+            HeldPairs::Narrow(pairs) => pairs.len(),
+            HeldPairs::Wide(pairs) => pairs.len(),
+        }
     }
 
     /// The coupler at an index.
@@ -58,27 +104,59 @@ impl Pairs {
         requires { index < length self.now }
         ensures { slice_get self.now index ≡ Some result }
     {
-        let Ends { first, second } = self.ends[index];
-        Entry {
-            first,
-            second,
-            weight: self.weights.get(index),
+        match &self.held {
+            HeldPairs::Narrow(pairs) => entry_of(pairs[index]),
+            HeldPairs::Wide(pairs) => pairs[index],
+        }
+    }
+
+    /// The same couplers in another order: that of their first nodes, so that what reads them row
+    /// by row goes through memory in order.
+    pub fn sorted(self) -> Pairs
+        ensures { IsPermutation self result }
+    {
+        let Pairs { alloc, held } = self;
+        match held {
+            HeldPairs::Narrow(pairs) => Pairs {
+                alloc,
+                held: HeldPairs::Narrow(sorted_narrow(pairs)),
+            },
+            HeldPairs::Wide(pairs) => Pairs {
+                alloc,
+                held: HeldPairs::Wide(sorted_wide(pairs)),
+            },
         }
     }
 
     /// Appends a coupler. Where memory is refused the list stays as it was.
     pub fn push(&mut self, first: u32, second: u32, weight: i128) -> Result<(), NoMemory>
+        requires few { length self.old + 1 < 2 ^ 32 }
         ensures pushed { OnOk result (self.new
             ≡ self.old ++ record { first = first; second = second; weight = weight } ∷ []) }
         ensures unchanged { OnErr result (self.new ≡ self.old) }
     {
-        if self.ends.len() >= u32::MAX as usize {
-            return Err(NoMemory);
-        }
-        self.ends.push(Ends { first, second })?;
-        if self.weights.push(weight).is_err() {
-            self.ends.pop();
-            return Err(NoMemory);
+        match &mut self.held {
+            HeldPairs::Narrow(pairs) => match i64::try_from(weight) {
+                Ok(weight) => pairs.push(NarrowPair {
+                    first,
+                    second,
+                    weight,
+                })?,
+                Err(_) => {
+                    let mut wide = widened(self.alloc, pairs)?;
+                    wide.push(Entry {
+                        first,
+                        second,
+                        weight,
+                    })?;
+                    self.held = HeldPairs::Wide(wide);
+                }
+            },
+            HeldPairs::Wide(pairs) => pairs.push(Entry {
+                first,
+                second,
+                weight,
+            })?,
         }
         Ok(())
     }

@@ -11,16 +11,16 @@ ghost use Rattle.bits_model.specs.Output.{weight_total};
 ghost use Rattle.problem_form.specs.declared.literal.Literal.{Literal};
 ghost use Rattle.term_table.specs.Terms.{terms_total};
 ghost use Rattle.quad_form.specs.Pairs.{IsPair};
-ghost use Rattle.monomial_layer.specs.Monomials.{nodes_for};
-ghost use Rattle.direct_quad.specs.Places.{pair_coupler, node_couplers, place_couplers, all_places};
+ghost use Rattle.direct_quad.specs.Places.{pair_coupler, place_couplers, all_places};
 ghost use Rattle.direct_quad.specs.Rows.{AreRows};
-ghost use Rattle.direct_quad.specs.Long.{node_count, place_nodes};
-ghost use Rattle.direct_quad.specs.RowSums.{with_entries, size_of, pair_part, node_part, AppendsBoth};
+ghost use Rattle.direct_quad.specs.Long.{node_count};
+ghost use Rattle.direct_quad.specs.RowSums.{with_entries, size_of, pair_part, node_part, head_of, IsHead, AppendsBoth};
 ghost use Rattle.direct_quad.specs.Keys.{index_of, keys_of, pair_keys, place_keys, literal_keys, pair_at, places_at, AreOrdered, AreKeysFrom, IsPlaceKey};
 
 use crate::accumulator::Accumulator;
+use crate::heads::{Head, head_of, push_heads};
 use crate::long_table::{LongTable, PlaceRef};
-use crate::new_nodes::{factor, nodes_for, signed};
+use crate::new_nodes::signed;
 use crate::pairs::Pairs;
 use bits_model::{CouplerList, NoMemory};
 use problem_form::{Literal, Literals};
@@ -170,92 +170,41 @@ fn add_place(sums: &mut Accumulator, place: PlaceRef<'_>) -> Result<(), NoMemory
     add_later(sums, literal, coefficient, later)
 }
 
-/// Adds the weights of places' couplers with later literals.
+/// Adds the weights of places' couplers with later literals, and keeps what their couplers with new
+/// nodes need, in place of what a list has.
 fn add_places(
     sums: &mut Accumulator,
+    heads: &mut Vec<Head>,
     long: &LongTable,
     variable: u64,
     keys: &[u64],
 ) -> Result<(), NoMemory>
     requires width { length sums.old ≡ long.now.width }
-    requires narrow { long.now.width ≤ 2 ^ 32 }
+    requires narrow { node_count long.now ≤ 2 ^ 32 }
     requires keys { All (IsPlaceKey long.now variable) keys.now }
     requires small { size_of sums.old
         + weight_total (flat_map pair_part (places_at long.now variable keys.now)) ≤ 2 ^ 126 }
-    ensures { OnOk result (sums.new
+    ensures sums { OnOk result (sums.new
         ≡ with_entries sums.old (flat_map pair_part (places_at long.now variable keys.now))) }
+    ensures heads { OnOk result
+        (heads.new.items ≡ map head_of (places_at long.now variable keys.now)) }
+    ensures kept { OnOk result (All IsHead heads.new.items) }
 {
+    heads.clear();
     for key in keys {
-        add_place(sums, long.place(variable, index_of(*key)))?;
+        let place = long.place(variable, index_of(*key));
+        heads.push(head_of(&place))?;
+        add_place(sums, place)?;
     }
     Ok(())
 }
 
-/// Appends the couplers of a literal with the new nodes of its term, which is positive.
-fn push_nodes(
-    couplers: &mut CouplerList,
-    literal: Literal,
-    degree: usize,
-    coefficient: i128,
-    first_node: u32,
-) -> Result<(), NoMemory>
-    requires variable { literal.variable < 2 ^ 32 }
-    requires nodes { first_node + nodes_for degree ≤ 2 ^ 32 }
-    requires small { unsigned_abs coefficient ≤ 2 ^ 124 }
-    ensures { OnOk result (couplers.new ≡ couplers.old
-        ++ node_couplers literal degree coefficient first_node (nodes_for degree)) }
-{
-    let first = literal.variable as u32;
-    for k in 0..nodes_for(degree) {
-        let weight = signed(literal, -(coefficient * factor(degree, k)));
-        couplers.push(first, first_node + k as u32, weight)?;
-    }
-    Ok(())
-}
-
-/// Appends the couplers of a place with new nodes.
-fn push_place(couplers: &mut CouplerList, place: PlaceRef<'_>) -> Result<(), NoMemory>
-    requires variable { place.literal.variable < 2 ^ 32 }
-    requires nodes { place.first_node + place_nodes place ≤ 2 ^ 32 }
-    requires small { unsigned_abs place.coefficient ≤ 2 ^ 124 }
-    ensures { OnOk result (couplers.new ≡ couplers.old ++ node_part place.entry) }
-{
-    let PlaceRef {
-        literal,
-        degree,
-        coefficient,
-        first_node,
-        ..
-    } = place;
-    if coefficient < 0 {
-        let first = literal.variable as u32;
-        return couplers.push(first, first_node, signed(literal, coefficient));
-    }
-    push_nodes(couplers, literal, degree, coefficient, first_node)
-}
-
-/// Appends the couplers of places with new nodes.
-fn push_all_nodes(
-    couplers: &mut CouplerList,
-    long: &LongTable,
-    variable: u64,
-    keys: &[u64],
-) -> Result<(), NoMemory>
-    requires narrow { node_count long.now ≤ 2 ^ 32 }
-    requires keys { All (IsPlaceKey long.now variable) keys.now }
-    ensures { OnOk result (couplers.new
-        ≡ couplers.old ++ flat_map node_part (places_at long.now variable keys.now)) }
-{
-    for key in keys {
-        push_place(couplers, long.place(variable, index_of(*key)))?;
-    }
-    Ok(())
-}
-
-/// Appends the row of a variable. All sums are 0 before and afterwards.
+/// Appends the row of a variable. All sums are 0 before and afterwards, and the heads are free to
+/// use.
 fn push_row(
     couplers: &mut CouplerList,
     sums: &mut Accumulator,
+    heads: &mut Vec<Head>,
     pairs: &Pairs,
     long: &LongTable,
     variable: u64,
@@ -279,9 +228,9 @@ fn push_row(
     ensures zeros { OnOk result (sums.new ≡ sums.old) }
 {
     add_pairs(sums, pairs, pair_keys)?;
-    add_places(sums, long, variable, place_keys)?;
+    add_places(sums, heads, long, variable, place_keys)?;
     sums.put_into(couplers, variable as u32)?;
-    push_all_nodes(couplers, long, variable, place_keys)?;
+    push_heads(couplers, heads)?;
     Ok(())
 }
 
@@ -297,6 +246,7 @@ pub fn couplers_of(alloc: Global, pairs: &Pairs, long: &LongTable) -> Result<Cou
     let pair_keys = ordered(keys_of_pairs(alloc, pairs)?);
     let place_keys = ordered(keys_of_places(alloc, long)?);
     let mut sums = Accumulator::zeros(alloc, long.width())?;
+    let mut heads = Vec::new(alloc);
     let mut couplers = CouplerList::empty(alloc);
     let mut pairs_left = &pair_keys[..];
     let mut places_left = &place_keys[..];
@@ -306,6 +256,7 @@ pub fn couplers_of(alloc: Global, pairs: &Pairs, long: &LongTable) -> Result<Cou
         push_row(
             &mut couplers,
             &mut sums,
+            &mut heads,
             pairs,
             long,
             variable,

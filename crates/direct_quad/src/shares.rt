@@ -1,16 +1,18 @@
 //! What long terms add to the weights of nodes, and to the constant.
-ghost use Rattle.std.specs.Prelude.{◌≡◌, ◌+◌, ◌-◌, ◌*◌, ◌≤◌, ◌<◌, ◌^◌, ◌∷◌, [], ◌++◌, All, List, length, map, pos, ◌-ℤ◌, ◌*ℤ◌, unsigned_abs};
+ghost use Rattle.std.specs.Prelude.{◌≡◌, ◌+◌, ◌-◌, ◌*◌, ◌≤◌, ◌<◌, ◌^◌, ◌∷◌, [], ◌++◌, All, IfOk, List, length, map, pos, ◌-ℤ◌, ◌*ℤ◌, unsigned_abs};
 ghost use Rattle.problem_form.specs.declared.literal.Literal.{Literal};
 ghost use Rattle.integers.specs.Sums.{total_by};
 ghost use Rattle.term_table.specs.Terms.{terms_total, IsTermSet};
 ghost use Rattle.monomial_layer.specs.Monomials.{factor, nodes_for, new_nodes};
 ghost use Rattle.direct_quad.specs.Places.{complements, literal_share, node_share, node_shares, term_shares, all_shares, long_constant};
 ghost use Rattle.direct_quad.specs.Long.{node_count};
-ghost use Rattle.direct_quad.specs.Held.{Gain, shares_total};
-ghost use Rattle.direct_quad.specs.RowSums.{size_of, with_weight};
+ghost use Rattle.direct_quad.specs.Held.{Gain, shares_total, widened};
+ghost use Rattle.direct_quad.specs.RowSums.{size_of};
 
 use crate::long_table::{LongTable, LongTerm};
 use crate::new_nodes::{factor, nodes_for};
+use crate::weights::{add_weight, widened};
+use bits_model::NoMemory;
 use problem_form::{Literal, Literals};
 
 /// How many literals are complements.
@@ -18,15 +20,6 @@ fn complements(literals: Literals<'_>) -> usize
     ensures { result ≡ complements literals.entry }
 {
     literals.filter(|literal| literal.negated).count()
-}
-
-/// Adds to the weight of a node.
-fn add_weight(weights: &mut [i128], node: usize, weight: i128)
-    requires within { node < length weights.old }
-    requires small { size_of weights.old + unsigned_abs weight ≤ 2 ^ 126 }
-    ensures { weights.new ≡ with_weight weights.old node weight }
-{
-    weights[node] += weight;
 }
 
 /// Adds a share to the weight of its node.
@@ -235,4 +228,19 @@ pub(crate) fn add_shares(weights: &mut [i128], long: &LongTable) -> i128
         constant += long_constant(negated, coefficient);
     }
     constant
+}
+
+/// The weights of all nodes, of which those of new nodes and what long terms give come to those
+/// given, and what long terms give to the constant.
+pub(crate) fn with_long(weights: Vec<i128>, long: &LongTable) -> Result<(Vec<i128>, i128), NoMemory>
+    requires width { length weights.items ≡ long.now.width }
+    requires small { size_of weights.items + terms_total long.now.terms * 2 ^ 24 ≤ 2 ^ 126 }
+    ensures weights { IfOk result (λ made. Gain (all_shares long.now.terms long.now.width)
+        (shares_total (all_shares long.now.terms long.now.width))
+        (widened (node_count long.now) weights.items) made.0.items) }
+    ensures constant { IfOk result (λ made. made.1 ≡ total_by long_constant long.now.terms) }
+{
+    let mut all = widened(weights, long.node_count() as usize)?;
+    let constant = add_shares(&mut all, long);
+    Ok((all, constant))
 }

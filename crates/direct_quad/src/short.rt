@@ -3,21 +3,13 @@
 ghost use Rattle.std.specs.Prelude.{◌≡◌, ◌+◌, ◌*◌, ◌≤◌, ◌<◌, ◌^◌, ◌++◌, ◌∷◌, [], OnOk, OnErr, All, length, unsigned_abs};
 ghost use Rattle.direct_quad.specs.Places.{moved_share, signed, short_constant, short_couplers, short_shares};
 ghost use Rattle.direct_quad.specs.Held.{Gain};
-ghost use Rattle.direct_quad.specs.RowSums.{with_weight, size_of};
+ghost use Rattle.direct_quad.specs.RowSums.{size_of};
 
 use crate::new_nodes::signed;
 use crate::pairs::Pairs;
+use crate::weights::add_weight;
 use bits_model::NoMemory;
 use problem_form::Literal;
-
-/// Adds to the weight of a literal's variable.
-fn add_weight(weights: &mut [i128], literal: Literal, weight: i128)
-    requires within { literal.variable < length weights.old }
-    requires small { size_of weights.old + unsigned_abs weight ≤ 2 ^ 126 }
-    ensures { weights.new ≡ with_weight weights.old literal.variable weight }
-{
-    weights[literal.variable as usize] += weight;
-}
 
 /// Adds the share of a literal that is a term by itself.
 fn add_alone(weights: &mut [i128], literal: Literal, coefficient: i128)
@@ -26,7 +18,11 @@ fn add_alone(weights: &mut [i128], literal: Literal, coefficient: i128)
     ensures { Gain ((literal.variable, signed literal coefficient) ∷ []) (unsigned_abs coefficient)
         weights.old weights.new }
 {
-    add_weight(weights, literal, signed(literal, coefficient));
+    add_weight(
+        weights,
+        literal.variable as usize,
+        signed(literal, coefficient),
+    );
 }
 
 /// Adds what a pair moves to the weight of one literal, where the other is a complement.
@@ -78,6 +74,7 @@ pub(crate) fn push_short(
 ) -> Result<(), NoMemory>
     requires narrow { All (λ l. l.variable < 2 ^ 32) literals.now }
     requires small { unsigned_abs coefficient ≤ 2 ^ 126 }
+    requires few { length pairs.old + 1 < 2 ^ 32 }
     ensures pushed { OnOk result (pairs.new
         ≡ pairs.old ++ short_couplers (literals.now, coefficient)) }
     ensures unchanged { OnErr result (pairs.new ≡ pairs.old) }

@@ -2,7 +2,7 @@
 ghost use Rattle.std.specs.Prelude.{◌≡◌, ◌+◌, ◌≤◌, ◌^◌, [], pos, map, All, OnOk, unwrap_or};
 ghost use Rattle.problem_form.specs.Problems.{products_total};
 ghost use Rattle.term_table.specs.Terms.{IsTermSet};
-ghost use Rattle.penalty_layer.specs.Gathered.{Gathers};
+ghost use Rattle.penalty_layer.specs.Gathered.{Gathers, squares};
 ghost use Rattle.penalty_layer.specs.Penalty.{
   opposite,
   clause_term,
@@ -27,7 +27,8 @@ fn add_products<T: Gather>(
 ) -> Result<(), NoMemory>
     requires sets { All (λ t. IsTermSet (T.width terms.old) t.literals) products.now }
     requires small { T.total terms.old + products_total products.now ≤ 2 ^ 97 }
-    ensures { OnOk result (Gathers T.holds T.width T.total terms.old terms.new
+    requires few { T.pairs terms.old + squares (map product_term products.now) ≤ 2 ^ 25 }
+    ensures { OnOk result (Gathers T.holds T.width T.total T.pairs terms.old terms.new
         (map product_term products.now)) }
 {
     let mut set = Vec::new(alloc);
@@ -83,8 +84,9 @@ fn add_clauses<T: Gather>(
 ) -> Result<(), NoMemory>
     requires sets { All (λ c. IsTermSet (T.width terms.old) (map opposite c.literals)) clauses.now }
     requires small { T.total terms.old + clause_weights penalty clauses.now ≤ 2 ^ 97 }
+    requires few { T.pairs terms.old + squares (map (clause_term penalty) clauses.now) ≤ 2 ^ 25 }
     requires penalty { penalty ≤ 2 ^ 100 }
-    ensures { OnOk result (Gathers T.holds T.width T.total terms.old terms.new
+    ensures { OnOk result (Gathers T.holds T.width T.total T.pairs terms.old terms.new
         (map (clause_term penalty) clauses.now)) }
 {
     let mut opposites = Vec::new(alloc);
@@ -107,6 +109,7 @@ pub fn add_contributions<T: Gather>(
     requires empty { T.holds terms.old (record { width = node_count problem.now; terms = [] }) }
     requires width { T.width terms.old ≡ node_count problem.now }
     requires total { T.total terms.old ≡ 0 }
+    requires pairs { T.pairs terms.old ≡ 0 }
     ensures { OnOk result (T.holds terms.new
         (record { width = node_count problem.now; terms = contributions problem.now })) }
 {

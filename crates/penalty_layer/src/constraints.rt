@@ -4,7 +4,7 @@ ghost use Rattle.std.specs.List.{sum_by};
 ghost use Rattle.problem_form.specs.Problems.{constraint_total};
 ghost use Rattle.problem_form.specs.Limits.{reach, slack_bits};
 ghost use Rattle.term_table.specs.Products.{IsFactor};
-ghost use Rattle.penalty_layer.specs.Gathered.{Gathers};
+ghost use Rattle.penalty_layer.specs.Gathered.{Gathers, squares};
 ghost use Rattle.penalty_layer.specs.Penalty.{node_count, Admits};
 ghost use Rattle.penalty_layer.specs.Squares.{constraint_terms};
 
@@ -46,7 +46,9 @@ pub(crate) fn add_constraints<T: Gather>(
     requires factor { factor ≤ 2 ^ 100 }
     requires small { T.total terms.old + sum_by (λ k. factor * reach k ^ 2) constraints.now
         ≤ 2 ^ 97 }
-    ensures { OnOk result (Gathers T.holds T.width T.total terms.old terms.new
+    requires few { T.pairs terms.old + squares (constraint_terms factor first constraints.now)
+        ≤ 2 ^ 25 }
+    ensures { OnOk result (Gathers T.holds T.width T.total T.pairs terms.old terms.new
         (constraint_terms factor first constraints.now)) }
 {
     let mut parts = Parts::empty(alloc);

@@ -2,7 +2,7 @@
 ghost use Rattle.std.specs.Prelude.{◌≡◌, ◌+◌, ◌*◌, ◌<◌, ◌≤◌, ◌^◌, ◌*ℤ◌, ◌∷◌, [], All, drop, length, pos, unsigned_abs, OnOk};
 ghost use Rattle.term_table.specs.Terms.{terms_total};
 ghost use Rattle.term_table.specs.Products.{products_with, union_terms, IsFactor};
-ghost use Rattle.penalty_layer.specs.Gathered.{Gathers};
+ghost use Rattle.penalty_layer.specs.Gathered.{Gathers, squares};
 ghost use Rattle.penalty_layer.specs.Squares.{square_terms};
 
 use crate::gather::Gather;
@@ -46,7 +46,9 @@ fn add_pair<T: Gather>(
     requires left { l.variable < T.width terms.old }
     requires right { k.variable < T.width terms.old }
     requires small { T.total terms.old + unsigned_abs coefficient ≤ 2 ^ 97 }
-    ensures { OnOk result (Gathers T.holds T.width T.total terms.old terms.new
+    requires few { T.pairs terms.old + squares (union_terms (l ∷ []) (k ∷ []) coefficient)
+        ≤ 2 ^ 25 }
+    ensures { OnOk result (Gathers T.holds T.width T.total T.pairs terms.old terms.new
         (union_terms (l ∷ []) (k ∷ []) coefficient)) }
 {
     if l.variable < k.variable {
@@ -71,7 +73,8 @@ fn add_union<T: Gather>(
     requires left { IsFactor (T.width terms.old) ls.now }
     requires right { IsFactor (T.width terms.old) ks.now }
     requires small { T.total terms.old + unsigned_abs coefficient ≤ 2 ^ 97 }
-    ensures { OnOk result (Gathers T.holds T.width T.total terms.old terms.new
+    requires few { T.pairs terms.old + squares (union_terms ls.now ks.now coefficient) ≤ 2 ^ 25 }
+    ensures { OnOk result (Gathers T.holds T.width T.total T.pairs terms.old terms.new
         (union_terms ls.now ks.now coefficient)) }
 {
     if let ([l], [k]) = (ls, ks) {
@@ -98,7 +101,9 @@ fn add_row<T: Gather>(
     requires start { start ≤ length parts.now }
     requires small { T.total terms.old
         + unsigned_abs coefficient.now * terms_total (drop start parts.now) ≤ 2 ^ 97 }
-    ensures { OnOk result (Gathers T.holds T.width T.total terms.old terms.new
+    requires few { T.pairs terms.old
+        + squares (products_with (ls.now, coefficient.now) (drop start parts.now)) ≤ 2 ^ 25 }
+    ensures { OnOk result (Gathers T.holds T.width T.total T.pairs terms.old terms.new
         (products_with (ls.now, coefficient.now) (drop start parts.now))) }
 {
     for j in start..parts.len() {
@@ -118,7 +123,8 @@ pub(crate) fn add_square<T: Gather>(
     requires parts { All (λ t. IsFactor (T.width terms.old) t.0) parts.now }
     requires factor { factor ≤ 2 ^ 100 }
     requires small { T.total terms.old + factor * terms_total parts.now ^ 2 ≤ 2 ^ 97 }
-    ensures { OnOk result (Gathers T.holds T.width T.total terms.old terms.new
+    requires few { T.pairs terms.old + squares (square_terms factor parts.now) ≤ 2 ^ 25 }
+    ensures { OnOk result (Gathers T.holds T.width T.total T.pairs terms.old terms.new
         (square_terms factor parts.now)) }
 {
     for i in 0..parts.len() {

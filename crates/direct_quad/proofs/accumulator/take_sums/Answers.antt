@@ -1,12 +1,11 @@
-use Rattle.std.proofs.Common.{◌≡◌, ◌≢◌, ◌<◌, ◌+◌, ◌++◌, pos, ℤ, ℕ, List, [], ◌∷◌, length, get_or, set, drop, sym, ap, ◌∙◌, refl, subst, append-nil, arith, rules, to_z, of_z}
+use Rattle.std.proofs.Common.{◌≡◌, ◌+◌, ◌++◌, pos, [], ◌∷◌, get_or, set, drop, sym, ap, ◌∙◌, refl, append-nil, rules}
 use Rattle.std.specs.Int.{w128}
-use Rattle.std.proofs.lemmas.Int.{ints, to_z-of_z}
-use Rattle.std.proofs.lemmas.List.{drop_more, drop_all, get_or_default}
-use Rattle.bits_model.specs.declared.output.Entry.{Entry}
+use Rattle.std.proofs.lemmas.Int.{to_z-of_z}
+use Rattle.std.proofs.lemmas.List.{drop_more, drop_all}
+use Rattle.quad_form.specs.Pairs.{entry_in_front}
 use Rattle.direct_quad.specs.RowSums.{taken, emptied}
-use Rattle.direct_quad.proofs.SummedRows.{entry_at, kept-emptied_one, taken_zero, taken_one}
+use Rattle.direct_quad.proofs.SummedRows.{entry_at, kept-emptied_one, taken_next}
 use Rattle.direct_quad.proofs.accumulator.take_sums.Goals as goal
-use Rattle.direct_quad.proofs.accumulator.take_sums.Goals.{then-sum-ne0+in_ok-push, else-sum-ne0}
 
 pub loop-index-init : goal.loop-index-init
 loop-index-init c = record { couplers = refl; sums = refl; kept = λ i there. there }
@@ -21,22 +20,17 @@ loop-index-preserved c =
     let more : drop i js ≡ j ∷ drop (i + 1) js = drop_more js i 0 c.loop-index-test.true in
     let couplers = ap (λ ks. c.loop-index.couplers ++ taken first sums ks) (sym more) ∙ c.loop-index.invariant.couplers in
     let left = ap (λ ks. emptied sums ks) (sym more) ∙ c.loop-index.invariant.sums in
-    elim c.if-sum-ne0.branch [
-      | then-sum-ne0+in_ok-push w ↦
-          let pushed : c.if-sum-ne0.couplers ≡ c.loop-index.couplers ++ entry_at first sums j ∷ [] =
-          w.couplers-is ∙ w.in_ok-push.ensures.pushed
-          ∙ (λ k. c.loop-index.couplers ++ record { first = first; second = j; weight = to_z-of_z w128 (get_or sums j (pos 0)) (search rules) k } ∷ []) in
-          record {
-            couplers = ap (λ es. es ++ taken first (set sums j (pos 0)) (drop (i + 1) js)) pushed ∙ sym (taken_one first sums j (drop (i + 1) js) c.loop-index.couplers (λ z. w.if-sum-ne0.true (ap (of_z w128) z))) ∙ couplers;
-            sums = left;
-            kept = λ i there. c.loop-index.invariant.kept i (kept-emptied_one sums i j there);
-          }
-      | else-sum-ne0 w ↦ record {
-        couplers = ap (λ es. es ++ taken first (set sums j (pos 0)) (drop (i + 1) js)) w.couplers-is ∙ sym (taken_zero first sums j (drop (i + 1) js) c.loop-index.couplers (let none : get_or sums j (pos 0) ≡ pos 0 = omega (arith, ints, w.if-sum-ne0.false) in none)) ∙ couplers;
-        sums = left;
-        kept = λ i there. c.loop-index.invariant.kept i (kept-emptied_one sums i j there);
-      }
-    ]
+    let pushed : c.push_some.new.couplers ≡ c.loop-index.couplers ++ entry_in_front (entry_at first sums j) [] =
+    c.in_ok-push_some.ensures
+    ∙ (λ k. c.loop-index.couplers ++ entry_in_front (record { first = first; second = j; weight = to_z-of_z w128 (get_or sums j (pos 0)) (search rules) k }) []) in
+    record {
+      couplers =
+          ap (λ es. es ++ taken first (set sums j (pos 0)) (drop (i + 1) js)) pushed
+          ∙ taken_next first sums j (drop (i + 1) js) c.loop-index.couplers
+          ∙ couplers;
+      sums = left;
+      kept = λ i there. c.loop-index.invariant.kept i (kept-emptied_one sums i j there);
+    }
 
 pub returns-clause-taken : goal.returns-clause-taken
 returns-clause-taken c =

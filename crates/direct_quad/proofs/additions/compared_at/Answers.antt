@@ -1,4 +1,4 @@
-use Rattle.std.proofs.Common.{◌≡◌, ◌≤◌, pos, [], get_or, length, ap, sym, ◌∙◌, arith}
+use Rattle.std.proofs.Common.{pos, [], ap, sym, ◌∙◌, arith}
 use Rattle.std.proofs.lemmas.List.{get_or_past}
 use Rattle.std.proofs.lemmas.Option.{get_or_from_slice_get}
 use Rattle.std.specs.Ordering.{ordering_reverse}

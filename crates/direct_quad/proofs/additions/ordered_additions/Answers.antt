@@ -1,4 +1,4 @@
-use Rattle.std.proofs.Common.{◌≡◌, ℕ, refl, ◌<◌, ◌≤◌, ◌^◌, List, map, length, true, leb, IsTrue, ap, sym, ◌∙◌, subst, rules, arith}
+use Rattle.std.proofs.Common.{◌≡◌, ℕ, refl, ◌<◌, ◌≤◌, ◌^◌, List, length, true, leb, subst, rules, arith}
 use Rattle.std.specs.Prelude.{All}
 use Rattle.std.specs.Ordering.{is_lt}
 use Rattle.std.specs.List.Sorted.{IsPermutation}
@@ -10,7 +10,7 @@ use Rattle.problem_form.specs.declared.literal.Literal.{Literal}
 use Rattle.problem_form.specs.declared.terms.Product.{Product}
 use Rattle.term_table.specs.Terms.{Term}
 use Rattle.direct_quad.specs.declared.additions.Keyed.{Keyed}
-use Rattle.direct_quad.specs.Long.{key_for, product_term, addition_at, additions_at}
+use Rattle.direct_quad.specs.Long.{key_for, addition_at, additions_at}
 use Rattle.direct_quad.proofs.SetKeys.{IsAddition, are_additions, sets_sorted, keyed_cmp, keyed_total}
 use Rattle.direct_quad.proofs.additions.ordered_additions.Goals as goal
 
@@ -45,3 +45,12 @@ returns-clause-ordered c =
     (All-permutation (λ (k : Keyed). k.index < length ps) _ _ moved c.in_ok-order.ensures.within)
     (All-permutation (λ (k : Keyed). k.key ≡ key_for coded (addition_at ps k.index).0) _ _ moved c.in_ok-order.ensures.keys)
     sorted
+
+pub returns-clause-keys : goal.returns-clause-keys
+returns-clause-keys c =
+    let ps = c.args.additions.now in
+    let coded = leb c.args.width (2 ^ 31) in
+    record {
+      coded = coded;
+      keys = All-permutation (λ (k : Keyed). k.key ≡ key_for coded (addition_at ps k.index).0) _ _ c.sort_unstable_by.ensures.permutation c.in_ok-order.ensures.keys;
+    }

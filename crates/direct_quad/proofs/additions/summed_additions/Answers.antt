@@ -1,17 +1,16 @@
-use Rattle.std.proofs.Common.{◌≡◌, ◌≢◌, ◌<◌, ◌≤◌, ◌+◌, ◌^◌, ◌∷◌, ◌++◌, [], List, ℤ, pos, ◌+ℤ◌, to_z, of_z, unsigned_abs, map, length, drop, get_or, ap, sym, ◌∙◌, refl, subst, arith, rules}
+use Rattle.std.proofs.Common.{◌≡◌, ◌≢◌, true, false, ◌+◌, ◌∷◌, ◌++◌, [], List, ℤ, pos, ◌+ℤ◌, to_z, of_z, unsigned_abs, map, drop, get_or, ap, sym, ◌∙◌, subst, arith}
 use Rattle.std.specs.Int.{w128}
-use Rattle.std.proofs.lemmas.Int.{ints, to_z-of_z}
+use Rattle.std.proofs.lemmas.Int.{ints}
 use Rattle.std.proofs.lemmas.List.{drop_all, map_push}
 use Rattle.std.proofs.lemmas.List.Sums.{sum_by-cons}
 use Rattle.std.proofs.lemmas.Option.{get_or_from_slice_get}
 use Rattle.problem_form.specs.declared.terms.Product.{Product}
 use Rattle.term_table.specs.Terms.{Term, terms_total}
-use Rattle.term_table.specs.Summed.{sums_of}
 use Rattle.direct_quad.specs.declared.additions.Keyed.{Keyed}
 use Rattle.direct_quad.specs.Long.{product_term, addition_at, additions_at, sums_with}
-use Rattle.direct_quad.proofs.SortedAdditions.{next_addition, same_step, put_zero, put_one, IsOther, index_equal, index_other}
+use Rattle.direct_quad.proofs.SortedAdditions.{next_addition, same_step, put_zero, put_one, IsOther}
 use Rattle.direct_quad.proofs.additions.summed_additions.Goals as goal
-use Rattle.direct_quad.proofs.additions.summed_additions.Goals.{else-i-order-via-then-i-order+else-eq, else-i-order-via-else-i-order, then-sum-ne0+in_ok-copy_into+in_ok-push, else-sum-ne0}
+use Rattle.direct_quad.proofs.additions.summed_additions.Goals.{else-i-order-via-then-i-order+else-are_alike, else-i-order-via-else-i-order, then-sum-ne0+in_ok-copy_into+in_ok-push, else-sum-ne0}
 
 pub overflow_add-sum : goal.overflow_add-sum
 overflow_add-sum c =
@@ -22,8 +21,8 @@ overflow_add-sum c =
     let same = ap (λ (q : Product). q.coefficient) (c.sum.view_is ∙ sym (get_or_from_slice_get ps _ c.at.result (record { literals = []; coefficient = pos 0 }) c.at.ensures)) in
     omega (arith, ints, c.loop-i.invariant.small, ap terms_total next, sum_by-cons (λ (u : Term). unsigned_abs u.1) t (additions_at ps (drop (c.loop-i.i + 1) c.args.order.now)), same, c.loop-i.sum-is)
 
-pub loop-i-preserved-then-eq : goal.loop-i-preserved-then-eq
-loop-i-preserved-then-eq c =
+pub loop-i-preserved-then-are_alike : goal.loop-i-preserved-then-are_alike
+loop-i-preserved-then-are_alike c =
     let ps = c.args.additions.now in
     let order = c.args.order.now in
     let i = c.loop-i.i in
@@ -38,7 +37,7 @@ loop-i-preserved-then-eq c =
     let same = ap (λ (q : Product). q.coefficient) (c.sum.view_is ∙ sym (get_or_from_slice_get ps _ c.at.result (record { literals = []; coefficient = pos 0 }) c.at.ensures)) in
     let count = sum_by-cons (λ (v : Term). unsigned_abs v.1) t (additions_at ps (drop (i + 1) order)) in
     let value : to_z w128 (of_z w128 (to_z w128 c.loop-i.sum-bits +ℤ to_z w128 (of_z w128 c.sum.inside.coefficient))) ≡ sum +ℤ t.1 = omega (arith, ints, c.loop-i.invariant.small, ap terms_total next, count, same, c.loop-i.sum-is) in
-    let equal = sym c.compared_at.ensures ∙ index_equal c.compared_at.result (sym c.eq.ensures ∙ c.if-eq.true) in
+    let equal = c.are_alike.ensures.0 c.if-are_alike.true in
     record {
       whole =
           (λ k. front ++ sums_with (value k) (after k))
@@ -67,9 +66,9 @@ loop-i-preserved c =
     let plain : to_z w128 c.loop-i.sum-bits +ℤ to_z w128 (of_z w128 c.sum.inside.coefficient) ≡ sum +ℤ t.1 = omega (arith, ints, c.loop-i.invariant.small, ap terms_total next, count, same, c.loop-i.sum-is) in
     let other : IsOther t rest =
     elim c.else-i-order.branch [
-      | else-i-order-via-then-i-order+else-eq w ↦
+      | else-i-order-via-then-i-order+else-are_alike w ↦
           subst (IsOther t) (sym (next_addition ps order (i + 1) d w.if-i-order.true))
-          (λ z. index_other w.compared_at.result (sym w.eq.ensures ∙ w.if-eq.false) (w.compared_at.ensures ∙ z))
+          (λ z. let both : true ≡ false = sym (w.are_alike.ensures.1 z) ∙ w.if-are_alike.false in cc)
       | else-i-order-via-else-i-order w ↦
           subst (IsOther t) (sym (ap (additions_at ps) (drop_all (i + 1) order w.if-i-order.false))) tt
     ] in

@@ -1,5 +1,5 @@
-use Rattle.std.proofs.Common.{◌≡◌, ◌+◌, ◌≤◌, ◌^◌, ◌++◌, ◌+ℤ◌, ℕ, pos, map, drop, get_or, unsigned_abs}
-use Rattle.term_table.specs.Terms.{Term, terms_total}
+use Rattle.std.proofs.Common.{◌≡◌, ◌+◌, ◌≤◌, ◌^◌, ◌++◌, map, drop, unsigned_abs}
+use Rattle.term_table.specs.Terms.{terms_total}
 use Rattle.term_table.specs.Summed.{sums_of}
 use Rattle.direct_quad.specs.Long.{product_term, additions_at, sums_with}
 use Rattle.direct_quad.proofs.additions.summed_additions.Given as goal

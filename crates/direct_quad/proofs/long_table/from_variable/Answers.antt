@@ -1,4 +1,4 @@
-use Rattle.std.proofs.Common.{◌≡◌, ◌∷◌, List, IsTrue, sym, ap, ◌∙◌, subst}
+use Rattle.std.proofs.Common.{List, IsTrue, sym, ap, ◌∙◌, subst}
 use Rattle.std.proofs.lemmas.Map.Iter.{rest_more}
 use Rattle.problem_form.specs.declared.literal.Literal.{Literal}
 use Rattle.direct_quad.specs.Keys.{has_variable, from_variable}

@@ -1,11 +1,11 @@
-use Rattle.std.proofs.Common.{◌≡◌, ◌<◌, ◌≤◌, ◌+◌, ◌^◌, length, get_or, ap, sym, ◌∙◌, subst, arith, rules, to_z, of_z}
+use Rattle.std.proofs.Common.{◌≡◌, ◌≤◌, ◌+◌, length, ap, sym, ◌∙◌, subst, arith, rules}
 use Rattle.std.specs.Int.{w128}
 use Rattle.std.proofs.lemmas.Int.{to_z-of_z}
 use Rattle.std.proofs.lemmas.List.Elements.{All-get_or}
 use Rattle.std.proofs.lemmas.Option.{slice_get_within, get_or_from_slice_get}
 use Rattle.problem_form.specs.declared.terms.Product.{Product}
 use Rattle.monomial_layer.specs.Monomials.{new_nodes}
-use Rattle.direct_quad.specs.Long.{product_term, terms_of, node_count}
+use Rattle.direct_quad.specs.Long.{product_term}
 use Rattle.direct_quad.proofs.SortedAdditions.{numbers_more, count_more, count_within}
 use Rattle.direct_quad.proofs.long_table.numbered.Goals as goal
 

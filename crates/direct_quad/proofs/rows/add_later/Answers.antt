@@ -1,16 +1,15 @@
-use Rattle.std.proofs.Common.{◌≡◌, ◌<◌, ◌≤◌, ◌+◌, ◌^◌, ◌∷◌, [], List, ℕ, ℤ, length, map, pos, sym, ap, ◌∙◌, refl, subst, arith, rules, to_z, of_z, unsigned_abs}
+use Rattle.std.proofs.Common.{◌≡◌, ◌<◌, ◌≤◌, ◌+◌, ◌^◌, List, length, map, sym, ap, ◌∙◌, subst, arith, rules, to_z, of_z}
 use Rattle.std.specs.Prelude.{All}
 use Rattle.std.specs.Int.{w128}
-use Rattle.std.proofs.lemmas.Int.{ints, to_z-of_z}
-use Rattle.std.proofs.lemmas.Map.Iter.{rest_more, rest_all}
+use Rattle.std.proofs.lemmas.Int.{to_z-of_z}
+use Rattle.std.proofs.lemmas.Map.Iter.{rest_more}
 use Rattle.std.proofs.lemmas.List.Elements.{All-rest, All-head}
-use Rattle.bits_model.specs.declared.output.Entry.{Entry}
 use Rattle.bits_model.specs.Output.{weight_total}
 use Rattle.problem_form.specs.declared.literal.Literal.{Literal}
 use Rattle.direct_quad.specs.Places.{signed, pair_coupler}
 use Rattle.direct_quad.specs.RowSums.{with_weight, with_entries, size_of}
 use Rattle.direct_quad.proofs.SummedRows.{length-with_weight}
-use Rattle.direct_quad.proofs.KeyLists.{added_size, first_size, signed_comm, size-signed}
+use Rattle.direct_quad.proofs.KeyLists.{added_size, first_size, signed_comm}
 use Rattle.direct_quad.proofs.rows.add_later.Goals as goal
 
 pub add-requires-clause-small : goal.add-requires-clause-small

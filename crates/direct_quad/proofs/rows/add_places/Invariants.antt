@@ -1,11 +1,12 @@
-use Rattle.std.proofs.Common.{◌≡◌, ◌+◌, ◌≤◌, ◌^◌, length, drop}
+use Rattle.std.proofs.Common.{◌≡◌, ◌+◌, ◌++◌, ◌≤◌, ◌^◌, length, map, drop}
+use Rattle.std.specs.Prelude.{All}
 use Rattle.std.specs.List.{flat_map}
 use Rattle.bits_model.specs.Output.{weight_total}
 use Rattle.direct_quad.specs.Keys.{places_at}
-use Rattle.direct_quad.specs.RowSums.{with_entries, size_of, pair_part}
+use Rattle.direct_quad.specs.RowSums.{with_entries, size_of, pair_part, head_of, IsHead}
 use Rattle.direct_quad.proofs.rows.add_places.Given as goal
 
--- the places that are left make the sums those of all, and stay small
+-- the places that are left make the sums and the heads those of all, and stay small
 abbrev pub invariant-loop-key : goal.invariant-loop-key
 invariant-loop-key l = record {
   whole :
@@ -16,4 +17,8 @@ invariant-loop-key l = record {
       size_of l.sums
       + weight_total (flat_map pair_part (places_at l.long l.variable (drop l.key-index l.keys)))
       ≤ 2 ^ 126;
+  heads :
+      l.heads.items ++ map head_of (places_at l.long l.variable (drop l.key-index l.keys))
+      ≡ map head_of (places_at l.long l.variable l.keys);
+  kept : All IsHead l.heads.items;
 }

@@ -1,8 +1,7 @@
 use Rattle.std.proofs.Common.{◌≡◌, ◌/◌, ◌^◌, ℕ, length}
 use Rattle.std.proofs.lemmas.List.Elements.{All-nil, All-more}
 use Rattle.std.specs.Prelude.{All}
-use Rattle.std.proofs.Common.{take, subst, sym, ap, ◌∙◌, arith, List}
-use Rattle.std.proofs.lemmas.List.{take_all}
+use Rattle.std.proofs.Common.{take, subst, sym, ap, arith, List}
 use Rattle.direct_quad.proofs.rows.count_of.Goals as goal
 
 pub loop-i-init : goal.loop-i-init

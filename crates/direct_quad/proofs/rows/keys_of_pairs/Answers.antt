@@ -1,4 +1,4 @@
-use Rattle.std.proofs.Common.{◌≡◌, ◌∙◌, ◌++◌, ◌∷◌, [], take, length, ap, sym, arith}
+use Rattle.std.proofs.Common.{◌∙◌, ◌++◌, ◌∷◌, [], ap, arith}
 use Rattle.std.proofs.lemmas.List.{take_all}
 use Rattle.direct_quad.specs.Keys.{key_of, pair_keys}
 use Rattle.direct_quad.proofs.KeyLists.{pair_keys_more}

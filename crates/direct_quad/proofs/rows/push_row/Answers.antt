@@ -1,11 +1,12 @@
-use Rattle.std.proofs.Common.{◌≡◌, ◌<◌, ◌≤◌, ◌+◌, ◌^◌, ◌++◌, ℕ, List, ℤ, length, map, replicate, pos, sym, ap, ◌∙◌, subst, arith}
+use Rattle.std.proofs.Common.{◌≡◌, ◌<◌, ◌++◌, ℕ, List, ℤ, length, map, replicate, pos, sym, ap, ◌∙◌, subst, arith}
 use Rattle.std.specs.List.{flat_map, AllByRecursion}
 use Rattle.std.proofs.lemmas.List.{length-replicate}
 use Rattle.std.proofs.lemmas.List.Elements.{recursion_from_All}
 use Rattle.bits_model.specs.declared.output.Entry.{Entry}
 use Rattle.direct_quad.specs.Keys.{pair_at, places_at, index_of}
-use Rattle.direct_quad.specs.RowSums.{with_entries, size_of, pair_part, node_part, Appends, AppendsBoth}
+use Rattle.direct_quad.specs.RowSums.{with_entries, size_of, pair_part, node_part, head_part, AppendsBoth}
 use Rattle.direct_quad.proofs.SummedRows.{length-with_entries, no_size}
+use Rattle.direct_quad.proofs.KeptPlaces.{heads_part}
 use Rattle.direct_quad.proofs.KeyPlaces.{pairs_within, size-with_entries}
 use Rattle.direct_quad.proofs.rows.push_row.Goals as goal
 
@@ -32,11 +33,16 @@ returns-clause-row c =
     let pairs = map (pair_at c.args.pairs.now) c.args.pair_keys.now in
     let places = flat_map pair_part (places_at c.args.long.now c.args.variable c.args.place_keys.now) in
     let nodes = flat_map node_part (places_at c.args.long.now c.args.variable c.args.place_keys.now) in
-    let sums = c.in_ok-add_places.ensures ∙ ap (λ (ss : List ℤ). with_entries ss places) c.in_ok-add_pairs.ensures in
-    subst (λ (ss : List ℤ). AppendsBoth c.args.variable ss nodes c.args.couplers.now c.push_all_nodes.new.couplers) sums
+    let heads = c.deref.ensures.value ∙ c.in_ok-add_places.ensures.heads in
+    let made : c.push_heads.new.couplers ≡ c.put_into.new.couplers ++ nodes =
+    c.in_ok-push_heads.ensures
+    ∙ ap (λ hs. c.put_into.new.couplers ++ flat_map head_part hs) heads
+    ∙ ap (λ es. c.put_into.new.couplers ++ es) (heads_part (places_at c.args.long.now c.args.variable c.args.place_keys.now)) in
+    let sums = c.in_ok-add_places.ensures.sums ∙ ap (λ (ss : List ℤ). with_entries ss places) c.in_ok-add_pairs.ensures in
+    subst (λ (ss : List ℤ). AppendsBoth c.args.variable ss nodes c.args.couplers.now c.push_heads.new.couplers) sums
     (record {
       row = put.row;
-      appended = c.in_ok-push_all_nodes.ensures ∙ ap (λ es. es ++ nodes) put.appended;
+      appended = made ∙ ap (λ es. es ++ nodes) put.appended;
       summed = put.summed;
     })
 
@@ -46,7 +52,7 @@ returns-clause-zeros c =
     let pairs = map (pair_at c.args.pairs.now) c.args.pair_keys.now in
     let places = flat_map pair_part (places_at c.args.long.now c.args.variable c.args.place_keys.now) in
     let size : length c.add_places.new.sums ≡ w =
-    ap length c.in_ok-add_places.ensures ∙ length-with_entries c.add_pairs.new.sums places
+    ap length c.in_ok-add_places.ensures.sums ∙ length-with_entries c.add_pairs.new.sums places
     ∙ ap length c.in_ok-add_pairs.ensures ∙ length-with_entries c.args.sums.now pairs
     ∙ ap length c.requires.zeros ∙ length-replicate w (pos 0) in
     c.in_ok-put_into.ensures.zeros ∙ ap (λ n. replicate n (pos 0)) size ∙ sym c.requires.zeros

@@ -1,4 +1,4 @@
-use Rattle.std.proofs.Common.{◌≡◌, ◌<◌, length, map}
+use Rattle.std.proofs.Common.{◌<◌, length, map}
 use Rattle.std.specs.Prelude.{All}
 use Rattle.problem_form.specs.declared.literal.Literal.{Literal}
 use Rattle.direct_quad.specs.Places.{literal_share}

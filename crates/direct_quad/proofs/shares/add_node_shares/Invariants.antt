@@ -1,4 +1,3 @@
-use Rattle.std.proofs.Common.{◌≡◌}
 use Rattle.direct_quad.specs.Places.{node_shares}
 use Rattle.direct_quad.specs.Held.{Gain, shares_total}
 use Rattle.direct_quad.proofs.shares.add_node_shares.Given as goal

@@ -1,6 +1,6 @@
-use Rattle.std.proofs.Common.{rules, ◌*ℤ◌, ◌∙◌, arith}
+use Rattle.std.proofs.Common.{rules, ◌*ℤ◌, arith}
 use Rattle.std.specs.Int.{w128}
-use Rattle.std.proofs.lemmas.Int.{ints, to_z-of_z}
+use Rattle.std.proofs.lemmas.Int.{to_z-of_z}
 use Rattle.direct_quad.proofs.GainedShares.{product_bound}
 use Rattle.direct_quad.proofs.shares.product.Goals as goal
 

@@ -10,8 +10,11 @@ use Rattle.problem_form.specs.declared.terms.Constraint.{Constraint}
 use Rattle.term_table.specs.Terms.{IsTermSet}
 use Rattle.term_table.proofs.SmallSets.{IsTermSet-none}
 use Rattle.penalty_layer.specs.Weights.{clause_weights}
+use Rattle.penalty_layer.specs.Gathered.{squares}
+use Rattle.penalty_layer.specs.Squares.{product_term, constraint_terms}
+use Rattle.penalty_layer.proofs.Sizes.{squares_within}
 use Rattle.term_table.specs.Products.{IsFactor}
-use Rattle.penalty_layer.specs.Penalty.{opposite, node_count}
+use Rattle.penalty_layer.specs.Penalty.{opposite, clause_term, node_count}
 use Rattle.penalty_layer.proofs.Bounds.{within_limits, all_within}
 use Rattle.penalty_layer.proofs.Sums.{products_terms_total, clauses_terms_total}
 use Rattle.penalty_layer.proofs.Admitted.{nodes_within}
@@ -105,4 +108,51 @@ add_constraints-requires-clause-small g c =
       c.in_ok-add_products.ensures.counted,
       c.in_ok-gather.ensures.total,
       c.requires.total,
+    )
+
+pub add_products-requires-clause-few : goal.add_products-requires-clause-few
+add_products-requires-clause-few g c =
+    omega (
+      arith,
+      squares_within c.args.problem.now c.requires.admits.within,
+      ap (λ (q : ProblemContent). squares (map product_term q.objective)) c.problem.view_is,
+      c.in_ok-gather.ensures.pairs,
+      c.requires.pairs,
+    )
+
+pub add_clauses-requires-clause-few : goal.add_clauses-requires-clause-few
+add_clauses-requires-clause-few g c =
+    let p = c.args.problem.now in
+    let clauses : squares (map (clause_term c.penalty-penalty.result) c.problem.inside.clauses)
+    ≡ squares (map (clause_term (penalty p)) p.clauses) =
+    λ i. squares (map (clause_term (c.penalty-penalty.ensures.value i)) (c.problem.view_is i).clauses) in
+    omega (
+      arith,
+      squares_within p c.requires.admits.within,
+      ap (λ (q : ProblemContent). squares (map product_term q.objective)) c.problem.view_is,
+      clauses,
+      c.in_ok-add_products.ensures.few,
+      c.in_ok-gather.ensures.pairs,
+      c.requires.pairs,
+    )
+
+pub add_constraints-requires-clause-few : goal.add_constraints-requires-clause-few
+add_constraints-requires-clause-few g c =
+    let p = c.args.problem.now in
+    let clauses : squares (map (clause_term c.penalty-penalty.result) c.problem.inside.clauses)
+    ≡ squares (map (clause_term (penalty p)) p.clauses) =
+    λ i. squares (map (clause_term (c.penalty-penalty.ensures.value i)) (c.problem.view_is i).clauses) in
+    let constraints : squares (constraint_terms c.penalty-penalty.result c.problem.inside.variables c.problem.inside.constraints)
+    ≡ squares (constraint_terms (penalty p) p.variables p.constraints) =
+    λ i. squares (constraint_terms (c.penalty-penalty.ensures.value i) (c.problem.view_is i).variables (c.problem.view_is i).constraints) in
+    omega (
+      arith,
+      squares_within p c.requires.admits.within,
+      ap (λ (q : ProblemContent). squares (map product_term q.objective)) c.problem.view_is,
+      clauses,
+      constraints,
+      c.in_ok-add_clauses.ensures.few,
+      c.in_ok-add_products.ensures.few,
+      c.in_ok-gather.ensures.pairs,
+      c.requires.pairs,
     )

@@ -8,7 +8,8 @@ use Rattle.problem_form.specs.Limits.{reach, slack_bits}
 use Rattle.term_table.specs.Terms.{Term, terms_total}
 use Rattle.term_table.specs.Products.{IsFactor}
 use Rattle.penalty_layer.specs.Squares.{square_terms, slack_form, constraint_terms}
-use Rattle.penalty_layer.proofs.Gathering.{gathers_same, rest_more}
+use Rattle.penalty_layer.specs.Gathered.{squares}
+use Rattle.penalty_layer.proofs.Gathering.{next_few, gathers_same, rest_more}
 use Rattle.penalty_layer.proofs.Sets.{slack_form-factors}
 use Rattle.penalty_layer.proofs.Sums.{slack_form-total, constraint-total}
 use Rattle.penalty_layer.proofs.constraints.add_constraints.Goals as goal
@@ -48,11 +49,28 @@ add_square-requires-clause-small g c =
       sum_by-cons size k c.next.new.self,
     )
 
+pub add_square-requires-clause-few : goal.add_square-requires-clause-few
+add_square-requires-clause-few g c =
+    let n = c.args.factor in
+    let k = c.in-Some.constraint in
+    let next = c.loop-constraint.next in
+    let left = c.loop-constraint.constraint-iterator in
+    let rest = c.next.new.self in
+    omega (
+      arith,
+      ap (λ (ts : List Term). squares (square_terms n ts)) c.in_ok-fill.ensures,
+      next_few g.T.Gather.holds g.T.Gather.width g.T.Gather.total g.T.Gather.pairs c.args.terms.now
+          c.loop-constraint.terms (constraint_terms n next left) (constraint_terms n (next + slack_bits k) rest)
+          (constraint_terms n c.args.first c.args.constraints.now) (square_terms n (slack_form next k)) (2 ^ 25)
+          (ap (constraint_terms n next) c.in-Some.ensures.steps) c.loop-constraint.invariant.rest c.requires.few,
+    )
+
 pub loop-constraint-preserved : goal.loop-constraint-preserved
 loop-constraint-preserved g c =
     let Holds = g.T.Gather.holds in
     let Width = g.T.Gather.width in
     let Total = g.T.Gather.total in
+    let Pairs = g.T.Gather.pairs in
     let n = c.args.factor in
     let k = c.in-Some.constraint in
     let left = c.loop-constraint.constraint-iterator in
@@ -63,7 +81,7 @@ loop-constraint-preserved g c =
     let new = c.add_square.new.terms in
     let count = c.slack_bits_of-next.ensures in
     let one =
-    gathers_same Holds Width Total now new _ (square_terms n (slack_form next k))
+    gathers_same Holds Width Total Pairs now new _ (square_terms n (slack_form next k))
     (ap (square_terms n) c.in_ok-fill.ensures) c.in_ok-add_square.ensures in
     let terms : constraint_terms n next left
     ≡ square_terms n (slack_form next k) ++ constraint_terms n (next + c.slack_bits_of-next.result) rest =
@@ -73,7 +91,7 @@ loop-constraint-preserved g c =
     let P : Constraint → Type 0 = λ j. All (λ t. IsFactor (Width c.args.terms.now) t.literals) j.products in
     record {
       rest =
-          rest_more Holds Width Total c.args.terms.now now new (constraint_terms n next left)
+          rest_more Holds Width Total Pairs c.args.terms.now now new (constraint_terms n next left)
           (constraint_terms n (next + c.slack_bits_of-next.result) rest)
           (constraint_terms n c.args.first c.args.constraints.now) _ terms one c.loop-constraint.invariant.rest;
       small =

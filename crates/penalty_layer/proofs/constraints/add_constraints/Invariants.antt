@@ -10,7 +10,7 @@ use Rattle.penalty_layer.proofs.constraints.add_constraints.Given as goal
 -- the squares so far were added, and those of the constraints that are left fit
 abbrev pub invariant-loop-constraint : goal.invariant-loop-constraint
 invariant-loop-constraint g l = record {
-  rest : Rest g.T.Gather.holds g.T.Gather.width g.T.Gather.total l.fn.terms l.terms
+  rest : Rest g.T.Gather.holds g.T.Gather.width g.T.Gather.total g.T.Gather.pairs l.fn.terms l.terms
       (constraint_terms l.factor l.next l.constraint-iterator)
       (constraint_terms l.factor l.first l.constraints);
   small : g.T.Gather.total l.terms + sum_by (λ k. l.factor * reach k ^ 2) l.constraint-iterator ≤ 2 ^ 97;

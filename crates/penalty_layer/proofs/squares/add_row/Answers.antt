@@ -4,7 +4,8 @@ use Rattle.std.proofs.lemmas.Int.{to_z-of_z, unsigned_abs-mul}
 use Rattle.term_table.specs.Terms.{Term}
 use Rattle.term_table.specs.Products.{products_with, union_terms, IsFactor}
 use Rattle.term_table.proofs.TermProducts.{union_terms-total}
-use Rattle.penalty_layer.proofs.Gathering.{gathers_same, rest_more}
+use Rattle.penalty_layer.specs.Gathered.{squares}
+use Rattle.penalty_layer.proofs.Gathering.{next_few, gathers_same, rest_more}
 use Rattle.penalty_layer.proofs.SquareSteps.{part_at, row_step, row_small}
 use Rattle.penalty_layer.proofs.squares.add_row.Goals as goal
 
@@ -41,6 +42,7 @@ loop-j-preserved g c =
     let Holds = g.T.Gather.holds in
     let Width = g.T.Gather.width in
     let Total = g.T.Gather.total in
+    let Pairs = g.T.Gather.pairs in
     let now = c.loop-j.terms in
     let new = c.add_union.new.terms in
     let a = c.args.coefficient.now in
@@ -53,10 +55,10 @@ loop-j-preserved g c =
     let same : to_z w128 (of_z w128 b) ≡ b = to_z-of_z w128 b (search rules) in
     let product : to_z w128 (of_z w128 c.times.result) ≡ a *ℤ b =
     to_z-of_z w128 c.times.result (search rules) ∙ c.times.ensures ∙ ap (λ z. a *ℤ z) same in
-    let one = gathers_same Holds Width Total now new _ _ (ap (union_terms ls ks) product) c.in_ok-add_union.ensures in
+    let one = gathers_same Holds Width Total Pairs now new _ _ (ap (union_terms ls ks) product) c.in_ok-add_union.ensures in
     record {
       rest =
-          rest_more Holds Width Total c.args.terms.now now new (products_with t (drop j us))
+          rest_more Holds Width Total Pairs c.args.terms.now now new (products_with t (drop j us))
           (products_with t (drop (j + 1) us)) (products_with t (drop c.args.start us)) _
           (row_step t us j (ks, b) c.at-other.ensures) one c.loop-j.invariant.rest;
       small =
@@ -68,3 +70,24 @@ loop-j-preserved g c =
             row_small (unsigned_abs a) us j (ks, b) (Total now) (2 ^ 97) c.at-other.ensures c.loop-j.invariant.small,
           );
     }
+
+pub add_union-requires-clause-few : goal.add_union-requires-clause-few
+add_union-requires-clause-few g c =
+    let a = c.args.coefficient.now in
+    let b = c.at-other.result.1 in
+    let ls = c.args.ls.now in
+    let ks = c.at-other.result.0.now in
+    let us = c.args.parts.now in
+    let j = c.loop-j.j in
+    let t : Term = (ls, a) in
+    let same : to_z w128 (of_z w128 b) ≡ b = to_z-of_z w128 b (search rules) in
+    let product : to_z w128 (of_z w128 c.times.result) ≡ a *ℤ b =
+    to_z-of_z w128 c.times.result (search rules) ∙ c.times.ensures ∙ ap (λ z. a *ℤ z) same in
+    omega (
+      arith,
+      ap (λ z. squares (union_terms ls ks z)) product,
+      next_few g.T.Gather.holds g.T.Gather.width g.T.Gather.total g.T.Gather.pairs c.args.terms.now c.loop-j.terms
+          (products_with t (drop j us)) (products_with t (drop (j + 1) us)) (products_with t (drop c.args.start us))
+          (union_terms ls ks (a *ℤ b)) (2 ^ 25) (row_step t us j (ks, b) c.at-other.ensures)
+          c.loop-j.invariant.rest c.requires.few,
+    )

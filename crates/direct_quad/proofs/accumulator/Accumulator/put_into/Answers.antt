@@ -1,8 +1,7 @@
-use Rattle.std.proofs.Common.{◌≡◌, ◌≢◌, ◌++◌, ◌<◌, ◌≤◌, ◌^◌, ℕ, ℤ, pos, replicate, take, drop, List, [], length, get_or, All, sym, ap, ◌∙◌, refl, subst, arith, rules}
+use Rattle.std.proofs.Common.{◌≡◌, ◌≢◌, ◌++◌, ◌<◌, ℕ, ℤ, pos, replicate, take, drop, List, length, get_or, All, sym, ap, ◌∙◌, subst, arith}
 use Rattle.std.specs.Prelude.{Contains}
-use Rattle.std.specs.List.Sorted.{IsPermutation}
 use Rattle.std.proofs.lemmas.List.Sorted.{IsNonDecreasingBy-from_sort, All-permutation, Contains-permutation}
-use Rattle.direct_quad.specs.RowSums.{taken, emptied, AreTouched, Appends}
+use Rattle.direct_quad.specs.RowSums.{taken, emptied, Appends}
 use Rattle.direct_quad.proofs.SummedRows.{AreSums-taken, Climbs, Climbs-from, changed, emptied_is, touched_kept, touched_none}
 use Rattle.direct_quad.proofs.accumulator.Accumulator.put_into.Goals as goal
 

@@ -1,8 +1,6 @@
-use Rattle.std.proofs.Common.{rules, ◌≡◌, ◌+◌, ◌++◌, ◌∷◌, [], ap, ◌∙◌, sym, subst, refl, length, unsigned_abs, to_z, of_z, ℤ, List, arith}
+use Rattle.std.proofs.Common.{rules, ◌≡◌, ◌+◌, ap, sym, subst, refl, length, unsigned_abs, to_z, of_z, ℤ, arith}
 use Rattle.std.specs.Int.{w128}
 use Rattle.std.proofs.lemmas.Int.{to_z-of_z}
-use Rattle.problem_form.specs.declared.literal.Literal.{Literal}
-use Rattle.problem_form.specs.declared.terms.Product.{Product}
 use Rattle.term_table.specs.Terms.{IsTermSet}
 use Rattle.direct_quad.specs.Held.{HeldContent, AreHeld}
 use Rattle.direct_quad.proofs.HeldTerms.{held-long_as, fits-long}

@@ -1,7 +1,6 @@
-use Rattle.std.proofs.Common.{rules, ◌≡◌, ◌+◌, ◌*◌, ◌++◌, ◌≤◌, ◌^◌, ap, ◌∙◌, sym, subst, refl, length, take, drop, unsigned_abs, to_z, of_z, ℤ, pos, ◌+ℤ◌, List, arith}
+use Rattle.std.proofs.Common.{rules, ◌≡◌, ◌+◌, ◌*◌, ◌≤◌, ◌^◌, ap, sym, subst, refl, length, unsigned_abs, to_z, of_z, ℤ, ◌+ℤ◌, List, arith}
 use Rattle.std.specs.Int.{w128}
 use Rattle.std.proofs.lemmas.Int.{ints, to_z-of_z}
-use Rattle.std.proofs.lemmas.List.{with_items_is}
 use Rattle.term_table.specs.Terms.{IsTermSet}
 use Rattle.term_table.specs.Tables.{with_appended}
 use Rattle.direct_quad.specs.Places.{short_constant, short_shares}

@@ -1,10 +1,9 @@
-use Rattle.std.proofs.Common.{◌≡◌, ◌<◌, ℕ, List, length, map, get_or, Some, slice_get, sym, ap, ◌∙◌, subst, rules, arith, to_z, of_z}
+use Rattle.std.proofs.Common.{◌≡◌, ◌<◌, ℕ, List, length, get_or, Some, slice_get, sym, ap, ◌∙◌, subst, rules, arith}
 use Rattle.std.specs.Int.{w128}
 use Rattle.std.proofs.lemmas.Int.{to_z-of_z}
 use Rattle.std.proofs.lemmas.List.{get_or_default}
-use Rattle.term_table.specs.Terms.{Term}
 use Rattle.term_table.specs.Tables.{TableContent}
-use Rattle.direct_quad.specs.Long.{terms_of, node_at, first_nodes}
+use Rattle.direct_quad.specs.Long.{terms_of, node_at}
 use Rattle.direct_quad.proofs.LongPlaces.{length-first_nodes, first_nodes_at, term_from_product}
 use Rattle.direct_quad.proofs.long_table.LongTable.at.Goals as goal
 

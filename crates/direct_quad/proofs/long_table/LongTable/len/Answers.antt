@@ -1,6 +1,6 @@
-use Rattle.std.proofs.Common.{◌≡◌, length, ap, ◌∙◌, sym, arith, rules, subst, ◌<◌, ◌^◌}
+use Rattle.std.proofs.Common.{◌≡◌, length, ap, ◌∙◌, arith, rules}
 use Rattle.term_table.specs.Tables.{TableContent}
-use Rattle.direct_quad.specs.Long.{AreLong, terms_of}
+use Rattle.direct_quad.specs.Long.{terms_of}
 use Rattle.direct_quad.proofs.LongPlaces.{length-first_nodes, few_terms}
 use Rattle.direct_quad.proofs.long_table.LongTable.len.Goals as goal
 

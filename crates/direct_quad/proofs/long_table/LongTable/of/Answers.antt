@@ -1,9 +1,9 @@
-use Rattle.std.proofs.Common.{◌≡◌, ◌<◌, ◌≤◌, ◌^◌, [], List, map, length, ap, sym, ◌∙◌, subst}
+use Rattle.std.proofs.Common.{◌<◌, ◌≤◌, ◌^◌, List, length, ap, sym, ◌∙◌, subst}
 use Rattle.std.specs.Prelude.{All}
 use Rattle.term_table.specs.Terms.{Term}
 use Rattle.term_table.specs.Summed.{sums_of}
 use Rattle.term_table.proofs.SummedTerms.{summed_is}
-use Rattle.direct_quad.specs.Long.{product_term, node_count, additions_at, AreLong}
+use Rattle.direct_quad.specs.Long.{node_count, additions_at, AreLong}
 use Rattle.direct_quad.proofs.SortedAdditions.{long_of, AreLong-table}
 use Rattle.direct_quad.proofs.long_table.LongTable.of.Goals as goal
 

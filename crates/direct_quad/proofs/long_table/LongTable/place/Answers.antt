@@ -1,12 +1,11 @@
-use Rattle.std.proofs.Common.{◌≡◌, ◌∷◌, [], List, length, get_or, pos, sym, ap, ◌∙◌, subst, rules}
+use Rattle.std.proofs.Common.{◌≡◌, ◌∷◌, [], length, get_or, pos, sym, ap, ◌∙◌, subst, rules}
 use Rattle.std.specs.Int.{w128}
 use Rattle.std.proofs.lemmas.Int.{to_z-of_z}
 use Rattle.std.proofs.lemmas.Option.{get_or_from_slice_get}
 use Rattle.std.proofs.lemmas.List.Elements.{All-get_or}
-use Rattle.problem_form.specs.declared.literal.Literal.{Literal}
 use Rattle.term_table.specs.Terms.{Term, IsTermSet}
 use Rattle.term_table.proofs.SmallSets.{Ascend, IsLiteralSet-ascends}
-use Rattle.direct_quad.specs.Places.{Place, term_places, places_in}
+use Rattle.direct_quad.specs.Places.{term_places, places_in}
 use Rattle.direct_quad.specs.Rows.{places_of}
 use Rattle.direct_quad.specs.Long.{node_at, IsPlaceOf}
 use Rattle.direct_quad.proofs.LongPlaces.{only_place, place_kept}

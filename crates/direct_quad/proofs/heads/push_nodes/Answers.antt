@@ -4,7 +4,7 @@ use Rattle.std.proofs.lemmas.Int.{to_z-of_z}
 use Rattle.monomial_layer.specs.Monomials.{factor}
 use Rattle.direct_quad.specs.Places.{signed, node_couplers}
 use Rattle.direct_quad.proofs.KeyLists.{node_couplers-more, factor-low, factor-le, turned}
-use Rattle.direct_quad.proofs.rows.push_nodes.Goals as goal
+use Rattle.direct_quad.proofs.heads.push_nodes.Goals as goal
 
 pub loop-k-preserved : goal.loop-k-preserved
 loop-k-preserved c =

@@ -1,6 +1,6 @@
 use Rattle.std.proofs.Common.{◌≡◌, ◌++◌}
 use Rattle.direct_quad.specs.Places.{node_couplers}
-use Rattle.direct_quad.proofs.rows.push_nodes.Given as goal
+use Rattle.direct_quad.proofs.heads.push_nodes.Given as goal
 
 -- the couplers with the new nodes so far
 abbrev pub invariant-loop-k : goal.invariant-loop-k

@@ -1,0 +1,79 @@
+use Rattle.std.proofs.Common.{rules, ◌≡◌, ℕ, ◌<◌, ◌≤◌, ◌^◌, ap, ◌∙◌, sym, subst, length, ◌+ℤ◌, unsigned_abs, to_z, of_z, arith}
+use Rattle.std.specs.Int.{w128}
+use Rattle.std.proofs.lemmas.Int.{ints}
+use Rattle.std.specs.Prelude.{All}
+use Rattle.std.proofs.lemmas.List.Sorted.{All-permutation}
+use Rattle.integers.specs.Sums.{total_by}
+use Rattle.term_table.specs.Terms.{terms_total}
+use Rattle.term_table.specs.Tables.{TableContent, AreAdditions}
+use Rattle.quad_form.specs.Pairs.{IsPair}
+use Rattle.direct_quad.specs.Parts.{table_of}
+use Rattle.direct_quad.specs.Places.{long_constant}
+use Rattle.direct_quad.specs.Long.{terms_of, node_count}
+use Rattle.direct_quad.specs.Held.{HeldContent, AreHeld}
+use Rattle.direct_quad.proofs.HeldSums.{additions-held, couplers-fit, weights-fit, constants-fit, same_table, rows-permuted, total-permuted, sum-of_held}
+use Rattle.direct_quad.proofs.gathered.DirectTerms.into_sums.Goals as goal
+
+pub of-requires-clause-additions : goal.of-requires-clause-additions
+of-requires-clause-additions c =
+    let h : HeldContent = record { total = c.self.inside.total; constant = c.self.inside.constant; weights = c.self.inside.weights.items; pairs = c.self.inside.pairs; long = c.self.inside.long } in
+    let size : c.len.result ≡ length h.weights = search rules in
+    subst (λ (n : ℕ). AreAdditions (terms_of n h.long)) (sym size) (additions-held h c.self.invariant)
+
+pub couplers_of-requires-clause-small : goal.couplers_of-requires-clause-small
+couplers_of-requires-clause-small c =
+    let h : HeldContent = record { total = c.self.inside.total; constant = c.self.inside.constant; weights = c.self.inside.weights.items; pairs = c.self.inside.pairs; long = c.self.inside.long } in
+    let size : c.len.result ≡ length h.weights = search rules in
+    let made : c.in_ok-table.table ≡ table_of (terms_of (length h.weights) h.long) =
+    c.in_ok-table.ensures ∙ ap (λ n. table_of (terms_of n h.long)) size in
+    omega (
+      arith,
+      couplers-fit h c.self.invariant,
+      ap (λ (u : TableContent). terms_total u.terms) made,
+      total-permuted h.pairs c.sorted-pairs.result c.sorted-pairs.ensures,
+    )
+
+pub with_long-requires-clause-small : goal.with_long-requires-clause-small
+with_long-requires-clause-small c =
+    let h : HeldContent = record { total = c.self.inside.total; constant = c.self.inside.constant; weights = c.self.inside.weights.items; pairs = c.self.inside.pairs; long = c.self.inside.long } in
+    let size : c.len.result ≡ length h.weights = search rules in
+    let made : c.in_ok-table.table ≡ table_of (terms_of (length h.weights) h.long) =
+    c.in_ok-table.ensures ∙ ap (λ n. table_of (terms_of n h.long)) size in
+    omega (arith, weights-fit h c.self.invariant, ap (λ (u : TableContent). terms_total u.terms) made)
+
+pub overflow_add-result : goal.overflow_add-result
+overflow_add-result c =
+    let h : HeldContent = record { total = c.self.inside.total; constant = c.self.inside.constant; weights = c.self.inside.weights.items; pairs = c.self.inside.pairs; long = c.self.inside.long } in
+    let size : c.len.result ≡ length h.weights = search rules in
+    let made : c.in_ok-table.table ≡ table_of (terms_of (length h.weights) h.long) =
+    c.in_ok-table.ensures ∙ ap (λ n. table_of (terms_of n h.long)) size in
+    let narrow : node_count (table_of (terms_of (length h.weights) h.long)) < 2 ^ 32 =
+    subst (λ (k : HeldContent). node_count (table_of (terms_of (length k.weights) k.long)) < 2 ^ 32) (sym c.self.view_is) c.requires.narrow in
+    let fits : unsigned_abs (total_by long_constant c.in_ok-table.table.terms) ≤ 2 ^ 119 =
+    omega (arith, ap (λ (u : TableContent). unsigned_abs (total_by long_constant u.terms)) made, constants-fit h c.self.invariant narrow) in
+    search (rules, fits, c.in_ok-weights.ensures.constant, c.self.invariant.constant, c.self.invariant.total)
+
+pub returns : goal.returns
+returns c t additions held =
+    let h : HeldContent = record { total = c.self.inside.total; constant = c.self.inside.constant; weights = c.self.inside.weights.items; pairs = c.self.inside.pairs; long = c.self.inside.long } in
+    let size : c.len.result ≡ length h.weights = search rules in
+    let made : c.in_ok-table.table ≡ table_of (terms_of (length h.weights) h.long) =
+    c.in_ok-table.ensures ∙ ap (λ n. table_of (terms_of n h.long)) size in
+    let narrow : node_count (table_of (terms_of (length h.weights) h.long)) < 2 ^ 32 =
+    subst (λ (k : HeldContent). node_count (table_of (terms_of (length k.weights) k.long)) < 2 ^ 32) (sym c.self.view_is) c.requires.narrow in
+    let fits : unsigned_abs (total_by long_constant c.in_ok-table.table.terms) ≤ 2 ^ 119 =
+    omega (arith, ap (λ (u : TableContent). unsigned_abs (total_by long_constant u.terms)) made, constants-fit h c.self.invariant narrow) in
+    let here = subst (AreHeld t) (sym c.self.view_is) held in
+    let sum : to_z w128 (of_z w128 (to_z w128 (of_z w128 c.self.inside.constant) +ℤ to_z w128 (of_z w128 c.in_ok-weights.more))) ≡ c.self.inside.constant +ℤ total_by long_constant c.in_ok-table.table.terms =
+    omega (arith, ints, fits, c.in_ok-weights.ensures.constant, c.self.invariant.constant, c.self.invariant.total) in
+    sum-of_held t h additions here c.in_ok-table.table _ c.in_ok-weights.weights.items c.in_ok-couplers.couplers _
+    (made ∙ same_table t h here) sum c.in_ok-weights.ensures.weights
+    (rows-permuted _ _ h.pairs c.sorted-pairs.result _ c.in_ok-couplers.couplers c.sorted-pairs.ensures c.in_ok-couplers.ensures)
+
+pub couplers_of-requires-clause-pairs : goal.couplers_of-requires-clause-pairs
+couplers_of-requires-clause-pairs c =
+    let h : HeldContent = record { total = c.self.inside.total; constant = c.self.inside.constant; weights = c.self.inside.weights.items; pairs = c.self.inside.pairs; long = c.self.inside.long } in
+    let size : c.len.result ≡ length h.weights = search rules in
+    let width : c.in_ok-table.table.width ≡ length h.weights = ap (λ (u : TableContent). u.width) c.in_ok-table.ensures ∙ size in
+    subst (λ n. All (IsPair n) c.sorted-pairs.result) (sym width)
+    (All-permutation (IsPair (length h.weights)) h.pairs c.sorted-pairs.result c.sorted-pairs.ensures c.self.invariant.pairs)

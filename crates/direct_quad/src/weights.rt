@@ -1,0 +1,24 @@
+//! The weights of nodes, to which terms add.
+ghost use Rattle.std.specs.Prelude.{◌≡◌, ◌+◌, ◌≤◌, ◌<◌, ◌^◌, IfOk, length, unsigned_abs};
+ghost use Rattle.direct_quad.specs.Held.{widened};
+ghost use Rattle.direct_quad.specs.RowSums.{size_of, with_weight};
+
+use bits_model::NoMemory;
+
+/// Adds to the weight of a node.
+pub(crate) fn add_weight(weights: &mut [i128], node: usize, weight: i128)
+    requires within { node < length weights.old }
+    requires small { size_of weights.old + unsigned_abs weight ≤ 2 ^ 126 }
+    ensures { weights.new ≡ with_weight weights.old node weight }
+{
+    weights[node] += weight;
+}
+
+/// The weights of more nodes: those after the last one weigh 0.
+pub(crate) fn widened(mut weights: Vec<i128>, nodes: usize) -> Result<Vec<i128>, NoMemory>
+    requires { length weights.items ≤ nodes }
+    ensures { IfOk result (λ wide. wide.items ≡ widened nodes weights.items) }
+{
+    weights.resize(nodes, 0)?;
+    Ok(weights)
+}
