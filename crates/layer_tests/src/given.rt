@@ -4,9 +4,7 @@ ghost use Rattle.problem_form.specs.Problems.{problem_total};
 ghost use Rattle.term_table.specs.Terms.{terms_total, terms_size};
 
 use bits_model::{Cost, Costed, NoMemory};
-use problem_form::{
-    Choices, Clause, High, LimitKind, Literal, LiteralList, Normal, Problem, check_limits,
-};
+use problem_form::{Choices, High, LimitKind, Literal, Normal, Problem, check_limits};
 use std::alloc::Global;
 use term_table::{Table, Terms, is_set};
 
@@ -82,8 +80,8 @@ pub fn add_clause(
     if !are_within(literals, problem.variables) {
         return Ok(());
     }
-    let literals = LiteralList::new(Vec::from_slice(alloc, literals)?);
-    problem.add_clause(Clause { literals, weight })
+    let mut written = Vec::from_slice(alloc, literals)?;
+    problem.add_literals(&mut written, weight)
 }
 
 /// A problem that has clauses alone, each as its literals and its weight.

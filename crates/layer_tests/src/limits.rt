@@ -4,9 +4,7 @@ ghost use Rattle.problem_form.specs.Problems.{constraint_total, problem_total};
 
 use crate::given::{A, B, C, NOT_A, NOT_B, add_clause, are_within, passed_limit, problem_of};
 use bits_model::NoMemory;
-use problem_form::{
-    Constraint, LimitKind, Literal, LiteralList, Normal, Problem, Product, ProductList,
-};
+use problem_form::{Constraint, LimitKind, Literal, Normal, Problem, ProductList};
 use std::alloc::Global;
 use std::test::Fail;
 
@@ -47,17 +45,6 @@ fn limits_of_clauses_are_exact(rt: HostRuntime) -> Result<(), Fail> {
     Ok(())
 }
 
-fn product(alloc: Global, literals: &[Literal], coefficient: i128) -> Result<Product, NoMemory>
-    ensures { IfOk result
-        (λ t. t ≡ record { literals = literals.now; coefficient = coefficient }) }
-{
-    let literals = LiteralList::new(Vec::from_slice(alloc, literals)?);
-    Ok(Product {
-        literals,
-        coefficient,
-    })
-}
-
 /// Adds a product, where its variables are those of the problem.
 fn add_product(
     alloc: Global,
@@ -72,7 +59,8 @@ fn add_product(
     if !are_within(literals, problem.variables) {
         return Ok(());
     }
-    problem.add_product(product(alloc, literals, i128::from(coefficient))?)
+    let mut written = Vec::from_slice(alloc, literals)?;
+    problem.add_term(&mut written, i128::from(coefficient))
 }
 
 /// a + 2 b + 5 is at least 7, or is 7. The product with b lists it twice.
@@ -124,7 +112,7 @@ pub fn bounded(alloc: Global, variables: u64, exact: bool, number: u64) -> Resul
     add_product(alloc, &mut problem, &[], 4)?;
     add_product(alloc, &mut problem, &[A], 3)?;
     add_product(alloc, &mut problem, &[NOT_B], -2)?;
-    problem.add_constraint(bound_of(alloc, exact)?)?;
+    problem.add_constraint(&bound_of(alloc, exact)?)?;
     Ok(problem)
 }
 
@@ -217,7 +205,7 @@ fn problem_at(
         Place::Clause => add_clause(alloc, &mut problem, literals, Some(1))?,
         Place::Objective => add_product(alloc, &mut problem, literals, 1)?,
         Place::Sum if are_within(literals, variables) => {
-            problem.add_constraint(sum_of_one(alloc, literals, variables)?)?
+            problem.add_constraint(&sum_of_one(alloc, literals, variables)?)?
         }
         Place::Sum => {}
     }

@@ -166,7 +166,8 @@ narrow_pushed codes more ends codes' ends' is at_codes at_ends =
 
 -- ---- what is left of a part
 
-pub slice_range-step : {A : Type 0} → (xs : List A) (i end : ℕ) (x : A) → i < end → slice_get xs i ≡ Some x → slice_range xs i end ≡ x ∷ slice_range xs (i + 1) end
+pub slice_range-step : {A : Type 0} → (xs : List A) (i end : ℕ) (x : A)
+    → i < end → slice_get xs i ≡ Some x → slice_range xs i end ≡ x ∷ slice_range xs (i + 1) end
 slice_range-step xs i end x before at =
     let count : end - i ≡ suc (end - (i + 1)) = omega (arith, before) in
     (λ j. take (count j) (drop-at xs i x at j))

@@ -12,12 +12,14 @@ pub record Sums {X : Type 0} (f : X → ℤ) (size : X → ℕ) (sum : ℤ) (lef
   pub so_far : sum +ℤ total_by f left ≡ whole
   pub small : unsigned_abs sum + sum_by size left ≤ most
 
-pub sums_left : {X : Type 0} (f : X → ℤ) (size : X → ℕ) (left rest : List X) (x : X) (sum part next whole : ℤ) (most : ℕ)
-    → left ≡ x ∷ rest → part ≡ f x → unsigned_abs (f x) ≤ size x → next ≡ sum +ℤ part
-    → Sums f size sum left whole most → Sums f size next rest whole most
+pub sums_left : {X : Type 0} (f : X → ℤ) (size : X → ℕ) (left rest : List X) (x : X)
+    (sum part next whole : ℤ) (most : ℕ) → left ≡ x ∷ rest → part ≡ f x
+    → unsigned_abs (f x) ≤ size x → next ≡ sum +ℤ part → Sums f size sum left whole most
+    → Sums f size next rest whole most
 sums_left f size left rest x sum part next whole most step at_part fits at_next before =
     let total : total_by f left ≡ f x +ℤ total_by f rest = ap (total_by f) step in
-    let sizes : sum_by size left ≡ size x + sum_by size rest = ap (sum_by size) step ∙ sum_by-cons size x rest in
+    let sizes : sum_by size left ≡ size x + sum_by size rest =
+    ap (sum_by size) step ∙ sum_by-cons size x rest in
     let value : next ≡ sum +ℤ f x = at_next ∙ ap (λ p. sum +ℤ p) at_part in
     record {
       so_far = omega (arith, ints, total, value, before.so_far);

@@ -13,6 +13,6 @@ constraint_of products row = record {
   exact = row.exact;
 }
 
--- so many products are those of the row, and more
+-- the products of the row are among the first so many
 abbrev pub LiesWithin : ℕ → Row → Type 0
 LiesWithin len row = (row.start ≤ row.end) × (row.end ≤ len)

@@ -28,7 +28,7 @@ impl<'a> Model for ConstraintRef<'a> {
 }
 
 /// A constraint whose products lie among those of others, from a place to before another.
-#[derive(Clone, Copy, Debug, PartialEq, Eq)]
+#[derive(Clone, Copy)]
 pub(crate) struct Row {
     pub(crate) start: usize,
     pub(crate) end: usize,
@@ -37,7 +37,8 @@ pub(crate) struct Row {
 }
 
 /// Constraints in normal form, which contracts see as a list. A constraint takes no memory of its
-/// own.
+/// own. Where memory was refused for one, some of its products may stay between those of others,
+/// and no constraint has them.
 #[derive(Drop)]
 pub struct ConstraintList {
     products: ProductList,

@@ -1,7 +1,7 @@
 //! A problem in normal form.
 ghost use Rattle.std.specs.Prelude.{◌≡◌, ◌+◌, ◌<◌, ◌≤◌, ◌^◌, All, OnOk, OnErr, unsigned_abs, unwrap_or, []};
 ghost use Rattle.problem_form.specs.NormalForm.{blank, with_variables, with_clause, with_constraint, with_product};
-ghost use Rattle.problem_form.specs.Problems.{constraint_total, problem_total, soft_weight};
+ghost use Rattle.problem_form.specs.Problems.{constraint_total, problem_total};
 
 use crate::clause_list::ClauseList;
 use crate::clauses::{keep_clause, weight_constant};
@@ -9,7 +9,7 @@ use crate::constraint_list::ConstraintList;
 use crate::literal::Literal;
 use crate::product_list::ProductList;
 use crate::products::{coefficient_constant, keep_product};
-use crate::terms::{Clause, Constraint, Product};
+use crate::terms::Constraint;
 use bits_model::NoMemory;
 use std::alloc::Global;
 use std::marker::Model;
@@ -104,35 +104,9 @@ impl Problem {
         Ok(())
     }
 
-    /// Adds a product as written to the objective, in normal form. Where memory is refused the
-    /// problem stays as it was.
-    pub fn add_product(&mut self, product: Product) -> Result<(), NoMemory>
-        requires within { All (λ l. l.variable < self.old.variables) product.literals }
-        requires small { problem_total self.old + unsigned_abs product.coefficient < 2 ^ 100 }
-        ensures added { OnOk result (self.new ≡ with_product self.old product) }
-        ensures unchanged { OnErr result (self.new ≡ self.old) }
-    {
-        let Product {
-            literals,
-            coefficient,
-        } = product;
-        self.add_term(&mut literals.into_vec(), coefficient)
-    }
-
-    /// Adds a clause as written, in normal form. Where memory is refused the problem stays as it
-    /// was.
-    pub fn add_clause(&mut self, clause: Clause) -> Result<(), NoMemory>
-        requires within { All (λ l. l.variable < self.old.variables) clause.literals }
-        requires small { problem_total self.old + soft_weight clause < 2 ^ 100 }
-        ensures added { OnOk result (self.new ≡ with_clause self.old clause) }
-        ensures unchanged { OnErr result (self.new ≡ self.old) }
-    {
-        let Clause { literals, weight } = clause;
-        self.add_literals(&mut literals.into_vec(), weight)
-    }
-
-    /// Adds a constraint as written, in normal form. Where memory is refused the problem stays as
-    /// it was.
+    /// Adds a constraint as written, in normal form. Its products are copied, so that one list of
+    /// products serves for one constraint after another. Where memory is refused the problem stays
+    /// as it was.
     pub fn add_constraint(&mut self, constraint: &Constraint) -> Result<(), NoMemory>
         requires within { All (λ t. All (λ l. l.variable < self.old.variables) t.literals)
             constraint.now.products }

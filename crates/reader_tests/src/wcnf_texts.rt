@@ -141,7 +141,7 @@ fn same_problem(problem: &Problem, plain: &PlainReading) -> bool {
     problem.variables == plain.variables
         && problem.constant == plain.constant
         && problem.objective.len() == 0
-        && problem.constraints.as_slice().is_empty()
+        && problem.constraints.len() == 0
         && problem.clauses.len() == plain.clauses.len()
         && problem
             .clauses

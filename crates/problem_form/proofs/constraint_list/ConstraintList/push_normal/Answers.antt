@@ -24,7 +24,12 @@ pub invariant_of-self-2 : goal.invariant_of-self-2
 invariant_of-self-2 c =
     let fields = c.self.inside in
     let written = c.args.constraint.now in
-    let row : Row = record { start = c.len-start.result; end = c.len.result; bound = c.normal_bound.result; exact = written.exact } in
+    let row : Row = record {
+      start = c.len-start.result;
+      end = c.len.result;
+      bound = c.normal_bound.result;
+      exact = written.exact;
+    } in
     let rows : c.push.new.self.items ≡ fields.rows.items ++ row ∷ [] = search rules in
     rows_pushed-within fields.products (flat_map kept_product written.products) c.keep_products.new.kept
     fields.rows.items c.push.new.self.items row c.in_ok-keep_products.ensures.kept rows
@@ -35,7 +40,12 @@ returns-clause-pushed c =
     let fields = c.self.inside in
     let written = c.args.constraint.now in
     let kept = flat_map kept_product written.products in
-    let row : Row = record { start = c.len-start.result; end = c.len.result; bound = c.normal_bound.result; exact = written.exact } in
+    let row : Row = record {
+      start = c.len-start.result;
+      end = c.len.result;
+      bound = c.normal_bound.result;
+      exact = written.exact;
+    } in
     let rows : c.push.new.self.items ≡ fields.rows.items ++ row ∷ [] = search rules in
     row_pushed fields.products kept c.keep_products.new.kept fields.rows.items c.push.new.self.items row
     c.in_ok-keep_products.ensures.kept rows c.len-start.ensures c.len.ensures c.self.invariant
