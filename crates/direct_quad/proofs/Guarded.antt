@@ -108,11 +108,12 @@ quad_size_within p q admitted made =
 
 -- ---- the table that an assignment is extended by
 
-pub fits_table : (link : BitsLink) (p : ProblemContent) (table : TableContent) → Fits link p
-    → table ≡ penalty.image p → monomials.Fits link table
-fits_table link p table fits made =
-    subst (monomials.Fits link) (sym made) (record {
-      source = fits.source;
-      target = fits.target ∙ length-image (low_of (additions_of p));
+pub fits_table : (link : BitsLink) (p : ProblemContent) (table : TableContent) (source target : ℕ) → Fits link p
+    → table ≡ penalty.image p → source ≡ penalty.node_count p → target ≡ link.target_width
+    → monomials.Fits (record { source_width = source; target_width = target }) table
+fits_table link p table source target fits made from to =
+    subst (monomials.Fits (record { source_width = source; target_width = target })) (sym made) (record {
+      source = from;
+      target = to ∙ fits.target ∙ length-image (low_of (additions_of p));
       table = IsTable-table_of (additions_of p) (AreAdditions-of p fits.admitted);
     })

@@ -2,14 +2,14 @@
 use crate::gathered::{DirectTerms, Sums};
 use bits_model::{BitsLink, Costed, Figures, Guard, Guarded, Layer, NoMemory};
 use monomial_layer::Monomials;
-use penalty_layer::{Penalty, add_contributions};
+use penalty_layer::{Penalty, add_contributions, node_count};
 use problem_form::Problem;
 use quad_form::{NumberList, Quad};
 use std::alloc::Global;
 
-/// Penalties for hard clauses, quadratic terms in place of longer ones, each by itself and over
-/// literals, and all multiplied out: what `Penalty`, `Monomials` and `Flatten` make in a row,
-/// without the tables between. A state decodes to its first bits.
+/// Penalties for hard clauses and constraints, quadratic terms in place of longer ones, each by
+/// itself and over literals, and all multiplied out: what `Penalty`, `Monomials` and `Flatten` make
+/// in a row, without the tables between. A state decodes to its first bits.
 #[derive(Drop)]
 pub struct DirectQuad;
 
@@ -60,7 +60,7 @@ impl Guard for DirectQuad {
     ghost whole = { direct_whole };
 
     fn guard(&self, alloc: Global, source: &Problem) -> Result<Guarded<Quad, BitsLink>, NoMemory> {
-        let width = source.variables as usize;
+        let width = node_count(source);
         let mut terms = DirectTerms::new(alloc, width)?;
         add_contributions(alloc, &mut terms, source)?;
         let Sums {
@@ -75,7 +75,7 @@ impl Guard for DirectQuad {
         };
         Ok(Guarded {
             link: BitsLink {
-                source_width: width,
+                source_width: source.variables as usize,
                 target_width: quad.width(),
             },
             target: quad,
@@ -99,6 +99,11 @@ impl Guard for DirectQuad {
         x: &[bool],
     ) -> Result<Vec<bool>, NoMemory> {
         let guarded = Penalty.guard(alloc, source)?;
-        Monomials.extend(alloc, &guarded.target, link, x)
+        let y = Penalty.extend(alloc, source, &guarded.link, x)?;
+        let nodes = BitsLink {
+            source_width: guarded.link.target_width,
+            target_width: link.target_width,
+        };
+        Monomials.extend(alloc, &guarded.target, &nodes, &y)
     }
 }

@@ -24,7 +24,7 @@ fn next(number: u64) -> u64 {
 }
 
 /// Some number below a bound.
-fn draw(seed: &mut u64, bound: u64) -> u64
+pub fn draw(seed: &mut u64, bound: u64) -> u64
     requires { 0 < bound }
     ensures { result < bound }
 {
@@ -100,7 +100,7 @@ fn steps() -> Steps {
 }
 
 /// The number of an assignment, whose bits are its lowest.
-fn number_of(x: &[bool]) -> usize {
+pub fn number_of(x: &[bool]) -> usize {
     let mut number: usize = 0;
     for (i, bit) in x.iter().take(5).enumerate() {
         if *bit {
@@ -111,10 +111,10 @@ fn number_of(x: &[bool]) -> usize {
 }
 
 /// The least energy of the states that decode to each assignment, by its number.
-type Least = [Option<i128>; 32];
+pub type Least = [Option<i128>; 32];
 
 /// Notes the energy of a state, by the number of the assignment that it decodes to.
-fn note(least: &mut Least, number: usize, energy: Cost) {
+pub fn note(least: &mut Least, number: usize, energy: Cost) {
     let (Some(place), Cost::Whole(energy)) = (least.get_mut(number), energy) else {
         return;
     };
@@ -169,7 +169,7 @@ fn note_least(
 
 /// Whether a least energy is the cost, scaled and moved, or lies above the threshold of an infinite
 /// one.
-fn stands_for(energy: i128, cost: Cost, figures: &Figures) -> bool {
+pub fn stands_for(energy: i128, cost: Cost, figures: &Figures) -> bool {
     match cost {
         Cost::Whole(cost) => figures.scale == 1 && cost.checked_add(figures.offset) == Some(energy),
         Cost::Infinite => figures.threshold < energy,

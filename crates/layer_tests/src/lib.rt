@@ -8,6 +8,8 @@
 #[cfg(test)]
 mod all_states;
 #[cfg(test)]
+mod constraints;
+#[cfg(test)]
 mod figures;
 #[cfg(test)]
 mod given;

@@ -46,7 +46,7 @@ fn limits_of_clauses_are_exact(rt: HostRuntime) -> Result<(), Fail> {
 }
 
 /// Adds a product, where its variables are those of the problem.
-fn add_product(
+pub fn add_product(
     alloc: Global,
     problem: &mut Problem,
     literals: &[Literal],

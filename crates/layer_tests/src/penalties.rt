@@ -20,7 +20,7 @@ const CHOICES: Choices = Choices {
 pub fn is_admitted(problem: &Problem) -> bool
     ensures { OnTrue result (Admits problem.now) }
 {
-    problem.constraints.len() == 0 && check_limits(problem, &CHOICES).is_ok()
+    check_limits(problem, &CHOICES).is_ok()
 }
 
 /// a or b, which is hard, and not a, of weight 3.

@@ -24,7 +24,6 @@ pub fn model_of(
     requires literal { choices.now.normal ≡ Normal.Literal }
     requires monomial { choices.now.high ≡ High.Monomial }
     requires within { limit_fault choices.now.normal problem ≡ None }
-    requires unconstrained { problem.constraints ≡ [] }
     requires own { variables ≤ problem.variables }
     ensures image { IfOk result (λ m. m ≡ model choices.now target unit variables problem) }
     ensures stands { IfOk result (λ m. IsModelOf problem variables target unit m) }

@@ -11,7 +11,7 @@ use Rattle.problem_form.specs.declared.terms.Product.{Product}
 use Rattle.problem_form.specs.declared.terms.Clause.{Clause}
 use Rattle.problem_form.specs.declared.limits.Normal.TheVariants as normals
 use Rattle.problem_form.specs.Problems.{ProblemContent, products_total, soft_weight}
-use Rattle.problem_form.specs.Limits.{Counted, first_passed, limit_fault, degree, degrees, pairs, weight, penalty, cost_size, upper, most_degree}
+use Rattle.problem_form.specs.Limits.{Counted, first_passed, limit_fault, degree, degrees, pairs, weight, penalty, reach, cost_size, upper, most_degree}
 use Rattle.problem_form.proofs.CountedNumbers.{positive_total-le}
 use Rattle.penalty_layer.specs.Weights.{clause_weights}
 
@@ -60,7 +60,8 @@ within_limits p none =
 
 -- ---- degrees
 
-most_of : (start : ℕ) (ns : List ℕ) → (start ≤ fold max start ns) × AllByRecursion (λ n. n ≤ fold max start ns) ns
+-- no number is above the greatest of all
+pub most_of : (start : ℕ) (ns : List ℕ) → (start ≤ fold max start ns) × AllByRecursion (λ n. n ≤ fold max start ns) ns
 most_of start [] = (omega arith, tt)
 most_of start (n ∷ ns) =
     let rest = most_of (max start n) ns in
@@ -115,6 +116,13 @@ clause_weights_are n (c ∷ cs) =
 pub weights_within : (p : ProblemContent)
     → unsigned_abs p.constant + products_total p.objective + clause_weights (penalty p) p.clauses ≤ weight p
 weights_within p = omega (arith, clause_weights_are (penalty p) p.clauses)
+
+-- with the squares of the constraints they still are
+pub all_within : (p : ProblemContent)
+    → unsigned_abs p.constant + products_total p.objective + clause_weights (penalty p) p.clauses
+    + sum_by (λ k. penalty p * reach k ^ 2) p.constraints
+    ≤ weight p
+all_within p = omega (arith, clause_weights_are (penalty p) p.clauses)
 
 pub upper_within : (p : ProblemContent) → unsigned_abs (upper p) ≤ weight p
 upper_within p = omega (arith, ints, positive_total-le p.objective)

@@ -1,5 +1,10 @@
 pub mod OppositeSets
 pub mod Bounds
+pub mod Sums
 pub mod Sizes
+pub mod Sets
 pub mod Admitted
-pub mod LeftTerms
+pub mod Gathering
+pub mod SlackSteps
+pub mod WholeSquares
+pub mod SquareSteps

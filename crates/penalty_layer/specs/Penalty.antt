@@ -1,19 +1,22 @@
--- The penalty method: hard clauses become soft ones of a weight that no gain outweighs.
+-- The penalty method: hard clauses become soft ones, and constraints squares of what their sums are
+-- off by, of a weight that no gain outweighs.
 --
 -- With A the sum of the sizes of the objective's coefficients and of the soft weights, no
--- assignment gains more than A by breaking a hard clause, so a penalty of A + 1 for each puts what
--- breaks one above every whole cost. See Boros and Hammer, Pseudo-Boolean optimization (2002).
-use Rattle.std.specs.Prelude.{◌≡◌, ℕ, pos, not, List, [], ◌∷◌, ◌++◌, map, unwrap_or, None}
+-- assignment gains more than A by breaking a hard clause or a constraint, so a penalty of A + 1 for
+-- each puts what breaks one above every whole cost. What a sum may have above its bound is taken
+-- off by slack bits. See Boros and Hammer, Pseudo-Boolean optimization (2002).
+use Rattle.std.specs.Prelude.{◌≡◌, ℕ, ◌+◌, pos, not, Bool, List, [], ◌∷◌, ◌++◌, map, unwrap_or, None}
+use Rattle.std.specs.List.{sum_by, flat_map}
 use Rattle.bits_model.specs.declared.costs.Figures.{Figures}
 use Rattle.bits_model.specs.declared.layer.BitsLink.{BitsLink}
 use Rattle.problem_form.specs.declared.literal.Literal.{Literal}
 use Rattle.problem_form.specs.declared.terms.Clause.{Clause}
-use Rattle.problem_form.specs.declared.terms.Product.{Product}
 use Rattle.problem_form.specs.declared.limits.Normal.TheVariants as normals
 use Rattle.problem_form.specs.Problems.{ProblemContent, IsNormal}
-use Rattle.problem_form.specs.Limits.{penalty, upper, limit_fault}
+use Rattle.problem_form.specs.Limits.{penalty, upper, slack_bits, limit_fault}
 use Rattle.term_table.specs.Terms.{Term, with_additions}
 use Rattle.term_table.specs.Tables.{TableContent}
+use Rattle.penalty_layer.specs.Squares.{product_term, constraint_terms, slack_state}
 
 -- ---- what each part contributes
 
@@ -21,39 +24,46 @@ use Rattle.term_table.specs.Tables.{TableContent}
 abbrev pub opposite : Literal → Literal
 opposite l = record { variable = l.variable; negated = not l.negated }
 
--- a product adds its coefficient where all its literals are true
-abbrev pub product_term : Product → Term
-product_term t = (t.literals, t.coefficient)
-
 -- a clause is violated where the complements of its literals are all true; then it adds its weight,
 -- or the penalty n
 abbrev pub clause_term : ℕ → Clause → Term
 clause_term n c = (map opposite c.literals, pos (unwrap_or c.weight n))
 
 -- the constant, the objective's products and the clauses, in their order
-abbrev pub contributions : ProblemContent → List Term
-contributions p =
+abbrev pub plain_terms : ProblemContent → List Term
+plain_terms p =
     ([], p.constant)
     ∷ (map product_term p.objective ++ map (clause_term (penalty p)) p.clauses)
+
+-- and the squares of the constraints, whose slack bits stand after the variables
+abbrev pub contributions : ProblemContent → List Term
+contributions p = plain_terms p ++ constraint_terms (penalty p) p.variables p.constraints
+
+-- the variables and the slack bits
+abbrev pub node_count : ProblemContent → ℕ
+node_count p = p.variables + sum_by slack_bits p.constraints
 
 -- ---- the guard's members
 
 -- the sums of the contributions
 abbrev pub image : ProblemContent → TableContent
-image p = record { width = p.variables; terms = with_additions [] (contributions p) }
+image p = record { width = node_count p; terms = with_additions [] (contributions p) }
 
 -- nothing is scaled or moved, and the threshold is the upper bound
 abbrev pub figures : ProblemContent → Figures
 figures p = record { scale = pos 1; offset = pos 0; threshold = upper p }
 
--- a problem in normal form and within the limits, without constraints
+-- an assignment, and the slack bits of all constraints
+abbrev pub extension : ProblemContent → List Bool → List Bool
+extension p x = x ++ flat_map (slack_state x) p.constraints
+
+-- a problem in normal form and within the limits
 pub record Admits (p : ProblemContent) : Type 0 where
   pub normal : IsNormal p
   pub within : limit_fault normals.Literal p ≡ None
-  pub unconstrained : p.constraints ≡ []
 
--- a link between a problem without constraints and its image, which adds no nodes
+-- a link between a problem in normal form and its image
 pub record Fits (link : BitsLink) (p : ProblemContent) : Type 0 where
   pub source : link.source_width ≡ p.variables
-  pub target : link.target_width ≡ p.variables
-  pub unconstrained : p.constraints ≡ []
+  pub target : link.target_width ≡ node_count p
+  pub normal : IsNormal p

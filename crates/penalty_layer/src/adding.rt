@@ -1,17 +1,19 @@
 //! What each part of a problem contributes to the sums.
-ghost use Rattle.std.specs.Prelude.{◌≡◌, ◌+◌, ◌≤◌, ◌<◌, ◌^◌, [], pos, map, All, OnOk, unwrap_or};
+ghost use Rattle.std.specs.Prelude.{◌≡◌, ◌+◌, ◌≤◌, ◌^◌, [], pos, map, All, OnOk, unwrap_or};
 ghost use Rattle.problem_form.specs.Problems.{products_total};
 ghost use Rattle.term_table.specs.Terms.{IsTermSet};
+ghost use Rattle.penalty_layer.specs.Gathered.{Gathers, squares};
 ghost use Rattle.penalty_layer.specs.Penalty.{
   opposite,
-  product_term,
   clause_term,
   contributions,
+  node_count,
   Admits,
 };
-ghost use Rattle.term_table.specs.Tables.{TableContent, with_more};
-ghost use Rattle.penalty_layer.specs.Weights.{clause_weights, product_squares, clause_squares};
+ghost use Rattle.penalty_layer.specs.Squares.{product_term};
+ghost use Rattle.penalty_layer.specs.Weights.{clause_weights};
 
+use crate::constraints::add_constraints;
 use crate::gather::Gather;
 use bits_model::NoMemory;
 use problem_form::{ClauseList, ClauseRef, Literal, Literals, Problem, ProductList, ProductRef};
@@ -25,14 +27,9 @@ fn add_products<T: Gather>(
 ) -> Result<(), NoMemory>
     requires sets { All (λ t. IsTermSet (T.width terms.old) t.literals) products.now }
     requires small { T.total terms.old + products_total products.now ≤ 2 ^ 97 }
-    requires few { T.pairs terms.old + product_squares products.now ≤ 2 ^ 24 }
-    ensures added { (t : TableContent) → T.holds terms.old t
-        → OnOk result (T.holds terms.new (with_more t (map product_term products.now))) }
-    ensures width { OnOk result (T.width terms.new ≡ T.width terms.old) }
-    ensures total { OnOk result
-        (T.total terms.new ≡ T.total terms.old + products_total products.now) }
-    ensures pairs { OnOk result
-        (T.pairs terms.new ≤ T.pairs terms.old + product_squares products.now) }
+    requires few { T.pairs terms.old + squares (map product_term products.now) ≤ 2 ^ 25 }
+    ensures { OnOk result (Gathers T.holds T.width T.total T.pairs terms.old terms.new
+        (map product_term products.now)) }
 {
     let mut set = Vec::new(alloc);
     for product in products.iter() {
@@ -87,10 +84,10 @@ fn add_clauses<T: Gather>(
 ) -> Result<(), NoMemory>
     requires sets { All (λ c. IsTermSet (T.width terms.old) (map opposite c.literals)) clauses.now }
     requires small { T.total terms.old + clause_weights penalty clauses.now ≤ 2 ^ 97 }
-    requires few { T.pairs terms.old + clause_squares clauses.now ≤ 2 ^ 24 }
+    requires few { T.pairs terms.old + squares (map (clause_term penalty) clauses.now) ≤ 2 ^ 25 }
     requires penalty { penalty ≤ 2 ^ 100 }
-    ensures { (t : TableContent) → T.holds terms.old t
-        → OnOk result (T.holds terms.new (with_more t (map (clause_term penalty) clauses.now))) }
+    ensures { OnOk result (Gathers T.holds T.width T.total T.pairs terms.old terms.new
+        (map (clause_term penalty) clauses.now)) }
 {
     let mut opposites = Vec::new(alloc);
     for clause in clauses.iter() {
@@ -101,22 +98,25 @@ fn add_clauses<T: Gather>(
     Ok(())
 }
 
-/// Adds all that a problem contributes: its constant, its products, and its clauses.
+/// Adds all that a problem contributes: its constant, its products, its clauses, and the squares of
+/// its constraints, whose slack bits are the nodes after the variables.
 pub fn add_contributions<T: Gather>(
     alloc: Global,
     terms: &mut T,
     problem: &Problem,
 ) -> Result<(), NoMemory>
     requires admits { Admits problem.now }
-    requires empty { T.holds terms.old (record { width = problem.now.variables; terms = [] }) }
-    requires width { T.width terms.old ≡ problem.now.variables }
+    requires empty { T.holds terms.old (record { width = node_count problem.now; terms = [] }) }
+    requires width { T.width terms.old ≡ node_count problem.now }
     requires total { T.total terms.old ≡ 0 }
     requires pairs { T.pairs terms.old ≡ 0 }
     ensures { OnOk result (T.holds terms.new
-        (record { width = problem.now.variables; terms = contributions problem.now })) }
+        (record { width = node_count problem.now; terms = contributions problem.now })) }
 {
+    let penalty = problem.penalty();
+    let first = problem.variables as usize;
     terms.gather(&[], problem.constant)?;
     add_products(alloc, terms, &problem.objective)?;
-    let penalty = problem.penalty();
-    add_clauses(alloc, terms, &problem.clauses, penalty)
+    add_clauses(alloc, terms, &problem.clauses, penalty)?;
+    add_constraints(alloc, terms, penalty, first, &problem.constraints)
 }

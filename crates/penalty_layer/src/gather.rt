@@ -26,7 +26,7 @@ pub trait Gather {
     fn gather(&mut self, literals: &[Literal], coefficient: i128) -> Result<(), NoMemory>
         requires set { IsTermSet (width self.old) literals.now }
         requires small { total self.old + unsigned_abs coefficient ≤ 2 ^ 97 }
-        requires few { pairs self.old + length literals.now ^ 2 ≤ 2 ^ 24 }
+        requires few { pairs self.old + length literals.now ^ 2 ≤ 2 ^ 25 }
         ensures added { (t : TableContent) → holds self.old t
             → OnOk result (holds self.new (with_appended t literals.now coefficient)) }
         ensures width { OnOk result (width self.new ≡ width self.old) }

@@ -2,9 +2,16 @@
 #![tactic(auto)]
 
 mod adding;
+mod constraints;
 mod gather;
+mod laws;
+mod parts;
 mod penalty;
+mod slack;
+mod squares;
 
 pub use adding::add_contributions;
+pub use constraints::node_count;
 pub use gather::Gather;
+pub use laws::laws_of_squares;
 pub use penalty::Penalty;

@@ -1,17 +1,21 @@
-//! The penalty method for problems of products and clauses.
+//! The penalty method.
 ghost use Rattle.std.specs.Prelude.{◌^◌};
-ghost use Rattle.penalty_layer.specs.Penalty.{Admits, image, figures, Fits};
+ghost use Rattle.penalty_layer.specs.Penalty.{Admits, extension, image, figures, Fits};
 ghost use Rattle.bits_model.specs.Links.{first_bits, HasFirstBits};
 ghost use Rattle.penalty_layer.specs.laws.Relaxing.{penalty_relaxes, penalty_joins, penalty_sound, penalty_whole};
 
 use crate::adding::add_contributions;
+use crate::constraints::node_count;
+use crate::slack::extended;
 use bits_model::{BitsLink, Figures, Guard, Guarded, NoMemory};
 use problem_form::Problem;
 use std::alloc::Global;
 use term_table::{GatheredTerms, Table};
 
-/// The first step of every pipeline: hard clauses become soft ones of a weight that no gain
-/// outweighs, so that a state that breaks one lies above the threshold. It adds no nodes.
+/// The first step of every pipeline: hard clauses become soft ones, and constraints squares, of a
+/// weight that no gain outweighs, so that a state that breaks one lies above the threshold. A
+/// constraint that is not exact adds a node for each of its slack bits, and a state decodes to its
+/// first bits.
 ///
 /// The penalty is one more than the sum of the sizes of the objective's coefficients and of the
 /// soft weights (Boros and Hammer, Pseudo-Boolean optimization, 2002).
@@ -37,7 +41,7 @@ impl Guard for Penalty {
 
     ghost figures = { figures };
 
-    ghost extension = { λ _ x. x };
+    ghost extension = { extension };
 
     ghost decoding = { first_bits };
 
@@ -54,13 +58,13 @@ impl Guard for Penalty {
     ghost whole = { penalty_whole };
 
     fn guard(&self, alloc: Global, source: &Problem) -> Result<Guarded<Table, BitsLink>, NoMemory> {
-        let width = source.variables as usize;
+        let width = node_count(source);
         let mut terms = GatheredTerms::new(alloc, width);
         add_contributions(alloc, &mut terms, source)?;
         Ok(Guarded {
             target: terms.into_table(),
             link: BitsLink {
-                source_width: width,
+                source_width: source.variables as usize,
                 target_width: width,
             },
             figures: Figures {
@@ -78,10 +82,10 @@ impl Guard for Penalty {
     fn extend(
         &self,
         alloc: Global,
-        _source: &Problem,
+        source: &Problem,
         _link: &BitsLink,
         x: &[bool],
     ) -> Result<Vec<bool>, NoMemory> {
-        Ok(x.to_vec(alloc)?)
+        extended(alloc, &source.constraints, x)
     }
 }

@@ -17,12 +17,12 @@ use Rattle.problem_form.specs.Problems as problems
 use Rattle.problem_form.specs.Limits.{limit_fault}
 use Rattle.term_table.specs.Terms.{terms_total}
 use Rattle.term_table.specs.Tables.{AreAdditions}
-use Rattle.penalty_layer.specs.Penalty.{contributions, figures, Admits}
+use Rattle.penalty_layer.specs.Penalty.{contributions, figures, node_count, Admits}
 use Rattle.penalty_layer.specs.Penalty as penalty
 use Rattle.penalty_layer.specs.laws.Relaxing.{penalty_relaxes, penalty_extends}
-use Rattle.penalty_layer.proofs.Bounds.{within_limits, weights_within}
-use Rattle.penalty_layer.proofs.Sizes.{contributions_total}
-use Rattle.penalty_layer.proofs.Admitted.{contribution_sets}
+use Rattle.penalty_layer.proofs.Bounds.{within_limits}
+use Rattle.penalty_layer.proofs.Sums.{contributions-total}
+use Rattle.penalty_layer.proofs.Sets.{contribution_sets}
 use Rattle.monomial_layer.specs.Monomials as monomials
 use Rattle.monomial_layer.specs.laws.Kept.{mono_keeps, mono_reaches}
 use Rattle.monomial_layer.proofs.Sets.{IsLow-image}
@@ -38,7 +38,7 @@ use Rattle.direct_quad.specs.laws.Between.{low_of, IsTable-table_of, IsTable-low
 pub total-additions : (p : ProblemContent) → limit_fault normals.Literal p ≡ None
     → terms_total (contributions p) + 1 ≤ 2 ^ 64
 total-additions p none =
-    omega (arith, contributions_total p, weights_within p, (within_limits p none).weight)
+    omega (arith, contributions-total p, (within_limits p none).weight)
 
 pub AreAdditions-of : (p : ProblemContent) → Admits p → AreAdditions (additions_of p)
 AreAdditions-of p admitted = record {
@@ -49,10 +49,10 @@ AreAdditions-of p admitted = record {
 -- ---- the links of the steps
 
 abbrev first : ProblemContent → BitsLink
-first p = record { source_width = p.variables; target_width = p.variables }
+first p = record { source_width = p.variables; target_width = node_count p }
 
 abbrev second : ProblemContent → BitsLink
-second p = record { source_width = p.variables; target_width = (low_of (additions_of p)).width }
+second p = record { source_width = node_count p; target_width = (low_of (additions_of p)).width }
 
 abbrev third : ProblemContent → BitsLink
 third p = record {
@@ -62,7 +62,7 @@ third p = record {
 
 fits_first : (p : ProblemContent) → Admits p → penalty.Fits (first p) p
 fits_first p admitted =
-    record { source = refl; target = refl; unconstrained = admitted.unconstrained }
+    record { source = refl; target = refl; normal = admitted.normal }
 
 fits_second : (p : ProblemContent) → Admits p → monomials.Fits (second p) (penalty.image p)
 fits_second p admitted = record {
@@ -89,7 +89,7 @@ steps-alike : (link : BitsLink) (p : ProblemContent) → Fits link p → (y : Li
     → (first_bits link).decoded y ≡ (steps p).decoded y
 steps-alike link p fits y =
     ap (λ n. take n y) fits.source
-    ∙ sym (take-take p.variables p.variables y (omega arith))
+    ∙ sym (take-take p.variables (node_count p) y (omega arith))
 
 -- a step that neither scales nor moves keeps the figures
 pub figures-still : (n : Figures) → figures_after n (pos 1) (pos 0) ≡ n
@@ -129,7 +129,8 @@ least_alike f g d d' n x y alike e = record {
   least = λ z w same. e.least z w (sym (alike z) ∙ same);
 }
 
--- an assignment is extended by the bits of the new nodes, and nothing decoded to it lies lower
+-- an assignment is extended by slack bits and the bits of the new nodes, and nothing decoded to it
+-- lies lower
 pub direct_extends : (link : BitsLink) (p : ProblemContent) (x : List Bool) → Fits link p
     → length x ≡ p.variables
     → ExtendsLeast (problems.form_of p) (quads.form_of (image p)) (first_bits link) (figures p) x
@@ -141,9 +142,9 @@ direct_extends link p x fits w =
     let table = penalty.image p in
     let low = low_of (additions_of p) in
     let y = extension p x in
-    let reached = mono_reaches (second p) table x (fits_second p admitted) w in
-    let middle = least-trans (mono_keeps (second p) table (fits_second p admitted))
-    (penalty_extends (first p) p x (fits_first p admitted) w) reached in
+    let slack = penalty_extends (first p) p x (fits_first p admitted) w in
+    let reached = mono_reaches (second p) table (penalty.extension p x) (fits_second p admitted) slack.width in
+    let middle = least-trans (mono_keeps (second p) table (fits_second p admitted)) slack reached in
     let last = flat_reaches (third p) low y (fits_third p admitted) reached.width in
     let whole = least-trans (flat_keeps (third p) low (fits_third p admitted)) middle last in
     least_alike f g (steps p) (first_bits link) (figures p) x y (steps-alike link p fits)

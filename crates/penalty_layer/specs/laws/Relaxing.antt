@@ -1,141 +1,272 @@
--- The table of a problem relaxes it. Nothing here has to be believed.
-use Rattle.std.specs.Prelude.{◌≡◌, ℤ, pos, ◌+ℤ◌, ◌≤ℤ◌, ◌<ℤ◌, Bool, true, false, ◌||◌, cond, List, [], length, map, refl}
-use Rattle.std.proofs.Common.{arith, sym, ap, ◌∙◌}
-use Rattle.std.specs.List.{list_any}
+-- The table of a problem relaxes it, and extensions are least. Nothing here has to be believed.
+use Rattle.std.proofs.Common.{◌≡◌, ℕ, ℤ, pos, ◌+ℤ◌, ◌-ℤ◌, ◌≤ℤ◌, ◌<ℤ◌, Bool, true, false, not, ◌||◌, cond, unwrap_or, List, [], ◌∷◌, length, map, take, refl, arith, sym, ap, ◌∙◌, subst}
+use Rattle.std.specs.List.{list_any, sum_by, flat_map}
 use Rattle.std.proofs.lemmas.Int.{ints}
-use Rattle.std.proofs.lemmas.List.{take_all}
-use Rattle.integers.specs.Sums.{total_by}
+use Rattle.std.proofs.lemmas.List.{take_all, length-take, length-append, get_or-take, take-append-le}
+use Rattle.std.proofs.lemmas.List.Sums.{sum_by-cons}
+use Rattle.integers.specs.Sums.{total_by, if_so}
 use Rattle.integers.proofs.Totals.{total_by-append}
 use Rattle.bits_model.specs.declared.costs.Cost.TheVariants.{Whole, Infinite}
 use Rattle.bits_model.specs.declared.layer.BitsLink.{BitsLink}
 use Rattle.bits_model.specs.Costs.{IsNeverInfinite}
 use Rattle.bits_model.specs.Relations.{Relaxes, Joins, ExtendsLeast}
 use Rattle.bits_model.specs.laws.Plain.{relaxes_in_one}
+use Rattle.bits_model.specs.Links.{first_bits, HasFirstBits}
+use Rattle.problem_form.specs.declared.terms.Clause.{Clause}
+use Rattle.problem_form.specs.declared.terms.Constraint.{Constraint}
 use Rattle.problem_form.specs.Problems.{ProblemContent, sum_of, soft_cost, fails_hard, fails, problem_cost}
 use Rattle.problem_form.specs.Problems as problems
-use Rattle.problem_form.specs.Limits.{penalty, upper}
+use Rattle.problem_form.specs.Limits.{penalty, upper, slack_range, slack_bits}
 use Rattle.term_table.specs.Terms.{term_cost, terms_cost}
 use Rattle.term_table.specs.Tables as tables
 use Rattle.term_table.proofs.Additions.{terms_cost-with_additions}
-use Rattle.penalty_layer.specs.Penalty.{contributions, clause_term, product_term, image, figures, Fits}
-use Rattle.bits_model.specs.Links.{first_bits, HasFirstBits}
-use Rattle.penalty_layer.specs.laws.Violations.{clause_cost, clause_terms_cost, product_terms_cost, clauses_at_least, clauses_soft, soft_costs_upper, sum_lower, sum_upper}
+use Rattle.penalty_layer.specs.Penalty.{plain_terms, contributions, clause_term, node_count, image, figures, extension, Fits}
+use Rattle.penalty_layer.specs.laws.Violations.{clause_cost, clause_terms_cost, product_terms_cost, clauses_at_least, clauses_not_negative, clauses_soft, soft_costs_upper, sum_lower, sum_upper}
+use Rattle.penalty_layer.specs.Slack.{clamped}
+use Rattle.penalty_layer.specs.laws.SlackValues.{length-value_bits}
+use Rattle.penalty_layer.specs.Squares.{product_term, constraint_terms, slack_state}
+use Rattle.penalty_layer.specs.laws.Agreement.{Agrees, ClausesWithin, products-within, clauses-within, constraints-within, some_holds-agrees, sum_of-agrees, problem_cost-agrees}
+use Rattle.penalty_layer.specs.laws.Broken.{squares_cost, constraint_terms-cost, squares_not_negative, squares_at_least, AreClamped, squares_zero, squares_least, extension_clamped}
 
 -- ---- the cost of the table
 
-image_value : (x : List Bool) (p : ProblemContent)
-    → terms_cost x (image p).terms
-    ≡ p.constant +ℤ (sum_of x p.objective +ℤ total_by (clause_cost x (penalty p)) p.clauses)
-image_value x p =
-    terms_cost-with_additions x (contributions p)
-    ∙ ap (λ z. p.constant +ℤ z)
-    (total_by-append (term_cost x) (map product_term p.objective)
-    (map (clause_term (penalty p)) p.clauses)
-    ∙ (λ i. product_terms_cost x p.objective i +ℤ clause_terms_cost x (penalty p) p.clauses i))
+-- the squares of all constraints
+abbrev pub squares : List Bool → ProblemContent → ℤ
+squares y p = squares_cost y (penalty p) p.variables p.constraints
 
--- what breaks a hard clause lies above the threshold
-broken_above : (x : List Bool) (p : ProblemContent) → list_any (fails_hard x) p.clauses ≡ true
-    → upper p <ℤ terms_cost x (image p).terms
-broken_above x p h =
-    omega (
-      arith,
-      ints,
-      image_value x p,
-      sum_lower x p.objective,
-      clauses_at_least x (penalty p) p.clauses h,
-    )
+plain_value : (y : List Bool) (p : ProblemContent)
+    → terms_cost y (plain_terms p)
+    ≡ p.constant +ℤ (sum_of y p.objective +ℤ total_by (clause_cost y (penalty p)) p.clauses)
+plain_value y p =
+    ap (λ z. p.constant +ℤ z)
+    (total_by-append (term_cost y) (map product_term p.objective) (map (clause_term (penalty p)) p.clauses)
+    ∙ (λ i. product_terms_cost y p.objective i +ℤ clause_terms_cost y (penalty p) p.clauses i))
 
--- what breaks none costs what the problem costs
-kept_value : (x : List Bool) (p : ProblemContent) → list_any (fails_hard x) p.clauses ≡ false
-    → terms_cost x (image p).terms
-    ≡ p.constant +ℤ sum_of x p.objective +ℤ total_by (soft_cost x) p.clauses
-kept_value x p h = omega (arith, ints, image_value x p, clauses_soft x (penalty p) p.clauses h)
+image_value : (y : List Bool) (p : ProblemContent)
+    → terms_cost y (image p).terms
+    ≡ (p.constant +ℤ (sum_of y p.objective +ℤ total_by (clause_cost y (penalty p)) p.clauses))
+    +ℤ squares y p
+image_value y p =
+    terms_cost-with_additions y (contributions p)
+    ∙ total_by-append (term_cost y) (plain_terms p)
+    (constraint_terms (penalty p) p.variables p.constraints)
+    ∙ (λ i. plain_value y p i
+    +ℤ constraint_terms-cost y (penalty p) p.variables p.constraints i)
 
-whole_below : (x : List Bool) (p : ProblemContent)
-    → (p.constant +ℤ sum_of x p.objective +ℤ total_by (soft_cost x) p.clauses) ≤ℤ upper p
-whole_below x p = omega (arith, ints, sum_upper x p.objective, soft_costs_upper x p.clauses)
+-- what breaks a hard clause or a constraint lies above the threshold
+broken_above : (y : List Bool) (p : ProblemContent)
+    → (list_any (fails_hard y) p.clauses || list_any (fails y) p.constraints) ≡ true
+    → upper p <ℤ terms_cost y (image p).terms
+broken_above y p broken =
+    go (list_any (fails_hard y) p.clauses) broken (clauses_at_least y (penalty p) p.clauses)
+  where
+    go : (hard : Bool) → (hard || list_any (fails y) p.constraints) ≡ true
+        → (hard ≡ true → pos (penalty p) ≤ℤ total_by (clause_cost y (penalty p)) p.clauses)
+        → upper p <ℤ terms_cost y (image p).terms
+    go true e hard =
+        omega (
+          arith,
+          ints,
+          image_value y p,
+          sum_lower y p.objective,
+          hard refl,
+          squares_not_negative y (penalty p) p.variables p.constraints,
+        )
+    go false e hard =
+        omega (
+          arith,
+          ints,
+          image_value y p,
+          sum_lower y p.objective,
+          clauses_not_negative y (penalty p) p.clauses,
+          squares_at_least y (penalty p) p.variables p.constraints e,
+        )
+
+-- the whole cost, of what breaks nothing
+abbrev pub kept_cost : List Bool → ProblemContent → ℤ
+kept_cost y p = p.constant +ℤ sum_of y p.objective +ℤ total_by (soft_cost y) p.clauses
+
+-- what breaks no hard clause costs that, and the squares
+kept_value : (y : List Bool) (p : ProblemContent) → list_any (fails_hard y) p.clauses ≡ false
+    → terms_cost y (image p).terms ≡ kept_cost y p +ℤ squares y p
+kept_value y p h = omega (arith, ints, image_value y p, clauses_soft y (penalty p) p.clauses h)
+
+whole_below : (y : List Bool) (p : ProblemContent) → kept_cost y p ≤ℤ upper p
+whole_below y p = omega (arith, ints, sum_upper y p.objective, soft_costs_upper y p.clauses)
 
 -- ---- the cost of the problem, by cases
 
-or_false : (b : Bool) → (b || false) ≡ b
-or_false true = refl
-or_false false = refl
-
-by_clauses : (x : List Bool) (p : ProblemContent) → p.constraints ≡ []
-    → problem_cost p x
-    ≡ cond (list_any (fails_hard x) p.clauses) Infinite
-    (Whole (p.constant +ℤ sum_of x p.objective +ℤ total_by (soft_cost x) p.clauses))
-by_clauses x p none =
-    ap (λ b. cond b Infinite
-    (Whole (p.constant +ℤ sum_of x p.objective +ℤ total_by (soft_cost x) p.clauses)))
-    (ap (λ ks. list_any (fails_hard x) p.clauses || list_any (fails x) ks) none
-    ∙ or_false (list_any (fails_hard x) p.clauses))
-
-whole_is_unbroken : (b : Bool) (u v : ℤ) → cond b Infinite (Whole u) ≡ Whole v
-    → (b ≡ false) × (u ≡ v)
-whole_is_unbroken true u v e = absurd cc
-whole_is_unbroken false u v e = (refl, cc)
+whole_is_unbroken : (a b : Bool) (u v : ℤ) → cond (a || b) Infinite (Whole u) ≡ Whole v
+    → (a ≡ false) × (b ≡ false) × (u ≡ v)
+whole_is_unbroken true b u v e = absurd cc
+whole_is_unbroken false true u v e = absurd cc
+whole_is_unbroken false false u v e = (refl, refl, cc)
 
 infinite_is_broken : (b : Bool) (u : ℤ) → cond b Infinite (Whole u) ≡ Infinite → b ≡ true
 infinite_is_broken true u e = refl
 infinite_is_broken false u e = absurd cc
 
--- an assignment of whole cost has that cost in the table, and it is at most the threshold
-pub whole_value : (x : List Bool) (p : ProblemContent) (v : ℤ) → p.constraints ≡ []
-    → problem_cost p x ≡ Whole v → (terms_cost x (image p).terms ≡ v) × (v ≤ℤ upper p)
-whole_value x p v none whole =
-    let cases = whole_is_unbroken _ _ v (sym (by_clauses x p none) ∙ whole) in
-    (kept_value x p cases.0 ∙ cases.1, omega (arith, ints, whole_below x p, cases.1))
+-- a state of whole cost costs that and its squares; the cost is at most the threshold
+whole_value : (y : List Bool) (p : ProblemContent) (v : ℤ) → problem_cost p y ≡ Whole v
+    → (terms_cost y (image p).terms ≡ v +ℤ squares y p)
+    × (v ≤ℤ upper p)
+    × (list_any (fails y) p.constraints ≡ false)
+whole_value y p v whole =
+    let cases = whole_is_unbroken (list_any (fails_hard y) p.clauses) (list_any (fails y) p.constraints) (kept_cost y p) v whole in (
+      kept_value y p cases.0 ∙ ap (λ u. u +ℤ squares y p) cases.2,
+      omega (arith, ints, whole_below y p, cases.2),
+      cases.1,
+    )
 
--- an assignment of infinite cost lies above the upper bound in the table
-pub infinite_value : (x : List Bool) (p : ProblemContent) → p.constraints ≡ []
-    → problem_cost p x ≡ Infinite → upper p <ℤ terms_cost x (image p).terms
-infinite_value x p none infinite =
-    broken_above x p (infinite_is_broken _ _ (sym (by_clauses x p none) ∙ infinite))
+infinite_value : (y : List Bool) (p : ProblemContent) → problem_cost p y ≡ Infinite
+    → upper p <ℤ terms_cost y (image p).terms
+infinite_value y p infinite = broken_above y p (infinite_is_broken _ _ infinite)
+
+-- ---- states and assignments
+
+-- a state agrees with its first bits
+first_agrees : (n : ℕ) (y : List Bool) → Agrees n (take n y) y
+first_agrees n y i inside = get_or-take n y i false inside
+
+-- it costs the problem what they do
+decoded_cost : (link : BitsLink) (p : ProblemContent) (y : List Bool) → Fits link p
+    → problem_cost p ((first_bits link).decoded y) ≡ problem_cost p y
+decoded_cost link p y fit =
+    ap (λ n. problem_cost p (take n y)) fit.source
+    ∙ problem_cost-agrees (take p.variables y) y p fit.normal (first_agrees p.variables y)
+
+decoded_agrees : (link : BitsLink) (p : ProblemContent) (x y : List Bool) → Fits link p
+    → (first_bits link).decoded y ≡ x → Agrees p.variables x y
+decoded_agrees link p x y fit same =
+    subst (λ z. Agrees p.variables z y) (ap (λ n. take n y) (sym fit.source) ∙ same)
+    (first_agrees p.variables y)
+
+length-bits : (x : List Bool) (ks : List Constraint)
+    → length (flat_map (slack_state x) ks) ≡ sum_by slack_bits ks
+length-bits x [] = refl
+length-bits x (k ∷ ks) =
+    let r = slack_range k in
+    omega (
+      arith,
+      length-append (slack_state x k) (flat_map (slack_state x) ks),
+      length-value_bits r (clamped r (sum_of x k.products -ℤ k.bound)),
+      length-bits x ks,
+      sum_by-cons slack_bits k ks,
+    )
+
+length-extension : (x : List Bool) (p : ProblemContent) → length x ≡ p.variables
+    → length (extension p x) ≡ node_count p
+length-extension x p width =
+    omega (
+      arith,
+      width,
+      length-append x (flat_map (slack_state x) p.constraints),
+      length-bits x p.constraints,
+    )
+
+decoded_extension : (link : BitsLink) (p : ProblemContent) (x : List Bool) → Fits link p
+    → length x ≡ p.variables → (first_bits link).decoded (extension p x) ≡ x
+decoded_extension link p x fit width =
+    let source = fit.source in
+    take-append-le link.source_width x (flat_map (slack_state x) p.constraints) (omega arith)
+    ∙ take_all link.source_width x (omega arith)
+
+clamped_extension : (x : List Bool) (p : ProblemContent) → length x ≡ p.variables
+    → AreClamped x (extension p x) p.variables p.constraints
+clamped_extension x p width =
+    subst (λ n. AreClamped x (extension p x) n p.constraints) width
+    (extension_clamped x x p.constraints)
+
+-- an assignment of whole cost is reached by its extension
+extension_value : (link : BitsLink) (p : ProblemContent) (x : List Bool) (v : ℤ) → Fits link p
+    → length x ≡ p.variables → problem_cost p x ≡ Whole v
+    → terms_cost (extension p x) (image p).terms ≡ v
+extension_value link p x v fit width whole =
+    let y = extension p x in
+    let decoded = decoded_extension link p x fit width in
+    let cost : problem_cost p y ≡ Whole v =
+    sym (decoded_cost link p y fit) ∙ ap (problem_cost p) decoded ∙ whole in
+    let value = whole_value y p v cost in
+    let none =
+    squares_zero x y (penalty p) p.variables p.variables p.constraints
+    (decoded_agrees link p x y fit decoded)
+    (constraints-within p.variables p.constraints fit.normal.constraints) value.2
+    (clamped_extension x p width) in
+    omega (arith, ints, value.0, none)
 
 -- ---- the relations
-
--- a state decodes to itself
-pub decoded_whole : (link : BitsLink) (p : ProblemContent) (y : List Bool) → Fits link p
-    → length y ≡ p.variables → (first_bits link).decoded y ≡ y
-decoded_whole link p y fit w = let wide = fit.source in take_all link.source_width y (omega arith)
 
 -- the table relaxes the problem
 pub penalty_relaxes : (link : BitsLink) (p : ProblemContent) → Fits link p
     → Relaxes (problems.form_of p) (tables.form_of (image p)) (first_bits link) (pos 1) (figures p)
 penalty_relaxes link p fit = relaxes_in_one (record {
   positive = omega (arith, ints);
-  width = λ y w. ap length (decoded_whole link p y fit w) ∙ w;
+  width = λ y w.
+      let source = fit.source in
+      omega (arith, w, length-take link.source_width y);
   bound = λ y w v whole.
-      let cost = ap (problem_cost p) (sym (decoded_whole link p y fit w)) ∙ whole in
-      omega (arith, ints, (whole_value y p v fit.unconstrained cost).0);
-  above = λ y w infinite.
-      let cost = ap (problem_cost p) (sym (decoded_whole link p y fit w)) ∙ infinite in
-      infinite_value y p fit.unconstrained cost;
+      let cost = sym (decoded_cost link p y fit) ∙ whole in
+      omega (
+        arith,
+        ints,
+        (whole_value y p v cost).0,
+        squares_not_negative y (penalty p) p.variables p.constraints,
+      );
+  above = λ y w infinite. infinite_value y p (sym (decoded_cost link p y fit) ∙ infinite);
   reached = λ x w v whole. (
-    x,
+    extension p x,
     record {
-      width = w;
-      decodes = decoded_whole link p x fit w;
-      energy = omega (arith, ints, (whole_value x p v fit.unconstrained whole).0);
+      width = length-extension x p w;
+      decodes = decoded_extension link p x fit w;
+      energy = omega (arith, ints, extension_value link p x v fit w whole);
     },
   );
-  below = λ x w v whole. omega (arith, ints, (whole_value x p v fit.unconstrained whole).1);
-  onto = λ x w. (x, w, decoded_whole link p x fit w);
+  below = λ x w v whole. omega (arith, ints, (whole_value x p v whole).1);
+  onto = λ x w. (extension p x, length-extension x p w, decoded_extension link p x fit w);
 })
 
--- an assignment is its own least extension, since no other state decodes to it
+-- of two states that decode to one assignment, the clauses cost the same
+clause-agrees : (n m : ℕ) (x y : List Bool) (cs : List Clause) → Agrees m x y → ClausesWithin m cs
+    → total_by (clause_cost x n) cs ≡ total_by (clause_cost y n) cs
+clause-agrees n m x y [] same below = refl
+clause-agrees n m x y (c ∷ cs) same below =
+    λ i. if_so (not (some_holds-agrees m x y c.literals same below.0 i)) (pos (unwrap_or c.weight n))
+    +ℤ clause-agrees n m x y cs same below.1 i
+
+-- no state that decodes to an assignment costs less than its extension
+extension_least : (link : BitsLink) (p : ProblemContent) (x z : List Bool) → Fits link p
+    → length x ≡ p.variables → (first_bits link).decoded z ≡ x
+    → terms_cost (extension p x) (image p).terms ≤ℤ terms_cost z (image p).terms
+extension_least link p x z fit width same =
+    let y = extension p x in
+    let n = p.variables in
+    let at_y = decoded_agrees link p x y fit (decoded_extension link p x fit width) in
+    let at_z = decoded_agrees link p x z fit same in
+    let products = products-within n p.objective fit.normal.objective in
+    let clauses = clauses-within n p.clauses fit.normal.clauses in
+    let constraints = constraints-within n p.constraints fit.normal.constraints in
+    omega (
+      arith,
+      ints,
+      image_value y p,
+      image_value z p,
+      sum_of-agrees n x y p.objective at_y products,
+      sum_of-agrees n x z p.objective at_z products,
+      clause-agrees (penalty p) n x y p.clauses at_y clauses,
+      clause-agrees (penalty p) n x z p.clauses at_z clauses,
+      squares_least x y z (penalty p) n n p.constraints at_y at_z constraints
+          (clamped_extension x p width),
+    )
+
 pub penalty_extends : (link : BitsLink) (p : ProblemContent) (x : List Bool) → Fits link p
     → length x ≡ p.variables
-    → ExtendsLeast (problems.form_of p) (tables.form_of (image p)) (first_bits link) (figures p) x x
+    → ExtendsLeast (problems.form_of p) (tables.form_of (image p)) (first_bits link) (figures p) x
+    (extension p x)
 penalty_extends link p x fit w = record {
-  width = w;
-  decodes = decoded_whole link p x fit w;
-  scaled = λ v whole. omega (arith, ints, (whole_value x p v fit.unconstrained whole).0);
-  least = λ y w' same.
-      let equal : y ≡ x = sym (decoded_whole link p y fit w') ∙ same in
-      let value = ap (λ z. terms_cost z (image p).terms) equal in
-      omega (arith, ints, value);
+  width = length-extension x p w;
+  decodes = decoded_extension link p x fit w;
+  scaled = λ v whole. omega (arith, ints, extension_value link p x v fit w whole);
+  least = λ z w' same. extension_least link p x z fit w same;
 }
 
 -- a link that fits has the widths of the problem and of its image

@@ -14,7 +14,8 @@ use Rattle.problem_form.specs.Literals.{holds, all_hold, some_holds}
 use Rattle.problem_form.specs.Problems.{sum_of, products_total, is_violated, soft_weight, soft_cost, fails_hard}
 use Rattle.problem_form.specs.Limits.{positive_total}
 use Rattle.term_table.specs.Terms.{term_cost, terms_cost}
-use Rattle.penalty_layer.specs.Penalty.{opposite, clause_term, product_term}
+use Rattle.penalty_layer.specs.Penalty.{opposite, clause_term}
+use Rattle.penalty_layer.specs.Squares.{product_term}
 
 -- ---- a clause is violated where the complements of its literals are all true
 

@@ -1,19 +1,23 @@
-use Rattle.std.proofs.Common.{rules, ap, ◌∙◌}
+use Rattle.std.proofs.Common.{◌≡◌, rules, ap, ◌∙◌}
 use Rattle.std.specs.Int.{w128}
 use Rattle.std.proofs.lemmas.Int.{to_z-of_z}
 use Rattle.bits_model.specs.declared.layer.BitsLink.{BitsLink}
 use Rattle.problem_form.specs.Problems.{ProblemContent}
-use Rattle.penalty_layer.specs.Penalty.{Fits}
+use Rattle.penalty_layer.specs.Penalty.{image, Fits}
 use Rattle.penalty_layer.proofs.Admitted.{made_image, made_total, made_size, made_relaxes, threshold_within}
 use Rattle.penalty_layer.proofs.penalty.PenaltyGuard.guard.Goals as goal
 
 pub returns-clause-relaxes : goal.returns-clause-relaxes
 returns-clause-relaxes c =
     let p = c.args.source.now in
-    let made = made_image p c.add_contributions.new.terms c.into_table.result c.in_ok-add_contributions.ensures c.into_table.ensures in
-    let width = ap (λ (q : ProblemContent). q.variables) c.source.view_is in
-    let link : BitsLink = record { source_width = c.source.inside.variables; target_width = c.source.inside.variables } in
-    let fit : Fits link p = record { source = width; target = width; unconstrained = c.requires.unconstrained } in
+    let made : c.into_table.result ≡ image p =
+    made_image p c.add_contributions.new.terms c.into_table.result c.in_ok-add_contributions.ensures c.into_table.ensures in
+    let link : BitsLink = record { source_width = c.source.inside.variables; target_width = c.node_count-width.result } in
+    let fit : Fits link p = record {
+      source = ap (λ (q : ProblemContent). q.variables) c.source.view_is;
+      target = c.node_count-width.ensures.value;
+      normal = c.requires.normal;
+    } in
     made_relaxes link p c.into_table.result _ fit made
     (to_z-of_z w128 c.upper.result (search rules) ∙ c.upper.ensures)
 

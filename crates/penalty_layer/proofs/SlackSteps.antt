@@ -1,0 +1,97 @@
+-- Slack bits, one by one.
+use Rattle.std.proofs.Common.{◌≡◌, ◌≢◌, ℕ, zero, suc, ◌+◌, ◌-◌, ◌*◌, ◌/◌, ◌%◌, ◌^◌, ◌<◌, ◌≤◌, nat_eq, Bool, sym, ap, ◌∙◌, subst, arith, List, [], ◌∷◌, ◌++◌, append_assoc, inl, inr, pos, neg_ℤ}
+use Rattle.std.specs.List.{flat_map}
+use Rattle.std.proofs.lemmas.Bool.{cases_lt}
+use Rattle.std.proofs.Math.Nat.{pow-le-pow_right}
+use Rattle.problem_form.specs.declared.terms.Constraint.{Constraint}
+use Rattle.problem_form.specs.Limits.{binary_digits}
+use Rattle.term_table.specs.Terms.{Term}
+use Rattle.penalty_layer.specs.Slack.{doubled, last_weight, weights_for, slack_weights, digit_bits, bits_for, value_bits}
+use Rattle.penalty_layer.specs.Squares.{node, slack_terms, slack_state}
+use Rattle.penalty_layer.specs.laws.SlackValues.{HasDigits, HasDigits-binary_digits}
+
+power_next : (m : ℕ) → 2 ^ suc m ≡ 2 * 2 ^ m
+power_next m = omega arith
+
+pub power_more : (i : ℕ) → 2 ^ (i + 1) ≡ 2 ^ i * 2
+power_more i = let e : i + 1 ≡ suc i = omega arith in rw e (omega (arith, power_next i))
+
+raised : (i j : ℕ) → i ≤ j → 2 ^ i ≤ 2 ^ j
+raised i j h = pow-le-pow_right {n = 2} (omega arith) h
+
+pub power_small : (i : ℕ) → i < 127 → 2 ^ i ≤ 2 ^ 126
+power_small i h = raised i 126 (omega arith)
+
+-- ---- how many digits there are
+
+-- a small range has few digits
+pub few_digits : (r w : ℕ) → w ≡ binary_digits r → r < 2 ^ 100 → w ≤ 100
+few_digits r w e small = go w (subst (HasDigits r) (sym e) (HasDigits-binary_digits r))
+  where
+    go : (n : ℕ) → HasDigits r n → n ≤ 100
+    go zero h = omega arith
+    go (suc m) h =
+        elim (cases_lt m 100) [
+          | inl few ↦ omega (arith, few)
+          | inr many ↦ absurd (omega (arith, h.0, small, raised 100 m many))
+        ]
+
+-- one digit is the last, and the others are as many as there are weights before it
+pub weights-are : (r w m : ℕ) → w ≡ binary_digits r → w ≢ 0 → m ≡ w - 1
+    → doubled 1 m (last_weight r m) ≡ slack_weights r
+weights-are r w m e some less = ap (λ n. weights_for r n) (one_more w m some less ∙ e)
+  where
+    one_more : (w m : ℕ) → w ≢ 0 → m ≡ w - 1 → suc m ≡ w
+    one_more w m some less = omega arith
+
+pub bits-are : (r v w m : ℕ) → w ≡ binary_digits r → w ≢ 0 → m ≡ w - 1
+    → bits_for r (suc m) v ≡ value_bits r v
+bits-are r v w m e some less = ap (λ n. bits_for r n v) (one_more w m some less ∙ e)
+  where
+    one_more : (w m : ℕ) → w ≢ 0 → m ≡ w - 1 → suc m ≡ w
+    one_more w m some less = omega arith
+
+-- a range without digits has no weights and no bits
+pub no_weights : (r w : ℕ) → w ≡ binary_digits r → w ≡ 0 → slack_weights r ≡ []
+no_weights r w e none = ap (λ n. weights_for r n) (sym e ∙ none)
+
+pub no_bits : (r v w : ℕ) → w ≡ binary_digits r → w ≡ 0 → value_bits r v ≡ []
+no_bits r v w e none = ap (λ n. bits_for r n v) (sym e ∙ none)
+
+-- ---- steps of loops
+
+pub push_digit : (now new all : List Bool) (count i rest : ℕ) (last : Bool) → i < count
+    → new ≡ now ++ nat_eq (rest % 2) 1 ∷ []
+    → now ++ digit_bits (count - i) rest last ≡ all
+    → new ++ digit_bits (count - (i + 1)) (rest / 2) last ≡ all
+push_digit now new all count i rest last inside pushed whole =
+    let e : count - i ≡ suc (count - (i + 1)) = omega arith in
+    let before = rw e at whole in
+    ap (λ bs. bs ++ digit_bits (count - (i + 1)) (rest / 2) last) pushed
+    ∙ append_assoc now (nat_eq (rest % 2) 1 ∷ []) (digit_bits (count - (i + 1)) (rest / 2) last)
+    ∙ before
+
+pub push_weight : (now new all : List Term) (count i number weight last : ℕ) → i < count
+    → new ≡ now ++ (node number ∷ [], neg_ℤ (pos weight)) ∷ []
+    → now ++ slack_terms number (doubled weight (count - i) last) ≡ all
+    → new ++ slack_terms (number + 1) (doubled (weight * 2) (count - (i + 1)) last) ≡ all
+push_weight now new all count i number weight last inside pushed whole =
+    let e : count - i ≡ suc (count - (i + 1)) = omega arith in
+    let before = rw e at whole in
+    let part : Term = (node number ∷ [], neg_ℤ (pos weight)) in
+    let place : number + 1 ≡ suc number = omega arith in
+    let twice : weight * 2 ≡ 2 * weight = omega arith in
+    let rest = slack_terms (suc number) (doubled (2 * weight) (count - (i + 1)) last) in
+    (λ j. pushed j ++ slack_terms (place j) (doubled (twice j) (count - (i + 1)) last))
+    ∙ append_assoc now (part ∷ []) rest
+    ∙ before
+
+-- one constraint's bits, and those of the constraints after it
+pub push_state : (x now new all : List Bool) (left rest : List Constraint) (k : Constraint) → left ≡ k ∷ rest
+    → new ≡ now ++ slack_state x k → now ++ flat_map (slack_state x) left ≡ all
+    → new ++ flat_map (slack_state x) rest ≡ all
+push_state x now new all left rest k step pushed whole =
+    ap (λ bs. bs ++ flat_map (slack_state x) rest) pushed
+    ∙ append_assoc now (slack_state x k) (flat_map (slack_state x) rest)
+    ∙ ap (λ ks. now ++ flat_map (slack_state x) ks) (sym step)
+    ∙ whole

@@ -1,0 +1,72 @@
+-- Steps of the loops over the parts of a square.
+use Rattle.std.proofs.Common.{◌≡◌, ℕ, zero, suc, ◌+◌, ◌*◌, ◌^◌, ◌≤◌, unsigned_abs, ℤ, pos, ◌*ℤ◌, List, ◌∷◌, ◌++◌, drop, All, Some, subst, ap, ◌∙◌, arith}
+use Rattle.std.specs.List.{slice_get}
+use Rattle.std.proofs.lemmas.Int.{unsigned_abs-mul}
+use Rattle.std.proofs.lemmas.Option.{slice_get_within, get_or_from_slice_get}
+use Rattle.std.proofs.lemmas.Nat.{mul-le}
+use Rattle.problem_form.proofs.WeighedParts.{drop-at}
+use Rattle.term_table.specs.Terms.{Term, terms_total}
+use Rattle.term_table.specs.Products.{scaled, product_terms, products_with, IsFactor}
+use Rattle.term_table.proofs.Additions.{terms_total-cons}
+use Rattle.penalty_layer.specs.Squares.{square_terms}
+use Rattle.penalty_layer.proofs.Sums.{square_is}
+
+-- the part at a place has a set as all have
+pub part_at : (width : ℕ) (us : List Term) (i : ℕ) (u : Term) → slice_get us i ≡ Some u
+    → All (λ t. IsFactor width t.0) us → IsFactor width u.0
+part_at width us i u at sets =
+    subst (λ (t : Term). IsFactor width t.0) (get_or_from_slice_get us i u u at)
+    (sets i u (slice_get_within us i u at))
+
+-- what is left has the part at its place, and those after it
+total_left : (us : List Term) (i : ℕ) (u : Term) → slice_get us i ≡ Some u
+    → terms_total (drop i us) ≡ unsigned_abs u.1 + terms_total (drop (i + 1) us)
+total_left us i u at = ap terms_total (drop-at us i u at) ∙ terms_total-cons u (drop (i + 1) us)
+
+-- ---- a row
+
+pub row_step : (t : Term) (us : List Term) (j : ℕ) (u : Term) → slice_get us j ≡ Some u
+    → products_with t (drop j us) ≡ product_terms t u ++ products_with t (drop (j + 1) us)
+row_step t us j u at = ap (products_with t) (drop-at us j u at)
+
+pub row_small : (a : ℕ) (us : List Term) (j : ℕ) (u : Term) (total most : ℕ) → slice_get us j ≡ Some u
+    → total + a * terms_total (drop j us) ≤ most
+    → total + a * unsigned_abs u.1 + a * terms_total (drop (j + 1) us) ≤ most
+row_small a us j u total most at small = omega (arith, small, ap (λ m. a * m) (total_left us j u at))
+
+-- ---- a square
+
+pub square_step : (n : ℕ) (us : List Term) (i : ℕ) (u : Term) → slice_get us i ≡ Some u
+    → square_terms n (drop i us)
+    ≡ ((u.0, pos n *ℤ (u.1 *ℤ u.1)) ∷ products_with (scaled (pos (2 * n)) u) (drop (i + 1) us))
+    ++ square_terms n (drop (i + 1) us)
+square_step n us i u at = ap (square_terms n) (drop-at us i u at)
+
+-- its own square, its products with the parts after it, and their square fit
+pub square_small : (n : ℕ) (us : List Term) (i : ℕ) (u : Term) (total most : ℕ) → slice_get us i ≡ Some u
+    → total + n * terms_total (drop i us) ^ 2 ≤ most
+    → total + n * (unsigned_abs u.1 * unsigned_abs u.1)
+    + 2 * n * unsigned_abs u.1 * terms_total (drop (i + 1) us)
+    + n * terms_total (drop (i + 1) us) ^ 2
+    ≤ most
+square_small n us i u total most at small =
+    omega (
+      arith,
+      small,
+      ap (λ m. n * m) (square_is (terms_total (drop i us)) ∙ ap (λ m. m * m) (total_left us i u at)),
+      ap (λ m. n * m) (square_is (terms_total (drop (i + 1) us))),
+    )
+
+-- a factor of a square fits where the square does
+pub once_small : (n a : ℕ) → n * a ≤ n * (a * a)
+once_small n a = go a
+  where
+    go : (b : ℕ) → n * b ≤ n * (b * b)
+    go zero = omega arith
+    go (suc b) = omega (arith, mul-le n (suc b) n (suc b * suc b) (omega arith) (omega arith))
+
+pub own_size : (n : ℕ) (a : ℤ) → unsigned_abs (pos n *ℤ (a *ℤ a)) ≡ n * (unsigned_abs a * unsigned_abs a)
+own_size n a = unsigned_abs-mul (pos n) (a *ℤ a) ∙ ap (λ m. n * m) (unsigned_abs-mul a a)
+
+pub scaled_size : (n : ℕ) (a : ℤ) → unsigned_abs (pos n *ℤ a) ≡ n * unsigned_abs a
+scaled_size n a = unsigned_abs-mul (pos n) a

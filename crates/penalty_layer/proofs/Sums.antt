@@ -1,0 +1,166 @@
+-- The total of what the parts of a problem contribute is within the counted weight.
+use Rattle.std.proofs.Common.{◌≡◌, ℕ, zero, suc, ◌+◌, ◌*◌, ◌^◌, ◌≤◌, unsigned_abs, ℤ, pos, neg_ℤ, ◌*ℤ◌, List, [], ◌∷◌, ◌++◌, map, ap, sym, ◌∙◌, arith, unwrap_or}
+use Rattle.std.specs.Prelude.{None}
+use Rattle.std.specs.List.{sum_by}
+use Rattle.std.proofs.lemmas.Int.{ints, unsigned_abs-mul}
+use Rattle.std.proofs.lemmas.List.Sums.{sum_by-cons}
+use Rattle.std.proofs.Math.Nat.{pow-succ', pow-zero}
+use Rattle.problem_form.specs.declared.terms.Product.{Product}
+use Rattle.problem_form.specs.declared.terms.Clause.{Clause}
+use Rattle.problem_form.specs.declared.terms.Constraint.{Constraint}
+use Rattle.problem_form.specs.declared.limits.Normal.TheVariants as normals
+use Rattle.problem_form.specs.Problems.{ProblemContent, products_total}
+use Rattle.problem_form.specs.Limits.{binary_digits, penalty, weight, reach, slack_range, slack_bits, limit_fault}
+use Rattle.term_table.specs.Terms.{Term, terms_total}
+use Rattle.term_table.specs.Products.{scaled, products_with}
+use Rattle.term_table.proofs.Additions.{terms_total-cons, terms_total-append, terms_total-with_additions}
+use Rattle.term_table.proofs.TermProducts.{products_with-total}
+use Rattle.penalty_layer.specs.Penalty.{clause_term, plain_terms, contributions, image}
+use Rattle.penalty_layer.specs.Weights.{clause_weights}
+use Rattle.penalty_layer.specs.Slack.{doubled, last_weight, weights_for, slack_weights}
+use Rattle.penalty_layer.specs.Squares.{product_term, square_terms, node, slack_terms, slack_form, constraint_terms}
+use Rattle.penalty_layer.specs.laws.SlackValues.{HasDigits, HasDigits-binary_digits}
+use Rattle.penalty_layer.proofs.Bounds.{within_limits, clause_weights_are}
+
+-- ---- a square
+
+pub square_is : (n : ℕ) → n ^ 2 ≡ n * n
+square_is n =
+    pow-succ' n 1 ∙ ap (λ m. n * m) (pow-succ' n 0 ∙ ap (λ m. n * m) (pow-zero n) ∙ omega arith)
+
+square_terms-total : (n : ℕ) (ts : List Term)
+    → terms_total (square_terms n ts) ≤ n * terms_total ts ^ 2
+square_terms-total n [] = omega arith
+square_terms-total n (t ∷ ts) =
+    let off = products_with (scaled (pos (2 * n)) t) ts in
+    let own : unsigned_abs (pos n *ℤ (t.1 *ℤ t.1)) ≡ n * (unsigned_abs t.1 * unsigned_abs t.1) =
+    unsigned_abs-mul (pos n) (t.1 *ℤ t.1) ∙ ap (λ m. n * m) (unsigned_abs-mul t.1 t.1) in
+    omega (
+      arith,
+      own,
+      terms_total-cons (t.0, pos n *ℤ (t.1 *ℤ t.1)) (off ++ square_terms n ts),
+      terms_total-append off (square_terms n ts),
+      products_with-total (scaled (pos (2 * n)) t) ts,
+      ap (λ m. m * terms_total ts) (unsigned_abs-mul (pos (2 * n)) t.1),
+      square_terms-total n ts,
+      ap (λ m. n * m) (square_is (terms_total ts)),
+      ap (λ m. n * m) (square_is (terms_total (t ∷ ts)) ∙ ap (λ m. m * m) (terms_total-cons t ts)),
+    )
+
+-- ---- what is squared
+
+doubled-total : (first b m last : ℕ)
+    → terms_total (slack_terms first (doubled b m last)) + b ≡ b * 2 ^ m + last
+doubled-total first b zero last =
+    omega (arith, ints, terms_total-cons (node first ∷ [], neg_ℤ (pos last)) [])
+doubled-total first b (suc m) last =
+    let next : 2 ^ suc m ≡ 2 * 2 ^ m = omega arith in
+    omega (
+      arith,
+      ints,
+      ap (λ x. b * x) next,
+      doubled-total (suc first) (2 * b) m last,
+      terms_total-cons (node first ∷ [], neg_ℤ (pos b)) (slack_terms (suc first) (doubled (2 * b) m last)),
+    )
+
+-- the slack weights sum to the range
+slack-total : (first r : ℕ) → terms_total (slack_terms first (slack_weights r)) ≡ r
+slack-total first r = go (binary_digits r) (HasDigits-binary_digits r)
+  where
+    go : (w : ℕ) → HasDigits r w → terms_total (slack_terms first (weights_for r w)) ≡ r
+    go zero h = sym h
+    go (suc m) h = let low = h.0 in omega (arith, doubled-total first 1 m (last_weight r m))
+
+pub products_terms_total : (ts : List Product) → terms_total (map product_term ts) ≡ products_total ts
+products_terms_total [] = omega arith
+products_terms_total (t ∷ ts) =
+    omega (
+      arith,
+      products_terms_total ts,
+      terms_total-cons (product_term t) (map product_term ts),
+      sum_by-cons (λ (u : Product). unsigned_abs u.coefficient) t ts,
+    )
+
+negated_size : (z : ℤ) → unsigned_abs (neg_ℤ z) ≡ unsigned_abs z
+negated_size z = omega (arith, ints)
+
+pub slack_form-total : (first : ℕ) (k : Constraint) → terms_total (slack_form first k) ≡ reach k
+slack_form-total first k =
+    let slack = slack_terms first (slack_weights (slack_range k)) in
+    omega (
+      arith,
+      terms_total-append (map product_term k.products) (([], neg_ℤ k.bound) ∷ slack),
+      products_terms_total k.products,
+      terms_total-cons ([], neg_ℤ k.bound) slack,
+      negated_size k.bound,
+      slack-total first (slack_range k),
+    )
+
+pub constraint-total : (n first : ℕ) (k : Constraint)
+    → terms_total (square_terms n (slack_form first k)) ≤ n * reach k ^ 2
+constraint-total n first k =
+    omega (
+      arith,
+      square_terms-total n (slack_form first k),
+      ap (λ m. n * m ^ 2) (slack_form-total first k),
+    )
+
+pub constraint_terms-total : (n first : ℕ) (ks : List Constraint)
+    → terms_total (constraint_terms n first ks) ≤ sum_by (λ k. n * reach k ^ 2) ks
+constraint_terms-total n first [] = omega arith
+constraint_terms-total n first (k ∷ ks) =
+    omega (
+      arith,
+      terms_total-append (square_terms n (slack_form first k)) (constraint_terms n (first + slack_bits k) ks),
+      constraint-total n first k,
+      constraint_terms-total n (first + slack_bits k) ks,
+      sum_by-cons (λ (j : Constraint). n * reach j ^ 2) k ks,
+    )
+
+-- ---- the whole
+
+pub clauses_terms_total : (n : ℕ) (cs : List Clause)
+    → terms_total (map (clause_term n) cs) ≡ clause_weights n cs
+clauses_terms_total n [] = omega arith
+clauses_terms_total n (c ∷ cs) =
+    omega (
+      arith,
+      clauses_terms_total n cs,
+      terms_total-cons (clause_term n c) (map (clause_term n) cs),
+      sum_by-cons (λ (u : Clause). unwrap_or u.weight n) c cs,
+    )
+
+plain-total : (p : ProblemContent)
+    → terms_total (plain_terms p)
+    ≡ unsigned_abs p.constant + products_total p.objective + clause_weights (penalty p) p.clauses
+plain-total p =
+    let products = map product_term p.objective in
+    let clauses = map (clause_term (penalty p)) p.clauses in
+    omega (
+      arith,
+      terms_total-cons ([], p.constant) (products ++ clauses),
+      terms_total-append products clauses,
+      products_terms_total p.objective,
+      clauses_terms_total (penalty p) p.clauses,
+    )
+
+pub contributions-total : (p : ProblemContent) → terms_total (contributions p) ≤ weight p
+contributions-total p =
+    omega (
+      arith,
+      terms_total-append (plain_terms p) (constraint_terms (penalty p) p.variables p.constraints),
+      plain-total p,
+      clause_weights_are (penalty p) p.clauses,
+      constraint_terms-total (penalty p) p.variables p.constraints,
+    )
+
+-- an image's total fits 64 bits
+pub image-total : (p : ProblemContent) → limit_fault normals.Literal p ≡ None
+    → terms_total (image p).terms + 1 ≤ 2 ^ 64
+image-total p none =
+    omega (
+      arith,
+      terms_total-with_additions (contributions p),
+      contributions-total p,
+      (within_limits p none).weight,
+    )

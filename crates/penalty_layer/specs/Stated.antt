@@ -1,0 +1,42 @@
+-- What slack bits and squares promise beside the guard's clauses.
+use Rattle.std.specs.Prelude.{◌≡◌, ℕ, ◌≤◌, ℤ, pos, ◌-ℤ◌, ◌*ℤ◌, Bool, List, All}
+use Rattle.std.specs.List.{flat_map}
+use Rattle.problem_form.specs.declared.literal.Literal.{Literal}
+use Rattle.problem_form.specs.declared.terms.Constraint.{Constraint}
+use Rattle.problem_form.specs.Literals.{IsLiteralSet}
+use Rattle.problem_form.specs.Problems.{sum_of}
+use Rattle.problem_form.specs.Limits.{slack_range}
+use Rattle.term_table.specs.Terms.{Term, coefficient_of, terms_cost}
+use Rattle.term_table.specs.Products.{scaled, products_with}
+use Rattle.penalty_layer.specs.Slack.{slack_value, slack_weights, value_bits}
+use Rattle.penalty_layer.specs.Squares.{slack_form, square_terms}
+
+-- the weights reach each value within the range
+abbrev pub WeightsReach : Type 0
+WeightsReach = (r v : ℕ) → v ≤ r → slack_value (value_bits r v) 0 (slack_weights r) ≡ v
+
+-- and no other
+abbrev pub WeightsStay : Type 0
+WeightsStay = (y : List Bool) (first r : ℕ) → slack_value y first (slack_weights r) ≤ r
+
+-- what the sum of a constraint has above its bound, less the slack
+abbrev pub excess : List Bool → ℕ → Constraint → ℤ
+excess y first k =
+    (sum_of y k.products -ℤ k.bound) -ℤ pos (slack_value y first (slack_weights (slack_range k)))
+
+-- a constraint's terms cost the factor times the square of it
+abbrev pub SquaresCost : Type 0
+SquaresCost = (y : List Bool) (n first : ℕ) (k : Constraint)
+    → terms_cost y (square_terms n (slack_form first k))
+    ≡ pos n *ℤ (excess y first k *ℤ excess y first k)
+
+-- n times the products of each term and each
+abbrev pub whole_square : ℕ → List Term → List Term
+whole_square n ts = flat_map (λ t. products_with (scaled (pos n) t) ts) ts
+
+-- the terms of a square give each set the sum that the whole product of the terms with themselves
+-- gives
+abbrev pub SquaresAreProducts : Type 0
+SquaresAreProducts = (n width : ℕ) (ts : List Term) → All (λ t. IsLiteralSet width t.0) ts
+    → (ls : List Literal)
+    → coefficient_of ls (square_terms n ts) ≡ coefficient_of ls (whole_square n ts)

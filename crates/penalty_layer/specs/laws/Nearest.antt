@@ -1,0 +1,66 @@
+-- Squares: they are not negative, and the clamped slack leaves the least. Nothing
+-- here has to be believed.
+use Rattle.std.proofs.Common.{◌≡◌, ◌≢◌, ℕ, zero, suc, ◌<◌, ◌≤◌, min, ◌⊎◌, inl, inr, refl, arith, ℤ, pos, negsuc, ◌-ℤ◌, ◌*ℤ◌, ◌≤ℤ◌}
+use Rattle.std.proofs.lemmas.Bool.{cases_lt}
+use Rattle.std.proofs.lemmas.Int.{ints}
+use Rattle.std.proofs.lemmas.Nat.{mul-le}
+use Rattle.integers.proofs.Products.{multiply_out, integers, times-le}
+use Rattle.penalty_layer.specs.Slack.{clamped}
+
+pub square-not_negative : (a : ℤ) → pos 0 ≤ℤ (a *ℤ a)
+square-not_negative (pos a) = omega (arith, ints)
+square-not_negative (negsuc a) = omega (arith, ints)
+
+square-le : (a b : ℤ) → pos 0 ≤ℤ a → a ≤ℤ b → (a *ℤ a) ≤ℤ (b *ℤ b)
+square-le (pos a) (pos b) p q =
+    omega (arith, ints, mul-le a a b b (omega (arith, ints)) (omega (arith, ints)))
+square-le (pos a) (negsuc b) p q = omega (arith, ints)
+square-le (negsuc a) b p q = omega (arith, ints)
+
+turned : (a b : ℤ) → (b -ℤ a) *ℤ (b -ℤ a) ≡ (a -ℤ b) *ℤ (a -ℤ b)
+turned a b = simp multiply_out (omega (arith, integers))
+
+-- of all values within r, the clamped one leaves the least square
+pub clamped-least : (r : ℕ) (s : ℤ) (v : ℕ) → v ≤ r
+    → ((s -ℤ pos (clamped r s)) *ℤ (s -ℤ pos (clamped r s)))
+    ≤ℤ ((s -ℤ pos v) *ℤ (s -ℤ pos v))
+clamped-least r (negsuc n) v h =
+    let le =
+    square-le (pos 0 -ℤ negsuc n) (pos v -ℤ negsuc n) (omega (arith, ints)) (omega (arith, ints)) in
+    omega (arith, ints, turned (negsuc n) (pos 0), turned (negsuc n) (pos v), le)
+clamped-least r (pos n) v h = go (cases_lt r n)
+  where
+    go : (r < n) ⊎ (n ≤ r)
+        → ((pos n -ℤ pos (min n r)) *ℤ (pos n -ℤ pos (min n r)))
+        ≤ℤ ((pos n -ℤ pos v) *ℤ (pos n -ℤ pos v))
+    go (inl above) =
+        let e : min n r ≡ r = omega arith in
+        rw e (square-le (pos n -ℤ pos r) (pos n -ℤ pos v) (omega (arith, ints)) (omega (arith, ints)))
+    go (inr within) =
+        let none : pos n -ℤ pos (min n r) ≡ pos 0 = omega (arith, ints) in
+        let any = square-not_negative (pos n -ℤ pos v) in
+        rw none (omega (arith, ints))
+
+pub clamped-le : (r : ℕ) (s : ℤ) → clamped r s ≤ r
+clamped-le r (pos n) = omega arith
+clamped-le r (negsuc n) = omega arith
+
+-- within 0 to r nothing is clamped
+pub clamped-same : (r : ℕ) (s : ℤ) → pos 0 ≤ℤ s → s ≤ℤ pos r → pos (clamped r s) ≡ s
+clamped-same r (pos n) low high = omega (arith, ints)
+clamped-same r (negsuc n) low high = absurd (omega (arith, ints))
+
+-- ---- n times a square
+
+nonzero_square : (v : ℤ) → v ≢ pos 0 → pos 1 ≤ℤ (v *ℤ v)
+nonzero_square (pos zero) h = absurd (h refl)
+nonzero_square (pos (suc n)) h = omega (arith, ints)
+nonzero_square (negsuc n) h = omega (arith, ints)
+
+pub square_at_least : (n : ℕ) (v : ℤ) → v ≢ pos 0 → pos n ≤ℤ (pos n *ℤ (v *ℤ v))
+square_at_least n v h =
+    omega (arith, ints, times-le (pos n) (pos 1) (v *ℤ v) (omega (arith, ints)) (nonzero_square v h))
+
+pub square_not_below : (n : ℕ) (v : ℤ) → pos 0 ≤ℤ (pos n *ℤ (v *ℤ v))
+square_not_below n v =
+    omega (arith, ints, times-le (pos n) (pos 0) (v *ℤ v) (omega (arith, ints)) (square-not_negative v))

@@ -1,0 +1,153 @@
+-- The slack weights of r reach exactly the values 0 to r. Nothing here has to be believed.
+use Rattle.std.proofs.Common.{◌≡◌, ◌≢◌, ℕ, zero, suc, ◌+◌, ◌-◌, ◌*◌, ◌/◌, ◌%◌, ◌^◌, ◌<◌, ◌≤◌, Bool, true, false, cond, ltb, refl, ap, arith, List, [], ◌∷◌, ◌++◌, length, get_or}
+use Rattle.std.specs.Prelude.{◌==◌, if◌then◌else◌}
+use Rattle.std.specs.Bool.{Decides}
+use Rattle.std.proofs.lemmas.Bool.Decides.{Decides-eqb, Decides-ltb}
+use Rattle.problem_form.specs.Limits.{binary_digits}
+use Rattle.problem_form.proofs.BinaryDigits.{digits_are_least}
+use Rattle.penalty_layer.specs.Slack.{doubled, last_weight, weights_for, slack_weights, slack_value, digit_bits, bits_for, value_bits}
+
+-- ---- how many digits there are
+
+-- r lies where numbers have so many binary digits
+abbrev pub HasDigits : ℕ → ℕ → Type 0
+HasDigits r zero = r ≡ 0
+HasDigits r (suc m) = (2 ^ m ≤ r) × (r < 2 ^ suc m)
+
+power_next : (m : ℕ) → 2 ^ suc m ≡ 2 * 2 ^ m
+power_next m = omega arith
+
+-- a number lies where numbers have as many digits as it has
+pub HasDigits-binary_digits : (r : ℕ) → HasDigits r (binary_digits r)
+HasDigits-binary_digits r = go (binary_digits r) (digits_are_least r).0 (digits_are_least r).1
+  where
+    go : (w : ℕ) → r < 2 ^ w → 2 ^ w ≤ 2 * r + 1 → HasDigits r w
+    go zero above below = omega arith
+    go (suc m) above below = (omega (arith, power_next m), above)
+
+-- ---- no value is above r
+
+doubled-le : (y : List Bool) (first b m last : ℕ)
+    → slack_value y first (doubled b m last) + b ≤ b * 2 ^ m + last
+doubled-le y first b zero last = go (get_or y first false)
+  where
+    go : (t : Bool) → cond t last 0 + 0 + b ≤ b * 2 ^ 0 + last
+    go true = omega arith
+    go false = omega arith
+doubled-le y first b (suc m) last =
+    go (get_or y first false) (doubled-le y (suc first) (2 * b) m last)
+  where
+    go : (t : Bool) → slack_value y (suc first) (doubled (2 * b) m last) + 2 * b ≤ 2 * b * 2 ^ m + last
+        → cond t b 0 + slack_value y (suc first) (doubled (2 * b) m last) + b ≤ b * 2 ^ suc m + last
+    go true h = omega (arith, h, ap (λ x. b * x) (power_next m))
+    go false h = omega (arith, h, ap (λ x. b * x) (power_next m))
+
+pub slack_value-le : (y : List Bool) (first r : ℕ) → slack_value y first (slack_weights r) ≤ r
+slack_value-le y first r = go (binary_digits r) (HasDigits-binary_digits r)
+  where
+    go : (w : ℕ) → HasDigits r w → slack_value y first (weights_for r w) ≤ r
+    go zero h = omega arith
+    go (suc m) h = let low = h.0 in omega (arith, doubled-le y first 1 m (last_weight r m))
+
+-- ---- each value is reached by its bits
+
+-- from a first place on, the state has these bits
+abbrev pub HasBits : List Bool → ℕ → List Bool → Type 0
+HasBits y first [] = Unit {0}
+HasBits y first (b ∷ bs) = (get_or y first false ≡ b) × HasBits y (suc first) bs
+
+pub HasBits-after : (a : Bool) (y : List Bool) (first : ℕ) (bs : List Bool) → HasBits y first bs
+    → HasBits (a ∷ y) (suc first) bs
+HasBits-after a y first [] h = tt
+HasBits-after a y first (b ∷ bs) h = (h.0, HasBits-after a y (suc first) bs h.1)
+
+pub HasBits-front : (bs rest : List Bool) → HasBits (bs ++ rest) 0 bs
+HasBits-front [] rest = tt
+HasBits-front (b ∷ bs) rest = (refl, HasBits-after b (bs ++ rest) 0 bs (HasBits-front bs rest))
+
+pub HasBits-middle : (xs bs rest : List Bool) → HasBits (xs ++ (bs ++ rest)) (length xs) bs
+HasBits-middle [] bs rest = HasBits-front bs rest
+HasBits-middle (x ∷ xs) bs rest =
+    HasBits-after x (xs ++ (bs ++ rest)) (length xs) bs (HasBits-middle xs bs rest)
+
+digit_times : (b d : ℕ) → d < 2 → cond (d == 1) b 0 ≡ b * d
+digit_times b d h = go (d == 1) (Decides-eqb d 1)
+  where
+    go : (t : Bool) → Decides t (d ≡ 1) → cond t b 0 ≡ b * d
+    go true e = let one = e.0 refl in omega (arith, ap (λ x. b * x) one)
+    go false e =
+        let none : d ≡ 0 = zero_or_one d h (λ one. let yes = e.1 one in cc) in
+        omega (arith, ap (λ x. b * x) none)
+      where
+        zero_or_one : (d : ℕ) → d < 2 → d ≢ 1 → d ≡ 0
+        zero_or_one d h other = omega arith
+
+first_digit : (b v : ℕ) → cond (v % 2 == 1) b 0 + 2 * b * (v / 2) ≡ b * v
+first_digit b v =
+    let parts : v ≡ 2 * (v / 2) + v % 2 = omega arith in
+    omega (arith, digit_times b (v % 2) (omega arith), ap (λ x. b * x) parts)
+
+doubled-reach : (y : List Bool) (first b m v last : ℕ) (t : Bool) → v < 2 ^ m
+    → HasBits y first (digit_bits m v t)
+    → slack_value y first (doubled b m last) ≡ b * v + cond t last 0
+doubled-reach y first b zero v last t small bits =
+    let none : v ≡ 0 = omega arith in
+    omega (arith, ap (λ u. cond u last 0) bits.0, ap (λ x. b * x) none)
+doubled-reach y first b (suc m) v last t small bits =
+    omega (
+      arith,
+      ap (λ u. cond u b 0) bits.0,
+      doubled-reach y (suc first) (2 * b) m (v / 2) last t (omega (arith, power_next m)) bits.1,
+      first_digit b v,
+    )
+
+pub slack_reaches : (y : List Bool) (first r v : ℕ) → v ≤ r → HasBits y first (value_bits r v)
+    → slack_value y first (slack_weights r) ≡ v
+slack_reaches y first r v within = go (binary_digits r) (HasDigits-binary_digits r)
+  where
+    by_last : (m : ℕ) (t : Bool) → Decides t (2 ^ m - 1 < v) → 2 ^ m ≤ r → r < 2 ^ suc m
+        → HasBits y first (digit_bits m (if t then v - last_weight r m else v) t)
+        → slack_value y first (doubled 1 m (last_weight r m)) ≡ v
+    by_last m true d low high bits =
+        let far = d.0 refl in
+        let small : v - last_weight r m < 2 ^ m = omega (arith, power_next m) in
+        omega (
+          arith,
+          power_next m,
+          doubled-reach y first 1 m (v - last_weight r m) (last_weight r m) true small bits,
+        )
+    by_last m false d low high bits =
+        let near : v < 2 ^ m = not_far m low high (λ e. let yes = d.1 e in cc) in
+        omega (arith, doubled-reach y first 1 m v (last_weight r m) false near bits)
+      where
+        not_far : (m : ℕ) → 2 ^ m ≤ r → r < 2 ^ suc m → ¬ (2 ^ m - 1 < v) → v < 2 ^ m
+        not_far m low high near = omega (arith, power_next m)
+
+    go : (w : ℕ) → HasDigits r w → HasBits y first (bits_for r w v)
+        → slack_value y first (weights_for r w) ≡ v
+    go zero h bits = omega arith
+    go (suc m) h bits = by_last m (ltb (2 ^ m - 1) v) (Decides-ltb (2 ^ m - 1) v) h.0 h.1 bits
+
+-- ---- how many there are
+
+length-doubled : (b m last : ℕ) → length (doubled b m last) ≡ suc m
+length-doubled b zero last = refl
+length-doubled b (suc m) last = ap suc (length-doubled (2 * b) m last)
+
+pub length-slack_weights : (r : ℕ) → length (slack_weights r) ≡ binary_digits r
+length-slack_weights r = go (binary_digits r)
+  where
+    go : (w : ℕ) → length (weights_for r w) ≡ w
+    go zero = refl
+    go (suc m) = length-doubled 1 m (last_weight r m)
+
+length-digit_bits : (m v : ℕ) (t : Bool) → length (digit_bits m v t) ≡ suc m
+length-digit_bits zero v t = refl
+length-digit_bits (suc m) v t = ap suc (length-digit_bits m (v / 2) t)
+
+pub length-value_bits : (r v : ℕ) → length (value_bits r v) ≡ binary_digits r
+length-value_bits r v = go (binary_digits r)
+  where
+    go : (w : ℕ) → length (bits_for r w v) ≡ w
+    go zero = refl
+    go (suc m) = length-digit_bits m _ _

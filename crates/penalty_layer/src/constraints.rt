@@ -1,0 +1,63 @@
+//! The squares of all constraints.
+ghost use Rattle.std.specs.Prelude.{◌≡◌, ◌+◌, ◌*◌, ◌<◌, ◌≤◌, ◌^◌, All, OnOk};
+ghost use Rattle.std.specs.List.{sum_by};
+ghost use Rattle.problem_form.specs.Problems.{constraint_total};
+ghost use Rattle.problem_form.specs.Limits.{reach, slack_bits};
+ghost use Rattle.term_table.specs.Products.{IsFactor};
+ghost use Rattle.penalty_layer.specs.Gathered.{Gathers, squares};
+ghost use Rattle.penalty_layer.specs.Penalty.{node_count, Admits};
+ghost use Rattle.penalty_layer.specs.Squares.{constraint_terms};
+
+use crate::gather::Gather;
+use crate::parts::Parts;
+use crate::slack::slack_bits_of;
+use crate::squares::add_square;
+use bits_model::NoMemory;
+use problem_form::{ConstraintList, Problem};
+use std::alloc::Global;
+
+/// The nodes of a problem's image: its variables, and the slack bits of its constraints.
+pub fn node_count(problem: &Problem) -> usize
+    requires { Admits problem.now }
+    ensures value { result ≡ node_count problem.now }
+    ensures small { result ≤ 2 ^ 26 }
+{
+    let mut count = problem.variables as usize;
+    for constraint in problem.constraints.iter() {
+        count += slack_bits_of(&constraint);
+    }
+    count
+}
+
+/// Adds a factor times the squares of constraints, whose slack bits are numbered on from a first
+/// node.
+pub(crate) fn add_constraints<T: Gather>(
+    alloc: Global,
+    terms: &mut T,
+    factor: u128,
+    first: usize,
+    constraints: &ConstraintList,
+) -> Result<(), NoMemory>
+    requires sets { All (λ k. All (λ t. IsFactor (T.width terms.old) t.literals) k.products)
+        constraints.now }
+    requires within { first + sum_by slack_bits constraints.now ≤ T.width terms.old }
+    requires narrow { T.width terms.old ≤ 2 ^ 26 }
+    requires totals { sum_by constraint_total constraints.now < 2 ^ 100 }
+    requires factor { factor ≤ 2 ^ 100 }
+    requires small { T.total terms.old + sum_by (λ k. factor * reach k ^ 2) constraints.now
+        ≤ 2 ^ 97 }
+    requires few { T.pairs terms.old + squares (constraint_terms factor first constraints.now)
+        ≤ 2 ^ 25 }
+    ensures { OnOk result (Gathers T.holds T.width T.total T.pairs terms.old terms.new
+        (constraint_terms factor first constraints.now)) }
+{
+    let mut parts = Parts::empty(alloc);
+    let mut set = Vec::new(alloc);
+    let mut next = first;
+    for constraint in constraints.iter() {
+        parts.fill(&mut set, next, &constraint)?;
+        add_square(terms, &mut set, factor, &parts)?;
+        next += slack_bits_of(&constraint);
+    }
+    Ok(())
+}

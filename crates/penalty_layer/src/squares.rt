@@ -1,0 +1,143 @@
+//! The terms of a square.
+ghost use Rattle.std.specs.Prelude.{◌≡◌, ◌+◌, ◌*◌, ◌<◌, ◌≤◌, ◌^◌, ◌*ℤ◌, ◌∷◌, [], All, drop, length, pos, unsigned_abs, OnOk};
+ghost use Rattle.term_table.specs.Terms.{terms_total};
+ghost use Rattle.term_table.specs.Products.{products_with, union_terms, IsFactor};
+ghost use Rattle.penalty_layer.specs.Gathered.{Gathers, squares};
+ghost use Rattle.penalty_layer.specs.Squares.{square_terms};
+
+use crate::gather::Gather;
+use crate::parts::Parts;
+use bits_model::NoMemory;
+use problem_form::{Literal, clashes};
+use term_table::unite;
+
+fn times(a: &i128, b: &i128) -> i128
+    requires { unsigned_abs a.now * unsigned_abs b.now ≤ 2 ^ 99 }
+    ensures { result ≡ a.now *ℤ b.now }
+{
+    *a * *b
+}
+
+/// A number times another, of which the first is not negative.
+fn scaled(factor: u128, a: &i128) -> i128
+    requires factor { factor ≤ 2 ^ 101 }
+    requires small { factor * unsigned_abs a.now ≤ 2 ^ 99 }
+    ensures { result ≡ pos factor *ℤ a.now }
+{
+    factor as i128 * *a
+}
+
+/// A number times the square of another.
+fn squared(factor: u128, a: &i128) -> i128
+    requires factor { factor ≤ 2 ^ 101 }
+    requires small { factor * (unsigned_abs a.now * unsigned_abs a.now) ≤ 2 ^ 97 }
+    ensures { result ≡ pos factor *ℤ (a.now *ℤ a.now) }
+{
+    times(&scaled(factor, a), a)
+}
+
+/// Adds a coefficient on the union of two literals, where they do not clash.
+fn add_pair<T: Gather>(
+    terms: &mut T,
+    l: Literal,
+    k: Literal,
+    coefficient: i128,
+) -> Result<(), NoMemory>
+    requires left { l.variable < T.width terms.old }
+    requires right { k.variable < T.width terms.old }
+    requires small { T.total terms.old + unsigned_abs coefficient ≤ 2 ^ 97 }
+    requires few { T.pairs terms.old + squares (union_terms (l ∷ []) (k ∷ []) coefficient)
+        ≤ 2 ^ 25 }
+    ensures { OnOk result (Gathers T.holds T.width T.total T.pairs terms.old terms.new
+        (union_terms (l ∷ []) (k ∷ []) coefficient)) }
+{
+    if l.variable < k.variable {
+        terms.gather(&[l, k], coefficient)
+    } else if k.variable < l.variable {
+        terms.gather(&[k, l], coefficient)
+    } else if l.negated == k.negated {
+        terms.gather(&[l], coefficient)
+    } else {
+        Ok(())
+    }
+}
+
+/// Adds a coefficient on the union of two sets, where it has no clash.
+fn add_union<T: Gather>(
+    terms: &mut T,
+    set: &mut Vec<Literal>,
+    ls: &[Literal],
+    ks: &[Literal],
+    coefficient: i128,
+) -> Result<(), NoMemory>
+    requires left { IsFactor (T.width terms.old) ls.now }
+    requires right { IsFactor (T.width terms.old) ks.now }
+    requires small { T.total terms.old + unsigned_abs coefficient ≤ 2 ^ 97 }
+    requires few { T.pairs terms.old + squares (union_terms ls.now ks.now coefficient) ≤ 2 ^ 25 }
+    ensures { OnOk result (Gathers T.holds T.width T.total T.pairs terms.old terms.new
+        (union_terms ls.now ks.now coefficient)) }
+{
+    if let ([l], [k]) = (ls, ks) {
+        return add_pair(terms, *l, *k, coefficient);
+    }
+    unite(set, ls, ks)?;
+    if clashes(set) {
+        return Ok(());
+    }
+    terms.gather(set, coefficient)
+}
+
+/// Adds the products of a term and each of the parts from a place on.
+fn add_row<T: Gather>(
+    terms: &mut T,
+    set: &mut Vec<Literal>,
+    ls: &[Literal],
+    coefficient: &i128,
+    parts: &Parts,
+    start: usize,
+) -> Result<(), NoMemory>
+    requires left { IsFactor (T.width terms.old) ls.now }
+    requires parts { All (λ t. IsFactor (T.width terms.old) t.0) parts.now }
+    requires start { start ≤ length parts.now }
+    requires small { T.total terms.old
+        + unsigned_abs coefficient.now * terms_total (drop start parts.now) ≤ 2 ^ 97 }
+    requires few { T.pairs terms.old
+        + squares (products_with (ls.now, coefficient.now) (drop start parts.now)) ≤ 2 ^ 25 }
+    ensures { OnOk result (Gathers T.holds T.width T.total T.pairs terms.old terms.new
+        (products_with (ls.now, coefficient.now) (drop start parts.now))) }
+{
+    for j in start..parts.len() {
+        let (ks, other) = parts.at(j);
+        add_union(terms, set, ls, ks, times(coefficient, &other))?;
+    }
+    Ok(())
+}
+
+/// Adds a factor times the square of the sum of the parts.
+pub(crate) fn add_square<T: Gather>(
+    terms: &mut T,
+    set: &mut Vec<Literal>,
+    factor: u128,
+    parts: &Parts,
+) -> Result<(), NoMemory>
+    requires parts { All (λ t. IsFactor (T.width terms.old) t.0) parts.now }
+    requires factor { factor ≤ 2 ^ 100 }
+    requires small { T.total terms.old + factor * terms_total parts.now ^ 2 ≤ 2 ^ 97 }
+    requires few { T.pairs terms.old + squares (square_terms factor parts.now) ≤ 2 ^ 25 }
+    ensures { OnOk result (Gathers T.holds T.width T.total T.pairs terms.old terms.new
+        (square_terms factor parts.now)) }
+{
+    for i in 0..parts.len() {
+        let (ls, coefficient) = parts.at(i);
+        terms.gather(ls, squared(factor, &coefficient))?;
+        add_row(
+            terms,
+            set,
+            ls,
+            &scaled(2 * factor, &coefficient),
+            parts,
+            i + 1,
+        )?;
+    }
+    Ok(())
+}
