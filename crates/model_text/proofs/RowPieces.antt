@@ -1,5 +1,6 @@
 -- The pieces of each row are its text.
-use Rattle.std.proofs.Common.{◌≡◌, ℕ, suc, ◌+◌, ◌<◌, List, [], ◌∷◌, ◌++◌, length, map, drop, get_or, ℤ, pos, refl, sym, ap, ◌∙◌, arith, append-nil, append_assoc}
+use Rattle.std.proofs.Common.{◌≡◌, ℕ, suc, ◌+◌, ◌<◌, List, [], ◌∷◌, ◌++◌, length, map, drop, get_or, ℤ, pos, negsuc, int_le, unsigned_abs, false, true≢false, refl, sym, ap, ◌∙◌, arith, append-nil, append_assoc}
+use lib.Dec.{leb-zero}
 use Rattle.std.specs.Prelude.{codes}
 use Rattle.std.specs.List.{join_with_byte}
 use Rattle.std.specs.Fmt.{decimal, signed_decimal}
@@ -34,6 +35,11 @@ pub header_pieces : (kind : Kind) (w a b c x y z : List ℕ) → w ≡ join_with
     → w ++ 32 ∷ (a ++ 32 ∷ (b ++ 32 ∷ (c ++ 10 ∷ []))) ≡ row_text (kind_words kind ++ x ∷ y ∷ z ∷ [])
 header_pieces kind w a b c x y z named e f g =
     (λ k. named k ++ 32 ∷ (three_pieces a b c x y z e f g k)) ∙ header_words kind x y z
+
+-- a negative number is its sign and its size
+pub minus_first : (z : ℤ) → int_le (pos 0) z ≡ false → 45 ∷ decimal (unsigned_abs z) ≡ signed_decimal z
+minus_first (pos n) e = absurd (true≢false (sym (leb-zero n) ∙ e))
+minus_first (negsuc n) e = refl
 
 -- ---- the figures
 

@@ -1,6 +1,7 @@
 //! The rows of a text, each put to a sink through a buffer by a function of its own. None takes
 //! memory, and after a fault nothing is pending.
-ghost use Rattle.std.specs.Prelude.{◌≡◌, ◌++◌, [], ◌∷◌, OnOk, OnErr, map};
+ghost use Rattle.std.specs.Prelude.{◌≡◌, ◌+◌, ◌<◌, ◌≤◌, ◌++◌, [], ◌∷◌, OnOk, OnErr, map, drop};
+ghost use Rattle.std.specs.Fmt.{decimal, signed_decimal};
 ghost use Rattle.edge_io.specs.Counts.{HasCause};
 ghost use Rattle.edge_io.specs.Sinks.{AppendsFront, Passes, joined_bytes};
 ghost use Rattle.model_text.specs.Rows.{row_text, rows_text, figure_rows, chimera_row, chain_row, chain_rows, graph_rows, header_row, entry_row};
@@ -9,7 +10,11 @@ ghost use Rattle.model_text.specs.Lines.{spaced_numbers};
 use crate::rows::{count_couplers, count_nodes, words_of};
 use bits_model::{Entry, EntryList, Figures, Items, Kind};
 use edge_io::{LineBuffer, Sink, WriteFault};
-use itoa::Buffer;
+use itoa::{Buffer, write_digits};
+
+/// Room for a row: two numbers of 10 digits and one of 19, a sign, two spaces and a line feed are 43
+/// bytes.
+const LINE: usize = 48;
 
 /// Puts the pieces one after the other.
 #[inline(always)]
@@ -234,13 +239,58 @@ pub fn put_header<S: Sink>(
     )
 }
 
-/// A weight, after the numbers of its nodes.
+/// Writes a byte before `end`, and says where it is.
 #[inline(always)]
-fn put_entry<S: Sink>(
-    buffer: &mut LineBuffer,
-    sink: &mut S,
-    entry: &Entry,
-) -> Result<(), WriteFault>
+fn write_byte(byte: u8, line: &mut [u8; LINE], end: usize) -> usize
+    requires { (1 ≤ end) × (end ≤ 48) }
+    ensures start { result + 1 ≡ end }
+    ensures written { drop result line.new ≡ byte ∷ drop end line.old }
+{
+    line[end - 1] = byte;
+    end - 1
+}
+
+/// Writes a number and a space so that they end at `end`, and says where they begin.
+#[inline(always)]
+fn write_node(node: u32, line: &mut [u8; LINE], end: usize) -> usize
+    requires { (11 ≤ end) × (end ≤ 48) }
+    ensures start { (result < end) × (end ≤ result + 11) }
+    ensures written { drop result line.new ≡ decimal node ++ 32 ∷ drop end line.old }
+{
+    let end = write_byte(b' ', line, end);
+    write_digits(u64::from(node), line, end)
+}
+
+/// Writes a weight and a line feed at the end of the line, and says where they begin.
+#[inline(always)]
+fn write_weight(weight: i64, line: &mut [u8; LINE]) -> usize
+    ensures start { (27 ≤ result) × (result ≤ 48) }
+    ensures written { drop result line.new ≡ signed_decimal weight ++ 10 ∷ [] }
+{
+    let end = write_byte(b'\n', line, LINE);
+    let at = write_digits(weight.unsigned_abs(), line, end);
+    if weight >= 0 {
+        at
+    } else {
+        write_byte(b'-', line, at)
+    }
+}
+
+/// Writes a row at the end of the line, and says where it begins.
+#[inline(always)]
+fn write_row(first: u32, second: u32, weight: i64, line: &mut [u8; LINE]) -> usize
+    ensures within { result ≤ 48 }
+    ensures written { drop result line.new
+        ≡ row_text (decimal first ∷ decimal second ∷ signed_decimal weight ∷ []) }
+{
+    let at = write_weight(weight, line);
+    let at = write_node(second, line, at);
+    write_node(first, line, at)
+}
+
+/// A weight of any size, after the numbers of its nodes.
+#[inline(never)]
+fn put_wide<S: Sink>(buffer: &mut LineBuffer, sink: &mut S, entry: &Entry) -> Result<(), WriteFault>
     ensures passed { let row = entry_row entry.now in
         OnOk result (Passes (S.bytes sink.old) (S.bytes sink.new)
         buffer.old buffer.new (row_text row)) }
@@ -259,6 +309,33 @@ fn put_entry<S: Sink>(
     put_pieces(buffer, sink, &[first, b" ", second, b" ", weight, b"\n"])
 }
 
+/// A weight, after the numbers of its nodes. The line is where the row is built, and what it holds
+/// before does not matter.
+#[inline(always)]
+fn put_entry<S: Sink>(
+    line: &mut [u8; LINE],
+    buffer: &mut LineBuffer,
+    sink: &mut S,
+    entry: &Entry,
+) -> Result<(), WriteFault>
+    ensures passed { let row = entry_row entry.now in
+        OnOk result (Passes (S.bytes sink.old) (S.bytes sink.new)
+        buffer.old buffer.new (row_text row)) }
+    ensures front { let row = entry_row entry.now in
+        OnErr result (AppendsFront (S.bytes sink.old) (S.bytes sink.new)
+        (buffer.old ++ row_text row)) }
+    ensures lost { OnErr result (buffer.new ≡ []) }
+    ensures cause { HasCause (S.faults sink.old) (S.faults sink.new) result }
+{
+    match i64::try_from(entry.weight) {
+        Ok(weight) => {
+            let at = write_row(entry.first, entry.second, weight, line);
+            buffer.put(sink, &line[at..])
+        }
+        Err(_) => put_wide(buffer, sink, entry),
+    }
+}
+
 /// Each weight, in order.
 pub fn put_entries<S: Sink>(
     buffer: &mut LineBuffer,
@@ -274,8 +351,9 @@ pub fn put_entries<S: Sink>(
     ensures lost { OnErr result (buffer.new ≡ []) }
     ensures cause { HasCause (S.faults sink.old) (S.faults sink.new) result }
 {
+    let mut line = [0u8; LINE];
     for entry in entries.iter() {
-        put_entry(buffer, sink, &entry)?;
+        put_entry(&mut line, buffer, sink, &entry)?;
     }
     Ok(())
 }

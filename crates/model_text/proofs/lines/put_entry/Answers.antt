@@ -1,13 +1,17 @@
-use Rattle.std.proofs.Common.{◌≡◌, rules}
+use Rattle.std.proofs.Common.{◌≡◌, ℤ, ◌-◌, ℕ, [], ◌∷◌, length, take, drop, ap, sym, ◌∙◌, to_z, of_z, w64, rules}
+use Rattle.std.proofs.lemmas.List.{take_rest}
 use Rattle.std.specs.Fmt.{decimal, signed_decimal}
+use Rattle.model_text.specs.Rows.{row_text}
 use Rattle.model_text.proofs.Puts.{same_front}
-use Rattle.model_text.proofs.RowPieces.{three_pieces}
 use Rattle.model_text.proofs.lines.put_entry.Goals as goal
 
-pub returns-clause-front : goal.returns-clause-front
-returns-clause-front g c =
+pub returns-in-Ok-clause-front : goal.returns-in-Ok-clause-front
+returns-in-Ok-clause-front g c =
     let entry = c.args.entry.now in
-    let first : c.as_bytes-first.result.now ≡ decimal entry.first = search rules in
-    let second : c.as_bytes-second.result.now ≡ decimal entry.second = search rules in
-    let weight : c.as_bytes-weight.result.now ≡ signed_decimal entry.weight = search rules in
-    same_front c.put_pieces.result _ _ c.args.buffer.now _ _ (three_pieces _ _ _ _ _ _ first second weight) c.put_pieces.ensures.front
+    let at = c.write_row-at.result in
+    let line = c.write_row-at.new.line in
+    let long : length line ≡ 48 = search rules in
+    let rest = ap (λ (n : ℕ). take (n - at) (drop at line)) (sym long) ∙ take_rest line at in
+    let narrow : to_z w64 (of_z w64 c.in-Ok.weight) ≡ entry.weight = search rules in
+    let row = ap (λ (w : ℤ). row_text (decimal entry.first ∷ decimal entry.second ∷ signed_decimal w ∷ [])) narrow in
+    same_front c.put.result _ _ c.args.buffer.now _ _ (rest ∙ c.write_row-at.ensures.written ∙ row) c.put.ensures.front

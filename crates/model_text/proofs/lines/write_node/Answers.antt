@@ -1,0 +1,13 @@
+use Rattle.std.proofs.Common.{◌<◌, ◌^◌, arith}
+use Rattle.std.proofs.lemmas.Fmt.{length-decimal-le}
+use Rattle.model_text.proofs.lines.write_node.Goals as goal
+
+pub write_digits-requires : goal.write_digits-requires
+write_digits-requires c =
+    let small : c.from.result < 2 ^ 32 = omega (arith, c.from.ensures, c.ranges.node.fits) in
+    omega (arith, length-decimal-le 10 c.from.result (omega arith) (omega (arith, small)) (omega (arith, small)))
+
+pub returns-clause-start : goal.returns-clause-start
+returns-clause-start c =
+    let small : c.from.result < 2 ^ 32 = omega (arith, c.from.ensures, c.ranges.node.fits) in
+    omega (arith, length-decimal-le 10 c.from.result (omega arith) (omega (arith, small)) (omega (arith, small)))
