@@ -13,5 +13,6 @@ pub mod SmallSets
 pub mod TermSets
 pub mod Loops
 pub mod TermProducts
+pub mod Multiplying
 pub mod Merging
 pub mod PairUnions

@@ -31,6 +31,10 @@ IsLow t = All (λ u. length u.0 ≤ 2) t.terms
 abbrev pub with_added : TableContent → List Literal → ℤ → TableContent
 with_added t ls c = record t { terms = with_addition t.terms ls c }
 
+-- a table with more of them, one after another
+abbrev pub with_all : TableContent → List Term → TableContent
+with_all t ts = record t { terms = with_additions t.terms ts }
+
 -- ---- additions that are to be summed
 
 -- additions of which a table can be made

@@ -8,6 +8,7 @@ mod gathered;
 mod laws;
 mod literal_set;
 mod low_table;
+mod products;
 mod sets;
 mod sums;
 mod table;

@@ -1,0 +1,103 @@
+//! Products of two tables, which are added into a third one.
+ghost use Rattle.std.specs.Prelude.{◌≡◌, ◌≢◌, ◌+◌, ◌*◌, ◌≤◌, ◌^◌, ◌*ℤ◌, pos, length, unsigned_abs, All, OnOk, OnErr};
+ghost use Rattle.term_table.specs.Terms.{terms_total};
+ghost use Rattle.term_table.specs.Tables.{with_all};
+ghost use Rattle.term_table.specs.Products.{pair_products, pairs_of, pairs_with, union_terms, HasPrefix, IsFactor};
+
+use crate::table::Table;
+use crate::unions::unite;
+use bits_model::NoMemory;
+use problem_form::{Literal, clashes};
+
+fn times(a: &i128, b: &i128) -> i128
+    requires { unsigned_abs a.now * unsigned_abs b.now ≤ 2 ^ 124 }
+    ensures { result ≡ a.now *ℤ b.now }
+{
+    *a * *b
+}
+
+/// The product of three numbers, of which the last is not 0.
+fn product_of(factor: &i128, a: &i128, b: &i128) -> i128
+    requires some { b.now ≢ pos 0 }
+    requires small { unsigned_abs factor.now * (unsigned_abs a.now * unsigned_abs b.now)
+        ≤ 2 ^ 124 }
+    ensures { result ≡ (factor.now *ℤ a.now) *ℤ b.now }
+{
+    times(&times(factor, a), b)
+}
+
+/// Adds a coefficient on the union of two sets, where it has no clash.
+fn add_union(
+    into: &mut Table,
+    set: &mut Vec<Literal>,
+    ls: &[Literal],
+    ks: &[Literal],
+    coefficient: i128,
+) -> Result<(), NoMemory>
+    requires left { IsFactor into.old.width ls.now }
+    requires right { IsFactor into.old.width ks.now }
+    requires small { terms_total into.old.terms + unsigned_abs coefficient ≤ 2 ^ 124 }
+    ensures added { OnOk result
+        (into.new ≡ with_all into.old (union_terms ls.now ks.now coefficient)) }
+    ensures unchanged { OnErr result (into.new ≡ into.old) }
+{
+    unite(set, ls, ks)?;
+    if clashes(set) {
+        return Ok(());
+    }
+    into.add(set, coefficient)
+}
+
+/// Adds a factor times the products of a term and each of a table's.
+fn multiply_row(
+    into: &mut Table,
+    set: &mut Vec<Literal>,
+    ls: &[Literal],
+    a: &i128,
+    other: &Table,
+    factor: &i128,
+) -> Result<(), NoMemory>
+    requires left { IsFactor into.old.width ls.now }
+    requires width { other.now.width ≡ into.old.width }
+    requires short { All (λ t. length t.0 ≤ 1024) other.now.terms }
+    requires small { terms_total into.old.terms
+        + unsigned_abs factor.now * (unsigned_abs a.now * terms_total other.now.terms) ≤ 2 ^ 124 }
+    ensures multiplied { OnOk result (into.new ≡ with_all into.old
+        (pair_products factor.now (pairs_with (ls.now, a.now) other.now.terms))) }
+    ensures prefix { OnErr result (HasPrefix into.old into.new factor.now
+        (pairs_with (ls.now, a.now) other.now.terms)) }
+{
+    for (ks, b) in other.terms() {
+        add_union(into, set, ls, ks, product_of(factor, a, &b))?;
+    }
+    Ok(())
+}
+
+impl Table {
+    /// Adds a factor times the product of two tables: that of each pair of their terms, in order.
+    /// Where memory is refused, those of the first pairs were added.
+    pub fn multiply_into(
+        &self,
+        other: &Table,
+        factor: i128,
+        into: &mut Table,
+    ) -> Result<(), NoMemory>
+        requires width { self.now.width ≡ into.old.width }
+        requires other_width { other.now.width ≡ into.old.width }
+        requires short { All (λ t. length t.0 ≤ 1024) self.now.terms }
+        requires other_short { All (λ t. length t.0 ≤ 1024) other.now.terms }
+        requires small { terms_total into.old.terms
+            + unsigned_abs factor * (terms_total self.now.terms * terms_total other.now.terms)
+            ≤ 2 ^ 124 }
+        ensures multiplied { OnOk result (into.new ≡ with_all into.old
+            (pair_products factor (pairs_of self.now.terms other.now.terms))) }
+        ensures prefix { OnErr result (HasPrefix into.old into.new factor
+            (pairs_of self.now.terms other.now.terms)) }
+    {
+        let mut set = Vec::new(into.alloc);
+        for (ls, a) in self.terms() {
+            multiply_row(into, &mut set, ls, &a, other, &factor)?;
+        }
+        Ok(())
+    }
+}
