@@ -29,6 +29,7 @@ use Rattle.command_words.specs.Names.{name_of, text_at}
 
 format_of-format_word : (format : Format) → format_of (format_word format) ≡ Some format
 format_of-format_word formats.Wcnf = refl
+format_of-format_word formats.Opb = refl
 format_of-format_word formats.Ising = refl
 format_of-format_word formats.Qubo = refl
 
@@ -92,7 +93,8 @@ line {A} word_of word x below others = go (bytes_eq word (word_of x)) refl
 format_of-word : (word : List ℕ) → IfSome (format_of word) (λ format. word ≡ format_word format)
 format_of-word word =
     line format_word word formats.Wcnf _
-    (line format_word word formats.Ising _ (line format_word word formats.Qubo None tt))
+    (line format_word word formats.Opb _
+    (line format_word word formats.Ising _ (line format_word word formats.Qubo None tt)))
 
 target_of-word : (word : List ℕ) → IfSome (target_of word) (λ target. word ≡ target_word target)
 target_of-word word = line target_word word targets.Qubo _ (line target_word word targets.Ising None tt)

@@ -19,6 +19,7 @@ use Rattle.command_words.specs.Names.{name_of}
 -- the word of a format
 abbrev pub format_word : Format → List ℕ
 format_word formats.Wcnf = codes "wcnf"
+format_word formats.Opb = codes "opb"
 format_word formats.Ising = codes "ising"
 format_word formats.Qubo = codes "qubo"
 

@@ -35,6 +35,8 @@ abbrev pub format_of : List ℕ → Option Format
 format_of word =
     if bytes_eq word (codes "wcnf")
     then Some formats.Wcnf
+    else if bytes_eq word (codes "opb")
+    then Some formats.Opb
     else if bytes_eq word (codes "ising")
     then Some formats.Ising
     else if bytes_eq word (codes "qubo") then Some formats.Qubo else None

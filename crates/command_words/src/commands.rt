@@ -8,6 +8,7 @@ use problem_form::Choices;
 #[derive(Clone, Copy, Debug, PartialEq, Eq)]
 pub enum Format {
     Wcnf,
+    Opb,
     Ising,
     Qubo,
 }

@@ -46,7 +46,7 @@ fn compile(format: Format, target: Target, unit: UnitChoice) -> Command {
 
 #[test]
 fn each_wrong_or_missing_word_has_its_position(rt: HostRuntime) -> Result<(), Fail> {
-    let rows: [(&[&str], Result<Command, usize>); 16] = [
+    let rows: [(&[&str], Result<Command, usize>); 17] = [
         (&["compile", "wcnf", "qubo", "FILE"], Ok(COMPILE)),
         (&["compile", "wcnf", "qubo", "compile"], Ok(COMPILE)),
         // a missing word
@@ -61,7 +61,8 @@ fn each_wrong_or_missing_word_has_its_position(rt: HostRuntime) -> Result<(), Fa
         (&["compile", "wcnf", "qub", "FILE"], Err(3)),
         // the first of several, and before what is missing
         (&["", "", ""], Err(1)),
-        (&["compile", "opb", "wcnf"], Err(2)),
+        (&["compile", "opb", "wcnf"], Err(3)),
+        (&["compile", "wbo", "wcnf"], Err(2)),
         (&["compile", "wcnf", "wcnf"], Err(3)),
         // a key, and a further word that is none
         (
@@ -84,10 +85,14 @@ fn each_wrong_or_missing_word_has_its_position(rt: HostRuntime) -> Result<(), Fa
 fn each_format_and_target_in_each_unit(rt: HostRuntime) -> Result<(), Fail> {
     let one = UnitChoice::One;
     let reduce = UnitChoice::Reduce;
-    let rows: [(&[&str], Command); 5] = [
+    let rows: [(&[&str], Command); 6] = [
         (
             &["compile", "wcnf", "ising", "FILE"],
             compile(Format::Wcnf, Target::Ising, one),
+        ),
+        (
+            &["compile", "opb", "qubo", "FILE"],
+            compile(Format::Opb, Target::Qubo, one),
         ),
         (
             &["compile", "ising", "qubo", "FILE", "unit=one"],

@@ -9,6 +9,8 @@ mod endless;
 #[cfg(test)]
 mod faults;
 #[cfg(test)]
+mod opb_texts;
+#[cfg(test)]
 mod pieces;
 #[cfg(test)]
 mod read_back;

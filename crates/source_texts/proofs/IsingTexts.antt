@@ -1,5 +1,5 @@
 -- Ising texts: their problems stand for what they say.
-use Rattle.std.proofs.Common.{◌≡◌, ℕ, List, [], Ok, refl}
+use Rattle.std.proofs.Common.{◌≡◌, ℕ, List, Ok, refl}
 use Rattle.bits_model.specs.Costs.{Source}
 use Rattle.whole_text.specs.Steps.{◌>>=◌}
 use Rattle.problem_form.specs.Problems.{ProblemContent}
@@ -11,7 +11,7 @@ use Rattle.ising_file.specs.Cost.{source_of}
 use Rattle.ising_file.proofs.ReadCosts.{reading_keeps_costs}
 use Rattle.source_texts.specs.declared.reading.Read.{Read}
 use Rattle.source_texts.specs.Sources.{own, StandsFor}
-use Rattle.source_texts.proofs.Readings.{same_costs_stand, read_stands, read_unconstrained}
+use Rattle.source_texts.proofs.Readings.{same_costs_stand, read_stands}
 
 -- the problem of what a text says
 abbrev normal_problem : Listing → ProblemContent
@@ -28,10 +28,3 @@ pub ising_stands : (text : List ℕ) (r : Read)
 unfolding normal_reading
 ising_stands text r e =
     read_stands source_of normal_problem normal_form_stands (reading Ising text) r e
-
--- it has products alone
-pub ising_is_unconstrained : (text : List ℕ) (p : ProblemContent) → normal_reading Ising text ≡ Ok p
-    → p.constraints ≡ []
-unfolding normal_reading
-ising_is_unconstrained text p e =
-    read_unconstrained normal_problem (λ s. refl) (reading Ising text) p e

@@ -1,5 +1,7 @@
 pub mod Readings
 pub mod WcnfTexts
+pub mod OpbTexts
 pub mod IsingTexts
 pub mod QuboTexts
 pub mod Standing
+pub mod WordTexts

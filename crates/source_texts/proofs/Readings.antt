@@ -1,6 +1,6 @@
 -- A problem with the costs of a source stands for the source, and texts that are read into such a
 -- problem.
-use Rattle.std.proofs.Common.{◌≡◌, ℤ, [], Ok, Err, Result, refl, ap, sym, subst, ◌∙◌, arith}
+use Rattle.std.proofs.Common.{◌≡◌, ℤ, Ok, Err, Result, refl, subst, arith}
 use Rattle.std.proofs.lemmas.List.{take_all}
 use Rattle.bits_model.specs.declared.costs.Figures.{Figures}
 use Rattle.bits_model.specs.Costs.{Form, Source}
@@ -45,13 +45,3 @@ module _ {S : Type 0} (source : S → Source) (problem : S → ProblemContent) w
   read_stands each (Ok s) r e =
       let same : own (problem s) ≡ r = cc in
       (source s, refl, subst (λ q. StandsFor (source s) q) same (each s))
-
--- the problem has no constraints where none has
-pub read_unconstrained : {S : Type 0} (problem : S → ProblemContent)
-    → ((s : S) → (problem s).constraints ≡ [])
-    → (said : Result S TextFault) (p : ProblemContent)
-    → (said >>= λ s. Ok (problem s)) ≡ Ok p → p.constraints ≡ []
-read_unconstrained problem none (Err fault) p e = absurd cc
-read_unconstrained problem none (Ok s) p e =
-    let same : problem s ≡ p = cc in
-    sym (ap (λ (q : ProblemContent). q.constraints) same) ∙ none s

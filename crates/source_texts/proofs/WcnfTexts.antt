@@ -1,17 +1,17 @@
 -- Weighted CNF texts: their problems stand for what they say.
-use Rattle.std.proofs.Common.{◌≡◌, ℕ, List, [], Ok, refl, ap}
+use Rattle.std.proofs.Common.{◌≡◌, ℕ, List, Ok, refl, ap}
 use Rattle.bits_model.specs.Costs.{Source}
 use Rattle.whole_text.specs.Steps.{◌>>=◌}
 use Rattle.problem_form.specs.Problems.{ProblemContent}
 use Rattle.problem_form.specs.NormalForm.{normal_form}
-use Rattle.whole_text.specs.Tokens.{Word, tokens_of}
+use Rattle.whole_text.specs.Tokens.{tokens_of}
 use Rattle.whole_text.specs.declared.token.Style.TheVariants.{Plain}
-use Rattle.wcnf_reader.specs.Wcnf.{Wcnf, reading, reading_of_words}
+use Rattle.wcnf_reader.specs.Wcnf.{Wcnf, reading}
 use Rattle.wcnf_reader.specs.Cost.{problem_of, normal_reading, problem_of_words, source_of}
 use Rattle.wcnf_reader.proofs.ReadCosts.{reading_keeps_costs}
 use Rattle.source_texts.specs.declared.reading.Read.{Read}
 use Rattle.source_texts.specs.Sources.{own, StandsFor}
-use Rattle.source_texts.proofs.Readings.{same_costs_stand, read_stands, read_unconstrained}
+use Rattle.source_texts.proofs.Readings.{same_costs_stand, read_stands}
 
 -- the problem of what a text says
 abbrev normal_problem : Wcnf → ProblemContent
@@ -28,24 +28,12 @@ pub wcnf_stands : (text : List ℕ) (r : Read)
 unfolding normal_reading
 wcnf_stands text r e = read_stands source_of normal_problem normal_form_stands (reading text) r e
 
--- it has clauses alone
-pub wcnf_is_unconstrained : (text : List ℕ) (p : ProblemContent) → normal_reading text ≡ Ok p
-    → p.constraints ≡ []
-unfolding normal_reading
-wcnf_is_unconstrained text p e = read_unconstrained normal_problem (λ s. refl) (reading text) p e
-
--- so has the problem of its words
-pub words_are_unconstrained : (words : List Word) (p : ProblemContent) → problem_of_words words ≡ Ok p
-    → p.constraints ≡ []
-unfolding problem_of_words
-words_are_unconstrained words p e =
-    read_unconstrained normal_problem (λ s. refl) (reading_of_words words) p e
-
 same_reading : (text : List ℕ) → normal_reading text ≡ problem_of_words (tokens_of Plain text)
 unfolding normal_reading problem_of_words reading
 same_reading text = refl
 
 -- the words of a text are read as the text is
-pub words_read : (text : List ℕ)
-    → (normal_reading text >>= λ p. Ok (own p)) ≡ (problem_of_words (tokens_of Plain text) >>= λ p. Ok (own p))
-words_read text = ap (λ said. said >>= λ p. Ok (own p)) (same_reading text)
+pub wcnf_words_read : (text : List ℕ)
+    → (normal_reading text >>= λ p. Ok (own p))
+    ≡ (problem_of_words (tokens_of Plain text) >>= λ p. Ok (own p))
+wcnf_words_read text = ap (λ said. said >>= λ p. Ok (own p)) (same_reading text)

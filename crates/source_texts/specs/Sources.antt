@@ -1,28 +1,34 @@
 -- What a text says in a format, and the problem that it is read into: a line a format.
-use Rattle.std.specs.Prelude.{◌≡◌, ℕ, ℤ, ◌≤◌, List, Ok, Result, take}
+use Rattle.std.specs.Prelude.{◌≡◌, ℕ, ℤ, ◌≤◌, List, Ok, Option, Some, None, IfSome, Result, take}
 use Rattle.bits_model.specs.declared.costs.Figures.{Figures}
 use Rattle.bits_model.specs.Costs.{Form, Source}
 use Rattle.bits_model.specs.Relations.{Decoding, Relaxes}
 use Rattle.whole_text.specs.declared.faults.TextFault.{TextFault}
-use Rattle.whole_text.specs.declared.token.Style.TheVariants.{Plain}
+use Rattle.whole_text.specs.declared.token.Style.{Style}
+use Rattle.whole_text.specs.declared.token.Style.TheVariants as styles
 use Rattle.whole_text.specs.Tokens.{Word, tokens_of}
 use Rattle.whole_text.specs.Steps.{◌>>=◌}
 use Rattle.problem_form.specs.Problems.{ProblemContent, form_of}
 use Rattle.problem_form.specs.Limits.{upper}
 use Rattle.command_words.specs.declared.commands.Format.{Format}
-use Rattle.command_words.specs.declared.commands.Format.TheVariants.{Wcnf, Ising, Qubo}
+use Rattle.command_words.specs.declared.commands.Format.TheVariants.{Wcnf, Opb, Ising, Qubo}
 use Rattle.wcnf_reader.specs.Wcnf as wcnf
 use Rattle.wcnf_reader.specs.Cost as wcnf_cost
+use Rattle.opb_reader.specs.Opb as opb
+use Rattle.opb_reader.specs.Cost as opb_cost
 use Rattle.entry_reader.specs.declared.layout.Layout.TheVariants as layouts
 use Rattle.entry_reader.specs.Entries as entries
 use Rattle.entry_reader.specs.Problems as entry_problems
 use Rattle.ising_file.specs.Cost as ising_cost
 use Rattle.qubo_file.specs.Cost as qubo_cost
 use Rattle.source_texts.specs.declared.reading.Read.{Read}
+use Rattle.source_texts.specs.declared.reading.WordFormat.{WordFormat}
+use Rattle.source_texts.specs.declared.reading.WordFormat.TheVariants as worded
 
 -- the source that a text says, as it is written, or the first fault of the text
 abbrev pub source_of : Format → List ℕ → Result Source TextFault
 source_of Wcnf text = wcnf.reading text >>= λ s. Ok (wcnf_cost.source_of s)
+source_of Opb text = opb.reading text >>= λ s. Ok (opb_cost.source_of s)
 source_of Ising text = entries.reading layouts.Ising text >>= λ s. Ok (ising_cost.source_of s)
 source_of Qubo text = entries.reading layouts.Qubo text >>= λ s. Ok (qubo_cost.source_of s)
 
@@ -33,17 +39,35 @@ own p = record { problem = p; variables = p.variables }
 -- its problem in normal form, or the first fault of the text
 abbrev pub problem_of : Format → List ℕ → Result Read TextFault
 problem_of Wcnf text = wcnf_cost.normal_reading text >>= λ p. Ok (own p)
+problem_of Opb text = opb_cost.normal_reading text >>= λ p. Ok (own p)
 problem_of Ising text = entry_problems.normal_reading layouts.Ising text >>= λ p. Ok (own p)
 problem_of Qubo text = entry_problems.normal_reading layouts.Qubo text >>= λ p. Ok (own p)
 
--- the problem of a weighted CNF text in normal form, from the words of the text
-abbrev pub problem_of_words : List Word → Result Read TextFault
-problem_of_words words = wcnf_cost.problem_of_words words >>= λ p. Ok (own p)
+-- ---- the formats that are read from words
+
+-- a format as one whose texts are read from their words, or none where they are read whole
+abbrev pub word_format : Format → Option WordFormat
+word_format Wcnf = Some worded.Wcnf
+word_format Opb = Some worded.Opb
+word_format Ising = None
+word_format Qubo = None
+
+-- how its texts are cut into words
+abbrev pub style_of : WordFormat → Style
+style_of worded.Wcnf = styles.Plain
+style_of worded.Opb = styles.Opb
+
+-- the problem in normal form, from the words of a text
+abbrev pub problem_of_words : WordFormat → List Word → Result Read TextFault
+problem_of_words worded.Wcnf words = wcnf_cost.problem_of_words words >>= λ p. Ok (own p)
+problem_of_words worded.Opb words = opb_cost.problem_of_words words >>= λ p. Ok (own p)
 
 -- the words of a text say what the text says
 abbrev pub WordsAreReadAsTexts : Type 0
-WordsAreReadAsTexts = (text : List ℕ)
-    → problem_of Wcnf text ≡ problem_of_words (tokens_of Plain text)
+WordsAreReadAsTexts = (format : Format) (text : List ℕ) → IfSome (word_format format)
+    (λ w. problem_of format text ≡ problem_of_words w (tokens_of (style_of w) text))
+
+-- ---- what a problem stands for
 
 -- the first n bits of what states are decoded to
 abbrev pub first_decoded : ℕ → Decoding → Decoding
