@@ -11,9 +11,13 @@ mod entry_texts;
 #[cfg(test)]
 mod memory_ends;
 #[cfg(test)]
+mod opb_texts;
+#[cfg(test)]
 mod pieces;
 #[cfg(test)]
 mod plain_entries;
+#[cfg(test)]
+mod plain_opb;
 #[cfg(test)]
 mod plain_reader;
 #[cfg(test)]

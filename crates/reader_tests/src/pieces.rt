@@ -7,13 +7,19 @@ use std::alloc::Global;
 use std::test::Fail;
 use whole_text::{Lexer, Style, TokenText, put_number};
 
-/// The words of a text that is cut at two places.
-fn cut_text(alloc: Global, text: &[u8], first: usize, second: usize) -> Result<TokenText, NoMemory>
+/// The words of a text of a style that is cut at two places.
+fn cut_text(
+    alloc: Global,
+    style: Style,
+    text: &[u8],
+    first: usize,
+    second: usize,
+) -> Result<TokenText, NoMemory>
     requires ordered { first ≤ second }
     requires within { second ≤ length text.now }
     requires small { length text.now ≤ 2 ^ 16 }
 {
-    let mut lexer = Lexer::new(alloc, Style::Plain);
+    let mut lexer = Lexer::new(alloc, style);
     lexer.feed(&text[..first])?;
     lexer.feed(&text[first..second])?;
     lexer.feed(&text[second..])?;
@@ -35,6 +41,7 @@ fn has_words(text: &TokenText, wanted: &[(&[u8], u64)], bytes: &[u8]) -> bool {
 /// Whether each pair of cuts gives these words.
 fn is_cut_anywhere(
     alloc: Global,
+    style: Style,
     text: &[u8],
     words: &[(&[u8], u64)],
     bytes: &[u8],
@@ -43,7 +50,7 @@ fn is_cut_anywhere(
 {
     for second in 0..text.len() + 1 {
         for first in 0..second + 1 {
-            let cut = cut_text(alloc, text, first, second)?;
+            let cut = cut_text(alloc, style, text, first, second)?;
             if !has_words(&cut, words, bytes) {
                 return Ok(false);
             }
@@ -65,7 +72,31 @@ fn a_text_may_be_cut_anywhere(rt: HostRuntime) -> Result<(), Fail> {
         (b"0", 6),
     ];
     let text = b" c 1 x\np wcnf 1\t2 10\r\n\nc\n10 -1\n0";
-    let same = is_cut_anywhere(rt.alloc(), text, &words, b"pwcnf121010-10")?;
+    let bytes = b"pwcnf121010-10";
+    let same = is_cut_anywhere(rt.alloc(), Style::Plain, text, &words, bytes)?;
+    assert!(rt; same);
+    Ok(())
+}
+
+#[test]
+fn an_opb_text_may_be_cut_anywhere(rt: HostRuntime) -> Result<(), Fail> {
+    let words: [(&[u8], u64); 12] = [
+        (b"min:", 2),
+        (b"+1", 2),
+        (b"x1", 2),
+        (b";", 2),
+        (b"c:", 4),
+        (b":", 4),
+        (b"2", 4),
+        (b">=<", 4),
+        (b"-1", 4),
+        (b";", 4),
+        (b";", 4),
+        (b"=", 5),
+    ];
+    let text = b" * 1 ;\nmin:+1 x1;\n*\n\tc:: 2>=<-1;;\r\n=";
+    let bytes = b"min:+1x1;c::2>=<-1;;=";
+    let same = is_cut_anywhere(rt.alloc(), Style::Opb, text, &words, bytes)?;
     assert!(rt; same);
     Ok(())
 }

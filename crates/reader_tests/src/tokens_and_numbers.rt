@@ -31,6 +31,30 @@ fn comments_blanks_and_empty_lines(rt: HostRuntime) -> Result<(), Fail> {
 }
 
 #[test]
+fn colons_semicolons_and_runs_of_operators(rt: HostRuntime) -> Result<(), Fail> {
+    let text = b"* no token\nmin:+1 x1;\n c : a:b>=<3= ;;\t*";
+    let places = [
+        (11, 15, 2),
+        (15, 17, 2),
+        (18, 20, 2),
+        (20, 21, 2),
+        (23, 24, 3),
+        (25, 26, 3),
+        (27, 29, 3),
+        (29, 30, 3),
+        (30, 33, 3),
+        (33, 34, 3),
+        (34, 35, 3),
+        (36, 37, 3),
+        (37, 38, 3),
+        (39, 40, 3),
+    ];
+    let found = tokens(rt.alloc(), text, Style::Opb)?;
+    assert!(rt; have_places(&found, &places));
+    Ok(())
+}
+
+#[test]
 fn numbers_and_near_misses(rt: HostRuntime) {
     let table = [
         (b"7.".as_slice(), Some(7)),
