@@ -1,4 +1,4 @@
--- Pairs that are held apart, and the keys of pairs and of places.
+-- The keys of places, weights that are added one by one, and couplers with new nodes.
 use Rattle.std.proofs.Common.{◌≡◌, ℕ, zero, suc, ◌+◌, ◌*◌, ◌<◌, ◌≤◌, ◌^◌, Bool, true, false, eqb, arith, sym, ap, ◌∙◌, refl, List, [], ◌∷◌, ◌++◌, length, take, ℤ, pos, Some, slice_get, append_assoc, append-nil, neg_ℤ, ◌*ℤ◌, ◌-ℤ◌, to_z, of_z, unsigned_abs, if◌then◌else◌}
 use Rattle.std.proofs.lemmas.Int.{ints}
 use Rattle.std.proofs.lemmas.List.{take_more, length-take-le}
@@ -13,17 +13,9 @@ use Rattle.monomial_layer.specs.Monomials.{factor}
 use Rattle.direct_quad.specs.Places.{signed, node_coupler, node_couplers}
 use Rattle.direct_quad.specs.RowSums.{with_weight, size_of}
 use Rattle.direct_quad.proofs.SummedRows.{size-with_weight}
-use Rattle.direct_quad.specs.Keys.{key_of, pair_keys, literal_keys, place_keys}
+use Rattle.direct_quad.specs.Keys.{literal_keys, place_keys}
 
 -- ---- keys, one after another
-
-pub pair_keys_push : (n : ℕ) (es : List Entry) (e : Entry)
-    → pair_keys n (es ++ e ∷ []) ≡ pair_keys n es ++ key_of e.first (n + length es) ∷ []
-pair_keys_push n [] e = let z : n + 0 ≡ n = omega arith in rw z
-pair_keys_push n (d ∷ es) e =
-    let up : suc n + length es ≡ n + suc (length es) = omega arith in
-    ap (λ ks. key_of d.first n ∷ ks) (pair_keys_push (suc n) es e)
-    ∙ ap (λ m. key_of d.first n ∷ (pair_keys (suc n) es ++ key_of e.first m ∷ [])) up
 
 pub place_keys_push : (n : ℕ) (ts : List Term) (t : Term)
     → place_keys n (ts ++ t ∷ []) ≡ place_keys n ts ++ literal_keys (n + length ts) t.0
@@ -36,7 +28,7 @@ place_keys_push n (u ∷ ts) t =
     ∙ sym (append_assoc (literal_keys n u.0) (place_keys (suc n) ts) (literal_keys (suc n + length ts) t.0))
     ∙ ap (λ m. (literal_keys n u.0 ++ place_keys (suc n) ts) ++ literal_keys m t.0) up
 
--- ---- one more pair, and one more term
+-- ---- one more term
 
 take_one : {X : Type 0} (xs : List X) (i : ℕ) (x : X) → slice_get xs i ≡ Some x
     → take (i + 1) xs ≡ take i xs ++ x ∷ []
@@ -48,19 +40,6 @@ length-take_one : {X : Type 0} (xs : List X) (i : ℕ) (x : X) → slice_get xs 
     → length (take i xs) ≡ i
 length-take_one xs i x at =
     let in' = slice_get_within xs i x at in length-take-le i xs (omega (arith, in'))
-
-pub pair_keys_more : (es : List Entry) (i : ℕ) (e : Entry) (keys new : List ℕ)
-    → slice_get es i ≡ Some e → keys ≡ pair_keys 0 (take i es)
-    → new ≡ keys ++ key_of e.first i ∷ [] → new ≡ pair_keys 0 (take (i + 1) es)
-pair_keys_more es i e keys new at so_far pushed =
-    pushed ∙ ap (λ ks. ks ++ key_of e.first i ∷ []) so_far
-    ∙ ap (λ n. pair_keys 0 (take i es) ++ key_of e.first n ∷ []) (sym (length-take_one es i e at))
-    ∙ sym (pair_keys_push 0 (take i es) e ∙ zero_plus)
-    ∙ ap (pair_keys 0) (sym (take_one es i e at))
-  where
-    zero_plus : pair_keys 0 (take i es) ++ key_of e.first (0 + length (take i es)) ∷ []
-        ≡ pair_keys 0 (take i es) ++ key_of e.first (length (take i es)) ∷ []
-    zero_plus = let z : 0 + length (take i es) ≡ length (take i es) = omega arith in rw z
 
 pub place_keys_more : (ts : List Term) (i : ℕ) (t : Term) (keys new : List ℕ)
     → slice_get ts i ≡ Some t → keys ≡ place_keys 0 (take i ts)

@@ -1,23 +1,22 @@
--- The pairs and places of one variable, and their keys.
+-- The places of one variable, and their keys.
 use Rattle.std.proofs.Common.{◌≡◌, ◌⊎◌, inl, inr, ℕ, suc, ◌+◌, ◌/◌, ◌<◌, ◌≤◌, ◌^◌, Bool, true, false, cond, ◌||◌, eqb, IsTrue, arith, sym, ap, ◌∙◌, refl, subst, List, [], ◌∷◌, ◌++◌, map, length, get_or, take, ℤ, pos, unsigned_abs, int_lt, if◌then◌else◌}
 use Rattle.std.specs.Prelude.{All}
 use Rattle.std.specs.List.{AllByRecursion, flat_map, sum_by}
 use Rattle.std.specs.Bool.{Decides}
 use Rattle.std.proofs.lemmas.Bool.Decides.{Decides-eqb}
-use Rattle.std.proofs.lemmas.List.Elements.{filter-append, recursion_from_All, All-get_or}
+use Rattle.std.proofs.lemmas.List.Elements.{filter-append, recursion_from_All}
 use Rattle.std.proofs.lemmas.List.Sums.{fold-append, sum_by-cons, sum_by-append}
 use Rattle.bits_model.specs.declared.output.Entry.{Entry}
 use Rattle.bits_model.specs.Output.{weight_total}
-use Rattle.quad_form.specs.Pairs.{IsPair}
 use Rattle.problem_form.specs.declared.literal.Literal.{Literal}
 use Rattle.term_table.specs.Terms.{Term}
 use Rattle.term_table.specs.Tables.{TableContent}
 use Rattle.term_table.proofs.SmallSets.{IsBelow, Ascend}
 use Rattle.monomial_layer.specs.Monomials.{new_nodes}
 use Rattle.direct_quad.specs.Places.{Place, pair_coupler, places_in, term_places, all_places}
-use Rattle.direct_quad.specs.Rows.{row_of, is_at, places_of}
+use Rattle.direct_quad.specs.Rows.{is_at, places_of}
 use Rattle.direct_quad.specs.RowSums.{with_weight, with_entries, size_of, pair_part}
-use Rattle.direct_quad.specs.Keys.{key_of, index_of, is_key_of, keys_of, pair_keys, pair_at, literal_keys, place_keys, term_at, places_in_term, places_at, has_variable, IsPlaceKey}
+use Rattle.direct_quad.specs.Keys.{key_of, index_of, is_key_of, keys_of, literal_keys, place_keys, term_at, places_in_term, places_at, has_variable, IsPlaceKey}
 use Rattle.direct_quad.proofs.SummedRows.{Climbs, length-with_weight, size-with_weight}
 use Rattle.direct_quad.proofs.LongPlaces.{none_above}
 
@@ -57,65 +56,9 @@ key-index v n narrow = omega (arith, narrow)
 is_key : (v u n : ℕ) → n < 2 ^ 32 → is_key_of v (key_of u n) ≡ eqb v u
 is_key v u n narrow = ap (eqb v) (key-variable u n narrow)
 
--- ---- the pairs of a variable
-
-pub pairs_are : (v n : ℕ) (es pairs : List Entry) → n + length es ≤ 2 ^ 32
-    → ((i : ℕ) (d : Entry) → i < length es → get_or pairs (n + i) d ≡ get_or es i d)
-    → map (pair_at pairs) (keys_of v (pair_keys n es)) ≡ row_of v es
-pairs_are v n [] pairs narrow at = refl
-pairs_are v n (e ∷ es) pairs narrow at =
-    ap (λ b. map (pair_at pairs) (cond b (key_of e.first n ∷ keys_of v (pair_keys (suc n) es)) (keys_of v (pair_keys (suc n) es)))) (is_key v e.first n less)
-    ∙ go (eqb v e.first)
-    (pairs_are v (suc n) es pairs (omega (arith, narrow))
-    (λ i d in'. let up : suc n + i ≡ n + suc i = omega arith in ap (λ m. get_or pairs m d) up ∙ at (suc i) d (omega arith)))
-  where
-    less : n < 2 ^ 32
-    less = omega (arith, narrow)
-
-    own : pair_at pairs (key_of e.first n) ≡ e
-    own =
-        let z : n ≡ n + 0 = omega arith in
-        ap (λ m. get_or pairs m (record { first = 0; second = 0; weight = pos 0 })) (key-index e.first n less ∙ z)
-        ∙ at 0 (record { first = 0; second = 0; weight = pos 0 }) (omega arith)
-
-    go : (here : Bool) → map (pair_at pairs) (keys_of v (pair_keys (suc n) es)) ≡ row_of v es
-        → map (pair_at pairs) (cond here (key_of e.first n ∷ keys_of v (pair_keys (suc n) es)) (keys_of v (pair_keys (suc n) es)))
-        ≡ cond here (e ∷ row_of v es) (row_of v es)
-    go true rest = λ i. own i ∷ rest i
-    go false rest = rest
-
 pub climbs_down : (n m : ℕ) (ks : List ℕ) → n ≤ m → Climbs m ks → Climbs n ks
 climbs_down n m [] le up = tt
 climbs_down n m (k ∷ ks) le up = (omega (arith, le, up.0), up.1)
-
-pub pair_keys-climb : (v n : ℕ) (es : List Entry) → n + length es ≤ 2 ^ 32
-    → Climbs (key_of v n) (keys_of v (pair_keys n es))
-pair_keys-climb v n [] narrow = tt
-pair_keys-climb v n (e ∷ es) narrow =
-    subst (λ b. Climbs (key_of v n) (cond b (key_of e.first n ∷ keys_of v (pair_keys (suc n) es)) (keys_of v (pair_keys (suc n) es))))
-    (sym (is_key v e.first n (omega (arith, narrow))))
-    (go (eqb v e.first) (Decides-eqb v e.first) (pair_keys-climb v (suc n) es (omega (arith, narrow))))
-  where
-    go : (here : Bool) → Decides here (v ≡ e.first)
-        → Climbs (key_of v (suc n)) (keys_of v (pair_keys (suc n) es))
-        → Climbs (key_of v n) (cond here (key_of e.first n ∷ keys_of v (pair_keys (suc n) es)) (keys_of v (pair_keys (suc n) es)))
-    go true d rest =
-        let same = d.0 refl in
-        let here : key_of v n ≤ key_of e.first n = omega (arith, ap (λ u. key_of u n) same) in
-        let next : key_of e.first n ≤ key_of v (suc n) = omega (arith, ap (λ u. key_of u n) same) in
-        (here, climbs_down (key_of e.first n) (key_of v (suc n)) _ next rest)
-    go false d rest = climbs_down (key_of v n) (key_of v (suc n)) _ (omega arith) rest
-
-pub pair_keys-within : (v n m : ℕ) (es : List Entry) → n + length es ≤ m → m ≤ 2 ^ 32
-    → AllByRecursion (λ k. index_of k < m) (keys_of v (pair_keys n es))
-pair_keys-within v n m [] le narrow = tt
-pair_keys-within v n m (e ∷ es) le narrow =
-    go (is_key_of v (key_of e.first n)) (pair_keys-within v (suc n) m es (omega (arith, le)) narrow)
-  where
-    go : (here : Bool) → AllByRecursion (λ k. index_of k < m) (keys_of v (pair_keys (suc n) es))
-        → AllByRecursion (λ k. index_of k < m) (cond here (key_of e.first n ∷ keys_of v (pair_keys (suc n) es)) (keys_of v (pair_keys (suc n) es)))
-    go true rest = (omega (arith, key-index e.first n (omega (arith, le, narrow)), le), rest)
-    go false rest = rest
 
 -- ---- the place of a variable in a term
 
@@ -251,16 +194,6 @@ added_place sums new p es w m width later made small =
 pub place_size : (size m : ℕ) (p : Place) (es : List Entry)
     → size + weight_total (pair_part p ++ es) ≤ m → size + weight_total (pair_part p) ≤ m
 place_size size m p es small = omega (arith, weight_total-append (pair_part p) es, small)
-
--- the pairs of keys have second nodes below a number
-pub pairs_within : (pairs : List Entry) (w : ℕ) (ks : List ℕ) → All (IsPair w) pairs
-    → AllByRecursion (λ k. index_of k < length pairs) ks
-    → AllByRecursion (λ e. e.second < w) (map (pair_at pairs) ks)
-pairs_within pairs w [] all in' = tt
-pairs_within pairs w (k ∷ ks) all in' = (
-  (All-get_or (IsPair w) pairs (index_of k) (record { first = 0; second = 0; weight = pos 0 }) in'.0 all).within,
-  pairs_within pairs w ks all in'.1,
-)
 
 -- ---- the places of a variable
 

@@ -22,3 +22,4 @@ pub mod HeldTerms
 pub mod GainedShares
 pub mod HeldSums
 pub mod KeptPlaces
+pub mod PairRows

@@ -18,27 +18,15 @@ use Rattle.direct_quad.specs.Places.{Place, signed, pair_coupler, term_places, a
 use Rattle.direct_quad.specs.Rows.{row_of, is_at, places_of, AreRows}
 use Rattle.direct_quad.specs.Long.{AreLong, node_at}
 use Rattle.direct_quad.specs.RowSums.{pair_part}
-use Rattle.direct_quad.specs.Keys.{key_of, index_of, keys_of, pair_keys, pair_at, place_keys, places_in_term, places_at, AreOrdered, AreKeysFrom, IsPlaceKey}
+use Rattle.direct_quad.specs.Keys.{key_of, index_of, keys_of, place_keys, places_in_term, places_at, AreOrdered, AreKeysFrom, IsPlaceKey}
 use Rattle.direct_quad.proofs.SummedRows.{Climbs}
 use Rattle.direct_quad.proofs.KeyLists.{size-signed}
 use Rattle.direct_quad.proofs.KeyRuns.{keys_of-ordered}
 use Rattle.direct_quad.proofs.LongPlaces.{few_terms}
-use Rattle.direct_quad.proofs.KeyPlaces.{IsNone, IsOnly, term_cases, weight_total-append, climbs_down, key-index, pairs_are, pair_keys-climb, pair_keys-within, places_are, place_keys-climb, place_keys-of}
+use Rattle.direct_quad.proofs.KeyPlaces.{IsNone, IsOnly, term_cases, weight_total-append, climbs_down, key-index, places_are, place_keys-climb, place_keys-of}
 use Rattle.direct_quad.proofs.RowForms.{IsKept}
 
 -- ---- what keys stand for
-
-pub pair_run : (v : ℕ) (pairs : List Entry) → length pairs < 2 ^ 32
-    → map (pair_at pairs) (keys_of v (pair_keys 0 pairs)) ≡ row_of v pairs
-pair_run v pairs narrow =
-    pairs_are v 0 pairs pairs (omega (arith, narrow))
-    (λ i d in'. let e : 0 + i ≡ i = omega arith in ap (λ m. get_or pairs m d) e)
-
-pub pair_run-within : (v : ℕ) (pairs : List Entry) → length pairs < 2 ^ 32
-    → All (λ k. index_of k < length pairs) (keys_of v (pair_keys 0 pairs))
-pair_run-within v pairs narrow =
-    All-from_recursion (λ k. index_of k < length pairs) (keys_of v (pair_keys 0 pairs))
-    (pair_keys-within v 0 (length pairs) pairs (omega arith) (omega (arith, narrow)))
 
 terms_ascend : (w : ℕ) (ts : List Term) → AllByRecursion (λ t. IsTermSet w t.0) ts
     → AllByRecursion (λ t. Ascend t.0) ts
@@ -76,10 +64,6 @@ pub runs_of : (v : ℕ) (keys ks sorted : List ℕ) → ks ≡ keys → AreOrder
 runs_of v keys ks sorted is ordered climbs =
     keys_of-ordered v keys sorted (subst (λ (ms : List ℕ). AreOrdered ms sorted) is ordered)
     (climbs_down 0 (key_of v 0) (keys_of v keys) (omega arith) climbs)
-
-pub pair_run-climbs : (v : ℕ) (pairs : List Entry) → length pairs < 2 ^ 32
-    → Climbs (key_of v 0) (keys_of v (pair_keys 0 pairs))
-pair_run-climbs v pairs narrow = pair_keys-climb v 0 pairs (omega (arith, narrow))
 
 pub place_run-climbs : (v : ℕ) (t : TableContent) → AreLong t
     → Climbs (key_of v 0) (keys_of v (place_keys 0 t.terms))

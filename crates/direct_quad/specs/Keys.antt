@@ -1,8 +1,7 @@
--- The numbers by which pairs and places are sorted: that of a variable, and an index of 32 bits.
+-- The numbers by which places are sorted: that of a variable, and an index of 32 bits.
 use Rattle.std.specs.Prelude.{ℕ, suc, ◌+◌, ◌*◌, ◌/◌, ◌%◌, ◌≤◌, ◌<◌, ◌^◌, ◌==◌, pos, Bool, IsTrue, List, [], ◌∷◌, ◌++◌, map, length, All, if◌then◌else◌}
 use Rattle.std.specs.List.{filter, flat_map, list_any, slice_index_or}
 use Rattle.std.specs.List.Sorted.{IsPermutation, IsNonDecreasing}
-use Rattle.bits_model.specs.declared.output.Entry.{Entry}
 use Rattle.problem_form.specs.declared.literal.Literal.{Literal}
 use Rattle.term_table.specs.Terms.{Term}
 use Rattle.term_table.specs.Tables.{TableContent}
@@ -35,18 +34,6 @@ pub record AreOrdered (keys sorted : List ℕ) : Type 0 where
 pub record AreKeysFrom (variable : ℕ) (keys : List ℕ) : Type 0 where
   pub ordered : IsNonDecreasing keys
   pub from : All (λ k. variable ≤ k / 2 ^ 32) keys
-
--- ---- pairs
-
--- the keys of pairs, by their first nodes, whose indices run from n on
-abbrev pub pair_keys : ℕ → List Entry → List ℕ
-pair_keys n [] = []
-pair_keys n (e ∷ es) = key_of e.first n ∷ pair_keys (suc n) es
-
--- the pair of a key
-abbrev pub pair_at : List Entry → ℕ → Entry
-pair_at pairs key =
-    slice_index_or pairs (index_of key) (record { first = 0; second = 0; weight = pos 0 })
 
 -- ---- places
 

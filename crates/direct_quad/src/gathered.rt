@@ -135,9 +135,7 @@ impl DirectTerms {
         } = self;
         let table = LongTable::of(alloc, weights.len(), &long)?;
         drop(long);
-        let pairs = pairs.sorted();
-        let couplers = couplers_of(alloc, &pairs, &table)?;
-        drop(pairs);
+        let couplers = couplers_of(alloc, pairs, &table)?;
         let (weights, more) = with_long(weights, &table)?;
         Ok(Sums {
             constant: constant + more,

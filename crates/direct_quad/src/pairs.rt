@@ -1,7 +1,7 @@
 //! Couplers that are gathered one by one, more than one for some pairs.
 ghost use Rattle.std.specs.Prelude.{◌≡◌, ◌+◌, ◌++◌, ◌∷◌, [], ◌<◌, ◌^◌, IfOk, OnOk, OnErr, length, map, slice_get, Some};
-ghost use Rattle.std.specs.List.Sorted.{IsPermutation};
-ghost use Rattle.direct_quad.specs.PairLists.{entry_of, held_pairs};
+ghost use Rattle.std.specs.List.Sorted.{IsPermutation, IsNonDecreasingBy};
+ghost use Rattle.direct_quad.specs.PairLists.{entry_of, held_pairs, AreFromRow};
 
 use bits_model::{Entry, NoMemory};
 use std::alloc::Global;
@@ -63,23 +63,26 @@ fn widened(alloc: Global, narrow: &[NarrowPair]) -> Result<Vec<Entry>, NoMemory>
 
 /// Narrow couplers in the order of their first nodes.
 fn sorted_narrow(mut pairs: Vec<NarrowPair>) -> Vec<NarrowPair>
-    ensures { IsPermutation pairs.items result.items }
+    ensures same { IsPermutation pairs.items result.items }
+    ensures ordered { IsNonDecreasingBy (λ p. p.first) result.items }
 {
-    pairs.sort_unstable_by(|left, right| left.first.cmp(&right.first));
+    pairs.sort_unstable_by_key(|pair| pair.first);
     pairs
 }
 
 /// Entries in the order of their first nodes.
 fn sorted_wide(mut pairs: Vec<Entry>) -> Vec<Entry>
-    ensures { IsPermutation pairs.items result.items }
+    ensures same { IsPermutation pairs.items result.items }
+    ensures ordered { IsNonDecreasingBy (λ e. e.first) result.items }
 {
-    pairs.sort_unstable_by(|left, right| left.first.cmp(&right.first));
+    pairs.sort_unstable_by_key(|pair| pair.first);
     pairs
 }
 
 /// The same couplers in the order of their first nodes.
 fn sorted_pairs(held: HeldPairs) -> HeldPairs
-    ensures { IsPermutation (held_pairs held) (held_pairs result) }
+    ensures same { IsPermutation (held_pairs held) (held_pairs result) }
+    ensures ordered { AreFromRow 0 (held_pairs result) }
 {
     match held {
         HeldPairs::Narrow(pairs) => HeldPairs::Narrow(sorted_narrow(pairs)),
@@ -120,10 +123,10 @@ impl Pairs {
         }
     }
 
-    /// The same couplers in another order: that of their first nodes, so that what reads them row
-    /// by row goes through memory in order.
+    /// The same couplers in the order of their first nodes, in the same memory.
     pub fn sorted(self) -> Pairs
-        ensures { IsPermutation self result }
+        ensures same { IsPermutation self result }
+        ensures ordered { AreFromRow 0 result }
     {
         let Pairs { alloc, held } = self;
         Pairs {

@@ -1,21 +1,22 @@
 //! Couplers row by row.
 //!
-//! Pairs and places are sorted by their variables. For each variable its pairs, and the couplers of
-//! its places with later literals, are summed: that is the first part of its row. Those with new
-//! nodes follow: they are in order, since new nodes are numbered after all variables, in the order
-//! of the terms. See Gustavson, Two fast algorithms for sparse matrices: multiplication and permuted
-//! transposition (1978).
-ghost use Rattle.std.specs.Prelude.{◌≡◌, ◌+◌, ◌*◌, ◌/◌, ◌%◌, ◌≤◌, ◌<◌, ◌^◌, ◌++◌, All, IfOk, OnOk, length, map, pos, replicate, take, unsigned_abs, ℕ, ◌≢◌, IsTrue, ◌∷◌, []};
+//! Pairs are sorted by their first nodes, and places by their variables. For each variable its pairs,
+//! and the couplers of its places with later literals, are summed: that is the first part of its
+//! row. Those with new nodes follow: they are in order, since new nodes are numbered after all
+//! variables, in the order of the terms. See Gustavson, Two fast algorithms for sparse matrices:
+//! multiplication and permuted transposition (1978).
+ghost use Rattle.std.specs.Prelude.{◌≡◌, ◌+◌, ◌*◌, ◌/◌, ◌%◌, ◌≤◌, ◌<◌, ◌^◌, ◌++◌, All, IfOk, OnOk, length, map, pos, replicate, take, drop, unsigned_abs, ℕ, ◌≢◌, IsTrue, ◌∷◌, []};
 ghost use Rattle.std.specs.List.{flat_map, slice_index_or};
 ghost use Rattle.bits_model.specs.Output.{weight_total};
 ghost use Rattle.problem_form.specs.declared.literal.Literal.{Literal};
 ghost use Rattle.term_table.specs.Terms.{terms_total};
 ghost use Rattle.quad_form.specs.Pairs.{IsPair};
 ghost use Rattle.direct_quad.specs.Places.{pair_coupler, place_couplers, all_places};
-ghost use Rattle.direct_quad.specs.Rows.{AreRows};
+ghost use Rattle.direct_quad.specs.Rows.{row_of, AreRows};
+ghost use Rattle.direct_quad.specs.PairLists.{AreFromRow, AreAfterRow};
 ghost use Rattle.direct_quad.specs.Long.{node_count};
 ghost use Rattle.direct_quad.specs.RowSums.{with_entries, size_of, pair_part, node_part, head_of, IsHead, AppendsBoth};
-ghost use Rattle.direct_quad.specs.Keys.{index_of, keys_of, pair_keys, place_keys, literal_keys, pair_at, places_at, AreOrdered, AreKeysFrom, IsPlaceKey};
+ghost use Rattle.direct_quad.specs.Keys.{index_of, keys_of, place_keys, literal_keys, places_at, AreOrdered, AreKeysFrom, IsPlaceKey};
 
 use crate::accumulator::Accumulator;
 use crate::heads::{Head, head_of, push_heads};
@@ -43,18 +44,6 @@ fn index_of(key: u64) -> usize
     ensures { result ≡ index_of key }
 {
     (key % INDEX_LIMIT) as usize
-}
-
-/// The keys of pairs, in the order of the pairs.
-fn keys_of_pairs(alloc: Global, pairs: &Pairs) -> Result<Vec<u64>, NoMemory>
-    ensures keys { IfOk result (λ keys. keys.items ≡ pair_keys 0 pairs.now) }
-    ensures narrow { IfOk result (λ _. length pairs.now < 2 ^ 32) }
-{
-    let mut keys = Vec::with_capacity(alloc, pairs.len())?;
-    for i in 0..pairs.len() {
-        keys.push(key_of(u64::from(pairs.at(i).first), i))?;
-    }
-    Ok(keys)
 }
 
 /// Appends the keys of the literals of a term.
@@ -114,18 +103,31 @@ fn split_keys(keys: &[u64], variable: u64) -> (&[u64], &[u64])
     (&keys[..count], &keys[count..])
 }
 
-/// Adds the weights of the pairs of keys.
-fn add_pairs(sums: &mut Accumulator, pairs: &Pairs, keys: &[u64]) -> Result<(), NoMemory>
-    requires within { All (λ k. index_of k < length pairs.now) keys.now }
+/// Adds the weights of a variable's pairs, the first of those from an index on, and gives the index
+/// after them.
+fn add_pairs(
+    sums: &mut Accumulator,
+    pairs: &Pairs,
+    start: usize,
+    variable: u64,
+) -> Result<usize, NoMemory>
+    requires ordered { AreFromRow variable (drop start pairs.now) }
     requires seconds { All (λ e. e.second < length sums.old) pairs.now }
-    requires small { size_of sums.old + weight_total (map (pair_at pairs.now) keys.now) ≤ 2 ^ 126 }
-    ensures { OnOk result (sums.new ≡ with_entries sums.old (map (pair_at pairs.now) keys.now)) }
+    requires small { size_of sums.old
+        + weight_total (row_of variable (drop start pairs.now)) ≤ 2 ^ 126 }
+    ensures sums { OnOk result (sums.new
+        ≡ with_entries sums.old (row_of variable (drop start pairs.now))) }
+    ensures later { IfOk result (λ end.
+        AreAfterRow variable (drop start pairs.now) (drop end pairs.now)) }
 {
-    for key in keys {
-        let pair = pairs.at(index_of(*key));
+    for i in start..pairs.len() {
+        let pair = pairs.at(i);
+        if u64::from(pair.first) != variable {
+            return Ok(i);
+        }
         sums.add(pair.second, pair.weight)?;
     }
-    Ok(())
+    Ok(pairs.len())
 }
 
 /// Adds the weights of the couplers of a literal with later ones.
@@ -199,72 +201,67 @@ fn add_places(
     Ok(())
 }
 
-/// Appends the row of a variable. All sums are 0 before and afterwards, and the heads are free to
-/// use.
+/// Appends the row of a variable, whose pairs are summed already. All sums are 0 afterwards, and the
+/// heads are free to use.
 fn push_row(
     couplers: &mut CouplerList,
     sums: &mut Accumulator,
     heads: &mut Vec<Head>,
-    pairs: &Pairs,
     long: &LongTable,
     variable: u64,
-    pair_keys: &[u64],
-    place_keys: &[u64],
+    keys: &[u64],
 ) -> Result<(), NoMemory>
-    requires zeros { sums.old ≡ replicate long.now.width (pos 0) }
+    requires width { length sums.old ≡ long.now.width }
     requires variable { variable < long.now.width }
     requires narrow { node_count long.now ≤ 2 ^ 32 }
-    requires pairs { All (IsPair long.now.width) pairs.now }
-    requires pair_keys { All (λ k. index_of k < length pairs.now) pair_keys.now }
-    requires place_keys { All (IsPlaceKey long.now variable) place_keys.now }
-    requires small { weight_total (map (pair_at pairs.now) pair_keys.now)
-        + weight_total (flat_map pair_part (places_at long.now variable place_keys.now))
-        ≤ 2 ^ 126 }
+    requires keys { All (IsPlaceKey long.now variable) keys.now }
+    requires small { size_of sums.old
+        + weight_total (flat_map pair_part (places_at long.now variable keys.now)) ≤ 2 ^ 126 }
     ensures row { OnOk result (AppendsBoth variable
-        (with_entries (with_entries sums.old (map (pair_at pairs.now) pair_keys.now))
-        (flat_map pair_part (places_at long.now variable place_keys.now)))
-        (flat_map node_part (places_at long.now variable place_keys.now))
+        (with_entries sums.old (flat_map pair_part (places_at long.now variable keys.now)))
+        (flat_map node_part (places_at long.now variable keys.now))
         couplers.old couplers.new) }
-    ensures zeros { OnOk result (sums.new ≡ sums.old) }
+    ensures zeros { OnOk result (sums.new ≡ replicate long.now.width (pos 0)) }
 {
-    add_pairs(sums, pairs, pair_keys)?;
-    add_places(sums, heads, long, variable, place_keys)?;
+    add_places(sums, heads, long, variable, keys)?;
     sums.put_into(couplers, variable as u32)?;
     push_heads(couplers, heads)?;
     Ok(())
 }
 
-/// The couplers of pairs and of long terms, in order. Each pair of nodes has one, with the sum of
-/// what all give it, or none where the sum is 0.
-pub fn couplers_of(alloc: Global, pairs: &Pairs, long: &LongTable) -> Result<CouplerList, NoMemory>
+/// The couplers of sorted pairs and of long terms, row by row.
+fn rows_of(alloc: Global, pairs: &Pairs, long: &LongTable) -> Result<CouplerList, NoMemory>
+    requires ordered { AreFromRow 0 pairs.now }
     requires pairs { All (IsPair long.now.width) pairs.now }
     requires small { weight_total pairs.now + terms_total long.now.terms * 2 ^ 24 ≤ 2 ^ 126 }
     ensures { IfOk result (λ couplers. AreRows (node_count long.now) long.now.width
         (pairs.now ++ flat_map place_couplers (all_places long.now.terms long.now.width))
         couplers) }
 {
-    let pair_keys = ordered(keys_of_pairs(alloc, pairs)?);
-    let place_keys = ordered(keys_of_places(alloc, long)?);
+    let keys = ordered(keys_of_places(alloc, long)?);
     let mut sums = Accumulator::zeros(alloc, long.width())?;
     let mut heads = Vec::new(alloc);
     let mut couplers = CouplerList::empty(alloc);
-    let mut pairs_left = &pair_keys[..];
-    let mut places_left = &place_keys[..];
+    let mut start = 0;
+    let mut left = &keys[..];
     for variable in 0..long.width() as u64 {
-        let (own_pairs, later_pairs) = split_keys(pairs_left, variable);
-        let (own_places, later_places) = split_keys(places_left, variable);
-        push_row(
-            &mut couplers,
-            &mut sums,
-            &mut heads,
-            pairs,
-            long,
-            variable,
-            own_pairs,
-            own_places,
-        )?;
-        pairs_left = later_pairs;
-        places_left = later_places;
+        start = add_pairs(&mut sums, pairs, start, variable)?;
+        let (own, later) = split_keys(left, variable);
+        push_row(&mut couplers, &mut sums, &mut heads, long, variable, own)?;
+        left = later;
     }
     Ok(couplers)
+}
+
+/// The couplers of pairs and of long terms, in order. Each pair of nodes has one, with the sum of
+/// what all give it, or none where the sum is 0.
+pub fn couplers_of(alloc: Global, pairs: Pairs, long: &LongTable) -> Result<CouplerList, NoMemory>
+    requires pairs { All (IsPair long.now.width) pairs }
+    requires small { weight_total pairs + terms_total long.now.terms * 2 ^ 24 ≤ 2 ^ 126 }
+    ensures { IfOk result (λ couplers. AreRows (node_count long.now) long.now.width
+        (pairs ++ flat_map place_couplers (all_places long.now.terms long.now.width))
+        couplers) }
+{
+    let sorted = pairs.sorted();
+    rows_of(alloc, &sorted, long)
 }

@@ -1,72 +1,91 @@
-use Rattle.std.proofs.Common.{◌≡◌, ◌<◌, ◌≤◌, ◌+◌, ◌^◌, ◌∷◌, List, ℕ, length, map, drop, get_or, pos, sym, ap, ◌∙◌, refl, subst, arith, rules}
+use Rattle.std.proofs.Common.{◌≡◌, ◌<◌, ◌≤◌, ◌+◌, ◌^◌, ◌∷◌, ◌∙◌, ap, arith, drop, length, List, refl, rules, subst, sym}
 use Rattle.std.specs.Int.{w128}
 use Rattle.std.proofs.lemmas.Int.{to_z-of_z}
-use Rattle.std.proofs.lemmas.List.{drop_more, drop_all}
 use Rattle.std.proofs.lemmas.List.Elements.{All-get_or}
 use Rattle.std.proofs.lemmas.Option.{get_or_from_slice_get, slice_get_within}
 use Rattle.bits_model.specs.declared.output.Entry.{Entry}
 use Rattle.bits_model.specs.Output.{weight_total}
-use Rattle.direct_quad.specs.Keys.{pair_at, index_of}
+use Rattle.direct_quad.specs.Rows.{row_of}
+use Rattle.direct_quad.specs.PairLists.{AreFromRow}
 use Rattle.direct_quad.specs.RowSums.{with_weight, with_entries, size_of}
 use Rattle.direct_quad.proofs.SummedRows.{length-with_weight}
 use Rattle.direct_quad.proofs.KeyLists.{added_size, first_size}
+use Rattle.direct_quad.proofs.PairRows.{row-own, row-other, drop-one, ends-row, row-ended}
 use Rattle.direct_quad.proofs.rows.add_pairs.Goals as goal
 
-pub at-pair-requires : goal.at-pair-requires
-at-pair-requires c =
-    rw (c.index_of.ensures)
-    (All-get_or (λ (k : ℕ). index_of k < length c.args.pairs.now) c.args.keys.now c.loop-key.key-index 0 c.loop-key-test.true c.requires.within)
-
-pub loop-key-init : goal.loop-key-init
-loop-key-init c = record { whole = refl; width = refl; small = c.requires.small }
+pub loop-i-init : goal.loop-i-init
+loop-i-init c = record {
+  whole = refl;
+  width = refl;
+  small = c.requires.small;
+  from = c.requires.ordered;
+  same = λ j less. refl;
+}
 
 pub add-requires-clause-within : goal.add-requires-clause-within
 add-requires-clause-within c =
     let pairs = c.args.pairs.now in
     let e = c.at-pair.result in
     let P : Entry → Type 0 = λ d. d.second < length c.args.sums.now in
-    let in' = slice_get_within pairs _ e c.at-pair.ensures in
-    let here : P e = subst P (get_or_from_slice_get pairs _ e e c.at-pair.ensures) (All-get_or P pairs _ e in' c.requires.seconds) in
-    omega (arith, here, c.loop-key.invariant.width)
+    let in' = slice_get_within pairs c.loop-i.i e c.at-pair.ensures in
+    let here : P e = subst P (get_or_from_slice_get pairs c.loop-i.i e e c.at-pair.ensures) (All-get_or P pairs c.loop-i.i e in' c.requires.seconds) in
+    omega (arith, here, c.loop-i.invariant.width)
 
 pub add-requires-clause-small : goal.add-requires-clause-small
 add-requires-clause-small c =
-    let i = c.loop-key.key-index in
-    let ks = c.args.keys.now in
     let e = c.at-pair.result in
-    let more = drop_more ks i 0 c.loop-key-test.true in
-    let is : pair_at c.args.pairs.now (get_or ks i 0) ≡ e = ap (λ n. get_or c.args.pairs.now n (record { first = 0; second = 0; weight = pos 0 })) (sym c.index_of.ensures) ∙ get_or_from_slice_get c.args.pairs.now _ e _ c.at-pair.ensures in
-    let left : map (pair_at c.args.pairs.now) (drop i ks) ≡ e ∷ map (pair_at c.args.pairs.now) (drop (i + 1) ks) = ap (map (pair_at c.args.pairs.now)) more ∙ ap (λ d. d ∷ map (pair_at c.args.pairs.now) (drop (i + 1) ks)) is in
+    let v = c.args.variable in
+    let rest = drop (c.loop-i.i + 1) c.args.pairs.now in
+    let own : e.first ≡ v = sym c.from.ensures ∙ c.if-from-variable.false in
+    let left : row_of v (drop c.loop-i.i c.args.pairs.now) ≡ e ∷ row_of v rest =
+    ap (row_of v) (drop-one c.args.pairs.now c.loop-i.i e c.at-pair.ensures) ∙ row-own v e rest own in
     let back = to_z-of_z w128 e.weight (search rules) in
     rw back
-    (first_size (size_of c.loop-key.sums) e (map (pair_at c.args.pairs.now) (drop (i + 1) ks)) _
-    (subst (λ (es : List Entry). size_of c.loop-key.sums + weight_total es ≤ 2 ^ 126) left c.loop-key.invariant.small))
+    (first_size (size_of c.loop-i.sums) e (row_of v rest) _
+    (subst (λ (es : List Entry). size_of c.loop-i.sums + weight_total es ≤ 2 ^ 126) left c.loop-i.invariant.small))
 
-pub loop-key-preserved : goal.loop-key-preserved
-loop-key-preserved c =
-    let i = c.loop-key.key-index in
-    let ks = c.args.keys.now in
+pub loop-i-preserved : goal.loop-i-preserved
+loop-i-preserved c =
     let e = c.at-pair.result in
-    let sums = c.loop-key.sums in
+    let v = c.args.variable in
+    let sums = c.loop-i.sums in
     let pairs = c.args.pairs.now in
-    let rest = map (pair_at pairs) (drop (i + 1) ks) in
-    let more = drop_more ks i 0 c.loop-key-test.true in
-    let is : pair_at pairs (get_or ks i 0) ≡ e = ap (λ n. get_or pairs n (record { first = 0; second = 0; weight = pos 0 })) (sym c.index_of.ensures) ∙ get_or_from_slice_get pairs _ e _ c.at-pair.ensures in
-    let left : map (pair_at pairs) (drop i ks) ≡ e ∷ rest = ap (map (pair_at pairs)) more ∙ ap (λ d. d ∷ rest) is in
+    let rest = drop (c.loop-i.i + 1) pairs in
+    let more = drop-one pairs c.loop-i.i e c.at-pair.ensures in
+    let own : e.first ≡ v = sym c.from.ensures ∙ c.if-from-variable.false in
+    let left : row_of v (drop c.loop-i.i pairs) ≡ e ∷ row_of v rest = ap (row_of v) more ∙ row-own v e rest own in
+    let from : AreFromRow v (e ∷ rest) = subst (AreFromRow v) more c.loop-i.invariant.from in
     let back = to_z-of_z w128 e.weight (search rules) in
     let made : c.add.new.self ≡ with_weight sums e.second e.weight = c.in_ok-add.ensures ∙ ap (with_weight sums e.second) back in
     let P : Entry → Type 0 = λ d. d.second < length c.args.sums.now in
-    let in' = slice_get_within pairs _ e c.at-pair.ensures in
-    let here : P e = subst P (get_or_from_slice_get pairs _ e e c.at-pair.ensures) (All-get_or P pairs _ e in' c.requires.seconds) in
+    let in' = slice_get_within pairs c.loop-i.i e c.at-pair.ensures in
+    let here : P e = subst P (get_or_from_slice_get pairs c.loop-i.i e e c.at-pair.ensures) (All-get_or P pairs c.loop-i.i e in' c.requires.seconds) in
     record {
-      whole = ap (λ ss. with_entries ss rest) made ∙ ap (with_entries sums) (sym left) ∙ c.loop-key.invariant.whole;
-      width = ap length made ∙ length-with_weight sums e.second e.weight ∙ c.loop-key.invariant.width;
+      whole = ap (λ ss. with_entries ss (row_of v rest)) made ∙ ap (with_entries sums) (sym left) ∙ c.loop-i.invariant.whole;
+      width = ap length made ∙ length-with_weight sums e.second e.weight ∙ c.loop-i.invariant.width;
       small =
-          added_size sums c.add.new.self e rest _ (omega (arith, here, c.loop-key.invariant.width)) made
-          (subst (λ (es : List Entry). size_of sums + weight_total es ≤ 2 ^ 126) left c.loop-key.invariant.small);
+          added_size sums c.add.new.self e (row_of v rest) _ (omega (arith, here, c.loop-i.invariant.width)) made
+          (subst (λ (es : List Entry). size_of sums + weight_total es ≤ 2 ^ 126) left c.loop-i.invariant.small);
+      from = subst (λ n. AreFromRow n rest) own from.1;
+      same = λ j less.
+          sym (ap (row_of j) more ∙ row-other j e rest (λ is. omega (arith, is, own, less)))
+          ∙ c.loop-i.invariant.same j less;
     }
 
-pub returns : goal.returns
-returns c =
-    sym (ap (λ ks. with_entries c.loop-key.sums (map (pair_at c.args.pairs.now) ks)) (drop_all c.loop-key.key-index c.args.keys.now c.loop-key-test.false))
-    ∙ c.loop-key.invariant.whole
+pub returns-then-from-variable-clause-sums : goal.returns-then-from-variable-clause-sums
+returns-then-from-variable-clause-sums c =
+    let e = c.at-pair.result in
+    let more = drop-one c.args.pairs.now c.loop-i.i e c.at-pair.ensures in
+    let from = subst (AreFromRow c.args.variable) more c.loop-i.invariant.from in
+    let past : AreFromRow (c.args.variable + 1) (drop c.loop-i.i c.args.pairs.now) =
+    subst (AreFromRow (c.args.variable + 1)) (sym more) (ends-row c.args.variable e _ from (λ is. c.if-from-variable.true (c.from.ensures ∙ is))) in
+    sym (ap (with_entries c.loop-i.sums) (row-ended c.args.variable (drop c.loop-i.i c.args.pairs.now) past)) ∙ c.loop-i.invariant.whole
+
+pub returns-then-from-variable-clause-later : goal.returns-then-from-variable-clause-later
+returns-then-from-variable-clause-later c =
+    let e = c.at-pair.result in
+    let more = drop-one c.args.pairs.now c.loop-i.i e c.at-pair.ensures in
+    let from = subst (AreFromRow c.args.variable) more c.loop-i.invariant.from in
+    let past : AreFromRow (c.args.variable + 1) (drop c.loop-i.i c.args.pairs.now) =
+    subst (AreFromRow (c.args.variable + 1)) (sym more) (ends-row c.args.variable e _ from (λ is. c.if-from-variable.true (c.from.ensures ∙ is))) in
+    record { from = past; same = c.loop-i.invariant.same }

@@ -1,16 +1,18 @@
-use Rattle.std.proofs.Common.{◌≡◌, ◌+◌, ◌≤◌, ◌^◌, length, map, drop}
+use Rattle.std.proofs.Common.{◌≡◌, ℕ, ◌+◌, ◌<◌, ◌≤◌, ◌^◌, length, drop}
 use Rattle.bits_model.specs.Output.{weight_total}
-use Rattle.direct_quad.specs.Keys.{pair_at}
+use Rattle.direct_quad.specs.Rows.{row_of}
+use Rattle.direct_quad.specs.PairLists.{AreFromRow}
 use Rattle.direct_quad.specs.RowSums.{with_entries, size_of}
 use Rattle.direct_quad.proofs.rows.add_pairs.Given as goal
 
--- the pairs that are left make the sums those of all, and stay small
-abbrev pub invariant-loop-key : goal.invariant-loop-key
-invariant-loop-key l = record {
+-- the pairs that are left make the sums those of all, stay small, and have all later rows
+abbrev pub invariant-loop-i : goal.invariant-loop-i
+invariant-loop-i l = record {
   whole :
-      with_entries l.sums (map (pair_at l.pairs) (drop l.key-index l.keys))
-      ≡ with_entries l.initial.sums (map (pair_at l.pairs) l.keys);
+      with_entries l.sums (row_of l.variable (drop l.i l.pairs))
+      ≡ with_entries l.initial.sums (row_of l.variable (drop l.start l.pairs));
   width : length l.sums ≡ length l.initial.sums;
-  small :
-      size_of l.sums + weight_total (map (pair_at l.pairs) (drop l.key-index l.keys)) ≤ 2 ^ 126;
+  small : size_of l.sums + weight_total (row_of l.variable (drop l.i l.pairs)) ≤ 2 ^ 126;
+  from : AreFromRow l.variable (drop l.i l.pairs);
+  same : (j : ℕ) → l.variable < j → row_of j (drop l.i l.pairs) ≡ row_of j (drop l.start l.pairs);
 }

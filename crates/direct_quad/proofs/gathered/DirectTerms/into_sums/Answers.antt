@@ -2,7 +2,6 @@ use Rattle.std.proofs.Common.{rules, ◌≡◌, ℕ, ◌<◌, ◌≤◌, ◌^◌
 use Rattle.std.specs.Int.{w128}
 use Rattle.std.proofs.lemmas.Int.{ints}
 use Rattle.std.specs.Prelude.{All}
-use Rattle.std.proofs.lemmas.List.Sorted.{All-permutation}
 use Rattle.integers.specs.Sums.{total_by}
 use Rattle.term_table.specs.Terms.{terms_total}
 use Rattle.term_table.specs.Tables.{TableContent, AreAdditions}
@@ -11,7 +10,7 @@ use Rattle.direct_quad.specs.Parts.{table_of}
 use Rattle.direct_quad.specs.Places.{long_constant}
 use Rattle.direct_quad.specs.Long.{terms_of, node_count}
 use Rattle.direct_quad.specs.Held.{HeldContent, AreHeld}
-use Rattle.direct_quad.proofs.HeldSums.{additions-held, couplers-fit, weights-fit, constants-fit, same_table, rows-permuted, total-permuted, sum-of_held}
+use Rattle.direct_quad.proofs.HeldSums.{additions-held, couplers-fit, weights-fit, constants-fit, same_table, sum-of_held}
 use Rattle.direct_quad.proofs.gathered.DirectTerms.into_sums.Goals as goal
 
 pub of-requires-clause-additions : goal.of-requires-clause-additions
@@ -26,12 +25,7 @@ couplers_of-requires-clause-small c =
     let size : c.len.result ≡ length h.weights = search rules in
     let made : c.in_ok-table.table ≡ table_of (terms_of (length h.weights) h.long) =
     c.in_ok-table.ensures ∙ ap (λ n. table_of (terms_of n h.long)) size in
-    omega (
-      arith,
-      couplers-fit h c.self.invariant,
-      ap (λ (u : TableContent). terms_total u.terms) made,
-      total-permuted h.pairs c.sorted-pairs.result c.sorted-pairs.ensures,
-    )
+    omega (arith, couplers-fit h c.self.invariant, ap (λ (u : TableContent). terms_total u.terms) made)
 
 pub with_long-requires-clause-small : goal.with_long-requires-clause-small
 with_long-requires-clause-small c =
@@ -67,13 +61,11 @@ returns c t additions held =
     let sum : to_z w128 (of_z w128 (to_z w128 (of_z w128 c.self.inside.constant) +ℤ to_z w128 (of_z w128 c.in_ok-weights.more))) ≡ c.self.inside.constant +ℤ total_by long_constant c.in_ok-table.table.terms =
     omega (arith, ints, fits, c.in_ok-weights.ensures.constant, c.self.invariant.constant, c.self.invariant.total) in
     sum-of_held t h additions here c.in_ok-table.table _ c.in_ok-weights.weights.items c.in_ok-couplers.couplers _
-    (made ∙ same_table t h here) sum c.in_ok-weights.ensures.weights
-    (rows-permuted _ _ h.pairs c.sorted-pairs.result _ c.in_ok-couplers.couplers c.sorted-pairs.ensures c.in_ok-couplers.ensures)
+    (made ∙ same_table t h here) sum c.in_ok-weights.ensures.weights c.in_ok-couplers.ensures
 
 pub couplers_of-requires-clause-pairs : goal.couplers_of-requires-clause-pairs
 couplers_of-requires-clause-pairs c =
     let h : HeldContent = record { total = c.self.inside.total; constant = c.self.inside.constant; weights = c.self.inside.weights.items; pairs = c.self.inside.pairs; long = c.self.inside.long } in
     let size : c.len.result ≡ length h.weights = search rules in
     let width : c.in_ok-table.table.width ≡ length h.weights = ap (λ (u : TableContent). u.width) c.in_ok-table.ensures ∙ size in
-    subst (λ n. All (IsPair n) c.sorted-pairs.result) (sym width)
-    (All-permutation (IsPair (length h.weights)) h.pairs c.sorted-pairs.result c.sorted-pairs.ensures c.self.invariant.pairs)
+    subst (λ n. All (IsPair n) h.pairs) (sym width) c.self.invariant.pairs

@@ -4,4 +4,4 @@ use Rattle.direct_quad.proofs.pairs.Pairs.sorted.Goals as goal
 
 pub invariant_of-result : goal.invariant_of-result
 invariant_of-result c =
-    omega (arith, length_permutation _ _ c.sorted_pairs.ensures, c.self.invariant)
+    omega (arith, length_permutation _ _ c.sorted_pairs.ensures.same, c.self.invariant)

@@ -1,0 +1,83 @@
+-- Couplers in the order of their first nodes, row by row.
+use Rattle.std.proofs.Common.{◌≡◌, ◌≢◌, ℕ, suc, ◌+◌, ◌<◌, ◌≤◌, Bool, true, false, cond, eqb, arith, sym, ap, ◌∙◌, refl, subst, List, [], ◌∷◌, ℤ, map, length, get_or, drop, Some, slice_get}
+use Rattle.std.specs.Prelude.{All}
+use Rattle.std.specs.List.{AllByRecursion}
+use Rattle.std.specs.List.Sorted.{IsNonDecreasingBy}
+use Rattle.std.specs.Bool.{Decides}
+use Rattle.std.proofs.lemmas.Bool.{eq-eqb}
+use Rattle.std.proofs.lemmas.Bool.Decides.{Decides-eqb}
+use Rattle.std.proofs.lemmas.List.{drop_more}
+use Rattle.std.proofs.lemmas.List.Elements.{recursion_from_All}
+use Rattle.std.proofs.lemmas.Option.{slice_get_within, get_or_from_slice_get}
+use Rattle.bits_model.specs.declared.output.Entry.{Entry}
+use Rattle.bits_model.specs.Output.{weight_total}
+use Rattle.quad_form.specs.Pairs.{IsPair}
+use Rattle.direct_quad.specs.Rows.{row_of}
+use Rattle.direct_quad.specs.PairLists.{AreFromRow}
+use Rattle.direct_quad.specs.RowSums.{with_entries, size_of}
+use Rattle.direct_quad.proofs.KeyPlaces.{size-with_entries}
+
+-- ---- the first of several couplers
+
+pub row-own : (i : ℕ) (e : Entry) (es : List Entry) → e.first ≡ i → row_of i (e ∷ es) ≡ e ∷ row_of i es
+row-own i e es is = ap (λ b. cond b (e ∷ row_of i es) (row_of i es)) (eq-eqb i e.first (sym is))
+
+pub row-other : (i : ℕ) (e : Entry) (es : List Entry) → e.first ≢ i → row_of i (e ∷ es) ≡ row_of i es
+row-other i e es other =
+    ap (λ b. cond b (e ∷ row_of i es) (row_of i es)) (go (eqb i e.first) (Decides-eqb i e.first))
+  where
+    go : (same : Bool) → Decides same (i ≡ e.first) → same ≡ false
+    go true d = absurd (other (sym (d.0 refl)))
+    go false d = refl
+
+pub drop-one : (es : List Entry) (n : ℕ) (e : Entry) → slice_get es n ≡ Some e
+    → drop n es ≡ e ∷ drop (n + 1) es
+drop-one es n e at =
+    drop_more es n e (slice_get_within es n e at)
+    ∙ ap (λ d. d ∷ drop (n + 1) es) (get_or_from_slice_get es n e e at)
+
+-- a row of pairs has second nodes below a number
+row-within : (i w : ℕ) (es : List Entry) → AllByRecursion (IsPair w) es
+    → AllByRecursion (λ e. e.second < w) (row_of i es)
+row-within i w [] pairs = tt
+row-within i w (e ∷ es) pairs = go (eqb i e.first) (row-within i w es pairs.1)
+  where
+    go : (here : Bool) → AllByRecursion (λ e. e.second < w) (row_of i es)
+        → AllByRecursion (λ e. e.second < w) (cond here (e ∷ row_of i es) (row_of i es))
+    go true rest = (pairs.0.within, rest)
+    go false rest = rest
+
+pub row-size : (i w : ℕ) (sums : List ℤ) (es : List Entry) → length sums ≡ w → All (IsPair w) es
+    → size_of (with_entries sums (row_of i es)) ≤ size_of sums + weight_total (row_of i es)
+row-size i w sums es width pairs =
+    let P : ℕ → Type 0 = λ n. AllByRecursion (λ e. e.second < n) (row_of i es) in
+    size-with_entries sums (row_of i es) (subst P (sym width) (row-within i w es (recursion_from_All (IsPair w) es pairs)))
+
+-- ---- couplers in order
+
+-- those that come later are in later rows
+none-before : (i j : ℕ) (es : List Entry) → AreFromRow j es → i < j → row_of i es ≡ []
+none-before i j [] from less = refl
+none-before i j (e ∷ es) from less =
+    row-other i e es (λ same. omega (arith, same, less, from.0))
+    ∙ none-before i e.first es from.1 (omega (arith, less, from.0))
+
+-- a row ends where a coupler is not its own
+pub ends-row : (i : ℕ) (e : Entry) (es : List Entry) → AreFromRow i (e ∷ es) → e.first ≢ i
+    → AreFromRow (i + 1) (e ∷ es)
+ends-row i e es from other = (omega (arith, other, from.0), from.1)
+
+pub row-ended : (i : ℕ) (es : List Entry) → AreFromRow (i + 1) es → row_of i es ≡ []
+row-ended i es from = none-before i (i + 1) es from (omega arith)
+
+-- couplers whose first nodes do not descend
+pub from_ordered : {X : Type 0} (entry : X → Entry) (i : ℕ) (xs : List X)
+    → IsNonDecreasingBy (λ x. (entry x).first) xs
+    → ((k : ℕ) (d : X) → k < length xs → i ≤ (entry (get_or xs k d)).first)
+    → AreFromRow i (map entry xs)
+from_ordered entry i [] up from = tt
+from_ordered entry i (x ∷ xs) up from = (
+  from 0 x (omega arith),
+  from_ordered entry (entry x).first xs (λ j k d le in'. up (suc j) (suc k) d (omega arith) (omega arith))
+      (λ k d in'. up 0 (suc k) d (omega arith) (omega arith)),
+)
