@@ -1,5 +1,5 @@
 //! The model of a problem.
-ghost use Rattle.std.specs.Prelude.{◌≡◌, ◌≤◌, None, [], IfOk, OnOk};
+ghost use Rattle.std.specs.Prelude.{◌≡◌, ◌≤◌, None, [], IfOk};
 ghost use Rattle.problem_form.specs.Limits.{limit_fault};
 ghost use Rattle.model_pipeline.specs.Models.{model, IsModelOf};
 
@@ -9,12 +9,6 @@ use command_words::Target;
 use direct_quad::DirectQuad;
 use problem_form::{Choices, High, Normal, Problem};
 use std::alloc::Global;
-
-fn unconstrained(problem: &Problem) -> Result<(), NoMemory>
-    ensures { OnOk result (problem.now.constraints ≡ []) }
-{
-    if problem.constraints.len() > 0 { Err(NoMemory) } else { Ok(()) }
-}
 
 /// The model of a problem within the limits, of which so many variables are the source's own. Its
 /// quadratic form is made at once, without the tables between: `quadratic_of` has the steps in a
@@ -34,7 +28,6 @@ pub fn model_of(
     ensures image { IfOk result (λ m. m ≡ model choices.now target unit variables problem) }
     ensures stands { IfOk result (λ m. IsModelOf problem variables target unit m) }
 {
-    unconstrained(&problem)?;
     let made = DirectQuad.guard(alloc, &problem)?;
     drop(problem);
     let variables = variables as u32;
