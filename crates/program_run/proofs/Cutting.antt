@@ -2,33 +2,32 @@
 use Rattle.std.proofs.Common.{◌≡◌, ℕ, ◌+◌, ◌<◌, ◌≤◌, List, [], ◌++◌, length, take, Some, None, Ok, Err, Result, refl, sym, ap, ◌∙◌, subst, append_assoc, arith}
 use Rattle.std.proofs.lemmas.List.{append-nil, length-append, length-take, take-append-le}
 use Rattle.std.specs.Io.KnownBytes.{Consumes, IsAtEnd}
-use Rattle.std.specs.Prelude.{IsSomeAnd}
+use Rattle.std.specs.Prelude.{IsSomeAnd, IfSome}
 use Rattle.std.specs.declared.option.Option.{Option}
 use Rattle.edge_io.specs.Held.{NamedFiles, find_file, IsFront, IsLonger, WhereTold}
 use Rattle.whole_text.specs.declared.token.Style.{Style}
-use Rattle.whole_text.specs.declared.token.Style.TheVariants.{Plain}
 use Rattle.whole_text.specs.Tokens.{Word, tokens_of}
 use Rattle.whole_text.specs.Lexing.{LexerState, StandsFor}
 use Rattle.command_words.specs.declared.commands.Command.{Command}
 use Rattle.command_words.specs.declared.commands.Format.{Format}
-use Rattle.command_words.specs.declared.commands.Format.TheVariants.{Wcnf}
 use Rattle.command_words.specs.declared.names.Which.TheVariants.{Source}
 use Rattle.command_words.specs.Names.{name_of, job_in}
 use Rattle.source_texts.specs.declared.reading.Read.{Read}
-use Rattle.source_texts.specs.Sources.{problem_of, problem_of_words}
-use Rattle.source_texts.proofs.WcnfTexts.{words_read}
+use Rattle.source_texts.specs.declared.reading.WordFormat.{WordFormat}
+use Rattle.source_texts.specs.Sources.{problem_of, problem_of_words, style_of, word_format}
+use Rattle.source_texts.proofs.WordTexts.{words_read}
 use Rattle.program_run.specs.declared.status.Status.{Status}
 use Rattle.program_run.specs.declared.status.Status.TheVariants.{Done, Usage, ReadFault, WriteFault, BadText, Limit, NoState, NoMemory}
 use Rattle.program_run.specs.Outcome.{Step, ◌>>=◌, taking, from_text, reading, Meets, Refuses}
 use Rattle.program_run.specs.Cut.{AreWordsOf, cutting}
 use Rattle.program_run.proofs.Taken.{bound}
 
--- the lexer stands for the bytes that were taken of the file, of which the rest is left
-pub record IsCut (held : Option NamedFiles) (name : List ℕ) (taken : ℕ) (rest : Option (List ℕ))
-    (lexer : LexerState) : Type 0 where
+-- the lexer of this style stands for the bytes that were taken of the file, of which the rest is left
+pub record IsCut (held : Option NamedFiles) (name : List ℕ) (style : Style) (taken : ℕ)
+    (rest : Option (List ℕ)) (lexer : LexerState) : Type 0 where
   pub text : List ℕ
   pub stands : StandsFor lexer text
-  pub plain : lexer.style ≡ Plain
+  pub styled : lexer.style ≡ style
   pub counted : length text ≡ taken
   pub front : IsFront held name text rest
 
@@ -46,45 +45,46 @@ front_more (Some files) name front piece (Some xs) (Some ys) is taken =
     (ys, is.1 ∙ ap Some cut, refl)
 
 -- one piece more, which came in the first bytes of a buffer
-pub cut_more : (held : Option NamedFiles) (name : List ℕ) (taken count : ℕ) (bytes behind : List ℕ)
-    (rest left : Option (List ℕ)) (old new : LexerState) → IsCut held name taken rest old
+pub cut_more : (held : Option NamedFiles) (name : List ℕ) (style : Style) (taken count : ℕ)
+    (bytes behind : List ℕ) (rest left : Option (List ℕ)) (old new : LexerState)
+    → IsCut held name style taken rest old
     → count ≤ length bytes → Consumes rest left (take count bytes)
     → ((text : List ℕ) → StandsFor old text → StandsFor new (text ++ take count (bytes ++ behind)))
-    → new.style ≡ old.style → IsCut held name (taken + count) left new
-cut_more held name taken count bytes behind rest left old new cut within consumed fed style =
+    → new.style ≡ old.style → IsCut held name style (taken + count) left new
+cut_more held name style taken count bytes behind rest left old new cut within consumed fed same =
     let piece = take count bytes in
     record {
       text = cut.text ++ piece;
       stands = subst (λ l. StandsFor new (cut.text ++ l)) (take-append-le count bytes behind within)
           (fed cut.text cut.stands);
-      plain = style ∙ cut.plain;
+      styled = same ∙ cut.styled;
       counted = omega (arith, length-append cut.text piece, length-take count bytes, cut.counted);
       front = front_more held name cut.text piece rest left cut.front consumed;
     }
 
-whole_words : (held : Option NamedFiles) (name text : List ℕ) (limit : ℕ) (rest : Option (List ℕ))
-    (words : List Word) → IsFront held name text rest → IsAtEnd rest → length text ≤ limit
-    → words ≡ tokens_of Plain text
-    → WhereTold held (λ h. AreWordsOf (find_file h name) limit words)
-whole_words None name text limit rest words is end within cut = tt
-whole_words (Some files) name text limit None words is end within cut =
+whole_words : (held : Option NamedFiles) (name text : List ℕ) (limit : ℕ) (style : Style)
+    (rest : Option (List ℕ)) (words : List Word) → IsFront held name text rest → IsAtEnd rest
+    → length text ≤ limit → words ≡ tokens_of style text
+    → WhereTold held (λ h. AreWordsOf (find_file h name) limit style words)
+whole_words None name text limit style rest words is end within cut = tt
+whole_words (Some files) name text limit style None words is end within cut =
     absurd (let no = is.2 in cc)
-whole_words (Some files) name text limit (Some xs) words is end within cut =
+whole_words (Some files) name text limit style (Some xs) words is end within cut =
     let none : is.0 ≡ [] = let e = is.2 in cc in
     let found : find_file files name ≡ Some text =
     is.1 ∙ ap Some (ap (λ l. text ++ l) none ∙ append-nil text) in
-    subst (λ file. AreWordsOf file limit words) (sym found) (within, cut)
+    subst (λ file. AreWordsOf file limit style words) (sym found) (within, cut)
 
 -- the words of the whole file
-pub cut_words : (held : Option NamedFiles) (name : List ℕ) (taken limit : ℕ)
+pub cut_words : (held : Option NamedFiles) (name : List ℕ) (style : Style) (taken limit : ℕ)
     (rest : Option (List ℕ)) (lexer : LexerState) (words : List Word)
-    → IsCut held name taken rest lexer → taken ≤ limit → IsAtEnd rest
+    → IsCut held name style taken rest lexer → taken ≤ limit → IsAtEnd rest
     → ((text : List ℕ) → StandsFor lexer text → words ≡ tokens_of lexer.style text)
-    → WhereTold held (λ h. AreWordsOf (find_file h name) limit words)
-cut_words held name taken limit rest lexer words cut within end given =
-    whole_words held name cut.text limit rest words cut.front end
+    → WhereTold held (λ h. AreWordsOf (find_file h name) limit style words)
+cut_words held name style taken limit rest lexer words cut within end given =
+    whole_words held name cut.text limit style rest words cut.front end
     (omega (arith, cut.counted, within))
-    (given cut.text cut.stands ∙ ap (λ (style : Style). tokens_of style cut.text) cut.plain)
+    (given cut.text cut.stands ∙ ap (λ (s : Style). tokens_of s cut.text) cut.styled)
 
 longer : (held : Option NamedFiles) (name front : List ℕ) (limit : ℕ) (rest : Option (List ℕ))
     → IsFront held name front rest → limit < length front
@@ -95,11 +95,12 @@ longer (Some files) name front limit rest is more =
     (omega (arith, length-append front is.0, more))
 
 -- the file is longer than was accepted
-pub cut_longer : (held : Option NamedFiles) (name : List ℕ) (taken count limit : ℕ) (bytes : List ℕ)
-    (rest left : Option (List ℕ)) (lexer : LexerState) → IsCut held name taken rest lexer
+pub cut_longer : (held : Option NamedFiles) (name : List ℕ) (style : Style) (taken count limit : ℕ)
+    (bytes : List ℕ) (rest left : Option (List ℕ)) (lexer : LexerState)
+    → IsCut held name style taken rest lexer
     → count ≤ length bytes → Consumes rest left (take count bytes) → limit < taken + count
     → WhereTold held (λ h. IsLonger h name limit)
-cut_longer held name taken count limit bytes rest left lexer cut within consumed more =
+cut_longer held name style taken count limit bytes rest left lexer cut within consumed more =
     let piece = take count bytes in
     longer held name (cut.text ++ piece) limit left
     (front_more held name cut.text piece rest left cut.front consumed)
@@ -107,19 +108,29 @@ cut_longer held name taken count limit bytes rest left lexer cut within consumed
 
 -- ---- reading what was cut
 
-read_once : (held : NamedFiles) (words : List (List ℕ)) (command : Command) (cut : List Word)
-    (result : Result Read Status) → (job_in command).format ≡ Wcnf
-    → cutting held Source (name_of words command Source) ≡ Some (Ok cut)
-    → Meets (λ r. r) result (from_text Source (problem_of_words cut))
+-- the words of a text in a format are read as the text is
+words_as_text : (format : Format) (worded : WordFormat) (text : List ℕ)
+    → word_format format ≡ Some worded
+    → problem_of format text ≡ problem_of_words worded (tokens_of (style_of worded) text)
+words_as_text format worded text e =
+    subst (λ (o : Option WordFormat). IfSome o
+    (λ w. problem_of format text ≡ problem_of_words w (tokens_of (style_of w) text))) e
+    (words_read format text)
+
+read_once : (held : NamedFiles) (words : List (List ℕ)) (command : Command) (format : WordFormat)
+    (style : Style) (cut : List Word) (result : Result Read Status) → style ≡ style_of format
+    → word_format (job_in command).format ≡ Some format
+    → cutting held Source (name_of words command Source) style ≡ Some (Ok cut)
+    → Meets (λ r. r) result (from_text Source (problem_of_words format cut))
     → Meets (λ r. r) result (reading words held command)
 unfolding cutting reading
-read_once held words command cut result wcnf e meets =
+read_once held words command format style cut result its_own worded e meets =
     let taken = bound (taking held Source (name_of words command Source))
-    (λ bytes. Some (Ok (tokens_of Plain bytes))) cut e in
-    let same : tokens_of Plain taken.0 ≡ cut = let two = taken.2 in cc in
-    let read : problem_of (job_in command).format taken.0 ≡ problem_of_words cut =
-    ap (λ (format : Format). problem_of format taken.0) wcnf
-    ∙ words_read taken.0 ∙ ap problem_of_words same in
+    (λ bytes. Some (Ok (tokens_of style bytes))) cut e in
+    let same : tokens_of style taken.0 ≡ cut = let two = taken.2 in cc in
+    let read : problem_of (job_in command).format taken.0 ≡ problem_of_words format cut =
+    words_as_text (job_in command).format format taken.0 worded
+    ∙ ap (problem_of_words format) (ap (λ s. tokens_of s taken.0) (sym its_own) ∙ same) in
     let step : Step Read = reading words held command in
     subst (λ (m : Step (List ℕ)). Meets (λ r. r) result
     (m >>= λ bytes. from_text Source (problem_of (job_in command).format bytes))) (sym taken.1)
@@ -127,21 +138,24 @@ read_once held words command cut result wcnf e meets =
 
 -- what the words of the source are read into is what the source is read into
 pub read_from_words : (told : Option NamedFiles) (words : List (List ℕ)) (command : Command)
-    (cut : List Word) (result : Result Read Status) → (job_in command).format ≡ Wcnf
-    → WhereTold told (λ held. cutting held Source (name_of words command Source) ≡ Some (Ok cut))
-    → Meets (λ r. r) result (from_text Source (problem_of_words cut))
+    (format : WordFormat) (style : Style) (cut : List Word) (result : Result Read Status)
+    → style ≡ style_of format → word_format (job_in command).format ≡ Some format
+    → WhereTold told
+    (λ held. cutting held Source (name_of words command Source) style ≡ Some (Ok cut))
+    → Meets (λ r. r) result (from_text Source (problem_of_words format cut))
     → WhereTold told (λ held. Meets (λ r. r) result (reading words held command))
-read_from_words None words command cut result wcnf e meets = tt
-read_from_words (Some held) words command cut result wcnf e meets =
-    read_once held words command cut result wcnf e meets
+read_from_words None words command format style cut result its_own worded e meets = tt
+read_from_words (Some held) words command format style cut result its_own worded e meets =
+    read_once held words command format style cut result its_own worded e meets
 
 -- what refuses to take a file refuses whatever is done with it
-refused_alike : (m : Step (List ℕ)) (f : List ℕ → Step Read) (status : Status)
-    → (m >>= λ bytes. Some (Ok (tokens_of Plain bytes))) ≡ Some (Err status)
+refused_alike : (m : Step (List ℕ)) (style : Style) (f : List ℕ → Step Read) (status : Status)
+    → (m >>= λ bytes. Some (Ok (tokens_of style bytes))) ≡ Some (Err status)
     → (m >>= f) ≡ Some (Err status)
-refused_alike None f status e = absurd cc
-refused_alike (Some (Ok bytes)) f status e = absurd cc
-refused_alike (Some (Err other)) f status e = let same : other ≡ status = cc in ap (λ s. Some (Err s)) same
+refused_alike None style f status e = absurd cc
+refused_alike (Some (Ok bytes)) style f status e = absurd cc
+refused_alike (Some (Err other)) style f status e =
+    let same : other ≡ status = cc in ap (λ s. Some (Err s)) same
 
 refuses_as : {A B : Type 0} (status : Status) (m : Step A) (n : Step B)
     → (m ≡ Some (Err status) → n ≡ Some (Err status)) → Refuses status m → Refuses status n
@@ -156,13 +170,14 @@ refuses_as (NoState width) m n same refused = same refused
 
 -- a source that could not be taken is refused
 pub read_refused : (told : Option NamedFiles) (words : List (List ℕ)) (command : Command)
-    (status : Status)
-    → WhereTold told (λ held. Refuses status (cutting held Source (name_of words command Source)))
+    (style : Style) (status : Status)
+    → WhereTold told
+    (λ held. Refuses status (cutting held Source (name_of words command Source) style))
     → WhereTold told (λ held. Refuses status (reading words held command))
 unfolding cutting reading
-read_refused None words command status refused = tt
-read_refused (Some held) words command status refused =
+read_refused None words command style status refused = tt
+read_refused (Some held) words command style status refused =
     let m = taking held Source (name_of words command Source) in
     let f : List ℕ → Step Read = λ bytes. from_text Source (problem_of (job_in command).format bytes) in
-    refuses_as status (m >>= λ bytes. Some (Ok (tokens_of Plain bytes))) (m >>= f)
-    (refused_alike m f status) refused
+    refuses_as status (m >>= λ bytes. Some (Ok (tokens_of style bytes))) (m >>= f)
+    (refused_alike m style f status) refused

@@ -2,7 +2,7 @@
 use Rattle.std.proofs.Common.{◌≡◌, ℕ, List, length, Ok, Err, Some, None, Result, refl, ap, subst, Bool, true, false, if◌then◌else◌, nat_lt}
 use Rattle.std.specs.declared.option.Option.{Option}
 use Rattle.std.specs.Option.{option_map_or}
-use Rattle.edge_io.specs.Held.{NamedFiles, find_file}
+use Rattle.edge_io.specs.Held.{NamedFiles, find_file, WhereTold}
 use Rattle.whole_text.specs.declared.faults.TextFault.{TextFault}
 use Rattle.problem_form.specs.declared.limits.LimitFault.{LimitFault}
 use Rattle.problem_form.specs.Limits.{limit_fault, most_bytes}
@@ -13,6 +13,7 @@ use Rattle.command_words.specs.Names.{name_of, job_in}
 use Rattle.source_texts.specs.declared.reading.Read.{Read}
 use Rattle.source_texts.specs.Sources.{problem_of}
 use Rattle.program_run.specs.declared.status.Status.{Status}
+use Rattle.program_run.specs.declared.status.Status.TheVariants.{Limit}
 use Rattle.program_run.specs.Outcome.{Step, ◌>>=◌, not_too_long, taking, from_text, from_limits, reading, sourcing}
 
 -- where two steps succeed, so does each
@@ -73,3 +74,13 @@ source_is_taken words held command read e =
       read = subst (λ r. problem_of job.format taken.0 ≡ Ok r) same
           (text_is_read Source (problem_of job.format taken.0) checked.0 taken.2);
     }
+
+-- a source that passes a limit is refused with it
+pub limit_refuses : (told : Option NamedFiles) (words : List (List ℕ)) (command : Command) (r : Read)
+    (fault : LimitFault) → WhereTold told (λ held. reading words held command ≡ Some (Ok r))
+    → limit_fault (job_in command).choices.normal r.problem ≡ Some fault
+    → WhereTold told
+    (λ held. sourcing words held command ≡ Some (Err (Limit Source fault.kind fault.number)))
+unfolding sourcing
+limit_refuses None words command r fault e passed = tt
+limit_refuses (Some held) words command r fault e passed = rw (e, passed) refl

@@ -12,17 +12,18 @@ use whole_text::{Lexer, Style, TokenText};
 /// How many bytes are taken at once, at most; they stand on the stack.
 const PIECE: usize = 65_536;
 
-/// The words of the named file, which has at most `limit` bytes, in the plain style. They take no
-/// more bytes than the file.
+/// The words of the named file, which has at most `limit` bytes, cut in a style. They take no more
+/// bytes than the file.
 pub fn read_words<F: Files>(
     alloc: Global,
     files: &mut F,
     name: String,
     limit: usize,
+    style: Style,
 ) -> Result<TokenText, ReadAnswer>
     requires { limit < 2 ^ 32 }
     ensures words { IfOk result (λ text. WhereTold (F.held files.old) (λ held.
-        AreWordsOf (find_file held (string_bytes name)) limit (words_of text))) }
+        AreWordsOf (find_file held (string_bytes name)) limit style (words_of text))) }
     ensures short { IfOk result (λ text. length text.bytes ≤ limit) }
 
     // One read gives nothing, and then no more is read.
@@ -51,7 +52,7 @@ pub fn read_words<F: Files>(
     if files.begin(name).is_err() {
         return Err(ReadAnswer::ReadFault);
     }
-    let mut lexer = Lexer::new(alloc, Style::Plain);
+    let mut lexer = Lexer::new(alloc, style);
     let mut piece = [0u8; PIECE];
     let mut taken = 0;
     loop {

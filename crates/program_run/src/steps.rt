@@ -1,5 +1,5 @@
 //! The steps of a command: each gives a value, or the status that refuses.
-ghost use Rattle.std.specs.Prelude.{◌≡◌, ◌≤◌, ◌^◌, None, Ok, Result, [], map, string_bytes, length, IfOk, OnOk, IfErr};
+ghost use Rattle.std.specs.Prelude.{◌≡◌, ◌≤◌, ◌^◌, None, Ok, Result, Some, map, string_bytes, length, IfOk, OnOk, IfErr};
 ghost use Rattle.edge_io.specs.Held.{WhereTold};
 ghost use Rattle.problem_form.specs.Limits.{limit_fault};
 ghost use Rattle.command_words.specs.Names.{name_of, job_in};
@@ -7,7 +7,7 @@ ghost use Rattle.whole_text.specs.declared.faults.TextFault.{TextFault};
 ghost use Rattle.whole_text.specs.TokenTexts.{words_of};
 ghost use Rattle.whole_text.specs.Steps.{Gives};
 ghost use Rattle.source_texts.specs.declared.reading.Read.{Read};
-ghost use Rattle.command_words.specs.declared.commands.Format.TheVariants.{Wcnf};
+ghost use Rattle.source_texts.specs.Sources.{word_format};
 ghost use Rattle.program_run.specs.Outcome.{Meets, taking, from_text, reading, sourcing};
 ghost use Rattle.program_run.specs.Statuses.{IsTextRefusal};
 ghost use Rattle.program_run.specs.Cut.{cutting};
@@ -15,12 +15,12 @@ ghost use Rattle.program_run.specs.Causes.{IsRefusedBy, IsPassed};
 
 use crate::cut::read_words;
 use crate::status::Status;
-use command_words::{Command, Format, Which, name_of};
+use command_words::{Command, Which, name_of};
 use edge_io::{Files, ReadAnswer, read_all};
 use problem_form::{LimitKind, MOST_BYTES, check_limits};
-use source_texts::{Read, read_source, read_source_words};
+use source_texts::{Read, WordFormat, read_source, read_source_words, word_format};
 use std::alloc::Global;
-use whole_text::{TextAnswer, TokenText};
+use whole_text::{Style, TextAnswer, TokenText};
 
 /// Takes a file of a command.
 #[tactic(auto, unfolding(crate::specs::Outcome::taking))]
@@ -53,17 +53,18 @@ pub fn take_file<F: Files>(
     }
 }
 
-/// Takes a file of a command, and cuts it into words as it comes.
+/// Takes a file of a command, and cuts it into words as it comes, in a style.
 #[tactic(auto, unfolding(crate::specs::Outcome::taking, crate::specs::Cut::cutting))]
 fn take_words<F: Files>(
     alloc: Global,
     words: &[String],
     command: Command,
     which: Which,
+    style: Style,
     files: &mut F,
 ) -> Result<TokenText, Status>
     ensures step { WhereTold (F.held files.old) (λ held. Meets words_of result
-        (cutting held which (name_of (map string_bytes words.now) command which))) }
+        (cutting held which (name_of (map string_bytes words.now) command which) style)) }
     ensures held { F.held files.new ≡ F.held files.old }
     ensures short { IfOk result (λ text. length text.bytes ≤ 2 ^ 24) }
     ensures passed { OnOk result (IsPassed
@@ -76,7 +77,7 @@ fn take_words<F: Files>(
     let Ok(name) = String::from_str(alloc, name_of(words, command, which)) else {
         return Err(Status::NoMemory);
     };
-    match read_words(alloc, files, name, MOST_BYTES) {
+    match read_words(alloc, files, name, MOST_BYTES, style) {
         Ok(text) => Ok(text),
         Err(ReadAnswer::ReadFault) => Err(Status::ReadFault(which)),
         Err(ReadAnswer::TooLong) => Err(Status::Limit(which, LimitKind::Bytes, 16_777_217)),
@@ -100,19 +101,19 @@ fn judged(read: Result<Read, TextAnswer>) -> Result<Read, Status>
     }
 }
 
-/// Takes a weighted CNF source, cut into words as it comes, and reads it.
+/// Takes a source, cut into words as it comes, and reads it in the format of the command.
 fn take_cut<F: Files>(
     alloc: Global,
     words: &[String],
     command: Command,
+    format: WordFormat,
     files: &mut F,
 ) -> Result<Read, Status>
-    requires { (job_in command).format ≡ Wcnf }
+    requires { word_format (job_in command).format ≡ Some format }
     ensures step { WhereTold (F.held files.old) (λ held. Meets (λ read. read) result
         (reading (map string_bytes words.now) held command)) }
     ensures held { F.held files.new ≡ F.held files.old }
     ensures own { IfOk result (λ read. read.variables ≤ read.problem.variables) }
-    ensures unconstrained { IfOk result (λ read. read.problem.constraints ≡ []) }
     ensures passed { OnOk result (IsPassed
         (name_of (map string_bytes words.now) command Which.Source) 1
         (F.counts files.old) (F.counts files.new)) }
@@ -121,17 +122,18 @@ fn take_cut<F: Files>(
         (name_of (map string_bytes words.now) command Which.Source) 1 status
         (F.counts files.old) (F.counts files.new)) }
 {
-    let text = match take_words(alloc, words, command, Which::Source, files) {
+    let style = format.style();
+    let text = match take_words(alloc, words, command, Which::Source, style, files) {
         Ok(text) => text,
         Err(status) => return Err(status),
     };
-    let read = read_source_words(alloc, &text);
+    let read = read_source_words(alloc, format, &text);
     drop(text);
     judged(read)
 }
 
-/// Takes the source and reads it. A weighted CNF file is cut into words as it comes, and the others
-/// are taken whole.
+/// Takes the source and reads it. It is cut into words as it comes, where its format is read from
+/// words, and else it is taken whole.
 #[tactic(auto, unfolding(crate::specs::Outcome::reading))]
 fn take_read<F: Files>(
     alloc: Global,
@@ -143,7 +145,6 @@ fn take_read<F: Files>(
         (reading (map string_bytes words.now) held command)) }
     ensures held { F.held files.new ≡ F.held files.old }
     ensures own { IfOk result (λ read. read.variables ≤ read.problem.variables) }
-    ensures unconstrained { IfOk result (λ read. read.problem.constraints ≡ []) }
     ensures passed { OnOk result (IsPassed
         (name_of (map string_bytes words.now) command Which.Source) 1
         (F.counts files.old) (F.counts files.new)) }
@@ -152,9 +153,10 @@ fn take_read<F: Files>(
         (name_of (map string_bytes words.now) command Which.Source) 1 status
         (F.counts files.old) (F.counts files.new)) }
 {
-    match command.job().format {
-        Format::Wcnf => take_cut(alloc, words, command, files),
-        format => {
+    let format = command.job().format;
+    match word_format(format) {
+        Some(format) => take_cut(alloc, words, command, format, files),
+        None => {
             let bytes = take_file(alloc, words, command, Which::Source, files)?;
             judged(read_source(alloc, format, &bytes))
         }
@@ -175,7 +177,6 @@ pub fn take_source<F: Files>(
     ensures within { IfOk result (λ read.
         limit_fault (job_in command).choices.normal read.problem ≡ None) }
     ensures own { IfOk result (λ read. read.variables ≤ read.problem.variables) }
-    ensures unconstrained { IfOk result (λ read. read.problem.constraints ≡ []) }
     ensures passed { OnOk result (IsPassed
         (name_of (map string_bytes words.now) command Which.Source) 1
         (F.counts files.old) (F.counts files.new)) }

@@ -13,7 +13,7 @@ loop-count-preserved g c =
       within = search rules;
       counted = search rules;
       filled = search rules;
-      cut = cut_more (g.F.Files.held c.args.files.now) (string_bytes c.args.name) c.loop-count.taken
+      cut = cut_more (g.F.Files.held c.args.files.now) (string_bytes c.args.name) c.args.style c.loop-count.taken
           c.in-Ok.count taken.new.into (drop c.min-room.result c.loop-count.piece)
           (g.F.Files.rest c.loop-count.files) (g.F.Files.rest taken.new.files)
           c.loop-count.lexer c.feed.new.self i.cut read.bound.0 read.rest.0 fed.fed fed.style;

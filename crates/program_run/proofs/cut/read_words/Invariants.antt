@@ -10,7 +10,7 @@ invariant-loop-count g l = record {
   within : l.taken ≤ l.limit;
   counted : (g.F.Files.counts l.files).taken ≡ l.taken;
   filled : (g.F.Files.counts l.files).empty_reads ≡ 0;
-  cut : IsCut (g.F.Files.held l.fn.files) (string_bytes l.fn.name) l.taken (g.F.Files.rest l.files) l.lexer;
+  cut : IsCut (g.F.Files.held l.fn.files) (string_bytes l.fn.name) l.fn.style l.taken (g.F.Files.rest l.files) l.lexer;
   held : g.F.Files.held l.files ≡ g.F.Files.held l.fn.files;
   begun : (g.F.Files.counts l.files).begun ≡ count_after (g.F.Files.counts l.fn.files).begun 1;
   marked : (g.F.Files.counts l.files).faults_at_begin ≡ (g.F.Files.counts l.fn.files).faults;
