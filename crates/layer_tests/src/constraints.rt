@@ -165,6 +165,14 @@ fn least_energies_stand_for_sums_with_bounds(rt: HostRuntime) -> Result<(), Fail
     Ok(())
 }
 
+/// What an item takes off the sum: its weight, which is one more than its number.
+fn item_weight(variable: u8) -> i128
+    requires { variable < 20 }
+    ensures { unsigned_abs result ≤ 20 }
+{
+    -1 - i128::from(variable)
+}
+
 /// Twenty items, of the weights 1 to 20 and the value 10 each, of which those that are taken weigh
 /// at most 55.
 fn knapsack(alloc: Global) -> Result<Problem, NoMemory> {
@@ -177,7 +185,7 @@ fn knapsack(alloc: Global) -> Result<Problem, NoMemory> {
             negated: false,
         };
         add_product(alloc, &mut problem, &[item], -10)?;
-        products.push(&[item], -1 - i128::from(variable))?;
+        products.push(&[item], item_weight(variable))?;
     }
     problem.add_constraint(&Constraint {
         products,
