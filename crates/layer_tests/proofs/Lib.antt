@@ -1,3 +1,4 @@
 mod SmallModels
 mod ChainedModels
 mod SmallTables
+pub mod SmallSums

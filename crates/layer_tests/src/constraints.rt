@@ -1,9 +1,8 @@
 //! Sums with bounds, under penalties: all states of small problems, and a knapsack.
-ghost use Rattle.std.specs.Prelude.{◌≡◌, ◌<◌, ◌≤◌, ◌+◌, ◌^◌, All, IfOk, OnOk, length, unsigned_abs};
+ghost use Rattle.std.specs.Prelude.{◌≡◌, ◌<◌, ◌≤◌, ◌^◌, All, IfOk, length, unsigned_abs};
 ghost use Rattle.bits_model.specs.Links.{HasFirstBits};
 ghost use Rattle.penalty_layer.specs.Penalty.{Admits};
-ghost use Rattle.problem_form.specs.Problems.{constraint_total, problem_total, products_total};
-ghost use Rattle.term_table.specs.Terms.{Term};
+ghost use Rattle.problem_form.specs.Problems.{constraint_total};
 
 use crate::all_states::{Least, draw, note, number_of, stands_for};
 use crate::given::{A, B, C, NOT_A, NOT_B, NOT_C, add_clause, state};
@@ -64,7 +63,8 @@ fn decoded(
     table: &Table,
     number: u64,
 ) -> Result<Option<(usize, Cost)>, NoMemory>
-    requires { HasFirstBits link.now }
+    requires sound { HasFirstBits link.now }
+    requires narrow { table.now.width < 2 ^ 32 }
 {
     let y = state(alloc, link.target_width, number)?;
     if table.width() != y.len() {
@@ -165,6 +165,14 @@ fn least_energies_stand_for_sums_with_bounds(rt: HostRuntime) -> Result<(), Fail
     Ok(())
 }
 
+/// What an item takes off the sum: its weight, which is one more than its number.
+fn item_weight(variable: u8) -> i128
+    requires { variable < 20 }
+    ensures { unsigned_abs result ≤ 20 }
+{
+    -1 - i128::from(variable)
+}
+
 /// Twenty items, of the weights 1 to 20 and the value 10 each, of which those that are taken weigh
 /// at most 55.
 fn knapsack(alloc: Global) -> Result<Problem, NoMemory> {
@@ -177,7 +185,7 @@ fn knapsack(alloc: Global) -> Result<Problem, NoMemory> {
             negated: false,
         };
         add_product(alloc, &mut problem, &[item], -10)?;
-        products.push(&[item], -1 - i128::from(variable))?;
+        products.push(&[item], item_weight(variable))?;
     }
     problem.add_constraint(&Constraint {
         products,

@@ -20,6 +20,8 @@ const CHOICES: Choices = Choices {
 pub fn is_admitted(problem: &Problem) -> bool
     ensures { OnTrue result (Admits problem.now) }
 {
+    // a problem that is read is in normal form
+    let _variables = problem.variables;
     check_limits(problem, &CHOICES).is_ok()
 }
 

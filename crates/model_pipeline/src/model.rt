@@ -1,5 +1,5 @@
 //! The model of a problem.
-ghost use Rattle.std.specs.Prelude.{◌≡◌, ◌≤◌, None, [], IfOk};
+ghost use Rattle.std.specs.Prelude.{◌≡◌, ◌≤◌, None, IfOk};
 ghost use Rattle.problem_form.specs.Limits.{limit_fault};
 ghost use Rattle.model_pipeline.specs.Models.{model, IsModelOf};
 
