@@ -21,8 +21,8 @@ fn opb_writes(
 }
 
 /// Texts, and what is written for them: four items of which a bag holds some, with four slack bits
-/// for what is left in it, of weights 1, 2, 4 and 2; a bound that no sum reaches; and a product with
-/// a complement, under an equation, which has no slack bits.
+/// for what is left in it, of weights 1, 2, 4 and 2; a bound that no sum reaches; and a product
+/// with a complement, under an equation, which has no slack bits.
 const TEXTS: [(&str, &[u8]); 3] = [
     (
         "min: -7 x1 -4 x2 -8 x3 -3 x4 ;\n4 x1 3 x2 5 x3 2 x4 <= 9 ;\n",
