@@ -1,4 +1,4 @@
-use Rattle.std.proofs.Common.{◌≡◌, ◌<◌, ◌+◌, ℕ, List, ◌++◌, length, get_or, All, sym, subst, ap, refl, ◌∙◌, arith}
+use Rattle.std.proofs.Common.{◌≡◌, ◌<◌, ◌+◌, ℕ, List, length, All, sym, subst, arith}
 use Rattle.std.specs.List.{AllZip}
 use Rattle.std.proofs.lemmas.Result.{err_from_is_err_and}
 use Rattle.bits_model.specs.declared.output.Entry.{Entry}
@@ -9,7 +9,7 @@ use Rattle.chain_map.specs.declared.faults.EmbedFault.TheVariants.{NoCoupler}
 use Rattle.embedding_check.specs.Checked.{IsPlaceOf}
 use Rattle.embedding_check.specs.Faults.{IsUncoupled}
 use Rattle.embedding_check.proofs.Faulty.{if_fault, zip_all}
-use Rattle.embedding_check.proofs.PlacedRows.{rows_before, rows_more, rows_all, all_in_row, some_in_row, uncoupled_in_row}
+use Rattle.embedding_check.proofs.PlacedRows.{rows_before, rows_all, all_in_row, some_in_row, uncoupled_in_row}
 use Rattle.embedding_check.proofs.places.all_places.Goals as goal
 
 pub note_row-noting-requires-clause-nodes : goal.note_row-noting-requires-clause-nodes

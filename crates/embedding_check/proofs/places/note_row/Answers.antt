@@ -1,4 +1,4 @@
-use Rattle.std.proofs.Common.{◌≡◌, ◌<◌, List, ℕ, pos, length, get_or, sym, subst, arith}
+use Rattle.std.proofs.Common.{◌<◌, List, ℕ, pos, length, get_or, sym, subst, arith}
 use Rattle.bits_model.specs.declared.output.Entry.{Entry}
 use Rattle.quad_form.specs.Quads.{IsCoupler}
 use Rattle.chain_map.specs.Chains.{chain_of}

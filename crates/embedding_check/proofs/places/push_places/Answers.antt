@@ -1,7 +1,5 @@
-use Rattle.std.proofs.Common.{◌≡◌, ◌<◌, ◌+◌, ℕ, pos, inl, inr, List, [], ◌∷◌, ◌++◌, length, take, get_or, append_assoc, sym, subst, ap, refl, ◌∙◌, arith}
-use Rattle.std.specs.List.{AllZip}
+use Rattle.std.proofs.Common.{◌≡◌, ◌<◌, pos, inl, inr, length, get_or, sym, subst, refl, arith}
 use Rattle.std.proofs.lemmas.Bool.{cases_lt}
-use Rattle.std.proofs.lemmas.List.{take_more}
 use Rattle.bits_model.specs.declared.output.Entry.{Entry}
 use Rattle.quad_form.specs.Quads.{IsCoupler}
 use Rattle.chain_map.specs.Chains.{chain_of}
