@@ -3,7 +3,7 @@
 //! The couplings of a node stand next to each other, in one row. Either the joins of its chain are
 //! noted once for the whole row, or the two chains of each coupling are walked along up to the
 //! first join: what costs less.
-ghost use Rattle.std.specs.Prelude.{◌≡◌, ◌++◌, ◌≤◌, ◌<◌, ◌^◌, ℕ, true, length, All, List, Option, IfOk, IfErr, IfSome, IfNone, OnOk};
+ghost use Rattle.std.specs.Prelude.{◌≡◌, ◌++◌, ◌≤◌, ◌<◌, ◌^◌, ℕ, true, length, All, List, Option, IfOk, IfErr, OnOk};
 ghost use Rattle.std.specs.List.{AllZip};
 ghost use Rattle.bits_model.specs.declared.output.Entry.{Entry};
 ghost use Rattle.quad_form.specs.Quads.{IsCoupler};
@@ -13,7 +13,7 @@ ghost use Rattle.embedding_check.specs.Checked.{IsPlaceOf};
 ghost use Rattle.embedding_check.specs.Faults.{IsUncoupled, Exists};
 ghost use Rattle.embedding_check.specs.Search.{IsSortedChain};
 ghost use Rattle.embedding_check.specs.Least.{IsPlaceIn};
-ghost use Rattle.embedding_check.specs.Owners.{AreOwners, nobody};
+ghost use Rattle.embedding_check.specs.Owners.{AreOwners};
 ghost use Rattle.embedding_check.specs.Noted.{AreNoted};
 
 use crate::chains::{chain, len};
