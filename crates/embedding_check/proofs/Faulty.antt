@@ -60,14 +60,6 @@ place_same joined c d c' d' r sorted sorted' =
 
 -- ---- lists in step
 
-pub zip_of_places : {A B : Type 0} (R : A → B → Type 0) (xs : List A) (ys : List B) → length ys ≡ length xs
-    → ((i : ℕ) (d : A) (e : B) → i < length xs → R (get_or xs i d) (get_or ys i e)) → AllZip R xs ys
-zip_of_places R [] [] len all = tt
-zip_of_places R [] (y ∷ ys) len all = absurd (omega (arith, len))
-zip_of_places R (x ∷ xs) [] len all = absurd (omega (arith, len))
-zip_of_places R (x ∷ xs) (y ∷ ys) len all =
-    (all 0 x y (omega arith), zip_of_places R xs ys (omega (arith, len)) (λ i d e h. all (suc i) d e (omega (arith, h))))
-
 pub zip_all : {A B : Type 0} (R : A → B → Type 0) (P : A → Type 0) (xs : List A) (ys : List B)
     → ((x : A) (y : B) → R x y → P x) → AllZip R xs ys → All P xs
 zip_all R P [] ys weaker all = λ k d h. absurd (omega (arith, h))
@@ -77,24 +69,6 @@ zip_all {A = A} R P (x ∷ xs) (y ∷ ys) weaker all = go (zip_all R P xs ys wea
     go : All P xs → (k : ℕ) (d : A) → k < length (x ∷ xs) → P (get_or (x ∷ xs) k d)
     go rest zero d h = weaker x y all.0
     go rest (suc k) d h = rest k d (omega (arith, h))
-
-pub placed_more : {A B : Type 0} (R : A → B → Type 0) (xs : List A) (ys : List B) (k : ℕ) (y : B)
-    → length ys ≡ k → k < length xs
-    → ((i : ℕ) (d : A) (e : B) → i < k → R (get_or xs i d) (get_or ys i e))
-    → ((d : A) → R (get_or xs k d) y)
-    → (i : ℕ) (d : A) (e : B) → i < k + 1 → R (get_or xs i d) (get_or (ys ++ (y ∷ [])) i e)
-placed_more R xs ys k y len below before here i d e low = elim (cases_eq i k) [
-  | inl same ↦
-      let last : get_or (ys ++ (y ∷ [])) i e ≡ y =
-      ap (λ j. get_or (ys ++ (y ∷ [])) j e) (same ∙ sym len) ∙ at_end ys y e in
-      subst (λ z. R (get_or xs i d) z) (sym last) (subst (λ j. R (get_or xs j d) y) (sym same) (here d))
-  | inr other ↦
-      let less : i < k = omega (arith, low, other) in
-      subst (λ z. R (get_or xs i d) z) (sym (get_or_append_left ys (y ∷ []) e i (omega (arith, less, len)))) (before i d e less)
-]
-  where
-    at_end : {X : Type 0} (ys : List X) (y e : X) → get_or (ys ++ (y ∷ [])) (length ys) e ≡ y
-    at_end ys y e = get_or-append_seam ys y [] e
 
 -- ---- what the passes before have shown
 

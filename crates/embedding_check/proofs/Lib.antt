@@ -7,3 +7,4 @@ pub mod LeastPairs
 pub mod Faulty
 pub mod Owning
 pub mod Noting
+pub mod PlacedRows

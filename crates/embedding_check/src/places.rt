@@ -1,10 +1,11 @@
 //! The places of all couplings.
 //!
-//! The couplings of a node stand next to each other. Either the joins of its chain are noted
-//! once for all of them, or the two chains of each coupling are walked along up to the first
-//! join: what costs less.
-ghost use Rattle.std.specs.Prelude.{◌≡◌, ◌≤◌, ◌<◌, ◌^◌, ℕ, true, length, All, Option, IfOk, IfErr, IfSome, IfNone};
+//! The couplings of a node stand next to each other, in one row. Either the joins of its chain are
+//! noted once for the whole row, or the two chains of each coupling are walked along up to the
+//! first join: what costs less.
+ghost use Rattle.std.specs.Prelude.{◌≡◌, ◌++◌, ◌≤◌, ◌<◌, ◌^◌, ℕ, true, length, All, List, Option, IfOk, IfErr, OnOk};
 ghost use Rattle.std.specs.List.{AllZip};
+ghost use Rattle.bits_model.specs.declared.output.Entry.{Entry};
 ghost use Rattle.quad_form.specs.Quads.{IsCoupler};
 ghost use Rattle.chain_map.specs.Chains.{chain_of, occurrences};
 ghost use Rattle.chain_map.specs.Faults.{IfFault};
@@ -12,7 +13,7 @@ ghost use Rattle.embedding_check.specs.Checked.{IsPlaceOf};
 ghost use Rattle.embedding_check.specs.Faults.{IsUncoupled, Exists};
 ghost use Rattle.embedding_check.specs.Search.{IsSortedChain};
 ghost use Rattle.embedding_check.specs.Least.{IsPlaceIn};
-ghost use Rattle.embedding_check.specs.Owners.{AreOwners, nobody};
+ghost use Rattle.embedding_check.specs.Owners.{AreOwners};
 ghost use Rattle.embedding_check.specs.Noted.{AreNoted};
 
 use crate::chains::{chain, len};
@@ -20,24 +21,19 @@ use crate::embedded::PairList;
 use crate::least::place_between;
 use crate::noted::Noted;
 use crate::owners::owners_of;
-use bits_model::{ChainList, CouplerList, Entry, Items, NoMemory};
+use bits_model::{ChainList, CouplerList, Items, Row};
 use chain_map::{CheckAnswer, EmbedFault};
 use chimera_graph::Hardware;
 use std::alloc::Global;
 
-/// How many qubits the chains of a node's couplings have, each with the node's own chain: what it
-/// costs to walk along them. The couplings begin with those of the node.
-fn walk_cost(chains: &ChainList, couplings: &[Entry], node: u32) -> u64
-    requires { All (IsCoupler (length chains.now)) couplings.now }
+/// How many qubits the chains of a row's couplings have, each with the first node's own chain: what
+/// it costs to walk along them.
+fn walk_cost(chains: &ChainList, own: &[u32], row: &Row<'_>) -> u64
+    requires { All (IsCoupler (length chains.now)) row.now }
 {
-    let mut cost: u64 = 0;
-    for coupling in couplings {
-        if coupling.first != node {
-            return cost;
-        }
-        let other = chain(chains, coupling.second as usize).len() as u64;
-        let own = chain(chains, node as usize).len() as u64;
-        cost = cost.saturating_add(own).saturating_add(other);
+    let mut cost = (own.len() as u64).saturating_mul(row.len() as u64);
+    for k in 0..row.len() {
+        cost = cost.saturating_add(chain(chains, row.second(k) as usize).len() as u64);
     }
     cost
 }
@@ -58,52 +54,48 @@ fn is_noting_cheap<H: Hardware>(hardware: &H, chain: &[u32], cost: u64) -> bool
     true
 }
 
-/// Whether the joins of a node are now noted: they are where this costs less than to walk for
-/// each of its couplings, with which the couplings begin. For the last node this is known.
-fn is_noted<H: Hardware>(
+/// Notes the joins of a row's first node, where this costs less than to walk for each coupling, and
+/// says whether.
+fn note_row<H: Hardware>(
     hardware: &H,
     owners: &[u32],
     chains: &ChainList,
-    couplings: &[Entry],
-    node: u32,
-    last: u32,
-    noting: bool,
+    row: &Row<'_>,
     noted: &mut Noted,
 ) -> bool
-    requires nodes { All (IsCoupler (length chains.now)) couplings.now }
-    requires node { node < length chains.now }
+    requires nodes { All (IsCoupler (length chains.now)) row.now }
+    requires some { 0 < length row.now }
     requires within { (u : ℕ) → u < length chains.now → (j : ℕ) → j < length (chain_of chains.now u)
         → Exists (H.qubits hardware.now) chains.now u j }
     requires owners { AreOwners chains.now owners.now }
     requires all { length owners.now ≡ H.qubits hardware.now }
     requires len { length noted.old ≡ length chains.now }
-    requires last { noting ≡ true → AreNoted (H.joined hardware.now) chains.now last noted.old }
     ensures len { length noted.new ≡ length chains.now }
     ensures noted { result ≡ true →
-        AreNoted (H.joined hardware.now) chains.now node noted.new }
+        All (λ c. AreNoted (H.joined hardware.now) chains.now c.first noted.new) row.now }
 {
-    if node == last {
-        return noting;
-    }
+    let node = row.first();
     let own = chain(chains, node as usize);
-    if !is_noting_cheap(hardware, own, walk_cost(chains, couplings, node)) {
+    if !is_noting_cheap(hardware, own, walk_cost(chains, own, row)) {
         return false;
     }
     noted.note_chain(hardware, owners, node, own);
     true
 }
 
-/// Where a coupling is placed, if there is a place: among the noted pairs of its first node, where
-/// there are some, and else at the first join of a walk.
+/// Where a coupling of two nodes is placed, if there is a place: among the noted pairs of the first
+/// one, where there are some, and else at the first join of a walk.
 fn place_of<H: Hardware>(
     hardware: &H,
     sorted: &ChainList,
     chains: &ChainList,
     noting: bool,
     noted: &Noted,
-    coupling: Entry,
+    first: u32,
+    second: u32,
 ) -> Option<(u32, u32)>
-    requires coupler { IsCoupler (length chains.now) coupling }
+    requires upward { first < second }
+    requires node { second < length chains.now }
     requires within { (u : ℕ) → u < length chains.now → (j : ℕ) → j < length (chain_of chains.now u)
         → Exists (H.qubits hardware.now) chains.now u j }
     requires len { length sorted.now ≡ length chains.now }
@@ -111,73 +103,61 @@ fn place_of<H: Hardware>(
         → IsSortedChain (chain_of chains.now u) (chain_of sorted.now u) }
     requires all { length noted.now ≡ length chains.now }
     requires noted { noting ≡ true →
-        AreNoted (H.joined hardware.now) chains.now coupling.first noted.now }
-    ensures { IsPlaceIn (H.joined hardware.now) (chain_of chains.now coupling.first)
-        (chain_of chains.now coupling.second) result }
+        AreNoted (H.joined hardware.now) chains.now first noted.now }
+    ensures { IsPlaceIn (H.joined hardware.now) (chain_of chains.now first)
+        (chain_of chains.now second) result }
 {
-    let (first, second) = (coupling.first as usize, coupling.second as usize);
     if noting {
-        return noted.at(second);
+        return noted.at(second as usize);
     }
-    place_between(hardware, chain(sorted, first), chain(sorted, second))
+    place_between(
+        hardware,
+        chain(sorted, first as usize),
+        chain(sorted, second as usize),
+    )
 }
 
-/// The couplings in a list, so that those from an index on can be looked at.
-fn listed(alloc: Global, couplings: &CouplerList) -> Result<Vec<Entry>, NoMemory>
-    ensures { IfOk result (λ list. list.items ≡ couplings.now) }
-{
-    let mut list = Vec::with_capacity(alloc, couplings.len())?;
-    for entry in couplings.iter() {
-        list.push(entry)?;
-    }
-    Ok(list)
-}
-
-/// The place of each listed coupling, or the first coupling without joined qubits.
-fn listed_places<H: Hardware>(
-    alloc: Global,
+/// Appends the place of each coupling of a row, or gives the first one without joined qubits.
+fn push_places<H: Hardware>(
+    places: &mut Vec<(u32, u32)>,
     hardware: &H,
-    couplings: &[Entry],
-    chains: &ChainList,
     sorted: &ChainList,
-) -> Result<PairList, CheckAnswer>
-    requires nodes { All (IsCoupler (length chains.now)) couplings.now }
-    requires few { length chains.now < 2 ^ 32 }
+    chains: &ChainList,
+    noting: bool,
+    noted: &Noted,
+    row: &Row<'_>,
+) -> Result<(), CheckAnswer>
+    requires nodes { All (IsCoupler (length chains.now)) row.now }
     requires within { (u : ℕ) → u < length chains.now → (j : ℕ) → j < length (chain_of chains.now u)
         → Exists (H.qubits hardware.now) chains.now u j }
-    requires once { (q : ℕ) → occurrences q chains.now ≤ 1 }
     requires len { length sorted.now ≡ length chains.now }
     requires sorted { (u : ℕ) → u < length chains.now
         → IsSortedChain (chain_of chains.now u) (chain_of sorted.now u) }
-    ensures places { IfOk result
-        (AllZip (IsPlaceOf (H.joined hardware.now) chains.now) couplings.now) }
+    requires all { length noted.now ≡ length chains.now }
+    requires noted { noting ≡ true →
+        All (λ c. AreNoted (H.joined hardware.now) chains.now c.first noted.now) row.now }
+    ensures places { OnOk result ((before : List Entry)
+        → AllZip (IsPlaceOf (H.joined hardware.now) chains.now) before places.old.items
+        → AllZip (IsPlaceOf (H.joined hardware.now) chains.now) (before ++ row.now)
+        places.new.items) }
     ensures fault { IfErr result (λ e. IfFault e (λ f. (u : ℕ) × (v : ℕ) × (k : ℕ)
-        × IsUncoupled (H.joined hardware.now) couplings.now chains.now u v k
+        × IsUncoupled (H.joined hardware.now) row.now chains.now u v k
         × (f ≡ EmbedFault.NoCoupler u v))) }
 {
-    let owners = owners_of(alloc, chains, hardware.qubits())?;
-    let mut noted = Noted::new(alloc, len(chains))?;
-    let mut noting = false;
-    let mut last = u32::MAX;
-    let mut places = Vec::with_capacity(alloc, couplings.len())?;
-    for k in 0..couplings.len() {
-        let coupling = couplings[k];
-        let (node, rest) = (coupling.first, &couplings[k..]);
-        noting = is_noted(
-            hardware, &owners, chains, rest, node, last, noting, &mut noted,
-        );
-        last = node;
-        match place_of(hardware, sorted, chains, noting, &noted, coupling) {
+    let first = row.first();
+    for k in 0..row.len() {
+        let second = row.second(k);
+        match place_of(hardware, sorted, chains, noting, noted, first, second) {
             Some(place) => {
                 places.push(place)?;
             }
             None => {
-                let (first, second) = (coupling.first as usize, coupling.second as usize);
-                return Err(CheckAnswer::Fault(EmbedFault::NoCoupler(first, second)));
+                let fault = EmbedFault::NoCoupler(first as usize, second as usize);
+                return Err(CheckAnswer::Fault(fault));
             }
         }
     }
-    Ok(Items::new(places))
+    Ok(())
 }
 
 /// The place of each coupling, or the first coupling without joined qubits.
@@ -202,6 +182,13 @@ pub(crate) fn all_places<H: Hardware>(
         × IsUncoupled (H.joined hardware.now) couplings.now chains.now u v k
         × (f ≡ EmbedFault.NoCoupler u v))) }
 {
-    let couplings = listed(alloc, couplings)?;
-    listed_places(alloc, hardware, &couplings, chains, sorted)
+    let owners = owners_of(alloc, chains, hardware.qubits())?;
+    let mut noted = Noted::new(alloc, len(chains))?;
+    let mut places = Vec::with_capacity(alloc, couplings.len())?;
+    for k in 0..couplings.row_count() {
+        let row = couplings.row(k);
+        let noting = note_row(hardware, &owners, chains, &row, &mut noted);
+        push_places(&mut places, hardware, sorted, chains, noting, &noted, &row)?;
+    }
+    Ok(Items::new(places))
 }

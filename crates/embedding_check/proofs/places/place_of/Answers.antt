@@ -8,8 +8,8 @@ use Rattle.embedding_check.proofs.places.place_of.Goals as goal
 pub place_between-requires-clause-from : goal.place_between-requires-clause-from
 place_between-requires-clause-from g c =
     let n = g.H.Hardware.qubits c.args.hardware.now in
-    let first = c.args.coupling.first in
-    let below : first < length c.args.chains.now = omega (arith, c.requires.coupler.upward, c.requires.coupler.within) in
+    let first = c.args.first in
+    let below : first < length c.args.chains.now = omega (arith, c.requires.upward, c.requires.node) in
     subst (λ (xs : List ℕ). All (λ q. q < n) xs) (sym c.chain.ensures)
     (sorted_within n (chain_of c.args.chains.now first) (chain_of c.args.sorted.now first)
     (c.requires.within first below) (c.requires.sorted first below))
@@ -17,8 +17,8 @@ place_between-requires-clause-from g c =
 pub place_between-requires-clause-to : goal.place_between-requires-clause-to
 place_between-requires-clause-to g c =
     let n = g.H.Hardware.qubits c.args.hardware.now in
-    let second = c.args.coupling.second in
-    let below = c.requires.coupler.within in
+    let second = c.args.second in
+    let below = c.requires.node in
     subst (λ (xs : List ℕ). All (λ q. q < n) xs) (sym c.chain-2.ensures)
     (sorted_within n (chain_of c.args.chains.now second) (chain_of c.args.sorted.now second)
     (c.requires.within second below) (c.requires.sorted second below))
@@ -28,13 +28,13 @@ returns g c =
     let joined = g.H.Hardware.joined c.args.hardware.now in
     let chains = c.args.chains.now in
     let sorted = c.args.sorted.now in
-    let first = c.args.coupling.first in
-    let second = c.args.coupling.second in
-    let below : first < length c.args.chains.now = omega (arith, c.requires.coupler.upward, c.requires.coupler.within) in
+    let first = c.args.first in
+    let second = c.args.second in
+    let below : first < length c.args.chains.now = omega (arith, c.requires.upward, c.requires.node) in
     let r = c.place_between.result in
     place_same joined (chain_of chains first) (chain_of chains second) (chain_of sorted first)
     (chain_of sorted second) r (c.requires.sorted first below)
-    (c.requires.sorted second c.requires.coupler.within)
+    (c.requires.sorted second c.requires.node)
     (subst (λ (xs : List ℕ). IsPlaceIn joined xs (chain_of sorted second) r) c.chain.ensures
     (subst (λ (ys : List ℕ). IsPlaceIn joined c.chain.result.now ys r) c.chain-2.ensures
     c.place_between.ensures))

@@ -1,0 +1,132 @@
+-- Rows of couplings, one after another: their places, and the first coupling without joined qubits.
+use Rattle.std.proofs.Common.{◌≡◌, ℕ, zero, suc, ◌+◌, ◌-◌, ◌<◌, Bool, true, false, cond, eqb, inl, inr, List, [], ◌∷◌, ◌++◌, length, get_or, take, drop, All, sym, ap, subst, append-nil, append_assoc, ◌∙◌, arith}
+use Rattle.std.specs.List.{AllZip, flat_map}
+use Rattle.std.proofs.lemmas.Bool.{cases_lt}
+use Rattle.std.proofs.lemmas.List.{length-append, get_or_append_left, get_or-append-add, take-append-drop, take_more, take_all, drop_more}
+use Rattle.std.proofs.lemmas.Grind.{flat_map-append}
+use Rattle.bits_model.specs.declared.output.Entry.{Entry}
+use Rattle.bits_model.specs.Entries.{in_rows, rows_of}
+use Rattle.bits_model.proofs.EntryRows.{joined_rows}
+use Rattle.chain_map.specs.Chains.{Joins}
+use Rattle.chain_map.specs.Valid.{IsCoupled}
+use Rattle.embedding_check.specs.Faults.{IsUncoupled}
+
+-- ---- no row is empty
+
+some_in_rows : (e : Entry) (rows : List (List Entry))
+    → ((i : ℕ) → i < length rows → 0 < length (get_or rows i []))
+    → (i : ℕ) → i < length (in_rows e rows) → 0 < length (get_or (in_rows e rows) i [])
+some_in_rows e [] all zero h = omega arith
+some_in_rows e [] all (suc i) h = absurd (omega (arith, h))
+some_in_rows e ([] ∷ rows) all zero h = omega arith
+some_in_rows e ([] ∷ rows) all (suc i) h = all (suc i) h
+some_in_rows e ((f ∷ row) ∷ rows) all i h = go (eqb e.first f.first) i h
+  where
+    go : (same : Bool) (i : ℕ)
+        → i < length (cond same ((e ∷ f ∷ row) ∷ rows) ((e ∷ []) ∷ (f ∷ row) ∷ rows))
+        → 0 < length (get_or (cond same ((e ∷ f ∷ row) ∷ rows) ((e ∷ []) ∷ (f ∷ row) ∷ rows)) i [])
+    go true zero h = omega arith
+    go true (suc i) h = all (suc i) h
+    go false zero h = omega arith
+    go false (suc i) h = all i (omega (arith, h))
+
+pub some_in_row : (es : List Entry) (i : ℕ) → i < length (rows_of es)
+    → 0 < length (get_or (rows_of es) i [])
+some_in_row [] i h = absurd (omega (arith, h))
+some_in_row (e ∷ es) i h = some_in_rows e (rows_of es) (some_in_row es) i h
+
+-- ---- a row stands between those before and after it
+
+abbrev pub rows_before : List Entry → ℕ → List Entry
+rows_before es k = flat_map (λ row. row) (take k (rows_of es))
+
+abbrev rows_after : List Entry → ℕ → List Entry
+rows_after es k = flat_map (λ row. row) (drop (k + 1) (rows_of es))
+
+abbrev row_at : List Entry → ℕ → List Entry
+row_at es k = get_or (rows_of es) k []
+
+pub rows_more : (es : List Entry) (k : ℕ) → k < length (rows_of es)
+    → rows_before es (k + 1) ≡ rows_before es k ++ get_or (rows_of es) k []
+rows_more es k h =
+    ap (flat_map (λ (row : List Entry). row)) (take_more (rows_of es) k [] h)
+    ∙ flat_map-append (λ (row : List Entry). row) (take k (rows_of es)) (row_at es k ∷ [])
+    ∙ ap (λ xs. rows_before es k ++ xs) (append-nil (row_at es k))
+
+pub rows_all : (es : List Entry) (k : ℕ) → length (rows_of es) ≡ k → rows_before es k ≡ es
+rows_all es k e =
+    ap (flat_map (λ (row : List Entry). row)) (take_all k (rows_of es) (omega (arith, e))) ∙ joined_rows es
+
+row_between : (es : List Entry) (k : ℕ) → k < length (rows_of es)
+    → es ≡ rows_before es k ++ (row_at es k ++ rows_after es k)
+row_between es k h =
+    sym (joined_rows es)
+    ∙ ap (flat_map (λ (row : List Entry). row)) (sym (take-append-drop k (rows_of es)))
+    ∙ flat_map-append (λ (row : List Entry). row) (take k (rows_of es)) (drop k (rows_of es))
+    ∙ ap (λ rows. rows_before es k ++ flat_map (λ (row : List Entry). row) rows) (drop_more (rows_of es) k [] h)
+
+at_between : (xs ys zs : List Entry) (i : ℕ) (d : Entry) → i < length ys
+    → get_or (xs ++ (ys ++ zs)) (length xs + i) d ≡ get_or ys i d
+at_between xs ys zs i d h = get_or-append-add xs (ys ++ zs) i d ∙ get_or_append_left ys zs d i h
+
+pub all_in_row : (P : Entry → Type 0) (es : List Entry) (k : ℕ) → k < length (rows_of es) → All P es
+    → All P (get_or (rows_of es) k [])
+all_in_row P es k h all = λ i d low.
+    let xs = rows_before es k in
+    let ys = row_at es k in
+    let zs = rows_after es k in
+    let whole : All P (xs ++ (ys ++ zs)) = subst (λ (ds : List Entry). All P ds) (row_between es k h) all in
+    subst P (at_between xs ys zs i d low)
+    (whole (length xs + i) d (omega (arith, low, length-append xs (ys ++ zs), length-append ys zs)))
+
+-- ---- places
+
+zip_push : {A B : Type 0} (R : A → B → Type 0) (xs : List A) (ys : List B) (x : A) (y : B) → AllZip R xs ys
+    → R x y → AllZip R (xs ++ x ∷ []) (ys ++ y ∷ [])
+zip_push R [] [] x y all r = (r, tt)
+zip_push R [] (z ∷ ys) x y all r = absurd all
+zip_push R (w ∷ xs) [] x y all r = absurd all
+zip_push R (w ∷ xs) (z ∷ ys) x y all r = (all.0, zip_push R xs ys x y all.1 r)
+
+-- one coupling of a row more, and its place
+pub placed_next : {A B : Type 0} (R : A → B → Type 0) (before row : List A) (k : ℕ) (d : A) (old new : List B) (y : B)
+    → k < length row → new ≡ old ++ y ∷ [] → R (get_or row k d) y → AllZip R (before ++ take k row) old
+    → AllZip R (before ++ take (k + 1) row) new
+placed_next {A = A} R before row k d old new y below is here all =
+    let more : before ++ take (k + 1) row ≡ (before ++ take k row) ++ get_or row k d ∷ [] =
+    ap (λ xs. before ++ xs) (take_more row k d below) ∙ sym (append_assoc before (take k row) (get_or row k d ∷ [])) in
+    subst (λ ys. AllZip R (before ++ take (k + 1) row) ys) (sym is)
+    (subst (λ (xs : List A). AllZip R xs (old ++ y ∷ [])) (sym more)
+    (zip_push R (before ++ take k row) old (get_or row k d) y all here))
+
+-- ---- faults
+
+uncoupled_between : (joined : Joins) (map : List (List ℕ)) (xs ys zs : List Entry) (u v k : ℕ)
+    → All (IsCoupled joined map) xs → IsUncoupled joined ys map u v k
+    → IsUncoupled joined (xs ++ (ys ++ zs)) map u v (length xs + k)
+uncoupled_between joined map xs ys zs u v k all first = record {
+  below = omega (arith, first.below, length-append xs (ys ++ zs), length-append ys zs);
+  bad = λ d coupled. first.bad d (subst (IsCoupled joined map) (at_between xs ys zs k d first.below) coupled);
+  before = λ i d low. elim (cases_lt i (length xs)) [
+    | inl inside ↦
+        subst (IsCoupled joined map) (sym (get_or_append_left xs (ys ++ zs) d i inside)) (all i d inside)
+    | inr past ↦
+        let j = i - length xs in
+        let is : length xs + j ≡ i = omega (arith, past) in
+        let less : j < k = omega (arith, past, low) in
+        subst (λ n. IsCoupled joined map (get_or (xs ++ (ys ++ zs)) n d)) is
+        (subst (IsCoupled joined map) (sym (at_between xs ys zs j d (omega (arith, less, first.below))))
+        (first.before j d less))
+  ];
+  first = λ d. ap (λ (e : Entry). e.first) (at_between xs ys zs k d first.below) ∙ first.first d;
+  second = λ d. ap (λ (e : Entry). e.second) (at_between xs ys zs k d first.below) ∙ first.second d;
+}
+
+-- the first coupling of a row without joined qubits is that of all, where those before have some
+pub uncoupled_in_row : (joined : Joins) (map : List (List ℕ)) (es : List Entry) (r u v k : ℕ)
+    → r < length (rows_of es) → All (IsCoupled joined map) (rows_before es r)
+    → IsUncoupled joined (get_or (rows_of es) r []) map u v k
+    → IsUncoupled joined es map u v (length (rows_before es r) + k)
+uncoupled_in_row joined map es r u v k h all first =
+    subst (λ ds. IsUncoupled joined ds map u v (length (rows_before es r) + k)) (sym (row_between es r h))
+    (uncoupled_between joined map (rows_before es r) (row_at es r) (rows_after es r) u v k all first)

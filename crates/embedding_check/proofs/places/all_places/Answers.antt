@@ -1,0 +1,63 @@
+use Rattle.std.proofs.Common.{◌≡◌, ◌<◌, ◌+◌, ℕ, List, length, All, sym, subst, arith}
+use Rattle.std.specs.List.{AllZip}
+use Rattle.std.proofs.lemmas.Result.{err_from_is_err_and}
+use Rattle.bits_model.specs.declared.output.Entry.{Entry}
+use Rattle.bits_model.specs.Entries.{rows_of}
+use Rattle.quad_form.specs.Quads.{IsCoupler}
+use Rattle.chain_map.specs.Valid.{IsCoupled}
+use Rattle.chain_map.specs.declared.faults.EmbedFault.TheVariants.{NoCoupler}
+use Rattle.embedding_check.specs.Checked.{IsPlaceOf}
+use Rattle.embedding_check.specs.Faults.{IsUncoupled}
+use Rattle.embedding_check.proofs.Faulty.{if_fault, zip_all}
+use Rattle.embedding_check.proofs.PlacedRows.{rows_before, rows_all, all_in_row, some_in_row, uncoupled_in_row}
+use Rattle.embedding_check.proofs.places.all_places.Goals as goal
+
+pub note_row-noting-requires-clause-nodes : goal.note_row-noting-requires-clause-nodes
+note_row-noting-requires-clause-nodes g c =
+    let P = IsCoupler (length c.args.chains.now) in
+    subst (λ (es : List Entry). All P es) (sym c.row-row.ensures)
+    (all_in_row P c.args.couplings.now c.loop-k.k (omega (arith, c.loop-k-test.true, c.row_count-k-end.ensures)) c.requires.nodes)
+
+pub note_row-noting-requires-clause-some : goal.note_row-noting-requires-clause-some
+note_row-noting-requires-clause-some g c =
+    subst (λ (es : List Entry). 0 < length es) (sym c.row-row.ensures)
+    (some_in_row c.args.couplings.now c.loop-k.k (omega (arith, c.loop-k-test.true, c.row_count-k-end.ensures)))
+
+pub push_places-requires-clause-nodes : goal.push_places-requires-clause-nodes
+push_places-requires-clause-nodes g c =
+    let P = IsCoupler (length c.args.chains.now) in
+    subst (λ (es : List Entry). All P es) (sym c.row-row.ensures)
+    (all_in_row P c.args.couplings.now c.loop-k.k (omega (arith, c.loop-k-test.true, c.row_count-k-end.ensures)) c.requires.nodes)
+
+pub returns-in_err-push_places-clause-fault : goal.returns-in_err-push_places-clause-fault
+returns-in_err-push_places-clause-fault g c =
+    let joined = g.H.Hardware.joined c.args.hardware.now in
+    let chains = c.args.chains.now in
+    let couplings = c.args.couplings.now in
+    let k = c.loop-k.k in
+    let below : k < length (rows_of couplings) = omega (arith, c.loop-k-test.true, c.row_count-k-end.ensures) in
+    let coupled : All (IsCoupled joined chains) (rows_before couplings k) =
+    zip_all (IsPlaceOf joined chains) (IsCoupled joined chains) (rows_before couplings k) c.loop-k.places.items
+    (λ e place p. (place, p.crossing)) c.loop-k.invariant.placed in
+    let p = err_from_is_err_and c.from_residual-in_err-push_places.result c.from_residual-in_err-push_places.ensures.1 in
+    rw (p.1, p.2)
+    (if_fault c.in_err-push_places.field-0.0 _
+    (λ f. (u : ℕ) × (v : ℕ) × (n : ℕ) × IsUncoupled joined couplings chains u v n × (f ≡ NoCoupler u v))
+    (λ f h. (
+      h.0,
+      h.1,
+      length (rows_before couplings k) + h.2,
+      uncoupled_in_row joined chains couplings k h.0 h.1 h.2 below coupled
+          (subst (λ (es : List Entry). IsUncoupled joined es chains h.0 h.1 h.2) c.row-row.ensures h.3),
+      h.4,
+    ))
+    c.in_err-push_places.ensures.fault)
+
+pub returns-clause-places : goal.returns-clause-places
+returns-clause-places g c =
+    let R = IsPlaceOf (g.H.Hardware.joined c.args.hardware.now) c.args.chains.now in
+    let couplings = c.args.couplings.now in
+    subst (λ (ys : List (ℕ × ℕ)). AllZip R couplings ys) (sym c.new-2.ensures)
+    (subst (λ (xs : List Entry). AllZip R xs c.loop-k.places.items)
+    (rows_all couplings c.loop-k.k (omega (arith, c.loop-k-test.false, c.row_count-k-end.ensures, c.loop-k.auto.k-end)))
+    c.loop-k.invariant.placed)

@@ -1,0 +1,12 @@
+use Rattle.std.proofs.Common.{◌≡◌, length}
+use Rattle.std.specs.List.{AllZip}
+use Rattle.embedding_check.specs.Checked.{IsPlaceOf}
+use Rattle.embedding_check.proofs.PlacedRows.{rows_before}
+use Rattle.embedding_check.proofs.places.all_places.Given as goal
+
+-- the couplings of the rows so far have their places
+abbrev pub invariant-loop-k : goal.invariant-loop-k
+invariant-loop-k g l = record {
+  table : length l.noted ≡ length l.chains;
+  placed : AllZip (IsPlaceOf (g.H.Hardware.joined l.hardware) l.chains) (rows_before l.couplings l.k) l.places.items;
+}

@@ -1,0 +1,32 @@
+use Rattle.std.proofs.Common.{◌<◌, List, ℕ, pos, length, get_or, sym, subst, arith}
+use Rattle.bits_model.specs.declared.output.Entry.{Entry}
+use Rattle.quad_form.specs.Quads.{IsCoupler}
+use Rattle.chain_map.specs.Chains.{chain_of}
+use Rattle.embedding_check.specs.Search.{qubit_at}
+use Rattle.embedding_check.specs.Least.{IsLeastPair}
+use Rattle.embedding_check.specs.Noted.{AreNoted, noted_at, IsChainJoin}
+use Rattle.embedding_check.proofs.Noting.{noted_place}
+use Rattle.embedding_check.proofs.places.note_row.Goals as goal
+
+pub chain-own-requires : goal.chain-own-requires
+chain-own-requires g c =
+    let zero : Entry = record { first = 0; second = 0; weight = pos 0 } in
+    let coupler : IsCoupler (length c.args.chains.now) (get_or c.args.row.now 0 zero) = c.requires.nodes 0 zero c.requires.some in
+    omega (arith, coupler.upward, coupler.within, c.first-node.ensures 0 zero c.requires.some)
+
+pub returns-clause-noted : goal.returns-clause-noted
+returns-clause-noted g c = λ yes k d low.
+    let graph = c.args.hardware.now in
+    let joined = g.H.Hardware.joined graph in
+    let chains = c.args.chains.now in
+    let owners = c.args.owners.now in
+    let node = c.first-node.result in
+    let noted = c.note_chain.new.self in
+    let here : AreNoted joined chains node noted = λ v later below.
+    noted_place joined chains owners node v (noted_at noted v) (g.met.H.Hardware.symmetric graph)
+    (g.met.H.Hardware.irreflexive graph) c.requires.owners later below
+    (λ j h. subst (λ n. qubit_at (chain_of chains v) j < n) (sym c.requires.all)
+    (c.requires.within v below j h))
+    (subst (λ (xs : List ℕ). IsLeastPair (IsChainJoin joined owners node xs (length xs) v) (noted_at noted v))
+    c.chain-own.ensures (c.note_chain.ensures.noted v (omega (arith, below, c.requires.len)))) in
+    subst (λ n. AreNoted joined chains n noted) (sym (c.first-node.ensures k d low)) here
