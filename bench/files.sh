@@ -21,7 +21,9 @@ format_of() {
 # The sizes of a kind, in steps.
 sizes() {
     case $1 in
-        unit | pair | three | hub | covers | equations) echo 16777 167772 1677721 16777216 ;;
+        unit | pair | three | hub) echo 16777 167772 1677721 16777216 ;;
+        covers) echo 15900 159000 1590000 15900000 ;;
+        equations) echo 15000 150000 1500000 15000000 ;;
         forty) echo 104 1048 10485 ;;
         wide) echo 1 4 16 ;;
         mixed) echo 400 4000 40000 ;;

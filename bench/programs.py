@@ -4,8 +4,8 @@
     programs.py KIND SIZE [--seed N]
 
     KIND        constraints                                   SIZE
-    covers      at least one of three variables               bytes, which are never passed
-    equations   four of eight variables                       bytes
+    covers      at least one of three variables               bytes; at most 15,900,000 are written
+    equations   four of eight variables                       bytes; at most 15,000,000 are written
     sacks       knapsacks of 14 items, at most half of them   bytes; at most 5,000,000 are written
     sack        one knapsack                                  items, of which at most 4,080 are taken
 
@@ -16,9 +16,7 @@ import argparse
 import random
 import sys
 
-MOST_BYTES = 1 << 24
-MOST_OF_SACKS = 5_000_000    # more would pass the limit on pairs
-MOST_ITEMS = 4080            # with its slack bits the square of a knapsack has 2^24 pairs at most
+MOST_ITEMS = 4080    # with its slack bits the square of a knapsack has 2^24 pairs at most
 
 
 def terms(weights, variables):
@@ -49,16 +47,19 @@ def knapsack_of_14(source, variables):
     return knapsack(source, source.sample(range(variables), 14))
 
 
+# Of each kind: a constraint, the most variables, the sign of the objective's weights, and the most
+# bytes, since more would pass the limit on pairs.
 LINES = {
-    'covers': (cover, 60_000, 1),
-    'equations': (equation, 60_000, 1),
-    'sacks': (knapsack_of_14, 20_000, -1),
+    'covers': (cover, 60_000, 1, 15_900_000),
+    'equations': (equation, 60_000, 1, 15_000_000),
+    'sacks': (knapsack_of_14, 20_000, -1, 5_000_000),
 }
 
 
-def write_lines(source, kind, most_bytes):
+def write_lines(source, kind, wanted):
     """Constraints of a kind, up to the first that would pass the bound."""
-    make, most_variables, sign = LINES[kind]
+    make, most_variables, sign, most = LINES[kind]
+    most_bytes = min(wanted, most)
     variables = max(16, min(most_variables, most_bytes // 100))
     head = objective(source, variables, sign)
     size = len(head)
@@ -87,8 +88,7 @@ def main():
         sys.stdout.write(objective(source, items, -1))
         sys.stdout.write(knapsack(source, range(items)))
         return
-    most = MOST_OF_SACKS if given.kind == 'sacks' else MOST_BYTES
-    write_lines(source, given.kind, min(given.size, most))
+    write_lines(source, given.kind, given.size)
 
 
 if __name__ == '__main__':

@@ -56,7 +56,7 @@ fn a_hard_and_a_soft_clause(rt: HostRuntime) -> Result<(), Fail> {
     let problem = problem_of(rt.alloc(), 2, &TWO_CLAUSES)?;
     assert!(rt; is_admitted(&problem));
     let guarded = Penalty.guard(rt.alloc(), &problem)?;
-    assert!(rt; guarded.figures == FIGURES);
+    assert!(rt; guarded.figures == FIGURES && guarded.link.target_width == 2);
 
     // What is infinite lies above the threshold, and all else costs the same.
     let (free, three) = (Cost::Whole(0), Cost::Whole(3));
