@@ -1,7 +1,7 @@
 //! Couplers, row by row: a row has its first node once, and its entries a second node and a weight.
 //!
-//! An entry takes 12 bytes, or 20 where some weight needs more than 64 bits, and each row 16 bytes
-//! more.
+//! An entry takes 12 bytes, or 20 where some weight needs more than 64 bits. A row takes 16 bytes
+//! beside its entries.
 ghost use Rattle.std.specs.Prelude.{◌≡◌, ◌++◌, ◌∷◌, [], ◌<◌, ◌≤ℤ◌, IfOk, OnOk, OnErr, length, map, pos, drop, ◌+◌};
 ghost use Rattle.std.specs.List.{slice_index_or};
 ghost use Rattle.bits_model.specs.Entries.{rows_of, divided, end_before, last_is};
