@@ -1,21 +1,14 @@
 -- Entries that are counted, and rows that are written, one after another.
-use Rattle.std.proofs.Common.{◌≡◌, ℕ, ◌+◌, ◌≤◌, Bool, true, false, cond, ℤ, pos, ◌+ℤ◌, ◌≤ℤ◌, unsigned_abs, ◌<◌, ◌^◌, length-append, List, [], ◌∷◌, ◌++◌, length, map, count_by, sym, ap, ◌∙◌, append_assoc, append-nil, arith}
-use Rattle.std.proofs.lemmas.Int.{ints}
-use Rattle.std.proofs.lemmas.List.Sums.{sum_by-cons}
+use Rattle.std.proofs.Common.{◌≡◌, ℕ, ◌+◌, ◌≤◌, Bool, true, false, cond, pos, ◌<◌, List, [], ◌∷◌, ◌++◌, length, map, count_by, take, All, get_or, sym, ap, ◌∙◌, append_assoc, append-nil, arith}
+use Rattle.std.proofs.lemmas.List.Sums.{sum_by-cons, count_by_more_yes, count_by_more_no}
 use Rattle.bits_model.specs.declared.output.Entry.{Entry}
 use Rattle.model_text.specs.Rows.{row_text, rows_text, entry_row}
 
-one_more : (b : Bool) (n : ℕ) → pos (cond b 1 0 + n) ≡ cond b (pos 1) (pos 0) +ℤ pos n
-one_more true n = omega (arith, ints)
-one_more false n = omega (arith, ints)
-
 -- the count of what is left, of which one is taken
 pub count_left : (p : Entry → Bool) (es rest : List Entry) (e : Entry) → es ≡ e ∷ rest
-    → pos (count_by p es) ≡ cond (p e) (pos 1) (pos 0) +ℤ pos (count_by p rest)
+    → count_by p es ≡ cond (p e) 1 0 + count_by p rest
 count_left p es rest e left =
-    ap (λ ds. pos (count_by p ds)) left
-    ∙ ap pos (sum_by-cons (λ (x : Entry). cond (p x) 1 0) e rest)
-    ∙ one_more (p e) (count_by p rest)
+    ap (λ ds. count_by p ds) left ∙ sum_by-cons (λ (x : Entry). cond (p x) 1 0) e rest
 
 at_most_one : (b : Bool) → cond b 1 0 ≤ 1
 at_most_one true = omega arith
@@ -26,38 +19,41 @@ count_low p [] = omega arith
 count_low p (e ∷ es) =
     omega (arith, sum_by-cons (λ (x : Entry). cond (p x) 1 0) e es, count_low p es, at_most_one (p e))
 
--- what a count is after one entry more
-pub record IsCounted (p : Entry → Bool) (es rest : List Entry) (count added : ℤ) : Type 0 where
-  pub small : unsigned_abs added ≤ 1
-  pub fits : unsigned_abs (count +ℤ added) < 2 ^ 65
-  pub whole : (count +ℤ added) +ℤ pos (count_by p rest) ≡ pos (count_by p es)
-  pub positive : pos 0 ≤ℤ (count +ℤ added)
+-- ---- a row, entry by entry
 
-small_bit : (b : Bool) → unsigned_abs (cond b (pos 1) (pos 0)) ≤ 1
-small_bit true = omega arith
-small_bit false = omega arith
+-- a test of the two nodes of an entry
+abbrev TestsNodes : (Entry → Bool) → (ℕ → ℕ → Bool) → Type 0
+TestsNodes p q = (e : Entry) → p e ≡ q e.first e.second
 
-low_bit : (b : Bool) → pos 0 ≤ℤ cond b (pos 1) (pos 0)
-low_bit true = omega (arith, ints)
-low_bit false = omega (arith, ints)
+tested : (p : Entry → Bool) (q : ℕ → ℕ → Bool) (row : List Entry) (i f s : ℕ) (b : Bool) (d : Entry) → TestsNodes p q
+    → i < length row → All (λ e. e.first ≡ f) row → ((d : Entry) → (get_or row i d).second ≡ s) → q f s ≡ b
+    → p (get_or row i d) ≡ b
+tested p q row i f s b d tests below firsts second test =
+    tests (get_or row i d) ∙ (λ k. q (firsts i d below k) (second d k)) ∙ test
 
-pub counted_more : (p : Entry → Bool) (es left rest nodes couplers : List Entry) (e : Entry) (n m : ℕ)
-    (count added : ℤ) → nodes ++ couplers ≡ es → n ≡ length nodes → m ≡ length couplers
-    → n < 2 ^ 64 → m < 2 ^ 64 → left ≡ e ∷ rest
-    → count +ℤ pos (count_by p left) ≡ pos (count_by p es) → pos 0 ≤ℤ count
-    → added ≡ cond (p e) (pos 1) (pos 0) → IsCounted p es rest count added
-counted_more p es left rest nodes couplers e n m count added both of_nodes of_couplers nl ml is whole low adds =
-    let one = count_left p left rest e is in
-    let size = ap length (sym both) ∙ length-append nodes couplers in
-    let most = count_low p es in
-    let small = small_bit (p e) in
-    let positive = low_bit (p e) in
-    record {
-      small = omega (arith, ap unsigned_abs adds, small);
-      fits = omega (arith, ints, one, size, most, adds, positive, whole, low);
-      whole = omega (arith, ints, one, adds, whole);
-      positive = omega (arith, ints, adds, positive, low);
-    }
+-- the count of a row's entries so far, after one that counts, and after one that doesn't
+pub counts_yes : (p : Entry → Bool) (q : ℕ → ℕ → Bool) (row : List Entry) (i f s count more : ℕ) → TestsNodes p q
+    → i < length row → All (λ e. e.first ≡ f) row → ((d : Entry) → (get_or row i d).second ≡ s) → q f s ≡ true
+    → more ≡ count + 1 → count ≡ count_by p (take i row) → more ≡ count_by p (take (i + 1) row)
+counts_yes p q row i f s count more tests below firsts second test adds so_far =
+    let d : Entry = record { first = f; second = s; weight = pos 0 } in
+    adds ∙ ap (λ n. n + 1) so_far
+    ∙ sym (count_by_more_yes p row i d below (tested p q row i f s true d tests below firsts second test))
+
+pub counts_no : (p : Entry → Bool) (q : ℕ → ℕ → Bool) (row : List Entry) (i f s count more : ℕ) → TestsNodes p q
+    → i < length row → All (λ e. e.first ≡ f) row → ((d : Entry) → (get_or row i d).second ≡ s) → q f s ≡ false
+    → more ≡ count → count ≡ count_by p (take i row) → more ≡ count_by p (take (i + 1) row)
+counts_no p q row i f s count more tests below firsts second test same so_far =
+    let d : Entry = record { first = f; second = s; weight = pos 0 } in
+    same ∙ so_far
+    ∙ sym (count_by_more_no p row i d below (tested p q row i f s false d tests below firsts second test))
+
+-- ---- entries one after another
+
+pub counted_more : (p : Entry → Bool) (left rest : List Entry) (e : Entry) (count added whole : ℕ) → left ≡ e ∷ rest
+    → count + count_by p left ≡ whole → added ≡ cond (p e) 1 0 → count + added + count_by p rest ≡ whole
+counted_more p left rest e count added whole is so_far adds =
+    omega (arith, count_left p left rest e is, so_far, adds)
 
 -- the rows of what is left, of which one is written
 pub row_left : (out more old : List ℕ) (es left rest : List Entry) (e : Entry) → left ≡ e ∷ rest

@@ -4,5 +4,6 @@ pub mod ModelRows
 pub mod QubitNumbers
 pub mod WholeTexts
 pub mod EntryCounts
+pub mod EntryLists
 pub mod Puts
 pub mod RowPieces

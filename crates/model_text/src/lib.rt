@@ -6,6 +6,7 @@
 //! appended to a vector.
 #![tactic(auto)]
 
+mod counts;
 mod laws;
 mod lines;
 mod rows;

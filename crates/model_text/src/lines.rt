@@ -1,14 +1,16 @@
 //! The rows of a text, each put to a sink through a buffer by a function of its own. None takes
 //! memory, and after a fault nothing is pending.
-ghost use Rattle.std.specs.Prelude.{◌≡◌, ◌+◌, ◌<◌, ◌≤◌, ◌++◌, [], ◌∷◌, OnOk, OnErr, map, drop};
+ghost use Rattle.std.specs.Prelude.{◌≡◌, ◌+◌, ◌<◌, ◌≤◌, ◌++◌, [], ◌∷◌, OnOk, OnErr, length, map, drop};
+ghost use Rattle.std.specs.List.{slice_index_or};
 ghost use Rattle.std.specs.Fmt.{decimal, signed_decimal};
 ghost use Rattle.edge_io.specs.Counts.{HasCause};
 ghost use Rattle.edge_io.specs.Sinks.{AppendsFront, Passes, joined_bytes};
 ghost use Rattle.model_text.specs.Rows.{row_text, rows_text, figure_rows, chimera_row, chain_row, chain_rows, graph_rows, header_row, entry_row};
 ghost use Rattle.model_text.specs.Lines.{spaced_numbers};
 
-use crate::rows::{count_couplers, count_nodes, words_of};
-use bits_model::{Entry, EntryList, Figures, Items, Kind};
+use crate::counts::counts_of;
+use crate::rows::words_of;
+use bits_model::{CouplerList, Entry, EntryList, Figures, Items, Kind, NodeWeights, Row};
 use edge_io::{LineBuffer, Sink, WriteFault};
 use itoa::{Buffer, write_digits};
 
@@ -217,12 +219,13 @@ pub fn put_header<S: Sink>(
     ensures lost { OnErr result (buffer.new ≡ []) }
     ensures cause { HasCause (S.faults sink.old) (S.faults sink.new) result }
 {
+    let counts = counts_of(entries);
     let mut first = Buffer::new();
     let mut second = Buffer::new();
     let mut third = Buffer::new();
     let first = first.format(nodes).as_bytes();
-    let second = second.format(count_nodes(entries)).as_bytes();
-    let third = third.format(count_couplers(entries)).as_bytes();
+    let second = second.format(counts.nodes).as_bytes();
+    let third = third.format(counts.couplers).as_bytes();
     put_pieces(
         buffer,
         sink,
@@ -336,6 +339,87 @@ fn put_entry<S: Sink>(
     }
 }
 
+/// Each weight of a node, in order.
+fn put_nodes<S: Sink>(
+    line: &mut [u8; LINE],
+    buffer: &mut LineBuffer,
+    sink: &mut S,
+    weights: &NodeWeights,
+) -> Result<(), WriteFault>
+    ensures passed { let rows = map entry_row weights.now in
+        OnOk result (Passes (S.bytes sink.old) (S.bytes sink.new)
+        buffer.old buffer.new (rows_text rows)) }
+    ensures front { let rows = map entry_row weights.now in
+        OnErr result (AppendsFront (S.bytes sink.old) (S.bytes sink.new)
+        (buffer.old ++ rows_text rows)) }
+    ensures lost { OnErr result (buffer.new ≡ []) }
+    ensures cause { HasCause (S.faults sink.old) (S.faults sink.new) result }
+{
+    for entry in weights.iter() {
+        put_entry(line, buffer, sink, &entry)?;
+    }
+    Ok(())
+}
+
+/// The entry of a row at an index.
+#[inline(always)]
+fn entry_at(row: &Row<'_>, index: usize) -> Entry
+    requires { index < length row.now }
+    ensures { slice_index_or row.now index result ≡ result }
+{
+    Entry {
+        first: row.first(),
+        second: row.second(index),
+        weight: row.weight(index),
+    }
+}
+
+/// Each weight of a row of couplers, in order.
+fn put_row<S: Sink>(
+    line: &mut [u8; LINE],
+    buffer: &mut LineBuffer,
+    sink: &mut S,
+    row: &Row<'_>,
+) -> Result<(), WriteFault>
+    ensures passed { let rows = map entry_row row.now in
+        OnOk result (Passes (S.bytes sink.old) (S.bytes sink.new)
+        buffer.old buffer.new (rows_text rows)) }
+    ensures front { let rows = map entry_row row.now in
+        OnErr result (AppendsFront (S.bytes sink.old) (S.bytes sink.new)
+        (buffer.old ++ rows_text rows)) }
+    ensures lost { OnErr result (buffer.new ≡ []) }
+    ensures cause { HasCause (S.faults sink.old) (S.faults sink.new) result }
+{
+    for index in 0..row.len() {
+        let entry = entry_at(row, index);
+        put_entry(line, buffer, sink, &entry)?;
+    }
+    Ok(())
+}
+
+/// Each weight of a coupler, in order.
+fn put_couplers<S: Sink>(
+    line: &mut [u8; LINE],
+    buffer: &mut LineBuffer,
+    sink: &mut S,
+    couplers: &CouplerList,
+) -> Result<(), WriteFault>
+    ensures passed { let rows = map entry_row couplers.now in
+        OnOk result (Passes (S.bytes sink.old) (S.bytes sink.new)
+        buffer.old buffer.new (rows_text rows)) }
+    ensures front { let rows = map entry_row couplers.now in
+        OnErr result (AppendsFront (S.bytes sink.old) (S.bytes sink.new)
+        (buffer.old ++ rows_text rows)) }
+    ensures lost { OnErr result (buffer.new ≡ []) }
+    ensures cause { HasCause (S.faults sink.old) (S.faults sink.new) result }
+{
+    for index in 0..couplers.row_count() {
+        let row = couplers.row(index);
+        put_row(line, buffer, sink, &row)?;
+    }
+    Ok(())
+}
+
 /// Each weight, in order.
 pub fn put_entries<S: Sink>(
     buffer: &mut LineBuffer,
@@ -352,8 +436,6 @@ pub fn put_entries<S: Sink>(
     ensures cause { HasCause (S.faults sink.old) (S.faults sink.new) result }
 {
     let mut line = [0u8; LINE];
-    for entry in entries.iter() {
-        put_entry(&mut line, buffer, sink, &entry)?;
-    }
-    Ok(())
+    put_nodes(&mut line, buffer, sink, &entries.nodes)?;
+    put_couplers(&mut line, buffer, sink, &entries.couplers)
 }

@@ -1,9 +1,9 @@
 //! The rows of a text, each appended by a function of its own.
-ghost use Rattle.std.specs.Prelude.{◌≡◌, ◌++◌, ◌∷◌, OnOk, map, count_by, cond, pos};
+ghost use Rattle.std.specs.Prelude.{◌≡◌, ◌++◌, ◌∷◌, OnOk, map};
 ghost use Rattle.std.specs.List.{join_with_byte};
-ghost use Rattle.bits_model.specs.Output.{is_node, is_coupler};
 ghost use Rattle.model_text.specs.Rows.{row_text, rows_text, figure_row, figure_rows, chimera_row, chain_row, chain_rows, graph_rows, kind_words, header_row, entry_row, FitsFigures, FitsGraph};
 
+use crate::counts::counts_of;
 use bits_model::{Entry, EntryList, Figures, Items, Kind, NoMemory};
 use whole_text::push_number;
 
@@ -90,49 +90,6 @@ pub fn push_graph(out: &mut Vec<u8>, kind: Kind, chains: &[Items<u32>]) -> Resul
     Ok(())
 }
 
-/// 1 where a fact holds, and else 0.
-fn one_if(holds: bool) -> i128
-    ensures { result ≡ cond holds (pos 1) (pos 0) }
-{
-    if holds { 1 } else { 0 }
-}
-
-fn is_node(entry: &Entry) -> bool
-    ensures { result ≡ is_node entry.now }
-{
-    entry.first == entry.second
-}
-
-fn is_coupler(entry: &Entry) -> bool
-    ensures { result ≡ is_coupler entry.now }
-{
-    entry.first < entry.second
-}
-
-/// How many entries are those of nodes. The two lengths say that the number fits.
-pub fn count_nodes(entries: &EntryList) -> i128
-    ensures { result ≡ pos (count_by is_node entries.now) }
-{
-    let (_nodes, _couplers) = (entries.nodes.len(), entries.couplers.len());
-    let mut count: i128 = 0;
-    for entry in entries.iter() {
-        count += one_if(is_node(&entry));
-    }
-    count
-}
-
-/// How many entries are those of couplers. The two lengths say that the number fits.
-pub fn count_couplers(entries: &EntryList) -> i128
-    ensures { result ≡ pos (count_by is_coupler entries.now) }
-{
-    let (_nodes, _couplers) = (entries.nodes.len(), entries.couplers.len());
-    let mut count: i128 = 0;
-    for entry in entries.iter() {
-        count += one_if(is_coupler(&entry));
-    }
-    count
-}
-
 /// The words that name the kind.
 pub fn words_of(kind: Kind) -> &'static [u8]
     ensures { result.now ≡ join_with_byte 32 (kind_words kind) }
@@ -153,13 +110,14 @@ pub fn push_header(
     ensures { let row = header_row kind nodes entries.now in
         OnOk result (out.new.items ≡ out.old.items ++ row_text row) }
 {
+    let counts = counts_of(entries);
     out.extend_from_slice(words_of(kind))?;
     out.push(b' ')?;
     push_number(out, i128::from(nodes))?;
     out.push(b' ')?;
-    push_number(out, count_nodes(entries))?;
+    push_number(out, counts.nodes)?;
     out.push(b' ')?;
-    push_number(out, count_couplers(entries))?;
+    push_number(out, counts.couplers)?;
     out.push(b'\n')?;
     Ok(())
 }

@@ -1,19 +1,27 @@
-use Rattle.std.proofs.Common.{List, ap, map, rules}
-use Rattle.bits_model.specs.declared.output.Entry.{Entry}
-use Rattle.model_text.specs.Rows.{rows_text, entry_row}
-use Rattle.model_text.proofs.Puts.{put_more, put_fault, at_error}
+use Rattle.std.proofs.Common.{[], refl, sym, append-nil}
+use Rattle.model_text.proofs.EntryLists.{both_texts}
+use Rattle.model_text.proofs.Puts.{put_none, put_more, put_fault, put_all, at_error, then_ok, then_error}
 use Rattle.model_text.proofs.lines.put_entries.Goals as goal
 
-pub loop-entry-preserved : goal.loop-entry-preserved
-loop-entry-preserved g c =
-    let cut = ap (λ (es : List Entry). rows_text (map entry_row es)) c.in-Some.ensures.steps in
-    record {
-      put = put_more _ _ _ c.args.buffer.now c.loop-entry.buffer c.put_entry.new.buffer _ _ _ _ cut c.loop-entry.invariant.put c.in_ok-put_entry.ensures.passed;
-      later = search rules;
-    }
-
-pub returns-in_err-put_entry-clause-front : goal.returns-in_err-put_entry-clause-front
-returns-in_err-put_entry-clause-front g c =
-    let cut = ap (λ (es : List Entry). rows_text (map entry_row es)) c.in-Some.ensures.steps in
+pub returns-in_err-put_nodes-clause-front : goal.returns-in_err-put_nodes-clause-front
+returns-in_err-put_nodes-clause-front g c =
+    let cut = both_texts c.entries.inside.nodes c.entries.inside.couplers c.args.entries.now c.entries.view_is in
     at_error c.from_residual.result
-    (put_fault _ _ _ c.args.buffer.now c.loop-entry.buffer _ _ _ _ cut c.loop-entry.invariant.put c.in_err-put_entry.ensures.front)
+    (put_fault _ _ _ c.args.buffer.now c.args.buffer.now _ _ _ _ cut (put_none _ c.args.buffer.now _) c.in_err-put_nodes.ensures.front)
+
+pub returns-clause-passed : goal.returns-clause-passed
+returns-clause-passed g c =
+    let cut = both_texts c.entries.inside.nodes c.entries.inside.couplers c.args.entries.now c.entries.view_is in
+    let nodes = put_more _ _ _ c.args.buffer.now c.args.buffer.now c.put_nodes.new.buffer _ _ _ _ cut (put_none _ c.args.buffer.now _) c.in_ok-put_nodes.ensures.passed in
+    then_ok c.put_couplers.result
+    (λ coupled. put_all _ _ c.args.buffer.now c.put_couplers.new.buffer _ [] refl
+    (put_more _ _ _ c.args.buffer.now c.put_nodes.new.buffer c.put_couplers.new.buffer _ _ _ [] (sym (append-nil _)) nodes coupled))
+    c.put_couplers.ensures.passed
+
+pub returns-clause-front : goal.returns-clause-front
+returns-clause-front g c =
+    let cut = both_texts c.entries.inside.nodes c.entries.inside.couplers c.args.entries.now c.entries.view_is in
+    let nodes = put_more _ _ _ c.args.buffer.now c.args.buffer.now c.put_nodes.new.buffer _ _ _ _ cut (put_none _ c.args.buffer.now _) c.in_ok-put_nodes.ensures.passed in
+    then_error c.put_couplers.result
+    (λ fault. put_fault _ _ _ c.args.buffer.now c.put_nodes.new.buffer _ _ _ [] (sym (append-nil _)) nodes fault)
+    c.put_couplers.ensures.front
