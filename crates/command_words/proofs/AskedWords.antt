@@ -7,6 +7,8 @@ use Rattle.std.proofs.lemmas.Option.{slice_get_within, get_or_from_slice_get}
 use Rattle.std.proofs.lemmas.Slice.Eq.{bytes_eq-Decides}
 use Rattle.bits_model.specs.declared.output.UnitChoice.{UnitChoice}
 use Rattle.bits_model.specs.declared.output.UnitChoice.TheVariants.{One, Reduce}
+use Rattle.problem_form.specs.declared.limits.Normal.{Normal}
+use Rattle.problem_form.specs.declared.limits.Normal.TheVariants.{Literal, Multilinear}
 use Rattle.command_words.specs.declared.commands.Format.{Format}
 use Rattle.command_words.specs.declared.commands.Format.TheVariants as formats
 use Rattle.command_words.specs.declared.commands.Target.{Target}
@@ -20,7 +22,7 @@ use Rattle.command_words.specs.declared.names.Which.TheVariants.{Source}
 use Rattle.command_words.specs.declared.keys.Keys.{Keys}
 use Rattle.command_words.specs.declared.words.Verb.{Verb}
 use Rattle.command_words.specs.declared.words.Verb.TheVariants as verbs
-use Rattle.command_words.specs.Asked.{EachJobIsAskedFor, EachUnitIsAskedFor, NoUnitIsAskedForTwice, NoOtherWordsAsk, format_word, fourth_word_job, target_word, unit_key, job_words, words_of}
+use Rattle.command_words.specs.Asked.{EachJobIsAskedFor, EachUnitIsAskedFor, EachChoiceIsAskedFor, NoNormalIsAskedForTwice, NoUnitIsAskedForTwice, NoOtherWordsAsk, format_word, normal_key, fourth_word_job, target_word, unit_key, job_words, words_of}
 use Rattle.command_words.specs.Commands.{◌>>=◌, after_verb, format_of, job_of, named, target_of, valued, verb_of}
 use Rattle.command_words.specs.Keys.{choices_of, chosen_unit, keys_from, no_keys}
 use Rattle.command_words.specs.Names.{name_of, text_at}
@@ -30,6 +32,7 @@ use Rattle.command_words.specs.Names.{name_of, text_at}
 format_of-format_word : (format : Format) → format_of (format_word format) ≡ Some format
 format_of-format_word formats.Wcnf = refl
 format_of-format_word formats.Opb = refl
+format_of-format_word formats.Poly = refl
 format_of-format_word formats.Ising = refl
 format_of-format_word formats.Qubo = refl
 
@@ -63,6 +66,27 @@ each_unit format target file unit =
     ∙ ap (λ (r : Result Keys ℕ). r >>= λ given. Ok (Compile (fourth_word_job format target given)))
     (unit_alone target unit)
 
+pub each_choice : EachChoiceIsAskedFor
+each_choice = record { normal_first = normal_first; unit_first = unit_first } where
+  normal_first : (target : Target) (normal : Normal) (unit : UnitChoice)
+      → keys_from target no_keys 4 (normal_key normal ∷ unit_key unit ∷ [])
+      ≡ Ok (record no_keys { normal = Some normal; unit = Some unit })
+  normal_first target Literal One = refl
+  normal_first target Literal Reduce = refl
+  normal_first target Multilinear One = refl
+  normal_first target Multilinear Reduce = refl
+
+  unit_first : (target : Target) (normal : Normal) (unit : UnitChoice)
+      → keys_from target no_keys 4 (unit_key unit ∷ normal_key normal ∷ [])
+      ≡ Ok (record no_keys { normal = Some normal; unit = Some unit })
+  unit_first target Literal One = refl
+  unit_first target Literal Reduce = refl
+  unit_first target Multilinear One = refl
+  unit_first target Multilinear Reduce = refl
+
+pub no_normal_twice : NoNormalIsAskedForTwice
+no_normal_twice target keys at first word value given named = rw (named, given) refl
+
 pub no_unit_twice : NoUnitIsAskedForTwice
 no_unit_twice target keys at first word value given named = rw (named, given) refl
 
@@ -94,7 +118,8 @@ format_of-word : (word : List ℕ) → IfSome (format_of word) (λ format. word 
 format_of-word word =
     line format_word word formats.Wcnf _
     (line format_word word formats.Opb _
-    (line format_word word formats.Ising _ (line format_word word formats.Qubo None tt)))
+    (line format_word word formats.Poly _
+    (line format_word word formats.Ising _ (line format_word word formats.Qubo None tt))))
 
 target_of-word : (word : List ℕ) → IfSome (target_of word) (λ target. word ≡ target_word target)
 target_of-word word = line target_word word targets.Qubo _ (line target_word word targets.Ising None tt)

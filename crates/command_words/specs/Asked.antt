@@ -2,6 +2,8 @@
 use Rattle.std.specs.Prelude.{◌≡◌, List, [], ◌∷◌, ◌++◌, ℕ, codes, IfOk, Ok, Some, None}
 use Rattle.bits_model.specs.declared.output.UnitChoice.{UnitChoice}
 use Rattle.bits_model.specs.declared.output.UnitChoice.TheVariants.{One, Reduce}
+use Rattle.problem_form.specs.declared.limits.Normal.{Normal}
+use Rattle.problem_form.specs.declared.limits.Normal.TheVariants.{Literal, Multilinear}
 use Rattle.command_words.specs.declared.keys.Keys.{Keys}
 use Rattle.command_words.specs.declared.commands.Format.{Format}
 use Rattle.command_words.specs.declared.commands.Format.TheVariants as formats
@@ -20,6 +22,7 @@ use Rattle.command_words.specs.Names.{name_of}
 abbrev pub format_word : Format → List ℕ
 format_word formats.Wcnf = codes "wcnf"
 format_word formats.Opb = codes "opb"
+format_word formats.Poly = codes "poly"
 format_word formats.Ising = codes "ising"
 format_word formats.Qubo = codes "qubo"
 
@@ -46,6 +49,11 @@ fourth_word_job format target keys = record {
   unit = chosen_unit keys;
 }
 
+-- the key that chooses a normal form
+abbrev pub normal_key : Normal → List ℕ
+normal_key Literal = codes "normal=literal"
+normal_key Multilinear = codes "normal=multilinear"
+
 -- the key that chooses a unit
 abbrev pub unit_key : UnitChoice → List ℕ
 unit_key One = codes "unit=one"
@@ -63,6 +71,21 @@ abbrev pub EachUnitIsAskedFor : Type 0
 EachUnitIsAskedFor = (format : Format) (target : Target) (file : List ℕ) (unit : UnitChoice)
     → command_of (codes "compile" ∷ job_words format target file ++ unit_key unit ∷ [])
     ≡ Ok (Compile (fourth_word_job format target (record no_keys { unit = Some unit })))
+
+-- so can each normal form with each way to choose the unit, in either order
+pub record EachChoiceIsAskedFor : Type 0 where
+  pub normal_first : (target : Target) (normal : Normal) (unit : UnitChoice)
+      → keys_from target no_keys 4 (normal_key normal ∷ unit_key unit ∷ [])
+      ≡ Ok (record no_keys { normal = Some normal; unit = Some unit })
+  pub unit_first : (target : Target) (normal : Normal) (unit : UnitChoice)
+      → keys_from target no_keys 4 (unit_key unit ∷ normal_key normal ∷ [])
+      ≡ Ok (record no_keys { normal = Some normal; unit = Some unit })
+
+-- a normal form is chosen once: with a key for it, no other word of that name can stand
+abbrev pub NoNormalIsAskedForTwice : Type 0
+NoNormalIsAskedForTwice = (target : Target) (keys : Keys) (at : ℕ) (first : Normal)
+    (word value : List ℕ) → keys.normal ≡ Some first → cut word ≡ Some (codes "normal", value)
+    → with_word target keys at word ≡ None
 
 -- the unit is chosen once: with a key for it, no other word of that name can stand
 abbrev pub NoUnitIsAskedForTwice : Type 0

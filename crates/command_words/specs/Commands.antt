@@ -37,6 +37,8 @@ format_of word =
     then Some formats.Wcnf
     else if bytes_eq word (codes "opb")
     then Some formats.Opb
+    else if bytes_eq word (codes "poly")
+    then Some formats.Poly
     else if bytes_eq word (codes "ising")
     then Some formats.Ising
     else if bytes_eq word (codes "qubo") then Some formats.Qubo else None

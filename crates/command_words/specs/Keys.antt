@@ -5,7 +5,8 @@ use Rattle.std.specs.Option.{option_map, option_map_or}
 use Rattle.bits_model.specs.declared.output.UnitChoice.{UnitChoice}
 use Rattle.bits_model.specs.declared.output.UnitChoice.TheVariants.{One, Reduce}
 use Rattle.problem_form.specs.declared.limits.Choices.{Choices}
-use Rattle.problem_form.specs.declared.limits.Normal.TheVariants.{Literal}
+use Rattle.problem_form.specs.declared.limits.Normal.{Normal}
+use Rattle.problem_form.specs.declared.limits.Normal.TheVariants.{Literal, Multilinear}
 use Rattle.problem_form.specs.declared.limits.High.TheVariants.{Monomial}
 use Rattle.command_words.specs.declared.commands.Target.{Target}
 use Rattle.command_words.specs.declared.keys.Keys.{Keys}
@@ -38,6 +39,13 @@ abbrev pub once : {A : Type 0} → Option A → Option A → Option A
 once None value = value
 once (Some given) value = None
 
+-- the words of the normal forms
+abbrev pub normal_of : List ℕ → Option Normal
+normal_of value =
+    if bytes_eq value (codes "literal")
+    then Some Literal
+    else if bytes_eq value (codes "multilinear") then Some Multilinear else None
+
 -- the words of the ways to choose the unit
 abbrev pub unit_of : List ℕ → Option UnitChoice
 unit_of value =
@@ -49,7 +57,9 @@ unit_of value =
 -- cannot stand
 abbrev pub with_pair : Target → Keys → ℕ → List ℕ → List ℕ → Option Keys
 with_pair target keys at name value =
-    if bytes_eq name (codes "unit")
+    if bytes_eq name (codes "normal")
+    then option_map (λ normal. record keys { normal = Some normal }) (once keys.normal (normal_of value))
+    else if bytes_eq name (codes "unit")
     then option_map (λ unit. record keys { unit = Some unit }) (once keys.unit (unit_of value))
     else None
 
@@ -67,5 +77,4 @@ keys_from target keys at (word ∷ words) =
 
 -- the choices that words can make so far, for which every command has its steps
 pub record IsOffered (choices : Choices) : Type 0 where
-  pub normal : choices.normal ≡ Literal
   pub high : choices.high ≡ Monomial

@@ -9,6 +9,7 @@ use problem_form::Choices;
 pub enum Format {
     Wcnf,
     Opb,
+    Poly,
     Ising,
     Qubo,
 }

@@ -1,6 +1,6 @@
 //! The keys of a command, in any order, each at most once: words of the form `NAME=VALUE`.
 ghost use Rattle.std.specs.Prelude.{◌≡◌, ◌+◌, ◌<◌, ◌^◌, length, map, string_bytes, Some, None, MatchOption, IfOk, IfSome};
-ghost use Rattle.command_words.specs.Keys.{IsOffered, chosen_unit, choices_of, cut, keys_from, no_keys, once, unit_of, with_pair, with_word};
+ghost use Rattle.command_words.specs.Keys.{IsOffered, chosen_unit, choices_of, cut, keys_from, no_keys, normal_of, once, unit_of, with_pair, with_word};
 
 use crate::commands::Target;
 use bits_model::UnitChoice;
@@ -61,6 +61,16 @@ fn once<T: Copy>(given: Option<T>, value: Option<T>) -> Option<T>
     }
 }
 
+fn normal_of(value: &str) -> Option<Normal>
+    ensures { result ≡ normal_of value.now }
+{
+    match value {
+        "literal" => Some(Normal::Literal),
+        "multilinear" => Some(Normal::Multilinear),
+        _ => None,
+    }
+}
+
 fn unit_of(value: &str) -> Option<UnitChoice>
     ensures { result ≡ unit_of value.now }
 {
@@ -79,6 +89,10 @@ fn with_pair(target: Target, keys: Keys, at: usize, name: &str, value: &str) -> 
         → IfSome result (λ more. IsOffered (choices_of more)) }
 {
     match name {
+        "normal" => {
+            let normal = Some(once(keys.normal, normal_of(value))?);
+            Some(Keys { normal, ..keys })
+        }
         "unit" => {
             let unit = Some(once(keys.unit, unit_of(value))?);
             Some(Keys { unit, ..keys })

@@ -28,6 +28,7 @@ fn format_of(word: &str) -> Option<Format>
     match word {
         "wcnf" => Some(Format::Wcnf),
         "opb" => Some(Format::Opb),
+        "poly" => Some(Format::Poly),
         "ising" => Some(Format::Ising),
         "qubo" => Some(Format::Qubo),
         _ => None,
