@@ -1,5 +1,5 @@
 -- Entries that are read one after the other, and put into a problem.
-use Rattle.std.proofs.Common.{◌≡◌, ℕ, ◌<◌, List, [], ◌∷◌, ◌++◌, length, map, fold, Result, Ok, Err, refl, sym, ap, ◌∙◌, append-nil, append_assoc}
+use Rattle.std.proofs.Common.{◌≡◌, ℕ, List, [], ◌∷◌, ◌++◌, map, fold, Result, Ok, Err, refl, sym, ap, ◌∙◌, append-nil, append_assoc}
 use Rattle.std.specs.List.{flat_map}
 use Rattle.std.proofs.lemmas.List.Folds.{fold-map}
 use Rattle.whole_text.specs.declared.faults.TextFault.{TextFault}
@@ -13,7 +13,7 @@ use Rattle.entry_reader.specs.declared.layout.Layout.{Layout}
 use Rattle.entry_reader.specs.declared.layout.Counts.{Counts}
 use Rattle.entry_reader.specs.declared.layout.Listed.{Listed}
 use Rattle.entry_reader.specs.Entries.{none_to_come, header_at, entry_at, entries_at, listing_of}
-use Rattle.entry_reader.specs.Problems.{problem_of, products_of, listed_problem, problem_read, whole_read}
+use Rattle.entry_reader.specs.Problems.{problem_of, products_of, listed_problem, problem_read, problem_of_words}
 use Rattle.entry_reader.proofs.Words.{with_first, entry_then, entry_fails}
 
 -- entries as listed, or the problem that they are put into
@@ -49,11 +49,11 @@ entries_go_on layout end c fewer p ws rest e total h so_far =
     ∙ ap (read_into layout p) (sym (entry_then end c fewer ws rest e h))
     ∙ so_far
 
-pub entries_fail : (layout : Layout) (end : ℕ) (c : Counts) (p : ProblemContent) (ws : List Word)
-    (f : TextFault) (total : Putting) → 0 < length ws → entry_at end c ws ≡ Err f
-    → read_into layout p (entries_at end c ws) ≡ total → total ≡ Err f
-entries_fail layout end c p ws f total some h so_far =
-    sym so_far ∙ ap (read_into layout p) (entry_fails end c ws f some h)
+pub entries_fail : (layout : Layout) (end : ℕ) (c : Counts) (p : ProblemContent) (w : Word)
+    (ws : List Word) (f : TextFault) (total : Putting) → entry_at end c (w ∷ ws) ≡ Err f
+    → read_into layout p (entries_at end c (w ∷ ws)) ≡ total → total ≡ Err f
+entries_fail layout end c p w ws f total h so_far =
+    sym so_far ∙ ap (read_into layout p) (entry_fails end c w ws f h)
 
 pub entries_end : (layout : Layout) (end : ℕ) (c : Counts) (p : ProblemContent) (ws : List Word)
     (last : Listing) (total : Putting) → ws ≡ [] → none_to_come end c ≡ last
@@ -117,16 +117,18 @@ normal_listed : (layout : Layout) (nodes : ℕ) (read : Listing)
 normal_listed layout nodes (Ok es) = refl
 normal_listed layout nodes (Err f) = refl
 
--- what a whole text gives, by its header and what is read after it
-pub whole_read-header : (layout : Layout) (c : Counts) (end : ℕ) (ws rest : List Word)
-    → end ≡ end_line ws → header_at layout end ws ≡ Ok (c, rest)
-    → whole_read layout ws ≡ problem_read layout end c rest
-unfolding listing_of
-whole_read-header layout c end ws rest last head =
-    let head_at = rw last at head in
-    rw (last, head_at) (normal_listed layout c.nodes (entries_at (end_line ws) c rest))
+-- what the words of a whole text give, by their header and what is read after it
+pub problem_of_words-header : (layout : Layout) (c : Counts) (end : ℕ) (all ws rest : List Word)
+    → ws ≡ all → end ≡ end_line all → header_at layout end ws ≡ Ok (c, rest)
+    → problem_of_words layout all ≡ problem_read layout end c rest
+unfolding problem_of_words listing_of
+problem_of_words-header layout c end all ws rest same last head =
+    let head_at = rw (same, last) at head in
+    rw (last, head_at) (normal_listed layout c.nodes (entries_at (end_line all) c rest))
 
-pub whole_read-bad : (layout : Layout) (f : TextFault) (end : ℕ) (ws : List Word)
-    → end ≡ end_line ws → header_at layout end ws ≡ Err f → whole_read layout ws ≡ Err f
-unfolding listing_of
-whole_read-bad layout f end ws last head = let head_at = rw last at head in rw head_at refl
+pub problem_of_words-bad : (layout : Layout) (f : TextFault) (end : ℕ) (all ws : List Word)
+    → ws ≡ all → end ≡ end_line all → header_at layout end ws ≡ Err f
+    → problem_of_words layout all ≡ Err f
+unfolding problem_of_words listing_of
+problem_of_words-bad layout f end all ws same last head =
+    let head_at = rw (same, last) at head in rw head_at refl

@@ -1,5 +1,5 @@
 -- Entries as their words give them: three words each, up to the end.
-use Rattle.std.proofs.Common.{◌≡◌, ℕ, ◌<◌, ℤ, List, [], ◌∷◌, length, Result, Ok, Err, refl, sym, ap, ◌∙◌, arith}
+use Rattle.std.proofs.Common.{◌≡◌, ℕ, ℤ, List, [], ◌∷◌, Result, Ok, Err, refl, sym, ap, ◌∙◌}
 use Rattle.whole_text.specs.declared.faults.TextFault.{TextFault}
 use Rattle.whole_text.specs.declared.faults.TextKind.TheVariants as kinds
 use Rattle.whole_text.specs.Tokens.{Word}
@@ -143,12 +143,11 @@ faulty : (end : ℕ) (ws : List Word) (f : TextFault) (read : Result Entered Tex
 faulty end ws f (Ok x) h = absurd cc
 faulty end ws f (Err g) h = let same : g ≡ f = cc in ap (λ k. Err k) same
 
-pub entry_fails : (end : ℕ) (c : Counts) (ws : List Word) (f : TextFault) → 0 < length ws
-    → entry_at end c ws ≡ Err f → entries_at end c ws ≡ Err f
+pub entry_fails : (end : ℕ) (c : Counts) (i : Word) (ws : List Word) (f : TextFault)
+    → entry_at end c (i ∷ ws) ≡ Err f → entries_at end c (i ∷ ws) ≡ Err f
 unfolding entries_at
-entry_fails end c [] f some h = absurd (omega arith)
-entry_fails end c (i ∷ []) f some h = rw h refl
-entry_fails end c (i ∷ j ∷ []) f some h = rw h refl
-entry_fails end c (i ∷ j ∷ w ∷ ws) f some h =
+entry_fails end c i [] f h = rw h refl
+entry_fails end c i (j ∷ []) f h = rw h refl
+entry_fails end c i (j ∷ w ∷ ws) f h =
     ap (λ r. r >>= others_after end ws) (three_words end c i j w [])
     ∙ faulty end ws f (three c i j w) (sym (three_words end c i j w ws) ∙ h)

@@ -54,6 +54,10 @@ abbrev pub problem_of : Layout → Listing → ProblemContent
 problem_of layout s =
     record (with_variables blank s.nodes) { objective = flat_map (products_of layout) s.entries }
 
+-- the reading of words, as a problem in normal form
+unfoldable pub problem_of_words : Layout → List Word → Result ProblemContent TextFault
+problem_of_words layout ws = listing_of layout ws >>= λ s. Ok (normal_form (problem_of layout s))
+
 -- the reading of a text, as a problem in normal form
 unfoldable pub normal_reading : Layout → List ℕ → Result ProblemContent TextFault
 normal_reading layout text = reading layout text >>= λ s. Ok (normal_form (problem_of layout s))
@@ -69,7 +73,3 @@ listed_problem layout nodes es =
 abbrev pub problem_read : Layout → ℕ → Counts → List Word → Result ProblemContent TextFault
 problem_read layout end c ws =
     entries_at end c ws >>= λ es. Ok (listed_problem layout c.nodes es)
-
--- the problem of the whole text
-abbrev pub whole_read : Layout → List Word → Result ProblemContent TextFault
-whole_read layout ws = listing_of layout ws >>= λ s. Ok (normal_form (problem_of layout s))

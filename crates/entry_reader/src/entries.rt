@@ -1,29 +1,32 @@
 //! An entry of a text: the numbers of two nodes, and a weight.
-ghost use Rattle.std.specs.Prelude.{◌≡◌, ◌<◌, ◌^◌, [], length, All, IfOk, unsigned_abs};
-ghost use Rattle.whole_text.specs.Tokens.{word_at, words_at, IsWithin};
+ghost use Rattle.std.specs.Prelude.{◌≡◌, ◌<◌, ◌≤◌, ◌^◌, ◌∷◌, [], length, IfOk, OnOk, unsigned_abs};
+ghost use Rattle.whole_text.specs.TokenTexts.{word_of};
 ghost use Rattle.whole_text.specs.Steps.{GivesAlways};
 ghost use Rattle.entry_reader.specs.Entries.{node_at, one_fewer, counted, entry_at, none_to_come};
 
 use crate::layout::{Counts, Listed};
-use whole_text::{TextFault, TextKind, Token, fault, integer, natural, next};
+use whole_text::{
+    TextFault, TextKind, WordRef, Words, fault, integer_word, natural_word, next_word,
+};
 
 /// One of the nodes.
 #[tactic(auto, unfolding(crate::specs::Entries::node_at))]
-fn node(text: &[u8], token: Token, nodes: u64) -> Result<u64, TextFault>
-    requires { IsWithin text.now token }
-    ensures read { result ≡ node_at nodes (word_at text.now token) }
+#[inline(always)]
+fn node(word: WordRef<'_>, nodes: u64) -> Result<u64, TextFault>
+    ensures read { result ≡ node_at nodes (word_of word.entry) }
     ensures within { IfOk result (λ n. n < nodes) }
 {
-    let node = natural(text, token, 0)?;
+    let node = natural_word(word, 0)?;
     if node < nodes {
         Ok(node)
     } else {
-        Err(fault(TextKind::Range, token.line))
+        Err(fault(TextKind::Range, word.line))
     }
 }
 
 /// One fewer, or the fault that nothing more may stand on this line.
 #[tactic(auto, unfolding(crate::specs::Entries::one_fewer))]
+#[inline(always)]
 fn one_fewer(line: u64, count: u64) -> Result<u64, TextFault>
     ensures { result ≡ one_fewer line count }
 {
@@ -36,6 +39,7 @@ fn one_fewer(line: u64, count: u64) -> Result<u64, TextFault>
 
 /// What may come after an entry of these nodes.
 #[tactic(auto, unfolding(crate::specs::Entries::counted))]
+#[inline(always)]
 fn counted(line: u64, counts: Counts, first: u64, second: u64) -> Result<Counts, TextFault>
     ensures read { result ≡ counted line counts first second }
     ensures same { IfOk result (λ fewer. fewer.nodes ≡ counts.nodes) }
@@ -49,37 +53,35 @@ fn counted(line: u64, counts: Counts, first: u64, second: u64) -> Result<Counts,
     Ok(fewer)
 }
 
-/// An entry, what may come after it, and what is left.
-#[tactic(auto, unfolding(crate::specs::Entries::entry_at))]
-pub(crate) fn entry<'a>(
-    text: &[u8],
-    tokens: &'a [Token],
+/// The entry that begins with this word, and what may come after it.
+#[tactic(auto, using(whole_text::proofs::Lengths::next_less), unfolding(crate::specs::Entries::entry_at))]
+#[inline(always)]
+pub(crate) fn entry(
+    first: WordRef<'_>,
+    words: &mut Words<'_>,
     counts: Counts,
     end: u64,
-) -> Result<(Listed, Counts, &'a [Token]), TextFault>
-    requires { All (IsWithin text.now) tokens.now }
-    ensures read { GivesAlways (λ x. (x.0, x.1, words_at text.now x.2.now)) result
-        (entry_at end counts (words_at text.now tokens.now)) }
+) -> Result<(Listed, Counts), TextFault>
+    ensures read { GivesAlways (λ x. (x.0, x.1, words.new)) result
+        (entry_at end counts (word_of first.entry ∷ words.old)) }
     ensures first { IfOk result (λ x. x.0.first < counts.nodes) }
     ensures second { IfOk result (λ x. x.0.second < counts.nodes) }
     ensures small { IfOk result (λ x. unsigned_abs x.0.weight < 2 ^ 64) }
     ensures same { IfOk result (λ x. x.1.nodes ≡ counts.nodes) }
-    ensures within { IfOk result (λ x. All (IsWithin text.now) x.2.now) }
-    ensures shorter { IfOk result (λ x. length x.2.now < length tokens.now) }
+    ensures shorter { OnOk result (length words.new ≤ length words.old) }
 {
-    let (token, rest) = next(text, tokens, end)?;
-    let first = node(text, token, counts.nodes)?;
-    let (token, rest) = next(text, rest, end)?;
-    let second = node(text, token, counts.nodes)?;
-    let fewer = counted(token.line, counts, first, second)?;
-    let (token, rest) = next(text, rest, end)?;
-    let weight = integer(text, token)?;
+    let first = node(first, counts.nodes)?;
+    let word = next_word(words, end)?;
+    let second = node(word, counts.nodes)?;
+    let fewer = counted(word.line, counts, first, second)?;
+    let word = next_word(words, end)?;
+    let weight = integer_word(word)?;
     let entry = Listed {
         first,
         second,
         weight,
     };
-    Ok((entry, fewer, rest))
+    Ok((entry, fewer))
 }
 
 /// Nothing, where nothing is to come, and else the fault that the text ended.

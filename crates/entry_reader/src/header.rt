@@ -1,32 +1,23 @@
 //! The header of a text: `p`, the words of the layout, and the numbers of nodes, of node entries and
 //! of couplers.
-ghost use Rattle.std.specs.Prelude.{◌≡◌, ◌≤◌, length, All, IfOk};
-ghost use Rattle.whole_text.specs.Tokens.{words_at, IsWithin};
+ghost use Rattle.std.specs.Prelude.{◌≡◌, ◌≤◌, length, OnOk};
 ghost use Rattle.whole_text.specs.Steps.{GivesAlways};
 ghost use Rattle.entry_reader.specs.Entries.{name_of, wanted_at, topology_at, topology_of, count_at, header_at};
 
 use crate::layout::{Counts, Layout};
-use whole_text::{TextFault, TextKind, Token, bytes_at, fault, natural, next};
+use whole_text::{TextFault, TextKind, Words, fault, natural_word, next_word};
 
-/// This word, and what is left.
-#[tactic(auto, unfolding(crate::specs::Entries::wanted_at))]
-fn wanted<'a>(
-    text: &[u8],
-    tokens: &'a [Token],
-    end: u64,
-    bytes: &[u8],
-) -> Result<&'a [Token], TextFault>
-    requires { All (IsWithin text.now) tokens.now }
-    ensures read { GivesAlways (λ rest. words_at text.now rest.now) result
-        (wanted_at end bytes.now (words_at text.now tokens.now)) }
-    ensures within { IfOk result (λ rest. All (IsWithin text.now) rest.now) }
-    ensures shorter { IfOk result (λ rest. length rest.now ≤ length tokens.now) }
+/// This word.
+#[tactic(auto, using(whole_text::proofs::Lengths::next_less), unfolding(crate::specs::Entries::wanted_at))]
+fn wanted(words: &mut Words<'_>, end: u64, bytes: &[u8]) -> Result<(), TextFault>
+    ensures read { GivesAlways (λ _. words.new) result (wanted_at end bytes.now words.old) }
+    ensures shorter { OnOk result (length words.new ≤ length words.old) }
 {
-    let (token, rest) = next(text, tokens, end)?;
-    if bytes_at(text, token) == bytes {
-        Ok(rest)
+    let word = next_word(words, end)?;
+    if word.bytes == bytes {
+        Ok(())
     } else {
-        Err(fault(TextKind::Word, token.line))
+        Err(fault(TextKind::Word, word.line))
     }
 }
 
@@ -40,82 +31,58 @@ fn name_of(layout: Layout) -> &'static [u8]
     }
 }
 
-/// `0` or `unconstrained`, and what is left.
-#[tactic(auto, unfolding(crate::specs::Entries::topology_at))]
-fn topology<'a>(text: &[u8], tokens: &'a [Token], end: u64) -> Result<&'a [Token], TextFault>
-    requires { All (IsWithin text.now) tokens.now }
-    ensures read { GivesAlways (λ rest. words_at text.now rest.now) result
-        (topology_at end (words_at text.now tokens.now)) }
-    ensures within { IfOk result (λ rest. All (IsWithin text.now) rest.now) }
-    ensures shorter { IfOk result (λ rest. length rest.now ≤ length tokens.now) }
+/// `0` or `unconstrained`.
+#[tactic(auto, using(whole_text::proofs::Lengths::next_less), unfolding(crate::specs::Entries::topology_at))]
+fn topology(words: &mut Words<'_>, end: u64) -> Result<(), TextFault>
+    ensures read { GivesAlways (λ _. words.new) result (topology_at end words.old) }
+    ensures shorter { OnOk result (length words.new ≤ length words.old) }
 {
-    let (token, rest) = next(text, tokens, end)?;
-    let bytes = bytes_at(text, token);
-    if bytes == b"0".as_slice() || bytes == b"unconstrained".as_slice() {
-        Ok(rest)
+    let word = next_word(words, end)?;
+    if word.bytes == b"0".as_slice() || word.bytes == b"unconstrained".as_slice() {
+        Ok(())
     } else {
-        Err(fault(TextKind::Word, token.line))
+        Err(fault(TextKind::Word, word.line))
     }
 }
 
-/// What is left after the topology, which a QUBO alone has.
+/// The topology, which a QUBO alone has.
 #[tactic(auto, unfolding(crate::specs::Entries::topology_of))]
-fn after_topology<'a>(
-    text: &[u8],
-    tokens: &'a [Token],
-    layout: Layout,
-    end: u64,
-) -> Result<&'a [Token], TextFault>
-    requires { All (IsWithin text.now) tokens.now }
-    ensures read { GivesAlways (λ rest. words_at text.now rest.now) result
-        (topology_of layout end (words_at text.now tokens.now)) }
-    ensures within { IfOk result (λ rest. All (IsWithin text.now) rest.now) }
-    ensures shorter { IfOk result (λ rest. length rest.now ≤ length tokens.now) }
+fn topology_of(words: &mut Words<'_>, layout: Layout, end: u64) -> Result<(), TextFault>
+    ensures read { GivesAlways (λ _. words.new) result (topology_of layout end words.old) }
+    ensures shorter { OnOk result (length words.new ≤ length words.old) }
 {
     match layout {
-        Layout::Qubo => topology(text, tokens, end),
-        Layout::Ising => Ok(tokens),
+        Layout::Qubo => topology(words, end),
+        Layout::Ising => Ok(()),
     }
 }
 
-/// A number, and what is left.
-#[tactic(auto, unfolding(crate::specs::Entries::count_at))]
-fn count<'a>(text: &[u8], tokens: &'a [Token], end: u64) -> Result<(u64, &'a [Token]), TextFault>
-    requires { All (IsWithin text.now) tokens.now }
-    ensures read { GivesAlways (λ x. (x.0, words_at text.now x.1.now)) result
-        (count_at end (words_at text.now tokens.now)) }
-    ensures within { IfOk result (λ x. All (IsWithin text.now) x.1.now) }
-    ensures shorter { IfOk result (λ x. length x.1.now ≤ length tokens.now) }
+/// A number.
+#[tactic(auto, using(whole_text::proofs::Lengths::next_less), unfolding(crate::specs::Entries::count_at))]
+fn count(words: &mut Words<'_>, end: u64) -> Result<u64, TextFault>
+    ensures read { GivesAlways (λ n. (n, words.new)) result (count_at end words.old) }
+    ensures shorter { OnOk result (length words.new ≤ length words.old) }
 {
-    let (token, rest) = next(text, tokens, end)?;
-    let count = natural(text, token, 0)?;
-    Ok((count, rest))
+    let word = next_word(words, end)?;
+    natural_word(word, 0)
 }
 
-/// The header, and what is left.
+/// The header.
 #[tactic(auto, unfolding(crate::specs::Entries::header_at))]
-pub(crate) fn header<'a>(
-    text: &[u8],
-    tokens: &'a [Token],
-    layout: Layout,
-    end: u64,
-) -> Result<(Counts, &'a [Token]), TextFault>
-    requires { All (IsWithin text.now) tokens.now }
-    ensures read { GivesAlways (λ x. (x.0, words_at text.now x.1.now)) result
-        (header_at layout end (words_at text.now tokens.now)) }
-    ensures within { IfOk result (λ x. All (IsWithin text.now) x.1.now) }
-    ensures shorter { IfOk result (λ x. length x.1.now ≤ length tokens.now) }
+pub(crate) fn header(words: &mut Words<'_>, layout: Layout, end: u64) -> Result<Counts, TextFault>
+    ensures read { GivesAlways (λ counts. (counts, words.new)) result
+        (header_at layout end words.old) }
+    ensures shorter { OnOk result (length words.new ≤ length words.old) }
 {
-    let name = wanted(text, tokens, end, b"p")?;
-    let topology = wanted(text, name, end, name_of(layout))?;
-    let numbers = after_topology(text, topology, layout, end)?;
-    let (nodes, rest) = count(text, numbers, end)?;
-    let (entries, rest) = count(text, rest, end)?;
-    let (couplers, rest) = count(text, rest, end)?;
-    let counts = Counts {
+    wanted(words, end, b"p")?;
+    wanted(words, end, name_of(layout))?;
+    topology_of(words, layout, end)?;
+    let nodes = count(words, end)?;
+    let entries = count(words, end)?;
+    let couplers = count(words, end)?;
+    Ok(Counts {
         nodes,
         entries,
         couplers,
-    };
-    Ok((counts, rest))
+    })
 }

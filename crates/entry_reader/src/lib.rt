@@ -1,7 +1,8 @@
 //! Texts of entries, QUBO and Ising, read into problems.
 //!
-//! A text goes in as bytes, and out comes its problem in normal form, or its first fault. Each entry
-//! is put into the problem as soon as it is read, so no list of entries as written is kept.
+//! A text goes in as bytes or as words, and out comes its problem in normal form, or its first
+//! fault. Each entry is put into the problem as soon as it is read, so no list of entries as written
+//! is kept.
 #![tactic(auto)]
 
 mod added;
@@ -13,4 +14,4 @@ mod reading;
 
 pub use laws::texts_are_read_again;
 pub use layout::{Counts, Layout, Listed};
-pub use reading::read_entries;
+pub use reading::{read_entries, read_entries_tokens};

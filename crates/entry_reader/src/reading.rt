@@ -1,8 +1,8 @@
 //! A whole text: a header, and entries up to the end.
-ghost use Rattle.std.specs.Prelude.{◌≡◌, ◌≤◌, ◌^◌, length, All};
-ghost use Rattle.whole_text.specs.Tokens.{words_at, IsWithin};
+ghost use Rattle.std.specs.Prelude.{◌≡◌, ◌≤◌, ◌^◌, length};
+ghost use Rattle.whole_text.specs.TokenTexts.{words_of};
 ghost use Rattle.whole_text.specs.Steps.{Gives};
-ghost use Rattle.entry_reader.specs.Problems.{normal_reading, problem_read, whole_read};
+ghost use Rattle.entry_reader.specs.Problems.{normal_reading, problem_of_words, problem_read};
 
 use crate::added::add_entry;
 use crate::entries::{entry, none_to_come};
@@ -10,58 +10,54 @@ use crate::header::header;
 use crate::layout::{Counts, Layout};
 use problem_form::Problem;
 use std::alloc::Global;
-use whole_text::{Style, TextAnswer, Token, end_line, tokens};
+use whole_text::{Lexer, Style, TextAnswer, TokenText, Words};
 
-/// The problem of the entries up to the end of the tokens.
+/// The problem of the entries up to the end of the words.
 fn entries(
     alloc: Global,
-    text: &[u8],
-    tokens: &[Token],
+    mut words: Words<'_>,
     layout: Layout,
     counts: Counts,
     end: u64,
 ) -> Result<Problem, TextAnswer>
-    requires within { All (IsWithin text.now) tokens.now }
-    requires few { length tokens.now ≤ 2 ^ 24 }
-    ensures { Gives (λ problem. problem) result
-        (problem_read layout end counts (words_at text.now tokens.now)) }
+    requires { length words ≤ 2 ^ 24 }
+    ensures { Gives (λ problem. problem) result (problem_read layout end counts words.entry) }
 {
     let mut problem = Problem::new(alloc);
     problem.widen(counts.nodes);
     let mut literals = Vec::new(alloc);
     let mut to_come = counts;
-    let mut rest = tokens;
-    while !rest.is_empty() {
-        let (entry, fewer, after) = entry(text, rest, to_come, end)?;
+    while let Some(first) = words.next() {
+        let (entry, fewer) = entry(first, &mut words, to_come, end)?;
         add_entry(&mut literals, &mut problem, layout, entry)?;
         to_come = fewer;
-        rest = after;
     }
     none_to_come(end, to_come)?;
     Ok(problem)
 }
 
-/// The problem that the tokens say, or the first fault.
-fn problem(
+/// The problem of a text that was cut into words, in normal form, or the first fault of the text.
+pub fn read_entries_tokens(
     alloc: Global,
-    text: &[u8],
-    tokens: &[Token],
     layout: Layout,
+    text: &TokenText,
 ) -> Result<Problem, TextAnswer>
-    requires within { All (IsWithin text.now) tokens.now }
-    requires few { length tokens.now ≤ 2 ^ 24 }
-    ensures { Gives (λ problem. problem) result (whole_read layout (words_at text.now tokens.now)) }
+    requires { length text.now.bytes ≤ 2 ^ 24 }
+    ensures { Gives (λ problem. problem) result (problem_of_words layout (words_of text.now)) }
 {
-    let end = end_line(text, tokens);
-    let (counts, rest) = header(text, tokens, layout, end)?;
-    entries(alloc, text, rest, layout, counts, end)
+    let mut words = text.words();
+    let end = text.end_line();
+    let counts = header(&mut words, layout, end)?;
+    entries(alloc, words, layout, counts, end)
 }
 
 /// The problem of a text, in normal form, or the first fault of the text.
+#[tactic(auto, unfolding(crate::specs::Problems::normal_reading, crate::specs::Problems::problem_of_words, crate::specs::Entries::reading))]
 pub fn read_entries(alloc: Global, layout: Layout, text: &[u8]) -> Result<Problem, TextAnswer>
     requires { length text.now ≤ 2 ^ 24 }
     ensures { Gives (λ problem. problem) result (normal_reading layout text.now) }
 {
-    let tokens = tokens(alloc, text, Style::Plain)?;
-    problem(alloc, text, &tokens, layout)
+    let mut lexer = Lexer::new(alloc, Style::Plain);
+    lexer.feed(text)?;
+    read_entries_tokens(alloc, layout, &lexer.finish()?)
 }

@@ -1,7 +1,8 @@
 //! Ising texts, read and written.
 //!
-//! A text goes in as bytes, and out comes its problem in normal form, or its first fault. A model of
-//! spins goes in, and out comes its text, which no other model has, whole or row by row to a sink.
+//! A text goes in as bytes or as words, and out comes its problem in normal form, or its first
+//! fault. A model of spins goes in, and out comes its text, which no other model has, whole or row by
+//! row to a sink.
 #![tactic(auto)]
 
 mod laws;
@@ -9,5 +10,5 @@ mod reading;
 mod writing;
 
 pub use laws::{laws_of_readings, laws_of_texts};
-pub use reading::read_ising;
+pub use reading::{read_ising, read_ising_tokens};
 pub use writing::{ising_text, write_ising};

@@ -1,7 +1,8 @@
 //! QUBO texts in the layout of qbsolv, read and written.
 //!
-//! A text goes in as bytes, and out comes its problem in normal form, or its first fault. A QUBO goes
-//! in, and out comes its text, which no other model has, whole or row by row to a sink.
+//! A text goes in as bytes or as words, and out comes its problem in normal form, or its first
+//! fault. A QUBO goes in, and out comes its text, which no other model has, whole or row by row to a
+//! sink.
 #![tactic(auto)]
 
 mod laws;
@@ -9,5 +10,5 @@ mod reading;
 mod writing;
 
 pub use laws::{laws_of_readings, laws_of_texts};
-pub use reading::read_qubo;
+pub use reading::{read_qubo, read_qubo_tokens};
 pub use writing::{qubo_text, write_qubo};

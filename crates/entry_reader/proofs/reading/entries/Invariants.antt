@@ -1,5 +1,4 @@
-use Rattle.std.proofs.Common.{◌≡◌, ◌+◌, ◌*◌, ◌^◌, ◌≤◌, length, All, []}
-use Rattle.whole_text.specs.Tokens.{words_at, IsWithin}
+use Rattle.std.proofs.Common.{◌≡◌, ◌+◌, ◌*◌, ◌^◌, ◌≤◌, length, []}
 use Rattle.problem_form.specs.Problems.{problem_total}
 use Rattle.problem_form.specs.NormalForm.{blank, with_variables}
 use Rattle.entry_reader.specs.Entries.{entries_at}
@@ -7,18 +6,17 @@ use Rattle.entry_reader.proofs.Puttings.{read_into}
 use Rattle.entry_reader.proofs.reading.entries.Given as goal
 
 -- the problem so far, with the entries that are left, is the problem of all; and each entry took a
--- token at least, and added less than 2 ^ 68 to the numbers of the problem
-abbrev pub invariant-loop-rest : goal.invariant-loop-rest
-invariant-loop-rest l = record {
-  within : All (IsWithin l.text) l.rest;
-  read : read_into l.layout l.problem (entries_at l.end l.to_come (words_at l.text l.rest))
+-- word at least, and added less than 2 ^ 68 to the numbers of the problem
+abbrev pub invariant-loop-first : goal.invariant-loop-first
+invariant-loop-first l = record {
+  read : read_into l.layout l.problem (entries_at l.end l.to_come l.words)
       ≡ read_into l.layout (with_variables blank l.fn.counts.nodes)
-      (entries_at l.end l.fn.counts (words_at l.text l.tokens));
+      (entries_at l.end l.fn.counts l.fn.words);
   variables : l.problem.variables ≡ l.fn.counts.nodes;
   nodes : l.to_come.nodes ≡ l.fn.counts.nodes;
   empty : l.literals.items ≡ [];
-  small : problem_total l.problem + length l.rest * 2 ^ 68 ≤ length l.tokens * 2 ^ 68;
+  small : problem_total l.problem + length l.words * 2 ^ 68 ≤ length l.fn.words * 2 ^ 68;
 }
 
-abbrev pub decreases-loop-rest : goal.decreases-loop-rest
-decreases-loop-rest l = length l.rest
+abbrev pub decreases-loop-first : goal.decreases-loop-first
+decreases-loop-first l = length l.words
