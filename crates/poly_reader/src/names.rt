@@ -1,8 +1,7 @@
 //! The names of variables.
-ghost use Rattle.std.specs.Prelude.{◌≡◌, ◌<◌, ◌++◌, ◌∷◌, [], Some, OnOk, true, length, slice_get};
+ghost use Rattle.std.specs.Prelude.{◌≡◌, ◌<◌, ◌≤◌, ◌++◌, ◌∷◌, [], Some, OnOk, true, length, slice_get, slice_range};
 ghost use Rattle.problem_form.specs.FlatLists.{AreEnds, parts, start_of};
 ghost use Rattle.poly_reader.specs.Poly.{is_name};
-ghost use Rattle.poly_reader.specs.Numbering.{AreNames};
 
 use bits_model::NoMemory;
 use std::alloc::Global;
@@ -17,6 +16,15 @@ fn start_of(ends: &[usize], i: usize) -> usize
     if i == 0 { 0 } else { ends[i - 1] }
 }
 
+/// A part of the bytes.
+fn between(bytes: &[u8], start: usize, end: usize) -> &[u8]
+    requires ordered { start ≤ end }
+    requires within { end ≤ length bytes.now }
+    ensures { result.now ≡ slice_range bytes.now start end }
+{
+    &bytes[start..end]
+}
+
 /// The name at a place.
 fn part<'a>(bytes: &'a [u8], ends: &[usize], i: usize) -> &'a [u8]
     requires ends { AreEnds 0 ends.now (length bytes.now) }
@@ -24,8 +32,7 @@ fn part<'a>(bytes: &'a [u8], ends: &[usize], i: usize) -> &'a [u8]
     ensures { slice_get (parts bytes.now 0 ends.now) i ≡ Some result.now }
 {
     let start = start_of(ends, i);
-    let end = ends[i];
-    &bytes[start..end]
+    between(bytes, start, ends[i])
 }
 
 /// The bytes of a name as text.
@@ -33,7 +40,10 @@ fn as_text(name: &[u8]) -> &str
     requires { is_name name.now ≡ true }
     ensures { result.now ≡ name.now }
 {
-    str::from_utf8(name).unwrap_or("")
+    match str::from_utf8(name) {
+        Ok(text) => text,
+        Err(_) => "",
+    }
 }
 
 /// The names of variables, in the order of the variables. They lie one after another, and a name
