@@ -1,10 +1,10 @@
 -- Each name stands at its number, and at no other place.
-use Rattle.std.proofs.Common.{◌≡◌, ◌⊎◌, inl, inr, ℕ, zero, suc, Bool, true, false, ◌||◌, List, [], ◌∷◌, ◌++◌, length, Option, Some, None, Contains, slice_get, get_or, refl, sym, ap, ◌∙◌, arith}
+use Rattle.std.proofs.Common.{◌≡◌, ◌⊎◌, inl, inr, ℕ, zero, suc, Bool, true, false, ◌||◌, List, [], ◌∷◌, ◌++◌, length, Some, slice_get, refl, sym, ap, ◌∙◌}
 use Rattle.std.specs.Prelude.{bytes_eq, if◌then◌else◌}
 use Rattle.std.proofs.Math.Bool.{or-true}
 use Rattle.std.proofs.lemmas.Slice.Eq.{bytes_eq-Decides}
 use Rattle.std.proofs.lemmas.List.Elements.{All-contains, All-from_recursion}
-use Rattle.poly_reader.specs.Poly.{Named, Listed}
+use Rattle.poly_reader.specs.Poly.{Named}
 use Rattle.poly_reader.specs.Numbering.{with_name, names_after, number_of, all_literals, names_of, NamesAreNumbered}
 use Rattle.poly_reader.proofs.NameNumbers.{has, number_of-next, number_of-append, number_of-last, names_after-all}
 

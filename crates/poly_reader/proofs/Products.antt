@@ -9,7 +9,7 @@ use Rattle.problem_form.specs.declared.literal.Literal.{Literal}
 use Rattle.problem_form.specs.declared.terms.Product.{Product}
 use Rattle.problem_form.specs.Problems.{ProblemContent}
 use Rattle.problem_form.specs.NormalForm.{with_variables, with_product}
-use Rattle.poly_reader.specs.Poly.{Named, Listed, Line, literal_at, each, product_at, by_line, reading_of_words}
+use Rattle.poly_reader.specs.Poly.{Named, Listed, literal_at, each, product_at, by_line, reading_of_words}
 use Rattle.poly_reader.specs.Numbering.{names_after}
 use Rattle.poly_reader.specs.Views.{on_line, past_line, numbered, product_read, with_listed, products_put}
 use Rattle.poly_reader.proofs.LineWords.{line_of, by_line-first}

@@ -2,7 +2,7 @@
 --
 -- A reading goes through the words in order. The first word that cannot stand in its place makes
 -- the text bad, with a kind and the word's line.
-use Rattle.std.specs.Prelude.{◌≡◌, ℕ, ℤ, Bool, true, false, ◌&&◌, ◌||◌, List, [], ◌∷◌, drop, slice_index, Result, Ok, Err, ◌==◌, if◌then◌else◌}
+use Rattle.std.specs.Prelude.{ℕ, ℤ, Bool, true, false, ◌&&◌, ◌||◌, List, [], ◌∷◌, drop, slice_index, Result, Ok, Err, ◌==◌, if◌then◌else◌}
 use Rattle.std.specs.Char.{is_ascii_alphabetic, is_ascii_alphanumeric}
 use Rattle.std.specs.List.{list_all}
 use Rattle.whole_text.specs.declared.faults.TextKind.TheVariants as kinds

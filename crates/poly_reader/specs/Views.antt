@@ -1,5 +1,5 @@
 -- What the steps of the reader give: the readings of `Poly`, seen as parts of the problem.
-use Rattle.std.specs.Prelude.{◌≡◌, ℕ, List, [], ◌∷◌, ◌++◌, length, map, fold, Option, Some, None, Result, Ok, ◌==◌, if◌then◌else◌}
+use Rattle.std.specs.Prelude.{ℕ, List, [], ◌∷◌, ◌++◌, length, map, fold, Option, Some, None, Result, Ok, ◌==◌, if◌then◌else◌}
 use Rattle.std.specs.Borrow.{Bor}
 use Rattle.whole_text.specs.declared.words.WordRef.{WordRef}
 use Rattle.whole_text.specs.declared.faults.TextFault.{TextFault}

@@ -112,8 +112,11 @@ pub(crate) fn product<'a>(
     list: &mut Vec<Literal>,
 ) -> Result<(i128, Option<WordRef<'a>>), TextAnswer>
     requires { list.old.items ≡ [] }
-    ensures read { Gives (λ x. (record { literals = list.new.items; coefficient = x.0 }, names.new,
-        left x.1 words.new)) result (product_read names.old (word_of first.entry) words.old) }
+    ensures read { Gives (λ x. (
+      record { literals = list.new.items; coefficient = x.0 },
+      names.new,
+      left x.1 words.new,
+    )) result (product_read names.old (word_of first.entry) words.old) }
     ensures small { IfOk result (λ x. nat_abs x.0 < 2 ^ 64) }
     ensures within { OnOk result (All (λ l. l.variable < length names.new) list.new.items) }
     ensures wider { OnOk result (length names.old ≤ length names.new) }

@@ -1,5 +1,3 @@
-use Rattle.poly_reader.proofs.Literals.{literals_end}
-use Rattle.poly_reader.proofs.LineWords.{past_line-le}
 use Rattle.poly_reader.proofs.NumberedNames.{names_are_numbered}
 use Rattle.poly_reader.proofs.ReadCosts.{reading_keeps_costs}
 use Rattle.poly_reader.proofs.laws.laws_of_readings.Goals as goal

@@ -1,4 +1,4 @@
-use Rattle.std.proofs.Common.{◌≡◌, ◌<◌, ◌≤◌, ◌++◌, ◌∷◌, [], ℕ, length, true, false, All, refl, sym, ap, subst, ◌∙◌, arith, rules, ◌==◌}
+use Rattle.std.proofs.Common.{◌≡◌, ◌≤◌, ◌++◌, ◌∷◌, [], length, true, false, sym, ap, subst, ◌∙◌, arith, rules, ◌==◌}
 use Rattle.std.proofs.lemmas.Result.{err_from_is_err_and}
 use Rattle.whole_text.specs.TokenTexts.{word_of}
 use Rattle.problem_form.specs.declared.literal.Literal.{Literal}

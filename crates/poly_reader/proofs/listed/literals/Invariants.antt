@@ -1,4 +1,4 @@
-use Rattle.std.proofs.Common.{◌≡◌, ◌<◌, ◌≤◌, ℕ, All, [], length}
+use Rattle.std.proofs.Common.{◌≡◌, ◌<◌, ◌≤◌, All, [], length}
 use Rattle.poly_reader.specs.Views.{literals_read}
 use Rattle.poly_reader.proofs.listed.literals.Given as goal
 

@@ -1,4 +1,4 @@
-use Rattle.std.proofs.Common.{◌≡◌, ◌+◌, ◌*◌, ◌^◌, ◌<◌, ◌≤◌, [], length}
+use Rattle.std.proofs.Common.{◌≡◌, ◌+◌, ◌*◌, ◌^◌, ◌<◌, [], length}
 use Rattle.problem_form.specs.Problems.{problem_total}
 use Rattle.poly_reader.specs.Views.{left, products_put, products_read}
 use Rattle.poly_reader.proofs.reading.products.Given as goal

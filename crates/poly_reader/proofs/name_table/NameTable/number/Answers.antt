@@ -1,4 +1,4 @@
-use Rattle.std.proofs.Common.{◌≡◌, ap, sym, ◌∙◌}
+use Rattle.std.proofs.Common.{ap, sym, ◌∙◌}
 use Rattle.poly_reader.specs.Numbering.{with_name, number_of}
 use Rattle.poly_reader.specs.Views.{names_lent}
 use Rattle.poly_reader.proofs.NameLists.{with_name-lent, number_of-lent}

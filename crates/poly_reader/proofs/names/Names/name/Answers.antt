@@ -22,7 +22,10 @@ as_text-requires c =
     let names = parts c.self.inside.bytes.items 0 c.self.inside.ends.items in
     let i = c.args.variable in
     let name = c.part.result.now in
-    let at : slice_get names i ≡ Some name = c.part.ensures in
+    let bytes = c.deref.ensures.value in
+    let ends = c.deref-2.ensures.value in
+    let at : slice_get names i ≡ Some name =
+    (λ j. slice_get (parts (sym bytes j) 0 (sym ends j)) i) ∙ c.part.ensures in
     let here : get_or names i name ≡ name = get_or_from_slice_get names i name name at in
     subst (λ (n : List ℕ). is_name n ≡ true) here
     (c.self.invariant.1 i name (omega (arith, c.requires, ap length c.self.view_is)))

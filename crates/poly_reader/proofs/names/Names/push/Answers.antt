@@ -1,6 +1,4 @@
-use Rattle.std.proofs.Common.{◌≡◌, true, ◌++◌, ◌∷◌, [], List, ℕ, length, All, ap, sym, subst, ◌∙◌, rules}
-use Rattle.problem_form.specs.FlatLists.{parts}
-use Rattle.poly_reader.specs.Numbering.{AreNames}
+use Rattle.std.proofs.Common.{◌≡◌, ◌++◌, ◌∷◌, [], length, ap, ◌∙◌, rules}
 use Rattle.poly_reader.proofs.NameLists.{names_pushed}
 use Rattle.poly_reader.proofs.names.Names.push.Goals as goal
 
