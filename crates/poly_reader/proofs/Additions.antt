@@ -1,0 +1,131 @@
+-- What is added to a problem one after another is the normal form of the whole.
+--
+-- A name keeps its number when more names come, so each product can be put down as it is read.
+use Rattle.std.proofs.Common.{◌≡◌, ℕ, List, [], ◌∷◌, ◌++◌, length, map, fold, Result, Ok, Err, refl, sym, ap, ◌∙◌, append-nil, append_assoc}
+use Rattle.std.proofs.lemmas.List.{map-append}
+use Rattle.std.proofs.lemmas.List.Folds.{fold-map}
+use Rattle.std.proofs.lemmas.List.Sums.{fold-append}
+use Rattle.whole_text.specs.declared.faults.TextFault.{TextFault}
+use Rattle.whole_text.specs.declared.faults.TextAnswer.{TextAnswer}
+use Rattle.whole_text.specs.declared.faults.TextAnswer.TheVariants as answers
+use Rattle.whole_text.specs.Tokens.{Word}
+use Rattle.whole_text.specs.Steps.{◌>>=◌, Fails}
+use Rattle.problem_form.specs.declared.terms.Product.{Product}
+use Rattle.problem_form.specs.Problems.{ProblemContent}
+use Rattle.problem_form.specs.NormalForm.{Widened, AddedProduct, normal_form, blank, with_variables, with_product, with_part, as_written}
+use Rattle.problem_form.proofs.AddedParts.{parts_add_up}
+use Rattle.poly_reader.specs.declared.reading.Polynomial.{Polynomial}
+use Rattle.poly_reader.specs.Poly.{Named, Listed, reading_of_words}
+use Rattle.poly_reader.specs.Numbering.{with_name, names_after, all_literals, names_of}
+use Rattle.poly_reader.specs.Cost.{product_of, problem_of, polynomial_of, polynomial_of_words}
+use Rattle.poly_reader.specs.Views.{with_listed, products_read}
+use Rattle.poly_reader.proofs.NameNumbers.{names_after-longer, names_after-all, literals_of-longer}
+
+-- ---- variables apart
+
+products_apart : (p : ProblemContent) (v : ℕ) (ts : List Product)
+    → fold with_product (with_variables p v) ts ≡ with_variables (fold with_product p ts) v
+products_apart p v [] = refl
+products_apart p v (t ∷ ts) = products_apart (with_product p t) v ts
+
+names_after-append : (names : List (List ℕ)) (ls ks : List Named)
+    → names_after names (ls ++ ks) ≡ names_after (names_after names ls) ks
+names_after-append names ls ks =
+    ap (fold with_name names) (map-append (λ (l : Named). l.name) ls ks)
+    ∙ fold-append with_name names (map (λ (l : Named). l.name) ls) (map (λ (l : Named). l.name) ks)
+
+-- a product has the same numbers among later names
+product_of-later : (names : List (List ℕ)) (t : Listed) (ls : List Named)
+    → product_of (names_after names t.literals) t
+    ≡ product_of (names_after (names_after names t.literals) ls) t
+product_of-later names t ls =
+    let now = names_after names t.literals in
+    let same = literals_of-longer now (names_after now ls) t.literals (names_after-longer now ls) (names_after-all names t.literals) in
+    (λ i. record { literals = sym same i; coefficient = t.coefficient })
+
+-- a problem with products, and as many variables as there are names
+abbrev with_products : ProblemContent → List (List ℕ) → List Listed → ProblemContent × List (List ℕ)
+with_products p names ts =
+    (with_variables (fold with_product p (map (product_of names) ts)) (length names), names)
+
+listed_apart : (p : ProblemContent) (names : List (List ℕ)) (ts : List Listed)
+    → p.variables ≡ length names
+    → fold with_listed (p, names) ts ≡ with_products p (names_after names (all_literals ts)) ts
+listed_apart p names [] e = λ i. (with_variables p (e i), names)
+listed_apart p names (t ∷ ts) e =
+    let now = names_after names t.literals in
+    let last = names_after now (all_literals ts) in
+    let all = names_after-append names t.literals (all_literals ts) in
+    let later = map (product_of last) ts in
+    let wide = with_variables p (length now) in
+    listed_apart (with_product wide (product_of now t)) now ts refl
+    ∙ (λ i. (with_variables (fold with_product (with_product wide (product_of-later names t (all_literals ts) i)) later) (length last), last))
+    ∙ ap (λ (q : ProblemContent). (with_variables q (length last), last))
+    (products_apart (with_product p (product_of last t)) (length now) later)
+    ∙ ap (λ (ns : List (List ℕ)). with_products p ns (t ∷ ts)) (sym all)
+
+-- ---- parts
+
+products_written : (p : ProblemContent) (ts : List Product)
+    → fold as_written p (map AddedProduct ts) ≡ record p { objective = p.objective ++ ts }
+products_written p [] = λ i. record p { objective = sym (append-nil p.objective) i }
+products_written p (t ∷ ts) =
+    products_written (record p { objective = p.objective ++ t ∷ [] }) ts
+    ∙ (λ i. record p { objective = append_assoc p.objective (t ∷ []) ts i })
+
+products_are : (v : ℕ) (ts : List Product)
+    → fold with_product (with_variables blank v) ts
+    ≡ normal_form (record (with_variables blank v) { objective = ts })
+products_are v ts =
+    let wide = with_variables blank v in
+    sym (fold-map with_part AddedProduct wide ts)
+    ∙ parts_add_up (Widened v ∷ map AddedProduct ts)
+    ∙ ap normal_form (products_written wide ts)
+
+put_together : (ts : List Listed)
+    → fold with_listed (blank, []) ts ≡ (normal_form (problem_of ts), names_of ts)
+put_together ts =
+    let names = names_of ts in
+    let products = map (product_of names) ts in
+    listed_apart blank [] ts refl
+    ∙ ap (λ (p : ProblemContent). (p, names))
+    (sym (products_apart blank (length names) products) ∙ products_are (length names) products)
+
+-- ---- a text
+
+abbrev State : Type 0
+State = ProblemContent × List (List ℕ)
+
+abbrev put_all : Result (List Listed) TextFault → Result State TextFault
+put_all read = read >>= λ ts. Ok (fold with_listed (blank, []) ts)
+
+abbrev whole : Result (List Listed) TextFault → Result Polynomial TextFault
+whole read = read >>= λ ts. Ok (polynomial_of ts)
+
+abbrev polynomial_from : State → Polynomial
+polynomial_from s = record { problem = s.0; names = s.1 }
+
+whole-put : (read : Result (List Listed) TextFault)
+    → whole read ≡ put_all read >>= λ s. Ok (polynomial_from s)
+whole-put (Ok ts) = ap (λ (s : State). Ok (polynomial_from s)) (sym (put_together ts))
+whole-put (Err f) = refl
+
+-- the polynomial of words: their products, put to a problem that says nothing
+pub polynomial_of_words-put : (ws : List Word)
+    → polynomial_of_words ws ≡ products_read ws >>= λ s. Ok (record { problem = s.0; names = s.1 })
+unfolding polynomial_of_words
+polynomial_of_words-put ws = whole-put (reading_of_words ws)
+
+pub polynomial_fails : (e : TextAnswer) (ws : List Word) → Fails e (products_read ws)
+    → Fails e (polynomial_of_words ws)
+polynomial_fails answers.NoMemory ws h = tt
+polynomial_fails (answers.Bad f) ws h =
+    polynomial_of_words-put ws
+    ∙ ap (λ (r : Result State TextFault). r >>= λ s. Ok (polynomial_from s)) h
+
+pub polynomial_read : (ws : List Word) (p : ProblemContent) (names : List (List ℕ))
+    → products_read ws ≡ Ok (p, names)
+    → polynomial_of_words ws ≡ Ok (record { problem = p; names = names })
+polynomial_read ws p names h =
+    polynomial_of_words-put ws
+    ∙ ap (λ (r : Result State TextFault). r >>= λ s. Ok (polynomial_from s)) h

@@ -1,0 +1,4 @@
+pub mod Poly
+pub mod Numbering
+pub mod Cost
+pub mod Views

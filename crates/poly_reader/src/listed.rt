@@ -1,0 +1,128 @@
+//! A product of a text: a number, and the literals that follow on its line.
+ghost use Rattle.std.specs.Prelude.{◌≡◌, ◌<◌, ◌≤◌, ◌^◌, ◌∷◌, [], true, length, nat_abs, All, OnOk, IfOk};
+ghost use Rattle.std.specs.List.{list_all};
+ghost use Rattle.whole_text.specs.TokenTexts.{word_of};
+ghost use Rattle.whole_text.specs.Steps.{Gives, GivesAlways};
+ghost use Rattle.poly_reader.specs.Poly.{is_name, begins_name, is_name_byte, named_at, literal_at};
+ghost use Rattle.poly_reader.specs.Views.{named_of, left, literals_read, product_read};
+
+use crate::name_table::NameTable;
+use problem_form::Literal;
+use whole_text::{TextAnswer, TextFault, TextKind, WordRef, Words, fault, integer_word};
+
+/// A literal as it is written: a name, and whether there is a `~` before it.
+#[derive(Clone, Copy)]
+pub(crate) struct NamedRef<'a> {
+    pub name: &'a [u8],
+    pub negated: bool,
+}
+
+/// An ASCII letter or `_`.
+fn begins_name(byte: u8) -> bool
+    ensures { result ≡ begins_name byte }
+{
+    byte.is_ascii_alphabetic() || byte == b'_'
+}
+
+/// An ASCII letter, a digit or `_`.
+fn is_name_byte(byte: u8) -> bool
+    ensures { result ≡ is_name_byte byte }
+{
+    byte.is_ascii_alphanumeric() || byte == b'_'
+}
+
+fn all_name_bytes(bytes: &[u8]) -> bool
+    ensures { result ≡ list_all is_name_byte bytes.now }
+{
+    bytes.iter().all(|byte| is_name_byte(*byte))
+}
+
+fn is_name(bytes: &[u8]) -> bool
+    ensures { result ≡ is_name bytes.now }
+{
+    match bytes {
+        [] => false,
+        [first, rest @ ..] => begins_name(*first) && all_name_bytes(rest),
+    }
+}
+
+/// A name, after a `~` or not.
+#[tactic(auto, unfolding(crate::specs::Poly::named_at))]
+fn named(name: &[u8], negated: bool, line: u64) -> Result<NamedRef<'_>, TextFault>
+    ensures read { GivesAlways named_of result (named_at line negated name.now) }
+    ensures name { IfOk result (λ l. is_name l.name.now ≡ true) }
+{
+    if is_name(name) {
+        Ok(NamedRef { name, negated })
+    } else {
+        Err(fault(TextKind::Word, line))
+    }
+}
+
+/// A literal.
+#[inline(always)]
+#[tactic(auto, unfolding(crate::specs::Poly::literal_at))]
+fn literal(word: WordRef<'_>) -> Result<NamedRef<'_>, TextFault>
+    ensures read { GivesAlways named_of result (literal_at (word_of word.entry)) }
+    ensures name { IfOk result (λ l. is_name l.name.now ≡ true) }
+{
+    match word.bytes {
+        [b'~', name @ ..] => named(name, true, word.line),
+        name => named(name, false, word.line),
+    }
+}
+
+/// Puts the literals that follow on this line into a list that is empty. The word after them is
+/// taken, and is the answer.
+#[inline(always)]
+fn literals<'a>(
+    line: u64,
+    words: &mut Words<'a>,
+    names: &mut NameTable<'a>,
+    list: &mut Vec<Literal>,
+) -> Result<Option<WordRef<'a>>, TextAnswer>
+    requires { list.old.items ≡ [] }
+    ensures read { Gives (λ next. (list.new.items, names.new, left next words.new)) result
+        (literals_read line names.old [] words.old) }
+    ensures within { OnOk result (All (λ l. l.variable < length names.new) list.new.items) }
+    ensures wider { OnOk result (length names.old ≤ length names.new) }
+    ensures shorter { IfOk result (λ next. length (left next words.new) ≤ length words.old) }
+{
+    while let Some(word) = words.next() {
+        if word.line != line {
+            return Ok(Some(word));
+        }
+        let literal = literal(word)?;
+        let number = names.number(literal.name)?;
+        list.push(Literal {
+            variable: number as u64,
+            negated: literal.negated,
+        })?;
+    }
+    Ok(None)
+}
+
+/// The product that begins with this word: its literals go into a list that is empty, and its number
+/// is the answer, with the word after the product, which is taken.
+#[inline(always)]
+pub(crate) fn product<'a>(
+    first: WordRef<'a>,
+    words: &mut Words<'a>,
+    names: &mut NameTable<'a>,
+    list: &mut Vec<Literal>,
+) -> Result<(i128, Option<WordRef<'a>>), TextAnswer>
+    requires { list.old.items ≡ [] }
+    ensures read { Gives (λ x. (
+      record { literals = list.new.items; coefficient = x.0 },
+      names.new,
+      left x.1 words.new,
+    )) result (product_read names.old (word_of first.entry) words.old) }
+    ensures small { IfOk result (λ x. nat_abs x.0 < 2 ^ 64) }
+    ensures within { OnOk result (All (λ l. l.variable < length names.new) list.new.items) }
+    ensures wider { OnOk result (length names.old ≤ length names.new) }
+    ensures shorter { IfOk result (λ x. length (left x.1 words.new) ≤ length words.old) }
+{
+    let coefficient = integer_word(first)?;
+    let next = literals(first.line, words, names, list)?;
+    Ok((coefficient, next))
+}

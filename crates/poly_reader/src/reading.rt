@@ -1,0 +1,67 @@
+//! A whole text.
+ghost use Rattle.std.specs.Prelude.{◌≡◌, ◌+◌, ◌*◌, ◌<◌, ◌≤◌, ◌^◌, [], length};
+ghost use Rattle.whole_text.specs.TokenTexts.{words_of};
+ghost use Rattle.whole_text.specs.Steps.{Gives};
+ghost use Rattle.problem_form.specs.Problems.{problem_total};
+ghost use Rattle.poly_reader.specs.Cost.{normal_reading, polynomial_of_words};
+ghost use Rattle.poly_reader.specs.Views.{products_read};
+
+use crate::listed::product;
+use crate::name_table::NameTable;
+use crate::names::Names;
+use problem_form::Problem;
+use std::alloc::Global;
+use whole_text::{Lexer, Style, TextAnswer, TokenText, Words};
+
+/// The problem of a text in normal form, and the names of its variables.
+#[derive(Drop)]
+pub struct Polynomial {
+    pub problem: Problem,
+    pub names: Names,
+}
+
+/// Adds the products up to the end to a problem that says nothing.
+fn products<'a>(
+    alloc: Global,
+    mut words: Words<'a>,
+    names: &mut NameTable<'a>,
+) -> Result<Problem, TextAnswer>
+    requires none { names.old ≡ [] }
+    requires few { length words ≤ 2 ^ 24 }
+    ensures { Gives (λ problem. (problem, names.new)) result (products_read words.entry) }
+{
+    let mut problem = Problem::new(alloc);
+    let mut list = Vec::new(alloc);
+    let mut next = words.next();
+    while let Some(first) = next {
+        let (coefficient, after) = product(first, &mut words, names, &mut list)?;
+        problem.widen(names.len() as u64);
+        problem.add_term(&mut list, coefficient)?;
+        next = after;
+    }
+    Ok(problem)
+}
+
+/// The problem of a text that was cut into words, in normal form, and the names of its variables, or
+/// the first fault of the text.
+pub fn read_poly_tokens(alloc: Global, text: &TokenText) -> Result<Polynomial, TextAnswer>
+    requires { length text.now.bytes ≤ 2 ^ 24 }
+    ensures { Gives (λ polynomial. polynomial) result (polynomial_of_words (words_of text.now)) }
+{
+    let mut table = NameTable::new(alloc);
+    let problem = products(alloc, text.words(), &mut table)?;
+    let names = table.copied(alloc)?;
+    Ok(Polynomial { problem, names })
+}
+
+/// The problem of a text, in normal form, and the names of its variables, or the first fault of the
+/// text.
+#[tactic(auto, unfolding(crate::specs::Cost::normal_reading, crate::specs::Cost::polynomial_of_words, crate::specs::Poly::reading))]
+pub fn read_poly(alloc: Global, text: &[u8]) -> Result<Polynomial, TextAnswer>
+    requires { length text.now ≤ 2 ^ 24 }
+    ensures { Gives (λ polynomial. polynomial) result (normal_reading text.now) }
+{
+    let mut lexer = Lexer::new(alloc, Style::Plain);
+    lexer.feed(text)?;
+    read_poly_tokens(alloc, &lexer.finish()?)
+}
