@@ -29,7 +29,7 @@ pub ising_stands : (text : List ℕ) (r : Read)
     → (s : Source) × ((reading Ising text >>= λ t. Ok (source_of t)) ≡ Ok s) × StandsFor s r
 unfolding normal_reading
 ising_stands text r e =
-    read_stands source_of normal_problem normal_form_stands (reading Ising text) r e
+    read_stands source_of normal_problem own normal_form_stands (reading Ising text) r e
 
 same_reading : (text : List ℕ)
     → normal_reading Ising text ≡ problem_of_words Ising (tokens_of Plain text)

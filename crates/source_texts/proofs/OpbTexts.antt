@@ -26,7 +26,7 @@ pub opb_stands : (text : List ℕ) (r : Read)
     → (normal_reading text >>= λ p. Ok (own p)) ≡ Ok r
     → (s : Source) × ((reading text >>= λ t. Ok (source_of t)) ≡ Ok s) × StandsFor s r
 unfolding normal_reading
-opb_stands text r e = read_stands source_of normal_problem normal_form_stands (reading text) r e
+opb_stands text r e = read_stands source_of normal_problem own normal_form_stands (reading text) r e
 
 same_reading : (text : List ℕ) → normal_reading text ≡ problem_of_words (tokens_of styles.Opb text)
 unfolding normal_reading problem_of_words reading

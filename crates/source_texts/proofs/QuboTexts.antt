@@ -29,7 +29,7 @@ pub qubo_stands : (text : List ℕ) (r : Read)
     → (s : Source) × ((reading Qubo text >>= λ t. Ok (source_of t)) ≡ Ok s) × StandsFor s r
 unfolding normal_reading
 qubo_stands text r e =
-    read_stands source_of normal_problem normal_form_stands (reading Qubo text) r e
+    read_stands source_of normal_problem own normal_form_stands (reading Qubo text) r e
 
 same_reading : (text : List ℕ)
     → normal_reading Qubo text ≡ problem_of_words Qubo (tokens_of Plain text)

@@ -35,13 +35,13 @@ same_costs_stand s p same bound = record {
 
 -- ---- texts of which each says a source, and is read into its problem
 
-module _ {S : Type 0} (source : S → Source) (problem : S → ProblemContent) where
+module _ {S P : Type 0} (source : S → Source) (problem : S → P) (kept : P → Read) where
   -- where the text is read into a problem, and each problem stands for its source
-  pub read_stands : ((s : S) → StandsFor (source s) (own (problem s)))
+  pub read_stands : ((s : S) → StandsFor (source s) (kept (problem s)))
       → (said : Result S TextFault) (r : Read)
-      → ((said >>= λ s. Ok (problem s)) >>= λ p. Ok (own p)) ≡ Ok r
+      → ((said >>= λ s. Ok (problem s)) >>= λ p. Ok (kept p)) ≡ Ok r
       → (s : Source) × ((said >>= λ t. Ok (source t)) ≡ Ok s) × StandsFor s r
   read_stands each (Err fault) r e = absurd cc
   read_stands each (Ok s) r e =
-      let same : own (problem s) ≡ r = cc in
+      let same : kept (problem s) ≡ r = cc in
       (source s, refl, subst (λ q. StandsFor (source s) q) same (each s))

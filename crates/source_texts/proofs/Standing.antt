@@ -2,11 +2,12 @@
 use Rattle.std.proofs.Common.{◌≡◌, ℕ, List, Ok}
 use Rattle.bits_model.specs.Costs.{Source}
 use Rattle.command_words.specs.declared.commands.Format.{Format}
-use Rattle.command_words.specs.declared.commands.Format.TheVariants.{Wcnf, Opb, Ising, Qubo}
+use Rattle.command_words.specs.declared.commands.Format.TheVariants.{Wcnf, Opb, Poly, Ising, Qubo}
 use Rattle.source_texts.specs.declared.reading.Read.{Read}
 use Rattle.source_texts.specs.Sources.{source_of, problem_of, StandsFor}
 use Rattle.source_texts.proofs.WcnfTexts.{wcnf_stands}
 use Rattle.source_texts.proofs.OpbTexts.{opb_stands}
+use Rattle.source_texts.proofs.PolyTexts.{poly_stands}
 use Rattle.source_texts.proofs.IsingTexts.{ising_stands}
 use Rattle.source_texts.proofs.QuboTexts.{qubo_stands}
 
@@ -14,5 +15,6 @@ pub problem_stands : (format : Format) (text : List ℕ) (r : Read) → problem_
     → (s : Source) × (source_of format text ≡ Ok s) × StandsFor s r
 problem_stands Wcnf text r e = wcnf_stands text r e
 problem_stands Opb text r e = opb_stands text r e
+problem_stands Poly text r e = poly_stands text r e
 problem_stands Ising text r e = ising_stands text r e
 problem_stands Qubo text r e = qubo_stands text r e

@@ -1,5 +1,5 @@
 -- What a text says in a format, and the problem that it is read into: a line a format.
-use Rattle.std.specs.Prelude.{◌≡◌, ℕ, ℤ, ◌≤◌, List, Ok, Result, take}
+use Rattle.std.specs.Prelude.{◌≡◌, ℕ, ℤ, ◌≤◌, List, Ok, Some, None, Result, take}
 use Rattle.bits_model.specs.declared.costs.Figures.{Figures}
 use Rattle.bits_model.specs.Costs.{Form, Source}
 use Rattle.bits_model.specs.Relations.{Decoding, Relaxes}
@@ -11,11 +11,14 @@ use Rattle.whole_text.specs.Steps.{◌>>=◌}
 use Rattle.problem_form.specs.Problems.{ProblemContent, form_of}
 use Rattle.problem_form.specs.Limits.{upper}
 use Rattle.command_words.specs.declared.commands.Format.{Format}
-use Rattle.command_words.specs.declared.commands.Format.TheVariants.{Wcnf, Opb, Ising, Qubo}
+use Rattle.command_words.specs.declared.commands.Format.TheVariants.{Wcnf, Opb, Poly, Ising, Qubo}
 use Rattle.wcnf_reader.specs.Wcnf as wcnf
 use Rattle.wcnf_reader.specs.Cost as wcnf_cost
 use Rattle.opb_reader.specs.Opb as opb
 use Rattle.opb_reader.specs.Cost as opb_cost
+use Rattle.poly_reader.specs.declared.reading.Polynomial.{Polynomial}
+use Rattle.poly_reader.specs.Poly as poly
+use Rattle.poly_reader.specs.Cost as poly_cost
 use Rattle.entry_reader.specs.declared.layout.Layout.TheVariants as layouts
 use Rattle.entry_reader.specs.Entries as entries
 use Rattle.entry_reader.specs.Problems as entry_problems
@@ -27,17 +30,23 @@ use Rattle.source_texts.specs.declared.reading.Read.{Read}
 abbrev pub source_of : Format → List ℕ → Result Source TextFault
 source_of Wcnf text = wcnf.reading text >>= λ s. Ok (wcnf_cost.source_of s)
 source_of Opb text = opb.reading text >>= λ s. Ok (opb_cost.source_of s)
+source_of Poly text = poly.reading text >>= λ s. Ok (poly_cost.source_of s)
 source_of Ising text = entries.reading layouts.Ising text >>= λ s. Ok (ising_cost.source_of s)
 source_of Qubo text = entries.reading layouts.Qubo text >>= λ s. Ok (qubo_cost.source_of s)
 
 -- a problem whose variables are all the source's own
 abbrev pub own : ProblemContent → Read
-own p = record { problem = p; variables = p.variables }
+own p = record { problem = p; variables = p.variables; names = None }
+
+-- a problem whose variables have names
+abbrev pub named : Polynomial → Read
+named q = record { problem = q.problem; variables = q.problem.variables; names = Some q.names }
 
 -- its problem in normal form, or the first fault of the text
 abbrev pub problem_of : Format → List ℕ → Result Read TextFault
 problem_of Wcnf text = wcnf_cost.normal_reading text >>= λ p. Ok (own p)
 problem_of Opb text = opb_cost.normal_reading text >>= λ p. Ok (own p)
+problem_of Poly text = poly_cost.normal_reading text >>= λ q. Ok (named q)
 problem_of Ising text = entry_problems.normal_reading layouts.Ising text >>= λ p. Ok (own p)
 problem_of Qubo text = entry_problems.normal_reading layouts.Qubo text >>= λ p. Ok (own p)
 
@@ -47,6 +56,7 @@ problem_of Qubo text = entry_problems.normal_reading layouts.Qubo text >>= λ p.
 abbrev pub style_of : Format → Style
 style_of Wcnf = styles.Plain
 style_of Opb = styles.Opb
+style_of Poly = styles.Plain
 style_of Ising = styles.Plain
 style_of Qubo = styles.Plain
 
@@ -54,6 +64,7 @@ style_of Qubo = styles.Plain
 abbrev pub problem_of_words : Format → List Word → Result Read TextFault
 problem_of_words Wcnf words = wcnf_cost.problem_of_words words >>= λ p. Ok (own p)
 problem_of_words Opb words = opb_cost.problem_of_words words >>= λ p. Ok (own p)
+problem_of_words Poly words = poly_cost.polynomial_of_words words >>= λ q. Ok (named q)
 problem_of_words Ising words =
     entry_problems.problem_of_words layouts.Ising words >>= λ p. Ok (own p)
 problem_of_words Qubo words = entry_problems.problem_of_words layouts.Qubo words >>= λ p. Ok (own p)

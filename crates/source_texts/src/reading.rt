@@ -2,23 +2,25 @@
 ghost use Rattle.std.specs.Prelude.{◌≡◌, ◌≤◌, ◌^◌, length, IfOk};
 ghost use Rattle.whole_text.specs.Steps.{Gives};
 ghost use Rattle.whole_text.specs.TokenTexts.{words_of};
-ghost use Rattle.source_texts.specs.Sources.{own, problem_of, problem_of_words, style_of};
+ghost use Rattle.source_texts.specs.Sources.{named, own, problem_of, problem_of_words, style_of};
 
 use command_words::Format;
 use ising_file::{read_ising, read_ising_tokens};
 use opb_reader::{read_opb, read_opb_tokens};
+use poly_reader::{Names, Polynomial, read_poly, read_poly_tokens};
 use problem_form::Problem;
 use qubo_file::{read_qubo, read_qubo_tokens};
 use std::alloc::Global;
 use wcnf_reader::{read_wcnf, read_wcnf_tokens};
 use whole_text::{Style, TextAnswer, TokenText};
 
-/// What a text is read into: its problem, and how many of the problem's first variables are the
-/// source's own.
+/// What a text is read into: its problem, how many of the problem's first variables are the source's
+/// own, and their names, where the text has names for them.
 #[derive(Drop)]
 pub struct Read {
     pub problem: Problem,
     pub variables: u64,
+    pub names: Option<Names>,
 }
 
 /// How the texts of a format are cut into words.
@@ -26,7 +28,7 @@ pub fn style_of(format: Format) -> Style
     ensures { result ≡ style_of format }
 {
     match format {
-        Format::Wcnf | Format::Ising | Format::Qubo => Style::Plain,
+        Format::Wcnf | Format::Poly | Format::Ising | Format::Qubo => Style::Plain,
         Format::Opb => Style::Opb,
     }
 }
@@ -36,7 +38,23 @@ fn own(problem: Problem) -> Read
     ensures { result ≡ own problem }
 {
     let variables = problem.variables;
-    Read { problem, variables }
+    Read {
+        problem,
+        variables,
+        names: None,
+    }
+}
+
+/// A problem whose variables have names.
+fn named(polynomial: Polynomial) -> Read
+    ensures { result ≡ named polynomial }
+{
+    let Polynomial { problem, names } = polynomial;
+    Read {
+        variables: problem.variables,
+        problem,
+        names: Some(names),
+    }
 }
 
 /// The problem of a text, in normal form, or the first fault of the text.
@@ -48,6 +66,7 @@ pub fn read_source(alloc: Global, format: Format, text: &[u8]) -> Result<Read, T
     match format {
         Format::Wcnf => Ok(own(read_wcnf(alloc, text)?)),
         Format::Opb => Ok(own(read_opb(alloc, text)?)),
+        Format::Poly => Ok(named(read_poly(alloc, text)?)),
         Format::Ising => Ok(own(read_ising(alloc, text)?)),
         Format::Qubo => Ok(own(read_qubo(alloc, text)?)),
     }
@@ -66,6 +85,7 @@ pub fn read_source_words(
     match format {
         Format::Wcnf => Ok(own(read_wcnf_tokens(alloc, text)?)),
         Format::Opb => Ok(own(read_opb_tokens(alloc, text)?)),
+        Format::Poly => Ok(named(read_poly_tokens(alloc, text)?)),
         Format::Ising => Ok(own(read_ising_tokens(alloc, text)?)),
         Format::Qubo => Ok(own(read_qubo_tokens(alloc, text)?)),
     }

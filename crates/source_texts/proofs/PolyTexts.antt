@@ -1,0 +1,41 @@
+-- Polynomial texts: their problems stand for what they say.
+use Rattle.std.proofs.Common.{◌≡◌, ℕ, List, Ok, refl, ap}
+use Rattle.bits_model.specs.Costs.{Source}
+use Rattle.whole_text.specs.Steps.{◌>>=◌}
+use Rattle.whole_text.specs.Tokens.{tokens_of}
+use Rattle.whole_text.specs.declared.token.Style.TheVariants.{Plain}
+use Rattle.problem_form.specs.NormalForm.{normal_form}
+use Rattle.poly_reader.specs.Poly.{Listed, reading}
+use Rattle.poly_reader.specs.Cost.{problem_of, polynomial_of, normal_reading, polynomial_of_words, source_of}
+use Rattle.poly_reader.proofs.ReadCosts.{reading_keeps_costs}
+use Rattle.source_texts.specs.declared.reading.Read.{Read}
+use Rattle.source_texts.specs.Sources.{named, StandsFor}
+use Rattle.source_texts.proofs.Readings.{same_costs_stand, read_stands}
+
+-- names do not count where a problem stands for a source
+polynomial_stands : (ts : List Listed) → StandsFor (source_of ts) (named (polynomial_of ts))
+polynomial_stands ts =
+    let stands = same_costs_stand (source_of ts) (normal_form (problem_of ts))
+    (record { width = refl; costs = reading_keeps_costs ts }) refl in
+    record {
+      variables = stands.variables;
+      own = stands.own;
+      upper = stands.upper;
+      relaxed = stands.relaxed;
+    }
+
+pub poly_stands : (text : List ℕ) (r : Read)
+    → (normal_reading text >>= λ q. Ok (named q)) ≡ Ok r
+    → (s : Source) × ((reading text >>= λ t. Ok (source_of t)) ≡ Ok s) × StandsFor s r
+unfolding normal_reading
+poly_stands text r e = read_stands source_of polynomial_of named polynomial_stands (reading text) r e
+
+same_reading : (text : List ℕ) → normal_reading text ≡ polynomial_of_words (tokens_of Plain text)
+unfolding normal_reading polynomial_of_words reading
+same_reading text = refl
+
+-- the words of a text are read as the text is
+pub poly_words_read : (text : List ℕ)
+    → (normal_reading text >>= λ q. Ok (named q))
+    ≡ (polynomial_of_words (tokens_of Plain text) >>= λ q. Ok (named q))
+poly_words_read text = ap (λ said. said >>= λ q. Ok (named q)) (same_reading text)
