@@ -21,6 +21,7 @@ use Rattle.command_words.specs.declared.commands.Target.{Target}
 use Rattle.command_words.specs.declared.commands.Target.TheVariants.{Qubo, Ising}
 use Rattle.term_table.specs.Tables.{TableContent}
 use Rattle.penalty_layer.specs.Penalty as penalty
+use Rattle.normal_form.specs.Multilinear as multilinear
 use Rattle.monomial_layer.specs.Monomials as monomials
 use Rattle.quad_form.specs.Quads.{QuadContent}
 use Rattle.quad_form.specs.Quads as quads
@@ -33,10 +34,10 @@ use Rattle.ising_form.specs.Reduction as reduction
 
 -- ---- the steps
 
--- the terms of a problem in a normal form; so far all are over literals
+-- the terms of a problem in a normal form: over literals, or over variables alone
 abbrev pub terms_of : Normal → ProblemContent → TableContent
 terms_of Literal p = penalty.image p
-terms_of Multilinear p = penalty.image p
+terms_of Multilinear p = multilinear.image p
 
 -- what stands for terms of degree 3 or more; so far each is replaced by itself
 abbrev pub low_terms_of : High → TableContent → TableContent
@@ -47,13 +48,9 @@ low_terms_of Rosenberg t = monomials.image t
 abbrev pub quad_of : Choices → ProblemContent → QuadContent
 quad_of choices p = flat.image (low_terms_of choices.high (terms_of choices.normal p))
 
--- the Ising form of a problem
-abbrev pub ising_of : Choices → ProblemContent → IsingContent
-ising_of choices p = spins.image (quad_of choices p)
-
--- how the energies of the Ising form stand for costs: four times those of the quadratic form do
-abbrev pub ising_figures : ProblemContent → Figures
-ising_figures p = figures_after (penalty.figures p) (pos 4) (pos 0)
+-- how the energies of an Ising form stand for costs: four times those of its quadratic form do
+abbrev pub ising_figures : Figures → Figures
+ising_figures figures = figures_after figures (pos 4) (pos 0)
 
 -- ---- what is written
 
@@ -72,12 +69,16 @@ ising_model Reduce f variables figures =
     isings.written_of (reduction.reduced f) variables
     (figures_moved figures (neg_ℤ f.constant)) (reduction.ising_unit f) kinds.Ising []
 
+-- the model for a target: of the quadratic form itself, or of its Ising form
+abbrev pub form_model : Target → UnitChoice → QuadContent → ℕ → Figures → Written
+form_model Qubo unit q variables figures = qubo_model unit q variables figures
+form_model Ising unit q variables figures =
+    ising_model unit (spins.image q) variables (ising_figures figures)
+
 -- the model of a problem, of which so many variables are the source's own
 abbrev pub model : Choices → Target → UnitChoice → ℕ → ProblemContent → Written
-model choices Qubo unit variables p =
-    qubo_model unit (quad_of choices p) variables (penalty.figures p)
-model choices Ising unit variables p =
-    ising_model unit (ising_of choices p) variables (ising_figures p)
+model choices target unit variables p =
+    form_model target unit (quad_of choices p) variables (penalty.figures p)
 
 -- ---- what it promises of the problem
 

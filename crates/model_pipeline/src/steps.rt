@@ -1,9 +1,7 @@
 //! The steps to a quadratic form, whichever they are.
-ghost use Rattle.std.specs.Prelude.{◌≡◌, ◌≤◌, ◌+◌, ◌^◌, pos, IfOk};
-ghost use Rattle.bits_model.specs.Relations.{Relaxes, decoding_after};
-ghost use Rattle.problem_form.specs.Problems.{form_of};
+ghost use Rattle.std.specs.Prelude.{◌≡◌, ◌≤◌, ◌+◌, ◌^◌, unsigned_abs, IfOk};
 ghost use Rattle.quad_form.specs.Quads.{quad_size, quad_total};
-ghost use Rattle.quad_form.specs.Flat.{same_bits, Fits};
+ghost use Rattle.quad_form.specs.Flat.{Fits};
 ghost use Rattle.quad_form.specs.Flat as flat;
 
 use bits_model::{BitsLink, Figures, Guard, Layer, NoMemory};
@@ -44,6 +42,8 @@ where
     ensures third { IfOk result (λ made. Fits made.third (H.image (G.image problem))) }
 
     // What the next step's sums rest on.
+    ensures threshold { IfOk result (λ made.
+        unsigned_abs made.figures.threshold ≤ G.FIGURE_BOUND) }
     ensures total { IfOk result (λ made.
         quad_total made.quad + 1 ≤ 2 ^ (G.TOTAL_BITS + H.TOTAL_GROWTH + 2)) }
     ensures size { IfOk result (λ made.

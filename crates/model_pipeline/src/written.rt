@@ -1,12 +1,12 @@
 //! The models of forms, in the unit that is chosen. Reducing is the last step before a model is
 //! written, and is done in the form's own memory.
 ghost use Rattle.std.specs.Prelude.{◌≡◌, ◌≤◌, ◌<◌, ◌+◌, ◌*◌, ◌^◌, ◌≤ℤ◌, pos, length, unsigned_abs, IfOk};
-ghost use Rattle.bits_model.specs.Relations.{figures_after};
 ghost use Rattle.quad_form.specs.Quads.{IsQuad, quad_size, quad_total};
 ghost use Rattle.ising_form.specs.Spins.{image};
-ghost use Rattle.model_pipeline.specs.Models.{ising_model, qubo_model};
+ghost use Rattle.model_pipeline.specs.Models.{form_model, ising_figures, ising_model, qubo_model};
 
 use bits_model::{ChainList, Figures, Kind, Layer, NoMemory, OutputModel, UnitChoice};
+use command_words::Target;
 use ising_form::{Ising, ToSpins};
 use quad_form::Quad;
 use std::alloc::Global;
@@ -80,7 +80,7 @@ pub fn spins_model(
     requires offset { unsigned_abs figures.offset < 2 ^ 122 }
     requires threshold { unsigned_abs figures.threshold < 2 ^ 122 }
     ensures model { IfOk result (λ m.
-        m ≡ ising_model unit (image quad) variables (figures_after figures (pos 4) (pos 0))) }
+        m ≡ ising_model unit (image quad) variables (ising_figures figures)) }
 
     // What the laws of the model rest on.
     ensures kept { IsQuad quad }
@@ -89,4 +89,31 @@ pub fn spins_model(
     drop(quad);
     let figures = figures.after(made.scale, made.offset);
     ising_model(alloc, made.target, variables, figures, unit)
+}
+
+/// The model of a quadratic form for a target.
+pub fn form_model(
+    alloc: Global,
+    quad: Quad,
+    variables: u32,
+    figures: Figures,
+    target: Target,
+    unit: UnitChoice,
+) -> Result<OutputModel, NoMemory>
+    requires enough { variables ≤ length quad.diagonal }
+    requires total { (quad_total quad + 1) * 2 ^ 2 ≤ 2 ^ 124 }
+    requires size { quad_size quad * 2 ^ 1 ≤ 2 ^ 32 }
+    requires scale_low { pos 1 ≤ℤ figures.scale }
+    requires scale { unsigned_abs figures.scale < 2 ^ 122 }
+    requires offset { unsigned_abs figures.offset < 2 ^ 122 }
+    requires threshold { unsigned_abs figures.threshold < 2 ^ 122 }
+    ensures model { IfOk result (λ m. m ≡ form_model target unit quad variables figures) }
+
+    // What the laws of the model rest on.
+    ensures kept { IsQuad quad }
+{
+    match target {
+        Target::Qubo => qubo_model(alloc, quad, variables, figures, unit),
+        Target::Ising => spins_model(alloc, quad, variables, figures, unit),
+    }
 }
