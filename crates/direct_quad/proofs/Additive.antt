@@ -14,9 +14,9 @@ use Rattle.integers.proofs.Totals.{total_by-append, total_by-flat_map}
 use Rattle.problem_form.specs.declared.literal.Literal.{Literal}
 use Rattle.problem_form.specs.Literals.{literal_cmp}
 use Rattle.term_table.specs.Terms.{Term, set_cmp, coefficient_of, in_front, with_addition, with_additions}
+use Rattle.term_table.specs.MultipliedOut.{plain, with_front, plain_terms}
 use Rattle.term_table.proofs.SetOrder.{same_set}
 use Rattle.term_table.proofs.Additions.{if_so-plus}
-use Rattle.quad_form.specs.Flat.{plain, with_front, plain_terms}
 use Rattle.quad_form.proofs.UniqueForms.{then_both}
 use Rattle.direct_quad.specs.Parts.{sum_for}
 

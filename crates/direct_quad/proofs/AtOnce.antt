@@ -15,12 +15,13 @@ use Rattle.bits_model.specs.declared.output.Entry.{Entry}
 use Rattle.problem_form.specs.declared.literal.Literal.{Literal}
 use Rattle.term_table.specs.Terms.{coefficient_of, terms_total, with_additions}
 use Rattle.term_table.specs.Tables.{TableContent, AreAdditions, table_size}
+use Rattle.term_table.specs.MultipliedOut.{contributions}
 use Rattle.term_table.proofs.Additions.{coefficient_of-with_additions}
 use Rattle.monomial_layer.specs.Monomials.{node, all_new_terms}
 use Rattle.monomial_layer.proofs.Sets.{IsLow-image}
 use Rattle.monomial_layer.proofs.Sizes.{size-image}
 use Rattle.quad_form.specs.Quads.{QuadContent, quad_total, quad_size, IsCoupler, IsQuad}
-use Rattle.quad_form.specs.Flat.{contributions, zero_quad}
+use Rattle.quad_form.specs.Flat.{zero_quad}
 use Rattle.quad_form.specs.Pairs.{weight_at}
 use Rattle.quad_form.specs.laws.Flattened.{flat_sets, length-image}
 use Rattle.quad_form.proofs.FlatForms.{quad_total-image, quad_size-image}

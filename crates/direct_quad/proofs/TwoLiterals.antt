@@ -6,8 +6,8 @@ use Rattle.integers.specs.Sums.{if_so}
 use Rattle.problem_form.specs.declared.literal.Literal.{Literal}
 use Rattle.problem_form.specs.Literals.{literal_cmp}
 use Rattle.term_table.specs.Terms.{Term, set_cmp, coefficient_of}
+use Rattle.term_table.specs.MultipliedOut.{plain}
 use Rattle.monomial_layer.specs.Monomials.{node}
-use Rattle.quad_form.specs.Flat.{plain}
 use Rattle.quad_form.specs.Pairs.{weight_for, weight_at}
 use Rattle.quad_form.specs.laws.Flattened.{one_out, two_out}
 use Rattle.quad_form.proofs.UniqueForms.{then_less, then_greater, one_is, two_are}

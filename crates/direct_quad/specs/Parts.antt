@@ -10,10 +10,10 @@ use Rattle.bits_model.specs.Output.{entry_cmp}
 use Rattle.problem_form.specs.declared.literal.Literal.{Literal}
 use Rattle.term_table.specs.Terms.{Term, with_additions, coefficient_of}
 use Rattle.term_table.specs.Tables.{TableContent}
+use Rattle.term_table.specs.MultipliedOut.{contributions}
 use Rattle.monomial_layer.specs.Monomials.{node, is_low, new_nodes, all_new_terms}
 use Rattle.monomial_layer.specs.Monomials as monomials
 use Rattle.quad_form.specs.Quads.{QuadContent, IsCoupler}
-use Rattle.quad_form.specs.Flat.{contributions}
 use Rattle.quad_form.specs.Flat as flat
 use Rattle.quad_form.specs.Pairs.{weight_at}
 

@@ -18,7 +18,7 @@ use Rattle.penalty_layer.specs.Weights.{clause_weights}
 -- ---- no limit is passed
 
 -- where no number passes its limit, the first does not, and no later one
-within_first : (c : Counted) (cs : List Counted) → first_passed (c ∷ cs) ≡ None
+pub within_first : (c : Counted) (cs : List Counted) → first_passed (c ∷ cs) ≡ None
     → (c.number ≤ c.most) × (first_passed cs ≡ None)
 within_first c cs none =
     elim (cases_lt c.most c.number) [
@@ -70,13 +70,13 @@ most_of start (n ∷ ns) =
 abbrev pub AtMost : {X : Type 0} → (X → ℕ) → ℕ → List X → Type 0
 AtMost f most xs = AllByRecursion (λ x. f x ≤ most) xs
 
-of_map : {X : Type 0} (f : X → ℕ) (most : ℕ) (xs : List X) (ns : List ℕ)
+pub of_map : {X : Type 0} (f : X → ℕ) (most : ℕ) (xs : List X) (ns : List ℕ)
     → AllByRecursion (λ n. n ≤ most) (map f xs ++ ns)
     → AtMost f most xs × AllByRecursion (λ n. n ≤ most) ns
 of_map f most [] ns h = (tt, h)
 of_map f most (x ∷ xs) ns h = let rest = of_map f most xs ns h.1 in ((h.0, rest.0), rest.1)
 
-raised : {X : Type 0} (f : X → ℕ) (low high : ℕ) (xs : List X) → low ≤ high → AtMost f low xs
+pub raised : {X : Type 0} (f : X → ℕ) (low high : ℕ) (xs : List X) → low ≤ high → AtMost f low xs
     → AtMost f high xs
 raised f low high [] le h = tt
 raised f low high (x ∷ xs) le h = let first = h.0 in (omega arith, raised f low high xs le h.1)

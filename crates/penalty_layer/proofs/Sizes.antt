@@ -33,7 +33,7 @@ use Rattle.penalty_layer.proofs.Bounds.{within_limits, most_of}
 use Rattle.penalty_layer.proofs.OppositeSets.{opposites_length}
 use Rattle.penalty_layer.proofs.Sums.{square_is}
 
-abbrev square : List Literal → ℕ
+abbrev pub square : List Literal → ℕ
 square ls = length ls ^ 2
 
 -- ---- a square
@@ -42,7 +42,7 @@ square ls = length ls ^ 2
 abbrev pub AreShort : ℕ → List Term → Type 0
 AreShort d ts = AllByRecursion (λ t. length t.0 ≤ d) ts
 
-square-mono : (a b : ℕ) → a ≤ b → a ^ 2 ≤ b ^ 2
+pub square-mono : (a b : ℕ) → a ≤ b → a ^ 2 ≤ b ^ 2
 square-mono a b h = omega (arith, mul-le a a b b h h, square_is a, square_is b)
 
 product_terms-size : (d : ℕ) (t u : Term) → length t.0 ≤ d → length u.0 ≤ d
@@ -144,11 +144,11 @@ slack_form-short d first k most one =
     (omega arith, slack_terms-short d first (slack_weights (slack_range k)) one)
 
 -- what the pairs of a constraint are the square of the summands times
-abbrev spread : Bool → ℕ → ℕ
+abbrev pub spread : Bool → ℕ → ℕ
 spread linear d = if linear then 1 else 4 * d ^ 2
 
 -- the squares of degrees, and the slack bits, are at most twice the pairs
-constraint-size : (n first : ℕ) (k : Constraint)
+pub constraint-size : (n first : ℕ) (k : Constraint)
     → sets_sum square (square_terms n (slack_form first k)) + slack_bits k
     ≤ 2 * constraint_pairs normals.Literal k
 constraint-size n first k = go (nat_le d 1) refl

@@ -19,10 +19,11 @@ use Rattle.bits_model.specs.Output.{entry_cmp, entry_size, is_node, weight_total
 use Rattle.problem_form.specs.declared.literal.Literal.{Literal}
 use Rattle.term_table.specs.Terms.{Term, set_cmp, terms_total, with_additions, Ascends, AreTerms}
 use Rattle.term_table.specs.Tables.{TableContent, IsLow, table_size}
+use Rattle.term_table.specs.MultipliedOut.{contributions}
 use Rattle.term_table.proofs.Additions.{terms_total-cons, terms_total-with_additions, sets_sum, sets_sum-cons, sets_sum-with_additions}
 use Rattle.term_table.proofs.KeptTerms.{OfSet, Under}
 use Rattle.quad_form.specs.Quads.{QuadContent, node_entries, quad_total, quad_size, IsCoupler, IsQuad}
-use Rattle.quad_form.specs.Flat.{contributions, pair_entry, with_term, zero_quad, quad_of, image, IsFlat}
+use Rattle.quad_form.specs.Flat.{pair_entry, with_term, zero_quad, quad_of, image, IsFlat}
 use Rattle.quad_form.specs.laws.Flattened.{length-fold, length-image}
 use Rattle.quad_form.proofs.NodeEnergies.{weights_within, weights-append}
 use Rattle.quad_form.proofs.FlatSums.{form_size, terms_total-contributions, form_size-contributions}

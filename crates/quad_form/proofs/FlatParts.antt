@@ -8,10 +8,11 @@ use Rattle.problem_form.specs.declared.literal.Literal.{Literal}
 use Rattle.bits_model.specs.declared.output.Entry.{Entry}
 use Rattle.term_table.specs.Terms.{Term, terms_total}
 use Rattle.term_table.specs.Tables.{TableContent, IsTable, IsLow}
+use Rattle.term_table.specs.MultipliedOut.{plain_terms, contributions}
 use Rattle.term_table.proofs.Additions.{terms_total-cons}
 use Rattle.term_table.proofs.KeptTerms.{OfSet}
 use Rattle.quad_form.specs.Quads.{QuadContent, node_entries, quad_total, IsCoupler, IsQuad}
-use Rattle.quad_form.specs.Flat.{plain_terms, contributions, with_term, quad_of, IsFlat}
+use Rattle.quad_form.specs.Flat.{with_term, quad_of, IsFlat}
 use Rattle.quad_form.specs.laws.Flattened.{length-fold, flat_contributions}
 use Rattle.quad_form.specs.Pairs.{IsPair, IsSettled, AreSummed, weight_at}
 use Rattle.quad_form.proofs.NodeEnergies.{weights-append}

@@ -2,12 +2,12 @@
 -- what it adds to a form's size to at most twice the square of its degree.
 use Rattle.std.proofs.Common.{ℕ, ◌*◌, ◌≤◌, Bool, true, false, ℤ, unsigned_abs, List, [], ◌∷◌, length, arith}
 use Rattle.std.specs.List.{AllByRecursion}
-use Rattle.std.proofs.lemmas.Int.{ints}
-use Rattle.std.proofs.lemmas.List.Sums.{sum_by-append}
+use Rattle.std.proofs.lemmas.List.Sums.{sum_by-append, count_by-le-length}
 use Rattle.problem_form.specs.declared.literal.Literal.{Literal}
 use Rattle.term_table.specs.Terms.{Term, set_size, terms_total, terms_size}
+use Rattle.term_table.specs.MultipliedOut.{complements, plain, plain_terms, contributions}
 use Rattle.term_table.proofs.Additions.{terms_total-cons, terms_size-cons, sets_sum}
-use Rattle.quad_form.specs.Flat.{plain, plain_terms, contributions}
+use Rattle.term_table.proofs.PlainSums.{plain_terms-grow}
 use Rattle.quad_form.specs.laws.Flattened.{one_out, two_out}
 
 abbrev IsShort : Term → Type 0
@@ -23,24 +23,18 @@ form_size (l ∷ k ∷ ls) = 4
 -- a term of one literal grows to at most twice as much
 pub total-one : (l : Literal) (c : ℤ)
     → terms_total (plain_terms (l ∷ []) c) ≤ 2 * unsigned_abs c
-total-one l c = go l.negated
-  where
-    go : (n : Bool) → terms_total (one_out n (plain l) c) ≤ 2 * unsigned_abs c
-    go true = omega (arith, ints)
-    go false = omega (arith, ints)
+total-one l c =
+    omega (
+      arith,
+      plain_terms-grow 1 (l ∷ []) c (count_by-le-length (λ (k : Literal). k.negated) (l ∷ [])),
+    )
 
 pub terms_total-plain_terms : (ls : List Literal) (c : ℤ) → length ls ≤ 2
     → terms_total (plain_terms ls c) ≤ 4 * unsigned_abs c
-terms_total-plain_terms [] c short = omega arith
-terms_total-plain_terms (l ∷ []) c short = omega (arith, total-one l c)
-terms_total-plain_terms (l ∷ k ∷ []) c short = go l.negated k.negated
-  where
-    go : (n m : Bool) → terms_total (two_out n m (plain l) (plain k) c) ≤ 4 * unsigned_abs c
-    go true true = omega (arith, ints)
-    go true false = omega (arith, ints)
-    go false true = omega (arith, ints)
-    go false false = omega arith
-terms_total-plain_terms (l ∷ k ∷ m ∷ ls) c short = absurd (omega arith)
+terms_total-plain_terms ls c short =
+    let few : complements ls ≤ 2 =
+    omega (arith, count_by-le-length (λ (k : Literal). k.negated) ls) in
+    omega (arith, plain_terms-grow 2 ls c few)
 
 form_size-plain_terms : (ls : List Literal) (c : ℤ) → length ls ≤ 2
     → sets_sum form_size (plain_terms ls c) ≤ 2 * set_size ls

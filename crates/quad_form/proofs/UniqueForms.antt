@@ -18,10 +18,11 @@ use Rattle.problem_form.specs.declared.literal.Literal.{Literal}
 use Rattle.problem_form.specs.Literals.{literal_cmp}
 use Rattle.term_table.specs.Terms.{Term, set_cmp, coefficient_of, with_additions, terms_total}
 use Rattle.term_table.specs.Tables.{TableContent, IsTable, IsLow}
+use Rattle.term_table.specs.MultipliedOut.{contributions}
 use Rattle.term_table.proofs.Additions.{coefficient_of-with_additions, terms_total-with_additions}
 use Rattle.term_table.proofs.KeptTerms.{OfSet, AreTerms-with_additions}
 use Rattle.quad_form.specs.Quads.{QuadContent, IsCoupler, IsQuad}
-use Rattle.quad_form.specs.Flat.{contributions, pair_entry, with_term, zero_quad, quad_of, image, IsFlat}
+use Rattle.quad_form.specs.Flat.{pair_entry, with_term, zero_quad, quad_of, image, IsFlat}
 use Rattle.quad_form.specs.laws.Flattened.{length-with_term, flat_sets, flat_contributions}
 use Rattle.quad_form.specs.Pairs.{IsNonzero, weight_for, weight_at, pair_number, IsSettled}
 use Rattle.quad_form.proofs.FlatForms.{width_of, IsQuad-of}

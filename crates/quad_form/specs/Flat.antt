@@ -3,37 +3,16 @@
 -- Each complement is replaced by 1 - x and everything is multiplied out: the sum for the empty set
 -- is the constant, the sum for a single variable is that node's weight, and the sums for pairs that
 -- are not 0 are the couplers, in order.
-use Rattle.std.specs.Prelude.{◌≡◌, ℕ, ◌<◌, ⊤, ℤ, pos, neg_ℤ, ◌+ℤ◌, false, List, [], ◌∷◌, ◌++◌, map, fold, replicate, slice_set, if◌then◌else◌}
-use Rattle.std.specs.List.{flat_map, slice_index_or}
+use Rattle.std.specs.Prelude.{◌≡◌, ℕ, ◌<◌, ⊤, ℤ, pos, ◌+ℤ◌, false, List, [], ◌∷◌, ◌++◌, fold, replicate, slice_set}
+use Rattle.std.specs.List.{slice_index_or}
 use Rattle.bits_model.specs.declared.output.Entry.{Entry}
 use Rattle.bits_model.specs.declared.layer.BitsLink.{BitsLink}
 use Rattle.bits_model.specs.Relations.{Decoding}
 use Rattle.problem_form.specs.declared.literal.Literal.{Literal}
 use Rattle.term_table.specs.Terms.{Term, with_additions}
 use Rattle.term_table.specs.Tables.{TableContent, IsTable, IsLow}
+use Rattle.term_table.specs.MultipliedOut.{contributions}
 use Rattle.quad_form.specs.Quads.{QuadContent}
-
--- ---- a term, multiplied out
-
--- the variable of a literal, as a literal
-abbrev pub plain : Literal → Literal
-plain l = record { variable = l.variable; negated = false }
-
--- each term, with one literal more in front
-abbrev pub with_front : Literal → List Term → List Term
-with_front l ts = map (λ t. (l ∷ t.0, t.1)) ts
-
--- the terms over variables that a term is the sum of
-abbrev pub plain_terms : List Literal → ℤ → List Term
-plain_terms [] c = ([], c) ∷ []
-plain_terms (l ∷ ls) c =
-    if l.negated
-    then plain_terms ls c ++ with_front (plain l) (plain_terms ls (neg_ℤ c))
-    else with_front (plain l) (plain_terms ls c)
-
--- all terms, multiplied out one after another
-abbrev pub contributions : List Term → List Term
-contributions ts = flat_map (λ t. plain_terms t.0 t.1) ts
 
 -- ---- the sets that are left
 

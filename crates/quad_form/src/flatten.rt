@@ -8,7 +8,8 @@ ghost use Rattle.problem_form.specs.Literals.{IsLiteralSet};
 ghost use Rattle.term_table.specs.Terms.{terms_total};
 ghost use Rattle.term_table.specs.Tables.{IsTable, IsLow};
 ghost use Rattle.quad_form.specs.Quads.{quad_total};
-ghost use Rattle.quad_form.specs.Flat.{plain, with_front, plain_terms, contributions, with_term, quad_of};
+ghost use Rattle.term_table.specs.MultipliedOut.{plain, with_front, plain_terms, contributions};
+ghost use Rattle.quad_form.specs.Flat.{with_term, quad_of};
 
 use crate::parts::Parts;
 use crate::quad::Quad;

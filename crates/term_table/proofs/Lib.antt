@@ -16,3 +16,5 @@ pub mod TermProducts
 pub mod Multiplying
 pub mod Merging
 pub mod PairUnions
+pub mod PlainSums
+pub mod PlainSets

@@ -1,6 +1,7 @@
 pub mod Terms
 pub mod Products
 pub mod Tables
+pub mod MultipliedOut
 pub mod Entries
 pub mod Held
 pub mod laws

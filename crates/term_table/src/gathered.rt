@@ -57,6 +57,13 @@ impl GatheredTerms {
         }
     }
 
+    /// Over the variables of a table. Takes no memory.
+    pub fn as_wide_as(alloc: Global, table: &Table) -> GatheredTerms
+        ensures { result ≡ record { width = table.now.width; terms = [] } }
+    {
+        GatheredTerms::new(alloc, table.width)
+    }
+
     /// Appends an addition to the coefficient of a set.
     pub fn add(&mut self, literals: &[Literal], coefficient: i128) -> Result<(), NoMemory>
         requires set { IsTermSet self.old.width literals.now }

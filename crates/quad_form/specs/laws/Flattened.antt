@@ -1,7 +1,7 @@
 -- Flattening keeps costs. Nothing here has to be believed.
 --
--- Each term costs what the terms cost that it is multiplied out to, a table of sums costs what was
--- added, and a term adds to the quadratic form where it is placed exactly what it costs.
+-- Terms cost what they are multiplied out to, a table of sums costs what was added, and a term adds
+-- to the quadratic form where it is placed exactly what it costs.
 use Rattle.std.specs.Prelude.{◌≡◌, ℕ, zero, suc, ◌+◌, ◌<◌, ◌≤◌, ℤ, pos, neg_ℤ, ◌+ℤ◌, Bool, true, false, not, cond, ◌&&◌, ◌||◌, List, [], ◌∷◌, ◌++◌, length, All, replicate, slice_set, if◌then◌else◌}
 use Rattle.std.specs.List.{AllByRecursion, fold, slice_index_or}
 use Rattle.std.specs.List.Sorted.{IsStrictlySortedBy}
@@ -10,82 +10,23 @@ use Rattle.std.proofs.lemmas.Int.{ints}
 use Rattle.std.proofs.lemmas.List.{length-set, length-replicate}
 use Rattle.std.proofs.lemmas.List.Elements.{All-nil, All-append, All-head, All-tail, All-from_recursion, recursion_from_All}
 use Rattle.integers.specs.Sums.{total_by, if_so}
-use Rattle.integers.proofs.Totals.{total_by-append, total_by-flat_map, total_by-same, total_by_push}
+use Rattle.integers.proofs.Totals.{total_by-append, total_by_push}
 use Rattle.bits_model.specs.declared.layer.BitsLink.{BitsLink}
 use Rattle.bits_model.specs.Costs.{IsNeverInfinite}
 use Rattle.bits_model.specs.Output.{bit_at, bits_energy}
 use Rattle.bits_model.specs.Relations.{Keeps, Extends, Joins}
 use Rattle.problem_form.specs.declared.literal.Literal.{Literal}
-use Rattle.problem_form.specs.Literals.{holds, all_hold, are_opposite, IsLiteralSet}
+use Rattle.problem_form.specs.Literals.{all_hold, are_opposite, IsLiteralSet}
 use Rattle.term_table.specs.Terms.{Term, term_cost, terms_cost, with_additions, IsTermSet}
 use Rattle.term_table.specs.Tables.{TableContent, IsTable, IsLow}
 use Rattle.term_table.specs.Tables as tables
+use Rattle.term_table.specs.MultipliedOut.{plain, with_front, plain_terms, contributions}
+use Rattle.term_table.specs.laws.MultipliedOut.{terms_cost-contributions}
 use Rattle.term_table.proofs.SmallSets.{in_order}
 use Rattle.term_table.proofs.Additions.{terms_cost-with_additions}
 use Rattle.term_table.proofs.KeptTerms.{OfSet, All-with_additions}
 use Rattle.quad_form.specs.Quads.{QuadContent, node_entries, quad_value, form_of}
-use Rattle.quad_form.specs.Flat.{plain, with_front, plain_terms, contributions, IsPlain, IsFlat, pair_entry, with_term, zero_quad, image, same_bits, IsSound, Fits}
-
--- ---- a term, multiplied out, costs the same
-
-if_so-and : (a b : Bool) (c : ℤ) → if_so (a && b) c ≡ if_so a (if_so b c)
-if_so-and true b c = refl
-if_so-and false b c = refl
-
--- two numbers under one test
-pub if_so-plus : (a : Bool) (c d : ℤ) → if_so a c +ℤ if_so a d ≡ if_so a (c +ℤ d)
-if_so-plus true c d = refl
-if_so-plus false c d = refl
-
-if_so-zero : (a : Bool) → pos 0 ≡ if_so a (pos 0)
-if_so-zero true = refl
-if_so-zero false = refl
-
-terms_cost-with_front : (y : List Bool) (l : Literal) (ts : List Term)
-    → terms_cost y (with_front l ts) ≡ if_so (holds y l) (terms_cost y ts)
-terms_cost-with_front y l [] = if_so-zero (holds y l)
-terms_cost-with_front y l (t ∷ ts) =
-    (λ i. if_so-and (holds y l) (all_hold y t.0) t.1 i +ℤ terms_cost-with_front y l ts i)
-    ∙ if_so-plus (holds y l) (term_cost y t) (terms_cost y ts)
-
--- a complement is 1 less the variable
-complement_value : (v r : Bool) (c : ℤ)
-    → if_so r c +ℤ if_so v (if_so r (neg_ℤ c)) ≡ if_so (not v && r) c
-complement_value true true c = omega (arith, ints)
-complement_value true false c = refl
-complement_value false true c = omega (arith, ints)
-complement_value false false c = refl
-
-terms_cost-plain_terms : (y : List Bool) (ls : List Literal) (c : ℤ)
-    → terms_cost y (plain_terms ls c) ≡ term_cost y (ls, c)
-terms_cost-plain_terms y [] c = omega (arith, ints)
-terms_cost-plain_terms y (l ∷ ls) c =
-    let rest = plain_terms ls c in
-    let less = plain_terms ls (neg_ℤ c) in
-    go l.negated (slice_index_or y l.variable false) (all_hold y ls) rest less
-    (terms_cost-plain_terms y ls c)
-    (terms_cost-plain_terms y ls (neg_ℤ c))
-    (terms_cost-with_front y (plain l) rest)
-    (terms_cost-with_front y (plain l) less)
-  where
-    go : (n v r : Bool) (a b : List Term)
-        → terms_cost y a ≡ if_so r c → terms_cost y b ≡ if_so r (neg_ℤ c)
-        → terms_cost y (with_front (plain l) a) ≡ if_so v (terms_cost y a)
-        → terms_cost y (with_front (plain l) b) ≡ if_so v (terms_cost y b)
-        → terms_cost y (if n then a ++ with_front (plain l) b else with_front (plain l) a)
-        ≡ if_so (cond n (not v) v && r) c
-    go true v r a b f g h k =
-        total_by-append (term_cost y) a (with_front (plain l) b)
-        ∙ (λ i. f i +ℤ (k ∙ ap (if_so v) g) i)
-        ∙ complement_value v r c
-    go false v r a b f g h k = h ∙ ap (if_so v) f ∙ sym (if_so-and v r c)
-
-terms_cost-contributions : (y : List Bool) (ts : List Term)
-    → terms_cost y (contributions ts) ≡ terms_cost y ts
-terms_cost-contributions y ts =
-    total_by-flat_map (term_cost y) (λ (t : Term). plain_terms t.0 t.1) ts
-    ∙ total_by-same (λ (t : Term). terms_cost y (plain_terms t.0 t.1)) (term_cost y) ts
-    (λ t. terms_cost-plain_terms y t.0 t.1)
+use Rattle.quad_form.specs.Flat.{IsPlain, IsFlat, pair_entry, with_term, zero_quad, image, same_bits, IsSound, Fits}
 
 -- ---- the sets that are left
 

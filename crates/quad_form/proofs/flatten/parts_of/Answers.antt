@@ -5,8 +5,9 @@ use Rattle.std.proofs.lemmas.Map.Iter.{rest_more}
 use Rattle.std.proofs.lemmas.List.{length-replicate}
 use Rattle.std.proofs.lemmas.List.Elements.{All-rest}
 use Rattle.term_table.specs.Terms.{Term, terms_total, IsTermSet}
+use Rattle.term_table.specs.MultipliedOut.{contributions, plain_terms}
 use Rattle.quad_form.specs.Quads.{QuadContent, quad_total}
-use Rattle.quad_form.specs.Flat.{contributions, plain_terms, with_term, zero_quad}
+use Rattle.quad_form.specs.Flat.{with_term, zero_quad}
 use Rattle.quad_form.proofs.FlatForms.{quad_total-zero}
 use Rattle.quad_form.proofs.FlatParts.{placed_more, total_more, total_first, width-all, All-first}
 use Rattle.quad_form.proofs.flatten.parts_of.Goals as goal

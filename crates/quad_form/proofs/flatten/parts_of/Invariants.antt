@@ -1,7 +1,8 @@
 use Rattle.std.proofs.Common.{◌≡◌, ◌+◌, ◌*◌, ◌≤◌, ◌^◌, All, fold, length}
 use Rattle.term_table.specs.Terms.{Term, terms_total, IsTermSet}
+use Rattle.term_table.specs.MultipliedOut.{contributions}
 use Rattle.quad_form.specs.Quads.{quad_total}
-use Rattle.quad_form.specs.Flat.{contributions, with_term, quad_of}
+use Rattle.quad_form.specs.Flat.{with_term, quad_of}
 use Rattle.quad_form.proofs.flatten.parts_of.Given as goal
 
 -- what the terms that are left give makes up the rest of the form, and they are low

@@ -1,7 +1,7 @@
 use Rattle.std.proofs.Common.{◌∷◌, [], arith}
 use Rattle.std.specs.Int.{w128}
 use Rattle.std.proofs.lemmas.Int.{ints, to_z-of_z}
-use Rattle.quad_form.specs.Flat.{plain_terms}
+use Rattle.term_table.specs.MultipliedOut.{plain_terms}
 use Rattle.quad_form.proofs.FlatSums.{total-one}
 use Rattle.quad_form.proofs.FlatParts.{total-all}
 use Rattle.quad_form.proofs.flatten.place_two.Goals as goal

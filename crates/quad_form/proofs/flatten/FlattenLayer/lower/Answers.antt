@@ -1,7 +1,8 @@
 use Rattle.std.proofs.Common.{◌≡◌, ℕ, length, All, subst, sym, ap, ◌∙◌, arith}
 use Rattle.bits_model.specs.declared.layer.BitsLink.{BitsLink}
+use Rattle.term_table.specs.MultipliedOut.{contributions}
 use Rattle.quad_form.specs.Quads.{QuadContent, quad_total, quad_size}
-use Rattle.quad_form.specs.Flat.{Fits, contributions}
+use Rattle.quad_form.specs.Flat.{Fits}
 use Rattle.quad_form.specs.laws.Flattened.{flat_keeps}
 use Rattle.quad_form.specs.Pairs.{IsPair}
 use Rattle.quad_form.proofs.FlatForms.{width_of, quad_total-image, quad_size-image}

@@ -1,0 +1,183 @@
+-- No set that a problem within the limits contributes has more than 8 complements.
+--
+-- A union has no more than both sets together, so the square of a constraint has at most twice as
+-- many as its products.
+use Rattle.std.proofs.Common.{◌≡◌, ℕ, suc, ◌+◌, ◌*◌, ◌≤◌, Bool, true, false, not, cond, pos, ◌*ℤ◌, List, [], ◌∷◌, ◌++◌, map, fold, max, count_by, refl, sym, subst, arith}
+use Rattle.std.specs.Prelude.{if◌then◌else◌}
+use Rattle.std.specs.List.{AllByRecursion}
+use Rattle.std.specs.Ordering.{match_ordering}
+use Rattle.std.specs.declared.cmp.Ordering.{Ordering}
+use Rattle.std.specs.declared.cmp.Ordering.TheVariants.{Less, Equal, Greater}
+use Rattle.std.proofs.lemmas.List.{append-nil}
+use Rattle.std.proofs.lemmas.List.Sums.{sum_by-cons, sum_by-append}
+use Rattle.problem_form.specs.declared.literal.Literal.{Literal}
+use Rattle.problem_form.specs.declared.limits.Normal.TheVariants as normals
+use Rattle.problem_form.specs.declared.terms.Product.{Product}
+use Rattle.problem_form.specs.declared.terms.Clause.{Clause}
+use Rattle.problem_form.specs.declared.terms.Constraint.{Constraint}
+use Rattle.problem_form.specs.Literals.{literal_cmp, has_clash, with_literal, literal_set}
+use Rattle.problem_form.specs.Problems.{ProblemContent}
+use Rattle.problem_form.specs.Limits as limits
+use Rattle.problem_form.specs.Limits.{clause_complements, most_complements, negations, penalty, slack_range, slack_bits}
+use Rattle.term_table.specs.Terms.{Term}
+use Rattle.term_table.specs.Products.{union, scaled, product_terms, products_with}
+use Rattle.term_table.specs.MultipliedOut.{complements}
+use Rattle.term_table.proofs.PlainSums.{AreFew, complements-cons}
+use Rattle.penalty_layer.specs.Penalty.{opposite, clause_term, plain_terms, contributions}
+use Rattle.penalty_layer.specs.Slack.{slack_weights}
+use Rattle.penalty_layer.specs.Squares.{product_term, square_terms, node, slack_terms, slack_form, constraint_terms}
+use Rattle.penalty_layer.proofs.Bounds.{AtMost, most_of, of_map, raised}
+
+-- ---- unions
+
+complements-with_literal : (l : Literal) (ks : List Literal)
+    → complements (with_literal l ks) ≤ cond l.negated 1 0 + complements ks
+complements-with_literal l [] = omega (arith, complements-cons l [])
+complements-with_literal l (k ∷ ks) = go (literal_cmp l k) (complements-with_literal l ks)
+  where
+    go : (o : Ordering) → complements (with_literal l ks) ≤ cond l.negated 1 0 + complements ks
+        → complements (match_ordering o (l ∷ k ∷ ks) (k ∷ ks) (k ∷ with_literal l ks))
+        ≤ cond l.negated 1 0 + complements (k ∷ ks)
+    go Less h = omega (arith, complements-cons l (k ∷ ks))
+    go Equal h = omega arith
+    go Greater h = omega (arith, h, complements-cons k (with_literal l ks), complements-cons k ks)
+
+complements-literal_set : (ls : List Literal) → complements (literal_set ls) ≤ complements ls
+complements-literal_set [] = omega arith
+complements-literal_set (l ∷ ls) =
+    omega (
+      arith,
+      complements-with_literal l (literal_set ls),
+      complements-literal_set ls,
+      complements-cons l ls,
+    )
+
+complements-union : (ls ks : List Literal)
+    → complements (union ls ks) ≤ complements ls + complements ks
+complements-union ls ks =
+    omega (
+      arith,
+      complements-literal_set (ls ++ ks),
+      sum_by-append (λ (l : Literal). cond l.negated 1 0) ls ks,
+    )
+
+-- the complements of a clause's literals are complements where the literals are not
+pub complements-opposites : (ls : List Literal)
+    → complements (map opposite ls) ≡ count_by (λ l. not l.negated) ls
+complements-opposites [] = refl
+complements-opposites (l ∷ ls) =
+    omega (
+      arith,
+      complements-opposites ls,
+      complements-cons (opposite l) (map opposite ls),
+      sum_by-cons (λ (k : Literal). cond (not k.negated) 1 0) l ls,
+    )
+
+-- ---- lists of terms
+
+few-append : (most : ℕ) (ts us : List Term) → AreFew most ts → AreFew most us
+    → AreFew most (ts ++ us)
+few-append most [] us h k = k
+few-append most (t ∷ ts) us h k = (h.0, few-append most ts us h.1 k)
+
+few-products : (most : ℕ) (ts : List Product) → AtMost limits.complements most ts
+    → AreFew most (map product_term ts)
+few-products most [] h = tt
+few-products most (t ∷ ts) h = (h.0, few-products most ts h.1)
+
+few-clauses : (most n : ℕ) (cs : List Clause) → AtMost clause_complements most cs
+    → AreFew most (map (clause_term n) cs)
+few-clauses most n [] h = tt
+few-clauses most n (c ∷ cs) h =
+    (omega (arith, h.0, complements-opposites c.literals), few-clauses most n cs h.1)
+
+few-slack : (most first : ℕ) (ws : List ℕ) → AreFew most (slack_terms first ws)
+few-slack most first [] = tt
+few-slack most first (w ∷ ws) =
+    (omega (arith, complements-cons (node first) []), few-slack most (suc first) ws)
+
+-- ---- squares
+
+few-product : (one most : ℕ) (t u : Term) → 2 * one ≤ most → complements t.0 ≤ one
+    → complements u.0 ≤ one → AreFew most (product_terms t u)
+few-product one most t u twice h k = go (has_clash (union t.0 u.0))
+  where
+    go : (clash : Bool)
+        → AreFew most (if clash then [] else (union t.0 u.0, t.1 *ℤ u.1) ∷ [])
+    go true = tt
+    go false = (omega (arith, twice, h, k, complements-union t.0 u.0), tt)
+
+few-products_with : (one most : ℕ) (t : Term) (us : List Term) → 2 * one ≤ most
+    → complements t.0 ≤ one → AreFew one us → AreFew most (products_with t us)
+few-products_with one most t [] twice h k = tt
+few-products_with one most t (u ∷ us) twice h k =
+    few-append most (product_terms t u) (products_with t us) (few-product one most t u twice h k.0)
+    (few-products_with one most t us twice h k.1)
+
+pub few-square : (one most n : ℕ) (ts : List Term) → 2 * one ≤ most → AreFew one ts
+    → AreFew most (square_terms n ts)
+few-square one most n [] twice h = tt
+few-square one most n (t ∷ ts) twice h = (
+  omega (arith, twice, h.0),
+  few-append most (products_with (scaled (pos (2 * n)) t) ts) (square_terms n ts)
+      (few-products_with one most (scaled (pos (2 * n)) t) ts twice h.0 h.1)
+      (few-square one most n ts twice h.1),
+)
+
+at_most_all : {X : Type 0} (f : X → ℕ) (xs : List X) (most : ℕ) → fold max 0 (map f xs) ≤ most
+    → AtMost f most xs
+at_most_all f xs most h =
+    let all = (most_of 0 (map f xs)).1 in
+    let each = of_map f (fold max 0 (map f xs)) xs [] (subst (AllByRecursion (λ n. n ≤ fold max 0 (map f xs))) (sym (append-nil (map f xs))) all) in
+    raised f (fold max 0 (map f xs)) most xs h each.0
+
+-- what is squared for a constraint has no more complements than its products
+pub few-slack_form : (first : ℕ) (k : Constraint) → AreFew (most_complements k) (slack_form first k)
+few-slack_form first k =
+    let most = most_complements k in
+    few-append most (map product_term k.products) _
+    (few-products most k.products (at_most_all limits.complements k.products most (omega arith)))
+    (omega arith, few-slack most first (slack_weights (slack_range k)))
+
+few-constraints : (most n first : ℕ) (ks : List Constraint)
+    → AtMost (λ k. 2 * most_complements k) most ks → AreFew most (constraint_terms n first ks)
+few-constraints most n first [] h = tt
+few-constraints most n first (k ∷ ks) h =
+    few-append most (square_terms n (slack_form first k)) (constraint_terms n (first + slack_bits k) ks)
+    (few-square (most_complements k) most n (slack_form first k) h.0 (few-slack_form first k))
+    (few-constraints most n (first + slack_bits k) ks h.1)
+
+-- ---- the whole
+
+twice_most : (most : ℕ) (ks : List Constraint) → AtMost most_complements most ks
+    → AtMost (λ k. 2 * most_complements k) (2 * most) ks
+twice_most most [] h = tt
+twice_most most (k ∷ ks) h = (omega (arith, h.0), twice_most most ks h.1)
+
+pub few-contributions : (p : ProblemContent) → negations normals.Multilinear p ≤ 8
+    → AreFew 8 (contributions p)
+few-contributions p h =
+    let all = (most_of 0 sums).1 in
+    let products = of_map limits.complements (fold max 0 sums) p.objective (map clause_complements p.clauses) all in
+    let clauses = of_map clause_complements (fold max 0 sums) p.clauses [] (subst (AllByRecursion (λ n. n ≤ fold max 0 sums)) (sym (append-nil (map clause_complements p.clauses))) products.1) in
+    few-append 8 (plain_terms p) (constraint_terms (penalty p) p.variables p.constraints) (
+      omega arith,
+      few-append 8 (map product_term p.objective) (map (clause_term (penalty p)) p.clauses)
+          (few-products 8 p.objective (raised _ _ _ p.objective low products.0))
+          (few-clauses 8 (penalty p) p.clauses (raised _ _ _ p.clauses low clauses.0)),
+    )
+    (few-constraints 8 (penalty p) p.variables p.constraints
+    (raised _ _ _ p.constraints high
+    (twice_most square p.constraints (at_most_all most_complements p.constraints square (omega arith)))))
+  where
+    sums : List ℕ
+    sums = map limits.complements p.objective ++ map clause_complements p.clauses
+
+    square : ℕ
+    square = fold max 0 (map most_complements p.constraints)
+
+    low : fold max 0 sums ≤ 8
+    low = omega (arith, h)
+
+    high : 2 * square ≤ 8
+    high = omega (arith, h)

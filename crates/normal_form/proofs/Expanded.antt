@@ -1,0 +1,63 @@
+-- A table, multiplied out: what is gathered fits, term by term, and no complement is left.
+use Rattle.std.proofs.Common.{◌≡◌, ◌+◌, ◌*◌, ◌≤◌, ◌^◌, List, [], ◌∷◌, refl, sym, ap, ◌∙◌, subst, arith, All}
+use Rattle.std.proofs.lemmas.List.Elements.{recursion_from_All}
+use Rattle.problem_form.specs.declared.literal.Literal.{Literal}
+use Rattle.term_table.specs.Terms.{Term, terms_total, IsTermSet}
+use Rattle.term_table.specs.Tables.{TableContent, IsTable, AreAdditions, with_more}
+use Rattle.term_table.specs.MultipliedOut.{complements, ArePlain, plain_terms, contributions}
+use Rattle.term_table.proofs.KeptTerms.{OfSet, All-with_additions}
+use Rattle.term_table.proofs.Loops.{with_more-append}
+use Rattle.term_table.proofs.PlainSums.{contributions-grow}
+use Rattle.term_table.proofs.PlainSets.{contributions-sets, contributions-plain}
+use Rattle.normal_form.specs.Behind.{behind}
+use Rattle.normal_form.specs.Multilinear.{expanded, IsMultilinear}
+use Rattle.normal_form.proofs.PlainSteps.{behind-nothing, additions_first}
+
+-- what a table is multiplied out to
+abbrev pub multiplied : TableContent → TableContent
+multiplied t = record t { terms = contributions t.terms }
+
+pub AreAdditions-multiplied : (t : TableContent) → IsTable t
+    → All (λ (u : Term). complements u.0 ≤ 8) t.terms
+    → (terms_total t.terms + 1) * 2 ^ 8 ≤ 2 ^ 124 → AreAdditions (multiplied t)
+AreAdditions-multiplied t table few small = record {
+  sets =
+      contributions-sets t.width t.terms
+      (recursion_from_All (OfSet (IsTermSet t.width)) t.terms table.terms.sets);
+  small =
+      omega (
+        arith,
+        small,
+        contributions-grow 8 t.terms (recursion_from_All (λ (u : Term). complements u.0 ≤ 8) t.terms few),
+      );
+}
+
+pub multilinear-expanded : (t : TableContent) → IsMultilinear (expanded t)
+multilinear-expanded t =
+    All-with_additions ArePlain (contributions t.terms) (contributions-plain t.terms)
+
+-- ---- term by term
+
+-- the next term can be added, behind nothing
+pub next_additions : (now all : TableContent) (list : List Literal) (t : Term) (left rest : List Term)
+    → left ≡ t ∷ rest → list ≡ [] → with_more now (contributions left) ≡ all → AreAdditions all
+    → AreAdditions (with_more now (behind list (plain_terms t.0 t.1)))
+next_additions now all list t left rest e empty whole fits =
+    let term : behind list (plain_terms t.0 t.1) ≡ plain_terms t.0 t.1 =
+    ap (λ ls. behind ls (plain_terms t.0 t.1)) empty ∙ behind-nothing (plain_terms t.0 t.1) in
+    rw term
+    (additions_first now (plain_terms t.0 t.1) (contributions rest) (contributions left) (ap contributions e)
+    (subst AreAdditions (sym whole) fits))
+
+-- after it, those that are left make up the rest
+pub next_whole : (now next all : TableContent) (list : List Literal) (t : Term) (left rest : List Term)
+    → left ≡ t ∷ rest → list ≡ [] → with_more now (contributions left) ≡ all
+    → next ≡ with_more now (behind list (plain_terms t.0 t.1))
+    → with_more next (contributions rest) ≡ all
+next_whole now next all list t left rest e empty whole made =
+    let term : behind list (plain_terms t.0 t.1) ≡ plain_terms t.0 t.1 =
+    ap (λ ls. behind ls (plain_terms t.0 t.1)) empty ∙ behind-nothing (plain_terms t.0 t.1) in
+    with_more-append now next (with_more next (contributions rest)) (plain_terms t.0 t.1) (contributions rest)
+    (made ∙ ap (with_more now) term) refl
+    ∙ ap (λ ts. with_more now (contributions ts)) (sym e)
+    ∙ whole

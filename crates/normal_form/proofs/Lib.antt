@@ -1,0 +1,6 @@
+pub mod PlainSteps
+pub mod Expanded
+pub mod Limits
+pub mod Complements
+pub mod Sizes
+pub mod Admitted

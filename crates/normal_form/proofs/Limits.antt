@@ -1,0 +1,134 @@
+-- What the limits of the multilinear form say of a problem: they are no wider than those of the
+-- literal form.
+use Rattle.std.proofs.Common.{◌≡◌, ℕ, ◌+◌, ◌-◌, ◌*◌, ◌^◌, ◌<◌, ◌≤◌, min, Bool, true, false, cond, ltb, Some, None, List, [], ◌∷◌, refl, ap, ◌∙◌, arith}
+use Rattle.std.specs.Prelude.{nat_le}
+use Rattle.std.specs.Bool.{Decides}
+use Rattle.std.specs.List.{sum_by}
+use Rattle.std.proofs.Math.Nat.{mul-le-mul_right}
+use Rattle.std.proofs.lemmas.Bool.Decides.{Decides-ltb}
+use Rattle.std.proofs.lemmas.List.Sums.{sum_by-cons}
+use Rattle.std.proofs.lemmas.Nat.{pow-add}
+use Rattle.bits_model.proofs.Growth.{one_le_pow}
+use Rattle.problem_form.specs.declared.limits.LimitFault.{LimitFault}
+use Rattle.problem_form.specs.declared.limits.LimitKind.TheVariants.{Variables, Degree, Negations, Pairs, Weight}
+use Rattle.problem_form.specs.declared.limits.Normal.TheVariants as normals
+use Rattle.problem_form.specs.declared.terms.Constraint.{Constraint}
+use Rattle.problem_form.specs.Problems.{ProblemContent}
+use Rattle.problem_form.specs.Limits.{Counted, first_passed, limit_fault, degree, negations, pairs, product_pairs, clause_pairs, constraint_pairs, constraint_degree, most_complements, summands, weight, most_degree}
+use Rattle.penalty_layer.specs.Penalty as penalty
+use Rattle.penalty_layer.proofs.Bounds.{within_first}
+use Rattle.penalty_layer.proofs.Sizes.{spread}
+use Rattle.penalty_layer.proofs.Sums.{square_is}
+use Rattle.normal_form.specs.Multilinear.{Admits}
+
+-- the counted numbers are within their limits
+pub record IsWithin (p : ProblemContent) : Type 0 where
+  pub variables : p.variables ≤ 2 ^ 20
+  pub degree : degree p ≤ most_degree
+  pub negations : negations normals.Multilinear p ≤ 8
+  pub pairs : pairs normals.Multilinear p ≤ 2 ^ 24
+  pub weight : weight p ≤ 2 ^ 64 - 1
+
+pub within_limits : (p : ProblemContent) → limit_fault normals.Multilinear p ≡ None → IsWithin p
+within_limits p none =
+    let variables : Counted = record { kind = Variables; number = p.variables; most = 2 ^ 20 } in
+    let degrees : Counted = record { kind = Degree; number = degree p; most = most_degree } in
+    let complements : Counted = record { kind = Negations; number = negations normals.Multilinear p; most = 8 } in
+    let all_pairs : Counted = record { kind = Pairs; number = pairs normals.Multilinear p; most = 2 ^ 24 } in
+    let weights : Counted = record { kind = Weight; number = weight p; most = 2 ^ 64 - 1 } in
+    let first = within_first variables (degrees ∷ complements ∷ all_pairs ∷ weights ∷ []) none in
+    let second = within_first degrees (complements ∷ all_pairs ∷ weights ∷ []) first.1 in
+    let third = within_first complements (all_pairs ∷ weights ∷ []) second.1 in
+    let fourth = within_first all_pairs (weights ∷ []) third.1 in
+    let fifth = within_first weights [] fourth.1 in
+    record {
+      variables = first.0;
+      degree = second.0;
+      negations = third.0;
+      pairs = fourth.0;
+      weight = fifth.0;
+    }
+
+-- a number within its limit is not passed
+none_passed : (c : Counted) (cs : List Counted) → c.number ≤ c.most → first_passed cs ≡ None
+    → first_passed (c ∷ cs) ≡ None
+none_passed c cs within rest = go (ltb c.most c.number) (Decides-ltb c.most c.number)
+  where
+    fault : LimitFault
+    fault = record { kind = c.kind; number = min c.number (2 ^ 128 - 1) }
+
+    go : (b : Bool) → Decides b (c.most < c.number)
+        → cond b (Some fault) (first_passed cs) ≡ None
+    go true d = let over = d.0 refl in absurd (omega arith)
+    go false d = rest
+
+-- ---- pairs
+
+-- a factor only adds to a number
+factor_adds : (k n : ℕ) → 1 * n ≤ 2 ^ k * n
+factor_adds k n = mul-le-mul_right n (one_le_pow k)
+
+sums-le : {X : Type 0} (f g : X → ℕ) (xs : List X) → ((x : X) → f x ≤ g x) → sum_by f xs ≤ sum_by g xs
+sums-le f g [] le = omega arith
+sums-le f g (x ∷ xs) le =
+    omega (arith, le x, sums-le f g xs le, sum_by-cons f x xs, sum_by-cons g x xs)
+
+-- a product of two terms of a constraint has twice the complements
+pub constraint_pairs-scaled : (k : Constraint)
+    → constraint_pairs normals.Multilinear k
+    ≡ 2 ^ (2 * most_complements k) * constraint_pairs normals.Literal k
+constraint_pairs-scaled k =
+    let m = most_complements k in
+    let d = constraint_degree k in
+    let q = spread (nat_le d 1) d in
+    let twice : 2 * m ≡ m + m = omega arith in
+    let power = ap (λ i. 2 ^ i) twice ∙ pow-add 2 m m in
+    omega (
+      arith,
+      ap (λ x. x * q) (square_is (summands normals.Multilinear k)),
+      ap (λ x. 2 ^ (2 * m) * (x * q)) (square_is (summands normals.Literal k)),
+      ap (λ x. x * (summands normals.Literal k * summands normals.Literal k * q)) power,
+    )
+
+constraint_pairs-le : (k : Constraint)
+    → constraint_pairs normals.Literal k ≤ constraint_pairs normals.Multilinear k
+constraint_pairs-le k =
+    omega (
+      arith,
+      constraint_pairs-scaled k,
+      factor_adds (2 * most_complements k) (constraint_pairs normals.Literal k),
+    )
+
+pairs-le : (p : ProblemContent) → pairs normals.Literal p ≤ pairs normals.Multilinear p
+pairs-le p =
+    omega (
+      arith,
+      sums-le (product_pairs normals.Literal) (product_pairs normals.Multilinear) p.objective
+          (λ t. factor_adds _ _),
+      sums-le (clause_pairs normals.Literal) (clause_pairs normals.Multilinear) p.clauses
+          (λ c. factor_adds _ _),
+      sums-le (constraint_pairs normals.Literal) (constraint_pairs normals.Multilinear) p.constraints
+          constraint_pairs-le,
+    )
+
+-- ---- what the penalty method admits
+
+pub literal_within : (p : ProblemContent) → limit_fault normals.Multilinear p ≡ None
+    → limit_fault normals.Literal p ≡ None
+literal_within p none =
+    let limits = within_limits p none in
+    let variables : Counted = record { kind = Variables; number = p.variables; most = 2 ^ 20 } in
+    let degrees : Counted = record { kind = Degree; number = degree p; most = most_degree } in
+    let complements : Counted = record { kind = Negations; number = 0; most = 8 } in
+    let all_pairs : Counted = record { kind = Pairs; number = pairs normals.Literal p; most = 2 ^ 24 } in
+    let weights : Counted = record { kind = Weight; number = weight p; most = 2 ^ 64 - 1 } in
+    let low : 0 ≤ 8 = omega arith in
+    let few : pairs normals.Literal p ≤ 2 ^ 24 = omega (arith, pairs-le p, limits.pairs) in
+    none_passed variables (degrees ∷ complements ∷ all_pairs ∷ weights ∷ []) limits.variables
+    (none_passed degrees (complements ∷ all_pairs ∷ weights ∷ []) limits.degree
+    (none_passed complements (all_pairs ∷ weights ∷ []) low
+    (none_passed all_pairs (weights ∷ []) few (none_passed weights [] limits.weight refl))))
+
+pub penalty_admits : (p : ProblemContent) → Admits p → penalty.Admits p
+penalty_admits p admitted =
+    record { normal = admitted.normal; within = literal_within p admitted.within }

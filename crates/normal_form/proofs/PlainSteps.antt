@@ -1,0 +1,198 @@
+-- Steps that multiply a term out: what stands before its first complement stays in front, and the
+-- complement gives what is left without it, and with its variable and the other sign.
+use Rattle.std.proofs.Common.{◌≡◌, ℕ, suc, ◌+◌, ◌<◌, ◌≤◌, ◌^◌, Bool, true, false, ℤ, neg_ℤ, unsigned_abs, List, [], ◌∷◌, ◌++◌, length, take, drop, get_or, refl, sym, ap, ◌∙◌, subst, arith}
+use Rattle.std.specs.Prelude.{if◌then◌else◌}
+use Rattle.std.specs.List.{AllByRecursion}
+use Rattle.std.proofs.Math.Nat.{mul-le-mul_right}
+use Rattle.std.proofs.Math.Seq.{drop-cons}
+use Rattle.std.proofs.lemmas.List.{append_assoc, append-nil, map-append, take_all, take-append-drop}
+use Rattle.std.proofs.lemmas.List.Elements.{All-from_recursion, recursion_from_All}
+use Rattle.bits_model.proofs.Growth.{one_le_pow}
+use Rattle.problem_form.specs.declared.literal.Literal.{Literal}
+use Rattle.term_table.specs.Terms.{Term, terms_total, IsTermSet}
+use Rattle.term_table.specs.Tables.{TableContent, with_more, AreAdditions}
+use Rattle.term_table.specs.MultipliedOut.{complements, ArePlain, plain, with_front, plain_terms}
+use Rattle.term_table.proofs.Additions.{terms_total-append, terms_total-cons}
+use Rattle.term_table.proofs.KeptTerms.{OfSet}
+use Rattle.term_table.proofs.Loops.{with_more-append}
+use Rattle.term_table.proofs.PlainSums.{terms_total-plain_terms}
+use Rattle.normal_form.specs.Behind.{behind}
+
+-- ---- terms behind literals
+
+pub behind-nothing : (ts : List Term) → behind [] ts ≡ ts
+behind-nothing [] = refl
+behind-nothing (t ∷ ts) = ap (λ us. t ∷ us) (behind-nothing ts)
+
+behind-behind : (fs gs : List Literal) (ts : List Term)
+    → behind fs (behind gs ts) ≡ behind (fs ++ gs) ts
+behind-behind fs gs [] = refl
+behind-behind fs gs (t ∷ ts) =
+    λ i. (sym (append_assoc fs gs t.0) i, t.1) ∷ behind-behind fs gs ts i
+
+behind-append : (fs : List Literal) (ts us : List Term)
+    → behind fs (ts ++ us) ≡ behind fs ts ++ behind fs us
+behind-append fs ts us = map-append (λ (t : Term). (fs ++ t.0, t.1)) ts us
+
+-- ---- where a term is multiplied out
+
+same_literal : (l : Literal) → l.negated ≡ false → plain l ≡ l
+same_literal l is = λ i. record { variable = l.variable; negated = sym is i }
+
+-- literals that are no complements stay in front
+plain_front : (fs ls : List Literal) (c : ℤ) → AllByRecursion (λ (l : Literal). l.negated ≡ false) fs
+    → plain_terms (fs ++ ls) c ≡ behind fs (plain_terms ls c)
+plain_front [] ls c h = sym (behind-nothing (plain_terms ls c))
+plain_front (f ∷ fs) ls c h =
+    front f.negated h.0
+    ∙ ap (λ l. with_front l rest) (same_literal f h.0)
+    ∙ ap (behind (f ∷ [])) (plain_front fs ls c h.1)
+    ∙ behind-behind (f ∷ []) fs (plain_terms ls c)
+  where
+    rest : List Term
+    rest = plain_terms (fs ++ ls) c
+
+    less : List Term
+    less = with_front (plain f) (plain_terms (fs ++ ls) (neg_ℤ c))
+
+    front : (n : Bool) → n ≡ false
+        → (if n then rest ++ less else with_front (plain f) rest) ≡ with_front (plain f) rest
+    front true is = cc
+    front false is = refl
+
+-- a complement is 1 less its variable
+at_complement : (l : Literal) (ls : List Literal) (c : ℤ) → l.negated ≡ true
+    → plain_terms (l ∷ ls) c ≡ plain_terms ls c ++ with_front (plain l) (plain_terms ls (neg_ℤ c))
+at_complement l ls c is = go l.negated is
+  where
+    rest : List Term
+    rest = plain_terms ls c
+
+    less : List Term
+    less = with_front (plain l) (plain_terms ls (neg_ℤ c))
+
+    go : (n : Bool) → n ≡ true → (if n then rest ++ less else with_front (plain l) rest) ≡ rest ++ less
+    go true is = refl
+    go false is = cc
+
+-- a term without complements, behind literals
+pub last_terms : (fs ls : List Literal) (n : ℕ) (c : ℤ) → length ls ≤ n → ArePlain (take n ls)
+    → behind fs (plain_terms ls c) ≡ (fs ++ take n ls, c) ∷ []
+last_terms fs ls n c short none =
+    let whole : ls ≡ take n ls ++ [] = sym (append-nil (take n ls) ∙ take_all n ls short) in
+    let front = plain_front (take n ls) [] c (recursion_from_All (λ (l : Literal). l.negated ≡ false) (take n ls) none) in
+    ap (λ ks. behind fs (plain_terms ks c)) whole
+    ∙ ap (behind fs) front
+    ∙ (λ i. (fs ++ append-nil (take n ls) i, c) ∷ [])
+
+-- a term whose first complement stands at n
+pub more_terms : (fs ls : List Literal) (n : ℕ) (d : Literal) (c : ℤ) → n < length ls
+    → ArePlain (take n ls) → (get_or ls n d).negated ≡ true
+    → behind fs (plain_terms ls c)
+    ≡ behind (fs ++ take n ls) (plain_terms (drop (n + 1) ls) c)
+    ++ behind ((fs ++ take n ls) ++ plain (get_or ls n d) ∷ []) (plain_terms (drop (n + 1) ls) (neg_ℤ c))
+more_terms fs ls n d c inside none is =
+    ap (λ ks. behind fs (plain_terms ks c)) whole
+    ∙ ap (behind fs) (plain_front gs (l ∷ rest) c (recursion_from_All (λ (k : Literal). k.negated ≡ false) gs none))
+    ∙ behind-behind fs gs (plain_terms (l ∷ rest) c)
+    ∙ ap (behind (fs ++ gs)) (at_complement l rest c is)
+    ∙ behind-append (fs ++ gs) (plain_terms rest c) (with_front (plain l) (plain_terms rest (neg_ℤ c)))
+    ∙ ap (λ ts. behind (fs ++ gs) (plain_terms rest c) ++ ts)
+    (behind-behind (fs ++ gs) (plain l ∷ []) (plain_terms rest (neg_ℤ c)))
+  where
+    gs : List Literal
+    gs = take n ls
+
+    l : Literal
+    l = get_or ls n d
+
+    rest : List Literal
+    rest = drop (n + 1) ls
+
+    whole : ls ≡ gs ++ l ∷ rest
+    whole =
+        let next : suc n ≡ n + 1 = omega arith in
+        sym (take-append-drop n ls)
+        ∙ ap (λ ks. gs ++ ks) (drop-cons ls n d inside)
+        ∙ ap (λ i. gs ++ l ∷ drop i ls) next
+
+-- the coefficient of a term is no greater than what it adds
+pub coefficient_small : (t : TableContent) (fs ls : List Literal) (c : ℤ)
+    → AreAdditions (with_more t (behind fs (plain_terms ls c))) → unsigned_abs c ≤ 2 ^ 124
+coefficient_small t fs ls c h =
+    omega (
+      arith,
+      h.small,
+      terms_total-append t.terms (behind fs (plain_terms ls c)),
+      total-behind fs (plain_terms ls c),
+      terms_total-plain_terms ls c,
+      mul-le-mul_right (unsigned_abs c) (one_le_pow (complements ls)),
+    )
+  where
+    total-behind : (gs : List Literal) (ts : List Term) → terms_total (behind gs ts) ≡ terms_total ts
+    total-behind gs [] = refl
+    total-behind gs (u ∷ us) =
+        omega (
+          arith,
+          total-behind gs us,
+          terms_total-cons u us,
+          terms_total-cons (gs ++ u.0, u.1) (behind gs us),
+        )
+
+-- ---- additions
+
+all_before : (P : Term → Type 0) (ts us : List Term) → AllByRecursion P (ts ++ us)
+    → AllByRecursion P ts
+all_before P [] us h = tt
+all_before P (t ∷ ts) us h = (h.0, all_before P ts us h.1)
+
+all_after : (P : Term → Type 0) (ts us : List Term) → AllByRecursion P (ts ++ us)
+    → AllByRecursion P us
+all_after P [] us h = h
+all_after P (t ∷ ts) us h = all_after P ts us h.1
+
+-- additions are additions without the last ones
+pub additions_before : (t : TableContent) (us : List Term) → AreAdditions (with_more t us)
+    → AreAdditions t
+additions_before t us h = record {
+  sets =
+      let P = OfSet (IsTermSet t.width) in
+      All-from_recursion P t.terms (all_before P t.terms us (recursion_from_All P (t.terms ++ us) h.sets));
+  small = omega (arith, h.small, terms_total-append t.terms us);
+}
+
+-- the first of two lists of additions
+pub additions_first : (t : TableContent) (us vs ws : List Term) → ws ≡ us ++ vs
+    → AreAdditions (with_more t ws) → AreAdditions (with_more t us)
+additions_first t us vs ws e h =
+    let both : AreAdditions (with_more t (us ++ vs)) = subst (λ ts. AreAdditions (with_more t ts)) e h in
+    let parts = with_more-append t (with_more t us) (with_more (with_more t us) vs) us vs refl refl in
+    additions_before (with_more t us) vs (subst AreAdditions (sym parts) both)
+
+-- and the second, after the first
+pub additions_second : (t now : TableContent) (us vs ws : List Term) → ws ≡ us ++ vs
+    → now ≡ with_more t us → AreAdditions (with_more t ws) → AreAdditions (with_more now vs)
+additions_second t now us vs ws e made h =
+    let both : AreAdditions (with_more t (us ++ vs)) = subst (λ ts. AreAdditions (with_more t ts)) e h in
+    subst AreAdditions (sym (with_more-append t now (with_more now vs) us vs made refl)) both
+
+-- both were made
+pub both_made : (t now next : TableContent) (us vs ws : List Term) → ws ≡ us ++ vs
+    → now ≡ with_more t us → next ≡ with_more now vs → next ≡ with_more t ws
+both_made t now next us vs ws e first second =
+    with_more-append t now next us vs first second ∙ ap (with_more t) (sym e)
+
+-- an addition has a set
+pub addition_set : (t : TableContent) (ls : List Literal) (c : ℤ) (ws : List Term)
+    → ws ≡ (ls, c) ∷ [] → AreAdditions (with_more t ws) → IsTermSet t.width ls
+addition_set t ls c ws e h =
+    let P = OfSet (IsTermSet t.width) in
+    let one : AreAdditions (with_more t ((ls, c) ∷ [])) = subst (λ ts. AreAdditions (with_more t ts)) e h in
+    (all_after P t.terms ((ls, c) ∷ []) (recursion_from_All P (t.terms ++ (ls, c) ∷ []) one.sets)).0
+
+-- and a coefficient that fits
+pub addition_small : (t : TableContent) (ls : List Literal) (c : ℤ) (ws : List Term)
+    → ws ≡ (ls, c) ∷ [] → AreAdditions (with_more t ws) → terms_total t.terms + unsigned_abs c ≤ 2 ^ 124
+addition_small t ls c ws e h =
+    let one : AreAdditions (with_more t ((ls, c) ∷ [])) = subst (λ ts. AreAdditions (with_more t ts)) e h in
+    omega (arith, one.small, terms_total-append t.terms ((ls, c) ∷ []), terms_total-cons (ls, c) [])

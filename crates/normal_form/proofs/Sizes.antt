@@ -1,0 +1,144 @@
+-- The size of a multilinear form is at most the variables, twice the pairs, and 1.
+--
+-- A set with k complements is multiplied out to 2^k sets of no more literals. The counted pairs have
+-- the same factor: 2^k for a product or a clause, and for a constraint, whose products of two have
+-- twice the complements, its square.
+use Rattle.std.proofs.Common.{◌≡◌, ℕ, ◌+◌, ◌*◌, ◌^◌, ◌≤◌, List, [], ◌∷◌, ◌++◌, length, map, ap, arith}
+use Rattle.std.specs.Prelude.{None}
+use Rattle.std.specs.List.{sum_by}
+use Rattle.std.proofs.Math.Nat.{mul-le-mul_left, mul-le-mul_right}
+use Rattle.std.proofs.Math.Pow.{pow_mono}
+use Rattle.std.proofs.lemmas.List.Sums.{sum_by-cons, sum_by-append}
+use Rattle.bits_model.proofs.Growth.{one_le_pow}
+use Rattle.problem_form.specs.declared.literal.Literal.{Literal}
+use Rattle.problem_form.specs.declared.terms.Product.{Product}
+use Rattle.problem_form.specs.declared.terms.Clause.{Clause}
+use Rattle.problem_form.specs.declared.terms.Constraint.{Constraint}
+use Rattle.problem_form.specs.declared.limits.Normal.TheVariants as normals
+use Rattle.problem_form.specs.Problems.{ProblemContent}
+use Rattle.problem_form.specs.Limits.{penalty, product_pairs, clause_pairs, constraint_pairs, most_complements, slack_bits, limit_fault}
+use Rattle.term_table.specs.Terms.{Term}
+use Rattle.term_table.specs.Tables.{table_size}
+use Rattle.term_table.specs.MultipliedOut.{complements}
+use Rattle.term_table.specs.MultipliedOut as multiplied
+use Rattle.term_table.proofs.Additions.{sets_sum, sets_sum-cons, sets_sum-with_additions}
+use Rattle.term_table.proofs.KeptTerms.{Ascends-with_additions}
+use Rattle.term_table.proofs.PlainSums.{AreFew, sets_sum-contributions}
+use Rattle.term_table.proofs.SetSizes.{terms_size-once}
+use Rattle.penalty_layer.specs.Penalty.{opposite, clause_term, plain_terms, contributions, node_count}
+use Rattle.penalty_layer.specs.Penalty as penalty_method
+use Rattle.penalty_layer.specs.Squares.{product_term, square_terms, slack_form, constraint_terms}
+use Rattle.penalty_layer.proofs.OppositeSets.{opposites_length}
+use Rattle.penalty_layer.proofs.Sizes.{square, square-mono, constraint-size}
+use Rattle.normal_form.specs.Multilinear.{image}
+use Rattle.normal_form.proofs.Limits.{within_limits, constraint_pairs-scaled}
+use Rattle.normal_form.proofs.Complements.{complements-opposites, few-square, few-slack_form}
+
+-- what a set is multiplied out to counts at most
+abbrev grown : List Literal → ℕ
+grown ls = 2 ^ complements ls * square ls
+
+grown-append : (ts us : List Term)
+    → sets_sum grown (ts ++ us) ≡ sets_sum grown ts + sets_sum grown us
+grown-append ts us = sum_by-append (λ (t : Term). grown t.0) ts us
+
+grown-few : (most : ℕ) (ts : List Term) → AreFew most ts
+    → sets_sum grown ts ≤ 2 ^ most * sets_sum square ts
+grown-few most [] few = omega arith
+grown-few most (t ∷ ts) few =
+    omega (
+      arith,
+      grown-few most ts few.1,
+      mul-le-mul_right (square t.0) (pow_mono few.0),
+      sets_sum-cons grown t ts,
+      ap (λ m. 2 ^ most * m) (sets_sum-cons square t ts),
+    )
+
+-- ---- products and clauses
+
+products-grown : (ts : List Product)
+    → sets_sum grown (map product_term ts) ≡ sum_by (product_pairs normals.Multilinear) ts
+products-grown [] = omega arith
+products-grown (t ∷ ts) =
+    omega (
+      arith,
+      products-grown ts,
+      sets_sum-cons grown (product_term t) (map product_term ts),
+      sum_by-cons (product_pairs normals.Multilinear) t ts,
+    )
+
+clauses-grown : (n : ℕ) (cs : List Clause)
+    → sets_sum grown (map (clause_term n) cs) ≡ sum_by (clause_pairs normals.Multilinear) cs
+clauses-grown n [] = omega arith
+clauses-grown n (c ∷ cs) =
+    omega (
+      arith,
+      clauses-grown n cs,
+      ap (λ m. 2 ^ complements (map opposite c.literals) * m ^ 2) (opposites_length c.literals),
+      ap (λ m. 2 ^ m * length c.literals ^ 2) (complements-opposites c.literals),
+      sets_sum-cons grown (clause_term n c) (map (clause_term n) cs),
+      sum_by-cons (clause_pairs normals.Multilinear) c cs,
+    )
+
+-- ---- constraints
+
+constraint-grown : (n first : ℕ) (k : Constraint)
+    → sets_sum grown (square_terms n (slack_form first k)) + slack_bits k
+    ≤ 2 * constraint_pairs normals.Multilinear k
+constraint-grown n first k =
+    let m = most_complements k in
+    let ts = square_terms n (slack_form first k) in
+    omega (
+      arith,
+      grown-few (2 * m) ts (few-square m (2 * m) n (slack_form first k) (omega arith) (few-slack_form first k)),
+      mul-le-mul_left (2 ^ (2 * m)) (constraint-size n first k),
+      mul-le-mul_right (slack_bits k) (one_le_pow (2 * m)),
+      constraint_pairs-scaled k,
+    )
+
+constraints-grown : (n first : ℕ) (ks : List Constraint)
+    → sets_sum grown (constraint_terms n first ks) + sum_by slack_bits ks
+    ≤ 2 * sum_by (constraint_pairs normals.Multilinear) ks
+constraints-grown n first [] = omega arith
+constraints-grown n first (k ∷ ks) =
+    omega (
+      arith,
+      grown-append (square_terms n (slack_form first k)) (constraint_terms n (first + slack_bits k) ks),
+      constraint-grown n first k,
+      constraints-grown n (first + slack_bits k) ks,
+      sum_by-cons slack_bits k ks,
+      sum_by-cons (constraint_pairs normals.Multilinear) k ks,
+    )
+
+-- ---- the whole
+
+plain-grown : (p : ProblemContent) → sets_sum grown (plain_terms p)
+    ≡ sum_by (product_pairs normals.Multilinear) p.objective + sum_by (clause_pairs normals.Multilinear) p.clauses
+plain-grown p =
+    let products = map product_term p.objective in
+    let clauses = map (clause_term (penalty p)) p.clauses in
+    omega (
+      arith,
+      sets_sum-cons grown ([], p.constant) (products ++ clauses),
+      grown-append products clauses,
+      products-grown p.objective,
+      clauses-grown (penalty p) p.clauses,
+    )
+
+pub size_within : (p : ProblemContent) → limit_fault normals.Multilinear p ≡ None
+    → table_size (image p) ≤ 2 ^ 26
+size_within p none =
+    let limits = within_limits p none in
+    let first = (penalty_method.image p).terms in
+    omega (
+      arith,
+      limits.variables,
+      limits.pairs,
+      terms_size-once (image p).terms (Ascends-with_additions (multiplied.contributions first)),
+      sets_sum-with_additions square (multiplied.contributions first),
+      sets_sum-contributions (λ n. n ^ 2) square-mono first,
+      sets_sum-with_additions grown (contributions p),
+      grown-append (plain_terms p) (constraint_terms (penalty p) p.variables p.constraints),
+      plain-grown p,
+      constraints-grown (penalty p) p.variables p.constraints,
+    )

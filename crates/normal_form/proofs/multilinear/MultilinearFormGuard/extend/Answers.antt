@@ -1,0 +1,20 @@
+use Rattle.std.proofs.Common.{List, Bool, subst, sym}
+use Rattle.std.proofs.lemmas.Result.{IfOk-weaker}
+use Rattle.bits_model.specs.Links.{first_bits}
+use Rattle.bits_model.specs.Relations.{ExtendsLeast}
+use Rattle.problem_form.specs.Problems as problems
+use Rattle.term_table.specs.Tables as tables
+use Rattle.penalty_layer.specs.Penalty.{figures}
+use Rattle.normal_form.specs.Multilinear.{image}
+use Rattle.normal_form.specs.laws.Relaxing.{multilinear_extends}
+use Rattle.normal_form.proofs.multilinear.MultilinearFormGuard.extend.Goals as goal
+
+pub returns-clause-least : goal.returns-clause-least
+returns-clause-least c =
+    let p = c.args.source.now in
+    let link = c.args.link.now in
+    let x = c.args.x.now in
+    IfOk-weaker c.extend.result _ _
+    (λ y e. subst (λ (z : List Bool). ExtendsLeast (problems.form_of p) (tables.form_of (image p)) (first_bits link) (figures p) x z)
+    (sym e) (multilinear_extends link p x c.requires.fits c.requires.width))
+    c.extend.ensures.extension

@@ -1,0 +1,13 @@
+use Rattle.std.proofs.Common.{◌≡◌, []}
+use Rattle.term_table.specs.Tables.{AreAdditions, with_more}
+use Rattle.term_table.specs.MultipliedOut.{contributions}
+use Rattle.normal_form.proofs.Expanded.{multiplied}
+use Rattle.normal_form.proofs.multiplied.expand.Given as goal
+
+-- what the terms that are left are multiplied out to makes up the rest, and all of it fits
+abbrev pub invariant-loop-literals : goal.invariant-loop-literals
+invariant-loop-literals l = record {
+  whole : with_more l.terms (contributions l.literals-iterator) ≡ multiplied l.table;
+  fits : AreAdditions (multiplied l.table);
+  list : l.list.items ≡ [];
+}

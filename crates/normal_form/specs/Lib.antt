@@ -1,0 +1,3 @@
+pub mod Multilinear
+pub mod Behind
+pub mod laws

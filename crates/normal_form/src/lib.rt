@@ -1,0 +1,8 @@
+//! The multilinear form: tables without complements.
+#![tactic(auto)]
+
+mod multilinear;
+mod multiplied;
+
+pub use multilinear::MultilinearForm;
+pub use multiplied::expand;
