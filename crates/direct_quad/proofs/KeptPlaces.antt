@@ -7,7 +7,7 @@ use Rattle.direct_quad.specs.declared.heads.Head.{Head}
 use Rattle.term_table.specs.Tables.{TableContent}
 use Rattle.direct_quad.specs.Places.{Place}
 use Rattle.direct_quad.specs.Long.{node_count, IsPlaceOf}
-use Rattle.direct_quad.specs.Keys.{places_in_term, places_at}
+use Rattle.direct_quad.specs.Occurrences.{places_in_term, places_at}
 use Rattle.direct_quad.specs.RowSums.{node_part, head_of, head_part, IsHead}
 
 -- one key more

@@ -7,7 +7,7 @@ pub mod AllParts
 pub mod RowSums
 pub mod SummedRows
 pub mod KeyLists
-pub mod KeyRuns
+pub mod OccurrenceLists
 pub mod LongPlaces
 pub mod KeyPlaces
 pub mod RowForms

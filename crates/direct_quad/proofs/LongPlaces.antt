@@ -17,7 +17,7 @@ use Rattle.monomial_layer.specs.Monomials.{is_low, new_nodes, nodes_for}
 use Rattle.direct_quad.specs.Places.{places_in}
 use Rattle.direct_quad.specs.Rows.{places_of}
 use Rattle.direct_quad.specs.Long.{product_term, node_count, node_at, first_nodes, AreLong, IsPlaceOf}
-use Rattle.direct_quad.specs.Keys.{has_variable, from_variable}
+use Rattle.direct_quad.specs.Occurrences.{has_variable, from_variable}
 
 -- ---- first nodes
 

@@ -160,14 +160,14 @@ pub own_places : (v w n m : ℕ) (ts : List Term) → AllByRecursion (IsKept w) 
 own_places v w n m [] kept le = record { own = tt; nodes = tt; good = tt }
 own_places v w n m (t ∷ ts) kept le =
     subst (AreOwn v w n m) (sym (filter-append (is_at v) (term_places t n) (all_places ts (n + new_nodes t))))
-    (go (term_cases v 0 t.0 (length t.0) t.1 n (omega arith) (IsLiteralSet-ascends w t.0 kept.0.set.set))
+    (go (term_cases v t.0 (length t.0) t.1 n (IsLiteralSet-ascends w t.0 kept.0.set.set))
     (own_places v w (n + new_nodes t) m ts kept.1 (omega (arith, le, sum_by-cons new_nodes t ts))))
   where
-    go : IsNone v 0 t.0 (length t.0) t.1 n ⊎ IsOnly v 0 t.0 (length t.0) t.1 n
+    go : IsNone v t.0 (length t.0) t.1 n ⊎ IsOnly v t.0 (length t.0) t.1 n
         → AreOwn v w (n + new_nodes t) m (places_of v (all_places ts (n + new_nodes t)))
         → AreOwn v w n m (places_of v (term_places t n) ++ places_of v (all_places ts (n + new_nodes t)))
     go (inl none) rest =
-        subst (λ ps. AreOwn v w n m (ps ++ places_of v (all_places ts (n + new_nodes t)))) (sym none.places)
+        subst (λ ps. AreOwn v w n m (ps ++ places_of v (all_places ts (n + new_nodes t)))) (sym none)
         (record {
           own = rest.own;
           nodes = AreFrom-weaker n (n + new_nodes t) (omega arith) (flat_map node_part (places_of v (all_places ts (n + new_nodes t)))) rest.nodes;

@@ -1,80 +1,44 @@
--- What the keys of one variable, out of all in order, stand for, and how large its row is.
-use Rattle.std.proofs.Common.{◌≡◌, ◌⊎◌, inl, inr, ℕ, zero, suc, ◌+◌, ◌*◌, ◌/◌, ◌<◌, ◌≤◌, ◌^◌, Bool, true, false, cond, eqb, int_lt, arith, sym, ap, ◌∙◌, subst, List, [], ◌∷◌, ◌++◌, map, length, get_or, ℤ, pos, unsigned_abs, if◌then◌else◌}
+-- What the occurrences of a variable stand for, and how large its row is.
+use Rattle.std.proofs.Common.{◌≡◌, ◌⊎◌, inl, inr, ℕ, zero, suc, ◌+◌, ◌*◌, ◌<◌, ◌≤◌, ◌^◌, Bool, true, false, cond, eqb, int_lt, arith, sym, ap, ◌∙◌, subst, List, [], ◌∷◌, ◌++◌, map, length, get_or, ℤ, pos, unsigned_abs, if◌then◌else◌}
 use Rattle.std.specs.Prelude.{All}
 use Rattle.std.specs.List.{AllByRecursion, flat_map}
 use Rattle.std.proofs.lemmas.List.{get_or_default}
-use Rattle.std.proofs.lemmas.List.Elements.{All-nil, All-from_get_or, All-from_recursion, recursion_from_All, filter-append}
+use Rattle.std.proofs.lemmas.List.Elements.{All-nil, All-from_recursion, filter-append}
 use Rattle.std.proofs.lemmas.List.Sums.{sum_by-cons}
 use Rattle.bits_model.specs.declared.output.Entry.{Entry}
 use Rattle.bits_model.specs.Output.{weight_total}
 use Rattle.problem_form.specs.declared.literal.Literal.{Literal}
-use Rattle.term_table.specs.Terms.{Term, terms_total, IsTermSet}
+use Rattle.term_table.specs.Terms.{Term, terms_total}
 use Rattle.term_table.specs.Tables.{TableContent}
-use Rattle.term_table.proofs.SmallSets.{Ascend, IsLiteralSet-ascends}
+use Rattle.term_table.proofs.SmallSets.{IsLiteralSet-ascends}
 use Rattle.monomial_layer.specs.Monomials.{new_nodes}
 use Rattle.quad_form.specs.Quads.{IsCoupler}
 use Rattle.quad_form.proofs.PairOrder.{ordered_from_rising}
 use Rattle.direct_quad.specs.Places.{Place, signed, pair_coupler, term_places, all_places}
 use Rattle.direct_quad.specs.Rows.{row_of, is_at, places_of, AreRows}
-use Rattle.direct_quad.specs.Long.{AreLong, node_at}
+use Rattle.direct_quad.specs.Long.{node_at}
 use Rattle.direct_quad.specs.RowSums.{pair_part}
-use Rattle.direct_quad.specs.Keys.{key_of, index_of, keys_of, place_keys, places_in_term, places_at, AreOrdered, AreKeysFrom, IsPlaceKey}
-use Rattle.direct_quad.proofs.SummedRows.{Climbs}
+use Rattle.direct_quad.specs.Occurrences.{occurrences, places_in_term, places_at, IsOccurrence}
 use Rattle.direct_quad.proofs.KeyLists.{size-signed}
-use Rattle.direct_quad.proofs.KeyRuns.{keys_of-ordered}
-use Rattle.direct_quad.proofs.LongPlaces.{few_terms}
-use Rattle.direct_quad.proofs.KeyPlaces.{IsNone, IsOnly, term_cases, weight_total-append, climbs_down, key-index, places_are, place_keys-climb, place_keys-of}
+use Rattle.direct_quad.proofs.KeyPlaces.{IsNone, IsOnly, term_cases, weight_total-append, places_are, occurrences-are}
 use Rattle.direct_quad.proofs.RowForms.{IsKept}
 
--- ---- what keys stand for
+-- ---- what occurrences stand for
 
-terms_ascend : (w : ℕ) (ts : List Term) → AllByRecursion (λ t. IsTermSet w t.0) ts
-    → AllByRecursion (λ t. Ascend t.0) ts
-terms_ascend w [] sets = tt
-terms_ascend w (t ∷ ts) sets = (IsLiteralSet-ascends w t.0 sets.0.set, terms_ascend w ts sets.1)
-
-ascending : (t : TableContent) → AreLong t → AllByRecursion (λ u. Ascend u.0) t.terms
-ascending t kept =
-    terms_ascend t.width t.terms
-    (recursion_from_All (λ (u : Term). IsTermSet t.width u.0) t.terms kept.terms.sets)
-
-pub place_run : (v : ℕ) (t : TableContent) → AreLong t
-    → places_at t v (keys_of v (place_keys 0 t.terms)) ≡ places_of v (all_places t.terms t.width)
-place_run v t kept =
-    places_are v 0 t.width (places_in_term t v) t.terms (omega (arith, few_terms t kept)) (ascending t kept)
+pub place_run : (v : ℕ) (t : TableContent)
+    → places_at t v (occurrences v 0 t.terms) ≡ places_of v (all_places t.terms t.width)
+place_run v t =
+    places_are v 0 t.width (places_in_term t v) t.terms
     (λ i d in'.
-    let e : index_of (key_of v (0 + i)) ≡ i = key-index v (0 + i) (omega (arith, in', few_terms t kept)) ∙ plain i in
-    ap (λ m. places_of v (term_places (get_or t.terms m ([], pos 0)) (node_at t m))) e
+    let z : 0 + i ≡ i = omega arith in
+    ap (λ m. places_of v (term_places (get_or t.terms m ([], pos 0)) (node_at t m))) z
     ∙ ap (λ (u : Term). places_of v (term_places u (node_at t i))) (get_or_default t.terms i ([], pos 0) d in'))
-  where
-    plain : (i : ℕ) → 0 + i ≡ i
-    plain i = omega arith
 
-pub place_run-of : (v : ℕ) (t : TableContent) → AreLong t
-    → All (IsPlaceKey t v) (keys_of v (place_keys 0 t.terms))
-place_run-of v t kept =
-    All-from_recursion (IsPlaceKey t v) (keys_of v (place_keys 0 t.terms))
-    (place_keys-of v 0 t t.terms (omega arith) (omega (arith, few_terms t kept)) (ascending t kept)
-    (λ i d in'. let e : 0 + i ≡ i = omega arith in ap (λ m. get_or t.terms m d) e))
-
--- ---- keys in order
-
-pub runs_of : (v : ℕ) (keys ks sorted : List ℕ) → ks ≡ keys → AreOrdered ks sorted
-    → Climbs (key_of v 0) (keys_of v keys) → keys_of v sorted ≡ keys_of v keys
-runs_of v keys ks sorted is ordered climbs =
-    keys_of-ordered v keys sorted (subst (λ (ms : List ℕ). AreOrdered ms sorted) is ordered)
-    (climbs_down 0 (key_of v 0) (keys_of v keys) (omega arith) climbs)
-
-pub place_run-climbs : (v : ℕ) (t : TableContent) → AreLong t
-    → Climbs (key_of v 0) (keys_of v (place_keys 0 t.terms))
-place_run-climbs v t kept =
-    place_keys-climb v 0 t.terms (omega (arith, few_terms t kept)) (ascending t kept)
-
-pub all_from : (ks sorted : List ℕ) → AreOrdered ks sorted → AreKeysFrom 0 sorted
-all_from ks sorted h = record {
-  ordered = h.ordered;
-  from = All-from_get_or (λ k. 0 ≤ k / 2 ^ 32) sorted 0 (λ i in'. omega arith);
-}
+pub place_run-of : (v : ℕ) (t : TableContent) → All (IsOccurrence t v) (occurrences v 0 t.terms)
+place_run-of v t =
+    All-from_recursion (IsOccurrence t v) (occurrences v 0 t.terms)
+    (occurrences-are v 0 t t.terms (omega arith)
+    (λ i d in'. let z : 0 + i ≡ i = omega arith in ap (λ m. get_or t.terms m d) z))
 
 -- no rows
 pub no_rows : (m : ℕ) (all : List Entry) → AreRows m 0 all []
@@ -131,15 +95,15 @@ places-total v w n [] kept = omega arith
 places-total v w n (t ∷ ts) kept =
     subst (λ ps. weight_total (flat_map pair_part ps) ≤ terms_total (t ∷ ts) * 2 ^ 24)
     (sym (filter-append (is_at v) (term_places t n) (all_places ts (n + new_nodes t))))
-    (go (term_cases v 0 t.0 (length t.0) t.1 n (omega arith) (IsLiteralSet-ascends w t.0 kept.0.set.set))
+    (go (term_cases v t.0 (length t.0) t.1 n (IsLiteralSet-ascends w t.0 kept.0.set.set))
     (places-total v w (n + new_nodes t) ts kept.1))
   where
-    go : IsNone v 0 t.0 (length t.0) t.1 n ⊎ IsOnly v 0 t.0 (length t.0) t.1 n
+    go : IsNone v t.0 (length t.0) t.1 n ⊎ IsOnly v t.0 (length t.0) t.1 n
         → weight_total (flat_map pair_part (places_of v (all_places ts (n + new_nodes t)))) ≤ terms_total ts * 2 ^ 24
         → weight_total (flat_map pair_part (places_of v (term_places t n) ++ places_of v (all_places ts (n + new_nodes t))))
         ≤ terms_total (t ∷ ts) * 2 ^ 24
     go (inl none) rest =
-        subst (λ ps. weight_total (flat_map pair_part (ps ++ places_of v (all_places ts (n + new_nodes t)))) ≤ terms_total (t ∷ ts) * 2 ^ 24) (sym none.places)
+        subst (λ ps. weight_total (flat_map pair_part (ps ++ places_of v (all_places ts (n + new_nodes t)))) ≤ terms_total (t ∷ ts) * 2 ^ 24) (sym none)
         (omega (arith, rest, sum_by-cons (λ (u : Term). unsigned_abs u.1) t ts))
     go (inr only) rest =
         let p : Place = record { literal = only.literal; later = only.later; degree = length t.0; coefficient = t.1; first_node = n } in

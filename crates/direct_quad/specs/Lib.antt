@@ -8,5 +8,5 @@ pub mod laws
 pub mod Long
 pub mod PairLists
 pub mod RowSums
-pub mod Keys
+pub mod Occurrences
 pub mod Held

@@ -9,6 +9,7 @@ mod heads;
 mod laws;
 mod long_table;
 mod new_nodes;
+mod occurrences;
 mod pairs;
 mod rows;
 mod shares;

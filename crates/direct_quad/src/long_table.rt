@@ -9,7 +9,7 @@ ghost use Rattle.direct_quad.specs.Parts.{table_of};
 ghost use Rattle.direct_quad.specs.Rows.{places_of};
 ghost use Rattle.direct_quad.specs.Places.{term_places};
 ghost use Rattle.direct_quad.specs.Long.{terms_of, first_nodes, node_count, node_at, product_term, AreLong, IsPlaceOf};
-ghost use Rattle.direct_quad.specs.Keys.{has_variable, from_variable};
+ghost use Rattle.direct_quad.specs.Occurrences.{has_variable, from_variable};
 
 use crate::additions::{ordered_additions, summed_additions};
 use crate::new_nodes::new_nodes;

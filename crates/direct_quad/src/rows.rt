@@ -1,12 +1,12 @@
 //! Couplers row by row.
 //!
-//! Pairs are sorted by their first nodes, and places by their variables. For each variable its pairs,
-//! and the couplers of its places with later literals, are summed: that is the first part of its
-//! row. Those with new nodes follow: they are in order, since new nodes are numbered after all
-//! variables, in the order of the terms. See Gustavson, Two fast algorithms for sparse matrices:
-//! multiplication and permuted transposition (1978).
-ghost use Rattle.std.specs.Prelude.{◌≡◌, ◌+◌, ◌*◌, ◌/◌, ◌%◌, ◌≤◌, ◌<◌, ◌^◌, ◌++◌, All, IfOk, OnOk, length, map, pos, replicate, take, drop, unsigned_abs, ℕ, ◌≢◌, IsTrue, ◌∷◌, []};
-ghost use Rattle.std.specs.List.{flat_map, slice_index_or};
+//! Pairs are sorted by their first nodes, and each variable has a list of the terms in which it
+//! stands. For each variable its pairs, and the couplers of its places with later literals, are
+//! summed: that is the first part of its row. Those with new nodes follow: they are in order, since
+//! new nodes are numbered after all variables, in the order of the terms. See Gustavson, Two fast
+//! algorithms for sparse matrices: multiplication and permuted transposition (1978).
+ghost use Rattle.std.specs.Prelude.{◌≡◌, ◌+◌, ◌*◌, ◌≤◌, ◌<◌, ◌^◌, ◌++◌, All, IfOk, OnOk, length, map, pos, replicate, drop, unsigned_abs};
+ghost use Rattle.std.specs.List.{flat_map};
 ghost use Rattle.bits_model.specs.Output.{weight_total};
 ghost use Rattle.problem_form.specs.declared.literal.Literal.{Literal};
 ghost use Rattle.term_table.specs.Terms.{terms_total};
@@ -16,92 +16,17 @@ ghost use Rattle.direct_quad.specs.Rows.{row_of, AreRows};
 ghost use Rattle.direct_quad.specs.PairLists.{AreFromRow, AreAfterRow};
 ghost use Rattle.direct_quad.specs.Long.{node_count};
 ghost use Rattle.direct_quad.specs.RowSums.{with_entries, size_of, pair_part, node_part, head_of, IsHead, AppendsBoth};
-ghost use Rattle.direct_quad.specs.Keys.{index_of, keys_of, place_keys, literal_keys, places_at, AreOrdered, AreKeysFrom, IsPlaceKey};
+ghost use Rattle.direct_quad.specs.Occurrences.{places_at, IsOccurrence};
 
 use crate::accumulator::Accumulator;
 use crate::heads::{Head, head_of, push_heads};
 use crate::long_table::{LongTable, PlaceRef};
 use crate::new_nodes::signed;
+use crate::occurrences::Occurrences;
 use crate::pairs::Pairs;
 use bits_model::{CouplerList, NoMemory};
 use problem_form::{Literal, Literals};
 use std::alloc::Global;
-
-/// Indices are below it, and a key has its variable times it.
-const INDEX_LIMIT: u64 = 1 << 32;
-
-/// The number by which an index at a variable is sorted.
-fn key_of(variable: u64, index: usize) -> u64
-    requires variable { variable < 2 ^ 32 }
-    requires index { index < 2 ^ 32 }
-    ensures { result ≡ variable * 2 ^ 32 + index }
-{
-    variable * INDEX_LIMIT + index as u64
-}
-
-/// The index of a key.
-fn index_of(key: u64) -> usize
-    ensures { result ≡ index_of key }
-{
-    (key % INDEX_LIMIT) as usize
-}
-
-/// Appends the keys of the literals of a term.
-fn push_literal_keys(keys: &mut Vec<u64>, literals: Literals, index: usize) -> Result<(), NoMemory>
-    requires within { All (λ l. l.variable < 2 ^ 32) literals }
-    requires index { index < 2 ^ 32 }
-    ensures { OnOk result (keys.new.items ≡ keys.old.items ++ literal_keys index literals.entry) }
-{
-    for literal in literals {
-        keys.push(key_of(literal.variable, index))?;
-    }
-    Ok(())
-}
-
-/// The keys of places, in the order of the terms.
-fn keys_of_places(alloc: Global, long: &LongTable) -> Result<Vec<u64>, NoMemory>
-    ensures { IfOk result (λ keys. keys.items ≡ place_keys 0 long.now.terms) }
-{
-    let mut keys = Vec::new(alloc);
-    for i in 0..long.len() {
-        push_literal_keys(&mut keys, long.at(i).literals, i)?;
-    }
-    Ok(keys)
-}
-
-/// Keys in order.
-fn ordered(mut keys: Vec<u64>) -> Vec<u64>
-    ensures { AreOrdered keys.items result.items }
-{
-    keys.sort_unstable();
-    keys
-}
-
-/// How many keys in front are those of a variable.
-fn count_of(keys: &[u64], variable: u64) -> usize
-    ensures within { result ≤ length keys.now }
-    ensures own { All (λ k. k / 2 ^ 32 ≡ variable) (take result keys.now) }
-    ensures other { result < length keys.now
-        → slice_index_or keys.now result 0 / 2 ^ 32 ≢ variable }
-{
-    for (i, key) in keys.iter().enumerate() {
-        if *key / INDEX_LIMIT != variable {
-            return i;
-        }
-    }
-    keys.len()
-}
-
-/// The keys of a variable, and those of the variables after it.
-fn split_keys(keys: &[u64], variable: u64) -> (&[u64], &[u64])
-    requires { AreKeysFrom variable keys.now }
-    ensures own { result.0.now ≡ keys_of variable keys.now }
-    ensures later { AreKeysFrom (variable + 1) result.1.now }
-    ensures same { (v : ℕ) → variable < v → keys_of v result.1.now ≡ keys_of v keys.now }
-{
-    let count = count_of(keys, variable);
-    (&keys[..count], &keys[count..])
-}
 
 /// Adds the weights of a variable's pairs, the first of those from an index on, and gives the index
 /// after them.
@@ -179,51 +104,51 @@ fn add_places(
     heads: &mut Vec<Head>,
     long: &LongTable,
     variable: u64,
-    keys: &[u64],
+    indices: &[u32],
 ) -> Result<(), NoMemory>
     requires width { length sums.old ≡ long.now.width }
     requires narrow { node_count long.now ≤ 2 ^ 32 }
-    requires keys { All (IsPlaceKey long.now variable) keys.now }
+    requires indices { All (IsOccurrence long.now variable) indices.now }
     requires small { size_of sums.old
-        + weight_total (flat_map pair_part (places_at long.now variable keys.now)) ≤ 2 ^ 126 }
+        + weight_total (flat_map pair_part (places_at long.now variable indices.now)) ≤ 2 ^ 126 }
     ensures sums { OnOk result (sums.new
-        ≡ with_entries sums.old (flat_map pair_part (places_at long.now variable keys.now))) }
+        ≡ with_entries sums.old (flat_map pair_part (places_at long.now variable indices.now))) }
     ensures heads { OnOk result
-        (heads.new.items ≡ map head_of (places_at long.now variable keys.now)) }
+        (heads.new.items ≡ map head_of (places_at long.now variable indices.now)) }
     ensures kept { OnOk result (All IsHead heads.new.items) }
 {
     heads.clear();
-    for key in keys {
-        let place = long.place(variable, index_of(*key));
+    for index in indices {
+        let place = long.place(variable, *index as usize);
         heads.push(head_of(&place))?;
         add_place(sums, place)?;
     }
     Ok(())
 }
 
-/// Appends the row of a variable, whose pairs are summed already. All sums are 0 afterwards, and the
-/// heads are free to use.
+/// Appends the row of a variable, whose pairs are summed already. All sums are 0 afterwards, and
+/// the heads are free to use.
 fn push_row(
     couplers: &mut CouplerList,
     sums: &mut Accumulator,
     heads: &mut Vec<Head>,
     long: &LongTable,
     variable: u64,
-    keys: &[u64],
+    indices: &[u32],
 ) -> Result<(), NoMemory>
     requires width { length sums.old ≡ long.now.width }
     requires variable { variable < long.now.width }
     requires narrow { node_count long.now ≤ 2 ^ 32 }
-    requires keys { All (IsPlaceKey long.now variable) keys.now }
+    requires indices { All (IsOccurrence long.now variable) indices.now }
     requires small { size_of sums.old
-        + weight_total (flat_map pair_part (places_at long.now variable keys.now)) ≤ 2 ^ 126 }
+        + weight_total (flat_map pair_part (places_at long.now variable indices.now)) ≤ 2 ^ 126 }
     ensures row { OnOk result (AppendsBoth variable
-        (with_entries sums.old (flat_map pair_part (places_at long.now variable keys.now)))
-        (flat_map node_part (places_at long.now variable keys.now))
+        (with_entries sums.old (flat_map pair_part (places_at long.now variable indices.now)))
+        (flat_map node_part (places_at long.now variable indices.now))
         couplers.old couplers.new) }
     ensures zeros { OnOk result (sums.new ≡ replicate long.now.width (pos 0)) }
 {
-    add_places(sums, heads, long, variable, keys)?;
+    add_places(sums, heads, long, variable, indices)?;
     sums.put_into(couplers, variable as u32)?;
     push_heads(couplers, heads)?;
     Ok(())
@@ -238,17 +163,15 @@ fn rows_of(alloc: Global, pairs: &Pairs, long: &LongTable) -> Result<CouplerList
         (pairs.now ++ flat_map place_couplers (all_places long.now.terms long.now.width))
         couplers) }
 {
-    let keys = ordered(keys_of_places(alloc, long)?);
+    let occurrences = Occurrences::of(alloc, long)?;
     let mut sums = Accumulator::zeros(alloc, long.width())?;
     let mut heads = Vec::new(alloc);
     let mut couplers = CouplerList::empty(alloc);
     let mut start = 0;
-    let mut left = &keys[..];
     for variable in 0..long.width() as u64 {
         start = add_pairs(&mut sums, pairs, start, variable)?;
-        let (own, later) = split_keys(left, variable);
+        let own = occurrences.at(variable as usize);
         push_row(&mut couplers, &mut sums, &mut heads, long, variable, own)?;
-        left = later;
     }
     Ok(couplers)
 }

@@ -1,5 +1,5 @@
 use Rattle.std.proofs.Common.{◌≡◌, IsTrue}
-use Rattle.direct_quad.specs.Keys.{has_variable, from_variable}
+use Rattle.direct_quad.specs.Occurrences.{has_variable, from_variable}
 use Rattle.direct_quad.proofs.long_table.from_variable.Given as goal
 
 -- the variable is among the literals that are left

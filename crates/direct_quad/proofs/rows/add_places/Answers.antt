@@ -1,14 +1,11 @@
-use Rattle.std.proofs.Common.{◌≡◌, ◌≤◌, ◌+◌, ◌^◌, ◌∷◌, ◌++◌, [], List, length, map, drop, get_or, pos, append_assoc, append-nil, sym, ap, ◌∙◌, subst}
+use Rattle.std.proofs.Common.{◌≡◌, ◌≤◌, ◌+◌, ◌^◌, ◌∷◌, ◌++◌, [], List, length, map, drop, get_or, append_assoc, append-nil, sym, ap, ◌∙◌, subst}
 use Rattle.std.specs.Prelude.{All}
 use Rattle.std.specs.List.{flat_map}
 use Rattle.std.proofs.lemmas.List.Elements.{All-push}
 use Rattle.std.proofs.lemmas.List.{drop_more, drop_all}
 use Rattle.bits_model.specs.declared.output.Entry.{Entry}
 use Rattle.bits_model.specs.Output.{weight_total}
-use Rattle.direct_quad.specs.Places.{term_places}
-use Rattle.direct_quad.specs.Rows.{places_of}
-use Rattle.direct_quad.specs.Long.{node_at}
-use Rattle.direct_quad.specs.Keys.{places_in_term, places_at}
+use Rattle.direct_quad.specs.Occurrences.{places_in_term, places_at}
 use Rattle.direct_quad.specs.RowSums.{with_entries, size_of, pair_part, head_of, IsHead}
 use Rattle.direct_quad.proofs.SummedRows.{length-with_entries}
 use Rattle.direct_quad.proofs.KeyPlaces.{with_entries-append, places_more, added_place, place_size}
@@ -19,54 +16,54 @@ pub add_place-requires-clause-small : goal.add_place-requires-clause-small
 add_place-requires-clause-small c =
     let t = c.args.long.now in
     let v = c.args.variable in
-    let i = c.loop-key.key-index in
-    let ks = c.args.keys.now in
+    let i = c.loop-index.index-index in
+    let ks = c.args.indices.now in
     let p = c.place-place.result in
-    let more = drop_more ks i 0 c.loop-key-test.true in
-    let is : places_in_term t v (get_or ks i 0) ≡ p ∷ [] = ap (λ n. places_of v (term_places (get_or t.terms n ([], pos 0)) (node_at t n))) (sym c.index_of.ensures) ∙ c.place-place.ensures.place in
+    let more = drop_more ks i 0 c.loop-index-test.true in
+    let is : places_in_term t v (get_or ks i 0) ≡ p ∷ [] = c.place-place.ensures.place in
     let left : flat_map pair_part (places_at t v (drop i ks)) ≡ pair_part p ++ flat_map pair_part (places_at t v (drop (i + 1) ks)) =
     ap (λ ms. flat_map pair_part (places_at t v ms)) more ∙ places_more pair_part t v (get_or ks i 0) (drop (i + 1) ks) p is in
-    place_size (size_of c.loop-key.sums) (2 ^ 126) p (flat_map pair_part (places_at t v (drop (i + 1) ks)))
-    (subst (λ (es : List Entry). size_of c.loop-key.sums + weight_total es ≤ 2 ^ 126) left c.loop-key.invariant.small)
+    place_size (size_of c.loop-index.sums) (2 ^ 126) p (flat_map pair_part (places_at t v (drop (i + 1) ks)))
+    (subst (λ (es : List Entry). size_of c.loop-index.sums + weight_total es ≤ 2 ^ 126) left c.loop-index.invariant.small)
 
-pub loop-key-preserved : goal.loop-key-preserved
-loop-key-preserved c =
+pub loop-index-preserved : goal.loop-index-preserved
+loop-index-preserved c =
     let t = c.args.long.now in
     let v = c.args.variable in
-    let i = c.loop-key.key-index in
-    let ks = c.args.keys.now in
+    let i = c.loop-index.index-index in
+    let ks = c.args.indices.now in
     let p = c.place-place.result in
-    let more = drop_more ks i 0 c.loop-key-test.true in
-    let is : places_in_term t v (get_or ks i 0) ≡ p ∷ [] = ap (λ n. places_of v (term_places (get_or t.terms n ([], pos 0)) (node_at t n))) (sym c.index_of.ensures) ∙ c.place-place.ensures.place in
+    let more = drop_more ks i 0 c.loop-index-test.true in
+    let is : places_in_term t v (get_or ks i 0) ≡ p ∷ [] = c.place-place.ensures.place in
     let left : flat_map pair_part (places_at t v (drop i ks)) ≡ pair_part p ++ flat_map pair_part (places_at t v (drop (i + 1) ks)) =
     ap (λ ms. flat_map pair_part (places_at t v ms)) more ∙ places_more pair_part t v (get_or ks i 0) (drop (i + 1) ks) p is in
-    let sums = c.loop-key.sums in
+    let sums = c.loop-index.sums in
     let rest = flat_map pair_part (places_at t v (drop (i + 1) ks)) in
     let made = c.in_ok-add_place.ensures in
-    let pushed : c.push.new.self.items ≡ c.loop-key.heads.items ++ head_of p ∷ [] =
-    c.in_ok-push.ensures.items ∙ ap (λ h. c.loop-key.heads.items ++ h ∷ []) c.head_of.ensures in
+    let pushed : c.push.new.self.items ≡ c.loop-index.heads.items ++ head_of p ∷ [] =
+    c.in_ok-push.ensures.items ∙ ap (λ h. c.loop-index.heads.items ++ h ∷ []) c.head_of.ensures in
     record {
-      whole = ap (λ ss. with_entries ss rest) made ∙ with_entries-append sums (pair_part p) rest ∙ ap (with_entries sums) (sym left) ∙ c.loop-key.invariant.whole;
-      width = ap length made ∙ length-with_entries sums (pair_part p) ∙ c.loop-key.invariant.width;
+      whole = ap (λ ss. with_entries ss rest) made ∙ with_entries-append sums (pair_part p) rest ∙ ap (with_entries sums) (sym left) ∙ c.loop-index.invariant.whole;
+      width = ap length made ∙ length-with_entries sums (pair_part p) ∙ c.loop-index.invariant.width;
       small =
-          added_place sums c.add_place.new.sums p rest t.width (2 ^ 126) c.loop-key.invariant.width c.place-place.ensures.kept.later made
-          (subst (λ (es : List Entry). size_of sums + weight_total es ≤ 2 ^ 126) left c.loop-key.invariant.small);
+          added_place sums c.add_place.new.sums p rest t.width (2 ^ 126) c.loop-index.invariant.width c.place-place.ensures.kept.later made
+          (subst (λ (es : List Entry). size_of sums + weight_total es ≤ 2 ^ 126) left c.loop-index.invariant.small);
       heads =
           ap (λ hs. hs ++ map head_of (places_at t v (drop (i + 1) ks))) pushed
-          ∙ append_assoc c.loop-key.heads.items (head_of p ∷ []) (map head_of (places_at t v (drop (i + 1) ks)))
-          ∙ ap (λ hs. c.loop-key.heads.items ++ hs) (sym (ap (λ ms. map head_of (places_at t v ms)) more ∙ heads_more t v (get_or ks i 0) (drop (i + 1) ks) p is))
-          ∙ c.loop-key.invariant.heads;
+          ∙ append_assoc c.loop-index.heads.items (head_of p ∷ []) (map head_of (places_at t v (drop (i + 1) ks)))
+          ∙ ap (λ hs. c.loop-index.heads.items ++ hs) (sym (ap (λ ms. map head_of (places_at t v ms)) more ∙ heads_more t v (get_or ks i 0) (drop (i + 1) ks) p is))
+          ∙ c.loop-index.invariant.heads;
       kept =
-          subst (All IsHead) (sym pushed) (All-push IsHead c.loop-key.heads.items (head_of p) c.loop-key.invariant.kept
+          subst (All IsHead) (sym pushed) (All-push IsHead c.loop-index.heads.items (head_of p) c.loop-index.invariant.kept
           (head_kept t v p c.place-place.ensures.kept c.requires.narrow));
     }
 
 pub returns-clause-heads : goal.returns-clause-heads
 returns-clause-heads c =
-    sym (ap (λ ks. c.loop-key.heads.items ++ map head_of (places_at c.args.long.now c.args.variable ks)) (drop_all c.loop-key.key-index c.args.keys.now c.loop-key-test.false) ∙ append-nil c.loop-key.heads.items)
-    ∙ c.loop-key.invariant.heads
+    sym (ap (λ ks. c.loop-index.heads.items ++ map head_of (places_at c.args.long.now c.args.variable ks)) (drop_all c.loop-index.index-index c.args.indices.now c.loop-index-test.false) ∙ append-nil c.loop-index.heads.items)
+    ∙ c.loop-index.invariant.heads
 
 pub returns-clause-sums : goal.returns-clause-sums
 returns-clause-sums c =
-    sym (ap (λ ks. with_entries c.loop-key.sums (flat_map pair_part (places_at c.args.long.now c.args.variable ks))) (drop_all c.loop-key.key-index c.args.keys.now c.loop-key-test.false))
-    ∙ c.loop-key.invariant.whole
+    sym (ap (λ ks. with_entries c.loop-index.sums (flat_map pair_part (places_at c.args.long.now c.args.variable ks))) (drop_all c.loop-index.index-index c.args.indices.now c.loop-index-test.false))
+    ∙ c.loop-index.invariant.whole

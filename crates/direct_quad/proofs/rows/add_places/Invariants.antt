@@ -2,23 +2,23 @@ use Rattle.std.proofs.Common.{◌≡◌, ◌+◌, ◌++◌, ◌≤◌, ◌^◌, 
 use Rattle.std.specs.Prelude.{All}
 use Rattle.std.specs.List.{flat_map}
 use Rattle.bits_model.specs.Output.{weight_total}
-use Rattle.direct_quad.specs.Keys.{places_at}
+use Rattle.direct_quad.specs.Occurrences.{places_at}
 use Rattle.direct_quad.specs.RowSums.{with_entries, size_of, pair_part, head_of, IsHead}
 use Rattle.direct_quad.proofs.rows.add_places.Given as goal
 
 -- the places that are left make the sums and the heads those of all, and stay small
-abbrev pub invariant-loop-key : goal.invariant-loop-key
-invariant-loop-key l = record {
+abbrev pub invariant-loop-index : goal.invariant-loop-index
+invariant-loop-index l = record {
   whole :
-      with_entries l.sums (flat_map pair_part (places_at l.long l.variable (drop l.key-index l.keys)))
-      ≡ with_entries l.initial.sums (flat_map pair_part (places_at l.long l.variable l.keys));
+      with_entries l.sums (flat_map pair_part (places_at l.long l.variable (drop l.index-index l.indices)))
+      ≡ with_entries l.initial.sums (flat_map pair_part (places_at l.long l.variable l.indices));
   width : length l.sums ≡ l.long.width;
   small :
       size_of l.sums
-      + weight_total (flat_map pair_part (places_at l.long l.variable (drop l.key-index l.keys)))
+      + weight_total (flat_map pair_part (places_at l.long l.variable (drop l.index-index l.indices)))
       ≤ 2 ^ 126;
   heads :
-      l.heads.items ++ map head_of (places_at l.long l.variable (drop l.key-index l.keys))
-      ≡ map head_of (places_at l.long l.variable l.keys);
+      l.heads.items ++ map head_of (places_at l.long l.variable (drop l.index-index l.indices))
+      ≡ map head_of (places_at l.long l.variable l.indices);
   kept : All IsHead l.heads.items;
 }

@@ -9,12 +9,13 @@ use Rattle.quad_form.specs.Pairs.{IsPair}
 use Rattle.direct_quad.specs.Places.{place_couplers, all_places}
 use Rattle.direct_quad.specs.Rows.{row_of, places_of, AreRows}
 use Rattle.direct_quad.specs.Long.{node_count}
-use Rattle.direct_quad.specs.Keys.{keys_of, place_keys, places_at, IsPlaceKey, AreKeysFrom}
+use Rattle.direct_quad.specs.Occurrences.{places_at, IsOccurrence}
 use Rattle.direct_quad.specs.RowSums.{with_entries, size_of, pair_part, node_part, AreSums}
 use Rattle.direct_quad.proofs.SummedRows.{length-with_entries, no_size}
 use Rattle.direct_quad.proofs.RowSums.{rows_follow}
 use Rattle.direct_quad.proofs.RowForms.{row_is, kept_of}
-use Rattle.direct_quad.proofs.RowRuns.{place_run, place_run-of, place_run-climbs, runs_of, all_from, no_rows, row-total, places-total}
+use Rattle.direct_quad.proofs.OccurrenceLists.{own_list, lists_size}
+use Rattle.direct_quad.proofs.RowRuns.{place_run, place_run-of, no_rows, row-total, places-total}
 use Rattle.direct_quad.proofs.PairRows.{row-size}
 use Rattle.direct_quad.proofs.rows.rows_of.Goals as goal
 
@@ -34,6 +35,12 @@ add_pairs-requires-clause-small c =
     let none : size_of c.loop-variable.sums ≡ 0 = ap size_of c.loop-variable.invariant.zeros ∙ no_size w in
     omega (arith, some, none, row-total v pairs, c.requires.small)
 
+pub at-own-requires : goal.at-own-requires
+at-own-requires c =
+    let lists = c.in_ok-occurrences.occurrences in
+    let size = lists_size c.args.long.now lists c.in_ok-occurrences.ensures in
+    omega (arith, size, c.loop-variable-test.true, c.width-variable-end.ensures.width)
+
 pub push_row-requires-clause-width : goal.push_row-requires-clause-width
 push_row-requires-clause-width c =
     let w = c.args.long.now.width in
@@ -41,12 +48,13 @@ push_row-requires-clause-width c =
     ap length c.in_ok-start.ensures.sums ∙ length-with_entries c.loop-variable.sums row
     ∙ ap length c.loop-variable.invariant.zeros ∙ length-replicate w (pos 0)
 
-pub push_row-requires-clause-keys : goal.push_row-requires-clause-keys
-push_row-requires-clause-keys c =
+pub push_row-requires-clause-indices : goal.push_row-requires-clause-indices
+push_row-requires-clause-indices c =
     let t = c.args.long.now in
     let v = c.loop-variable.variable in
-    let own : c.split_keys.result.0.now ≡ keys_of v (place_keys 0 t.terms) = c.split_keys.ensures.own ∙ c.loop-variable.invariant.place_runs v (omega arith) in
-    subst (λ (ks : List ℕ). All (IsPlaceKey t v) ks) (sym own) (place_run-of v t c.width.ensures.kept)
+    let in' : v < t.width = omega (arith, c.loop-variable-test.true, c.width-variable-end.ensures.width) in
+    let own = own_list t v c.in_ok-occurrences.occurrences c.at-own.result.now in' c.in_ok-occurrences.ensures c.at-own.ensures in
+    subst (λ (ks : List ℕ). All (IsOccurrence t v) ks) (sym own) (place_run-of v t)
 
 pub push_row-requires-clause-small : goal.push_row-requires-clause-small
 push_row-requires-clause-small c =
@@ -54,8 +62,9 @@ push_row-requires-clause-small c =
     let t = c.args.long.now in
     let v = c.loop-variable.variable in
     let sums = c.loop-variable.sums in
-    let own : c.split_keys.result.0.now ≡ keys_of v (place_keys 0 t.terms) = c.split_keys.ensures.own ∙ c.loop-variable.invariant.place_runs v (omega arith) in
-    let places = ap (λ ks. places_at t v ks) own ∙ place_run v t c.width.ensures.kept in
+    let in' : v < t.width = omega (arith, c.loop-variable-test.true, c.width-variable-end.ensures.width) in
+    let own = own_list t v c.in_ok-occurrences.occurrences c.at-own.result.now in' c.in_ok-occurrences.ensures c.at-own.ensures in
+    let places = ap (λ ks. places_at t v ks) own ∙ place_run v t in
     let some = c.loop-variable.invariant.pair_runs v (omega arith) in
     let made = c.in_ok-start.ensures.sums ∙ ap (with_entries sums) some in
     let size : length sums ≡ t.width = ap length c.loop-variable.invariant.zeros ∙ length-replicate t.width (pos 0) in
@@ -79,11 +88,7 @@ loop-variable-init c =
       rows = subst (λ (es : List Entry). AreRows (node_count t) 0 all es) (sym c.empty-couplers.ensures) (no_rows (node_count t) all);
       zeros = c.in_ok-sums.ensures ∙ ap (λ n. replicate n (pos 0)) c.width.ensures.width;
       pairs = c.requires.ordered;
-      places = subst (AreKeysFrom 0) (sym c.deref.ensures.value) (all_from _ _ c.ordered-keys.ensures);
       pair_runs = λ v le. refl;
-      place_runs = λ v le.
-          ap (keys_of v) c.deref.ensures.value
-          ∙ runs_of v (place_keys 0 t.terms) _ _ c.in_ok-keys_of_places.ensures c.ordered-keys.ensures (place_run-climbs v t c.width.ensures.kept);
     }
 
 pub loop-variable-preserved : goal.loop-variable-preserved
@@ -93,15 +98,15 @@ loop-variable-preserved c =
     let v = c.loop-variable.variable in
     let every = all_places t.terms t.width in
     let all = pairs ++ flat_map place_couplers every in
-    let own : c.split_keys.result.0.now ≡ keys_of v (place_keys 0 t.terms) = c.split_keys.ensures.own ∙ c.loop-variable.invariant.place_runs v (omega arith) in
-    let places : places_at t v c.split_keys.result.0.now ≡ places_of v every = ap (λ ks. places_at t v ks) own ∙ place_run v t c.width.ensures.kept in
+    let in' : v < t.width = omega (arith, c.loop-variable-test.true, c.width-variable-end.ensures.width) in
+    let own = own_list t v c.in_ok-occurrences.occurrences c.at-own.result.now in' c.in_ok-occurrences.ensures c.at-own.ensures in
+    let places : places_at t v c.at-own.result.now ≡ places_of v every = ap (λ ks. places_at t v ks) own ∙ place_run v t in
     let some : row_of v (drop c.loop-variable.start pairs) ≡ row_of v pairs = c.loop-variable.invariant.pair_runs v (omega arith) in
     let later = c.in_ok-start.ensures.later in
     let sums : c.add_pairs.new.sums ≡ with_entries (replicate t.width (pos 0)) (row_of v pairs) =
     c.in_ok-start.ensures.sums ∙ (λ k. with_entries (c.loop-variable.invariant.zeros k) (some k)) in
     let r = c.in_ok-push_row.ensures.row in
     let summed = subst (λ (ss : List ℤ). AreSums v ss r.row) (λ k. with_entries (sums k) (flat_map pair_part (places k))) r.summed in
-    let in' : v < t.width = omega (arith, c.loop-variable-test.true, c.width-variable-end.ensures.width) in
     let row = row_is t pairs v r.row c.width.ensures.kept c.requires.pairs in' summed in
     let nodes = flat_map node_part (places_of v every) in
     let rows = rows_follow (node_count t) v all c.loop-variable.couplers (r.row ++ nodes) c.width.ensures.kept.narrow c.loop-variable.invariant.rows row in
@@ -111,7 +116,5 @@ loop-variable-preserved c =
       rows = subst (λ (es : List Entry). AreRows (node_count t) (v + 1) all es) (sym new) rows;
       zeros = c.in_ok-push_row.ensures.zeros;
       pairs = later.from;
-      places = c.split_keys.ensures.later;
       pair_runs = λ u le. later.same u (omega (arith, le)) ∙ c.loop-variable.invariant.pair_runs u (omega (arith, le));
-      place_runs = λ u le. c.split_keys.ensures.same u (omega (arith, le)) ∙ c.loop-variable.invariant.place_runs u (omega (arith, le));
     }

@@ -4,10 +4,9 @@ use Rattle.direct_quad.specs.Places.{place_couplers, all_places}
 use Rattle.direct_quad.specs.Rows.{row_of, AreRows}
 use Rattle.direct_quad.specs.PairLists.{AreFromRow}
 use Rattle.direct_quad.specs.Long.{node_count}
-use Rattle.direct_quad.specs.Keys.{keys_of, place_keys, AreKeysFrom}
 use Rattle.direct_quad.proofs.rows.rows_of.Given as goal
 
--- the first rows stand, all sums are 0, and the pairs and keys of all later variables are left
+-- the first rows stand, all sums are 0, and the pairs of all later variables are left
 abbrev pub invariant-loop-variable : goal.invariant-loop-variable
 invariant-loop-variable l = record {
   rows :
@@ -15,7 +14,5 @@ invariant-loop-variable l = record {
       (l.pairs ++ flat_map place_couplers (all_places l.long.terms l.long.width)) l.couplers;
   zeros : l.sums ≡ replicate l.long.width (pos 0);
   pairs : AreFromRow l.variable (drop l.start l.pairs);
-  places : AreKeysFrom l.variable l.left;
   pair_runs : (v : ℕ) → l.variable ≤ v → row_of v (drop l.start l.pairs) ≡ row_of v l.pairs;
-  place_runs : (v : ℕ) → l.variable ≤ v → keys_of v l.left ≡ keys_of v (place_keys 0 l.long.terms);
 }

@@ -2,7 +2,6 @@ use Rattle.std.proofs.Common.{◌≡◌, refl, sym, subst, ◌∙◌}
 use Rattle.bits_model.specs.Links.{first_bits}
 use Rattle.bits_model.specs.Relations.{ExtendsLeast}
 use Rattle.problem_form.specs.Problems as problems
-use Rattle.term_table.specs.Tables.{TableContent}
 use Rattle.penalty_layer.specs.Penalty.{figures}
 use Rattle.penalty_layer.specs.Penalty as penalty
 use Rattle.monomial_layer.specs.Monomials as monomials
