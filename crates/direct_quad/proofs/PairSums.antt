@@ -1,5 +1,5 @@
 -- Couplers in the order of their pairs, with equal neighbours as one, and couplers that came in order.
-use Rattle.std.proofs.Common.{◌≡◌, ◌≢◌, ℕ, suc, ◌+◌, ◌*◌, ◌<◌, ◌≤◌, ◌^◌, Bool, true, false, eqb, arith, sym, ap, ◌∙◌, refl, subst, List, [], ◌∷◌, ◌++◌, append_assoc, append-nil, ℤ, pos, length, length-append, map, get_or, drop, if◌then◌else◌}
+use Rattle.std.proofs.Common.{◌≡◌, ◌≢◌, ℕ, ◌+◌, ◌<◌, ◌≤◌, ◌^◌, Bool, true, false, eqb, arith, sym, ap, ◌∙◌, refl, subst, List, [], ◌∷◌, ◌++◌, append_assoc, append-nil, pos, length, length-append, map, get_or, if◌then◌else◌}
 use Rattle.std.specs.Prelude.{All}
 use Rattle.std.specs.Bool.{Decides}
 use Rattle.std.specs.List.Sorted.{IsPermutation, IsNonDecreasingBy}
@@ -11,7 +11,6 @@ use Rattle.std.proofs.lemmas.List.Sorted.{All-permutation, IsPermutation-append_
 use Rattle.std.proofs.lemmas.List.Elements.{All-nil, All-push, All-tail, All-weaker, recursion_from_All}
 use Rattle.integers.proofs.Totals.{total_by-IsPermutation}
 use Rattle.bits_model.specs.declared.output.Entry.{Entry}
-use Rattle.quad_form.specs.Quads.{IsCoupler}
 use Rattle.quad_form.specs.Pairs.{IsPair, IsNonzero, weight_at, weight_for, pair_number, heavier, entry_in_front, sums_from, AreSummed}
 use Rattle.quad_form.proofs.PairOrder.{Rises, ordered_from_rising}
 use Rattle.direct_quad.specs.Rows.{AreRows}
