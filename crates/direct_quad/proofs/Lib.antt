@@ -23,3 +23,4 @@ pub mod GainedShares
 pub mod HeldSums
 pub mod KeptPlaces
 pub mod PairRows
+pub mod PairSums

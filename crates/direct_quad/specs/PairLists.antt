@@ -1,6 +1,7 @@
--- Couplers that are held in as few bytes as their weights need, and their rows.
-use Rattle.std.specs.Prelude.{◌≡◌, ℕ, ◌+◌, ◌≤◌, ◌<◌, List, [], ◌∷◌, map, ⊤}
+-- Couplers that are held in as few bytes as their weights need, their rows, and their order.
+use Rattle.std.specs.Prelude.{◌≡◌, ℕ, ◌+◌, ◌*◌, ◌≤◌, ◌<◌, ◌^◌, List, [], ◌∷◌, map, length, All, ⊤}
 use Rattle.bits_model.specs.declared.output.Entry.{Entry}
+use Rattle.quad_form.specs.Pairs.{pair_number, IsNonzero}
 use Rattle.direct_quad.specs.declared.pairs.NarrowPair.{NarrowPair}
 use Rattle.direct_quad.specs.declared.pairs.HeldPairs.{HeldPairs}
 use Rattle.direct_quad.specs.declared.pairs.HeldPairs.TheVariants.{Narrow, Wide}
@@ -24,3 +25,20 @@ AreFromRow i (e ∷ es) = (i ≤ e.first) × AreFromRow e.first es
 pub record AreAfterRow (i : ℕ) (es later : List Entry) : Type 0 where
   pub from : AreFromRow (i + 1) later
   pub same : (j : ℕ) → i < j → row_of j later ≡ row_of j es
+
+-- the number of a pair of nodes, which rises with the first node, and then with the second
+abbrev pub number_of : ℕ → ℕ → ℕ
+number_of i j = i * 2 ^ 32 + j
+
+-- the pairs ascend, and none comes twice
+abbrev pub AreAscending : List Entry → Type 0
+AreAscending [] = ⊤
+AreAscending (e ∷ es) = All (λ f. pair_number e < pair_number f) es × AreAscending es
+
+-- some couplers came in order, none of them 0 and no pair above the last number, and there are few
+-- of these and the others
+pub record AreGathered (ordered : List Entry) (last : ℕ) (others : List Entry) : Type 0 where
+  pub ascending : AreAscending ordered
+  pub upto : All (λ e. pair_number e ≤ last) ordered
+  pub nonzero : All IsNonzero ordered
+  pub few : length ordered + length others < 2 ^ 32

@@ -7,8 +7,8 @@ ghost use Rattle.direct_quad.specs.Long.{terms_of, node_count};
 ghost use Rattle.direct_quad.specs.Held.{AreHeld};
 ghost use Rattle.direct_quad.specs.Gathered.{IsSumOf};
 
+use crate::gathered_pairs::GatheredPairs;
 use crate::long_table::LongTable;
-use crate::pairs::Pairs;
 use crate::rows::couplers_of;
 use crate::shares::with_long;
 use crate::short::{add_short_shares, constant_of, push_short};
@@ -33,7 +33,7 @@ pub(crate) struct DirectTerms {
     total: u128,
     constant: i128,
     weights: Vec<i128>,
-    pairs: Pairs,
+    pairs: GatheredPairs,
     long: ProductList,
 }
 
@@ -72,7 +72,7 @@ impl DirectTerms {
             total: 0,
             constant: 0,
             weights: vec![in alloc; 0; width]?,
-            pairs: Pairs::empty(alloc),
+            pairs: GatheredPairs::empty(alloc),
             long: ProductList::empty(alloc),
         })
     }

@@ -5,6 +5,7 @@ mod accumulator;
 mod additions;
 mod direct;
 mod gathered;
+mod gathered_pairs;
 mod heads;
 mod laws;
 mod long_table;
@@ -17,6 +18,7 @@ mod short;
 mod weights;
 
 pub use direct::DirectQuad;
+pub use gathered_pairs::GatheredPairs;
 pub use laws::{laws_of_long_terms, laws_of_rows, laws_of_sums};
 pub use long_table::{LongTable, LongTerm};
 pub use pairs::Pairs;

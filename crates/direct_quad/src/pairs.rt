@@ -1,9 +1,12 @@
 //! Couplers that are gathered one by one, more than one for some pairs.
-ghost use Rattle.std.specs.Prelude.{◌≡◌, ◌+◌, ◌++◌, ◌∷◌, [], ◌<◌, ◌^◌, IfOk, OnOk, OnErr, length, map, slice_get, Some};
+ghost use Rattle.std.specs.Prelude.{◌≡◌, ◌+◌, ◌++◌, ◌∷◌, [], ◌<◌, ◌≤◌, ◌^◌, All, IfOk, List, OnOk, OnErr, length, map, slice_get, Some, unsigned_abs};
 ghost use Rattle.std.specs.List.Sorted.{IsPermutation, IsNonDecreasingBy};
-ghost use Rattle.direct_quad.specs.PairLists.{entry_of, held_pairs, AreFromRow};
+ghost use Rattle.bits_model.specs.declared.output.Entry.{Entry};
+ghost use Rattle.bits_model.specs.Output.{weight_total};
+ghost use Rattle.quad_form.specs.Pairs.{entry_in_front, pair_number, sums_from, sums_of, IsPair, AreSummed};
+ghost use Rattle.direct_quad.specs.PairLists.{entry_of, held_pairs, number_of};
 
-use bits_model::{Entry, NoMemory};
+use bits_model::{CouplerList, Entry, NoMemory};
 use std::alloc::Global;
 use std::marker::Model;
 
@@ -61,33 +64,92 @@ fn widened(alloc: Global, narrow: &[NarrowPair]) -> Result<Vec<Entry>, NoMemory>
     Ok(wide)
 }
 
-/// Narrow couplers in the order of their first nodes.
+/// Each node is below it.
+const NODE_LIMIT: u64 = 1 << 32;
+
+/// The number of a pair of nodes: pairs are ordered by their first nodes, and then by their second.
+pub(crate) fn number_of(first: u32, second: u32) -> u64
+    ensures { result ≡ number_of first second }
+{
+    u64::from(first) * NODE_LIMIT + u64::from(second)
+}
+
+/// Narrow couplers in the order of their pairs.
 fn sorted_narrow(mut pairs: Vec<NarrowPair>) -> Vec<NarrowPair>
     ensures same { IsPermutation pairs.items result.items }
-    ensures ordered { IsNonDecreasingBy (λ p. p.first) result.items }
+    ensures ordered { IsNonDecreasingBy (λ p. pair_number (entry_of p)) result.items }
 {
-    pairs.sort_unstable_by_key(|pair| pair.first);
+    pairs.sort_unstable_by_key(|pair| number_of(pair.first, pair.second));
     pairs
 }
 
-/// Entries in the order of their first nodes.
+/// Entries in the order of their pairs.
 fn sorted_wide(mut pairs: Vec<Entry>) -> Vec<Entry>
     ensures same { IsPermutation pairs.items result.items }
-    ensures ordered { IsNonDecreasingBy (λ e. e.first) result.items }
+    ensures ordered { IsNonDecreasingBy pair_number result.items }
 {
-    pairs.sort_unstable_by_key(|pair| pair.first);
+    pairs.sort_unstable_by_key(|pair| number_of(pair.first, pair.second));
     pairs
 }
 
-/// The same couplers in the order of their first nodes.
+/// The same couplers in the order of their pairs.
 fn sorted_pairs(held: HeldPairs) -> HeldPairs
     ensures same { IsPermutation (held_pairs held) (held_pairs result) }
-    ensures ordered { AreFromRow 0 (held_pairs result) }
+    ensures ordered { IsNonDecreasingBy pair_number (held_pairs result) }
 {
     match held {
         HeldPairs::Narrow(pairs) => HeldPairs::Narrow(sorted_narrow(pairs)),
         HeldPairs::Wide(pairs) => HeldPairs::Wide(sorted_wide(pairs)),
     }
+}
+
+/// Appends a coupler, unless its weight is 0.
+fn push_some(couplers: &mut CouplerList, entry: Entry) -> Result<(), NoMemory>
+    ensures { OnOk result (couplers.new ≡ couplers.old ++ entry_in_front entry []) }
+{
+    if entry.weight == 0 {
+        return Ok(());
+    }
+    couplers.push(entry.first, entry.second, entry.weight)
+}
+
+/// Adds an entry to a pending one of its pair. Where that is of another pair it is appended, and the
+/// entry is pending in its place.
+fn add_pending(
+    couplers: &mut CouplerList,
+    pending: &mut Entry,
+    entry: Entry,
+) -> Result<(), NoMemory>
+    requires small { unsigned_abs pending.old.weight + unsigned_abs entry.weight ≤ 2 ^ 126 }
+    ensures sums { (later : List Entry) → OnOk result (couplers.new ++ sums_from pending.new later
+        ≡ couplers.old ++ sums_from pending.old (entry ∷ later)) }
+    ensures small { OnOk result (unsigned_abs pending.new.weight
+        ≤ unsigned_abs pending.old.weight + unsigned_abs entry.weight) }
+{
+    if number_of(pending.first, pending.second) == number_of(entry.first, entry.second) {
+        pending.weight += entry.weight;
+        return Ok(());
+    }
+    push_some(couplers, *pending)?;
+    *pending = entry;
+    Ok(())
+}
+
+/// Couplers with neighbours of one pair as one, and none of weight 0.
+fn sums_of(alloc: Global, pairs: &Pairs) -> Result<CouplerList, NoMemory>
+    requires { weight_total pairs.now ≤ 2 ^ 126 }
+    ensures { IfOk result (λ couplers. couplers ≡ sums_of pairs.now) }
+{
+    let mut couplers = CouplerList::empty(alloc);
+    if pairs.len() == 0 {
+        return Ok(couplers);
+    }
+    let mut pending = pairs.at(0);
+    for i in 1..pairs.len() {
+        add_pending(&mut couplers, &mut pending, pairs.at(i))?;
+    }
+    push_some(&mut couplers, pending)?;
+    Ok(couplers)
 }
 
 impl Pairs {
@@ -123,16 +185,26 @@ impl Pairs {
         }
     }
 
-    /// The same couplers in the order of their first nodes, in the same memory.
+    /// The same couplers in the order of their pairs, in the same memory.
     pub fn sorted(self) -> Pairs
         ensures same { IsPermutation self result }
-        ensures ordered { AreFromRow 0 result }
+        ensures ordered { IsNonDecreasingBy pair_number result }
     {
         let Pairs { alloc, held } = self;
         Pairs {
             alloc,
             held: sorted_pairs(held),
         }
+    }
+
+    /// The couplers in order, one for each pair whose sum is not 0.
+    pub fn summed(self) -> Result<CouplerList, NoMemory>
+        requires pairs { All (IsPair (2 ^ 32)) self }
+        requires small { weight_total self ≤ 2 ^ 126 }
+        ensures { IfOk result (AreSummed self) }
+    {
+        let alloc = self.alloc;
+        sums_of(alloc, &self.sorted())
     }
 
     /// Appends a coupler. Where memory is refused the list stays as it was.

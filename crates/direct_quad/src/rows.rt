@@ -1,10 +1,10 @@
 //! Couplers row by row.
 //!
-//! Pairs are sorted by their first nodes, and each variable has a list of the terms in which it
-//! stands. For each variable its pairs, and the couplers of its places with later literals, are
-//! summed: that is the first part of its row. Those with new nodes follow: they are in order, since
-//! new nodes are numbered after all variables, in the order of the terms. See Gustavson, Two fast
-//! algorithms for sparse matrices: multiplication and permuted transposition (1978).
+//! Pairs are sorted, and each variable has a list of the terms in which it stands. For each variable
+//! its pairs, and the couplers of its places with later literals, are summed: that is the first part
+//! of its row. Those with new nodes follow: they are in order, since new nodes are numbered after
+//! all variables, in the order of the terms. See Gustavson, Two fast algorithms for sparse matrices:
+//! multiplication and permuted transposition (1978).
 ghost use Rattle.std.specs.Prelude.{◌≡◌, ◌+◌, ◌*◌, ◌≤◌, ◌<◌, ◌^◌, ◌++◌, All, IfOk, OnOk, length, map, pos, replicate, drop, unsigned_abs};
 ghost use Rattle.std.specs.List.{flat_map};
 ghost use Rattle.bits_model.specs.Output.{weight_total};
@@ -19,6 +19,7 @@ ghost use Rattle.direct_quad.specs.RowSums.{with_entries, size_of, pair_part, no
 ghost use Rattle.direct_quad.specs.Occurrences.{places_at, IsOccurrence};
 
 use crate::accumulator::Accumulator;
+use crate::gathered_pairs::GatheredPairs;
 use crate::heads::{Head, head_of, push_heads};
 use crate::long_table::{LongTable, PlaceRef};
 use crate::new_nodes::signed;
@@ -178,13 +179,20 @@ fn rows_of(alloc: Global, pairs: &Pairs, long: &LongTable) -> Result<CouplerList
 
 /// The couplers of pairs and of long terms, in order. Each pair of nodes has one, with the sum of
 /// what all give it, or none where the sum is 0.
-pub fn couplers_of(alloc: Global, pairs: Pairs, long: &LongTable) -> Result<CouplerList, NoMemory>
+pub fn couplers_of(
+    alloc: Global,
+    pairs: GatheredPairs,
+    long: &LongTable,
+) -> Result<CouplerList, NoMemory>
     requires pairs { All (IsPair long.now.width) pairs }
     requires small { weight_total pairs + terms_total long.now.terms * 2 ^ 24 ≤ 2 ^ 126 }
     ensures { IfOk result (λ couplers. AreRows (node_count long.now) long.now.width
         (pairs ++ flat_map place_couplers (all_places long.now.terms long.now.width))
         couplers) }
 {
-    let sorted = pairs.sorted();
+    if long.node_count() as usize == long.width() {
+        return pairs.summed();
+    }
+    let sorted = pairs.sorted()?;
     rows_of(alloc, &sorted, long)
 }

@@ -5,8 +5,8 @@ ghost use Rattle.direct_quad.specs.Places.{moved_share, signed, short_constant, 
 ghost use Rattle.direct_quad.specs.Held.{Gain};
 ghost use Rattle.direct_quad.specs.RowSums.{size_of};
 
+use crate::gathered_pairs::GatheredPairs;
 use crate::new_nodes::signed;
-use crate::pairs::Pairs;
 use crate::weights::add_weight;
 use bits_model::NoMemory;
 use problem_form::Literal;
@@ -68,7 +68,7 @@ pub(crate) fn constant_of(literals: &[Literal], coefficient: i128) -> i128
 
 /// Appends the coupler of a term of two literals. Where memory is refused the list stays as it was.
 pub(crate) fn push_short(
-    pairs: &mut Pairs,
+    pairs: &mut GatheredPairs,
     literals: &[Literal],
     coefficient: i128,
 ) -> Result<(), NoMemory>

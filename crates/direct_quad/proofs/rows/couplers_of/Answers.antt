@@ -1,27 +1,58 @@
-use Rattle.std.proofs.Common.{◌++◌, List, arith}
+use Rattle.std.proofs.Common.{◌≡◌, ◌≤◌, ◌^◌, ◌++◌, [], List, length, ap, arith}
+use Rattle.std.specs.Prelude.{All}
 use Rattle.std.specs.List.{flat_map}
 use Rattle.std.proofs.lemmas.List.Sorted.{All-permutation}
+use Rattle.std.proofs.lemmas.List.{nil_from_length}
+use Rattle.std.proofs.lemmas.List.Elements.{All-weaker, recursion_from_All}
 use Rattle.std.proofs.lemmas.Result.{IfOk-weaker}
 use Rattle.bits_model.specs.declared.output.Entry.{Entry}
-use Rattle.quad_form.specs.Pairs.{IsPair}
+use Rattle.term_table.specs.Terms.{Term}
+use Rattle.quad_form.specs.Pairs.{IsPair, AreSummed}
 use Rattle.direct_quad.specs.Places.{place_couplers, all_places}
 use Rattle.direct_quad.specs.Rows.{AreRows}
 use Rattle.direct_quad.specs.Long.{node_count}
 use Rattle.direct_quad.proofs.HeldSums.{rows-permuted, total-permuted}
+use Rattle.direct_quad.proofs.LongPlaces.{enough_nodes}
+use Rattle.direct_quad.proofs.PairSums.{from_numbers, rows-summed}
 use Rattle.direct_quad.proofs.rows.couplers_of.Goals as goal
+
+pub rows_of-requires-clause-ordered : goal.rows_of-requires-clause-ordered
+rows_of-requires-clause-ordered c =
+    let w = c.args.long.now.width in
+    let inside = All-permutation (IsPair w) _ _ c.in_ok-sorted.ensures.same c.requires.pairs in
+    let pairs : All (IsPair (2 ^ 32)) c.in_ok-sorted.sorted =
+    All-weaker (IsPair w) (IsPair (2 ^ 32))
+    (λ (e : Entry) p. record { upward = p.upward; within = omega (arith, p.within, c.width.ensures.kept.narrow) })
+    c.in_ok-sorted.sorted inside in
+    from_numbers c.in_ok-sorted.sorted pairs c.in_ok-sorted.ensures.ordered
 
 pub rows_of-requires-clause-pairs : goal.rows_of-requires-clause-pairs
 rows_of-requires-clause-pairs c =
-    All-permutation (IsPair c.args.long.now.width) _ _ c.sorted-sorted.ensures.same c.requires.pairs
+    All-permutation (IsPair c.args.long.now.width) _ _ c.in_ok-sorted.ensures.same c.requires.pairs
 
 pub rows_of-requires-clause-small : goal.rows_of-requires-clause-small
 rows_of-requires-clause-small c =
-    omega (arith, total-permuted _ _ c.sorted-sorted.ensures.same, c.requires.small)
+    omega (arith, total-permuted _ _ c.in_ok-sorted.ensures.same, c.requires.small)
 
 pub returns : goal.returns
 returns c =
     let t = c.args.long.now in
     let others = flat_map place_couplers (all_places t.terms t.width) in
     let Rows : List Entry → List Entry → Type 0 = λ ps es. AreRows (node_count t) t.width (ps ++ others) es in
-    IfOk-weaker c.rows_of.result (Rows c.sorted-sorted.result) (Rows c.args.pairs)
-    (λ es rows. rows-permuted _ _ _ _ others es c.sorted-sorted.ensures.same rows) c.rows_of.ensures
+    IfOk-weaker c.rows_of.result (Rows c.in_ok-sorted.sorted) (Rows c.args.pairs)
+    (λ es rows. rows-permuted _ _ _ _ others es c.in_ok-sorted.ensures.same rows) c.rows_of.ensures
+
+pub returns-then-node_count-width : goal.returns-then-node_count-width
+returns-then-node_count-width c =
+    let t = c.args.long.now in
+    let same : node_count t ≡ t.width =
+    omega (arith, c.node_count.ensures, c.if-node_count-width.true, c.width.ensures.width) in
+    let long = recursion_from_All (λ (u : Term). 3 ≤ length u.0) t.terms c.width.ensures.kept.long in
+    let none : t.terms ≡ [] = nil_from_length t.terms (omega (arith, enough_nodes t.terms long, same)) in
+    let others = flat_map place_couplers (all_places t.terms t.width) in
+    let no_others : others ≡ [] = ap (λ (ts : List Term). flat_map place_couplers (all_places ts t.width)) none in
+    IfOk-weaker c.summed.result (AreSummed c.args.pairs)
+    (λ (es : List Entry). AreRows (node_count t) t.width (c.args.pairs ++ others) es)
+    (λ (es : List Entry) summed.
+    rows-summed t.width (node_count t) c.args.pairs others es no_others (omega (arith, same)) c.requires.pairs summed)
+    c.summed.ensures

@@ -1,0 +1,171 @@
+-- Couplers in the order of their pairs, with equal neighbours as one, and couplers that came in order.
+use Rattle.std.proofs.Common.{◌≡◌, ◌≢◌, ℕ, ◌+◌, ◌<◌, ◌≤◌, ◌^◌, Bool, true, false, eqb, arith, sym, ap, ◌∙◌, refl, subst, List, [], ◌∷◌, ◌++◌, append_assoc, append-nil, pos, length, length-append, map, get_or, if◌then◌else◌}
+use Rattle.std.specs.Prelude.{All}
+use Rattle.std.specs.Bool.{Decides}
+use Rattle.std.specs.List.Sorted.{IsPermutation, IsNonDecreasingBy}
+use Rattle.std.specs.Ordering.{int_eq}
+use Rattle.std.proofs.lemmas.Bool.{eq-eqb}
+use Rattle.std.proofs.lemmas.Bool.Decides.{Decides-eqb}
+use Rattle.std.proofs.lemmas.List.{get_or-map, length-map, map-id}
+use Rattle.std.proofs.lemmas.List.Sorted.{All-permutation, IsPermutation-append_comm}
+use Rattle.std.proofs.lemmas.List.Elements.{All-nil, All-push, All-tail, All-weaker, recursion_from_All}
+use Rattle.integers.proofs.Totals.{total_by-IsPermutation}
+use Rattle.bits_model.specs.declared.output.Entry.{Entry}
+use Rattle.quad_form.specs.Pairs.{IsPair, IsNonzero, weight_at, weight_for, pair_number, heavier, entry_in_front, sums_from, AreSummed}
+use Rattle.quad_form.proofs.PairOrder.{Rises, ordered_from_rising}
+use Rattle.direct_quad.specs.Rows.{AreRows}
+use Rattle.direct_quad.specs.PairLists.{AreFromRow, AreAscending, AreGathered}
+use Rattle.direct_quad.proofs.HeldSums.{total-permuted}
+use Rattle.direct_quad.proofs.PairRows.{from_ordered}
+
+-- ---- the order of their pairs
+
+-- that of what entries are made of
+pub ordered-map : {X : Type 0} (entry : X → Entry) (n : Entry → ℕ) (xs : List X) (x : X)
+    → IsNonDecreasingBy (λ y. n (entry y)) xs → IsNonDecreasingBy n (map entry xs)
+ordered-map entry n xs x up = λ i j d le in'.
+    let here : j < length xs = omega (arith, in', length-map xs entry) in
+    omega (
+      arith,
+      ap n (get_or-map entry xs i x d (omega (arith, le, here))),
+      ap n (get_or-map entry xs j x d here),
+      up i j x le here,
+    )
+
+-- the first nodes do not descend then
+pub from_numbers : (es : List Entry) → All (IsPair (2 ^ 32)) es → IsNonDecreasingBy pair_number es
+    → AreFromRow 0 es
+from_numbers es pairs up =
+    subst (AreFromRow 0) (map-id es) (from_ordered (λ (e : Entry). e) 0 es firsts (λ k d in'. omega arith))
+  where
+    firsts : IsNonDecreasingBy (λ (e : Entry). e.first) es
+    firsts i j d le in' =
+        let one : IsPair (2 ^ 32) (get_or es i d) = pairs i d (omega (arith, le, in')) in
+        let two : IsPair (2 ^ 32) (get_or es j d) = pairs j d in' in
+        omega (arith, one.within, two.within, up i j d le in')
+
+-- ---- neighbours of one pair
+
+-- one more of the pair
+pub sums_from-same : (p e : Entry) (es : List Entry) → pair_number p ≡ pair_number e
+    → sums_from p (e ∷ es) ≡ sums_from (heavier p e.weight) es
+sums_from-same p e es same = rw (eq-eqb (pair_number p) (pair_number e) same) refl
+
+front-append : (p : Entry) (es : List Entry) → entry_in_front p es ≡ entry_in_front p [] ++ es
+front-append p es = go (int_eq p.weight (pos 0))
+  where
+    go : (zero : Bool) → (if zero then es else p ∷ es) ≡ (if zero then [] else p ∷ []) ++ es
+    go true = refl
+    go false = refl
+
+-- one of another pair
+pub sums_from-other : (p e : Entry) (es : List Entry) → pair_number p ≢ pair_number e
+    → sums_from p (e ∷ es) ≡ entry_in_front p [] ++ sums_from e es
+sums_from-other p e es other =
+    go (eqb (pair_number p) (pair_number e)) (Decides-eqb (pair_number p) (pair_number e))
+  where
+    go : (same : Bool) → Decides same (pair_number p ≡ pair_number e)
+        → (if same then sums_from (heavier p e.weight) es else entry_in_front p (sums_from e es))
+        ≡ entry_in_front p [] ++ sums_from e es
+    go true d = absurd (other (d.0 refl))
+    go false d = front-append p (sums_from e es)
+
+-- the pending one is appended, and the next one is pending
+pub appended : (made new : List Entry) (p e : Entry) (es : List Entry) → pair_number p ≢ pair_number e
+    → new ≡ made ++ entry_in_front p [] → new ++ sums_from e es ≡ made ++ sums_from p (e ∷ es)
+appended made new p e es other pushed =
+    ap (λ fs. fs ++ sums_from e es) pushed
+    ∙ append_assoc made (entry_in_front p []) (sums_from e es)
+    ∙ ap (λ fs. made ++ fs) (sym (sums_from-other p e es other))
+
+-- ---- couplers that came in order
+
+ascending-push : (es : List Entry) (e : Entry) (last : ℕ) → AreAscending es
+    → All (λ f. pair_number f ≤ last) es → last < pair_number e → AreAscending (es ++ e ∷ [])
+ascending-push [] e last up low less = (All-nil (λ (f : Entry). pair_number e < pair_number f), tt)
+ascending-push (f ∷ fs) e last up low less =
+    let one : pair_number f ≤ last = low 0 f (omega arith) in (
+      All-push (λ (g : Entry). pair_number f < pair_number g) fs e up.0 (omega (arith, one, less)),
+      ascending-push fs e last up.1 (All-tail (λ (g : Entry). pair_number g ≤ last) f fs low) less,
+    )
+
+-- one more of them
+pub gathered-push : (es others : List Entry) (e : Entry) (last next : ℕ) → AreGathered es last others
+    → last < next → next ≡ pair_number e → IsNonzero e → length (es ++ others) + 1 < 2 ^ 32
+    → AreGathered (es ++ e ∷ []) next others
+gathered-push es others e last next held less is some few = record {
+  ascending = ascending-push es e last held.ascending held.upto (omega (arith, less, is));
+  upto = All-push (λ (f : Entry). pair_number f ≤ next) es e
+      (All-weaker (λ (f : Entry). pair_number f ≤ last) (λ (f : Entry). pair_number f ≤ next)
+      (λ f le. omega (arith, le, less)) es held.upto)
+      (omega (arith, is));
+  nonzero = All-push IsNonzero es e held.nonzero some;
+  few = omega (arith, few, length-append es others, length-append es (e ∷ []));
+}
+
+-- one more of the others
+pub gathered-other : (es others more : List Entry) (e : Entry) (last : ℕ) → AreGathered es last others
+    → more ≡ others ++ e ∷ [] → length (es ++ others) + 1 < 2 ^ 32 → AreGathered es last more
+gathered-other es others more e last held pushed few = record {
+  ascending = held.ascending;
+  upto = held.upto;
+  nonzero = held.nonzero;
+  few = omega (arith, few, ap length pushed, length-append es others, length-append others (e ∷ []));
+}
+
+rises : (es : List Entry) → AreAscending es → Rises es
+rises [] up = tt
+rises (e ∷ es) up =
+    (recursion_from_All (λ (f : Entry). pair_number e < pair_number f) es up.0, rises es up.1)
+
+-- they are summed already
+pub summed-ordered : (es : List Entry) (last : ℕ) (others : List Entry) → AreGathered es last others
+    → others ≡ [] → All (IsPair (2 ^ 32)) (es ++ others) → AreSummed (es ++ others) es
+summed-ordered es last others held none pairs =
+    let whole : es ++ others ≡ es = ap (λ fs. es ++ fs) none ∙ append-nil es in
+    let here : All (IsPair (2 ^ 32)) es = subst (All (IsPair (2 ^ 32))) whole pairs in
+    subst (λ fs. AreSummed fs es) (sym whole) (record {
+      ordered = ordered_from_rising es (recursion_from_All (IsPair (2 ^ 32)) es here) (rises es held.ascending);
+      nonzero = held.nonzero;
+      pairs = λ n all. all;
+      sums = λ i j. refl;
+      small = omega arith;
+    })
+
+-- both lists, in the other order
+pub joined-permuted : (es others all whole : List Entry) → es ++ others ≡ whole → all ≡ others ++ es
+    → IsPermutation whole all
+joined-permuted es others all whole view joined =
+    subst (λ fs. IsPermutation fs all) view
+    (subst (λ fs. IsPermutation (es ++ others) fs) (sym joined) (IsPermutation-append_comm es others))
+
+-- the order of what is summed does not matter
+pub summed-permuted : (xs ys es : List Entry) → IsPermutation xs ys → AreSummed ys es → AreSummed xs es
+summed-permuted xs ys es moved summed = record {
+  ordered = summed.ordered;
+  nonzero = summed.nonzero;
+  pairs = λ n all. summed.pairs n (All-permutation (IsPair n) xs ys moved all);
+  sums = λ i j. summed.sums i j ∙ total_by-IsPermutation (weight_for i j) xs ys moved;
+  small = omega (arith, summed.small, total-permuted xs ys moved);
+}
+
+-- ---- the rows of couplers alone
+
+pub rows-summed : (w n : ℕ) (ps others es : List Entry) → others ≡ [] → w ≤ n → All (IsPair w) ps
+    → AreSummed ps es → AreRows n w (ps ++ others) es
+rows-summed w n ps others es none le pairs summed =
+    let inside = summed.pairs w pairs in
+    let whole : ps ++ others ≡ ps = ap (λ fs. ps ++ fs) none ∙ append-nil ps in
+    record {
+      first = All-weaker (IsPair w) (λ (e : Entry). e.first < w)
+          (λ (e : Entry) p. omega (arith, p.upward, p.within)) es inside;
+      ordered = summed.ordered;
+      couplers = λ i d in'.
+          let pair : IsPair w (get_or es i d) = inside i d in' in
+          record {
+            upward = pair.upward;
+            within = omega (arith, pair.within, le);
+            nonzero = summed.nonzero i d in';
+          };
+      sums = λ i j less. summed.sums i j ∙ ap (weight_at i j) (sym whole);
+    }

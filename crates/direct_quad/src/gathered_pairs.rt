@@ -1,0 +1,104 @@
+//! Couplers as they are gathered, in order as long as they come in order.
+//!
+//! Those of one long constraint, or of a list of products in order, are the rows of the form as they
+//! come. All from the first one on that does not come in order are sorted in the end.
+ghost use Rattle.std.specs.Prelude.{◌≡◌, ◌+◌, ◌++◌, ◌∷◌, [], ◌<◌, ◌≤◌, ◌^◌, All, IfOk, OnOk, OnErr, length};
+ghost use Rattle.std.specs.List.Sorted.{IsPermutation, IsNonDecreasingBy};
+ghost use Rattle.bits_model.specs.Output.{weight_total};
+ghost use Rattle.quad_form.specs.Pairs.{pair_number, IsPair, AreSummed};
+
+use crate::pairs::{Pairs, number_of};
+use bits_model::{CouplerList, NoMemory};
+use std::alloc::Global;
+use std::marker::Model;
+
+/// Couplers, which contracts see as a list of entries: first those that came in order, the last one
+/// with this number of its pair, and then all others.
+#[derive(Drop)]
+pub struct GatheredPairs {
+    ordered: CouplerList,
+    last: u64,
+    others: Pairs,
+}
+
+impl Model for GatheredPairs {
+    ghost use Rattle.std.specs.Prelude.{◌<◌, ◌^◌, ◌++◌, List, length};
+    ghost use Rattle.bits_model.specs.declared.output.Entry.{Entry};
+    ghost use Rattle.direct_quad.specs.PairLists.{AreGathered};
+
+    ghost Value = { List Entry };
+
+    ghost view = { λ a. a.ordered ++ a.others };
+
+    ghost invariant = { λ a. AreGathered a.ordered a.last a.others };
+}
+
+/// The couplers of both lists.
+fn joined(mut pairs: Pairs, couplers: CouplerList) -> Result<Pairs, NoMemory>
+    requires few { length pairs + length couplers < 2 ^ 32 }
+    ensures { IfOk result (λ all. all ≡ pairs ++ couplers) }
+{
+    for entry in couplers.iter() {
+        pairs.push(entry.first, entry.second, entry.weight)?;
+    }
+    Ok(pairs)
+}
+
+impl GatheredPairs {
+    /// No couplers. Takes no memory.
+    pub fn empty(alloc: Global) -> GatheredPairs
+        ensures { result ≡ [] }
+    {
+        GatheredPairs {
+            ordered: CouplerList::empty(alloc),
+            last: 0,
+            others: Pairs::empty(alloc),
+        }
+    }
+
+    /// Appends a coupler. Where memory is refused the list stays as it was.
+    pub fn push(&mut self, first: u32, second: u32, weight: i128) -> Result<(), NoMemory>
+        requires few { length self.old + 1 < 2 ^ 32 }
+        ensures pushed { OnOk result (self.new
+            ≡ self.old ++ record { first = first; second = second; weight = weight } ∷ []) }
+        ensures unchanged { OnErr result (self.new ≡ self.old) }
+    {
+        let number = number_of(first, second);
+        if self.others.len() == 0 && self.last < number && weight != 0 {
+            self.ordered.push(first, second, weight)?;
+            self.last = number;
+            return Ok(());
+        }
+        self.others.push(first, second, weight)
+    }
+
+    /// The same couplers in the order of their pairs.
+    pub fn sorted(self) -> Result<Pairs, NoMemory>
+        ensures same { IfOk result (IsPermutation self) }
+        ensures ordered { IfOk result (IsNonDecreasingBy pair_number) }
+    {
+        let GatheredPairs {
+            ordered,
+            others,
+            ..
+        } = self;
+        Ok(joined(others, ordered)?.sorted())
+    }
+
+    /// The couplers in order, one for each pair whose sum is not 0.
+    pub fn summed(self) -> Result<CouplerList, NoMemory>
+        requires pairs { All (IsPair (2 ^ 32)) self }
+        requires small { weight_total self ≤ 2 ^ 126 }
+        ensures { IfOk result (AreSummed self) }
+    {
+        let GatheredPairs {
+            ordered,
+            others,
+            ..
+        } = self;
+        if others.len() == 0 {
+            return Ok(ordered);
+        }
+        joined(others, ordered)?.summed()
+    }
+}
