@@ -1,9 +1,9 @@
 //! Polynomial texts, read into problems: each line is a product, and variables have names.
 //!
-//! A text goes in as bytes or as words, and out come its problem in normal form and the names of its
-//! variables, or its first fault. Each product is put into the problem as soon as it is read, and
-//! the literals of all products go through one list. While the text is read, a name is the bytes
-//! that stand in it; a name is copied once, after the last product.
+//! A text goes in as bytes or as words, and out come its problem in normal form and the names of
+//! its variables, or its first fault. Each product is put into the problem as soon as it is read,
+//! and the literals of all products go through one list. While the text is read, a name is what
+//! stands in it; each name is copied once, after the last product.
 #![tactic(auto)]
 
 mod laws;

@@ -7,13 +7,14 @@ ghost use Rattle.poly_reader.specs.Poly.{is_name, begins_name, is_name_byte, nam
 ghost use Rattle.poly_reader.specs.Views.{named_of, left, literals_read, product_read};
 
 use crate::name_table::NameTable;
+use crate::names::as_text;
 use problem_form::Literal;
 use whole_text::{TextAnswer, TextFault, TextKind, WordRef, Words, fault, integer_word};
 
 /// A literal as it is written: a name, and whether there is a `~` before it.
 #[derive(Clone, Copy)]
 pub(crate) struct NamedRef<'a> {
-    pub name: &'a [u8],
+    pub name: &'a str,
     pub negated: bool,
 }
 
@@ -53,7 +54,10 @@ fn named(name: &[u8], negated: bool, line: u64) -> Result<NamedRef<'_>, TextFaul
     ensures name { IfOk result (λ l. is_name l.name.now ≡ true) }
 {
     if is_name(name) {
-        Ok(NamedRef { name, negated })
+        Ok(NamedRef {
+            name: as_text(name),
+            negated,
+        })
     } else {
         Err(fault(TextKind::Word, line))
     }

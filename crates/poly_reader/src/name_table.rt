@@ -9,10 +9,10 @@ use indexmap::IndexSet;
 use std::alloc::Global;
 use std::marker::Model;
 
-/// Names, each as the bytes that stand in the text. Contracts see the list of the names.
+/// Names, each as it stands in the text. Contracts see the list of the names.
 #[derive(Drop)]
 pub(crate) struct NameTable<'a> {
-    set: IndexSet<&'a [u8]>,
+    set: IndexSet<&'a str>,
 }
 
 impl<'a> Model for NameTable<'a> {
@@ -47,7 +47,7 @@ impl<'a> NameTable<'a> {
 
     /// The number of a name. A new name is put behind the others.
     #[inline(always)]
-    pub(crate) fn number(&mut self, name: &'a [u8]) -> Result<usize, NoMemory>
+    pub(crate) fn number(&mut self, name: &'a str) -> Result<usize, NoMemory>
         requires { is_name name.now ≡ true }
         ensures added { OnOk result (self.new ≡ with_name self.old name.now) }
         ensures number { IfOk result (λ n. n ≡ number_of self.new name.now) }

@@ -36,7 +36,7 @@ fn part<'a>(bytes: &'a [u8], ends: &[usize], i: usize) -> &'a [u8]
 }
 
 /// The bytes of a name as text.
-fn as_text(name: &[u8]) -> &str
+pub(crate) fn as_text(name: &[u8]) -> &str
     requires { is_name name.now ≡ true }
     ensures { result.now ≡ name.now }
 {
@@ -95,12 +95,12 @@ impl Names {
     }
 
     /// Appends a name.
-    pub(crate) fn push(&mut self, name: &[u8]) -> Result<(), NoMemory>
+    pub(crate) fn push(&mut self, name: &str) -> Result<(), NoMemory>
         requires { is_name name.now ≡ true }
         ensures { OnOk result (self.new ≡ self.old ++ name.now ∷ []) }
     {
         let start = self.bytes.len();
-        self.bytes.extend_from_slice(name)?;
+        self.bytes.extend_from_slice(name.as_bytes())?;
         if self.ends.push(self.bytes.len()).is_err() {
             self.bytes.truncate(start);
             return Err(NoMemory);

@@ -19,7 +19,11 @@ mod plain_entries;
 #[cfg(test)]
 mod plain_opb;
 #[cfg(test)]
+mod plain_poly;
+#[cfg(test)]
 mod plain_reader;
+#[cfg(test)]
+mod poly_texts;
 #[cfg(test)]
 mod real_ends;
 #[cfg(test)]
