@@ -98,8 +98,9 @@ impl<'a> PlainPoly<'a> {
     }
 
     fn finish(mut self) -> Result<Vec<i128>, AllocError> {
+        let constant = self.constant;
         self.numbers.push(0)?;
-        self.numbers.push(self.constant)?;
+        self.numbers.push(constant)?;
         for name in self.names.iter() {
             self.numbers.push(name.len() as i128)?;
             for byte in *name {
