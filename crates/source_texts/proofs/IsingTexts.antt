@@ -1,12 +1,14 @@
 -- Ising texts: their problems stand for what they say.
-use Rattle.std.proofs.Common.{◌≡◌, ℕ, List, Ok, refl}
+use Rattle.std.proofs.Common.{◌≡◌, ℕ, List, Ok, refl, ap}
 use Rattle.bits_model.specs.Costs.{Source}
 use Rattle.whole_text.specs.Steps.{◌>>=◌}
 use Rattle.problem_form.specs.Problems.{ProblemContent}
 use Rattle.problem_form.specs.NormalForm.{normal_form}
+use Rattle.whole_text.specs.Tokens.{tokens_of}
+use Rattle.whole_text.specs.declared.token.Style.TheVariants.{Plain}
 use Rattle.entry_reader.specs.declared.layout.Layout.TheVariants.{Ising}
 use Rattle.entry_reader.specs.Entries.{Listing, reading}
-use Rattle.entry_reader.specs.Problems.{problem_of, normal_reading}
+use Rattle.entry_reader.specs.Problems.{problem_of, normal_reading, problem_of_words}
 use Rattle.ising_file.specs.Cost.{source_of}
 use Rattle.ising_file.proofs.ReadCosts.{reading_keeps_costs}
 use Rattle.source_texts.specs.declared.reading.Read.{Read}
@@ -28,3 +30,14 @@ pub ising_stands : (text : List ℕ) (r : Read)
 unfolding normal_reading
 ising_stands text r e =
     read_stands source_of normal_problem normal_form_stands (reading Ising text) r e
+
+same_reading : (text : List ℕ)
+    → normal_reading Ising text ≡ problem_of_words Ising (tokens_of Plain text)
+unfolding normal_reading problem_of_words reading
+same_reading text = refl
+
+-- the words of a text are read as the text is
+pub ising_words_read : (text : List ℕ)
+    → (normal_reading Ising text >>= λ p. Ok (own p))
+    ≡ (problem_of_words Ising (tokens_of Plain text) >>= λ p. Ok (own p))
+ising_words_read text = ap (λ said. said >>= λ p. Ok (own p)) (same_reading text)

@@ -3,9 +3,11 @@ use Rattle.source_texts.specs.Sources.{WordsAreReadAsTexts}
 use Rattle.command_words.specs.declared.commands.Format.TheVariants.{Wcnf, Opb, Ising, Qubo}
 use Rattle.source_texts.proofs.WcnfTexts.{wcnf_words_read}
 use Rattle.source_texts.proofs.OpbTexts.{opb_words_read}
+use Rattle.source_texts.proofs.IsingTexts.{ising_words_read}
+use Rattle.source_texts.proofs.QuboTexts.{qubo_words_read}
 
 pub words_read : WordsAreReadAsTexts
 words_read Wcnf text = wcnf_words_read text
 words_read Opb text = opb_words_read text
-words_read Ising text = tt
-words_read Qubo text = tt
+words_read Ising text = ising_words_read text
+words_read Qubo text = qubo_words_read text

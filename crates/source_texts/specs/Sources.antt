@@ -1,5 +1,5 @@
 -- What a text says in a format, and the problem that it is read into: a line a format.
-use Rattle.std.specs.Prelude.{◌≡◌, ℕ, ℤ, ◌≤◌, List, Ok, Option, Some, None, IfSome, Result, take}
+use Rattle.std.specs.Prelude.{◌≡◌, ℕ, ℤ, ◌≤◌, List, Ok, Result, take}
 use Rattle.bits_model.specs.declared.costs.Figures.{Figures}
 use Rattle.bits_model.specs.Costs.{Form, Source}
 use Rattle.bits_model.specs.Relations.{Decoding, Relaxes}
@@ -22,8 +22,6 @@ use Rattle.entry_reader.specs.Problems as entry_problems
 use Rattle.ising_file.specs.Cost as ising_cost
 use Rattle.qubo_file.specs.Cost as qubo_cost
 use Rattle.source_texts.specs.declared.reading.Read.{Read}
-use Rattle.source_texts.specs.declared.reading.WordFormat.{WordFormat}
-use Rattle.source_texts.specs.declared.reading.WordFormat.TheVariants as worded
 
 -- the source that a text says, as it is written, or the first fault of the text
 abbrev pub source_of : Format → List ℕ → Result Source TextFault
@@ -43,29 +41,27 @@ problem_of Opb text = opb_cost.normal_reading text >>= λ p. Ok (own p)
 problem_of Ising text = entry_problems.normal_reading layouts.Ising text >>= λ p. Ok (own p)
 problem_of Qubo text = entry_problems.normal_reading layouts.Qubo text >>= λ p. Ok (own p)
 
--- ---- the formats that are read from words
+-- ---- from the words of a text
 
--- a format as one whose texts are read from their words, or none where they are read whole
-abbrev pub word_format : Format → Option WordFormat
-word_format Wcnf = Some worded.Wcnf
-word_format Opb = Some worded.Opb
-word_format Ising = None
-word_format Qubo = None
-
--- how its texts are cut into words
-abbrev pub style_of : WordFormat → Style
-style_of worded.Wcnf = styles.Plain
-style_of worded.Opb = styles.Opb
+-- how the texts of a format are cut into words
+abbrev pub style_of : Format → Style
+style_of Wcnf = styles.Plain
+style_of Opb = styles.Opb
+style_of Ising = styles.Plain
+style_of Qubo = styles.Plain
 
 -- the problem in normal form, from the words of a text
-abbrev pub problem_of_words : WordFormat → List Word → Result Read TextFault
-problem_of_words worded.Wcnf words = wcnf_cost.problem_of_words words >>= λ p. Ok (own p)
-problem_of_words worded.Opb words = opb_cost.problem_of_words words >>= λ p. Ok (own p)
+abbrev pub problem_of_words : Format → List Word → Result Read TextFault
+problem_of_words Wcnf words = wcnf_cost.problem_of_words words >>= λ p. Ok (own p)
+problem_of_words Opb words = opb_cost.problem_of_words words >>= λ p. Ok (own p)
+problem_of_words Ising words =
+    entry_problems.problem_of_words layouts.Ising words >>= λ p. Ok (own p)
+problem_of_words Qubo words = entry_problems.problem_of_words layouts.Qubo words >>= λ p. Ok (own p)
 
 -- the words of a text say what the text says
 abbrev pub WordsAreReadAsTexts : Type 0
-WordsAreReadAsTexts = (format : Format) (text : List ℕ) → IfSome (word_format format)
-    (λ w. problem_of format text ≡ problem_of_words w (tokens_of (style_of w) text))
+WordsAreReadAsTexts = (format : Format) (text : List ℕ)
+    → problem_of format text ≡ problem_of_words format (tokens_of (style_of format) text)
 
 -- ---- what a problem stands for
 

@@ -6,8 +6,7 @@ pub fn problems_stand_for_sources()
     ensures { ProblemsStandForSources }
 {}
 
-/// In a format that is read from words, the words of a text are read as the text is, however it was
-/// cut into pieces.
+/// In each format the words of a text are read as the text is, however it was cut into pieces.
 pub fn words_are_read_as_texts()
     ensures { WordsAreReadAsTexts }
 {}

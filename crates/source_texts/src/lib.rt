@@ -5,4 +5,4 @@ mod laws;
 mod reading;
 
 pub use laws::{problems_stand_for_sources, words_are_read_as_texts};
-pub use reading::{Read, WordFormat, read_source, read_source_words, word_format};
+pub use reading::{Read, read_source, read_source_words, style_of};

@@ -2,13 +2,13 @@
 ghost use Rattle.std.specs.Prelude.{◌≡◌, ◌≤◌, ◌^◌, length, IfOk};
 ghost use Rattle.whole_text.specs.Steps.{Gives};
 ghost use Rattle.whole_text.specs.TokenTexts.{words_of};
-ghost use Rattle.source_texts.specs.Sources.{own, problem_of, problem_of_words, style_of, word_format};
+ghost use Rattle.source_texts.specs.Sources.{own, problem_of, problem_of_words, style_of};
 
 use command_words::Format;
-use ising_file::read_ising;
+use ising_file::{read_ising, read_ising_tokens};
 use opb_reader::{read_opb, read_opb_tokens};
 use problem_form::Problem;
-use qubo_file::read_qubo;
+use qubo_file::{read_qubo, read_qubo_tokens};
 use std::alloc::Global;
 use wcnf_reader::{read_wcnf, read_wcnf_tokens};
 use whole_text::{Style, TextAnswer, TokenText};
@@ -21,33 +21,13 @@ pub struct Read {
     pub variables: u64,
 }
 
-/// A format whose texts are read from their words, which are cut as the text comes.
-#[derive(Clone, Copy, Debug, PartialEq, Eq)]
-pub enum WordFormat {
-    Wcnf,
-    Opb,
-}
-
-impl WordFormat {
-    /// How its texts are cut into words.
-    pub fn style(self) -> Style
-        ensures { result ≡ style_of self }
-    {
-        match self {
-            WordFormat::Wcnf => Style::Plain,
-            WordFormat::Opb => Style::Opb,
-        }
-    }
-}
-
-/// A format as one whose texts are read from their words, or none where they are read whole.
-pub fn word_format(format: Format) -> Option<WordFormat>
-    ensures { result ≡ word_format format }
+/// How the texts of a format are cut into words.
+pub fn style_of(format: Format) -> Style
+    ensures { result ≡ style_of format }
 {
     match format {
-        Format::Wcnf => Some(WordFormat::Wcnf),
-        Format::Opb => Some(WordFormat::Opb),
-        Format::Ising | Format::Qubo => None,
+        Format::Wcnf | Format::Ising | Format::Qubo => Style::Plain,
+        Format::Opb => Style::Opb,
     }
 }
 
@@ -76,7 +56,7 @@ pub fn read_source(alloc: Global, format: Format, text: &[u8]) -> Result<Read, T
 /// The problem of a text that was cut into words, in normal form, or the first fault of the text.
 pub fn read_source_words(
     alloc: Global,
-    format: WordFormat,
+    format: Format,
     text: &TokenText,
 ) -> Result<Read, TextAnswer>
     requires { length text.now.bytes ≤ 2 ^ 24 }
@@ -84,7 +64,9 @@ pub fn read_source_words(
     ensures own { IfOk result (λ read. read.variables ≤ read.problem.variables) }
 {
     match format {
-        WordFormat::Wcnf => Ok(own(read_wcnf_tokens(alloc, text)?)),
-        WordFormat::Opb => Ok(own(read_opb_tokens(alloc, text)?)),
+        Format::Wcnf => Ok(own(read_wcnf_tokens(alloc, text)?)),
+        Format::Opb => Ok(own(read_opb_tokens(alloc, text)?)),
+        Format::Ising => Ok(own(read_ising_tokens(alloc, text)?)),
+        Format::Qubo => Ok(own(read_qubo_tokens(alloc, text)?)),
     }
 }
