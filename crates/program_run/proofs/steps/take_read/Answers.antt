@@ -1,4 +1,4 @@
-use Rattle.std.proofs.Common.{◌≡◌, ◌∙◌, ap, subst, sym, string_bytes, map}
+use Rattle.std.proofs.Common.{◌≡◌, ◌∙◌, ap, subst, string_bytes, map}
 use Rattle.whole_text.specs.TokenTexts.{words_of}
 use Rattle.command_words.specs.declared.names.Which.TheVariants.{Source}
 use Rattle.command_words.specs.declared.commands.Job.{Job}
