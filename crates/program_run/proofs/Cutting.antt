@@ -2,19 +2,17 @@
 use Rattle.std.proofs.Common.{◌≡◌, ℕ, ◌+◌, ◌<◌, ◌≤◌, List, [], ◌++◌, length, take, Some, None, Ok, Err, Result, refl, sym, ap, ◌∙◌, subst, append_assoc, arith}
 use Rattle.std.proofs.lemmas.List.{append-nil, length-append, length-take, take-append-le}
 use Rattle.std.specs.Io.KnownBytes.{Consumes, IsAtEnd}
-use Rattle.std.specs.Prelude.{IsSomeAnd, IfSome}
+use Rattle.std.specs.Prelude.{IsSomeAnd}
 use Rattle.std.specs.declared.option.Option.{Option}
 use Rattle.edge_io.specs.Held.{NamedFiles, find_file, IsFront, IsLonger, WhereTold}
 use Rattle.whole_text.specs.declared.token.Style.{Style}
 use Rattle.whole_text.specs.Tokens.{Word, tokens_of}
 use Rattle.whole_text.specs.Lexing.{LexerState, StandsFor}
 use Rattle.command_words.specs.declared.commands.Command.{Command}
-use Rattle.command_words.specs.declared.commands.Format.{Format}
 use Rattle.command_words.specs.declared.names.Which.TheVariants.{Source}
 use Rattle.command_words.specs.Names.{name_of, job_in}
 use Rattle.source_texts.specs.declared.reading.Read.{Read}
-use Rattle.source_texts.specs.declared.reading.WordFormat.{WordFormat}
-use Rattle.source_texts.specs.Sources.{problem_of, problem_of_words, style_of, word_format}
+use Rattle.source_texts.specs.Sources.{problem_of, problem_of_words, style_of}
 use Rattle.source_texts.proofs.WordTexts.{words_read}
 use Rattle.program_run.specs.declared.status.Status.{Status}
 use Rattle.program_run.specs.declared.status.Status.TheVariants.{Done, Usage, ReadFault, WriteFault, BadText, Limit, NoState, NoMemory}
@@ -108,45 +106,35 @@ cut_longer held name style taken count limit bytes rest left lexer cut within co
 
 -- ---- reading what was cut
 
--- the words of a text in a format are read as the text is
-words_as_text : (format : Format) (worded : WordFormat) (text : List ℕ)
-    → word_format format ≡ Some worded
-    → problem_of format text ≡ problem_of_words worded (tokens_of (style_of worded) text)
-words_as_text format worded text e =
-    subst (λ (o : Option WordFormat). IfSome o
-    (λ w. problem_of format text ≡ problem_of_words w (tokens_of (style_of w) text))) e
-    (words_read format text)
-
-read_once : (held : NamedFiles) (words : List (List ℕ)) (command : Command) (format : WordFormat)
-    (style : Style) (cut : List Word) (result : Result Read Status) → style ≡ style_of format
-    → word_format (job_in command).format ≡ Some format
+read_once : (held : NamedFiles) (words : List (List ℕ)) (command : Command) (style : Style)
+    (cut : List Word) (result : Result Read Status) → style ≡ style_of (job_in command).format
     → cutting held Source (name_of words command Source) style ≡ Some (Ok cut)
-    → Meets (λ r. r) result (from_text Source (problem_of_words format cut))
+    → Meets (λ r. r) result (from_text Source (problem_of_words (job_in command).format cut))
     → Meets (λ r. r) result (reading words held command)
 unfolding cutting reading
-read_once held words command format style cut result its_own worded e meets =
+read_once held words command style cut result its_own e meets =
+    let format = (job_in command).format in
     let taken = bound (taking held Source (name_of words command Source))
     (λ bytes. Some (Ok (tokens_of style bytes))) cut e in
     let same : tokens_of style taken.0 ≡ cut = let two = taken.2 in cc in
-    let read : problem_of (job_in command).format taken.0 ≡ problem_of_words format cut =
-    words_as_text (job_in command).format format taken.0 worded
+    let read : problem_of format taken.0 ≡ problem_of_words format cut =
+    words_read format taken.0
     ∙ ap (problem_of_words format) (ap (λ s. tokens_of s taken.0) (sym its_own) ∙ same) in
-    let step : Step Read = reading words held command in
     subst (λ (m : Step (List ℕ)). Meets (λ r. r) result
-    (m >>= λ bytes. from_text Source (problem_of (job_in command).format bytes))) (sym taken.1)
+    (m >>= λ bytes. from_text Source (problem_of format bytes))) (sym taken.1)
     (subst (λ said. Meets (λ r. r) result (from_text Source said)) (sym read) meets)
 
 -- what the words of the source are read into is what the source is read into
 pub read_from_words : (told : Option NamedFiles) (words : List (List ℕ)) (command : Command)
-    (format : WordFormat) (style : Style) (cut : List Word) (result : Result Read Status)
-    → style ≡ style_of format → word_format (job_in command).format ≡ Some format
+    (style : Style) (cut : List Word) (result : Result Read Status)
+    → style ≡ style_of (job_in command).format
     → WhereTold told
     (λ held. cutting held Source (name_of words command Source) style ≡ Some (Ok cut))
-    → Meets (λ r. r) result (from_text Source (problem_of_words format cut))
+    → Meets (λ r. r) result (from_text Source (problem_of_words (job_in command).format cut))
     → WhereTold told (λ held. Meets (λ r. r) result (reading words held command))
-read_from_words None words command format style cut result its_own worded e meets = tt
-read_from_words (Some held) words command format style cut result its_own worded e meets =
-    read_once held words command format style cut result its_own worded e meets
+read_from_words None words command style cut result its_own e meets = tt
+read_from_words (Some held) words command style cut result its_own e meets =
+    read_once held words command style cut result its_own e meets
 
 -- what refuses to take a file refuses whatever is done with it
 refused_alike : (m : Step (List ℕ)) (style : Style) (f : List ℕ → Step Read) (status : Status)

@@ -1,5 +1,5 @@
 //! The steps of a command: each gives a value, or the status that refuses.
-ghost use Rattle.std.specs.Prelude.{◌≡◌, ◌≤◌, ◌^◌, None, Ok, Result, Some, map, string_bytes, length, IfOk, OnOk, IfErr};
+ghost use Rattle.std.specs.Prelude.{◌≡◌, ◌≤◌, ◌^◌, None, Ok, Result, map, string_bytes, length, IfOk, OnOk, IfErr};
 ghost use Rattle.edge_io.specs.Held.{WhereTold};
 ghost use Rattle.problem_form.specs.Limits.{limit_fault};
 ghost use Rattle.command_words.specs.Names.{name_of, job_in};
@@ -7,8 +7,7 @@ ghost use Rattle.whole_text.specs.declared.faults.TextFault.{TextFault};
 ghost use Rattle.whole_text.specs.TokenTexts.{words_of};
 ghost use Rattle.whole_text.specs.Steps.{Gives};
 ghost use Rattle.source_texts.specs.declared.reading.Read.{Read};
-ghost use Rattle.source_texts.specs.Sources.{word_format};
-ghost use Rattle.program_run.specs.Outcome.{Meets, taking, from_text, reading, sourcing};
+ghost use Rattle.program_run.specs.Outcome.{Meets, from_text, reading, sourcing};
 ghost use Rattle.program_run.specs.Statuses.{IsTextRefusal};
 ghost use Rattle.program_run.specs.Cut.{cutting};
 ghost use Rattle.program_run.specs.Causes.{IsRefusedBy, IsPassed};
@@ -16,42 +15,11 @@ ghost use Rattle.program_run.specs.Causes.{IsRefusedBy, IsPassed};
 use crate::cut::read_words;
 use crate::status::Status;
 use command_words::{Command, Which, name_of};
-use edge_io::{Files, ReadAnswer, read_all};
+use edge_io::{Files, ReadAnswer};
 use problem_form::{LimitKind, MOST_BYTES, check_limits};
-use source_texts::{Read, WordFormat, read_source, read_source_words, word_format};
+use source_texts::{Read, read_source_words, style_of};
 use std::alloc::Global;
 use whole_text::{Style, TextAnswer, TokenText};
-
-/// Takes a file of a command.
-#[tactic(auto, unfolding(crate::specs::Outcome::taking))]
-pub fn take_file<F: Files>(
-    alloc: Global,
-    words: &[String],
-    command: Command,
-    which: Which,
-    files: &mut F,
-) -> Result<Vec<u8>, Status>
-    ensures step { WhereTold (F.held files.old) (λ held. Meets (λ all. all.items) result
-        (taking held which (name_of (map string_bytes words.now) command which))) }
-    ensures held { F.held files.new ≡ F.held files.old }
-    ensures short { IfOk result (λ all. length all.items ≤ 2 ^ 24) }
-    ensures passed { OnOk result (IsPassed
-        (name_of (map string_bytes words.now) command which) 1
-        (F.counts files.old) (F.counts files.new)) }
-    ensures refused { IfErr result (λ status.
-        IsRefusedBy which (name_of (map string_bytes words.now) command which) 1 status
-        (F.counts files.old) (F.counts files.new)) }
-{
-    let Ok(name) = String::from_str(alloc, name_of(words, command, which)) else {
-        return Err(Status::NoMemory);
-    };
-    match read_all(alloc, files, name, MOST_BYTES) {
-        Ok(all) => Ok(all),
-        Err(ReadAnswer::ReadFault) => Err(Status::ReadFault(which)),
-        Err(ReadAnswer::TooLong) => Err(Status::Limit(which, LimitKind::Bytes, 16_777_217)),
-        Err(ReadAnswer::NoMemory) => Err(Status::NoMemory),
-    }
-}
 
 /// Takes a file of a command, and cuts it into words as it comes, in a style.
 #[tactic(auto, unfolding(crate::specs::Outcome::taking, crate::specs::Cut::cutting))]
@@ -101,40 +69,7 @@ fn judged(read: Result<Read, TextAnswer>) -> Result<Read, Status>
     }
 }
 
-/// Takes a source, cut into words as it comes, and reads it in the format of the command.
-fn take_cut<F: Files>(
-    alloc: Global,
-    words: &[String],
-    command: Command,
-    format: WordFormat,
-    files: &mut F,
-) -> Result<Read, Status>
-    requires { word_format (job_in command).format ≡ Some format }
-    ensures step { WhereTold (F.held files.old) (λ held. Meets (λ read. read) result
-        (reading (map string_bytes words.now) held command)) }
-    ensures held { F.held files.new ≡ F.held files.old }
-    ensures own { IfOk result (λ read. read.variables ≤ read.problem.variables) }
-    ensures passed { OnOk result (IsPassed
-        (name_of (map string_bytes words.now) command Which.Source) 1
-        (F.counts files.old) (F.counts files.new)) }
-    ensures refused { IfErr result (λ status.
-        IsRefusedBy Which.Source
-        (name_of (map string_bytes words.now) command Which.Source) 1 status
-        (F.counts files.old) (F.counts files.new)) }
-{
-    let style = format.style();
-    let text = match take_words(alloc, words, command, Which::Source, style, files) {
-        Ok(text) => text,
-        Err(status) => return Err(status),
-    };
-    let read = read_source_words(alloc, format, &text);
-    drop(text);
-    judged(read)
-}
-
-/// Takes the source and reads it. It is cut into words as it comes, where its format is read from
-/// words, and else it is taken whole.
-#[tactic(auto, unfolding(crate::specs::Outcome::reading))]
+/// Takes the source, cut into words as it comes, and reads it.
 fn take_read<F: Files>(
     alloc: Global,
     words: &[String],
@@ -154,13 +89,14 @@ fn take_read<F: Files>(
         (F.counts files.old) (F.counts files.new)) }
 {
     let format = command.job().format;
-    match word_format(format) {
-        Some(format) => take_cut(alloc, words, command, format, files),
-        None => {
-            let bytes = take_file(alloc, words, command, Which::Source, files)?;
-            judged(read_source(alloc, format, &bytes))
-        }
-    }
+    let style = style_of(format);
+    let text = match take_words(alloc, words, command, Which::Source, style, files) {
+        Ok(text) => text,
+        Err(status) => return Err(status),
+    };
+    let read = read_source_words(alloc, format, &text);
+    drop(text);
+    judged(read)
 }
 
 /// Takes the source, reads it and checks its limits.

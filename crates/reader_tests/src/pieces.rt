@@ -1,11 +1,13 @@
 //! Texts that come in pieces, and lines that go to a sink through a buffer.
 ghost use Rattle.std.specs.Prelude.{◌<◌, ◌≤◌, ◌^◌, length};
 
-use bits_model::NoMemory;
+use bits_model::{Cost, Costed, NoMemory};
+use command_words::Format;
 use edge_io::{CallList, LineBuffer, MemorySink, WriteFault};
+use source_texts::{Read, read_source_words, style_of};
 use std::alloc::Global;
 use std::test::Fail;
-use whole_text::{Lexer, Style, TokenText, put_number};
+use whole_text::{Lexer, Style, TextAnswer, TextFault, TextKind, TokenText, put_number};
 
 /// The words of a text of a style that is cut at two places.
 fn cut_text(
@@ -99,6 +101,79 @@ fn an_opb_text_may_be_cut_anywhere(rt: HostRuntime) -> Result<(), Fail> {
     let same = is_cut_anywhere(rt.alloc(), Style::Opb, text, &words, bytes)?;
     assert!(rt; same);
     Ok(())
+}
+
+/// A text of entries that is cut at two places, by its reader of words.
+fn read_cut(
+    alloc: Global,
+    format: Format,
+    text: &[u8],
+    first: usize,
+    second: usize,
+) -> Result<Read, TextAnswer>
+    requires ordered { first ≤ second }
+    requires within { second ≤ length text.now }
+    requires small { length text.now ≤ 2 ^ 16 }
+{
+    let cut = cut_text(alloc, style_of(format), text, first, second)?;
+    if cut.bytes.as_slice().len() > 1 << 24 {
+        return Err(TextAnswer::NoMemory);
+    }
+    read_source_words(alloc, format, &cut)
+}
+
+/// What a text says under the assignment that is 1 at the last of two variables, or what is wrong
+/// with it. No answer where it has other variables.
+fn said(read: Result<Read, TextAnswer>) -> Option<Result<Cost, TextAnswer>> {
+    match read {
+        Ok(read) if read.problem.variables != 2 => None,
+        Ok(read) => Some(Ok(read.problem.cost(&[false, true]))),
+        Err(answer) => Some(Err(answer)),
+    }
+}
+
+/// Whether each pair of cuts gives this.
+fn is_read_anywhere(
+    alloc: Global,
+    format: Format,
+    text: &[u8],
+    wanted: Result<Cost, TextAnswer>,
+) -> bool
+    requires { length text.now ≤ 2 ^ 16 }
+{
+    for second in 0..text.len() + 1 {
+        for first in 0..second + 1 {
+            if said(read_cut(alloc, format, text, first, second)) != Some(wanted) {
+                return false;
+            }
+        }
+    }
+    true
+}
+
+#[test]
+fn entries_may_be_cut_anywhere(rt: HostRuntime) {
+    let range = TextAnswer::Bad(TextFault {
+        kind: TextKind::Range,
+        line: 3,
+    });
+    let table = [
+        (
+            Format::Qubo,
+            b"p qubo 0 2\t1 1\r\n0 1 7 1 1 -3".as_slice(),
+            Ok(Cost::Whole(-3)),
+        ),
+        (
+            Format::Ising,
+            b"p ising 2 1 1\nc\n1 0\n12 1 1 5\n",
+            Ok(Cost::Whole(-7)),
+        ),
+        (Format::Ising, b"p ising 2 1 1\nc\n1 10 1 1 1 5", Err(range)),
+    ];
+    for (format, text, wanted) in table {
+        let read = is_read_anywhere(rt.alloc(), format, text, wanted);
+        assert!(rt; read, "{text:?}");
+    }
 }
 
 /// Puts short pieces, a number, and a piece that is longer than the buffer.
