@@ -1,13 +1,17 @@
 -- Steps of the loops over the parts of a square.
-use Rattle.std.proofs.Common.{◌≡◌, ℕ, zero, suc, ◌+◌, ◌*◌, ◌^◌, ◌≤◌, unsigned_abs, ℤ, pos, ◌*ℤ◌, List, ◌∷◌, ◌++◌, drop, All, Some, subst, ap, ◌∙◌, arith}
+use Rattle.std.proofs.Common.{◌≡◌, ℕ, zero, suc, ◌+◌, ◌*◌, ◌^◌, ◌≤◌, unsigned_abs, ℤ, pos, ◌*ℤ◌, List, [], ◌∷◌, ◌++◌, append-nil, drop, All, Some, subst, ap, ◌∙◌, arith}
 use Rattle.std.specs.List.{slice_get}
 use Rattle.std.proofs.lemmas.Int.{unsigned_abs-mul}
 use Rattle.std.proofs.lemmas.Option.{slice_get_within, get_or_from_slice_get}
 use Rattle.std.proofs.lemmas.Nat.{mul-le}
+use Rattle.problem_form.specs.declared.literal.Literal.{Literal}
+use Rattle.problem_form.specs.Literals.{literal_set}
+use Rattle.problem_form.proofs.LiteralSets.{literal_set-ascending}
 use Rattle.problem_form.proofs.WeighedParts.{drop-at}
 use Rattle.term_table.specs.Terms.{Term, terms_total}
-use Rattle.term_table.specs.Products.{scaled, product_terms, products_with, IsFactor}
+use Rattle.term_table.specs.Products.{scaled, union_terms, product_terms, products_with, IsFactor}
 use Rattle.term_table.proofs.Additions.{terms_total-cons}
+use Rattle.term_table.proofs.PairUnions.{union_apart}
 use Rattle.penalty_layer.specs.Squares.{square_terms}
 use Rattle.penalty_layer.proofs.Sums.{square_is}
 
@@ -22,6 +26,18 @@ part_at width us i u at sets =
 total_left : (us : List Term) (i : ℕ) (u : Term) → slice_get us i ≡ Some u
     → terms_total (drop i us) ≡ unsigned_abs u.1 + terms_total (drop (i + 1) us)
 total_left us i u at = ap terms_total (drop-at us i u at) ∙ terms_total-cons u (drop (i + 1) us)
+
+-- ---- unions with the empty set
+
+pub union_empty-right : (width : ℕ) (ls : List Literal) (c : ℤ) → IsFactor width ls
+    → union_terms ls [] c ≡ (ls, c) ∷ []
+union_empty-right width ls c p =
+    union_apart ls [] ls c (ap literal_set (append-nil ls) ∙ literal_set-ascending ls p.set.ordered) p.set.apart
+
+pub union_empty-left : (width : ℕ) (ks : List Literal) (c : ℤ) → IsFactor width ks
+    → union_terms [] ks c ≡ (ks, c) ∷ []
+union_empty-left width ks c p =
+    union_apart [] ks ks c (literal_set-ascending ks p.set.ordered) p.set.apart
 
 -- ---- a row
 

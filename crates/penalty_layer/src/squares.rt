@@ -80,6 +80,12 @@ fn add_union<T: Gather>(
     if let ([l], [k]) = (ls, ks) {
         return add_pair(terms, *l, *k, coefficient);
     }
+    if ks.is_empty() {
+        return terms.gather(ls, coefficient);
+    }
+    if ls.is_empty() {
+        return terms.gather(ks, coefficient);
+    }
     unite(set, ls, ks)?;
     if clashes(set) {
         return Ok(());
