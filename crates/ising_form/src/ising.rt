@@ -1,8 +1,8 @@
 //! Ising forms, and their weights counted in the greatest unit.
 ghost use Rattle.std.specs.Prelude.{◌≡◌, ◌≤◌, ◌^◌, IfOk};
 
-use bits_model::{CouplerList, NoMemory, Reduced, divide_weights};
-use quad_form::{NumberList, greatest_unit};
+use bits_model::{CouplerList, NoMemory, Reduced};
+use quad_form::{NumberList, counted_couplers, counted_numbers, greatest_unit};
 use std::marker::Model;
 
 /// An Ising form over spins: a constant, a field for each node, and couplings in order, whose weights
@@ -39,7 +39,7 @@ impl Ising {
     ghost use Rattle.ising_form.specs.Reduction.{ising_unit, reduced, IsReducedAsWritten};
 
     /// The form whose weights are counted in their greatest unit, without the constant. The weights
-    /// are divided in place.
+    /// are divided in place, or stay as they are in the unit 1.
     pub fn reduce(self) -> Result<Reduced<Ising>, NoMemory>
         ensures target { IfOk result (λ made. made.target ≡ reduced self) }
         ensures unit { IfOk result (λ made. made.unit ≡ ising_unit self) }
@@ -60,8 +60,8 @@ impl Ising {
         Ok(Reduced {
             target: Ising {
                 constant: 0,
-                fields: NumberList::new(divide_weights(fields.into_vec(), unit)),
-                couplings: couplings.divide(unit),
+                fields: NumberList::new(counted_numbers(fields.into_vec(), unit)),
+                couplings: counted_couplers(couplings, unit),
             },
             unit,
             offset: -constant,

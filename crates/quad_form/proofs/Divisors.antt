@@ -1,5 +1,5 @@
 -- Common divisors of weights, and the greatest of them.
-use Rattle.std.proofs.Common.{◌≡◌, ◌⊎◌, inl, inr, ℕ, zero, suc, ◌*◌, ◌≤◌, Bool, true, false, ◌&&◌, ℤ, pos, negsuc, neg_ℤ, ◌*ℤ◌, int_rem, unsigned_abs, List, [], ◌∷◌, ◌++◌, if◌then◌else◌, refl, sym, ap, ◌∙◌, subst, arith}
+use Rattle.std.proofs.Common.{◌≡◌, ◌⊎◌, inl, inr, ℕ, zero, suc, ◌*◌, ◌%◌, ◌≤◌, Bool, true, false, ◌&&◌, ℤ, pos, negsuc, neg_ℤ, ◌*ℤ◌, int_rem, unsigned_abs, List, [], ◌∷◌, ◌++◌, if◌then◌else◌, map, refl, sym, ap, ◌∙◌, subst, arith}
 use Rattle.std.specs.Int.{◌∣◌, IsGcd}
 use Rattle.std.specs.List.{AllByRecursion, list_all, sum_by}
 use Rattle.std.proofs.Math.Nat.{one-dvd, eq-zero_of_zero-dvd, dvd_trans, dvd_refl}
@@ -7,8 +7,9 @@ use Rattle.std.proofs.lemmas.Bool.{eq-eqb, eqb-true}
 use Rattle.std.proofs.lemmas.Int.{ints, quot-rem, unsigned_abs-mul}
 use Rattle.std.proofs.lemmas.List.Sums.{sum_by-cons}
 use Rattle.std.proofs.lemmas.List.Elements.{recursion_from_All, All-from_recursion, All-append, All-nil}
-use Rattle.std.proofs.lemmas.Nat.Gcd.{dvd-zero, le_of_dvd, dvd_of_mod-eq-zero, mod-eq-zero_of_dvd}
-use Rattle.quad_form.specs.Units.{is_multiple, greatest_within, unit_of, counted_in, IsCommonDivisor}
+use Rattle.std.proofs.lemmas.Nat.Gcd.{IsGcd-from_zero, IsGcd-from_mod, IsGcd-swap, dvd-zero, le_of_dvd, dvd_of_mod-eq-zero, mod-eq-zero_of_dvd}
+use Rattle.bits_model.specs.declared.output.Entry.{Entry}
+use Rattle.quad_form.specs.Units.{is_multiple, greatest_within, unit_of, counted_in, entry_in, IsCommonDivisor}
 
 -- d divides the size of each weight
 abbrev pub Divides : ℕ → List ℤ → Type 0
@@ -238,6 +239,10 @@ divisor_of_both ws vs d e c h = record {
     Divides-of_rest k [] vs all = all
     Divides-of_rest k (w ∷ ws) vs all = Divides-of_rest k ws vs all.1
 
+-- a divisor of a number is the greatest of both
+pub gcd_of_multiple : (d n : ℕ) → n % d ≡ 0 → IsGcd d n d
+gcd_of_multiple d n rest = IsGcd-swap n d d (IsGcd-from_mod n d d (IsGcd-from_zero d (n % d) rest))
+
 -- ---- exact quotients
 
 no_rest : (u : ℕ) (w : ℤ) → u ∣ unsigned_abs w → int_rem w (pos u) ≡ pos 0
@@ -251,3 +256,16 @@ pub size-exact : (u : ℕ) (w : ℤ) → u ∣ unsigned_abs w
     → u * unsigned_abs (counted_in (pos u) w) ≡ unsigned_abs w
 size-exact u w h =
     sym (unsigned_abs-mul (pos u) (counted_in (pos u) w)) ∙ ap unsigned_abs (exact u w h)
+
+-- ---- the unit 1
+
+counted_in-one : (w : ℤ) → counted_in (pos 1) w ≡ w
+counted_in-one w = omega (arith, ints, exact 1 w (one-dvd (unsigned_abs w)))
+
+pub numbers_in-one : (ws : List ℤ) → map (counted_in (pos 1)) ws ≡ ws
+numbers_in-one [] = refl
+numbers_in-one (w ∷ ws) = λ i. counted_in-one w i ∷ numbers_in-one ws i
+
+pub couplers_in-one : (es : List Entry) → map (entry_in (pos 1)) es ≡ es
+couplers_in-one [] = refl
+couplers_in-one (e ∷ es) = λ i. record e { weight = counted_in-one e.weight i } ∷ couplers_in-one es i

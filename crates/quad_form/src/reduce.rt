@@ -5,12 +5,12 @@ ghost use Rattle.quad_form.specs.Quads.{form_of, quad_total};
 ghost use Rattle.quad_form.specs.Units.{quad_unit, reduced, IsReducedAsWritten};
 
 use crate::quad::{NumberList, Quad};
-use crate::units::greatest_unit;
-use bits_model::{NoMemory, Reduced, divide_weights};
+use crate::units::{counted_couplers, counted_numbers, greatest_unit};
+use bits_model::{NoMemory, Reduced};
 
 impl Quad {
     /// The form whose weights are counted in their greatest unit, without the constant. The weights
-    /// are divided in place.
+    /// are divided in place, or stay as they are in the unit 1.
     pub fn reduce(self) -> Result<Reduced<Quad>, NoMemory>
         ensures target { IfOk result (λ made. made.target ≡ reduced self) }
         ensures unit { IfOk result (λ made. made.unit ≡ quad_unit self) }
@@ -31,8 +31,8 @@ impl Quad {
         Ok(Reduced {
             target: Quad {
                 constant: 0,
-                diagonal: NumberList::new(divide_weights(diagonal.into_vec(), unit)),
-                couplers: couplers.divide(unit),
+                diagonal: NumberList::new(counted_numbers(diagonal.into_vec(), unit)),
+                couplers: counted_couplers(couplers, unit),
             },
             unit,
             offset: -constant,

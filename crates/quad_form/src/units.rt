@@ -1,15 +1,16 @@
 //! The greatest unit that weights can be counted in.
 //!
 //! The greatest common divisor of two numbers is found by Euclid's method (Elements, book VII,
-//! proposition 2), with remainders in the place of repeated differences. A pass over all weights ends
-//! as soon as the divisor is 1.
-ghost use Rattle.std.specs.Prelude.{◌≡◌, ◌+◌, ◌≤◌, ◌^◌, map};
+//! proposition 2), with remainders in the place of repeated differences. A weight that the divisor
+//! so far divides costs one remainder, of 64 bits where both fit. A pass over all weights ends as
+//! soon as the divisor is 1, and in the unit 1 all weights stay as they are.
+ghost use Rattle.std.specs.Prelude.{◌≡◌, ◌+◌, ◌%◌, ◌≤◌, ◌≤ℤ◌, ◌^◌, IsTrue, map, pos};
 ghost use Rattle.std.specs.Int.{IsGcd};
 ghost use Rattle.bits_model.specs.Output.{weight_total};
 ghost use Rattle.quad_form.specs.Quads.{node_entries};
-ghost use Rattle.quad_form.specs.Units.{IsCommonDivisor, weight_of, unit_of, weights_of};
+ghost use Rattle.quad_form.specs.Units.{IsCommonDivisor, weight_of, unit_of, weights_of, counted_in, entry_in};
 
-use bits_model::CouplerList;
+use bits_model::{CouplerList, divide_weights};
 
 /// The greatest common divisor.
 fn common_divisor(a: u128, b: u128) -> u128
@@ -25,6 +26,27 @@ fn common_divisor(a: u128, b: u128) -> u128
     greater
 }
 
+/// Whether a number is a multiple of a divisor, where both fit in 64 bits. `false` says nothing.
+fn is_narrow_multiple(number: u128, divisor: u128) -> bool
+    ensures { IsTrue result → number % divisor ≡ 0 }
+{
+    match (u64::try_from(number), u64::try_from(divisor)) {
+        (Ok(number), Ok(divisor)) => divisor != 0 && number % divisor == 0,
+        _ => false,
+    }
+}
+
+/// The greatest common divisor of one that was found and of a number more, which it mostly divides.
+fn divisor_after(divisor: u128, number: u128) -> u128
+    ensures { IsGcd divisor number result }
+{
+    if is_narrow_multiple(number, divisor) {
+        divisor
+    } else {
+        common_divisor(divisor, number)
+    }
+}
+
 /// The greatest common divisor of the sizes of weights, which is 0 where all are 0.
 fn divisor_of_nodes(weights: &[i128]) -> u128
     ensures { IsCommonDivisor 0 weights.now result }
@@ -34,7 +56,7 @@ fn divisor_of_nodes(weights: &[i128]) -> u128
         if divisor == 1 {
             return 1;
         }
-        divisor = common_divisor(divisor, weight.unsigned_abs());
+        divisor = divisor_after(divisor, weight.unsigned_abs());
     }
     divisor
 }
@@ -48,7 +70,7 @@ fn divisor_with(start: u128, couplers: &CouplerList) -> u128
         if divisor == 1 {
             return 1;
         }
-        divisor = common_divisor(divisor, coupler.weight.unsigned_abs());
+        divisor = divisor_after(divisor, coupler.weight.unsigned_abs());
     }
     divisor
 }
@@ -60,4 +82,28 @@ pub fn greatest_unit(nodes: &[i128], couplers: &CouplerList) -> i128
 {
     let divisor = divisor_with(divisor_of_nodes(nodes), couplers);
     if divisor == 0 { 1 } else { divisor as i128 }
+}
+
+/// Numbers, counted in a unit in their own memory.
+pub fn counted_numbers(numbers: Vec<i128>, unit: i128) -> Vec<i128>
+    requires { pos 1 ≤ℤ unit }
+    ensures { result.items ≡ map (counted_in unit) numbers.items }
+{
+    if unit == 1 {
+        numbers
+    } else {
+        divide_weights(numbers, unit)
+    }
+}
+
+/// Couplers whose weights are counted in a unit, in their own memory.
+pub fn counted_couplers(couplers: CouplerList, unit: i128) -> CouplerList
+    requires { pos 1 ≤ℤ unit }
+    ensures { result ≡ map (entry_in unit) couplers }
+{
+    if unit == 1 {
+        couplers
+    } else {
+        couplers.divide(unit)
+    }
 }

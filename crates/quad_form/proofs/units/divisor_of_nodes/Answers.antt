@@ -22,4 +22,4 @@ loop-weight-preserved c =
     let back : to_z w128 (of_z w128 w) ≡ w = to_z-of_z w128 w (search rules) in
     let size : c.unsigned_abs.result ≡ unsigned_abs w = c.unsigned_abs.ensures.value ∙ ap unsigned_abs back in
     rw (take_more ws i (pos 0) c.loop-weight-test.true)
-    (divisor_more 0 (take i ws) w _ _ c.loop-weight.invariant (rw size at c.common_divisor-divisor.ensures))
+    (divisor_more 0 (take i ws) w _ _ c.loop-weight.invariant (rw size at c.divisor_after-divisor.ensures))

@@ -17,10 +17,10 @@ loop-coupler-preserved c =
     let left = ap (map weight_of) c.in-Some.ensures.steps in
     let back : to_z w128 (of_z w128 e.weight) ≡ e.weight = to_z-of_z w128 e.weight (search rules) in
     let size : c.unsigned_abs.result ≡ unsigned_abs e.weight = c.unsigned_abs.ensures.value ∙ ap unsigned_abs back in
-    let gcd : IsGcd c.loop-coupler.divisor (unsigned_abs e.weight) c.common_divisor-divisor.result = rw size at c.common_divisor-divisor.ensures in
+    let gcd : IsGcd c.loop-coupler.divisor (unsigned_abs e.weight) c.divisor_after-divisor.result = rw size at c.divisor_after-divisor.ensures in
     λ d rest. c.loop-coupler.invariant d
     (subst (λ (ws : List ℤ). IsCommonDivisor c.loop-coupler.divisor ws d) (sym left)
-    (divisor_before c.loop-coupler.divisor e.weight (map weight_of c.next.new.self) c.common_divisor-divisor.result d gcd rest))
+    (divisor_before c.loop-coupler.divisor e.weight (map weight_of c.next.new.self) c.divisor_after-divisor.result d gcd rest))
 
 pub returns : goal.returns
 returns c =

@@ -15,31 +15,31 @@ unit_found : (q : IsingContent) (unit : ℤ) (nodes : List ℤ) → FitsSigned w
 unit_found q unit nodes fits is same =
     to_z-of_z w128 unit fits ∙ is ∙ (λ i. unit_of (weights_of (same i) q.couplings))
 
-pub divide_weights-requires : goal.divide_weights-requires
-divide_weights-requires c =
+pub counted_numbers-requires : goal.counted_numbers-requires
+counted_numbers-requires c =
     let inside = c.self.inside in
     let q : IsingContent = record { constant = inside.constant; fields = inside.fields; couplings = inside.couplings } in
     let unit = unit_found q _ _ (search rules) c.greatest_unit-unit.ensures c.as_slice.ensures in
     subst (λ u. pos 1 ≤ℤ u) (sym unit) (one_le_ising_unit q)
 
-pub divide-requires : goal.divide-requires
-divide-requires c =
+pub counted_couplers-requires : goal.counted_couplers-requires
+counted_couplers-requires c =
     let inside = c.self.inside in
     let q : IsingContent = record { constant = inside.constant; fields = inside.fields; couplings = inside.couplings } in
     let unit = unit_found q _ _ (search rules) c.greatest_unit-unit.ensures c.as_slice.ensures in
     subst (λ u. pos 1 ≤ℤ u) (sym unit) (one_le_ising_unit q)
 
 -- the form that the code makes
-made_is : (c : goal.After-divide) (q : IsingContent)
+made_is : (c : goal.After-counted_couplers) (q : IsingContent)
     → q ≡ record { constant = c.self.inside.constant; fields = c.self.inside.fields; couplings = c.self.inside.couplings }
-    → record { constant = pos 0; fields = c.new.result; couplings = c.divide.result } ≡ reduced q
+    → record { constant = pos 0; fields = c.new.result; couplings = c.counted_couplers.result } ≡ reduced q
 made_is c q same =
     let inside = c.self.inside in
     let p : IsingContent = record { constant = inside.constant; fields = inside.fields; couplings = inside.couplings } in
     let unit = unit_found p _ _ (search rules) c.greatest_unit-unit.ensures c.as_slice.ensures in
-    let fields = c.new.ensures ∙ c.divide_weights.ensures ∙ (λ i. map (counted_in (unit i)) (c.into_vec.ensures i)) in
-    let couplings = c.divide.ensures ∙ (λ i. map (entry_in (unit i)) inside.couplings) in
-    let made : record { constant = pos 0; fields = c.new.result; couplings = c.divide.result } ≡ reduced p = λ i. record { constant = pos 0; fields = fields i; couplings = couplings i } in
+    let fields = c.new.ensures ∙ c.counted_numbers.ensures ∙ (λ i. map (counted_in (unit i)) (c.into_vec.ensures i)) in
+    let couplings = c.counted_couplers.ensures ∙ (λ i. map (entry_in (unit i)) inside.couplings) in
+    let made : record { constant = pos 0; fields = c.new.result; couplings = c.counted_couplers.result } ≡ reduced p = λ i. record { constant = pos 0; fields = fields i; couplings = couplings i } in
     made ∙ ap reduced (sym same)
 
 pub invariant_of-result : goal.invariant_of-result
