@@ -30,18 +30,23 @@ const COMPILE: Command = Command::Compile(Job {
     unit: UnitChoice::One,
 });
 
-/// The command `compile` on the file that the fourth word names.
-fn compile(format: Format, target: Target, unit: UnitChoice) -> Command {
+/// The command `compile` in a normal form, on the file that the fourth word names.
+fn compile_in(format: Format, target: Target, normal: Normal, unit: UnitChoice) -> Command {
     Command::Compile(Job {
         format,
         file: WordAt::Whole(3),
         target,
         choices: Choices {
-            normal: Normal::Literal,
+            normal,
             high: High::Monomial,
         },
         unit,
     })
+}
+
+/// The command `compile` over literals, on the file that the fourth word names.
+fn compile(format: Format, target: Target, unit: UnitChoice) -> Command {
+    compile_in(format, target, Normal::Literal, unit)
 }
 
 #[test]
@@ -66,7 +71,7 @@ fn each_wrong_or_missing_word_has_its_position(rt: HostRuntime) -> Result<(), Fa
         (&["compile", "wcnf", "wcnf"], Err(3)),
         // a key, and a further word that is none
         (
-            &["compile", "wcnf", "qubo", "FILE", "normal=literal"],
+            &["compile", "wcnf", "qubo", "FILE", "high=monomial"],
             Err(5),
         ),
         (&["compile", "wcnf", "qubo", "FILE", "FILE"], Err(5)),
@@ -117,6 +122,54 @@ fn each_format_and_target_in_each_unit(rt: HostRuntime) -> Result<(), Fail> {
     Ok(())
 }
 
+#[test]
+fn normal_forms_and_units_in_any_order(rt: HostRuntime) -> Result<(), Fail> {
+    let literal = Normal::Literal;
+    let multilinear = Normal::Multilinear;
+    let reduce = UnitChoice::Reduce;
+    let rows: [(&[&str], Normal, UnitChoice); 4] = [
+        (
+            &["compile", "poly", "qubo", "FILE", "normal=literal"],
+            literal,
+            UnitChoice::One,
+        ),
+        (
+            &["compile", "poly", "qubo", "FILE", "normal=multilinear"],
+            multilinear,
+            UnitChoice::One,
+        ),
+        (
+            &[
+                "compile",
+                "poly",
+                "qubo",
+                "FILE",
+                "normal=multilinear",
+                "unit=reduce",
+            ],
+            multilinear,
+            reduce,
+        ),
+        (
+            &[
+                "compile",
+                "poly",
+                "qubo",
+                "FILE",
+                "unit=reduce",
+                "normal=multilinear",
+            ],
+            multilinear,
+            reduce,
+        ),
+    ];
+    for (words, normal, unit) in rows {
+        let wanted = compile_in(Format::Poly, Target::Qubo, normal, unit);
+        assert!(rt; asked(rt.alloc(), words)? == Ok(wanted), "{words:?}");
+    }
+    Ok(())
+}
+
 /// What `compile wcnf qubo FILE` and these words ask for.
 fn asked_with(alloc: Global, keys: &[&str]) -> Result<Result<Command, usize>, AllocError> {
     let mut words = owned(alloc, &["compile", "wcnf", "qubo", "FILE"])?;
@@ -128,7 +181,10 @@ fn asked_with(alloc: Global, keys: &[&str]) -> Result<Result<Command, usize>, Al
 
 #[test]
 fn a_word_that_is_no_key_or_a_key_that_stands_twice(rt: HostRuntime) -> Result<(), Fail> {
-    let rows: [(&[&str], usize); 8] = [
+    let rows: [(&[&str], usize); 11] = [
+        (&["normal"], 5),
+        (&["normal=linear"], 5),
+        (&["normal=literal", "unit=one", "normal=literal"], 7),
         (&["unit"], 5),
         (&["unit="], 5),
         (&["unit=two"], 5),
