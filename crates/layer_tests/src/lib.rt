@@ -20,7 +20,9 @@ mod limits;
 #[cfg(test)]
 mod models;
 #[cfg(test)]
-mod normal_form;
+mod multilinear;
+#[cfg(test)]
+mod normal_forms;
 #[cfg(test)]
 mod penalties;
 #[cfg(test)]

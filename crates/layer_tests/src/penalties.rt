@@ -81,7 +81,7 @@ fn penalties_and_new_nodes(rt: HostRuntime) -> Result<(), Fail> {
 }
 
 /// Whether the assignment extends to this state, which decodes to it.
-fn extends_to<G: Guard>(
+pub fn extends_to<G: Guard>(
     alloc: Global,
     guard: &G,
     source: &G::Source,
