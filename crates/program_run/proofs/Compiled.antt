@@ -18,13 +18,14 @@ use Rattle.command_words.specs.declared.commands.Target.{Target}
 use Rattle.command_words.specs.declared.commands.Target.TheVariants.{Qubo, Ising}
 use Rattle.command_words.specs.declared.commands.Job.{Job}
 use Rattle.command_words.specs.declared.commands.Command.{Command}
+use Rattle.command_words.specs.declared.commands.Command.TheVariants.{Compile}
 use Rattle.command_words.specs.Names.{job_in}
 use Rattle.source_texts.specs.declared.reading.Read.{Read}
 use Rattle.source_texts.specs.Sources.{StandsFor, first_decoded}
 use Rattle.source_texts.proofs.Standing.{problem_stands}
 use Rattle.model_pipeline.specs.Models.{IsModelOf, kind_of, decoding_to}
 use Rattle.program_run.specs.Outcome.{sourcing}
-use Rattle.program_run.specs.Answers.{IsCompiled, IsCompiledFrom, demand_of}
+use Rattle.program_run.specs.Answers.{IsAnswer, IsCompiled, IsCompiledFrom, demand_of}
 use Rattle.program_run.proofs.Taken.{source_is_taken}
 
 -- the first variables of what a state is read as are what it is read as for them
@@ -104,3 +105,10 @@ pub told_is_compiled : (told : Option NamedFiles) (words : List (List ℕ)) (com
 told_is_compiled None words command r m e made = tt
 told_is_compiled (Some held) words command r m e made =
     compiled_from words held command r m e made
+
+-- what is compiled is what a command answers
+pub as_answer : (words : List (List ℕ)) (told : Option NamedFiles) (command : Command) (text : List ℕ)
+    → WhereTold told (λ held. IsCompiledFrom words held command text)
+    → WhereTold told (λ held. IsAnswer words held command text)
+as_answer words None command text compiled = tt
+as_answer words (Some held) (Compile job) text compiled = compiled
