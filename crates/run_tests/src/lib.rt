@@ -13,6 +13,8 @@ mod opb_texts;
 #[cfg(test)]
 mod pieces;
 #[cfg(test)]
+mod poly_texts;
+#[cfg(test)]
 mod read_back;
 #[cfg(test)]
 mod runs;

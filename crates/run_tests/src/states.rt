@@ -67,10 +67,10 @@ fn cost(source: Source, assignment: u64) -> Option<i64> {
 
 /// The numbers of a model: its figures and its entries, each two nodes and a weight.
 #[derive(Clone, Copy)]
-struct Written<'a> {
-    offset: i64,
-    threshold: i64,
-    variables: u32,
+pub(crate) struct Written<'a> {
+    pub(crate) offset: i64,
+    pub(crate) threshold: i64,
+    pub(crate) variables: u32,
     nodes: u32,
     entries: &'a [i64],
 }
@@ -88,7 +88,7 @@ pub(crate) fn energy(entries: &[i64], state: u64) -> i64 {
 }
 
 /// The least energy of the states whose first bits are the assignment.
-fn least(model: Written, assignment: u64) -> i64 {
+pub(crate) fn least(model: Written, assignment: u64) -> i64 {
     let mut least = i64::MAX;
     for others in 0..1_u64.wrapping_shl(model.nodes.saturating_sub(model.variables)) {
         let state = assignment | others.wrapping_shl(model.variables);
@@ -116,7 +116,7 @@ fn tally(source: Source, model: Written) -> Option<(u32, u32)> {
 }
 
 /// The numbers of a model with the scale and the unit 1.
-fn model_in(numbers: &[i64]) -> Option<Written> {
+pub(crate) fn model_in(numbers: &[i64]) -> Option<Written> {
     match numbers {
         [
             1,
