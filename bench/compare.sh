@@ -4,7 +4,7 @@
 #
 #     bench/compare.sh OTHER [KIND..]        RUNS=5 bench/compare.sh OTHER three
 #
-# Without a KIND, all that generate.py knows are measured. Without PROGRAM=FILE it is the program of
+# Without a KIND, all that the generators know are measured. Without PROGRAM=FILE it is the program of
 # this repository, which rt ci leaves in its crate.
 set -eu
 bench=$(cd "$(dirname "$0")" && pwd)

@@ -14,6 +14,7 @@ need_program() {
 format_of() {
     case $1 in
         covers | equations | sacks | sack) echo opb ;;
+        quartic | names | tails) echo poly ;;
         *) echo wcnf ;;
     esac
 }
@@ -31,6 +32,9 @@ sizes() {
         empty) echo 4000 40000 400000 4000000 ;;
         sacks) echo 50000 500000 5000000 ;;
         sack) echo 400 1280 4080 ;;
+        quartic) echo 16700 167000 1670000 16700000 ;;
+        names) echo 1048 10485 104857 1048576 ;;
+        tails) echo 40 400 4000 ;;
         *) echo "no kind $1: there are $all_kinds" >&2; return 2 ;;
     esac
 }
@@ -47,6 +51,7 @@ make_files() {
     for kind in "$@"; do
         case $(format_of "$kind") in
             opb) generator=programs.py ;;
+            poly) generator=polynomials.py ;;
             *) generator=generate.py ;;
         esac
         for size in $(sizes "$kind"); do
@@ -57,4 +62,4 @@ make_files() {
     done
 }
 
-all_kinds='unit pair three mixed forty wide front hub empty covers equations sacks sack'
+all_kinds='unit pair three mixed forty wide front hub empty covers equations sacks sack quartic names tails'
