@@ -97,17 +97,22 @@ impl<'a> PlainPoly<'a> {
         Ok(())
     }
 
-    fn finish(mut self) -> Result<Vec<i128>, AllocError> {
-        let constant = self.constant;
-        self.numbers.push(0)?;
-        self.numbers.push(constant)?;
-        for name in self.names.iter() {
-            self.numbers.push(name.len() as i128)?;
+    fn finish(self) -> Result<Vec<i128>, AllocError> {
+        let PlainPoly {
+            mut numbers,
+            constant,
+            names,
+            ..
+        } = self;
+        numbers.push(0)?;
+        numbers.push(constant)?;
+        for name in names.iter() {
+            numbers.push(name.len() as i128)?;
             for byte in *name {
-                self.numbers.push(i128::from(*byte))?;
+                numbers.push(i128::from(*byte))?;
             }
         }
-        Ok(self.numbers)
+        Ok(numbers)
     }
 }
 
