@@ -47,10 +47,8 @@ fn a_clause_is_multiplied_out(rt: HostRuntime) -> Result<(), Fail> {
     };
     assert!(rt; made.figures == figures && are_terms(made.target.terms(), &NONE_OF_THREE));
 
-    for x in [[false, false, false], [true, false, true]] {
-        let extended = extends_to(rt.alloc(), &MultilinearForm, &problem, &x, &x)?;
-        assert!(rt; extended);
-    }
+    let none = [false, false, false];
+    assert!(rt; extends_to(rt.alloc(), &MultilinearForm, &problem, &none, &none)?);
     Ok(())
 }
 
