@@ -9,6 +9,8 @@ use Rattle.bits_model.specs.declared.output.UnitChoice.{UnitChoice}
 use Rattle.bits_model.specs.declared.output.UnitChoice.TheVariants.{One, Reduce}
 use Rattle.problem_form.specs.declared.limits.Normal.{Normal}
 use Rattle.problem_form.specs.declared.limits.Normal.TheVariants.{Literal, Multilinear}
+use Rattle.problem_form.specs.declared.limits.High.{High}
+use Rattle.problem_form.specs.declared.limits.High.TheVariants.{Monomial, Rosenberg}
 use Rattle.command_words.specs.declared.commands.Format.{Format}
 use Rattle.command_words.specs.declared.commands.Format.TheVariants as formats
 use Rattle.command_words.specs.declared.commands.Target.{Target}
@@ -22,9 +24,9 @@ use Rattle.command_words.specs.declared.names.Which.TheVariants.{Source}
 use Rattle.command_words.specs.declared.keys.Keys.{Keys}
 use Rattle.command_words.specs.declared.words.Verb.{Verb}
 use Rattle.command_words.specs.declared.words.Verb.TheVariants as verbs
-use Rattle.command_words.specs.Asked.{EachJobIsAskedFor, EachUnitIsAskedFor, EachChoiceIsAskedFor, NoNormalIsAskedForTwice, NoUnitIsAskedForTwice, NoOtherWordsAsk, format_word, normal_key, fourth_word_job, target_word, unit_key, job_words, words_of}
+use Rattle.command_words.specs.Asked.{EachJobIsAskedFor, EachUnitIsAskedFor, EachKeyStands, NoKeyStandsTwice, NoOtherWordsAsk, format_word, high_key, normal_key, fourth_word_job, target_word, unit_key, job_words, words_of}
 use Rattle.command_words.specs.Commands.{◌>>=◌, after_verb, format_of, job_of, named, target_of, valued, verb_of}
-use Rattle.command_words.specs.Keys.{choices_of, chosen_unit, keys_from, no_keys}
+use Rattle.command_words.specs.Keys.{choices_of, chosen_unit, keys_from, no_keys, with_word}
 use Rattle.command_words.specs.Names.{name_of, text_at}
 
 -- ---- the words of a job
@@ -66,29 +68,29 @@ each_unit format target file unit =
     ∙ ap (λ (r : Result Keys ℕ). r >>= λ given. Ok (Compile (fourth_word_job format target given)))
     (unit_alone target unit)
 
-pub each_choice : EachChoiceIsAskedFor
-each_choice = record { normal_first = normal_first; unit_first = unit_first } where
-  normal_first : (target : Target) (normal : Normal) (unit : UnitChoice)
-      → keys_from target no_keys 4 (normal_key normal ∷ unit_key unit ∷ [])
-      ≡ Ok (record no_keys { normal = Some normal; unit = Some unit })
-  normal_first target Literal One = refl
-  normal_first target Literal Reduce = refl
-  normal_first target Multilinear One = refl
-  normal_first target Multilinear Reduce = refl
+pub each_key : EachKeyStands
+each_key = record { normal = normal; high = high; unit = unit } where
+  normal : (target : Target) (keys : Keys) (at : ℕ) (value : Normal) → keys.normal ≡ None
+      → with_word target keys at (normal_key value) ≡ Some (record keys { normal = Some value })
+  normal target keys at Literal free = rw free refl
+  normal target keys at Multilinear free = rw free refl
 
-  unit_first : (target : Target) (normal : Normal) (unit : UnitChoice)
-      → keys_from target no_keys 4 (unit_key unit ∷ normal_key normal ∷ [])
-      ≡ Ok (record no_keys { normal = Some normal; unit = Some unit })
-  unit_first target Literal One = refl
-  unit_first target Literal Reduce = refl
-  unit_first target Multilinear One = refl
-  unit_first target Multilinear Reduce = refl
+  high : (target : Target) (keys : Keys) (at : ℕ) (value : High) → keys.high ≡ None
+      → with_word target keys at (high_key value) ≡ Some (record keys { high = Some value })
+  high target keys at Monomial free = rw free refl
+  high target keys at Rosenberg free = rw free refl
 
-pub no_normal_twice : NoNormalIsAskedForTwice
-no_normal_twice target keys at first word value given named = rw (named, given) refl
+  unit : (target : Target) (keys : Keys) (at : ℕ) (value : UnitChoice) → keys.unit ≡ None
+      → with_word target keys at (unit_key value) ≡ Some (record keys { unit = Some value })
+  unit target keys at One free = rw free refl
+  unit target keys at Reduce free = rw free refl
 
-pub no_unit_twice : NoUnitIsAskedForTwice
-no_unit_twice target keys at first word value given named = rw (named, given) refl
+pub no_key_twice : NoKeyStandsTwice
+no_key_twice = record {
+  normal = λ target keys at first word value given named. rw (named, given) refl;
+  high = λ target keys at first word value given named. rw (named, given) refl;
+  unit = λ target keys at first word value given named. rw (named, given) refl;
+}
 
 -- ---- a step, and the next one
 

@@ -4,6 +4,8 @@ use Rattle.bits_model.specs.declared.output.UnitChoice.{UnitChoice}
 use Rattle.bits_model.specs.declared.output.UnitChoice.TheVariants.{One, Reduce}
 use Rattle.problem_form.specs.declared.limits.Normal.{Normal}
 use Rattle.problem_form.specs.declared.limits.Normal.TheVariants.{Literal, Multilinear}
+use Rattle.problem_form.specs.declared.limits.High.{High}
+use Rattle.problem_form.specs.declared.limits.High.TheVariants.{Monomial, Rosenberg}
 use Rattle.command_words.specs.declared.keys.Keys.{Keys}
 use Rattle.command_words.specs.declared.commands.Format.{Format}
 use Rattle.command_words.specs.declared.commands.Format.TheVariants as formats
@@ -54,6 +56,11 @@ abbrev pub normal_key : Normal → List ℕ
 normal_key Literal = codes "normal=literal"
 normal_key Multilinear = codes "normal=multilinear"
 
+-- the key that chooses what stands for terms of degree 3 or more
+abbrev pub high_key : High → List ℕ
+high_key Monomial = codes "high=monomial"
+high_key Rosenberg = codes "high=rosenberg"
+
 -- the key that chooses a unit
 abbrev pub unit_key : UnitChoice → List ℕ
 unit_key One = codes "unit=one"
@@ -72,26 +79,26 @@ EachUnitIsAskedFor = (format : Format) (target : Target) (file : List ℕ) (unit
     → command_of (codes "compile" ∷ job_words format target file ++ unit_key unit ∷ [])
     ≡ Ok (Compile (fourth_word_job format target (record no_keys { unit = Some unit })))
 
--- so can each normal form with each way to choose the unit, in either order
-pub record EachChoiceIsAskedFor : Type 0 where
-  pub normal_first : (target : Target) (normal : Normal) (unit : UnitChoice)
-      → keys_from target no_keys 4 (normal_key normal ∷ unit_key unit ∷ [])
-      ≡ Ok (record no_keys { normal = Some normal; unit = Some unit })
-  pub unit_first : (target : Target) (normal : Normal) (unit : UnitChoice)
-      → keys_from target no_keys 4 (unit_key unit ∷ normal_key normal ∷ [])
-      ≡ Ok (record no_keys { normal = Some normal; unit = Some unit })
+-- each value of a key can stand where that key is not given yet, whatever others are
+pub record EachKeyStands : Type 0 where
+  pub normal : (target : Target) (keys : Keys) (at : ℕ) (normal : Normal) → keys.normal ≡ None
+      → with_word target keys at (normal_key normal) ≡ Some (record keys { normal = Some normal })
+  pub high : (target : Target) (keys : Keys) (at : ℕ) (high : High) → keys.high ≡ None
+      → with_word target keys at (high_key high) ≡ Some (record keys { high = Some high })
+  pub unit : (target : Target) (keys : Keys) (at : ℕ) (unit : UnitChoice) → keys.unit ≡ None
+      → with_word target keys at (unit_key unit) ≡ Some (record keys { unit = Some unit })
 
--- a normal form is chosen once: with a key for it, no other word of that name can stand
-abbrev pub NoNormalIsAskedForTwice : Type 0
-NoNormalIsAskedForTwice = (target : Target) (keys : Keys) (at : ℕ) (first : Normal)
-    (word value : List ℕ) → keys.normal ≡ Some first → cut word ≡ Some (codes "normal", value)
-    → with_word target keys at word ≡ None
-
--- the unit is chosen once: with a key for it, no other word of that name can stand
-abbrev pub NoUnitIsAskedForTwice : Type 0
-NoUnitIsAskedForTwice = (target : Target) (keys : Keys) (at : ℕ) (first : UnitChoice)
-    (word value : List ℕ) → keys.unit ≡ Some first → cut word ≡ Some (codes "unit", value)
-    → with_word target keys at word ≡ None
+-- no key stands twice: with a value for it, no other word of that name can stand
+pub record NoKeyStandsTwice : Type 0 where
+  pub normal : (target : Target) (keys : Keys) (at : ℕ) (first : Normal) (word value : List ℕ)
+      → keys.normal ≡ Some first → cut word ≡ Some (codes "normal", value)
+      → with_word target keys at word ≡ None
+  pub high : (target : Target) (keys : Keys) (at : ℕ) (first : High) (word value : List ℕ)
+      → keys.high ≡ Some first → cut word ≡ Some (codes "high", value)
+      → with_word target keys at word ≡ None
+  pub unit : (target : Target) (keys : Keys) (at : ℕ) (first : UnitChoice) (word value : List ℕ)
+      → keys.unit ≡ Some first → cut word ≡ Some (codes "unit", value)
+      → with_word target keys at word ≡ None
 
 -- words that ask for a command are its own, with the name of its source, and then keys
 abbrev pub NoOtherWordsAsk : Type 0

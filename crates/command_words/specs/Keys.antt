@@ -1,5 +1,5 @@
 -- The keys of a command, in any order, each at most once: words of the form `NAME=VALUE`.
-use Rattle.std.specs.Prelude.{◌≡◌, ℕ, ◌+◌, ◌==◌, List, [], ◌∷◌, take, drop, Bool, codes, bytes_eq, if◌then◌else◌, Ok, Err, Some, None, Result, Option}
+use Rattle.std.specs.Prelude.{ℕ, ◌+◌, ◌==◌, List, [], ◌∷◌, take, drop, Bool, codes, bytes_eq, if◌then◌else◌, Ok, Err, Some, None, Result, Option}
 use Rattle.std.specs.List.{position}
 use Rattle.std.specs.Option.{option_map, option_map_or}
 use Rattle.bits_model.specs.declared.output.UnitChoice.{UnitChoice}
@@ -7,7 +7,8 @@ use Rattle.bits_model.specs.declared.output.UnitChoice.TheVariants.{One, Reduce}
 use Rattle.problem_form.specs.declared.limits.Choices.{Choices}
 use Rattle.problem_form.specs.declared.limits.Normal.{Normal}
 use Rattle.problem_form.specs.declared.limits.Normal.TheVariants.{Literal, Multilinear}
-use Rattle.problem_form.specs.declared.limits.High.TheVariants.{Monomial}
+use Rattle.problem_form.specs.declared.limits.High.{High}
+use Rattle.problem_form.specs.declared.limits.High.TheVariants.{Monomial, Rosenberg}
 use Rattle.command_words.specs.declared.commands.Target.{Target}
 use Rattle.command_words.specs.declared.keys.Keys.{Keys}
 
@@ -46,6 +47,13 @@ normal_of value =
     then Some Literal
     else if bytes_eq value (codes "multilinear") then Some Multilinear else None
 
+-- the words of the steps for terms of degree 3 or more
+abbrev pub high_of : List ℕ → Option High
+high_of value =
+    if bytes_eq value (codes "monomial")
+    then Some Monomial
+    else if bytes_eq value (codes "rosenberg") then Some Rosenberg else None
+
 -- the words of the ways to choose the unit
 abbrev pub unit_of : List ℕ → Option UnitChoice
 unit_of value =
@@ -59,6 +67,8 @@ abbrev pub with_pair : Target → Keys → ℕ → List ℕ → List ℕ → Opt
 with_pair target keys at name value =
     if bytes_eq name (codes "normal")
     then option_map (λ normal. record keys { normal = Some normal }) (once keys.normal (normal_of value))
+    else if bytes_eq name (codes "high")
+    then option_map (λ high. record keys { high = Some high }) (once keys.high (high_of value))
     else if bytes_eq name (codes "unit")
     then option_map (λ unit. record keys { unit = Some unit }) (once keys.unit (unit_of value))
     else None
@@ -74,7 +84,3 @@ keys_from target keys at [] = Ok keys
 keys_from target keys at (word ∷ words) =
     option_map_or (λ more. keys_from target more (at + 1) words) (with_word target keys at word)
     (Err (at + 1))
-
--- the choices that words can make so far, for which every command has its steps
-pub record IsOffered (choices : Choices) : Type 0 where
-  pub high : choices.high ≡ Monomial

@@ -1,6 +1,6 @@
 //! The keys of a command, in any order, each at most once: words of the form `NAME=VALUE`.
-ghost use Rattle.std.specs.Prelude.{◌≡◌, ◌+◌, ◌<◌, ◌^◌, length, map, string_bytes, Some, None, MatchOption, IfOk, IfSome};
-ghost use Rattle.command_words.specs.Keys.{IsOffered, chosen_unit, choices_of, cut, keys_from, no_keys, normal_of, once, unit_of, with_pair, with_word};
+ghost use Rattle.std.specs.Prelude.{◌≡◌, ◌+◌, ◌<◌, ◌^◌, length, map, string_bytes, Some, None, MatchOption};
+ghost use Rattle.command_words.specs.Keys.{chosen_unit, choices_of, cut, high_of, keys_from, no_keys, normal_of, once, unit_of, with_pair, with_word};
 
 use crate::commands::Target;
 use bits_model::UnitChoice;
@@ -71,6 +71,16 @@ fn normal_of(value: &str) -> Option<Normal>
     }
 }
 
+fn high_of(value: &str) -> Option<High>
+    ensures { result ≡ high_of value.now }
+{
+    match value {
+        "monomial" => Some(High::Monomial),
+        "rosenberg" => Some(High::Rosenberg),
+        _ => None,
+    }
+}
+
 fn unit_of(value: &str) -> Option<UnitChoice>
     ensures { result ≡ unit_of value.now }
 {
@@ -84,14 +94,16 @@ fn unit_of(value: &str) -> Option<UnitChoice>
 /// The table of keys: the keys with one more, whose word stands at the index `at`, or none where
 /// it cannot stand.
 fn with_pair(target: Target, keys: Keys, at: usize, name: &str, value: &str) -> Option<Keys>
-    ensures exact { result ≡ with_pair target keys at name.now value.now }
-    ensures offered { IsOffered (choices_of keys)
-        → IfSome result (λ more. IsOffered (choices_of more)) }
+    ensures { result ≡ with_pair target keys at name.now value.now }
 {
     match name {
         "normal" => {
             let normal = Some(once(keys.normal, normal_of(value))?);
             Some(Keys { normal, ..keys })
+        }
+        "high" => {
+            let high = Some(once(keys.high, high_of(value))?);
+            Some(Keys { high, ..keys })
         }
         "unit" => {
             let unit = Some(once(keys.unit, unit_of(value))?);
@@ -103,9 +115,7 @@ fn with_pair(target: Target, keys: Keys, at: usize, name: &str, value: &str) -> 
 
 /// The keys with that of one word more, or none where the word cannot stand.
 fn with_word(target: Target, keys: Keys, at: usize, word: &str) -> Option<Keys>
-    ensures exact { result ≡ with_word target keys at word.now }
-    ensures offered { IsOffered (choices_of keys)
-        → IfSome result (λ more. IsOffered (choices_of more)) }
+    ensures { result ≡ with_word target keys at word.now }
 {
     let (name, value) = cut(word)?;
     with_pair(target, keys, at, name, value)
@@ -115,8 +125,7 @@ fn with_word(target: Target, keys: Keys, at: usize, word: &str) -> Option<Keys>
 /// word that cannot stand, counted from 1.
 pub(crate) fn keys_from(target: Target, first: usize, words: &[String]) -> Result<Keys, usize>
     requires { first + length words.now < 2 ^ 64 }
-    ensures exact { result ≡ keys_from target no_keys first (map string_bytes words.now) }
-    ensures offered { IfOk result (λ keys. IsOffered (choices_of keys)) }
+    ensures { result ≡ keys_from target no_keys first (map string_bytes words.now) }
 {
     let mut keys = no_keys();
     let mut at = first;

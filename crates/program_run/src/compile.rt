@@ -1,7 +1,6 @@
 //! The command `compile`: the model of a source.
 ghost use Rattle.std.specs.Prelude.{◌≡◌, [], ◌∷◌, map, string_bytes, IfOk, IfErr};
 ghost use Rattle.edge_io.specs.Held.{WhereTold};
-ghost use Rattle.command_words.specs.Keys.{IsOffered};
 ghost use Rattle.command_words.specs.Names.{job_in, files_of};
 ghost use Rattle.program_run.specs.Outcome.{Meets, compiling};
 ghost use Rattle.program_run.specs.Statuses.{ended, IsRefusal};
@@ -24,8 +23,7 @@ pub fn compile<F: Files>(
     command: Command,
     files: &mut F,
 ) -> Result<Answer, Status>
-    requires offered { IsOffered (job_in command).choices }
-    requires one_file { files_of command ≡ Which.Source ∷ [] }
+    requires { files_of command ≡ Which.Source ∷ [] }
     ensures step { WhereTold (F.held files.old) (λ held. Meets text_of result
         (compiling (map string_bytes words.now) held command)) }
     ensures files { AreFiles (map string_bytes words.now) command (ended result)

@@ -1,5 +1,5 @@
 use Rattle.std.proofs.Common.{◌≡◌, ◌+◌, ◌<◌, ◌^◌, length, map, string_bytes}
-use Rattle.command_words.specs.Keys.{IsOffered, choices_of, keys_from, no_keys}
+use Rattle.command_words.specs.Keys.{keys_from, no_keys}
 use Rattle.command_words.proofs.keys.keys_from.Given as goal
 
 -- the words that are left, with the keys so far, have the answer of all words
@@ -7,7 +7,6 @@ abbrev pub invariant-loop-left : goal.invariant-loop-left
 invariant-loop-left l = record {
   same : keys_from l.target l.keys l.at (map string_bytes l.left)
       ≡ keys_from l.target no_keys l.first (map string_bytes l.words);
-  offered : IsOffered (choices_of l.keys);
   fits : l.at + length l.left < 2 ^ 64;
 }
 
