@@ -35,6 +35,7 @@ use Rattle.ising_form.specs.Reduction as reduction
 use Rattle.ising_form.proofs.ReducedForms as reduced_isings
 use Rattle.ising_form.proofs.WrittenModels as written_isings
 use Rattle.model_pipeline.specs.Models.{IsModelOf, ising_model, qubo_model}
+use Rattle.model_pipeline.specs.Formed.{Stands}
 
 -- ---- what stands for a problem
 
@@ -44,11 +45,6 @@ pub record HasFigures (a : ℤ) (p : ProblemContent) (n : Figures) (most : ℕ) 
   pub threshold : n.threshold ≡ n.scale *ℤ upper p +ℤ n.offset
   pub offset_low : unsigned_abs n.offset ≤ most
   pub threshold_low : unsigned_abs n.threshold ≤ most
-
--- a form that relaxes a problem in this unit, and whose states decode to their first bits
-pub record Stands (p : ProblemContent) (f : Form) (d : Decoding) (u : ℤ) (n : Figures) : Type 0 where
-  pub relaxes : Relaxes (form_of p) f d u n
-  pub decodes : (y : List Bool) → d.decoded y ≡ take p.variables y
 
 moved_low : (a b : ℤ) (most more : ℕ) → unsigned_abs a ≤ most → unsigned_abs b ≤ more
     → unsigned_abs (a +ℤ b) ≤ most + more

@@ -6,22 +6,31 @@ use Rattle.std.proofs.lemmas.List.{take-take}
 use Rattle.bits_model.specs.declared.costs.Figures.{Figures}
 use Rattle.bits_model.specs.declared.layer.BitsLink.{BitsLink}
 use Rattle.bits_model.specs.declared.output.UnitChoice.{UnitChoice}
-use Rattle.bits_model.specs.Relations.{Decoding, Relaxes, decoding_after, figures_after}
+use Rattle.bits_model.specs.Relations.{Decoding, Keeps, Relaxes, decoding_after, figures_after}
 use Rattle.bits_model.specs.laws.Composed.{keeps_after_relaxes}
 use Rattle.bits_model.specs.Links.{first_bits}
+use Rattle.problem_form.specs.declared.limits.Normal.{Normal}
+use Rattle.problem_form.specs.declared.limits.Normal.TheVariants.{Literal, Multilinear}
 use Rattle.problem_form.specs.declared.limits.Normal.TheVariants as normals
+use Rattle.problem_form.specs.declared.limits.High.{High}
+use Rattle.problem_form.specs.declared.limits.High.TheVariants.{Monomial, Rosenberg}
 use Rattle.problem_form.specs.Problems.{ProblemContent, form_of}
 use Rattle.problem_form.specs.Limits.{upper, limit_fault}
 use Rattle.command_words.specs.declared.commands.Target.{Target}
 use Rattle.command_words.specs.declared.commands.Target.TheVariants.{Qubo, Ising}
 use Rattle.penalty_layer.specs.Penalty.{figures, node_count}
 use Rattle.penalty_layer.specs.Penalty as penalty
+use Rattle.penalty_layer.specs.laws.Relaxing.{penalty_relaxes}
 use Rattle.penalty_layer.proofs.Admitted.{threshold_within}
-use Rattle.normal_form.specs.Multilinear as multilinear
+use Rattle.term_table.specs.Tables.{TableContent}
+use Rattle.term_table.specs.Tables as tables
 use Rattle.normal_form.specs.laws.Relaxing.{multilinear_relaxes}
 use Rattle.monomial_layer.specs.Monomials as monomials
 use Rattle.monomial_layer.specs.laws.Kept.{mono_keeps}
-use Rattle.quad_form.specs.Quads.{QuadContent, IsQuad, quad_total}
+use Rattle.rosenberg_layer.specs.Rosenberg.{excess}
+use Rattle.rosenberg_layer.specs.Rosenberg as rosenberg
+use Rattle.rosenberg_layer.specs.laws.Kept.{rosen_keeps, width-run-le}
+use Rattle.quad_form.specs.Quads.{QuadContent, IsQuad, quad_size, quad_total}
 use Rattle.quad_form.specs.Quads as quads
 use Rattle.quad_form.specs.Flat.{same_bits}
 use Rattle.quad_form.specs.Flat as flat
@@ -32,73 +41,110 @@ use Rattle.ising_form.specs.Spins.{coupled}
 use Rattle.ising_form.specs.Spins as spins
 use Rattle.ising_form.specs.laws.Spun.{length-fields, spins_keeps}
 use Rattle.ising_form.proofs.Images.{image_is_ising}
-use Rattle.model_pipeline.specs.Models.{IsModelOf, form_model, ising_figures}
-use Rattle.model_pipeline.proofs.FormModels.{HasFigures, Stands, figures_within, qubo_stands, ising_stands}
+use Rattle.model_pipeline.specs.Models.{IsModelOf, form_model, ising_figures, low_terms_of, quad_by, terms_of}
+use Rattle.model_pipeline.specs.Formed.{IsFormed}
+use Rattle.model_pipeline.proofs.FormModels.{HasFigures, figures_within, qubo_stands, ising_stands}
 
--- a quadratic form that stands for a problem, whose states are decoded in this way
-pub record IsMade (p : ProblemContent) (q : QuadContent) (d : Decoding) : Type 0 where
-  pub threshold : unsigned_abs (upper p) ≤ 2 ^ 64
-  pub kept : IsQuad q
-  pub enough : p.variables ≤ length q.diagonal
-  pub room : (quad_total q + 1) * 2 ^ 2 ≤ 2 ^ 124
-  pub stands : Stands p (quads.form_of q) d (pos 1) (figures p)
+-- the same form, with the same figures
+pub formed_as : (p : ProblemContent) (q r : QuadContent) (n : Figures) → q ≡ r → n ≡ figures p
+    → IsFormed p r (figures p) → IsFormed p q n
+formed_as p q r n form figured made =
+    subst (λ m. IsFormed p q m) (sym figured)
+    (subst (λ f. IsFormed p f (figures p)) (sym form) made)
 
--- ---- over literals: penalties, replacements each by itself, and multiplying out, at once
+-- ---- over literals, each term replaced by itself, at once
 
-pub literal_enough : (p : ProblemContent) → p.variables ≤ length (direct.image p).diagonal
+literal_enough : (p : ProblemContent) → p.variables ≤ length (direct.image p).diagonal
 literal_enough p = omega (arith, length-image (monomials.image (penalty.image p)))
 
-pub literal_made : (p : ProblemContent) (a : BitsLink) → limit_fault normals.Literal p ≡ None
-    → direct.Fits a p → IsQuad (direct.image p)
-    → (quad_total (direct.image p) + 1) * 2 ^ 2 ≤ 2 ^ 124 → IsMade p (direct.image p) (first_bits a)
-literal_made p a within fits kept room = record {
+pub formed_at_once : (p : ProblemContent) (a : BitsLink) → limit_fault normals.Literal p ≡ None
+    → direct.Fits a p → (quad_total (direct.image p) + 1) * 2 ^ 2 ≤ 2 ^ 124
+    → quad_size (direct.image p) * 2 ^ 1 ≤ 2 ^ 32 → IsFormed p (direct.image p) (figures p)
+formed_at_once p a within fits total size = record {
+  figures = refl;
   threshold = threshold_within p (upper p) within refl;
-  kept = kept;
   enough = literal_enough p;
-  room = room;
-  stands = record {
-    relaxes = direct_relaxes a p fits;
-    decodes = λ y. ap (λ n. take n y) fits.source;
-  };
+  total = total;
+  size = size;
+  stands = (
+    first_bits a,
+    record {
+      relaxes = direct_relaxes a p fits;
+      decodes = λ y. ap (λ n. take n y) fits.source;
+    },
+  );
 }
 
--- ---- over variables alone: the same, after multiplying out
+-- ---- step by step
 
-abbrev pub multilinear_quad : ProblemContent → QuadContent
-multilinear_quad p = flat.image (monomials.image (multilinear.image p))
+-- the terms of a problem relax it
+terms_relax : (normal : Normal) (a : BitsLink) (p : ProblemContent) → penalty.Fits a p
+    → Relaxes (form_of p) (tables.form_of (terms_of normal p)) (first_bits a) (pos 1) (figures p)
+terms_relax Literal a p fits = penalty_relaxes a p fits
+terms_relax Multilinear a p fits = multilinear_relaxes a p fits
+
+terms_width : (normal : Normal) (p : ProblemContent) → (terms_of normal p).width ≡ node_count p
+terms_width Literal p = refl
+terms_width Multilinear p = refl
+
+-- a link between terms and what stands for those of degree 3 or more
+abbrev pub LowFits : High → BitsLink → TableContent → Type 0
+LowFits Monomial b t = monomials.Fits b t
+LowFits Rosenberg b t = rosenberg.Fits b t
+
+low_source : (high : High) (b : BitsLink) (t : TableContent) → LowFits high b t
+    → b.source_width ≡ t.width
+low_source Monomial b t fits = fits.source
+low_source Rosenberg b t fits = fits.source
+
+low_keeps : (high : High) (b : BitsLink) (t : TableContent) → LowFits high b t
+    → Keeps (tables.form_of t) (tables.form_of (low_terms_of high t)) (first_bits b) (pos 1) (pos 0)
+low_keeps Monomial b t fits = mono_keeps b t fits
+low_keeps Rosenberg b t fits = rosen_keeps b t fits
+
+low_wider : (high : High) (t : TableContent) → t.width ≤ (low_terms_of high t).width
+low_wider Monomial t = omega arith
+low_wider Rosenberg t = width-run-le (excess t.terms) t
 
 -- states are decoded step by step
-abbrev pub steps : BitsLink → BitsLink → BitsLink → Decoding
+abbrev steps : BitsLink → BitsLink → BitsLink → Decoding
 steps a b c = decoding_after (decoding_after (first_bits a) (first_bits b)) (same_bits c)
 
-pub multilinear_enough : (p : ProblemContent) → p.variables ≤ length (multilinear_quad p).diagonal
-multilinear_enough p = omega (arith, length-image (monomials.image (multilinear.image p)))
+module _ (normal : Normal) (high : High) (p : ProblemContent) where
+  steps_enough : p.variables ≤ length (quad_by normal high p).diagonal
+  steps_enough =
+      omega (arith, length-image (low_terms_of high (terms_of normal p)), low_wider high (terms_of normal p), terms_width normal p)
 
-pub multilinear_made : (p : ProblemContent) (a b c : BitsLink) → unsigned_abs (upper p) ≤ 2 ^ 64
-    → penalty.Fits a p → monomials.Fits b (multilinear.image p)
-    → flat.Fits c (monomials.image (multilinear.image p)) → IsQuad (multilinear_quad p)
-    → (quad_total (multilinear_quad p) + 1) * 2 ^ 2 ≤ 2 ^ 124
-    → IsMade p (multilinear_quad p) (steps a b c)
-multilinear_made p a b c threshold fits_a fits_b fits_c kept room =
-    let t = multilinear.image p in
-    let f = form_of p in
-    let g = quads.form_of (multilinear_quad p) in
-    let low = keeps_after_relaxes (multilinear_relaxes a p fits_a) (mono_keeps b t fits_b) in
-    let whole = keeps_after_relaxes low (flat_keeps c (monomials.image t) fits_c) in
-    let still : figures_after (figures_after (figures p) (pos 1) (pos 0)) (pos 1) (pos 0) ≡ figures p =
-    ap (λ n. figures_after n (pos 1) (pos 0)) (figures-still (figures p)) ∙ figures-still (figures p) in
-    record {
-      threshold = threshold;
-      kept = kept;
-      enough = multilinear_enough p;
-      room = room;
-      stands = record {
-        relaxes = subst (λ n. Relaxes f g (steps a b c) (pos 1) n) still whole;
-        decodes = λ y.
-            (λ i. take (fits_a.source i) (take (fits_b.source i) y))
-            ∙ take-take p.variables (node_count p) y (omega arith);
-      };
-    }
+  pub formed_by_steps : (a b c : BitsLink) → unsigned_abs (upper p) ≤ 2 ^ 64 → penalty.Fits a p
+      → LowFits high b (terms_of normal p) → flat.Fits c (low_terms_of high (terms_of normal p))
+      → (quad_total (quad_by normal high p) + 1) * 2 ^ 2 ≤ 2 ^ 124
+      → quad_size (quad_by normal high p) * 2 ^ 1 ≤ 2 ^ 32
+      → IsFormed p (quad_by normal high p) (figures p)
+  formed_by_steps a b c threshold fits_a fits_b fits_c total size =
+      let t = terms_of normal p in
+      let f = form_of p in
+      let g = quads.form_of (quad_by normal high p) in
+      let low = keeps_after_relaxes (terms_relax normal a p fits_a) (low_keeps high b t fits_b) in
+      let whole = keeps_after_relaxes low (flat_keeps c (low_terms_of high t) fits_c) in
+      let still : figures_after (figures_after (figures p) (pos 1) (pos 0)) (pos 1) (pos 0) ≡ figures p =
+      ap (λ n. figures_after n (pos 1) (pos 0)) (figures-still (figures p)) ∙ figures-still (figures p) in
+      let source = low_source high b t fits_b ∙ terms_width normal p in
+      record {
+        figures = refl;
+        threshold = threshold;
+        enough = steps_enough;
+        total = total;
+        size = size;
+        stands = (
+          steps a b c,
+          record {
+            relaxes = subst (λ n. Relaxes f g (steps a b c) (pos 1) n) still whole;
+            decodes = λ y.
+                (λ i. take (fits_a.source i) (take (source i) y))
+                ∙ take-take p.variables (node_count p) y (omega arith);
+          },
+        );
+      }
 
 -- ---- its model
 
@@ -133,30 +179,30 @@ spins_link q = record { source_width = length q.diagonal; target_width = length 
 spins_fit : (q : QuadContent) → IsQuad q → spins.Fits (spins_link q) q
 spins_fit q quad = record { source = refl; target = refl; quad = quad }
 
--- the model of a problem, for each target and in each unit
-pub made_model : (target : Target) (choice : UnitChoice) (p : ProblemContent) (own : ℕ)
-    (q : QuadContent) (d : Decoding) → IsMade p q d → own ≤ p.variables
+-- the model of a form that stands for a problem, for each target and in each unit
+made_model : (target : Target) (choice : UnitChoice) (p : ProblemContent) (own : ℕ)
+    (q : QuadContent) → IsQuad q → IsFormed p q (figures p) → own ≤ p.variables
     → IsModelOf p own target choice (form_model target choice q own (figures p))
-made_model Qubo choice p own q d made few =
+made_model Qubo choice p own q kept made few =
     let least : own ≤ length q.diagonal = omega (arith, made.enough, few) in
     let figured = figures_within (pos 1) p (figures p) _ _ (omega arith) (figures_are_stated p made.threshold) in
-    qubo_stands p own d choice q (figures p) made.kept least figured made.stands
-made_model Ising choice p own q d made few =
+    qubo_stands p own made.stands.0 choice q (figures p) kept least figured made.stands.1
+made_model Ising choice p own q kept made few =
+    let stands = made.stands.1 in
     let width = length-fields (coupled q.couplers) 0 q.diagonal in
     let enough : p.variables ≤ length (spins.image q).fields = omega (arith, width, made.enough) in
     let figured = figures_within (pos 4) p (ising_figures (figures p)) _ _ (omega arith) (ising_figures_are_stated p made.threshold) in
-    ising_stands p own (decoding_after d (same_bits (spins_link q))) choice (spins.image q) (ising_figures (figures p))
-    (image_is_ising q made.kept made.room) few enough figured
+    ising_stands p own (decoding_after made.stands.0 (same_bits (spins_link q))) choice (spins.image q) (ising_figures (figures p))
+    (image_is_ising q kept made.total) few enough figured
     (record {
-      relaxes = keeps_after_relaxes made.stands.relaxes (spins_keeps (spins_link q) q (spins_fit q made.kept));
-      decodes = made.stands.decodes;
+      relaxes = keeps_after_relaxes stands.relaxes (spins_keeps (spins_link q) q (spins_fit q kept));
+      decodes = stands.decodes;
     })
 
--- the same of a form with these figures
-pub form_stands : (target : Target) (choice : UnitChoice) (p : ProblemContent) (own : ℕ)
-    (q r : QuadContent) (n : Figures) (d : Decoding) → q ≡ r → n ≡ figures p → IsMade p r d → own ≤ p.variables
+-- the same with figures that are the problem's
+pub formed_model : (target : Target) (choice : UnitChoice) (p : ProblemContent) (own : ℕ)
+    (q : QuadContent) (n : Figures) → IsQuad q → IsFormed p q n → own ≤ p.variables
     → IsModelOf p own target choice (form_model target choice q own n)
-form_stands target choice p own q r n d form figured made few =
-    subst (λ w. IsModelOf p own target choice w)
-    (sym (λ i. form_model target choice (form i) own (figured i)))
-    (made_model target choice p own r d made few)
+formed_model target choice p own q n kept made few =
+    subst (λ m. IsModelOf p own target choice (form_model target choice q own m)) (sym made.figures)
+    (made_model target choice p own q kept (subst (λ m. IsFormed p q m) made.figures made) few)

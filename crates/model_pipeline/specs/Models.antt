@@ -23,6 +23,7 @@ use Rattle.term_table.specs.Tables.{TableContent}
 use Rattle.penalty_layer.specs.Penalty as penalty
 use Rattle.normal_form.specs.Multilinear as multilinear
 use Rattle.monomial_layer.specs.Monomials as monomials
+use Rattle.rosenberg_layer.specs.Rosenberg as rosenberg
 use Rattle.quad_form.specs.Quads.{QuadContent}
 use Rattle.quad_form.specs.Quads as quads
 use Rattle.quad_form.specs.Units as units
@@ -39,14 +40,19 @@ abbrev pub terms_of : Normal → ProblemContent → TableContent
 terms_of Literal p = penalty.image p
 terms_of Multilinear p = multilinear.image p
 
--- what stands for terms of degree 3 or more; so far each is replaced by itself
+-- what stands for terms of degree 3 or more: each is replaced by itself, or pairs of literals are, one
+-- after another
 abbrev pub low_terms_of : High → TableContent → TableContent
 low_terms_of Monomial t = monomials.image t
-low_terms_of Rosenberg t = monomials.image t
+low_terms_of Rosenberg t = rosenberg.image t
 
--- the quadratic form of a problem
+-- the quadratic form of a problem, by these steps
+abbrev pub quad_by : Normal → High → ProblemContent → QuadContent
+quad_by normal high p = flat.image (low_terms_of high (terms_of normal p))
+
+-- the quadratic form of a problem, as a command chooses its steps
 abbrev pub quad_of : Choices → ProblemContent → QuadContent
-quad_of choices p = flat.image (low_terms_of choices.high (terms_of choices.normal p))
+quad_of choices p = quad_by choices.normal choices.high p
 
 -- how the energies of an Ising form stand for costs: four times those of its quadratic form do
 abbrev pub ising_figures : Figures → Figures

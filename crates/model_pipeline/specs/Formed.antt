@@ -1,0 +1,24 @@
+-- A quadratic form that stands for a problem: what the steps to its model rest on.
+use Rattle.std.specs.Prelude.{◌≡◌, ◌≤◌, ◌+◌, ◌*◌, ◌^◌, ℤ, pos, Bool, List, length, take, unsigned_abs}
+use Rattle.bits_model.specs.declared.costs.Figures.{Figures}
+use Rattle.bits_model.specs.Costs.{Form}
+use Rattle.bits_model.specs.Relations.{Decoding, Relaxes}
+use Rattle.problem_form.specs.Problems.{ProblemContent, form_of}
+use Rattle.problem_form.specs.Limits.{upper}
+use Rattle.penalty_layer.specs.Penalty as penalty
+use Rattle.quad_form.specs.Quads.{QuadContent, quad_size, quad_total}
+use Rattle.quad_form.specs.Quads as quads
+
+-- a form that relaxes a problem in this unit, and whose states decode to their first bits
+pub record Stands (p : ProblemContent) (f : Form) (d : Decoding) (u : ℤ) (n : Figures) : Type 0 where
+  pub relaxes : Relaxes (form_of p) f d u n
+  pub decodes : (y : List Bool) → d.decoded y ≡ take p.variables y
+
+-- a form that relaxes a problem with the problem's figures, and has room for the steps to a model
+pub record IsFormed (p : ProblemContent) (q : QuadContent) (n : Figures) : Type 0 where
+  pub figures : n ≡ penalty.figures p
+  pub threshold : unsigned_abs (upper p) ≤ 2 ^ 64
+  pub enough : p.variables ≤ length q.diagonal
+  pub total : (quad_total q + 1) * 2 ^ 2 ≤ 2 ^ 124
+  pub size : quad_size q * 2 ^ 1 ≤ 2 ^ 32
+  pub stands : (d : Decoding) × Stands p (quads.form_of q) d (pos 1) (penalty.figures p)

@@ -1,0 +1,101 @@
+//! The quadratic form of a problem, by the steps that a command chooses.
+ghost use Rattle.std.specs.Prelude.{◌≡◌, None, IfOk};
+ghost use Rattle.problem_form.specs.declared.limits.Normal.TheVariants as normals;
+ghost use Rattle.problem_form.specs.declared.limits.High.TheVariants as highs;
+ghost use Rattle.problem_form.specs.Limits.{limit_fault};
+ghost use Rattle.model_pipeline.specs.Models.{quad_by, quad_of};
+ghost use Rattle.model_pipeline.specs.Formed.{IsFormed};
+
+use crate::steps::quadratic_of;
+use bits_model::{Figures, Guard, NoMemory};
+use direct_quad::DirectQuad;
+use monomial_layer::Monomials;
+use normal_form::MultilinearForm;
+use penalty_layer::Penalty;
+use problem_form::{Choices, High, Normal, Problem};
+use quad_form::Quad;
+use rosenberg_layer::Rosenberg;
+use std::alloc::Global;
+
+/// A quadratic form, and how its energies stand for the costs of a problem.
+#[derive(Drop)]
+pub struct FiguredQuad {
+    pub quad: Quad,
+    pub figures: Figures,
+}
+
+/// Over literals, each term replaced by itself: at once, without the tables between.
+fn literal_monomial(alloc: Global, problem: Problem) -> Result<FiguredQuad, NoMemory>
+    requires { limit_fault normals.Literal problem ≡ None }
+    ensures image { IfOk result (λ made.
+        made.quad ≡ quad_by normals.Literal highs.Monomial problem) }
+    ensures stands { IfOk result (λ made. IsFormed problem made.quad made.figures) }
+{
+    let made = DirectQuad.guard(alloc, &problem)?;
+    drop(problem);
+    Ok(FiguredQuad {
+        quad: made.target,
+        figures: made.figures,
+    })
+}
+
+/// Over literals, pairs replaced one after another.
+fn literal_rosenberg(alloc: Global, problem: Problem) -> Result<FiguredQuad, NoMemory>
+    requires { limit_fault normals.Literal problem ≡ None }
+    ensures image { IfOk result (λ made.
+        made.quad ≡ quad_by normals.Literal highs.Rosenberg problem) }
+    ensures stands { IfOk result (λ made. IsFormed problem made.quad made.figures) }
+{
+    let made = quadratic_of(alloc, &Penalty, &Rosenberg, problem)?;
+    Ok(FiguredQuad {
+        quad: made.quad,
+        figures: made.figures,
+    })
+}
+
+/// Over variables alone, each term replaced by itself.
+fn multilinear_monomial(alloc: Global, problem: Problem) -> Result<FiguredQuad, NoMemory>
+    requires { limit_fault normals.Multilinear problem ≡ None }
+    ensures image { IfOk result (λ made.
+        made.quad ≡ quad_by normals.Multilinear highs.Monomial problem) }
+    ensures stands { IfOk result (λ made. IsFormed problem made.quad made.figures) }
+{
+    let made = quadratic_of(alloc, &MultilinearForm, &Monomials, problem)?;
+    Ok(FiguredQuad {
+        quad: made.quad,
+        figures: made.figures,
+    })
+}
+
+/// Over variables alone, pairs replaced one after another.
+fn multilinear_rosenberg(alloc: Global, problem: Problem) -> Result<FiguredQuad, NoMemory>
+    requires { limit_fault normals.Multilinear problem ≡ None }
+    ensures image { IfOk result (λ made.
+        made.quad ≡ quad_by normals.Multilinear highs.Rosenberg problem) }
+    ensures stands { IfOk result (λ made. IsFormed problem made.quad made.figures) }
+{
+    let made = quadratic_of(alloc, &MultilinearForm, &Rosenberg, problem)?;
+    Ok(FiguredQuad {
+        quad: made.quad,
+        figures: made.figures,
+    })
+}
+
+/// The quadratic form of a problem within the limits. The problem is let go as soon as a form stands
+/// in its place.
+pub fn formed(alloc: Global, problem: Problem, choices: &Choices) -> Result<FiguredQuad, NoMemory>
+    requires { limit_fault choices.now.normal problem ≡ None }
+    ensures image { IfOk result (λ made. made.quad ≡ quad_of choices.now problem) }
+    ensures stands { IfOk result (λ made. IsFormed problem made.quad made.figures) }
+{
+    match choices.normal {
+        Normal::Literal => match choices.high {
+            High::Monomial => literal_monomial(alloc, problem),
+            High::Rosenberg => literal_rosenberg(alloc, problem),
+        },
+        Normal::Multilinear => match choices.high {
+            High::Monomial => multilinear_monomial(alloc, problem),
+            High::Rosenberg => multilinear_rosenberg(alloc, problem),
+        },
+    }
+}
