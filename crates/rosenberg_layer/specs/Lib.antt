@@ -1,0 +1,3 @@
+pub mod Rosenberg
+pub mod laws
+pub mod Stated
