@@ -2,6 +2,14 @@
 //! kept.
 #![tactic(auto)]
 
+mod front;
+mod gather;
 mod laws;
+mod long_set;
+mod low_set;
+mod rosenberg;
+mod run;
+mod substitute;
 
 pub use laws::laws_of_substitutions;
+pub use rosenberg::Rosenberg;
