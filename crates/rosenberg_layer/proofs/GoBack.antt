@@ -1,0 +1,257 @@
+-- Terms that began with the pair go back without it: their new sets differ, and are not there yet.
+use Rattle.std.proofs.Common.{◌≡◌, ◌≢◌, ℕ, zero, suc, ◌+◌, ◌<◌, ◌≤◌, Bool, true, false, cond, arith, refl, sym, ap, ◌∙◌, subst, List, [], ◌∷◌, ◌++◌, length, map, drop, get_or, ℤ, pos, Some, None}
+use Rattle.std.specs.Prelude.{All, Result, Ok, Err, OnOk}
+use Rattle.std.specs.List.{AllByRecursion, filter}
+use Rattle.std.specs.List.Sorted.{IsStrictlySortedBy}
+use Rattle.std.specs.Ordering.{is_eq}
+use Rattle.std.specs.BTreeMap.{insert_entry}
+use Rattle.std.specs.declared.cmp.Ordering.{Ordering}
+use Rattle.std.specs.declared.cmp.Ordering.TheVariants.{Less, Equal, Greater}
+use Rattle.std.proofs.Math.Seq.{drop-nil}
+use Rattle.std.proofs.lemmas.Bool.Decides.{nat_tests}
+use Rattle.std.proofs.lemmas.List.{length-append, length-drop, drop-append-le, append_assoc}
+use Rattle.std.proofs.lemmas.List.Elements.{All-from_recursion, recursion_from_All, filter-append}
+use Rattle.problem_form.specs.declared.literal.Literal.{Literal}
+use Rattle.term_table.specs.Terms.{Term, set_cmp, with_addition, with_additions, Ascends, IsTermSet}
+use Rattle.term_table.proofs.KeptTerms.{OfSet, All-with_addition, Under}
+use Rattle.term_table.proofs.MapTerms.{found, with_addition-missing}
+use Rattle.term_table.proofs.SetOrder.{same_set, set_itself}
+use Rattle.term_table.proofs.Steps.{with_additions-append}
+use Rattle.rosenberg_layer.specs.Rosenberg.{node, Pair, is_long}
+use Rattle.rosenberg_layer.specs.laws.Sets.{Within}
+use Rattle.rosenberg_layer.proofs.PairTerms.{begins-is}
+use Rattle.rosenberg_layer.specs.Steps.{begins, front_term, is_short, Begin, AreLong, AreApart, IsFresh, CanGoBack}
+
+-- what follows from two facts of an answer
+pub on_ok-both : {T E : Type 0} (r : Result T E) {P Q S : Type 0} → OnOk r P → OnOk r Q
+    → (P → Q → S) → OnOk r S
+on_ok-both (Ok x) p q f = f p q
+on_ok-both (Err e) p q f = tt
+
+-- ---- a set that isn't there is put in
+
+found-fresh : (ls : List Literal) (ts : List Term) → AllByRecursion (λ t. t.0 ≢ ls) ts
+    → found ls ts ≡ None
+found-fresh ls [] fresh = refl
+found-fresh ls (t ∷ ts) fresh = go (set_cmp ls t.0) (same_set ls t.0) (found-fresh ls ts fresh.1)
+  where
+    go : (o : Ordering) → (o ≡ Equal → ls ≡ t.0) → found ls ts ≡ None
+        → cond (is_eq o) (Some t.1) (found ls ts) ≡ None
+    go Less same rest = rest
+    go Equal same rest = absurd (fresh.0 (sym (same refl)))
+    go Greater same rest = rest
+
+pub put-fresh : (ts us : List Term) (ls : List Literal) (c : ℤ) → Ascends ts → All (λ t. t.0 ≢ ls) ts
+    → c ≢ pos 0 → us ≡ insert_entry set_cmp ts ls c → us ≡ with_addition ts ls c
+put-fresh ts us ls c ascends fresh nonzero put =
+    put
+    ∙ sym (with_addition-missing ts ls c ascends
+    (found-fresh ls ts (recursion_from_All (λ t. t.0 ≢ ls) ts fresh)) nonzero)
+
+-- ---- one term
+
+drop-plus : {X : Type 0} (n m : ℕ) (xs : List X) → drop (n + m) xs ≡ drop m (drop n xs)
+drop-plus zero m xs = let e : 0 + m ≡ m = omega arith in ap (λ k. drop k xs) e
+drop-plus (suc n) m [] = drop-nil (suc n + m) ∙ sym (drop-nil m)
+drop-plus (suc n) m (x ∷ xs) =
+    let e : suc n + m ≡ suc (n + m) = omega arith in
+    ap (λ k. drop k (x ∷ xs)) e ∙ drop-plus n m xs
+
+-- two literals more are dropped at the front, and the node stands at the end
+pub drop-pushed : (n : ℕ) (ls ks : List Literal) (w : Literal) → drop n ls ≡ ks → n ≤ length ls
+    → 2 ≤ length ks → drop (n + 2) (ls ++ w ∷ []) ≡ drop 2 ks ++ w ∷ []
+drop-pushed n ls ks w e inside high =
+    let room : n + 2 ≤ length ls = omega (arith, high, ap length e, length-drop n ls) in
+    drop-append-le (n + 2) ls (w ∷ []) room
+    ∙ ap (λ ms. ms ++ w ∷ []) (drop-plus n 2 ls ∙ ap (drop 2) e)
+
+new_length : (w : Literal) (t : Term) → 3 ≤ length t.0
+    → length (front_term w t).0 + 1 ≡ length t.0
+new_length w ([], c) high = absurd (omega arith)
+new_length w (p ∷ [], c) high = absurd (omega arith)
+new_length w (p ∷ q ∷ ls, c) high = omega (arith, length-append ls (w ∷ []))
+
+filter-yes : (test : Term → Bool) (t : Term) → test t ≡ true → filter test (t ∷ []) ≡ t ∷ []
+filter-yes test t e = ap (λ b. cond b (t ∷ []) []) e
+
+-- of more literals the term is still long
+pub more-long : (w : Literal) (t : Term) → 3 ≤ length t.0 → length t.0 ≢ 3
+    → filter is_long (front_term w t ∷ []) ≡ front_term w t ∷ []
+more-long w t high more =
+    let n = new_length w t high in
+    filter-yes is_long (front_term w t) (grind (arith, nat_tests))
+
+-- ---- all terms
+
+filter-first : (test : Term → Bool) (t : Term) (ts : List Term)
+    → filter test (t ∷ ts) ≡ filter test (t ∷ []) ++ filter test ts
+filter-first test t ts = filter-append test (t ∷ []) ts
+
+-- the long ones that are left
+pub long_left : (w : Literal) (now after : List Term) (t : Term) (left rest : List Term)
+    (whole : List Term) → left ≡ t ∷ rest
+    → after ≡ with_additions now (filter is_long (front_term w t ∷ []))
+    → with_additions now (filter is_long (map (front_term w) left)) ≡ whole
+    → with_additions after (filter is_long (map (front_term w) rest)) ≡ whole
+long_left w now after t left rest whole e new so_far =
+    let others = filter is_long (map (front_term w) rest) in
+    ap (λ ts. with_additions ts others) new
+    ∙ sym (with_additions-append now (filter is_long (front_term w t ∷ [])) others)
+    ∙ sym (ap (with_additions now) (filter-first is_long (front_term w t) (map (front_term w) rest)))
+    ∙ sym (ap (λ ts. with_additions now (filter is_long (map (front_term w) ts))) e)
+    ∙ so_far
+
+-- the short ones that are left
+pub short_left : (w : Literal) (now after : List Term) (t : Term) (left rest : List Term)
+    (whole : List Term) → left ≡ t ∷ rest
+    → after ≡ now ++ filter is_short (front_term w t ∷ [])
+    → now ++ filter is_short (map (front_term w) left) ≡ whole
+    → after ++ filter is_short (map (front_term w) rest) ≡ whole
+short_left w now after t left rest whole e new so_far =
+    let others = filter is_short (map (front_term w) rest) in
+    ap (λ ts. ts ++ others) new
+    ∙ append_assoc now (filter is_short (front_term w t ∷ [])) others
+    ∙ sym (ap (λ ts. now ++ ts) (filter-first is_short (front_term w t) (map (front_term w) rest)))
+    ∙ sym (ap (λ ts. now ++ filter is_short (map (front_term w) ts)) e)
+    ∙ so_far
+
+-- ---- the others can still go back
+
+push_same : (w : Literal) (ls ks : List Literal) → ls ++ w ∷ [] ≡ ks ++ w ∷ [] → ls ≡ ks
+push_same w [] [] e = refl
+push_same w [] (k ∷ ks) e =
+    let n = ap length e in
+    absurd (omega (arith, n, length-append ks (w ∷ [])))
+push_same w (l ∷ ls) [] e =
+    let n = ap length e in
+    absurd (omega (arith, n, length-append ls (w ∷ [])))
+push_same w (l ∷ ls) (k ∷ ks) e =
+    let first = ap (λ ms. get_or ms 0 w) e in
+    let rest = push_same w ls ks (ap (drop 1) e) in
+    λ i. first i ∷ rest i
+
+fresh-one : (w : Literal) (now : List Term) (t u : Term) → drop 2 t.0 ≢ drop 2 u.0
+    → IsFresh w now u → IsFresh w (with_additions now (filter is_long (front_term w t ∷ []))) u
+fresh-one w now t u differ fresh = go (is_long (front_term w t))
+  where
+    P : List Literal → Type 0
+    P ks = ks ≢ (drop 2 u.0 ++ w ∷ [])
+
+    other : P (front_term w t).0
+    other e = differ (push_same w (drop 2 t.0) (drop 2 u.0) e)
+
+    go : (b : Bool) → All (OfSet P) (with_additions now (cond b (front_term w t ∷ []) []))
+    go true = All-with_addition P now (front_term w t).0 t.1 fresh other
+    go false = fresh
+
+fresh-all : (w : Literal) (now : List Term) (t : Term) (us : List Term)
+    → AllByRecursion (λ u. drop 2 t.0 ≢ drop 2 u.0) us → AllByRecursion (IsFresh w now) us
+    → AllByRecursion (IsFresh w (with_additions now (filter is_long (front_term w t ∷ [])))) us
+fresh-all w now t [] differ fresh = tt
+fresh-all w now t (u ∷ us) differ fresh =
+    (fresh-one w now t u differ.0 fresh.0, fresh-all w now t us differ.1 fresh.1)
+
+pub back_first : (w : Literal) (now : List Term) (t : Term) (left rest : List Term) → left ≡ t ∷ rest
+    → CanGoBack w now left → CanGoBack w now (t ∷ rest)
+back_first w now t left rest e back = subst (CanGoBack w now) e back
+
+pub back_left : (w : Literal) (now after : List Term) (t : Term) (left rest : List Term)
+    → left ≡ t ∷ rest → after ≡ with_additions now (filter is_long (front_term w t ∷ []))
+    → CanGoBack w now left → CanGoBack w after rest
+back_left w now after t left rest e new back =
+    let all = back_first w now t left rest e back in
+    subst (λ ts. CanGoBack w ts rest) (sym new)
+    (record {
+      high = all.high.1;
+      nonzero = all.nonzero.1;
+      apart = all.apart.1;
+      fresh = fresh-all w now t rest all.apart.0 all.fresh.1;
+    })
+
+-- ---- all of them can go back at first
+
+pub all-left : {X : Type 0} (P : X → Type 0) (xs ys : List X) → AllByRecursion P (xs ++ ys)
+    → AllByRecursion P xs
+all-left P [] ys all = tt
+all-left P (x ∷ xs) ys all = (all.0, all-left P xs ys all.1)
+
+pub all-right : {X : Type 0} (P : X → Type 0) (xs ys : List X) → AllByRecursion P (xs ++ ys)
+    → AllByRecursion P ys
+all-right P [] ys all = all
+all-right P (x ∷ xs) ys all = all-right P xs ys all.1
+
+high-long : (ts : List Term) → AllByRecursion (λ t. is_long t ≡ true) ts
+    → AllByRecursion (λ (t : Term). 3 ≤ length t.0) ts
+high-long [] long = tt
+high-long (t ∷ ts) long = (let h = long.0 in grind (arith, nat_tests), high-long ts long.1)
+
+begins-drop : (pair : Pair) (ls : List Literal) → begins pair ls ≡ true
+    → ls ≡ pair.0 ∷ pair.1 ∷ drop 2 ls
+begins-drop pair ls e =
+    let is = begins-is pair.0 pair.1 ls e in
+    is.1 ∙ ap (λ ms. pair.0 ∷ pair.1 ∷ ms) (sym (ap (drop 2) is.1))
+
+apart-one : (pair : Pair) (t : Term) (ts rest : List Term) → begins pair t.0 ≡ true → Begin pair ts
+    → Under t.0 (ts ++ rest) → AllByRecursion (λ u. drop 2 t.0 ≢ drop 2 u.0) ts
+apart-one pair t [] rest here begin under = tt
+apart-one pair t (u ∷ us) rest here begin under =
+    (differ, apart-one pair t us rest here begin.1 under.1)
+  where
+    differ : drop 2 t.0 ≢ drop 2 u.0
+    differ e =
+        let same =
+        begins-drop pair t.0 here
+        ∙ ap (λ ls. pair.0 ∷ pair.1 ∷ ls) e
+        ∙ sym (begins-drop pair u.0 begin.0) in
+        let equal = sym under.0 ∙ ap (set_cmp t.0) (sym same) ∙ set_itself t.0 in
+        absurd (no equal)
+      where
+        no : Less ≡ Equal → ⊥
+        no e = cc
+
+apart-all : (pair : Pair) (ts rest : List Term) → Begin pair ts → Ascends (ts ++ rest) → AreApart ts
+unfolding IsStrictlySortedBy
+apart-all pair [] rest begin ascends = tt
+apart-all pair (t ∷ ts) rest begin ascends = (
+  apart-one pair t ts rest begin.0 begin.1 ascends.0,
+  apart-all pair ts rest begin.1 ascends.1,
+)
+
+not-within : (n : ℕ) (ls : List Literal) → Within n (ls ++ node n ∷ []) → ⊥
+not-within n [] within = let h = within.0 in absurd (omega arith)
+not-within n (l ∷ ls) within = not-within n ls within.1
+
+fresh-start : (n : ℕ) (ls : List Literal) (ts : List Term)
+    → AllByRecursion (OfSet (IsTermSet n)) ts
+    → AllByRecursion (λ u. u.0 ≢ (ls ++ node n ∷ [])) ts
+fresh-start n ls [] sets = tt
+fresh-start n ls (u ∷ us) sets = (differ, fresh-start n ls us sets.1)
+  where
+    differ : u.0 ≢ (ls ++ node n ∷ [])
+    differ e =
+        let inside : Within n u.0 =
+        recursion_from_All (λ l. l.variable < n) u.0 sets.0.set.within in
+        not-within n ls (subst (Within n) e inside)
+
+fresh-all_start : (n : ℕ) (ts rest : List Term) → AllByRecursion (OfSet (IsTermSet n)) rest
+    → AllByRecursion (IsFresh (node n) rest) ts
+fresh-all_start n [] rest sets = tt
+fresh-all_start n (t ∷ ts) rest sets = (
+  All-from_recursion (λ u. u.0 ≢ (drop 2 t.0 ++ node n ∷ [])) rest
+      (fresh-start n (drop 2 t.0) rest sets),
+  fresh-all_start n ts rest sets,
+)
+
+pub can_go_back : (n : ℕ) (pair : Pair) (touched rest long : List Term) → touched ++ rest ≡ long
+    → AreLong n long → All (λ t. t.1 ≢ pos 0) long → Begin pair touched
+    → CanGoBack (node n) rest touched
+can_go_back n pair touched rest long whole ok nonzero begin =
+    let all = subst (AreLong n) (sym whole) ok in
+    let some = subst (All (λ (t : Term). t.1 ≢ pos 0)) (sym whole) nonzero in
+    let some' = recursion_from_All (λ (t : Term). t.1 ≢ pos 0) (touched ++ rest) some in
+    record {
+      high = high-long touched (all-left (λ t. is_long t ≡ true) touched rest all.long);
+      nonzero = all-left (λ (t : Term). t.1 ≢ pos 0) touched rest some';
+      apart = apart-all pair touched rest begin all.ordered;
+      fresh = fresh-all_start n touched rest (all-right (OfSet (IsTermSet n)) touched rest all.sets);
+    }

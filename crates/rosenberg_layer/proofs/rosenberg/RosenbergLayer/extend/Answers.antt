@@ -1,0 +1,20 @@
+use Rattle.std.proofs.Common.{sym, subst}
+use Rattle.std.specs.Prelude.{pos}
+use Rattle.std.proofs.lemmas.Result.{IfOk-weaker}
+use Rattle.bits_model.specs.Links.{first_bits}
+use Rattle.bits_model.specs.Relations.{Extends}
+use Rattle.term_table.specs.Tables.{form_of}
+use Rattle.rosenberg_layer.specs.Rosenberg.{image}
+use Rattle.rosenberg_layer.specs.laws.Kept.{rosen_reaches}
+use Rattle.rosenberg_layer.proofs.rosenberg.RosenbergLayer.extend.Goals as goal
+
+pub returns-clause-reaches : goal.returns-clause-reaches
+returns-clause-reaches c =
+    let t = c.args.source.now in
+    let x = c.args.x.now in
+    let reaches = rosen_reaches c.args.link.now t x c.requires.fits c.requires.width in
+    IfOk-weaker c.extended.result _ _
+    (λ y same.
+    subst (Extends (form_of t) (form_of (image t)) (first_bits c.args.link.now) (pos 1) (pos 0) x)
+    (sym same) reaches)
+    c.extended.ensures

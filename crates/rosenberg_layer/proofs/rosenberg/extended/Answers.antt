@@ -1,0 +1,33 @@
+use Rattle.std.proofs.Common.{◌≡◌, ◌+◌, ◌-◌, ◌∙◌, ap, arith, fold, rules, List, Bool}
+use Rattle.rosenberg_layer.specs.Rosenberg.{image, excess, with_product}
+use Rattle.rosenberg_layer.specs.laws.Kept.{width-run-le}
+use Rattle.rosenberg_layer.proofs.Finish.{width-le, all-pairs}
+use Rattle.rosenberg_layer.proofs.rosenberg.extended.Goals as goal
+
+pub overflow_sub-bits : goal.overflow_sub-bits
+overflow_sub-bits c =
+    let t = c.args.table.now in
+    omega (arith, c.requires.source, c.requires.target, width-run-le (excess t.terms) t)
+
+pub run_of-requires-clause-narrow : goal.run_of-requires-clause-narrow
+run_of-requires-clause-narrow c =
+    let t = c.args.table.now in
+    omega (
+      arith,
+      c.requires.source,
+      c.requires.target,
+      width-run-le (excess t.terms) t,
+      width-le (c.args.bits - c.args.variables) t,
+    )
+
+pub returns : goal.returns
+returns c =
+    let t = c.args.table.now in
+    let x : List Bool = c.args.x.now in
+    let k = c.args.bits - c.args.variables in
+    let number : (image t).width ≡ t.width + k =
+    omega (arith, c.requires.source, c.requires.target, width-run-le (excess t.terms) t) in
+    let start : c.in_ok-y.y.items ≡ x = search rules in
+    c.in_ok-push_products.ensures
+    ∙ (λ i. fold with_product (start i) (c.deref.ensures.value i))
+    ∙ ap (fold with_product x) (c.in_ok-made.ensures.pairs ∙ all-pairs t k number)

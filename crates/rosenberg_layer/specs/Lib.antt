@@ -1,0 +1,6 @@
+pub mod Rosenberg
+pub mod laws
+pub mod Steps
+pub mod Parts
+pub mod Held
+pub mod Stated

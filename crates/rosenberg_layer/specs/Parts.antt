@@ -1,0 +1,54 @@
+-- The table of a run, in two parts: its terms of degree 3 or more, in order, and additions of lower
+-- degree that are not summed yet.
+use Rattle.std.specs.Prelude.{◌≡◌, ◌≢◌, ℕ, ◌+◌, ◌-◌, ◌*◌, ◌^◌, ◌≤◌, pos, unsigned_abs, true, false, All, List, [], ◌∷◌, ◌++◌, length, Option, Some, None}
+use Rattle.std.specs.List.{AllByRecursion, sum_by}
+use Rattle.problem_form.specs.declared.literal.Literal.{Literal}
+use Rattle.term_table.specs.Terms.{Term, coefficient_of, terms_total, Ascends, AreTerms, IsTermSet}
+use Rattle.term_table.specs.Tables.{TableContent}
+use Rattle.rosenberg_layer.specs.Rosenberg.{Pair, node, is_long}
+use Rattle.rosenberg_layer.specs.Steps.{IsStep}
+
+-- two lists that give each set the same sum
+abbrev pub AreAlike : List Term → List Term → Type 0
+AreAlike ts us = (ls : List Literal) → coefficient_of ls ts ≡ coefficient_of ls us
+
+-- all of them have degree 3 or more
+abbrev pub AllLong : List Term → Type 0
+AllLong ts = AllByRecursion (λ t. is_long t ≡ true) ts
+
+-- none of them has
+abbrev pub NoneLong : List Term → Type 0
+NoneLong ts = AllByRecursion (λ t. is_long t ≡ false) ts
+
+-- how often the size of a set's coefficient counts: a substitution that touches the term adds 8
+-- times that size
+abbrev pub times_of : List Literal → ℕ
+times_of ls = 8 * (length ls - 2) + 1
+
+-- what a term counts
+abbrev pub weight_of : Term → ℕ
+weight_of t = unsigned_abs t.1 * times_of t.0
+
+-- no substitution raises the sum of the weights
+abbrev pub weights : List Term → ℕ
+weights ts = sum_by weight_of ts
+
+-- the terms of degree 3 or more, and additions of lower degree, whose weights are bounded together
+pub record AreParts (t : TableContent) (adds long : List Term) (bound : ℕ) : Type 0 where
+  pub sound : AreTerms t.width t.terms
+  pub sums : AreAlike t.terms (adds ++ long)
+  pub low : NoneLong adds
+  pub high : AllLong long
+  pub ordered : Ascends long
+  pub nonzero : All (λ u. u.1 ≢ pos 0) long
+  pub sets : AllByRecursion (λ u. IsTermSet t.width u.0) adds
+  pub small : weights adds + weights long ≤ bound
+  pub total : terms_total long ≤ 2 ^ 124
+
+-- one turn of the run: a substitution for the pair, if there is one
+abbrev pub IsTurn : Option Pair → ℕ → (long low : List Term) → (pairs : List Pair)
+    → (long' low' : List Term) → (pairs' : List Pair) → Type 0
+IsTurn None n long low pairs long' low' pairs' =
+    (long' ≡ long) × (low' ≡ low) × (pairs' ≡ pairs)
+IsTurn (Some pair) n long low pairs long' low' pairs' =
+    IsStep pair (node n) long low long' low' × (pairs' ≡ pairs ++ pair ∷ [])

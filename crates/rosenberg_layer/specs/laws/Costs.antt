@@ -1,0 +1,249 @@
+-- One substitution never lowers a cost, and keeps it where the new node is the product of the pair.
+-- Nothing here has to be believed.
+use Rattle.std.specs.Prelude.{◌≡◌, ◌≢◌, ℕ, ◌+◌, Bool, true, false, not, cond, ◌&&◌, ◌||◌, List, [], ◌∷◌, ◌++◌, map, pos, ◌+ℤ◌, ◌≤ℤ◌, unsigned_abs, neg_ℤ, ◌*◌}
+use Rattle.std.specs.List.{filter, slice_index_or}
+use Rattle.std.specs.Ordering.{is_eq, ordering_then}
+use Rattle.std.specs.declared.cmp.Ordering.{Ordering}
+use Rattle.std.specs.declared.cmp.Ordering.TheVariants.{Less, Equal, Greater}
+use Rattle.std.proofs.Common.{arith, sym, ap, ◌∙◌, refl, ◌⊎◌, inl, inr}
+use Rattle.std.proofs.lemmas.Int.{ints}
+use Rattle.integers.specs.Sums.{if_so}
+use Rattle.integers.proofs.Totals.{total_by-append}
+use Rattle.problem_form.specs.declared.literal.Literal.{Literal}
+use Rattle.problem_form.specs.Literals.{holds, all_hold, literal_cmp}
+use Rattle.term_table.specs.Terms.{Term, term_cost, terms_cost, terms_total}
+use Rattle.term_table.proofs.Additions.{terms_total-cons}
+use Rattle.term_table.proofs.SetOrder.{same_set}
+use Rattle.rosenberg_layer.specs.Rosenberg.{Pair, is_literal, has_literal, without, has_pair, new_term, pair_total, tie_terms, replaced}
+use Rattle.rosenberg_layer.specs.laws.Ties.{tie, tie-zero, tie-apart, same_or_not, other_factor}
+
+-- ---- a literal taken out of a set
+
+from_is_eq : (o : Ordering) → is_eq o ≡ true → o ≡ Equal
+from_is_eq Less h = cc
+from_is_eq Equal h = refl
+from_is_eq Greater h = cc
+
+pub literal_same : (l k : Literal) → is_literal l k ≡ true → l ≡ k
+literal_same l k h =
+    let one = same_set (l ∷ []) (k ∷ [])
+    (ap (λ o. ordering_then o Equal) (from_is_eq (literal_cmp l k) h)) in
+    ap (λ ls. slice_index_or ls 0 l) one
+
+and_turned : (a b c : Bool) → (a && (b && c)) ≡ (b && (a && c))
+and_turned true true c = refl
+and_turned true false c = refl
+and_turned false true c = refl
+and_turned false false c = refl
+
+and_once : (a b : Bool) → (a && (a && b)) ≡ (a && b)
+and_once true b = refl
+and_once false b = refl
+
+hold-without_and : (y : List Bool) (l : Literal) (ls : List Literal)
+    → (holds y l && all_hold y ls) ≡ (holds y l && all_hold y (without l ls))
+hold-without_and y l [] = refl
+hold-without_and y l (k ∷ ks) =
+    go (is_literal l k) (literal_same l k) (hold-without_and y l ks)
+  where
+    go : (t : Bool) → (t ≡ true → l ≡ k)
+        → (holds y l && all_hold y ks) ≡ (holds y l && all_hold y (without l ks))
+        → (holds y l && (holds y k && all_hold y ks))
+        ≡ (holds y l && all_hold y (cond (not t) (k ∷ without l ks) (without l ks)))
+    go true f r =
+        ap (λ k. holds y l && (holds y k && all_hold y ks)) (sym (f refl))
+        ∙ and_once (holds y l) (all_hold y ks)
+        ∙ r
+    go false f r =
+        and_turned (holds y l) (holds y k) (all_hold y ks)
+        ∙ ap (λ b. holds y k && b) r
+        ∙ and_turned (holds y k) (holds y l) (all_hold y (without l ks))
+
+hold-has : (y : List Bool) (l : Literal) (ls : List Literal) → has_literal l ls ≡ true
+    → all_hold y ls ≡ (holds y l && all_hold y ls)
+hold-has y l [] h = cc
+hold-has y l (k ∷ ks) h = go (is_literal l k) h (literal_same l k) (hold-has y l ks)
+  where
+    go : (t : Bool) → (t || has_literal l ks) ≡ true → (t ≡ true → l ≡ k)
+        → (has_literal l ks ≡ true → all_hold y ks ≡ (holds y l && all_hold y ks))
+        → (holds y k && all_hold y ks) ≡ (holds y l && (holds y k && all_hold y ks))
+    go true e f r =
+        sym (and_once (holds y k) (all_hold y ks))
+        ∙ ap (λ z. holds y z && (holds y k && all_hold y ks)) (sym (f refl))
+    go false e f r =
+        ap (λ b. holds y k && b) (r e) ∙ and_turned (holds y k) (holds y l) (all_hold y ks)
+
+hold-taken_out : (y : List Bool) (l : Literal) (ls : List Literal) → has_literal l ls ≡ true
+    → all_hold y ls ≡ (holds y l && all_hold y (without l ls))
+hold-taken_out y l ls h = hold-has y l ls h ∙ hold-without_and y l ls
+
+-- another literal is still there
+pub has-without : (p q : Literal) (ls : List Literal) → is_literal q p ≡ false
+    → has_literal p ls ≡ true → has_literal p (without q ls) ≡ true
+has-without p q [] n h = cc
+has-without p q (k ∷ ks) n h =
+    go (is_literal p k) (is_literal q k) h (λ e. ap (is_literal q) (sym (literal_same p k e)) ∙ n)
+    refl (has-without p q ks n)
+  where
+    go : (a b : Bool) → (a || has_literal p ks) ≡ true → (a ≡ true → b ≡ false)
+        → is_literal p k ≡ a
+        → (has_literal p ks ≡ true → has_literal p (without q ks) ≡ true)
+        → has_literal p (cond (not b) (k ∷ without q ks) (without q ks)) ≡ true
+    go true true e f g r = let c = f refl in cc
+    go true false e f g r = ap (λ t. t || has_literal p (without q ks)) g
+    go false true e f g r = r e
+    go false false e f g r = ap (λ t. t || has_literal p (without q ks)) g ∙ r e
+
+hold-push : (y : List Bool) (ls : List Literal) (w : Literal)
+    → all_hold y (ls ++ w ∷ []) ≡ (holds y w && all_hold y ls)
+hold-push y [] w = refl
+hold-push y (l ∷ ls) w =
+    ap (λ b. holds y l && b) (hold-push y ls w)
+    ∙ and_turned (holds y l) (holds y w) (all_hold y ls)
+
+-- ---- one term
+
+-- what is left of a set
+abbrev pub rest_of : Pair → List Literal → List Literal
+rest_of pair ls = without pair.0 (without pair.1 ls)
+
+-- both of the pair hold
+abbrev pub product : List Bool → Pair → Bool
+product y pair = holds y pair.0 && holds y pair.1
+
+-- the literals of the pair differ
+abbrev pub Differ : Pair → Type 0
+Differ pair = is_literal pair.1 pair.0 ≡ false
+
+and_group : (p q r : Bool) → (q && (p && r)) ≡ ((p && q) && r)
+and_group true true r = refl
+and_group true false r = refl
+and_group false true r = refl
+and_group false false r = refl
+
+pub three_true : (a b c : Bool) → (a && (b && c)) ≡ true → (b ≡ true) × (c ≡ true)
+three_true true true c h = (refl, h)
+three_true true false c h = cc
+three_true false b c h = cc
+
+-- a set that has both is the pair's product and what is left
+hold-pair : (y : List Bool) (pair : Pair) (t : Term) → Differ pair → has_pair pair t ≡ true
+    → all_hold y t.0 ≡ (product y pair && all_hold y (rest_of pair t.0))
+hold-pair y pair t n h =
+    let both = three_true _ _ _ h in
+    hold-taken_out y pair.1 t.0 both.1
+    ∙ ap (λ b. holds y pair.1 && b)
+    (hold-taken_out y pair.0 (without pair.1 t.0) (has-without pair.0 pair.1 t.0 n both.0))
+    ∙ and_group (holds y pair.0) (holds y pair.1) (all_hold y (rest_of pair t.0))
+
+term-le : (y : List Bool) (pair : Pair) (w : Literal) (t : Term) → Differ pair
+    → term_cost y t
+    ≤ℤ (term_cost y (new_term pair w t) +ℤ pos (cond (has_pair pair t) (unsigned_abs t.1) 0))
+term-le y pair w t n = go (has_pair pair t) (hold-pair y pair t n)
+  where
+    go : (k : Bool)
+        → (k ≡ true → all_hold y t.0 ≡ (product y pair && all_hold y (rest_of pair t.0)))
+        → term_cost y t
+        ≤ℤ (term_cost y (cond k (rest_of pair t.0 ++ w ∷ [], t.1) t)
+        +ℤ pos (cond k (unsigned_abs t.1) 0))
+    go true f =
+        rw (f refl, hold-push y (rest_of pair t.0) w)
+        (other_factor (product y pair) (holds y w) (all_hold y (rest_of pair t.0)) t.1)
+    go false f = omega (arith, ints)
+
+term-same : (y : List Bool) (pair : Pair) (w : Literal) (t : Term) → Differ pair
+    → holds y w ≡ product y pair → term_cost y t ≡ term_cost y (new_term pair w t)
+term-same y pair w t n s = go (has_pair pair t) (hold-pair y pair t n)
+  where
+    go : (k : Bool)
+        → (k ≡ true → all_hold y t.0 ≡ (product y pair && all_hold y (rest_of pair t.0)))
+        → term_cost y t ≡ term_cost y (cond k (rest_of pair t.0 ++ w ∷ [], t.1) t)
+    go true f =
+        ap (λ b. if_so b t.1)
+        (f refl ∙ ap (λ b. b && all_hold y (rest_of pair t.0)) (sym s)
+        ∙ sym (hold-push y (rest_of pair t.0) w))
+    go false f = refl
+
+-- ---- all terms
+
+pub pair_total-cons : (pair : Pair) (t : Term) (ts : List Term)
+    → pair_total pair (t ∷ ts) ≡ cond (has_pair pair t) (unsigned_abs t.1) 0 + pair_total pair ts
+pair_total-cons pair t ts = go (has_pair pair t)
+  where
+    go : (k : Bool)
+        → terms_total (cond k (t ∷ filter (has_pair pair) ts) (filter (has_pair pair) ts))
+        ≡ cond k (unsigned_abs t.1) 0 + pair_total pair ts
+    go true = terms_total-cons t (filter (has_pair pair) ts)
+    go false = omega arith
+
+terms-le : (y : List Bool) (pair : Pair) (w : Literal) (ts : List Term) → Differ pair
+    → terms_cost y ts ≤ℤ (terms_cost y (map (new_term pair w) ts) +ℤ pos (pair_total pair ts))
+terms-le y pair w [] n = omega (arith, ints)
+terms-le y pair w (t ∷ ts) n =
+    omega (
+      arith,
+      ints,
+      term-le y pair w t n,
+      terms-le y pair w ts n,
+      pair_total-cons pair t ts,
+    )
+
+terms-same : (y : List Bool) (pair : Pair) (w : Literal) (ts : List Term) → Differ pair
+    → holds y w ≡ product y pair → terms_cost y ts ≡ terms_cost y (map (new_term pair w) ts)
+terms-same y pair w [] n s = refl
+terms-same y pair w (t ∷ ts) n s =
+    λ i. term-same y pair w t n s i +ℤ terms-same y pair w ts n s i
+
+cost-tie_terms : (y : List Bool) (pair : Pair) (w : Literal) (m : ℕ)
+    → terms_cost y (tie_terms pair w m) ≡ tie m (holds y pair.0) (holds y pair.1) (holds y w)
+cost-tie_terms y pair w m = go (holds y pair.0) (holds y pair.1) (holds y w)
+  where
+    go : (a b c : Bool)
+        → if_so (a && (b && true)) (pos m)
+        +ℤ (if_so (a && (c && true)) (neg_ℤ (pos (2 * m)))
+        +ℤ (if_so (b && (c && true)) (neg_ℤ (pos (2 * m)))
+        +ℤ (if_so (c && true) (pos (3 * m)) +ℤ pos 0)))
+        ≡ tie m a b c
+    go true true true = omega (arith, ints)
+    go true true false = omega (arith, ints)
+    go true false true = omega (arith, ints)
+    go true false false = omega (arith, ints)
+    go false true true = omega (arith, ints)
+    go false true false = omega (arith, ints)
+    go false false true = omega (arith, ints)
+    go false false false = omega (arith, ints)
+
+-- the cost is kept where the node is the product of the pair
+pub replaced-same : (y : List Bool) (pair : Pair) (w : Literal) (ts : List Term) → Differ pair
+    → holds y w ≡ product y pair → terms_cost y ts ≡ terms_cost y (replaced pair w ts)
+replaced-same y pair w ts n s =
+    let m = pair_total pair ts in
+    let zero : tie m (holds y pair.0) (holds y pair.1) (holds y w) ≡ pos 0 =
+    rw s (tie-zero m (holds y pair.0) (holds y pair.1)) in
+    omega (
+      arith,
+      ints,
+      terms-same y pair w ts n s,
+      total_by-append (term_cost y) (map (new_term pair w) ts) (tie_terms pair w m),
+      cost-tie_terms y pair w m,
+      zero,
+    )
+
+-- .. and no state costs less
+pub replaced-le : (y : List Bool) (pair : Pair) (w : Literal) (ts : List Term) → Differ pair
+    → terms_cost y ts ≤ℤ terms_cost y (replaced pair w ts)
+replaced-le y pair w ts n = go (same_or_not (holds y w) (product y pair))
+  where
+    go : (holds y w ≡ product y pair) ⊎ (holds y w ≢ product y pair)
+        → terms_cost y ts ≤ℤ terms_cost y (replaced pair w ts)
+    go (inl s) = omega (arith, ints, replaced-same y pair w ts n s)
+    go (inr d) =
+        let m = pair_total pair ts in
+        omega (
+          arith,
+          ints,
+          terms-le y pair w ts n,
+          tie-apart m (holds y pair.0) (holds y pair.1) (holds y w) d,
+          total_by-append (term_cost y) (map (new_term pair w) ts) (tie_terms pair w m),
+          cost-tie_terms y pair w m,
+        )

@@ -1,0 +1,15 @@
+//! Pairs of literals in terms of degree 3 or more are replaced by new nodes, and the costs are
+//! kept.
+#![tactic(auto)]
+
+mod front;
+mod gather;
+mod laws;
+mod long_set;
+mod low_set;
+mod rosenberg;
+mod run;
+mod substitute;
+
+pub use laws::laws_of_substitutions;
+pub use rosenberg::Rosenberg;
