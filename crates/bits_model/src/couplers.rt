@@ -75,6 +75,7 @@ fn last_is(first: u32, rows: &[RowStart]) -> bool
 }
 
 /// Appends a second node and a weight.
+#[inline(always)]
 fn push_pair(
     seconds: &mut Vec<u32>,
     weights: &mut WeightList,

@@ -208,6 +208,7 @@ impl Pairs {
     }
 
     /// Appends a coupler. Where memory is refused the list stays as it was.
+    #[inline(always)]
     pub fn push(&mut self, first: u32, second: u32, weight: i128) -> Result<(), NoMemory>
         requires few { length self.old + 1 < 2 ^ 32 }
         ensures pushed { OnOk result (self.new

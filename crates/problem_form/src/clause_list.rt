@@ -93,6 +93,7 @@ impl ClauseList {
 
     /// Appends a clause, which is hard or has a weight above 0. Where memory is refused the list
     /// stays as it was.
+    #[inline(always)]
     pub fn push(&mut self, literals: &[Literal], weight: Option<u64>) -> Result<(), NoMemory>
         requires { weight ≢ Some 0 }
         ensures pushed { OnOk result (self.new

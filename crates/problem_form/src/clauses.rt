@@ -29,6 +29,7 @@ fn is_number(weight: Option<u64>, literals: &[Literal]) -> bool
 
 /// Appends a clause as written in normal form, where it is kept, and puts its literals in order.
 /// Where memory is refused the list stays as it was.
+#[inline(always)]
 pub(crate) fn keep_clause(
     clauses: &mut ClauseList,
     literals: &mut Vec<Literal>,

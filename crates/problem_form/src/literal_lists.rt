@@ -79,6 +79,7 @@ impl LiteralLists {
     }
 
     /// Appends a list. Where memory is refused the lists stay as they were.
+    #[inline(always)]
     pub fn push(&mut self, literals: &[Literal]) -> Result<(), NoMemory>
         ensures pushed { OnOk result (self.new ≡ self.old ++ literals.now ∷ []) }
         ensures unchanged { OnErr result (self.new ≡ self.old) }

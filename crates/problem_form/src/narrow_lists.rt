@@ -22,6 +22,7 @@ fn code_of(literal: Literal) -> u32
 }
 
 /// Appends the codes of literals. Where memory is refused the codes stay as they were.
+#[inline(always)]
 fn append_codes(codes: &mut Vec<u32>, literals: &[Literal]) -> Result<(), NoMemory>
     requires { All (λ l. l.variable < 2 ^ 31) literals.now }
     ensures appended { OnOk result (codes.new.items ≡ codes.old.items ++ map code_of literals.now) }
@@ -75,6 +76,7 @@ fn part<'a>(codes: &'a [u32], ends: &[u32], i: usize) -> Literals<'a>
 }
 
 /// Whether all literals have codes of 32 bits.
+#[inline(always)]
 fn are_coded(literals: &[Literal]) -> bool
     ensures { IsTrue result ↔ All (λ l. l.variable < 2 ^ 31) literals.now }
 {
@@ -136,6 +138,7 @@ impl NarrowLists {
 
     /// Appends a list, where it fits this form. Elsewhere, and where memory is refused, the lists
     /// stay as they were.
+    #[inline(always)]
     pub(crate) fn push(&mut self, literals: &[Literal]) -> Result<bool, NoMemory>
         ensures pushed { IfOk result (λ fits.
             MatchBool fits (self.new ≡ self.old ++ literals.now ∷ []) (self.new ≡ self.old)) }

@@ -127,6 +127,7 @@ impl ProductList {
     }
 
     /// Appends a product. Where memory is refused the list stays as it was.
+    #[inline(always)]
     pub fn push(&mut self, literals: &[Literal], coefficient: i128) -> Result<(), NoMemory>
         ensures pushed { OnOk result (self.new
             ≡ self.old ++ record { literals = literals.now; coefficient = coefficient } ∷ []) }

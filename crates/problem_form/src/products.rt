@@ -37,6 +37,7 @@ fn is_dropped(literals: &[Literal]) -> bool
 
 /// Appends a product as written in normal form, where it is kept, and puts its literals in order.
 /// Where memory is refused the list stays as it was.
+#[inline(always)]
 pub(crate) fn keep_product(
     products: &mut ProductList,
     literals: &mut Vec<Literal>,
