@@ -32,4 +32,6 @@ mod quadratics;
 #[cfg(test)]
 mod spins;
 #[cfg(test)]
+mod substitutions;
+#[cfg(test)]
 mod tables;
