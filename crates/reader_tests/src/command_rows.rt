@@ -72,7 +72,7 @@ fn each_wrong_or_missing_word_has_its_position(rt: HostRuntime) -> Result<(), Fa
         // a key, and a further word that is none
         (
             &["compile", "wcnf", "qubo", "FILE", "high=monomial"],
-            Err(5),
+            Ok(COMPILE),
         ),
         (&["compile", "wcnf", "qubo", "FILE", "FILE"], Err(5)),
         (
@@ -181,7 +181,10 @@ fn asked_with(alloc: Global, keys: &[&str]) -> Result<Result<Command, usize>, Al
 
 #[test]
 fn a_word_that_is_no_key_or_a_key_that_stands_twice(rt: HostRuntime) -> Result<(), Fail> {
-    let rows: [(&[&str], usize); 11] = [
+    let rows: [(&[&str], usize); 14] = [
+        (&["high=quadratic"], 5),
+        (&["high=monomial", "high=rosenberg"], 6),
+        (&["high=rosenberg", "unit=one", "high=rosenberg"], 7),
         (&["normal"], 5),
         (&["normal=linear"], 5),
         (&["normal=literal", "unit=one", "normal=literal"], 7),
@@ -196,6 +199,35 @@ fn a_word_that_is_no_key_or_a_key_that_stands_twice(rt: HostRuntime) -> Result<(
     ];
     for (keys, position) in rows {
         assert!(rt; asked_with(rt.alloc(), keys)? == Err(position), "{keys:?}");
+    }
+    Ok(())
+}
+
+/// What `compile wcnf qubo FILE` and these words choose, where they ask for a command.
+fn choices_with(alloc: Global, keys: &[&str]) -> Result<Option<Choices>, AllocError> {
+    let asked = asked_with(alloc, keys)?;
+    Ok(asked.ok().map(|command| command.job().choices))
+}
+
+#[test]
+fn ways_to_replace_long_terms(rt: HostRuntime) -> Result<(), Fail> {
+    let rows: [(&[&str], Normal, High); 4] = [
+        (&["high=rosenberg"], Normal::Literal, High::Rosenberg),
+        (&["high=monomial"], Normal::Literal, High::Monomial),
+        (
+            &["unit=reduce", "high=rosenberg", "normal=multilinear"],
+            Normal::Multilinear,
+            High::Rosenberg,
+        ),
+        (
+            &["normal=multilinear", "high=monomial"],
+            Normal::Multilinear,
+            High::Monomial,
+        ),
+    ];
+    for (keys, normal, high) in rows {
+        let chosen = choices_with(rt.alloc(), keys)?;
+        assert!(rt; chosen == Some(Choices { normal, high }), "{keys:?}");
     }
     Ok(())
 }

@@ -1,5 +1,5 @@
-//! Polynomial texts in both normal forms: what a run writes, or the line that says why there is no
-//! model, and all states of the models of fifty polynomials.
+//! Polynomial texts in both normal forms, with both ways to replace long terms: what a run writes, or
+//! the line that says why there is no model, and all states of the models of fifty polynomials.
 ghost use Rattle.std.specs.Prelude.{◌<◌, ◌≤◌};
 
 use crate::runs::{SOUND, run_words};
@@ -27,9 +27,11 @@ const MULTILINEAR: [&str; 5] = ["compile", "wcnf", "qubo", "a", "normal=multilin
 
 const LITERAL: [&str; 5] = ["compile", "poly", "qubo", "a", "normal=literal"];
 
-/// A clause of three literals over its variables, a product with a complement, and one whose number
-/// is below 0.
-const MODELS: [([&str; 5], &str, &[u8]); 3] = [
+const ROSENBERG: [&str; 5] = ["compile", "poly", "qubo", "a", "high=rosenberg"];
+
+/// A clause of three literals over its variables, a product with a complement, one whose number is
+/// below 0, and one of which a pair is replaced.
+const MODELS: [([&str; 5], &str, &[u8]); 4] = [
     (
         MULTILINEAR,
         "p wcnf 3 1\n2 1 2 3 0\n",
@@ -47,6 +49,12 @@ const MODELS: [([&str; 5], &str, &[u8]); 3] = [
         "-2 x y z\n4 x\n",
         b"c scale 1\nc offset 0\nc threshold 4\nc unit 1\nc variables 3\np qubo 0 4 4 3\n\
         0 0 4\n1 1 0\n2 2 0\n3 3 4\n0 3 -2\n1 3 -2\n2 3 -2\n",
+    ),
+    (
+        ROSENBERG,
+        "5 x y z\n",
+        b"c scale 1\nc offset 0\nc threshold 5\nc unit 1\nc variables 3\np qubo 0 4 4 4\n\
+        0 0 0\n1 1 0\n2 2 0\n3 3 15\n0 1 5\n0 3 -10\n1 3 -10\n2 3 5\n",
     ),
 ];
 
@@ -204,22 +212,31 @@ fn is_kept(products: &[Drawn], model: Written) -> bool {
     true
 }
 
-/// Whether a run in a normal form writes a model that keeps the costs.
-fn keeps(alloc: Global, products: &[Drawn], normal: &str) -> Result<bool, Fail> {
+/// Whether a run with two keys writes a model that keeps the costs.
+fn keeps(alloc: Global, products: &[Drawn], normal: &str, high: &str) -> Result<bool, Fail> {
     let text = text_of(alloc, products)?;
-    let words = ["compile", "poly", "qubo", "a", normal];
+    let words = ["compile", "poly", "qubo", "a", normal, high];
     let (status, out, _) = run_words(alloc, &words, &text, SOUND)?;
     let written = numbers(alloc, out.bytes())?;
     Ok(status == Status::Done && model_in(&written).is_some_and(|model| is_kept(products, model)))
 }
 
+/// Each normal form, with each way to replace long terms.
+const CHOICES: [(&str, &str); 4] = [
+    ("normal=literal", "high=monomial"),
+    ("normal=literal", "high=rosenberg"),
+    ("normal=multilinear", "high=monomial"),
+    ("normal=multilinear", "high=rosenberg"),
+];
+
 #[test]
 fn fifty_polynomials_at_all_states(rt: HostRuntime) -> Result<(), Fail> {
     for seed in 0..50 {
         let products = draw_products(seed);
-        let literal = keeps(rt.alloc(), &products, "normal=literal")?;
-        let multilinear = keeps(rt.alloc(), &products, "normal=multilinear")?;
-        assert!(rt; literal && multilinear, "{seed}");
+        for (normal, high) in CHOICES {
+            let kept = keeps(rt.alloc(), &products, normal, high)?;
+            assert!(rt; kept, "{seed} {normal} {high}");
+        }
     }
     Ok(())
 }
