@@ -1,4 +1,5 @@
 mod SmallModels
 mod ChainedModels
+mod SixLiterals
 mod SmallTables
 pub mod SmallSums

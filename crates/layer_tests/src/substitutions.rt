@@ -1,6 +1,6 @@
 //! Pairs of literals replaced by new nodes: against tables by hand, and at all states of fifty small
 //! tables.
-ghost use Rattle.std.specs.Prelude.{◌≡◌, ◌+◌, ◌<◌, ◌≤◌, ◌^◌, IfOk, OnOk, length};
+ghost use Rattle.std.specs.Prelude.{◌≡◌, ◌+◌, ◌<◌, ◌≤◌, ◌^◌, IfOk, OnOk, length, unsigned_abs};
 ghost use Rattle.rosenberg_layer.specs.Rosenberg.{image, Fits};
 ghost use Rattle.term_table.specs.Terms.{terms_size, terms_total};
 
@@ -68,6 +68,13 @@ fn draw_literals(seed: &mut u64) -> [Literal; 6] {
     literals
 }
 
+/// A number from -7 to 7.
+fn draw_coefficient(seed: &mut u64) -> i128
+    ensures { unsigned_abs result ≤ 7 }
+{
+    i128::from(draw(seed, 15)) - 7
+}
+
 /// Adds a term of three neighbouring variables or more, in one of so many degrees.
 fn add_drawn(table: &mut Table, seed: &mut u64, degrees: u64) -> Result<(), NoMemory>
     requires some { 0 < degrees }
@@ -76,13 +83,13 @@ fn add_drawn(table: &mut Table, seed: &mut u64, degrees: u64) -> Result<(), NoMe
     requires total { terms_total table.old.terms ≤ 2 ^ 40 }
     ensures width { OnOk result (table.new.width ≡ 6) }
     ensures total { OnOk result
-        (terms_total table.new.terms ≤ terms_total table.old.terms + 7) }
+        (terms_total table.new.terms ≤ terms_total table.old.terms + 1000) }
     ensures size { OnOk result (terms_size table.new.terms ≤ terms_size table.old.terms + 36) }
 {
     let literals = draw_literals(seed);
     let degree = 3 + draw(seed, degrees) as usize;
     let first = draw(seed, 7 - degree as u64) as usize;
-    let coefficient = i128::from(draw(seed, 15)) - 7;
+    let coefficient = draw_coefficient(seed);
     let set = &literals[first..first + degree];
     if !is_set(set, 6) {
         return Ok(());
@@ -93,7 +100,7 @@ fn add_drawn(table: &mut Table, seed: &mut u64, degrees: u64) -> Result<(), NoMe
 /// A table of three terms, two of which have up to six literals.
 fn draw_table(alloc: Global, seed: u64) -> Result<Table, NoMemory>
     ensures width { IfOk result (λ t. t.width ≡ 6) }
-    ensures total { IfOk result (λ t. terms_total t.terms ≤ 21) }
+    ensures total { IfOk result (λ t. terms_total t.terms ≤ 3000) }
     ensures size { IfOk result (λ t. terms_size t.terms ≤ 108) }
 {
     let mut seed = seed;
@@ -154,7 +161,7 @@ fn is_reached(
 /// by its extension.
 fn keeps_costs(alloc: Global, source: &Table) -> Result<bool, NoMemory>
     requires width { source.now.width ≡ 6 }
-    requires total { terms_total source.now.terms ≤ 21 }
+    requires total { terms_total source.now.terms ≤ 3000 }
     requires size { terms_size source.now.terms ≤ 108 }
 {
     let made = Rosenberg.lower(alloc, source)?;
