@@ -1,0 +1,5 @@
+pub mod Sizes
+pub mod Ordered
+pub mod Added
+pub mod Unchained
+pub mod Written
