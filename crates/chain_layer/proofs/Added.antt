@@ -20,7 +20,7 @@ use Rattle.chain_layer.proofs.Ordered.{ties_at}
 use Rattle.chain_layer.proofs.Sizes.{couplings_at-le}
 use Rattle.chain_layer.specs.Image.{nodes_of, field_of, strength, field_entry, coupling_entry, field_at, equal_shares, shares, placed, ties, couplings_at}
 use Rattle.std.proofs.lemmas.List.{length-drop}
-use Rattle.std.proofs.lemmas.List.Elements.{length_all_zip, recursion_from_All}
+use Rattle.std.proofs.lemmas.List.Elements.{length_all_zip, recursion_from_All, All-from_recursion}
 use Rattle.chain_layer.specs.laws.Aligned.{IsNode}
 use Rattle.chain_layer.specs.laws.NodeEnergies.{shares_size, weights_of_equal, filled_length}
 use Rattle.chain_layer.specs.Steps.{added, sizes_of}
@@ -349,7 +349,8 @@ pub can_raise : (n : ℕ) (xs : List ℕ) (left : List Entry) (e : Entry) (es : 
     → ((i : ℕ) → i < n → get_or xs i 0 + weight_total left < 2 ^ 127)
     → m ≡ unsigned_abs e.weight → CanRaise xs e es m
 can_raise n xs left e es m is size within small same =
-    let couplers = recursion_from_All _ (e ∷ es) (subst (All (IsCoupler n)) is within) in
+    let couplers : AllByRecursion (IsCoupler n) (e ∷ es) =
+    recursion_from_All (IsCoupler n) (e ∷ es) (subst (All (IsCoupler n)) is within) in
     record {
       coupler = subst (λ k. IsCoupler k e) (sym size) couplers.0;
       small = λ i l. omega (arith, small i (omega (arith, l, size)), ap weight_total is);
@@ -362,7 +363,8 @@ pub next_small : (n : ℕ) (xs : List ℕ) (left : List Entry) (e : Entry) (es :
     → ((i : ℕ) → i < n → get_or xs i 0 + weight_total left < 2 ^ 127)
     → unsigned_abs e.weight < 2 ^ 127
 next_small n xs left e es is within small =
-    let couplers = recursion_from_All _ (e ∷ es) (subst (All (IsCoupler n)) is within) in
+    let couplers : AllByRecursion (IsCoupler n) (e ∷ es) =
+    recursion_from_All (IsCoupler n) (e ∷ es) (subst (All (IsCoupler n)) is within) in
     omega (
       arith,
       small e.second couplers.0.within,
@@ -433,6 +435,30 @@ raised_more xs ys zs e es m can once twice =
     at_most : (b : Bool) (n : ℕ) → cond b n 0 ≤ n
     at_most true n = omega arith
     at_most false n = omega arith
+
+-- with the sizes of the couplings that are left, the strengths are what all couplings lead to
+pub record AreLeft (old xs : List ℕ) (all left : List Entry) : Type 0 where
+  pub same_length : length xs ≡ length old
+  pub within : All (IsCoupler (length old)) left
+  pub small : (i : ℕ) → i < length old → get_or xs i 0 + weight_total left < 2 ^ 127
+  pub sums : (i : ℕ) → i < length old
+      → get_or xs i 0 + couplings_at i left ≡ get_or old i 0 + couplings_at i all
+
+pub left_more : (old xs zs : List ℕ) (all left : List Entry) (e : Entry) (es : List Entry)
+    → left ≡ e ∷ es → AreLeft old xs all left → AreRaised xs zs e es → AreLeft old zs all es
+left_more old xs zs all left e es is so_far raised =
+    let n = length old in
+    let couplers : AllByRecursion (IsCoupler n) (e ∷ es) =
+    recursion_from_All (IsCoupler n) (e ∷ es) (subst (All (IsCoupler n)) is so_far.within) in
+    record {
+      same_length = raised.same_length ∙ so_far.same_length;
+      within = All-from_recursion (IsCoupler n) es couplers.1;
+      small = λ i l. raised.small i (omega (arith, l, so_far.same_length));
+      sums = λ i l.
+          raised.sums i (omega (arith, l, so_far.same_length))
+          ∙ ap (λ fs. get_or xs i 0 + couplings_at i fs) (sym is)
+          ∙ so_far.sums i l;
+    }
 
 -- a chain has one qubit more than parents
 pub filled_lengths : (e : Embedding) (i : ℕ) → IsNode e i

@@ -584,12 +584,12 @@ numbered-cons : (n : ℕ) (e : Entry) (es : List Entry)
 numbered-cons n e es = sum_by-cons (λ f. cond (pair_number f == n) 1 0) e es
 
 one_more : (b : Bool) (m : ℕ) → b ≡ true → cond b 1 0 + m ≡ suc m
-one_more true m is = refl
+one_more true m is = omega arith
 one_more false m is = absurd cc
 
 no_more : (b : Bool) (m : ℕ) → b ≡ false → cond b 1 0 + m ≡ m
 no_more true m is = absurd cc
-no_more false m is = refl
+no_more false m is = omega arith
 
 none_numbered : (n : ℕ) (es : List Entry) → AllByRecursion (λ f. n ≢ pair_number f) es
     → numbered n es ≡ 0
@@ -678,9 +678,9 @@ pub sorted_is_image : (e : Embedding) → IsEmbedding e → (from to : List Entr
 sorted_is_image e kept from to listed moved sorted =
     let all : AllByRecursion (IsCoupler e.qubits) from =
     subst (AllByRecursion (IsCoupler e.qubits)) (sym listed) (all_couplers e kept) in
-    let here =
-    recursion_from_All _ to
-    (All-permutation (IsCoupler e.qubits) from to moved (All-from_recursion _ from all)) in
+    let here : AllByRecursion (IsCoupler e.qubits) to =
+    recursion_from_All (IsCoupler e.qubits) to
+    (All-permutation (IsCoupler e.qubits) from to moved (All-from_recursion (IsCoupler e.qubits) from all)) in
     let few : (n : ℕ) → numbered n to ≤ 1 =
     λ n.
         omega (
@@ -690,11 +690,11 @@ sorted_is_image e kept from to listed moved sorted =
           few_numbered (placed e.ising.couplings e.places ++ all_ties e) (couplings_apart e kept) n,
         ) in
     same_entries to (image e).couplings
-    (each (λ f h. let up = h.upward in let below = h.within in record { upward = up; within = omega (arith, below, kept.few) }) to here)
+    (each (λ (f : Entry) (h : IsCoupler e.qubits f). let up = h.upward in let below = h.within in record { upward = up; within = omega (arith, below, kept.few) }) to here)
     (image_pairs e kept)
     (rises_from_sorted to sorted few)
     (image_rises e kept)
-    (each (λ f h. h.nonzero) to here)
+    (each (λ (f : Entry) (h : IsCoupler e.qubits f). h.nonzero) to here)
     (each (λ f h. h.nonzero) (image e).couplings (image_couplers e kept))
     (λ i j.
     total_by-IsPermutation (weight_for i j) from to moved ∙ ap (weight_at i j) listed

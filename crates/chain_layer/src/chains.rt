@@ -9,7 +9,7 @@ ghost use Rattle.chain_layer.specs.Image.{image, nodes_of, strength};
 
 use crate::decoding::decoded;
 use crate::extending::extended;
-use crate::link::ChainLink;
+use crate::link::{ChainLink, chain};
 use crate::shares::shared_fields;
 use crate::sorting::by_pairs;
 use crate::strengths::strengths;
@@ -29,10 +29,9 @@ pub struct Chains;
 fn copied(alloc: Global, chains: &ChainList) -> Result<ChainList, NoMemory>
     ensures { IfOk result (λ copy. copy ≡ chains.now) }
 {
-    let listed = chains.as_slice();
-    let mut copy = Vec::with_capacity(alloc, listed.len())?;
-    for i in 0..listed.len() {
-        copy.push(Items::new(listed[i].as_slice().to_vec(alloc)?))?;
+    let mut copy = Vec::with_capacity(alloc, chains.as_slice().len())?;
+    for i in 0..chains.as_slice().len() {
+        copy.push(Items::new(chain(chains, i).to_vec(alloc)?))?;
     }
     Ok(Items::new(copy))
 }
@@ -45,11 +44,13 @@ fn image_of(alloc: Global, source: &Embedded, strengths: &[u128]) -> Result<Isin
     ensures { IfOk result (λ f. f ≡ image source.now) }
 {
     let fields = shared_fields(alloc, source)?;
-    let couplings = by_pairs(couplings_of(alloc, source, strengths)?);
+    let gathered = couplings_of(alloc, source, strengths)?;
+    let listed = by_pairs(gathered);
+    let couplings = CouplerList::of(alloc, &listed)?;
     Ok(Ising {
         constant: source.ising().constant,
         fields: NumberList::new(fields),
-        couplings: CouplerList::of(alloc, &couplings)?,
+        couplings,
     })
 }
 

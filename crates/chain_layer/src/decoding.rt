@@ -2,6 +2,7 @@
 ghost use Rattle.std.specs.Prelude.{◌≡◌, ◌≢◌, [], All, IfOk, map};
 ghost use Rattle.bits_model.specs.Output.{majority, ones_in};
 
+use crate::link::chain;
 use bits_model::{ChainList, NoMemory, bit_at};
 use std::alloc::Global;
 
@@ -35,10 +36,9 @@ pub fn decoded(alloc: Global, chains: &ChainList, y: &[bool]) -> Result<Vec<bool
     requires { All (λ chain. chain ≢ []) chains.now }
     ensures { IfOk result (λ x. x.items ≡ map (majority y.now) chains.now) }
 {
-    let listed = chains.as_slice();
-    let mut x = Vec::with_capacity(alloc, listed.len())?;
-    for i in 0..listed.len() {
-        x.push(majority(y, listed[i].as_slice()))?;
+    let mut x = Vec::with_capacity(alloc, chains.as_slice().len())?;
+    for i in 0..chains.as_slice().len() {
+        x.push(majority(y, chain(chains, i)))?;
     }
     Ok(x)
 }

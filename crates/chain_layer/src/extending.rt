@@ -5,6 +5,7 @@ ghost use Rattle.bits_model.specs.Walks.{is_in};
 ghost use Rattle.embedding_check.specs.Embeddings.{IsEmbedding};
 ghost use Rattle.chain_layer.specs.Image.{extension};
 
+use crate::link::chain;
 use bits_model::NoMemory;
 use embedding_check::Embedded;
 use std::alloc::Global;
@@ -39,10 +40,9 @@ pub fn extended(alloc: Global, source: &Embedded, x: &[bool]) -> Result<Vec<bool
     requires width { length x.now ≡ length source.now.ising.fields }
     ensures { IfOk result (λ y. y.items ≡ extension source.now x.now) }
 {
-    let chains = source.chains().as_slice();
     let mut y = vec![in alloc; false; source.qubits() as usize]?;
     for i in 0..x.len() {
-        set_where(&mut y, x[i], chains[i].as_slice());
+        set_where(&mut y, x[i], chain(source.chains(), i));
     }
     Ok(y)
 }

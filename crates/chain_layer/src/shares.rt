@@ -4,6 +4,7 @@ ghost use Rattle.std.specs.List.{range_with_len};
 ghost use Rattle.chain_layer.specs.Image.{all_shares, equal_shares, field_at, field_entry, shares};
 ghost use Rattle.chain_layer.specs.Steps.{added, sizes_of};
 
+use crate::link::chain;
 use bits_model::NoMemory;
 use embedding_check::Embedded;
 use std::alloc::Global;
@@ -53,10 +54,9 @@ pub fn shared_fields(alloc: Global, source: &Embedded) -> Result<Vec<i128>, NoMe
     ensures { IfOk result (λ v. v.items
         ≡ map (field_at (all_shares source.now)) (range_with_len 0 source.now.qubits)) }
 {
-    let chains = source.chains().as_slice();
     let mut fields = vec![in alloc; 0; source.qubits() as usize]?;
     for (i, field) in source.ising().fields.as_slice().iter().enumerate() {
-        add_shares(&mut fields, chains[i].as_slice(), *field);
+        add_shares(&mut fields, chain(source.chains(), i), *field);
     }
     Ok(fields)
 }

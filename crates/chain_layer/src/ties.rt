@@ -11,6 +11,7 @@ ghost use Rattle.chain_layer.specs.Image.{
   ties_cost,
 };
 
+use crate::link::chain;
 use bits_model::{CouplerList, Entry, NoMemory};
 use embedding_check::Embedded;
 use std::alloc::Global;
@@ -87,8 +88,6 @@ pub fn couplings_of(
     ensures { IfOk result (λ v. v.items
         ≡ placed source.now.ising.couplings source.now.places ++ all_ties source.now) }
 {
-    let chains = source.chains().as_slice();
-    let parents = source.parents().as_slice();
     let mut made = placed(
         alloc,
         &source.ising().couplings,
@@ -98,8 +97,8 @@ pub fn couplings_of(
     for i in 0..strengths.len() {
         push_ties(
             &mut made,
-            chains[i].as_slice(),
-            parents[i].as_slice(),
+            chain(source.chains(), i),
+            chain(source.parents(), i),
             strengths[i],
         )?;
     }
@@ -113,10 +112,9 @@ pub fn ties_cost(source: &Embedded, strengths: &[u128]) -> u128
     requires small { ties_cost source.now ≤ 2 ^ 125 }
     ensures { result ≡ ties_cost source.now }
 {
-    let chains = source.chains().as_slice();
     let mut cost = 0;
     for i in 0..strengths.len() {
-        cost += strengths[i] * (chains[i].as_slice().len() - 1) as u128;
+        cost += strengths[i] * (chain(source.chains(), i).len() - 1) as u128;
     }
     cost
 }

@@ -13,11 +13,10 @@ use Rattle.chain_layer.proofs.ties.couplings_of.Goals as goal
 
 pub placed-requires : goal.placed-requires
 placed-requires c =
-    let same : _ ≡ c.args.source.now.ising = c.form.view_is ∙ c.ising-form.ensures.form in
-    ap length c.as_slice-2.ensures ∙ ap length c.places.ensures
+    let same : _ ≡ c.args.source.now.ising = c.behind-source.view_is ∙ c.ising.ensures.form in
+    ap length c.as_slice.ensures ∙ ap length c.places.ensures
     ∙ sym (zip_lengths _ _ _ c.requires.kept.placed)
     ∙ sym (ap (λ (f : IsingContent). length f.couplings) same)
-    ∙ sym (ap length c.as_slice.ensures)
 
 pub chain-requires : goal.chain-requires
 chain-requires c =

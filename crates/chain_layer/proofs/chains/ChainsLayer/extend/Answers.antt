@@ -8,8 +8,8 @@ use Rattle.chain_layer.specs.Image.{image, offset, decoding}
 use Rattle.chain_layer.specs.laws.Kept.{chains_reach}
 use Rattle.chain_layer.proofs.chains.ChainsLayer.extend.Goals as goal
 
-pub returns : goal.returns
-returns c =
+pub returns-clause-reaches : goal.returns-clause-reaches
+returns-clause-reaches c =
     let e = c.args.source.now in
     let x = c.args.x.now in
     let link = c.args._link.now in
