@@ -7,7 +7,7 @@ use Rattle.std.proofs.lemmas.Int.{ints}
 use Rattle.std.proofs.lemmas.Bool.{eq-eqb, ne_eqb, cases_eq, cases_lt, or_from}
 use Rattle.std.proofs.lemmas.List.{drop_more, drop_all, take_all, flat_map_more, get_or_past, get_or-set_same, get_or-set_other, length-set, length-map, length-replicate, get_or-replicate}
 use Rattle.std.proofs.lemmas.List.FromFn.{fill_by_all, get_or-map-range_with_len, length-map-range_with_len, map-range_with_len_more}
-use Rattle.std.proofs.lemmas.List.Sums.{sum_by-cons, sum_by_push, sum_by-set, sum_by_more, sum_by_more_le, sum_by-append, fold-append}
+use Rattle.std.proofs.lemmas.List.Sums.{sum_by-cons, sum_by_push, sum_by-set, sum_by-append, fold-append}
 use Rattle.integers.specs.Sums.{if_so}
 use Rattle.integers.proofs.Totals.{total_by_push}
 use Rattle.bits_model.specs.declared.output.Entry.{Entry}
@@ -17,7 +17,6 @@ use Rattle.quad_form.proofs.NodeEnergies.{weights_within}
 use Rattle.embedding_check.specs.Embeddings.{Embedding}
 use Rattle.chain_map.specs.Chains.{chain_of}
 use Rattle.chain_layer.proofs.Ordered.{ties_at}
-use Rattle.chain_layer.proofs.Sizes.{couplings_at-le}
 use Rattle.chain_layer.specs.Image.{nodes_of, field_of, strength, field_entry, coupling_entry, field_at, equal_shares, shares, placed, ties, couplings_at}
 use Rattle.std.proofs.lemmas.List.{length-drop}
 use Rattle.std.proofs.lemmas.List.Elements.{length_all_zip, recursion_from_All, All-from_recursion}
@@ -27,27 +26,12 @@ use Rattle.chain_layer.specs.Steps.{added, sizes_of}
 
 -- ---- fields
 
--- an added share adds at most its size
-pub sizes_added : (fields : List ℤ) (q : ℕ) (share : ℤ) → q < length fields
-    → sizes_of (added fields (field_entry q share)) ≤ sizes_of fields + unsigned_abs share
-sizes_added fields q share within =
-    let old = get_or fields q (pos 0) in
-    let both : unsigned_abs (old +ℤ share) ≤ unsigned_abs old + unsigned_abs share = omega (arith, ints) in
-    omega (arith, sum_by-set unsigned_abs fields q (old +ℤ share) (pos 0) within, both)
-
 pub length-added : (fields : List ℤ) (e : Entry) → length (added fields e) ≡ length fields
 length-added fields e = length-set fields e.first _
 
 pub length-fold_added : (fields : List ℤ) (es : List Entry) → length (fold added fields es) ≡ length fields
 length-fold_added fields [] = refl
 length-fold_added fields (e ∷ es) = length-fold_added (added fields e) es ∙ length-added fields e
-
--- one more of the qubits that are left
-pub equal_more : (fields whole : List ℤ) (qubits : List ℕ) (i : ℕ) (share : ℤ) → i < length qubits
-    → fold added fields (equal_shares (drop i qubits) share) ≡ whole
-    → fold added (added fields (field_entry (get_or qubits i 0) share)) (equal_shares (drop (i + 1) qubits) share) ≡ whole
-equal_more fields whole qubits i share within h =
-    sym (ap (λ qs. fold added fields (equal_shares qs share)) (drop_more qubits i 0 within)) ∙ h
 
 quotient_small : (h : ℤ) (n : ℕ) → 0 < n → unsigned_abs (int_div_euclid h (pos n)) ≤ unsigned_abs h
 quotient_small (pos a) n some = omega (arith, div-le_self a n)
@@ -193,12 +177,14 @@ placed_more made whole c cs ps i p d p_in is h =
     ∙ h
 
 -- one more tie
-pub ties_more : (made whole : List Entry) (qs ps : List ℕ) (i n : ℕ) → i < length qs → i < length ps
-    → made ++ ties (drop i qs) (drop i ps) n ≡ whole
-    → (made ++ coupling_entry (get_or qs i 0) (get_or ps i 0) (neg_ℤ (pos n)) ∷ []) ++ ties (drop (i + 1) qs) (drop (i + 1) ps) n ≡ whole
-ties_more made whole qs ps i n q_in p_in h =
+pub ties_more : (made whole : List Entry) (chain ps : List ℕ) (i n : ℕ) → i + 1 < length chain
+    → i < length ps → made ++ ties (drop (i + 1) chain) (drop i ps) n ≡ whole
+    → (made ++ coupling_entry (get_or chain (i + 1) 0) (get_or ps i 0) (neg_ℤ (pos n)) ∷ [])
+    ++ ties (drop (i + 1 + 1) chain) (drop (i + 1) ps) n
+    ≡ whole
+ties_more made whole chain ps i n q_in p_in h =
     append_assoc made _ _
-    ∙ sym ((λ k. made ++ ties (drop_more qs i 0 q_in k) (drop_more ps i 0 p_in k) n))
+    ∙ sym ((λ k. made ++ ties (drop_more chain (i + 1) 0 q_in k) (drop_more ps i 0 p_in k) n))
     ∙ h
 
 -- the numbers up to one more

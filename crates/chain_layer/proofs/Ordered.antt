@@ -13,7 +13,7 @@ use Rattle.integers.proofs.Totals.{total_by-IsPermutation}
 use Rattle.std.proofs.lemmas.Bool.{eq-eqb, ne_eqb, cases_eq, ltb-true, ltb-false, or_cases, and_parts, and_from, or_left, false_from_ne_true}
 use Rattle.std.proofs.lemmas.List.Elements.{recursion_from_All, All-from_recursion, length_all_zip}
 use Rattle.std.proofs.lemmas.List.FromFn.{length-map-range_with_len}
-use Rattle.std.proofs.lemmas.List.Sums.{sum_by-cons, get_or-le-sum_by}
+use Rattle.std.proofs.lemmas.List.Sums.{sum_by-cons}
 use Rattle.bits_model.specs.declared.output.Entry.{Entry}
 use Rattle.quad_form.specs.Quads.{IsCoupler}
 use Rattle.quad_form.specs.Pairs.{IsPair, pair_number, weight_for, weight_at}
@@ -683,12 +683,12 @@ sorted_is_image e kept from to listed moved sorted =
     (All-permutation (IsCoupler e.qubits) from to moved (All-from_recursion (IsCoupler e.qubits) from all)) in
     let few : (n : ℕ) → numbered n to ≤ 1 =
     λ n.
-        omega (
-          arith,
-          sum_by-IsPermutation (λ f. cond (pair_number f == n) 1 0) from to moved,
-          ap (numbered n) listed,
-          few_numbered (placed e.ising.couplings e.places ++ all_ties e) (couplings_apart e kept) n,
-        ) in
+    omega (
+      arith,
+      sum_by-IsPermutation (λ f. cond (pair_number f == n) 1 0) from to moved,
+      ap (numbered n) listed,
+      few_numbered (placed e.ising.couplings e.places ++ all_ties e) (couplings_apart e kept) n,
+    ) in
     same_entries to (image e).couplings
     (each (λ (f : Entry) (h : IsCoupler e.qubits f). let up = h.upward in let below = h.within in record { upward = up; within = omega (arith, below, kept.few) }) to here)
     (image_pairs e kept)

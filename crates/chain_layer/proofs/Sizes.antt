@@ -211,18 +211,6 @@ total_of_image e kept =
       weights_of_image_fields e kept,
     )
 
--- those of the couplings alone
-pub weights_of_couplings : (e : Embedding)
-    → weight_total (placed e.ising.couplings e.places ++ all_ties e) ≤ ising_total e.ising + ties_cost e
-weights_of_couplings e =
-    omega (
-      arith,
-      weights-append (node_entries 0 e.ising.fields) e.ising.couplings,
-      weights-append (placed e.ising.couplings e.places) (all_ties e),
-      weights_placed e.ising.couplings e.places,
-      weights_of_all_ties e,
-    )
-
 -- ---- how many ties there are
 
 pub eqb-comm : (a b : ℕ) → (a == b) ≡ (b == a)

@@ -1,19 +1,18 @@
 -- What a model on the qubits of a graph asks of an image.
-use Rattle.std.proofs.Common.{◌≡◌, ◌≢◌, inl, inr, ℕ, ◌+◌, ◌*◌, ◌<◌, ◌≤◌, Bool, true, false, cond, List, [], ◌∷◌, ◌++◌, length, take, drop, All, pos, neg_ℤ, ℤ, refl, sym, ap, subst, ◌∙◌, arith}
+use Rattle.std.proofs.Common.{◌≡◌, inl, inr, ℕ, ◌<◌, Bool, true, false, cond, List, [], ◌∷◌, ◌++◌, length, drop, All, pos, neg_ℤ, ℤ, sym, subst, ◌∙◌, arith}
 use Rattle.std.specs.Prelude.{nat_lt}
-use Rattle.std.specs.List.{AllByRecursion, AllZip, range_with_len, slice_index_or}
+use Rattle.std.specs.List.{AllByRecursion, AllZip, slice_index_or}
 use Rattle.std.proofs.lemmas.Bool.{cases_lt}
 use Rattle.std.proofs.lemmas.List.{get_or_past, take-map}
-use Rattle.std.proofs.lemmas.List.Elements.{recursion_from_All, All-from_recursion, AllZip-get_or}
+use Rattle.std.proofs.lemmas.List.Elements.{All-from_recursion, AllZip-get_or}
 use Rattle.std.proofs.lemmas.List.FromFn.{length-map-range_with_len, get_or-map-range_with_len}
 use Rattle.bits_model.specs.declared.output.Entry.{Entry}
 use Rattle.bits_model.specs.Output.{majority, is_chained}
-use Rattle.ising_form.specs.Isings.{IsingContent}
 use Rattle.chain_map.specs.Chains.{Joins, chain_of}
 use Rattle.embedding_check.specs.Embeddings.{Embedding, IsEmbedding}
 use Rattle.embedding_check.specs.Distances.{IsParent, AreParents}
-use Rattle.embedding_check.specs.Checked.{IsPlaceOf, IsChecked}
-use Rattle.chain_layer.specs.Image.{nodes_of, strength, coupling_entry, ties, all_ties, all_shares, placed, field_at, image}
+use Rattle.embedding_check.specs.Checked.{IsPlaceOf}
+use Rattle.chain_layer.specs.Image.{strength, coupling_entry, ties, all_ties, all_shares, placed, field_at, image}
 use Rattle.chain_layer.specs.Stated.{ImageFitsOutput, ImageIsJoined, ReadOffTheChains}
 use Rattle.chain_layer.specs.laws.SpinSums.{all_append}
 use Rattle.chain_layer.specs.laws.Kept.{each_of_range}

@@ -1,5 +1,4 @@
 use Rattle.std.proofs.Common.{◌≡◌, ◌∙◌, ap, length, map, ◌+◌, unsigned_abs, arith}
-use Rattle.bits_model.specs.Output.{weight_total}
 use Rattle.quad_form.specs.Quads.{node_entries}
 use Rattle.quad_form.proofs.NodeEnergies.{weights-append}
 use Rattle.ising_form.specs.Isings.{IsingContent}
