@@ -7,7 +7,7 @@ use Rattle.std.proofs.lemmas.Int.{ints}
 use Rattle.std.proofs.lemmas.Bool.{eq-eqb, ne_eqb, cases_eq, cases_lt, or_from}
 use Rattle.std.proofs.lemmas.List.{drop_more, drop_all, take_all, flat_map_more, get_or_past, get_or-set_same, get_or-set_other, length-set, length-map, length-replicate, get_or-replicate}
 use Rattle.std.proofs.lemmas.List.FromFn.{fill_by_all, get_or-map-range_with_len, length-map-range_with_len, map-range_with_len_more}
-use Rattle.std.proofs.lemmas.List.Sums.{sum_by-cons, sum_by_push, sum_by-set, sum_by-append, fold-append}
+use Rattle.std.proofs.lemmas.List.Sums.{sum_by-cons, sum_by_push, sum_by-append, fold-append}
 use Rattle.integers.specs.Sums.{if_so}
 use Rattle.integers.proofs.Totals.{total_by_push}
 use Rattle.bits_model.specs.declared.output.Entry.{Entry}
@@ -17,7 +17,7 @@ use Rattle.quad_form.proofs.NodeEnergies.{weights_within}
 use Rattle.embedding_check.specs.Embeddings.{Embedding}
 use Rattle.chain_map.specs.Chains.{chain_of}
 use Rattle.chain_layer.proofs.Ordered.{ties_at}
-use Rattle.chain_layer.specs.Image.{nodes_of, field_of, strength, field_entry, coupling_entry, field_at, equal_shares, shares, placed, ties, couplings_at}
+use Rattle.chain_layer.specs.Image.{nodes_of, field_of, strength, coupling_entry, field_at, equal_shares, shares, placed, ties, couplings_at}
 use Rattle.std.proofs.lemmas.List.{length-drop}
 use Rattle.std.proofs.lemmas.List.Elements.{length_all_zip, recursion_from_All, All-from_recursion}
 use Rattle.chain_layer.specs.laws.Aligned.{IsNode}

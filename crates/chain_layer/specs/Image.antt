@@ -1,7 +1,8 @@
 -- An embedded Ising form, as an Ising form on the qubits.
 --
--- Each field is split over its chain, each coupling is placed on one joined pair of qubits, and each
--- qubit of a chain but the first is tied to its parent, so strongly that a broken tie never pays.
+-- Each field is split over its chain, each coupling is placed on one joined pair of qubits, and
+-- each qubit of a chain but the first is tied to its parent, so strongly that a broken tie never
+-- pays.
 use Rattle.std.specs.Prelude.{◌≡◌, ◌≢◌, ℕ, ◌+◌, ◌-◌, ◌*◌, ◌<◌, ◌==◌, ℤ, pos, neg_ℤ, ◌+ℤ◌, unsigned_abs, Bool, ◌&&◌, ◌||◌, List, [], ◌∷◌, ◌++◌, map, length, take, drop, All, sum_by, flat_map, nat_lt, if◌then◌else◌}
 use Rattle.std.specs.List.{list_any, range_with_len, slice_index_or}
 use Rattle.std.specs.Int.{int_div_euclid, int_rem_euclid}
@@ -18,26 +19,32 @@ use Rattle.chain_layer.specs.declared.link.ChainLink.{ChainLink}
 
 -- ---- the nodes of the form
 
+-- their numbers
 abbrev pub nodes_of : Embedding → List ℕ
 nodes_of e = range_with_len 0 (length e.ising.fields)
 
+-- the field of a node
 abbrev pub field_of : Embedding → ℕ → ℤ
 field_of e node = slice_index_or e.ising.fields node (pos 0)
 
 -- the sizes of a node's couplings
 abbrev pub couplings_at : ℕ → List Entry → ℕ
 couplings_at node couplings =
-    sum_by (λ c. if (node == c.first) || (node == c.second) then unsigned_abs c.weight else 0) couplings
+    sum_by (λ c. if (node == c.first) || (node == c.second) then unsigned_abs c.weight else 0)
+    couplings
 
--- how strongly the qubits of a node's chain are tied
+-- how strongly the qubits of a node's chain are tied: one more than the sizes of its field and its
+-- couplings
 abbrev pub strength : Embedding → ℕ → ℕ
 strength e node = unsigned_abs (field_of e node) + couplings_at node e.ising.couplings + 1
 
 -- ---- what a chain has
 
+-- a share of a field
 abbrev pub field_entry : ℕ → ℤ → Entry
 field_entry q w = record { first = q; second = q; weight = w }
 
+-- a coupling of two qubits, the lesser one first
 abbrev pub coupling_entry : ℕ → ℕ → ℤ → Entry
 coupling_entry p q w =
     if nat_lt p q
@@ -48,8 +55,8 @@ coupling_entry p q w =
 abbrev pub equal_shares : List ℕ → ℤ → List Entry
 equal_shares qubits share = map (λ q. field_entry q share) qubits
 
--- a field h, split over a chain of n qubits: h is `share * n + rest`, with `rest` from 0 to n - 1, and the
--- first `rest` qubits get one more
+-- a field h, split over a chain of n qubits: h is `share * n + rest`, with `rest` from 0 to n - 1,
+-- and the first `rest` qubits get one more
 abbrev pub shares : List ℕ → ℤ → List Entry
 shares chain h =
     let share = int_div_euclid h (pos (length chain)) in
@@ -64,9 +71,11 @@ ties [] ps strong = []
 
 -- ---- what all have
 
+-- the shares of all fields
 abbrev pub all_shares : Embedding → List Entry
 all_shares e = flat_map (λ node. shares (chain_of e.chains node) (field_of e node)) (nodes_of e)
 
+-- the ties of all chains
 abbrev pub all_ties : Embedding → List Entry
 all_ties e =
     flat_map
@@ -88,8 +97,10 @@ field_at es q = total_by (λ e. if_so (q == e.first) e.weight) es
 -- an entry among entries in order of their pairs
 abbrev pub inserted : Entry → List Entry → List Entry
 inserted e [] = e ∷ []
-inserted e (f ∷ fs) = if nat_lt (pair_number f) (pair_number e) then f ∷ inserted e fs else e ∷ f ∷ fs
+inserted e (f ∷ fs) =
+    if nat_lt (pair_number f) (pair_number e) then f ∷ inserted e fs else e ∷ f ∷ fs
 
+-- entries in the order of their pairs
 abbrev pub in_order : List Entry → List Entry
 in_order [] = []
 in_order (e ∷ es) = inserted e (in_order es)
@@ -106,6 +117,7 @@ image e = record {
 abbrev pub ties_cost : Embedding → ℕ
 ties_cost e = sum_by (λ node. strength e node * (length (chain_of e.chains node) - 1)) (nodes_of e)
 
+-- so much lower are all energies
 abbrev pub offset : Embedding → ℤ
 offset e = neg_ℤ (pos (ties_cost e))
 

@@ -11,10 +11,10 @@ use crate::decoding::decoded;
 use crate::extending::extended;
 use crate::link::{ChainLink, chain};
 use crate::shares::shared_fields;
-use crate::sorting::by_pairs;
+use crate::sorting::in_order;
 use crate::strengths::strengths;
 use crate::ties::{couplings_of, ties_cost};
-use bits_model::{ChainList, CouplerList, Items, Layer, Lowered, NoMemory};
+use bits_model::{ChainList, Items, Layer, Lowered, NoMemory};
 use embedding_check::Embedded;
 use ising_form::Ising;
 use quad_form::NumberList;
@@ -45,8 +45,7 @@ fn image_of(alloc: Global, source: &Embedded, strengths: &[u128]) -> Result<Isin
 {
     let fields = shared_fields(alloc, source)?;
     let gathered = couplings_of(alloc, source, strengths)?;
-    let listed = by_pairs(gathered);
-    let couplings = CouplerList::of(alloc, &listed)?;
+    let couplings = in_order(alloc, gathered)?;
     Ok(Ising {
         constant: source.ising().constant,
         fields: NumberList::new(fields),

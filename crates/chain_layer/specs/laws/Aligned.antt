@@ -1,8 +1,9 @@
--- The law of chains: aligning broken chains never pays.
+-- The law of chains: aligning broken chains never pays. Nothing here has to be believed.
 --
--- A broken tie costs twice its strength. Its node's shares and placed couplings give back at most twice
--- the sizes of the field and of the couplings at the node, which is less. So node by node, and with
--- twice its size for each end of a coupling whose chain is broken, no state lies below its reading.
+-- A broken tie costs twice its strength. Its node's shares and placed couplings give back at most
+-- twice the sizes of the field and of the couplings at the node, which is less. So node by node, and
+-- with twice its size for each end of a coupling whose chain is broken, no state lies below its
+-- reading.
 use Rattle.std.specs.Prelude.{◌≡◌, ◌≢◌, ℕ, ◌-◌, ◌*◌, ◌<◌, ℤ, pos, neg_ℤ, ◌+ℤ◌, ◌≤ℤ◌, unsigned_abs, Bool, true, false, not, List, [], ◌∷◌, length, drop, sum_by}
 use Rattle.std.specs.List.{AllByRecursion, AllZip}
 use Rattle.std.proofs.Common.{arith, ap, ◌∙◌, refl, inl, inr}

@@ -1,4 +1,5 @@
 -- The image keeps the costs of the embedded form, over all states of the qubits.
+-- Nothing here has to be believed.
 use Rattle.std.specs.Prelude.{◌≡◌, ◌≢◌, ◌⊎◌, ℕ, zero, suc, ◌+◌, ◌<◌, ◌≤◌, ◌==◌, ℤ, pos, ◌+ℤ◌, ◌≤ℤ◌, Bool, true, false, cond, ◌&&◌, ◌||◌, List, [], ◌∷◌, ◌++◌, length, take, drop, sum_by, count_by, flat_map, map, All}
 use Rattle.std.specs.List.{AllByRecursion, AllZip, list_any, range_with_len, slice_index_or}
 use Rattle.std.proofs.Common.{arith, ap, sym, ◌∙◌, refl, inl, inr, subst}

@@ -1,4 +1,4 @@
--- What the shares and the ties of one node's chain cost.
+-- What the shares and the ties of one node's chain cost. Nothing here has to be believed.
 --
 -- Where no tie is broken they cost what the field costs, less the strength of each tie. Where one is,
 -- it costs twice its strength more, and the shares give back at most twice the field.
