@@ -6,3 +6,6 @@ returns-then-chain-ones c = search rules
 
 pub returns-then-ones-chain : goal.returns-then-ones-chain
 returns-then-ones-chain c = search rules
+
+pub returns-else-ones-chain : goal.returns-else-ones-chain
+returns-else-ones-chain c = search rules
