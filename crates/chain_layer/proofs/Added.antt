@@ -1,0 +1,489 @@
+-- Steps of the layer's loops, over plain lists.
+use Rattle.std.proofs.Common.{◌≡◌, ◌≢◌, inl, inr, ℕ, zero, suc, ◌+◌, ◌*◌, ◌<◌, ◌≤◌, ◌^◌, Bool, true, false, cond, ◌||◌, List, [], ◌∷◌, ◌++◌, map, length, take, drop, get_or, set, replicate, fold, ℤ, pos, negsuc, ◌+ℤ◌, unsigned_abs, neg_ℤ, div-le_self, refl, sym, ap, subst, ◌∙◌, arith, append_assoc, append-nil, map-id, sum_by, flat_map}
+use Rattle.std.specs.Prelude.{◌==◌, All}
+use Rattle.std.specs.List.{AllByRecursion, AllZip, list_any, range_with_len}
+use Rattle.std.specs.Int.{int_div_euclid, int_rem_euclid}
+use Rattle.std.proofs.lemmas.Int.{ints}
+use Rattle.std.proofs.lemmas.Bool.{eq-eqb, ne_eqb, cases_eq, cases_lt, or_from}
+use Rattle.std.proofs.lemmas.List.{drop_more, drop_all, take_all, flat_map_more, get_or_past, get_or-set_same, get_or-set_other, length-set, length-map, length-replicate, get_or-replicate}
+use Rattle.std.proofs.lemmas.List.FromFn.{fill_by_all, get_or-map-range_with_len, length-map-range_with_len, map-range_with_len_more}
+use Rattle.std.proofs.lemmas.List.Sums.{sum_by-cons, sum_by_push, sum_by-append, fold-append}
+use Rattle.integers.specs.Sums.{if_so}
+use Rattle.integers.proofs.Totals.{total_by_push}
+use Rattle.bits_model.specs.declared.output.Entry.{Entry}
+use Rattle.bits_model.specs.Output.{weight_total}
+use Rattle.quad_form.specs.Quads.{node_entries, IsCoupler}
+use Rattle.quad_form.proofs.NodeEnergies.{weights_within}
+use Rattle.embedding_check.specs.Embeddings.{Embedding}
+use Rattle.chain_map.specs.Chains.{chain_of}
+use Rattle.chain_layer.proofs.Ordered.{ties_at}
+use Rattle.chain_layer.specs.Image.{nodes_of, field_of, strength, coupling_entry, field_at, equal_shares, shares, placed, ties, couplings_at}
+use Rattle.std.proofs.lemmas.List.{length-drop}
+use Rattle.std.proofs.lemmas.List.Elements.{length_all_zip, recursion_from_All, All-from_recursion}
+use Rattle.chain_layer.specs.laws.Aligned.{IsNode}
+use Rattle.chain_layer.specs.laws.NodeEnergies.{shares_size, weights_of_equal, filled_length}
+use Rattle.chain_layer.specs.Steps.{added, sizes_of}
+
+-- ---- fields
+
+pub length-added : (fields : List ℤ) (e : Entry) → length (added fields e) ≡ length fields
+length-added fields e = length-set fields e.first _
+
+pub length-fold_added : (fields : List ℤ) (es : List Entry) → length (fold added fields es) ≡ length fields
+length-fold_added fields [] = refl
+length-fold_added fields (e ∷ es) = length-fold_added (added fields e) es ∙ length-added fields e
+
+quotient_small : (h : ℤ) (n : ℕ) → 0 < n → unsigned_abs (int_div_euclid h (pos n)) ≤ unsigned_abs h
+quotient_small (pos a) n some = omega (arith, div-le_self a n)
+quotient_small (negsuc a) n some = omega (arith, div-le_self a n)
+
+-- the parts of a split field, as the code has them
+pub record IsSplit (chain : List ℕ) (h share : ℤ) (front back : List ℕ) : Type 0 where
+  pub quotient : share ≡ int_div_euclid h (pos (length chain))
+  pub front_is : front ≡ take (unsigned_abs (int_rem_euclid h (pos (length chain)))) chain
+  pub back_is : back ≡ drop (unsigned_abs (int_rem_euclid h (pos (length chain)))) chain
+
+split_shares : (chain : List ℕ) (h share : ℤ) (front back : List ℕ) → IsSplit chain h share front back
+    → shares chain h ≡ equal_shares front (share +ℤ pos 1) ++ equal_shares back share
+split_shares chain h share front back split =
+    λ k. equal_shares (sym split.front_is k) (sym split.quotient k +ℤ pos 1) ++ equal_shares (sym split.back_is k) (sym split.quotient k)
+
+-- the shares have the size of the field
+pub split_weights : (chain : List ℕ) (h share : ℤ) (front back : List ℕ) → (chain ≢ [])
+    → IsSplit chain h share front back
+    → length front * unsigned_abs (share +ℤ pos 1) + length back * unsigned_abs share ≡ unsigned_abs h
+split_weights chain h share front back filled split =
+    omega (
+      arith,
+      ap weight_total (split_shares chain h share front back split),
+      sum_by-append (λ (e : Entry). unsigned_abs e.weight) (equal_shares front (share +ℤ pos 1)) (equal_shares back share),
+      weights_of_equal front (share +ℤ pos 1),
+      weights_of_equal back share,
+      shares_size chain h filled,
+    )
+
+pub share_small : (chain : List ℕ) (h share : ℤ) (front back : List ℕ) → (chain ≢ [])
+    → IsSplit chain h share front back → unsigned_abs share ≤ unsigned_abs h
+share_small chain h share front back filled split =
+    omega (arith, ap unsigned_abs split.quotient, quotient_small h (length chain) (filled_length chain filled))
+
+-- both parts, added one after the other
+pub split_added : (fields : List ℤ) (chain : List ℕ) (h share : ℤ) (front back : List ℕ)
+    → IsSplit chain h share front back
+    → fold added (fold added fields (equal_shares front (share +ℤ pos 1))) (equal_shares back share)
+    ≡ fold added fields (shares chain h)
+split_added fields chain h share front back split =
+    sym (fold-append added fields (equal_shares front (share +ℤ pos 1)) (equal_shares back share))
+    ∙ ap (fold added fields) (sym (split_shares chain h share front back split))
+
+field_at-push : (es : List Entry) (e : Entry) (q : ℕ)
+    → field_at (es ++ e ∷ []) q ≡ field_at es q +ℤ if_so (q == e.first) e.weight
+field_at-push es e q = total_by_push (λ f. if_so (q == f.first) f.weight) es e
+
+-- one more entry, in a list of fields that are sums
+added_more : (n : ℕ) (es : List Entry) (e : Entry) → e.first < n
+    → added (map (field_at es) (range_with_len 0 n)) e ≡ map (field_at (es ++ e ∷ [])) (range_with_len 0 n)
+added_more n es e within =
+    let old = map (field_at es) (range_with_len 0 n) in
+    let size : length old ≡ n = length-map-range_with_len (field_at es) 0 n in
+    let here : get_or old e.first (pos 0) ≡ field_at es e.first =
+    get_or-map-range_with_len (field_at es) 0 n e.first e.first (pos 0) within (omega arith) in
+    fill_by_all (field_at (es ++ e ∷ [])) (added old e) n (pos 0) (length-added old e ∙ size)
+    (λ k l. elim (cases_eq k e.first) [
+      | inl same ↦
+          ap (λ i. get_or (added old e) i (pos 0)) same
+          ∙ get_or-set_same old e.first _ (pos 0) (omega (arith, size, within))
+          ∙ one e.first here (eq-eqb e.first e.first refl)
+          ∙ ap (field_at (es ++ e ∷ [])) (sym same)
+      | inr other ↦
+          get_or-set_other old e.first k _ (pos 0) other
+          ∙ get_or-map-range_with_len (field_at es) 0 n k k (pos 0) l (omega arith)
+          ∙ two k (ne_eqb k e.first other)
+    ])
+  where
+    one : (i : ℕ) → get_or (map (field_at es) (range_with_len 0 n)) e.first (pos 0) ≡ field_at es i → (i == e.first) ≡ true
+        → get_or (map (field_at es) (range_with_len 0 n)) e.first (pos 0) +ℤ e.weight ≡ field_at (es ++ e ∷ []) i
+    one i here test = omega (arith, ints, here, field_at-push es e i, ap (λ b. if_so b e.weight) test)
+
+    two : (k : ℕ) → (k == e.first) ≡ false → field_at es k ≡ field_at (es ++ e ∷ []) k
+    two k test = omega (arith, ints, field_at-push es e k, ap (λ b. if_so b e.weight) test)
+
+fold_added : (n : ℕ) (es ds : List Entry) → AllByRecursion (λ e. e.first < n) ds
+    → fold added (map (field_at es) (range_with_len 0 n)) ds ≡ map (field_at (es ++ ds)) (range_with_len 0 n)
+fold_added n es [] h = ap (λ fs. map (field_at fs) (range_with_len 0 n)) (sym (append-nil es))
+fold_added n es (d ∷ ds) h =
+    ap (λ fs. fold added fs ds) (added_more n es d h.0)
+    ∙ fold_added n (es ++ d ∷ []) ds h.1
+    ∙ ap (λ fs. map (field_at fs) (range_with_len 0 n)) (append_assoc es (d ∷ []) ds)
+
+-- entries that are added to fields of 0 give the sums
+pub fields_are_sums : (n : ℕ) (ds : List Entry) → AllByRecursion (λ e. e.first < n) ds
+    → fold added (replicate n (pos 0)) ds ≡ map (field_at ds) (range_with_len 0 n)
+fields_are_sums n ds h =
+    ap (λ fs. fold added fs ds)
+    (fill_by_all (field_at []) (replicate n (pos 0)) n (pos 0) (length-replicate n (pos 0)) (λ k l. get_or-replicate n k (pos 0) (pos 0) l))
+    ∙ fold_added n [] ds h
+
+-- ---- strengths
+
+-- both nodes of a coupling, raised by its size
+pub raised_both : (xs : List ℕ) (a b m i : ℕ) → a < length xs → b < length xs → a < b → i < length xs
+    → get_or (set (set xs a (get_or xs a 0 + m)) b (get_or (set xs a (get_or xs a 0 + m)) b 0 + m)) i 0
+    ≡ get_or xs i 0 + cond ((i == a) || (i == b)) m 0
+raised_both xs a b m i a_in b_in less i_in =
+    let once = set xs a (get_or xs a 0 + m) in
+    let b_once : b < length once = omega (arith, b_in, length-set xs a (get_or xs a 0 + m)) in
+    elim (cases_eq i b) [
+      | inl last ↦
+          let apart : b ≢ a = λ e. omega (arith, e, less) in
+          ap (λ k. get_or (set once b (get_or once b 0 + m)) k 0) last
+          ∙ get_or-set_same once b (get_or once b 0 + m) 0 b_once
+          ∙ ap (λ v. v + m) (get_or-set_other xs a b (get_or xs a 0 + m) 0 apart)
+          ∙ ap (λ t. get_or xs b 0 + cond t m 0) (sym (second (b == a) (b == b) (eq-eqb b b refl)))
+          ∙ ap (λ k. get_or xs k 0 + cond ((k == a) || (k == b)) m 0) (sym last)
+      | inr other ↦
+          get_or-set_other once b i (get_or once b 0 + m) 0 other
+          ∙ elim (cases_eq i a) [
+            | inl first ↦
+                ap (λ k. get_or once k 0) first
+                ∙ get_or-set_same xs a (get_or xs a 0 + m) 0 a_in
+                ∙ ap (λ t. get_or xs a 0 + cond (t || (a == b)) m 0) (sym (eq-eqb a a refl))
+                ∙ ap (λ k. get_or xs k 0 + cond ((k == a) || (k == b)) m 0) (sym first)
+            | inr neither ↦
+                get_or-set_other xs a i (get_or xs a 0 + m) 0 neither
+                ∙ none (get_or xs i 0) ((i == a) || (i == b)) (or_from (i == a) (i == b) (ne_eqb i a neither) (ne_eqb i b other))
+          ]
+    ]
+  where
+    second : (s t : Bool) → t ≡ true → (s || t) ≡ true
+    second true t h = refl
+    second false t h = h
+
+    none : (v : ℕ) (t : Bool) → t ≡ false → v ≡ v + cond t m 0
+    none v t e = omega (arith, ap (λ b. cond {A = ℕ} b m 0) e)
+
+-- ---- couplings
+
+-- one more coupling that is placed
+pub placed_more : (made whole : List Entry) (c : Entry) (cs : List Entry) (ps : List (ℕ × ℕ)) (i : ℕ)
+    (p d : ℕ × ℕ) → i < length ps → p ≡ get_or ps i d → made ++ placed (c ∷ cs) (drop i ps) ≡ whole
+    → (made ++ record { first = p.0; second = p.1; weight = c.weight } ∷ [])
+    ++ placed cs (drop (i + 1) ps)
+    ≡ whole
+placed_more made whole c cs ps i p d p_in is h =
+    append_assoc made _ _
+    ∙ ap (λ r. made ++ record { first = r.0; second = r.1; weight = c.weight } ∷ placed cs (drop (i + 1) ps)) is
+    ∙ sym (ap (λ l. made ++ placed (c ∷ cs) l) (drop_more ps i d p_in))
+    ∙ h
+
+-- one more tie
+pub ties_more : (made whole : List Entry) (chain ps : List ℕ) (i n : ℕ) → i + 1 < length chain
+    → i < length ps → made ++ ties (drop (i + 1) chain) (drop i ps) n ≡ whole
+    → (made ++ coupling_entry (get_or chain (i + 1) 0) (get_or ps i 0) (neg_ℤ (pos n)) ∷ [])
+    ++ ties (drop (i + 1 + 1) chain) (drop (i + 1) ps) n
+    ≡ whole
+ties_more made whole chain ps i n q_in p_in h =
+    append_assoc made _ _
+    ∙ sym ((λ k. made ++ ties (drop_more chain (i + 1) 0 q_in k) (drop_more ps i 0 p_in k) n))
+    ∙ h
+
+-- the numbers up to one more
+pub range_more : (n : ℕ) → range_with_len 0 (n + 1) ≡ range_with_len 0 n ++ n ∷ []
+range_more n =
+    sym (map-id (range_with_len 0 (n + 1)))
+    ∙ map-range_with_len_more (λ i. i) 0 n n (omega arith)
+    ∙ ap (λ l. l ++ n ∷ []) (map-id (range_with_len 0 n))
+
+flat_range : (f : ℕ → List Entry) (n : ℕ)
+    → flat_map f (range_with_len 0 (n + 1)) ≡ flat_map f (range_with_len 0 n) ++ f n
+flat_range f n = ap (flat_map f) (range_more n) ∙ sym (flat_map_more f [] (range_with_len 0 n) n)
+
+pub sum_range : (f : ℕ → ℕ) (n : ℕ)
+    → sum_by f (range_with_len 0 (n + 1)) ≡ sum_by f (range_with_len 0 n) + f n
+sum_range f n = ap (sum_by f) (range_more n) ∙ sum_by_push f (range_with_len 0 n) n
+
+-- a sum over fewer numbers is less
+pub sum_within : (f : ℕ → ℕ) (k n : ℕ) → k ≤ n
+    → sum_by f (range_with_len 0 k) ≤ sum_by f (range_with_len 0 n)
+sum_within f k zero h =
+    let same : k ≡ 0 = omega arith in omega (arith, ap (λ m. sum_by f (range_with_len 0 m)) same)
+sum_within f k (suc n) h =
+    elim (cases_eq k (n + 1)) [
+      | inl same ↦ let up : k ≡ suc n = omega (arith, same) in omega (arith, ap (λ m. sum_by f (range_with_len 0 m)) up)
+      | inr other ↦
+          let low : k ≤ n = below k n h other in
+          let up : suc n ≡ n + 1 = omega arith in
+          omega (arith, sum_within f k n low, sum_range f n, ap (λ m. sum_by f (range_with_len 0 m)) up)
+    ]
+  where
+    below : (k n : ℕ) → k ≤ suc n → (k ≢ n + 1) → k ≤ n
+    below k n h other = grind arith
+
+-- ---- node by node
+
+abbrev pub shares_at : Embedding → ℕ → List Entry
+shares_at e i = shares (chain_of e.chains i) (field_of e i)
+
+pub fields_more : (e : Embedding) (zeros fields next : List ℤ) (i : ℕ)
+    → fields ≡ fold added zeros (flat_map (shares_at e) (range_with_len 0 i))
+    → next ≡ fold added fields (shares_at e i)
+    → next ≡ fold added zeros (flat_map (shares_at e) (range_with_len 0 (i + 1)))
+fields_more e zeros fields next i so_far step =
+    step
+    ∙ ap (λ fs. fold added fs (shares_at e i)) so_far
+    ∙ sym (fold-append added zeros (flat_map (shares_at e) (range_with_len 0 i)) (shares_at e i))
+    ∙ ap (fold added zeros) (sym (flat_range (shares_at e) i))
+
+pub ties_more_nodes : (e : Embedding) (before made next : List Entry) (i : ℕ)
+    → made ≡ before ++ flat_map (ties_at e) (range_with_len 0 i)
+    → next ≡ made ++ ties_at e i
+    → next ≡ before ++ flat_map (ties_at e) (range_with_len 0 (i + 1))
+ties_more_nodes e before made next i so_far step =
+    step
+    ∙ ap (λ es. es ++ ties_at e i) so_far
+    ∙ append_assoc before (flat_map (ties_at e) (range_with_len 0 i)) (ties_at e i)
+    ∙ ap (λ es. before ++ es) (sym (flat_range (ties_at e) i))
+
+-- what a list of all strengths has
+pub strength_at : (e : Embedding) (xs : List ℕ) (i : ℕ) → xs ≡ map (strength e) (nodes_of e)
+    → i < length xs → (i < length e.ising.fields) × (get_or xs i 0 ≡ strength e i)
+strength_at e xs i same within =
+    let size : length xs ≡ length e.ising.fields =
+    ap length same ∙ length-map-range_with_len (strength e) 0 (length e.ising.fields) in
+    let below : i < length e.ising.fields = omega (arith, within, size) in (
+      below,
+      ap (λ l. get_or l i 0) same
+          ∙ get_or-map-range_with_len (strength e) 0 (length e.ising.fields) i i 0 below (omega arith),
+    )
+
+at_map : (f : ℤ → ℕ) (hs : List ℤ) (i : ℕ) → i < length hs
+    → get_or (map f hs) i 0 ≡ f (get_or hs i (pos 0))
+at_map f [] i h = absurd (omega arith)
+at_map f (x ∷ xs) zero h = refl
+at_map f (x ∷ xs) (suc i) h = at_map f xs i (omega arith)
+
+pub first_strength : (hs : List ℤ) (xs : List ℕ) (i : ℕ) → xs ≡ map (λ h. unsigned_abs h + 1) hs
+    → get_or xs i 0 ≤ weight_total (node_entries 0 hs) + 1
+first_strength hs xs i same = elim (cases_lt i (length hs)) [
+  | inl within ↦
+      omega (
+        arith,
+        ap (λ l. get_or l i 0) same,
+        at_map (λ h. unsigned_abs h + 1) hs i within,
+        weights_within hs i (pos 0) within,
+      )
+  | inr past ↦
+      omega (
+        arith,
+        ap (λ l. get_or l i 0) same,
+        get_or_past (map (λ h. unsigned_abs h + 1) hs) i 0 (omega (arith, past, length-map hs (λ (h : ℤ). unsigned_abs h + 1))),
+      )
+]
+
+-- a list after its items were changed as those of a slice
+pub changed : {X : Type 0} (xs ys : List X) (n : ℕ) → length xs ≡ n → length ys ≡ n
+    → take n (ys ++ drop (length ys) xs) ≡ ys
+changed xs ys n size same =
+    let none : drop (length ys) xs ≡ [] = drop_all (length ys) xs (omega (arith, size, same)) in
+    let whole : ys ++ drop (length ys) xs ≡ ys = ap (λ r. ys ++ r) none ∙ append-nil ys in
+    ap (take n) whole ∙ take_all n ys (omega (arith, same))
+
+pub all_strengths : (e : Embedding) (xs ys : List ℕ) (cs : List Entry)
+    → xs ≡ map (λ h. unsigned_abs h + 1) e.ising.fields → cs ≡ e.ising.couplings
+    → length ys ≡ length xs
+    → ((i : ℕ) → i < length xs → get_or ys i 0 ≡ get_or xs i 0 + couplings_at i cs)
+    → ys ≡ map (strength e) (nodes_of e)
+all_strengths e xs ys cs same listed size sums =
+    let hs = e.ising.fields in
+    let wide : length xs ≡ length hs = ap length same ∙ length-map hs (λ (h : ℤ). unsigned_abs h + 1) in
+    fill_by_all (strength e) ys (length hs) 0 (size ∙ wide)
+    (λ k l.
+    omega (
+      arith,
+      sums k (omega (arith, l, wide)),
+      ap (λ s. get_or s k 0) same,
+      at_map (λ h. unsigned_abs h + 1) hs k l,
+      ap (couplings_at k) listed,
+    ))
+
+-- ---- fields by steps
+
+pub split_from : (chain : List ℕ) (h share rest H L R : ℤ) (front back : List ℕ) → H ≡ h
+    → L ≡ pos (length chain) → R ≡ rest → share ≡ int_div_euclid H L → rest ≡ int_rem_euclid H L
+    → front ≡ take (unsigned_abs R) chain → back ≡ drop (unsigned_abs R) chain
+    → IsSplit chain h share front back
+split_from chain h share rest H L R front back same_h same_l same_r quotient remainder front_is back_is =
+    let whole : R ≡ int_rem_euclid h (pos (length chain)) =
+    same_r ∙ remainder ∙ (λ k. int_rem_euclid (same_h k) (same_l k)) in
+    record {
+      quotient = quotient ∙ (λ k. int_div_euclid (same_h k) (same_l k));
+      front_is = front_is ∙ ap (λ z. take (unsigned_abs z) chain) whole;
+      back_is = back_is ∙ ap (λ z. drop (unsigned_abs z) chain) whole;
+    }
+
+-- ---- strengths by steps
+
+-- the next coupling has its nodes, and its size fits with those of the others
+pub record CanRaise (xs : List ℕ) (e : Entry) (es : List Entry) (m : ℕ) : Type 0 where
+  pub coupler : IsCoupler (length xs) e
+  pub small : (i : ℕ) → i < length xs → get_or xs i 0 + weight_total (e ∷ es) < 2 ^ 127
+  pub size : m ≡ unsigned_abs e.weight
+
+-- the next coupling of those that are left
+pub can_raise : (n : ℕ) (xs : List ℕ) (left : List Entry) (e : Entry) (es : List Entry) (m : ℕ)
+    → left ≡ e ∷ es → length xs ≡ n → All (IsCoupler n) left
+    → ((i : ℕ) → i < n → get_or xs i 0 + weight_total left < 2 ^ 127)
+    → m ≡ unsigned_abs e.weight → CanRaise xs e es m
+can_raise n xs left e es m is size within small same =
+    let couplers : AllByRecursion (IsCoupler n) (e ∷ es) =
+    recursion_from_All (IsCoupler n) (e ∷ es) (subst (All (IsCoupler n)) is within) in
+    record {
+      coupler = subst (λ k. IsCoupler k e) (sym size) couplers.0;
+      small = λ i l. omega (arith, small i (omega (arith, l, size)), ap weight_total is);
+      size = same;
+    }
+
+-- the weight of the next coupling is within the bound of all
+pub next_small : (n : ℕ) (xs : List ℕ) (left : List Entry) (e : Entry) (es : List Entry)
+    → left ≡ e ∷ es → All (IsCoupler n) left
+    → ((i : ℕ) → i < n → get_or xs i 0 + weight_total left < 2 ^ 127)
+    → unsigned_abs e.weight < 2 ^ 127
+next_small n xs left e es is within small =
+    let couplers : AllByRecursion (IsCoupler n) (e ∷ es) =
+    recursion_from_All (IsCoupler n) (e ∷ es) (subst (All (IsCoupler n)) is within) in
+    omega (
+      arith,
+      small e.second couplers.0.within,
+      ap weight_total is,
+      sum_by-cons (λ (f : Entry). unsigned_abs f.weight) e es,
+    )
+
+pub first_fits : (xs : List ℕ) (e : Entry) (es : List Entry) (m : ℕ) → CanRaise xs e es m
+    → get_or xs e.first 0 + m < 2 ^ 127
+first_fits xs e es m can =
+    omega (
+      arith,
+      can.size,
+      can.small e.first (omega (arith, can.coupler.upward, can.coupler.within)),
+      sum_by-cons (λ (f : Entry). unsigned_abs f.weight) e es,
+    )
+
+pub second_fits : (xs : List ℕ) (e : Entry) (es : List Entry) (m v : ℕ) → CanRaise xs e es m
+    → get_or (set xs e.first v) e.second 0 + m < 2 ^ 127
+second_fits xs e es m v can =
+    omega (
+      arith,
+      get_or-set_other xs e.first e.second v 0 (λ same. omega (arith, same, can.coupler.upward)),
+      can.size,
+      can.small e.second can.coupler.within,
+      sum_by-cons (λ (f : Entry). unsigned_abs f.weight) e es,
+    )
+
+-- both nodes of the next coupling are raised
+pub record AreRaised (xs zs : List ℕ) (e : Entry) (es : List Entry) : Type 0 where
+  pub same_length : length zs ≡ length xs
+  pub small : (i : ℕ) → i < length xs → get_or zs i 0 + weight_total es < 2 ^ 127
+  pub sums : (i : ℕ) → i < length xs
+      → get_or zs i 0 + couplings_at i es ≡ get_or xs i 0 + couplings_at i (e ∷ es)
+
+pub raised_more : (xs ys zs : List ℕ) (e : Entry) (es : List Entry) (m : ℕ) → CanRaise xs e es m
+    → ys ≡ set xs e.first (get_or xs e.first 0 + m) → zs ≡ set ys e.second (get_or ys e.second 0 + m)
+    → AreRaised xs zs e es
+raised_more xs ys zs e es m can once twice =
+    let up = can.coupler.upward in
+    let second_in = can.coupler.within in
+    let first_in : e.first < length xs = omega (arith, up, second_in) in
+    let one = set xs e.first (get_or xs e.first 0 + m) in
+    let both : zs ≡ set one e.second (get_or one e.second 0 + m) =
+    twice ∙ ap (λ l. set l e.second (get_or l e.second 0 + m)) once in
+    record {
+      same_length = ap length both ∙ length-set one e.second _ ∙ length-set xs e.first _;
+      small = λ i l.
+          omega (
+            arith,
+            ap (λ z. get_or z i 0) both,
+            raised_both xs e.first e.second m i first_in second_in up l,
+            at_most ((i == e.first) || (i == e.second)) m,
+            can.size,
+            can.small i l,
+            sum_by-cons (λ (f : Entry). unsigned_abs f.weight) e es,
+          );
+      sums = λ i l.
+          omega (
+            arith,
+            ap (λ z. get_or z i 0) both,
+            raised_both xs e.first e.second m i first_in second_in up l,
+            sum_by-cons (λ (f : Entry). cond ((i == f.first) || (i == f.second)) (unsigned_abs f.weight) 0) e es,
+            ap (λ n. cond {A = ℕ} ((i == e.first) || (i == e.second)) n 0) can.size,
+          );
+    }
+  where
+    at_most : (b : Bool) (n : ℕ) → cond b n 0 ≤ n
+    at_most true n = omega arith
+    at_most false n = omega arith
+
+-- with the sizes of the couplings that are left, the strengths are what all couplings lead to
+pub record AreLeft (old xs : List ℕ) (all left : List Entry) : Type 0 where
+  pub same_length : length xs ≡ length old
+  pub within : All (IsCoupler (length old)) left
+  pub small : (i : ℕ) → i < length old → get_or xs i 0 + weight_total left < 2 ^ 127
+  pub sums : (i : ℕ) → i < length old
+      → get_or xs i 0 + couplings_at i left ≡ get_or old i 0 + couplings_at i all
+
+pub left_more : (old xs zs : List ℕ) (all left : List Entry) (e : Entry) (es : List Entry)
+    → left ≡ e ∷ es → AreLeft old xs all left → AreRaised xs zs e es → AreLeft old zs all es
+left_more old xs zs all left e es is so_far raised =
+    let n = length old in
+    let couplers : AllByRecursion (IsCoupler n) (e ∷ es) =
+    recursion_from_All (IsCoupler n) (e ∷ es) (subst (All (IsCoupler n)) is so_far.within) in
+    record {
+      same_length = raised.same_length ∙ so_far.same_length;
+      within = All-from_recursion (IsCoupler n) es couplers.1;
+      small = λ i l. raised.small i (omega (arith, l, so_far.same_length));
+      sums = λ i l.
+          raised.sums i (omega (arith, l, so_far.same_length))
+          ∙ ap (λ fs. get_or xs i 0 + couplings_at i fs) (sym is)
+          ∙ so_far.sums i l;
+    }
+
+-- a chain has one qubit more than parents
+pub filled_lengths : (e : Embedding) (i : ℕ) → IsNode e i
+    → length (chain_of e.chains i) ≡ length (chain_of e.parents i) + 1
+filled_lengths e i node =
+    omega (
+      arith,
+      length_all_zip _ _ _ node.tree.ties,
+      length-drop 1 (chain_of e.chains i),
+      filled_length (chain_of e.chains i) node.filled,
+    )
+
+pub zip_lengths : {A B : Type 0} (R : A → B → Type 0) (xs : List A) (ys : List B) → AllZip R xs ys
+    → length xs ≡ length ys
+zip_lengths R [] [] all = refl
+zip_lengths R [] (y ∷ ys) all = absurd all
+zip_lengths R (x ∷ xs) [] all = absurd all
+zip_lengths R (x ∷ xs) (y ∷ ys) all = ap suc (zip_lengths R xs ys all.1)
+
+-- the sizes of zeros
+pub zero_sizes : (n : ℕ) → sizes_of (replicate n (pos 0)) ≡ 0
+zero_sizes zero = refl
+zero_sizes (suc n) = omega (arith, zero_sizes n, sum_by-cons unsigned_abs (pos 0) (replicate n (pos 0)))
+
+-- ---- states by steps
+
+any_push : (p : ℕ → Bool) (is : List ℕ) (i : ℕ) → list_any p (is ++ i ∷ []) ≡ (list_any p is || p i)
+any_push p [] i = or_false (p i)
+  where
+    or_false : (b : Bool) → (b || false) ≡ b
+    or_false true = refl
+    or_false false = refl
+any_push p (j ∷ js) i = ap (λ b. p j || b) (any_push p js i) ∙ assoc (p j) (list_any p js) (p i)
+  where
+    assoc : (a b c : Bool) → (a || (b || c)) ≡ ((a || b) || c)
+    assoc true b c = refl
+    assoc false b c = refl
+
+-- one more node
+pub any_range : (p : ℕ → Bool) (n : ℕ)
+    → list_any p (range_with_len 0 (n + 1)) ≡ (list_any p (range_with_len 0 n) || p n)
+any_range p n = ap (list_any p) (range_more n) ∙ any_push p (range_with_len 0 n) n

@@ -1,0 +1,710 @@
+-- The couplings of an image are in order, and none of them has the pair of another.
+--
+-- A placed coupling has its ends in the two chains of its nodes, a tie in one chain, and a qubit is in
+-- one chain at most. So only two ties of one chain could have one pair. Then each of two qubits would
+-- be the parent of the other, and steps to the parent would never lead to the chain's first qubit.
+use Rattle.std.proofs.Common.{◌≡◌, ◌≢◌, ◌⊎◌, inl, inr, ℕ, zero, suc, ◌+◌, ◌*◌, ◌<◌, ◌≤◌, ◌^◌, Bool, true, false, cond, ◌&&◌, ◌||◌, List, [], ◌∷◌, ◌++◌, length, drop, ℤ, pos, neg_ℤ, refl, sym, ap, subst, ◌∙◌, arith}
+use Rattle.std.specs.Prelude.{All, ◌==◌, nat_lt, count_by, ⊤}
+use Rattle.std.specs.List.{AllByRecursion, AllZip, range_with_len, flat_map}
+use Rattle.std.proofs.lemmas.Int.{ints}
+use Rattle.std.specs.List.Sorted.{IsPermutation, IsNonDecreasingBy}
+use Rattle.std.proofs.lemmas.List.Sorted.{All-permutation, sum_by-IsPermutation}
+use Rattle.integers.proofs.Totals.{total_by-IsPermutation}
+use Rattle.std.proofs.lemmas.Bool.{eq-eqb, ne_eqb, cases_eq, ltb-true, ltb-false, or_cases, and_parts, and_from, or_left, false_from_ne_true}
+use Rattle.std.proofs.lemmas.List.Elements.{recursion_from_All, All-from_recursion, length_all_zip}
+use Rattle.std.proofs.lemmas.List.FromFn.{length-map-range_with_len}
+use Rattle.std.proofs.lemmas.List.Sums.{sum_by-cons}
+use Rattle.bits_model.specs.declared.output.Entry.{Entry}
+use Rattle.quad_form.specs.Quads.{IsCoupler}
+use Rattle.quad_form.specs.Pairs.{IsPair, pair_number, weight_for, weight_at}
+use Rattle.quad_form.proofs.PairOrder.{ArePairs, Before, Rises, same_pair, ordered_from_rising, rising_from_ordered}
+use Rattle.quad_form.proofs.UniqueForms.{same_entries}
+use Rattle.chain_layer.specs.laws.SpinSums.{all_append, total_by-in_order}
+use Rattle.ising_form.specs.Isings.{IsIsing, ising_total}
+use Rattle.bits_model.specs.Walks.{is_in, first_of}
+use Rattle.embedding_check.specs.Embeddings.{Embedding, IsEmbedding, IsTie, parent_in, climbed}
+use Rattle.chain_map.specs.Chains.{IsBetween, chain_of}
+use Rattle.chain_map.proofs.Occurrences.{occurrences-chain-le}
+use Rattle.chain_layer.specs.Image.{strength, coupling_entry, ties, all_shares, all_ties, placed, field_at, inserted, in_order, image}
+use Rattle.chain_layer.specs.laws.Whole.{in_first, in_rest}
+use Rattle.chain_layer.specs.laws.Aligned.{node_at}
+use Rattle.chain_layer.specs.laws.Kept.{each_of_range, chain_within, counted_in, one_chain, each_at, rest_in}
+use Rattle.chain_layer.proofs.Sizes.{total_grows}
+
+-- ---- entries of different pairs, in order
+
+abbrev Apart : Entry → List Entry → Type 0
+Apart e es = AllByRecursion (λ f. pair_number e ≢ pair_number f) es
+
+abbrev AreApart : List Entry → Type 0
+AreApart [] = ⊤
+AreApart (e ∷ es) = Apart e es × AreApart es
+
+all_inserted : (P : Entry → Type 0) (e : Entry) (es : List Entry) → P e → AllByRecursion P es
+    → AllByRecursion P (inserted e es)
+all_inserted P e [] here all = (here, tt)
+all_inserted P e (f ∷ fs) here all =
+    go (nat_lt (pair_number f) (pair_number e)) (all_inserted P e fs here all.1)
+  where
+    go : (b : Bool) → AllByRecursion P (inserted e fs)
+        → AllByRecursion P (cond b (f ∷ inserted e fs) (e ∷ f ∷ fs))
+    go true later = (all.0, later)
+    go false later = (here, all)
+
+pub all_in_order : (P : Entry → Type 0) (es : List Entry) → AllByRecursion P es
+    → AllByRecursion P (in_order es)
+all_in_order P [] all = tt
+all_in_order P (e ∷ es) all = all_inserted P e (in_order es) all.0 (all_in_order P es all.1)
+
+before_further : (d e : Entry) (es : List Entry) → pair_number d < pair_number e → Before e es
+    → Before d es
+before_further d e [] less before = tt
+before_further d e (f ∷ fs) less before =
+    (omega (arith, less, before.0), before_further d e fs less before.1)
+
+rises_inserted : (e : Entry) (es : List Entry) → Apart e es → Rises es → Rises (inserted e es)
+rises_inserted e [] apart rises = (tt, tt)
+rises_inserted e (f ∷ fs) apart rises =
+    go (nat_lt (pair_number f) (pair_number e)) (ltb-true _ _) (ltb-false _ _)
+    (rises_inserted e fs apart.1 rises.1)
+  where
+    less : (m n : ℕ) → m ≤ n → (m ≢ n) → m < n
+    less m n le other = grind arith
+
+    go : (b : Bool) → (b ≡ true → pair_number f < pair_number e)
+        → (b ≡ false → pair_number e ≤ pair_number f) → Rises (inserted e fs)
+        → Rises (cond b (f ∷ inserted e fs) (e ∷ f ∷ fs))
+    go true lt ge later =
+        (all_inserted (λ g. pair_number f < pair_number g) e fs (lt refl) rises.0, later)
+    go false lt ge later =
+        let before = less (pair_number e) (pair_number f) (ge refl) apart.0 in
+        ((before, before_further e f fs before rises.0), rises)
+
+pub rises_in_order : (es : List Entry) → AreApart es → Rises (in_order es)
+rises_in_order [] apart = tt
+rises_in_order (e ∷ es) apart =
+    rises_inserted e (in_order es) (all_in_order (λ f. pair_number e ≢ pair_number f) es apart.0)
+    (rises_in_order es apart.1)
+
+-- ---- whose chains an entry is on
+
+-- one end is in the one chain, and the other in the other
+abbrev IsOn : List (List ℕ) → ℕ → ℕ → Entry → Type 0
+IsOn chains i j e =
+    ((is_in (chain_of chains i) e.first && is_in (chain_of chains j) e.second)
+    || (is_in (chain_of chains j) e.first && is_in (chain_of chains i) e.second))
+    ≡ true
+
+-- an entry of two qubits in the chains of these nodes
+record IsOf (e : Embedding) (i j : ℕ) (entry : Entry) : Type 0 where
+  pair : IsPair e.qubits entry
+  on : IsOn e.chains i j entry
+  ordered : i ≤ j
+  within : j < length e.ising.fields
+
+one_owner : (e : Embedding) → IsEmbedding e → (q i j : ℕ) → i < length e.ising.fields
+    → j < length e.ising.fields → is_in (chain_of e.chains i) q ≡ true
+    → is_in (chain_of e.chains j) q ≡ true → i ≡ j
+one_owner e kept q i j i_in j_in here there =
+    one_chain e.chains q i j (kept.once q) (omega (arith, i_in, kept.counted)) (omega (arith, j_in, kept.counted)) here there
+
+-- one pair of qubits has one pair of nodes
+same_nodes : (e : Embedding) → IsEmbedding e → (i j k l : ℕ) (f g : Entry) → IsOf e i j f → IsOf e k l g
+    → f.first ≡ g.first → f.second ≡ g.second → (i ≡ k) × (j ≡ l)
+same_nodes e kept i j k l f g of_f of_g first second =
+    let i_in : i < length e.ising.fields = omega (arith, of_f.ordered, of_f.within) in
+    let k_in : k < length e.ising.fields = omega (arith, of_g.ordered, of_g.within) in
+    let moved : IsOn e.chains k l f =
+    subst (λ q. ((is_in (chain_of e.chains k) q && is_in (chain_of e.chains l) f.second) || (is_in (chain_of e.chains l) q && is_in (chain_of e.chains k) f.second)) ≡ true) (sym first)
+    (subst (λ q. ((is_in (chain_of e.chains k) g.first && is_in (chain_of e.chains l) q) || (is_in (chain_of e.chains l) g.first && is_in (chain_of e.chains k) q)) ≡ true) (sym second) of_g.on) in
+    go (or_cases _ _ of_f.on) (or_cases _ _ moved) i_in k_in
+  where
+    go : ((is_in (chain_of e.chains i) f.first && is_in (chain_of e.chains j) f.second) ≡ true)
+        ⊎ ((is_in (chain_of e.chains j) f.first && is_in (chain_of e.chains i) f.second) ≡ true)
+        → ((is_in (chain_of e.chains k) f.first && is_in (chain_of e.chains l) f.second) ≡ true)
+        ⊎ ((is_in (chain_of e.chains l) f.first && is_in (chain_of e.chains k) f.second) ≡ true)
+        → i < length e.ising.fields → k < length e.ising.fields → (i ≡ k) × (j ≡ l)
+    go (inl p) (inl r) i_in k_in =
+        let a = and_parts _ _ p in
+        let b = and_parts _ _ r in
+        (one_owner e kept f.first i k i_in k_in a.0 b.0, one_owner e kept f.second j l of_f.within of_g.within a.1 b.1)
+    go (inl p) (inr r) i_in k_in =
+        let a = and_parts _ _ p in
+        let b = and_parts _ _ r in
+        let one = one_owner e kept f.first i l i_in of_g.within a.0 b.0 in
+        let two = one_owner e kept f.second j k of_f.within k_in a.1 b.1 in
+        (omega (arith, one, two, of_f.ordered, of_g.ordered), omega (arith, one, two, of_f.ordered, of_g.ordered))
+    go (inr p) (inl r) i_in k_in =
+        let a = and_parts _ _ p in
+        let b = and_parts _ _ r in
+        let one = one_owner e kept f.first j k of_f.within k_in a.0 b.0 in
+        let two = one_owner e kept f.second i l i_in of_g.within a.1 b.1 in
+        (omega (arith, one, two, of_f.ordered, of_g.ordered), omega (arith, one, two, of_f.ordered, of_g.ordered))
+    go (inr p) (inr r) i_in k_in =
+        let a = and_parts _ _ p in
+        let b = and_parts _ _ r in
+        (one_owner e kept f.second i k i_in k_in a.1 b.1, one_owner e kept f.first j l of_f.within of_g.within a.0 b.0)
+
+-- entries of one number are of one pair of nodes
+numbers_apart : (e : Embedding) → IsEmbedding e → (i j k l : ℕ) (f g : Entry) → IsOf e i j f
+    → IsOf e k l g → (i ≡ k → j ≡ l → ⊥) → pair_number f ≢ pair_number g
+numbers_apart e kept i j k l f g of_f of_g other same =
+    let pair = same_pair f.first f.second g.first g.second (omega (arith, of_f.pair.within, kept.few)) (omega (arith, of_g.pair.within, kept.few)) same in
+    let nodes = same_nodes e kept i j k l f g of_f of_g pair.0 pair.1 in
+    other nodes.0 nodes.1
+
+apart-append : (es fs : List Entry) → AreApart es → AreApart fs
+    → AllByRecursion (λ e. Apart e fs) es → AreApart (es ++ fs)
+apart-append [] fs p q cross = q
+apart-append (e ∷ es) fs p q cross =
+    (both e es p.0 cross.0, apart-append es fs p.1 q cross.1)
+  where
+    both : (e : Entry) (es : List Entry) → Apart e es → Apart e fs → Apart e (es ++ fs)
+    both e [] p q = q
+    both e (g ∷ gs) p q = (p.0, both e gs p.1 q)
+
+each : {P Q : Entry → Type 0} → ((e : Entry) → P e → Q e) → (es : List Entry) → AllByRecursion P es
+    → AllByRecursion Q es
+each weaker [] all = tt
+each weaker (e ∷ es) all = (weaker e all.0, each weaker es all.1)
+
+-- ---- placed couplings
+
+qubit_below : (e : Embedding) → IsEmbedding e → (i q : ℕ) → i < length e.ising.fields
+    → is_in (chain_of e.chains i) q ≡ true → q < e.qubits
+qubit_below e kept i q within in' =
+    each_at (λ p. p < e.qubits) (chain_of e.chains i) q (chain_within e kept i within) in'
+
+ends_cases : (a b c d : Bool) → ((a && b) || (c && d)) ≡ true
+    → ((a ≡ true) × (b ≡ true)) ⊎ ((c ≡ true) × (d ≡ true))
+ends_cases a b c d h = elim (or_cases (a && b) (c && d) h) [
+  | inl both ↦ inl (and_parts a b both)
+  | inr both ↦ inr (and_parts c d both)
+]
+
+placed_of : (e : Embedding) → IsEmbedding e → (c : Entry) (p : ℕ × ℕ)
+    → IsCoupler (length e.ising.fields) c
+    → IsBetween (chain_of e.chains c.first) (chain_of e.chains c.second) p
+    → IsOf e c.first c.second (record { first = p.0; second = p.1; weight = c.weight })
+placed_of e kept c p coupler between =
+    let first_in : c.first < length e.ising.fields = omega (arith, coupler.upward, coupler.within) in
+    record {
+      pair = record {
+        upward = between.upward;
+        within = elim (ends_cases (is_in (chain_of e.chains c.first) p.0) (is_in (chain_of e.chains c.second) p.1) (is_in (chain_of e.chains c.second) p.0) (is_in (chain_of e.chains c.first) p.1) between.ends) [
+          | inl ends ↦ qubit_below e kept c.second p.1 coupler.within ends.1
+          | inr ends ↦ qubit_below e kept c.first p.1 first_in ends.1
+        ];
+      };
+      on = between.ends;
+      ordered = omega (arith, coupler.upward);
+      within = coupler.within;
+    }
+
+abbrev ArePlaced : Embedding → List Entry → List (ℕ × ℕ) → Type 0
+ArePlaced e cs ps = AllZip (λ c place. IsBetween (chain_of e.chains c.first) (chain_of e.chains c.second) place) cs ps
+
+one_placed_apart : (e : Embedding) → IsEmbedding e → (c : Entry) (p : ℕ × ℕ)
+    → IsCoupler (length e.ising.fields) c
+    → IsBetween (chain_of e.chains c.first) (chain_of e.chains c.second) p
+    → (cs : List Entry) (ps : List (ℕ × ℕ)) → AllByRecursion (IsCoupler (length e.ising.fields)) cs
+    → ArePlaced e cs ps → Before c cs
+    → Apart (record { first = p.0; second = p.1; weight = c.weight }) (placed cs ps)
+one_placed_apart e kept c p coupler between [] ps couplers all before = tt
+one_placed_apart e kept c p coupler between (d ∷ ds) [] couplers all before = tt
+one_placed_apart e kept c p coupler between (d ∷ ds) (r ∷ rs) couplers all before = (
+  numbers_apart e kept c.first c.second d.first d.second _ _ (placed_of e kept c p coupler between)
+      (placed_of e kept d r couplers.0 all.0)
+      (λ first second. omega (arith, first, second, before.0)),
+  one_placed_apart e kept c p coupler between ds rs couplers.1 all.1 before.1,
+)
+
+placed_apart : (e : Embedding) → IsEmbedding e → (cs : List Entry) (ps : List (ℕ × ℕ))
+    → AllByRecursion (IsCoupler (length e.ising.fields)) cs → ArePlaced e cs ps → Rises cs
+    → AreApart (placed cs ps)
+placed_apart e kept [] ps couplers all rises = tt
+placed_apart e kept (c ∷ cs) [] couplers all rises = tt
+placed_apart e kept (c ∷ cs) (p ∷ ps) couplers all rises = (
+  one_placed_apart e kept c p couplers.0 all.0 cs ps couplers.1 all.1 rises.0,
+  placed_apart e kept cs ps couplers.1 all.1 rises.1,
+)
+
+-- an entry of a coupling
+abbrev IsPlaced : Embedding → Entry → Type 0
+IsPlaced e f = (i : ℕ) × (j : ℕ) × (i < j) × IsOf e i j f × (f.weight ≢ pos 0)
+
+all_placed : (e : Embedding) → IsEmbedding e → (cs : List Entry) (ps : List (ℕ × ℕ))
+    → AllByRecursion (IsCoupler (length e.ising.fields)) cs → ArePlaced e cs ps
+    → AllByRecursion (IsPlaced e) (placed cs ps)
+all_placed e kept [] ps couplers all = tt
+all_placed e kept (c ∷ cs) [] couplers all = tt
+all_placed e kept (c ∷ cs) (p ∷ ps) couplers all = (
+  (c.first, c.second, couplers.0.upward, placed_of e kept c p couplers.0 all.0, couplers.0.nonzero),
+  all_placed e kept cs ps couplers.1 all.1,
+)
+
+-- ---- ties
+
+-- an entry of a tie of the node i
+abbrev IsTied : Embedding → ℕ → Entry → Type 0
+IsTied e i f = IsOf e i i f × (f.weight ≢ pos 0)
+
+-- of some node from low on
+abbrev IsTiedFrom : Embedding → ℕ → Entry → Type 0
+IsTiedFrom e low f = (i : ℕ) × (low ≤ i) × IsTied e i f
+
+tie_of : (e : Embedding) → IsEmbedding e → (i q p : ℕ) (w : ℤ) → i < length e.ising.fields
+    → is_in (chain_of e.chains i) q ≡ true → is_in (chain_of e.chains i) p ≡ true → (q ≢ p)
+    → IsOf e i i (coupling_entry q p w)
+tie_of e kept i q p w within q_in p_in apart =
+    go (nat_lt q p) (ltb-true q p) (ltb-false q p)
+  where
+    other : (m n : ℕ) → m ≤ n → (n ≢ m) → m < n
+    other m n le ne = grind arith
+
+    one : (a b : ℕ) → is_in (chain_of e.chains i) a ≡ true → is_in (chain_of e.chains i) b ≡ true → a < b
+        → IsOf e i i (record { first = a; second = b; weight = w })
+    one a b a_in b_in less = record {
+      pair = record { upward = less; within = qubit_below e kept i b within b_in };
+      on = or_left _ _ (and_from _ _ a_in b_in);
+      ordered = omega arith;
+      within = within;
+    }
+
+    go : (b : Bool) → (b ≡ true → q < p) → (b ≡ false → p ≤ q)
+        → IsOf e i i (cond b (record { first = q; second = p; weight = w }) (record { first = p; second = q; weight = w }))
+    go true lt ge = one q p q_in p_in (lt refl)
+    go false lt ge = one p q p_in q_in (other p q (ge refl) apart)
+
+tie_weight : (q p : ℕ) (w : ℤ) → (coupling_entry q p w).weight ≡ w
+tie_weight q p w = go (nat_lt q p)
+  where
+    go : (b : Bool) → (cond {A = Entry} b (record { first = q; second = p; weight = w }) (record { first = p; second = q; weight = w })).weight ≡ w
+    go true = refl
+    go false = refl
+
+negative : (n : ℕ) → neg_ℤ (pos (n + 1)) ≢ pos 0
+negative n same = omega (arith, ints, same)
+
+ties_of_node : (e : Embedding) → IsEmbedding e → (i : ℕ) → i < length e.ising.fields
+    → (qs ps : List ℕ) (n : ℕ) → AllByRecursion (λ q. is_in (chain_of e.chains i) q ≡ true) qs
+    → AllZip (IsTie (chain_of e.chains i)) qs ps → AllByRecursion (IsTied e i) (ties qs ps (n + 1))
+ties_of_node e kept i within [] ps n ins all = tt
+ties_of_node e kept i within (q ∷ qs) [] n ins all = tt
+ties_of_node e kept i within (q ∷ qs) (p ∷ ps) n ins all = (
+  (
+    tie_of e kept i q p (neg_ℤ (pos (n + 1))) within ins.0 all.0.inside all.0.apart,
+    λ none. negative n (sym (tie_weight q p (neg_ℤ (pos (n + 1)))) ∙ none),
+  ),
+  ties_of_node e kept i within qs ps n ins.1 all.1,
+)
+
+-- ---- two ties of one chain
+
+-- the qubits of the list are different
+abbrev Once : List ℕ → Type 0
+Once [] = ⊤
+Once (q ∷ qs) = (is_in qs q ≡ false) × Once qs
+
+once_of : (qs : List ℕ) → ((q : ℕ) → count_by (λ p. p == q) qs ≤ 1) → Once qs
+once_of [] h = tt
+once_of (q ∷ qs) h = (
+  false_from_ne_true _ (λ again.
+      omega (
+        arith,
+        counted_in qs q again,
+        h q,
+        sum_by-cons (λ p. cond (p == q) 1 0) q qs,
+        ap (λ b. cond {A = ℕ} b 1 0) (eq-eqb q q refl),
+      )),
+  once_of qs (λ p. omega (arith, h p, sum_by-cons (λ r. cond (r == p) 1 0) q qs)),
+)
+
+chain_once : (e : Embedding) → IsEmbedding e → (i : ℕ) → i < length e.ising.fields
+    → Once (chain_of e.chains i)
+chain_once e kept i within =
+    once_of (chain_of e.chains i) (λ q.
+    omega (arith, kept.once q, occurrences-chain-le q e.chains i (omega (arith, within, kept.counted))))
+
+-- the parents that a look-up gives
+abbrev AreOwn : List ℕ → List ℕ → List ℕ → List ℕ → Type 0
+AreOwn cs ds qs ps = AllZip (λ q p. parent_in cs ds q ≡ p) qs ps
+
+apart_qubits : (q c : ℕ) (cs : List ℕ) → is_in cs c ≡ false → is_in cs q ≡ true → (c ≢ q)
+apart_qubits q c cs out in' same =
+    let both : true ≡ false = sym in' ∙ sym (ap (is_in cs) same) ∙ out in
+    cc
+
+own_parents : (cs ds : List ℕ) → Once cs → length cs ≡ length ds → AreOwn cs ds cs ds
+own_parents [] [] once same = tt
+own_parents [] (d ∷ ds) once same = absurd (omega (arith, same))
+own_parents (c ∷ cs) [] once same = absurd (omega (arith, same))
+own_parents (c ∷ cs) (d ∷ ds) once same = (
+  ap (λ b. cond b d (parent_in cs ds c)) (eq-eqb c c refl),
+  further cs ds (λ q in'. in') (own_parents cs ds once.1 (omega (arith, same))),
+)
+  where
+    further : (qs ps : List ℕ) → ((q : ℕ) → is_in qs q ≡ true → is_in cs q ≡ true) → AreOwn cs ds qs ps
+        → AreOwn (c ∷ cs) (d ∷ ds) qs ps
+    further [] [] ins all = tt
+    further [] (p ∷ ps) ins all = all
+    further (q ∷ qs) [] ins all = all
+    further (q ∷ qs) (p ∷ ps) ins all = (
+      ap (λ b. cond b d (parent_in cs ds q)) (ne_eqb c q (apart_qubits q c cs once.0 (ins q (in_first q qs)))) ∙ all.0,
+      further qs ps (λ r in'. ins r (in_rest q r qs in')) all.1,
+    )
+
+-- two qubits that are each other's parents lead nowhere else
+round : (cs ds : List ℕ) (n q p : ℕ) → parent_in cs ds q ≡ p → parent_in cs ds p ≡ q
+    → (climbed cs ds n q ≡ q) ⊎ (climbed cs ds n q ≡ p)
+round cs ds zero q p up down = inl refl
+round cs ds (suc n) q p up down =
+    elim (round cs ds n p q down up) [
+      | inl here ↦ inr (ap (climbed cs ds n) up ∙ here)
+      | inr there ↦ inl (ap (climbed cs ds n) up ∙ there)
+    ]
+
+-- one pair of qubits as two ties
+same_ties : (q p r t : ℕ) (w : ℤ) → (coupling_entry q p w).first ≡ (coupling_entry r t w).first
+    → (coupling_entry q p w).second ≡ (coupling_entry r t w).second
+    → ((q ≡ r) × (p ≡ t)) ⊎ ((q ≡ t) × (p ≡ r))
+same_ties q p r t w = go (nat_lt q p) (nat_lt r t)
+  where
+    go : (a b : Bool)
+        → (cond {A = Entry} a (record { first = q; second = p; weight = w }) (record { first = p; second = q; weight = w })).first
+        ≡ (cond {A = Entry} b (record { first = r; second = t; weight = w }) (record { first = t; second = r; weight = w })).first
+        → (cond {A = Entry} a (record { first = q; second = p; weight = w }) (record { first = p; second = q; weight = w })).second
+        ≡ (cond {A = Entry} b (record { first = r; second = t; weight = w }) (record { first = t; second = r; weight = w })).second
+        → ((q ≡ r) × (p ≡ t)) ⊎ ((q ≡ t) × (p ≡ r))
+    go true true first second = inl (first, second)
+    go true false first second = inr (first, second)
+    go false true first second = inr (second, first)
+    go false false first second = inl (second, first)
+
+-- what is used of a chain: its qubits after the first are different from it, and all lead to it
+record IsRooted (first : ℕ) (cs ds : List ℕ) : Type 0 where
+  apart : is_in cs first ≡ false
+  leads : (q : ℕ) → is_in cs q ≡ true → (n : ℕ) × (climbed cs ds n q ≡ first)
+
+not_round : (first : ℕ) (cs ds : List ℕ) → IsRooted first cs ds → (q p : ℕ) → is_in cs q ≡ true
+    → is_in cs p ≡ true → parent_in cs ds q ≡ p → parent_in cs ds p ≡ q → ⊥
+not_round first cs ds root q p q_in p_in up down =
+    let way = root.leads q q_in in
+    elim (round cs ds way.0 q p up down) [
+      | inl here ↦ apart_qubits q first cs root.apart q_in (sym way.1 ∙ here)
+      | inr there ↦ apart_qubits p first cs root.apart p_in (sym way.1 ∙ there)
+    ]
+
+one_tie_apart : (e : Embedding) → IsEmbedding e → (i first : ℕ) (cs ds : List ℕ) → IsRooted first cs ds
+    → i < length e.ising.fields
+    → ((q : ℕ) → is_in cs q ≡ true → is_in (chain_of e.chains i) q ≡ true)
+    → (q p n : ℕ) → is_in cs q ≡ true → parent_in cs ds q ≡ p → IsTie (chain_of e.chains i) q p
+    → (qs ps : List ℕ) → ((r : ℕ) → is_in qs r ≡ true → is_in cs r ≡ true) → is_in qs q ≡ false
+    → AreOwn cs ds qs ps → AllZip (IsTie (chain_of e.chains i)) qs ps
+    → Apart (coupling_entry q p (neg_ℤ (pos n))) (ties qs ps n)
+one_tie_apart e kept i first cs ds root within inside q p n q_in own tie [] ps ins out owns all = tt
+one_tie_apart e kept i first cs ds root within inside q p n q_in own tie (r ∷ rs) [] ins out owns all = tt
+one_tie_apart e kept i first cs ds root within inside q p n q_in own tie (r ∷ rs) (t ∷ ts) ins out owns all = (
+  λ same.
+      let r_in = ins r (in_first r rs) in
+      let here = tie_of e kept i q p (neg_ℤ (pos n)) within (inside q q_in) tie.inside tie.apart in
+      let there = tie_of e kept i r t (neg_ℤ (pos n)) within (inside r r_in) all.0.inside all.0.apart in
+      let pair = same_pair _ _ _ _ (omega (arith, here.pair.within, kept.few)) (omega (arith, there.pair.within, kept.few)) same in
+      elim (same_ties q p r t (neg_ℤ (pos n)) pair.0 pair.1) [
+        | inl both ↦ apart_qubits q r (r ∷ rs) (ap (is_in (r ∷ rs)) (sym both.0) ∙ out) (ap (is_in (r ∷ rs)) both.0 ∙ in_first r rs) (sym both.0)
+        | inr crossed ↦
+            not_round first cs ds root q p q_in
+            (ap (is_in cs) crossed.1 ∙ r_in)
+            own
+            (ap (parent_in cs ds) crossed.1 ∙ owns.0 ∙ sym crossed.0)
+      ],
+  one_tie_apart e kept i first cs ds root within inside q p n q_in own tie rs ts
+      (λ s in'. ins s (in_rest r s rs in'))
+      (false_from_ne_true _ (λ again. let both : true ≡ false = sym (in_rest r q rs again) ∙ out in cc))
+      owns.1
+      all.1,
+)
+
+ties_apart : (e : Embedding) → IsEmbedding e → (i first : ℕ) (cs ds : List ℕ) → IsRooted first cs ds
+    → i < length e.ising.fields
+    → ((q : ℕ) → is_in cs q ≡ true → is_in (chain_of e.chains i) q ≡ true)
+    → (n : ℕ) (qs ps : List ℕ) → ((r : ℕ) → is_in qs r ≡ true → is_in cs r ≡ true) → Once qs
+    → AreOwn cs ds qs ps → AllZip (IsTie (chain_of e.chains i)) qs ps → AreApart (ties qs ps n)
+ties_apart e kept i first cs ds root within inside n [] ps ins once owns all = tt
+ties_apart e kept i first cs ds root within inside n (q ∷ qs) [] ins once owns all = tt
+ties_apart e kept i first cs ds root within inside n (q ∷ qs) (p ∷ ps) ins once owns all = (
+  one_tie_apart e kept i first cs ds root within inside q p n (ins q (in_first q qs)) owns.0 all.0 qs ps
+      (λ r in'. ins r (in_rest q r qs in'))
+      once.0
+      owns.1
+      all.1,
+  ties_apart e kept i first cs ds root within inside n qs ps (λ r in'. ins r (in_rest q r qs in')) once.1 owns.1 all.1,
+)
+
+-- ---- all couplings of an image
+
+rest_apart : (chain : List ℕ) → (chain ≢ []) → Once chain → (is_in (drop 1 chain) (first_of chain) ≡ false) × Once (drop 1 chain)
+rest_apart [] filled once = absurd (filled refl)
+rest_apart (q ∷ qs) filled once = once
+
+rest_inside : (chain : List ℕ) (q : ℕ) → is_in (drop 1 chain) q ≡ true → is_in chain q ≡ true
+rest_inside [] q in' = in'
+rest_inside (p ∷ ps) q in' = in_rest p q ps in'
+
+node_ties_apart : (e : Embedding) → IsEmbedding e → (i : ℕ) → i < length e.ising.fields
+    → AreApart (ties (drop 1 (chain_of e.chains i)) (chain_of e.parents i) (strength e i))
+node_ties_apart e kept i within =
+    let node = node_at e kept i within in
+    let chain = chain_of e.chains i in
+    let parents = chain_of e.parents i in
+    let once = rest_apart chain node.filled (chain_once e kept i within) in
+    ties_apart e kept i (first_of chain) (drop 1 chain) parents
+    (record { apart = once.0; leads = λ q in'. node.tree.rooted q (rest_inside chain q in') })
+    within
+    (rest_inside chain)
+    (strength e i)
+    (drop 1 chain)
+    parents
+    (λ r in'. in')
+    once.1
+    (own_parents (drop 1 chain) parents once.1 (length_all_zip _ _ _ node.tree.ties))
+    node.tree.ties
+
+-- the ties of a node
+abbrev pub ties_at : Embedding → ℕ → List Entry
+ties_at e i = ties (drop 1 (chain_of e.chains i)) (chain_of e.parents i) (strength e i)
+
+tied_node : (e : Embedding) → IsEmbedding e → (i : ℕ) → i < length e.ising.fields
+    → AllByRecursion (IsTied e i) (ties_at e i)
+tied_node e kept i within =
+    ties_of_node e kept i within (drop 1 (chain_of e.chains i)) (chain_of e.parents i) _
+    (rest_in (chain_of e.chains i))
+    (node_at e kept i within).tree.ties
+
+tied_nodes : (e : Embedding) → IsEmbedding e → (a n : ℕ) → a + n ≤ length e.ising.fields
+    → AllByRecursion (IsTiedFrom e a) (flat_map (ties_at e) (range_with_len a n))
+tied_nodes e kept a n high =
+    each_of_range (IsTiedFrom e a) (ties_at e) a n
+    (λ i low below. each (λ f tied. (i, low, tied)) (ties_at e i) (tied_node e kept i (omega (arith, below, high))))
+
+-- entries of two kinds that are apart
+apart_kinds : (P Q : Entry → Type 0) → ((f g : Entry) → P f → Q g → pair_number f ≢ pair_number g)
+    → (es fs : List Entry) → AllByRecursion P es → AllByRecursion Q fs
+    → AllByRecursion (λ e. Apart e fs) es
+apart_kinds P Q differ [] fs p q = tt
+apart_kinds P Q differ (e ∷ es) fs p q =
+    (each (λ g h. differ e g p.0 h) fs q, apart_kinds P Q differ es fs p.1 q)
+
+all_ties_apart : (e : Embedding) → IsEmbedding e → (a n : ℕ) → a + n ≤ length e.ising.fields
+    → AreApart (flat_map (ties_at e) (range_with_len a n))
+all_ties_apart e kept a zero high = tt
+all_ties_apart e kept a (suc n) high =
+    let within : a < length e.ising.fields = omega (arith, high) in
+    apart-append (ties_at e a) (flat_map (ties_at e) (range_with_len (a + 1) n))
+    (node_ties_apart e kept a within)
+    (all_ties_apart e kept (a + 1) n (omega (arith, high)))
+    (apart_kinds (IsTied e a) (IsTiedFrom e (a + 1))
+    (λ f g tied from. numbers_apart e kept a a from.0 from.0 f g tied.0 from.2.0 (λ same again. omega (arith, same, from.1)))
+    (ties_at e a)
+    (flat_map (ties_at e) (range_with_len (a + 1) n))
+    (tied_node e kept a within)
+    (tied_nodes e kept (a + 1) n (omega (arith, high))))
+
+-- no two of them have one pair
+pub couplings_apart : (e : Embedding) → IsEmbedding e
+    → AreApart (placed e.ising.couplings e.places ++ all_ties e)
+couplings_apart e kept =
+    let pairs = recursion_from_All _ _ kept.ising.couplings in
+    let n = length e.ising.fields in
+    apart-append (placed e.ising.couplings e.places) (all_ties e)
+    (placed_apart e kept e.ising.couplings e.places pairs kept.placed
+    (rising_from_ordered e.ising.couplings (couplers_as_pairs n e.ising.couplings kept.ising.narrow pairs) kept.ising.ordered))
+    (all_ties_apart e kept 0 n (omega arith))
+    (apart_kinds (IsPlaced e) (IsTiedFrom e 0)
+    (λ f g one from. numbers_apart e kept one.0 one.1 from.0 from.0 f g one.3 from.2.0 (λ same again. omega (arith, same, again, one.2)))
+    (placed e.ising.couplings e.places)
+    (all_ties e)
+    (all_placed e kept e.ising.couplings e.places pairs kept.placed)
+    (tied_nodes e kept 0 n (omega arith)))
+  where
+    couplers_as_pairs : (n : ℕ) (cs : List Entry) → n < 2 ^ 32 → AllByRecursion (IsCoupler n) cs → ArePairs cs
+    couplers_as_pairs n [] narrow h = tt
+    couplers_as_pairs n (c ∷ cs) narrow h =
+        let up = h.0.upward in
+        let below = h.0.within in
+        (record { upward = up; within = omega (arith, below, narrow) }, couplers_as_pairs n cs narrow h.1)
+
+-- each is a coupling of two qubits, and not 0
+pub all_couplers : (e : Embedding) → IsEmbedding e
+    → AllByRecursion (IsCoupler e.qubits) (placed e.ising.couplings e.places ++ all_ties e)
+all_couplers e kept =
+    all_append (IsCoupler e.qubits) (placed e.ising.couplings e.places) (all_ties e)
+    (each (λ f one. record { upward = one.3.pair.upward; within = one.3.pair.within; nonzero = one.4 })
+    (placed e.ising.couplings e.places)
+    (all_placed e kept e.ising.couplings e.places (recursion_from_All _ _ kept.ising.couplings) kept.placed))
+    (each (λ f from. record { upward = from.2.0.pair.upward; within = from.2.0.pair.within; nonzero = from.2.1 })
+    (all_ties e)
+    (tied_nodes e kept 0 (length e.ising.fields) (omega arith)))
+
+pub image_rises : (e : Embedding) → IsEmbedding e → Rises (image e).couplings
+image_rises e kept = rises_in_order (placed e.ising.couplings e.places ++ all_ties e) (couplings_apart e kept)
+
+pub image_couplers : (e : Embedding) → IsEmbedding e → AllByRecursion (IsCoupler e.qubits) (image e).couplings
+image_couplers e kept =
+    all_in_order (IsCoupler e.qubits) (placed e.ising.couplings e.places ++ all_ties e) (all_couplers e kept)
+
+pub image_pairs : (e : Embedding) → IsEmbedding e → ArePairs (image e).couplings
+image_pairs e kept =
+    each (λ f h. let up = h.upward in let below = h.within in record { upward = up; within = omega (arith, below, kept.few) })
+    (image e).couplings
+    (image_couplers e kept)
+
+-- the image is an Ising form
+pub image_is_ising : (e : Embedding) → IsEmbedding e → (ising_total e.ising + 1) * 2 ^ 21 ≤ 2 ^ 124
+    → IsIsing (image e)
+image_is_ising e kept small =
+    let width = length-map-range_with_len (field_at (all_shares e)) 0 e.qubits in
+    record {
+      ordered = ordered_from_rising (image e).couplings (image_pairs e kept) (image_rises e kept);
+      couplings =
+          subst (λ n. All (IsCoupler n) (image e).couplings) (sym width)
+          (All-from_recursion _ _ (image_couplers e kept));
+      narrow = omega (arith, width, kept.few);
+      small = omega (arith, total_grows e kept, small);
+    }
+
+-- ---- what sorting makes of the couplings
+
+-- they are pairs of qubits
+pub all_pairs : (e : Embedding) → IsEmbedding e
+    → All (IsPair (2 ^ 20)) (placed e.ising.couplings e.places ++ all_ties e)
+all_pairs e kept =
+    All-from_recursion (IsPair (2 ^ 20)) (placed e.ising.couplings e.places ++ all_ties e)
+    (each (λ f h. let up = h.upward in let below = h.within in record { upward = up; within = omega (arith, below, kept.few) })
+    (placed e.ising.couplings e.places ++ all_ties e)
+    (all_couplers e kept))
+
+-- how many entries have this number
+abbrev numbered : ℕ → List Entry → ℕ
+numbered n es = count_by (λ e. pair_number e == n) es
+
+numbered-cons : (n : ℕ) (e : Entry) (es : List Entry)
+    → numbered n (e ∷ es) ≡ cond (pair_number e == n) 1 0 + numbered n es
+numbered-cons n e es = sum_by-cons (λ f. cond (pair_number f == n) 1 0) e es
+
+one_more : (b : Bool) (m : ℕ) → b ≡ true → cond b 1 0 + m ≡ suc m
+one_more true m is = omega arith
+one_more false m is = absurd cc
+
+no_more : (b : Bool) (m : ℕ) → b ≡ false → cond b 1 0 + m ≡ m
+no_more true m is = absurd cc
+no_more false m is = omega arith
+
+none_numbered : (n : ℕ) (es : List Entry) → AllByRecursion (λ f. n ≢ pair_number f) es
+    → numbered n es ≡ 0
+none_numbered n [] all = refl
+none_numbered n (e ∷ es) all =
+    numbered-cons n e es
+    ∙ no_more (pair_number e == n) (numbered n es) (ne_eqb (pair_number e) n (λ same. all.0 (sym same)))
+    ∙ none_numbered n es all.1
+
+-- entries of different pairs have each number at most once
+few_numbered : (es : List Entry) → AreApart es → (n : ℕ) → numbered n es ≤ 1
+few_numbered [] apart n = omega arith
+few_numbered (e ∷ es) apart n = elim (cases_eq (pair_number e) n) [
+  | inl same ↦
+      omega (
+        arith,
+        numbered-cons n e es,
+        one_more (pair_number e == n) (numbered n es) (eq-eqb (pair_number e) n same),
+        none_numbered n es (subst (λ m. AllByRecursion (λ f. m ≢ pair_number f) es) same apart.0),
+      )
+  | inr other ↦
+      omega (
+        arith,
+        numbered-cons n e es,
+        no_more (pair_number e == n) (numbered n es) (ne_eqb (pair_number e) n other),
+        few_numbered es apart.1 n,
+      )
+]
+
+-- a number that none of them has, and that is not above theirs, is below theirs
+below_all : (n : ℕ) (es : List Entry) → AllByRecursion (λ f. n ≤ pair_number f) es
+    → numbered n es ≡ 0 → AllByRecursion (λ f. n < pair_number f) es
+below_all n [] up none = tt
+below_all n (e ∷ es) up none = elim (cases_eq (pair_number e) n) [
+  | inl same ↦
+      absurd (omega (
+        arith,
+        none,
+        numbered-cons n e es,
+        one_more (pair_number e == n) (numbered n es) (eq-eqb (pair_number e) n same),
+      ))
+  | inr other ↦ (
+    less n (pair_number e) up.0 other,
+    below_all n es up.1
+        (omega (
+          arith,
+          none,
+          numbered-cons n e es,
+          no_more (pair_number e == n) (numbered n es) (ne_eqb (pair_number e) n other),
+        )),
+  )
+]
+  where
+    less : (m n : ℕ) → m ≤ n → (n ≢ m) → m < n
+    less m n le other = grind arith
+
+-- sorted entries of different pairs rise
+rises_from_sorted : (es : List Entry) → IsNonDecreasingBy pair_number es
+    → ((n : ℕ) → numbered n es ≤ 1) → Rises es
+rises_from_sorted [] sorted few = tt
+rises_from_sorted (e ∷ es) sorted few =
+    let n = pair_number e in
+    let none : numbered n es ≡ 0 =
+    omega (
+      arith,
+      few n,
+      numbered-cons n e es,
+      one_more (n == n) (numbered n es) (eq-eqb n n refl),
+    ) in (
+      below_all n es
+          (recursion_from_All _ es (λ k d in'. sorted 0 (suc k) d (omega arith) (omega (arith, in'))))
+          none,
+      rises_from_sorted es
+          (λ i j d le in'. sorted (suc i) (suc j) d (omega (arith, le)) (omega (arith, in')))
+          (λ m. fewer (pair_number e == m) (numbered m es) (numbered m (e ∷ es)) (numbered-cons m e es) (few m)),
+    )
+  where
+    fewer : (b : Bool) (m n : ℕ) → n ≡ cond b 1 0 + m → n ≤ 1 → m ≤ 1
+    fewer true m n is few = omega (arith, is, few)
+    fewer false m n is few = omega (arith, is, few)
+
+-- sorted, they are those of the image
+pub sorted_is_image : (e : Embedding) → IsEmbedding e → (from to : List Entry)
+    → from ≡ placed e.ising.couplings e.places ++ all_ties e → IsPermutation from to
+    → IsNonDecreasingBy pair_number to → to ≡ (image e).couplings
+sorted_is_image e kept from to listed moved sorted =
+    let all : AllByRecursion (IsCoupler e.qubits) from =
+    subst (AllByRecursion (IsCoupler e.qubits)) (sym listed) (all_couplers e kept) in
+    let here : AllByRecursion (IsCoupler e.qubits) to =
+    recursion_from_All (IsCoupler e.qubits) to
+    (All-permutation (IsCoupler e.qubits) from to moved (All-from_recursion (IsCoupler e.qubits) from all)) in
+    let few : (n : ℕ) → numbered n to ≤ 1 =
+    λ n.
+    omega (
+      arith,
+      sum_by-IsPermutation (λ f. cond (pair_number f == n) 1 0) from to moved,
+      ap (numbered n) listed,
+      few_numbered (placed e.ising.couplings e.places ++ all_ties e) (couplings_apart e kept) n,
+    ) in
+    same_entries to (image e).couplings
+    (each (λ (f : Entry) (h : IsCoupler e.qubits f). let up = h.upward in let below = h.within in record { upward = up; within = omega (arith, below, kept.few) }) to here)
+    (image_pairs e kept)
+    (rises_from_sorted to sorted few)
+    (image_rises e kept)
+    (each (λ (f : Entry) (h : IsCoupler e.qubits f). h.nonzero) to here)
+    (each (λ f h. h.nonzero) (image e).couplings (image_couplers e kept))
+    (λ i j.
+    total_by-IsPermutation (weight_for i j) from to moved ∙ ap (weight_at i j) listed
+    ∙ sym (total_by-in_order (weight_for i j) (placed e.ising.couplings e.places ++ all_ties e)))

@@ -1,0 +1,19 @@
+use Rattle.std.proofs.Common.{sym, subst}
+use Rattle.std.specs.Prelude.{pos}
+use Rattle.std.proofs.lemmas.Result.{IfOk-weaker}
+use Rattle.bits_model.specs.Relations.{Extends}
+use Rattle.ising_form.specs.Isings as isings
+use Rattle.embedding_check.specs.Embeddings.{form_of}
+use Rattle.chain_layer.specs.Image.{image, offset, decoding}
+use Rattle.chain_layer.specs.laws.Kept.{chains_reach}
+use Rattle.chain_layer.proofs.chains.ChainsLayer.extend.Goals as goal
+
+pub returns-clause-reaches : goal.returns-clause-reaches
+returns-clause-reaches c =
+    let e = c.args.source.now in
+    let x = c.args.x.now in
+    let link = c.args._link.now in
+    let reaches = chains_reach link e x c.requires.fits c.requires.width in
+    IfOk-weaker c.extended.result _ _
+    (λ y same. subst (Extends (form_of e) (isings.form_of (image e)) (decoding link) (pos 1) (offset e) x) (sym same) reaches)
+    c.extended.ensures

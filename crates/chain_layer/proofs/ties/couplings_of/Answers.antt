@@ -1,0 +1,67 @@
+use Rattle.std.proofs.Common.{◌≡◌, ◌++◌, length, drop, flat_map, ap, sym, ◌∙◌, arith}
+use Rattle.std.specs.List.{range_with_len}
+use Rattle.std.proofs.lemmas.List.Elements.{length_all_zip}
+use Rattle.std.proofs.lemmas.List.FromFn.{length-map-range_with_len}
+use Rattle.ising_form.specs.Isings.{IsingContent}
+use Rattle.chain_map.specs.Chains.{chain_of}
+use Rattle.chain_layer.specs.Image.{strength, placed, ties}
+use Rattle.chain_layer.specs.laws.Aligned.{node_at}
+use Rattle.chain_layer.proofs.Ordered.{ties_at}
+use Rattle.chain_layer.proofs.Sizes.{strength-le}
+use Rattle.chain_layer.proofs.Added.{strength_at, ties_more_nodes, filled_lengths, zip_lengths}
+use Rattle.chain_layer.proofs.ties.couplings_of.Goals as goal
+
+pub placed-requires : goal.placed-requires
+placed-requires c =
+    let same : _ ≡ c.args.source.now.ising = c.behind-source.view_is ∙ c.ising.ensures.form in
+    ap length c.as_slice.ensures ∙ ap length c.places.ensures
+    ∙ sym (zip_lengths _ _ _ c.requires.kept.placed)
+    ∙ sym (ap (λ (f : IsingContent). length f.couplings) same)
+
+pub chain-requires : goal.chain-requires
+chain-requires c =
+    let at = strength_at c.args.source.now c.args.strengths.now c.loop-i.i c.requires.strengths c.loop-i-test.true in
+    omega (arith, at.0, c.requires.kept.counted, ap length c.chains.ensures)
+
+pub chain-requires-in-loop-i : goal.chain-requires-in-loop-i
+chain-requires-in-loop-i c =
+    let at = strength_at c.args.source.now c.args.strengths.now c.loop-i.i c.requires.strengths c.loop-i-test.true in
+    omega (arith, at.0, c.requires.kept.counted, length_all_zip _ _ _ c.requires.kept.trees, ap length c.parents.ensures)
+
+pub push_ties-requires-clause-matched : goal.push_ties-requires-clause-matched
+push_ties-requires-clause-matched c =
+    let e = c.args.source.now in
+    let i = c.loop-i.i in
+    let at = strength_at e c.args.strengths.now i c.requires.strengths c.loop-i-test.true in
+    omega (
+      arith,
+      ap length (c.chain.ensures ∙ ap (λ cs. chain_of cs i) c.chains.ensures),
+      ap length (c.chain-in-loop-i.ensures ∙ ap (λ cs. chain_of cs i) c.parents.ensures),
+      filled_lengths e i (node_at e c.requires.kept i at.0),
+    )
+
+pub push_ties-requires-clause-small : goal.push_ties-requires-clause-small
+push_ties-requires-clause-small c =
+    let e = c.args.source.now in
+    let at = strength_at e c.args.strengths.now c.loop-i.i c.requires.strengths c.loop-i-test.true in
+    omega (arith, at.1, strength-le e c.loop-i.i at.0, c.requires.kept.ising.small)
+
+pub loop-i-preserved : goal.loop-i-preserved
+loop-i-preserved c =
+    let e = c.args.source.now in
+    let i = c.loop-i.i in
+    let at = strength_at e c.args.strengths.now i c.requires.strengths c.loop-i-test.true in
+    let chain = c.chain.ensures ∙ ap (λ cs. chain_of cs i) c.chains.ensures in
+    let parents = c.chain-in-loop-i.ensures ∙ ap (λ cs. chain_of cs i) c.parents.ensures in
+    ties_more_nodes e (placed e.ising.couplings e.places) c.loop-i.made.items c.push_ties.new.couplings.items i
+    c.loop-i.invariant
+    (c.in_ok-push_ties.ensures
+    ∙ (λ k. c.loop-i.made.items ++ ties (drop 1 (chain k)) (parents k) (at.1 k)))
+
+pub returns : goal.returns
+returns c =
+    let e = c.args.source.now in
+    let wide : length c.args.strengths.now ≡ length e.ising.fields =
+    ap length c.requires.strengths ∙ length-map-range_with_len (strength e) 0 (length e.ising.fields) in
+    let all : c.loop-i.i ≡ length e.ising.fields = omega (arith, wide, c.loop-i-test.false, c.loop-i.auto.i-end) in
+    c.loop-i.invariant ∙ ap (λ n. placed e.ising.couplings e.places ++ flat_map (ties_at e) (range_with_len 0 n)) all

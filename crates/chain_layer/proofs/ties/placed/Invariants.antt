@@ -1,0 +1,10 @@
+use Rattle.std.proofs.Common.{◌≡◌, ◌+◌, ◌++◌, length, drop}
+use Rattle.chain_layer.specs.Image.{placed}
+use Rattle.chain_layer.proofs.ties.placed.Given as goal
+
+-- the couplings so far, and those that are left
+abbrev pub invariant-loop-coupling : goal.invariant-loop-coupling
+invariant-loop-coupling l = record {
+  here : l.at + length l.coupling-iterator ≡ length l.couplings;
+  made : l.made.items ++ placed l.coupling-iterator (drop l.at l.places) ≡ placed l.couplings l.places;
+}

@@ -1,0 +1,150 @@
+-- An embedded Ising form, as an Ising form on the qubits.
+--
+-- Each field is split over its chain, each coupling is placed on one joined pair of qubits, and
+-- each qubit of a chain but the first is tied to its parent, so strongly that a broken tie never
+-- pays.
+use Rattle.std.specs.Prelude.{◌≡◌, ◌≢◌, ℕ, ◌+◌, ◌-◌, ◌*◌, ◌<◌, ◌==◌, ℤ, pos, neg_ℤ, ◌+ℤ◌, unsigned_abs, Bool, ◌&&◌, ◌||◌, List, [], ◌∷◌, ◌++◌, map, length, take, drop, All, sum_by, flat_map, nat_lt, if◌then◌else◌}
+use Rattle.std.specs.List.{list_any, range_with_len, slice_index_or}
+use Rattle.std.specs.Int.{int_div_euclid, int_rem_euclid}
+use Rattle.integers.specs.Sums.{total_by, if_so}
+use Rattle.bits_model.specs.declared.output.Entry.{Entry}
+use Rattle.bits_model.specs.Output.{bit_at, majority}
+use Rattle.bits_model.specs.Relations.{Decoding}
+use Rattle.quad_form.specs.Pairs.{pair_number}
+use Rattle.ising_form.specs.Isings.{IsingContent}
+use Rattle.embedding_check.specs.Embeddings.{Embedding, IsEmbedding}
+use Rattle.chain_map.specs.Chains.{chain_of}
+use Rattle.bits_model.specs.Walks.{is_in}
+use Rattle.chain_layer.specs.declared.link.ChainLink.{ChainLink}
+
+-- ---- the nodes of the form
+
+-- their numbers
+abbrev pub nodes_of : Embedding → List ℕ
+nodes_of e = range_with_len 0 (length e.ising.fields)
+
+-- the field of a node
+abbrev pub field_of : Embedding → ℕ → ℤ
+field_of e node = slice_index_or e.ising.fields node (pos 0)
+
+-- the sizes of a node's couplings
+abbrev pub couplings_at : ℕ → List Entry → ℕ
+couplings_at node couplings =
+    sum_by (λ c. if (node == c.first) || (node == c.second) then unsigned_abs c.weight else 0)
+    couplings
+
+-- how strongly the qubits of a node's chain are tied: one more than the sizes of its field and its
+-- couplings
+abbrev pub strength : Embedding → ℕ → ℕ
+strength e node = unsigned_abs (field_of e node) + couplings_at node e.ising.couplings + 1
+
+-- ---- what a chain has
+
+-- a share of a field
+abbrev pub field_entry : ℕ → ℤ → Entry
+field_entry q w = record { first = q; second = q; weight = w }
+
+-- a coupling of two qubits, the lesser one first
+abbrev pub coupling_entry : ℕ → ℕ → ℤ → Entry
+coupling_entry p q w =
+    if nat_lt p q
+    then record { first = p; second = q; weight = w }
+    else record { first = q; second = p; weight = w }
+
+-- the same share for each of these qubits
+abbrev pub equal_shares : List ℕ → ℤ → List Entry
+equal_shares qubits share = map (λ q. field_entry q share) qubits
+
+-- a field h, split over a chain of n qubits: h is `share * n + rest`, with `rest` from 0 to n - 1,
+-- and the first `rest` qubits get one more
+abbrev pub shares : List ℕ → ℤ → List Entry
+shares chain h =
+    let share = int_div_euclid h (pos (length chain)) in
+    let rest = unsigned_abs (int_rem_euclid h (pos (length chain))) in
+    equal_shares (take rest chain) (share +ℤ pos 1) ++ equal_shares (drop rest chain) share
+
+-- the couplings of these qubits with their parents
+abbrev pub ties : List ℕ → List ℕ → ℕ → List Entry
+ties (q ∷ qs) (p ∷ ps) strong = coupling_entry q p (neg_ℤ (pos strong)) ∷ ties qs ps strong
+ties (q ∷ qs) [] strong = []
+ties [] ps strong = []
+
+-- ---- what all have
+
+-- the shares of all fields
+abbrev pub all_shares : Embedding → List Entry
+all_shares e = flat_map (λ node. shares (chain_of e.chains node) (field_of e node)) (nodes_of e)
+
+-- the ties of all chains
+abbrev pub all_ties : Embedding → List Entry
+all_ties e =
+    flat_map
+    (λ node. ties (drop 1 (chain_of e.chains node)) (chain_of e.parents node) (strength e node))
+    (nodes_of e)
+
+-- each coupling on its pair of qubits
+abbrev pub placed : List Entry → List (ℕ × ℕ) → List Entry
+placed (c ∷ cs) (p ∷ ps) = record { first = p.0; second = p.1; weight = c.weight } ∷ placed cs ps
+placed (c ∷ cs) [] = []
+placed [] ps = []
+
+-- ---- the form on the qubits
+
+-- the sum of what a qubit gets
+abbrev pub field_at : List Entry → ℕ → ℤ
+field_at es q = total_by (λ e. if_so (q == e.first) e.weight) es
+
+-- an entry among entries in order of their pairs
+abbrev pub inserted : Entry → List Entry → List Entry
+inserted e [] = e ∷ []
+inserted e (f ∷ fs) =
+    if nat_lt (pair_number f) (pair_number e) then f ∷ inserted e fs else e ∷ f ∷ fs
+
+-- entries in the order of their pairs
+abbrev pub in_order : List Entry → List Entry
+in_order [] = []
+in_order (e ∷ es) = inserted e (in_order es)
+
+-- the split fields, the placed couplings, the ties, and the same constant
+abbrev pub image : Embedding → IsingContent
+image e = record {
+  constant = e.ising.constant;
+  fields = map (field_at (all_shares e)) (range_with_len 0 e.qubits);
+  couplings = in_order (placed e.ising.couplings e.places ++ all_ties e);
+}
+
+-- what the ties cost where none is broken
+abbrev pub ties_cost : Embedding → ℕ
+ties_cost e = sum_by (λ node. strength e node * (length (chain_of e.chains node) - 1)) (nodes_of e)
+
+-- so much lower are all energies
+abbrev pub offset : Embedding → ℤ
+offset e = neg_ℤ (pos (ties_cost e))
+
+-- ---- the link
+
+-- the bit that most qubits of each chain have, and on a tie that of its first qubit
+abbrev pub decoding : ChainLink → Decoding
+decoding link = record {
+  source_width = length link.chains;
+  target_width = link.qubits;
+  decoded = λ y. map (majority y) link.chains;
+}
+
+-- a link between an embedding and its image
+pub record Fits (link : ChainLink) (e : Embedding) : Type 0 where
+  pub chains : link.chains ≡ e.chains
+  pub qubits : link.qubits ≡ e.qubits
+  pub kept : IsEmbedding e
+
+-- the state in which each qubit has the bit of its node, and a qubit in no chain has 0
+abbrev pub extension : Embedding → List Bool → List Bool
+extension e x =
+    map
+    (λ q. list_any (λ node. bit_at x node && is_in (chain_of e.chains node) q) (nodes_of e))
+    (range_with_len 0 e.qubits)
+
+-- no chain is empty, and all its qubits exist
+pub record IsSound (link : ChainLink) : Type 0 where
+  pub filled : All (λ chain. chain ≢ []) link.chains
+  pub within : All (λ chain. All (λ q. q < link.qubits) chain) link.chains

@@ -1,0 +1,4 @@
+pub mod Image
+pub mod Steps
+pub mod Stated
+pub mod laws

@@ -1,0 +1,29 @@
+-- What a model on the qubits of a graph asks of an image.
+use Rattle.std.specs.Prelude.{◌≡◌, ℕ, ◌*◌, ◌≤◌, true, Bool, List, length, take, All}
+use Rattle.bits_model.specs.declared.output.Kind.TheVariants.{Chimera}
+use Rattle.bits_model.specs.Output.{read_off}
+use Rattle.ising_form.specs.Isings.{IsingContent}
+use Rattle.ising_form.specs.Outputs.{FitsOutput}
+use Rattle.chain_map.specs.Chains.{Joins}
+use Rattle.embedding_check.specs.Embeddings.{Embedding, IsEmbedding}
+use Rattle.embedding_check.specs.Checked.{IsChecked}
+use Rattle.chain_layer.specs.declared.link.ChainLink.{ChainLink}
+use Rattle.chain_layer.specs.Image.{image, decoding}
+
+-- a model of the image can be written on the chains of its source, on a graph with as many qubits
+abbrev pub ImageFitsOutput : Type 0
+ImageFitsOutput = (e : Embedding) (rows cols shore variables : ℕ) → IsEmbedding e
+    → e.qubits ≡ 2 * rows * cols * shore → variables ≤ length e.chains
+    → FitsOutput (Chimera rows cols shore) e.chains variables (image e)
+
+-- where a check gave the parents and places, each coupling of the image is on joined qubits
+abbrev pub ImageIsJoined : Type 0
+ImageIsJoined = (joined : Joins) (n : ℕ) (f : IsingContent) (map : List (List ℕ)) (e : Embedding)
+    → ((a b : ℕ) → joined a b ≡ joined b a) → IsChecked joined n f map e
+    → All (λ c. joined c.first c.second ≡ true) (image e).couplings
+
+-- what is read off such a model are the first bits of what the link decodes
+abbrev pub ReadOffTheChains : Type 0
+ReadOffTheChains = (link : ChainLink) (rows cols shore variables : ℕ) (y : List Bool)
+    → read_off (Chimera rows cols shore) variables link.chains y
+    ≡ take variables ((decoding link).decoded y)

@@ -1,0 +1,349 @@
+-- The image keeps the costs of the embedded form, over all states of the qubits.
+-- Nothing here has to be believed.
+use Rattle.std.specs.Prelude.{◌≡◌, ◌≢◌, ◌⊎◌, ℕ, zero, suc, ◌+◌, ◌<◌, ◌≤◌, ◌==◌, ℤ, pos, ◌+ℤ◌, ◌≤ℤ◌, Bool, true, false, cond, ◌&&◌, ◌||◌, List, [], ◌∷◌, ◌++◌, length, take, drop, sum_by, count_by, flat_map, map, All}
+use Rattle.std.specs.List.{AllByRecursion, AllZip, list_any, range_with_len, slice_index_or}
+use Rattle.std.proofs.Common.{arith, ap, sym, ◌∙◌, refl, inl, inr, subst}
+use Rattle.std.proofs.lemmas.Int.{ints}
+use Rattle.std.proofs.lemmas.Bool.{cases_Bool, cases_order, or_left, or_right, or_from, and_from, and_parts, false_from_ne_true, eqb-true}
+use Rattle.std.proofs.lemmas.List.{length-map, get_or-take, length-take}
+use Rattle.std.proofs.lemmas.List.Elements.{recursion_from_All}
+use Rattle.std.proofs.lemmas.List.FromFn.{length-map-range_with_len, get_or-map-range_with_len}
+use Rattle.std.proofs.lemmas.List.Sums.{sum_by-cons, sum_by_more_le, get_or-le-sum_by}
+use Rattle.integers.specs.Sums.{total_by}
+use Rattle.integers.proofs.Totals.{total_by-append, total_by-plus, total_by-flat_map}
+use Rattle.bits_model.specs.declared.output.Entry.{Entry}
+use Rattle.bits_model.specs.Costs.{IsNeverInfinite}
+use Rattle.bits_model.specs.Output.{bit_at, majority, spins_energy}
+use Rattle.bits_model.specs.Relations.{Keeps, Extends, Joins}
+use Rattle.quad_form.specs.Quads.{node_entries, IsCoupler}
+use Rattle.ising_form.specs.Isings.{ising_value}
+use Rattle.ising_form.specs.Isings as isings
+use Rattle.bits_model.specs.Walks.{is_in}
+use Rattle.embedding_check.specs.Embeddings.{Embedding, IsEmbedding, IsTie, form_of}
+use Rattle.chain_map.specs.Chains.{IsBetween, chain_of, occurrences}
+use Rattle.chain_map.proofs.Occurrences.{occurrences-sum}
+use Rattle.chain_layer.specs.declared.link.ChainLink.{ChainLink}
+use Rattle.chain_layer.specs.Image.{nodes_of, field_of, strength, shares, ties, all_shares, all_ties, placed, field_at, in_order, image, offset, decoding, IsSound, Fits, extension}
+use Rattle.chain_layer.specs.laws.SpinSums.{all_append, spin_energy, pair_energy, shares_spread, nodes_energy, fields_energy, IsUpward, couplings_energy, total_by-in_order}
+use Rattle.chain_layer.specs.laws.Whole.{are_same, is_whole, HasBit, one_bit, each_in, in_rest, majority_of}
+use Rattle.chain_layer.specs.laws.NodeEnergies.{ties_upward, shares_of}
+use Rattle.chain_layer.specs.laws.Aligned.{node_at, whole_at, Reads, read_energy, chains_energy, chains_low, chains_equal, couplers_of}
+
+-- ---- the value of a form, and that of its image
+
+-- what is true of the entries of each node
+pub each_of_range : (P : Entry → Type 0) (f : ℕ → List Entry) (a n : ℕ)
+    → ((i : ℕ) → a ≤ i → i < a + n → AllByRecursion P (f i))
+    → AllByRecursion P (flat_map f (range_with_len a n))
+each_of_range P f a zero h = tt
+each_of_range P f a (suc n) h =
+    all_append P (f a) (flat_map f (range_with_len (a + 1) n)) (h a (omega arith) (omega arith))
+    (each_of_range P f (a + 1) n (λ i l u. h i (omega (arith, l)) (omega (arith, u))))
+
+pub chain_within : (e : Embedding) → IsEmbedding e → (i : ℕ) → i < length e.ising.fields
+    → AllByRecursion (λ q. q < e.qubits) (chain_of e.chains i)
+chain_within e kept i within =
+    recursion_from_All _ _ (kept.within i [] (omega (arith, within, kept.counted)))
+
+pub shares_within : (e : Embedding) → IsEmbedding e
+    → AllByRecursion (λ s. s.first < e.qubits) (all_shares e)
+shares_within e kept =
+    each_of_range (λ s. s.first < e.qubits) (λ i. shares (chain_of e.chains i) (field_of e i)) 0
+    (length e.ising.fields)
+    (λ i a l. shares_of (λ q. q < e.qubits) (chain_of e.chains i) _ (chain_within e kept i (omega (arith, l))))
+
+pub all_ties_upward : (e : Embedding) → IsEmbedding e → AllByRecursion IsUpward (all_ties e)
+all_ties_upward e kept =
+    each_of_range IsUpward
+    (λ i. ties (drop 1 (chain_of e.chains i)) (chain_of e.parents i) (strength e i))
+    0
+    (length e.ising.fields)
+    (λ i a l. ties_upward (chain_of e.chains i) _ _ (strength e i) (node_at e kept i (omega (arith, l))).tree.ties)
+
+placed_upward : (chains : List (List ℕ)) (cs : List Entry) (ps : List (ℕ × ℕ))
+    → AllZip (λ c place. IsBetween (chain_of chains c.first) (chain_of chains c.second) place) cs ps
+    → AllByRecursion IsUpward (placed cs ps)
+placed_upward chains [] ps h = tt
+placed_upward chains (c ∷ cs) [] h = tt
+placed_upward chains (c ∷ cs) (p ∷ ps) h = (h.0.upward, placed_upward chains cs ps h.1)
+
+pub couplings_upward : (n : ℕ) (cs : List Entry) → AllByRecursion (IsCoupler n) cs
+    → AllByRecursion IsUpward cs
+couplings_upward n [] h = tt
+couplings_upward n (c ∷ cs) h = (h.0.upward, couplings_upward n cs h.1)
+
+form_value : (e : Embedding) → IsEmbedding e → (x : List Bool)
+    → ising_value e.ising x ≡ e.ising.constant +ℤ read_energy e (bit_at x)
+form_value e kept x =
+    omega (
+      arith,
+      ints,
+      total_by-append (spins_energy x) (node_entries 0 e.ising.fields) e.ising.couplings,
+      fields_energy x e.ising.fields,
+      couplings_energy x e.ising.couplings (couplings_upward _ _ (couplers_of e kept)),
+    )
+
+image_value : (e : Embedding) → IsEmbedding e → (y : List Bool)
+    → ising_value (image e) y ≡ e.ising.constant +ℤ chains_energy e (bit_at y)
+image_value e kept y =
+    let s = bit_at y in
+    let fields = map (field_at (all_shares e)) (range_with_len 0 e.qubits) in
+    let pairs = placed e.ising.couplings e.places in
+    let of_shares : ℕ → ℤ = λ i. total_by (spin_energy s) (shares (chain_of e.chains i) (field_of e i)) in
+    let of_ties : ℕ → ℤ =
+    λ i. total_by (pair_energy s) (ties (drop 1 (chain_of e.chains i)) (chain_of e.parents i) (strength e i)) in
+    omega (
+      arith,
+      ints,
+      total_by-append (spins_energy y) (node_entries 0 fields) (in_order (pairs ++ all_ties e)),
+      nodes_energy y (field_at (all_shares e)) 0 0 e.qubits refl,
+      shares_spread s e.qubits (all_shares e) (shares_within e kept),
+      total_by-in_order (spins_energy y) (pairs ++ all_ties e),
+      total_by-append (spins_energy y) pairs (all_ties e),
+      couplings_energy y pairs (placed_upward e.chains _ _ kept.placed),
+      couplings_energy y (all_ties e) (all_ties_upward e kept),
+      total_by-flat_map (spin_energy s) (λ i. shares (chain_of e.chains i) (field_of e i)) (nodes_of e),
+      total_by-flat_map (pair_energy s)
+          (λ i. ties (drop 1 (chain_of e.chains i)) (chain_of e.parents i) (strength e i))
+          (nodes_of e),
+      total_by-plus of_shares of_ties (nodes_of e),
+    )
+
+-- ---- every state
+
+bit_of_chain : (y : List Bool) (chains : List (List ℕ)) (i : ℕ) → i < length chains
+    → bit_at (map (majority y) chains) i ≡ majority y (chain_of chains i)
+bit_of_chain y [] i h = absurd (omega arith)
+bit_of_chain y (c ∷ cs) zero h = refl
+bit_of_chain y (c ∷ cs) (suc i) h = bit_of_chain y cs i (omega arith)
+
+-- the majority is the bit of a chain on which no tie is broken
+majority_reads : (e : Embedding) → IsEmbedding e → (y : List Bool)
+    → Reads e (bit_at y) (bit_at (map (majority y) e.chains))
+majority_reads e kept y i within whole q in' =
+    let node = node_at e kept i within in
+    let has = one_bit (bit_at y) (chain_of e.chains i) (chain_of e.parents i) node.tree whole in
+    has q in'
+    ∙ sym (majority_of y (chain_of e.chains i) _ node.filled has)
+    ∙ sym (bit_of_chain y e.chains i (omega (arith, within, kept.counted)))
+
+pub image_low : (e : Embedding) → IsEmbedding e → (y : List Bool)
+    → (ising_value e.ising (map (majority y) e.chains) +ℤ offset e) ≤ℤ ising_value (image e) y
+image_low e kept y =
+    let x = map (majority y) e.chains in
+    omega (
+      arith,
+      ints,
+      form_value e kept x,
+      image_value e kept y,
+      chains_low e kept (bit_at y) (bit_at x) (majority_reads e kept y),
+    )
+
+-- ---- the extension
+
+any_of_range : (p : ℕ → Bool) (i a n : ℕ) → a ≤ i → i < a + n → p i ≡ true
+    → list_any p (range_with_len a n) ≡ true
+any_of_range p i a zero low high h = absurd (omega arith)
+any_of_range p i a (suc n) low high h =
+    go (order a i low) (λ above. any_of_range p i (a + 1) n above (omega (arith, high)) h)
+  where
+    order : (a i : ℕ) → a ≤ i → (a ≡ i) ⊎ (a + 1 ≤ i)
+    order a i low = grind arith
+
+    go : (a ≡ i) ⊎ (a + 1 ≤ i)
+        → (a + 1 ≤ i → list_any p (range_with_len (a + 1) n) ≡ true)
+        → (p a || list_any p (range_with_len (a + 1) n)) ≡ true
+    go (inl same) later = or_left (p a) _ (ap p same ∙ h)
+    go (inr above) later = or_right (p a) _ (later above)
+
+none_of_range : (p : ℕ → Bool) (a n : ℕ) → ((i : ℕ) → i < a + n → p i ≡ false)
+    → list_any p (range_with_len a n) ≡ false
+none_of_range p a zero h = refl
+none_of_range p a (suc n) h =
+    or_from (p a) _ (h a (omega arith)) (none_of_range p (a + 1) n (λ i l. h i (omega (arith, l))))
+
+pub counted_in : (chain : List ℕ) (q : ℕ) → is_in chain q ≡ true → 1 ≤ count_by (λ p. p == q) chain
+counted_in [] q h = absurd cc
+counted_in (p ∷ ps) q h =
+    let test : ℕ → ℕ = λ r. cond (r == q) 1 0 in
+    omega (arith, sum_by-cons test p ps, go (p == q) h (counted_in ps q))
+  where
+    go : (b : Bool) → (b || is_in ps q) ≡ true
+        → (is_in ps q ≡ true → 1 ≤ count_by (λ r. r == q) ps)
+        → 1 ≤ cond b 1 0 + count_by (λ r. r == q) ps
+    go true h later = omega arith
+    go false h later = omega (arith, later h)
+
+two_of : {X : Type 0} (f : X → ℕ) (xs : List X) (i j : ℕ) (d : X) → i < j → j < length xs
+    → f (slice_index_or xs i d) + f (slice_index_or xs j d) ≤ sum_by f xs
+two_of f xs i j d less within =
+    let front : i < length (take j xs) = omega (arith, length-take j xs, less, within) in
+    omega (
+      arith,
+      sum_by_more_le f xs j d within,
+      get_or-le-sum_by f (take j xs) i d front,
+      ap f (get_or-take j xs i d less),
+    )
+
+-- a qubit is in one chain at most
+pub one_chain : (chains : List (List ℕ)) (q i j : ℕ) → occurrences q chains ≤ 1 → i < length chains
+    → j < length chains → is_in (chain_of chains i) q ≡ true → is_in (chain_of chains j) q ≡ true
+    → i ≡ j
+one_chain chains q i j once i_in j_in here there =
+    let one = counted_in (chain_of chains i) q here in
+    let other = counted_in (chain_of chains j) q there in
+    elim (cases_order i j) [
+      | inl same ↦ same
+      | inr (inl less) ↦
+          absurd (omega (arith, one, other, once, occurrences-sum q chains, two_of (λ c. count_by (λ p. p == q) c) chains i j [] less j_in))
+      | inr (inr more) ↦
+          absurd (omega (arith, one, other, once, occurrences-sum q chains, two_of (λ c. count_by (λ p. p == q) c) chains j i [] more i_in))
+    ]
+
+-- the test of each node, for the bit of a qubit of chain i
+extended_bit : (e : Embedding) → IsEmbedding e → (x : List Bool) (i : ℕ) → i < length e.ising.fields
+    → (q : ℕ) → is_in (chain_of e.chains i) q ≡ true
+    → list_any (λ j. bit_at x j && is_in (chain_of e.chains j) q) (nodes_of e) ≡ bit_at x i
+extended_bit e kept x i within q in' = elim (cases_Bool (bit_at x i)) [
+  | inl one ↦
+      any_of_range (λ j. bit_at x j && is_in (chain_of e.chains j) q) i 0 (length e.ising.fields)
+      (omega arith)
+      (omega (arith, within))
+      (and_from (bit_at x i) _ one in')
+      ∙ sym one
+  | inr none ↦
+      none_of_range (λ j. bit_at x j && is_in (chain_of e.chains j) q) 0 (length e.ising.fields)
+      (λ j l. false_from_ne_true _ (λ both.
+      let parts = and_parts (bit_at x j) (is_in (chain_of e.chains j) q) both in
+      let same = one_chain e.chains q i j (kept.once q) (omega (arith, within, kept.counted)) (omega (arith, l, kept.counted)) in' parts.1 in
+      let bit : true ≡ false = sym parts.0 ∙ sym (ap (bit_at x) same) ∙ none in
+      cc))
+      ∙ sym none
+]
+
+pub each_at : (P : ℕ → Type 0) (qs : List ℕ) (q : ℕ) → AllByRecursion P qs → is_in qs q ≡ true → P q
+each_at P [] q h in' = absurd cc
+each_at P (p ∷ ps) q h in' = go (p == q) (λ e. eqb-true p q e) in' (each_at P ps q h.1)
+  where
+    go : (b : Bool) → (b ≡ true → p ≡ q) → (b || is_in ps q) ≡ true → (is_in ps q ≡ true → P q) → P q
+    go true same in' later = subst P (same refl) h.0
+    go false same in' later = later in'
+
+pub extension_bits : (e : Embedding) → IsEmbedding e → (x : List Bool) (i : ℕ)
+    → i < length e.ising.fields → HasBit (bit_at (extension e x)) (chain_of e.chains i) (bit_at x i)
+extension_bits e kept x i within q in' =
+    let below : q < e.qubits = each_at (λ p. p < e.qubits) (chain_of e.chains i) q (chain_within e kept i within) in' in
+    get_or-map-range_with_len (λ p. list_any (λ j. bit_at x j && is_in (chain_of e.chains j) p) (nodes_of e)) 0 e.qubits q q false below (omega arith)
+    ∙ extended_bit e kept x i within q in'
+
+-- a chain of one bit has no broken tie
+whole_of_bit : (s : ℕ → Bool) (chain : List ℕ) (b : Bool) (qs ps : List ℕ) → HasBit s chain b
+    → AllByRecursion (λ q. is_in chain q ≡ true) qs → AllZip (IsTie chain) qs ps
+    → is_whole s qs ps ≡ true
+whole_of_bit s chain b [] ps has ins h = refl
+whole_of_bit s chain b (q ∷ qs) [] has ins h = refl
+whole_of_bit s chain b (q ∷ qs) (p ∷ ps) has ins h =
+    and_from (are_same (s q) (s p)) _ (equal (s q) (s p) (has q ins.0 ∙ sym (has p h.0.inside)))
+    (whole_of_bit s chain b qs ps has ins.1 h.1)
+  where
+    equal : (a b : Bool) → a ≡ b → are_same a b ≡ true
+    equal true true e = refl
+    equal true false e = sym e
+    equal false true e = e
+    equal false false e = refl
+
+pub rest_in : (chain : List ℕ) → AllByRecursion (λ q. is_in chain q ≡ true) (drop 1 chain)
+rest_in [] = tt
+rest_in (q ∷ qs) = each_in (λ p. is_in (q ∷ qs) p ≡ true) qs (λ p in'. in_rest q p qs in')
+
+pub extension_whole : (e : Embedding) → IsEmbedding e → (x : List Bool) (i : ℕ)
+    → i < length e.ising.fields → whole_at e (bit_at (extension e x)) i ≡ true
+extension_whole e kept x i within =
+    whole_of_bit (bit_at (extension e x)) (chain_of e.chains i) (bit_at x i) _ _
+    (extension_bits e kept x i within)
+    (rest_in (chain_of e.chains i))
+    (node_at e kept i within).tree.ties
+
+pub extension_value : (e : Embedding) → IsEmbedding e → (x : List Bool)
+    → ising_value (image e) (extension e x) ≡ ising_value e.ising x +ℤ offset e
+extension_value e kept x =
+    omega (
+      arith,
+      ints,
+      form_value e kept x,
+      image_value e kept (extension e x),
+      chains_equal e kept (bit_at (extension e x)) (bit_at x) (extension_whole e kept x) (extension_bits e kept x),
+    )
+
+-- each bit of an assignment is the majority of its chain in the extension
+same_bits : (xs ys : List Bool) → length xs ≡ length ys
+    → ((i : ℕ) → i < length ys → bit_at xs i ≡ bit_at ys i) → xs ≡ ys
+same_bits [] [] e h = refl
+same_bits [] (y ∷ ys) e h = absurd (omega (arith, e))
+same_bits (x ∷ xs) [] e h = absurd (omega (arith, e))
+same_bits (x ∷ xs) (y ∷ ys) e h =
+    λ k. h 0 (omega arith) k ∷ same_bits xs ys (omega (arith, e)) (λ i l. h (suc i) (omega (arith, l))) k
+
+pub extension_decodes : (e : Embedding) → IsEmbedding e → (x : List Bool)
+    → length x ≡ length e.ising.fields → map (majority (extension e x)) e.chains ≡ x
+extension_decodes e kept x width =
+    same_bits (map (majority (extension e x)) e.chains) x
+    (length-map e.chains (majority (extension e x)) ∙ kept.counted ∙ sym width)
+    (λ i l.
+    let within : i < length e.ising.fields = omega (arith, l, width) in
+    bit_of_chain (extension e x) e.chains i (omega (arith, within, kept.counted))
+    ∙ majority_of (extension e x) (chain_of e.chains i) (bit_at x i) (node_at e kept i within).filled
+    (extension_bits e kept x i within))
+
+-- ---- the layer's laws
+
+pub chains_sound : (link : ChainLink) (e : Embedding) → Fits link e → IsSound link
+chains_sound link e fits = record {
+  filled = subst (λ cs. All (λ chain. chain ≢ []) cs) (sym fits.chains) fits.kept.filled;
+  within =
+      subst (λ n. All (λ chain. All (λ q. q < n) chain) link.chains) (sym fits.qubits)
+      (subst (λ cs. All (λ chain. All (λ q. q < e.qubits) chain) cs) (sym fits.chains) fits.kept.within);
+}
+
+pub chains_join : (link : ChainLink) (e : Embedding) → Fits link e
+    → Joins (form_of e) (isings.form_of (image e)) (decoding link)
+chains_join link e fits = record {
+  source = ap length fits.chains ∙ fits.kept.counted;
+  target = fits.qubits ∙ sym (length-map-range_with_len (field_at (all_shares e)) 0 e.qubits);
+}
+
+-- the extension decodes to its assignment and reaches it
+pub chains_reach : (link : ChainLink) (e : Embedding) (x : List Bool) → Fits link e
+    → length x ≡ length e.ising.fields
+    → Extends (form_of e) (isings.form_of (image e)) (decoding link) (pos 1) (offset e) x (extension e x)
+chains_reach link e x fits width = record {
+  width =
+      length-map-range_with_len (λ q. list_any (λ j. bit_at x j && is_in (chain_of e.chains j) q) (nodes_of e)) 0 e.qubits
+      ∙ sym (length-map-range_with_len (field_at (all_shares e)) 0 e.qubits);
+  decodes = ap (map (majority (extension e x))) fits.chains ∙ extension_decodes e fits.kept x width;
+  energy = omega (arith, ints, extension_value e fits.kept x);
+}
+
+-- the image keeps the costs of the form
+pub chains_keep : (link : ChainLink) (e : Embedding) → Fits link e
+    → Keeps (form_of e) (isings.form_of (image e)) (decoding link) (pos 1) (offset e)
+chains_keep link e fits = record {
+  positive = omega (arith, ints);
+  width = λ z w. length-map link.chains (majority z) ∙ ap length fits.chains ∙ fits.kept.counted;
+  bound = λ z w.
+      omega (
+        arith,
+        ints,
+        ap (λ cs. ising_value e.ising (map (majority z) cs)) fits.chains,
+        image_low e fits.kept z,
+      );
+  reached = λ x w. (extension e x, chains_reach link e x fits w);
+}
+
+-- the costs of an embedded form are whole
+pub chains_whole_source : (e : Embedding) → IsNeverInfinite (form_of e)
+chains_whole_source e y infinite = cc
+
+-- the costs of an image are whole
+pub chains_whole : (e : Embedding) → IsNeverInfinite (isings.form_of (image e))
+chains_whole e y infinite = cc

@@ -1,0 +1,238 @@
+-- What the shares and the ties of one node's chain cost. Nothing here has to be believed.
+--
+-- Where no tie is broken they cost what the field costs, less the strength of each tie. Where one is,
+-- it costs twice its strength more, and the shares give back at most twice the field.
+use Rattle.std.specs.Prelude.{◌≡◌, ◌≢◌, ℕ, suc, ◌+◌, ◌*◌, ◌<◌, ◌≤◌, ◌/◌, ℤ, pos, negsuc, neg_ℤ, ◌+ℤ◌, ◌*ℤ◌, ◌≤ℤ◌, unsigned_abs, Bool, true, false, cond, ◌&&◌, List, [], ◌∷◌, length, take, drop, nat_lt}
+use Rattle.std.specs.List.{AllByRecursion, AllZip}
+use Rattle.std.specs.Int.{int_div_euclid, int_rem_euclid}
+use Rattle.std.proofs.Common.{arith, ap, sym, ◌∙◌, refl, mod-lt, div-add-mod'}
+use Rattle.std.proofs.lemmas.Int.{ints}
+use Rattle.std.proofs.lemmas.Bool.{ltb-true, ltb-false, and_parts}
+use Rattle.std.proofs.lemmas.List.{length-drop, length-take-le}
+use Rattle.std.proofs.lemmas.List.Elements.{All-from_recursion, recursion_from_All, All-take, All-drop}
+use Rattle.std.proofs.lemmas.List.Sums.{sum_by-cons, sum_by-append}
+use Rattle.integers.specs.Sums.{total_by}
+use Rattle.integers.proofs.Products.{times-plus, plus-times}
+use Rattle.integers.proofs.Totals.{total_by-append}
+use Rattle.bits_model.specs.declared.output.Entry.{Entry}
+use Rattle.bits_model.specs.Output.{times_spin, weight_total}
+use Rattle.embedding_check.specs.Embeddings.{IsTie}
+use Rattle.chain_layer.specs.Image.{coupling_entry, field_entry, equal_shares, shares, ties}
+use Rattle.chain_layer.specs.laws.SpinSums.{all_append, spin_energy, pair_energy, times_spin-plus, times_spin-comm, times_spin-zero, IsUpward}
+use Rattle.chain_layer.specs.laws.Whole.{are_same, is_whole, HasBit, each_in}
+
+-- ---- ties
+
+coupling_energy : (s : ℕ → Bool) (q p : ℕ) (w : ℤ)
+    → pair_energy s (coupling_entry q p w) ≡ times_spin (s q) (times_spin (s p) w)
+coupling_energy s q p w = go (nat_lt q p)
+  where
+    go : (b : Bool)
+        → pair_energy s (cond b (record { first = q; second = p; weight = w }) (record { first = p; second = q; weight = w }))
+        ≡ times_spin (s q) (times_spin (s p) w)
+    go true = refl
+    go false = times_spin-comm (s p) (s q) w
+
+coupling_upward : (q p : ℕ) (w : ℤ) → (q ≢ p) → IsUpward (coupling_entry q p w)
+coupling_upward q p w apart = go (nat_lt q p) (λ e. ltb-true q p e) (λ e. ltb-false q p e)
+  where
+    go : (b : Bool) → (b ≡ true → q < p) → (b ≡ false → p ≤ q)
+        → IsUpward (cond b (record { first = q; second = p; weight = w }) (record { first = p; second = q; weight = w }))
+    go true lt ge = lt refl
+    go false lt ge = let h = ge refl in grind arith
+
+pub ties_upward : (chain qs ps : List ℕ) (strong : ℕ) → AllZip (IsTie chain) qs ps
+    → AllByRecursion IsUpward (ties qs ps strong)
+ties_upward chain [] ps strong h = tt
+ties_upward chain (q ∷ qs) [] strong h = tt
+ties_upward chain (q ∷ qs) (p ∷ ps) strong h =
+    (coupling_upward q p _ h.0.apart, ties_upward chain qs ps strong h.1)
+
+-- a tie that holds and one that is broken
+tie_energy : (a b : Bool) (n : ℕ)
+    → times_spin a (times_spin b (neg_ℤ (pos n))) ≡ cond (are_same a b) (neg_ℤ (pos n)) (pos n)
+tie_energy true true n = refl
+tie_energy true false n = omega (arith, ints)
+tie_energy false true n = omega (arith, ints)
+tie_energy false false n = omega (arith, ints)
+
+pub ties_whole : (s : ℕ → Bool) (qs ps : List ℕ) (n : ℕ) → length qs ≡ length ps
+    → is_whole s qs ps ≡ true
+    → total_by (pair_energy s) (ties qs ps n) ≡ neg_ℤ (pos (n * length qs))
+ties_whole s [] ps n same h = omega (arith, ints)
+ties_whole s (q ∷ qs) [] n same h = absurd (omega (arith, same))
+ties_whole s (q ∷ qs) (p ∷ ps) n same h =
+    let parts = and_parts (are_same (s q) (s p)) (is_whole s qs ps) h in
+    let tie : pair_energy s (coupling_entry q p (neg_ℤ (pos n))) ≡ neg_ℤ (pos n) =
+    coupling_energy s q p (neg_ℤ (pos n)) ∙ tie_energy (s q) (s p) n
+    ∙ ap (λ t. cond t (neg_ℤ (pos n)) (pos n)) parts.0 in
+    omega (arith, ints, tie, ties_whole s qs ps n (omega (arith, same)) parts.1)
+
+ties_low : (s : ℕ → Bool) (qs ps : List ℕ) (n : ℕ) → length qs ≡ length ps
+    → neg_ℤ (pos (n * length qs)) ≤ℤ total_by (pair_energy s) (ties qs ps n)
+ties_low s [] ps n same = omega (arith, ints)
+ties_low s (q ∷ qs) [] n same = absurd (omega (arith, same))
+ties_low s (q ∷ qs) (p ∷ ps) n same =
+    let tie = coupling_energy s q p (neg_ℤ (pos n)) ∙ tie_energy (s q) (s p) n in
+    omega (arith, ints, tie, low (are_same (s q) (s p)), ties_low s qs ps n (omega (arith, same)))
+  where
+    low : (t : Bool) → neg_ℤ (pos n) ≤ℤ cond t (neg_ℤ (pos n)) (pos n)
+    low true = omega (arith, ints)
+    low false = omega (arith, ints)
+
+-- one of them is broken
+pub ties_broken : (s : ℕ → Bool) (qs ps : List ℕ) (n : ℕ) → length qs ≡ length ps
+    → is_whole s qs ps ≡ false
+    → (neg_ℤ (pos (n * length qs)) +ℤ pos (2 * n)) ≤ℤ total_by (pair_energy s) (ties qs ps n)
+ties_broken s [] ps n same h = absurd (cc)
+ties_broken s (q ∷ qs) [] n same h = absurd (omega (arith, same))
+ties_broken s (q ∷ qs) (p ∷ ps) n same h =
+    let tie = coupling_energy s q p (neg_ℤ (pos n)) ∙ tie_energy (s q) (s p) n in
+    go (are_same (s q) (s p)) (is_whole s qs ps) h tie (ties_low s qs ps n (omega (arith, same)))
+    (ties_broken s qs ps n (omega (arith, same)))
+  where
+    rest : ℤ
+    rest = total_by (pair_energy s) (ties qs ps n)
+
+    go : (t u : Bool) → (t && u) ≡ false
+        → pair_energy s (coupling_entry q p (neg_ℤ (pos n))) ≡ cond t (neg_ℤ (pos n)) (pos n)
+        → neg_ℤ (pos (n * length qs)) ≤ℤ total_by (pair_energy s) (ties qs ps n)
+        → (u ≡ false → (neg_ℤ (pos (n * length qs)) +ℤ pos (2 * n)) ≤ℤ total_by (pair_energy s) (ties qs ps n))
+        → (neg_ℤ (pos (n * suc (length qs))) +ℤ pos (2 * n))
+        ≤ℤ (pair_energy s (coupling_entry q p (neg_ℤ (pos n))) +ℤ total_by (pair_energy s) (ties qs ps n))
+    go true true h e low broken = absurd (cc)
+    go true false h e low broken = omega (arith, ints, e, broken refl)
+    go false u h e low broken = omega (arith, ints, e, low)
+
+-- ---- shares
+
+-- what is true of each qubit is true of the qubit of each share
+equal_of : (P : ℕ → Type 0) (qs : List ℕ) (share : ℤ) → AllByRecursion P qs
+    → AllByRecursion (λ e. P e.first) (equal_shares qs share)
+equal_of P [] share h = tt
+equal_of P (q ∷ qs) share h = (h.0, equal_of P qs share h.1)
+
+pub shares_of : (P : ℕ → Type 0) (chain : List ℕ) (h : ℤ) → AllByRecursion P chain
+    → AllByRecursion (λ e. P e.first) (shares chain h)
+shares_of P chain h all =
+    let each = All-from_recursion P chain all in
+    let rest = unsigned_abs (int_rem_euclid h (pos (length chain))) in
+    all_append (λ e. P e.first) (equal_shares (take rest chain) _) (equal_shares (drop rest chain) _)
+    (equal_of P (take rest chain) _ (recursion_from_All P _ (All-take P rest chain each)))
+    (equal_of P (drop rest chain) _ (recursion_from_All P _ (All-drop P rest chain each)))
+
+equal_total : (qs : List ℕ) (share : ℤ)
+    → total_by (λ e. e.weight) (equal_shares qs share) ≡ share *ℤ pos (length qs)
+equal_total [] share = omega (arith, ints)
+equal_total (q ∷ qs) share =
+    omega (arith, ints, equal_total qs share, times-plus share (pos 1) (pos (length qs)))
+
+-- the quotient and the rest of a field
+pub split_of : (h : ℤ) (n : ℕ) → 0 < n
+    → (unsigned_abs (int_rem_euclid h (pos n)) < n)
+    × (int_div_euclid h (pos n) *ℤ pos n +ℤ pos (unsigned_abs (int_rem_euclid h (pos n))) ≡ h)
+split_of (pos a) n some = (mod-lt a some, omega (arith, ints, div-add-mod' a n))
+split_of (negsuc a) n some = (omega (arith, mod-lt a some), omega (arith, ints, mod-lt a some, div-add-mod' a n))
+
+-- shares of one spin
+one_spin : (s : ℕ → Bool) (b : Bool) (es : List Entry) → AllByRecursion (λ e. s e.first ≡ b) es
+    → total_by (spin_energy s) es ≡ times_spin b (total_by (λ e. e.weight) es)
+one_spin s b [] h = sym (times_spin-zero b)
+one_spin s b (e ∷ es) h =
+    omega (
+      arith,
+      ints,
+      ap (λ t. times_spin t e.weight) h.0,
+      one_spin s b es h.1,
+      times_spin-plus b e.weight (total_by (λ e. e.weight) es),
+    )
+
+pub filled_length : (chain : List ℕ) → (chain ≢ []) → 0 < length chain
+filled_length [] h = absurd (h refl)
+filled_length (q ∷ qs) h = omega arith
+
+-- where a chain is cut
+cut : (chain : List ℕ) (rest : ℕ) → rest ≤ length chain
+    → (length (take rest chain) ≡ rest) × (length (drop rest chain) + rest ≡ length chain)
+cut chain rest h = (length-take-le rest chain h, omega (arith, length-drop rest chain))
+
+shares_total : (chain : List ℕ) (h : ℤ) → (chain ≢ []) → total_by (λ e. e.weight) (shares chain h) ≡ h
+shares_total chain h filled =
+    let n = length chain in
+    let share = int_div_euclid h (pos n) in
+    let rest = unsigned_abs (int_rem_euclid h (pos n)) in
+    let split = split_of h n (filled_length chain filled) in
+    let parts = cut chain rest (omega (arith, split.0)) in
+    let front = length (take rest chain) in
+    let back = length (drop rest chain) in
+    omega (
+      arith,
+      ints,
+      total_by-append (λ (e : Entry). e.weight) (equal_shares (take rest chain) (share +ℤ pos 1)) (equal_shares (drop rest chain) share),
+      equal_total (take rest chain) (share +ℤ pos 1),
+      equal_total (drop rest chain) share,
+      plus-times (pos front) share (pos 1),
+      times-plus share (pos front) (pos back),
+      ap (λ m. share *ℤ pos m) (sum_of front back rest n parts.0 parts.1),
+      parts.0,
+      split.1,
+    )
+  where
+    sum_of : (f b r n : ℕ) → f ≡ r → b + r ≡ n → f + b ≡ n
+    sum_of f b r n p q = omega (arith, p, q)
+
+pub shares_whole : (s : ℕ → Bool) (chain : List ℕ) (h : ℤ) (b : Bool) → (chain ≢ [])
+    → HasBit s chain b → total_by (spin_energy s) (shares chain h) ≡ times_spin b h
+shares_whole s chain h b filled has =
+    one_spin s b (shares chain h) (shares_of (λ q. s q ≡ b) chain h (each_in _ chain has))
+    ∙ ap (times_spin b) (shares_total chain h filled)
+
+pub weights_of_equal : (qubits : List ℕ) (share : ℤ)
+    → weight_total (equal_shares qubits share) ≡ length qubits * unsigned_abs share
+weights_of_equal [] share = omega arith
+weights_of_equal (q ∷ qs) share =
+    omega (
+      arith,
+      sum_by-cons (λ (e : Entry). unsigned_abs e.weight) (field_entry q share) (equal_shares qs share),
+      weights_of_equal qs share,
+    )
+
+-- the shares of a field have one sign, so together they have its size
+pub shares_size : (chain : List ℕ) (h : ℤ) → (chain ≢ []) → weight_total (shares chain h) ≡ unsigned_abs h
+shares_size chain h filled =
+    let n = length chain in
+    let rest = unsigned_abs (int_rem_euclid h (pos n)) in
+    let share = int_div_euclid h (pos n) in
+    let parts = cut chain rest (omega (arith, (split_of h n (filled_length chain filled)).0)) in
+    sum_by-append (λ (e : Entry). unsigned_abs e.weight) (equal_shares (take rest chain) (share +ℤ pos 1)) (equal_shares (drop rest chain) share)
+    ∙ (λ k. weights_of_equal (take rest chain) (share +ℤ pos 1) k + weights_of_equal (drop rest chain) share k)
+    ∙ sizes h n (length (take rest chain)) (length (drop rest chain)) (filled_length chain filled) parts.0 parts.1
+  where
+    sizes : (h : ℤ) (n f b : ℕ) → 0 < n → f ≡ unsigned_abs (int_rem_euclid h (pos n))
+        → b + unsigned_abs (int_rem_euclid h (pos n)) ≡ n
+        → f * unsigned_abs (int_div_euclid h (pos n) +ℤ pos 1) + b * unsigned_abs (int_div_euclid h (pos n)) ≡ unsigned_abs h
+    sizes (pos a) n f b some front back =
+        let all : a / n * n ≡ a / n * (b + f) = ap (λ m. a / n * m) (sym (omega (arith, front, back))) in
+        omega (arith, all, front, div-add-mod' a n)
+    sizes (negsuc a) n f b some front back =
+        let less = mod-lt a some in
+        let all : a / n * n ≡ a / n * (b + f) = ap (λ m. a / n * m) (sym (omega (arith, front, back))) in
+        let one : unsigned_abs (negsuc (a / n) +ℤ pos 1) ≡ a / n = omega (arith, ints) in
+        omega (arith, ap (λ u. f * u) one, all, front, back, less, div-add-mod' a n)
+
+-- whatever the spins are
+pub spins_low : (s : ℕ → Bool) (es : List Entry)
+    → neg_ℤ (pos (weight_total es)) ≤ℤ total_by (spin_energy s) es
+spins_low s [] = omega (arith, ints)
+spins_low s (e ∷ es) =
+    omega (
+      arith,
+      ints,
+      sum_by-cons (λ (e : Entry). unsigned_abs e.weight) e es,
+      low (s e.first) e.weight,
+      spins_low s es,
+    )
+  where
+    low : (b : Bool) (w : ℤ) → neg_ℤ (pos (unsigned_abs w)) ≤ℤ times_spin b w
+    low true w = omega (arith, ints)
+    low false w = omega (arith, ints)

@@ -1,0 +1,102 @@
+-- Chains on which no tie is broken: they have one bit, which is their majority.
+-- Nothing here has to be believed.
+use Rattle.std.specs.Prelude.{◌≡◌, ◌≢◌, ℕ, zero, suc, ◌+◌, ◌*◌, ◌==◌, Bool, true, false, not, cond, ◌&&◌, List, [], ◌∷◌, length, drop, nat_lt}
+use Rattle.std.specs.List.{AllByRecursion}
+use Rattle.std.proofs.Common.{arith, ap, sym, ◌∙◌, refl}
+use Rattle.std.proofs.lemmas.Bool.{eq-eqb, eqb-true, lt-ltb, le-ltb, and_parts, or_left, or_right}
+use Rattle.std.proofs.lemmas.List.Sums.{sum_by-cons}
+use Rattle.bits_model.specs.Output.{bit_at, ones_in, majority}
+use Rattle.bits_model.specs.Walks.{is_in, first_of}
+use Rattle.embedding_check.specs.Embeddings.{parent_in, climbed, IsTree}
+
+-- two equal bits
+abbrev pub are_same : Bool → Bool → Bool
+are_same a b = cond a b (not b)
+
+-- each of these qubits has the bit of its parent
+abbrev pub is_whole : (ℕ → Bool) → List ℕ → List ℕ → Bool
+is_whole s (q ∷ qs) (p ∷ ps) = are_same (s q) (s p) && is_whole s qs ps
+is_whole s (q ∷ qs) [] = true
+is_whole s [] ps = true
+
+-- all qubits of the chain have this bit
+abbrev pub HasBit : (ℕ → Bool) → List ℕ → Bool → Type 0
+HasBit s chain b = (q : ℕ) → is_in chain q ≡ true → s q ≡ b
+
+-- ---- the qubits of a chain
+
+pub in_first : (q : ℕ) (qs : List ℕ) → is_in (q ∷ qs) q ≡ true
+in_first q qs = or_left (q == q) (is_in qs q) (eq-eqb q q refl)
+
+pub in_rest : (q p : ℕ) (qs : List ℕ) → is_in qs p ≡ true → is_in (q ∷ qs) p ≡ true
+in_rest q p qs h = or_right (q == p) (is_in qs p) h
+
+-- what is true of each qubit
+pub each_in : (P : ℕ → Type 0) (qs : List ℕ) → ((q : ℕ) → is_in qs q ≡ true → P q)
+    → AllByRecursion P qs
+each_in P [] h = tt
+each_in P (q ∷ qs) h = (h q (in_first q qs), each_in P qs (λ p in'. h p (in_rest q p qs in')))
+
+-- ---- one bit on a tree
+
+same_bits : (a b : Bool) → are_same a b ≡ true → b ≡ a
+same_bits true true h = refl
+same_bits true false h = h
+same_bits false true h = sym h
+same_bits false false h = refl
+
+parent_same : (s : ℕ → Bool) (cs ps : List ℕ) (q : ℕ) → is_whole s cs ps ≡ true
+    → s (parent_in cs ps q) ≡ s q
+parent_same s [] ps q h = refl
+parent_same s (c ∷ cs) [] q h = refl
+parent_same s (c ∷ cs) (p ∷ ps) q h =
+    let parts = and_parts (are_same (s c) (s p)) (is_whole s cs ps) h in
+    go (c == q) (λ e. same_bits (s c) (s p) parts.0 ∙ ap s (eqb-true c q e))
+    (parent_same s cs ps q parts.1)
+  where
+    go : (t : Bool) → (t ≡ true → s p ≡ s q) → s (parent_in cs ps q) ≡ s q
+        → s (cond t p (parent_in cs ps q)) ≡ s q
+    go true here rest = here refl
+    go false here rest = rest
+
+climbed_same : (s : ℕ → Bool) (cs ps : List ℕ) (n q : ℕ) → is_whole s cs ps ≡ true
+    → s (climbed cs ps n q) ≡ s q
+climbed_same s cs ps zero q h = refl
+climbed_same s cs ps (suc n) q h =
+    climbed_same s cs ps n (parent_in cs ps q) h ∙ parent_same s cs ps q h
+
+-- where no tie is broken all have the first qubit's bit
+pub one_bit : (s : ℕ → Bool) (chain parents : List ℕ) → IsTree chain parents
+    → is_whole s (drop 1 chain) parents ≡ true → HasBit s chain (s (first_of chain))
+one_bit s chain parents tree whole q in' =
+    let root = tree.rooted q in' in
+    sym (climbed_same s (drop 1 chain) parents root.0 q whole) ∙ ap s root.1
+
+-- ---- the majority of one bit
+
+ones_of : (y : List Bool) (qs : List ℕ) (b : Bool) → AllByRecursion (λ q. bit_at y q ≡ b) qs
+    → ones_in y qs ≡ cond b (length qs) 0
+ones_of y [] true h = refl
+ones_of y [] false h = refl
+ones_of y (q ∷ qs) b h =
+    sum_by-cons (λ p. cond (bit_at y p) 1 0) q qs ∙ ap (λ t. cond t 1 0 + ones_in y qs) h.0
+    ∙ more b (ones_of y qs b h.1)
+  where
+    more : (b : Bool) → ones_in y qs ≡ cond b (length qs) 0
+        → cond b 1 0 + ones_in y qs ≡ cond b (suc (length qs)) 0
+    more true e = omega (arith, e)
+    more false e = omega (arith, e)
+
+pub majority_of : (y : List Bool) (chain : List ℕ) (b : Bool) → (chain ≢ []) → HasBit (bit_at y) chain b
+    → majority y chain ≡ b
+majority_of y [] b filled h = absurd (filled refl)
+majority_of y (q ∷ qs) b filled h =
+    let ones = ones_of y (q ∷ qs) b (each_in (λ p. bit_at y p ≡ b) (q ∷ qs) h) in
+    rw ones (go b)
+  where
+    go : (b : Bool)
+        → cond (nat_lt (suc (length qs)) (2 * cond b (suc (length qs)) 0)) true
+        (cond (nat_lt (2 * cond b (suc (length qs)) 0) (suc (length qs))) false (bit_at y q))
+        ≡ b
+    go true = rw (lt-ltb (suc (length qs)) (2 * suc (length qs)) (omega arith)) refl
+    go false = rw (le-ltb (suc (length qs)) (2 * 0) (omega arith), lt-ltb (2 * 0) (suc (length qs)) (omega arith)) refl

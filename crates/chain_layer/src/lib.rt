@@ -1,0 +1,20 @@
+//! The layer that puts an embedded Ising form on the qubits of its chains.
+//!
+//! A form whose nodes stand on chains goes in, and out comes an Ising form on all qubits. A state
+//! of it is read chain by chain, by the majority, and no state, however broken its chains are, lies
+//! below what it is read as.
+#![tactic(auto)]
+
+mod chains;
+mod decoding;
+mod extending;
+mod laws;
+mod link;
+mod shares;
+mod sorting;
+mod strengths;
+mod ties;
+
+pub use chains::Chains;
+pub use laws::laws_of_images;
+pub use link::ChainLink;

@@ -1,0 +1,120 @@
+//! The couplings of qubits: those that are placed, and ties.
+ghost use Rattle.std.specs.Prelude.{◌≡◌, ◌+◌, ◌<◌, ◌≤◌, ◌^◌, ◌++◌, IfOk, OnOk, drop, length, map};
+ghost use Rattle.embedding_check.specs.Embeddings.{IsEmbedding};
+ghost use Rattle.chain_layer.specs.Image.{
+  all_ties,
+  coupling_entry,
+  nodes_of,
+  placed,
+  strength,
+  ties,
+  ties_cost,
+};
+
+use crate::link::chain;
+use bits_model::{CouplerList, Entry, NoMemory};
+use embedding_check::Embedded;
+use std::alloc::Global;
+
+/// A coupling of two qubits, the lesser one first.
+fn coupling(p: u32, q: u32, weight: i128) -> Entry
+    ensures { result ≡ coupling_entry p q weight }
+{
+    if p < q {
+        Entry {
+            first: p,
+            second: q,
+            weight,
+        }
+    } else {
+        Entry {
+            first: q,
+            second: p,
+            weight,
+        }
+    }
+}
+
+/// Each coupling on its pair of qubits, with room for so many ties.
+fn placed(
+    alloc: Global,
+    couplings: &CouplerList,
+    places: &[(u32, u32)],
+    ties: u32,
+) -> Result<Vec<Entry>, NoMemory>
+    requires { length places.now ≡ length couplings.now }
+    ensures { IfOk result (λ v. v.items ≡ placed couplings.now places.now) }
+{
+    let mut made = Vec::with_capacity(alloc, places.len().saturating_add(ties as usize))?;
+    let mut at = 0;
+    for coupling in couplings.iter() {
+        let (first, second) = places[at];
+        made.push(Entry {
+            first,
+            second,
+            weight: coupling.weight,
+        })?;
+        at += 1;
+    }
+    Ok(made)
+}
+
+/// Appends the ties of a chain.
+fn push_ties(
+    couplings: &mut Vec<Entry>,
+    chain: &[u32],
+    parents: &[u32],
+    strength: u128,
+) -> Result<(), NoMemory>
+    requires matched { length chain.now ≡ length parents.now + 1 }
+    requires small { strength < 2 ^ 127 }
+    ensures { OnOk result (couplings.new.items
+        ≡ couplings.old.items ++ ties (drop 1 chain.now) parents.now strength) }
+{
+    for i in 0..parents.len() {
+        couplings.push(coupling(chain[i + 1], parents[i], -(strength as i128)))?;
+    }
+    Ok(())
+}
+
+/// The placed couplings, and the ties of all chains.
+pub fn couplings_of(
+    alloc: Global,
+    source: &Embedded,
+    strengths: &[u128],
+) -> Result<Vec<Entry>, NoMemory>
+    requires kept { IsEmbedding source.now }
+    requires strengths { strengths.now ≡ map (strength source.now) (nodes_of source.now) }
+    ensures { IfOk result (λ v. v.items
+        ≡ placed source.now.ising.couplings source.now.places ++ all_ties source.now) }
+{
+    let mut made = placed(
+        alloc,
+        &source.ising().couplings,
+        source.places().as_slice(),
+        source.qubits(),
+    )?;
+    for i in 0..strengths.len() {
+        push_ties(
+            &mut made,
+            chain(source.chains(), i),
+            chain(source.parents(), i),
+            strengths[i],
+        )?;
+    }
+    Ok(made)
+}
+
+/// What the ties cost where none is broken.
+pub fn ties_cost(source: &Embedded, strengths: &[u128]) -> u128
+    requires kept { IsEmbedding source.now }
+    requires strengths { strengths.now ≡ map (strength source.now) (nodes_of source.now) }
+    requires small { ties_cost source.now ≤ 2 ^ 125 }
+    ensures { result ≡ ties_cost source.now }
+{
+    let mut cost = 0;
+    for i in 0..strengths.len() {
+        cost += strengths[i] * (chain(source.chains(), i).len() - 1) as u128;
+    }
+    cost
+}
