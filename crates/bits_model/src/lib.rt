@@ -14,6 +14,7 @@ mod laws;
 mod layer;
 mod nodes;
 mod output;
+mod reading_off;
 mod row;
 mod then;
 mod weights;
