@@ -1,8 +1,8 @@
 //! Sums with bounds, under penalties: all states of small problems, and a knapsack.
-ghost use Rattle.std.specs.Prelude.{◌≡◌, ◌<◌, ◌≤◌, ◌^◌, All, IfOk, length, unsigned_abs};
+ghost use Rattle.std.specs.Prelude.{◌≡◌, ◌+◌, ◌*◌, ◌<◌, ◌≤◌, ◌^◌, [], false, All, IfOk, OnOk, length, unsigned_abs};
 ghost use Rattle.bits_model.specs.Links.{HasFirstBits};
 ghost use Rattle.penalty_layer.specs.Penalty.{Admits};
-ghost use Rattle.problem_form.specs.Problems.{constraint_total};
+ghost use Rattle.problem_form.specs.Problems.{constraint_total, problem_total, products_total};
 
 use crate::all_states::{Least, draw, note, number_of, stands_for};
 use crate::given::{A, B, C, NOT_A, NOT_B, NOT_C, add_clause, state};
@@ -22,6 +22,33 @@ fn draw_coefficient(seed: &mut u64) -> i16
     draw(seed, 7) as i16 - 3
 }
 
+/// Pushes a product with a drawn coefficient.
+fn push_drawn(
+    products: &mut ProductList,
+    literals: &[Literal],
+    seed: &mut u64,
+) -> Result<(), NoMemory>
+    requires literals { All (λ l. l.variable < 3) literals.now }
+    requires within { All (λ t. All (λ l. l.variable < 3) t.literals) products.old }
+    requires small { products_total products.old ≤ 9 }
+    ensures within { OnOk result (All (λ t. All (λ l. l.variable < 3) t.literals) products.new) }
+    ensures small { OnOk result (products_total products.new ≤ products_total products.old + 3) }
+{
+    products.push(literals, i128::from(draw_coefficient(seed)))
+}
+
+/// Pushes a, b ~c, ~a c and ~b.
+fn push_products(products: &mut ProductList, seed: &mut u64) -> Result<(), NoMemory>
+    requires { products.old ≡ [] }
+    ensures within { OnOk result (All (λ t. All (λ l. l.variable < 3) t.literals) products.new) }
+    ensures small { OnOk result (products_total products.new ≤ 12) }
+{
+    push_drawn(products, &[A], seed)?;
+    push_drawn(products, &[B, NOT_C], seed)?;
+    push_drawn(products, &[NOT_A, C], seed)?;
+    push_drawn(products, &[NOT_B], seed)
+}
+
 /// A sum of a, b ~c, ~a c and ~b, which is to be a number, or at least that.
 fn draw_constraint(alloc: Global, seed: &mut u64) -> Result<Constraint, NoMemory>
     ensures within { IfOk result
@@ -29,10 +56,7 @@ fn draw_constraint(alloc: Global, seed: &mut u64) -> Result<Constraint, NoMemory
     ensures small { IfOk result (λ k. constraint_total k ≤ 15) }
 {
     let mut products = ProductList::empty(alloc);
-    products.push(&[A], i128::from(draw_coefficient(seed)))?;
-    products.push(&[B, NOT_C], i128::from(draw_coefficient(seed)))?;
-    products.push(&[NOT_A, C], i128::from(draw_coefficient(seed)))?;
-    products.push(&[NOT_B], i128::from(draw_coefficient(seed)))?;
+    push_products(&mut products, seed)?;
     Ok(Constraint {
         products,
         bound: i128::from(draw_coefficient(seed)),
@@ -40,19 +64,36 @@ fn draw_constraint(alloc: Global, seed: &mut u64) -> Result<Constraint, NoMemory
     })
 }
 
+/// Adds a drawn constraint.
+fn add_constraint(alloc: Global, problem: &mut Problem, seed: &mut u64) -> Result<(), NoMemory>
+    requires width { problem.old.variables ≡ 3 }
+    requires total { problem_total problem.old < 2 ^ 99 }
+{
+    let constraint = draw_constraint(alloc, seed)?;
+    problem.add_constraint(&constraint)
+}
+
+/// Adds a clause, which is hard once in two times, two products and a constraint.
+fn add_drawn(alloc: Global, problem: &mut Problem, seed: &mut u64) -> Result<(), NoMemory>
+    requires width { problem.old.variables ≡ 3 }
+    requires total { problem_total problem.old ≡ 0 }
+{
+    let weight = match draw(seed, 2) {
+        0 => None,
+        _ => Some(2),
+    };
+    add_clause(alloc, problem, &[A, C], weight)?;
+    add_product(alloc, problem, &[A, B], draw_coefficient(seed))?;
+    add_product(alloc, problem, &[NOT_C], draw_coefficient(seed))?;
+    add_constraint(alloc, problem, seed)
+}
+
 /// An objective of two products, a clause, which is hard once in two times, and a constraint.
 fn draw_problem(alloc: Global, seed: u64) -> Result<Problem, NoMemory> {
     let mut seed = seed;
     let mut problem = Problem::new(alloc);
     problem.widen(3);
-    let weight = match draw(&mut seed, 2) {
-        0 => None,
-        _ => Some(2),
-    };
-    add_clause(alloc, &mut problem, &[A, C], weight)?;
-    add_product(alloc, &mut problem, &[A, B], draw_coefficient(&mut seed))?;
-    add_product(alloc, &mut problem, &[NOT_C], draw_coefficient(&mut seed))?;
-    problem.add_constraint(&draw_constraint(alloc, &mut seed)?)?;
+    add_drawn(alloc, &mut problem, &mut seed)?;
     Ok(problem)
 }
 
@@ -129,9 +170,10 @@ fn kept_cost(
 
 /// How many assignments have the least energy that their cost asks for: those whose cost is whole,
 /// and those whose cost is infinite.
-fn kept_costs(alloc: Global, problem: &Problem) -> Result<(u64, u64), NoMemory>
-    requires { Admits problem.now }
-{
+fn kept_costs(alloc: Global, problem: &Problem) -> Result<(u64, u64), NoMemory> {
+    if !is_admitted(problem) {
+        return Ok((0, 0));
+    }
     let mut least: Least = [None; 32];
     let Some(figures) = note_least(alloc, problem, &mut least)? else {
         return Ok((0, 0));
@@ -148,21 +190,35 @@ fn kept_costs(alloc: Global, problem: &Problem) -> Result<(u64, u64), NoMemory>
     Ok((whole, infinite))
 }
 
+/// The numbers of kept assignments of a drawn problem.
+fn kept_of_drawn(alloc: Global, seed: u64) -> Result<(u64, u64), NoMemory> {
+    let problem = draw_problem(alloc, seed)?;
+    kept_costs(alloc, &problem)
+}
+
 #[test]
 fn least_energies_stand_for_sums_with_bounds(rt: HostRuntime) -> Result<(), Fail> {
     let mut met: u64 = 0;
     let mut broken: u64 = 0;
     for seed in 0..50 {
-        let problem = draw_problem(rt.alloc(), seed)?;
-        assert!(rt; is_admitted(&problem));
-        let (whole, infinite) = kept_costs(rt.alloc(), &problem)?;
-        assert_eq!(rt; whole.saturating_add(infinite), 8, "{seed}");
+        let (whole, infinite) = kept_of_drawn(rt.alloc(), seed)?;
+        assert!(rt; whole.saturating_add(infinite) == 8, "{seed}");
         met = met.saturating_add(whole);
         broken = broken.saturating_add(infinite);
     }
     // many assignments hold to the sum, and many break it
     assert!(rt; met > 50 && broken > 50);
     Ok(())
+}
+
+fn item(variable: u8) -> Literal
+    requires { variable < 20 }
+    ensures { result ≡ record { variable = variable; negated = false } }
+{
+    Literal {
+        variable: u64::from(variable),
+        negated: false,
+    }
 }
 
 /// What an item takes off the sum: its weight, which is one more than its number.
@@ -173,25 +229,60 @@ fn item_weight(variable: u8) -> i128
     -1 - i128::from(variable)
 }
 
+/// Adds the value 10 of each item.
+fn add_values(alloc: Global, problem: &mut Problem) -> Result<(), NoMemory>
+    requires width { problem.old.variables ≡ 20 }
+    requires total { problem_total problem.old ≡ 0 }
+    ensures width { OnOk result (problem.new.variables ≡ 20) }
+    ensures total { OnOk result (problem_total problem.new ≤ 20 * 2 ^ 16) }
+{
+    for variable in 0..20_u8 {
+        add_product(alloc, problem, &[item(variable)], -10)?;
+    }
+    Ok(())
+}
+
+/// Pushes the items with their weights.
+fn push_weights(products: &mut ProductList) -> Result<(), NoMemory>
+    requires { products.old ≡ [] }
+    ensures within { OnOk result (All (λ t. All (λ l. l.variable < 20) t.literals) products.new) }
+    ensures small { OnOk result (products_total products.new ≤ 400) }
+{
+    for variable in 0..20_u8 {
+        products.push(&[item(variable)], item_weight(variable))?;
+    }
+    Ok(())
+}
+
+/// The items that are taken weigh at most 55.
+fn add_weights(alloc: Global, problem: &mut Problem) -> Result<(), NoMemory>
+    requires width { problem.old.variables ≡ 20 }
+    requires total { problem_total problem.old < 2 ^ 99 }
+{
+    let mut products = ProductList::empty(alloc);
+    push_weights(&mut products)?;
+    problem.add_constraint(&Constraint {
+        products,
+        bound: -55,
+        exact: false,
+    })
+}
+
+/// Adds the parts of `knapsack`.
+fn add_items(alloc: Global, problem: &mut Problem) -> Result<(), NoMemory>
+    requires width { problem.old.variables ≡ 20 }
+    requires total { problem_total problem.old ≡ 0 }
+{
+    add_values(alloc, problem)?;
+    add_weights(alloc, problem)
+}
+
 /// Twenty items, of the weights 1 to 20 and the value 10 each, of which those that are taken weigh
 /// at most 55.
 fn knapsack(alloc: Global) -> Result<Problem, NoMemory> {
     let mut problem = Problem::new(alloc);
     problem.widen(20);
-    let mut products = ProductList::empty(alloc);
-    for variable in 0..20_u8 {
-        let item = Literal {
-            variable: u64::from(variable),
-            negated: false,
-        };
-        add_product(alloc, &mut problem, &[item], -10)?;
-        products.push(&[item], item_weight(variable))?;
-    }
-    problem.add_constraint(&Constraint {
-        products,
-        bound: -55,
-        exact: false,
-    })?;
+    add_items(alloc, &mut problem)?;
     Ok(problem)
 }
 
@@ -210,28 +301,45 @@ fn at_nodes(table: &Table, first: u64, second: u64) -> Option<i128> {
     None
 }
 
-#[test]
-fn a_knapsack_of_twenty_items(rt: HostRuntime) -> Result<(), Fail> {
-    let problem = knapsack(rt.alloc())?;
-    assert!(rt; is_admitted(&problem));
-    let made = Penalty.guard(rt.alloc(), &problem)?;
-    assert_eq!(rt; made.link.target_width, 26);
-    assert_eq!(rt; made.figures.threshold, 0);
-    // 201 times the square of the sum less 55 and the slack, whose weights are 1, 2, 4, 8, 16, 24
-    let rows = [
-        ((0, 0), 201 * (1 - 110) - 10),
-        ((19, 19), 201 * (400 - 2200) - 10),
-        ((20, 20), 201 * (1 - 110)),
-        ((25, 25), 201 * (576 - 2640)),
-        ((0, 1), 804),
-        ((24, 25), 402 * 16 * 24),
-    ];
-    for ((first, second), coefficient) in rows {
-        assert_eq!(rt;
-            at_nodes(&made.target, first, second),
-            Some(coefficient),
-            "{first} {second}"
-        );
+/// 201 times the square of the sum less 55 and the slack, whose weights are 1, 2, 4, 8, 16, 24.
+const COEFFICIENTS: &[(u64, u64, i128)] = &[
+    (0, 0, 201 * (1 - 110) - 10),
+    (19, 19, 201 * (400 - 2200) - 10),
+    (20, 20, 201 * (1 - 110)),
+    (25, 25, 201 * (576 - 2640)),
+    (0, 1, 804),
+    (24, 25, 402 * 16 * 24),
+];
+
+fn has_coefficients(table: &Table) -> bool {
+    for (first, second, coefficient) in COEFFICIENTS {
+        if at_nodes(table, *first, *second) != Some(*coefficient) {
+            return false;
+        }
     }
-    Ok(())
+    true
+}
+
+/// Whether the table of a problem has 26 nodes, the threshold 0 and these coefficients.
+fn is_tabled(alloc: Global, problem: &Problem) -> Result<bool, NoMemory> {
+    if !is_admitted(problem) {
+        return Ok(false);
+    }
+    let made = Penalty.guard(alloc, problem)?;
+    Ok(
+        made.link.target_width == 26
+            && made.figures.threshold == 0
+            && has_coefficients(&made.target),
+    )
+}
+
+/// The same of the knapsack.
+fn is_knapsack_tabled(alloc: Global) -> Result<bool, NoMemory> {
+    let problem = knapsack(alloc)?;
+    is_tabled(alloc, &problem)
+}
+
+#[test]
+fn a_knapsack_of_twenty_items(rt: HostRuntime) {
+    assert!(rt; is_knapsack_tabled(rt.alloc()) == Ok(true));
 }

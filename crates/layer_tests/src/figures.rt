@@ -6,7 +6,6 @@ use bits_model::{
     CouplerList, EntryList, Figures, Items, Kind, NoMemory, NodeWeights, total_energy,
 };
 use std::alloc::Global;
-use std::test::Fail;
 
 const fn figures(scale: i128, offset: i128, threshold: i128) -> Figures {
     Figures {
@@ -17,16 +16,15 @@ const fn figures(scale: i128, offset: i128, threshold: i128) -> Figures {
 }
 
 #[test]
-fn figures_of_steps(rt: HostRuntime) -> Result<(), Fail> {
+fn figures_of_steps(rt: HostRuntime) {
     let first = Figures {
         scale: 2,
         offset: -3,
         threshold: 7,
     };
     // 5 times, and 4 more; and moved down by 10
-    assert_eq!(rt; first.after(5, 4), figures(10, -11, 39));
-    assert_eq!(rt; first.moved(-10), figures(2, -13, -3));
-    Ok(())
+    assert!(rt; first.after(5, 4) == figures(10, -11, 39));
+    assert!(rt; first.moved(-10) == figures(2, -13, -3));
 }
 
 /// Two items, one of a list that was made before, and whether they are seen in order.
@@ -39,10 +37,8 @@ fn two_items(alloc: Global) -> Result<bool, NoMemory> {
 }
 
 #[test]
-fn items_keep_their_order(rt: HostRuntime) -> Result<(), Fail> {
-    let kept = two_items(rt.alloc())?;
-    assert!(rt; kept);
-    Ok(())
+fn items_keep_their_order(rt: HostRuntime) {
+    assert!(rt; two_items(rt.alloc()) == Ok(true));
 }
 
 /// The weights 3, 5 and 7 of nodes, and 2 of the first with the last.
@@ -59,25 +55,33 @@ fn three_nodes(alloc: Global) -> Result<EntryList, NoMemory>
     })
 }
 
+/// Whether a state has these energies, over bits and over spins.
+fn has_energies(alloc: Global, y: &[bool; 3], bits: i128, spins: i128) -> Result<bool, NoMemory> {
+    let entries = three_nodes(alloc)?;
+    Ok(
+        total_energy(Kind::Qubo, y, &entries) == bits
+            && total_energy(Kind::Ising, y, &entries) == spins,
+    )
+}
+
+/// Each state with its energies, over bits and over spins.
+const ENERGIES: &[([bool; 3], i128, i128)] = &[
+    ([false, false, false], 0, -13),
+    ([true, false, false], 3, -11),
+    ([false, true, false], 5, -3),
+    ([true, true, false], 8, -1),
+    ([false, false, true], 7, -3),
+    ([true, false, true], 12, 7),
+    ([false, true, true], 12, 7),
+    ([true, true, true], 17, 17),
+];
+
 #[test]
-fn energies_of_bits_and_of_spins(rt: HostRuntime) -> Result<(), Fail> {
-    let entries = three_nodes(rt.alloc())?;
-    let rows = [
-        ([false, false, false], 0, -13),
-        ([true, false, false], 3, -11),
-        ([false, true, false], 5, -3),
-        ([true, true, false], 8, -1),
-        ([false, false, true], 7, -3),
-        ([true, false, true], 12, 7),
-        ([false, true, true], 12, 7),
-        ([true, true, true], 17, 17),
-    ];
-    for (y, bits, spins) in rows {
-        let found = (
-            total_energy(Kind::Qubo, &y, &entries),
-            total_energy(Kind::Ising, &y, &entries),
+fn energies_of_bits_and_of_spins(rt: HostRuntime) {
+    for (y, bits, spins) in ENERGIES {
+        assert!(rt;
+            has_energies(rt.alloc(), y, *bits, *spins) == Ok(true),
+            "{y:?}"
         );
-        assert_eq!(rt; found, (bits, spins));
     }
-    Ok(())
 }

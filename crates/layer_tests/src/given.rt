@@ -84,6 +84,22 @@ pub fn add_clause(
     problem.add_literals(&mut written, weight)
 }
 
+/// Adds clauses, each as its literals and its weight.
+fn add_clauses(
+    alloc: Global,
+    problem: &mut Problem,
+    clauses: &[(&[Literal], Option<u64>)],
+) -> Result<(), NoMemory>
+    requires few { length clauses.now < 100 }
+    requires total { problem_total problem.old ≡ 0 }
+    ensures { OnOk result (problem.new.variables ≡ problem.old.variables) }
+{
+    for (literals, weight) in clauses {
+        add_clause(alloc, problem, literals, *weight)?;
+    }
+    Ok(())
+}
+
 /// A problem that has clauses alone, each as its literals and its weight.
 pub fn problem_of(
     alloc: Global,
@@ -95,9 +111,7 @@ pub fn problem_of(
 {
     let mut problem = Problem::new(alloc);
     problem.widen(variables);
-    for (literals, weight) in clauses {
-        add_clause(alloc, &mut problem, literals, *weight)?;
-    }
+    add_clauses(alloc, &mut problem, clauses)?;
     Ok(problem)
 }
 

@@ -1,6 +1,5 @@
 //! The joins of two small graphs, against lists made by hand, and the sizes that are taken.
 use chimera_graph::{Chimera, Hardware, Place};
-use std::test::Fail;
 
 /// The first pair of qubits at which the graph and the list differ. The list has each join once.
 fn first_difference<H: Hardware>(graph: &H, joins: &[(u32, u32)]) -> Option<(u32, u32)> {
@@ -36,44 +35,61 @@ const IN_ROWS: [(u32, u32); 13] = [
     (9, 11),
 ];
 
-#[test]
-fn joins_of_small_graphs(rt: HostRuntime) -> Result<(), Fail> {
-    let rows: [(u32, u32, u32, u32, &[(u32, u32)]); 2] = [
-        (1, 1, 2, 4, &INSIDE),
-        (3, 2, 1, 12, &IN_ROWS),
-    ];
-    for (rows, cols, shore, qubits, joins) in rows {
-        let graph = Chimera::new(rows, cols, shore).ok_or("refused")?;
-        assert_eq!(rt;
-            (graph.qubits(), first_difference(&graph, joins)),
-            (qubits, None)
-        );
-    }
-    Ok(())
+/// How many qubits the graph of a size has, and the first pair of them at which it differs from a
+/// list of joins.
+fn compared(size: &[u32; 3], joins: &[(u32, u32)]) -> Option<(u32, Option<(u32, u32)>)> {
+    let [rows, cols, shore] = *size;
+    let graph = Chimera::new(rows, cols, shore)?;
+    Some((graph.qubits(), first_difference(&graph, joins)))
 }
 
+/// Each size with how many qubits it has, and their joins.
+const GRAPHS: &[([u32; 3], u32, &[(u32, u32)])] = &[
+    ([1, 1, 2], 4, &INSIDE),
+    ([3, 2, 1], 12, &IN_ROWS),
+];
+
 #[test]
-fn places_and_sizes(rt: HostRuntime) -> Result<(), Fail> {
-    let graph = Chimera::new(3, 2, 4).ok_or("refused")?;
-    let place = Place {
-        row: 2,
-        col: 1,
-        side: 0,
-        at: 3,
-    };
-    assert_eq!(rt; (graph.index(place), graph.place(43)), (43, place));
-    for (rows, cols, shore, qubits) in [
-        (1, 1, 1, Some(2)),
-        (1, 524_288, 1, Some(1_048_576)),
-        (1, 524_289, 1, None),
-        (1024, 1024, 1, None),
-        (0, 1, 1, None),
-        (1, 0, 1, None),
-        (1, 1, 0, None),
-        (u32::MAX, u32::MAX, u32::MAX, None),
-    ] {
-        let made = Chimera::new(rows, cols, shore).map(|made| made.qubits());
-        assert_eq!(rt; made, qubits, "{rows} {cols} {shore}");
+fn joins_of_small_graphs(rt: HostRuntime) {
+    for (size, qubits, joins) in GRAPHS {
+        assert!(rt; compared(size, joins) == Some((*qubits, None)), "{size:?}");
     }
-    Ok(())
+}
+
+const PLACE: Place = Place {
+    row: 2,
+    col: 1,
+    side: 0,
+    at: 3,
+};
+
+/// The number of that place, and the place of the number 43.
+fn numbered() -> Option<(u32, Place)> {
+    let graph = Chimera::new(3, 2, 4)?;
+    Some((graph.index(PLACE), graph.place(43)))
+}
+
+fn qubits_of(rows: u32, cols: u32, shore: u32) -> Option<u32> {
+    Some(Chimera::new(rows, cols, shore)?.qubits())
+}
+
+/// Each size with how many qubits it has, if it is taken.
+const SIZES: &[(u32, u32, u32, Option<u32>)] = &[
+    (1, 1, 1, Some(2)),
+    (1, 524_288, 1, Some(1_048_576)),
+    (1, 524_289, 1, None),
+    (1024, 1024, 1, None),
+    (0, 1, 1, None),
+    (1, 0, 1, None),
+    (1, 1, 0, None),
+    (u32::MAX, u32::MAX, u32::MAX, None),
+];
+
+#[test]
+fn places_and_sizes(rt: HostRuntime) {
+    assert!(rt; numbered() == Some((43, PLACE)));
+    for (rows, cols, shore, qubits) in SIZES {
+        let found = qubits_of(*rows, *cols, *shore);
+        assert!(rt; found == *qubits, "{rows} {cols} {shore}");
+    }
 }

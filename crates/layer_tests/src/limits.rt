@@ -1,48 +1,62 @@
 //! Limits, and the numbers that are counted against them.
-ghost use Rattle.std.specs.Prelude.{◌≡◌, ◌+◌, ◌<◌, ◌≤◌, ◌^◌, All, IfOk, OnOk};
+ghost use Rattle.std.specs.Prelude.{◌≡◌, ◌+◌, ◌<◌, ◌≤◌, ◌^◌, All, IfOk, OnOk, length};
 ghost use Rattle.problem_form.specs.Problems.{constraint_total, problem_total};
 
 use crate::given::{A, B, C, NOT_A, NOT_B, add_clause, are_within, passed_limit, problem_of};
 use bits_model::NoMemory;
 use problem_form::{Constraint, LimitKind, Literal, Normal, Problem, ProductList};
 use std::alloc::Global;
-use std::test::Fail;
+
+/// A limit that a problem passes, and the number that is counted against it.
+type Passed = Option<(LimitKind, u128)>;
+
+/// The first limit that a problem of clauses passes.
+fn passed_by_clauses(
+    alloc: Global,
+    variables: u64,
+    clauses: &[(&[Literal], Option<u64>)],
+) -> Result<Passed, NoMemory>
+    requires { length clauses.now < 100 }
+{
+    let problem = problem_of(alloc, variables, clauses)?;
+    Ok(passed_limit(&problem, Normal::Literal))
+}
+
+const HALF: u64 = 1 << 63;
+
+const CLAUSES: &[(u64, &[(&[Literal], Option<u64>)], Passed)] = &[
+    (1_048_576, &[], None),
+    (1_048_577, &[], Some((LimitKind::Variables, 1_048_577))),
+    (2, &[(&[NOT_B], None)], None),
+    (3, &[(&[A, NOT_B], None)], None),
+    (3, &[(&[A, NOT_B, C], None)], None),
+    // the variables are counted first
+    (
+        1_048_577,
+        &[(&[A, NOT_B, C], None)],
+        Some((LimitKind::Variables, 1_048_577)),
+    ),
+    (2, &[(&[], Some(u64::MAX))], None),
+    (
+        2,
+        &[(&[], Some(u64::MAX)), (&[A], Some(1))],
+        Some((LimitKind::Weight, 18446744073709551616)),
+    ),
+    // the soft weight, and one more for the hard clause
+    (2, &[(&[A], Some(HALF - 1)), (&[B], None)], None),
+    (
+        2,
+        &[(&[A], Some(HALF)), (&[B], None)],
+        Some((LimitKind::Weight, 18446744073709551617)),
+    ),
+];
 
 #[test]
-fn limits_of_clauses_are_exact(rt: HostRuntime) -> Result<(), Fail> {
-    let half: u64 = 1 << 63;
-    let rows: [(u64, &[(&[Literal], Option<u64>)], Option<(LimitKind, u128)>); 10] = [
-        (1_048_576, &[], None),
-        (1_048_577, &[], Some((LimitKind::Variables, 1_048_577))),
-        (2, &[(&[NOT_B], None)], None),
-        (3, &[(&[A, NOT_B], None)], None),
-        (3, &[(&[A, NOT_B, C], None)], None),
-        // the variables are counted first
-        (
-            1_048_577,
-            &[(&[A, NOT_B, C], None)],
-            Some((LimitKind::Variables, 1_048_577)),
-        ),
-        (2, &[(&[], Some(u64::MAX))], None),
-        (
-            2,
-            &[(&[], Some(u64::MAX)), (&[A], Some(1))],
-            Some((LimitKind::Weight, 18446744073709551616)),
-        ),
-        // the soft weight, and one more for the hard clause
-        (2, &[(&[A], Some(half - 1)), (&[B], None)], None),
-        (
-            2,
-            &[(&[A], Some(half)), (&[B], None)],
-            Some((LimitKind::Weight, 18446744073709551617)),
-        ),
-    ];
-    for (variables, clauses, passed) in rows {
+fn limits_of_clauses_are_exact(rt: HostRuntime) {
+    for (variables, clauses, passed) in CLAUSES {
         assert!(rt; clauses.len() < 100);
-        let problem = problem_of(rt.alloc(), variables, clauses)?;
-        assert_eq!(rt; passed_limit(&problem, Normal::Literal), passed);
+        assert!(rt; passed_by_clauses(rt.alloc(), *variables, clauses) == Ok(*passed));
     }
-    Ok(())
 }
 
 /// Adds a product, where its variables are those of the problem.
@@ -80,6 +94,15 @@ fn bound_of(alloc: Global, exact: bool) -> Result<Constraint, NoMemory>
     })
 }
 
+/// So many literals, one of each variable.
+fn literals_of(alloc: Global, negated: bool, count: u64) -> Result<Vec<Literal>, NoMemory> {
+    let mut literals = Vec::new(alloc);
+    for variable in 0..count {
+        literals.push(Literal { variable, negated })?;
+    }
+    Ok(literals)
+}
+
 /// Sixteen hard clauses that have 2^20 pairs each, also when they are multiplied out, and none
 /// where there are fewer than 1,024 variables.
 fn add_wide_clauses(alloc: Global, problem: &mut Problem) -> Result<(), NoMemory>
@@ -87,85 +110,127 @@ fn add_wide_clauses(alloc: Global, problem: &mut Problem) -> Result<(), NoMemory
     ensures same { OnOk result (problem.new.variables ≡ problem.old.variables) }
     ensures total { OnOk result (problem_total problem.new ≤ 2 ^ 68) }
 {
-    let mut literals = Vec::new(alloc);
-    for variable in 0..1024 {
-        literals.push(Literal {
-            variable,
-            negated: true,
-        })?;
-    }
+    let literals = literals_of(alloc, true, 1024)?;
     for _ in 0..16_u64 {
         add_clause(alloc, problem, &literals, None)?;
     }
     Ok(())
 }
 
+/// a + 2 b is to be at least 2, or 2.
+fn add_bound(alloc: Global, problem: &mut Problem, exact: bool) -> Result<(), NoMemory>
+    requires width { 2 ≤ problem.old.variables }
+    requires total { problem_total problem.old < 2 ^ 99 }
+    ensures { OnOk result (problem.new.variables ≡ problem.old.variables) }
+{
+    let constraint = bound_of(alloc, exact)?;
+    problem.add_constraint(&constraint)
+}
+
+/// Adds the parts of `bounded`.
+fn add_bounded(
+    alloc: Global,
+    problem: &mut Problem,
+    exact: bool,
+    number: u64,
+) -> Result<(), NoMemory>
+    requires width { 2 ≤ problem.old.variables }
+    requires total { problem_total problem.old ≡ 0 }
+    ensures { OnOk result (problem.new.variables ≡ problem.old.variables) }
+{
+    add_wide_clauses(alloc, problem)?;
+    add_clause(alloc, problem, &[], Some(number))?;
+    add_product(alloc, problem, &[], 4)?;
+    add_product(alloc, problem, &[A], 3)?;
+    add_product(alloc, problem, &[NOT_B], -2)?;
+    add_bound(alloc, problem, exact)
+}
+
 /// 4 + 3 a - 2 ~b and a number, where a + 2 b is at least 2, or is 2. With 1,024 variables or more
 /// there are wide clauses too.
 pub fn bounded(alloc: Global, variables: u64, exact: bool, number: u64) -> Result<Problem, NoMemory>
     requires { 2 ≤ variables }
+    ensures { IfOk result (λ p. p.variables ≡ variables) }
 {
     let mut problem = Problem::new(alloc);
     problem.widen(variables);
-    add_wide_clauses(alloc, &mut problem)?;
-    add_clause(alloc, &mut problem, &[], Some(number))?;
-    add_product(alloc, &mut problem, &[], 4)?;
-    add_product(alloc, &mut problem, &[A], 3)?;
-    add_product(alloc, &mut problem, &[NOT_B], -2)?;
-    problem.add_constraint(&bound_of(alloc, exact)?)?;
+    add_bounded(alloc, &mut problem, exact, number)?;
     Ok(problem)
 }
 
-#[test]
-fn pairs_of_a_bounded_sum(rt: HostRuntime) -> Result<(), Fail> {
-    // At least 2: the sum of two products, one slack bit and the bound is squared. The two products
-    // outside have two pairs, or three where the complement is multiplied out. The wide clauses
-    // have as many as are accepted.
-    let most: u128 = 1 << 24;
-    let rows = [
-        (false, Normal::Literal, most + 2 + 16),
-        (true, Normal::Literal, most + 2 + 9),
-        (false, Normal::Multilinear, most + 3 + 16),
-        (true, Normal::Multilinear, most + 3 + 9),
-    ];
-    for (exact, normal, pairs) in rows {
-        let problem = bounded(rt.alloc(), 1024, exact, 0)?;
-        assert_eq!(rt;
-            passed_limit(&problem, normal),
-            Some((LimitKind::Pairs, pairs))
-        );
-    }
-    Ok(())
+/// The first limit that a bounded sum passes.
+fn passed_by_sum(
+    alloc: Global,
+    variables: u64,
+    exact: bool,
+    number: u64,
+    normal: Normal,
+) -> Result<Passed, NoMemory>
+    requires { 2 ≤ variables }
+{
+    let problem = bounded(alloc, variables, exact, number)?;
+    Ok(passed_limit(&problem, normal))
 }
 
+/// Of wide clauses, which have as many pairs as are accepted.
+const MOST_PAIRS: u128 = 1 << 24;
+
+/// At least 2: the sum of two products, one slack bit and the bound is squared. The two products
+/// outside have two pairs, or three where the complement is multiplied out.
+const PAIRS: &[(bool, Normal, u128)] = &[
+    (false, Normal::Literal, 2 + 16),
+    (true, Normal::Literal, 2 + 9),
+    (false, Normal::Multilinear, 3 + 16),
+    (true, Normal::Multilinear, 3 + 9),
+];
+
 #[test]
-fn weight_of_a_bounded_sum(rt: HostRuntime) -> Result<(), Fail> {
-    // The constant, the products outside, and 6 times the square of the sizes of the sum, its slack
-    // and its bound. They come to 6, and to 5 where it is exact.
-    let (least, exact) = (9 + 6 * 36, 9 + 6 * 25);
-    let most = u64::MAX;
-    let limit = u128::from(most);
-    let rows = [
-        (false, most - least, None),
-        (
-            false,
-            most,
-            Some((LimitKind::Weight, limit + u128::from(least))),
-        ),
-        (true, most - exact, None),
-        (
-            true,
-            most,
-            Some((LimitKind::Weight, limit + u128::from(exact))),
-        ),
-    ];
-    for (exact, number, passed) in rows {
-        let problem = bounded(rt.alloc(), 2, exact, number)?;
-        assert!(rt; problem.cost_size() == 5 && problem.penalty() == 6);
-        let multiplied_out = passed_limit(&problem, Normal::Multilinear);
-        assert!(rt; passed_limit(&problem, Normal::Literal) == passed && multiplied_out == passed);
+fn pairs_of_a_bounded_sum(rt: HostRuntime) {
+    for (exact, normal, pairs) in PAIRS {
+        let passed = Some((LimitKind::Pairs, MOST_PAIRS.saturating_add(*pairs)));
+        assert!(rt; passed_by_sum(rt.alloc(), 1024, *exact, 0, *normal) == Ok(passed));
     }
-    Ok(())
+}
+
+/// Whether the costs of a bounded sum come to 5, so that 6 is its penalty, and this is the first
+/// limit that it passes, also where it is multiplied out.
+fn is_weighed(alloc: Global, exact: bool, number: u64, passed: Passed) -> Result<bool, NoMemory> {
+    let problem = bounded(alloc, 2, exact, number)?;
+    Ok(
+        problem.cost_size() == 5
+            && problem.penalty() == 6
+            && passed_limit(&problem, Normal::Literal) == passed
+            && passed_limit(&problem, Normal::Multilinear) == passed,
+    )
+}
+
+/// The products outside, and 6 times the square of the sizes of the sum, its slack and its bound,
+/// which come to 6.
+const LEAST: u64 = 9 + 6 * 36;
+
+/// Where it is exact they come to 5.
+const EXACT: u64 = 9 + 6 * 25;
+
+const WEIGHTS: &[(bool, u64, Passed)] = &[
+    (false, u64::MAX - LEAST, None),
+    (
+        false,
+        u64::MAX,
+        Some((LimitKind::Weight, u64::MAX as u128 + LEAST as u128)),
+    ),
+    (true, u64::MAX - EXACT, None),
+    (
+        true,
+        u64::MAX,
+        Some((LimitKind::Weight, u64::MAX as u128 + EXACT as u128)),
+    ),
+];
+
+#[test]
+fn weight_of_a_bounded_sum(rt: HostRuntime) {
+    for (exact, number, passed) in WEIGHTS {
+        assert!(rt; is_weighed(rt.alloc(), *exact, *number, *passed) == Ok(true));
+    }
 }
 
 /// Where literals stand.
@@ -192,6 +257,32 @@ fn sum_of_one(alloc: Global, literals: &[Literal], variables: u64) -> Result<Con
     })
 }
 
+/// Twice one product is to be at least 1.
+fn add_sum(alloc: Global, problem: &mut Problem, literals: &[Literal]) -> Result<(), NoMemory>
+    requires within { All (λ l. l.variable < problem.old.variables) literals.now }
+    requires total { problem_total problem.old ≡ 0 }
+{
+    let sum = sum_of_one(alloc, literals, problem.variables)?;
+    problem.add_constraint(&sum)
+}
+
+/// Adds these literals alone, where their variables are those of the problem.
+fn add_at(
+    alloc: Global,
+    problem: &mut Problem,
+    place: Place,
+    literals: &[Literal],
+) -> Result<(), NoMemory>
+    requires { problem_total problem.old ≡ 0 }
+{
+    match place {
+        Place::Clause => add_clause(alloc, problem, literals, Some(1)),
+        Place::Objective => add_product(alloc, problem, literals, 1),
+        Place::Sum if are_within(literals, problem.variables) => add_sum(alloc, problem, literals),
+        Place::Sum => Ok(()),
+    }
+}
+
 /// A problem with these literals alone.
 fn problem_at(
     alloc: Global,
@@ -201,14 +292,7 @@ fn problem_at(
 ) -> Result<Problem, NoMemory> {
     let mut problem = Problem::new(alloc);
     problem.widen(variables);
-    match place {
-        Place::Clause => add_clause(alloc, &mut problem, literals, Some(1))?,
-        Place::Objective => add_product(alloc, &mut problem, literals, 1)?,
-        Place::Sum if are_within(literals, variables) => {
-            problem.add_constraint(&sum_of_one(alloc, literals, variables)?)?
-        }
-        Place::Sum => {}
-    }
+    add_at(alloc, &mut problem, place, literals)?;
     Ok(problem)
 }
 
@@ -219,62 +303,59 @@ fn limit_of_literals(
     negated: bool,
     count: u64,
     normal: Normal,
-) -> Result<Option<(LimitKind, u128)>, NoMemory> {
-    let mut literals = Vec::new(alloc);
-    for variable in 0..count {
-        literals.push(Literal { variable, negated })?;
-    }
+) -> Result<Passed, NoMemory> {
+    let literals = literals_of(alloc, negated, count)?;
     let problem = problem_at(alloc, count, place, &literals)?;
     Ok(passed_limit(&problem, normal))
 }
 
-#[test]
-fn complements_that_are_multiplied_out(rt: HostRuntime) -> Result<(), Fail> {
-    let (kept, multiplied_out) = (Normal::Literal, Normal::Multilinear);
-    let nine = Some((LimitKind::Negations, 9));
-    // the product of a clause has the complements of its literals, and a square has those twice
-    let rows = [
-        (Place::Clause, false, 9, kept, None),
-        (Place::Clause, false, 9, multiplied_out, nine),
-        (Place::Clause, false, 8, multiplied_out, None),
-        (Place::Clause, true, 9, multiplied_out, None),
-        (Place::Objective, true, 9, kept, None),
-        (Place::Objective, true, 9, multiplied_out, nine),
-        (Place::Objective, true, 8, multiplied_out, None),
-        (Place::Sum, true, 5, kept, None),
-        (
-            Place::Sum,
-            true,
-            5,
-            multiplied_out,
-            Some((LimitKind::Negations, 10)),
-        ),
-        (Place::Sum, true, 4, multiplied_out, None),
-    ];
-    for (place, negated, count, normal, passed) in rows {
-        let found = limit_of_literals(rt.alloc(), place, negated, count, normal)?;
-        assert_eq!(rt; found, passed, "{place:?} {count}");
-    }
-    Ok(())
-}
+/// The product of a clause has the complements of its literals, and a square has those twice.
+const COMPLEMENTS: &[(Place, bool, u64, Normal, Passed)] = &[
+    (Place::Clause, false, 9, Normal::Literal, None),
+    (Place::Clause, false, 9, Normal::Multilinear, NINE),
+    (Place::Clause, false, 8, Normal::Multilinear, None),
+    (Place::Clause, true, 9, Normal::Multilinear, None),
+    (Place::Objective, true, 9, Normal::Literal, None),
+    (Place::Objective, true, 9, Normal::Multilinear, NINE),
+    (Place::Objective, true, 8, Normal::Multilinear, None),
+    (Place::Sum, true, 5, Normal::Literal, None),
+    (
+        Place::Sum,
+        true,
+        5,
+        Normal::Multilinear,
+        Some((LimitKind::Negations, 10)),
+    ),
+    (Place::Sum, true, 4, Normal::Multilinear, None),
+];
+
+const NINE: Passed = Some((LimitKind::Negations, 9));
 
 #[test]
-fn literals_and_pairs_of_one_part(rt: HostRuntime) -> Result<(), Fail> {
-    let degree = Some((LimitKind::Degree, 1025));
-    // the square of a product, a slack bit and a bound: nine products of at most twice the degree
-    let pairs = 9 * 4 * 683 * 683;
-    let rows = [
-        (Place::Clause, 1024, None),
-        (Place::Clause, 1025, degree),
-        (Place::Objective, 1024, None),
-        (Place::Objective, 1025, degree),
-        (Place::Sum, 1025, degree),
-        (Place::Sum, 682, None),
-        (Place::Sum, 683, Some((LimitKind::Pairs, pairs))),
-    ];
-    for (place, count, passed) in rows {
-        let found = limit_of_literals(rt.alloc(), place, false, count, Normal::Literal)?;
-        assert_eq!(rt; found, passed, "{place:?} {count}");
+fn complements_that_are_multiplied_out(rt: HostRuntime) {
+    for (place, negated, count, normal, passed) in COMPLEMENTS {
+        let found = limit_of_literals(rt.alloc(), *place, *negated, *count, *normal);
+        assert!(rt; found == Ok(*passed), "{place:?} {count}");
     }
-    Ok(())
+}
+
+const DEGREE: Passed = Some((LimitKind::Degree, 1025));
+
+/// The square of a product, a slack bit and a bound has nine products of at most twice the degree.
+const DEGREES: &[(Place, u64, Passed)] = &[
+    (Place::Clause, 1024, None),
+    (Place::Clause, 1025, DEGREE),
+    (Place::Objective, 1024, None),
+    (Place::Objective, 1025, DEGREE),
+    (Place::Sum, 1025, DEGREE),
+    (Place::Sum, 682, None),
+    (Place::Sum, 683, Some((LimitKind::Pairs, 9 * 4 * 683 * 683))),
+];
+
+#[test]
+fn literals_and_pairs_of_one_part(rt: HostRuntime) {
+    for (place, count, passed) in DEGREES {
+        let found = limit_of_literals(rt.alloc(), *place, false, *count, Normal::Literal);
+        assert!(rt; found == Ok(*passed), "{place:?} {count}");
+    }
 }

@@ -7,7 +7,6 @@ use bits_model::{
 };
 use model_text::written_text;
 use std::alloc::Global;
-use std::test::Fail;
 
 const FIGURES: Figures = Figures {
     scale: 3,
@@ -200,10 +199,8 @@ fn have_texts(alloc: Global) -> Result<[bool; 4], NoMemory> {
 }
 
 #[test]
-fn texts_of_models_of_each_kind(rt: HostRuntime) -> Result<(), Fail> {
-    let texts = have_texts(rt.alloc())?;
-    assert_eq!(rt; texts, [true; 4]);
-    Ok(())
+fn texts_of_models_of_each_kind(rt: HostRuntime) {
+    assert!(rt; have_texts(rt.alloc()) == Ok([true; 4]));
 }
 
 // ---- energies
@@ -227,22 +224,23 @@ fn energies_of_two(alloc: Global, y: [bool; 2]) -> Result<[Option<Cost>; 3], NoM
     ])
 }
 
+/// Each state with its energies, over bits and over spins.
+const OF_TWO: &[([bool; 2], i128, i128)] = &[
+    ([false, false], 0, 25),
+    ([true, false], 0, 15),
+    ([false, true], -20, -25),
+    ([true, true], -15, -15),
+];
+
 #[test]
-fn energies_of_two_nodes(rt: HostRuntime) -> Result<(), Fail> {
-    let rows = [
-        ([false, false], 0, 25),
-        ([true, false], 0, 15),
-        ([false, true], -20, -25),
-        ([true, true], -15, -15),
-    ];
-    for (y, bits, spins) in rows {
-        let found = energies_of_two(rt.alloc(), y)?;
-        assert_eq!(rt;
-            found,
-            [bits, spins, spins].map(|energy| Some(Cost::Whole(energy)))
+fn energies_of_two_nodes(rt: HostRuntime) {
+    for (y, bits, spins) in OF_TWO {
+        let (bits, spins) = (Some(Cost::Whole(*bits)), Some(Cost::Whole(*spins)));
+        assert!(rt;
+            energies_of_two(rt.alloc(), *y) == Ok([bits, spins, spins]),
+            "{y:?}"
         );
     }
-    Ok(())
 }
 
 fn energy_of_chained(alloc: Global, y: [bool; 6]) -> Result<Option<Cost>, NoMemory> {
@@ -256,25 +254,28 @@ fn energy_of_chained(alloc: Global, y: [bool; 6]) -> Result<Option<Cost>, NoMemo
     Ok(energy)
 }
 
+const UP: bool = true;
+
+const DOWN: bool = false;
+
+/// The fields are 1, -2, 4, 8 and -16, and the couplings -32 and -128 and -256 inside the chains and
+/// 64 between them. The last qubit counts nothing.
+const OF_CHAINS: &[([bool; 6], i128)] = &[
+    ([DOWN, DOWN, DOWN, DOWN, DOWN, DOWN], 5 - 352),
+    ([UP, UP, UP, UP, UP, UP], -5 - 352),
+    ([UP, DOWN, DOWN, UP, DOWN, DOWN], 23 - 480),
+    ([UP, DOWN, DOWN, UP, DOWN, UP], 23 - 480),
+    ([DOWN, UP, UP, DOWN, UP, DOWN], -23 - 480),
+    // a broken first chain, and a second one that is broken at either end
+    ([UP, DOWN, DOWN, DOWN, DOWN, DOWN], 7 - 288),
+    ([DOWN, UP, DOWN, DOWN, DOWN, DOWN], 1 - 224),
+    ([DOWN, DOWN, UP, DOWN, DOWN, DOWN], 13 + 160),
+];
+
 #[test]
-fn energies_of_chains(rt: HostRuntime) -> Result<(), Fail> {
-    let (up, down) = (true, false);
-    // The fields are 1, -2, 4, 8 and -16, and the couplings -32 and -128 and -256 inside the chains
-    // and 64 between them. The last qubit counts nothing.
-    let rows = [
-        ([down, down, down, down, down, down], 5 - 352),
-        ([up, up, up, up, up, up], -5 - 352),
-        ([up, down, down, up, down, down], 23 - 480),
-        ([up, down, down, up, down, up], 23 - 480),
-        ([down, up, up, down, up, down], -23 - 480),
-        // a broken first chain, and a second one that is broken at either end
-        ([up, down, down, down, down, down], 7 - 288),
-        ([down, up, down, down, down, down], 1 - 224),
-        ([down, down, up, down, down, down], 13 + 160),
-    ];
-    for (y, energy) in rows {
-        let found = energy_of_chained(rt.alloc(), y)?;
-        assert_eq!(rt; found, Some(Cost::Whole(energy)));
+fn energies_of_chains(rt: HostRuntime) {
+    for (y, energy) in OF_CHAINS {
+        let energy = Some(Cost::Whole(*energy));
+        assert!(rt; energy_of_chained(rt.alloc(), *y) == Ok(energy), "{y:?}");
     }
-    Ok(())
 }

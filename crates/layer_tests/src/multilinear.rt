@@ -1,13 +1,14 @@
 //! Clauses in multilinear form, against hand arithmetic.
+ghost use Rattle.std.specs.Prelude.{◌≡◌, ◌<◌, length};
 ghost use Rattle.std.specs.Bool.{OnTrue};
 ghost use Rattle.normal_form.specs.Multilinear.{Admits};
 
 use crate::given::{A, B, C, NOT_A, NOT_B, are_terms, problem_of};
 use crate::penalties::extends_to;
-use bits_model::{Figures, Guard};
+use bits_model::{Figures, Guard, NoMemory};
 use normal_form::MultilinearForm;
 use problem_form::{Choices, High, Literal, Normal, Problem, check_limits};
-use std::test::Fail;
+use std::alloc::Global;
 
 const CHOICES: Choices = Choices {
     normal: Normal::Multilinear,
@@ -35,34 +36,72 @@ const NONE_OF_THREE: [(&[Literal], i128); 8] = [
     (&[C], -2),
 ];
 
+/// The figures of the multilinear form of a problem, where these are its terms.
+fn multiplied_out(
+    alloc: Global,
+    problem: &Problem,
+    terms: &[(&[Literal], i128)],
+) -> Result<Option<Figures>, NoMemory> {
+    if !is_admitted(problem) {
+        return Ok(None);
+    }
+    let made = MultilinearForm.guard(alloc, problem)?;
+    Ok(if are_terms(made.target.terms(), terms) {
+        Some(made.figures)
+    } else {
+        None
+    })
+}
+
+/// The same of a problem of clauses.
+fn clauses_out(
+    alloc: Global,
+    variables: u64,
+    clauses: &[(&[Literal], Option<u64>)],
+    terms: &[(&[Literal], i128)],
+) -> Result<Option<Figures>, NoMemory>
+    requires { length clauses.now < 100 }
+{
+    let problem = problem_of(alloc, variables, clauses)?;
+    multiplied_out(alloc, &problem, terms)
+}
+
+/// Whether an assignment of three variables extends to itself.
+fn is_own_state(alloc: Global, problem: &Problem, x: &[bool; 3]) -> Result<bool, NoMemory>
+    requires { problem.now.variables ≡ 3 }
+{
+    if !is_admitted(problem) {
+        return Ok(false);
+    }
+    extends_to(alloc, &MultilinearForm, problem, x, x)
+}
+
+fn is_own_state_of_clause(alloc: Global, x: &[bool; 3]) -> Result<bool, NoMemory> {
+    let problem = problem_of(alloc, 3, &[(&[A, B, C], Some(2))])?;
+    is_own_state(alloc, &problem, x)
+}
+
 #[test]
-fn a_clause_is_multiplied_out(rt: HostRuntime) -> Result<(), Fail> {
-    let problem = problem_of(rt.alloc(), 3, &[(&[A, B, C], Some(2))])?;
-    assert!(rt; is_admitted(&problem));
-    let made = MultilinearForm.guard(rt.alloc(), &problem)?;
+fn a_clause_is_multiplied_out(rt: HostRuntime) {
     let figures = Figures {
         scale: 1,
         offset: 0,
         threshold: 2,
     };
-    assert!(rt; made.figures == figures && are_terms(made.target.terms(), &NONE_OF_THREE));
-
-    let none = [false, false, false];
-    assert!(rt; extends_to(rt.alloc(), &MultilinearForm, &problem, &none, &none)?);
-    Ok(())
+    let found = clauses_out(rt.alloc(), 3, &[(&[A, B, C], Some(2))], &NONE_OF_THREE);
+    assert!(rt; found == Ok(Some(figures)));
+    assert!(rt; is_own_state_of_clause(rt.alloc(), &[false, false, false]) == Ok(true));
 }
 
+/// 3 (1 - a) (1 - b) + 3 a + 3 b is 3 + 3 a b.
+const CANCELLING: [(&[Literal], Option<u64>); 3] = [
+    (&[A, B], Some(3)),
+    (&[NOT_A], Some(3)),
+    (&[NOT_B], Some(3)),
+];
+
 #[test]
-fn sums_that_cancel_are_left_out(rt: HostRuntime) -> Result<(), Fail> {
-    // 3 (1 - a) (1 - b) + 3 a + 3 b is 3 + 3 a b
-    let clauses: [(&[Literal], Option<u64>); 3] = [
-        (&[A, B], Some(3)),
-        (&[NOT_A], Some(3)),
-        (&[NOT_B], Some(3)),
-    ];
-    let problem = problem_of(rt.alloc(), 2, &clauses)?;
-    assert!(rt; is_admitted(&problem));
-    let made = MultilinearForm.guard(rt.alloc(), &problem)?;
-    assert!(rt; are_terms(made.target.terms(), &[(&[], 3), (&[A, B], 3)]));
-    Ok(())
+fn sums_that_cancel_are_left_out(rt: HostRuntime) {
+    let found = clauses_out(rt.alloc(), 2, &CANCELLING, &[(&[], 3), (&[A, B], 3)]);
+    assert!(rt; matches!(found, Ok(Some(_))));
 }

@@ -1,4 +1,5 @@
 //! Hard and soft clauses, under penalties, and then with new nodes, against hand arithmetic.
+ghost use Rattle.std.specs.Prelude.{◌≡◌};
 ghost use Rattle.std.specs.Bool.{OnTrue};
 ghost use Rattle.bits_model.specs.Costs.{IsOf};
 ghost use Rattle.penalty_layer.specs.Penalty.{Admits};
@@ -9,7 +10,6 @@ use monomial_layer::Monomials;
 use penalty_layer::Penalty;
 use problem_form::{Choices, High, Literal, Normal, Problem, check_limits};
 use std::alloc::Global;
-use std::test::Fail;
 
 const CHOICES: Choices = Choices {
     normal: Normal::Literal,
@@ -51,33 +51,57 @@ const WITH_A_NODE: [(&[Literal], i128); 8] = [
     (&[D], 4),
 ];
 
-#[test]
-fn a_hard_and_a_soft_clause(rt: HostRuntime) -> Result<(), Fail> {
-    let problem = problem_of(rt.alloc(), 2, &TWO_CLAUSES)?;
-    assert!(rt; is_admitted(&problem));
-    let guarded = Penalty.guard(rt.alloc(), &problem)?;
-    assert!(rt; guarded.figures == FIGURES && guarded.link.target_width == 2);
-
-    // What is infinite lies above the threshold, and all else costs the same.
+/// Whether what is infinite lies above the threshold, and all else costs the same.
+fn is_guarded(alloc: Global, problem: &Problem) -> Result<bool, NoMemory>
+    requires { problem.now.variables ≡ 2 }
+{
+    if !is_admitted(problem) {
+        return Ok(false);
+    }
+    let made = Penalty.guard(alloc, problem)?;
     let (free, three) = (Cost::Whole(0), Cost::Whole(3));
-    let costs = [Cost::Infinite, three, free, three];
-    let energies = [Cost::Whole(4), three, free, three];
-    let (before, after) = (costs_of_two(&problem), costs_of_two(&guarded.target));
-    assert!(rt; before == costs && after == energies);
-    Ok(())
+    Ok(
+        made.figures == FIGURES
+            && made.link.target_width == 2
+            && costs_of_two(problem) == [Cost::Infinite, three, free, three]
+            && costs_of_two(&made.target) == [Cost::Whole(4), three, free, three],
+    )
+}
+
+fn are_two_guarded(alloc: Global) -> Result<bool, NoMemory> {
+    let problem = problem_of(alloc, 2, &TWO_CLAUSES)?;
+    is_guarded(alloc, &problem)
 }
 
 #[test]
-fn penalties_and_new_nodes(rt: HostRuntime) -> Result<(), Fail> {
-    let problem = problem_of(rt.alloc(), 3, &WITH_THREE)?;
-    assert!(rt; is_admitted(&problem));
-    let steps = Then {
+fn a_hard_and_a_soft_clause(rt: HostRuntime) {
+    assert!(rt; are_two_guarded(rt.alloc()) == Ok(true));
+}
+
+fn steps() -> Then<Penalty, Monomials> {
+    Then {
         first: Penalty,
         second: Monomials,
-    };
-    let guarded = steps.guard(rt.alloc(), &problem)?;
-    assert!(rt; guarded.figures == FIGURES && are_terms(guarded.target.terms(), &WITH_A_NODE));
-    Ok(())
+    }
+}
+
+/// Whether there is a new node.
+fn has_a_node(alloc: Global, problem: &Problem) -> Result<bool, NoMemory> {
+    if !is_admitted(problem) {
+        return Ok(false);
+    }
+    let made = steps().guard(alloc, problem)?;
+    Ok(made.figures == FIGURES && are_terms(made.target.terms(), &WITH_A_NODE))
+}
+
+fn have_three_a_node(alloc: Global) -> Result<bool, NoMemory> {
+    let problem = problem_of(alloc, 3, &WITH_THREE)?;
+    has_a_node(alloc, &problem)
+}
+
+#[test]
+fn penalties_and_new_nodes(rt: HostRuntime) {
+    assert!(rt; have_three_a_node(rt.alloc()) == Ok(true));
 }
 
 /// Whether the assignment extends to this state, which decodes to it.
@@ -97,25 +121,50 @@ pub fn extends_to<G: Guard>(
     Ok(state.as_slice() == y && again.as_slice() == x)
 }
 
-#[test]
-fn an_assignment_is_its_own_state(rt: HostRuntime) -> Result<(), Fail> {
-    let problem = problem_of(rt.alloc(), 2, &TWO_CLAUSES)?;
-    assert!(rt; is_admitted(&problem));
-    for x in [[false, false], [true, false]] {
-        let extended = extends_to(rt.alloc(), &Penalty, &problem, &x, &x)?;
-        assert!(rt; extended);
+/// Whether an assignment of two variables is its own state.
+fn is_own_state(alloc: Global, problem: &Problem, x: &[bool; 2]) -> Result<bool, NoMemory>
+    requires { problem.now.variables ≡ 2 }
+{
+    if !is_admitted(problem) {
+        return Ok(false);
     }
-    Ok(())
+    extends_to(alloc, &Penalty, problem, x, x)
+}
+
+fn is_own_state_of_two(alloc: Global, x: &[bool; 2]) -> Result<bool, NoMemory> {
+    let problem = problem_of(alloc, 2, &TWO_CLAUSES)?;
+    is_own_state(alloc, &problem, x)
 }
 
 #[test]
-fn an_assignment_gets_the_bit_of_a_new_node(rt: HostRuntime) -> Result<(), Fail> {
-    let problem = problem_of(rt.alloc(), 3, &WITH_THREE)?;
-    assert!(rt; is_admitted(&problem));
-    let steps = Then {
-        first: Penalty,
-        second: Monomials,
-    };
+fn an_assignment_is_its_own_state(rt: HostRuntime) {
+    for x in [[false, false], [true, false]] {
+        assert!(rt; is_own_state_of_two(rt.alloc(), &x) == Ok(true), "{x:?}");
+    }
+}
+
+/// Whether an assignment of three variables extends to this state.
+fn gets_bit(
+    alloc: Global,
+    problem: &Problem,
+    x: &[bool; 3],
+    y: &[bool; 4],
+) -> Result<bool, NoMemory>
+    requires { problem.now.variables ≡ 3 }
+{
+    if !is_admitted(problem) {
+        return Ok(false);
+    }
+    extends_to(alloc, &steps(), problem, x, y)
+}
+
+fn gets_bit_of_three(alloc: Global, x: &[bool; 3], y: &[bool; 4]) -> Result<bool, NoMemory> {
+    let problem = problem_of(alloc, 3, &WITH_THREE)?;
+    gets_bit(alloc, &problem, x, y)
+}
+
+#[test]
+fn an_assignment_gets_the_bit_of_a_new_node(rt: HostRuntime) {
     // The node is taken where two or more of a, b and c are false.
     let rows = [
         ([false, false, false], [false, false, false, true]),
@@ -124,35 +173,35 @@ fn an_assignment_gets_the_bit_of_a_new_node(rt: HostRuntime) -> Result<(), Fail>
         ([true, true, true], [true, true, true, false]),
     ];
     for (x, y) in rows {
-        let extended = extends_to(rt.alloc(), &steps, &problem, &x, &y)?;
-        assert!(rt; extended);
+        assert!(rt; gets_bit_of_three(rt.alloc(), &x, &y) == Ok(true), "{x:?}");
     }
-    Ok(())
 }
 
 /// What a state of four nodes decodes to, by penalties and new nodes.
-fn decodes_to(alloc: Global, problem: &Problem, y: [bool; 4], x: &[bool]) -> Result<bool, NoMemory>
-    requires { Admits problem.now }
-{
-    let steps = Then {
-        first: Penalty,
-        second: Monomials,
-    };
-    let made = steps.guard(alloc, problem)?;
+fn decodes_to(
+    alloc: Global,
+    problem: &Problem,
+    y: &[bool; 4],
+    x: &[bool],
+) -> Result<bool, NoMemory> {
+    if !is_admitted(problem) {
+        return Ok(false);
+    }
+    let made = steps().guard(alloc, problem)?;
     if made.link.second.target_width != 4 {
         return Ok(false);
     }
-    Ok(steps.decode(alloc, &made.link, &y)?.as_slice() == x)
+    Ok(steps().decode(alloc, &made.link, y)?.as_slice() == x)
+}
+
+fn decodes_to_first_bits(alloc: Global, y: &[bool; 4]) -> Result<bool, NoMemory> {
+    let problem = problem_of(alloc, 3, &WITH_THREE)?;
+    decodes_to(alloc, &problem, y, &[true, false, true])
 }
 
 #[test]
-fn a_state_decodes_to_its_first_bits(rt: HostRuntime) -> Result<(), Fail> {
-    let problem = problem_of(rt.alloc(), 3, &WITH_THREE)?;
-    assert!(rt; is_admitted(&problem));
-    for last in [false, true] {
-        let x = [true, false, true];
-        let decoded = decodes_to(rt.alloc(), &problem, [true, false, true, last], &x)?;
-        assert!(rt; decoded);
+fn a_state_decodes_to_its_first_bits(rt: HostRuntime) {
+    for y in [[true, false, true, false], [true, false, true, true]] {
+        assert!(rt; decodes_to_first_bits(rt.alloc(), &y) == Ok(true), "{y:?}");
     }
-    Ok(())
 }

@@ -4,12 +4,11 @@ ghost use Rattle.std.specs.Prelude.{◌+◌, ◌*◌, ◌≤◌, ◌<◌, ◌^�
 ghost use Rattle.bits_model.specs.Costs.{IsOf};
 
 use crate::given::{A, B, C, NOT_A, NOT_B, costs_of_two, table_of};
-use bits_model::{Cost, Entry, Figures, Layer, NoMemory, OutputModel, Then};
+use bits_model::{Cost, CouplerList, Figures, Layer, NoMemory, OutputModel, Then};
 use monomial_layer::Monomials;
 use problem_form::Literal;
 use quad_form::{Flatten, Quad};
 use std::alloc::Global;
-use std::test::Fail;
 use term_table::low;
 
 /// 3 a + 5 (1 - b) + 7 a (1 - b), which is 5 + 10 a - 5 b - 7 a b.
@@ -25,13 +24,8 @@ pub(crate) const ONE_PAIR: [(&[Literal], i128); 3] = [
 /// 5 a b c, which is 5 (a b + a c + b c) + 5 d (1 - a - b - c) at its least.
 const OF_THREE: [(&[Literal], i128); 1] = [(&[A, B, C], 5)];
 
-pub(crate) const fn entry(first: u32, second: u32, weight: i128) -> Entry {
-    Entry {
-        first,
-        second,
-        weight,
-    }
-}
+/// A coupler or a node's weight: two nodes, which are equal of a weight, and a number.
+pub(crate) type Row = (u32, u32, i128);
 
 /// The quadratic form of a table of few terms, or `None` where they are not low.
 pub(crate) fn flattened(
@@ -48,12 +42,12 @@ pub(crate) fn flattened(
     }
 }
 
-/// Whether the couplers of a form are these.
-fn has_couplers(form: &Quad, couplers: &[Entry]) -> bool {
+/// Whether the couplers are these.
+pub(crate) fn are_couplers(list: &CouplerList, couplers: &[Row]) -> bool {
     let mut others = couplers.iter();
-    for coupler in form.couplers.iter() {
+    for coupler in list.iter() {
         match others.next() {
-            Some(other) if *other == coupler => {}
+            Some(other) if *other == (coupler.first, coupler.second, coupler.weight) => {}
             _ => return false,
         }
     }
@@ -61,11 +55,11 @@ fn has_couplers(form: &Quad, couplers: &[Entry]) -> bool {
 }
 
 /// Whether the entries of a model are these.
-pub(crate) fn has_entries(model: &OutputModel, entries: &[Entry]) -> bool {
+pub(crate) fn has_entries(model: &OutputModel, entries: &[Row]) -> bool {
     let mut others = entries.iter();
     for entry in model.entries.iter() {
         match others.next() {
-            Some(other) if *other == entry => {}
+            Some(other) if *other == (entry.first, entry.second, entry.weight) => {}
             _ => return false,
         }
     }
@@ -73,15 +67,10 @@ pub(crate) fn has_entries(model: &OutputModel, entries: &[Entry]) -> bool {
 }
 
 /// Whether a form has these parts.
-pub(crate) fn has_parts(
-    form: &Quad,
-    constant: i128,
-    diagonal: &[i128],
-    couplers: &[Entry],
-) -> bool {
+pub(crate) fn has_parts(form: &Quad, constant: i128, diagonal: &[i128], couplers: &[Row]) -> bool {
     form.constant == constant
         && form.diagonal.as_slice() == diagonal
-        && has_couplers(form, couplers)
+        && are_couplers(&form.couplers, couplers)
 }
 
 fn costs_of(form: &Quad) -> Option<[Cost; 4]> {
@@ -91,29 +80,57 @@ fn costs_of(form: &Quad) -> Option<[Cost; 4]> {
     Some(costs_of_two(form))
 }
 
+/// Whether the form of a table has these parts and these costs.
+fn is_multiplied_out(
+    alloc: Global,
+    terms: &[(&[Literal], i128)],
+    parts: &(i128, &[i128], &[Row]),
+    costs: &[Cost; 4],
+) -> Result<bool, NoMemory>
+    requires { length terms.now < 100 }
+{
+    let Some(form) = flattened(alloc, 2, terms)? else {
+        return Ok(false);
+    };
+    let (constant, diagonal, couplers) = parts;
+    Ok(has_parts(&form, *constant, diagonal, couplers) && costs_of(&form) == Some(*costs))
+}
+
+const COSTS_OF_SMALL: [Cost; 4] = [
+    Cost::Whole(5),
+    Cost::Whole(15),
+    Cost::Whole(0),
+    Cost::Whole(3),
+];
+
+const COSTS_OF_PAIR: [Cost; 4] = [
+    Cost::Whole(0),
+    Cost::Whole(2),
+    Cost::Whole(3),
+    Cost::Whole(5),
+];
+
+const FORMS: &[(&[(&[Literal], i128)], (i128, &[i128], &[Row]), [Cost; 4])] = &[
+    (&SMALL, (5, &[10, -5], &[(0, 1, -7)]), COSTS_OF_SMALL),
+    (&ONE_PAIR, (0, &[2, 3], &[]), COSTS_OF_PAIR),
+];
+
 #[test]
-fn tables_are_multiplied_out(rt: HostRuntime) -> Result<(), Fail> {
-    let rows: [(&[(&[Literal], i128)], i128, &[i128], &[Entry], [i128; 4]); 2] = [
-        (&SMALL, 5, &[10, -5], &[entry(0, 1, -7)], [5, 15, 0, 3]),
-        (&ONE_PAIR, 0, &[2, 3], &[], [0, 2, 3, 5]),
-    ];
-    for (terms, constant, diagonal, couplers, costs) in rows {
+fn tables_are_multiplied_out(rt: HostRuntime) {
+    for (terms, parts, costs) in FORMS {
         assert!(rt; terms.len() < 100);
-        let Some(form) = flattened(rt.alloc(), 2, terms)? else {
-            return Err(Fail::from("not low"));
-        };
-        assert!(rt; has_parts(&form, constant, diagonal, couplers));
-        assert_eq!(rt; costs_of(&form), Some(costs.map(|cost| Cost::Whole(cost))));
+        assert!(rt; is_multiplied_out(rt.alloc(), terms, parts, costs) == Ok(true));
     }
-    Ok(())
+}
+
+fn costs_of_small(alloc: Global) -> Result<[Cost; 4], NoMemory> {
+    let table = table_of(alloc, 2, &SMALL)?;
+    Ok(costs_of_two(&table))
 }
 
 #[test]
-fn a_table_costs_what_its_terms_add(rt: HostRuntime) -> Result<(), Fail> {
-    let table = table_of(rt.alloc(), 2, &SMALL)?;
-    let costs = [5, 15, 0, 3].map(|cost| Cost::Whole(cost));
-    assert!(rt; costs_of_two(&table) == costs);
-    Ok(())
+fn a_table_costs_what_its_terms_add(rt: HostRuntime) {
+    assert!(rt; costs_of_small(rt.alloc()) == Ok(COSTS_OF_SMALL));
 }
 
 /// The figures of the model that is written for a table, and whether its entries are these.
@@ -121,7 +138,7 @@ fn written(
     alloc: Global,
     terms: &[(&[Literal], i128)],
     unit: i128,
-    entries: &[Entry],
+    entries: &[Row],
 ) -> Result<Option<Figures>, NoMemory>
     requires few { length terms.now < 100 }
     requires unit { pos 1 ≤ℤ unit }
@@ -144,28 +161,22 @@ fn written(
     Ok(Some(model.figures))
 }
 
+const WRITTEN: &[(&[(&[Literal], i128)], i128, &[Row], i128)] = &[
+    (&SMALL, 1, &[(0, 0, 10), (1, 1, -5), (0, 1, -7)], -5),
+    (&ONE_PAIR, 7, &[(0, 0, 2), (1, 1, 3)], 0),
+];
+
 #[test]
-fn a_constant_goes_off_the_figures(rt: HostRuntime) -> Result<(), Fail> {
-    let of_one_pair = [entry(0, 0, 2), entry(1, 1, 3)];
-    let rows: [(&[(&[Literal], i128)], i128, &[Entry], i128); 2] = [
-        (
-            &SMALL,
-            1,
-            &[entry(0, 0, 10), entry(1, 1, -5), entry(0, 1, -7)],
-            -5,
-        ),
-        (&ONE_PAIR, 7, &of_one_pair, 0),
-    ];
-    for (terms, unit, entries, offset) in rows {
-        assert!(rt; terms.len() < 100 && unit >= 1);
+fn a_constant_goes_off_the_figures(rt: HostRuntime) {
+    for (terms, unit, entries, offset) in WRITTEN {
+        assert!(rt; terms.len() < 100 && *unit >= 1);
         let figures = Figures {
             scale: 1,
-            offset,
-            threshold: 20 + offset,
+            offset: *offset,
+            threshold: 20_i128.saturating_add(*offset),
         };
-        assert_eq!(rt; written(rt.alloc(), terms, unit, entries)?, Some(figures));
+        assert!(rt; written(rt.alloc(), terms, *unit, entries) == Ok(Some(figures)));
     }
-    Ok(())
 }
 
 /// Whether the assignment extends to this state, which decodes to it.
@@ -187,15 +198,16 @@ fn extends_to<L: Layer>(
     Ok(state.as_slice() == y && again.as_slice() == x)
 }
 
+fn is_own_state(alloc: Global, x: &[bool; 2]) -> Result<bool, NoMemory> {
+    match low(table_of(alloc, 2, &SMALL)?) {
+        Ok(source) => extends_to(alloc, &Flatten, &source, x, x),
+        Err(_) => Ok(false),
+    }
+}
+
 #[test]
-fn an_assignment_is_its_own_state(rt: HostRuntime) -> Result<(), Fail> {
-    let Ok(source) = low(table_of(rt.alloc(), 2, &SMALL)?) else {
-        return Err(Fail::from("not low"));
-    };
-    let x = [true, false];
-    let extended = extends_to(rt.alloc(), &Flatten, &source, &x, &x)?;
-    assert!(rt; extended);
-    Ok(())
+fn an_assignment_is_its_own_state(rt: HostRuntime) {
+    assert!(rt; is_own_state(rt.alloc(), &[true, false]) == Ok(true));
 }
 
 /// The scale and offset of two layers, new nodes and multiplying out, and whether they make this
@@ -206,7 +218,7 @@ fn scale_and_offset(
     terms: &[(&[Literal], i128)],
     constant: i128,
     diagonal: &[i128],
-    couplers: &[Entry],
+    couplers: &[Row],
 ) -> Result<Option<(i128, i128)>, NoMemory>
     requires few { length terms.now < 100 }
     requires narrow { width ≤ 10 }
@@ -223,43 +235,50 @@ fn scale_and_offset(
     Ok(Some((made.scale, made.offset)))
 }
 
-#[test]
-fn two_layers_compose(rt: HostRuntime) -> Result<(), Fail> {
-    let of_three = [
-        entry(0, 1, 5),
-        entry(0, 2, 5),
-        entry(0, 3, -5),
-        entry(1, 2, 5),
-        entry(1, 3, -5),
-        entry(2, 3, -5),
-    ];
-    let rows: [(usize, &[(&[Literal], i128)], i128, &[i128], &[Entry]); 2] = [
-        (2, &SMALL, 5, &[10, -5], &[entry(0, 1, -7)]),
-        (3, &OF_THREE, 0, &[0, 0, 0, 5], &of_three),
-    ];
-    for (width, terms, constant, diagonal, couplers) in rows {
-        assert!(rt; terms.len() < 100 && width <= 10);
-        let both = scale_and_offset(rt.alloc(), width, terms, constant, diagonal, couplers)?;
-        assert_eq!(rt; both, Some((1, 0)));
-    }
-    Ok(())
-}
+const COMPOSED: &[(usize, &[(&[Literal], i128)], i128, &[i128], &[Row])] = &[
+    (2, &SMALL, 5, &[10, -5], &[(0, 1, -7)]),
+    (
+        3,
+        &OF_THREE,
+        0,
+        &[0, 0, 0, 5],
+        &[
+            (0, 1, 5),
+            (0, 2, 5),
+            (0, 3, -5),
+            (1, 2, 5),
+            (1, 3, -5),
+            (2, 3, -5),
+        ],
+    ),
+];
 
 #[test]
-fn an_assignment_comes_back_through_two_layers(rt: HostRuntime) -> Result<(), Fail> {
+fn two_layers_compose(rt: HostRuntime) {
+    for (width, terms, constant, diagonal, couplers) in COMPOSED {
+        assert!(rt; terms.len() < 100 && *width <= 10);
+        let both = scale_and_offset(rt.alloc(), *width, terms, *constant, diagonal, couplers);
+        assert!(rt; both == Ok(Some((1, 0))));
+    }
+}
+
+fn comes_back(alloc: Global, x: &[bool; 3], y: &[bool; 4]) -> Result<bool, NoMemory> {
     let layers = Then {
         first: Monomials,
         second: Flatten,
     };
-    let source = table_of(rt.alloc(), 3, &OF_THREE)?;
+    let source = table_of(alloc, 3, &OF_THREE)?;
+    extends_to(alloc, &layers, &source, x, y)
+}
+
+#[test]
+fn an_assignment_comes_back_through_two_layers(rt: HostRuntime) {
     // The new node is taken where two or more of the three are true.
     let rows = [
         ([false, true, false], [false, true, false, false]),
         ([false, true, true], [false, true, true, true]),
     ];
     for (x, y) in rows {
-        let extended = extends_to(rt.alloc(), &layers, &source, &x, &y)?;
-        assert!(rt; extended);
+        assert!(rt; comes_back(rt.alloc(), &x, &y) == Ok(true), "{x:?}");
     }
-    Ok(())
 }

@@ -3,14 +3,13 @@
 ghost use Rattle.std.specs.Prelude.{◌<◌, ◌≤◌, length};
 
 use crate::given::{A, B, table_of};
-use crate::quadratics::{ONE_PAIR, SMALL, entry, flattened, has_entries, has_parts};
-use bits_model::{ChainList, CouplerList, Entry, Figures, Kind, Layer, NoMemory, Then};
+use crate::quadratics::{ONE_PAIR, Row, SMALL, are_couplers, flattened, has_entries, has_parts};
+use bits_model::{ChainList, Figures, Kind, Layer, NoMemory, Then};
 use ising_form::{Ising, ToSpins};
 use monomial_layer::Monomials;
 use problem_form::Literal;
 use quad_form::Flatten;
 use std::alloc::Global;
-use std::test::Fail;
 
 /// 1 + 12 a - 18 b + 6 a b.
 const SIXES: [(&[Literal], i128); 4] = [(&[], 1), (&[A], 12), (&[B], -18), (&[A, B], 6)];
@@ -21,7 +20,7 @@ fn reduces_to(
     terms: &[(&[Literal], i128)],
     figures: (i128, i128),
     diagonal: &[i128],
-    couplers: &[Entry],
+    couplers: &[Row],
 ) -> Result<bool, NoMemory>
     requires { length terms.now < 100 }
 {
@@ -32,21 +31,21 @@ fn reduces_to(
     Ok((made.unit, made.offset) == figures && has_parts(&made.target, 0, diagonal, couplers))
 }
 
+const REDUCED: &[(&[(&[Literal], i128)], (i128, i128), &[i128], &[Row])] = &[
+    (&SIXES, (6, -1), &[2, -3], &[(0, 1, 1)]),
+    (&SMALL, (1, -5), &[10, -5], &[(0, 1, -7)]),
+    (&[(&[B], 4)], (4, 0), &[0, 1], &[]),
+    // no weight but 0
+    (&[(&[], 9)], (1, -9), &[0, 0], &[]),
+];
+
 #[test]
-fn the_greatest_unit_divides_every_weight(rt: HostRuntime) -> Result<(), Fail> {
-    let rows: [(&[(&[Literal], i128)], (i128, i128), &[i128], &[Entry]); 4] = [
-        (&SIXES, (6, -1), &[2, -3], &[entry(0, 1, 1)]),
-        (&SMALL, (1, -5), &[10, -5], &[entry(0, 1, -7)]),
-        (&[(&[B], 4)], (4, 0), &[0, 1], &[]),
-        // no weight but 0
-        (&[(&[], 9)], (1, -9), &[0, 0], &[]),
-    ];
-    for (terms, figures, diagonal, couplers) in rows {
+fn the_greatest_unit_divides_every_weight(rt: HostRuntime) {
+    for (terms, figures, diagonal, couplers) in REDUCED {
         assert!(rt; terms.len() < 100);
-        let reduced = reduces_to(rt.alloc(), terms, figures, diagonal, couplers)?;
-        assert!(rt; reduced, "{figures:?}");
+        let reduced = reduces_to(rt.alloc(), terms, *figures, diagonal, couplers);
+        assert!(rt; reduced == Ok(true), "{figures:?}");
     }
-    Ok(())
 }
 
 /// The form over the spins of two variables of a table.
@@ -64,22 +63,11 @@ fn spun(alloc: Global, terms: &[(&[Literal], i128)]) -> Result<Ising, NoMemory>
     Ok(layers.lower(alloc, &source)?.target)
 }
 
-fn are_couplings(couplings: &CouplerList, rows: &[Entry]) -> bool {
-    let mut rows = rows.iter();
-    for coupling in couplings.iter() {
-        match rows.next() {
-            Some(row) if *row == coupling => {}
-            _ => return false,
-        }
-    }
-    rows.next().is_none()
-}
-
 /// Whether a form over spins has these parts.
-fn has_spins(form: &Ising, constant: i128, fields: &[i128], couplings: &[Entry]) -> bool {
+fn has_spins(form: &Ising, constant: i128, fields: &[i128], couplings: &[Row]) -> bool {
     form.constant == constant
         && form.fields.as_slice() == fields
-        && are_couplings(&form.couplings, couplings)
+        && are_couplers(&form.couplings, couplings)
 }
 
 /// Whether the form over spins of a table has these parts, and in its greatest unit these figures, a
@@ -87,7 +75,7 @@ fn has_spins(form: &Ising, constant: i128, fields: &[i128], couplings: &[Entry])
 fn spins_to(
     alloc: Global,
     terms: &[(&[Literal], i128)],
-    parts: (i128, &[i128], &[Entry]),
+    parts: (i128, &[i128], &[Row]),
     figures: (i128, i128),
 ) -> Result<bool, NoMemory>
     requires { length terms.now < 100 }
@@ -101,24 +89,22 @@ fn spins_to(
     Ok((made.unit, made.offset) == figures && made.target.constant == 0)
 }
 
+/// With a = (1 + s) / 2 and b = (1 + t) / 2: 4 times 2 a + 3 b is 10 + 4 s + 6 t.
+const SPUN: &[(&[(&[Literal], i128)], (i128, &[i128], &[Row]), (i128, i128))] = &[
+    (&ONE_PAIR, (10, &[4, 6], &[]), (2, -10)),
+    (&SMALL, (23, &[13, -17], &[(0, 1, -7)]), (1, -23)),
+    (&SIXES, (-2, &[30, -30], &[(0, 1, 6)]), (6, 2)),
+];
+
 #[test]
-fn four_times_a_form_over_spins(rt: HostRuntime) -> Result<(), Fail> {
-    // With a = (1 + s) / 2 and b = (1 + t) / 2: 4 times 2 a + 3 b is 10 + 4 s + 6 t.
-    let rows: [(
-        &[(&[Literal], i128)],
-        (i128, &[i128], &[Entry]),
-        (i128, i128),
-    ); 3] = [
-        (&ONE_PAIR, (10, &[4, 6], &[]), (2, -10)),
-        (&SMALL, (23, &[13, -17], &[entry(0, 1, -7)]), (1, -23)),
-        (&SIXES, (-2, &[30, -30], &[entry(0, 1, 6)]), (6, 2)),
-    ];
-    for (terms, parts, figures) in rows {
+fn four_times_a_form_over_spins(rt: HostRuntime) {
+    for (terms, parts, figures) in SPUN {
         assert!(rt; terms.len() < 100);
-        let spins = spins_to(rt.alloc(), terms, parts, figures)?;
-        assert!(rt; spins, "{figures:?}");
+        assert!(rt;
+            spins_to(rt.alloc(), terms, *parts, *figures) == Ok(true),
+            "{figures:?}"
+        );
     }
-    Ok(())
 }
 
 /// The unit and the figures of the model over spins that is written for a table, in its greatest
@@ -126,7 +112,7 @@ fn four_times_a_form_over_spins(rt: HostRuntime) -> Result<(), Fail> {
 fn written_spins(
     alloc: Global,
     terms: &[(&[Literal], i128)],
-    entries: &[Entry],
+    entries: &[Row],
 ) -> Result<Option<(i128, Figures)>, NoMemory>
     requires { length terms.now < 100 }
 {
@@ -149,27 +135,21 @@ fn written_spins(
     Ok(Some((model.unit, model.figures)))
 }
 
+const IN_UNITS: &[(&[(&[Literal], i128)], i128, &[Row])] = &[
+    (&ONE_PAIR, 2, &[(0, 0, 2), (1, 1, 3)]),
+    (&SIXES, 6, &[(0, 0, 5), (1, 1, -5), (0, 1, 1)]),
+];
+
 #[test]
-fn a_model_over_spins_in_its_greatest_unit(rt: HostRuntime) -> Result<(), Fail> {
+fn a_model_over_spins_in_its_greatest_unit(rt: HostRuntime) {
     let figures = Figures {
         scale: 4,
         offset: 7,
         threshold: 20,
     };
-    let rows: [(&[(&[Literal], i128)], i128, &[Entry]); 2] = [
-        (&ONE_PAIR, 2, &[entry(0, 0, 2), entry(1, 1, 3)]),
-        (
-            &SIXES,
-            6,
-            &[entry(0, 0, 5), entry(1, 1, -5), entry(0, 1, 1)],
-        ),
-    ];
-    for (terms, unit, entries) in rows {
+    for (terms, unit, entries) in IN_UNITS {
         assert!(rt; terms.len() < 100);
-        assert_eq!(rt;
-            written_spins(rt.alloc(), terms, entries)?,
-            Some((unit, figures))
-        );
+        let found = written_spins(rt.alloc(), terms, entries);
+        assert!(rt; found == Ok(Some((*unit, figures))));
     }
-    Ok(())
 }

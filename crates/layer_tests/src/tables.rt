@@ -2,12 +2,11 @@
 ghost use Rattle.std.specs.Prelude.{◌≡◌, ◌+◌, ◌<◌, ◌≤◌, ◌^◌, IfOk, OnOk, length};
 ghost use Rattle.term_table.specs.Terms.{terms_total};
 
-use crate::given::{A, B, C, NOT_A, NOT_B, add_terms, are_terms, table_of};
+use crate::given::{A, B, C, NOT_A, NOT_B, add_terms, are_terms, costs_of_two, table_of};
 use bits_model::{Cost, Costed, NoMemory};
 use problem_form::Literal;
 use std::alloc::Global;
-use std::test::Fail;
-use term_table::{GatheredTerms, Table, is_set, low};
+use term_table::{GatheredTerms, LowTable, Table, is_set, low};
 
 /// Appends a term, where it is a set and its coefficient is small.
 fn gather(
@@ -94,54 +93,65 @@ const SUMS_OF_BOTH: [(&[Literal], i128); 4] = [
     (&[B], 10),
 ];
 
+const ADDITIONS: &[(
+    bool,
+    &[(&[Literal], i128)],
+    &[(&[Literal], i128)],
+    &[(&[Literal], i128)],
+)] = &[
+    (false, &SOME, &[], &SUMS),
+    (false, &OTHERS, &[], &SUMS),
+    (false, &SOME, &OTHERS, &SUMS_OF_BOTH),
+    (true, &SOME, &[], &SUMS),
+    (true, &OTHERS, &[], &SUMS),
+    (true, &SOME, &OTHERS, &SUMS_OF_BOTH),
+];
+
 #[test]
-fn additions_in_any_order_give_one_list(rt: HostRuntime) -> Result<(), Fail> {
-    let rows: [(
-        bool,
-        &[(&[Literal], i128)],
-        &[(&[Literal], i128)],
-        &[(&[Literal], i128)],
-    ); 6] = [
-        (false, &SOME, &[], &SUMS),
-        (false, &OTHERS, &[], &SUMS),
-        (false, &SOME, &OTHERS, &SUMS_OF_BOTH),
-        (true, &SOME, &[], &SUMS),
-        (true, &OTHERS, &[], &SUMS),
-        (true, &SOME, &OTHERS, &SUMS_OF_BOTH),
-    ];
-    for (at_once, first, later, sums) in rows {
+fn additions_in_any_order_give_one_list(rt: HostRuntime) {
+    for (at_once, first, later, sums) in ADDITIONS {
         assert!(rt; first.len() < 100 && later.len() < 100);
-        let found = gives_terms(rt.alloc(), at_once, first, later, sums)?;
-        assert!(rt; found);
+        assert!(rt; gives_terms(rt.alloc(), *at_once, first, later, sums) == Ok(true));
     }
-    Ok(())
 }
 
-#[test]
-fn two_literals_are_low(rt: HostRuntime) -> Result<(), Fail> {
-    let terms: [(&[Literal], i128); 3] = [(&[A, NOT_B], 1), (&[], -1), (&[NOT_A], 4)];
-    let Ok(kept) = low(table_of(rt.alloc(), 2, &terms)?) else {
-        return Err(Fail::from("two literals were refused"));
-    };
-    assert!(rt; kept.width() == 2 && kept.terms().next() == Some(terms[1]));
+/// a ~b - 1 + 4 ~a.
+const LOW: [(&[Literal], i128); 3] = [(&[A, NOT_B], 1), (&[], -1), (&[NOT_A], 4)];
+
+/// Whether a table of two variables has this first term and these costs.
+fn begins_and_costs(table: &LowTable, first: (&[Literal], i128), costs: &[Cost; 4]) -> bool
+    requires { table.now.width ≡ 2 }
+{
+    table.width() == 2 && table.terms().next() == Some(first) && costs_of_two(table) == *costs
+}
+
+fn is_low(alloc: Global) -> Result<bool, NoMemory> {
     let costs = [
-        ([false, false], 3),
-        ([false, true], 3),
-        ([true, false], 0),
-        ([true, true], -1),
+        Cost::Whole(3),
+        Cost::Whole(0),
+        Cost::Whole(3),
+        Cost::Whole(-1),
     ];
-    for (x, cost) in costs {
-        assert_eq!(rt; kept.cost(&x), Cost::Whole(cost));
+    match low(table_of(alloc, 2, &LOW)?) {
+        Ok(kept) => Ok(begins_and_costs(&kept, (&[], -1), &costs)),
+        Err(_) => Ok(false),
     }
-    Ok(())
 }
 
 #[test]
-fn three_literals_are_not_low(rt: HostRuntime) -> Result<(), Fail> {
-    let terms: [(&[Literal], i128); 2] = [(&[A, NOT_B, C], 1), (&[C], -2)];
-    match low(table_of(rt.alloc(), 3, &terms)?) {
-        Ok(_) => panic!(rt; "three literals have passed"),
-        Err(table) => assert_eq!(rt; table.terms().next(), Some(terms[0])),
+fn two_literals_are_low(rt: HostRuntime) {
+    assert!(rt; is_low(rt.alloc()) == Ok(true));
+}
+
+/// Whether a table is refused, and is left with its first term.
+fn is_refused(alloc: Global) -> Result<bool, NoMemory> {
+    match low(table_of(alloc, 3, &[(&[A, NOT_B, C], 1), (&[C], -2)])?) {
+        Ok(_) => Ok(false),
+        Err(table) => Ok(table.terms().next() == Some((&[A, NOT_B, C], 1))),
     }
-    Ok(())
+}
+
+#[test]
+fn three_literals_are_not_low(rt: HostRuntime) {
+    assert!(rt; is_refused(rt.alloc()) == Ok(true));
 }

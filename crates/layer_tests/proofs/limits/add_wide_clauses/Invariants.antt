@@ -2,10 +2,6 @@ use Rattle.std.proofs.Common.{◌≡◌, ◌*◌, ◌≤◌, ◌^◌}
 use Rattle.problem_form.specs.Problems.{problem_total}
 use Rattle.layer_tests.proofs.limits.add_wide_clauses.Given as goal
 
--- no clause was added yet
-abbrev pub invariant-loop-variable : goal.invariant-loop-variable
-invariant-loop-variable l = l.problem ≡ l.fn.problem
-
 -- each clause adds less than 2^64 to the sizes
 abbrev pub invariant-loop : goal.invariant-loop
 invariant-loop l = record {

@@ -1,19 +1,18 @@
-use Rattle.std.proofs.Common.{rules, ap, ◌∙◌, unsigned_abs, arith, false}
+use Rattle.std.proofs.Common.{rules, ap, unsigned_abs, arith}
 use Rattle.std.specs.Int.{w128}
 use Rattle.std.proofs.lemmas.Int.{to_z-of_z}
+use Rattle.problem_form.specs.declared.literal.Literal.{Literal}
 use Rattle.layer_tests.proofs.SmallSums.{pushed_within, one_within, pushed_small}
-use Rattle.layer_tests.proofs.constraints.knapsack.Goals as goal
+use Rattle.layer_tests.proofs.constraints.push_weights.Goals as goal
 
 pub loop-variable-preserved : goal.loop-variable-preserved
 loop-variable-preserved c =
     let weight = to_z-of_z w128 c.item_weight.result (search rules) in
     record {
-      width = c.in_ok-add_product.ensures.same ∙ c.loop-variable.invariant.width;
-      total = omega (arith, c.in_ok-add_product.ensures.total, c.loop-variable.invariant.total);
       within =
           pushed_within 20 c.loop-variable.products c.push.new.self _ c.in_ok-push.ensures.pushed
-          c.loop-variable.invariant.within (one_within 20 (record { variable = c.from.result; negated = false })
-          (omega (arith, c.from.ensures, c.loop-variable-test.true)));
+          c.loop-variable.invariant.within (one_within 20 c.item.result
+          (omega (arith, ap (λ (l : Literal). l.variable) c.item.ensures, c.loop-variable-test.true)));
       small =
           omega (
             arith,
