@@ -91,7 +91,10 @@ fn are_asked(
 #[test]
 fn each_wrong_or_missing_word_has_its_position(rt: HostRuntime) {
     for (words, wanted) in POSITIONS {
-        assert!(rt; are_asked(rt.alloc(), words, wanted) == Ok(true), "{words:?}");
+        assert!(rt;
+            are_asked(rt.alloc(), words, wanted) == Ok(true),
+            "{words:?}"
+        );
     }
 }
 
@@ -194,7 +197,14 @@ const NORMALS: &[(&[&str], Normal, UnitChoice)] = &[
 #[test]
 fn normal_forms_and_units_in_any_order(rt: HostRuntime) {
     for (words, normal, unit) in NORMALS {
-        let found = are_compiled(rt.alloc(), words, Format::Poly, Target::Qubo, *normal, *unit);
+        let found = are_compiled(
+            rt.alloc(),
+            words,
+            Format::Poly,
+            Target::Qubo,
+            *normal,
+            *unit,
+        );
         assert!(rt; found == Ok(true), "{words:?}");
     }
 }
@@ -223,7 +233,10 @@ const KEYS: &[(&[&str], usize)] = &[
 #[test]
 fn a_word_that_is_no_key_or_a_key_that_stands_twice(rt: HostRuntime) {
     for (keys, position) in KEYS {
-        assert!(rt; are_wrong_at(rt.alloc(), keys, *position) == Ok(true), "{keys:?}");
+        assert!(rt;
+            are_wrong_at(rt.alloc(), keys, *position) == Ok(true),
+            "{keys:?}"
+        );
     }
 }
 

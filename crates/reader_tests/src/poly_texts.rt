@@ -18,10 +18,7 @@ fn push_names(numbers: &mut Vec<i128>, names: &Names) -> Result<(), AllocError> 
 }
 
 /// What the problem of a polynomial text says, and the names of its variables, as numbers.
-fn push_polynomial(
-    numbers: &mut Vec<i128>,
-    polynomial: &Polynomial,
-) -> Result<(), AllocError> {
+fn push_polynomial(numbers: &mut Vec<i128>, polynomial: &Polynomial) -> Result<(), AllocError> {
     for product in polynomial.problem.objective.iter() {
         numbers.push(product.coefficient)?;
         numbers.push(product.literals.len() as i128)?;

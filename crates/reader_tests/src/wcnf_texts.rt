@@ -38,9 +38,11 @@ fn is_read_as(
         return Ok(false);
     }
     let problem = read_wcnf(alloc, text)?;
-    Ok(problem.variables == variables
-        && problem.constant == constant
-        && are_clauses(&problem.clauses, rows))
+    Ok(
+        problem.variables == variables
+            && problem.constant == constant
+            && are_clauses(&problem.clauses, rows),
+    )
 }
 
 /// Clauses over several lines, and several on one.
@@ -70,10 +72,12 @@ fn is_source_of(
         return Ok(false);
     }
     let read = read_source(alloc, Format::Wcnf, text)?;
-    Ok(read.variables == variables
-        && read.problem.variables == variables
-        && read.problem.constant == 0
-        && are_clauses(&read.problem.clauses, rows))
+    Ok(
+        read.variables == variables
+            && read.problem.variables == variables
+            && read.problem.constant == 0
+            && are_clauses(&read.problem.clauses, rows),
+    )
 }
 
 const SOURCE: &[Row] = &[(None, &[(0, false)]), (Some(3), &[(0, true), (1, false)])];
@@ -98,7 +102,10 @@ const HEADERLESS: &[(&[u8], u64, &[Row])] = &[
 #[test]
 fn the_largest_literal_says_how_many_variables(rt: HostRuntime) {
     for (text, variables, rows) in HEADERLESS {
-        assert!(rt; is_read_as(rt.alloc(), text, *variables, 0, rows) == Ok(true), "{text:?}");
+        assert!(rt;
+            is_read_as(rt.alloc(), text, *variables, 0, rows) == Ok(true),
+            "{text:?}"
+        );
     }
 }
 
