@@ -3,13 +3,18 @@ use bits_model::UnitChoice;
 use command_words::{Command, Format, Job, Target, Which, WordAt, command, name_of};
 use problem_form::{Choices, High, Normal};
 use std::alloc::{AllocError, Global};
-use std::test::Fail;
 
-fn owned(alloc: Global, words: &[&str]) -> Result<Vec<String>, AllocError> {
-    let mut owned = Vec::new(alloc);
+/// Appends words that are owned.
+fn push_owned(alloc: Global, owned: &mut Vec<String>, words: &[&str]) -> Result<(), AllocError> {
     for word in words {
         owned.push(String::from_str(alloc, word)?)?;
     }
+    Ok(())
+}
+
+fn owned(alloc: Global, words: &[&str]) -> Result<Vec<String>, AllocError> {
+    let mut owned = Vec::new(alloc);
+    push_owned(alloc, &mut owned, words)?;
     Ok(owned)
 }
 
@@ -44,192 +49,238 @@ fn compile_in(format: Format, target: Target, normal: Normal, unit: UnitChoice) 
     })
 }
 
-/// The command `compile` over literals, on the file that the fourth word names.
-fn compile(format: Format, target: Target, unit: UnitChoice) -> Command {
-    compile_in(format, target, Normal::Literal, unit)
+const POSITIONS: &[(&[&str], Result<Command, usize>)] = &[
+    (&["compile", "wcnf", "qubo", "FILE"], Ok(COMPILE)),
+    (&["compile", "wcnf", "qubo", "compile"], Ok(COMPILE)),
+    // a missing word
+    (&[], Err(1)),
+    (&["compile"], Err(2)),
+    (&["compile", "wcnf"], Err(3)),
+    (&["compile", "wcnf", "qubo"], Err(4)),
+    // a wrong word
+    (&["solve", "wcnf", "qubo", "FILE"], Err(1)),
+    (&["Compile", "wcnf", "qubo", "FILE"], Err(1)),
+    (&["compile", "cnf", "qubo", "FILE"], Err(2)),
+    (&["compile", "wcnf", "qub", "FILE"], Err(3)),
+    // the first of several, and before what is missing
+    (&["", "", ""], Err(1)),
+    (&["compile", "opb", "wcnf"], Err(3)),
+    (&["compile", "wbo", "wcnf"], Err(2)),
+    (&["compile", "wcnf", "wcnf"], Err(3)),
+    // a key, and a further word that is none
+    (
+        &["compile", "wcnf", "qubo", "FILE", "high=monomial"],
+        Ok(COMPILE),
+    ),
+    (&["compile", "wcnf", "qubo", "FILE", "FILE"], Err(5)),
+    (
+        &["compile", "wcnf", "qubo", "normal=literal", "a", "b"],
+        Err(5),
+    ),
+];
+
+/// Whether the words ask for this, or have this position.
+fn are_asked(
+    alloc: Global,
+    words: &[&str],
+    wanted: &Result<Command, usize>,
+) -> Result<bool, AllocError> {
+    Ok(asked(alloc, words)? == *wanted)
 }
 
 #[test]
-fn each_wrong_or_missing_word_has_its_position(rt: HostRuntime) -> Result<(), Fail> {
-    let rows: [(&[&str], Result<Command, usize>); 17] = [
-        (&["compile", "wcnf", "qubo", "FILE"], Ok(COMPILE)),
-        (&["compile", "wcnf", "qubo", "compile"], Ok(COMPILE)),
-        // a missing word
-        (&[], Err(1)),
-        (&["compile"], Err(2)),
-        (&["compile", "wcnf"], Err(3)),
-        (&["compile", "wcnf", "qubo"], Err(4)),
-        // a wrong word
-        (&["solve", "wcnf", "qubo", "FILE"], Err(1)),
-        (&["Compile", "wcnf", "qubo", "FILE"], Err(1)),
-        (&["compile", "cnf", "qubo", "FILE"], Err(2)),
-        (&["compile", "wcnf", "qub", "FILE"], Err(3)),
-        // the first of several, and before what is missing
-        (&["", "", ""], Err(1)),
-        (&["compile", "opb", "wcnf"], Err(3)),
-        (&["compile", "wbo", "wcnf"], Err(2)),
-        (&["compile", "wcnf", "wcnf"], Err(3)),
-        // a key, and a further word that is none
-        (
-            &["compile", "wcnf", "qubo", "FILE", "high=monomial"],
-            Ok(COMPILE),
-        ),
-        (&["compile", "wcnf", "qubo", "FILE", "FILE"], Err(5)),
-        (
-            &["compile", "wcnf", "qubo", "normal=literal", "a", "b"],
-            Err(5),
-        ),
-    ];
-    for (words, wanted) in rows {
-        assert!(rt; asked(rt.alloc(), words)? == wanted, "{words:?}");
+fn each_wrong_or_missing_word_has_its_position(rt: HostRuntime) {
+    for (words, wanted) in POSITIONS {
+        assert!(rt;
+            are_asked(rt.alloc(), words, wanted) == Ok(true),
+            "{words:?}"
+        );
     }
-    Ok(())
 }
+
+/// Whether the words ask to compile a format for a target, in a normal form and a unit.
+fn are_compiled(
+    alloc: Global,
+    words: &[&str],
+    format: Format,
+    target: Target,
+    normal: Normal,
+    unit: UnitChoice,
+) -> Result<bool, AllocError> {
+    Ok(asked(alloc, words)? == Ok(compile_in(format, target, normal, unit)))
+}
+
+const FORMATS: &[(&[&str], Format, Target, UnitChoice)] = &[
+    (
+        &["compile", "wcnf", "ising", "FILE"],
+        Format::Wcnf,
+        Target::Ising,
+        UnitChoice::One,
+    ),
+    (
+        &["compile", "opb", "qubo", "FILE"],
+        Format::Opb,
+        Target::Qubo,
+        UnitChoice::One,
+    ),
+    (
+        &["compile", "ising", "qubo", "FILE", "unit=one"],
+        Format::Ising,
+        Target::Qubo,
+        UnitChoice::One,
+    ),
+    (
+        &["compile", "ising", "ising", "FILE", "unit=reduce"],
+        Format::Ising,
+        Target::Ising,
+        UnitChoice::Reduce,
+    ),
+    (
+        &["compile", "qubo", "qubo", "FILE", "unit=reduce"],
+        Format::Qubo,
+        Target::Qubo,
+        UnitChoice::Reduce,
+    ),
+    (
+        &["compile", "qubo", "ising", "unit=reduce"],
+        Format::Qubo,
+        Target::Ising,
+        UnitChoice::One,
+    ),
+];
 
 #[test]
-fn each_format_and_target_in_each_unit(rt: HostRuntime) -> Result<(), Fail> {
-    let one = UnitChoice::One;
-    let reduce = UnitChoice::Reduce;
-    let rows: [(&[&str], Command); 6] = [
-        (
-            &["compile", "wcnf", "ising", "FILE"],
-            compile(Format::Wcnf, Target::Ising, one),
-        ),
-        (
-            &["compile", "opb", "qubo", "FILE"],
-            compile(Format::Opb, Target::Qubo, one),
-        ),
-        (
-            &["compile", "ising", "qubo", "FILE", "unit=one"],
-            compile(Format::Ising, Target::Qubo, one),
-        ),
-        (
-            &["compile", "ising", "ising", "FILE", "unit=reduce"],
-            compile(Format::Ising, Target::Ising, reduce),
-        ),
-        (
-            &["compile", "qubo", "qubo", "FILE", "unit=reduce"],
-            compile(Format::Qubo, Target::Qubo, reduce),
-        ),
-        (
-            &["compile", "qubo", "ising", "unit=reduce"],
-            compile(Format::Qubo, Target::Ising, one),
-        ),
-    ];
-    for (words, wanted) in rows {
-        assert!(rt; asked(rt.alloc(), words)? == Ok(wanted), "{words:?}");
+fn each_format_and_target_in_each_unit(rt: HostRuntime) {
+    for (words, format, target, unit) in FORMATS {
+        let found = are_compiled(rt.alloc(), words, *format, *target, Normal::Literal, *unit);
+        assert!(rt; found == Ok(true), "{words:?}");
     }
-    Ok(())
 }
+
+const NORMALS: &[(&[&str], Normal, UnitChoice)] = &[
+    (
+        &["compile", "poly", "qubo", "FILE", "normal=literal"],
+        Normal::Literal,
+        UnitChoice::One,
+    ),
+    (
+        &["compile", "poly", "qubo", "FILE", "normal=multilinear"],
+        Normal::Multilinear,
+        UnitChoice::One,
+    ),
+    (
+        &[
+            "compile",
+            "poly",
+            "qubo",
+            "FILE",
+            "normal=multilinear",
+            "unit=reduce",
+        ],
+        Normal::Multilinear,
+        UnitChoice::Reduce,
+    ),
+    (
+        &[
+            "compile",
+            "poly",
+            "qubo",
+            "FILE",
+            "unit=reduce",
+            "normal=multilinear",
+        ],
+        Normal::Multilinear,
+        UnitChoice::Reduce,
+    ),
+];
 
 #[test]
-fn normal_forms_and_units_in_any_order(rt: HostRuntime) -> Result<(), Fail> {
-    let literal = Normal::Literal;
-    let multilinear = Normal::Multilinear;
-    let reduce = UnitChoice::Reduce;
-    let rows: [(&[&str], Normal, UnitChoice); 4] = [
-        (
-            &["compile", "poly", "qubo", "FILE", "normal=literal"],
-            literal,
-            UnitChoice::One,
-        ),
-        (
-            &["compile", "poly", "qubo", "FILE", "normal=multilinear"],
-            multilinear,
-            UnitChoice::One,
-        ),
-        (
-            &[
-                "compile",
-                "poly",
-                "qubo",
-                "FILE",
-                "normal=multilinear",
-                "unit=reduce",
-            ],
-            multilinear,
-            reduce,
-        ),
-        (
-            &[
-                "compile",
-                "poly",
-                "qubo",
-                "FILE",
-                "unit=reduce",
-                "normal=multilinear",
-            ],
-            multilinear,
-            reduce,
-        ),
-    ];
-    for (words, normal, unit) in rows {
-        let wanted = compile_in(Format::Poly, Target::Qubo, normal, unit);
-        assert!(rt; asked(rt.alloc(), words)? == Ok(wanted), "{words:?}");
+fn normal_forms_and_units_in_any_order(rt: HostRuntime) {
+    for (words, normal, unit) in NORMALS {
+        let found = are_compiled(
+            rt.alloc(),
+            words,
+            Format::Poly,
+            Target::Qubo,
+            *normal,
+            *unit,
+        );
+        assert!(rt; found == Ok(true), "{words:?}");
     }
-    Ok(())
 }
 
-/// What `compile wcnf qubo FILE` and these words ask for.
-fn asked_with(alloc: Global, keys: &[&str]) -> Result<Result<Command, usize>, AllocError> {
+/// Whether `compile wcnf qubo FILE` and these words have a wrong word at this position.
+fn are_wrong_at(alloc: Global, keys: &[&str], position: usize) -> Result<bool, AllocError> {
     let mut words = owned(alloc, &["compile", "wcnf", "qubo", "FILE"])?;
-    for key in keys {
-        words.push(String::from_str(alloc, key)?)?;
-    }
-    Ok(command(&words))
+    push_owned(alloc, &mut words, keys)?;
+    Ok(command(&words) == Err(position))
 }
+
+const KEYS: &[(&[&str], usize)] = &[
+    (&["high=quadratic"], 5),
+    (&["high=monomial", "high=rosenberg"], 6),
+    (&["high=rosenberg", "unit=one", "high=rosenberg"], 7),
+    (&["normal"], 5),
+    (&["normal=linear"], 5),
+    (&["normal=literal", "unit=one", "normal=literal"], 7),
+    (&["unit"], 5),
+    (&["unit="], 5),
+    (&["unit=two"], 5),
+    (&["unit=one="], 5),
+    (&["Unit=one"], 5),
+    (&["unit=one", "unit=one"], 6),
+    (&["unit=reduce", "unit=one"], 6),
+    (&["unit=reduce", "FILE"], 6),
+];
 
 #[test]
-fn a_word_that_is_no_key_or_a_key_that_stands_twice(rt: HostRuntime) -> Result<(), Fail> {
-    let rows: [(&[&str], usize); 14] = [
-        (&["high=quadratic"], 5),
-        (&["high=monomial", "high=rosenberg"], 6),
-        (&["high=rosenberg", "unit=one", "high=rosenberg"], 7),
-        (&["normal"], 5),
-        (&["normal=linear"], 5),
-        (&["normal=literal", "unit=one", "normal=literal"], 7),
-        (&["unit"], 5),
-        (&["unit="], 5),
-        (&["unit=two"], 5),
-        (&["unit=one="], 5),
-        (&["Unit=one"], 5),
-        (&["unit=one", "unit=one"], 6),
-        (&["unit=reduce", "unit=one"], 6),
-        (&["unit=reduce", "FILE"], 6),
-    ];
-    for (keys, position) in rows {
-        assert!(rt; asked_with(rt.alloc(), keys)? == Err(position), "{keys:?}");
+fn a_word_that_is_no_key_or_a_key_that_stands_twice(rt: HostRuntime) {
+    for (keys, position) in KEYS {
+        assert!(rt;
+            are_wrong_at(rt.alloc(), keys, *position) == Ok(true),
+            "{keys:?}"
+        );
     }
-    Ok(())
 }
 
-/// What `compile wcnf qubo FILE` and these words choose, where they ask for a command.
-fn choices_with(alloc: Global, keys: &[&str]) -> Result<Option<Choices>, AllocError> {
-    let asked = asked_with(alloc, keys)?;
-    Ok(asked.ok().map(|command| command.job().choices))
+/// Whether `compile wcnf qubo FILE` and these words choose these steps.
+fn are_chosen(
+    alloc: Global,
+    keys: &[&str],
+    normal: Normal,
+    high: High,
+) -> Result<bool, AllocError> {
+    let mut words = owned(alloc, &["compile", "wcnf", "qubo", "FILE"])?;
+    push_owned(alloc, &mut words, keys)?;
+    match command(&words) {
+        Ok(command) => Ok(command.job().choices == Choices { normal, high }),
+        Err(_) => Ok(false),
+    }
 }
+
+const WAYS: &[(&[&str], Normal, High)] = &[
+    (&["high=rosenberg"], Normal::Literal, High::Rosenberg),
+    (&["high=monomial"], Normal::Literal, High::Monomial),
+    (
+        &["unit=reduce", "high=rosenberg", "normal=multilinear"],
+        Normal::Multilinear,
+        High::Rosenberg,
+    ),
+    (
+        &["normal=multilinear", "high=monomial"],
+        Normal::Multilinear,
+        High::Monomial,
+    ),
+];
 
 #[test]
-fn ways_to_replace_long_terms(rt: HostRuntime) -> Result<(), Fail> {
-    let rows: [(&[&str], Normal, High); 4] = [
-        (&["high=rosenberg"], Normal::Literal, High::Rosenberg),
-        (&["high=monomial"], Normal::Literal, High::Monomial),
-        (
-            &["unit=reduce", "high=rosenberg", "normal=multilinear"],
-            Normal::Multilinear,
-            High::Rosenberg,
-        ),
-        (
-            &["normal=multilinear", "high=monomial"],
-            Normal::Multilinear,
-            High::Monomial,
-        ),
-    ];
-    for (keys, normal, high) in rows {
-        let chosen = choices_with(rt.alloc(), keys)?;
-        assert!(rt; chosen == Some(Choices { normal, high }), "{keys:?}");
+fn ways_to_replace_long_terms(rt: HostRuntime) {
+    for (keys, normal, high) in WAYS {
+        assert!(rt;
+            are_chosen(rt.alloc(), keys, *normal, *high) == Ok(true),
+            "{keys:?}"
+        );
     }
-    Ok(())
 }
 
 /// Whether this is the name of a file of the command.
@@ -238,20 +289,20 @@ fn is_named(alloc: Global, words: &[&str], which: Which, name: &str) -> Result<b
     Ok(name_of(&words, COMPILE, which) == name)
 }
 
+const NAMES: &[(&[&str], Which, &str)] = &[
+    (&["compile", "wcnf", "qubo", "FILE"], Which::Source, "FILE"),
+    (&["compile", "wcnf", "qubo", "a=b"], Which::Source, "a=b"),
+    (&["compile", "wcnf", "qubo", ""], Which::Source, ""),
+    (&["compile", "wcnf", "qubo", "FILE"], Which::Map, ""),
+    (&["compile", "wcnf", "qubo", "FILE"], Which::State, ""),
+];
+
 #[test]
-fn the_names_of_the_files(rt: HostRuntime) -> Result<(), Fail> {
-    let rows: [(&[&str], Which, &str); 5] = [
-        (&["compile", "wcnf", "qubo", "FILE"], Which::Source, "FILE"),
-        (&["compile", "wcnf", "qubo", "a=b"], Which::Source, "a=b"),
-        (&["compile", "wcnf", "qubo", ""], Which::Source, ""),
-        (&["compile", "wcnf", "qubo", "FILE"], Which::Map, ""),
-        (&["compile", "wcnf", "qubo", "FILE"], Which::State, ""),
-    ];
-    for (words, which, name) in rows {
+fn the_names_of_the_files(rt: HostRuntime) {
+    for (words, which, name) in NAMES {
         assert!(rt;
-            is_named(rt.alloc(), words, which, name)?,
+            is_named(rt.alloc(), words, *which, name) == Ok(true),
             "{words:?} {which:?}"
         );
     }
-    Ok(())
 }

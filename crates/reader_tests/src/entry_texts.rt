@@ -1,8 +1,8 @@
 //! QUBO and Ising texts, read by both readers: the cost of each or its first fault.
 ghost use Rattle.std.specs.Prelude.{◌<◌, length};
 
+use crate::changed_texts::count_answer;
 use crate::plain_entries::{PlainEntries, plain_entries};
-use crate::wcnf_texts::place_of;
 use bits_model::{Cost, Costed};
 use entry_reader::Layout;
 use ising_file::read_ising;
@@ -77,13 +77,18 @@ fn push_words(text: &mut Vec<u8>, words: &[&str]) -> Result<(), AllocError> {
     Ok(())
 }
 
+/// Appends three lists of words, one after another.
+fn push_parts(text: &mut Vec<u8>, parts: [&[&str]; 3]) -> Result<(), AllocError> {
+    let [front, middle, back] = parts;
+    push_words(text, front)?;
+    push_words(text, middle)?;
+    push_words(text, back)
+}
+
 /// The text of three lists of words, one after another.
 fn joined(alloc: Global, parts: [&[&str]; 3]) -> Result<Vec<u8>, AllocError> {
     let mut text = Vec::new(alloc);
-    let [front, middle, back] = parts;
-    push_words(&mut text, front)?;
-    push_words(&mut text, middle)?;
-    push_words(&mut text, back)?;
+    push_parts(&mut text, parts)?;
     Ok(text)
 }
 
@@ -143,12 +148,8 @@ fn count(
     parts: [&[&str]; 3],
 ) -> Result<bool, AllocError> {
     let text = joined(alloc, parts)?;
-    let Some(kind) = same_answer(alloc, layout, &text) else {
-        return Ok(false);
-    };
-    let place = place_of(kind);
-    counts[place] = counts[place].saturating_add(1);
-    Ok(true)
+    let answer = same_answer(alloc, layout, &text);
+    Ok(count_answer(counts, answer))
 }
 
 /// Counts the text that is cut before a word, and those with each other word in its place and before

@@ -5,6 +5,8 @@
 #![tactic(auto)]
 
 #[cfg(test)]
+mod changed_texts;
+#[cfg(test)]
 mod command_rows;
 #[cfg(test)]
 mod entry_texts;

@@ -61,46 +61,44 @@ fn is_cut_anywhere(
     Ok(true)
 }
 
-#[test]
-fn a_text_may_be_cut_anywhere(rt: HostRuntime) -> Result<(), Fail> {
-    let words: [(&[u8], u64); 8] = [
-        (b"p", 2),
-        (b"wcnf", 2),
-        (b"1", 2),
-        (b"2", 2),
-        (b"10", 2),
-        (b"10", 5),
-        (b"-1", 5),
-        (b"0", 6),
-    ];
-    let text = b" c 1 x\np wcnf 1\t2 10\r\n\nc\n10 -1\n0";
-    let bytes = b"pwcnf121010-10";
-    let same = is_cut_anywhere(rt.alloc(), Style::Plain, text, &words, bytes)?;
-    assert!(rt; same);
-    Ok(())
-}
+const PLAIN: &[(&[u8], u64)] = &[
+    (b"p", 2),
+    (b"wcnf", 2),
+    (b"1", 2),
+    (b"2", 2),
+    (b"10", 2),
+    (b"10", 5),
+    (b"-1", 5),
+    (b"0", 6),
+];
 
 #[test]
-fn an_opb_text_may_be_cut_anywhere(rt: HostRuntime) -> Result<(), Fail> {
-    let words: [(&[u8], u64); 12] = [
-        (b"min:", 2),
-        (b"+1", 2),
-        (b"x1", 2),
-        (b";", 2),
-        (b"c:", 4),
-        (b":", 4),
-        (b"2", 4),
-        (b">=<", 4),
-        (b"-1", 4),
-        (b";", 4),
-        (b";", 4),
-        (b"=", 5),
-    ];
+fn a_text_may_be_cut_anywhere(rt: HostRuntime) {
+    let text = b" c 1 x\np wcnf 1\t2 10\r\n\nc\n10 -1\n0";
+    let bytes = b"pwcnf121010-10";
+    assert!(rt; is_cut_anywhere(rt.alloc(), Style::Plain, text, PLAIN, bytes) == Ok(true));
+}
+
+const OPB: &[(&[u8], u64)] = &[
+    (b"min:", 2),
+    (b"+1", 2),
+    (b"x1", 2),
+    (b";", 2),
+    (b"c:", 4),
+    (b":", 4),
+    (b"2", 4),
+    (b">=<", 4),
+    (b"-1", 4),
+    (b";", 4),
+    (b";", 4),
+    (b"=", 5),
+];
+
+#[test]
+fn an_opb_text_may_be_cut_anywhere(rt: HostRuntime) {
     let text = b" * 1 ;\nmin:+1 x1;\n*\n\tc:: 2>=<-1;;\r\n=";
     let bytes = b"min:+1x1;c::2>=<-1;;=";
-    let same = is_cut_anywhere(rt.alloc(), Style::Opb, text, &words, bytes)?;
-    assert!(rt; same);
-    Ok(())
+    assert!(rt; is_cut_anywhere(rt.alloc(), Style::Opb, text, OPB, bytes) == Ok(true));
 }
 
 /// A text of entries that is cut at two places, by its reader of words.

@@ -159,6 +159,20 @@ fn spin(ones: &[bool], node: u64) -> i128 {
     bit(ones, node).saturating_mul(2).saturating_sub(1)
 }
 
+/// Reads all words.
+fn read_words(reading: &mut PlainEntries, words: &[(u64, &[u8])]) -> Result<(), TextAnswer> {
+    let mut end = 1;
+    for (line, word) in words {
+        reading.step(*line, word)?;
+        end = *line;
+    }
+    if reading.is_whole() {
+        Ok(())
+    } else {
+        Err(bad(TextKind::End, end))
+    }
+}
+
 /// What the text says, or its first fault.
 pub(crate) fn plain_entries(
     alloc: Global,
@@ -175,14 +189,6 @@ pub(crate) fn plain_entries(
         first: 0,
         second: 0,
     };
-    let mut end = 1;
-    for (line, word) in words(alloc, text)?.iter() {
-        reading.step(*line, word)?;
-        end = *line;
-    }
-    if reading.is_whole() {
-        Ok(reading)
-    } else {
-        Err(bad(TextKind::End, end))
-    }
+    read_words(&mut reading, &words(alloc, text)?)?;
+    Ok(reading)
 }

@@ -259,9 +259,27 @@ fn read_words(reading: &mut PlainOpb, words: &[PlainWord<'_>], end: u64) -> Resu
     Err(bad(TextKind::End, end))
 }
 
+/// Reads all tokens.
+fn read_all(reading: &mut PlainOpb, tokens: &[PlainWord<'_>]) -> Result<(), TextAnswer> {
+    let end = match tokens.last() {
+        Some((line, _)) => *line,
+        None => 1,
+    };
+    match tokens {
+        [(_, b"min:"), others @ ..] => {
+            reading.in_objective = true;
+            read_words(reading, others, end)?;
+        }
+        all => {
+            reading.numbers.push(0)?;
+            read_words(reading, all, end)?;
+        }
+    }
+    Ok(reading.numbers.push(i128::from(reading.variables))?)
+}
+
 /// What the text says, in normal form, or its first fault.
 pub(crate) fn plain_opb(alloc: Global, text: &[u8]) -> Result<Vec<i128>, TextAnswer> {
-    let tokens = tokens(alloc, text)?;
     let mut reading = PlainOpb {
         numbers: Vec::new(alloc),
         literals: Vec::new(alloc),
@@ -272,20 +290,6 @@ pub(crate) fn plain_opb(alloc: Global, text: &[u8]) -> Result<Vec<i128>, TextAns
         turned: false,
         exact: false,
     };
-    let end = match tokens.last() {
-        Some((line, _)) => *line,
-        None => 1,
-    };
-    match tokens.as_slice() {
-        [(_, b"min:"), others @ ..] => {
-            reading.in_objective = true;
-            read_words(&mut reading, others, end)?;
-        }
-        all => {
-            reading.numbers.push(0)?;
-            read_words(&mut reading, all, end)?;
-        }
-    }
-    reading.numbers.push(i128::from(reading.variables))?;
+    read_all(&mut reading, &tokens(alloc, text)?)?;
     Ok(reading.numbers)
 }

@@ -97,23 +97,31 @@ impl<'a> PlainPoly<'a> {
         Ok(())
     }
 
-    fn finish(self) -> Result<Vec<i128>, AllocError> {
-        let PlainPoly {
-            mut numbers,
-            constant,
-            names,
-            ..
-        } = self;
-        numbers.push(0)?;
-        numbers.push(constant)?;
-        for name in names.iter() {
-            numbers.push(name.len() as i128)?;
-            for byte in *name {
-                numbers.push(i128::from(*byte))?;
-            }
+    fn lines(&mut self, text: &'a [u8]) -> Result<(), TextAnswer> {
+        let mut number: u64 = 0;
+        for line in text.split(|byte| *byte == b'\n') {
+            number = number.saturating_add(1);
+            self.line(number, line)?;
         }
-        Ok(numbers)
+        Ok(self.finish()?)
     }
+
+    /// Puts down the constant and the names.
+    fn finish(&mut self) -> Result<(), AllocError> {
+        self.numbers.push(0)?;
+        self.numbers.push(self.constant)?;
+        push_names(&mut self.numbers, &self.names)
+    }
+}
+
+fn push_names(numbers: &mut Vec<i128>, names: &[&[u8]]) -> Result<(), AllocError> {
+    for name in names {
+        numbers.push(name.len() as i128)?;
+        for byte in *name {
+            numbers.push(i128::from(*byte))?;
+        }
+    }
+    Ok(())
 }
 
 /// What the text says, in normal form, or its first fault.
@@ -124,10 +132,6 @@ pub(crate) fn plain_poly(alloc: Global, text: &[u8]) -> Result<Vec<i128>, TextAn
         names: Vec::new(alloc),
         literals: Vec::new(alloc),
     };
-    let mut number: u64 = 0;
-    for line in text.split(|byte| *byte == b'\n') {
-        number = number.saturating_add(1);
-        reading.line(number, line)?;
-    }
-    Ok(reading.finish()?)
+    reading.lines(text)?;
+    Ok(reading.numbers)
 }

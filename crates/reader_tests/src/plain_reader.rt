@@ -186,6 +186,23 @@ impl PlainReading {
     }
 }
 
+/// Reads all words.
+fn read_words(
+    reading: &mut PlainReading,
+    alloc: Global,
+    words: &[(u64, &[u8])],
+) -> Result<(), TextAnswer> {
+    let mut end = 1;
+    for (line, word) in words {
+        reading.step(alloc, *line, word)?;
+        end = *line;
+    }
+    match reading.place {
+        Place::Top | Place::Weight if reading.clauses_left == 0 => Ok(()),
+        _ => Err(bad(TextKind::End, end)),
+    }
+}
+
 /// What the text says, with its clauses in normal form, or its first fault.
 pub(crate) fn plain_reading(alloc: Global, text: &[u8]) -> Result<PlainReading, TextAnswer> {
     let mut reading = PlainReading {
@@ -199,13 +216,6 @@ pub(crate) fn plain_reading(alloc: Global, text: &[u8]) -> Result<PlainReading, 
         weight: None,
         literals: Vec::new(alloc),
     };
-    let mut end = 1;
-    for (line, word) in words(alloc, text)?.iter() {
-        reading.step(alloc, *line, word)?;
-        end = *line;
-    }
-    match reading.place {
-        Place::Top | Place::Weight if reading.clauses_left == 0 => Ok(reading),
-        _ => Err(bad(TextKind::End, end)),
-    }
+    read_words(&mut reading, alloc, &words(alloc, text)?)?;
+    Ok(reading)
 }
