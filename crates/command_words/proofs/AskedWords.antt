@@ -18,16 +18,17 @@ use Rattle.command_words.specs.declared.commands.Target.TheVariants as targets
 use Rattle.command_words.specs.declared.commands.WordAt.{WordAt}
 use Rattle.command_words.specs.declared.commands.WordAt.TheVariants.{Whole}
 use Rattle.command_words.specs.declared.commands.Job.{Job}
+use Rattle.command_words.specs.declared.commands.Sample.{Sample}
 use Rattle.command_words.specs.declared.commands.Command.{Command}
-use Rattle.command_words.specs.declared.commands.Command.TheVariants.{Compile}
-use Rattle.command_words.specs.declared.names.Which.TheVariants.{Source}
+use Rattle.command_words.specs.declared.commands.Command.TheVariants as commands
+use Rattle.whole_text.specs.Numbers.{digits_number}
 use Rattle.command_words.specs.declared.keys.Keys.{Keys}
 use Rattle.command_words.specs.declared.words.Verb.{Verb}
 use Rattle.command_words.specs.declared.words.Verb.TheVariants as verbs
-use Rattle.command_words.specs.Asked.{EachJobIsAskedFor, EachUnitIsAskedFor, EachKeyStands, NoKeyStandsTwice, NoOtherWordsAsk, format_word, high_key, normal_key, fourth_word_job, target_word, unit_key, job_words, words_of}
-use Rattle.command_words.specs.Commands.{◌>>=◌, after_verb, format_of, job_of, named, target_of, valued, verb_of}
+use Rattle.command_words.specs.Asked.{EachJobIsAskedFor, EachSampleIsAskedFor, EachUnitIsAskedFor, EachKeyStands, NoKeyStandsTwice, NoOtherWordsAsk, Say, SaySample, format_word, high_key, normal_key, fourth_word_job, sample_with, target_word, unit_key, job_words}
+use Rattle.command_words.specs.Commands.{◌>>=◌, after_verb, clauses_of, format_of, job_of, named, sample_of, target_of, valued, verb_of}
 use Rattle.command_words.specs.Keys.{choices_of, chosen_unit, keys_from, no_keys, with_word}
-use Rattle.command_words.specs.Names.{name_of, text_at}
+use Rattle.command_words.specs.Names.{text_at}
 
 -- ---- the words of a job
 
@@ -51,8 +52,21 @@ each_job format target file keys =
     chosen given = fourth_word_job format target given
 
     go : (r : Result Keys ℕ)
-        → ((r >>= λ given. Ok (chosen given)) >>= λ job. Ok (Compile job))
-        ≡ (r >>= λ given. Ok (Compile (chosen given)))
+        → ((r >>= λ given. Ok (chosen given)) >>= λ job. Ok (commands.Compile job))
+        ≡ (r >>= λ given. Ok (commands.Compile (chosen given)))
+    go (Ok given) = refl
+    go (Err position) = refl
+
+pub each_sample : EachSampleIsAskedFor
+each_sample number clauses first second target keys one two =
+    rw (one, two, target_of-target_word target) (go (keys_from target no_keys 4 keys))
+  where
+    chosen : Keys → Sample
+    chosen given = sample_with number clauses target given
+
+    go : (r : Result Keys ℕ)
+        → ((r >>= λ given. Ok (chosen given)) >>= λ sample. Ok (commands.Sample sample))
+        ≡ (r >>= λ given. Ok (commands.Sample (chosen given)))
     go (Ok given) = refl
     go (Err position) = refl
 
@@ -65,7 +79,8 @@ unit_alone target Reduce = refl
 pub each_unit : EachUnitIsAskedFor
 each_unit format target file unit =
     each_job format target file (unit_key unit ∷ [])
-    ∙ ap (λ (r : Result Keys ℕ). r >>= λ given. Ok (Compile (fourth_word_job format target given)))
+    ∙ ap (λ (r : Result Keys ℕ).
+    r >>= λ given. Ok (commands.Compile (fourth_word_job format target given)))
     (unit_alone target unit)
 
 pub each_key : EachKeyStands
@@ -128,9 +143,11 @@ target_of-word word = line target_word word targets.Qubo _ (line target_word wor
 
 abbrev verb_word : Verb → List ℕ
 verb_word verbs.Compile = codes "compile"
+verb_word verbs.Sample = codes "sample"
 
 verb_of-word : (word : List ℕ) → IfSome (verb_of word) (λ verb. word ≡ verb_word verb)
-verb_of-word word = line verb_word word verbs.Compile None tt
+verb_of-word word =
+    line verb_word word verbs.Compile _ (line verb_word word verbs.Sample None tt)
 
 -- ---- a word at its place
 
@@ -162,6 +179,29 @@ valued-word {A} value word_of each words i = at (slice_get words i) refl
         (λ x. StandsAt words i (word_of x))
     at None e = tt
     at (Some word) e = has word e (value word) (each word)
+
+-- a word at its place, with its value
+pub record HasValue {A : Type 0} (value : List ℕ → Option A) (words : List (List ℕ)) (i : ℕ) (x : A)
+    : Type 0 where
+  pub word : List ℕ
+  pub stands : StandsAt words i word
+  pub valued : value word ≡ Some x
+
+valued-HasValue : {A : Type 0} (value : List ℕ → Option A) (words : List (List ℕ)) (i : ℕ)
+    → IfOk (valued value words i) (HasValue value words i)
+valued-HasValue {A} value words i = at (slice_get words i) refl
+  where
+    has : (word : List ℕ) → slice_get words i ≡ Some word → (o : Option A) → value word ≡ o
+        → IfOk (ok_or o (i + 1)) (HasValue value words i)
+    has word e None same = tt
+    has word e (Some x) same =
+        record { word = word; stands = slice_get-StandsAt words i word e; valued = same }
+
+    at : (o : Option (List ℕ)) → slice_get words i ≡ o
+        → IfOk (option_map_or (λ word. ok_or (value word) (i + 1)) o (Err (i + 1)))
+        (HasValue value words i)
+    at None e = tt
+    at (Some word) e = has word e (value word) refl
 
 named-word : (words : List (List ℕ)) (i : ℕ)
     → IfOk (named words i) (λ file. StandsAt words i (text_at words file))
@@ -221,17 +261,64 @@ module _ (words : List (List ℕ)) (keys_at : ℕ) where
       ∙ ap (λ rest. format_word format ∷ rest)
       (third ∙ ap (λ rest. target_word target ∷ rest) fourth)))))
 
--- the words of a command, as they stand in the list
+-- the words after the first one say this sample
+abbrev HasSample : List (List ℕ) → Sample → Type 0
+HasSample words sample = (first second : List ℕ) × (digits_number first ≡ Some sample.number)
+    × (clauses_of second ≡ Some sample.clauses)
+    × (drop 1 words ≡ first ∷ second ∷ target_word sample.target ∷ drop 4 words)
+
+module _ (words : List (List ℕ)) where
+  -- the steps of a sample, each with those after it
+  abbrev sample_keys : ℕ → ℕ → Target → Keys → Result Sample ℕ
+  sample_keys number clauses target keys = Ok (sample_with number clauses target keys)
+
+  abbrev sample_target : ℕ → ℕ → Target → Result Sample ℕ
+  sample_target number clauses target =
+      keys_from target no_keys 4 (drop 4 words) >>= sample_keys number clauses target
+
+  abbrev sample_clauses : ℕ → ℕ → Result Sample ℕ
+  sample_clauses number clauses = valued target_of words 3 >>= sample_target number clauses
+
+  abbrev sample_number : ℕ → Result Sample ℕ
+  sample_number number = valued clauses_of words 2 >>= sample_clauses number
+
+  sample_of-words : IfOk (sample_of words) (HasSample words)
+  sample_of-words =
+      next (valued digits_number words 1) sample_number _ _ (valued-HasValue digits_number words 1)
+      (λ number second.
+      next (valued clauses_of words 2) (sample_clauses number) _ _ (valued-HasValue clauses_of words 2)
+      (λ clauses third.
+      next (valued target_of words 3) (sample_target number clauses) _ _
+      (valued-word target_of target_word target_of-word words 3)
+      (λ target fourth.
+      next (keys_from target no_keys 4 (drop 4 words)) (sample_keys number clauses target)
+      (λ _. ⊤) _ (nothing _)
+      (λ keys _. (
+      second.word, third.word, second.valued, third.valued,
+      second.stands
+      ∙ ap (λ rest. second.word ∷ rest) (third.stands ∙ ap (λ rest. third.word ∷ rest) fourth),
+      )))))
+
+-- the words say a command, and then keys
 abbrev IsAsked : List (List ℕ) → Command → Type 0
-IsAsked words command = (keys : List (List ℕ))
-    × (words ≡ words_of command (name_of words command Source) ++ keys)
+IsAsked words command = (keys : List (List ℕ)) × Say words command keys
 
 after_verb-words : (words : List (List ℕ)) (verb : Verb) → words ≡ verb_word verb ∷ drop 1 words
     → IfOk (after_verb verb words) (IsAsked words)
 after_verb-words words verbs.Compile first =
-    next (job_of words 4) (λ job. Ok (Compile job)) (HasJob words) (IsAsked words)
+    next (job_of words 4) (λ job. Ok (commands.Compile job)) (HasJob words) (IsAsked words)
     (job_of-words words 4)
     (λ job stands. (drop 4 words, first ∙ ap (λ rest. codes "compile" ∷ rest) stands))
+after_verb-words words verbs.Sample first =
+    next (sample_of words) (λ sample. Ok (commands.Sample sample)) (HasSample words) (IsAsked words)
+    (sample_of-words words)
+    (λ sample has. (drop 4 words, record {
+      first = has.0;
+      second = has.1;
+      number = has.2;
+      clauses = has.3;
+      all = first ∙ ap (λ rest. codes "sample" ∷ rest) has.4;
+    }))
 
 pub no_others : NoOtherWordsAsk
 no_others words =

@@ -1,7 +1,8 @@
 -- What a list of words asks for, or the position of the first word that cannot stand, counted from
 -- 1; where no word is wrong but one is missing, it is the number of words and one.
-use Rattle.std.specs.Prelude.{ℕ, ◌+◌, List, drop, String, string_bytes, map, bytes_eq, codes, if◌then◌else◌, Ok, Err, Some, None, Result, Option, slice_get}
+use Rattle.std.specs.Prelude.{ℕ, ◌+◌, ◌≤◌, ⊤, List, drop, String, string_bytes, map, bytes_eq, codes, nat_le, if◌then◌else◌, Ok, Err, Some, None, Result, Option, slice_get}
 use Rattle.std.specs.Option.{option_map_or, ok_or}
+use Rattle.whole_text.specs.Numbers.{digits_number}
 use Rattle.command_words.specs.declared.commands.Format.{Format}
 use Rattle.command_words.specs.declared.commands.Format.TheVariants as formats
 use Rattle.command_words.specs.declared.commands.Target.{Target}
@@ -9,8 +10,9 @@ use Rattle.command_words.specs.declared.commands.Target.TheVariants as targets
 use Rattle.command_words.specs.declared.commands.WordAt.{WordAt}
 use Rattle.command_words.specs.declared.commands.WordAt.TheVariants.{Whole}
 use Rattle.command_words.specs.declared.commands.Job.{Job}
+use Rattle.command_words.specs.declared.commands.Sample.{Sample}
 use Rattle.command_words.specs.declared.commands.Command.{Command}
-use Rattle.command_words.specs.declared.commands.Command.TheVariants.{Compile}
+use Rattle.command_words.specs.declared.commands.Command.TheVariants as commands
 use Rattle.command_words.specs.declared.words.Verb.{Verb}
 use Rattle.command_words.specs.declared.words.Verb.TheVariants as verbs
 use Rattle.command_words.specs.Keys.{choices_of, chosen_unit, keys_from, no_keys}
@@ -65,21 +67,53 @@ job_of words keys_at = do
     unit = chosen_unit keys;
   })
 
+-- a count of clauses in digits, of at most 100,000
+abbrev pub clauses_of : List ℕ → Option ℕ
+clauses_of word =
+    option_map_or (λ clauses. if nat_le clauses 100000 then Some clauses else None)
+    (digits_number word) None
+
+-- the sample of NUMBER CLAUSES TARGET, from the second word on, with the keys after them
+abbrev pub sample_of : List (List ℕ) → Result Sample ℕ
+sample_of words = do
+  number ← valued digits_number words 1
+  clauses ← valued clauses_of words 2
+  target ← valued target_of words 3
+  keys ← keys_from target no_keys 4 (drop 4 words)
+  Ok (record {
+    number = number;
+    clauses = clauses;
+    target = target;
+    choices = choices_of keys;
+    unit = chosen_unit keys;
+  })
+
 -- the words of the verbs
 abbrev pub verb_of : List ℕ → Option Verb
-verb_of word = if bytes_eq word (codes "compile") then Some verbs.Compile else None
+verb_of word =
+    if bytes_eq word (codes "compile")
+    then Some verbs.Compile
+    else if bytes_eq word (codes "sample") then Some verbs.Sample else None
 
 -- what a verb asks for, with the words that stand after it
 abbrev pub after_verb : Verb → List (List ℕ) → Result Command ℕ
 after_verb verbs.Compile words = do
   job ← job_of words 4
-  Ok (Compile job)
+  Ok (commands.Compile job)
+after_verb verbs.Sample words = do
+  sample ← sample_of words
+  Ok (commands.Sample sample)
 
 -- all words of a command
 abbrev pub command_of : List (List ℕ) → Result Command ℕ
 command_of words = do
   verb ← valued verb_of words 0
   after_verb verb words
+
+-- a command with at most 100,000 clauses, where it is a sample
+abbrev pub HasFewClauses : Command → Type 0
+HasFewClauses (commands.Compile job) = ⊤
+HasFewClauses (commands.Sample sample) = sample.clauses ≤ 100000
 
 -- what the given words ask for
 abbrev pub asked : {A : Type 0} → List (String A) → Result Command ℕ

@@ -5,9 +5,8 @@ use Rattle.command_words.specs.declared.commands.WordAt.{WordAt}
 use Rattle.command_words.specs.declared.commands.WordAt.TheVariants.{Whole, Value}
 use Rattle.command_words.specs.declared.commands.Target.{Target}
 use Rattle.command_words.specs.declared.commands.Target.TheVariants as targets
-use Rattle.command_words.specs.declared.commands.Job.{Job}
 use Rattle.command_words.specs.declared.commands.Command.{Command}
-use Rattle.command_words.specs.declared.commands.Command.TheVariants.{Compile}
+use Rattle.command_words.specs.declared.commands.Command.TheVariants.{Compile, Sample}
 use Rattle.command_words.specs.declared.names.Which.{Which}
 use Rattle.command_words.specs.declared.names.Which.TheVariants.{Source, Map, State}
 use Rattle.command_words.specs.Keys.{cut}
@@ -21,9 +20,15 @@ abbrev pub text_at : List (List ℕ) → WordAt → List ℕ
 text_at words (Whole i) = option_map_or (λ word. word) (slice_get words i) []
 text_at words (Value i) = option_map_or value_of (slice_get words i) []
 
--- what a command does with its source
-abbrev pub job_in : Command → Job
-job_in (Compile job) = job
+-- the target of a command's model
+abbrev pub target_in : Command → Target
+target_in (Compile job) = job.target
+target_in (Sample sample) = sample.target
+
+-- the place of the name of the source; a sample has no file
+abbrev pub file_of : Command → Option WordAt
+file_of (Compile job) = Some job.file
+file_of (Sample sample) = None
 
 -- the place of the name of the map of chains
 abbrev pub map_of : Target → Option WordAt
@@ -33,11 +38,12 @@ map_of targets.Ising = None
 -- the place of the name of a state or an assignment
 abbrev pub state_of : Command → Option WordAt
 state_of (Compile job) = None
+state_of (Sample sample) = None
 
 -- the place of the name of a file, where a command has such a file
 abbrev pub place_of : Command → Which → Option WordAt
-place_of command Source = Some (job_in command).file
-place_of command Map = map_of (job_in command).target
+place_of command Source = file_of command
+place_of command Map = map_of (target_in command)
 place_of command State = state_of command
 
 -- the name of a file of a command, empty where the command has no such file

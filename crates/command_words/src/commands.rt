@@ -1,6 +1,4 @@
 //! Commands. All of one is `Copy`, since a name stands in it as its place in the words.
-ghost use Rattle.std.specs.Prelude.{◌≡◌};
-
 use bits_model::UnitChoice;
 use problem_form::Choices;
 
@@ -38,21 +36,19 @@ pub struct Job {
     pub unit: UnitChoice,
 }
 
+/// The text of a number and a count of clauses, and how it becomes a model.
+#[derive(Clone, Copy, Debug, PartialEq, Eq)]
+pub struct Sample {
+    pub number: u64,
+    pub clauses: u64,
+    pub target: Target,
+    pub choices: Choices,
+    pub unit: UnitChoice,
+}
+
 /// What a run does.
 #[derive(Clone, Copy, Debug, PartialEq, Eq)]
 pub enum Command {
     Compile(Job),
-}
-
-impl Command {
-    ghost use Rattle.command_words.specs.Names.{job_in};
-
-    /// What the command does with its source.
-    pub fn job(self) -> Job
-        ensures { result ≡ job_in self }
-    {
-        match self {
-            Command::Compile(job) => job,
-        }
-    }
+    Sample(Sample),
 }

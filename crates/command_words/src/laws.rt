@@ -1,9 +1,10 @@
 //! Laws, as functions without code: each contract is a statement of `specs/`.
-ghost use Rattle.command_words.specs.Asked.{EachJobIsAskedFor, EachUnitIsAskedFor, EachKeyStands, NoKeyStandsTwice, NoOtherWordsAsk};
+ghost use Rattle.command_words.specs.Asked.{EachJobIsAskedFor, EachSampleIsAskedFor, EachUnitIsAskedFor, EachKeyStands, NoKeyStandsTwice, NoOtherWordsAsk};
 
 /// Which words ask for a command, and which don't.
 pub fn laws_of_words()
     ensures each_job { EachJobIsAskedFor }
+    ensures each_sample { EachSampleIsAskedFor }
     ensures each_unit { EachUnitIsAskedFor }
     ensures each_key { EachKeyStands }
     ensures once { NoKeyStandsTwice }

@@ -1,6 +1,6 @@
 //! The files that a command names.
 ghost use Rattle.std.specs.Prelude.{◌≡◌, map, string_bytes};
-ghost use Rattle.command_words.specs.Names.{map_of, name_of, place_of, state_of, text_at, value_of};
+ghost use Rattle.command_words.specs.Names.{file_of, map_of, name_of, place_of, state_of, target_in, text_at, value_of};
 
 use crate::commands::{Command, Target, WordAt};
 use crate::keys::cut;
@@ -23,7 +23,8 @@ fn value_of(word: &str) -> &str
     }
 }
 
-fn text_at(words: &[String], at: WordAt) -> &str
+/// The text at a place of the words, empty where there is no such word.
+pub fn text_at(words: &[String], at: WordAt) -> &str
     ensures { result.now ≡ text_at (map string_bytes words.now) at }
 {
     match at {
@@ -35,6 +36,24 @@ fn text_at(words: &[String], at: WordAt) -> &str
             Some(word) => value_of(word.as_str()),
             None => "",
         },
+    }
+}
+
+fn target_in(command: Command) -> Target
+    ensures { result ≡ target_in command }
+{
+    match command {
+        Command::Compile(job) => job.target,
+        Command::Sample(sample) => sample.target,
+    }
+}
+
+fn file_of(command: Command) -> Option<WordAt>
+    ensures { result ≡ file_of command }
+{
+    match command {
+        Command::Compile(job) => Some(job.file),
+        Command::Sample(_) => None,
     }
 }
 
@@ -50,7 +69,7 @@ fn state_of(command: Command) -> Option<WordAt>
     ensures { result ≡ state_of command }
 {
     match command {
-        Command::Compile(_) => None,
+        Command::Compile(_) | Command::Sample(_) => None,
     }
 }
 
@@ -59,8 +78,8 @@ fn place_of(command: Command, which: Which) -> Option<WordAt>
     ensures { result ≡ place_of command which }
 {
     match which {
-        Which::Source => Some(command.job().file),
-        Which::Map => map_of(command.job().target),
+        Which::Source => file_of(command),
+        Which::Map => map_of(target_in(command)),
         Which::State => state_of(command),
     }
 }

@@ -1,14 +1,20 @@
 //! The words of a command, one after another. Nothing here takes memory.
-ghost use Rattle.std.specs.Prelude.{◌≡◌, ◌<◌, ◌^◌, map, drop, string_bytes};
-ghost use Rattle.command_words.specs.Commands.{command_of, format_of, job_of, named, target_of, valued, verb_of};
+ghost use Rattle.std.specs.Prelude.{◌≡◌, ◌<◌, ◌≤◌, ◌^◌, IfOk, IfSome, map, drop, string_bytes};
+ghost use Rattle.whole_text.specs.Numbers.{digits_number};
+ghost use Rattle.command_words.specs.Commands.{HasFewClauses, clauses_of, command_of, format_of, job_of, named, sample_of, target_of, valued, verb_of};
 
-use crate::commands::{Command, Format, Job, Target, WordAt};
+use crate::commands::{Command, Format, Job, Sample, Target, WordAt};
 use crate::keys::{choices_of, chosen_unit, keys_from};
+use whole_text::digits;
+
+/// The greatest number of clauses of a sample.
+const MOST_CLAUSES: u64 = 100_000;
 
 /// What the first word says.
 #[derive(Clone, Copy, Debug, PartialEq, Eq)]
 pub enum Verb {
     Compile,
+    Sample,
 }
 
 fn verb_of(word: &str) -> Option<Verb>
@@ -16,6 +22,7 @@ fn verb_of(word: &str) -> Option<Verb>
 {
     match word {
         "compile" => Some(Verb::Compile),
+        "sample" => Some(Verb::Sample),
         _ => None,
     }
 }
@@ -61,11 +68,45 @@ fn format_word(words: &[String]) -> Result<Format, usize>
     }
 }
 
-fn target_word(words: &[String]) -> Result<Target, usize>
-    ensures { result ≡ valued target_of (map string_bytes words.now) 2 }
+/// The target that the word at an index is.
+fn target_word(words: &[String], i: usize) -> Result<Target, usize>
+    requires { i < 2 ^ 32 }
+    ensures { result ≡ valued target_of (map string_bytes words.now) i }
+{
+    match words.get(i) {
+        Some(word) => target_of(word.as_str()).ok_or(i + 1),
+        None => Err(i + 1),
+    }
+}
+
+fn number_word(words: &[String]) -> Result<u64, usize>
+    ensures { result ≡ valued digits_number (map string_bytes words.now) 1 }
+{
+    match words.get(1) {
+        Some(word) => digits(word.as_bytes()).ok_or(2),
+        None => Err(2),
+    }
+}
+
+/// A count of clauses in digits.
+fn clauses_of(word: &str) -> Option<u64>
+    ensures value { result ≡ clauses_of word.now }
+    ensures few { IfSome result (λ clauses. clauses ≤ 100000) }
+{
+    let clauses = digits(word.as_bytes())?;
+    if clauses <= MOST_CLAUSES {
+        Some(clauses)
+    } else {
+        None
+    }
+}
+
+fn clauses_word(words: &[String]) -> Result<u64, usize>
+    ensures value { result ≡ valued clauses_of (map string_bytes words.now) 2 }
+    ensures few { IfOk result (λ clauses. clauses ≤ 100000) }
 {
     match words.get(2) {
-        Some(word) => target_of(word.as_str()).ok_or(3),
+        Some(word) => clauses_of(word.as_str()).ok_or(3),
         None => Err(3),
     }
 }
@@ -98,7 +139,7 @@ fn job(words: &[String], keys_at: usize) -> Result<Job, usize>
     ensures { result ≡ job_of (map string_bytes words.now) keys_at }
 {
     let format = format_word(words)?;
-    let target = target_word(words)?;
+    let target = target_word(words, 2)?;
     let file = named(words, 3)?;
     let keys = keys_from(target, keys_at, words_from(words, keys_at))?;
     Ok(Job {
@@ -110,12 +151,32 @@ fn job(words: &[String], keys_at: usize) -> Result<Job, usize>
     })
 }
 
+/// The sample of NUMBER CLAUSES TARGET, with the keys after them.
+fn sample(words: &[String]) -> Result<Sample, usize>
+    ensures sample { result ≡ sample_of (map string_bytes words.now) }
+    ensures few { IfOk result (λ sample. sample.clauses ≤ 100000) }
+{
+    let number = number_word(words)?;
+    let clauses = clauses_word(words)?;
+    let target = target_word(words, 3)?;
+    let keys = keys_from(target, 4, words_from(words, 4))?;
+    Ok(Sample {
+        number,
+        clauses,
+        target,
+        choices: choices_of(keys),
+        unit: chosen_unit(keys),
+    })
+}
+
 /// What the words ask for, or the position of the first word that cannot stand, counted from 1;
 /// where no word is wrong but one is missing, it is the number of words and one.
 pub fn command(words: &[String]) -> Result<Command, usize>
-    ensures { result ≡ command_of (map string_bytes words.now) }
+    ensures asked { result ≡ command_of (map string_bytes words.now) }
+    ensures few { IfOk result HasFewClauses }
 {
     match verb_word(words)? {
         Verb::Compile => Ok(Command::Compile(job(words, 4)?)),
+        Verb::Sample => Ok(Command::Sample(sample(words)?)),
     }
 }

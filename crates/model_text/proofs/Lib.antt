@@ -7,3 +7,4 @@ pub mod EntryCounts
 pub mod EntryLists
 pub mod Puts
 pub mod RowPieces
+pub mod Summaries

@@ -10,7 +10,9 @@ mod counts;
 mod laws;
 mod lines;
 mod rows;
+mod summary;
 mod writing;
 
 pub use laws::laws_of_texts;
+pub use summary::written_summary;
 pub use writing::{write_text, written_text};

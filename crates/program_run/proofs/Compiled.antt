@@ -17,15 +17,19 @@ use Rattle.model_text.proofs.ModelRows.{texts_tell_models}
 use Rattle.command_words.specs.declared.commands.Target.{Target}
 use Rattle.command_words.specs.declared.commands.Target.TheVariants.{Qubo, Ising}
 use Rattle.command_words.specs.declared.commands.Job.{Job}
-use Rattle.command_words.specs.declared.commands.Command.{Command}
-use Rattle.command_words.specs.declared.commands.Command.TheVariants.{Compile}
-use Rattle.command_words.specs.Names.{job_in}
+use Rattle.command_words.specs.declared.commands.Format.{Format}
+use Rattle.command_words.specs.declared.commands.Format.TheVariants.{Wcnf}
+use Rattle.command_words.specs.declared.commands.Sample.{Sample}
+use Rattle.bits_model.specs.declared.output.UnitChoice.{UnitChoice}
+use Rattle.model_text.specs.Summary.{summary_text}
+use Rattle.sample_text.specs.Sample.{sample_text}
 use Rattle.source_texts.specs.declared.reading.Read.{Read}
 use Rattle.source_texts.specs.Sources.{StandsFor, first_decoded}
 use Rattle.source_texts.proofs.Standing.{problem_stands}
 use Rattle.model_pipeline.specs.Models.{IsModelOf, kind_of, decoding_to}
 use Rattle.program_run.specs.Outcome.{sourcing}
-use Rattle.program_run.specs.Answers.{IsAnswer, IsCompiled, IsCompiledFrom, demand_of}
+use Rattle.program_run.specs.Answers.{IsCompiled, IsCompiledFrom, IsModelFor, IsSampled, demand_of}
+use Rattle.program_run.specs.Samples.{IsSampleRead}
 use Rattle.program_run.proofs.Taken.{source_is_taken}
 
 -- the first variables of what a state is read as are what it is read as for them
@@ -37,13 +41,13 @@ take-read_off (kinds.Chimera rows cols shore) a b chains y few =
     take-map (majority y) a (take b chains) ∙ ap (map (majority y)) (take-take a b chains few)
 
 -- no chains are asked for
-chains_of : (target : Target) (job : Job) (m : Written) → m.kind ≡ kind_of target
-    → HasChains m.kind (demand_of job) m
-chains_of Qubo job m kind = subst (λ k. HasChains k (demand_of job) m) (sym kind) tt
-chains_of Ising job m kind = subst (λ k. HasChains k (demand_of job) m) (sym kind) tt
+chains_of : (target : Target) (unit : UnitChoice) (m : Written) → m.kind ≡ kind_of target
+    → HasChains m.kind (demand_of unit) m
+chains_of Qubo unit m kind = subst (λ k. HasChains k (demand_of unit) m) (sym kind) tt
+chains_of Ising unit m kind = subst (λ k. HasChains k (demand_of unit) m) (sym kind) tt
 
-module _ (job : Job) (s : Source) (r : Read) (m : Written) (stands : StandsFor s r)
-    (made : IsModelOf r.problem r.variables job.target job.unit m) where
+module _ (target : Target) (unit : UnitChoice) (s : Source) (r : Read) (m : Written)
+    (stands : StandsFor s r) (made : IsModelOf r.problem r.variables target unit m) where
   bits : m.variables ≡ s.form.bits
   bits = made.variables ∙ stands.variables
 
@@ -61,54 +65,66 @@ module _ (job : Job) (s : Source) (r : Read) (m : Written) (stands : StandsFor s
       m.unit m.figures (record { width = refl; costs = λ x. refl }) alike
       (stands.relaxed (form_of m) (decoding_to r.problem.variables m) m.unit m.figures made.relaxes)
 
-  stated : IsStated s (demand_of job) m
+  stated : IsStated s (demand_of unit) m
   stated = record {
     variables = bits;
     scale = made.scale;
     threshold = made.threshold
         ∙ ap (λ upper. m.figures.scale *ℤ upper +ℤ m.figures.offset) stands.upper;
     unit = made.unit;
-    chains = chains_of job.target job m made.kind;
+    chains = chains_of target unit m made.kind;
   }
 
-  source_is_compiled : IsCompiled job s (model_text m)
-  source_is_compiled = record {
-    model = m;
+  model_stands : IsModelFor target unit s m
+  model_stands = record {
     kind = made.kind;
     fits = made.fits;
-    text_of = record {
-      says = refl;
-      only = λ n formed fits same. texts_tell_models n m formed made.well_formed fits made.fits same;
-    };
     relaxes = source_relaxed;
-    faithful = relaxed_is_faithful s (demand_of job) m made.well_formed stated source_relaxed;
+    faithful = relaxed_is_faithful s (demand_of unit) m made.well_formed stated source_relaxed;
   }
 
-compiled_from : (words : List (List ℕ)) (held : NamedFiles) (command : Command) (r : Read) (m : Written)
-    → sourcing words held command ≡ Some (Ok r)
-    → IsModelOf r.problem r.variables (job_in command).target (job_in command).unit m
-    → IsCompiledFrom words held command (model_text m)
-compiled_from words held command r m e made =
-    let taken = source_is_taken words held command r e in
-    let s = problem_stands (job_in command).format taken.bytes r taken.read in (
+source_is_compiled : (job : Job) (s : Source) (r : Read) (m : Written) → StandsFor s r
+    → IsModelOf r.problem r.variables job.target job.unit m → IsCompiled job s (model_text m)
+source_is_compiled job s r m stands made = record {
+  model = m;
+  stands = model_stands job.target job.unit s r m stands made;
+  text_of = record {
+    says = refl;
+    only = λ n formed fits same. texts_tell_models n m formed made.well_formed fits made.fits same;
+  };
+}
+
+compiled_from : (words : List (List ℕ)) (held : NamedFiles) (job : Job) (r : Read) (m : Written)
+    → sourcing words held job ≡ Some (Ok r)
+    → IsModelOf r.problem r.variables job.target job.unit m
+    → IsCompiledFrom words held job (model_text m)
+compiled_from words held job r m e made =
+    let taken = source_is_taken words held job r e in
+    let s = problem_stands job.format taken.bytes r taken.read in (
       s.0,
       record { bytes = taken.bytes; found = taken.found; says = s.1 },
-      source_is_compiled (job_in command) s.0 r m s.2 made,
+      source_is_compiled job s.0 r m s.2 made,
     )
 
 -- the same, where the files tell what they hold
-pub told_is_compiled : (told : Option NamedFiles) (words : List (List ℕ)) (command : Command)
-    (r : Read) (m : Written)
-    → WhereTold told (λ held. sourcing words held command ≡ Some (Ok r))
-    → IsModelOf r.problem r.variables (job_in command).target (job_in command).unit m
-    → WhereTold told (λ held. IsCompiledFrom words held command (model_text m))
-told_is_compiled None words command r m e made = tt
-told_is_compiled (Some held) words command r m e made =
-    compiled_from words held command r m e made
+pub told_is_compiled : (told : Option NamedFiles) (words : List (List ℕ)) (job : Job) (r : Read)
+    (m : Written)
+    → WhereTold told (λ held. sourcing words held job ≡ Some (Ok r))
+    → IsModelOf r.problem r.variables job.target job.unit m
+    → WhereTold told (λ held. IsCompiledFrom words held job (model_text m))
+told_is_compiled None words job r m e made = tt
+told_is_compiled (Some held) words job r m e made = compiled_from words held job r m e made
 
--- what is compiled is what a command answers
-pub as_answer : (words : List (List ℕ)) (told : Option NamedFiles) (command : Command) (text : List ℕ)
-    → WhereTold told (λ held. IsCompiledFrom words held command text)
-    → WhereTold told (λ held. IsAnswer words held command text)
-as_answer words None command text compiled = tt
-as_answer words (Some held) (Compile job) text compiled = compiled
+-- the summary of a model of what a sample is read into
+pub sample_is_summed : (sample : Sample) (r : Read) (m : Written) → IsSampleRead sample r
+    → IsModelOf r.problem r.variables sample.target sample.unit m
+    → IsSampled sample (summary_text m)
+sample_is_summed sample r m read made =
+    let s = problem_stands Wcnf (sample_text sample.number sample.clauses) r read.read_from in
+    record {
+      source = s.0;
+      says = s.1;
+      model = m;
+      stands = model_stands sample.target sample.unit s.0 r m s.2 made;
+      summary = refl;
+    }

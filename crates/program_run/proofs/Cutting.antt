@@ -8,9 +8,9 @@ use Rattle.edge_io.specs.Held.{NamedFiles, find_file, IsFront, IsLonger, WhereTo
 use Rattle.whole_text.specs.declared.token.Style.{Style}
 use Rattle.whole_text.specs.Tokens.{Word, tokens_of}
 use Rattle.whole_text.specs.Lexing.{LexerState, StandsFor}
-use Rattle.command_words.specs.declared.commands.Command.{Command}
+use Rattle.command_words.specs.declared.commands.Job.{Job}
 use Rattle.command_words.specs.declared.names.Which.TheVariants.{Source}
-use Rattle.command_words.specs.Names.{name_of, job_in}
+use Rattle.command_words.specs.Names.{text_at}
 use Rattle.source_texts.specs.declared.reading.Read.{Read}
 use Rattle.source_texts.specs.Sources.{problem_of, problem_of_words, style_of}
 use Rattle.source_texts.proofs.WordTexts.{words_read}
@@ -106,15 +106,15 @@ cut_longer held name style taken count limit bytes rest left lexer cut within co
 
 -- ---- reading what was cut
 
-read_once : (held : NamedFiles) (words : List (List ℕ)) (command : Command) (style : Style)
-    (cut : List Word) (result : Result Read Status) → style ≡ style_of (job_in command).format
-    → cutting held Source (name_of words command Source) style ≡ Some (Ok cut)
-    → Meets (λ r. r) result (from_text Source (problem_of_words (job_in command).format cut))
-    → Meets (λ r. r) result (reading words held command)
+read_once : (held : NamedFiles) (words : List (List ℕ)) (job : Job) (style : Style)
+    (cut : List Word) (result : Result Read Status) → style ≡ style_of job.format
+    → cutting held Source (text_at words job.file) style ≡ Some (Ok cut)
+    → Meets (λ r. r) result (from_text Source (problem_of_words job.format cut))
+    → Meets (λ r. r) result (reading words held job)
 unfolding cutting reading
-read_once held words command style cut result its_own e meets =
-    let format = (job_in command).format in
-    let taken = bound (taking held Source (name_of words command Source))
+read_once held words job style cut result its_own e meets =
+    let format = job.format in
+    let taken = bound (taking held Source (text_at words job.file))
     (λ bytes. Some (Ok (tokens_of style bytes))) cut e in
     let same : tokens_of style taken.0 ≡ cut = let two = taken.2 in cc in
     let read : problem_of format taken.0 ≡ problem_of_words format cut =
@@ -125,16 +125,16 @@ read_once held words command style cut result its_own e meets =
     (subst (λ said. Meets (λ r. r) result (from_text Source said)) (sym read) meets)
 
 -- what the words of the source are read into is what the source is read into
-pub read_from_words : (told : Option NamedFiles) (words : List (List ℕ)) (command : Command)
+pub read_from_words : (told : Option NamedFiles) (words : List (List ℕ)) (job : Job)
     (style : Style) (cut : List Word) (result : Result Read Status)
-    → style ≡ style_of (job_in command).format
+    → style ≡ style_of job.format
     → WhereTold told
-    (λ held. cutting held Source (name_of words command Source) style ≡ Some (Ok cut))
-    → Meets (λ r. r) result (from_text Source (problem_of_words (job_in command).format cut))
-    → WhereTold told (λ held. Meets (λ r. r) result (reading words held command))
-read_from_words None words command style cut result its_own e meets = tt
-read_from_words (Some held) words command style cut result its_own e meets =
-    read_once held words command style cut result its_own e meets
+    (λ held. cutting held Source (text_at words job.file) style ≡ Some (Ok cut))
+    → Meets (λ r. r) result (from_text Source (problem_of_words job.format cut))
+    → WhereTold told (λ held. Meets (λ r. r) result (reading words held job))
+read_from_words None words job style cut result its_own e meets = tt
+read_from_words (Some held) words job style cut result its_own e meets =
+    read_once held words job style cut result its_own e meets
 
 -- what refuses to take a file refuses whatever is done with it
 refused_alike : (m : Step (List ℕ)) (style : Style) (f : List ℕ → Step Read) (status : Status)
@@ -157,15 +157,15 @@ refuses_as (Limit which kind number) m n same refused = same refused
 refuses_as (NoState width) m n same refused = same refused
 
 -- a source that could not be taken is refused
-pub read_refused : (told : Option NamedFiles) (words : List (List ℕ)) (command : Command)
+pub read_refused : (told : Option NamedFiles) (words : List (List ℕ)) (job : Job)
     (style : Style) (status : Status)
     → WhereTold told
-    (λ held. Refuses status (cutting held Source (name_of words command Source) style))
-    → WhereTold told (λ held. Refuses status (reading words held command))
+    (λ held. Refuses status (cutting held Source (text_at words job.file) style))
+    → WhereTold told (λ held. Refuses status (reading words held job))
 unfolding cutting reading
-read_refused None words command style status refused = tt
-read_refused (Some held) words command style status refused =
-    let m = taking held Source (name_of words command Source) in
-    let f : List ℕ → Step Read = λ bytes. from_text Source (problem_of (job_in command).format bytes) in
+read_refused None words job style status refused = tt
+read_refused (Some held) words job style status refused =
+    let m = taking held Source (text_at words job.file) in
+    let f : List ℕ → Step Read = λ bytes. from_text Source (problem_of job.format bytes) in
     refuses_as status (m >>= λ bytes. Some (Ok (tokens_of style bytes))) (m >>= f)
     (refused_alike m style f status) refused

@@ -8,8 +8,8 @@ use Rattle.problem_form.specs.declared.limits.LimitFault.{LimitFault}
 use Rattle.problem_form.specs.Limits.{limit_fault, most_bytes}
 use Rattle.command_words.specs.declared.names.Which.{Which}
 use Rattle.command_words.specs.declared.names.Which.TheVariants.{Source}
-use Rattle.command_words.specs.declared.commands.Command.{Command}
-use Rattle.command_words.specs.Names.{name_of, job_in}
+use Rattle.command_words.specs.declared.commands.Job.{Job}
+use Rattle.command_words.specs.Names.{text_at}
 use Rattle.source_texts.specs.declared.reading.Read.{Read}
 use Rattle.source_texts.specs.Sources.{problem_of}
 use Rattle.program_run.specs.declared.status.Status.{Status}
@@ -51,19 +51,18 @@ limits_keep x y None e = cc
 limits_keep x y (Some fault) e = absurd cc
 
 -- the source's file is held, and its text is read into this problem
-pub record IsTaken (words : List (List ℕ)) (held : NamedFiles) (command : Command) (given : Read)
-    : Type 0 where
+pub record IsTaken (words : List (List ℕ)) (held : NamedFiles) (job : Job) (given : Read) : Type 0
+    where
   pub bytes : List ℕ
-  pub found : find_file held (name_of words command Source) ≡ Some bytes
-  pub read : problem_of (job_in command).format bytes ≡ Ok given
+  pub found : find_file held (text_at words job.file) ≡ Some bytes
+  pub read : problem_of job.format bytes ≡ Ok given
 
-pub source_is_taken : (words : List (List ℕ)) (held : NamedFiles) (command : Command) (read : Read)
-    → sourcing words held command ≡ Some (Ok read) → IsTaken words held command read
+pub source_is_taken : (words : List (List ℕ)) (held : NamedFiles) (job : Job) (read : Read)
+    → sourcing words held job ≡ Some (Ok read) → IsTaken words held job read
 unfolding sourcing reading
-source_is_taken words held command read e =
-    let job = job_in command in
-    let name = name_of words command Source in
-    let checked = bound (reading words held command)
+source_is_taken words held job read e =
+    let name = text_at words job.file in
+    let checked = bound (reading words held job)
     (λ r. from_limits r (limit_fault job.choices.normal r.problem)) read e in
     let same = limits_keep checked.0 read (limit_fault job.choices.normal checked.0.problem) checked.2 in
     let taken = bound (taking held Source name)
@@ -76,11 +75,11 @@ source_is_taken words held command read e =
     }
 
 -- a source that passes a limit is refused with it
-pub limit_refuses : (told : Option NamedFiles) (words : List (List ℕ)) (command : Command) (r : Read)
-    (fault : LimitFault) → WhereTold told (λ held. reading words held command ≡ Some (Ok r))
-    → limit_fault (job_in command).choices.normal r.problem ≡ Some fault
+pub limit_refuses : (told : Option NamedFiles) (words : List (List ℕ)) (job : Job) (r : Read)
+    (fault : LimitFault) → WhereTold told (λ held. reading words held job ≡ Some (Ok r))
+    → limit_fault job.choices.normal r.problem ≡ Some fault
     → WhereTold told
-    (λ held. sourcing words held command ≡ Some (Err (Limit Source fault.kind fault.number)))
+    (λ held. sourcing words held job ≡ Some (Err (Limit Source fault.kind fault.number)))
 unfolding sourcing
-limit_refuses None words command r fault e passed = tt
-limit_refuses (Some held) words command r fault e passed = rw (e, passed) refl
+limit_refuses None words job r fault e passed = tt
+limit_refuses (Some held) words job r fault e passed = rw (e, passed) refl

@@ -4,3 +4,4 @@ pub mod Outcome
 pub mod Answers
 pub mod Lines
 pub mod Cut
+pub mod Samples

@@ -5,17 +5,21 @@ use Rattle.std.specs.Option.{option_map_or}
 use Rattle.edge_io.specs.Held.{NamedFiles, find_file, WhereTold}
 use Rattle.bits_model.specs.Output.{Written}
 use Rattle.model_text.specs.Rows.{model_text}
+use Rattle.model_text.specs.Summary.{summary_text}
 use Rattle.whole_text.specs.declared.faults.TextFault.{TextFault}
 use Rattle.problem_form.specs.declared.limits.LimitFault.{LimitFault}
 use Rattle.problem_form.specs.declared.limits.LimitKind.TheVariants.{Bytes}
 use Rattle.problem_form.specs.Limits.{limit_fault, most_bytes}
 use Rattle.command_words.specs.declared.names.Which.{Which}
 use Rattle.command_words.specs.declared.names.Which.TheVariants.{Source}
+use Rattle.sample_text.specs.Sample.{sample_text}
+use Rattle.command_words.specs.declared.commands.Format.TheVariants.{Wcnf}
 use Rattle.command_words.specs.declared.commands.Job.{Job}
+use Rattle.command_words.specs.declared.commands.Sample.{Sample}
 use Rattle.command_words.specs.declared.commands.Command.{Command}
-use Rattle.command_words.specs.declared.commands.Command.TheVariants.{Compile}
+use Rattle.command_words.specs.declared.commands.Command.TheVariants as commands
 use Rattle.command_words.specs.Commands.{command_of}
-use Rattle.command_words.specs.Names.{name_of, job_in}
+use Rattle.command_words.specs.Names.{text_at}
 use Rattle.source_texts.specs.declared.reading.Read.{Read}
 use Rattle.source_texts.specs.Sources.{problem_of}
 use Rattle.model_pipeline.specs.Models.{model}
@@ -60,16 +64,16 @@ from_limits x None = Some (Ok x)
 from_limits x (Some fault) = Some (Err (Limit Source fault.kind fault.number))
 
 -- taking the source and reading it
-unfoldable pub reading : List (List ℕ) → NamedFiles → Command → Step Read
-reading words held command = do
-  bytes ← taking held Source (name_of words command Source)
-  from_text Source (problem_of (job_in command).format bytes)
+unfoldable pub reading : List (List ℕ) → NamedFiles → Job → Step Read
+reading words held job = do
+  bytes ← taking held Source (text_at words job.file)
+  from_text Source (problem_of job.format bytes)
 
 -- and then checking its limits
-unfoldable pub sourcing : List (List ℕ) → NamedFiles → Command → Step Read
-sourcing words held command = do
-  read ← reading words held command
-  from_limits read (limit_fault (job_in command).choices.normal read.problem)
+unfoldable pub sourcing : List (List ℕ) → NamedFiles → Job → Step Read
+sourcing words held job = do
+  read ← reading words held job
+  from_limits read (limit_fault job.choices.normal read.problem)
 
 -- ---- commands
 
@@ -78,14 +82,27 @@ abbrev pub model_for : Job → Read → Written
 model_for job read = model job.choices job.target job.unit read.variables read.problem
 
 -- the text of the model of the source
-unfoldable pub compiling : List (List ℕ) → NamedFiles → Command → Step (List ℕ)
-compiling words held command = do
-  read ← sourcing words held command
-  Some (Ok (model_text (model_for (job_in command) read)))
+unfoldable pub compiling : List (List ℕ) → NamedFiles → Job → Step (List ℕ)
+compiling words held job = do
+  read ← sourcing words held job
+  Some (Ok (model_text (model_for job read)))
+
+-- the model of a source, as a sample chooses its steps
+abbrev pub sample_model : Sample → Read → Written
+sample_model sample read =
+    model sample.choices sample.target sample.unit read.variables read.problem
+
+-- the summary of the model of a sample: its text is read and checked as a file's is
+unfoldable pub sampling : Sample → Step (List ℕ)
+sampling sample = do
+  read ← from_text Source (problem_of Wcnf (sample_text sample.number sample.clauses))
+  checked ← from_limits read (limit_fault sample.choices.normal read.problem)
+  Some (Ok (summary_text (sample_model sample checked)))
 
 -- what a command answers: a line a command
 abbrev pub answering : List (List ℕ) → NamedFiles → Command → Step (List ℕ)
-answering words held (Compile job) = compiling words held (Compile job)
+answering words held (commands.Compile job) = compiling words held job
+answering words held (commands.Sample sample) = sampling sample
 
 -- ---- the outcome
 

@@ -1,23 +1,25 @@
 //! What a command answers.
 ghost use Rattle.std.specs.Prelude.{◌≡◌, map, string_bytes, IfOk, IfErr};
 ghost use Rattle.edge_io.specs.Held.{WhereTold};
-ghost use Rattle.command_words.specs.Names.{job_in};
+ghost use Rattle.command_words.specs.Commands.{HasFewClauses};
 ghost use Rattle.program_run.specs.Outcome.{Meets, answering};
 ghost use Rattle.program_run.specs.Statuses.{ended, IsRefusal};
 ghost use Rattle.program_run.specs.Answers.{text_of, IsAnswer};
 ghost use Rattle.program_run.specs.Causes.{AreFiles};
 
 use crate::compile::compile;
+use crate::sample::sample;
 use crate::status::Status;
 use bits_model::OutputModel;
 use command_words::Command;
 use edge_io::Files;
 use std::alloc::Global;
 
-/// What is written for a command: a value that has a text.
+/// What is written for a command: a model, whose text is written row by row, or a text.
 #[derive(Drop)]
 pub enum Answer {
     Model(OutputModel),
+    Text(Vec<u8>),
 }
 
 /// What a command answers, and nothing is written yet.
@@ -27,6 +29,7 @@ pub fn answer_to<F: Files>(
     command: Command,
     files: &mut F,
 ) -> Result<Answer, Status>
+    requires { HasFewClauses command }
     ensures step { WhereTold (F.held files.old) (λ held. Meets text_of result
         (answering (map string_bytes words.now) held command)) }
     ensures files { AreFiles (map string_bytes words.now) command (ended result)
@@ -36,6 +39,7 @@ pub fn answer_to<F: Files>(
     ensures refusal { IfErr result IsRefusal }
 {
     match command {
-        Command::Compile(_) => compile(alloc, words, command, files),
+        Command::Compile(job) => compile(alloc, words, job, files),
+        Command::Sample(drawn) => sample(alloc, drawn),
     }
 }

@@ -9,6 +9,7 @@ mod delivery;
 mod lines;
 mod program;
 mod running;
+mod sample;
 mod status;
 mod steps;
 

@@ -2,7 +2,7 @@
 ghost use Rattle.std.specs.Prelude.{◌≡◌, ◌≤◌, ◌^◌, None, Ok, Result, map, string_bytes, length, IfOk, OnOk, IfErr};
 ghost use Rattle.edge_io.specs.Held.{WhereTold};
 ghost use Rattle.problem_form.specs.Limits.{limit_fault};
-ghost use Rattle.command_words.specs.Names.{name_of, job_in};
+ghost use Rattle.command_words.specs.Names.{text_at};
 ghost use Rattle.whole_text.specs.declared.faults.TextFault.{TextFault};
 ghost use Rattle.whole_text.specs.TokenTexts.{words_of};
 ghost use Rattle.whole_text.specs.Steps.{Gives};
@@ -14,38 +14,35 @@ ghost use Rattle.program_run.specs.Causes.{IsRefusedBy, IsPassed};
 
 use crate::cut::read_words;
 use crate::status::Status;
-use command_words::{Command, Which, name_of};
+use command_words::{Job, Which, text_at};
 use edge_io::{Files, ReadAnswer};
 use problem_form::{LimitKind, MOST_BYTES, check_limits};
 use source_texts::{Read, read_source_words, style_of};
 use std::alloc::Global;
 use whole_text::{Style, TextAnswer, TokenText};
 
-/// Takes a file of a command, and cuts it into words as it comes, in a style.
+/// Takes a file of this name, and cuts it into words as it comes, in a style.
 #[tactic(auto, unfolding(crate::specs::Outcome::taking, crate::specs::Cut::cutting))]
 fn take_words<F: Files>(
     alloc: Global,
-    words: &[String],
-    command: Command,
+    name: &str,
     which: Which,
     style: Style,
     files: &mut F,
 ) -> Result<TokenText, Status>
     ensures step { WhereTold (F.held files.old) (λ held. Meets words_of result
-        (cutting held which (name_of (map string_bytes words.now) command which) style)) }
+        (cutting held which name.now style)) }
     ensures held { F.held files.new ≡ F.held files.old }
     ensures short { IfOk result (λ text. length text.bytes ≤ 2 ^ 24) }
-    ensures passed { OnOk result (IsPassed
-        (name_of (map string_bytes words.now) command which) 1
+    ensures passed { OnOk result (IsPassed name.now 1
         (F.counts files.old) (F.counts files.new)) }
-    ensures refused { IfErr result (λ status.
-        IsRefusedBy which (name_of (map string_bytes words.now) command which) 1 status
+    ensures refused { IfErr result (λ status. IsRefusedBy which name.now 1 status
         (F.counts files.old) (F.counts files.new)) }
 {
-    let Ok(name) = String::from_str(alloc, name_of(words, command, which)) else {
+    let Ok(begun) = String::from_str(alloc, name) else {
         return Err(Status::NoMemory);
     };
-    match read_words(alloc, files, name, MOST_BYTES, style) {
+    match read_words(alloc, files, begun, MOST_BYTES, style) {
         Ok(text) => Ok(text),
         Err(ReadAnswer::ReadFault) => Err(Status::ReadFault(which)),
         Err(ReadAnswer::TooLong) => Err(Status::Limit(which, LimitKind::Bytes, 16_777_217)),
@@ -54,7 +51,7 @@ fn take_words<F: Files>(
 }
 
 /// The problem that a source is read into, or the status of its fault.
-fn judged(read: Result<Read, TextAnswer>) -> Result<Read, Status>
+pub fn judged(read: Result<Read, TextAnswer>) -> Result<Read, Status>
     ensures step { (said : Result Read TextFault) → Gives (λ read. read) read said
         → Meets (λ read. read) result (from_text Which.Source said) }
     ensures good { IfOk result (λ problem. read ≡ Ok problem) }
@@ -73,28 +70,27 @@ fn judged(read: Result<Read, TextAnswer>) -> Result<Read, Status>
 fn take_read<F: Files>(
     alloc: Global,
     words: &[String],
-    command: Command,
+    job: Job,
     files: &mut F,
 ) -> Result<Read, Status>
     ensures step { WhereTold (F.held files.old) (λ held. Meets (λ read. read) result
-        (reading (map string_bytes words.now) held command)) }
+        (reading (map string_bytes words.now) held job)) }
     ensures held { F.held files.new ≡ F.held files.old }
     ensures own { IfOk result (λ read. read.variables ≤ read.problem.variables) }
     ensures passed { OnOk result (IsPassed
-        (name_of (map string_bytes words.now) command Which.Source) 1
+        (text_at (map string_bytes words.now) job.file) 1
         (F.counts files.old) (F.counts files.new)) }
     ensures refused { IfErr result (λ status.
-        IsRefusedBy Which.Source
-        (name_of (map string_bytes words.now) command Which.Source) 1 status
+        IsRefusedBy Which.Source (text_at (map string_bytes words.now) job.file) 1 status
         (F.counts files.old) (F.counts files.new)) }
 {
-    let format = command.job().format;
-    let style = style_of(format);
-    let text = match take_words(alloc, words, command, Which::Source, style, files) {
+    let name = text_at(words, job.file);
+    let style = style_of(job.format);
+    let text = match take_words(alloc, name, Which::Source, style, files) {
         Ok(text) => text,
         Err(status) => return Err(status),
     };
-    let read = read_source_words(alloc, format, &text);
+    let read = read_source_words(alloc, job.format, &text);
     drop(text);
     judged(read)
 }
@@ -104,25 +100,24 @@ fn take_read<F: Files>(
 pub fn take_source<F: Files>(
     alloc: Global,
     words: &[String],
-    command: Command,
+    job: Job,
     files: &mut F,
 ) -> Result<Read, Status>
     ensures step { WhereTold (F.held files.old) (λ held. Meets (λ read. read) result
-        (sourcing (map string_bytes words.now) held command)) }
+        (sourcing (map string_bytes words.now) held job)) }
     ensures held { F.held files.new ≡ F.held files.old }
     ensures within { IfOk result (λ read.
-        limit_fault (job_in command).choices.normal read.problem ≡ None) }
+        limit_fault job.choices.normal read.problem ≡ None) }
     ensures own { IfOk result (λ read. read.variables ≤ read.problem.variables) }
     ensures passed { OnOk result (IsPassed
-        (name_of (map string_bytes words.now) command Which.Source) 1
+        (text_at (map string_bytes words.now) job.file) 1
         (F.counts files.old) (F.counts files.new)) }
     ensures refused { IfErr result (λ status.
-        IsRefusedBy Which.Source
-        (name_of (map string_bytes words.now) command Which.Source) 1 status
+        IsRefusedBy Which.Source (text_at (map string_bytes words.now) job.file) 1 status
         (F.counts files.old) (F.counts files.new)) }
 {
-    let read = take_read(alloc, words, command, files)?;
-    match check_limits(&read.problem, &command.job().choices) {
+    let read = take_read(alloc, words, job, files)?;
+    match check_limits(&read.problem, &job.choices) {
         Ok(()) => Ok(read),
         Err(fault) => Err(Status::Limit(Which::Source, fault.kind, fault.number)),
     }

@@ -253,8 +253,8 @@ fn are_chosen(
     let mut words = owned(alloc, &["compile", "wcnf", "qubo", "FILE"])?;
     push_owned(alloc, &mut words, keys)?;
     match command(&words) {
-        Ok(command) => Ok(command.job().choices == Choices { normal, high }),
-        Err(_) => Ok(false),
+        Ok(Command::Compile(job)) => Ok(job.choices == Choices { normal, high }),
+        Ok(Command::Sample(_)) | Err(_) => Ok(false),
     }
 }
 
