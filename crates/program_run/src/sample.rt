@@ -16,6 +16,7 @@ use std::alloc::Global;
 use whole_text::TextAnswer;
 
 /// What the text of a sample is read into. It has no fault, and passes no limit.
+#[tactic(auto, using(crate::proofs::Sampled::sample_is_read, crate::proofs::Sampled::sample_has_no_fault))]
 fn read_sample(alloc: Global, sample: Sample) -> Result<Read, NoMemory>
     requires { sample.clauses ≤ 100000 }
     ensures read { IfOk result (IsSampleRead sample) }
@@ -30,6 +31,7 @@ fn read_sample(alloc: Global, sample: Sample) -> Result<Read, NoMemory>
 }
 
 /// The summary of the model of a sample.
+#[tactic(auto, using(crate::proofs::Sampled::sample_is_answered, crate::proofs::Compiled::sample_is_summed))]
 fn summary_of(alloc: Global, sample: Sample) -> Result<Vec<u8>, NoMemory>
     requires { sample.clauses ≤ 100000 }
     ensures step { IfOk result (λ text. sampling sample ≡ Some (Ok text.items)) }

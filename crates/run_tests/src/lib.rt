@@ -19,6 +19,8 @@ mod read_back;
 #[cfg(test)]
 mod runs;
 #[cfg(test)]
+mod samples;
+#[cfg(test)]
 mod sizes;
 #[cfg(test)]
 mod states;
