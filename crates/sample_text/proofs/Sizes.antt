@@ -42,7 +42,7 @@ either_small : (b : Bool) (top rest : ℕ) → rest < 9 → cond b top (1 + rest
 either_small true top rest h = omega arith
 either_small false top rest h = omega arith
 
-weight_small : (top state : ℕ) → drawn_weight top state ≤ top + 9
+pub weight_small : (top state : ℕ) → drawn_weight top state ≤ top + 9
 weight_small top state =
     either_small (eqb (drawn state % 8) 0) top (drawn state % 9) (mod-lt (drawn state) (omega arith))
 

@@ -6,7 +6,9 @@
 #![tactic(auto)]
 
 mod draws;
+mod laws;
 mod lines;
 mod text;
 
+pub use laws::laws_of_samples;
 pub use text::sample_text;

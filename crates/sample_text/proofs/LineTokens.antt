@@ -1,0 +1,111 @@
+-- The tokens of lines: a line of words that is no comment has its words as tokens.
+use Rattle.std.proofs.Common.{◌≡◌, ℕ, ◌+◌, ◌<◌, false, cond, List, [], ◌∷◌, ◌++◌, length, map, refl, ap, ◌∙◌, arith, append_assoc}
+use Rattle.std.specs.Prelude.{filter}
+use Rattle.std.specs.List.{AllByRecursion, flat_map, join_with_byte, slice_split}
+use Rattle.std.proofs.lemmas.List.Elements.{All-from_recursion}
+use Rattle.std.proofs.lemmas.List.Splits.{slice_split_at, slice_split_none}
+use Rattle.whole_text.specs.declared.token.Style.TheVariants.{Plain}
+use Rattle.whole_text.specs.Tokens.{Word, word, is_blank, is_feed, is_filled, words, begins_with, is_comment, tokens_of_line, tokens_from}
+use Rattle.whole_text.proofs.Pieces.{plain_line}
+use Rattle.sample_text.specs.Sample.{line}
+
+-- ---- words that stand for themselves
+
+-- no byte of it is a blank
+abbrev pub LacksBlanks : List ℕ → Type 0
+LacksBlanks bs = AllByRecursion (λ b. is_blank b ≡ false) bs
+
+-- no byte of it is a line feed
+abbrev pub LacksFeeds : List ℕ → Type 0
+LacksFeeds bs = AllByRecursion (λ b. is_feed b ≡ false) bs
+
+-- bytes that are one word of a line
+pub record IsInk (bs : List ℕ) : Type 0 where
+  pub filled : 0 < length bs
+  pub blank : LacksBlanks bs
+  pub feed : LacksFeeds bs
+
+abbrev pub AreInk : List (List ℕ) → Type 0
+AreInk ws = AllByRecursion IsInk ws
+
+pub all_append : {X : Type 0} (P : X → Type 0) (xs ys : List X) → AllByRecursion P xs
+    → AllByRecursion P ys → AllByRecursion P (xs ++ ys)
+all_append P [] ys h k = k
+all_append P (x ∷ xs) ys h k = (h.0, all_append P xs ys h.1 k)
+
+-- ---- the words of a line
+
+split_ink : (w : List ℕ) (ws : List (List ℕ)) → AreInk (w ∷ ws)
+    → slice_split is_blank (join_with_byte 32 (w ∷ ws)) ≡ w ∷ ws
+split_ink w [] h =
+    slice_split_none is_blank w (All-from_recursion (λ b. is_blank b ≡ false) w h.0.blank)
+split_ink w (v ∷ vs) h =
+    slice_split_at is_blank w 32 (join_with_byte 32 (v ∷ vs))
+    (All-from_recursion (λ b. is_blank b ≡ false) w h.0.blank) refl
+    ∙ ap (λ (rest : List (List ℕ)). w ∷ rest) (split_ink v vs h.1)
+
+kept_first : (w : List ℕ) (ws : List (List ℕ)) → 0 < length w
+    → filter is_filled (w ∷ ws) ≡ w ∷ filter is_filled ws
+kept_first [] ws some = absurd (omega arith)
+kept_first (c ∷ cs) ws some = refl
+
+all_kept : (ws : List (List ℕ)) → AreInk ws → filter is_filled ws ≡ ws
+all_kept [] h = refl
+all_kept (w ∷ ws) h =
+    kept_first w ws h.0.filled ∙ ap (λ (rest : List (List ℕ)). w ∷ rest) (all_kept ws h.1)
+
+words_joined : (w : List ℕ) (ws : List (List ℕ)) → AreInk (w ∷ ws)
+    → words (join_with_byte 32 (w ∷ ws)) ≡ w ∷ ws
+unfolding words
+words_joined w ws h = ap (filter is_filled) (split_ink w ws h) ∙ all_kept (w ∷ ws) h
+
+-- ---- the tokens of a line
+
+-- the words of a line, each with the line's number, but none of a comment
+abbrev shown : ℕ → List (List ℕ) → List Word
+shown n ws = cond (begins_with 99 ws) [] (map (word n) ws)
+
+line_again : (n : ℕ) (w : List ℕ) (ws : List (List ℕ)) → AreInk (w ∷ ws)
+    → begins_with 99 (w ∷ ws) ≡ false
+    → tokens_of_line Plain n (join_with_byte 32 (w ∷ ws)) ≡ map (word n) (w ∷ ws)
+unfolding is_comment
+line_again n w ws h other =
+    plain_line n (join_with_byte 32 (w ∷ ws)) ∙ ap (shown n) (words_joined w ws h)
+    ∙ ap (λ b. cond b [] (map (word n) (w ∷ ws))) other
+
+-- ---- the lines of a text
+
+-- the tokens of lines that are numbered from n on
+abbrev pub tokens_after : ℕ → List (List (List ℕ)) → List Word
+tokens_after n lines = tokens_from Plain n (slice_split is_feed (flat_map line lines))
+
+line_then : (n : ℕ) (bytes rest : List ℕ) → LacksFeeds bytes
+    → tokens_from Plain n (slice_split is_feed ((bytes ++ 10 ∷ []) ++ rest))
+    ≡ tokens_of_line Plain n bytes ++ tokens_from Plain (n + 1) (slice_split is_feed rest)
+unfolding tokens_from
+line_then n bytes rest h =
+    let grouped : (bytes ++ 10 ∷ []) ++ rest ≡ bytes ++ 10 ∷ rest =
+    append_assoc bytes (10 ∷ []) rest in
+    let cut : slice_split is_feed (bytes ++ 10 ∷ rest) ≡ bytes ∷ slice_split is_feed rest =
+    slice_split_at is_feed bytes 10 rest
+    (All-from_recursion (λ b. is_feed b ≡ false) bytes h) refl in
+    ap (tokens_from Plain n) (ap (slice_split is_feed) grouped ∙ cut)
+
+pub no_lines : (n : ℕ) → tokens_after n [] ≡ []
+unfolding tokens_from tokens_of_line is_comment words
+no_lines n = refl
+
+joined_lacks : (w : List ℕ) (ws : List (List ℕ)) → AreInk (w ∷ ws)
+    → LacksFeeds (join_with_byte 32 (w ∷ ws))
+joined_lacks w [] h = h.0.feed
+joined_lacks w (v ∷ vs) h =
+    let rest = 32 ∷ join_with_byte 32 (v ∷ vs) in
+    all_append (λ b. is_feed b ≡ false) w rest h.0.feed (refl, joined_lacks v vs h.1)
+
+-- a line of words, and the lines after it
+pub words_then : (n : ℕ) (w : List ℕ) (ws : List (List ℕ)) (lines : List (List (List ℕ)))
+    → AreInk (w ∷ ws) → begins_with 99 (w ∷ ws) ≡ false
+    → tokens_after n ((w ∷ ws) ∷ lines) ≡ map (word n) (w ∷ ws) ++ tokens_after (n + 1) lines
+words_then n w ws lines h other =
+    line_then n (join_with_byte 32 (w ∷ ws)) (flat_map line lines) (joined_lacks w ws h)
+    ∙ ap (λ (front : List Word). front ++ tokens_after (n + 1) lines) (line_again n w ws h other)
