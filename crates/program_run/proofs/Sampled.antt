@@ -8,7 +8,7 @@ use Rattle.command_words.specs.declared.commands.Format.TheVariants.{Wcnf}
 use Rattle.command_words.specs.declared.commands.Sample.{Sample}
 use Rattle.wcnf_reader.specs.Cost.{normal_reading}
 use Rattle.sample_text.specs.Sample.{sample_text}
-use Rattle.sample_text.proofs.Read.{each_sample_is_read}
+use Rattle.sample_text.proofs.EachRead.{each_sample_is_read}
 use Rattle.model_text.specs.Summary.{summary_text}
 use Rattle.source_texts.specs.declared.reading.Read.{Read}
 use Rattle.source_texts.specs.Sources.{own, problem_of}
