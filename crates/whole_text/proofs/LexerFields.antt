@@ -1,14 +1,17 @@
 -- A lexer's fields, and what it is seen as.
-use Rattle.std.proofs.Common.{◌≡◌, ℕ, ◌+◌, ◌-◌, ◌<◌, ◌≤◌, true, false, eqb, get_or, List, [], ◌∷◌, ◌++◌, length, take, drop, refl, sym, ap, ◌∙◌, subst, arith}
+use Rattle.std.proofs.Common.{◌≡◌, ℕ, ◌+◌, ◌-◌, ◌<◌, ◌≤◌, Bool, true, false, inl, inr, eqb, get_or, suc, List, [], ◌∷◌, ◌++◌, length, take, drop, refl, sym, ap, ◌∙◌, subst, append_assoc, append-nil, arith}
 use Rattle.std.specs.Prelude.{Result, Ok, Err, OnOk}
-use Rattle.std.specs.List.{slice_range}
-use Rattle.std.proofs.lemmas.List.{drop_all, length-drop, take-append-le, drop-append-le, get_or-drop}
+use Rattle.std.specs.List.{slice_range, prefix_len, AllByRecursion}
+use Rattle.std.proofs.lemmas.Bool.{cases_Bool}
+use Rattle.std.proofs.lemmas.List.{drop_all, length-drop, take-take, length-take-le, take-append-le, drop-append-le, get_or-drop}
+use Rattle.std.proofs.lemmas.List.Sums.{prefix_len-le-length}
 use Rattle.whole_text.specs.declared.lexing.At.{At}
 use Rattle.whole_text.specs.declared.lexing.At.TheVariants as at
+use Rattle.whole_text.specs.declared.token.Style.TheVariants.{Plain}
 use Rattle.whole_text.specs.declared.token.Token.{Token}
 use Rattle.whole_text.specs.Tokens.{Word, word, is_feed, is_blank, joins, comment_byte, words_at, AreJoined}
 use Rattle.whole_text.specs.Lexing.{Place, Fresh, Between, Inside, Comment, LexerState, StandsFor}
-use Rattle.whole_text.specs.LexerPlaces.{place_at, IsWordStart, begun, IsLive}
+use Rattle.whole_text.specs.LexerPlaces.{place_at, IsWordStart, begun, is_above_blank, IsLive}
 use Rattle.whole_text.proofs.LexerSteps.{after_ink, cut_off, stands_ink, stands_kept}
 use Rattle.whole_text.proofs.Pieces.{last_of}
 
@@ -118,3 +121,67 @@ held_inside at.Between held start size w e h = absurd cc
 held_inside at.Inside held start size w e h = (cc, h)
 held_inside at.Comment held start size w e h = absurd cc
 held_inside at.Spent held start size w e h = absurd cc
+
+-- inside a token the place is that of whatever bytes are held
+pub place_inside : (a : At) (held w other : List ℕ) → place_at a held ≡ Inside w → place_at a other ≡ Inside other
+place_inside at.Fresh held w other e = absurd cc
+place_inside at.Between held w other e = absurd cc
+place_inside at.Inside held w other e = refl
+place_inside at.Comment held w other e = absurd cc
+place_inside at.Spent held w other e = absurd cc
+
+-- ---- a run of bytes above the blank, inside a token of the plain style
+
+above_feed : (b : ℕ) → is_above_blank b ≡ true → is_feed b ≡ false
+above_feed b above = grind arith
+
+above_ink : (b : ℕ) → is_above_blank b ≡ true → is_blank b ≡ false
+above_ink b above = grind arith
+
+-- the state with the run in its token
+abbrev run_state : LexerState → List ℕ → List ℕ → LexerState
+run_state s w bs = record s { place = Inside (w ++ bs); size = s.size + length bs }
+
+-- each byte goes on with the token
+stands_run : (s : LexerState) (text w bs : List ℕ) → s.style ≡ Plain → s.place ≡ Inside w → AllByRecursion (λ b. is_above_blank b ≡ true) bs
+    → StandsFor s text → StandsFor (run_state s w bs) (text ++ bs)
+stands_run s text w [] plain here above h =
+    let place : s.place ≡ Inside (w ++ []) = here ∙ ap Inside (sym (append-nil w)) in
+    let size : s.size ≡ s.size + 0 = omega arith in
+    subst (λ (p : Place). StandsFor (record s { place = p; size = s.size + 0 }) (text ++ [])) place
+    (subst (λ (n : ℕ). StandsFor (record s { size = n }) (text ++ [])) size
+    (subst (StandsFor s) (sym (append-nil text)) h))
+stands_run s text w (b ∷ bs) plain here above h =
+    let next = record s { place = Inside (w ++ b ∷ []); size = s.size + 1 } in
+    let one : StandsFor next (text ++ b ∷ []) =
+    subst (λ (p : Place). StandsFor (record s { place = Inside (begun p ++ b ∷ []); size = s.size + 1 }) (text ++ b ∷ [])) here
+    (ink_pushed s text b (ink_inside s w b here (rw plain refl)) (above_feed b above.0) (above_ink b above.0) h) in
+    let more = stands_run next (text ++ b ∷ []) (w ++ b ∷ []) bs plain refl above.1 one in
+    let size : s.size + 1 + length bs ≡ s.size + suc (length bs) = omega arith in
+    subst (λ (p : Place). StandsFor (record s { place = p; size = s.size + suc (length bs) }) (text ++ b ∷ bs)) (ap Inside (append_assoc w (b ∷ []) bs))
+    (subst (λ (n : ℕ). StandsFor (record s { place = Inside ((w ++ b ∷ []) ++ bs); size = n }) (text ++ b ∷ bs)) size
+    (subst (StandsFor (run_state next (w ++ b ∷ []) bs)) (append_assoc text (b ∷ []) bs) more))
+
+-- the bytes in front that pass a test
+pub front_passes : (p : ℕ → Bool) (xs : List ℕ) → AllByRecursion (λ x. p x ≡ true) (take (prefix_len p xs) xs)
+front_passes p [] = tt
+front_passes p (x ∷ xs) =
+    let next : suc (prefix_len p xs) ≡ 1 + prefix_len p xs = omega arith in
+    elim (cases_Bool (p x)) [
+      | inl passes ↦ rw passes (subst (λ (n : ℕ). AllByRecursion (λ y. p y ≡ true) (take n (x ∷ xs))) next (passes, front_passes p xs))
+      | inr fails ↦ rw fails tt
+    ]
+
+-- the bytes above the blank in front of a chunk
+pub run_fed : (now new : LexerState) (w rest : List ℕ) (size len : ℕ) → now.style ≡ Plain → now.place ≡ Inside w
+    → len ≡ prefix_len is_above_blank (take size rest) → len ≤ size
+    → new ≡ record now { place = Inside (begun now.place ++ take len (take size rest)); size = now.size + len }
+    → (text : List ℕ) → StandsFor now text → StandsFor new (text ++ take len rest)
+run_fed now new w rest size len plain here counted le is text h =
+    let bs = take len (take size rest) in
+    let above : AllByRecursion (λ b. is_above_blank b ≡ true) bs =
+    subst (λ (n : ℕ). AllByRecursion (λ b. is_above_blank b ≡ true) (take n (take size rest))) (sym counted) (front_passes is_above_blank (take size rest)) in
+    let long : length bs ≡ len = length-take-le len (take size rest) (omega (arith, counted, prefix_len-le-length is_above_blank (take size rest))) in
+    let same : run_state now w bs ≡ new = (λ i. record now { place = Inside (begun (sym here i) ++ bs); size = now.size + long i }) ∙ sym is in
+    subst (λ (s : LexerState). StandsFor s (text ++ take len rest)) same
+    (subst (λ (l : List ℕ). StandsFor (run_state now w bs) (text ++ l)) (take-take len size rest le) (stands_run now text w bs plain here above h))

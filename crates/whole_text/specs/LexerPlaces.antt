@@ -1,5 +1,5 @@
 -- How a lexer's place is held, and how it goes on.
-use Rattle.std.specs.Prelude.{◌≡◌, ℕ, ◌<◌, ◌≤◌, ⊤, List, [], ◌∷◌}
+use Rattle.std.specs.Prelude.{◌≡◌, ℕ, ◌<◌, ◌≤◌, ⊤, Bool, not, nat_lt, List, [], ◌∷◌}
 use Rattle.whole_text.specs.declared.token.Token.{Token}
 use Rattle.whole_text.specs.declared.lexing.At.{At}
 use Rattle.whole_text.specs.declared.lexing.At.TheVariants as at
@@ -59,3 +59,7 @@ IsLive Between = ⊤
 IsLive (Inside w) = ⊤
 IsLive Comment = ⊤
 IsLive Spent = ⊥
+
+-- a byte above the blank: neither a blank nor a line feed
+abbrev pub is_above_blank : ℕ → Bool
+is_above_blank b = not (nat_lt b 33)

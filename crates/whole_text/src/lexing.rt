@@ -1,9 +1,10 @@
 //! The words of a text that comes in pieces. The text isn't held, only its words.
-ghost use Rattle.std.specs.Prelude.{◌≡◌, ℕ, ◌+◌, ◌-◌, ◌^◌, ◌<◌, ◌≤◌, ◌++◌, ◌∷◌, [], List, false, length, slice_index, IfOk, OnOk, OnErr};
+ghost use Rattle.std.specs.Prelude.{◌≡◌, ℕ, ◌+◌, ◌-◌, ◌^◌, ◌<◌, ◌≤◌, ◌++◌, ◌∷◌, [], List, false, length, take, slice_index, IfOk, OnOk, OnErr};
+ghost use Rattle.std.specs.List.{prefix_len};
 ghost use Rattle.whole_text.specs.Tokens.{is_feed, is_blank, joins, tokens_of, words_at};
 ghost use Rattle.whole_text.specs.TokenTexts.{words_of};
 ghost use Rattle.whole_text.specs.Lexing.{Inside, StandsFor, HasRoom};
-ghost use Rattle.whole_text.specs.LexerPlaces.{ended, begun, after_blank, IsLive};
+ghost use Rattle.whole_text.specs.LexerPlaces.{ended, begun, after_blank, is_above_blank, IsLive};
 
 use crate::cutting::{comment_byte, is_blank, joins};
 use crate::packed::TokenList;
@@ -12,6 +13,10 @@ use crate::token_text::TokenText;
 use bits_model::{Items, NoMemory};
 use std::alloc::Global;
 use std::marker::Model;
+use std::simd::prelude::*;
+
+/// How many bytes of a word are taken at once.
+const LANES: usize = 16;
 
 /// Where a lexer stands in a line.
 #[derive(Clone, Copy, Debug, PartialEq, Eq)]
@@ -66,6 +71,22 @@ fn goes_on(style: Style, bytes: &[u8], byte: u8) -> bool
     ensures { result ≡ joins style (slice_index bytes.now (length bytes.now - 1)) byte }
 {
     joins(style, bytes[bytes.len() - 1], byte)
+}
+
+/// How many of the first 16 bytes stand before one up to `b' '`.
+#[inline(always)]
+fn run_len(bytes: &[u8]) -> usize
+    requires { LANES ≤ length bytes.now }
+    ensures { result ≡ prefix_len is_above_blank (take LANES bytes.now) }
+{
+    let stops = u8x16::from_slice(bytes)
+        .simd_lt(u8x16::splat(b' ' + 1))
+        .to_bitmask();
+    if stops == 0 {
+        LANES
+    } else {
+        stops.trailing_zeros() as usize
+    }
 }
 
 impl Lexer {
@@ -131,9 +152,48 @@ impl Lexer {
         ensures style { self.new.style ≡ self.old.style }
     {
         self.bytes.reserve(piece.len())?;
-        for byte in piece {
+        let mut rest = piece;
+        while let [byte, more @ ..] = rest {
             self.step(*byte, style)?;
+            let len = self.run(more, style)?;
+            rest = &more[len..];
         }
+        Ok(())
+    }
+
+    /// Inside a word of the plain style, takes bytes that go on with it, and answers how many. Most
+    /// words end among the bytes that are taken at once, so no branch depends on where.
+    #[inline(always)]
+    fn run(&mut self, rest: &[u8], style: Style) -> Result<usize, NoMemory>
+        requires own { style ≡ self.old.style }
+        ensures fed { IfOk result (λ len. (text : List ℕ) → StandsFor self.old text
+            → StandsFor self.new (text ++ take len rest.now)) }
+        ensures within { IfOk result (λ len. len ≤ length rest.now) }
+        ensures style { self.new.style ≡ self.old.style }
+    {
+        if style == Style::Plain && self.at == At::Inside && rest.len() >= LANES {
+            let len = run_len(rest);
+            self.append(&rest[..LANES], len)?;
+            return Ok(len);
+        }
+        Ok(0)
+    }
+
+    /// Appends the first of these bytes to the word that the lexer stands in. All are written, since
+    /// that takes one move, and the others are taken off again.
+    #[inline(always)]
+    fn append(&mut self, bytes: &[u8], len: usize) -> Result<(), NoMemory>
+        requires inside { (w : List ℕ) × (self.old.place ≡ Inside w) }
+        requires within { len ≤ length bytes.now }
+        ensures appended { OnOk result (self.new ≡ record self.old {
+          place = Inside (begun self.old.place ++ take len bytes.now);
+          size = self.old.size + len;
+        }) }
+        ensures style { self.new.style ≡ self.old.style }
+    {
+        let end = self.bytes.len() + len;
+        self.bytes.extend_from_slice(bytes)?;
+        self.bytes.truncate(end);
         Ok(())
     }
 
