@@ -294,9 +294,12 @@ module _ (words : List (List ℕ)) where
       next (keys_from target no_keys 4 (drop 4 words)) (sample_keys number clauses target)
       (λ _. ⊤) _ (nothing _)
       (λ keys _. (
-      second.word, third.word, second.valued, third.valued,
-      second.stands
-      ∙ ap (λ rest. second.word ∷ rest) (third.stands ∙ ap (λ rest. third.word ∷ rest) fourth),
+        second.word,
+        third.word,
+        second.valued,
+        third.valued,
+        second.stands
+            ∙ ap (λ rest. second.word ∷ rest) (third.stands ∙ ap (λ rest. third.word ∷ rest) fourth),
       )))))
 
 -- the words say a command, and then keys
@@ -312,13 +315,16 @@ after_verb-words words verbs.Compile first =
 after_verb-words words verbs.Sample first =
     next (sample_of words) (λ sample. Ok (commands.Sample sample)) (HasSample words) (IsAsked words)
     (sample_of-words words)
-    (λ sample has. (drop 4 words, record {
-      first = has.0;
-      second = has.1;
-      number = has.2;
-      clauses = has.3;
-      all = first ∙ ap (λ rest. codes "sample" ∷ rest) has.4;
-    }))
+    (λ sample has. (
+      drop 4 words,
+      record {
+        first = has.0;
+        second = has.1;
+        number = has.2;
+        clauses = has.3;
+        all = first ∙ ap (λ rest. codes "sample" ∷ rest) has.4;
+      },
+    ))
 
 pub no_others : NoOtherWordsAsk
 no_others words =

@@ -52,10 +52,10 @@ limits_keep x y (Some fault) e = absurd cc
 
 -- the source's file is held, and its text is read into this problem
 pub record IsTaken (words : List (List ℕ)) (held : NamedFiles) (job : Job) (given : Read) : Type 0
-    where
-  pub bytes : List ℕ
-  pub found : find_file held (text_at words job.file) ≡ Some bytes
-  pub read : problem_of job.format bytes ≡ Ok given
+  where
+    pub bytes : List ℕ
+    pub found : find_file held (text_at words job.file) ≡ Some bytes
+    pub read : problem_of job.format bytes ≡ Ok given
 
 pub source_is_taken : (words : List (List ℕ)) (held : NamedFiles) (job : Job) (read : Read)
     → sourcing words held job ≡ Some (Ok read) → IsTaken words held job read

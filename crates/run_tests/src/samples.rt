@@ -26,7 +26,14 @@ const SUMMARIES: &[(&[&str], &[u8])] = &[
         b"nodes 3\ncouplers 1\nscale 1\noffset 0\nthreshold 5\nunit 1\n",
     ),
     (
-        &["sample", "00", "01", "qubo", "unit=reduce", "high=rosenberg"],
+        &[
+            "sample",
+            "00",
+            "01",
+            "qubo",
+            "unit=reduce",
+            "high=rosenberg",
+        ],
         b"nodes 3\ncouplers 1\nscale 1\noffset 0\nthreshold 5\nunit 5\n",
     ),
 ];
@@ -78,16 +85,21 @@ fn words_that_ask_for_no_sample(rt: HostRuntime) -> Result<(), Fail> {
 fn write_alike(alloc: Global, words: &[&str]) -> Result<bool, Fail> {
     let (first, out, _) = run_words(alloc, words, "", SOUND)?;
     let (second, again, _) = run_words(alloc, words, "", SOUND)?;
-    Ok(first == Status::Done
-        && second == Status::Done
-        && out.bytes() == again.bytes()
-        && !out.bytes().is_empty())
+    Ok(
+        first == Status::Done
+            && second == Status::Done
+            && out.bytes() == again.bytes()
+            && !out.bytes().is_empty(),
+    )
 }
 
 #[test]
 fn a_sample_is_the_same_at_each_run(rt: HostRuntime) -> Result<(), Fail> {
     for target in ["qubo", "ising"] {
-        assert!(rt; write_alike(rt.alloc(), &["sample", "1", "1000", target])?, "{target}");
+        assert!(rt;
+            write_alike(rt.alloc(), &["sample", "1", "1000", target])?,
+            "{target}"
+        );
     }
     Ok(())
 }
