@@ -1,12 +1,13 @@
--- Couplers in the order of their pairs, with equal neighbours as one, and couplers that came in order.
-use Rattle.std.proofs.Common.{◌≡◌, ◌≢◌, ℕ, ◌+◌, ◌<◌, ◌≤◌, ◌^◌, Bool, true, false, eqb, arith, sym, ap, ◌∙◌, refl, subst, List, [], ◌∷◌, ◌++◌, append_assoc, append-nil, pos, length, length-append, map, get_or, if◌then◌else◌}
+-- Couplers in the order of their pairs, packed ones, equal neighbours as one, and couplers that came
+-- in order.
+use Rattle.std.proofs.Common.{◌≡◌, ◌≢◌, ℕ, ◌+◌, ◌*◌, ◌/◌, ◌%◌, ◌<◌, ◌≤◌, ◌^◌, Bool, true, false, eqb, arith, sym, ap, ◌∙◌, refl, subst, List, [], ◌∷◌, ◌++◌, append_assoc, append-nil, pos, length, length-append, map, get_or, if◌then◌else◌}
 use Rattle.std.specs.Prelude.{All}
 use Rattle.std.specs.Bool.{Decides}
 use Rattle.std.specs.List.Sorted.{IsPermutation, IsNonDecreasingBy}
 use Rattle.std.specs.Ordering.{int_eq}
 use Rattle.std.proofs.lemmas.Bool.{eq-eqb}
 use Rattle.std.proofs.lemmas.Bool.Decides.{Decides-eqb}
-use Rattle.std.proofs.lemmas.List.{get_or-map, length-map, map-id}
+use Rattle.std.proofs.lemmas.List.{get_or-map, length-map, map-append, map-id}
 use Rattle.std.proofs.lemmas.List.Sorted.{All-permutation, IsPermutation-append_comm}
 use Rattle.std.proofs.lemmas.List.Elements.{All-nil, All-push, All-tail, All-weaker, recursion_from_All}
 use Rattle.integers.proofs.Totals.{total_by-IsPermutation}
@@ -14,7 +15,8 @@ use Rattle.bits_model.specs.declared.output.Entry.{Entry}
 use Rattle.quad_form.specs.Pairs.{IsPair, IsNonzero, weight_at, weight_for, pair_number, heavier, entry_in_front, sums_from, AreSummed}
 use Rattle.quad_form.proofs.PairOrder.{Rises, ordered_from_rising}
 use Rattle.direct_quad.specs.Rows.{AreRows}
-use Rattle.direct_quad.specs.PairLists.{AreFromRow, AreAscending, AreGathered}
+use Rattle.direct_quad.specs.declared.pairs.NarrowPair.{NarrowPair}
+use Rattle.direct_quad.specs.PairLists.{entry_of, narrow_of, unpacked, AreFromRow, AreAscending, AreGathered}
 use Rattle.direct_quad.proofs.HeldSums.{total-permuted}
 use Rattle.direct_quad.proofs.PairRows.{from_ordered}
 
@@ -32,6 +34,15 @@ ordered-map entry n xs x up = λ i j d le in'.
       up i j x le here,
     )
 
+-- a greater code has no lesser pair
+pub codes-ordered : (c d : ℕ) → c ≤ d → pair_number (unpacked c) ≤ pair_number (unpacked d)
+codes-ordered c d le =
+    let number : c / 2 ^ 28 ≤ d / 2 ^ 28 = omega arith in
+    go (c / 2 ^ 28) (d / 2 ^ 28) number
+  where
+    go : (n m : ℕ) → n ≤ m → n / 2 ^ 18 * 2 ^ 32 + n % 2 ^ 18 ≤ m / 2 ^ 18 * 2 ^ 32 + m % 2 ^ 18
+    go n m le = omega arith
+
 -- the first nodes do not descend then
 pub from_numbers : (es : List Entry) → All (IsPair (2 ^ 32)) es → IsNonDecreasingBy pair_number es
     → AreFromRow 0 es
@@ -43,6 +54,22 @@ from_numbers es pairs up =
         let one : IsPair (2 ^ 32) (get_or es i d) = pairs i d (omega (arith, le, in')) in
         let two : IsPair (2 ^ 32) (get_or es j d) = pairs j d in' in
         omega (arith, one.within, two.within, up i j d le in')
+
+-- ---- codes
+
+-- their entries, once they are narrow couplers
+pub entries-narrow : (codes : List ℕ) → map entry_of (map narrow_of codes) ≡ map unpacked codes
+entries-narrow [] = refl
+entries-narrow (c ∷ cs) = ap (λ es. unpacked c ∷ es) (entries-narrow cs)
+
+-- and one more
+pub entries-longer : (codes : List ℕ) (narrow longer : List NarrowPair) (p : NarrowPair)
+    → narrow ≡ map narrow_of codes → longer ≡ narrow ++ p ∷ []
+    → map entry_of longer ≡ map unpacked codes ++ entry_of p ∷ []
+entries-longer codes narrow longer p is pushed =
+    ap (map entry_of) pushed
+    ∙ map-append entry_of narrow (p ∷ [])
+    ∙ ap (λ es. es ++ entry_of p ∷ []) (ap (map entry_of) is ∙ entries-narrow codes)
 
 -- ---- neighbours of one pair
 

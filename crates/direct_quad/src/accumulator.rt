@@ -31,7 +31,7 @@ impl Model for Accumulator {
 }
 
 /// Appends a coupler, unless its weight is 0.
-fn push_some(
+pub(crate) fn push_some(
     couplers: &mut CouplerList,
     first: u32,
     second: u32,

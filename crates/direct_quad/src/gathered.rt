@@ -72,7 +72,7 @@ impl DirectTerms {
             total: 0,
             constant: 0,
             weights: vec![in alloc; 0; width]?,
-            pairs: GatheredPairs::empty(alloc),
+            pairs: GatheredPairs::empty(alloc, width),
             long: ProductList::empty(alloc),
         })
     }

@@ -45,14 +45,14 @@ fn joined(mut pairs: Pairs, couplers: CouplerList) -> Result<Pairs, NoMemory>
 }
 
 impl GatheredPairs {
-    /// No couplers. Takes no memory.
-    pub fn empty(alloc: Global) -> GatheredPairs
+    /// No couplers yet. They begin packed where there are few enough nodes. Takes no memory.
+    pub fn empty(alloc: Global, nodes: usize) -> GatheredPairs
         ensures { result ≡ [] }
     {
         GatheredPairs {
             ordered: CouplerList::empty(alloc),
             last: 0,
-            others: Pairs::empty(alloc),
+            others: Pairs::empty(alloc, nodes),
         }
     }
 

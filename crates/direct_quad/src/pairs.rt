@@ -1,32 +1,38 @@
 //! Couplers that are gathered one by one, more than one for some pairs.
-ghost use Rattle.std.specs.Prelude.{◌≡◌, ◌+◌, ◌++◌, ◌∷◌, [], ◌<◌, ◌≤◌, ◌^◌, All, IfOk, List, OnOk, OnErr, length, map, slice_get, Some, unsigned_abs};
+ghost use Rattle.std.specs.Prelude.{◌≡◌, ◌+◌, ◌++◌, ◌∷◌, [], ◌<◌, ◌≤◌, ◌^◌, All, IfOk, IfSome, List, OnOk, OnErr, length, map, slice_get, Some, unsigned_abs};
 ghost use Rattle.std.specs.List.Sorted.{IsPermutation, IsNonDecreasingBy};
 ghost use Rattle.bits_model.specs.declared.output.Entry.{Entry};
 ghost use Rattle.bits_model.specs.Output.{weight_total};
-ghost use Rattle.quad_form.specs.Pairs.{entry_in_front, pair_number, sums_from, sums_of, IsPair, AreSummed};
-ghost use Rattle.direct_quad.specs.PairLists.{entry_of, held_pairs, number_of};
+ghost use Rattle.quad_form.specs.Pairs.{pair_number, sums_from, sums_of, IsPair, AreSummed};
+ghost use Rattle.direct_quad.specs.PairLists.{entry_of, held_pairs, narrow_of, number_of, unpacked};
 
+use crate::accumulator::push_some;
 use bits_model::{CouplerList, Entry, NoMemory};
 use std::alloc::Global;
 use std::marker::Model;
 
-/// A coupler whose weight has 64 bits.
+/// A coupler whose weight has 64 bits. The second node stands first, so that the number of the pair
+/// is one word in memory.
 #[derive(Clone, Copy)]
 pub struct NarrowPair {
-    pub first: u32,
     pub second: u32,
+    pub first: u32,
     pub weight: i64,
 }
 
-/// How many bits the weights have.
+/// How many bits a coupler has: a packed one has 18 for each node and 28 for its weight.
 #[derive(Drop)]
 pub enum HeldPairs {
+    Packed(Vec<u64>),
     Narrow(Vec<NarrowPair>),
     Wide(Vec<Entry>),
 }
 
-/// Couplers, which contracts see as a list of entries: 16 bytes each as long as all weights have 64
-/// bits, and 32 from the first one on that does not. There are fewer than 2^32 of them.
+/// Couplers, which contracts see as a list of entries: 8 bytes each as long as all can be packed, 16
+/// as long as all weights have 64 bits, and 32 from the first one on that does not. There are fewer
+/// than 2^32 of them.
+///
+/// The library's sort in place is fastest for elements of at most 8 bytes.
 #[derive(Drop)]
 pub struct Pairs {
     alloc: Global,
@@ -56,12 +62,84 @@ fn entry_of(pair: NarrowPair) -> Entry
     }
 }
 
+/// The nodes of packed couplers are below it.
+const PACKED_NODES: u64 = 1 << 18;
+
+/// A packed weight takes so many values.
+const PACKED_WEIGHTS: u64 = 1 << 28;
+
+/// A packed weight is counted from the negative of it on.
+const LEAST_PACKED: i64 = 1 << 27;
+
+/// What a code stands for.
+fn narrow_of(code: u64) -> NarrowPair
+    ensures { result ≡ narrow_of code }
+{
+    let number = code / PACKED_WEIGHTS;
+    NarrowPair {
+        second: (number % PACKED_NODES) as u32,
+        first: (number / PACKED_NODES) as u32,
+        weight: (code % PACKED_WEIGHTS) as i64 - LEAST_PACKED,
+    }
+}
+
+/// The code of a coupler, unless a node or the weight needs more bits.
+fn packed(first: u32, second: u32, weight: i128) -> Option<u64>
+    ensures { IfSome result (λ code.
+        unpacked code ≡ record { first = first; second = second; weight = weight }) }
+{
+    let first = u64::from(first);
+    let second = u64::from(second);
+    let least = i128::from(LEAST_PACKED);
+    if first < PACKED_NODES && second < PACKED_NODES && -least <= weight && weight < least {
+        let raised = (weight + least) as u64;
+        Some((first * PACKED_NODES + second) * PACKED_WEIGHTS + raised)
+    } else {
+        None
+    }
+}
+
+/// The same couplers with weights of 64 bits.
+fn narrowed(alloc: Global, codes: &[u64]) -> Result<Vec<NarrowPair>, NoMemory>
+    ensures { IfOk result (λ narrow. narrow.items ≡ map narrow_of codes.now) }
+{
+    let narrow = codes.iter().map(|code| narrow_of(*code)).collect(alloc)?;
+    Ok(narrow)
+}
+
 /// The same couplers as entries.
 fn widened(alloc: Global, narrow: &[NarrowPair]) -> Result<Vec<Entry>, NoMemory>
     ensures { IfOk result (λ wide. wide.items ≡ map entry_of narrow.now) }
 {
     let wide = narrow.iter().map(|pair| entry_of(*pair)).collect(alloc)?;
     Ok(wide)
+}
+
+/// The same couplers as entries, and one more.
+fn with_wide(alloc: Global, narrow: &[NarrowPair], entry: Entry) -> Result<Vec<Entry>, NoMemory>
+    ensures { IfOk result (λ wide. wide.items ≡ map entry_of narrow.now ++ entry ∷ []) }
+{
+    let mut wide = widened(alloc, narrow)?;
+    wide.push(entry)?;
+    Ok(wide)
+}
+
+/// The same couplers, and one more that cannot be packed.
+fn with_longer(alloc: Global, codes: &[u64], entry: Entry) -> Result<HeldPairs, NoMemory>
+    ensures { IfOk result (λ held. held_pairs held ≡ map unpacked codes.now ++ entry ∷ []) }
+{
+    let mut narrow = narrowed(alloc, codes)?;
+    match i64::try_from(entry.weight) {
+        Ok(weight) => {
+            narrow.push(NarrowPair {
+                second: entry.second,
+                first: entry.first,
+                weight,
+            })?;
+            Ok(HeldPairs::Narrow(narrow))
+        }
+        Err(_) => Ok(HeldPairs::Wide(with_wide(alloc, &narrow, entry)?)),
+    }
 }
 
 /// Each node is below it.
@@ -72,6 +150,15 @@ pub(crate) fn number_of(first: u32, second: u32) -> u64
     ensures { result ≡ number_of first second }
 {
     u64::from(first) * NODE_LIMIT + u64::from(second)
+}
+
+/// Packed couplers in the order of their pairs: that of their codes.
+fn sorted_packed(mut codes: Vec<u64>) -> Vec<u64>
+    ensures same { IsPermutation codes.items result.items }
+    ensures ordered { IsNonDecreasingBy (λ c. pair_number (unpacked c)) result.items }
+{
+    codes.sort_unstable_by_key(|code| *code);
+    codes
 }
 
 /// Narrow couplers in the order of their pairs.
@@ -98,19 +185,10 @@ fn sorted_pairs(held: HeldPairs) -> HeldPairs
     ensures ordered { IsNonDecreasingBy pair_number (held_pairs result) }
 {
     match held {
+        HeldPairs::Packed(codes) => HeldPairs::Packed(sorted_packed(codes)),
         HeldPairs::Narrow(pairs) => HeldPairs::Narrow(sorted_narrow(pairs)),
         HeldPairs::Wide(pairs) => HeldPairs::Wide(sorted_wide(pairs)),
     }
-}
-
-/// Appends a coupler, unless its weight is 0.
-fn push_some(couplers: &mut CouplerList, entry: Entry) -> Result<(), NoMemory>
-    ensures { OnOk result (couplers.new ≡ couplers.old ++ entry_in_front entry []) }
-{
-    if entry.weight == 0 {
-        return Ok(());
-    }
-    couplers.push(entry.first, entry.second, entry.weight)
 }
 
 /// Adds an entry to a pending one of its pair. Where that is of another pair it is appended, and the
@@ -130,7 +208,7 @@ fn add_pending(
         pending.weight += entry.weight;
         return Ok(());
     }
-    push_some(couplers, *pending)?;
+    push_some(couplers, pending.first, pending.second, pending.weight)?;
     *pending = entry;
     Ok(())
 }
@@ -148,19 +226,21 @@ fn sums_of(alloc: Global, pairs: &Pairs) -> Result<CouplerList, NoMemory>
     for i in 1..pairs.len() {
         add_pending(&mut couplers, &mut pending, pairs.at(i))?;
     }
-    push_some(&mut couplers, pending)?;
+    push_some(&mut couplers, pending.first, pending.second, pending.weight)?;
     Ok(couplers)
 }
 
 impl Pairs {
-    /// No couplers. Takes no memory.
-    pub fn empty(alloc: Global) -> Pairs
+    /// No couplers yet. They begin packed where there are few enough nodes. Takes no memory.
+    pub fn empty(alloc: Global, nodes: usize) -> Pairs
         ensures { result ≡ [] }
     {
-        Pairs {
-            alloc,
-            held: HeldPairs::Narrow(Vec::new(alloc)),
-        }
+        let held = if nodes as u64 <= PACKED_NODES {
+            HeldPairs::Packed(Vec::new(alloc))
+        } else {
+            HeldPairs::Narrow(Vec::new(alloc))
+        };
+        Pairs { alloc, held }
     }
 
     /// How many there are.
@@ -169,6 +249,7 @@ impl Pairs {
         ensures narrow { result < 2 ^ 32 }
     {
         match &self.held {
+            HeldPairs::Packed(codes) => codes.len(),
             HeldPairs::Narrow(pairs) => pairs.len(),
             HeldPairs::Wide(pairs) => pairs.len(),
         }
@@ -180,6 +261,7 @@ impl Pairs {
         ensures { slice_get self.now index ≡ Some result }
     {
         match &self.held {
+            HeldPairs::Packed(codes) => entry_of(narrow_of(codes[index])),
             HeldPairs::Narrow(pairs) => entry_of(pairs[index]),
             HeldPairs::Wide(pairs) => pairs[index],
         }
@@ -215,28 +297,31 @@ impl Pairs {
             ≡ self.old ++ record { first = first; second = second; weight = weight } ∷ []) }
         ensures unchanged { OnErr result (self.new ≡ self.old) }
     {
+        let entry = Entry {
+            first,
+            second,
+            weight,
+        };
         match &mut self.held {
+            HeldPairs::Packed(codes) => match packed(first, second, weight) {
+                Some(code) => codes.push(code)?,
+                None => {
+                    let longer = with_longer(self.alloc, codes, entry)?;
+                    self.held = longer;
+                }
+            },
             HeldPairs::Narrow(pairs) => match i64::try_from(weight) {
                 Ok(weight) => pairs.push(NarrowPair {
-                    first,
                     second,
+                    first,
                     weight,
                 })?,
                 Err(_) => {
-                    let mut wide = widened(self.alloc, pairs)?;
-                    wide.push(Entry {
-                        first,
-                        second,
-                        weight,
-                    })?;
+                    let wide = with_wide(self.alloc, pairs, entry)?;
                     self.held = HeldPairs::Wide(wide);
                 }
             },
-            HeldPairs::Wide(pairs) => pairs.push(Entry {
-                first,
-                second,
-                weight,
-            })?,
+            HeldPairs::Wide(pairs) => pairs.push(entry)?,
         }
         Ok(())
     }

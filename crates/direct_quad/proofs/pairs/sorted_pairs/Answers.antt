@@ -3,9 +3,18 @@ use Rattle.std.specs.List.Sorted.{IsPermutation}
 use Rattle.std.proofs.lemmas.List.Sorted.{IsPermutation-map}
 use Rattle.bits_model.specs.declared.output.Entry.{Entry}
 use Rattle.quad_form.specs.Pairs.{pair_number}
-use Rattle.direct_quad.specs.PairLists.{entry_of, held_pairs}
+use Rattle.direct_quad.specs.PairLists.{entry_of, held_pairs, unpacked}
 use Rattle.direct_quad.proofs.PairSums.{ordered-map}
 use Rattle.direct_quad.proofs.pairs.sorted_pairs.Goals as goal
+
+pub returns-in-Packed-clause-same : goal.returns-in-Packed-clause-same
+returns-in-Packed-clause-same c =
+    subst (λ (es : List Entry). IsPermutation es (map unpacked c.sorted_packed.result.items)) (ap held_pairs (sym c.in-Packed.is))
+    (IsPermutation-map unpacked _ _ c.sorted_packed.ensures.same)
+
+pub returns-in-Packed-clause-ordered : goal.returns-in-Packed-clause-ordered
+returns-in-Packed-clause-ordered c =
+    ordered-map unpacked pair_number c.sorted_packed.result.items 0 c.sorted_packed.ensures.ordered
 
 pub returns-in-Narrow-clause-same : goal.returns-in-Narrow-clause-same
 returns-in-Narrow-clause-same c =
