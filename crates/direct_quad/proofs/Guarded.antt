@@ -41,15 +41,10 @@ IsWithin-of p admitted =
       total = omega (arith, total-additions p admitted.within);
     }
 
--- so do those of the table of long terms that are held
-pub nodes-held : (p : ProblemContent) (h : HeldContent) → Admits p → AreHeld (additions_of p) h
+-- where those of additions do, so do the nodes of the long terms that are held
+pub nodes-held : (t : TableContent) (h : HeldContent) → IsWithin t → AreHeld t h
     → node_count (table_of (terms_of (length h.weights) h.long)) < 2 ^ 32
-nodes-held p h admitted held =
-    omega (
-      arith,
-      ap node_count (same_table (additions_of p) h held),
-      (IsWithin-of p admitted).narrow,
-    )
+nodes-held t h within held = omega (arith, ap node_count (same_table t h held), within.narrow)
 
 -- the sums, where the code has others for the constant and the weights
 pub made_sums : (t : TableContent) (c z : ℤ) (ws ds : List ℤ) (es : List Entry) → z ≡ c → ds ≡ ws

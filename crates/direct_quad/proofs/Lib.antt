@@ -24,3 +24,4 @@ pub mod HeldSums
 pub mod KeptPlaces
 pub mod PairRows
 pub mod PairSums
+pub mod FlatTables

@@ -115,6 +115,26 @@ impl DirectTerms {
         Ok(())
     }
 
+    /// Adds to the coefficient of a set.
+    pub(crate) fn add(&mut self, literals: &[Literal], coefficient: i128) -> Result<(), NoMemory>
+        requires set { IsTermSet (length self.old.weights) literals.now }
+        requires small { self.old.total + unsigned_abs coefficient ≤ 2 ^ 97 }
+        requires few { length self.old.pairs + 1 < 2 ^ 32 }
+        ensures added { (t : TableContent) → AreHeld t self.old
+            → OnOk result (AreHeld (with_appended t literals.now coefficient) self.new) }
+        ensures width { OnOk result (length self.new.weights ≡ length self.old.weights) }
+        ensures total { OnOk result (self.new.total ≡ self.old.total + unsigned_abs coefficient) }
+        ensures pairs { OnOk result (4 * length self.new.pairs
+            ≤ 4 * length self.old.pairs + length literals.now ^ 2) }
+        ensures unchanged { OnErr result (self.new ≡ self.old) }
+    {
+        if literals.len() <= 2 {
+            self.add_short(literals, coefficient)
+        } else {
+            self.add_long(literals, coefficient)
+        }
+    }
+
     /// The sums of what all additions give, with new nodes for long terms. Each list is let go as
     /// soon as it is used.
     pub(crate) fn into_sums(self, alloc: Global) -> Result<Sums, NoMemory>
@@ -155,10 +175,6 @@ impl Gather for DirectTerms {
     ghost holds = { λ terms t. AreHeld t terms };
 
     fn gather(&mut self, literals: &[Literal], coefficient: i128) -> Result<(), NoMemory> {
-        if literals.len() <= 2 {
-            self.add_short(literals, coefficient)
-        } else {
-            self.add_long(literals, coefficient)
-        }
+        self.add(literals, coefficient)
     }
 }

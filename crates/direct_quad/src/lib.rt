@@ -1,9 +1,10 @@
-//! The quadratic form of a problem at once: without a table, and without one of quadratic terms.
+//! The quadratic form of a problem or of a table at once, without a table of quadratic terms.
 #![tactic(auto)]
 
 mod accumulator;
 mod additions;
 mod direct;
+mod flat_monomials;
 mod gathered;
 mod gathered_pairs;
 mod heads;
@@ -18,6 +19,7 @@ mod short;
 mod weights;
 
 pub use direct::DirectQuad;
+pub use flat_monomials::FlatMonomials;
 pub use gathered_pairs::GatheredPairs;
 pub use laws::{laws_of_long_terms, laws_of_rows, laws_of_sums};
 pub use long_table::{LongTable, LongTerm};

@@ -7,9 +7,8 @@ ghost use Rattle.model_pipeline.specs.Models.{quad_by, quad_of};
 ghost use Rattle.model_pipeline.specs.Formed.{IsFormed};
 
 use crate::steps::quadratic_of;
-use bits_model::{Figures, Guard, NoMemory};
-use direct_quad::DirectQuad;
-use monomial_layer::Monomials;
+use bits_model::{Figures, Guard, Layer, NoMemory};
+use direct_quad::{DirectQuad, FlatMonomials};
 use normal_form::MultilinearForm;
 use penalty_layer::Penalty;
 use problem_form::{Choices, High, Normal, Problem};
@@ -53,16 +52,20 @@ fn literal_rosenberg(alloc: Global, problem: Problem) -> Result<FiguredQuad, NoM
     })
 }
 
-/// Over variables alone, each term replaced by itself.
+/// Over variables alone, each term replaced by itself: without the table of quadratic terms. The
+/// table is let go as soon as the form stands.
 fn multilinear_monomial(alloc: Global, problem: Problem) -> Result<FiguredQuad, NoMemory>
     requires { limit_fault normals.Multilinear problem ≡ None }
     ensures image { IfOk result (λ made.
         made.quad ≡ quad_by normals.Multilinear highs.Monomial problem) }
     ensures stands { IfOk result (λ made. IsFormed problem made.quad made.figures) }
 {
-    let made = quadratic_of(alloc, &MultilinearForm, &Monomials, problem)?;
+    let made = MultilinearForm.guard(alloc, &problem)?;
+    drop(problem);
+    let lowered = FlatMonomials.lower(alloc, &made.target)?;
+    drop(made.target);
     Ok(FiguredQuad {
-        quad: made.quad,
+        quad: lowered.target,
         figures: made.figures,
     })
 }

@@ -8,12 +8,12 @@ use Rattle.quad_form.specs.Quads.{QuadContent}
 use Rattle.direct_quad.specs.Gathered.{IsSumOf}
 use Rattle.direct_quad.specs.Direct.{additions_of}
 use Rattle.direct_quad.specs.laws.Relaxing.{AreAdditions-of}
-use Rattle.direct_quad.proofs.Guarded.{nodes-held, made_sums, made_image, made_quad, made_fits, made_relaxes, made_total, quad_size_within}
+use Rattle.direct_quad.proofs.Guarded.{IsWithin-of, nodes-held, made_sums, made_image, made_quad, made_fits, made_relaxes, made_total, quad_size_within}
 use Rattle.direct_quad.proofs.direct.DirectQuadGuard.guard.Goals as goal
 
 pub into_sums-requires : goal.into_sums-requires
 into_sums-requires c = record {
-  narrow = nodes-held c.args.source.now c.add_contributions.new.terms c.requires c.in_ok-add_contributions.ensures;
+  narrow = nodes-held (additions_of c.args.source.now) c.add_contributions.new.terms (IsWithin-of c.args.source.now c.requires) c.in_ok-add_contributions.ensures;
 }
 
 pub invariant_of-quad : goal.invariant_of-quad

@@ -1,0 +1,136 @@
+//! The layer from a table to its quadratic form.
+ghost use Rattle.std.specs.Prelude.{◌≡◌, ◌+◌, ◌*◌, ◌≤◌, ◌^◌, IfOk, OnOk, length};
+ghost use Rattle.term_table.specs.Terms.{terms_size, terms_total};
+ghost use Rattle.term_table.specs.Tables.{IsTable, TableContent, table_size, with_more};
+ghost use Rattle.direct_quad.specs.Held.{AreHeld};
+ghost use Rattle.direct_quad.specs.FlatMonomials.{image};
+
+use crate::gathered::{DirectTerms, Sums};
+use bits_model::{BitsLink, Costed, Layer, Lowered, NoMemory};
+use monomial_layer::Monomials;
+use quad_form::{NumberList, Quad};
+use std::alloc::Global;
+use term_table::Table;
+
+/// Quadratic terms in place of longer ones, each by itself and over literals, and all multiplied
+/// out: what `Monomials` and `Flatten` make in a row, without the table between. A state decodes to
+/// its first bits.
+#[derive(Drop)]
+pub struct FlatMonomials;
+
+/// Adds the terms of a table.
+fn add_terms(terms: &mut DirectTerms, table: &Table) -> Result<(), NoMemory>
+    requires width { length terms.old.weights ≡ table.now.width }
+    requires total { terms.old.total + terms_total table.now.terms ≤ 2 ^ 97 }
+    requires few { 4 * length terms.old.pairs + terms_size table.now.terms ≤ 2 ^ 29 }
+    ensures added { (t : TableContent) → AreHeld t terms.old
+        → OnOk result (AreHeld (with_more t table.now.terms) terms.new) }
+
+    // What the laws of the layer rest on.
+    ensures kept { IsTable table.now }
+{
+    let listed = table.terms();
+    for (literals, coefficient) in listed {
+        terms.add(literals, coefficient)?;
+    }
+    Ok(())
+}
+
+/// The quadratic form of a table: the sums of what its terms give.
+fn quad_of(alloc: Global, table: &Table) -> Result<Quad, NoMemory>
+    requires total { (terms_total table.now.terms + 1) * 2 ^ 27 ≤ 2 ^ 124 }
+    requires size { table_size table.now * 2 ^ 3 ≤ 2 ^ 32 }
+    ensures image { IfOk result (λ quad. quad ≡ image table.now) }
+    ensures kept { IfOk result (λ _. IsTable table.now) }
+{
+    let mut terms = DirectTerms::new(alloc, table.width())?;
+    add_terms(&mut terms, table)?;
+    let Sums {
+        constant,
+        weights,
+        couplers,
+    } = terms.into_sums(alloc)?;
+    let quad = Quad {
+        constant,
+        diagonal: NumberList::new(weights),
+        couplers,
+    };
+    Ok(quad)
+}
+
+impl Layer for FlatMonomials {
+    type Source = Table;
+
+    type Target = Quad;
+
+    type Link = BitsLink;
+
+    ghost use Rattle.std.specs.Prelude.{pos};
+    ghost use Rattle.bits_model.specs.Links.{first_bits, HasFirstBits};
+    ghost use Rattle.direct_quad.specs.FlatMonomials.{image, extension, Fits};
+    ghost use Rattle.direct_quad.specs.laws.FlatKept.{
+      flat_mono_joins,
+      flat_mono_keeps,
+      flat_mono_sound,
+      flat_mono_whole,
+      flat_mono_whole_source,
+    };
+
+    // One more than the two steps need: additions are gathered up to a total of 2^97.
+    ghost TOTAL_GROWTH = { 27 };
+
+    ghost SIZE_GROWTH = { 3 };
+
+    ghost OFFSET_FACTOR = { 0 };
+
+    ghost image = { image };
+
+    ghost scale = { λ _. pos 1 };
+
+    ghost offset = { λ _. pos 0 };
+
+    ghost extension = { extension };
+
+    ghost decoding = { first_bits };
+
+    ghost is_sound = { HasFirstBits };
+
+    ghost fits = { λ link t. Fits link t };
+
+    ghost sound = { flat_mono_sound };
+
+    ghost joins = { flat_mono_joins };
+
+    ghost keeps = { flat_mono_keeps };
+
+    ghost whole_source = { flat_mono_whole_source };
+
+    ghost whole = { flat_mono_whole };
+
+    fn lower(&self, alloc: Global, source: &Table) -> Result<Lowered<Quad, BitsLink>, NoMemory> {
+        let quad = quad_of(alloc, source)?;
+        Ok(Lowered {
+            link: BitsLink {
+                source_width: source.width(),
+                target_width: quad.width(),
+            },
+            target: quad,
+            scale: 1,
+            offset: 0,
+        })
+    }
+
+    fn decode(&self, alloc: Global, link: &BitsLink, y: &[bool]) -> Result<Vec<bool>, NoMemory> {
+        Monomials.decode(alloc, link, y)
+    }
+
+    fn extend(
+        &self,
+        alloc: Global,
+        source: &Table,
+        link: &BitsLink,
+        x: &[bool],
+    ) -> Result<Vec<bool>, NoMemory> {
+        Monomials.extend(alloc, source, link, x)
+    }
+}
