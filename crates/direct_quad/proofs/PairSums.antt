@@ -16,6 +16,8 @@ use Rattle.quad_form.specs.Pairs.{IsPair, IsNonzero, weight_at, weight_for, pair
 use Rattle.quad_form.proofs.PairOrder.{Rises, ordered_from_rising}
 use Rattle.direct_quad.specs.Rows.{AreRows}
 use Rattle.direct_quad.specs.declared.pairs.NarrowPair.{NarrowPair}
+use Rattle.direct_quad.specs.declared.pairs.Shape.{Shape}
+use Rattle.direct_quad.specs.declared.pairs.Shape.TheVariants.{Few, Many}
 use Rattle.direct_quad.specs.PairLists.{entry_of, narrow_of, unpacked, AreFromRow, AreAscending, AreGathered}
 use Rattle.direct_quad.proofs.HeldSums.{total-permuted}
 use Rattle.direct_quad.proofs.PairRows.{from_ordered}
@@ -35,12 +37,19 @@ ordered-map entry n xs x up = λ i j d le in'.
     )
 
 -- a greater code has no lesser pair
-pub codes-ordered : (c d : ℕ) → c ≤ d → pair_number (unpacked c) ≤ pair_number (unpacked d)
-codes-ordered c d le =
+pub codes-ordered : (shape : Shape) (c d : ℕ) → c ≤ d
+    → pair_number (unpacked shape c) ≤ pair_number (unpacked shape d)
+codes-ordered Few c d le =
     let number : c / 2 ^ 28 ≤ d / 2 ^ 28 = omega arith in
     go (c / 2 ^ 28) (d / 2 ^ 28) number
   where
     go : (n m : ℕ) → n ≤ m → n / 2 ^ 18 * 2 ^ 32 + n % 2 ^ 18 ≤ m / 2 ^ 18 * 2 ^ 32 + m % 2 ^ 18
+    go n m le = omega arith
+codes-ordered Many c d le =
+    let number : c / 2 ^ 24 ≤ d / 2 ^ 24 = omega arith in
+    go (c / 2 ^ 24) (d / 2 ^ 24) number
+  where
+    go : (n m : ℕ) → n ≤ m → n / 2 ^ 20 * 2 ^ 32 + n % 2 ^ 20 ≤ m / 2 ^ 20 * 2 ^ 32 + m % 2 ^ 20
     go n m le = omega arith
 
 -- the first nodes do not descend then
@@ -58,18 +67,19 @@ from_numbers es pairs up =
 -- ---- codes
 
 -- their entries, once they are narrow couplers
-pub entries-narrow : (codes : List ℕ) → map entry_of (map narrow_of codes) ≡ map unpacked codes
-entries-narrow [] = refl
-entries-narrow (c ∷ cs) = ap (λ es. unpacked c ∷ es) (entries-narrow cs)
+pub entries-narrow : (shape : Shape) (codes : List ℕ)
+    → map entry_of (map (narrow_of shape) codes) ≡ map (unpacked shape) codes
+entries-narrow shape [] = refl
+entries-narrow shape (c ∷ cs) = ap (λ es. unpacked shape c ∷ es) (entries-narrow shape cs)
 
 -- and one more
-pub entries-longer : (codes : List ℕ) (narrow longer : List NarrowPair) (p : NarrowPair)
-    → narrow ≡ map narrow_of codes → longer ≡ narrow ++ p ∷ []
-    → map entry_of longer ≡ map unpacked codes ++ entry_of p ∷ []
-entries-longer codes narrow longer p is pushed =
+pub entries-longer : (shape : Shape) (codes : List ℕ) (narrow longer : List NarrowPair)
+    (p : NarrowPair) → narrow ≡ map (narrow_of shape) codes → longer ≡ narrow ++ p ∷ []
+    → map entry_of longer ≡ map (unpacked shape) codes ++ entry_of p ∷ []
+entries-longer shape codes narrow longer p is pushed =
     ap (map entry_of) pushed
     ∙ map-append entry_of narrow (p ∷ [])
-    ∙ ap (λ es. es ++ entry_of p ∷ []) (ap (map entry_of) is ∙ entries-narrow codes)
+    ∙ ap (λ es. es ++ entry_of p ∷ []) (ap (map entry_of) is ∙ entries-narrow shape codes)
 
 -- ---- neighbours of one pair
 

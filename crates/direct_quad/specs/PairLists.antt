@@ -3,6 +3,8 @@ use Rattle.std.specs.Prelude.{◌≡◌, ℕ, ◌+◌, ◌*◌, ◌/◌, ◌%◌
 use Rattle.bits_model.specs.declared.output.Entry.{Entry}
 use Rattle.quad_form.specs.Pairs.{pair_number, IsNonzero}
 use Rattle.direct_quad.specs.declared.pairs.NarrowPair.{NarrowPair}
+use Rattle.direct_quad.specs.declared.pairs.Shape.{Shape}
+use Rattle.direct_quad.specs.declared.pairs.Shape.TheVariants.{Few, Many}
 use Rattle.direct_quad.specs.declared.pairs.HeldPairs.{HeldPairs}
 use Rattle.direct_quad.specs.declared.pairs.HeldPairs.TheVariants.{Packed, Narrow, Wide}
 use Rattle.direct_quad.specs.Rows.{row_of}
@@ -11,22 +13,27 @@ use Rattle.direct_quad.specs.Rows.{row_of}
 abbrev pub entry_of : NarrowPair → Entry
 entry_of p = record { first = p.first; second = p.second; weight = p.weight }
 
--- the coupler of a code, which has 18 bits for the first node, 18 for the second, and 28 for the
--- weight, counted from the least one on
-abbrev pub narrow_of : ℕ → NarrowPair
-narrow_of c = record {
+-- the coupler of a code, which has bits for the first node, for the second, and for the weight,
+-- counted from the least one on
+abbrev pub narrow_of : Shape → ℕ → NarrowPair
+narrow_of Few c = record {
   second = c / 2 ^ 28 % 2 ^ 18;
   first = c / 2 ^ 28 / 2 ^ 18;
   weight = pos (c % 2 ^ 28) -ℤ pos (2 ^ 27);
 }
+narrow_of Many c = record {
+  second = c / 2 ^ 24 % 2 ^ 20;
+  first = c / 2 ^ 24 / 2 ^ 20;
+  weight = pos (c % 2 ^ 24) -ℤ pos (2 ^ 23);
+}
 
 -- the entry of a code
-abbrev pub unpacked : ℕ → Entry
-unpacked c = entry_of (narrow_of c)
+abbrev pub unpacked : Shape → ℕ → Entry
+unpacked shape c = entry_of (narrow_of shape c)
 
 -- the entries of couplers, in however many bits they are held
 abbrev pub held_pairs : HeldPairs → List Entry
-held_pairs (Packed codes) = map unpacked codes.items
+held_pairs (Packed shape codes) = map (unpacked shape) codes.items
 held_pairs (Narrow pairs) = map entry_of pairs.items
 held_pairs (Wide pairs) = pairs.items
 

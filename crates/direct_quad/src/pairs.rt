@@ -1,9 +1,10 @@
 //! Couplers that are gathered one by one, more than one for some pairs.
-ghost use Rattle.std.specs.Prelude.{◌≡◌, ◌+◌, ◌++◌, ◌∷◌, [], ◌<◌, ◌≤◌, ◌^◌, All, IfOk, IfSome, List, OnOk, OnErr, length, map, slice_get, Some, unsigned_abs};
+ghost use Rattle.std.specs.Prelude.{◌≡◌, ◌+◌, ◌++◌, ◌∷◌, [], ◌<◌, ◌≤◌, ◌^◌, ◌/◌, ◌+ℤ◌, pos, All, IfOk, IfSome, List, OnOk, OnErr, length, map, slice_get, Some, unsigned_abs};
 ghost use Rattle.std.specs.List.Sorted.{IsPermutation, IsNonDecreasingBy};
 ghost use Rattle.bits_model.specs.declared.output.Entry.{Entry};
 ghost use Rattle.bits_model.specs.Output.{weight_total};
 ghost use Rattle.quad_form.specs.Pairs.{pair_number, sums_from, sums_of, IsPair, AreSummed};
+ghost use Rattle.direct_quad.specs.declared.pairs.Shape.{Shape};
 ghost use Rattle.direct_quad.specs.PairLists.{entry_of, held_pairs, narrow_of, number_of, unpacked};
 
 use crate::accumulator::push_some;
@@ -20,10 +21,18 @@ pub struct NarrowPair {
     pub weight: i64,
 }
 
-/// How many bits a coupler has: a packed one has 18 for each node and 28 for its weight.
+/// How the bits of a packed coupler are shared out: 18 to each node and 28 to the weight where there
+/// are few nodes, and else 20 and 24.
+#[derive(Clone, Copy)]
+pub enum Shape {
+    Few,
+    Many,
+}
+
+/// How many bits a coupler has: 64, 128 or 256.
 #[derive(Drop)]
 pub enum HeldPairs {
-    Packed(Vec<u64>),
+    Packed(Shape, Vec<u64>),
     Narrow(Vec<NarrowPair>),
     Wide(Vec<Entry>),
 }
@@ -62,48 +71,74 @@ fn entry_of(pair: NarrowPair) -> Entry
     }
 }
 
-/// The nodes of packed couplers are below it.
-const PACKED_NODES: u64 = 1 << 18;
+/// Few nodes are below it.
+const FEW_NODES: u64 = 1 << 18;
 
-/// A packed weight takes so many values.
-const PACKED_WEIGHTS: u64 = 1 << 28;
+/// The weight of a packed coupler of few nodes takes so many values.
+const FEW_WEIGHTS: u64 = 1 << 28;
 
-/// A packed weight is counted from the negative of it on.
-const LEAST_PACKED: i64 = 1 << 27;
+/// Many nodes are below it.
+const MANY_NODES: u64 = 1 << 20;
+
+/// The weight of a packed coupler of many nodes takes so many values.
+const MANY_WEIGHTS: u64 = 1 << 24;
 
 /// What a code stands for.
-fn narrow_of(code: u64) -> NarrowPair
-    ensures { result ≡ narrow_of code }
+fn narrow_of(shape: Shape, code: u64) -> NarrowPair
+    ensures { result ≡ narrow_of shape code }
 {
-    let number = code / PACKED_WEIGHTS;
-    NarrowPair {
-        second: (number % PACKED_NODES) as u32,
-        first: (number / PACKED_NODES) as u32,
-        weight: (code % PACKED_WEIGHTS) as i64 - LEAST_PACKED,
+    match shape {
+        Shape::Few => NarrowPair {
+            second: (code / FEW_WEIGHTS % FEW_NODES) as u32,
+            first: (code / FEW_WEIGHTS / FEW_NODES) as u32,
+            weight: (code % FEW_WEIGHTS) as i64 - (FEW_WEIGHTS / 2) as i64,
+        },
+        Shape::Many => NarrowPair {
+            second: (code / MANY_WEIGHTS % MANY_NODES) as u32,
+            first: (code / MANY_WEIGHTS / MANY_NODES) as u32,
+            weight: (code % MANY_WEIGHTS) as i64 - (MANY_WEIGHTS / 2) as i64,
+        },
     }
 }
 
+/// A weight counted from the least one on that so many values allow, unless these are too few.
+fn raised(weight: i128, values: u64) -> Option<u64>
+    requires { values ≤ 2 ^ 28 }
+    ensures { IfSome result (λ number.
+        (number < values) × (pos number ≡ weight +ℤ pos (values / 2))) }
+{
+    let number = u64::try_from(weight.checked_add(i128::from(values / 2))?).ok()?;
+    if number < values { Some(number) } else { None }
+}
+
 /// The code of a coupler, unless a node or the weight needs more bits.
-fn packed(first: u32, second: u32, weight: i128) -> Option<u64>
+fn packed(shape: Shape, first: u32, second: u32, weight: i128) -> Option<u64>
     ensures { IfSome result (λ code.
-        unpacked code ≡ record { first = first; second = second; weight = weight }) }
+        unpacked shape code ≡ record { first = first; second = second; weight = weight }) }
 {
     let first = u64::from(first);
     let second = u64::from(second);
-    let least = i128::from(LEAST_PACKED);
-    if first < PACKED_NODES && second < PACKED_NODES && -least <= weight && weight < least {
-        let raised = (weight + least) as u64;
-        Some((first * PACKED_NODES + second) * PACKED_WEIGHTS + raised)
-    } else {
-        None
+    match shape {
+        Shape::Few if first < FEW_NODES && second < FEW_NODES => {
+            let weight = raised(weight, FEW_WEIGHTS)?;
+            Some((first * FEW_NODES + second) * FEW_WEIGHTS + weight)
+        }
+        Shape::Many if first < MANY_NODES && second < MANY_NODES => {
+            let weight = raised(weight, MANY_WEIGHTS)?;
+            Some((first * MANY_NODES + second) * MANY_WEIGHTS + weight)
+        }
+        _ => None,
     }
 }
 
 /// The same couplers with weights of 64 bits.
-fn narrowed(alloc: Global, codes: &[u64]) -> Result<Vec<NarrowPair>, NoMemory>
-    ensures { IfOk result (λ narrow. narrow.items ≡ map narrow_of codes.now) }
+fn narrowed(alloc: Global, shape: Shape, codes: &[u64]) -> Result<Vec<NarrowPair>, NoMemory>
+    ensures { IfOk result (λ narrow. narrow.items ≡ map (narrow_of shape) codes.now) }
 {
-    let narrow = codes.iter().map(|code| narrow_of(*code)).collect(alloc)?;
+    let narrow = codes
+        .iter()
+        .map(|code| narrow_of(shape, *code))
+        .collect(alloc)?;
     Ok(narrow)
 }
 
@@ -125,10 +160,16 @@ fn with_wide(alloc: Global, narrow: &[NarrowPair], entry: Entry) -> Result<Vec<E
 }
 
 /// The same couplers, and one more that cannot be packed.
-fn with_longer(alloc: Global, codes: &[u64], entry: Entry) -> Result<HeldPairs, NoMemory>
-    ensures { IfOk result (λ held. held_pairs held ≡ map unpacked codes.now ++ entry ∷ []) }
+fn with_longer(
+    alloc: Global,
+    shape: Shape,
+    codes: &[u64],
+    entry: Entry,
+) -> Result<HeldPairs, NoMemory>
+    ensures { IfOk result (λ held.
+        held_pairs held ≡ map (unpacked shape) codes.now ++ entry ∷ []) }
 {
-    let mut narrow = narrowed(alloc, codes)?;
+    let mut narrow = narrowed(alloc, shape, codes)?;
     match i64::try_from(entry.weight) {
         Ok(weight) => {
             narrow.push(NarrowPair {
@@ -152,10 +193,11 @@ pub(crate) fn number_of(first: u32, second: u32) -> u64
     u64::from(first) * NODE_LIMIT + u64::from(second)
 }
 
-/// Packed couplers in the order of their pairs: that of their codes.
+/// Packed couplers in the order of their pairs, in either shape: that of their codes.
 fn sorted_packed(mut codes: Vec<u64>) -> Vec<u64>
     ensures same { IsPermutation codes.items result.items }
-    ensures ordered { IsNonDecreasingBy (λ c. pair_number (unpacked c)) result.items }
+    ensures ordered { (shape : Shape)
+        → IsNonDecreasingBy (λ c. pair_number (unpacked shape c)) result.items }
 {
     codes.sort_unstable_by_key(|code| *code);
     codes
@@ -185,7 +227,7 @@ fn sorted_pairs(held: HeldPairs) -> HeldPairs
     ensures ordered { IsNonDecreasingBy pair_number (held_pairs result) }
 {
     match held {
-        HeldPairs::Packed(codes) => HeldPairs::Packed(sorted_packed(codes)),
+        HeldPairs::Packed(shape, codes) => HeldPairs::Packed(shape, sorted_packed(codes)),
         HeldPairs::Narrow(pairs) => HeldPairs::Narrow(sorted_narrow(pairs)),
         HeldPairs::Wide(pairs) => HeldPairs::Wide(sorted_wide(pairs)),
     }
@@ -235,8 +277,10 @@ impl Pairs {
     pub fn empty(alloc: Global, nodes: usize) -> Pairs
         ensures { result ≡ [] }
     {
-        let held = if nodes as u64 <= PACKED_NODES {
-            HeldPairs::Packed(Vec::new(alloc))
+        let held = if nodes as u64 <= FEW_NODES {
+            HeldPairs::Packed(Shape::Few, Vec::new(alloc))
+        } else if nodes as u64 <= MANY_NODES {
+            HeldPairs::Packed(Shape::Many, Vec::new(alloc))
         } else {
             HeldPairs::Narrow(Vec::new(alloc))
         };
@@ -249,7 +293,7 @@ impl Pairs {
         ensures narrow { result < 2 ^ 32 }
     {
         match &self.held {
-            HeldPairs::Packed(codes) => codes.len(),
+            HeldPairs::Packed(_, codes) => codes.len(),
             HeldPairs::Narrow(pairs) => pairs.len(),
             HeldPairs::Wide(pairs) => pairs.len(),
         }
@@ -261,7 +305,7 @@ impl Pairs {
         ensures { slice_get self.now index ≡ Some result }
     {
         match &self.held {
-            HeldPairs::Packed(codes) => entry_of(narrow_of(codes[index])),
+            HeldPairs::Packed(shape, codes) => entry_of(narrow_of(*shape, codes[index])),
             HeldPairs::Narrow(pairs) => entry_of(pairs[index]),
             HeldPairs::Wide(pairs) => pairs[index],
         }
@@ -303,10 +347,10 @@ impl Pairs {
             weight,
         };
         match &mut self.held {
-            HeldPairs::Packed(codes) => match packed(first, second, weight) {
+            HeldPairs::Packed(shape, codes) => match packed(*shape, first, second, weight) {
                 Some(code) => codes.push(code)?,
                 None => {
-                    let longer = with_longer(self.alloc, codes, entry)?;
+                    let longer = with_longer(self.alloc, *shape, codes, entry)?;
                     self.held = longer;
                 }
             },

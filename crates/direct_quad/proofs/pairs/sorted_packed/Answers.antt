@@ -9,4 +9,4 @@ returns-clause-ordered c =
     let up : IsNonDecreasingBy (λ (n : ℕ). n) c.sort_unstable_by_key.new.self.items =
     IsNonDecreasingBy-from_sort_by_key (λ (n : ℕ). n) _ c.sort_unstable_by_key.ensures.sorted
     (λ a r f k. search rules) in
-    λ i j d le in'. codes-ordered _ _ (up i j d le in')
+    λ shape i j d le in'. codes-ordered shape _ _ (up i j d le in')

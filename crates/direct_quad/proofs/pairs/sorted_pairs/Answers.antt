@@ -9,12 +9,13 @@ use Rattle.direct_quad.proofs.pairs.sorted_pairs.Goals as goal
 
 pub returns-in-Packed-clause-same : goal.returns-in-Packed-clause-same
 returns-in-Packed-clause-same c =
-    subst (λ (es : List Entry). IsPermutation es (map unpacked c.sorted_packed.result.items)) (ap held_pairs (sym c.in-Packed.is))
-    (IsPermutation-map unpacked _ _ c.sorted_packed.ensures.same)
+    subst (λ (es : List Entry). IsPermutation es (map (unpacked c.in-Packed.shape) c.sorted_packed.result.items)) (ap held_pairs (sym c.in-Packed.is))
+    (IsPermutation-map (unpacked c.in-Packed.shape) _ _ c.sorted_packed.ensures.same)
 
 pub returns-in-Packed-clause-ordered : goal.returns-in-Packed-clause-ordered
 returns-in-Packed-clause-ordered c =
-    ordered-map unpacked pair_number c.sorted_packed.result.items 0 c.sorted_packed.ensures.ordered
+    ordered-map (unpacked c.in-Packed.shape) pair_number c.sorted_packed.result.items 0
+    (c.sorted_packed.ensures.ordered c.in-Packed.shape)
 
 pub returns-in-Narrow-clause-same : goal.returns-in-Narrow-clause-same
 returns-in-Narrow-clause-same c =
