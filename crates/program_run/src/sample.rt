@@ -1,5 +1,5 @@
 //! The command `sample`: the summary of the model of a text that is drawn.
-ghost use Rattle.std.specs.Prelude.{◌≡◌, IfOk, IfErr};
+ghost use Rattle.std.specs.Prelude.{◌≡◌, ◌≤◌, Some, Ok, IfOk, IfErr};
 ghost use Rattle.program_run.specs.Outcome.{Meets, sampling};
 ghost use Rattle.program_run.specs.Answers.{text_of, IsSampled};
 ghost use Rattle.program_run.specs.Samples.{IsSampleRead};

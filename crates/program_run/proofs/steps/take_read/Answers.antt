@@ -1,18 +1,31 @@
-use Rattle.std.proofs.Common.{string_bytes, map}
+use Rattle.std.proofs.Common.{◌≡◌, List, ℕ, Ok, Some, string_bytes, map, subst}
+use Rattle.edge_io.specs.Held.{WhereTold}
 use Rattle.whole_text.specs.TokenTexts.{words_of}
+use Rattle.command_words.specs.declared.names.Which.TheVariants.{Source}
 use Rattle.source_texts.specs.Sources.{problem_of_words}
+use Rattle.program_run.specs.Outcome.{Refuses}
+use Rattle.program_run.specs.Cut.{cutting}
 use Rattle.program_run.proofs.Cutting.{read_from_words, read_refused}
 use Rattle.program_run.proofs.steps.take_read.Goals as goal
 
 pub returns-clause-step : goal.returns-clause-step
 returns-clause-step g c =
+    let told = g.F.Files.held c.args.files.now in
     let cut = words_of c.in-Ok.text in
+    let style = c.style_of-style.result in
     let read = c.judged.ensures.step (problem_of_words c.args.job.format cut)
     c.read_source_words-read.ensures.read in
-    read_from_words (g.F.Files.held c.args.files.now) (map string_bytes c.args.words.now) c.args.job
-    c.style_of-style.result cut c.judged.result c.style_of-style.ensures c.in-Ok.ensures.step read
+    let taken = subst (λ (name : List ℕ). WhereTold told
+    (λ held. cutting held Source name style ≡ Some (Ok cut))) c.text_at-name.ensures c.in-Ok.ensures.step in
+    read_from_words told (map string_bytes c.args.words.now) c.args.job style cut c.judged.result
+    c.style_of-style.ensures taken read
 
 pub returns-in-Err-clause-step : goal.returns-in-Err-clause-step
 returns-in-Err-clause-step g c =
-    read_refused (g.F.Files.held c.args.files.now) (map string_bytes c.args.words.now) c.args.job
-    c.style_of-style.result c.in-Err.status c.in-Err.ensures.step
+    let told = g.F.Files.held c.args.files.now in
+    let style = c.style_of-style.result in
+    let status = c.in-Err.status in
+    read_refused told (map string_bytes c.args.words.now) c.args.job style status
+    (subst (λ (name : List ℕ). WhereTold told
+    (λ held. Refuses status (cutting held Source name style))) c.text_at-name.ensures
+    c.in-Err.ensures.step)
