@@ -49,6 +49,6 @@ pub record AreParts (t : TableContent) (adds long : List Term) (bound : ℕ) : T
 abbrev pub IsTurn : Option Pair → ℕ → (long low : List Term) → (pairs : List Pair)
     → (long' low' : List Term) → (pairs' : List Pair) → Type 0
 IsTurn None n long low pairs long' low' pairs' =
-    (long' ≡ long) × (low' ≡ low) × (pairs' ≡ pairs)
+    (long ≡ []) × (long' ≡ long) × (low' ≡ low) × (pairs' ≡ pairs)
 IsTurn (Some pair) n long low pairs long' low' pairs' =
     IsStep pair (node n) long low long' low' × (pairs' ≡ pairs ++ pair ∷ [])

@@ -3,7 +3,7 @@ use Rattle.std.specs.Prelude.{All}
 use Rattle.std.specs.List.{filter}
 use Rattle.std.proofs.lemmas.Result.{IfOk-weaker}
 use Rattle.term_table.specs.Terms.{Term, terms_total, with_additions, IsTermSet}
-use Rattle.rosenberg_layer.specs.Rosenberg.{pairs_of}
+use Rattle.rosenberg_layer.specs.Rosenberg.{is_long, pairs_of, run}
 use Rattle.rosenberg_layer.specs.Steps.{is_short}
 use Rattle.rosenberg_layer.specs.Parts.{weights}
 use Rattle.rosenberg_layer.proofs.Turns.{excess-size}
@@ -30,7 +30,7 @@ gathered-requires-clause-sets c =
     omega (arith, c.len.ensures, ap length c.in_ok-made.ensures.pairs) in
     let width = c.width-width.result + c.len.result in
     subst (All (λ (u : Term). IsTermSet width u.0)) (sym c.deref.ensures.value)
-    (adds-sets t base low c.in_ok-made.made.long.entries c.width-width.result c.excess.result
+    (adds-sets t base low (filter is_long (run c.excess.result t).terms) c.width-width.result c.excess.result
     c.len.result (weights t.terms) c.width-width.ensures count c.in_ok-made.ensures.parts)
 
 pub gathered-requires-clause-small : goal.gathered-requires-clause-small
@@ -41,7 +41,7 @@ gathered-requires-clause-small c =
     omega (
       arith,
       ap terms_total c.deref.ensures.value,
-      adds-fit t base low c.in_ok-made.made.long.entries c.excess.result
+      adds-fit t base low (filter is_long (run c.excess.result t).terms) c.excess.result
           c.in_ok-made.ensures.kept.terms c.in_ok-made.ensures.parts c.requires.total,
     )
 
@@ -50,7 +50,7 @@ returns-clause-made c =
     let t = c.args.table.now in
     let low : List Term = c.in_ok-made.made.low.items in
     let base = filter is_short t.terms in
-    let long = c.in_ok-made.made.long.entries in
+    let long = (filter is_long (run c.excess.result t).terms) in
     let count : c.len.result ≡ length (pairs_of c.excess.result t) =
     omega (arith, c.len.ensures, ap length c.in_ok-made.ensures.pairs) in
     let width = c.width-width.result + c.len.result in
