@@ -365,10 +365,12 @@ parts-alike t adds adds' long bound parts same sets = record {
     none_long-short [] none = tt
     none_long-short (u ∷ us) none = (ap not none.0, none_long-short us none.1)
 
-pub held-step : (t : TableContent) (a : Pair) (base low bag low' bag' : List Term) (bound : ℕ)
-    → AreHeld t (base ++ low) bag bound → AllLong bag → IsStep a (node t.width) bag low bag' low'
-    → AreHeld (with_pair a t) (base ++ low') bag' bound × (next_pair t.terms ≡ Some a)
-held-step t a base low bag low' bag' bound held long step = (
+pub held-step : (t : TableContent) (a : Pair) (adds adds' low bag low' bag' : List Term) (m bound : ℕ)
+    → AreHeld t adds bag bound → AllLong bag → (step : IsStep a (node t.width) bag low bag' low' m)
+    → IsPermutation ((adds ++ filter is_short (map (front_term (node t.width)) step.touched))
+    ++ tie_terms a (node t.width) m) adds'
+    → AreHeld (with_pair a t) adds' bag' bound × (next_pair t.terms ≡ Some a)
+held-step t a adds adds' low bag low' bag' m bound held long step moved = (
   record {
     parts = parts-new;
     same = same-new;
@@ -392,7 +394,7 @@ held-step t a base low bag low' bag' bound held long step = (
     rest : List Term
     rest = step.rest
 
-    parts : AreParts t (base ++ low) sorted bound
+    parts : AreParts t adds sorted bound
     parts = held.parts
 
     both : SameTerms sorted (touched ++ rest)
@@ -456,12 +458,12 @@ held-step t a base low bag low' bag' bound held long step = (
     same_front = same-map (front_term w) first touched same_first
 
     low_new : List Term
-    low_new = (low ++ down_first) ++ tie_terms a w (terms_total first)
+    low_new = (adds ++ down_first) ++ tie_terms a w (terms_total first)
 
     long_new : List Term
     long_new = with_additions others up_first
 
-    sorted_step : IsSortedStep a w sorted low long_new low_new
+    sorted_step : IsSortedStep a w sorted adds long_new low_new
     sorted_step = record {
       touched = first;
       rest = others;
@@ -472,15 +474,15 @@ held-step t a base low bag low' bag' bound held long step = (
       put_down = refl;
     }
 
-    next : AreParts (with_pair a t) (base ++ low_new) long_new bound
-    next = parts-step t a base low sorted low_new long_new bound parts e sorted_step
+    next : AreParts (with_pair a t) low_new long_new bound
+    next = parts-step t a [] adds sorted low_new long_new bound parts e sorted_step
 
     table : filter is_long (with_pair a t).terms ≡ long_new
-    table = long-is (with_pair a t) (base ++ low_new) long_new bound next
+    table = long-is (with_pair a t) low_new long_new bound next
 
     back : CanGoBack w others first
     back =
-        can_go_back n a first others sorted whole (long-sets t (base ++ low) sorted bound parts)
+        can_go_back n a first others sorted whole (long-sets t adds sorted bound parts)
         parts.nonzero begin
 
     same-new : SameTerms (filter is_long (with_pair a t).terms) bag'
@@ -528,40 +530,37 @@ held-step t a base low bag low' bag' bound held long step = (
 
     -- the additions
     ties : List Term
-    ties = tie_terms a w (terms_total touched)
+    ties = tie_terms a w m
 
-    low_is : low_new ≡ (low ++ down_first) ++ ties
-    low_is = ap (λ m. (low ++ down_first) ++ tie_terms a w m) (same_first (λ u. unsigned_abs u.1))
+    low_is : low_new ≡ (adds ++ down_first) ++ ties
+    low_is =
+        ap (λ k. (adds ++ down_first) ++ tie_terms a w k)
+        (same_first (λ u. unsigned_abs u.1) ∙ sym step.weight)
 
-    same_low : SameTerms (base ++ low_new) (base ++ low')
-    same_low =
-        let same =
-        same-append (low ++ down_first) (low ++ down_touched) ties ties
-        (same-append low low down_first down_touched (λ f. refl)
+    same_low : SameTerms low_new adds'
+    same_low f =
+        ap (sum_by f) low_is
+        ∙ same-append (adds ++ down_first) (adds ++ down_touched) ties ties
+        (same-append adds adds down_first down_touched (λ g. refl)
         (same-filter is_short (map (front_term w) first) (map (front_term w) touched) same_front))
-        (λ f. refl) in
-        same-append base base low_new low' (λ f. refl)
-        (λ f. ap (sum_by f) low_is ∙ same f ∙ ap (sum_by f) (sym step.put_down))
+        (λ g. refl) f
+        ∙ same-moved ((adds ++ down_touched) ++ ties) adds' moved f
 
-    low_sets : AllByRecursion (OfSet (IsTermSet (n + 1))) (base ++ low')
+    low_sets : AllByRecursion (OfSet (IsTermSet (n + 1))) adds'
     low_sets =
         let wide = OfSet (IsTermSet (n + 1)) in
-        let old = next.sets in
-        let lows = all-right wide base low_new old in
-        let split = subst (AllByRecursion wide) low_is lows in
-        all-append wide base low' (all-left wide base low_new old)
-        (subst (AllByRecursion wide) (sym step.put_down)
-        (all-append wide (low ++ down_touched) ties
-        (all-append wide low down_touched
-        (all-left wide low down_first (all-left wide (low ++ down_first) ties split))
+        let split = subst (AllByRecursion wide) low_is next.sets in
+        moved-all wide ((adds ++ down_touched) ++ ties) adds' moved
+        (all-append wide (adds ++ down_touched) ties
+        (all-append wide adds down_touched
+        (all-left wide adds down_first (all-left wide (adds ++ down_first) ties split))
         (all-filtered wide is_short (map (front_term w) touched) front_sets))
-        (all-right wide (low ++ down_first) ties split)))
+        (all-right wide (adds ++ down_first) ties split))
 
-    parts-new : AreParts (with_pair a t) (base ++ low') (filter is_long (with_pair a t).terms) bound
+    parts-new : AreParts (with_pair a t) adds' (filter is_long (with_pair a t).terms) bound
     parts-new =
-        subst (λ us. AreParts (with_pair a t) (base ++ low') us bound) (sym table)
-        (parts-alike (with_pair a t) (base ++ low_new) (base ++ low') long_new bound next same_low
-        low_sets)
+        subst (λ us. AreParts (with_pair a t) adds' us bound) (sym table)
+        (parts-alike (with_pair a t) low_new adds' long_new bound next same_low low_sets)
 
 -- ---- what a step asks of the terms that are taken and put back
 

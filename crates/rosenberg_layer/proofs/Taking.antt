@@ -487,7 +487,8 @@ put-more w start now after t left rest e put so_far =
     let split : filter is_long (map (front_term w) left) ≡ first ++ others =
     ap (λ ts. filter is_long (map (front_term w) ts)) e
     ∙ filter-first is_long (front_term w t) (map (front_term w) rest) in
-    let whole : grouped now ++ filter is_long (map (front_term w) left) ≡ (grouped now ++ first) ++ others =
+    let whole
+    : grouped now ++ filter is_long (map (front_term w) left) ≡ (grouped now ++ first) ++ others =
     ap (λ ts. grouped now ++ ts) split ∙ sym (append_assoc (grouped now) first others) in
     IsPermutation-trans start ((grouped now ++ first) ++ others) (grouped after ++ others)
     (subst (IsPermutation start) whole so_far)

@@ -1,16 +1,19 @@
 -- The turns of a run, one after another.
-use Rattle.std.proofs.Common.{◌≡◌, ℕ, zero, suc, ◌+◌, ◌-◌, ◌≤◌, arith, refl, sym, ap, ◌∙◌, subst, List, [], ◌∷◌, ◌++◌, length, Option, Some, None}
+use Rattle.std.proofs.Common.{◌≡◌, ℕ, zero, suc, ◌+◌, ◌-◌, ◌≤◌, arith, refl, sym, ap, ◌∙◌, subst, List, [], ◌∷◌, ◌++◌, length, map, Option, Some, None}
+use Rattle.std.specs.List.{filter}
+use Rattle.std.specs.List.Sorted.{IsPermutation}
 use Rattle.std.proofs.Math.Nat.{mul-le-mul_left}
-use Rattle.std.proofs.lemmas.List.{append-nil}
+use Rattle.std.proofs.lemmas.List.{append_assoc, append-nil, length-append}
+use Rattle.std.proofs.lemmas.List.Sorted.{IsPermutation-append_left, IsPermutation-append_right, IsPermutation-append_comm}
 use Rattle.std.proofs.lemmas.List.Sums.{sum_by-cons}
 use Rattle.problem_form.specs.declared.literal.Literal.{Literal}
 use Rattle.term_table.specs.Terms.{Term, set_size, terms_size}
 use Rattle.term_table.specs.Tables.{TableContent}
 use Rattle.term_table.proofs.Additions.{terms_size-cons}
-use Rattle.rosenberg_layer.specs.Rosenberg.{node, Pair, next_pair, with_pair, with_next, substituted, run, excess, next_before, pairs_of}
+use Rattle.rosenberg_layer.specs.Rosenberg.{node, Pair, next_pair, tie_terms, with_pair, with_next, substituted, run, excess, next_before, pairs_of}
 use Rattle.rosenberg_layer.specs.laws.Kept.{width-run-le}
-use Rattle.rosenberg_layer.specs.Steps.{IsStep}
-use Rattle.rosenberg_layer.specs.Parts.{AllLong, IsTurn}
+use Rattle.rosenberg_layer.specs.Steps.{front_term, is_short, IsStep}
+use Rattle.rosenberg_layer.specs.Parts.{ties_of, AllLong, IsTurn}
 use Rattle.rosenberg_layer.proofs.Growth.{square_is}
 use Rattle.rosenberg_layer.proofs.Bags.{held-step, none-next, AreHeld}
 
@@ -89,40 +92,129 @@ width-grows zero m t le = width-run-le m t
 width-grows (suc k) zero t le = absurd (omega arith)
 width-grows (suc k) (suc m) t le = width-grows k m (substituted t) (omega arith)
 
--- the parts after one more turn
-pub turn-held : (t : TableContent) (k n : ℕ) (base low low' long long' : List Term)
-    (pairs pairs' : List Pair) (bound : ℕ) (o : Option Pair)
-    → AreHeld (run k t) (base ++ low) long bound → AllLong long → n ≡ (run k t).width
-    → IsTurn o n long low pairs long' low' pairs' → AreHeld (run (k + 1) t) (base ++ low') long' bound
-turn-held t k n base low low' long long' pairs pairs' bound None held high number turned =
-    let now = run k t in
-    let same = subst (λ ls. AreHeld now (base ++ low) ls bound) (sym turned.1) held in
-    let both = subst (λ ls. AreHeld now (base ++ ls) long' bound) (sym turned.2) same in
-    let next = run-next k t ∙ ap (λ x. with_next x now) (none-next now (base ++ low) long bound held turned.0) in
-    subst (λ u. AreHeld u (base ++ low') long' bound) (sym next) both
-turn-held t k n base low low' long long' pairs pairs' bound (Some pair) held high number turned =
-    let now = run k t in
-    let step = subst (λ m. IsStep pair (node m) long low long' low') number turned.0 in
-    let after = held-step now pair base low long low' long' bound held high step in
-    let next = run-next k t ∙ ap (λ x. with_next x now) after.1 in
-    subst (λ u. AreHeld u (base ++ low') long' bound) (sym next) after.0
+-- ---- the terms that tie the nodes
 
--- .. and the pairs
-pub turn-pairs : (t : TableContent) (k n : ℕ) (base low low' long long' : List Term)
-    (pairs pairs' : List Pair) (bound : ℕ) (o : Option Pair)
-    → AreHeld (run k t) (base ++ low) long bound → AllLong long → n ≡ (run k t).width
-    → IsTurn o n long low pairs long' low' pairs' → pairs ≡ pairs_of k t → pairs' ≡ pairs_of (k + 1) t
-turn-pairs t k n base low low' long long' pairs pairs' bound None held high number turned same =
-    let next = none-next (run k t) (base ++ low) long bound held turned.0 in
-    turned.3 ∙ same ∙ sym (append-nil (pairs_of k t))
-    ∙ sym (ap (λ o. pairs_of k t ++ next_before o []) next)
-    ∙ sym (pairs-next k t)
-turn-pairs t k n base low low' long long' pairs pairs' bound (Some pair) held high number turned same =
-    let step = subst (λ m. IsStep pair (node m) long low long' low') number turned.0 in
-    let after = held-step (run k t) pair base low long low' long' bound held high step in
-    turned.1 ∙ ap (λ ps. ps ++ pair ∷ []) same
-    ∙ sym (ap (λ o. pairs_of k t ++ next_before o []) after.1)
-    ∙ sym (pairs-next k t)
+ties-last : (n : ℕ) (pairs : List Pair) (ms : List ℕ) (pair : Pair) (m : ℕ) → length ms ≡ length pairs
+    → ties_of n (pairs ++ pair ∷ []) (ms ++ m ∷ [])
+    ≡ ties_of n pairs ms ++ tie_terms pair (node (n + length pairs)) m
+ties-last n [] [] pair m each =
+    let e : n ≡ n + length {A = Pair} [] = omega arith in
+    append-nil (tie_terms pair (node n) m) ∙ ap (λ k. tie_terms pair (node k) m) e
+ties-last n [] (k ∷ ms) pair m each = absurd (omega (arith, each))
+ties-last n (p ∷ pairs) [] pair m each = absurd (omega (arith, each))
+ties-last n (p ∷ pairs) (k ∷ ms) pair m each =
+    let e : n + 1 + length pairs ≡ n + length (p ∷ pairs) = omega arith in
+    ap (λ us. tie_terms p (node n) k ++ us)
+    (ties-last (n + 1) pairs ms pair m (omega (arith, each))
+    ∙ ap (λ j. ties_of (n + 1) pairs ms ++ tie_terms pair (node j) m) e)
+    ∙ sym
+    (append_assoc (tie_terms p (node n) k) (ties_of (n + 1) pairs ms)
+    (tie_terms pair (node (n + length (p ∷ pairs))) m))
+
+adds-moved : (base low old down ties : List Term)
+    → IsPermutation (((base ++ (low ++ old)) ++ down) ++ ties) (base ++ ((low ++ down) ++ (old ++ ties)))
+adds-moved base low old down ties =
+    let here =
+    IsPermutation-append_left ties (old ++ down) (down ++ old) (IsPermutation-append_comm old down) in
+    let one = IsPermutation-append_right low ((old ++ down) ++ ties) ((down ++ old) ++ ties) here in
+    let two = IsPermutation-append_right base _ _ one in
+    let left : ((base ++ (low ++ old)) ++ down) ++ ties ≡ base ++ (low ++ ((old ++ down) ++ ties)) =
+    ap (λ us. us ++ ties) (append_assoc base (low ++ old) down)
+    ∙ append_assoc base ((low ++ old) ++ down) ties
+    ∙ ap (λ us. base ++ (us ++ ties)) (append_assoc low old down)
+    ∙ ap (λ us. base ++ us) (append_assoc low (old ++ down) ties) in
+    let right : base ++ (low ++ ((down ++ old) ++ ties)) ≡ base ++ ((low ++ down) ++ (old ++ ties)) =
+    ap (λ us. base ++ (low ++ us)) (append_assoc down old ties)
+    ∙ ap (λ us. base ++ us) (sym (append_assoc low down (old ++ ties))) in
+    subst (λ us. IsPermutation us (base ++ ((low ++ down) ++ (old ++ ties)))) (sym left)
+    (subst (IsPermutation (base ++ (low ++ ((old ++ down) ++ ties)))) right two)
+
+-- ---- one more turn
+
+-- the parts before and after a turn
+pub record IsRun (t : TableContent) (k start : ℕ) (base low long : List Term) (pairs : List Pair)
+    (ms : List ℕ) (bound : ℕ) : Type 0 where
+  pub held : AreHeld (run k t) (base ++ (low ++ ties_of start pairs ms)) long bound
+  pub pairs_are : pairs ≡ pairs_of k t
+  pub each : length ms ≡ length pairs
+
+pub run-start : (t : TableContent) (start : ℕ) (base low : List Term) (pairs : List Pair)
+    (long : List Term) (ms : List ℕ) (bound : ℕ) → AreHeld t base long bound → low ≡ [] → pairs ≡ []
+    → ms ≡ [] → IsRun t 0 start base low long pairs ms bound
+run-start t start base low pairs long ms bound held no_low no_pairs no_ms = record {
+  held =
+      subst (λ us. AreHeld t us long bound)
+      (sym (append-nil base)
+      ∙ (λ i. base ++ (sym no_low i ++ ties_of start (sym no_pairs i) (sym no_ms i))))
+      held;
+  pairs_are = no_pairs;
+  each = ap length no_ms ∙ sym (ap length no_pairs);
+}
+
+pub turn-run : (t : TableContent) (k start n : ℕ) (base low low' long long' : List Term)
+    (pairs pairs' : List Pair) (ms ms' : List ℕ) (bound : ℕ) (o : Option Pair)
+    → IsRun t k start base low long pairs ms bound → AllLong long → n ≡ (run k t).width
+    → n ≡ start + length pairs → IsTurn o n long low pairs ms long' low' pairs' ms'
+    → IsRun t (k + 1) start base low' long' pairs' ms' bound
+turn-run t k start n base low low' long long' pairs pairs' ms ms' bound None so_far high number at
+    turned =
+    let now = run k t in
+    let adds = base ++ (low ++ ties_of start pairs ms) in
+    let next = none-next now adds long bound so_far.held turned.0 in
+    let same : adds ≡ base ++ (low' ++ ties_of start pairs' ms') =
+    λ i. base ++ (sym turned.2 i ++ ties_of start (sym turned.3 i) (sym turned.4 i)) in
+    record {
+      held =
+          subst (λ u. AreHeld u (base ++ (low' ++ ties_of start pairs' ms')) long' bound)
+          (sym (run-next k t ∙ ap (λ x. with_next x now) next))
+          (subst (λ us. AreHeld now us long' bound) same
+          (subst (λ us. AreHeld now adds us bound) (sym turned.1) so_far.held));
+      pairs_are =
+          turned.3 ∙ so_far.pairs_are ∙ sym (append-nil (pairs_of k t))
+          ∙ sym (ap (λ x. pairs_of k t ++ next_before x []) next)
+          ∙ sym (pairs-next k t);
+      each = ap length turned.4 ∙ so_far.each ∙ sym (ap length turned.3);
+    }
+turn-run t k start n base low low' long long' pairs pairs' ms ms' bound (Some pair) so_far high
+    number at turned =
+    let now = run k t in
+    let m = turned.0 in
+    let old = ties_of start pairs ms in
+    let step = subst (λ j. IsStep pair (node j) long low long' low' m) number turned.1 in
+    let down = filter is_short (map (front_term (node now.width)) step.touched) in
+    let place : now.width ≡ start + length pairs = sym number ∙ at in
+    let ties : ties_of start pairs' ms' ≡ old ++ tie_terms pair (node now.width) m =
+    (λ i. ties_of start (turned.2 i) (turned.3 i))
+    ∙ ties-last start pairs ms pair m so_far.each
+    ∙ ap (λ j. old ++ tie_terms pair (node j) m) (sym place) in
+    let moved =
+    subst (IsPermutation (((base ++ (low ++ old)) ++ down) ++ tie_terms pair (node now.width) m))
+    (λ i. base ++ (sym step.put_down i ++ sym ties i))
+    (adds-moved base low old down (tie_terms pair (node now.width) m)) in
+    let after =
+    held-step now pair (base ++ (low ++ old)) (base ++ (low' ++ ties_of start pairs' ms')) low long low' long'
+    m bound so_far.held high step moved in
+    record {
+      held =
+          subst (λ u. AreHeld u (base ++ (low' ++ ties_of start pairs' ms')) long' bound)
+          (sym (run-next k t ∙ ap (λ x. with_next x now) after.1)) after.0;
+      pairs_are =
+          turned.2 ∙ ap (λ ps. ps ++ pair ∷ []) so_far.pairs_are
+          ∙ sym (ap (λ x. pairs_of k t ++ next_before x []) after.1)
+          ∙ sym (pairs-next k t);
+      each =
+          let one = ap length turned.2 in
+          let two = ap length turned.3 in
+          let old = so_far.each in
+          omega (
+            arith,
+            old,
+            one,
+            two,
+            length-append pairs (pair ∷ []),
+            length-append ms (m ∷ []),
+          );
+    }
 
 -- as many turns as there are pairs give all pairs
 pub pairs-enough : (k : ℕ) (t : TableContent) → pairs_of (length (pairs_of k t)) t ≡ pairs_of k t

@@ -1,5 +1,5 @@
--- The terms of degree 3 or more as a run holds them: those that no substitution touched, in order, and
--- the others in groups by their first two literals.
+-- The terms of degree 3 or more as a run holds them: those that no substitution touched, in order,
+-- and the others in groups by their first two literals.
 use Rattle.std.specs.Prelude.{◌≡◌, ◌≢◌, Bool, false, ◌&&◌, List, [], ◌∷◌, ◌++◌, reverse, Option, Some, None, if◌then◌else◌}
 use Rattle.std.specs.List.{AllByRecursion}
 use Rattle.std.specs.List.Sorted.{IsPermutation}

@@ -1,6 +1,6 @@
--- One substitution on the terms of degree 3 or more alone: those that begin with the first pair of all
--- are taken from the others, and go back without it, or down to the terms of lower degree.
-use Rattle.std.specs.Prelude.{◌≡◌, ◌≢◌, Bool, true, false, not, ◌&&◌, List, [], ◌∷◌, ◌++◌, map, drop}
+-- One substitution on the terms of degree 3 or more alone: those that begin with the first pair of
+-- all are taken from the others, and go back without it, or down to the terms of lower degree.
+use Rattle.std.specs.Prelude.{◌≡◌, ◌≢◌, ℕ, Bool, true, false, not, ◌&&◌, List, [], ◌∷◌, ◌++◌, map, drop}
 use Rattle.std.specs.List.{AllByRecursion, filter}
 use Rattle.std.specs.List.Sorted.{IsPermutation}
 use Rattle.std.specs.Ordering.{ordering_then}
@@ -9,7 +9,7 @@ use Rattle.std.specs.declared.cmp.Ordering.TheVariants.{Less}
 use Rattle.problem_form.specs.declared.literal.Literal.{Literal}
 use Rattle.problem_form.specs.Literals.{literal_cmp}
 use Rattle.term_table.specs.Terms.{Term, terms_total}
-use Rattle.rosenberg_layer.specs.Rosenberg.{Pair, node, is_literal, is_long, tie_terms}
+use Rattle.rosenberg_layer.specs.Rosenberg.{Pair, node, is_literal, is_long}
 
 -- the first two literals are those of the pair
 abbrev pub begins : Pair → List Literal → Bool
@@ -57,11 +57,12 @@ pub record IsTaken (pair : Pair) (touched rest long : List Term) : Type 0 where
   pub begin : Begin pair touched
   pub others : Follow pair rest
 
--- .. and those of them that stay long go back
-pub record IsStep (pair : Pair) (w : Literal) (long low long' low' : List Term) : Type 0 where
+-- .. and those of them that stay long go back, the others down, and their sizes are summed
+pub record IsStep (pair : Pair) (w : Literal) (long low long' low' : List Term) (m : ℕ)
+    : Type 0 where
   pub touched : List Term
   pub rest : List Term
   pub taken : IsTaken pair touched rest long
   pub put_back : IsPermutation (rest ++ filter is_long (map (front_term w) touched)) long'
-  pub put_down : low' ≡ (low ++ filter is_short (map (front_term w) touched))
-      ++ tie_terms pair w (terms_total touched)
+  pub put_down : low' ≡ low ++ filter is_short (map (front_term w) touched)
+  pub weight : m ≡ terms_total touched

@@ -1,7 +1,7 @@
 //! The terms of degree 3 or more.
 //!
-//! Those that no substitution touched stand in a list, the first one last. The others lie in groups, by
-//! their first two literals: a substitution takes a whole group, so its terms need no order.
+//! Those that no substitution touched stand in a list, the first one last. The others lie in groups,
+//! by their first two literals: a substitution takes a whole group, so its terms need no order.
 ghost use Rattle.std.specs.Prelude.{
   ◌≡◌,
   ◌∷◌,

@@ -1,7 +1,8 @@
 //! The run of substitutions, on the terms of degree 3 or more alone.
 //!
-//! The first of them gives the pair, and those that have it are those that begin with it, so they lie
-//! together and no term is looked for. What is of lower degree is gathered, to be summed in the end.
+//! The first of them gives the pair, and those that have it are those that begin with it, so they
+//! lie together and no term is looked for. What is of lower degree is gathered, to be summed in the
+//! end, and of the terms that tie a node only the weight.
 ghost use Rattle.std.specs.Prelude.{
   ◌≡◌,
   ◌+◌,
@@ -20,7 +21,7 @@ ghost use Rattle.term_table.specs.Tables.{IsTable};
 ghost use Rattle.rosenberg_layer.specs.Rosenberg.{excess, is_long, pairs_of, run};
 ghost use Rattle.rosenberg_layer.specs.Steps.{is_short};
 ghost use Rattle.rosenberg_layer.specs.Groups.{all_terms, next_of, AreGrouped};
-ghost use Rattle.rosenberg_layer.specs.Parts.{weights, AreParts, IsTurn};
+ghost use Rattle.rosenberg_layer.specs.Parts.{ties_of, weights, AreParts, IsTurn};
 
 use crate::long_terms::{LongTerms, long_terms, next_pair};
 use crate::low_set::LowSet;
@@ -30,11 +31,13 @@ use problem_form::Literal;
 use std::alloc::Global;
 use term_table::Table;
 
-/// What was added of lower degree, and the pairs that the new nodes stand for.
+/// The touched terms of lower degree, the pairs that the new nodes stand for, and the weights of
+/// the terms that tie each node to its pair.
 #[derive(Drop)]
 pub struct Run {
     pub low: Vec<(LowSet, i128)>,
     pub pairs: Vec<(Literal, Literal)>,
+    pub weights: Vec<u128>,
 }
 
 /// The sum of d - 2 over the terms of a degree d of 3 or more.
@@ -50,25 +53,21 @@ pub fn excess(table: &Table) -> usize
 }
 
 /// Replaces the next pair, if there is one.
-fn turn(
-    alloc: Global,
-    long: &mut LongTerms,
-    low: &mut Vec<(LowSet, i128)>,
-    pairs: &mut Vec<(Literal, Literal)>,
-    width: usize,
-) -> Result<(), NoMemory>
-    requires narrow { width + length pairs.old.items < 2 ^ 64 }
+fn turn(alloc: Global, long: &mut LongTerms, made: &mut Run, width: usize) -> Result<(), NoMemory>
+    requires narrow { width + length made.old.pairs.items < 2 ^ 64 }
     requires kept { AreGrouped long.old }
     requires small { terms_total (all_terms long.old) ≤ 2 ^ 124 }
     ensures kept { OnOk result (AreGrouped long.new) }
     ensures turn { OnOk result
         (IsTurn (next_of (reverse long.old.front.items) long.old.groups.entries)
-        (width + length pairs.old.items) (all_terms long.old) low.old.items pairs.old.items
-        (all_terms long.new) low.new.items pairs.new.items) }
+        (width + length made.old.pairs.items)
+        (all_terms long.old) made.old.low.items made.old.pairs.items made.old.weights.items
+        (all_terms long.new) made.new.low.items made.new.pairs.items made.new.weights.items) }
 {
     if let Some(pair) = next_pair(long) {
-        substitute(alloc, long, low, pair, width + pairs.len())?;
-        pairs.push(pair)?;
+        let weight = substitute(alloc, long, &mut made.low, pair, width + made.pairs.len())?;
+        made.pairs.push(pair)?;
+        made.weights.push(weight)?;
     }
     Ok(())
 }
@@ -78,16 +77,21 @@ pub fn run_of(alloc: Global, table: &Table, width: usize, turns: usize) -> Resul
     requires width { width ≡ table.now.width }
     requires narrow { (run turns table.now).width < 2 ^ 64 }
     ensures parts { IfOk result (λ made. AreParts (run turns table.now)
-        (filter is_short table.now.terms ++ made.low.items)
+        (filter is_short table.now.terms
+        ++ (made.low.items ++ ties_of width made.pairs.items made.weights.items))
         (filter is_long (run turns table.now).terms) (weights table.now.terms)) }
     ensures pairs { IfOk result (λ made. made.pairs.items ≡ pairs_of turns table.now) }
+    ensures each { IfOk result (λ made. length made.weights.items ≡ length made.pairs.items) }
     ensures kept { IsTable table.now }
 {
     let mut long = long_terms(alloc, table)?;
-    let mut low = Vec::new(alloc);
-    let mut pairs = Vec::new(alloc);
+    let mut made = Run {
+        low: Vec::new(alloc),
+        pairs: Vec::new(alloc),
+        weights: Vec::new(alloc),
+    };
     for _done in 0..turns {
-        turn(alloc, &mut long, &mut low, &mut pairs, width)?;
+        turn(alloc, &mut long, &mut made, width)?;
     }
-    Ok(Run { low, pairs })
+    Ok(made)
 }

@@ -6,6 +6,7 @@ ghost use Rattle.std.specs.Prelude.{
   ◌∷◌,
   ◌++◌,
   [],
+  IfOk,
   OnOk,
   Some,
   length,
@@ -14,7 +15,7 @@ ghost use Rattle.std.specs.Prelude.{
 };
 ghost use Rattle.std.specs.List.{filter, AllByRecursion};
 ghost use Rattle.term_table.specs.Terms.{terms_total};
-ghost use Rattle.rosenberg_layer.specs.Rosenberg.{is_long, node, tie_terms};
+ghost use Rattle.rosenberg_layer.specs.Rosenberg.{is_long, node};
 ghost use Rattle.rosenberg_layer.specs.Steps.{front_term, is_short, IsStep};
 ghost use Rattle.rosenberg_layer.specs.Groups.{all_terms, next_of, AreGrouped, ArePut};
 
@@ -27,7 +28,7 @@ use std::alloc::Global;
 use std::collections::BTreeMap;
 
 /// The node of a number, as a literal.
-fn node(number: usize) -> Literal
+pub fn node(number: usize) -> Literal
     ensures { result ≡ node number }
 {
     Literal {
@@ -119,41 +120,23 @@ fn total_of(terms: &[(LongSet, i128)]) -> u128
     total
 }
 
-/// Adds the terms that tie a node to the product of a pair.
-fn add_ties(
-    low: &mut Vec<(LowSet, i128)>,
-    pair: (Literal, Literal),
-    node: Literal,
-    weight: u128,
-) -> Result<(), NoMemory>
-    requires { weight ≤ 2 ^ 124 }
-    ensures { OnOk result (low.new.items ≡ low.old.items ++ tie_terms pair node weight) }
-{
-    let weight = weight as i128;
-    low.push((LowSet::two(pair.0, pair.1), weight))?;
-    low.push((LowSet::two(pair.0, node), -(2 * weight)))?;
-    low.push((LowSet::two(pair.1, node), -(2 * weight)))?;
-    low.push((LowSet::one(node), 3 * weight))?;
-    Ok(())
-}
-
-/// Replaces a pair by the node of the next number.
+/// Replaces a pair by the node of the next number, and gives the weight of the terms that tie it.
 pub fn substitute(
     alloc: Global,
     long: &mut LongTerms,
     low: &mut Vec<(LowSet, i128)>,
     pair: (Literal, Literal),
     next: usize,
-) -> Result<(), NoMemory>
+) -> Result<u128, NoMemory>
     requires kept { AreGrouped long.old }
     requires first { next_of (reverse long.old.front.items) long.old.groups.entries ≡ Some pair }
     requires small { terms_total (all_terms long.old) ≤ 2 ^ 124 }
     ensures kept { OnOk result (AreGrouped long.new) }
-    ensures step { OnOk result (IsStep pair (node next)
-        (all_terms long.old) low.old.items (all_terms long.new) low.new.items) }
+    ensures step { IfOk result (λ weight. IsStep pair (node next)
+        (all_terms long.old) low.old.items (all_terms long.new) low.new.items weight) }
 {
     let touched = take(alloc, long, pair)?;
     let weight = total_of(&touched);
     put_back(alloc, &mut long.groups, low, touched, node(next))?;
-    add_ties(low, pair, node(next), weight)
+    Ok(weight)
 }
