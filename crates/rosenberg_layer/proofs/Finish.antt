@@ -1,8 +1,8 @@
 -- The end of the run: the additions of lower degree give the image, and the pairs are those of the
 -- image.
 use Rattle.std.proofs.Common.{◌≡◌, ℕ, zero, suc, ◌+◌, ◌*◌, ◌^◌, ◌≤◌, arith, sym, ap, ◌∙◌, subst, List, [], ◌++◌, length, Option, Some, None}
-use Rattle.std.specs.Prelude.{All}
-use Rattle.std.proofs.lemmas.List.Elements.{All-from_recursion, recursion_from_All}
+use Rattle.std.specs.List.{AllByRecursion}
+use Rattle.std.proofs.lemmas.List.Elements.{recursion_from_All}
 use Rattle.term_table.specs.Terms.{Term, terms_total, with_additions, IsTermSet}
 use Rattle.term_table.specs.Tables.{TableContent}
 use Rattle.term_table.proofs.Additions.{terms_total-append}
@@ -71,12 +71,12 @@ adds-fit t base low long k sound parts small =
 
 pub adds-sets : (t : TableContent) (base low long : List Term) (width k count bound : ℕ)
     → width ≡ t.width → count ≡ length (pairs_of k t)
-    → AreParts (run k t) (base ++ low) long bound → All (OfSet (IsTermSet (width + count))) low
+    → AreParts (run k t) (base ++ low) long bound
+    → AllByRecursion (OfSet (IsTermSet (width + count))) low
 adds-sets t base low long width k count bound start pairs parts =
     let number : (run k t).width ≡ width + count = omega (arith, width-pairs k t, start, pairs) in
-    subst (λ n. All (OfSet (IsTermSet n)) low) number
-    (All-from_recursion (OfSet (IsTermSet (run k t).width)) low
-    (all-right (OfSet (IsTermSet (run k t).width)) base low parts.sets))
+    subst (λ n. AllByRecursion (OfSet (IsTermSet n)) low) number
+    (all-right (OfSet (IsTermSet (run k t).width)) base low parts.sets)
 
 -- as many turns as there are new nodes give all pairs
 pub all-pairs : (t : TableContent) (k : ℕ) → (image t).width ≡ t.width + k

@@ -1,52 +1,37 @@
 -- Terms that began with the pair go back without it: their new sets differ, and are not there yet.
-use Rattle.std.proofs.Common.{◌≡◌, ◌≢◌, ℕ, zero, suc, ◌+◌, ◌<◌, ◌≤◌, Bool, true, false, cond, arith, refl, sym, ap, ◌∙◌, subst, List, [], ◌∷◌, ◌++◌, length, map, drop, get_or, ℤ, pos, Some, None}
-use Rattle.std.specs.Prelude.{All, Result, Ok, Err, OnOk}
+use Rattle.std.proofs.Common.{◌≡◌, ◌≢◌, ℕ, zero, suc, ◌+◌, ◌<◌, ◌≤◌, Bool, true, false, cond, arith, refl, sym, ap, ◌∙◌, subst, List, [], ◌∷◌, ◌++◌, length, map, drop, get_or, pos}
+use Rattle.std.specs.Prelude.{All, ⊤}
 use Rattle.std.specs.List.{AllByRecursion, filter}
 use Rattle.std.specs.List.Sorted.{IsStrictlySortedBy}
-use Rattle.std.specs.Ordering.{is_eq}
-use Rattle.std.specs.BTreeMap.{insert_entry}
-use Rattle.std.specs.declared.cmp.Ordering.{Ordering}
-use Rattle.std.specs.declared.cmp.Ordering.TheVariants.{Less, Equal, Greater}
+use Rattle.std.specs.declared.cmp.Ordering.TheVariants.{Less, Equal}
 use Rattle.std.proofs.Math.Seq.{drop-nil}
 use Rattle.std.proofs.lemmas.Bool.Decides.{nat_tests}
 use Rattle.std.proofs.lemmas.List.{length-append, length-drop, drop-append-le, append_assoc}
 use Rattle.std.proofs.lemmas.List.Elements.{All-from_recursion, recursion_from_All, filter-append}
 use Rattle.problem_form.specs.declared.literal.Literal.{Literal}
-use Rattle.term_table.specs.Terms.{Term, set_cmp, with_addition, with_additions, Ascends, IsTermSet}
+use Rattle.term_table.specs.Terms.{Term, set_cmp, with_additions, Ascends, IsTermSet}
 use Rattle.term_table.proofs.KeptTerms.{OfSet, All-with_addition, Under}
-use Rattle.term_table.proofs.MapTerms.{found, with_addition-missing}
-use Rattle.term_table.proofs.SetOrder.{same_set, set_itself}
-use Rattle.term_table.proofs.Steps.{with_additions-append}
+use Rattle.term_table.proofs.SetOrder.{set_itself}
 use Rattle.rosenberg_layer.specs.Rosenberg.{node, Pair, is_long}
 use Rattle.rosenberg_layer.specs.laws.Sets.{Within}
-use Rattle.rosenberg_layer.proofs.PairTerms.{begins-is}
-use Rattle.rosenberg_layer.specs.Steps.{begins, front_term, is_short, Begin, AreLong, AreApart, IsFresh, CanGoBack}
+use Rattle.rosenberg_layer.proofs.PairTerms.{begins-is, AreLong}
+use Rattle.rosenberg_layer.specs.Steps.{begins, front_term, is_short, Begin}
 
--- what follows from two facts of an answer
-pub on_ok-both : {T E : Type 0} (r : Result T E) {P Q S : Type 0} → OnOk r P → OnOk r Q
-    → (P → Q → S) → OnOk r S
-on_ok-both (Ok x) p q f = f p q
-on_ok-both (Err e) p q f = tt
+-- without their first two literals the sets are still different
+abbrev pub AreApart : List Term → Type 0
+AreApart [] = ⊤
+AreApart (t ∷ ts) = AllByRecursion (λ u. drop 2 t.0 ≢ drop 2 u.0) ts × AreApart ts
 
--- ---- a set that isn't there is put in
+-- the term's new set isn't among those of the list
+abbrev pub IsFresh : Literal → List Term → Term → Type 0
+IsFresh w ts t = All (λ u. u.0 ≢ (drop 2 t.0 ++ w ∷ [])) ts
 
-found-fresh : (ls : List Literal) (ts : List Term) → AllByRecursion (λ t. t.0 ≢ ls) ts
-    → found ls ts ≡ None
-found-fresh ls [] fresh = refl
-found-fresh ls (t ∷ ts) fresh = go (set_cmp ls t.0) (same_set ls t.0) (found-fresh ls ts fresh.1)
-  where
-    go : (o : Ordering) → (o ≡ Equal → ls ≡ t.0) → found ls ts ≡ None
-        → cond (is_eq o) (Some t.1) (found ls ts) ≡ None
-    go Less same rest = rest
-    go Equal same rest = absurd (fresh.0 (sym (same refl)))
-    go Greater same rest = rest
-
-pub put-fresh : (ts us : List Term) (ls : List Literal) (c : ℤ) → Ascends ts → All (λ t. t.0 ≢ ls) ts
-    → c ≢ pos 0 → us ≡ insert_entry set_cmp ts ls c → us ≡ with_addition ts ls c
-put-fresh ts us ls c ascends fresh nonzero put =
-    put
-    ∙ sym (with_addition-missing ts ls c ascends
-    (found-fresh ls ts (recursion_from_All (λ t. t.0 ≢ ls) ts fresh)) nonzero)
+-- terms of degree 3 or more that can go back
+pub record CanGoBack (w : Literal) (long touched : List Term) : Type 0 where
+  pub high : AllByRecursion (λ t. 3 ≤ length t.0) touched
+  pub nonzero : AllByRecursion (λ t. t.1 ≢ pos 0) touched
+  pub apart : AreApart touched
+  pub fresh : AllByRecursion (IsFresh w long) touched
 
 -- ---- one term
 
@@ -65,41 +50,11 @@ drop-pushed n ls ks w e inside high =
     drop-append-le (n + 2) ls (w ∷ []) room
     ∙ ap (λ ms. ms ++ w ∷ []) (drop-plus n 2 ls ∙ ap (drop 2) e)
 
-new_length : (w : Literal) (t : Term) → 3 ≤ length t.0
-    → length (front_term w t).0 + 1 ≡ length t.0
-new_length w ([], c) high = absurd (omega arith)
-new_length w (p ∷ [], c) high = absurd (omega arith)
-new_length w (p ∷ q ∷ ls, c) high = omega (arith, length-append ls (w ∷ []))
-
-filter-yes : (test : Term → Bool) (t : Term) → test t ≡ true → filter test (t ∷ []) ≡ t ∷ []
-filter-yes test t e = ap (λ b. cond b (t ∷ []) []) e
-
--- of more literals the term is still long
-pub more-long : (w : Literal) (t : Term) → 3 ≤ length t.0 → length t.0 ≢ 3
-    → filter is_long (front_term w t ∷ []) ≡ front_term w t ∷ []
-more-long w t high more =
-    let n = new_length w t high in
-    filter-yes is_long (front_term w t) (grind (arith, nat_tests))
-
 -- ---- all terms
 
-filter-first : (test : Term → Bool) (t : Term) (ts : List Term)
+pub filter-first : (test : Term → Bool) (t : Term) (ts : List Term)
     → filter test (t ∷ ts) ≡ filter test (t ∷ []) ++ filter test ts
 filter-first test t ts = filter-append test (t ∷ []) ts
-
--- the long ones that are left
-pub long_left : (w : Literal) (now after : List Term) (t : Term) (left rest : List Term)
-    (whole : List Term) → left ≡ t ∷ rest
-    → after ≡ with_additions now (filter is_long (front_term w t ∷ []))
-    → with_additions now (filter is_long (map (front_term w) left)) ≡ whole
-    → with_additions after (filter is_long (map (front_term w) rest)) ≡ whole
-long_left w now after t left rest whole e new so_far =
-    let others = filter is_long (map (front_term w) rest) in
-    ap (λ ts. with_additions ts others) new
-    ∙ sym (with_additions-append now (filter is_long (front_term w t ∷ [])) others)
-    ∙ sym (ap (with_additions now) (filter-first is_long (front_term w t) (map (front_term w) rest)))
-    ∙ sym (ap (λ ts. with_additions now (filter is_long (map (front_term w) ts))) e)
-    ∙ so_far
 
 -- the short ones that are left
 pub short_left : (w : Literal) (now after : List Term) (t : Term) (left rest : List Term)
@@ -170,6 +125,11 @@ back_left w now after t left rest e new back =
 
 -- ---- all of them can go back at first
 
+pub all-append : {X : Type 0} (P : X → Type 0) (xs ys : List X) → AllByRecursion P xs
+    → AllByRecursion P ys → AllByRecursion P (xs ++ ys)
+all-append P [] ys a b = b
+all-append P (x ∷ xs) ys a b = (a.0, all-append P xs ys a.1 b)
+
 pub all-left : {X : Type 0} (P : X → Type 0) (xs ys : List X) → AllByRecursion P (xs ++ ys)
     → AllByRecursion P xs
 all-left P [] ys all = tt
@@ -180,7 +140,7 @@ pub all-right : {X : Type 0} (P : X → Type 0) (xs ys : List X) → AllByRecurs
 all-right P [] ys all = all
 all-right P (x ∷ xs) ys all = all-right P xs ys all.1
 
-high-long : (ts : List Term) → AllByRecursion (λ t. is_long t ≡ true) ts
+pub high-long : (ts : List Term) → AllByRecursion (λ t. is_long t ≡ true) ts
     → AllByRecursion (λ (t : Term). 3 ≤ length t.0) ts
 high-long [] long = tt
 high-long (t ∷ ts) long = (let h = long.0 in grind (arith, nat_tests), high-long ts long.1)

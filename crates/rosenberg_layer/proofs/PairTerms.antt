@@ -23,7 +23,17 @@ use Rattle.term_table.proofs.SmallSets.{IsBelow, Ascend, IsLiteralSet-ascends}
 use Rattle.rosenberg_layer.specs.Rosenberg.{Pair, is_literal, has_literal, without, is_long, has_pair, new_term, pair_total, front_pair}
 use Rattle.rosenberg_layer.specs.laws.Costs.{literal_same, rest_of, pair_total-cons}
 use Rattle.rosenberg_layer.specs.laws.Sets.{has_own_pair, front_is, pair_of_set}
-use Rattle.rosenberg_layer.specs.Steps.{begins, front_term, Begin, NoneBegin, AreLong}
+use Rattle.rosenberg_layer.specs.Steps.{begins, front_term, Begin}
+
+-- none of these terms begins with the pair
+abbrev pub NoneBegin : Pair → List Term → Type 0
+NoneBegin pair ts = AllByRecursion (λ t. begins pair t.0 ≡ false) ts
+
+-- terms in order, of sets of the width, all of degree 3 or more
+pub record AreLong (width : ℕ) (ts : List Term) : Type 0 where
+  pub ordered : Ascends ts
+  pub sets : AllByRecursion (λ t. IsTermSet width t.0) ts
+  pub long : AllByRecursion (λ t. is_long t ≡ true) ts
 
 -- ---- literals that are not there
 
@@ -191,7 +201,7 @@ AsBegins pair t = has_pair pair t ≡ begins pair t.0
 literal_itself : (l : Literal) → is_literal l l ≡ true
 literal_itself l = ap is_eq (tied_itself literal_total l)
 
-begins-own : (pair : Pair) (ls ks : List Literal) → ks ≡ pair.0 ∷ pair.1 ∷ ls
+pub begins-own : (pair : Pair) (ls ks : List Literal) → ks ≡ pair.0 ∷ pair.1 ∷ ls
     → begins pair ks ≡ true
 begins-own pair ls ks same =
     ap (begins pair) same ∙ (λ i. literal_itself pair.0 i && literal_itself pair.1 i)

@@ -28,11 +28,11 @@ use Rattle.term_table.proofs.UniqueTerms.{same_terms}
 use Rattle.rosenberg_layer.specs.Rosenberg.{node, Pair, has_literal, is_long, has_pair, new_term, pair_total, tie_terms, replaced, with_pair, front_pair, next_pair}
 use Rattle.rosenberg_layer.specs.laws.Costs.{Differ, rest_of, pair_total-cons}
 use Rattle.rosenberg_layer.specs.laws.Sets.{IsPair, IsSound, IsSound-with_pair, found_in, pair_differs, new_terms-sets, tie_terms-sets}
-use Rattle.rosenberg_layer.specs.Steps.{first_begins, front_term, is_short, NoneBegin, AreLong, IsStep}
+use Rattle.rosenberg_layer.specs.Steps.{first_begins, front_term, is_short, Begin}
 use Rattle.rosenberg_layer.specs.Parts.{weight_of, weights, AreAlike, AllLong, NoneLong, AreParts}
 use Rattle.rosenberg_layer.proofs.Growth.{weights-append, weights-with_additions, weights-new_terms, weights-tie_terms}
-use Rattle.rosenberg_layer.proofs.PairTerms.{AsBegins, Ascends-end, all-begin, rest-begins, new_terms-split, pair_total-split}
-use Rattle.rosenberg_layer.proofs.GoBack.{all-left, all-right}
+use Rattle.rosenberg_layer.proofs.PairTerms.{AsBegins, AreLong, NoneBegin, Ascends-end, all-begin, rest-begins, new_terms-split, pair_total-split}
+use Rattle.rosenberg_layer.proofs.GoBack.{all-append, all-left, all-right}
 
 -- ---- lists that give each set the same sum
 
@@ -165,7 +165,7 @@ filter-both f (t ∷ ts) =
     either true z = omega (arith, ints)
     either false z = omega (arith, ints)
 
-all-filtered : {X : Type 0} (P : X → Type 0) (test : X → Bool) (xs : List X) → AllByRecursion P xs
+pub all-filtered : {X : Type 0} (P : X → Type 0) (test : X → Bool) (xs : List X) → AllByRecursion P xs
     → AllByRecursion P (filter test xs)
 all-filtered P test [] all = tt
 all-filtered P test (x ∷ xs) all = go (test x) (all-filtered P test xs all.1)
@@ -175,20 +175,20 @@ all-filtered P test (x ∷ xs) all = go (test x) (all-filtered P test xs all.1)
     go true rest = (all.0, rest)
     go false rest = rest
 
-filter-all : (test : Term → Bool) (ts : List Term) → AllByRecursion (λ t. test t ≡ true) ts
+pub filter-all : (test : Term → Bool) (ts : List Term) → AllByRecursion (λ t. test t ≡ true) ts
     → filter test ts ≡ ts
 filter-all test [] all = refl
 filter-all test (t ∷ ts) all =
     ap (λ b. cond b (t ∷ filter test ts) (filter test ts)) all.0
     ∙ ap (λ us. t ∷ us) (filter-all test ts all.1)
 
-filter-none : (test : Term → Bool) (ts : List Term) → AllByRecursion (λ t. test t ≡ false) ts
+pub filter-none : (test : Term → Bool) (ts : List Term) → AllByRecursion (λ t. test t ≡ false) ts
     → filter test ts ≡ []
 filter-none test [] all = refl
 filter-none test (t ∷ ts) all =
     ap (λ b. cond b (t ∷ filter test ts) (filter test ts)) all.0 ∙ filter-none test ts all.1
 
-filter-yes : (test : Term → Bool) (ts : List Term)
+pub filter-yes : (test : Term → Bool) (ts : List Term)
     → AllByRecursion (λ t. test t ≡ true) (filter test ts)
 filter-yes test [] = tt
 filter-yes test (t ∷ ts) = go (test t) refl (filter-yes test ts)
@@ -198,7 +198,7 @@ filter-yes test (t ∷ ts) = go (test t) refl (filter-yes test ts)
     go true e rest = (e, rest)
     go false e rest = rest
 
-short-none_long : (ts : List Term) → AllByRecursion (λ t. is_short t ≡ true) ts → NoneLong ts
+pub short-none_long : (ts : List Term) → AllByRecursion (λ t. is_short t ≡ true) ts → NoneLong ts
 short-none_long [] all = tt
 short-none_long (t ∷ ts) all = (go (is_long t) all.0, short-none_long ts all.1)
   where
@@ -360,6 +360,17 @@ pair_total-long pair (t ∷ ts) = go (is_long t) refl (pair_total-long pair ts)
 
 -- ---- one substitution on the parts
 
+-- in order, the terms that begin with the pair are taken off the front
+pub record IsSortedStep (pair : Pair) (w : Literal) (long low long' low' : List Term) : Type 0 where
+  pub touched : List Term
+  pub rest : List Term
+  pub whole : touched ++ rest ≡ long
+  pub begin : Begin pair touched
+  pub others : first_begins pair rest ≡ false
+  pub put_back : long' ≡ with_additions rest (filter is_long (map (front_term w) touched))
+  pub put_down : low' ≡ (low ++ filter is_short (map (front_term w) touched))
+      ++ tie_terms pair w (terms_total touched)
+
 none-first : (long : List Term) (pair : Pair) (ts rest : List Term) → Ascends long
     → front_pair long ≡ Some pair → ts ++ rest ≡ long → first_begins pair rest ≡ false
     → NoneBegin pair rest
@@ -367,12 +378,7 @@ none-first long pair ts [] ascends e whole other = tt
 none-first long pair ts (u ∷ us) ascends e whole other =
     rest-begins long pair ts u us ascends e whole other
 
-all-append : {X : Type 0} (P : X → Type 0) (xs ys : List X) → AllByRecursion P xs
-    → AllByRecursion P ys → AllByRecursion P (xs ++ ys)
-all-append P [] ys a b = b
-all-append P (x ∷ xs) ys a b = (a.0, all-append P xs ys a.1 b)
-
-wider-all : (n : ℕ) (ts : List Term) → AllByRecursion (OfSet (IsTermSet n)) ts
+pub wider-all : (n : ℕ) (ts : List Term) → AllByRecursion (OfSet (IsTermSet n)) ts
     → AllByRecursion (OfSet (IsTermSet (n + 1))) ts
 wider-all n [] sets = tt
 wider-all n (t ∷ ts) sets =
@@ -393,7 +399,7 @@ total-front w (t ∷ ts) =
 
 pub parts-step : (t : TableContent) (pair : Pair) (base low long low' long' : List Term) (bound : ℕ)
     → AreParts t (base ++ low) long bound → front_pair long ≡ Some pair
-    → IsStep pair (node t.width) long low long' low'
+    → IsSortedStep pair (node t.width) long low long' low'
     → AreParts (with_pair pair t) (base ++ low') long' bound
 parts-step t pair base low long low' long' bound parts e step = record {
   sound = IsSound-with_pair t pair ok parts.sound;

@@ -1,26 +1,21 @@
 -- The turns of a run, one after another.
-use Rattle.std.proofs.Common.{◌≡◌, ℕ, zero, suc, ◌+◌, ◌-◌, ◌≤◌, true, cond, arith, refl, sym, ap, ◌∙◌, subst, List, [], ◌∷◌, ◌++◌, length, Option, Some, None}
+use Rattle.std.proofs.Common.{◌≡◌, ℕ, zero, suc, ◌+◌, ◌-◌, ◌≤◌, arith, refl, sym, ap, ◌∙◌, subst, List, [], ◌∷◌, ◌++◌, length, map, Option, Some, None}
 use Rattle.std.specs.List.{filter}
-use Rattle.std.specs.List.Sorted.{IsStrictlySortedBy}
-use Rattle.std.specs.Ordering.{match_ordering, ordering_reverse}
-use Rattle.std.specs.BTreeMap.{insert_entry}
-use Rattle.std.specs.declared.cmp.Ordering.TheVariants.{Greater}
+use Rattle.std.specs.List.Sorted.{IsPermutation}
 use Rattle.std.proofs.Math.Nat.{mul-le-mul_left}
-use Rattle.std.proofs.lemmas.Bool.Decides.{nat_tests}
-use Rattle.std.proofs.lemmas.List.{append_assoc, append-nil}
+use Rattle.std.proofs.lemmas.List.{append_assoc, append-nil, length-append}
+use Rattle.std.proofs.lemmas.List.Sorted.{IsPermutation-append_left, IsPermutation-append_right, IsPermutation-append_comm}
 use Rattle.std.proofs.lemmas.List.Sums.{sum_by-cons}
 use Rattle.problem_form.specs.declared.literal.Literal.{Literal}
-use Rattle.term_table.specs.Terms.{Term, set_cmp, set_size, terms_size, Ascends}
+use Rattle.term_table.specs.Terms.{Term, set_size, terms_size}
 use Rattle.term_table.specs.Tables.{TableContent}
 use Rattle.term_table.proofs.Additions.{terms_size-cons}
-use Rattle.term_table.proofs.SetOrder.{set_total}
-use Rattle.rosenberg_layer.specs.Rosenberg.{node, Pair, is_long, front_pair, next_pair, with_pair, with_next, substituted, run, excess, next_before, pairs_of}
+use Rattle.rosenberg_layer.specs.Rosenberg.{node, Pair, next_pair, tie_terms, with_pair, with_next, substituted, run, excess, next_before, pairs_of}
 use Rattle.rosenberg_layer.specs.laws.Kept.{width-run-le}
-use Rattle.rosenberg_layer.specs.Steps.{IsStep}
-use Rattle.rosenberg_layer.specs.Parts.{AreParts, IsTurn}
+use Rattle.rosenberg_layer.specs.Steps.{front_term, is_short, IsStep}
+use Rattle.rosenberg_layer.specs.Parts.{ties_of, AllLong, IsTurn}
 use Rattle.rosenberg_layer.proofs.Growth.{square_is}
-use Rattle.rosenberg_layer.proofs.PairTerms.{under-at}
-use Rattle.rosenberg_layer.proofs.Parts.{long-next, parts-step}
+use Rattle.rosenberg_layer.proofs.Bags.{held-step, none-next, AreHeld}
 
 -- ---- the measure fits
 
@@ -53,33 +48,6 @@ excess_fits sum bound t left rest all e so_far small =
       sum_by-cons (λ (u : Term). length u.0 - 2) t rest,
       excess-size all,
     )
-
--- ---- the terms of degree 3 or more are listed
-
-insert_entry-last : (ts : List Term) (u : Term) (us : List Term) → Ascends (ts ++ u ∷ us)
-    → insert_entry set_cmp ts u.0 u.1 ≡ ts ++ u ∷ []
-unfolding IsStrictlySortedBy
-insert_entry-last [] u us ascends = refl
-insert_entry-last (t ∷ ts) u us ascends =
-    let greater : set_cmp u.0 t.0 ≡ Greater =
-    set_total.antisymm u.0 t.0 ∙ ap ordering_reverse (under-at t.0 ts u us ascends.0) in
-    let later = t ∷ insert_entry set_cmp ts u.0 u.1 in
-    ap (λ o. match_ordering o ((u.0, u.1) ∷ t ∷ ts) ((t.0, u.1) ∷ ts) later) greater
-    ∙ ap (λ (vs : List Term). t ∷ vs) (insert_entry-last ts u us ascends.1)
-
-pub listed_more : (now after : List Term) (t : Term) (left rest whole : List Term) → left ≡ t ∷ rest
-    → 3 ≤ length t.0 → Ascends whole → after ≡ insert_entry set_cmp now t.0 t.1
-    → now ++ filter is_long left ≡ whole → after ++ filter is_long rest ≡ whole
-listed_more now after t left rest whole e high ascends put so_far =
-    let long : is_long t ≡ true = grind (arith, nat_tests) in
-    let first : filter is_long left ≡ t ∷ filter is_long rest =
-    ap (filter is_long) e ∙ ap (λ b. cond b (t ∷ filter is_long rest) (filter is_long rest)) long in
-    let split : now ++ t ∷ filter is_long rest ≡ whole =
-    ap (λ ts. now ++ ts) (sym first) ∙ so_far in
-    let last = insert_entry-last now t (filter is_long rest) (subst Ascends (sym split) ascends) in
-    ap (λ ts. ts ++ filter is_long rest) (put ∙ last)
-    ∙ append_assoc now (t ∷ []) (filter is_long rest)
-    ∙ split
 
 -- ---- one more turn
 
@@ -124,54 +92,129 @@ width-grows zero m t le = width-run-le m t
 width-grows (suc k) zero t le = absurd (omega arith)
 width-grows (suc k) (suc m) t le = width-grows k m (substituted t) (omega arith)
 
--- the parts after one more turn
-pub turn-parts : (t : TableContent) (k n : ℕ) (base low low' long long' : List Term)
-    (pairs pairs' : List Pair) (bound : ℕ) → AreParts (run k t) (base ++ low) long bound
-    → n ≡ (run k t).width → IsTurn (front_pair long) n long low pairs long' low' pairs'
-    → AreParts (run (k + 1) t) (base ++ low') long' bound
-turn-parts t k n base low low' long long' pairs pairs' bound parts number turned =
-    subst (λ u. AreParts u (base ++ low') long' bound) (sym (run-next k t))
-    (go (front_pair long) refl turned)
-  where
-    now : TableContent
-    now = run k t
+-- ---- the terms that tie the nodes
 
-    next : (o : Option Pair) → front_pair long ≡ o → substituted now ≡ with_next o now
-    next o e = ap (λ x. with_next x now) (long-next now (base ++ low) long bound parts ∙ e)
+ties-last : (n : ℕ) (pairs : List Pair) (ms : List ℕ) (pair : Pair) (m : ℕ) → length ms ≡ length pairs
+    → ties_of n (pairs ++ pair ∷ []) (ms ++ m ∷ [])
+    ≡ ties_of n pairs ms ++ tie_terms pair (node (n + length pairs)) m
+ties-last n [] [] pair m each =
+    let e : n ≡ n + length {A = Pair} [] = omega arith in
+    append-nil (tie_terms pair (node n) m) ∙ ap (λ k. tie_terms pair (node k) m) e
+ties-last n [] (k ∷ ms) pair m each = absurd (omega (arith, each))
+ties-last n (p ∷ pairs) [] pair m each = absurd (omega (arith, each))
+ties-last n (p ∷ pairs) (k ∷ ms) pair m each =
+    let e : n + 1 + length pairs ≡ n + length (p ∷ pairs) = omega arith in
+    ap (λ us. tie_terms p (node n) k ++ us)
+    (ties-last (n + 1) pairs ms pair m (omega (arith, each))
+    ∙ ap (λ j. ties_of (n + 1) pairs ms ++ tie_terms pair (node j) m) e)
+    ∙ sym
+    (append_assoc (tie_terms p (node n) k) (ties_of (n + 1) pairs ms)
+    (tie_terms pair (node (n + length (p ∷ pairs))) m))
 
-    go : (o : Option Pair) → front_pair long ≡ o → IsTurn o n long low pairs long' low' pairs'
-        → AreParts (substituted now) (base ++ low') long' bound
-    go None e turned =
-        let same = subst (λ ls. AreParts now (base ++ low) ls bound) (sym turned.0) parts in
-        let both = subst (λ ls. AreParts now (base ++ ls) long' bound) (sym turned.1) same in
-        subst (λ u. AreParts u (base ++ low') long' bound) (sym (next None e)) both
-    go (Some pair) e turned =
-        let step = subst (λ m. IsStep pair (node m) long low long' low') number turned.0 in
-        subst (λ u. AreParts u (base ++ low') long' bound) (sym (next (Some pair) e))
-        (parts-step now pair base low long low' long' bound parts e step)
+adds-moved : (base low old down ties : List Term)
+    → IsPermutation (((base ++ (low ++ old)) ++ down) ++ ties) (base ++ ((low ++ down) ++ (old ++ ties)))
+adds-moved base low old down ties =
+    let here =
+    IsPermutation-append_left ties (old ++ down) (down ++ old) (IsPermutation-append_comm old down) in
+    let one = IsPermutation-append_right low ((old ++ down) ++ ties) ((down ++ old) ++ ties) here in
+    let two = IsPermutation-append_right base _ _ one in
+    let left : ((base ++ (low ++ old)) ++ down) ++ ties ≡ base ++ (low ++ ((old ++ down) ++ ties)) =
+    ap (λ us. us ++ ties) (append_assoc base (low ++ old) down)
+    ∙ append_assoc base ((low ++ old) ++ down) ties
+    ∙ ap (λ us. base ++ (us ++ ties)) (append_assoc low old down)
+    ∙ ap (λ us. base ++ us) (append_assoc low (old ++ down) ties) in
+    let right : base ++ (low ++ ((down ++ old) ++ ties)) ≡ base ++ ((low ++ down) ++ (old ++ ties)) =
+    ap (λ us. base ++ (low ++ us)) (append_assoc down old ties)
+    ∙ ap (λ us. base ++ us) (sym (append_assoc low down (old ++ ties))) in
+    subst (λ us. IsPermutation us (base ++ ((low ++ down) ++ (old ++ ties)))) (sym left)
+    (subst (IsPermutation (base ++ (low ++ ((old ++ down) ++ ties)))) right two)
 
--- .. and the pairs
-pub turn-pairs : (t : TableContent) (k n : ℕ) (adds low low' long long' : List Term)
-    (pairs pairs' : List Pair) (bound : ℕ) → AreParts (run k t) adds long bound
-    → IsTurn (front_pair long) n long low pairs long' low' pairs' → pairs ≡ pairs_of k t
-    → pairs' ≡ pairs_of (k + 1) t
-turn-pairs t k n adds low low' long long' pairs pairs' bound parts turned same =
-    go (front_pair long) refl turned ∙ sym (pairs-next k t)
-  where
-    now : TableContent
-    now = run k t
+-- ---- one more turn
 
-    next : (o : Option Pair) → front_pair long ≡ o → next_pair now.terms ≡ o
-    next o e = long-next now adds long bound parts ∙ e
+-- the parts before and after a turn
+pub record IsRun (t : TableContent) (k start : ℕ) (base low long : List Term) (pairs : List Pair)
+    (ms : List ℕ) (bound : ℕ) : Type 0 where
+  pub held : AreHeld (run k t) (base ++ (low ++ ties_of start pairs ms)) long bound
+  pub pairs_are : pairs ≡ pairs_of k t
+  pub each : length ms ≡ length pairs
 
-    go : (o : Option Pair) → front_pair long ≡ o → IsTurn o n long low pairs long' low' pairs'
-        → pairs' ≡ pairs_of k t ++ next_before (next_pair now.terms) []
-    go None e turned =
-        turned.2 ∙ same ∙ sym (append-nil (pairs_of k t))
-        ∙ sym (ap (λ o. pairs_of k t ++ next_before o []) (next None e))
-    go (Some pair) e turned =
-        turned.1 ∙ ap (λ ps. ps ++ pair ∷ []) same
-        ∙ sym (ap (λ o. pairs_of k t ++ next_before o []) (next (Some pair) e))
+pub run-start : (t : TableContent) (start : ℕ) (base low : List Term) (pairs : List Pair)
+    (long : List Term) (ms : List ℕ) (bound : ℕ) → AreHeld t base long bound → low ≡ [] → pairs ≡ []
+    → ms ≡ [] → IsRun t 0 start base low long pairs ms bound
+run-start t start base low pairs long ms bound held no_low no_pairs no_ms = record {
+  held =
+      subst (λ us. AreHeld t us long bound)
+      (sym (append-nil base)
+      ∙ (λ i. base ++ (sym no_low i ++ ties_of start (sym no_pairs i) (sym no_ms i))))
+      held;
+  pairs_are = no_pairs;
+  each = ap length no_ms ∙ sym (ap length no_pairs);
+}
+
+pub turn-run : (t : TableContent) (k start n : ℕ) (base low low' long long' : List Term)
+    (pairs pairs' : List Pair) (ms ms' : List ℕ) (bound : ℕ) (o : Option Pair)
+    → IsRun t k start base low long pairs ms bound → AllLong long → n ≡ (run k t).width
+    → n ≡ start + length pairs → IsTurn o n long low pairs ms long' low' pairs' ms'
+    → IsRun t (k + 1) start base low' long' pairs' ms' bound
+turn-run t k start n base low low' long long' pairs pairs' ms ms' bound None so_far high number at
+    turned =
+    let now = run k t in
+    let adds = base ++ (low ++ ties_of start pairs ms) in
+    let next = none-next now adds long bound so_far.held turned.0 in
+    let same : adds ≡ base ++ (low' ++ ties_of start pairs' ms') =
+    λ i. base ++ (sym turned.2 i ++ ties_of start (sym turned.3 i) (sym turned.4 i)) in
+    record {
+      held =
+          subst (λ u. AreHeld u (base ++ (low' ++ ties_of start pairs' ms')) long' bound)
+          (sym (run-next k t ∙ ap (λ x. with_next x now) next))
+          (subst (λ us. AreHeld now us long' bound) same
+          (subst (λ us. AreHeld now adds us bound) (sym turned.1) so_far.held));
+      pairs_are =
+          turned.3 ∙ so_far.pairs_are ∙ sym (append-nil (pairs_of k t))
+          ∙ sym (ap (λ x. pairs_of k t ++ next_before x []) next)
+          ∙ sym (pairs-next k t);
+      each = ap length turned.4 ∙ so_far.each ∙ sym (ap length turned.3);
+    }
+turn-run t k start n base low low' long long' pairs pairs' ms ms' bound (Some pair) so_far high
+    number at turned =
+    let now = run k t in
+    let m = turned.0 in
+    let old = ties_of start pairs ms in
+    let step = subst (λ j. IsStep pair (node j) long low long' low' m) number turned.1 in
+    let down = filter is_short (map (front_term (node now.width)) step.touched) in
+    let place : now.width ≡ start + length pairs = sym number ∙ at in
+    let ties : ties_of start pairs' ms' ≡ old ++ tie_terms pair (node now.width) m =
+    (λ i. ties_of start (turned.2 i) (turned.3 i))
+    ∙ ties-last start pairs ms pair m so_far.each
+    ∙ ap (λ j. old ++ tie_terms pair (node j) m) (sym place) in
+    let moved =
+    subst (IsPermutation (((base ++ (low ++ old)) ++ down) ++ tie_terms pair (node now.width) m))
+    (λ i. base ++ (sym step.put_down i ++ sym ties i))
+    (adds-moved base low old down (tie_terms pair (node now.width) m)) in
+    let after =
+    held-step now pair (base ++ (low ++ old)) (base ++ (low' ++ ties_of start pairs' ms')) low long low' long'
+    m bound so_far.held high step moved in
+    record {
+      held =
+          subst (λ u. AreHeld u (base ++ (low' ++ ties_of start pairs' ms')) long' bound)
+          (sym (run-next k t ∙ ap (λ x. with_next x now) after.1)) after.0;
+      pairs_are =
+          turned.2 ∙ ap (λ ps. ps ++ pair ∷ []) so_far.pairs_are
+          ∙ sym (ap (λ x. pairs_of k t ++ next_before x []) after.1)
+          ∙ sym (pairs-next k t);
+      each =
+          let one = ap length turned.2 in
+          let two = ap length turned.3 in
+          let old = so_far.each in
+          omega (
+            arith,
+            old,
+            one,
+            two,
+            length-append pairs (pair ∷ []),
+            length-append ms (m ∷ []),
+          );
+    }
 
 -- as many turns as there are pairs give all pairs
 pub pairs-enough : (k : ℕ) (t : TableContent) → pairs_of (length (pairs_of k t)) t ≡ pairs_of k t

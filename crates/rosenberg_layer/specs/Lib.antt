@@ -4,3 +4,4 @@ pub mod Steps
 pub mod Parts
 pub mod Held
 pub mod Stated
+pub mod Groups

@@ -5,7 +5,7 @@ use Rattle.std.specs.List.{AllByRecursion, sum_by}
 use Rattle.problem_form.specs.declared.literal.Literal.{Literal}
 use Rattle.term_table.specs.Terms.{Term, coefficient_of, terms_total, Ascends, AreTerms, IsTermSet}
 use Rattle.term_table.specs.Tables.{TableContent}
-use Rattle.rosenberg_layer.specs.Rosenberg.{Pair, node, is_long}
+use Rattle.rosenberg_layer.specs.Rosenberg.{Pair, node, is_long, tie_terms}
 use Rattle.rosenberg_layer.specs.Steps.{IsStep}
 
 -- two lists that give each set the same sum
@@ -45,10 +45,16 @@ pub record AreParts (t : TableContent) (adds long : List Term) (bound : ℕ) : T
   pub small : weights adds + weights long ≤ bound
   pub total : terms_total long ≤ 2 ^ 124
 
+-- the terms that tie nodes, from a number on, to their pairs by these weights
+abbrev pub ties_of : ℕ → List Pair → List ℕ → List Term
+ties_of n (pair ∷ pairs) (m ∷ ms) = tie_terms pair (node n) m ++ ties_of (n + 1) pairs ms
+ties_of n _ _ = []
+
 -- one turn of the run: a substitution for the pair, if there is one
-abbrev pub IsTurn : Option Pair → ℕ → (long low : List Term) → (pairs : List Pair)
-    → (long' low' : List Term) → (pairs' : List Pair) → Type 0
-IsTurn None n long low pairs long' low' pairs' =
-    (long' ≡ long) × (low' ≡ low) × (pairs' ≡ pairs)
-IsTurn (Some pair) n long low pairs long' low' pairs' =
-    IsStep pair (node n) long low long' low' × (pairs' ≡ pairs ++ pair ∷ [])
+abbrev pub IsTurn : Option Pair → ℕ → (long low : List Term) → (pairs : List Pair) → (ms : List ℕ)
+    → (long' low' : List Term) → (pairs' : List Pair) → (ms' : List ℕ) → Type 0
+IsTurn None n long low pairs ms long' low' pairs' ms' =
+    (long ≡ []) × (long' ≡ long) × (low' ≡ low) × (pairs' ≡ pairs) × (ms' ≡ ms)
+IsTurn (Some pair) n long low pairs ms long' low' pairs' ms' =
+    (m : ℕ) × IsStep pair (node n) long low long' low' m × (pairs' ≡ pairs ++ pair ∷ [])
+    × (ms' ≡ ms ++ m ∷ [])

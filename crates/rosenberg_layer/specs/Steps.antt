@@ -1,10 +1,15 @@
--- One substitution on the terms of degree 3 or more alone, which stand in order: those that begin
--- with the pair are taken off the front, and go where they belong without it.
-use Rattle.std.specs.Prelude.{◌≡◌, ◌≢◌, ◌≤◌, ⊤, pos, All, ℕ, Bool, true, false, not, ◌&&◌, List, [], ◌∷◌, ◌++◌, map, drop, length}
+-- One substitution on the terms of degree 3 or more alone: those that begin with the first pair of
+-- all are taken from the others, and go back without it, or down to the terms of lower degree.
+use Rattle.std.specs.Prelude.{◌≡◌, ◌≢◌, ℕ, Bool, true, false, not, ◌&&◌, List, [], ◌∷◌, ◌++◌, map, drop}
 use Rattle.std.specs.List.{AllByRecursion, filter}
+use Rattle.std.specs.List.Sorted.{IsPermutation}
+use Rattle.std.specs.Ordering.{ordering_then}
+use Rattle.std.specs.declared.cmp.Ordering.{Ordering}
+use Rattle.std.specs.declared.cmp.Ordering.TheVariants.{Less}
 use Rattle.problem_form.specs.declared.literal.Literal.{Literal}
-use Rattle.term_table.specs.Terms.{Term, terms_total, with_additions, Ascends, IsTermSet}
-use Rattle.rosenberg_layer.specs.Rosenberg.{Pair, is_literal, is_long, tie_terms}
+use Rattle.problem_form.specs.Literals.{literal_cmp}
+use Rattle.term_table.specs.Terms.{Term, terms_total}
+use Rattle.rosenberg_layer.specs.Rosenberg.{Pair, node, is_literal, is_long}
 
 -- the first two literals are those of the pair
 abbrev pub begins : Pair → List Literal → Bool
@@ -28,41 +33,36 @@ front_term w t = (drop 2 t.0 ++ w ∷ [], t.1)
 abbrev pub Begin : Pair → List Term → Type 0
 Begin pair ts = AllByRecursion (λ t. begins pair t.0 ≡ true) ts
 
--- none of them does
-abbrev pub NoneBegin : Pair → List Term → Type 0
-NoneBegin pair ts = AllByRecursion (λ t. begins pair t.0 ≡ false) ts
+-- ---- the order of pairs
 
--- terms in order, of sets of the width, all of degree 3 or more
-pub record AreLong (width : ℕ) (ts : List Term) : Type 0 where
-  pub ordered : Ascends ts
-  pub sets : AllByRecursion (λ t. IsTermSet width t.0) ts
-  pub long : AllByRecursion (λ t. is_long t ≡ true) ts
+-- pairs are ordered by their first literals, and then by their second ones
+abbrev pub pair_cmp : Pair → Pair → Ordering
+pair_cmp a b = ordering_then (literal_cmp a.0 b.0) (literal_cmp a.1 b.1)
 
--- the terms that begin with the pair are taken off, and those of them that stay long go back
-pub record IsStep (pair : Pair) (w : Literal) (long low long' low' : List Term) : Type 0 where
+-- the first two literals of a set that has two
+abbrev pub pair_of : List Literal → Pair
+pair_of (p ∷ q ∷ ls) = (p, q)
+pair_of _ = (node 0, node 0)
+
+-- the first two literals of each term come after the pair
+abbrev pub Follow : Pair → List Term → Type 0
+Follow pair ts = AllByRecursion (λ t. pair_cmp pair (pair_of t.0) ≡ Less) ts
+
+-- ---- a step
+
+-- the terms that begin with the first pair of all are taken from the others
+pub record IsTaken (pair : Pair) (touched rest long : List Term) : Type 0 where
+  pub whole : IsPermutation long (touched ++ rest)
+  pub some : touched ≢ []
+  pub begin : Begin pair touched
+  pub others : Follow pair rest
+
+-- .. and those of them that stay long go back, the others down, and their sizes are summed
+pub record IsStep (pair : Pair) (w : Literal) (long low long' low' : List Term) (m : ℕ)
+    : Type 0 where
   pub touched : List Term
   pub rest : List Term
-  pub whole : touched ++ rest ≡ long
-  pub begin : Begin pair touched
-  pub others : first_begins pair rest ≡ false
-  pub put_back : long' ≡ with_additions rest (filter is_long (map (front_term w) touched))
-  pub put_down : low' ≡ (low ++ filter is_short (map (front_term w) touched))
-      ++ tie_terms pair w (terms_total touched)
-
--- ---- terms that go back
-
--- without their first two literals the sets are still different
-abbrev pub AreApart : List Term → Type 0
-AreApart [] = ⊤
-AreApart (t ∷ ts) = AllByRecursion (λ u. drop 2 t.0 ≢ drop 2 u.0) ts × AreApart ts
-
--- the term's new set isn't among those of the list
-abbrev pub IsFresh : Literal → List Term → Term → Type 0
-IsFresh w ts t = All (λ u. u.0 ≢ (drop 2 t.0 ++ w ∷ [])) ts
-
--- terms of degree 3 or more that can go back
-pub record CanGoBack (w : Literal) (long touched : List Term) : Type 0 where
-  pub high : AllByRecursion (λ t. 3 ≤ length t.0) touched
-  pub nonzero : AllByRecursion (λ t. t.1 ≢ pos 0) touched
-  pub apart : AreApart touched
-  pub fresh : AllByRecursion (IsFresh w long) touched
+  pub taken : IsTaken pair touched rest long
+  pub put_back : IsPermutation (rest ++ filter is_long (map (front_term w) touched)) long'
+  pub put_down : low' ≡ low ++ filter is_short (map (front_term w) touched)
+  pub weight : m ≡ terms_total touched

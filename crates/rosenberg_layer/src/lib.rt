@@ -2,10 +2,10 @@
 //! kept.
 #![tactic(auto)]
 
-mod front;
 mod gather;
 mod laws;
 mod long_set;
+mod long_terms;
 mod low_set;
 mod rosenberg;
 mod run;

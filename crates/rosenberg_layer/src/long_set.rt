@@ -1,18 +1,13 @@
-//! Literal sets of degree 3 or more, as the keys of a map.
-ghost use Rattle.std.specs.Prelude.{◌≡◌, ◌≤◌, ◌∷◌, ◌++◌, [], length, drop, IfOk, Some};
-ghost use Rattle.std.proofs.Common.{refl};
-ghost use Rattle.std.specs.Cmp.{partial_order_from_total};
-ghost use Rattle.std.specs.Ordering.{eq_by_cmp};
-ghost use Rattle.term_table.specs.Terms.{set_cmp};
-ghost use Rattle.term_table.specs.laws.Keys.{key_total, key_equal, key_alike};
+//! Literal sets of degree 3 or more.
+ghost use Rattle.std.specs.Prelude.{◌≡◌, ◌≤◌, ◌∷◌, ◌++◌, [], length, drop, IfOk};
+ghost use Rattle.rosenberg_layer.specs.Steps.{pair_of};
 
 use bits_model::NoMemory;
 use problem_form::Literal;
 use std::alloc::Global;
-use std::cmp::Ordering;
 use std::marker::Model;
 
-/// A list of literals, which contracts see as a list. It is ordered as `Vec<Literal>` is.
+/// A list of literals, which contracts see as a list.
 ///
 /// Those at its front are dropped by a count, so that no other literal moves.
 #[derive(Drop)]
@@ -52,6 +47,17 @@ impl LongSet {
         &self.literals[self.dropped..]
     }
 
+    /// The first two literals.
+    pub fn pair(&self) -> (Literal, Literal)
+        requires { 2 ≤ length self.now }
+        ensures { result ≡ pair_of self.now }
+    {
+        match self.as_slice() {
+            [first, second, ..] => (*first, *second),
+            _ => unreachable!(),
+        }
+    }
+
     /// Without its first two literals, and with a node at its end.
     pub fn with_node(self, node: Literal) -> Result<LongSet, NoMemory>
         requires { 2 ≤ length self }
@@ -66,43 +72,5 @@ impl LongSet {
             literals,
             dropped: dropped + 2,
         })
-    }
-}
-
-impl PartialEq for LongSet {
-    ghost eq = { eq_by_cmp set_cmp };
-
-    ghost laws = { key_alike };
-
-    fn eq(&self, other: &LongSet) -> bool {
-        self.cmp(other).is_eq()
-    }
-}
-
-impl Eq for LongSet {
-    ghost laws = { key_equal };
-}
-
-impl PartialOrd for LongSet {
-    ghost partial_cmp = { λ a b. Some (set_cmp a b) };
-
-    ghost laws = { partial_order_from_total key_total };
-
-    fn partial_cmp(&self, other: &LongSet) -> Option<Ordering> {
-        Some(self.cmp(other))
-    }
-}
-
-impl Ord for LongSet {
-    ghost cmp = { set_cmp };
-
-    ghost total = { key_total };
-
-    ghost matches_partial_cmp = { λ a b. refl };
-
-    ghost matches_eq = { λ a b. refl };
-
-    fn cmp(&self, other: &LongSet) -> Ordering {
-        self.as_slice().cmp(&other.as_slice())
     }
 }

@@ -39,7 +39,7 @@ fn reduced(alloc: Global, table: &Table) -> Result<Table, NoMemory>
 {
     let width = table.width();
     let made = run_of(alloc, table, width, excess(table))?;
-    gathered(alloc, table, &made.low, width + made.pairs.len())
+    gathered(alloc, table, &made, width, width + made.pairs.len())
 }
 
 /// Appends the product of each pair, one after another.

@@ -1,46 +1,43 @@
 //! The run of substitutions, on the terms of degree 3 or more alone.
 //!
-//! The first of them gives the pair, and those that have it are the first ones, since they begin with
-//! it. They are taken off and put back without it, where they differ from all others, so no term is
-//! looked for. What is of lower degree is gathered, to be summed in the end.
+//! The first of them gives the pair, and those that have it are those that begin with it, so they
+//! lie together and no term is looked for. What is of lower degree is gathered, to be summed in the
+//! end, and of the terms that tie a node only the weight.
 ghost use Rattle.std.specs.Prelude.{
   ◌≡◌,
-  ◌≢◌,
   ◌+◌,
   ◌≤◌,
   ◌<◌,
   ◌^◌,
   ◌++◌,
-  All,
   IfOk,
   OnOk,
   length,
-  pos,
+  reverse,
 };
 ghost use Rattle.std.specs.List.{filter};
 ghost use Rattle.term_table.specs.Terms.{terms_size, terms_total};
 ghost use Rattle.term_table.specs.Tables.{IsTable};
-ghost use Rattle.rosenberg_layer.specs.Rosenberg.{excess, front_pair, is_long, pairs_of, run};
-ghost use Rattle.rosenberg_layer.specs.Steps.{is_short, AreLong};
-ghost use Rattle.rosenberg_layer.specs.Parts.{weights, AreParts, IsTurn};
+ghost use Rattle.rosenberg_layer.specs.Rosenberg.{excess, is_long, pairs_of, run};
+ghost use Rattle.rosenberg_layer.specs.Steps.{is_short};
+ghost use Rattle.rosenberg_layer.specs.Groups.{all_terms, next_of, AreGrouped};
+ghost use Rattle.rosenberg_layer.specs.Parts.{ties_of, weights, AreParts, IsTurn};
 
-use crate::front::front_pair;
-use crate::long_set::LongSet;
+use crate::long_terms::{LongTerms, long_terms, next_pair};
 use crate::low_set::LowSet;
-use crate::substitute::{put, substitute};
+use crate::substitute::substitute;
 use bits_model::NoMemory;
 use problem_form::Literal;
 use std::alloc::Global;
-use std::collections::BTreeMap;
 use term_table::Table;
 
-/// The terms of degree 3 or more that are left, what was added of lower degree, and the pairs that
-/// the new nodes stand for.
+/// The touched terms of lower degree, the pairs that the new nodes stand for, and the weights of
+/// the terms that tie each node to its pair.
 #[derive(Drop)]
 pub struct Run {
-    pub long: BTreeMap<LongSet, i128>,
     pub low: Vec<(LowSet, i128)>,
     pub pairs: Vec<(Literal, Literal)>,
+    pub weights: Vec<u128>,
 }
 
 /// The sum of d - 2 over the terms of a degree d of 3 or more.
@@ -55,62 +52,46 @@ pub fn excess(table: &Table) -> usize
     sum
 }
 
-/// The terms of degree 3 or more.
-fn long_terms(alloc: Global, table: &Table) -> Result<BTreeMap<LongSet, i128>, NoMemory>
-    ensures long { IfOk result (λ long. long.entries ≡ filter is_long table.now.terms) }
-    ensures kept { IsTable table.now }
-{
-    let mut long = BTreeMap::new(alloc);
-    for (literals, coefficient) in table.terms() {
-        if literals.len() >= 3 {
-            put(
-                &mut long,
-                LongSet::from_slice(alloc, literals)?,
-                coefficient,
-            )?;
-        }
-    }
-    Ok(long)
-}
-
 /// Replaces the next pair, if there is one.
-fn turn(
-    alloc: Global,
-    long: &mut BTreeMap<LongSet, i128>,
-    low: &mut Vec<(LowSet, i128)>,
-    pairs: &mut Vec<(Literal, Literal)>,
-    width: usize,
-) -> Result<(), NoMemory>
-    requires narrow { width + length pairs.old.items < 2 ^ 64 }
-    requires long { AreLong (width + length pairs.old.items) long.old.entries }
-    requires nonzero { All (λ t. t.1 ≢ pos 0) long.old.entries }
-    requires small { terms_total long.old.entries ≤ 2 ^ 124 }
-    ensures { OnOk result (IsTurn (front_pair long.old.entries) (width + length pairs.old.items)
-        long.old.entries low.old.items pairs.old.items
-        long.new.entries low.new.items pairs.new.items) }
+fn turn(alloc: Global, long: &mut LongTerms, made: &mut Run, width: usize) -> Result<(), NoMemory>
+    requires narrow { width + length made.old.pairs.items < 2 ^ 64 }
+    requires kept { AreGrouped long.old }
+    requires small { terms_total (all_terms long.old) ≤ 2 ^ 124 }
+    ensures kept { OnOk result (AreGrouped long.new) }
+    ensures turn { OnOk result
+        (IsTurn (next_of (reverse long.old.front.items) long.old.groups.entries)
+        (width + length made.old.pairs.items)
+        (all_terms long.old) made.old.low.items made.old.pairs.items made.old.weights.items
+        (all_terms long.new) made.new.low.items made.new.pairs.items made.new.weights.items) }
 {
-    if let Some(pair) = front_pair(long) {
-        substitute(alloc, long, low, pair, width + pairs.len())?;
-        pairs.push(pair)?;
+    if let Some(pair) = next_pair(long) {
+        let weight = substitute(alloc, long, &mut made.low, pair, width + made.pairs.len())?;
+        made.pairs.push(pair)?;
+        made.weights.push(weight)?;
     }
     Ok(())
 }
 
-/// The parts of the table after so many substitutions.
+/// What so many substitutions leave of lower degree, and their pairs.
 pub fn run_of(alloc: Global, table: &Table, width: usize, turns: usize) -> Result<Run, NoMemory>
     requires width { width ≡ table.now.width }
     requires narrow { (run turns table.now).width < 2 ^ 64 }
     ensures parts { IfOk result (λ made. AreParts (run turns table.now)
-        (filter is_short table.now.terms ++ made.low.items) made.long.entries
-        (weights table.now.terms)) }
+        (filter is_short table.now.terms
+        ++ (made.low.items ++ ties_of width made.pairs.items made.weights.items))
+        (filter is_long (run turns table.now).terms) (weights table.now.terms)) }
     ensures pairs { IfOk result (λ made. made.pairs.items ≡ pairs_of turns table.now) }
+    ensures each { IfOk result (λ made. length made.weights.items ≡ length made.pairs.items) }
     ensures kept { IsTable table.now }
 {
     let mut long = long_terms(alloc, table)?;
-    let mut low = Vec::new(alloc);
-    let mut pairs = Vec::new(alloc);
+    let mut made = Run {
+        low: Vec::new(alloc),
+        pairs: Vec::new(alloc),
+        weights: Vec::new(alloc),
+    };
     for _done in 0..turns {
-        turn(alloc, &mut long, &mut low, &mut pairs, width)?;
+        turn(alloc, &mut long, &mut made, width)?;
     }
-    Ok(Run { long, low, pairs })
+    Ok(made)
 }

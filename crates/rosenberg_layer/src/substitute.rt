@@ -1,33 +1,26 @@
 //! One substitution.
 ghost use Rattle.std.specs.Prelude.{
   ◌≡◌,
-  ◌≢◌,
   ◌≤◌,
   ◌^◌,
   ◌∷◌,
   ◌++◌,
   [],
-  All,
+  IfOk,
   OnOk,
+  Some,
   length,
   map,
-  pos,
+  reverse,
 };
-ghost use Rattle.std.specs.List.{filter};
-ghost use Rattle.std.specs.BTreeMap.{insert_entry};
-ghost use Rattle.term_table.specs.Terms.{with_additions, set_cmp, terms_total, Ascends};
-ghost use Rattle.rosenberg_layer.specs.Rosenberg.{is_long, node, tie_terms};
-ghost use Rattle.rosenberg_layer.specs.Steps.{
-  front_term,
-  is_short,
-  AreLong,
-  CanGoBack,
-  IsFresh,
-  IsStep,
-};
+ghost use Rattle.std.specs.List.{filter, AllByRecursion};
+ghost use Rattle.term_table.specs.Terms.{terms_total};
+ghost use Rattle.rosenberg_layer.specs.Rosenberg.{is_long, node};
+ghost use Rattle.rosenberg_layer.specs.Steps.{front_term, is_short, IsStep};
+ghost use Rattle.rosenberg_layer.specs.Groups.{all_terms, next_of, AreGrouped, ArePut};
 
-use crate::front::take_front;
 use crate::long_set::LongSet;
+use crate::long_terms::{LongTerms, take};
 use crate::low_set::LowSet;
 use bits_model::NoMemory;
 use problem_form::Literal;
@@ -35,7 +28,7 @@ use std::alloc::Global;
 use std::collections::BTreeMap;
 
 /// The node of a number, as a literal.
-fn node(number: usize) -> Literal
+pub fn node(number: usize) -> Literal
     ensures { result ≡ node number }
 {
     Literal {
@@ -44,35 +37,46 @@ fn node(number: usize) -> Literal
     }
 }
 
-/// Puts in a set with its coefficient.
-pub fn put(
-    long: &mut BTreeMap<LongSet, i128>,
+/// Puts a term into the group of its first two literals.
+fn put(
+    alloc: Global,
+    groups: &mut BTreeMap<(Literal, Literal), Vec<(LongSet, i128)>>,
     set: LongSet,
     coefficient: i128,
 ) -> Result<(), NoMemory>
-    ensures put { OnOk result
-        (long.new.entries ≡ insert_entry set_cmp long.old.entries set coefficient) }
-    ensures ascends { OnOk result (Ascends long.old.entries) }
+    requires pair { 2 ≤ length set }
+    ensures { OnOk result
+        (ArePut ((set, coefficient) ∷ []) groups.old.entries groups.new.entries) }
 {
-    match long.insert(set, coefficient) {
-        Ok(_) => Ok(()),
-        Err(_) => Err(NoMemory),
+    let pair = set.pair();
+    match groups.get_mut(&pair) {
+        Some(group) => {
+            group.push((set, coefficient))?;
+            Ok(())
+        }
+        None => {
+            let mut group = Vec::with_capacity(alloc, 1)?;
+            group.push((set, coefficient))?;
+            match groups.insert(pair, group) {
+                Ok(_) => Ok(()),
+                Err(_) => Err(NoMemory),
+            }
+        }
     }
 }
 
 /// Puts a term that began with the pair where it belongs without it.
 fn put_new(
-    long: &mut BTreeMap<LongSet, i128>,
+    alloc: Global,
+    groups: &mut BTreeMap<(Literal, Literal), Vec<(LongSet, i128)>>,
     low: &mut Vec<(LowSet, i128)>,
     set: LongSet,
     coefficient: i128,
     node: Literal,
 ) -> Result<(), NoMemory>
-    requires high { 3 ≤ length set }
-    requires nonzero { coefficient ≢ pos 0 }
-    requires fresh { IsFresh node long.old.entries (set, coefficient) }
-    ensures long { OnOk result (long.new.entries ≡ with_additions long.old.entries
-        (filter is_long (front_term node (set, coefficient) ∷ []))) }
+    requires { 3 ≤ length set }
+    ensures long { OnOk result (ArePut (filter is_long (front_term node (set, coefficient) ∷ []))
+        groups.old.entries groups.new.entries) }
     ensures low { OnOk result (low.new.items
         ≡ low.old.items ++ filter is_short (front_term node (set, coefficient) ∷ [])) }
 {
@@ -81,24 +85,25 @@ fn put_new(
         low.push((LowSet::two(literals[2], node), coefficient))?;
         return Ok(());
     }
-    put(long, set.with_node(node)?, coefficient)
+    put(alloc, groups, set.with_node(node)?, coefficient)
 }
 
 /// Puts all terms that began with the pair where they belong without it.
 fn put_back(
-    long: &mut BTreeMap<LongSet, i128>,
+    alloc: Global,
+    groups: &mut BTreeMap<(Literal, Literal), Vec<(LongSet, i128)>>,
     low: &mut Vec<(LowSet, i128)>,
     touched: Vec<(LongSet, i128)>,
     node: Literal,
 ) -> Result<(), NoMemory>
-    requires { CanGoBack node long.old.entries touched.items }
-    ensures long { OnOk result (long.new.entries
-        ≡ with_additions long.old.entries (filter is_long (map (front_term node) touched.items))) }
+    requires { AllByRecursion (λ t. 3 ≤ length t.0) touched.items }
+    ensures long { OnOk result (ArePut (filter is_long (map (front_term node) touched.items))
+        groups.old.entries groups.new.entries) }
     ensures low { OnOk result (low.new.items
         ≡ low.old.items ++ filter is_short (map (front_term node) touched.items)) }
 {
     for (set, coefficient) in touched {
-        put_new(long, low, set, coefficient, node)?;
+        put_new(alloc, groups, low, set, coefficient, node)?;
     }
     Ok(())
 }
@@ -115,40 +120,23 @@ fn total_of(terms: &[(LongSet, i128)]) -> u128
     total
 }
 
-/// Adds the terms that tie a node to the product of a pair.
-fn add_ties(
-    low: &mut Vec<(LowSet, i128)>,
-    pair: (Literal, Literal),
-    node: Literal,
-    weight: u128,
-) -> Result<(), NoMemory>
-    requires { weight ≤ 2 ^ 124 }
-    ensures { OnOk result (low.new.items ≡ low.old.items ++ tie_terms pair node weight) }
-{
-    let weight = weight as i128;
-    low.push((LowSet::two(pair.0, pair.1), weight))?;
-    low.push((LowSet::two(pair.0, node), -(2 * weight)))?;
-    low.push((LowSet::two(pair.1, node), -(2 * weight)))?;
-    low.push((LowSet::one(node), 3 * weight))?;
-    Ok(())
-}
-
-/// Replaces a pair by the node of the next number.
+/// Replaces a pair by the node of the next number, and gives the weight of the terms that tie it.
 pub fn substitute(
     alloc: Global,
-    long: &mut BTreeMap<LongSet, i128>,
+    long: &mut LongTerms,
     low: &mut Vec<(LowSet, i128)>,
     pair: (Literal, Literal),
     next: usize,
-) -> Result<(), NoMemory>
-    requires long { AreLong next long.old.entries }
-    requires nonzero { All (λ t. t.1 ≢ pos 0) long.old.entries }
-    requires small { terms_total long.old.entries ≤ 2 ^ 124 }
-    ensures { OnOk result (IsStep pair (node next)
-        long.old.entries low.old.items long.new.entries low.new.items) }
+) -> Result<u128, NoMemory>
+    requires kept { AreGrouped long.old }
+    requires first { next_of (reverse long.old.front.items) long.old.groups.entries ≡ Some pair }
+    requires small { terms_total (all_terms long.old) ≤ 2 ^ 124 }
+    ensures kept { OnOk result (AreGrouped long.new) }
+    ensures step { IfOk result (λ weight. IsStep pair (node next)
+        (all_terms long.old) low.old.items (all_terms long.new) low.new.items weight) }
 {
-    let touched = take_front(alloc, long, pair)?;
+    let touched = take(alloc, long, pair)?;
     let weight = total_of(&touched);
-    put_back(long, low, touched, node(next))?;
-    add_ties(low, pair, node(next), weight)
+    put_back(alloc, &mut long.groups, low, touched, node(next))?;
+    Ok(weight)
 }

@@ -1,43 +1,60 @@
-use Rattle.std.proofs.Common.{◌++◌, ◌∙◌, ap, map, sym, subst}
+use Rattle.std.proofs.Common.{◌++◌, ◌∙◌, ◌^◌, arith, ap, map, reverse, subst, List}
 use Rattle.std.specs.List.{filter}
-use Rattle.std.proofs.lemmas.Result.{on_ok_weaker}
-use Rattle.term_table.specs.Terms.{terms_total, with_additions}
-use Rattle.rosenberg_layer.specs.Rosenberg.{is_long, tie_terms}
-use Rattle.rosenberg_layer.specs.Steps.{front_term, is_short, CanGoBack}
-use Rattle.rosenberg_layer.proofs.GoBack.{can_go_back}
+use Rattle.std.specs.List.Sorted.{IsPermutation}
+use Rattle.term_table.specs.Terms.{Term, terms_total}
+use Rattle.rosenberg_layer.specs.Rosenberg.{is_long}
+use Rattle.rosenberg_layer.specs.Steps.{front_term, is_short}
+use Rattle.rosenberg_layer.specs.Groups.{all_terms}
+use Rattle.rosenberg_layer.proofs.Bags.{touched-high, touched-small, put-high, put-behind}
 use Rattle.rosenberg_layer.proofs.substitute.substitute.Goals as goal
+
+pub total_of-weight-requires : goal.total_of-weight-requires
+total_of-weight-requires c =
+    omega (
+      arith,
+      ap terms_total c.deref.ensures.value,
+      touched-small c.args.pair c.in_ok-touched.touched.items (all_terms c.take.new.long)
+          (all_terms c.args.long.now) (2 ^ 124) c.in_ok-touched.ensures.taken c.requires.small,
+    )
 
 pub put_back-requires : goal.put_back-requires
 put_back-requires c =
-    let rest = c.take_front.new.long.entries in
-    let touched = c.in_ok-touched.touched.items in
-    subst (λ w. CanGoBack w rest touched) (sym c.node.ensures)
-    (can_go_back c.args.next c.args.pair touched rest c.args.long.now.entries
-    c.in_ok-touched.ensures.whole c.requires.long c.requires.nonzero c.in_ok-touched.ensures.begin)
+    touched-high c.args.pair c.in_ok-touched.touched.items (all_terms c.take.new.long)
+    (all_terms c.args.long.now) c.in_ok-touched.ensures.taken c.requires.kept.high
 
-pub returns : goal.returns
-returns c =
-    let rest = c.take_front.new.long.entries in
-    let touched = c.in_ok-touched.touched.items in
-    let low = c.args.low.now.items in
-    let pair = c.args.pair in
+pub returns-clause-kept : goal.returns-clause-kept
+returns-clause-kept c =
+    let front : List Term = reverse c.take.new.long.front.items in
+    let kept = c.in_ok-touched.ensures.kept in
+    let put = c.in_ok-put_back.ensures.long in
+    record {
+      ordered = kept.ordered;
+      high =
+          put-high (map (front_term c.node.result) c.in_ok-touched.touched.items) front
+          c.take.new.long.groups.entries c.put_back.new.groups.entries put kept.high;
+      each = put.each kept.each;
+    }
+
+pub returns-clause-step : goal.returns-clause-step
+returns-clause-step c =
+    let front : List Term = reverse c.take.new.long.front.items in
+    let rest : List Term = all_terms c.take.new.long in
+    let new : List Term =
+    all_terms (record { front = c.take.new.long.front; groups = c.put_back.new.groups }) in
+    let touched : List Term = c.in_ok-touched.touched.items in
+    let low : List Term = c.args.low.now.items in
     let number = c.node.ensures in
-    let again = c.node-2.ensures in
-    let weight = c.total_of-weight.ensures ∙ ap terms_total c.deref.ensures.value in
     let up =
-    c.in_ok-put_back.ensures.long
-    ∙ ap (λ w. with_additions rest (filter is_long (map (front_term w) touched))) number in
-    let down =
-    c.in_ok-put_back.ensures.low
-    ∙ ap (λ w. low ++ filter is_short (map (front_term w) touched)) number in
-    on_ok_weaker c.add_ties.result
-    (λ tied. record {
+    put-behind (filter is_long (map (front_term c.node.result) touched)) front
+    c.take.new.long.groups.entries c.put_back.new.groups.entries c.in_ok-put_back.ensures.long in
+    record {
       touched = touched;
       rest = rest;
-      whole = c.in_ok-touched.ensures.whole;
-      begin = c.in_ok-touched.ensures.begin;
-      others = c.in_ok-touched.ensures.others;
-      put_back = up;
-      put_down = tied ∙ (λ i. down i ++ tie_terms pair (again i) (weight i));
-    })
-    c.add_ties.ensures
+      taken = c.in_ok-touched.ensures.taken;
+      put_back =
+          subst (λ w. IsPermutation (rest ++ filter is_long (map (front_term w) touched)) new) number up;
+      put_down =
+          c.in_ok-put_back.ensures.low
+          ∙ ap (λ w. low ++ filter is_short (map (front_term w) touched)) number;
+      weight = c.total_of-weight.ensures ∙ ap terms_total c.deref.ensures.value;
+    }
