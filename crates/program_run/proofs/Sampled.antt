@@ -6,7 +6,6 @@ use Rattle.problem_form.specs.Problems.{ProblemContent}
 use Rattle.problem_form.specs.Limits.{limit_fault}
 use Rattle.command_words.specs.declared.commands.Format.TheVariants.{Wcnf}
 use Rattle.command_words.specs.declared.commands.Sample.{Sample}
-use Rattle.wcnf_reader.specs.Cost.{normal_reading}
 use Rattle.sample_text.specs.Sample.{sample_text}
 use Rattle.sample_text.proofs.EachRead.{each_sample_is_read}
 use Rattle.model_text.specs.Summary.{summary_text}
