@@ -1,0 +1,2 @@
+pub mod OnChains
+pub mod QubitModels

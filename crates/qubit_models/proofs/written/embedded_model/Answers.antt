@@ -1,0 +1,59 @@
+use Rattle.std.proofs.Common.{◌*ℤ◌, ◌∙◌, ap, arith, rules}
+use Rattle.std.specs.Int.{w128}
+use Rattle.std.proofs.lemmas.Int.{ints, to_z-of_z}
+use Rattle.std.proofs.lemmas.Result.{IfOk-weaker}
+use Rattle.bits_model.specs.declared.costs.Figures.{Figures}
+use Rattle.bits_model.specs.Relations.{figures_after}
+use Rattle.chain_layer.proofs.Written.{image_fits_output}
+use Rattle.qubit_models.specs.QubitModels.{chained_model, kind_of}
+use Rattle.qubit_models.proofs.QubitModels.{tied_fits}
+use Rattle.qubit_models.proofs.written.embedded_model.Goals as goal
+
+pub after-figures-requires-clause-sum : goal.after-figures-requires-clause-sum
+after-figures-requires-clause-sum c =
+    let made = c.in_ok-made.ensures in
+    let one = to_z-of_z w128 c.in_ok-made.made.scale (search rules) ∙ made.scale in
+    let tied = to_z-of_z w128 c.in_ok-made.made.offset (search rules) ∙ made.offset in
+    tied_fits c.args.embedded c.args.figures.offset _ _ made.fits.kept c.requires.total
+    c.requires.offset
+    one
+    tied
+
+pub after-figures-requires-clause-sum_2 : goal.after-figures-requires-clause-sum_2
+after-figures-requires-clause-sum_2 c =
+    let made = c.in_ok-made.ensures in
+    let one = to_z-of_z w128 c.in_ok-made.made.scale (search rules) ∙ made.scale in
+    let tied = to_z-of_z w128 c.in_ok-made.made.offset (search rules) ∙ made.offset in
+    tied_fits c.args.embedded c.args.figures.threshold _ _ made.fits.kept c.requires.total
+    c.requires.threshold
+    one
+    tied
+
+pub chained_model-requires-clause-kind : goal.chained_model-requires-clause-kind
+chained_model-requires-clause-kind c =
+    let e = c.args.embedded in
+    let graph = c.args.graph.now in
+    let made = c.in_ok-made.ensures in
+    let kept = made.fits.kept in
+    rw (made.fits.chains, made.image)
+    (image_fits_output e graph.rows graph.cols graph.shore c.args.own kept c.requires.qubits
+    (omega (arith, kept.counted, c.requires.own)))
+
+pub chained_model-requires-clause-scale : goal.chained_model-requires-clause-scale
+chained_model-requires-clause-scale c =
+    let one = to_z-of_z w128 c.in_ok-made.made.scale (search rules) ∙ c.in_ok-made.ensures.scale in
+    let scale = ap (λ (n : Figures). n.scale) c.after-figures.ensures
+    ∙ ap (λ z. c.args.figures.scale *ℤ z) one in
+    omega (arith, ints, scale, c.requires.scale)
+
+pub returns-clause-model : goal.returns-clause-model
+returns-clause-model c =
+    let made = c.in_ok-made.ensures in
+    let one = to_z-of_z w128 c.in_ok-made.made.scale (search rules) ∙ made.scale in
+    let tied = to_z-of_z w128 c.in_ok-made.made.offset (search rules) ∙ made.offset in
+    let kind = kind_of c.args.graph.now in
+    let figures = c.after-figures.ensures ∙ (λ i. figures_after c.args.figures (one i) (tied i)) in
+    IfOk-weaker c.chained_model.result _ _
+    (λ m same. same
+    ∙ (λ i. chained_model c.args.unit (made.image i) c.args.own (figures i) kind (made.fits.chains i)))
+    c.chained_model.ensures

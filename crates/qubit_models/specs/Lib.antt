@@ -1,0 +1,2 @@
+pub mod QubitModels
+pub mod Standing
