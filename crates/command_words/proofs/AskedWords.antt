@@ -25,7 +25,7 @@ use Rattle.whole_text.specs.Numbers.{digits_number}
 use Rattle.command_words.specs.declared.keys.Keys.{Keys}
 use Rattle.command_words.specs.declared.words.Verb.{Verb}
 use Rattle.command_words.specs.declared.words.Verb.TheVariants as verbs
-use Rattle.command_words.specs.Asked.{EachJobIsAskedFor, EachSampleIsAskedFor, EachUnitIsAskedFor, EachKeyStands, NoKeyStandsTwice, NoOtherWordsAsk, Say, SaySample, format_word, high_key, normal_key, fourth_word_job, sample_with, target_word, unit_key, job_words}
+use Rattle.command_words.specs.Asked.{EachJobIsAskedFor, EachSampleIsAskedFor, EachUnitIsAskedFor, EachKeyStands, NoKeyStandsTwice, NoOtherWordsAsk, Say, format_word, high_key, normal_key, fourth_word_job, sample_with, target_word, unit_key, job_words}
 use Rattle.command_words.specs.Commands.{◌>>=◌, after_verb, clauses_of, format_of, job_of, named, sample_of, target_of, valued, verb_of}
 use Rattle.command_words.specs.Keys.{choices_of, chosen_unit, keys_from, no_keys, with_word}
 use Rattle.command_words.specs.Names.{text_at}

@@ -11,6 +11,7 @@ use Rattle.bits_model.specs.declared.output.UnitChoice.{UnitChoice}
 use Rattle.bits_model.specs.declared.output.UnitChoice.TheVariants.{One, Reduce}
 use Rattle.bits_model.specs.Costs.{Form}
 use Rattle.bits_model.specs.Relations.{Decoding, Relaxes, decoding_after, figures_moved}
+use Rattle.bits_model.specs.Walks.{IsConnected}
 use Rattle.bits_model.specs.Faithful.{HasUnit}
 use Rattle.bits_model.specs.laws.Composed.{keeps_after_relaxes, reduces_after_relaxes}
 use Rattle.model_text.specs.Rows.{FitsFigures, FitsGraph}
@@ -26,7 +27,6 @@ use Rattle.ising_form.proofs.WrittenModels.{written_is_well_formed, written_rela
 use Rattle.chimera_graph.specs.declared.chimera.Chimera.{Chimera}
 use Rattle.chimera_graph.specs.Graph.{qubits_of, place_of}
 use Rattle.chimera_graph.specs.laws.Joins.{are_joined-comm}
-use Rattle.bits_model.specs.Walks.{IsConnected}
 use Rattle.chain_map.specs.Valid.{IsValid}
 use Rattle.embedding_check.specs.Embeddings.{Embedding, IsEmbedding}
 use Rattle.embedding_check.specs.Checked.{IsChecked}
