@@ -1,5 +1,5 @@
 -- The models of a form that stands for a problem, as it is and in its greatest unit.
-use Rattle.std.proofs.Common.{◌≡◌, ◌≤◌, ◌⊎◌, inl, inr, ℕ, zero, suc, ◌+◌, ◌^◌, ℤ, pos, ◌+ℤ◌, ◌*ℤ◌, Bool, true, false, List, [], ◌++◌, length, take, if◌then◌else◌, refl, ap, arith}
+use Rattle.std.proofs.Common.{◌≡◌, ◌≤◌, ◌⊎◌, inl, inr, ℕ, zero, suc, ◌+◌, ◌^◌, ℤ, pos, ◌+ℤ◌, ◌*ℤ◌, Bool, true, false, List, [], ◌++◌, length, if◌then◌else◌, refl, ap, arith}
 use Rattle.std.specs.Prelude.{unsigned_abs, neg_ℤ}
 use Rattle.std.specs.List.{list_all, sum_by}
 use Rattle.std.proofs.lemmas.Int.{ints}
@@ -12,7 +12,7 @@ use Rattle.bits_model.specs.declared.output.Kind.TheVariants as kinds
 use Rattle.bits_model.specs.declared.output.UnitChoice.{UnitChoice}
 use Rattle.bits_model.specs.declared.output.UnitChoice.TheVariants.{One, Reduce}
 use Rattle.bits_model.specs.Costs.{Form}
-use Rattle.bits_model.specs.Relations.{Decoding, Relaxes, Reduces, figures_moved}
+use Rattle.bits_model.specs.Relations.{Decoding, Reduces, figures_moved}
 use Rattle.bits_model.specs.Faithful.{HasUnit}
 use Rattle.bits_model.specs.Output.{weight_total}
 use Rattle.bits_model.specs.laws.Composed.{reduces_after_relaxes}

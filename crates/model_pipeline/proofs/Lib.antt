@@ -1,2 +1,3 @@
 pub mod FormModels
+pub mod GraphModels
 pub mod Standing

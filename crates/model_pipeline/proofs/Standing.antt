@@ -1,5 +1,5 @@
 -- The model of a problem: what it promises of the problem.
-use Rattle.std.proofs.Common.{◌≡◌, ◌≤◌, ◌^◌, ◌*◌, ℕ, ◌+◌, ℤ, pos, ◌+ℤ◌, ◌*ℤ◌, Bool, List, length, take, refl, sym, ap, ◌∙◌, subst, arith}
+use Rattle.std.proofs.Common.{◌≡◌, ◌≤◌, ◌^◌, ◌*◌, ℕ, ◌+◌, ℤ, pos, ◌+ℤ◌, ◌*ℤ◌, length, take, refl, sym, ap, ◌∙◌, subst, arith}
 use Rattle.std.specs.Prelude.{None, unsigned_abs}
 use Rattle.std.proofs.lemmas.Int.{ints}
 use Rattle.std.proofs.lemmas.List.{take-take}
@@ -37,12 +37,13 @@ use Rattle.quad_form.specs.Flat as flat
 use Rattle.quad_form.specs.laws.Flattened.{length-image, flat_keeps}
 use Rattle.direct_quad.specs.Direct as direct
 use Rattle.direct_quad.specs.laws.Relaxing.{direct_relaxes, figures-still}
+use Rattle.ising_form.specs.Isings as isings
 use Rattle.ising_form.specs.Spins.{coupled}
 use Rattle.ising_form.specs.Spins as spins
 use Rattle.ising_form.specs.laws.Spun.{length-fields, spins_keeps}
 use Rattle.ising_form.proofs.Images.{image_is_ising}
 use Rattle.model_pipeline.specs.Models.{IsModelOf, form_model, ising_figures, low_terms_of, quad_by, terms_of}
-use Rattle.model_pipeline.specs.Formed.{IsFormed}
+use Rattle.model_pipeline.specs.Formed.{IsFormed, Stands}
 use Rattle.model_pipeline.proofs.FormModels.{HasFigures, figures_within, qubo_stands, ising_stands}
 
 -- the same form, with the same figures
@@ -58,14 +59,16 @@ literal_enough : (p : ProblemContent) → p.variables ≤ length (direct.image p
 literal_enough p = omega (arith, length-image (monomials.image (penalty.image p)))
 
 pub formed_at_once : (p : ProblemContent) (a : BitsLink) → limit_fault normals.Literal p ≡ None
-    → direct.Fits a p → (quad_total (direct.image p) + 1) * 2 ^ 2 ≤ 2 ^ 124
-    → quad_size (direct.image p) * 2 ^ 1 ≤ 2 ^ 32 → IsFormed p (direct.image p) (figures p)
+    → direct.Fits a p → quad_total (direct.image p) + 1 ≤ 2 ^ 99
+    → quad_size (direct.image p) ≤ 2 ^ 29 → IsFormed p (direct.image p) (figures p)
 formed_at_once p a within fits total size = record {
   figures = refl;
   threshold = threshold_within p (upper p) within refl;
   enough = literal_enough p;
-  total = total;
-  size = size;
+  total = omega (arith, total);
+  size = omega (arith, size);
+  total_low = total;
+  size_low = size;
   stands = (
     first_bits a,
     record {
@@ -117,8 +120,8 @@ module _ (normal : Normal) (high : High) (p : ProblemContent) where
 
   pub formed_by_steps : (a b c : BitsLink) → unsigned_abs (upper p) ≤ 2 ^ 64 → penalty.Fits a p
       → LowFits high b (terms_of normal p) → flat.Fits c (low_terms_of high (terms_of normal p))
-      → (quad_total (quad_by normal high p) + 1) * 2 ^ 2 ≤ 2 ^ 124
-      → quad_size (quad_by normal high p) * 2 ^ 1 ≤ 2 ^ 32
+      → quad_total (quad_by normal high p) + 1 ≤ 2 ^ 99
+      → quad_size (quad_by normal high p) ≤ 2 ^ 29
       → IsFormed p (quad_by normal high p) (figures p)
   formed_by_steps a b c threshold fits_a fits_b fits_c total size =
       let t = terms_of normal p in
@@ -133,8 +136,10 @@ module _ (normal : Normal) (high : High) (p : ProblemContent) where
         figures = refl;
         threshold = threshold;
         enough = steps_enough;
-        total = total;
-        size = size;
+        total = omega (arith, total);
+        size = omega (arith, size);
+        total_low = total;
+        size_low = size;
         stands = (
           steps a b c,
           record {
@@ -163,7 +168,7 @@ four_times_low : (z : ℤ) (most : ℕ) → unsigned_abs z ≤ most
 four_times_low z most h = omega (arith, ints)
 
 -- the figures of its Ising form
-ising_figures_are_stated : (p : ProblemContent) → unsigned_abs (upper p) ≤ 2 ^ 64
+pub ising_figures_are_stated : (p : ProblemContent) → unsigned_abs (upper p) ≤ 2 ^ 64
     → HasFigures (pos 4) p (ising_figures (figures p)) (2 ^ 66)
 ising_figures_are_stated p low = record {
   scale = refl;
@@ -179,6 +184,18 @@ spins_link q = record { source_width = length q.diagonal; target_width = length 
 spins_fit : (q : QuadContent) → IsQuad q → spins.Fits (spins_link q) q
 spins_fit q quad = record { source = refl; target = refl; quad = quad }
 
+-- its Ising form stands for what it stands for
+pub spins_stand : (p : ProblemContent) (q : QuadContent) → IsQuad q
+    → (d : Decoding) × Stands p (quads.form_of q) d (pos 1) (figures p)
+    → (d : Decoding) × Stands p (isings.form_of (spins.image q)) d (pos 1) (ising_figures (figures p))
+spins_stand p q kept (d, stands) = (
+  decoding_after d (same_bits (spins_link q)),
+  record {
+    relaxes = keeps_after_relaxes stands.relaxes (spins_keeps (spins_link q) q (spins_fit q kept));
+    decodes = stands.decodes;
+  },
+)
+
 -- the model of a form that stands for a problem, for each target and in each unit
 made_model : (target : Target) (choice : UnitChoice) (p : ProblemContent) (own : ℕ)
     (q : QuadContent) → IsQuad q → IsFormed p q (figures p) → own ≤ p.variables
@@ -188,16 +205,12 @@ made_model Qubo choice p own q kept made few =
     let figured = figures_within (pos 1) p (figures p) _ _ (omega arith) (figures_are_stated p made.threshold) in
     qubo_stands p own made.stands.0 choice q (figures p) kept least figured made.stands.1
 made_model Ising choice p own q kept made few =
-    let stands = made.stands.1 in
+    let stands = spins_stand p q kept made.stands in
     let width = length-fields (coupled q.couplers) 0 q.diagonal in
     let enough : p.variables ≤ length (spins.image q).fields = omega (arith, width, made.enough) in
     let figured = figures_within (pos 4) p (ising_figures (figures p)) _ _ (omega arith) (ising_figures_are_stated p made.threshold) in
-    ising_stands p own (decoding_after made.stands.0 (same_bits (spins_link q))) choice (spins.image q) (ising_figures (figures p))
-    (image_is_ising q kept made.total) few enough figured
-    (record {
-      relaxes = keeps_after_relaxes stands.relaxes (spins_keeps (spins_link q) q (spins_fit q kept));
-      decodes = stands.decodes;
-    })
+    ising_stands p own stands.0 choice (spins.image q) (ising_figures (figures p))
+    (image_is_ising q kept made.total) few enough figured stands.1
 
 -- the same with figures that are the problem's
 pub formed_model : (target : Target) (choice : UnitChoice) (p : ProblemContent) (own : ℕ)

@@ -1,5 +1,5 @@
--- A quadratic form that stands for a problem: what the steps to its model rest on.
-use Rattle.std.specs.Prelude.{◌≡◌, ◌≤◌, ◌+◌, ◌*◌, ◌^◌, ℤ, pos, Bool, List, length, take, unsigned_abs}
+-- Forms that stand for a problem: what the steps to its model rest on.
+use Rattle.std.specs.Prelude.{◌≡◌, ◌≤◌, ◌<◌, ◌+◌, ◌*◌, ◌^◌, ℤ, pos, ◌≤ℤ◌, Bool, List, length, take, unsigned_abs}
 use Rattle.bits_model.specs.declared.costs.Figures.{Figures}
 use Rattle.bits_model.specs.Costs.{Form}
 use Rattle.bits_model.specs.Relations.{Decoding, Relaxes}
@@ -8,17 +8,35 @@ use Rattle.problem_form.specs.Limits.{upper}
 use Rattle.penalty_layer.specs.Penalty as penalty
 use Rattle.quad_form.specs.Quads.{QuadContent, quad_size, quad_total}
 use Rattle.quad_form.specs.Quads as quads
+use Rattle.ising_form.specs.Isings.{IsingContent, ising_size, ising_total}
+use Rattle.ising_form.specs.Isings as isings
+use Rattle.model_pipeline.specs.Models.{ising_figures}
 
 -- a form that relaxes a problem in this unit, and whose states decode to their first bits
 pub record Stands (p : ProblemContent) (f : Form) (d : Decoding) (u : ℤ) (n : Figures) : Type 0 where
   pub relaxes : Relaxes (form_of p) f d u n
   pub decodes : (y : List Bool) → d.decoded y ≡ take p.variables y
 
--- a form that relaxes a problem with the problem's figures, and has room for the steps to a model
+-- a quadratic form that relaxes a problem with the problem's figures, and has room for the steps to
+-- a model
 pub record IsFormed (p : ProblemContent) (q : QuadContent) (n : Figures) : Type 0 where
   pub figures : n ≡ penalty.figures p
   pub threshold : unsigned_abs (upper p) ≤ 2 ^ 64
   pub enough : p.variables ≤ length q.diagonal
   pub total : (quad_total q + 1) * 2 ^ 2 ≤ 2 ^ 124
   pub size : quad_size q * 2 ^ 1 ≤ 2 ^ 32
+  pub total_low : quad_total q + 1 ≤ 2 ^ 99
+  pub size_low : quad_size q ≤ 2 ^ 29
   pub stands : (d : Decoding) × Stands p (quads.form_of q) d (pos 1) (penalty.figures p)
+
+-- an Ising form that relaxes a problem with four times the problem's figures, and has room for the
+-- steps to a model on chains
+pub record IsSpun (p : ProblemContent) (f : IsingContent) (n : Figures) : Type 0 where
+  pub figures : n ≡ ising_figures (penalty.figures p)
+  pub enough : p.variables ≤ length f.fields
+  pub total : (ising_total f + 1) * 2 ^ 21 ≤ 2 ^ 124
+  pub size : (ising_size f + 4 * 2 ^ 20) * 2 ^ 1 ≤ 2 ^ 32
+  pub scale_low : pos 1 ≤ℤ n.scale
+  pub offset_low : unsigned_abs n.offset < 2 ^ 122
+  pub threshold_low : unsigned_abs n.threshold < 2 ^ 122
+  pub stands : (d : Decoding) × Stands p (isings.form_of f) d (pos 1) n

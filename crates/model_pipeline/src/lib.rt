@@ -1,11 +1,16 @@
 //! From a problem to its model: the steps that a command chooses, one after another.
+//!
+//! On the qubits of a graph the model stands on the chains of a map, or on those of a clique.
 #![tactic(auto)]
 
 mod forms;
 mod model;
+mod on_graph;
+mod spins;
 mod steps;
 mod written;
 
 pub use forms::{FiguredQuad, formed};
 pub use model::model_of;
+pub use on_graph::{clique_model_of, mapped_model_of};
 pub use steps::{Quadratic, quadratic_of};

@@ -1,0 +1,55 @@
+//! The Ising form of a problem, by the steps that a command chooses.
+ghost use Rattle.std.specs.Prelude.{◌≡◌, ◌<◌, ◌≤◌, ◌+◌, ◌*◌, ◌^◌, ◌≤ℤ◌, pos, unsigned_abs, None, IfOk};
+ghost use Rattle.problem_form.specs.Limits.{limit_fault};
+ghost use Rattle.quad_form.specs.Quads.{IsQuad, quad_size, quad_total};
+ghost use Rattle.ising_form.specs.Spins.{image};
+ghost use Rattle.model_pipeline.specs.Models.{ising_figures};
+ghost use Rattle.model_pipeline.specs.Formed.{IsSpun};
+ghost use Rattle.model_pipeline.specs.GraphModels.{ising_of};
+
+use crate::forms::formed;
+use bits_model::{Figures, Layer, NoMemory};
+use ising_form::{Ising, ToSpins};
+use problem_form::{Choices, Problem};
+use quad_form::Quad;
+use std::alloc::Global;
+
+/// An Ising form, and how its energies stand for the costs of a problem.
+#[derive(Drop)]
+pub struct FiguredIsing {
+    pub ising: Ising,
+    pub figures: Figures,
+}
+
+/// The Ising form of a quadratic form, which is let go.
+fn spun_quad(alloc: Global, quad: Quad, figures: Figures) -> Result<FiguredIsing, NoMemory>
+    requires total { (quad_total quad + 1) * 2 ^ 2 ≤ 2 ^ 124 }
+    requires size { quad_size quad * 2 ^ 1 ≤ 2 ^ 32 }
+    requires scale_low { pos 1 ≤ℤ figures.scale }
+    requires scale { unsigned_abs figures.scale < 2 ^ 122 }
+    requires offset { unsigned_abs figures.offset < 2 ^ 122 }
+    requires threshold { unsigned_abs figures.threshold < 2 ^ 122 }
+    ensures made { IfOk result (λ made.
+        (made.ising ≡ image quad) × (made.figures ≡ ising_figures figures)) }
+
+    // What the laws of the form rest on.
+    ensures kept { IsQuad quad }
+{
+    let made = ToSpins.lower(alloc, &quad)?;
+    drop(quad);
+    Ok(FiguredIsing {
+        ising: made.target,
+        figures: figures.after(made.scale, made.offset),
+    })
+}
+
+/// The Ising form of a problem within the limits. The problem is let go as soon as a form stands in
+/// its place.
+pub fn spun(alloc: Global, problem: Problem, choices: &Choices) -> Result<FiguredIsing, NoMemory>
+    requires { limit_fault choices.now.normal problem ≡ None }
+    ensures image { IfOk result (λ made. made.ising ≡ ising_of choices.now problem) }
+    ensures stands { IfOk result (λ made. IsSpun problem made.ising made.figures) }
+{
+    let made = formed(alloc, problem, choices)?;
+    spun_quad(alloc, made.quad, made.figures)
+}
