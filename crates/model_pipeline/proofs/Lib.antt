@@ -1,3 +1,4 @@
 pub mod FormModels
 pub mod GraphModels
 pub mod Standing
+pub mod LeastStates

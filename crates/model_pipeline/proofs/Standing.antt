@@ -86,7 +86,7 @@ terms_relax : (normal : Normal) (a : BitsLink) (p : ProblemContent) → penalty.
 terms_relax Literal a p fits = penalty_relaxes a p fits
 terms_relax Multilinear a p fits = multilinear_relaxes a p fits
 
-terms_width : (normal : Normal) (p : ProblemContent) → (terms_of normal p).width ≡ node_count p
+pub terms_width : (normal : Normal) (p : ProblemContent) → (terms_of normal p).width ≡ node_count p
 terms_width Literal p = refl
 terms_width Multilinear p = refl
 
@@ -95,12 +95,12 @@ abbrev pub LowFits : High → BitsLink → TableContent → Type 0
 LowFits Monomial b t = monomials.Fits b t
 LowFits Rosenberg b t = rosenberg.Fits b t
 
-low_source : (high : High) (b : BitsLink) (t : TableContent) → LowFits high b t
+pub low_source : (high : High) (b : BitsLink) (t : TableContent) → LowFits high b t
     → b.source_width ≡ t.width
 low_source Monomial b t fits = fits.source
 low_source Rosenberg b t fits = fits.source
 
-low_keeps : (high : High) (b : BitsLink) (t : TableContent) → LowFits high b t
+pub low_keeps : (high : High) (b : BitsLink) (t : TableContent) → LowFits high b t
     → Keeps (tables.form_of t) (tables.form_of (low_terms_of high t)) (first_bits b) (pos 1) (pos 0)
 low_keeps Monomial b t fits = mono_keeps b t fits
 low_keeps Rosenberg b t fits = rosen_keeps b t fits
@@ -110,7 +110,7 @@ low_wider Monomial t = omega arith
 low_wider Rosenberg t = width-run-le (excess t.terms) t
 
 -- states are decoded step by step
-abbrev steps : BitsLink → BitsLink → BitsLink → Decoding
+abbrev pub steps : BitsLink → BitsLink → BitsLink → Decoding
 steps a b c = decoding_after (decoding_after (first_bits a) (first_bits b)) (same_bits c)
 
 module _ (normal : Normal) (high : High) (p : ProblemContent) where

@@ -1,3 +1,4 @@
 pub mod Models
 pub mod Formed
+pub mod Extensions
 pub mod GraphModels

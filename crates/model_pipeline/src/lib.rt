@@ -3,6 +3,7 @@
 //! On the qubits of a graph the model stands on the chains of a map, or on those of a clique.
 #![tactic(auto)]
 
+mod extending;
 mod forms;
 mod model;
 mod on_graph;
@@ -10,6 +11,7 @@ mod spins;
 mod steps;
 mod written;
 
+pub use extending::extended;
 pub use forms::{FiguredQuad, formed};
 pub use model::model_of;
 pub use on_graph::{clique_model_of, mapped_model_of};

@@ -1,0 +1,78 @@
+//! The extension of an assignment, by the steps that a command chooses.
+ghost use Rattle.std.specs.Prelude.{◌≡◌, ◌≤◌, ◌+◌, None, IfOk, length};
+ghost use Rattle.problem_form.specs.Limits.{limit_fault};
+ghost use Rattle.model_pipeline.specs.Extensions.{extension_of, IsLeastExtension};
+
+use bits_model::{Guard, Layer, NoMemory, Then};
+use direct_quad::FlatMonomials;
+use normal_form::MultilinearForm;
+use penalty_layer::Penalty;
+use problem_form::{Choices, High, Normal, Problem};
+use quad_form::{Flatten, Quad};
+use rosenberg_layer::Rosenberg;
+use std::alloc::Global;
+use term_table::Table;
+
+/// The state that an assignment extends to by a guard and a layer, which neither scales nor moves.
+/// The layer's image is made for its link alone, and let go at once.
+fn extended_by<G, H>(
+    alloc: Global,
+    guard: &G,
+    layer: &H,
+    problem: &Problem,
+    x: &[bool],
+) -> Result<Vec<bool>, NoMemory>
+where
+    G: Guard<Source = Problem, Target = Table>,
+    H: Layer<Source = Table, Target = Quad>,
+    requires admits { G.admits problem.now }
+    requires total { G.TOTAL_BITS + H.TOTAL_GROWTH ≤ 124 }
+    requires size { G.SIZE_BITS + H.SIZE_GROWTH ≤ 32 }
+    requires still { H.OFFSET_FACTOR ≡ 0 }
+    requires width { length x.now ≡ problem.now.variables }
+    ensures extension { IfOk result (λ y.
+        y.items ≡ H.extension (G.image problem.now) (G.extension problem.now x.now)) }
+    ensures first { IfOk result (λ _. (link : G.Link) × G.fits link problem.now) }
+    ensures second { IfOk result (λ _. (link : H.Link) × H.fits link (G.image problem.now)) }
+{
+    let guarded = guard.guard(alloc, problem)?;
+    let y = guard.extend(alloc, problem, &guarded.link, x)?;
+    let link = layer.lower(alloc, &guarded.target)?.link;
+    layer.extend(alloc, &guarded.target, &link, &y)
+}
+
+/// Pairs replaced one after another, and all multiplied out.
+fn pairs_replaced() -> Then<Rosenberg, Flatten> {
+    Then {
+        first: Rosenberg,
+        second: Flatten,
+    }
+}
+
+/// The state of the quadratic form that an assignment of a problem within the limits extends to. No
+/// state that decodes to the assignment has a lesser energy.
+pub fn extended(
+    alloc: Global,
+    problem: &Problem,
+    choices: &Choices,
+    x: &[bool],
+) -> Result<Vec<bool>, NoMemory>
+    requires within { limit_fault choices.now.normal problem.now ≡ None }
+    requires width { length x.now ≡ problem.now.variables }
+    ensures exact { IfOk result (λ y. y.items ≡ extension_of choices.now problem.now x.now) }
+    ensures least { IfOk result (λ y.
+        IsLeastExtension choices.now problem.now x.now y.items) }
+{
+    // a problem that is read is in normal form
+    let _variables = problem.variables;
+    match choices.normal {
+        Normal::Literal => match choices.high {
+            High::Monomial => extended_by(alloc, &Penalty, &FlatMonomials, problem, x),
+            High::Rosenberg => extended_by(alloc, &Penalty, &pairs_replaced(), problem, x),
+        },
+        Normal::Multilinear => match choices.high {
+            High::Monomial => extended_by(alloc, &MultilinearForm, &FlatMonomials, problem, x),
+            High::Rosenberg => extended_by(alloc, &MultilinearForm, &pairs_replaced(), problem, x),
+        },
+    }
+}
