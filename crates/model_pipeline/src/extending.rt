@@ -1,8 +1,11 @@
 //! The extension of an assignment, by the steps that a command chooses.
 ghost use Rattle.std.specs.Prelude.{◌≡◌, ◌≤◌, ◌+◌, None, IfOk, length};
 ghost use Rattle.problem_form.specs.Limits.{limit_fault};
+ghost use Rattle.bits_model.specs.declared.layer.BitsLink.{BitsLink};
+ghost use Rattle.direct_quad.specs.FlatMonomials.{extension, Fits};
 ghost use Rattle.model_pipeline.specs.Extensions.{extension_of, IsLeastExtension};
 
+use crate::new_nodes::monomial_link;
 use bits_model::{Guard, Layer, NoMemory, Then};
 use direct_quad::FlatMonomials;
 use normal_form::MultilinearForm;
@@ -12,6 +15,30 @@ use quad_form::{Flatten, Quad};
 use rosenberg_layer::Rosenberg;
 use std::alloc::Global;
 use term_table::Table;
+
+/// The state that an assignment extends to by a guard, where each term is replaced by itself.
+fn by_monomials<G>(
+    alloc: Global,
+    guard: &G,
+    problem: &Problem,
+    x: &[bool],
+) -> Result<Vec<bool>, NoMemory>
+where
+    G: Guard<Source = Problem, Target = Table>,
+    requires admits { G.admits problem.now }
+    requires total { G.TOTAL_BITS + 26 ≤ 124 }
+    requires size { G.SIZE_BITS + 2 ≤ 32 }
+    requires width { length x.now ≡ problem.now.variables }
+    ensures extension { IfOk result (λ y.
+        y.items ≡ extension (G.image problem.now) (G.extension problem.now x.now)) }
+    ensures first { IfOk result (λ _. (link : G.Link) × G.fits link problem.now) }
+    ensures second { IfOk result (λ _. (link : BitsLink) × Fits link (G.image problem.now)) }
+{
+    let guarded = guard.guard(alloc, problem)?;
+    let y = guard.extend(alloc, problem, &guarded.link, x)?;
+    let link = monomial_link(&guarded.target);
+    FlatMonomials.extend(alloc, &guarded.target, &link, &y)
+}
 
 /// The state that an assignment extends to by a guard and a layer, which neither scales nor moves.
 /// The layer's image is made for its link alone, and let go at once.
@@ -67,11 +94,11 @@ pub fn extended(
     let _variables = problem.variables;
     match choices.normal {
         Normal::Literal => match choices.high {
-            High::Monomial => extended_by(alloc, &Penalty, &FlatMonomials, problem, x),
+            High::Monomial => by_monomials(alloc, &Penalty, problem, x),
             High::Rosenberg => extended_by(alloc, &Penalty, &pairs_replaced(), problem, x),
         },
         Normal::Multilinear => match choices.high {
-            High::Monomial => extended_by(alloc, &MultilinearForm, &FlatMonomials, problem, x),
+            High::Monomial => by_monomials(alloc, &MultilinearForm, problem, x),
             High::Rosenberg => extended_by(alloc, &MultilinearForm, &pairs_replaced(), problem, x),
         },
     }

@@ -6,6 +6,7 @@
 mod extending;
 mod forms;
 mod model;
+mod new_nodes;
 mod on_graph;
 mod spins;
 mod steps;

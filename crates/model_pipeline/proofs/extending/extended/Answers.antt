@@ -5,22 +5,22 @@ use Rattle.problem_form.specs.Limits.{limit_fault}
 use Rattle.model_pipeline.proofs.LeastStates.{if_ok-by_three, least_by_monomials, least_by_pairs}
 use Rattle.model_pipeline.proofs.extending.extended.Goals as goal
 
-pub extended_by-requires-clause-admits : goal.extended_by-requires-clause-admits
+pub by_monomials-requires-clause-admits : goal.by_monomials-requires-clause-admits
+by_monomials-requires-clause-admits c = record {
+  normal = subst IsNormal c.problem.view_is c.problem.invariant.0;
+  within = ap (λ n. limit_fault n c.args.problem.now) (sym c.in-Literal.is) ∙ c.requires.within;
+}
+
+pub extended_by-requires-clause-admits :
+    goal.extended_by-requires-clause-admits
 extended_by-requires-clause-admits c = record {
   normal = subst IsNormal c.problem.view_is c.problem.invariant.0;
   within = ap (λ n. limit_fault n c.args.problem.now) (sym c.in-Literal.is) ∙ c.requires.within;
 }
 
-pub extended_by-requires-in-Rosenberg-clause-admits :
-    goal.extended_by-requires-in-Rosenberg-clause-admits
-extended_by-requires-in-Rosenberg-clause-admits c = record {
-  normal = subst IsNormal c.problem.view_is c.problem.invariant.0;
-  within = ap (λ n. limit_fault n c.args.problem.now) (sym c.in-Literal.is) ∙ c.requires.within;
-}
-
-pub extended_by-requires-in-Monomial-high-clause-admits :
-    goal.extended_by-requires-in-Monomial-high-clause-admits
-extended_by-requires-in-Monomial-high-clause-admits c = record {
+pub by_monomials-requires-in-Monomial-high-clause-admits :
+    goal.by_monomials-requires-in-Monomial-high-clause-admits
+by_monomials-requires-in-Monomial-high-clause-admits c = record {
   normal = subst IsNormal c.problem.view_is c.problem.invariant.0;
   within = ap (λ n. limit_fault n c.args.problem.now) (sym c.in-Multilinear.is) ∙ c.requires.within;
 }
@@ -34,23 +34,23 @@ extended_by-requires-in-Rosenberg-high-clause-admits c = record {
 
 pub returns-in-Monomial-clause-least : goal.returns-in-Monomial-clause-least
 returns-in-Monomial-clause-least c =
-    let made = c.extended_by.ensures in
-    if_ok-by_three c.extended_by.result made.extension made.first made.second
+    let made = c.by_monomials.ensures in
+    if_ok-by_three c.by_monomials.result made.extension made.first made.second
     (λ y same first second. least_by_monomials Literal c.args.choices.now c.args.problem.now c.args.x.now
     y.items c.in-Literal.is c.in-Monomial.is c.requires.width same first second)
 
 pub returns-in-Rosenberg-clause-least : goal.returns-in-Rosenberg-clause-least
 returns-in-Rosenberg-clause-least c =
-    let made = c.extended_by-in-Rosenberg.ensures in
-    if_ok-by_three c.extended_by-in-Rosenberg.result made.extension made.first made.second
+    let made = c.extended_by.ensures in
+    if_ok-by_three c.extended_by.result made.extension made.first made.second
     (λ y same first second. least_by_pairs Literal c.args.choices.now c.args.problem.now c.args.x.now y.items
     c.in-Literal.is c.in-Rosenberg.is c.requires.width same first second.0.first second.0.second
     second.0.middle second.1.0 second.1.1 second.1.2)
 
 pub returns-in-Monomial-high-clause-least : goal.returns-in-Monomial-high-clause-least
 returns-in-Monomial-high-clause-least c =
-    let made = c.extended_by-in-Monomial-high.ensures in
-    if_ok-by_three c.extended_by-in-Monomial-high.result made.extension made.first made.second
+    let made = c.by_monomials-in-Monomial-high.ensures in
+    if_ok-by_three c.by_monomials-in-Monomial-high.result made.extension made.first made.second
     (λ y same first second. least_by_monomials Multilinear c.args.choices.now c.args.problem.now
     c.args.x.now y.items c.in-Multilinear.is c.in-Monomial-high.is c.requires.width same first second)
 

@@ -1,0 +1,32 @@
+use Rattle.std.proofs.Common.{◌≡◌, ◌∙◌, ap, arith, rules}
+use Rattle.std.specs.Int.{w128}
+use Rattle.std.proofs.lemmas.Int.{to_z-of_z}
+use Rattle.std.proofs.lemmas.Map.Iter.{rest_more}
+use Rattle.term_table.specs.Terms.{Term}
+use Rattle.monomial_layer.specs.Monomials.{new_nodes}
+use Rattle.monomial_layer.proofs.Sizes.{size-all_new_terms}
+use Rattle.monomial_layer.proofs.Adding.{nodes_left}
+use Rattle.model_pipeline.proofs.new_nodes.all_new_nodes.Goals as goal
+
+pub overflow_add-nodes : goal.overflow_add-nodes
+overflow_add-nodes c =
+    let t : Term = (c.in-Some.literals.now, c.in-Some.coefficient) in
+    let left = rest_more _ c.loop-literals.literals-iterator c.next.new.self c.next.result (c.in-Some.literals, c.in-Some.coefficient) c.in-Some.is c.next.ensures.steps in
+    let back = to_z-of_z w128 c.in-Some.coefficient (search rules) in
+    let new : c.new_nodes-nodes.result ≡ new_nodes t = c.new_nodes-nodes.ensures ∙ ap (λ z. new_nodes (c.in-Some.literals.now, z)) back in
+    omega (
+      arith,
+      nodes_left c.loop-literals.nodes c.new_nodes-nodes.result _ t _ _ left new c.loop-literals.invariant.whole,
+      size-all_new_terms c.args.table.now.terms 0,
+      c.requires,
+    )
+
+pub loop-literals-preserved : goal.loop-literals-preserved
+loop-literals-preserved c =
+    let t : Term = (c.in-Some.literals.now, c.in-Some.coefficient) in
+    let left = rest_more _ c.loop-literals.literals-iterator c.next.new.self c.next.result (c.in-Some.literals, c.in-Some.coefficient) c.in-Some.is c.next.ensures.steps in
+    let back = to_z-of_z w128 c.in-Some.coefficient (search rules) in
+    let new : c.new_nodes-nodes.result ≡ new_nodes t = c.new_nodes-nodes.ensures ∙ ap (λ z. new_nodes (c.in-Some.literals.now, z)) back in
+    record {
+      whole = nodes_left c.loop-literals.nodes c.new_nodes-nodes.result _ t _ _ left new c.loop-literals.invariant.whole;
+    }
