@@ -107,15 +107,20 @@ least_by_monomials normal choices p x y normal_is high_is width same (a, fits_a)
 pub least_by_pairs : (normal : Normal) (choices : Choices) (p : ProblemContent) (x y : List Bool)
     → choices.normal ≡ normal → choices.high ≡ Rosenberg → length x ≡ p.variables
     → y ≡ extension_by normal Rosenberg p x → (a : BitsLink) × penalty.Fits a p
-    → (b c : BitsLink) (middle : TableContent) → rosenberg.Fits b (terms_of normal p)
-    → middle ≡ rosenberg.image (terms_of normal p) → flat.Fits c middle
+    → (b : BitsLink) × rosenberg.Fits b (terms_of normal p)
+    → (c : BitsLink) × flat.Fits c (rosenberg.image (terms_of normal p))
     → IsLeastExtension choices p x y
-least_by_pairs normal choices p x y normal_is high_is width same (a, fits_a) b c middle fits_b made fits_c =
-    least_by_steps normal Rosenberg p choices a b c x y normal_is high_is fits_a fits_b
-    (subst (flat.Fits c) made fits_c) width same
+least_by_pairs normal choices p x y normal_is high_is width same (a, fits_a) (b, fits_b) (c, fits_c) =
+    least_by_steps normal Rosenberg p choices a b c x y normal_is high_is fits_a fits_b fits_c width same
 
--- what follows of a result from three facts of it
+-- what follows of a result from three facts
 pub if_ok-by_three : {T E : Type 0} (r : Result T E) {P Q R S : T → Type 0} → IfOk r P → IfOk r Q
     → IfOk r R → ((y : T) → P y → Q y → R y → S y) → IfOk r S
 if_ok-by_three (Ok y) p q r f = f y p q r
 if_ok-by_three (Err e) p q r f = tt
+
+-- .. and from four
+pub if_ok-by_four : {T E : Type 0} (r : Result T E) {P Q R S U : T → Type 0} → IfOk r P → IfOk r Q
+    → IfOk r R → IfOk r S → ((y : T) → P y → Q y → R y → S y → U y) → IfOk r U
+if_ok-by_four (Ok y) p q r s f = f y p q r s
+if_ok-by_four (Err e) p q r s f = tt

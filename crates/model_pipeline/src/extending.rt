@@ -1,20 +1,21 @@
 //! The extension of an assignment, by the steps that a command chooses.
-ghost use Rattle.std.specs.Prelude.{◌≡◌, ◌≤◌, ◌+◌, None, IfOk, length};
+ghost use Rattle.std.specs.Prelude.{◌≡◌, ◌<◌, ◌≤◌, ◌+◌, ◌^◌, None, IfOk, length};
 ghost use Rattle.problem_form.specs.Limits.{limit_fault};
 ghost use Rattle.bits_model.specs.declared.layer.BitsLink.{BitsLink};
 ghost use Rattle.direct_quad.specs.FlatMonomials.{extension, Fits};
+ghost use Rattle.rosenberg_layer.specs.Rosenberg as rosenberg;
+ghost use Rattle.quad_form.specs.Flat as flat;
 ghost use Rattle.model_pipeline.specs.Extensions.{extension_of, IsLeastExtension};
 
 use crate::new_nodes::monomial_link;
-use bits_model::{Guard, Layer, NoMemory, Then};
+use bits_model::{BitsLink, Costed, Guard, Layer, NoMemory};
 use direct_quad::FlatMonomials;
 use normal_form::MultilinearForm;
 use penalty_layer::Penalty;
 use problem_form::{Choices, High, Normal, Problem};
-use quad_form::{Flatten, Quad};
 use rosenberg_layer::Rosenberg;
 use std::alloc::Global;
-use term_table::Table;
+use term_table::{LowTable, Table};
 
 /// The state that an assignment extends to by a guard, where each term is replaced by itself.
 fn by_monomials<G>(
@@ -40,40 +41,47 @@ where
     FlatMonomials.extend(alloc, &guarded.target, &link, &y)
 }
 
-/// The state that an assignment extends to by a guard and a layer, which neither scales nor moves.
-/// The layer's image is made for its link alone, and let go at once.
-fn extended_by<G, H>(
+/// The link of a table of low terms and its quadratic form, which is not made.
+fn flat_link(table: &LowTable) -> BitsLink
+    requires { table.now.width < 2 ^ 32 }
+    ensures { flat.Fits result table.now }
+{
+    let _terms = table.terms();
+    let width = table.width();
+    BitsLink {
+        source_width: width,
+        target_width: width,
+    }
+}
+
+/// The state that an assignment extends to by a guard, where pairs are replaced one after another.
+/// The quadratic terms are made for their link alone.
+fn by_pairs<G>(
     alloc: Global,
     guard: &G,
-    layer: &H,
     problem: &Problem,
     x: &[bool],
 ) -> Result<Vec<bool>, NoMemory>
 where
     G: Guard<Source = Problem, Target = Table>,
-    H: Layer<Source = Table, Target = Quad>,
     requires admits { G.admits problem.now }
-    requires total { G.TOTAL_BITS + H.TOTAL_GROWTH ≤ 124 }
-    requires size { G.SIZE_BITS + H.SIZE_GROWTH ≤ 32 }
-    requires still { H.OFFSET_FACTOR ≡ 0 }
+    requires total { G.TOTAL_BITS + 15 ≤ 124 }
+    requires size { G.SIZE_BITS + 2 ≤ 31 }
     requires width { length x.now ≡ problem.now.variables }
     ensures extension { IfOk result (λ y.
-        y.items ≡ H.extension (G.image problem.now) (G.extension problem.now x.now)) }
+        y.items ≡ rosenberg.extension (G.extension problem.now x.now) (G.image problem.now)) }
     ensures first { IfOk result (λ _. (link : G.Link) × G.fits link problem.now) }
-    ensures second { IfOk result (λ _. (link : H.Link) × H.fits link (G.image problem.now)) }
+    ensures second { IfOk result (λ _.
+        (link : BitsLink) × rosenberg.Fits link (G.image problem.now)) }
+    ensures third { IfOk result (λ _.
+        (link : BitsLink) × flat.Fits link (rosenberg.image (G.image problem.now))) }
 {
     let guarded = guard.guard(alloc, problem)?;
     let y = guard.extend(alloc, problem, &guarded.link, x)?;
-    let link = layer.lower(alloc, &guarded.target)?.link;
-    layer.extend(alloc, &guarded.target, &link, &y)
-}
-
-/// Pairs replaced one after another, and all multiplied out.
-fn pairs_replaced() -> Then<Rosenberg, Flatten> {
-    Then {
-        first: Rosenberg,
-        second: Flatten,
-    }
+    let low = Rosenberg.lower(alloc, &guarded.target)?;
+    let _link = flat_link(&low.target);
+    drop(low.target);
+    Rosenberg.extend(alloc, &guarded.target, &low.link, &y)
 }
 
 /// The state of the quadratic form that an assignment of a problem within the limits extends to. No
@@ -95,11 +103,11 @@ pub fn extended(
     match choices.normal {
         Normal::Literal => match choices.high {
             High::Monomial => by_monomials(alloc, &Penalty, problem, x),
-            High::Rosenberg => extended_by(alloc, &Penalty, &pairs_replaced(), problem, x),
+            High::Rosenberg => by_pairs(alloc, &Penalty, problem, x),
         },
         Normal::Multilinear => match choices.high {
             High::Monomial => by_monomials(alloc, &MultilinearForm, problem, x),
-            High::Rosenberg => extended_by(alloc, &MultilinearForm, &pairs_replaced(), problem, x),
+            High::Rosenberg => by_pairs(alloc, &MultilinearForm, problem, x),
         },
     }
 }

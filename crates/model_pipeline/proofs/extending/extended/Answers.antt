@@ -2,7 +2,7 @@ use Rattle.std.proofs.Common.{◌∙◌, ap, sym, subst}
 use Rattle.problem_form.specs.declared.limits.Normal.TheVariants.{Literal, Multilinear}
 use Rattle.problem_form.specs.Problems.{IsNormal}
 use Rattle.problem_form.specs.Limits.{limit_fault}
-use Rattle.model_pipeline.proofs.LeastStates.{if_ok-by_three, least_by_monomials, least_by_pairs}
+use Rattle.model_pipeline.proofs.LeastStates.{if_ok-by_three, if_ok-by_four, least_by_monomials, least_by_pairs}
 use Rattle.model_pipeline.proofs.extending.extended.Goals as goal
 
 pub by_monomials-requires-clause-admits : goal.by_monomials-requires-clause-admits
@@ -11,9 +11,8 @@ by_monomials-requires-clause-admits c = record {
   within = ap (λ n. limit_fault n c.args.problem.now) (sym c.in-Literal.is) ∙ c.requires.within;
 }
 
-pub extended_by-requires-clause-admits :
-    goal.extended_by-requires-clause-admits
-extended_by-requires-clause-admits c = record {
+pub by_pairs-requires-clause-admits : goal.by_pairs-requires-clause-admits
+by_pairs-requires-clause-admits c = record {
   normal = subst IsNormal c.problem.view_is c.problem.invariant.0;
   within = ap (λ n. limit_fault n c.args.problem.now) (sym c.in-Literal.is) ∙ c.requires.within;
 }
@@ -25,9 +24,9 @@ by_monomials-requires-in-Monomial-high-clause-admits c = record {
   within = ap (λ n. limit_fault n c.args.problem.now) (sym c.in-Multilinear.is) ∙ c.requires.within;
 }
 
-pub extended_by-requires-in-Rosenberg-high-clause-admits :
-    goal.extended_by-requires-in-Rosenberg-high-clause-admits
-extended_by-requires-in-Rosenberg-high-clause-admits c = record {
+pub by_pairs-requires-in-Rosenberg-high-clause-admits :
+    goal.by_pairs-requires-in-Rosenberg-high-clause-admits
+by_pairs-requires-in-Rosenberg-high-clause-admits c = record {
   normal = subst IsNormal c.problem.view_is c.problem.invariant.0;
   within = ap (λ n. limit_fault n c.args.problem.now) (sym c.in-Multilinear.is) ∙ c.requires.within;
 }
@@ -41,11 +40,10 @@ returns-in-Monomial-clause-least c =
 
 pub returns-in-Rosenberg-clause-least : goal.returns-in-Rosenberg-clause-least
 returns-in-Rosenberg-clause-least c =
-    let made = c.extended_by.ensures in
-    if_ok-by_three c.extended_by.result made.extension made.first made.second
-    (λ y same first second. least_by_pairs Literal c.args.choices.now c.args.problem.now c.args.x.now y.items
-    c.in-Literal.is c.in-Rosenberg.is c.requires.width same first second.0.first second.0.second
-    second.0.middle second.1.0 second.1.1 second.1.2)
+    let made = c.by_pairs.ensures in
+    if_ok-by_four c.by_pairs.result made.extension made.first made.second made.third
+    (λ y same first second third. least_by_pairs Literal c.args.choices.now c.args.problem.now
+    c.args.x.now y.items c.in-Literal.is c.in-Rosenberg.is c.requires.width same first second third)
 
 pub returns-in-Monomial-high-clause-least : goal.returns-in-Monomial-high-clause-least
 returns-in-Monomial-high-clause-least c =
@@ -56,8 +54,7 @@ returns-in-Monomial-high-clause-least c =
 
 pub returns-in-Rosenberg-high-clause-least : goal.returns-in-Rosenberg-high-clause-least
 returns-in-Rosenberg-high-clause-least c =
-    let made = c.extended_by-in-Rosenberg-high.ensures in
-    if_ok-by_three c.extended_by-in-Rosenberg-high.result made.extension made.first made.second
-    (λ y same first second. least_by_pairs Multilinear c.args.choices.now c.args.problem.now c.args.x.now
-    y.items c.in-Multilinear.is c.in-Rosenberg-high.is c.requires.width same first second.0.first
-    second.0.second second.0.middle second.1.0 second.1.1 second.1.2)
+    let made = c.by_pairs-in-Rosenberg-high.ensures in
+    if_ok-by_four c.by_pairs-in-Rosenberg-high.result made.extension made.first made.second made.third
+    (λ y same first second third. least_by_pairs Multilinear c.args.choices.now c.args.problem.now
+    c.args.x.now y.items c.in-Multilinear.is c.in-Rosenberg-high.is c.requires.width same first second third)
