@@ -162,7 +162,8 @@ impl Lexer {
     }
 
     /// Inside a word of the plain style, takes bytes that go on with it, and answers how many. Most
-    /// words end among the bytes that are taken at once, so no branch depends on where.
+    /// words end among the bytes that are taken at once, so no branch depends on where, but for
+    /// words of one byte, which end here.
     #[inline(always)]
     fn run(&mut self, rest: &[u8], style: Style) -> Result<usize, NoMemory>
         requires own { style ≡ self.old.style }
@@ -171,7 +172,7 @@ impl Lexer {
         ensures within { IfOk result (λ len. len ≤ length rest.now) }
         ensures style { self.new.style ≡ self.old.style }
     {
-        if style == Style::Plain && self.at == At::Inside && rest.len() >= LANES {
+        if style == Style::Plain && self.at == At::Inside && rest.len() >= LANES && rest[0] > b' ' {
             let len = run_len(rest);
             self.append(&rest[..LANES], len)?;
             return Ok(len);

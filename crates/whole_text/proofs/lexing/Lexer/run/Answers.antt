@@ -13,8 +13,8 @@ append-requires-clause-inside c =
     let is : c.self.inside.at ≡ at.Inside = search rules in
     (held, sym (ap (λ (s : LexerState). s.place) c.self.view_is) ∙ ap (λ (a : At). place_at a held) is)
 
-pub returns-then-rest-ge-LANES-clause-fed : goal.returns-then-rest-ge-LANES-clause-fed
-returns-then-rest-ge-LANES-clause-fed c =
+pub returns-then-rest-gt32-clause-fed : goal.returns-then-rest-gt32-clause-fed
+returns-then-rest-gt32-clause-fed c =
     let held = drop c.self.inside.start c.self.inside.bytes.items in
     let now = c.args.self.now in
     let is : c.self.inside.at ≡ at.Inside = search rules in
