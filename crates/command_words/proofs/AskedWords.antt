@@ -1,5 +1,5 @@
 -- Words that ask for a command, by the words at their places.
-use Rattle.std.proofs.Common.{◌≡◌, ℕ, ◌+◌, Bool, true, false, List, [], ◌∷◌, ◌++◌, drop, Option, Some, None, Result, Ok, Err, refl, ap, sym, ◌∙◌}
+use Rattle.std.proofs.Common.{◌≡◌, ℕ, ◌+◌, Bool, true, false, List, [], ◌∷◌, ◌++◌, length, drop, Option, Some, None, Result, Ok, Err, refl, ap, sym, ◌∙◌}
 use Rattle.std.specs.Prelude.{IfOk, IfSome, bytes_eq, codes, slice_get, if◌then◌else◌, ⊤}
 use Rattle.std.specs.Option.{option_map_or, ok_or}
 use Rattle.std.proofs.lemmas.List.{drop_more}
@@ -15,8 +15,15 @@ use Rattle.command_words.specs.declared.commands.Format.{Format}
 use Rattle.command_words.specs.declared.commands.Format.TheVariants as formats
 use Rattle.command_words.specs.declared.commands.Target.{Target}
 use Rattle.command_words.specs.declared.commands.Target.TheVariants as targets
+use Rattle.command_words.specs.declared.commands.NodeModel.{NodeModel}
+use Rattle.command_words.specs.declared.commands.NodeModel.TheVariants.{Qubo, Ising}
+use Rattle.command_words.specs.declared.commands.TargetWord.{TargetWord}
+use Rattle.command_words.specs.declared.commands.TargetWord.TheVariants.{Nodes, Chimera}
+use Rattle.command_words.specs.declared.commands.GraphSize.{GraphSize}
+use Rattle.command_words.specs.declared.commands.Chaining.{Chaining}
+use Rattle.command_words.specs.declared.commands.Chaining.TheVariants.{Clique, Map}
 use Rattle.command_words.specs.declared.commands.WordAt.{WordAt}
-use Rattle.command_words.specs.declared.commands.WordAt.TheVariants.{Whole}
+use Rattle.command_words.specs.declared.commands.WordAt.TheVariants.{Whole, Value}
 use Rattle.command_words.specs.declared.commands.Job.{Job}
 use Rattle.command_words.specs.declared.commands.Sample.{Sample}
 use Rattle.command_words.specs.declared.commands.Command.{Command}
@@ -25,10 +32,11 @@ use Rattle.whole_text.specs.Numbers.{digits_number}
 use Rattle.command_words.specs.declared.keys.Keys.{Keys}
 use Rattle.command_words.specs.declared.words.Verb.{Verb}
 use Rattle.command_words.specs.declared.words.Verb.TheVariants as verbs
-use Rattle.command_words.specs.Asked.{EachJobIsAskedFor, EachSampleIsAskedFor, EachUnitIsAskedFor, EachKeyStands, NoKeyStandsTwice, NoOtherWordsAsk, Say, format_word, high_key, normal_key, fourth_word_job, sample_with, target_word, unit_key, job_words}
-use Rattle.command_words.specs.Commands.{◌>>=◌, after_verb, clauses_of, format_of, job_of, named, sample_of, target_of, valued, verb_of}
-use Rattle.command_words.specs.Keys.{choices_of, chosen_unit, keys_from, no_keys, with_word}
+use Rattle.command_words.specs.Asked.{EachJobIsAskedFor, EachSampleIsAskedFor, EachUnitIsAskedFor, EachGraphIsAskedFor, EachKeyStands, CannotStand, NoKeyStandsTwice, NoGraphKeyElsewhere, NoGraphWithout, NoOtherWordsAsk, Say, format_word, high_key, normal_key, fourth_word_job, sample_with, target_word, word_of, unit_key, rows_key, cols_key, shore_key, map_key, clique_key, job_words, compile_words}
+use Rattle.command_words.specs.Commands.{◌>>=◌, after_verb, chosen_target, clauses_of, command_of, format_of, job_of, named, sample_of, target_of, valued, verb_of}
+use Rattle.command_words.specs.Keys.{choices_of, chosen_unit, given, graph_size, keys_from, no_keys, side_of, size_of, target_by, with_word}
 use Rattle.command_words.specs.Names.{text_at}
+use Rattle.command_words.proofs.CutWords.{cut_rows, cut_cols, cut_shore, cut_map}
 
 -- ---- the words of a job
 
@@ -39,73 +47,211 @@ format_of-format_word formats.Poly = refl
 format_of-format_word formats.Ising = refl
 format_of-format_word formats.Qubo = refl
 
-target_of-target_word : (target : Target) → target_of (target_word target) ≡ Some target
-target_of-target_word targets.Qubo = refl
-target_of-target_word targets.Ising = refl
+target_of-target_word : (word : TargetWord) → target_of (target_word word) ≡ Some word
+target_of-target_word (Nodes Qubo) = refl
+target_of-target_word (Nodes Ising) = refl
+target_of-target_word Chimera = refl
+
+-- what is chosen step by step
+chain : {A B C : Type 0} (r : Result A ℕ) (f : A → Result B ℕ) (g : A → B → C) {D : Type 0} (h : C → D)
+    → ((r >>= λ x. f x >>= λ y. Ok (g x y)) >>= λ z. Ok (h z))
+    ≡ (r >>= λ x. f x >>= λ y. Ok (h (g x y)))
+chain (Err position) f g h = refl
+chain {B = B} (Ok x) f g h = go (f x)
+  where
+    go : (s : Result B ℕ) → ((s >>= λ y. Ok (g x y)) >>= λ z. Ok (h z)) ≡ (s >>= λ y. Ok (h (g x y)))
+    go (Ok y) = refl
+    go (Err position) = refl
 
 pub each_job : EachJobIsAskedFor
-each_job format target file keys =
-    rw (format_of-format_word format, target_of-target_word target)
-    (go (keys_from target no_keys 4 keys))
-  where
-    chosen : Keys → Job
-    chosen given = fourth_word_job format target given
-
-    go : (r : Result Keys ℕ)
-        → ((r >>= λ given. Ok (chosen given)) >>= λ job. Ok (commands.Compile job))
-        ≡ (r >>= λ given. Ok (commands.Compile (chosen given)))
-    go (Ok given) = refl
-    go (Err position) = refl
+each_job format word file keys =
+    rw (format_of-format_word format, target_of-target_word word)
+    (chain (keys_from word no_keys 4 keys)
+    (chosen_target (compile_words format word file keys) word)
+    (λ given target. fourth_word_job format target given) commands.Compile)
 
 pub each_sample : EachSampleIsAskedFor
-each_sample number clauses first second target keys one two =
-    rw (one, two, target_of-target_word target) (go (keys_from target no_keys 4 keys))
-  where
-    chosen : Keys → Sample
-    chosen given = sample_with number clauses target given
-
-    go : (r : Result Keys ℕ)
-        → ((r >>= λ given. Ok (chosen given)) >>= λ sample. Ok (commands.Sample sample))
-        ≡ (r >>= λ given. Ok (commands.Sample (chosen given)))
-    go (Ok given) = refl
-    go (Err position) = refl
+each_sample number clauses first second word keys one two =
+    rw (one, two, target_of-target_word word)
+    (chain (keys_from word no_keys 4 keys)
+    (chosen_target (codes "sample" ∷ first ∷ second ∷ target_word word ∷ keys) word)
+    (λ given target. sample_with number clauses target given) commands.Sample)
 
 -- a key for the unit alone
-unit_alone : (target : Target) (unit : UnitChoice)
-    → keys_from target no_keys 4 (unit_key unit ∷ []) ≡ Ok (record no_keys { unit = Some unit })
-unit_alone target One = refl
-unit_alone target Reduce = refl
+unit_alone : (model : NodeModel) (unit : UnitChoice)
+    → keys_from (Nodes model) no_keys 4 (unit_key unit ∷ [])
+    ≡ Ok (record no_keys { unit = Some unit })
+unit_alone model One = refl
+unit_alone model Reduce = refl
 
 pub each_unit : EachUnitIsAskedFor
-each_unit format target file unit =
-    each_job format target file (unit_key unit ∷ [])
-    ∙ ap (λ (r : Result Keys ℕ).
-    r >>= λ given. Ok (commands.Compile (fourth_word_job format target given)))
-    (unit_alone target unit)
+each_unit format model file unit =
+    each_job format (Nodes model) file (unit_key unit ∷ []) ∙ rw (unit_alone model unit) refl
 
 pub each_key : EachKeyStands
-each_key = record { normal = normal; high = high; unit = unit } where
-  normal : (target : Target) (keys : Keys) (at : ℕ) (value : Normal) → keys.normal ≡ None
+each_key = record {
+  normal = normal;
+  high = high;
+  unit = unit;
+  rows = λ keys at value side free said. rw (cut_rows value, free, said) refl;
+  cols = λ keys at value side free said. rw (cut_cols value, free, said) refl;
+  shore = λ keys at value side free said. rw (cut_shore value, free, said) refl;
+  clique = λ keys at free. rw free refl;
+  map = λ keys at name free. rw (cut_map name, free) refl;
+} where
+  normal : (target : TargetWord) (keys : Keys) (at : ℕ) (value : Normal) → keys.normal ≡ None
       → with_word target keys at (normal_key value) ≡ Some (record keys { normal = Some value })
   normal target keys at Literal free = rw free refl
   normal target keys at Multilinear free = rw free refl
 
-  high : (target : Target) (keys : Keys) (at : ℕ) (value : High) → keys.high ≡ None
+  high : (target : TargetWord) (keys : Keys) (at : ℕ) (value : High) → keys.high ≡ None
       → with_word target keys at (high_key value) ≡ Some (record keys { high = Some value })
   high target keys at Monomial free = rw free refl
   high target keys at Rosenberg free = rw free refl
 
-  unit : (target : Target) (keys : Keys) (at : ℕ) (value : UnitChoice) → keys.unit ≡ None
+  unit : (target : TargetWord) (keys : Keys) (at : ℕ) (value : UnitChoice) → keys.unit ≡ None
       → with_word target keys at (unit_key value) ≡ Some (record keys { unit = Some value })
   unit target keys at One free = rw free refl
   unit target keys at Reduce free = rw free refl
 
+-- the keys of a graph in a row
+graph_keys : (first second third fourth : List ℕ) (rows cols shore : ℕ) (chains : Chaining)
+    → side_of first ≡ Some rows → side_of second ≡ Some cols → side_of third ≡ Some shore
+    → ((keys : Keys) → keys.chains ≡ None
+    → with_word Chimera keys 7 fourth ≡ Some (record keys { chains = Some chains }))
+    → keys_from Chimera no_keys 4
+    (rows_key first ∷ cols_key second ∷ shore_key third ∷ fourth ∷ [])
+    ≡ Ok (record no_keys {
+      rows = Some rows;
+      cols = Some cols;
+      shore = Some shore;
+      chains = Some chains;
+    })
+graph_keys first second third fourth rows cols shore chains r c s last =
+    rw (
+      each_key.rows no_keys 4 first rows refl r,
+      each_key.cols (record no_keys { rows = Some rows }) 5 second cols refl c,
+      each_key.shore (record no_keys { rows = Some rows; cols = Some cols }) 6 third shore refl s,
+      last (record no_keys { rows = Some rows; cols = Some cols; shore = Some shore }) refl,
+    ) refl
+
+pub each_graph : EachGraphIsAskedFor
+each_graph = record { clique = clique; map = map } where
+  clique : (format : Format) (file first second third : List ℕ) (rows cols shore : ℕ)
+      (size : GraphSize) → side_of first ≡ Some rows → side_of second ≡ Some cols
+      → side_of third ≡ Some shore → graph_size rows cols shore ≡ Some size
+      → command_of (compile_words format Chimera file
+      (rows_key first ∷ cols_key second ∷ shore_key third ∷ clique_key ∷ []))
+      ≡ Ok (commands.Compile (fourth_word_job format (targets.Chimera size Clique) no_keys))
+  clique format file first second third rows cols shore size r c s fits =
+      each_job format Chimera file
+      (rows_key first ∷ cols_key second ∷ shore_key third ∷ clique_key ∷ [])
+      ∙ rw (
+        graph_keys first second third clique_key rows cols shore Clique r c s
+            (λ keys free. each_key.clique keys 7 free),
+        fits,
+      ) refl
+
+  map : (format : Format) (file first second third name : List ℕ) (rows cols shore : ℕ)
+      (size : GraphSize) → side_of first ≡ Some rows → side_of second ≡ Some cols
+      → side_of third ≡ Some shore → graph_size rows cols shore ≡ Some size
+      → command_of (compile_words format Chimera file
+      (rows_key first ∷ cols_key second ∷ shore_key third ∷ map_key name ∷ []))
+      ≡ Ok (commands.Compile
+      (fourth_word_job format (targets.Chimera size (Map (Value 7))) no_keys))
+  map format file first second third name rows cols shore size r c s fits =
+      each_job format Chimera file
+      (rows_key first ∷ cols_key second ∷ shore_key third ∷ map_key name ∷ [])
+      ∙ rw (
+        graph_keys first second third (map_key name) rows cols shore (Map (Value 7)) r c s
+            (λ keys free. each_key.map keys 7 name free),
+        fits,
+      ) refl
+
 pub no_key_twice : NoKeyStandsTwice
 no_key_twice = record {
-  normal = λ target keys at first word value given named. rw (named, given) refl;
-  high = λ target keys at first word value given named. rw (named, given) refl;
-  unit = λ target keys at first word value given named. rw (named, given) refl;
+  normal = λ target keys at first given word value named. rw (named, given) refl;
+  high = λ target keys at first given word value named. rw (named, given) refl;
+  unit = λ target keys at first given word value named. rw (named, given) refl;
+  rows = rows;
+  cols = cols;
+  shore = shore;
+  embed = embed;
+  map = map;
+} where
+  rows : (target : TargetWord) (keys : Keys) (at first : ℕ)
+      → keys.rows ≡ Some first → CannotStand target keys at (codes "rows")
+  rows (Nodes model) keys at first given word value named = rw named refl
+  rows Chimera keys at first given word value named = rw (named, given) refl
+
+  cols : (target : TargetWord) (keys : Keys) (at first : ℕ)
+      → keys.cols ≡ Some first → CannotStand target keys at (codes "cols")
+  cols (Nodes model) keys at first given word value named = rw named refl
+  cols Chimera keys at first given word value named = rw (named, given) refl
+
+  shore : (target : TargetWord) (keys : Keys) (at first : ℕ)
+      → keys.shore ≡ Some first → CannotStand target keys at (codes "shore")
+  shore (Nodes model) keys at first given word value named = rw named refl
+  shore Chimera keys at first given word value named = rw (named, given) refl
+
+  embed : (target : TargetWord) (keys : Keys) (at : ℕ) (first : Chaining)
+      → keys.chains ≡ Some first → CannotStand target keys at (codes "embed")
+  embed (Nodes model) keys at first given word value named = rw named refl
+  embed Chimera keys at first given word value named = rw (named, given) refl
+
+  map : (target : TargetWord) (keys : Keys) (at : ℕ) (first : Chaining)
+      → keys.chains ≡ Some first → CannotStand target keys at (codes "map")
+  map (Nodes model) keys at first given word value named = rw named refl
+  map Chimera keys at first given word value named = rw (named, given) refl
+
+pub no_graph_key_elsewhere : NoGraphKeyElsewhere
+no_graph_key_elsewhere = record {
+  rows = λ model keys at word value named. rw named refl;
+  cols = λ model keys at word value named. rw named refl;
+  shore = λ model keys at word value named. rw named refl;
+  embed = λ model keys at word value named. rw named refl;
+  map = λ model keys at word value named. rw named refl;
 }
+
+-- nothing
+abbrev no_size : Option GraphSize
+no_size = None
+
+abbrev no_target : Option Target
+no_target = None
+
+-- nothing is given of a size
+no_target_given : (size : Option GraphSize) → given size (λ _. no_target) ≡ None
+no_target_given None = refl
+no_target_given (Some s) = refl
+
+pub no_graph_without : NoGraphWithout
+no_graph_without =
+    record { rows = no_rows; cols = no_cols; shore = no_shore; chains = no_chains } where
+      no_rows : (keys : Keys) → keys.rows ≡ None → target_by Chimera keys ≡ None
+      no_rows keys none = rw none refl
+
+      no_cols : (keys : Keys) → keys.cols ≡ None → target_by Chimera keys ≡ None
+      no_cols keys none = rw none (go keys.rows)
+        where
+          go : (value : Option ℕ)
+              → given (given value (λ rows. no_size))
+              (λ size. given keys.chains (λ chains. Some (targets.Chimera size chains))) ≡ None
+          go None = refl
+          go (Some rows) = refl
+
+      no_shore : (keys : Keys) → keys.shore ≡ None → target_by Chimera keys ≡ None
+      no_shore keys none = rw none (go keys.rows keys.cols)
+        where
+          go : (first second : Option ℕ)
+              → given (given first (λ rows. given second (λ cols. no_size)))
+              (λ size. given keys.chains (λ chains. Some (targets.Chimera size chains))) ≡ None
+          go None second = refl
+          go (Some rows) None = refl
+          go (Some rows) (Some cols) = refl
+
+      no_chains : (keys : Keys) → keys.chains ≡ None → target_by Chimera keys ≡ None
+      no_chains keys none = rw none (no_target_given (size_of keys))
 
 -- ---- a step, and the next one
 
@@ -139,7 +285,22 @@ format_of-word word =
     (line format_word word formats.Ising _ (line format_word word formats.Qubo None tt))))
 
 target_of-word : (word : List ℕ) → IfSome (target_of word) (λ target. word ≡ target_word target)
-target_of-word word = line target_word word targets.Qubo _ (line target_word word targets.Ising None tt)
+target_of-word word =
+    line target_word word (Nodes Qubo) _
+    (line target_word word (Nodes Ising) _ (line target_word word Chimera None tt))
+
+-- the target that is chosen has the word that was said
+chosen_has_word : (words : List (List ℕ)) (word : TargetWord) (keys : Keys)
+    → IfOk (chosen_target words word keys) (λ target. word_of target ≡ word)
+chosen_has_word words (Nodes model) keys = refl
+chosen_has_word words Chimera keys = go (size_of keys) keys.chains
+  where
+    go : (size : Option GraphSize) (chains : Option Chaining)
+        → IfOk (ok_or (given size (λ s. given chains (λ c. Some (targets.Chimera s c)))) (length words + 1))
+        (λ target. word_of target ≡ Chimera)
+    go None chains = tt
+    go (Some s) None = tt
+    go (Some s) (Some c) = refl
 
 abbrev verb_word : Verb → List ℕ
 verb_word verbs.Compile = codes "compile"
@@ -220,12 +381,12 @@ named-word words i = at (slice_get words i) refl
 -- the second, third and fourth word are those of the job
 abbrev HasJob : List (List ℕ) → Job → Type 0
 HasJob words job =
-    drop 1 words ≡ job_words job.format job.target (text_at words job.file) ++ drop 4 words
+    drop 1 words ≡ job_words job.format (word_of job.target) (text_at words job.file) ++ drop 4 words
 
 module _ (words : List (List ℕ)) (keys_at : ℕ) where
   -- the steps of a job, each with those after it
-  abbrev with_keys : Format → Target → WordAt → Keys → Result Job ℕ
-  with_keys format target file keys =
+  abbrev with_chosen : Format → WordAt → Keys → Target → Result Job ℕ
+  with_chosen format file keys target =
       Ok (record {
         format = format;
         file = file;
@@ -234,12 +395,16 @@ module _ (words : List (List ℕ)) (keys_at : ℕ) where
         unit = chosen_unit keys;
       })
 
-  abbrev with_file : Format → Target → WordAt → Result Job ℕ
-  with_file format target file =
-      keys_from target no_keys keys_at (drop keys_at words) >>= with_keys format target file
+  abbrev with_keys : Format → TargetWord → WordAt → Keys → Result Job ℕ
+  with_keys format word file keys =
+      chosen_target words word keys >>= with_chosen format file keys
 
-  abbrev with_target : Format → Target → Result Job ℕ
-  with_target format target = named words 3 >>= with_file format target
+  abbrev with_file : Format → TargetWord → WordAt → Result Job ℕ
+  with_file format word file =
+      keys_from word no_keys keys_at (drop keys_at words) >>= with_keys format word file
+
+  abbrev with_target : Format → TargetWord → Result Job ℕ
+  with_target format word = named words 3 >>= with_file format word
 
   abbrev with_format : Format → Result Job ℕ
   with_format format = valued target_of words 2 >>= with_target format
@@ -251,30 +416,38 @@ module _ (words : List (List ℕ)) (keys_at : ℕ) where
       (λ format second.
       next (valued target_of words 2) (with_target format) _ _
       (valued-word target_of target_word target_of-word words 2)
-      (λ target third.
-      next (named words 3) (with_file format target) _ _ (named-word words 3)
+      (λ word third.
+      next (named words 3) (with_file format word) _ _ (named-word words 3)
       (λ file fourth.
-      next (keys_from target no_keys keys_at (drop keys_at words)) (with_keys format target file)
+      next (keys_from word no_keys keys_at (drop keys_at words)) (with_keys format word file)
       (λ _. ⊤) _ (nothing _)
       (λ keys _.
+      next (chosen_target words word keys) (with_chosen format file keys) _ _
+      (chosen_has_word words word keys)
+      (λ target same.
       second
       ∙ ap (λ rest. format_word format ∷ rest)
-      (third ∙ ap (λ rest. target_word target ∷ rest) fourth)))))
+      (third ∙ ap (λ rest. target_word word ∷ rest) fourth)
+      ∙ ap (λ w. format_word format ∷ target_word w ∷ text_at words file ∷ drop 4 words) (sym same))))))
 
 -- the words after the first one say this sample
 abbrev HasSample : List (List ℕ) → Sample → Type 0
 HasSample words sample = (first second : List ℕ) × (digits_number first ≡ Some sample.number)
     × (clauses_of second ≡ Some sample.clauses)
-    × (drop 1 words ≡ first ∷ second ∷ target_word sample.target ∷ drop 4 words)
+    × (drop 1 words ≡ first ∷ second ∷ target_word (word_of sample.target) ∷ drop 4 words)
 
 module _ (words : List (List ℕ)) where
   -- the steps of a sample, each with those after it
-  abbrev sample_keys : ℕ → ℕ → Target → Keys → Result Sample ℕ
-  sample_keys number clauses target keys = Ok (sample_with number clauses target keys)
+  abbrev sample_chosen : ℕ → ℕ → Keys → Target → Result Sample ℕ
+  sample_chosen number clauses keys target = Ok (sample_with number clauses target keys)
 
-  abbrev sample_target : ℕ → ℕ → Target → Result Sample ℕ
-  sample_target number clauses target =
-      keys_from target no_keys 4 (drop 4 words) >>= sample_keys number clauses target
+  abbrev sample_keys : ℕ → ℕ → TargetWord → Keys → Result Sample ℕ
+  sample_keys number clauses word keys =
+      chosen_target words word keys >>= sample_chosen number clauses keys
+
+  abbrev sample_target : ℕ → ℕ → TargetWord → Result Sample ℕ
+  sample_target number clauses word =
+      keys_from word no_keys 4 (drop 4 words) >>= sample_keys number clauses word
 
   abbrev sample_clauses : ℕ → ℕ → Result Sample ℕ
   sample_clauses number clauses = valued target_of words 3 >>= sample_target number clauses
@@ -290,17 +463,21 @@ module _ (words : List (List ℕ)) where
       (λ clauses third.
       next (valued target_of words 3) (sample_target number clauses) _ _
       (valued-word target_of target_word target_of-word words 3)
-      (λ target fourth.
-      next (keys_from target no_keys 4 (drop 4 words)) (sample_keys number clauses target)
+      (λ word fourth.
+      next (keys_from word no_keys 4 (drop 4 words)) (sample_keys number clauses word)
       (λ _. ⊤) _ (nothing _)
-      (λ keys _. (
+      (λ keys _.
+      next (chosen_target words word keys) (sample_chosen number clauses keys) _ _
+      (chosen_has_word words word keys)
+      (λ target same. (
         second.word,
         third.word,
         second.valued,
         third.valued,
         second.stands
-            ∙ ap (λ rest. second.word ∷ rest) (third.stands ∙ ap (λ rest. third.word ∷ rest) fourth),
-      )))))
+            ∙ ap (λ rest. second.word ∷ rest) (third.stands ∙ ap (λ rest. third.word ∷ rest) fourth)
+            ∙ ap (λ w. second.word ∷ third.word ∷ target_word w ∷ drop 4 words) (sym same),
+      ))))))
 
 -- the words say a command, and then keys
 abbrev IsAsked : List (List ℕ) → Command → Type 0

@@ -12,13 +12,20 @@ use Rattle.command_words.specs.declared.commands.Format.{Format}
 use Rattle.command_words.specs.declared.commands.Format.TheVariants as formats
 use Rattle.command_words.specs.declared.commands.Target.{Target}
 use Rattle.command_words.specs.declared.commands.Target.TheVariants as targets
-use Rattle.command_words.specs.declared.commands.WordAt.TheVariants.{Whole}
+use Rattle.command_words.specs.declared.commands.NodeModel.{NodeModel}
+use Rattle.command_words.specs.declared.commands.NodeModel.TheVariants.{Qubo, Ising}
+use Rattle.command_words.specs.declared.commands.TargetWord.{TargetWord}
+use Rattle.command_words.specs.declared.commands.TargetWord.TheVariants.{Nodes, Chimera}
+use Rattle.command_words.specs.declared.commands.GraphSize.{GraphSize}
+use Rattle.command_words.specs.declared.commands.Chaining.{Chaining}
+use Rattle.command_words.specs.declared.commands.Chaining.TheVariants.{Clique, Map}
+use Rattle.command_words.specs.declared.commands.WordAt.TheVariants.{Whole, Value}
 use Rattle.command_words.specs.declared.commands.Job.{Job}
 use Rattle.command_words.specs.declared.commands.Sample.{Sample}
 use Rattle.command_words.specs.declared.commands.Command.{Command}
 use Rattle.command_words.specs.declared.commands.Command.TheVariants as commands
-use Rattle.command_words.specs.Commands.{◌>>=◌, clauses_of, command_of}
-use Rattle.command_words.specs.Keys.{choices_of, chosen_unit, cut, keys_from, no_keys, with_word}
+use Rattle.command_words.specs.Commands.{◌>>=◌, chosen_target, clauses_of, command_of}
+use Rattle.command_words.specs.Keys.{choices_of, chosen_unit, cut, graph_size, keys_from, no_keys, side_of, target_by, with_word}
 use Rattle.command_words.specs.Names.{text_at}
 
 -- the word of a format
@@ -30,13 +37,23 @@ format_word formats.Ising = codes "ising"
 format_word formats.Qubo = codes "qubo"
 
 -- the word of a target
-abbrev pub target_word : Target → List ℕ
-target_word targets.Qubo = codes "qubo"
-target_word targets.Ising = codes "ising"
+abbrev pub target_word : TargetWord → List ℕ
+target_word (Nodes Qubo) = codes "qubo"
+target_word (Nodes Ising) = codes "ising"
+target_word Chimera = codes "chimera"
+
+-- what the word of a target says
+abbrev pub word_of : Target → TargetWord
+word_of (targets.Nodes model) = Nodes model
+word_of (targets.Chimera size chains) = Chimera
 
 -- the words of a format, a target and a file
-abbrev pub job_words : Format → Target → List ℕ → List (List ℕ)
+abbrev pub job_words : Format → TargetWord → List ℕ → List (List ℕ)
 job_words format target file = format_word format ∷ target_word target ∷ file ∷ []
+
+-- the words that ask for the model of a file, with keys
+abbrev pub compile_words : Format → TargetWord → List ℕ → List (List ℕ) → List (List ℕ)
+compile_words format target file keys = codes "compile" ∷ job_words format target file ++ keys
 
 -- the job on the file that the fourth word names
 abbrev pub fourth_word_job : Format → Target → Keys → Job
@@ -73,48 +90,131 @@ abbrev pub unit_key : UnitChoice → List ℕ
 unit_key One = codes "unit=one"
 unit_key Reduce = codes "unit=reduce"
 
+-- the key that gives a number of a graph, the map of chains, or the chains of a clique
+abbrev pub rows_key : List ℕ → List ℕ
+rows_key value = codes "rows=" ++ value
+
+abbrev pub cols_key : List ℕ → List ℕ
+cols_key value = codes "cols=" ++ value
+
+abbrev pub shore_key : List ℕ → List ℕ
+shore_key value = codes "shore=" ++ value
+
+abbrev pub map_key : List ℕ → List ℕ
+map_key name = codes "map=" ++ name
+
+abbrev pub clique_key : List ℕ
+clique_key = codes "embed=clique"
+
 -- every format, target and file can be asked for, with what the keys after them choose
 abbrev pub EachJobIsAskedFor : Type 0
-EachJobIsAskedFor = (format : Format) (target : Target) (file : List ℕ) (keys : List (List ℕ))
-    → command_of (codes "compile" ∷ job_words format target file ++ keys)
-    ≡ (keys_from target no_keys 4 keys
-    >>= λ given. Ok (commands.Compile (fourth_word_job format target given)))
+EachJobIsAskedFor = (format : Format) (word : TargetWord) (file : List ℕ) (keys : List (List ℕ))
+    → command_of (compile_words format word file keys)
+    ≡ (keys_from word no_keys 4 keys
+    >>= λ given. chosen_target (compile_words format word file keys) word given
+    >>= λ target. Ok (commands.Compile (fourth_word_job format target given)))
 
 -- every sample can be asked for, with any words for its numbers, and with what the keys after them
 -- choose
 abbrev pub EachSampleIsAskedFor : Type 0
-EachSampleIsAskedFor = (number clauses : ℕ) (first second : List ℕ) (target : Target)
+EachSampleIsAskedFor = (number clauses : ℕ) (first second : List ℕ) (word : TargetWord)
     (keys : List (List ℕ)) → digits_number first ≡ Some number → clauses_of second ≡ Some clauses
-    → command_of (codes "sample" ∷ first ∷ second ∷ target_word target ∷ keys)
-    ≡ (keys_from target no_keys 4 keys
-    >>= λ given. Ok (commands.Sample (sample_with number clauses target given)))
+    → command_of (codes "sample" ∷ first ∷ second ∷ target_word word ∷ keys)
+    ≡ (keys_from word no_keys 4 keys
+    >>= λ given.
+    chosen_target (codes "sample" ∷ first ∷ second ∷ target_word word ∷ keys) word given
+    >>= λ target. Ok (commands.Sample (sample_with number clauses target given)))
 
--- each way to choose the unit can be asked for, with every format, target and file
+-- each way to choose the unit can be asked for, with every format, file and model on nodes
 abbrev pub EachUnitIsAskedFor : Type 0
-EachUnitIsAskedFor = (format : Format) (target : Target) (file : List ℕ) (unit : UnitChoice)
-    → command_of (codes "compile" ∷ job_words format target file ++ unit_key unit ∷ [])
-    ≡ Ok (commands.Compile (fourth_word_job format target (record no_keys { unit = Some unit })))
+EachUnitIsAskedFor = (format : Format) (model : NodeModel) (file : List ℕ) (unit : UnitChoice)
+    → command_of (compile_words format (Nodes model) file (unit_key unit ∷ []))
+    ≡ Ok (commands.Compile
+    (fourth_word_job format (targets.Nodes model) (record no_keys { unit = Some unit })))
+
+-- each graph can be asked for, with every format and file, and with the chains of a clique or a map
+pub record EachGraphIsAskedFor : Type 0 where
+  pub clique : (format : Format) (file first second third : List ℕ) (rows cols shore : ℕ)
+      (size : GraphSize) → side_of first ≡ Some rows → side_of second ≡ Some cols
+      → side_of third ≡ Some shore → graph_size rows cols shore ≡ Some size
+      → command_of (compile_words format Chimera file
+      (rows_key first ∷ cols_key second ∷ shore_key third ∷ clique_key ∷ []))
+      ≡ Ok (commands.Compile (fourth_word_job format (targets.Chimera size Clique) no_keys))
+  pub map : (format : Format) (file first second third name : List ℕ) (rows cols shore : ℕ)
+      (size : GraphSize) → side_of first ≡ Some rows → side_of second ≡ Some cols
+      → side_of third ≡ Some shore → graph_size rows cols shore ≡ Some size
+      → command_of (compile_words format Chimera file
+      (rows_key first ∷ cols_key second ∷ shore_key third ∷ map_key name ∷ []))
+      ≡ Ok (commands.Compile
+      (fourth_word_job format (targets.Chimera size (Map (Value 7))) no_keys))
 
 -- each value of a key can stand where that key is not given yet, whatever others are
 pub record EachKeyStands : Type 0 where
-  pub normal : (target : Target) (keys : Keys) (at : ℕ) (normal : Normal) → keys.normal ≡ None
+  pub normal : (target : TargetWord) (keys : Keys) (at : ℕ) (normal : Normal)
+      → keys.normal ≡ None
       → with_word target keys at (normal_key normal) ≡ Some (record keys { normal = Some normal })
-  pub high : (target : Target) (keys : Keys) (at : ℕ) (high : High) → keys.high ≡ None
+  pub high : (target : TargetWord) (keys : Keys) (at : ℕ) (high : High) → keys.high ≡ None
       → with_word target keys at (high_key high) ≡ Some (record keys { high = Some high })
-  pub unit : (target : Target) (keys : Keys) (at : ℕ) (unit : UnitChoice) → keys.unit ≡ None
+  pub unit : (target : TargetWord) (keys : Keys) (at : ℕ) (unit : UnitChoice) → keys.unit ≡ None
       → with_word target keys at (unit_key unit) ≡ Some (record keys { unit = Some unit })
+  pub rows : (keys : Keys) (at : ℕ) (value : List ℕ) (side : ℕ) → keys.rows ≡ None
+      → side_of value ≡ Some side
+      → with_word Chimera keys at (rows_key value) ≡ Some (record keys { rows = Some side })
+  pub cols : (keys : Keys) (at : ℕ) (value : List ℕ) (side : ℕ) → keys.cols ≡ None
+      → side_of value ≡ Some side
+      → with_word Chimera keys at (cols_key value) ≡ Some (record keys { cols = Some side })
+  pub shore : (keys : Keys) (at : ℕ) (value : List ℕ) (side : ℕ) → keys.shore ≡ None
+      → side_of value ≡ Some side
+      → with_word Chimera keys at (shore_key value) ≡ Some (record keys { shore = Some side })
+  pub clique : (keys : Keys) (at : ℕ) → keys.chains ≡ None
+      → with_word Chimera keys at clique_key ≡ Some (record keys { chains = Some Clique })
+  pub map : (keys : Keys) (at : ℕ) (name : List ℕ) → keys.chains ≡ None
+      → with_word Chimera keys at (map_key name)
+      ≡ Some (record keys { chains = Some (Map (Value at)) })
 
--- no key stands twice: with a value for it, no other word of that name can stand
+-- no word of this name can stand
+abbrev pub CannotStand : TargetWord → Keys → ℕ → List ℕ → Type 0
+CannotStand target keys at name =
+    (word value : List ℕ) → cut word ≡ Some (name, value) → with_word target keys at word ≡ None
+
+-- no key stands twice, and with the chains of a clique no map can stand, nor the other way round
 pub record NoKeyStandsTwice : Type 0 where
-  pub normal : (target : Target) (keys : Keys) (at : ℕ) (first : Normal) (word value : List ℕ)
-      → keys.normal ≡ Some first → cut word ≡ Some (codes "normal", value)
-      → with_word target keys at word ≡ None
-  pub high : (target : Target) (keys : Keys) (at : ℕ) (first : High) (word value : List ℕ)
-      → keys.high ≡ Some first → cut word ≡ Some (codes "high", value)
-      → with_word target keys at word ≡ None
-  pub unit : (target : Target) (keys : Keys) (at : ℕ) (first : UnitChoice) (word value : List ℕ)
-      → keys.unit ≡ Some first → cut word ≡ Some (codes "unit", value)
-      → with_word target keys at word ≡ None
+  pub normal : (target : TargetWord) (keys : Keys) (at : ℕ) (first : Normal)
+      → keys.normal ≡ Some first → CannotStand target keys at (codes "normal")
+  pub high : (target : TargetWord) (keys : Keys) (at : ℕ) (first : High)
+      → keys.high ≡ Some first → CannotStand target keys at (codes "high")
+  pub unit : (target : TargetWord) (keys : Keys) (at : ℕ) (first : UnitChoice)
+      → keys.unit ≡ Some first → CannotStand target keys at (codes "unit")
+  pub rows : (target : TargetWord) (keys : Keys) (at first : ℕ)
+      → keys.rows ≡ Some first → CannotStand target keys at (codes "rows")
+  pub cols : (target : TargetWord) (keys : Keys) (at first : ℕ)
+      → keys.cols ≡ Some first → CannotStand target keys at (codes "cols")
+  pub shore : (target : TargetWord) (keys : Keys) (at first : ℕ)
+      → keys.shore ≡ Some first → CannotStand target keys at (codes "shore")
+  pub embed : (target : TargetWord) (keys : Keys) (at : ℕ) (first : Chaining)
+      → keys.chains ≡ Some first → CannotStand target keys at (codes "embed")
+  pub map : (target : TargetWord) (keys : Keys) (at : ℕ) (first : Chaining)
+      → keys.chains ≡ Some first → CannotStand target keys at (codes "map")
+
+-- no key of a graph stands with a model on nodes
+pub record NoGraphKeyElsewhere : Type 0 where
+  pub rows : (model : NodeModel) (keys : Keys) (at : ℕ)
+      → CannotStand (Nodes model) keys at (codes "rows")
+  pub cols : (model : NodeModel) (keys : Keys) (at : ℕ)
+      → CannotStand (Nodes model) keys at (codes "cols")
+  pub shore : (model : NodeModel) (keys : Keys) (at : ℕ)
+      → CannotStand (Nodes model) keys at (codes "shore")
+  pub embed : (model : NodeModel) (keys : Keys) (at : ℕ)
+      → CannotStand (Nodes model) keys at (codes "embed")
+  pub map : (model : NodeModel) (keys : Keys) (at : ℕ)
+      → CannotStand (Nodes model) keys at (codes "map")
+
+-- a graph is not chosen without each of its keys
+pub record NoGraphWithout : Type 0 where
+  pub rows : (keys : Keys) → keys.rows ≡ None → target_by Chimera keys ≡ None
+  pub cols : (keys : Keys) → keys.cols ≡ None → target_by Chimera keys ≡ None
+  pub shore : (keys : Keys) → keys.shore ≡ None → target_by Chimera keys ≡ None
+  pub chains : (keys : Keys) → keys.chains ≡ None → target_by Chimera keys ≡ None
 
 -- the words say this sample, before keys
 pub record SaySample (words : List (List ℕ)) (sample : Sample) (keys : List (List ℕ)) : Type 0 where
@@ -122,13 +222,12 @@ pub record SaySample (words : List (List ℕ)) (sample : Sample) (keys : List (L
   pub second : List ℕ
   pub number : digits_number first ≡ Some sample.number
   pub clauses : clauses_of second ≡ Some sample.clauses
-  pub all : words ≡ codes "sample" ∷ first ∷ second ∷ target_word sample.target ∷ keys
+  pub all : words ≡ codes "sample" ∷ first ∷ second ∷ target_word (word_of sample.target) ∷ keys
 
 -- the words say this command, before keys
 abbrev pub Say : List (List ℕ) → Command → List (List ℕ) → Type 0
 Say words (commands.Compile job) keys =
-    words
-    ≡ codes "compile" ∷ job_words job.format job.target (text_at words job.file) ++ keys
+    words ≡ compile_words job.format (word_of job.target) (text_at words job.file) keys
 Say words (commands.Sample sample) keys = SaySample words sample keys
 
 -- words that ask for a command say it, and then keys

@@ -1,12 +1,14 @@
 -- What a list of words asks for, or the position of the first word that cannot stand, counted from
 -- 1; where no word is wrong but one is missing, it is the number of words and one.
-use Rattle.std.specs.Prelude.{ℕ, ◌+◌, ◌≤◌, ⊤, List, drop, String, string_bytes, map, bytes_eq, codes, nat_le, if◌then◌else◌, Ok, Err, Some, None, Result, Option, slice_get}
+use Rattle.std.specs.Prelude.{ℕ, ◌+◌, ◌≤◌, ⊤, List, length, drop, String, string_bytes, map, bytes_eq, codes, nat_le, if◌then◌else◌, Ok, Err, Some, None, Result, Option, slice_get}
 use Rattle.std.specs.Option.{option_map_or, ok_or}
 use Rattle.whole_text.specs.Numbers.{digits_number}
 use Rattle.command_words.specs.declared.commands.Format.{Format}
 use Rattle.command_words.specs.declared.commands.Format.TheVariants as formats
 use Rattle.command_words.specs.declared.commands.Target.{Target}
-use Rattle.command_words.specs.declared.commands.Target.TheVariants as targets
+use Rattle.command_words.specs.declared.commands.NodeModel.TheVariants.{Qubo, Ising}
+use Rattle.command_words.specs.declared.commands.TargetWord.{TargetWord}
+use Rattle.command_words.specs.declared.commands.TargetWord.TheVariants.{Nodes, Chimera}
 use Rattle.command_words.specs.declared.commands.WordAt.{WordAt}
 use Rattle.command_words.specs.declared.commands.WordAt.TheVariants.{Whole}
 use Rattle.command_words.specs.declared.commands.Job.{Job}
@@ -15,7 +17,8 @@ use Rattle.command_words.specs.declared.commands.Command.{Command}
 use Rattle.command_words.specs.declared.commands.Command.TheVariants as commands
 use Rattle.command_words.specs.declared.words.Verb.{Verb}
 use Rattle.command_words.specs.declared.words.Verb.TheVariants as verbs
-use Rattle.command_words.specs.Keys.{choices_of, chosen_unit, keys_from, no_keys}
+use Rattle.command_words.specs.declared.keys.Keys.{Keys}
+use Rattle.command_words.specs.Keys.{choices_of, chosen_unit, keys_from, no_keys, target_by}
 
 -- a step on the words, and the next one with its value; a word that cannot stand ends it
 infixl 10 ◌>>=◌
@@ -46,19 +49,26 @@ format_of word =
     else if bytes_eq word (codes "qubo") then Some formats.Qubo else None
 
 -- the words of the targets
-abbrev pub target_of : List ℕ → Option Target
+abbrev pub target_of : List ℕ → Option TargetWord
 target_of word =
     if bytes_eq word (codes "qubo")
-    then Some targets.Qubo
-    else if bytes_eq word (codes "ising") then Some targets.Ising else None
+    then Some (Nodes Qubo)
+    else if bytes_eq word (codes "ising")
+    then Some (Nodes Ising)
+    else if bytes_eq word (codes "chimera") then Some Chimera else None
+
+-- the target that a word and the keys choose, or the position after all words
+abbrev pub chosen_target : List (List ℕ) → TargetWord → Keys → Result Target ℕ
+chosen_target words target keys = ok_or (target_by target keys) (length words + 1)
 
 -- the job of FORMAT TARGET FILE, from the second word on, with the keys from an index on
 abbrev pub job_of : List (List ℕ) → ℕ → Result Job ℕ
 job_of words keys_at = do
   format ← valued format_of words 1
-  target ← valued target_of words 2
+  word ← valued target_of words 2
   file ← named words 3
-  keys ← keys_from target no_keys keys_at (drop keys_at words)
+  keys ← keys_from word no_keys keys_at (drop keys_at words)
+  target ← chosen_target words word keys
   Ok (record {
     format = format;
     file = file;
@@ -78,8 +88,9 @@ abbrev pub sample_of : List (List ℕ) → Result Sample ℕ
 sample_of words = do
   number ← valued digits_number words 1
   clauses ← valued clauses_of words 2
-  target ← valued target_of words 3
-  keys ← keys_from target no_keys 4 (drop 4 words)
+  word ← valued target_of words 3
+  keys ← keys_from word no_keys 4 (drop 4 words)
+  target ← chosen_target words word keys
   Ok (record {
     number = number;
     clauses = clauses;

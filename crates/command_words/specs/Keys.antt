@@ -1,5 +1,5 @@
 -- The keys of a command, in any order, each at most once: words of the form `NAME=VALUE`.
-use Rattle.std.specs.Prelude.{ℕ, ◌+◌, ◌==◌, List, [], ◌∷◌, take, drop, Bool, codes, bytes_eq, if◌then◌else◌, Ok, Err, Some, None, Result, Option}
+use Rattle.std.specs.Prelude.{ℕ, ◌+◌, ◌*◌, ◌^◌, ◌==◌, nat_lt, nat_le, ◌&&◌, List, [], ◌∷◌, take, drop, Bool, codes, bytes_eq, if◌then◌else◌, Ok, Err, Some, None, Result, Option, option_and_then}
 use Rattle.std.specs.List.{position}
 use Rattle.std.specs.Option.{option_map, option_map_or}
 use Rattle.bits_model.specs.declared.output.UnitChoice.{UnitChoice}
@@ -9,12 +9,28 @@ use Rattle.problem_form.specs.declared.limits.Normal.{Normal}
 use Rattle.problem_form.specs.declared.limits.Normal.TheVariants.{Literal, Multilinear}
 use Rattle.problem_form.specs.declared.limits.High.{High}
 use Rattle.problem_form.specs.declared.limits.High.TheVariants.{Monomial, Rosenberg}
+use Rattle.whole_text.specs.Numbers.{digits_number}
+use Rattle.command_words.specs.declared.commands.WordAt.TheVariants.{Value}
+use Rattle.command_words.specs.declared.commands.GraphSize.{GraphSize}
+use Rattle.command_words.specs.declared.commands.Chaining.{Chaining}
+use Rattle.command_words.specs.declared.commands.Chaining.TheVariants.{Clique, Map}
+use Rattle.command_words.specs.declared.commands.TargetWord.{TargetWord}
+use Rattle.command_words.specs.declared.commands.TargetWord.TheVariants.{Nodes, Chimera}
 use Rattle.command_words.specs.declared.commands.Target.{Target}
+use Rattle.command_words.specs.declared.commands.Target.TheVariants as targets
 use Rattle.command_words.specs.declared.keys.Keys.{Keys}
 
 -- no key is given
 abbrev pub no_keys : Keys
-no_keys = record { normal = None; high = None; unit = None }
+no_keys = record {
+  normal = None;
+  high = None;
+  unit = None;
+  rows = None;
+  cols = None;
+  shore = None;
+  chains = None;
+}
 
 -- what keys choose, and the usual choice for each that was not given
 abbrev pub choices_of : Keys → Choices
@@ -26,6 +42,34 @@ choices_of keys = record {
 -- how keys choose the unit, which is usually 1
 abbrev pub chosen_unit : Keys → UnitChoice
 chosen_unit keys = option_map_or (λ value. value) keys.unit One
+
+-- whether a graph may have these numbers: none is 0, and there are at most 2^20 qubits
+abbrev pub fits_graph : ℕ → ℕ → ℕ → Bool
+fits_graph rows cols shore =
+    nat_lt 0 rows && nat_lt 0 cols && nat_lt 0 shore && nat_le (2 * rows * cols * shore) (2 ^ 20)
+
+-- the size of a graph, or none where it cannot have these numbers
+abbrev pub graph_size : ℕ → ℕ → ℕ → Option GraphSize
+graph_size rows cols shore =
+    if fits_graph rows cols shore
+    then Some (record { rows = rows; cols = cols; shore = shore })
+    else None
+
+-- a value that is given, and what it gives
+abbrev pub given : {A B : Type 0} → Option A → (A → Option B) → Option B
+given value next = option_and_then next value
+
+-- the graph that the keys choose, or none where a number is missing or it were too large
+abbrev pub size_of : Keys → Option GraphSize
+size_of keys =
+    given keys.rows (λ rows. given keys.cols (λ cols. given keys.shore (graph_size rows cols)))
+
+-- the target that a word and the keys choose, or none where a key is missing that a graph needs, or it
+-- were too large
+abbrev pub target_by : TargetWord → Keys → Option Target
+target_by (Nodes model) keys = Some (targets.Nodes model)
+target_by Chimera keys =
+    given (size_of keys) (λ size. given keys.chains (λ chains. Some (targets.Chimera size chains)))
 
 -- the byte `=`
 abbrev pub is_equals : ℕ → Bool
@@ -61,9 +105,41 @@ unit_of value =
     then Some One
     else if bytes_eq value (codes "reduce") then Some Reduce else None
 
+-- a number of rows, columns or qubits on a side, in digits: from 1 to 2^20
+abbrev pub side_of : List ℕ → Option ℕ
+side_of value =
+    option_map_or (λ side. if nat_lt 0 side && nat_le side (2 ^ 20) then Some side else None)
+    (digits_number value) None
+
+-- the words of the chains that need no map
+abbrev pub embed_of : List ℕ → Option Chaining
+embed_of value = if bytes_eq value (codes "clique") then Some Clique else None
+
+-- the keys of a graph: the keys with one more, whose word stands at an index, or none where it
+-- cannot stand
+abbrev pub with_graph_pair : Keys → ℕ → List ℕ → List ℕ → Option Keys
+with_graph_pair keys at name value =
+    if bytes_eq name (codes "rows")
+    then option_map (λ rows. record keys { rows = Some rows }) (once keys.rows (side_of value))
+    else if bytes_eq name (codes "cols")
+    then option_map (λ cols. record keys { cols = Some cols }) (once keys.cols (side_of value))
+    else if bytes_eq name (codes "shore")
+    then option_map (λ shore. record keys { shore = Some shore }) (once keys.shore (side_of value))
+    else if bytes_eq name (codes "embed")
+    then option_map (λ chains. record keys { chains = Some chains }) (once keys.chains (embed_of value))
+    else if bytes_eq name (codes "map")
+    then option_map (λ chains. record keys { chains = Some chains })
+    (once keys.chains (Some (Map (Value at))))
+    else None
+
+-- the keys that a target has of its own
+abbrev pub with_own_pair : TargetWord → Keys → ℕ → List ℕ → List ℕ → Option Keys
+with_own_pair (Nodes model) keys at name value = None
+with_own_pair Chimera keys at name value = with_graph_pair keys at name value
+
 -- the table of keys: the keys with one more, whose word stands at an index, or none where it
 -- cannot stand
-abbrev pub with_pair : Target → Keys → ℕ → List ℕ → List ℕ → Option Keys
+abbrev pub with_pair : TargetWord → Keys → ℕ → List ℕ → List ℕ → Option Keys
 with_pair target keys at name value =
     if bytes_eq name (codes "normal")
     then option_map (λ normal. record keys { normal = Some normal }) (once keys.normal (normal_of value))
@@ -71,15 +147,15 @@ with_pair target keys at name value =
     then option_map (λ high. record keys { high = Some high }) (once keys.high (high_of value))
     else if bytes_eq name (codes "unit")
     then option_map (λ unit. record keys { unit = Some unit }) (once keys.unit (unit_of value))
-    else None
+    else with_own_pair target keys at name value
 
 -- the keys with that of one word more, or none where the word cannot stand
-abbrev pub with_word : Target → Keys → ℕ → List ℕ → Option Keys
+abbrev pub with_word : TargetWord → Keys → ℕ → List ℕ → Option Keys
 with_word target keys at word =
     option_map_or (λ parts. with_pair target keys at parts.0 parts.1) (cut word) None
 
 -- the keys of words from an index on, or the position of the first word that cannot stand
-abbrev pub keys_from : Target → Keys → ℕ → List (List ℕ) → Result Keys ℕ
+abbrev pub keys_from : TargetWord → Keys → ℕ → List (List ℕ) → Result Keys ℕ
 keys_from target keys at [] = Ok keys
 keys_from target keys at (word ∷ words) =
     option_map_or (λ more. keys_from target more (at + 1) words) (with_word target keys at word)

@@ -5,6 +5,8 @@ use Rattle.command_words.specs.declared.commands.WordAt.{WordAt}
 use Rattle.command_words.specs.declared.commands.WordAt.TheVariants.{Whole, Value}
 use Rattle.command_words.specs.declared.commands.Target.{Target}
 use Rattle.command_words.specs.declared.commands.Target.TheVariants as targets
+use Rattle.command_words.specs.declared.commands.Chaining.TheVariants.{Clique}
+use Rattle.command_words.specs.declared.commands.Chaining.TheVariants as chainings
 use Rattle.command_words.specs.declared.commands.Command.{Command}
 use Rattle.command_words.specs.declared.commands.Command.TheVariants.{Compile, Sample}
 use Rattle.command_words.specs.declared.names.Which.{Which}
@@ -32,8 +34,9 @@ file_of (Sample sample) = None
 
 -- the place of the name of the map of chains
 abbrev pub map_of : Target → Option WordAt
-map_of targets.Qubo = None
-map_of targets.Ising = None
+map_of (targets.Nodes model) = None
+map_of (targets.Chimera size Clique) = None
+map_of (targets.Chimera size (chainings.Map at)) = Some at
 
 -- the place of the name of a state or an assignment
 abbrev pub state_of : Command → Option WordAt

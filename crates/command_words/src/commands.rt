@@ -12,11 +12,42 @@ pub enum Format {
     Qubo,
 }
 
-/// What kind of model is written.
+/// A model on the nodes of a form.
 #[derive(Clone, Copy, Debug, PartialEq, Eq)]
-pub enum Target {
+pub enum NodeModel {
     Qubo,
     Ising,
+}
+
+/// The numbers of a Chimera graph: its rows and columns of cells, and the qubits on each side of a
+/// cell.
+#[derive(Clone, Copy, Debug, PartialEq, Eq)]
+pub struct GraphSize {
+    pub rows: u32,
+    pub cols: u32,
+    pub shore: u32,
+}
+
+/// How the nodes of a form get chains of qubits: as those of a clique, or by the map in a file of
+/// this name.
+#[derive(Clone, Copy, Debug, PartialEq, Eq)]
+pub enum Chaining {
+    Clique,
+    Map(WordAt),
+}
+
+/// What is written: a model on the nodes of a form, or one on the qubits of a graph.
+#[derive(Clone, Copy, Debug, PartialEq, Eq)]
+pub enum Target {
+    Nodes(NodeModel),
+    Chimera(GraphSize, Chaining),
+}
+
+/// What the word of a target says.
+#[derive(Clone, Copy, Debug, PartialEq, Eq)]
+pub enum TargetWord {
+    Nodes(NodeModel),
+    Chimera,
 }
 
 /// A text in the words: the word at an index, or what stands in it after its first `=`.

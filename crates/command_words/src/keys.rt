@@ -1,10 +1,16 @@
 //! The keys of a command, in any order, each at most once: words of the form `NAME=VALUE`.
-ghost use Rattle.std.specs.Prelude.{◌≡◌, ◌+◌, ◌<◌, ◌^◌, length, map, string_bytes, Some, None, MatchOption};
-ghost use Rattle.command_words.specs.Keys.{chosen_unit, choices_of, cut, high_of, keys_from, no_keys, normal_of, once, unit_of, with_pair, with_word};
+ghost use Rattle.std.specs.Prelude.{◌≡◌, ◌+◌, ◌<◌, ◌^◌, length, map, string_bytes, Some, None, IfSome, MatchOption};
+ghost use Rattle.chimera_graph.specs.Shape.{IsShape};
+ghost use Rattle.command_words.specs.Shapes.{HasShapeIn};
+ghost use Rattle.command_words.specs.Keys.{chosen_unit, choices_of, cut, embed_of, high_of, keys_from, no_keys, normal_of, once, side_of, size_of, target_by, unit_of, with_graph_pair, with_pair, with_word};
 
-use crate::commands::Target;
+use crate::commands::{Chaining, GraphSize, Target, TargetWord, WordAt};
 use bits_model::UnitChoice;
 use problem_form::{Choices, High, Normal};
+use whole_text::digits;
+
+/// The greatest number of qubits of a graph.
+const MOST_QUBITS: u64 = 1 << 20;
 
 /// The keys that were given, each with its value.
 #[derive(Clone, Copy, Debug, PartialEq, Eq)]
@@ -12,6 +18,10 @@ pub struct Keys {
     pub normal: Option<Normal>,
     pub high: Option<High>,
     pub unit: Option<UnitChoice>,
+    pub rows: Option<u32>,
+    pub cols: Option<u32>,
+    pub shore: Option<u32>,
+    pub chains: Option<Chaining>,
 }
 
 /// No key is given.
@@ -22,6 +32,10 @@ pub(crate) fn no_keys() -> Keys
         normal: None,
         high: None,
         unit: None,
+        rows: None,
+        cols: None,
+        shore: None,
+        chains: None,
     }
 }
 
@@ -40,6 +54,38 @@ pub(crate) fn chosen_unit(keys: Keys) -> UnitChoice
     ensures { result ≡ chosen_unit keys }
 {
     keys.unit.unwrap_or(UnitChoice::One)
+}
+
+/// The graph that the keys choose, or none where a number is missing or it were too large.
+fn size_of(keys: Keys) -> Option<GraphSize>
+    ensures size { result ≡ size_of keys }
+    ensures shape { IfSome result (λ size. IsShape size.rows size.cols size.shore) }
+{
+    let rows = keys.rows?;
+    let cols = keys.cols?;
+    let shore = keys.shore?;
+    let qubits = 2 * u128::from(rows) * u128::from(cols) * u128::from(shore);
+    if 0 < rows && 0 < cols && 0 < shore && qubits <= u128::from(MOST_QUBITS) {
+        Some(GraphSize { rows, cols, shore })
+    } else {
+        None
+    }
+}
+
+/// The target that a word and the keys choose, or none where a key is missing that a graph needs, or
+/// it were too large.
+pub(crate) fn target_by(target: TargetWord, keys: Keys) -> Option<Target>
+    ensures target { result ≡ target_by target keys }
+    ensures shape { IfSome result HasShapeIn }
+{
+    match target {
+        TargetWord::Nodes(model) => Some(Target::Nodes(model)),
+        TargetWord::Chimera => {
+            let size = size_of(keys)?;
+            let chains = keys.chains?;
+            Some(Target::Chimera(size, chains))
+        }
+    }
 }
 
 /// What stands before the first `=` of a word and what after it, or none where there is no `=`.
@@ -91,9 +137,60 @@ fn unit_of(value: &str) -> Option<UnitChoice>
     }
 }
 
-/// The table of keys: the keys with one more, whose word stands at the index `at`, or none where
+/// A number of rows, columns or qubits on a side, in digits: from 1 to 2^20.
+fn side_of(value: &str) -> Option<u32>
+    ensures { result ≡ side_of value.now }
+{
+    let side = digits(value.as_bytes())?;
+    if 0 < side && side <= MOST_QUBITS {
+        Some(side as u32)
+    } else {
+        None
+    }
+}
+
+fn embed_of(value: &str) -> Option<Chaining>
+    ensures { result ≡ embed_of value.now }
+{
+    match value {
+        "clique" => Some(Chaining::Clique),
+        _ => None,
+    }
+}
+
+/// The keys of a graph: the keys with one more, whose word stands at the index `at`, or none where
 /// it cannot stand.
-fn with_pair(target: Target, keys: Keys, at: usize, name: &str, value: &str) -> Option<Keys>
+fn with_graph_pair(keys: Keys, at: usize, name: &str, value: &str) -> Option<Keys>
+    ensures { result ≡ with_graph_pair keys at name.now value.now }
+{
+    match name {
+        "rows" => {
+            let rows = Some(once(keys.rows, side_of(value))?);
+            Some(Keys { rows, ..keys })
+        }
+        "cols" => {
+            let cols = Some(once(keys.cols, side_of(value))?);
+            Some(Keys { cols, ..keys })
+        }
+        "shore" => {
+            let shore = Some(once(keys.shore, side_of(value))?);
+            Some(Keys { shore, ..keys })
+        }
+        "embed" => {
+            let chains = Some(once(keys.chains, embed_of(value))?);
+            Some(Keys { chains, ..keys })
+        }
+        "map" => {
+            let chains = Some(once(keys.chains, Some(Chaining::Map(WordAt::Value(at))))?);
+            Some(Keys { chains, ..keys })
+        }
+        _ => None,
+    }
+}
+
+/// The table of keys: the keys with one more, whose word stands at the index `at`, or none where
+/// it cannot stand. A graph has keys of its own.
+fn with_pair(target: TargetWord, keys: Keys, at: usize, name: &str, value: &str) -> Option<Keys>
     ensures { result ≡ with_pair target keys at name.now value.now }
 {
     match name {
@@ -109,12 +206,15 @@ fn with_pair(target: Target, keys: Keys, at: usize, name: &str, value: &str) -> 
             let unit = Some(once(keys.unit, unit_of(value))?);
             Some(Keys { unit, ..keys })
         }
-        _ => None,
+        _ => match target {
+            TargetWord::Nodes(_) => None,
+            TargetWord::Chimera => with_graph_pair(keys, at, name, value),
+        },
     }
 }
 
 /// The keys with that of one word more, or none where the word cannot stand.
-fn with_word(target: Target, keys: Keys, at: usize, word: &str) -> Option<Keys>
+fn with_word(target: TargetWord, keys: Keys, at: usize, word: &str) -> Option<Keys>
     ensures { result ≡ with_word target keys at word.now }
 {
     let (name, value) = cut(word)?;
@@ -123,7 +223,7 @@ fn with_word(target: Target, keys: Keys, at: usize, word: &str) -> Option<Keys>
 
 /// The keys of words of which the first stands at the index `first`, or the position of the first
 /// word that cannot stand, counted from 1.
-pub(crate) fn keys_from(target: Target, first: usize, words: &[String]) -> Result<Keys, usize>
+pub(crate) fn keys_from(target: TargetWord, first: usize, words: &[String]) -> Result<Keys, usize>
     requires { first + length words.now < 2 ^ 64 }
     ensures { result ≡ keys_from target no_keys first (map string_bytes words.now) }
 {

@@ -1,12 +1,15 @@
 //! Laws, as functions without code: each contract is a statement of `specs/`.
-ghost use Rattle.command_words.specs.Asked.{EachJobIsAskedFor, EachSampleIsAskedFor, EachUnitIsAskedFor, EachKeyStands, NoKeyStandsTwice, NoOtherWordsAsk};
+ghost use Rattle.command_words.specs.Asked.{EachJobIsAskedFor, EachSampleIsAskedFor, EachUnitIsAskedFor, EachGraphIsAskedFor, EachKeyStands, NoKeyStandsTwice, NoGraphKeyElsewhere, NoGraphWithout, NoOtherWordsAsk};
 
 /// Which words ask for a command, and which don't.
 pub fn laws_of_words()
     ensures each_job { EachJobIsAskedFor }
     ensures each_sample { EachSampleIsAskedFor }
     ensures each_unit { EachUnitIsAskedFor }
+    ensures each_graph { EachGraphIsAskedFor }
     ensures each_key { EachKeyStands }
     ensures once { NoKeyStandsTwice }
+    ensures elsewhere { NoGraphKeyElsewhere }
+    ensures without { NoGraphWithout }
     ensures no_other { NoOtherWordsAsk }
 {}

@@ -2,7 +2,7 @@
 ghost use Rattle.std.specs.Prelude.{◌≡◌, map, string_bytes};
 ghost use Rattle.command_words.specs.Names.{file_of, map_of, name_of, place_of, state_of, target_in, text_at, value_of};
 
-use crate::commands::{Command, Target, WordAt};
+use crate::commands::{Chaining, Command, Target, WordAt};
 use crate::keys::cut;
 
 /// A file that a command names: the source, the map of chains, or the state or assignment.
@@ -61,7 +61,8 @@ fn map_of(target: Target) -> Option<WordAt>
     ensures { result ≡ map_of target }
 {
     match target {
-        Target::Qubo | Target::Ising => None,
+        Target::Nodes(_) | Target::Chimera(_, Chaining::Clique) => None,
+        Target::Chimera(_, Chaining::Map(at)) => Some(at),
     }
 }
 

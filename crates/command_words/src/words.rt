@@ -1,10 +1,11 @@
 //! The words of a command, one after another. Nothing here takes memory.
-ghost use Rattle.std.specs.Prelude.{◌≡◌, ◌<◌, ◌≤◌, ◌^◌, IfOk, IfSome, map, drop, string_bytes};
+ghost use Rattle.std.specs.Prelude.{◌≡◌, ◌<◌, ◌≤◌, ◌^◌, IfOk, IfSome, length, map, drop, string_bytes};
 ghost use Rattle.whole_text.specs.Numbers.{digits_number};
-ghost use Rattle.command_words.specs.Commands.{HasFewClauses, clauses_of, command_of, format_of, job_of, named, sample_of, target_of, valued, verb_of};
+ghost use Rattle.command_words.specs.Shapes.{HasShape, HasShapeIn};
+ghost use Rattle.command_words.specs.Commands.{HasFewClauses, chosen_target, clauses_of, command_of, format_of, job_of, named, sample_of, target_of, valued, verb_of};
 
-use crate::commands::{Command, Format, Job, Sample, Target, WordAt};
-use crate::keys::{choices_of, chosen_unit, keys_from};
+use crate::commands::{Command, Format, Job, NodeModel, Sample, Target, TargetWord, WordAt};
+use crate::keys::{Keys, choices_of, chosen_unit, keys_from, target_by};
 use whole_text::digits;
 
 /// The greatest number of clauses of a sample.
@@ -40,12 +41,13 @@ fn format_of(word: &str) -> Option<Format>
     }
 }
 
-fn target_of(word: &str) -> Option<Target>
+fn target_of(word: &str) -> Option<TargetWord>
     ensures { result ≡ target_of word.now }
 {
     match word {
-        "qubo" => Some(Target::Qubo),
-        "ising" => Some(Target::Ising),
+        "qubo" => Some(TargetWord::Nodes(NodeModel::Qubo)),
+        "ising" => Some(TargetWord::Nodes(NodeModel::Ising)),
+        "chimera" => Some(TargetWord::Chimera),
         _ => None,
     }
 }
@@ -68,8 +70,8 @@ fn format_word(words: &[String]) -> Result<Format, usize>
     }
 }
 
-/// The target that the word at an index is.
-fn target_word(words: &[String], i: usize) -> Result<Target, usize>
+/// What the word at an index says of the target.
+fn target_word(words: &[String], i: usize) -> Result<TargetWord, usize>
     requires { i < 2 ^ 32 }
     ensures { result ≡ valued target_of (map string_bytes words.now) i }
 {
@@ -133,15 +135,27 @@ fn words_from(words: &[String], i: usize) -> &[String]
     }
 }
 
+/// The target that a word and the keys choose. Where a key is missing that a graph needs, or the
+/// graph were too large, it is the position after all words.
+fn chosen_target(words: &[String], target: TargetWord, keys: Keys) -> Result<Target, usize>
+    requires { length words.now < 2 ^ 60 }
+    ensures target { result ≡ chosen_target (map string_bytes words.now) target keys }
+    ensures shape { IfOk result HasShapeIn }
+{
+    target_by(target, keys).ok_or(words.len() + 1)
+}
+
 /// The job of FORMAT TARGET FILE, from the second word on, with the keys from an index on.
 fn job(words: &[String], keys_at: usize) -> Result<Job, usize>
     requires { keys_at < 2 ^ 32 }
-    ensures { result ≡ job_of (map string_bytes words.now) keys_at }
+    ensures job { result ≡ job_of (map string_bytes words.now) keys_at }
+    ensures shape { IfOk result (λ job. HasShapeIn job.target) }
 {
     let format = format_word(words)?;
-    let target = target_word(words, 2)?;
+    let word = target_word(words, 2)?;
     let file = named(words, 3)?;
-    let keys = keys_from(target, keys_at, words_from(words, keys_at))?;
+    let keys = keys_from(word, keys_at, words_from(words, keys_at))?;
+    let target = chosen_target(words, word, keys)?;
     Ok(Job {
         format,
         file,
@@ -155,11 +169,13 @@ fn job(words: &[String], keys_at: usize) -> Result<Job, usize>
 fn sample(words: &[String]) -> Result<Sample, usize>
     ensures sample { result ≡ sample_of (map string_bytes words.now) }
     ensures few { IfOk result (λ sample. sample.clauses ≤ 100000) }
+    ensures shape { IfOk result (λ sample. HasShapeIn sample.target) }
 {
     let number = number_word(words)?;
     let clauses = clauses_word(words)?;
-    let target = target_word(words, 3)?;
-    let keys = keys_from(target, 4, words_from(words, 4))?;
+    let word = target_word(words, 3)?;
+    let keys = keys_from(word, 4, words_from(words, 4))?;
+    let target = chosen_target(words, word, keys)?;
     Ok(Sample {
         number,
         clauses,
@@ -174,6 +190,7 @@ fn sample(words: &[String]) -> Result<Sample, usize>
 pub fn command(words: &[String]) -> Result<Command, usize>
     ensures asked { result ≡ command_of (map string_bytes words.now) }
     ensures few { IfOk result HasFewClauses }
+    ensures shape { IfOk result HasShape }
 {
     match verb_word(words)? {
         Verb::Compile => Ok(Command::Compile(job(words, 4)?)),

@@ -19,7 +19,7 @@ use Rattle.bits_model.specs.laws.Composed.{reduces_after_relaxes}
 use Rattle.model_text.specs.Rows.{FitsFigures}
 use Rattle.problem_form.specs.Problems.{ProblemContent, form_of}
 use Rattle.problem_form.specs.Limits.{upper}
-use Rattle.command_words.specs.declared.commands.Target.TheVariants.{Qubo, Ising}
+use Rattle.command_words.specs.declared.commands.NodeModel.TheVariants.{Qubo, Ising}
 use Rattle.quad_form.specs.Quads.{QuadContent, IsQuad, node_entries}
 use Rattle.quad_form.specs.Quads as quads
 use Rattle.quad_form.specs.Units.{is_multiple, greatest_within, weights_of, counted_in, quad_unit}

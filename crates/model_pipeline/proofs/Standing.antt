@@ -16,8 +16,8 @@ use Rattle.problem_form.specs.declared.limits.High.{High}
 use Rattle.problem_form.specs.declared.limits.High.TheVariants.{Monomial, Rosenberg}
 use Rattle.problem_form.specs.Problems.{ProblemContent, form_of}
 use Rattle.problem_form.specs.Limits.{upper, limit_fault}
-use Rattle.command_words.specs.declared.commands.Target.{Target}
-use Rattle.command_words.specs.declared.commands.Target.TheVariants.{Qubo, Ising}
+use Rattle.command_words.specs.declared.commands.NodeModel.{NodeModel}
+use Rattle.command_words.specs.declared.commands.NodeModel.TheVariants.{Qubo, Ising}
 use Rattle.penalty_layer.specs.Penalty.{figures, node_count}
 use Rattle.penalty_layer.specs.Penalty as penalty
 use Rattle.penalty_layer.specs.laws.Relaxing.{penalty_relaxes}
@@ -197,7 +197,7 @@ spins_stand p q kept (d, stands) = (
 )
 
 -- the model of a form that stands for a problem, for each target and in each unit
-made_model : (target : Target) (choice : UnitChoice) (p : ProblemContent) (own : ℕ)
+made_model : (target : NodeModel) (choice : UnitChoice) (p : ProblemContent) (own : ℕ)
     (q : QuadContent) → IsQuad q → IsFormed p q (figures p) → own ≤ p.variables
     → IsModelOf p own target choice (form_model target choice q own (figures p))
 made_model Qubo choice p own q kept made few =
@@ -213,7 +213,7 @@ made_model Ising choice p own q kept made few =
     (image_is_ising q kept made.total) few enough figured stands.1
 
 -- the same with figures that are the problem's
-pub formed_model : (target : Target) (choice : UnitChoice) (p : ProblemContent) (own : ℕ)
+pub formed_model : (target : NodeModel) (choice : UnitChoice) (p : ProblemContent) (own : ℕ)
     (q : QuadContent) (n : Figures) → IsQuad q → IsFormed p q n → own ≤ p.variables
     → IsModelOf p own target choice (form_model target choice q own n)
 formed_model target choice p own q n kept made few =

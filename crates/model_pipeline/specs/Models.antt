@@ -17,8 +17,8 @@ use Rattle.problem_form.specs.declared.limits.High.TheVariants.{Monomial, Rosenb
 use Rattle.problem_form.specs.Problems.{ProblemContent}
 use Rattle.problem_form.specs.Problems as problems
 use Rattle.problem_form.specs.Limits.{upper}
-use Rattle.command_words.specs.declared.commands.Target.{Target}
-use Rattle.command_words.specs.declared.commands.Target.TheVariants.{Qubo, Ising}
+use Rattle.command_words.specs.declared.commands.NodeModel.{NodeModel}
+use Rattle.command_words.specs.declared.commands.NodeModel.TheVariants.{Qubo, Ising}
 use Rattle.term_table.specs.Tables.{TableContent}
 use Rattle.penalty_layer.specs.Penalty as penalty
 use Rattle.normal_form.specs.Multilinear as multilinear
@@ -76,20 +76,20 @@ ising_model Reduce f variables figures =
     (figures_moved figures (neg_ℤ f.constant)) (reduction.ising_unit f) kinds.Ising []
 
 -- the model for a target: of the quadratic form itself, or of its Ising form
-abbrev pub form_model : Target → UnitChoice → QuadContent → ℕ → Figures → Written
+abbrev pub form_model : NodeModel → UnitChoice → QuadContent → ℕ → Figures → Written
 form_model Qubo unit q variables figures = qubo_model unit q variables figures
 form_model Ising unit q variables figures =
     ising_model unit (spins.image q) variables (ising_figures figures)
 
 -- the model of a problem, of which so many variables are the source's own
-abbrev pub model : Choices → Target → UnitChoice → ℕ → ProblemContent → Written
+abbrev pub model : Choices → NodeModel → UnitChoice → ℕ → ProblemContent → Written
 model choices target unit variables p =
     form_model target unit (quad_of choices p) variables (penalty.figures p)
 
 -- ---- what it promises of the problem
 
 -- the kind of a target's models
-abbrev pub kind_of : Target → Kind
+abbrev pub kind_of : NodeModel → Kind
 kind_of Qubo = kinds.Qubo
 kind_of Ising = kinds.Ising
 
@@ -103,7 +103,7 @@ decoding_to variables m = record {
 
 -- a well-formed model for this target whose numbers fit their fields, with so many variables, the
 -- stated figures and the unit that was chosen, which relaxes the problem in this unit
-pub record IsModelOf (p : ProblemContent) (own : ℕ) (target : Target) (choice : UnitChoice)
+pub record IsModelOf (p : ProblemContent) (own : ℕ) (target : NodeModel) (choice : UnitChoice)
     (m : Written) : Type 0 where
   pub kind : m.kind ≡ kind_of target
   pub fits : FitsFields m

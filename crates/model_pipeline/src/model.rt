@@ -6,7 +6,7 @@ ghost use Rattle.model_pipeline.specs.Models.{model, IsModelOf};
 use crate::forms::formed;
 use crate::written::form_model;
 use bits_model::{NoMemory, OutputModel, UnitChoice};
-use command_words::Target;
+use command_words::NodeModel;
 use problem_form::{Choices, Problem};
 use std::alloc::Global;
 
@@ -16,7 +16,7 @@ pub fn model_of(
     problem: Problem,
     variables: u64,
     choices: &Choices,
-    target: Target,
+    target: NodeModel,
     unit: UnitChoice,
 ) -> Result<OutputModel, NoMemory>
     requires within { limit_fault choices.now.normal problem ≡ None }

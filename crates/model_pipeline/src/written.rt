@@ -6,7 +6,7 @@ ghost use Rattle.ising_form.specs.Spins.{image};
 ghost use Rattle.model_pipeline.specs.Models.{form_model, ising_figures, ising_model, qubo_model};
 
 use bits_model::{ChainList, Figures, Kind, Layer, NoMemory, OutputModel, UnitChoice};
-use command_words::Target;
+use command_words::NodeModel;
 use ising_form::{Ising, ToSpins};
 use quad_form::Quad;
 use std::alloc::Global;
@@ -97,7 +97,7 @@ pub fn form_model(
     quad: Quad,
     variables: u32,
     figures: Figures,
-    target: Target,
+    target: NodeModel,
     unit: UnitChoice,
 ) -> Result<OutputModel, NoMemory>
     requires enough { variables ≤ length quad.diagonal }
@@ -113,7 +113,7 @@ pub fn form_model(
     ensures kept { IsQuad quad }
 {
     match target {
-        Target::Qubo => qubo_model(alloc, quad, variables, figures, unit),
-        Target::Ising => spins_model(alloc, quad, variables, figures, unit),
+        NodeModel::Qubo => qubo_model(alloc, quad, variables, figures, unit),
+        NodeModel::Ising => spins_model(alloc, quad, variables, figures, unit),
     }
 }

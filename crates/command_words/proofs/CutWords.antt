@@ -1,0 +1,19 @@
+-- Where the word of a key of a graph is cut.
+use Rattle.std.proofs.Common.{◌≡◌, ℕ, suc, List, length, Some, refl, arith}
+use Rattle.std.specs.Prelude.{codes}
+use Rattle.std.proofs.lemmas.Bool.{lt-ltb}
+use Rattle.command_words.specs.Asked.{rows_key, cols_key, shore_key, map_key}
+use Rattle.command_words.specs.Keys.{cut}
+
+pub cut_rows : (value : List ℕ) → cut (rows_key value) ≡ Some (codes "rows", value)
+cut_rows value = rw (lt-ltb 4 (suc (suc (suc (suc (suc (length value)))))) (omega arith)) refl
+
+pub cut_cols : (value : List ℕ) → cut (cols_key value) ≡ Some (codes "cols", value)
+cut_cols value = rw (lt-ltb 4 (suc (suc (suc (suc (suc (length value)))))) (omega arith)) refl
+
+pub cut_shore : (value : List ℕ) → cut (shore_key value) ≡ Some (codes "shore", value)
+cut_shore value =
+    rw (lt-ltb 5 (suc (suc (suc (suc (suc (suc (length value))))))) (omega arith)) refl
+
+pub cut_map : (name : List ℕ) → cut (map_key name) ≡ Some (codes "map", name)
+cut_map name = rw (lt-ltb 3 (suc (suc (suc (suc (length name))))) (omega arith)) refl
