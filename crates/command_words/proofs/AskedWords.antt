@@ -29,14 +29,16 @@ use Rattle.command_words.specs.declared.commands.Sample.{Sample}
 use Rattle.command_words.specs.declared.commands.Command.{Command}
 use Rattle.command_words.specs.declared.commands.Command.TheVariants as commands
 use Rattle.whole_text.specs.Numbers.{digits_number}
+use Rattle.chimera_graph.specs.Shape.{IsShape}
 use Rattle.command_words.specs.declared.keys.Keys.{Keys}
 use Rattle.command_words.specs.declared.words.Verb.{Verb}
 use Rattle.command_words.specs.declared.words.Verb.TheVariants as verbs
-use Rattle.command_words.specs.Asked.{EachJobIsAskedFor, EachSampleIsAskedFor, EachUnitIsAskedFor, EachGraphIsAskedFor, EachKeyStands, CannotStand, NoKeyStandsTwice, NoGraphKeyElsewhere, NoGraphWithout, NoOtherWordsAsk, Say, format_word, high_key, normal_key, fourth_word_job, sample_with, target_word, word_of, unit_key, rows_key, cols_key, shore_key, map_key, clique_key, job_words, compile_words}
+use Rattle.command_words.specs.Asked.{EachJobIsAskedFor, EachSampleIsAskedFor, EachUnitIsAskedFor, EachGraphIsAskedFor, EachKeyStands, CannotStand, NoKeyStandsTwice, NoGraphKeyElsewhere, NoGraphWithout, NoLargerGraph, IsRefusedAfterAll, NoOtherWordsAsk, Say, format_word, high_key, normal_key, fourth_word_job, sample_with, target_word, word_of, unit_key, rows_key, cols_key, shore_key, map_key, clique_key, job_words, compile_words, sample_words, size_with}
 use Rattle.command_words.specs.Commands.{◌>>=◌, after_verb, chosen_target, clauses_of, command_of, format_of, job_of, named, sample_of, target_of, valued, verb_of}
-use Rattle.command_words.specs.Keys.{choices_of, chosen_unit, given, graph_size, keys_from, no_keys, side_of, size_of, target_by, with_word}
+use Rattle.command_words.specs.Keys.{choices_of, chosen_unit, given, keys_from, no_keys, size_of, target_by, with_word}
 use Rattle.command_words.specs.Names.{text_at}
 use Rattle.command_words.proofs.CutWords.{cut_rows, cut_cols, cut_shore, cut_map}
+use Rattle.command_words.proofs.Sides.{few_cols, few_rows, few_shore, graph_size-larger, graph_size-shape, side_of-digits}
 
 -- ---- the words of a job
 
@@ -74,7 +76,7 @@ pub each_sample : EachSampleIsAskedFor
 each_sample number clauses first second word keys one two =
     rw (one, two, target_of-target_word word)
     (chain (keys_from word no_keys 4 keys)
-    (chosen_target (codes "sample" ∷ first ∷ second ∷ target_word word ∷ keys) word)
+    (chosen_target (sample_words first second word keys) word)
     (λ given target. sample_with number clauses target given) commands.Sample)
 
 -- a key for the unit alone
@@ -93,9 +95,12 @@ each_key = record {
   normal = normal;
   high = high;
   unit = unit;
-  rows = λ keys at value side free said. rw (cut_rows value, free, said) refl;
-  cols = λ keys at value side free said. rw (cut_cols value, free, said) refl;
-  shore = λ keys at value side free said. rw (cut_shore value, free, said) refl;
+  rows = λ keys at value side free said some few.
+      rw (cut_rows value, free, side_of-digits value side said some few) refl;
+  cols = λ keys at value side free said some few.
+      rw (cut_cols value, free, side_of-digits value side said some few) refl;
+  shore = λ keys at value side free said some few.
+      rw (cut_shore value, free, side_of-digits value side said some few) refl;
   clique = λ keys at free. rw free refl;
   map = λ keys at name free. rw (cut_map name, free) refl;
 } where
@@ -114,59 +119,61 @@ each_key = record {
   unit target keys at One free = rw free refl
   unit target keys at Reduce free = rw free refl
 
+-- the numbers and the chains of a graph
+abbrev graph_given : ℕ → ℕ → ℕ → Chaining → Keys
+graph_given rows cols shore chains = record no_keys {
+  rows = Some rows;
+  cols = Some cols;
+  shore = Some shore;
+  chains = Some chains;
+}
+
 -- the keys of a graph in a row
 graph_keys : (first second third fourth : List ℕ) (rows cols shore : ℕ) (chains : Chaining)
-    → side_of first ≡ Some rows → side_of second ≡ Some cols → side_of third ≡ Some shore
+    → digits_number first ≡ Some rows → digits_number second ≡ Some cols
+    → digits_number third ≡ Some shore → IsShape rows cols shore
     → ((keys : Keys) → keys.chains ≡ None
     → with_word Chimera keys 7 fourth ≡ Some (record keys { chains = Some chains }))
     → keys_from Chimera no_keys 4
     (rows_key first ∷ cols_key second ∷ shore_key third ∷ fourth ∷ [])
-    ≡ Ok (record no_keys {
-      rows = Some rows;
-      cols = Some cols;
-      shore = Some shore;
-      chains = Some chains;
-    })
-graph_keys first second third fourth rows cols shore chains r c s last =
+    ≡ Ok (graph_given rows cols shore chains)
+graph_keys first second third fourth rows cols shore chains r c s shape last =
     rw (
-      each_key.rows no_keys 4 first rows refl r,
-      each_key.cols (record no_keys { rows = Some rows }) 5 second cols refl c,
-      each_key.shore (record no_keys { rows = Some rows; cols = Some cols }) 6 third shore refl s,
+      each_key.rows no_keys 4 first rows refl r shape.some_rows (few_rows rows cols shore shape),
+      each_key.cols (record no_keys { rows = Some rows }) 5 second cols refl c shape.some_cols
+          (few_cols rows cols shore shape),
+      each_key.shore (record no_keys { rows = Some rows; cols = Some cols }) 6 third shore refl s
+          shape.some_shore (few_shore rows cols shore shape),
       last (record no_keys { rows = Some rows; cols = Some cols; shore = Some shore }) refl,
     ) refl
 
-pub each_graph : EachGraphIsAskedFor
-each_graph = record { clique = clique; map = map } where
-  clique : (format : Format) (file first second third : List ℕ) (rows cols shore : ℕ)
-      (size : GraphSize) → side_of first ≡ Some rows → side_of second ≡ Some cols
-      → side_of third ≡ Some shore → graph_size rows cols shore ≡ Some size
-      → command_of (compile_words format Chimera file
-      (rows_key first ∷ cols_key second ∷ shore_key third ∷ clique_key ∷ []))
-      ≡ Ok (commands.Compile (fourth_word_job format (targets.Chimera size Clique) no_keys))
-  clique format file first second third rows cols shore size r c s fits =
-      each_job format Chimera file
-      (rows_key first ∷ cols_key second ∷ shore_key third ∷ clique_key ∷ [])
-      ∙ rw (
-        graph_keys first second third clique_key rows cols shore Clique r c s
-            (λ keys free. each_key.clique keys 7 free),
-        fits,
-      ) refl
+-- the job of a graph with chains of either kind
+graph_job : (format : Format) (file first second third fourth : List ℕ) (rows cols shore : ℕ)
+    (chains : Chaining) → digits_number first ≡ Some rows → digits_number second ≡ Some cols
+    → digits_number third ≡ Some shore → IsShape rows cols shore
+    → ((keys : Keys) → keys.chains ≡ None
+    → with_word Chimera keys 7 fourth ≡ Some (record keys { chains = Some chains }))
+    → command_of (compile_words format Chimera file
+    (rows_key first ∷ cols_key second ∷ shore_key third ∷ fourth ∷ []))
+    ≡ Ok (commands.Compile
+    (fourth_word_job format (targets.Chimera (size_with rows cols shore) chains) no_keys))
+graph_job format file first second third fourth rows cols shore chains r c s shape last =
+    each_job format Chimera file
+    (rows_key first ∷ cols_key second ∷ shore_key third ∷ fourth ∷ [])
+    ∙ rw (
+      graph_keys first second third fourth rows cols shore chains r c s shape last,
+      graph_size-shape rows cols shore shape,
+    ) refl
 
-  map : (format : Format) (file first second third name : List ℕ) (rows cols shore : ℕ)
-      (size : GraphSize) → side_of first ≡ Some rows → side_of second ≡ Some cols
-      → side_of third ≡ Some shore → graph_size rows cols shore ≡ Some size
-      → command_of (compile_words format Chimera file
-      (rows_key first ∷ cols_key second ∷ shore_key third ∷ map_key name ∷ []))
-      ≡ Ok (commands.Compile
-      (fourth_word_job format (targets.Chimera size (Map (Value 7))) no_keys))
-  map format file first second third name rows cols shore size r c s fits =
-      each_job format Chimera file
-      (rows_key first ∷ cols_key second ∷ shore_key third ∷ map_key name ∷ [])
-      ∙ rw (
-        graph_keys first second third (map_key name) rows cols shore (Map (Value 7)) r c s
-            (λ keys free. each_key.map keys 7 name free),
-        fits,
-      ) refl
+pub each_graph : EachGraphIsAskedFor
+each_graph = record {
+  clique = λ format file first second third rows cols shore r c s shape.
+      graph_job format file first second third clique_key rows cols shore Clique r c s shape
+      (λ keys free. each_key.clique keys 7 free);
+  map = λ format file first second third name rows cols shore r c s shape.
+      graph_job format file first second third (map_key name) rows cols shore (Map (Value 7)) r c s
+      shape (λ keys free. each_key.map keys 7 name free);
+}
 
 pub no_key_twice : NoKeyStandsTwice
 no_key_twice = record {
@@ -225,33 +232,49 @@ no_target_given : (size : Option GraphSize) → given size (λ _. no_target) ≡
 no_target_given None = refl
 no_target_given (Some s) = refl
 
+-- keys that choose no target are refused after all words
+refused : (keys : Keys) → target_by Chimera keys ≡ None → IsRefusedAfterAll keys
+refused keys none = record {
+  job = λ format file words asked. each_job format Chimera file words ∙ rw (asked, none) refl;
+  sample = λ number clauses first second words one two asked.
+      each_sample number clauses first second Chimera words one two ∙ rw (asked, none) refl;
+}
+
 pub no_graph_without : NoGraphWithout
-no_graph_without =
-    record { rows = no_rows; cols = no_cols; shore = no_shore; chains = no_chains } where
-      no_rows : (keys : Keys) → keys.rows ≡ None → target_by Chimera keys ≡ None
-      no_rows keys none = rw none refl
+no_graph_without = record {
+  rows = λ keys none. refused keys (no_rows keys none);
+  cols = λ keys none. refused keys (no_cols keys none);
+  shore = λ keys none. refused keys (no_shore keys none);
+  chains = λ keys none. refused keys (no_chains keys none);
+} where
+  no_rows : (keys : Keys) → keys.rows ≡ None → target_by Chimera keys ≡ None
+  no_rows keys none = rw none refl
 
-      no_cols : (keys : Keys) → keys.cols ≡ None → target_by Chimera keys ≡ None
-      no_cols keys none = rw none (go keys.rows)
-        where
-          go : (value : Option ℕ)
-              → given (given value (λ rows. no_size))
-              (λ size. given keys.chains (λ chains. Some (targets.Chimera size chains))) ≡ None
-          go None = refl
-          go (Some rows) = refl
+  no_cols : (keys : Keys) → keys.cols ≡ None → target_by Chimera keys ≡ None
+  no_cols keys none = rw none (go keys.rows)
+    where
+      go : (value : Option ℕ)
+          → given (given value (λ rows. no_size))
+          (λ size. given keys.chains (λ chains. Some (targets.Chimera size chains))) ≡ None
+      go None = refl
+      go (Some rows) = refl
 
-      no_shore : (keys : Keys) → keys.shore ≡ None → target_by Chimera keys ≡ None
-      no_shore keys none = rw none (go keys.rows keys.cols)
-        where
-          go : (first second : Option ℕ)
-              → given (given first (λ rows. given second (λ cols. no_size)))
-              (λ size. given keys.chains (λ chains. Some (targets.Chimera size chains))) ≡ None
-          go None second = refl
-          go (Some rows) None = refl
-          go (Some rows) (Some cols) = refl
+  no_shore : (keys : Keys) → keys.shore ≡ None → target_by Chimera keys ≡ None
+  no_shore keys none = rw none (go keys.rows keys.cols)
+    where
+      go : (first second : Option ℕ)
+          → given (given first (λ rows. given second (λ cols. no_size)))
+          (λ size. given keys.chains (λ chains. Some (targets.Chimera size chains))) ≡ None
+      go None second = refl
+      go (Some rows) None = refl
+      go (Some rows) (Some cols) = refl
 
-      no_chains : (keys : Keys) → keys.chains ≡ None → target_by Chimera keys ≡ None
-      no_chains keys none = rw none (no_target_given (size_of keys))
+  no_chains : (keys : Keys) → keys.chains ≡ None → target_by Chimera keys ≡ None
+  no_chains keys none = rw none (no_target_given (size_of keys))
+
+pub no_larger_graph : NoLargerGraph
+no_larger_graph keys rows cols shore r c s larger =
+    refused keys (rw (r, c, s, graph_size-larger rows cols shore larger) refl)
 
 -- ---- a step, and the next one
 

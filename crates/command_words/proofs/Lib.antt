@@ -1,3 +1,4 @@
 pub mod Texts
 pub mod CutWords
+pub mod Sides
 pub mod AskedWords

@@ -1,5 +1,5 @@
 -- Which lists of words ask for a command.
-use Rattle.std.specs.Prelude.{◌≡◌, List, [], ◌∷◌, ◌++◌, ℕ, codes, IfOk, Ok, Some, None}
+use Rattle.std.specs.Prelude.{◌≡◌, ◌<◌, ◌≤◌, ◌+◌, ◌*◌, ◌^◌, List, [], ◌∷◌, ◌++◌, ℕ, codes, length, IfOk, Ok, Err, Some, None}
 use Rattle.bits_model.specs.declared.output.UnitChoice.{UnitChoice}
 use Rattle.bits_model.specs.declared.output.UnitChoice.TheVariants.{One, Reduce}
 use Rattle.problem_form.specs.declared.limits.Normal.{Normal}
@@ -7,6 +7,7 @@ use Rattle.problem_form.specs.declared.limits.Normal.TheVariants.{Literal, Multi
 use Rattle.problem_form.specs.declared.limits.High.{High}
 use Rattle.problem_form.specs.declared.limits.High.TheVariants.{Monomial, Rosenberg}
 use Rattle.whole_text.specs.Numbers.{digits_number}
+use Rattle.chimera_graph.specs.Shape.{IsShape}
 use Rattle.command_words.specs.declared.keys.Keys.{Keys}
 use Rattle.command_words.specs.declared.commands.Format.{Format}
 use Rattle.command_words.specs.declared.commands.Format.TheVariants as formats
@@ -25,7 +26,7 @@ use Rattle.command_words.specs.declared.commands.Sample.{Sample}
 use Rattle.command_words.specs.declared.commands.Command.{Command}
 use Rattle.command_words.specs.declared.commands.Command.TheVariants as commands
 use Rattle.command_words.specs.Commands.{◌>>=◌, chosen_target, clauses_of, command_of}
-use Rattle.command_words.specs.Keys.{choices_of, chosen_unit, cut, graph_size, keys_from, no_keys, side_of, target_by, with_word}
+use Rattle.command_words.specs.Keys.{choices_of, chosen_unit, cut, keys_from, no_keys, with_word}
 use Rattle.command_words.specs.Names.{text_at}
 
 -- the word of a format
@@ -54,6 +55,11 @@ job_words format target file = format_word format ∷ target_word target ∷ fil
 -- the words that ask for the model of a file, with keys
 abbrev pub compile_words : Format → TargetWord → List ℕ → List (List ℕ) → List (List ℕ)
 compile_words format target file keys = codes "compile" ∷ job_words format target file ++ keys
+
+-- the words that ask for the model of a sample, with keys
+abbrev pub sample_words : List ℕ → List ℕ → TargetWord → List (List ℕ) → List (List ℕ)
+sample_words number clauses target keys =
+    codes "sample" ∷ number ∷ clauses ∷ target_word target ∷ keys
 
 -- the job on the file that the fourth word names
 abbrev pub fourth_word_job : Format → Target → Keys → Job
@@ -119,10 +125,9 @@ EachJobIsAskedFor = (format : Format) (word : TargetWord) (file : List ℕ) (key
 abbrev pub EachSampleIsAskedFor : Type 0
 EachSampleIsAskedFor = (number clauses : ℕ) (first second : List ℕ) (word : TargetWord)
     (keys : List (List ℕ)) → digits_number first ≡ Some number → clauses_of second ≡ Some clauses
-    → command_of (codes "sample" ∷ first ∷ second ∷ target_word word ∷ keys)
+    → command_of (sample_words first second word keys)
     ≡ (keys_from word no_keys 4 keys
-    >>= λ given.
-    chosen_target (codes "sample" ∷ first ∷ second ∷ target_word word ∷ keys) word given
+    >>= λ given. chosen_target (sample_words first second word keys) word given
     >>= λ target. Ok (commands.Sample (sample_with number clauses target given)))
 
 -- each way to choose the unit can be asked for, with every format, file and model on nodes
@@ -132,21 +137,27 @@ EachUnitIsAskedFor = (format : Format) (model : NodeModel) (file : List ℕ) (un
     ≡ Ok (commands.Compile
     (fourth_word_job format (targets.Nodes model) (record no_keys { unit = Some unit })))
 
--- each graph can be asked for, with every format and file, and with the chains of a clique or a map
+-- a graph of these numbers, its size
+abbrev pub size_with : ℕ → ℕ → ℕ → GraphSize
+size_with rows cols shore = record { rows = rows; cols = cols; shore = shore }
+
+-- each graph can be asked for, with every format and file, any words for its numbers, and the chains
+-- of a clique or of any map
 pub record EachGraphIsAskedFor : Type 0 where
   pub clique : (format : Format) (file first second third : List ℕ) (rows cols shore : ℕ)
-      (size : GraphSize) → side_of first ≡ Some rows → side_of second ≡ Some cols
-      → side_of third ≡ Some shore → graph_size rows cols shore ≡ Some size
+      → digits_number first ≡ Some rows → digits_number second ≡ Some cols
+      → digits_number third ≡ Some shore → IsShape rows cols shore
       → command_of (compile_words format Chimera file
       (rows_key first ∷ cols_key second ∷ shore_key third ∷ clique_key ∷ []))
-      ≡ Ok (commands.Compile (fourth_word_job format (targets.Chimera size Clique) no_keys))
+      ≡ Ok (commands.Compile
+      (fourth_word_job format (targets.Chimera (size_with rows cols shore) Clique) no_keys))
   pub map : (format : Format) (file first second third name : List ℕ) (rows cols shore : ℕ)
-      (size : GraphSize) → side_of first ≡ Some rows → side_of second ≡ Some cols
-      → side_of third ≡ Some shore → graph_size rows cols shore ≡ Some size
+      → digits_number first ≡ Some rows → digits_number second ≡ Some cols
+      → digits_number third ≡ Some shore → IsShape rows cols shore
       → command_of (compile_words format Chimera file
       (rows_key first ∷ cols_key second ∷ shore_key third ∷ map_key name ∷ []))
       ≡ Ok (commands.Compile
-      (fourth_word_job format (targets.Chimera size (Map (Value 7))) no_keys))
+      (fourth_word_job format (targets.Chimera (size_with rows cols shore) (Map (Value 7))) no_keys))
 
 -- each value of a key can stand where that key is not given yet, whatever others are
 pub record EachKeyStands : Type 0 where
@@ -158,13 +169,13 @@ pub record EachKeyStands : Type 0 where
   pub unit : (target : TargetWord) (keys : Keys) (at : ℕ) (unit : UnitChoice) → keys.unit ≡ None
       → with_word target keys at (unit_key unit) ≡ Some (record keys { unit = Some unit })
   pub rows : (keys : Keys) (at : ℕ) (value : List ℕ) (side : ℕ) → keys.rows ≡ None
-      → side_of value ≡ Some side
+      → digits_number value ≡ Some side → 0 < side → side ≤ 2 ^ 20
       → with_word Chimera keys at (rows_key value) ≡ Some (record keys { rows = Some side })
   pub cols : (keys : Keys) (at : ℕ) (value : List ℕ) (side : ℕ) → keys.cols ≡ None
-      → side_of value ≡ Some side
+      → digits_number value ≡ Some side → 0 < side → side ≤ 2 ^ 20
       → with_word Chimera keys at (cols_key value) ≡ Some (record keys { cols = Some side })
   pub shore : (keys : Keys) (at : ℕ) (value : List ℕ) (side : ℕ) → keys.shore ≡ None
-      → side_of value ≡ Some side
+      → digits_number value ≡ Some side → 0 < side → side ≤ 2 ^ 20
       → with_word Chimera keys at (shore_key value) ≡ Some (record keys { shore = Some side })
   pub clique : (keys : Keys) (at : ℕ) → keys.chains ≡ None
       → with_word Chimera keys at clique_key ≡ Some (record keys { chains = Some Clique })
@@ -209,12 +220,30 @@ pub record NoGraphKeyElsewhere : Type 0 where
   pub map : (model : NodeModel) (keys : Keys) (at : ℕ)
       → CannotStand (Nodes model) keys at (codes "map")
 
--- a graph is not chosen without each of its keys
+-- with these keys the words of a graph's model are refused, at the number of words and one
+pub record IsRefusedAfterAll (given : Keys) : Type 0 where
+  pub job : (format : Format) (file : List ℕ) (keys : List (List ℕ))
+      → keys_from Chimera no_keys 4 keys ≡ Ok given
+      → command_of (compile_words format Chimera file keys)
+      ≡ Err (length (compile_words format Chimera file keys) + 1)
+  pub sample : (number clauses : ℕ) (first second : List ℕ) (keys : List (List ℕ))
+      → digits_number first ≡ Some number → clauses_of second ≡ Some clauses
+      → keys_from Chimera no_keys 4 keys ≡ Ok given
+      → command_of (sample_words first second Chimera keys)
+      ≡ Err (length (sample_words first second Chimera keys) + 1)
+
+-- no graph stands without one of its keys
 pub record NoGraphWithout : Type 0 where
-  pub rows : (keys : Keys) → keys.rows ≡ None → target_by Chimera keys ≡ None
-  pub cols : (keys : Keys) → keys.cols ≡ None → target_by Chimera keys ≡ None
-  pub shore : (keys : Keys) → keys.shore ≡ None → target_by Chimera keys ≡ None
-  pub chains : (keys : Keys) → keys.chains ≡ None → target_by Chimera keys ≡ None
+  pub rows : (keys : Keys) → keys.rows ≡ None → IsRefusedAfterAll keys
+  pub cols : (keys : Keys) → keys.cols ≡ None → IsRefusedAfterAll keys
+  pub shore : (keys : Keys) → keys.shore ≡ None → IsRefusedAfterAll keys
+  pub chains : (keys : Keys) → keys.chains ≡ None → IsRefusedAfterAll keys
+
+-- no graph has more than 2^20 qubits
+abbrev pub NoLargerGraph : Type 0
+NoLargerGraph = (keys : Keys) (rows cols shore : ℕ) → keys.rows ≡ Some rows
+    → keys.cols ≡ Some cols → keys.shore ≡ Some shore → 2 ^ 20 < 2 * rows * cols * shore
+    → IsRefusedAfterAll keys
 
 -- the words say this sample, before keys
 pub record SaySample (words : List (List ℕ)) (sample : Sample) (keys : List (List ℕ)) : Type 0 where
@@ -222,7 +251,7 @@ pub record SaySample (words : List (List ℕ)) (sample : Sample) (keys : List (L
   pub second : List ℕ
   pub number : digits_number first ≡ Some sample.number
   pub clauses : clauses_of second ≡ Some sample.clauses
-  pub all : words ≡ codes "sample" ∷ first ∷ second ∷ target_word (word_of sample.target) ∷ keys
+  pub all : words ≡ sample_words first second (word_of sample.target) keys
 
 -- the words say this command, before keys
 abbrev pub Say : List (List ℕ) → Command → List (List ℕ) → Type 0

@@ -1,5 +1,6 @@
 -- What a list of words asks for, or the position of the first word that cannot stand, counted from
--- 1; where no word is wrong but one is missing, it is the number of words and one.
+-- 1; where no word is wrong but one is missing, or the graph were too large, it is the number of
+-- words and one.
 use Rattle.std.specs.Prelude.{ℕ, ◌+◌, ◌≤◌, ⊤, List, length, drop, String, string_bytes, map, bytes_eq, codes, nat_le, if◌then◌else◌, Ok, Err, Some, None, Result, Option, slice_get}
 use Rattle.std.specs.Option.{option_map_or, ok_or}
 use Rattle.whole_text.specs.Numbers.{digits_number}

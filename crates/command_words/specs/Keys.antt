@@ -64,8 +64,8 @@ abbrev pub size_of : Keys → Option GraphSize
 size_of keys =
     given keys.rows (λ rows. given keys.cols (λ cols. given keys.shore (graph_size rows cols)))
 
--- the target that a word and the keys choose, or none where a key is missing that a graph needs, or it
--- were too large
+-- the target that a word and the keys choose, or none where a key is missing that a graph needs,
+-- or it were too large
 abbrev pub target_by : TargetWord → Keys → Option Target
 target_by (Nodes model) keys = Some (targets.Nodes model)
 target_by Chimera keys =

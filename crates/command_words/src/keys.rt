@@ -72,8 +72,8 @@ fn size_of(keys: Keys) -> Option<GraphSize>
     }
 }
 
-/// The target that a word and the keys choose, or none where a key is missing that a graph needs, or
-/// it were too large.
+/// The target that a word and the keys choose, or none where a key is missing that a graph needs,
+/// or it were too large.
 pub(crate) fn target_by(target: TargetWord, keys: Keys) -> Option<Target>
     ensures target { result ≡ target_by target keys }
     ensures shape { IfSome result HasShapeIn }

@@ -1,5 +1,5 @@
 //! Laws, as functions without code: each contract is a statement of `specs/`.
-ghost use Rattle.command_words.specs.Asked.{EachJobIsAskedFor, EachSampleIsAskedFor, EachUnitIsAskedFor, EachGraphIsAskedFor, EachKeyStands, NoKeyStandsTwice, NoGraphKeyElsewhere, NoGraphWithout, NoOtherWordsAsk};
+ghost use Rattle.command_words.specs.Asked.{EachJobIsAskedFor, EachSampleIsAskedFor, EachUnitIsAskedFor, EachGraphIsAskedFor, EachKeyStands, NoKeyStandsTwice, NoGraphKeyElsewhere, NoGraphWithout, NoLargerGraph, NoOtherWordsAsk};
 
 /// Which words ask for a command, and which don't.
 pub fn laws_of_words()
@@ -11,5 +11,6 @@ pub fn laws_of_words()
     ensures once { NoKeyStandsTwice }
     ensures elsewhere { NoGraphKeyElsewhere }
     ensures without { NoGraphWithout }
+    ensures larger { NoLargerGraph }
     ensures no_other { NoOtherWordsAsk }
 {}

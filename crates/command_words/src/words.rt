@@ -186,7 +186,8 @@ fn sample(words: &[String]) -> Result<Sample, usize>
 }
 
 /// What the words ask for, or the position of the first word that cannot stand, counted from 1;
-/// where no word is wrong but one is missing, it is the number of words and one.
+/// where no word is wrong but one is missing, or the graph were too large, it is the number of
+/// words and one.
 pub fn command(words: &[String]) -> Result<Command, usize>
     ensures asked { result ≡ command_of (map string_bytes words.now) }
     ensures few { IfOk result HasFewClauses }

@@ -1,4 +1,4 @@
-use Rattle.command_words.proofs.AskedWords.{each_job, each_unit, each_graph, each_key, no_key_twice, no_graph_key_elsewhere, no_graph_without, no_others}
+use Rattle.command_words.proofs.AskedWords.{each_job, each_unit, each_graph, each_key, no_key_twice, no_graph_key_elsewhere, no_graph_without, no_larger_graph, no_others}
 use Rattle.command_words.proofs.laws.laws_of_words.Goals as goal
 
 pub returns-clause-each_job : goal.returns-clause-each_job
@@ -21,6 +21,9 @@ returns-clause-elsewhere c = no_graph_key_elsewhere
 
 pub returns-clause-without : goal.returns-clause-without
 returns-clause-without c = no_graph_without
+
+pub returns-clause-larger : goal.returns-clause-larger
+returns-clause-larger c = no_larger_graph
 
 pub returns-clause-no_other : goal.returns-clause-no_other
 returns-clause-no_other c = no_others
