@@ -8,16 +8,13 @@ use Rattle.term_table.specs.Tables.{TableContent, IsTable, table_size, with_appe
 use Rattle.term_table.proofs.Additions.{terms_size-cons, terms_size-with_additions}
 use Rattle.penalty_layer.specs.Gathered.{squares}
 use Rattle.penalty_layer.proofs.Gathering.{Rest, first_fits, gathers_one, next_few, rest_all, rest_more, rest_none}
-use Rattle.monomial_layer.specs.Monomials as monomials
 use Rattle.monomial_layer.proofs.Sizes.{all_nodes-le}
 use Rattle.quad_form.specs.Quads.{QuadContent, IsQuad}
-use Rattle.quad_form.specs.Flat as flat
 use Rattle.direct_quad.specs.Parts.{table_of}
 use Rattle.direct_quad.specs.Gathered.{IsSumOf}
 use Rattle.direct_quad.specs.Held.{HeldContent, AreHeld}
-use Rattle.direct_quad.specs.FlatMonomials.{image}
 use Rattle.direct_quad.specs.Stated.{IsWithin}
-use Rattle.direct_quad.specs.laws.FlatKept.{AreAdditions-table, table_of-table}
+use Rattle.direct_quad.specs.laws.FlatKept.{AreAdditions-table}
 use Rattle.direct_quad.proofs.Split.{nodes-table}
 use Rattle.direct_quad.proofs.AtOnce.{image-quad}
 use Rattle.direct_quad.proofs.AllParts.{sum_is_image}
@@ -79,7 +76,7 @@ square-le : (ls : List Literal) → length ls ^ 2 ≤ set_size ls
 square-le [] = omega arith
 square-le (l ∷ ls) = omega arith
 
-squares-le : (ts : List Term) → squares ts ≤ terms_size ts
+pub squares-le : (ts : List Term) → squares ts ≤ terms_size ts
 squares-le [] = omega arith
 squares-le (t ∷ ts) =
     omega (
@@ -118,11 +115,6 @@ IsWithin-table t table total size = record {
   total = omega (arith, total);
 }
 
--- what has the sums is the image
-pub sums-table : (t : TableContent) (q : QuadContent) → IsTable t → IsWithin t → IsSumOf t q → q ≡ image t
-sums-table t q table within sums =
-    sum_is_image t q within sums ∙ ap (λ u. flat.image (monomials.image u)) (table_of-table t table)
-
--- and a quadratic form
+-- what has the sums is a quadratic form
 pub sums-quad : (t : TableContent) (q : QuadContent) → IsWithin t → IsSumOf t q → IsQuad q
 sums-quad t q within sums = subst IsQuad (sym (sum_is_image t q within sums)) (image-quad t within)

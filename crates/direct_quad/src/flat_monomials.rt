@@ -5,10 +5,10 @@ ghost use Rattle.term_table.specs.Tables.{IsTable, TableContent, table_size, wit
 ghost use Rattle.direct_quad.specs.Held.{AreHeld};
 ghost use Rattle.direct_quad.specs.FlatMonomials.{image};
 
-use crate::gathered::{DirectTerms, Sums};
+use crate::gathered::DirectTerms;
 use bits_model::{BitsLink, Costed, Layer, Lowered, NoMemory};
 use monomial_layer::Monomials;
-use quad_form::{NumberList, Quad};
+use quad_form::Quad;
 use std::alloc::Global;
 use term_table::Table;
 
@@ -45,17 +45,7 @@ fn quad_of(alloc: Global, table: &Table) -> Result<Quad, NoMemory>
 {
     let mut terms = DirectTerms::new(alloc, table.width())?;
     add_terms(&mut terms, table)?;
-    let Sums {
-        constant,
-        weights,
-        couplers,
-    } = terms.into_sums(alloc)?;
-    let quad = Quad {
-        constant,
-        diagonal: NumberList::new(weights),
-        couplers,
-    };
-    Ok(quad)
+    terms.into_quad(alloc)
 }
 
 impl Layer for FlatMonomials {

@@ -2,10 +2,11 @@
 ghost use Rattle.std.specs.Prelude.{◌≡◌, ◌+◌, ◌*◌, ◌≤◌, ◌<◌, ◌^◌, [], IfOk, OnOk, OnErr, length, unsigned_abs};
 ghost use Rattle.term_table.specs.Terms.{IsTermSet};
 ghost use Rattle.term_table.specs.Tables.{TableContent, AreAdditions, with_appended};
-ghost use Rattle.direct_quad.specs.Parts.{table_of};
+ghost use Rattle.direct_quad.specs.Parts.{image, table_of};
 ghost use Rattle.direct_quad.specs.Long.{terms_of, node_count};
 ghost use Rattle.direct_quad.specs.Held.{AreHeld};
 ghost use Rattle.direct_quad.specs.Gathered.{IsSumOf};
+ghost use Rattle.direct_quad.specs.Stated.{IsWithin};
 
 use crate::gathered_pairs::GatheredPairs;
 use crate::long_table::LongTable;
@@ -15,6 +16,7 @@ use crate::short::{add_short_shares, constant_of, push_short};
 use bits_model::{CouplerList, NoMemory};
 use penalty_layer::Gather;
 use problem_form::{Literal, ProductList};
+use quad_form::{NumberList, Quad};
 use std::alloc::Global;
 use std::marker::Model;
 
@@ -29,7 +31,7 @@ pub(crate) struct Sums {
 /// Sets with coefficients, of which a quadratic form is to be made. Those of at most two literals
 /// go at once to the constant, the weights of nodes and the pairs, and longer ones are kept.
 #[derive(Drop)]
-pub(crate) struct DirectTerms {
+pub struct DirectTerms {
     total: u128,
     constant: i128,
     weights: Vec<i128>,
@@ -61,7 +63,7 @@ impl Model for DirectTerms {
 
 impl DirectTerms {
     /// No additions yet.
-    pub(crate) fn new(alloc: Global, width: usize) -> Result<DirectTerms, NoMemory>
+    pub fn new(alloc: Global, width: usize) -> Result<DirectTerms, NoMemory>
         requires narrow { width < 2 ^ 32 }
         ensures empty { IfOk result (AreHeld (record { width = width; terms = [] })) }
         ensures width { IfOk result (λ terms. length terms.weights ≡ width) }
@@ -116,7 +118,7 @@ impl DirectTerms {
     }
 
     /// Adds to the coefficient of a set.
-    pub(crate) fn add(&mut self, literals: &[Literal], coefficient: i128) -> Result<(), NoMemory>
+    pub fn add(&mut self, literals: &[Literal], coefficient: i128) -> Result<(), NoMemory>
         requires set { IsTermSet (length self.old.weights) literals.now }
         requires small { self.old.total + unsigned_abs coefficient ≤ 2 ^ 97 }
         requires few { length self.old.pairs + 1 < 2 ^ 32 }
@@ -160,6 +162,25 @@ impl DirectTerms {
         Ok(Sums {
             constant: constant + more,
             weights,
+            couplers,
+        })
+    }
+
+    /// The quadratic form of all additions: each set summed, longer ones replaced, and all
+    /// multiplied out.
+    pub fn into_quad(self, alloc: Global) -> Result<Quad, NoMemory>
+        requires held { (t : TableContent) × IsWithin t × AreHeld t self }
+        ensures { (t : TableContent) → IsWithin t → AreHeld t self
+            → IfOk result (λ quad. quad ≡ image t) }
+    {
+        let Sums {
+            constant,
+            weights,
+            couplers,
+        } = self.into_sums(alloc)?;
+        Ok(Quad {
+            constant,
+            diagonal: NumberList::new(weights),
             couplers,
         })
     }

@@ -20,6 +20,7 @@ mod weights;
 
 pub use direct::DirectQuad;
 pub use flat_monomials::FlatMonomials;
+pub use gathered::DirectTerms;
 pub use gathered_pairs::GatheredPairs;
 pub use laws::{laws_of_long_terms, laws_of_rows, laws_of_sums};
 pub use long_table::{LongTable, LongTerm};

@@ -3,16 +3,18 @@ use Rattle.std.proofs.Common.{◌≡◌, ℕ, zero, suc, ◌+◌, ◌-◌, ◌�
 use Rattle.std.specs.List.{filter}
 use Rattle.std.specs.List.Sorted.{IsPermutation}
 use Rattle.std.proofs.Math.Nat.{mul-le-mul_left}
-use Rattle.std.proofs.lemmas.List.{append_assoc, append-nil, length-append}
-use Rattle.std.proofs.lemmas.List.Sorted.{IsPermutation-append_left, IsPermutation-append_right, IsPermutation-append_comm}
+use Rattle.std.proofs.lemmas.List.{append_assoc, append-nil, length-append, length-map}
+use Rattle.std.proofs.lemmas.List.Filters.{length-filter_both}
+use Rattle.std.proofs.lemmas.List.Sorted.{IsPermutation-append_left, IsPermutation-append_right, IsPermutation-append_comm, length_permutation}
 use Rattle.std.proofs.lemmas.List.Sums.{sum_by-cons}
 use Rattle.problem_form.specs.declared.literal.Literal.{Literal}
 use Rattle.term_table.specs.Terms.{Term, set_size, terms_size}
 use Rattle.term_table.specs.Tables.{TableContent}
 use Rattle.term_table.proofs.Additions.{terms_size-cons}
-use Rattle.rosenberg_layer.specs.Rosenberg.{node, Pair, next_pair, tie_terms, with_pair, with_next, substituted, run, excess, next_before, pairs_of}
+use Rattle.rosenberg_layer.specs.Rosenberg.{node, Pair, next_pair, tie_terms, with_pair, with_next, is_long, substituted, run, excess, next_before, pairs_of}
 use Rattle.rosenberg_layer.specs.laws.Kept.{width-run-le}
 use Rattle.rosenberg_layer.specs.Steps.{front_term, is_short, IsStep}
+use Rattle.rosenberg_layer.specs.Groups.{grouped, Group}
 use Rattle.rosenberg_layer.specs.Parts.{ties_of, AllLong, IsTurn}
 use Rattle.rosenberg_layer.proofs.Growth.{square_is}
 use Rattle.rosenberg_layer.proofs.Bags.{held-step, none-next, AreHeld}
@@ -215,6 +217,48 @@ turn-run t k start n base low low' long long' pairs pairs' ms ms' bound (Some pa
             length-append ms (m ∷ []),
           );
     }
+
+-- ---- what is moved down
+
+-- a step moves terms, and adds none to them
+step-few : (pair : Pair) (w : Literal) (long low long' low' : List Term) (m : ℕ)
+    → IsStep pair w long low long' low' m → length low' + length long' ≤ length low + length long
+step-few pair w long low long' low' m step =
+    let moved = map (front_term w) step.touched in
+    let taken = step.taken.whole in
+    omega (
+      arith,
+      ap length step.put_down,
+      length-append low (filter is_short moved),
+      length_permutation (step.rest ++ filter is_long moved) long' step.put_back,
+      length-append step.rest (filter is_long moved),
+      length-filter_both is_long is_short (λ t. refl) moved,
+      length-map step.touched (front_term w),
+      length_permutation long (step.touched ++ step.rest) taken,
+      length-append step.touched step.rest,
+    )
+
+-- .. and so does a turn
+pub turn-few : (o : Option Pair) (n most : ℕ) (low low' long long' : List Term) (pairs pairs' : List Pair)
+    (ms ms' : List ℕ) → length low + length long ≤ most
+    → IsTurn o n long low pairs ms long' low' pairs' ms' → length low' + length long' ≤ most
+turn-few None n most low low' long long' pairs pairs' ms ms' few turned =
+    omega (arith, few, ap length turned.1, ap length turned.2)
+turn-few (Some pair) n most low low' long long' pairs pairs' ms ms' few turned =
+    omega (arith, few, step-few pair (node n) long low long' low' turned.0 turned.1)
+
+-- all long terms are among those of the table
+pub start-few : (ts low front : List Term) (groups : List Group) → low ≡ [] → front ≡ filter is_long ts
+    → groups ≡ [] → length low + length (front ++ grouped groups) ≤ length ts
+start-few ts low front groups none long no_groups =
+    omega (
+      arith,
+      ap length none,
+      length-append front (grouped groups),
+      ap length long,
+      ap (λ gs. length (grouped gs)) no_groups,
+      length-filter_both is_long is_short (λ t. refl) ts,
+    )
 
 -- as many turns as there are pairs give all pairs
 pub pairs-enough : (k : ℕ) (t : TableContent) → pairs_of (length (pairs_of k t)) t ≡ pairs_of k t

@@ -12,4 +12,7 @@ mod run;
 mod substitute;
 
 pub use laws::laws_of_substitutions;
+pub use low_set::LowSet;
 pub use rosenberg::Rosenberg;
+pub use run::{Run, excess, run_of};
+pub use substitute::node;

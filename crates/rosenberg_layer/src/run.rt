@@ -82,6 +82,7 @@ pub fn run_of(alloc: Global, table: &Table, width: usize, turns: usize) -> Resul
         (filter is_long (run turns table.now).terms) (weights table.now.terms)) }
     ensures pairs { IfOk result (λ made. made.pairs.items ≡ pairs_of turns table.now) }
     ensures each { IfOk result (λ made. length made.weights.items ≡ length made.pairs.items) }
+    ensures few { IfOk result (λ made. length made.low.items ≤ length table.now.terms) }
     ensures kept { IsTable table.now }
 {
     let mut long = long_terms(alloc, table)?;

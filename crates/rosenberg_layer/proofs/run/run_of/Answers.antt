@@ -7,7 +7,7 @@ use Rattle.rosenberg_layer.specs.Groups.{all_terms, IsGroup}
 use Rattle.rosenberg_layer.specs.Parts.{weights}
 use Rattle.rosenberg_layer.proofs.Parts.{filter-ascends}
 use Rattle.rosenberg_layer.proofs.Bags.{held-start, held-small, high-start}
-use Rattle.rosenberg_layer.proofs.Turns.{run-start, width-pairs, width-grows, turn-run}
+use Rattle.rosenberg_layer.proofs.Turns.{run-start, start-few, width-pairs, width-grows, turn-few, turn-run}
 use Rattle.rosenberg_layer.proofs.run.run_of.Goals as goal
 
 pub loop-done-init : goal.loop-done-init
@@ -33,6 +33,9 @@ loop-done-init c =
             c.in_ok-long.ensures.none;
         each = subst (AllByRecursion IsGroup) (sym c.in_ok-long.ensures.none) tt;
       };
+      few =
+          start-few t.terms _ front long.groups.entries c.new.ensures.items
+          c.in_ok-long.ensures.long c.in_ok-long.ensures.none;
     }
 
 pub turn-requires-clause-narrow : goal.turn-requires-clause-narrow
@@ -70,4 +73,5 @@ loop-done-preserved c =
           turn-run t k c.args.width n _ _ _ _ _ _ _ _ _ (weights t.terms) _ so_far
           c.loop-done.invariant.kept.high number refl c.in_ok-turn.ensures.turn;
       kept = c.in_ok-turn.ensures.kept;
+      few = turn-few _ n _ _ _ _ _ _ _ _ _ c.loop-done.invariant.few c.in_ok-turn.ensures.turn;
     }
