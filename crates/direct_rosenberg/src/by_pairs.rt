@@ -13,19 +13,21 @@ use std::alloc::Global;
 use term_table::Table;
 
 /// The quadratic form of a table, pairs of literals replaced one after another: what `Rosenberg` and
-/// `Flatten` make in a row, without the table of quadratic terms between.
-pub fn quad_by_pairs(alloc: Global, table: &Table) -> Result<Quad, NoMemory>
-    requires total { (terms_total table.now.terms + 1) * 2 ^ 15 ≤ 2 ^ 97 }
-    requires size { table_size table.now * 2 ^ 2 ≤ 2 ^ 31 }
-    ensures image { IfOk result (λ quad. quad ≡ image table.now) }
+/// `Flatten` make in a row, without the table of quadratic terms between. The table is let go before
+/// the form is made.
+pub fn quad_by_pairs(alloc: Global, table: Table) -> Result<Quad, NoMemory>
+    requires total { (terms_total table.terms + 1) * 2 ^ 15 ≤ 2 ^ 97 }
+    requires size { table_size table * 2 ^ 2 ≤ 2 ^ 31 }
+    ensures image { IfOk result (λ quad. quad ≡ image table) }
 
     // What the laws of the two steps rest on.
-    ensures kept { IfOk result (λ _. IsTable table.now) }
+    ensures kept { IfOk result (λ _. IsTable table) }
 {
     let width = table.width();
-    let made = run_of(alloc, table, width, excess(table))?;
+    let made = run_of(alloc, &table, width, excess(&table))?;
     let mut terms = DirectTerms::new(alloc, width + made.pairs.len())?;
-    add_run(&mut terms, table, &made, width)?;
+    add_run(&mut terms, &table, &made, width)?;
     drop(made);
+    drop(table);
     terms.into_quad(alloc)
 }
