@@ -6,7 +6,7 @@ use Rattle.std.specs.List.Sorted.{IsStrictlySortedBy}
 use Rattle.std.specs.declared.cmp.Ordering.TheVariants.{Less, Equal}
 use Rattle.std.proofs.Math.Seq.{drop-nil}
 use Rattle.std.proofs.lemmas.Bool.Decides.{nat_tests}
-use Rattle.std.proofs.lemmas.List.{length-append, length-drop, drop-append-le, append_assoc}
+use Rattle.std.proofs.lemmas.List.{length-append, drop-append-le, append_assoc}
 use Rattle.std.proofs.lemmas.List.Elements.{All-from_recursion, recursion_from_All, filter-append}
 use Rattle.problem_form.specs.declared.literal.Literal.{Literal}
 use Rattle.term_table.specs.Terms.{Term, set_cmp, with_additions, Ascends, IsTermSet}
@@ -42,13 +42,13 @@ drop-plus (suc n) m (x ∷ xs) =
     let e : suc n + m ≡ suc (n + m) = omega arith in
     ap (λ k. drop k (x ∷ xs)) e ∙ drop-plus n m xs
 
--- two literals more are dropped at the front, and the node stands at the end
-pub drop-pushed : (n : ℕ) (ls ks : List Literal) (w : Literal) → drop n ls ≡ ks → n ≤ length ls
-    → 2 ≤ length ks → drop (n + 2) (ls ++ w ∷ []) ≡ drop 2 ks ++ w ∷ []
-drop-pushed n ls ks w e inside high =
-    let room : n + 2 ≤ length ls = omega (arith, high, ap length e, length-drop n ls) in
-    drop-append-le (n + 2) ls (w ∷ []) room
-    ∙ ap (λ ms. ms ++ w ∷ []) (drop-plus n 2 ls ∙ ap (drop 2) e)
+-- two literals more are dropped at the front, whatever is left of those before them, and the node
+-- stands at the end
+pub drop-pushed : (n m : ℕ) (ls room ks : List Literal) (w : Literal) → drop n ls ≡ ks → m ≤ length room
+    → drop m room ≡ drop (n + 2) ls → drop m (room ++ w ∷ []) ≡ drop 2 ks ++ w ∷ []
+drop-pushed n m ls room ks w e inside same =
+    drop-append-le m room (w ∷ []) inside
+    ∙ ap (λ ms. ms ++ w ∷ []) (same ∙ drop-plus n 2 ls ∙ ap (drop 2) e)
 
 -- ---- all terms
 

@@ -9,7 +9,7 @@ use std::marker::Model;
 
 /// A list of literals, which contracts see as a list.
 ///
-/// Those at its front are dropped by a count, so that no other literal moves.
+/// Those at its front are dropped by a count, so that the others move only where their room is needed.
 #[derive(Drop)]
 pub struct LongSet {
     literals: Vec<Literal>,
@@ -27,16 +27,28 @@ impl Model for LongSet {
     ghost invariant = { λ k. k.dropped ≤ length k.literals.items };
 }
 
+/// Takes dropped literals out where there is no room for one more, and gives how many are left.
+fn make_room(literals: &mut Vec<Literal>, dropped: usize) -> usize
+    requires { dropped ≤ length literals.old.items }
+    ensures within { result ≤ length literals.new.items }
+    ensures same { drop result literals.new.items ≡ drop dropped literals.old.items }
+{
+    if literals.len() < literals.capacity() {
+        return dropped;
+    }
+    let left = literals.len() - dropped;
+    literals.rotate_left(dropped);
+    literals.truncate(left);
+    0
+}
+
 impl LongSet {
-    /// With room for all nodes that a set of so many literals gets.
+    /// A set never has more literals than at first, so it gets no room for more.
     pub fn from_slice(alloc: Global, literals: &[Literal]) -> Result<LongSet, NoMemory>
         ensures { IfOk result (λ k. k ≡ literals.now) }
     {
-        let room = literals.len().saturating_mul(2).saturating_sub(3);
-        let mut held = Vec::with_capacity(alloc, room)?;
-        held.extend_from_slice(literals)?;
         Ok(LongSet {
-            literals: held,
+            literals: literals.to_vec(alloc)?,
             dropped: 0,
         })
     }
@@ -67,10 +79,8 @@ impl LongSet {
             mut literals,
             dropped,
         } = self;
+        let dropped = make_room(&mut literals, dropped + 2);
         literals.push(node)?;
-        Ok(LongSet {
-            literals,
-            dropped: dropped + 2,
-        })
+        Ok(LongSet { literals, dropped })
     }
 }
