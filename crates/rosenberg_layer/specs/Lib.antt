@@ -2,6 +2,5 @@ pub mod Rosenberg
 pub mod laws
 pub mod Steps
 pub mod Parts
-pub mod Held
 pub mod Stated
 pub mod Groups
