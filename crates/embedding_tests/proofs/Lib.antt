@@ -1,1 +1,1 @@
-pub mod UnitForms
+pub mod SmallForms

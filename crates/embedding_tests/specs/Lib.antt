@@ -1,3 +1,3 @@
-pub mod Pairs
+pub mod SmallForms
 pub mod Cuts
 pub mod laws

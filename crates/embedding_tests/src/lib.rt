@@ -1,11 +1,18 @@
 //! Tests of chain maps and of their check: over maps by hand, and over random maps on small graphs
-//! with some joins taken away, against a plain search.
+//! with some joins taken away, against a plain search. And tests of the layer of chains, over all
+//! states of small models, against plain arithmetic.
 //!
 //! The crate stands above what it tests, so that no library is proved once more with its tests. Its
 //! only item beside them is a graph with some joins taken away.
 #![tactic(auto)]
 
+#[cfg(test)]
+mod all_states;
+#[cfg(test)]
+mod arithmetic;
 mod cut;
+#[cfg(test)]
+mod drawn;
 #[cfg(test)]
 mod forms;
 #[cfg(test)]
@@ -14,3 +21,5 @@ mod maps;
 mod plain;
 #[cfg(test)]
 mod random;
+#[cfg(test)]
+mod read_states;

@@ -13,7 +13,7 @@ fn is_marked(marks: u64, at: usize) -> bool {
 }
 
 /// Whether a qubit is joined to one of the marked places of a chain.
-fn meets<H: Hardware>(hardware: &H, chain: &[u64], marks: u64, qubit: u64) -> bool {
+pub(crate) fn meets<H: Hardware>(hardware: &H, chain: &[u64], marks: u64, qubit: u64) -> bool {
     for (at, other) in chain.iter().enumerate() {
         if is_marked(marks, at) && are_joined(hardware, *other, qubit) {
             return true;

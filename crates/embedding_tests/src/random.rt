@@ -11,13 +11,13 @@ use std::test::Fail;
 
 /// Numbers that look random.
 #[derive(Drop)]
-struct Dice {
-    state: u64,
+pub(crate) struct Dice {
+    pub state: u64,
 }
 
 impl Dice {
     /// A number below this one, which is not 0.
-    fn roll(&mut self, below: u64) -> u64 {
+    pub(crate) fn roll(&mut self, below: u64) -> u64 {
         self.state = self
             .state
             .wrapping_mul(6364136223846793005)

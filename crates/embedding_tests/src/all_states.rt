@@ -1,0 +1,293 @@
+//! All states of small embedded forms, against what their chains are read as.
+ghost use Rattle.std.specs.Prelude.{◌≡◌, length};
+ghost use Rattle.chain_layer.specs.Image.{Fits};
+ghost use Rattle.embedding_tests.specs.SmallForms.{IsSmall};
+
+use crate::arithmetic::{IN_TURN, energy, read, state, ties_cost};
+use crate::drawn::{draw_form, grow_map};
+use crate::random::Dice;
+use bits_model::{Layer, Lowered, NoMemory};
+use chain_layer::{ChainLink, Chains};
+use chain_map::{ChainMap, CheckAnswer, clique_map};
+use chimera_graph::{Chimera, Hardware};
+use embedding_check::{Embedded, check};
+use ising_form::Ising;
+use std::alloc::Global;
+use std::test::Fail;
+
+/// How many models and couplings there were, and how many states with some broken and some tied
+/// chain.
+#[derive(Clone, Copy, Debug, PartialEq, Eq)]
+struct Seen {
+    models: u64,
+    couplings: u64,
+    broken: u64,
+    tied: u64,
+}
+
+const NOTHING: Seen = Seen {
+    models: 0,
+    couplings: 0,
+    broken: 0,
+    tied: 0,
+};
+
+impl Seen {
+    fn add(&mut self, other: Seen) {
+        self.models = self.models.wrapping_add(other.models);
+        self.couplings = self.couplings.wrapping_add(other.couplings);
+        self.broken = self.broken.wrapping_add(other.broken);
+        self.tied = self.tied.wrapping_add(other.tied);
+    }
+}
+
+/// What is seen of an embedded form.
+#[derive(Clone, Copy, Debug, PartialEq, Eq)]
+enum Outcome {
+    /// The map is not valid, or has too many qubits, or there are few couplings.
+    Refused,
+
+    /// Some state or assignment is not as it should be.
+    Failed,
+
+    Held(Seen),
+}
+
+/// Whether an assignment extends to a state without broken chains, which is read as it and has its
+/// energy, moved.
+fn is_reached(
+    alloc: Global,
+    embedded: &Embedded,
+    made: &Lowered<Ising, ChainLink>,
+    map: &ChainMap,
+    x: &[bool],
+) -> Result<bool, NoMemory>
+    requires fits { Fits made.now.link embedded.now }
+    requires width { length x.now ≡ length embedded.now.ising.fields }
+{
+    let y = Chains.extend(alloc, embedded, &made.link, x)?;
+    let again = read(alloc, map, &y)?;
+    let moved = energy(embedded.ising(), x).wrapping_add(made.offset);
+    Ok(again.broken == 0 && again.bits.as_slice() == x && energy(&made.target, &y) == moved)
+}
+
+/// Whether this is so for all assignments.
+fn are_reached(
+    alloc: Global,
+    embedded: &Embedded,
+    made: &Lowered<Ising, ChainLink>,
+    map: &ChainMap,
+) -> Result<bool, NoMemory>
+    requires { Fits made.now.link embedded.now }
+{
+    let width = embedded.ising().fields.as_slice().len();
+    if width > 4 {
+        return Ok(false);
+    }
+    for number in 0..1 << width {
+        let x = state(alloc, width, &IN_TURN, number)?;
+        if x.len() != width || !is_reached(alloc, embedded, made, map, &x)? {
+            return Ok(false);
+        }
+    }
+    Ok(true)
+}
+
+/// What is seen of a state that is decoded to what its chains are read as, and does not lie below
+/// that, moved. Where no chain is broken it has that energy.
+fn seen_of_state(
+    alloc: Global,
+    embedded: &Embedded,
+    made: &Lowered<Ising, ChainLink>,
+    map: &ChainMap,
+    y: &[bool],
+) -> Result<Option<Seen>, NoMemory>
+    requires fits { Fits made.now.link embedded.now }
+    requires width { length y.now ≡ made.now.link.qubits }
+{
+    let wanted = read(alloc, map, y)?;
+    let decoded = Chains.decode(alloc, &made.link, y)?;
+    let moved = energy(embedded.ising(), &wanted.bits).wrapping_add(made.offset);
+    let found = energy(&made.target, y);
+    if decoded != wanted.bits || found < moved || wanted.broken == 0 && found != moved {
+        return Ok(None);
+    }
+    Ok(Some(Seen {
+        models: 0,
+        couplings: 0,
+        broken: if wanted.broken == 0 { 0 } else { 1 },
+        tied: if wanted.tied == 0 { 0 } else { 1 },
+    }))
+}
+
+/// The qubits of all chains.
+fn chained_qubits(alloc: Global, map: &ChainMap) -> Result<Vec<u64>, NoMemory> {
+    let mut qubits = Vec::new(alloc);
+    for node in 0..map.len() {
+        qubits.extend_from_slice(map.chain(node))?;
+    }
+    Ok(qubits)
+}
+
+/// What is seen of all states of the qubits of chains.
+fn seen_of_states(
+    alloc: Global,
+    embedded: &Embedded,
+    made: &Lowered<Ising, ChainLink>,
+    map: &ChainMap,
+    places: &[u64],
+) -> Result<Outcome, NoMemory>
+    requires { Fits made.now.link embedded.now }
+{
+    let mut seen = NOTHING;
+    let width = made.link.qubits as usize;
+    if places.len() > 14 {
+        return Ok(Outcome::Refused);
+    }
+    for number in 0..1 << places.len() {
+        let y = state(alloc, width, places, number)?;
+        if y.len() != width {
+            return Ok(Outcome::Failed);
+        }
+        match seen_of_state(alloc, embedded, made, map, &y)? {
+            Some(more) => seen.add(more),
+            None => return Ok(Outcome::Failed),
+        }
+    }
+    Ok(Outcome::Held(seen))
+}
+
+/// What is seen of an embedded form.
+fn seen_of(alloc: Global, embedded: &Embedded, map: &ChainMap) -> Result<Outcome, NoMemory>
+    requires { IsSmall embedded.now.ising }
+{
+    let form = embedded.ising();
+    let made = Chains.lower(alloc, embedded)?;
+    let cost = ties_cost(form, map);
+    if made.scale != 1 || made.offset != cost.wrapping_neg() {
+        return Ok(Outcome::Failed);
+    }
+    if !are_reached(alloc, embedded, &made, map)? {
+        return Ok(Outcome::Failed);
+    }
+    let places = chained_qubits(alloc, map)?;
+    seen_of_states(alloc, embedded, &made, map, &places)
+}
+
+/// What is seen of a form on the chains of a map, if the map is valid.
+fn seen_on<H: Hardware>(
+    alloc: Global,
+    hardware: &H,
+    form: Ising,
+    map: &ChainMap,
+) -> Result<Outcome, NoMemory>
+    requires { IsSmall form }
+{
+    let couplings = form.couplings.len() as u64;
+    match check(alloc, hardware, form, map) {
+        Ok(embedded) => match seen_of(alloc, &embedded, map)? {
+            Outcome::Held(seen) => Ok(Outcome::Held(Seen {
+                models: 1,
+                couplings,
+                broken: seen.broken,
+                tied: seen.tied,
+            })),
+            other => Ok(other),
+        },
+        Err(CheckAnswer::Fault(_)) => Ok(Outcome::Refused),
+        Err(CheckAnswer::NoMemory) => Err(NoMemory),
+    }
+}
+
+/// What is seen of a drawn form on chains that grow. Forms with too few couplings to join all nodes
+/// are refused.
+fn seen_of_drawn(
+    alloc: Global,
+    graph: &Chimera,
+    dice: &mut Dice,
+    nodes: u32,
+) -> Result<Outcome, NoMemory> {
+    let map = grow_map(alloc, graph, dice, nodes)?;
+    match draw_form(alloc, dice, nodes)? {
+        Some(form) => if form.couplings.len() < nodes.saturating_sub(1) as usize {
+            Ok(Outcome::Refused)
+        } else {
+            seen_on(alloc, graph, form, &map)
+        },
+        None => Ok(Outcome::Failed),
+    }
+}
+
+/// What is seen of ten models of one to four nodes on a graph.
+fn seen_of_ten(alloc: Global, shape: (u32, u32, u32), seed: u64) -> Result<Option<Seen>, NoMemory> {
+    let Some(graph) = Chimera::new(shape.0, shape.1, shape.2) else {
+        return Ok(None);
+    };
+    let mut dice = Dice { state: seed };
+    let mut seen = NOTHING;
+    for _ in 0..20_000 {
+        if seen.models < 10 {
+            let nodes = 1 + (seen.models % 4) as u32;
+            match seen_of_drawn(alloc, &graph, &mut dice, nodes)? {
+                Outcome::Held(more) => seen.add(more),
+                Outcome::Refused => {}
+                Outcome::Failed => return Ok(None),
+            }
+        }
+    }
+    Ok(Some(seen))
+}
+
+#[test]
+fn all_states_of_drawn_models(rt: HostRuntime) -> Result<(), Fail> {
+    for (seed, shape) in [(1, (1, 1, 4)), (2, (1, 2, 2)), (3, (2, 2, 2))] {
+        let seen = seen_of_ten(rt.alloc(), shape, seed)?.ok_or("not as read")?;
+        assert!(rt; seen.models == 10 && seen.couplings > 10, "{seen:?}");
+        assert!(rt; seen.broken > 500 && seen.tied > 100, "{seen:?}");
+    }
+    Ok(())
+}
+
+/// What is seen of a drawn form on the chains of a clique.
+fn seen_of_clique(
+    alloc: Global,
+    shape: (u32, u32, u32),
+    nodes: u32,
+    seed: u64,
+) -> Result<Outcome, NoMemory> {
+    let Some(graph) = Chimera::new(shape.0, shape.1, shape.2) else {
+        return Ok(Outcome::Refused);
+    };
+    let mut dice = Dice { state: seed };
+    let Ok(map) = clique_map(alloc, &graph, nodes as usize) else {
+        return Ok(Outcome::Refused);
+    };
+    match draw_form(alloc, &mut dice, nodes)? {
+        Some(form) => seen_on(alloc, &graph, form, &map),
+        None => Ok(Outcome::Failed),
+    }
+}
+
+#[test]
+fn all_states_of_cliques(rt: HostRuntime) -> Result<(), Fail> {
+    let rows = [
+        ((1, 1, 4), 1),
+        ((1, 1, 4), 2),
+        ((1, 1, 4), 3),
+        ((1, 1, 4), 4),
+        ((2, 2, 1), 2),
+        ((2, 2, 2), 3),
+        ((2, 2, 2), 4),
+        ((2, 3, 2), 4),
+        ((3, 3, 1), 2),
+        ((3, 3, 1), 3),
+    ];
+    for (seed, (shape, nodes)) in rows.iter().enumerate() {
+        let outcome = seen_of_clique(rt.alloc(), *shape, *nodes, seed as u64)?;
+        let Outcome::Held(seen) = outcome else {
+            return Err("not as read".into());
+        };
+        assert!(rt; seen.broken > 0, "{seed} {seen:?}");
+    }
+    Ok(())
+}

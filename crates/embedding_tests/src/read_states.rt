@@ -1,0 +1,185 @@
+//! What is read off all states of small models of each kind.
+ghost use Rattle.std.specs.Prelude.{◌≤◌, length};
+ghost use Rattle.embedding_tests.specs.SmallForms.{IsSmall};
+
+use crate::arithmetic::{IN_TURN, read, state};
+use crate::forms::{Row, small_form};
+use bits_model::{ChainList, Figures, Kind, NoMemory, OutputModel, UnitChoice};
+use chain_map::{ChainMap, CheckAnswer};
+use chimera_graph::Chimera;
+use ising_form::Ising;
+use quad_form::Quad;
+use qubit_models::model_on_qubits;
+use std::alloc::Global;
+use std::test::Fail;
+
+const FIGURES: Figures = Figures {
+    scale: 1,
+    offset: 0,
+    threshold: 9,
+};
+
+/// What is read off a state of a model.
+fn read_off(alloc: Global, model: &OutputModel, y: &[bool]) -> Result<Option<Vec<bool>>, NoMemory> {
+    let mut x = vec![in alloc; false; model.variables as usize]?;
+    if x.len() != model.variables as usize || y.len() != model.nodes as usize {
+        return Ok(None);
+    }
+    model.read_off(y, &mut x);
+    Ok(Some(x))
+}
+
+/// Whether the first bits of a state, or of what its chains are read as, are read off it.
+fn is_read(
+    alloc: Global,
+    model: &OutputModel,
+    map: Option<&ChainMap>,
+    y: &[bool],
+) -> Result<bool, NoMemory> {
+    let Some(x) = read_off(alloc, model, y)? else {
+        return Ok(false);
+    };
+    Ok(match map {
+        Some(map) => read(alloc, map, y)?.bits.starts_with(&x),
+        None => y.starts_with(&x),
+    })
+}
+
+/// Whether this is so for all states, and so many bits are read.
+fn are_read(
+    alloc: Global,
+    model: &OutputModel,
+    map: Option<&ChainMap>,
+    variables: u32,
+) -> Result<bool, NoMemory> {
+    if model.nodes > 12 || model.variables != variables {
+        return Ok(false);
+    }
+    for number in 0..1 << model.nodes {
+        let y = state(alloc, model.nodes as usize, &IN_TURN, number)?;
+        if !is_read(alloc, model, map, &y)? {
+            return Ok(false);
+        }
+    }
+    Ok(true)
+}
+
+/// Whether the states of a form on the chains of a map are read by the majority of each.
+fn are_read_by_chains(
+    alloc: Global,
+    shape: (u32, u32, u32),
+    form: Ising,
+    map: &ChainMap,
+    variables: u32,
+) -> Result<bool, NoMemory>
+    requires { IsSmall form }
+{
+    let Some(graph) = Chimera::new(shape.0, shape.1, shape.2) else {
+        return Ok(false);
+    };
+    if variables as usize > form.fields.as_slice().len() {
+        return Ok(false);
+    }
+    match model_on_qubits(
+        alloc,
+        form,
+        variables,
+        FIGURES,
+        UnitChoice::One,
+        &graph,
+        map,
+    ) {
+        Ok(model) => are_read(alloc, &model, Some(map), variables),
+        Err(_) => Ok(false),
+    }
+}
+
+fn map_of(alloc: Global, chains: &[&[u64]]) -> Result<ChainMap, NoMemory> {
+    let mut map = ChainMap::new(alloc);
+    for chain in chains {
+        map.push(*chain)?;
+    }
+    Ok(map)
+}
+
+const FIELDS: [i128; 3] = [3, -2, 0];
+
+const COUPLINGS: [Row; 2] = [(0, 1, -1), (1, 2, 4)];
+
+/// Whether all states of three nodes on these chains are read by the majority of each.
+fn are_read_on(
+    alloc: Global,
+    shape: (u32, u32, u32),
+    chains: &[&[u64]],
+    variables: u32,
+) -> Result<bool, NoMemory> {
+    let map = map_of(alloc, chains)?;
+    match small_form(alloc, 2, &FIELDS, &COUPLINGS)? {
+        Some(form) => are_read_by_chains(alloc, shape, form, &map, variables),
+        None => Ok(false),
+    }
+}
+
+#[test]
+fn broken_and_tied_chains_are_read(rt: HostRuntime) -> Result<(), Fail> {
+    let rows: [((u32, u32, u32), &[&[u64]]); 4] = [
+        ((1, 1, 3), &[&[3, 0], &[1, 4], &[5, 2]]),
+        ((1, 1, 4), &[&[1], &[4, 0, 5], &[7, 2, 6, 3]]),
+        ((1, 1, 4), &[&[0, 4], &[5, 1], &[2, 6]]),
+        ((2, 2, 1), &[&[6], &[7, 5], &[3, 1, 0, 4]]),
+    ];
+    for (shape, chains) in rows {
+        for variables in 0..4 {
+            assert!(rt;
+                are_read_on(rt.alloc(), shape, chains, variables)?,
+                "{chains:?}"
+            );
+        }
+    }
+    Ok(())
+}
+
+/// The quadratic form with the same weights.
+fn quad_of(form: Ising) -> Quad {
+    let Ising {
+        constant,
+        fields,
+        couplings,
+    } = form;
+    Quad {
+        constant,
+        diagonal: fields,
+        couplers: couplings,
+    }
+}
+
+/// Whether the first bits of each state are read off the two models of a form without chains.
+fn are_first_bits(alloc: Global, variables: u32) -> Result<bool, NoMemory>
+    requires { variables ≤ 3 }
+{
+    let Some(form) = small_form(alloc, 2, &FIELDS, &COUPLINGS)? else {
+        return Ok(false);
+    };
+    let Some(other) = small_form(alloc, 2, &FIELDS, &COUPLINGS)? else {
+        return Ok(false);
+    };
+    let chains = ChainList::empty(alloc);
+    if form.fields.as_slice().len() < variables as usize {
+        return Ok(false);
+    }
+    let spins = form.output(alloc, variables, FIGURES, 1, Kind::Ising, chains)?;
+    let quad = quad_of(other);
+    if quad.diagonal.as_slice().len() < variables as usize {
+        return Ok(false);
+    }
+    let bits = quad.output(alloc, variables, FIGURES, 1)?;
+    Ok(are_read(alloc, &spins, None, variables)? && are_read(alloc, &bits, None, variables)?)
+}
+
+#[test]
+fn first_bits_are_read(rt: HostRuntime) -> Result<(), Fail> {
+    for variables in 0..4 {
+        assert!(rt; are_first_bits(rt.alloc(), variables)?, "{variables}");
+    }
+    Ok(())
+}
