@@ -2,3 +2,4 @@ pub mod FormModels
 pub mod GraphModels
 pub mod Standing
 pub mod LeastStates
+pub mod PairForms

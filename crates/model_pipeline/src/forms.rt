@@ -13,7 +13,6 @@ use normal_form::MultilinearForm;
 use penalty_layer::Penalty;
 use problem_form::{Choices, High, Normal, Problem};
 use quad_form::Quad;
-use rosenberg_layer::Rosenberg;
 use std::alloc::Global;
 
 /// A quadratic form, and how its energies stand for the costs of a problem.
@@ -38,14 +37,14 @@ fn literal_monomial(alloc: Global, problem: Problem) -> Result<FiguredQuad, NoMe
     })
 }
 
-/// Over literals, pairs replaced one after another.
+/// Over literals, pairs replaced one after another: without the table of quadratic terms.
 fn literal_rosenberg(alloc: Global, problem: Problem) -> Result<FiguredQuad, NoMemory>
     requires { limit_fault normals.Literal problem ≡ None }
     ensures image { IfOk result (λ made.
         made.quad ≡ quad_by normals.Literal highs.Rosenberg problem) }
     ensures stands { IfOk result (λ made. IsFormed problem made.quad made.figures) }
 {
-    let made = quadratic_of(alloc, &Penalty, &Rosenberg, problem)?;
+    let made = quadratic_of(alloc, &Penalty, problem)?;
     Ok(FiguredQuad {
         quad: made.quad,
         figures: made.figures,
@@ -70,14 +69,14 @@ fn multilinear_monomial(alloc: Global, problem: Problem) -> Result<FiguredQuad, 
     })
 }
 
-/// Over variables alone, pairs replaced one after another.
+/// Over variables alone, pairs replaced one after another: without the table of quadratic terms.
 fn multilinear_rosenberg(alloc: Global, problem: Problem) -> Result<FiguredQuad, NoMemory>
     requires { limit_fault normals.Multilinear problem ≡ None }
     ensures image { IfOk result (λ made.
         made.quad ≡ quad_by normals.Multilinear highs.Rosenberg problem) }
     ensures stands { IfOk result (λ made. IsFormed problem made.quad made.figures) }
 {
-    let made = quadratic_of(alloc, &MultilinearForm, &Rosenberg, problem)?;
+    let made = quadratic_of(alloc, &MultilinearForm, problem)?;
     Ok(FiguredQuad {
         quad: made.quad,
         figures: made.figures,

@@ -1,65 +1,58 @@
-//! The steps to a quadratic form, whichever they are.
+//! The steps to a quadratic form in which pairs of literals are replaced.
 ghost use Rattle.std.specs.Prelude.{◌≡◌, ◌≤◌, ◌+◌, ◌^◌, unsigned_abs, IfOk};
+ghost use Rattle.bits_model.specs.declared.layer.BitsLink.{BitsLink};
+ghost use Rattle.rosenberg_layer.specs.Rosenberg as rosenberg;
 ghost use Rattle.quad_form.specs.Quads.{quad_size, quad_total};
-ghost use Rattle.quad_form.specs.Flat.{Fits};
 ghost use Rattle.quad_form.specs.Flat as flat;
 
-use bits_model::{BitsLink, Figures, Guard, Layer, NoMemory};
+use bits_model::{Figures, Guard, NoMemory};
+use direct_rosenberg::quad_by_pairs;
 use problem_form::Problem;
-use quad_form::{Flatten, Quad};
+use quad_form::Quad;
 use std::alloc::Global;
-use term_table::{LowTable, Table};
+use term_table::Table;
 
-/// The quadratic form of a problem, how its energies stand for costs, and the links of the steps.
+/// The quadratic form of a problem, how its energies stand for costs, and the link of its guard.
 #[derive(Drop)]
-pub struct Quadratic<G, H> {
+pub struct Quadratic<G> {
     pub quad: Quad,
     pub figures: Figures,
-    pub first: G,
-    pub second: H,
-    pub third: BitsLink,
+    pub link: G,
 }
 
-/// The quadratic form that a guard, a layer that neither scales nor moves, and multiplying out give.
-/// Each form is let go as soon as the next one stands.
-pub fn quadratic_of<G, H>(
+/// The quadratic form of what a guard gives, pairs of literals replaced one after another. Each form
+/// is let go as soon as the next one stands.
+pub fn quadratic_of<G>(
     alloc: Global,
     guard: &G,
-    layer: &H,
     problem: Problem,
-) -> Result<Quadratic<G::Link, H::Link>, NoMemory>
+) -> Result<Quadratic<G::Link>, NoMemory>
 where
     G: Guard<Source = Problem, Target = Table>,
-    H: Layer<Source = Table, Target = LowTable>,
     requires admits { G.admits problem }
-    requires total { G.TOTAL_BITS + H.TOTAL_GROWTH + 2 ≤ 124 }
-    requires size { G.SIZE_BITS + H.SIZE_GROWTH + 1 ≤ 32 }
-    requires still { H.OFFSET_FACTOR ≡ 0 }
-    ensures image { IfOk result (λ made. made.quad ≡ flat.image (H.image (G.image problem))) }
+    requires total { G.TOTAL_BITS + 15 ≤ 97 }
+    requires size { G.SIZE_BITS + 2 ≤ 31 }
+    ensures image { IfOk result (λ made.
+        made.quad ≡ flat.image (rosenberg.image (G.image problem))) }
     ensures figures { IfOk result (λ made. made.figures ≡ G.figures problem) }
-    ensures first { IfOk result (λ made. G.fits made.first problem) }
-    ensures second { IfOk result (λ made. H.fits made.second (G.image problem)) }
-    ensures third { IfOk result (λ made. Fits made.third (H.image (G.image problem))) }
+    ensures first { IfOk result (λ made. G.fits made.link problem) }
+    ensures second { IfOk result (λ _.
+        (link : BitsLink) × rosenberg.Fits link (G.image problem)) }
+    ensures third { IfOk result (λ _.
+        (link : BitsLink) × flat.Fits link (rosenberg.image (G.image problem))) }
 
     // What the next step's sums rest on.
     ensures threshold { IfOk result (λ made.
         unsigned_abs made.figures.threshold ≤ G.FIGURE_BOUND) }
-    ensures total { IfOk result (λ made.
-        quad_total made.quad + 1 ≤ 2 ^ (G.TOTAL_BITS + H.TOTAL_GROWTH + 2)) }
-    ensures size { IfOk result (λ made.
-        quad_size made.quad ≤ 2 ^ (G.SIZE_BITS + H.SIZE_GROWTH + 1)) }
+    ensures total { IfOk result (λ made. quad_total made.quad + 1 ≤ 2 ^ (G.TOTAL_BITS + 17)) }
+    ensures size { IfOk result (λ made. quad_size made.quad ≤ 2 ^ (G.SIZE_BITS + 3)) }
 {
     let guarded = guard.guard(alloc, &problem)?;
     drop(problem);
-    let low = layer.lower(alloc, &guarded.target)?;
-    drop(guarded.target);
-    let quad = Flatten.lower(alloc, &low.target)?;
-    drop(low.target);
+    let quad = quad_by_pairs(alloc, guarded.target)?;
     Ok(Quadratic {
-        quad: quad.target,
+        quad,
         figures: guarded.figures,
-        first: guarded.link,
-        second: low.link,
-        third: quad.link,
+        link: guarded.link,
     })
 }

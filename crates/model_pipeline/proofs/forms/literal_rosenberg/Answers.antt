@@ -17,6 +17,6 @@ returns-clause-stands c =
     let threshold : unsigned_abs (upper p) ≤ 2 ^ 64 =
     omega (arith, ap (λ (n : Figures). unsigned_abs n.threshold) made.figures, made.threshold) in
     formed_as p _ (quad_by Literal Rosenberg p) _ made.image made.figures
-    (formed_by_steps Literal Rosenberg p form.first form.second form.third threshold made.first made.second made.third
+    (formed_by_steps Literal Rosenberg p form.link made.second.0 made.third.0 threshold made.first made.second.1 made.third.1
     (omega (arith, ap quad_total made.image, made.total))
     (omega (arith, ap quad_size made.image, made.size)))

@@ -1,45 +1,52 @@
-use Rattle.std.proofs.Common.{arith, ◌+◌}
+use Rattle.std.proofs.Common.{ap, subst, ◌∙◌, arith}
 use Rattle.bits_model.proofs.Growth.{grown_within, grown_bits}
+use Rattle.bits_model.specs.declared.layer.BitsLink.{BitsLink}
+use Rattle.term_table.specs.Tables.{TableContent, IsTable}
+use Rattle.rosenberg_layer.specs.Rosenberg as rosenberg
+use Rattle.quad_form.specs.Quads.{quad_size, quad_total}
+use Rattle.quad_form.specs.Flat as flat
+use Rattle.model_pipeline.proofs.PairForms.{pair_link, flat_link, pair_total, pair_size}
 use Rattle.model_pipeline.proofs.steps.quadratic_of.Goals as goal
 
-pub lower-requires-clause-total : goal.lower-requires-clause-total
-lower-requires-clause-total g c =
-    grown_within _ g.G.Guard.TOTAL_BITS g.H.Layer.TOTAL_GROWTH 124 c.in_ok-guarded.ensures.total
+pub quad_by_pairs-requires-clause-total : goal.quad_by_pairs-requires-clause-total
+quad_by_pairs-requires-clause-total g c =
+    grown_within _ g.G.Guard.TOTAL_BITS 15 97 c.in_ok-guarded.ensures.total
     (omega (arith, c.requires.total))
 
-pub lower-requires-clause-size : goal.lower-requires-clause-size
-lower-requires-clause-size g c =
-    grown_within _ g.G.Guard.SIZE_BITS g.H.Layer.SIZE_GROWTH 32 c.in_ok-guarded.ensures.size
+pub quad_by_pairs-requires-clause-size : goal.quad_by_pairs-requires-clause-size
+quad_by_pairs-requires-clause-size g c =
+    grown_within _ g.G.Guard.SIZE_BITS 2 31 c.in_ok-guarded.ensures.size
     (omega (arith, c.requires.size))
 
-pub lower-requires-2-clause-total : goal.lower-requires-2-clause-total
-lower-requires-2-clause-total g c =
-    let bits = g.G.Guard.TOTAL_BITS in
-    let growth = g.H.Layer.TOTAL_GROWTH in
-    grown_within _ (bits + growth) 2 124
-    (grown_bits _ _ bits growth c.in_ok-guarded.ensures.total c.in_ok-low.ensures.total)
-    (omega (arith, c.requires.total))
+pub returns-clause-image : goal.returns-clause-image
+returns-clause-image g c =
+    c.in_ok-quad.ensures.image
+    ∙ ap (λ (t : TableContent). flat.image (rosenberg.image t)) c.in_ok-guarded.ensures.image
 
-pub lower-requires-2-clause-size : goal.lower-requires-2-clause-size
-lower-requires-2-clause-size g c =
-    let bits = g.G.Guard.SIZE_BITS in
-    let growth = g.H.Layer.SIZE_GROWTH in
-    grown_within _ (bits + growth) 1 32
-    (grown_bits _ _ bits growth c.in_ok-guarded.ensures.size c.in_ok-low.ensures.size)
-    (omega (arith, c.requires.size))
+pub returns-clause-second : goal.returns-clause-second
+returns-clause-second g c =
+    let is : IsTable c.in_ok-guarded.guarded.target = c.in_ok-quad.ensures.kept in
+    subst (λ (t : TableContent). (link : BitsLink) × rosenberg.Fits link t)
+    c.in_ok-guarded.ensures.image (pair_link c.in_ok-guarded.guarded.target is)
+
+pub returns-clause-third : goal.returns-clause-third
+returns-clause-third g c =
+    let is : IsTable c.in_ok-guarded.guarded.target = c.in_ok-quad.ensures.kept in
+    let small = grown_within _ g.G.Guard.TOTAL_BITS 15 124 c.in_ok-guarded.ensures.total
+    (omega (arith, c.requires.total)) in
+    subst (λ (t : TableContent). (link : BitsLink) × flat.Fits link (rosenberg.image t))
+    c.in_ok-guarded.ensures.image (flat_link c.in_ok-guarded.guarded.target is small)
 
 pub returns-clause-total : goal.returns-clause-total
 returns-clause-total g c =
-    let bits = g.G.Guard.TOTAL_BITS in
-    let growth = g.H.Layer.TOTAL_GROWTH in
-    grown_bits _ _ (bits + growth) 2
-    (grown_bits _ _ bits growth c.in_ok-guarded.ensures.total c.in_ok-low.ensures.total)
-    c.in_ok-quad.ensures.total
+    let t = c.in_ok-guarded.guarded.target in
+    let quad = ap quad_total c.in_ok-quad.ensures.image in
+    grown_bits _ _ g.G.Guard.TOTAL_BITS 17 c.in_ok-guarded.ensures.total
+    (omega (arith, quad, pair_total t c.in_ok-quad.ensures.kept))
 
 pub returns-clause-size : goal.returns-clause-size
 returns-clause-size g c =
-    let bits = g.G.Guard.SIZE_BITS in
-    let growth = g.H.Layer.SIZE_GROWTH in
-    grown_bits _ _ (bits + growth) 1
-    (grown_bits _ _ bits growth c.in_ok-guarded.ensures.size c.in_ok-low.ensures.size)
-    c.in_ok-quad.ensures.size
+    let t = c.in_ok-guarded.guarded.target in
+    let quad = ap quad_size c.in_ok-quad.ensures.image in
+    grown_bits _ _ g.G.Guard.SIZE_BITS 3 c.in_ok-guarded.ensures.size
+    (omega (arith, quad, pair_size t c.in_ok-quad.ensures.kept))

@@ -1,0 +1,54 @@
+-- The quadratic form of a table whose pairs are replaced: its links, and how far it grows.
+use Rattle.std.proofs.Common.{◌≤◌, ◌+◌, ◌*◌, ◌^◌, ℕ, zero, suc, refl, arith}
+use Rattle.bits_model.specs.declared.layer.BitsLink.{BitsLink}
+use Rattle.term_table.specs.Terms.{terms_total}
+use Rattle.term_table.specs.Tables.{TableContent, IsTable, table_size}
+use Rattle.rosenberg_layer.specs.Rosenberg as rosenberg
+use Rattle.rosenberg_layer.specs.laws.Sets.{IsSound, IsSound-substituted}
+use Rattle.rosenberg_layer.proofs.Ends.{IsLow-image}
+use Rattle.rosenberg_layer.proofs.Growth.{total-image, size-image}
+use Rattle.quad_form.specs.Quads.{quad_size, quad_total}
+use Rattle.quad_form.specs.Flat as flat
+use Rattle.quad_form.proofs.FlatForms.{quad_total-image, quad_size-image}
+
+run_is_sound : (k : ℕ) (t : TableContent) → IsSound t → IsSound (rosenberg.run k t)
+run_is_sound zero t sound = sound
+run_is_sound (suc k) t sound = run_is_sound k (rosenberg.substituted t) (IsSound-substituted t sound)
+
+low_is_table : (t : TableContent) → IsTable t → (terms_total t.terms + 1) * 2 ^ 15 ≤ 2 ^ 124
+    → IsTable (rosenberg.image t)
+low_is_table t is small = record {
+  terms = run_is_sound (rosenberg.excess t.terms) t is.terms;
+  small = omega (arith, total-image t is.terms, small);
+}
+
+-- the links of the two steps
+pub pair_link : (t : TableContent) → IsTable t → (link : BitsLink) × rosenberg.Fits link t
+pair_link t is = (
+  record { source_width = t.width; target_width = (rosenberg.image t).width },
+  record { source = refl; target = refl; table = is },
+)
+
+pub flat_link : (t : TableContent) → IsTable t → (terms_total t.terms + 1) * 2 ^ 15 ≤ 2 ^ 124
+    → (link : BitsLink) × flat.Fits link (rosenberg.image t)
+flat_link t is small =
+    let u = rosenberg.image t in (
+      record { source_width = u.width; target_width = u.width },
+      record {
+        source = refl;
+        target = refl;
+        table = low_is_table t is small;
+        low = IsLow-image t is.terms;
+      },
+    )
+
+-- how far the form grows
+pub pair_total : (t : TableContent) → IsTable t
+    → quad_total (flat.image (rosenberg.image t)) + 1 ≤ (terms_total t.terms + 1) * 2 ^ 17
+pair_total t is =
+    omega (arith, quad_total-image (rosenberg.image t) (IsLow-image t is.terms), total-image t is.terms)
+
+pub pair_size : (t : TableContent) → IsTable t
+    → quad_size (flat.image (rosenberg.image t)) ≤ table_size t * 2 ^ 3
+pair_size t is =
+    omega (arith, quad_size-image (rosenberg.image t) (IsLow-image t is.terms), size-image t is.terms)
