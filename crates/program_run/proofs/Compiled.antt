@@ -1,130 +1,196 @@
--- A model of the problem that a source is read into is compiled from the source.
-use Rattle.std.proofs.Common.{◌≡◌, ◌≤◌, ℕ, ◌+ℤ◌, ◌*ℤ◌, Bool, List, map, take, Ok, Some, None, refl, sym, ap, ◌∙◌, subst, arith}
+-- A model that stands on the ground of a plan is compiled from the source, or summed of a sample.
+use Rattle.std.proofs.Common.{◌≡◌, ℕ, List, length, Ok, Some, None, refl, sym, ap, ◌∙◌, subst}
 use Rattle.std.specs.declared.option.Option.{Option}
-use Rattle.std.proofs.lemmas.List.{take-take, take-map}
+use Rattle.std.proofs.lemmas.List.FromFn.{length-map-range_with_len}
 use Rattle.edge_io.specs.Held.{NamedFiles, WhereTold}
-use Rattle.bits_model.specs.declared.output.Kind.{Kind}
 use Rattle.bits_model.specs.declared.output.Kind.TheVariants as kinds
-use Rattle.bits_model.specs.Costs.{Source}
-use Rattle.bits_model.specs.Relations.{Relaxes}
-use Rattle.bits_model.specs.Output.{Written, form_of, decoding_of, read_off, majority}
-use Rattle.bits_model.specs.Faithful.{IsStated, HasChains}
-use Rattle.bits_model.specs.Stated.{DecodesAlike}
-use Rattle.bits_model.proofs.Alike.{relaxes_alike}
-use Rattle.bits_model.proofs.LeastStates.{relaxed_is_faithful}
-use Rattle.model_text.specs.Rows.{model_text}
-use Rattle.model_text.proofs.ModelRows.{texts_tell_models}
-use Rattle.command_words.specs.declared.commands.Target.{Target}
-use Rattle.command_words.specs.declared.commands.Target.TheVariants.{Qubo, Ising}
-use Rattle.command_words.specs.declared.commands.Job.{Job}
-use Rattle.command_words.specs.declared.commands.Format.{Format}
-use Rattle.command_words.specs.declared.commands.Format.TheVariants.{Wcnf}
-use Rattle.command_words.specs.declared.commands.Sample.{Sample}
 use Rattle.bits_model.specs.declared.output.UnitChoice.{UnitChoice}
+use Rattle.bits_model.specs.Costs.{Source}
+use Rattle.bits_model.specs.Output.{Written, IsWellFormed}
+use Rattle.bits_model.specs.Faithful.{Demand, HasChains}
+use Rattle.problem_form.specs.declared.limits.Choices.{Choices}
+use Rattle.chimera_graph.specs.declared.chimera.Chimera.{Chimera}
+use Rattle.chain_map.specs.Cliques.{clique_of, clique_chain}
+use Rattle.qubit_models.specs.Standing as qubits
+use Rattle.model_text.specs.Rows.{FitsFields, model_text}
 use Rattle.model_text.specs.Summary.{summary_text}
+use Rattle.model_text.specs.Told.{IsTextOf}
+use Rattle.model_text.proofs.ModelRows.{texts_tell_models}
 use Rattle.sample_text.specs.Sample.{sample_text}
+use Rattle.command_words.specs.declared.commands.NodeModel.{NodeModel}
+use Rattle.command_words.specs.declared.commands.NodeModel.TheVariants.{Qubo, Ising}
+use Rattle.command_words.specs.declared.commands.GraphSize.{GraphSize}
+use Rattle.command_words.specs.declared.commands.Format.TheVariants.{Wcnf}
+use Rattle.command_words.specs.declared.commands.Job.{Job}
+use Rattle.command_words.specs.declared.commands.Sample.{Sample}
 use Rattle.source_texts.specs.declared.reading.Read.{Read}
-use Rattle.source_texts.specs.Sources.{StandsFor, first_decoded}
+use Rattle.source_texts.specs.Sources.{StandsFor}
 use Rattle.source_texts.proofs.Standing.{problem_stands}
-use Rattle.model_pipeline.specs.Models.{IsModelOf, kind_of, decoding_to}
-use Rattle.program_run.specs.Outcome.{sourcing}
-use Rattle.program_run.specs.Answers.{IsCompiled, IsCompiledFrom, IsModelFor, IsSampled, demand_of}
+use Rattle.model_pipeline.specs.Models.{IsModelOf}
+use Rattle.model_pipeline.specs.Models as models
+use Rattle.model_pipeline.specs.GraphModels.{IsGraphModelOf}
+use Rattle.program_run.specs.declared.grounds.Ground.{Ground}
+use Rattle.program_run.specs.declared.grounds.Ground.TheVariants.{Nodes, Clique, Map}
+use Rattle.program_run.specs.Grounds.{IsGraph, plan_of, nodes_in, plain_demand}
+use Rattle.program_run.specs.Standing.{Stands}
+use Rattle.program_run.specs.Outcome.{sourcing, grounding}
+use Rattle.program_run.specs.Answers.{IsCompiledFrom, IsModelFor, IsSampled}
 use Rattle.program_run.specs.Samples.{IsSampleRead}
 use Rattle.program_run.proofs.Taken.{source_is_taken}
+use Rattle.program_run.proofs.Grounded.{ground_is_taken}
+use Rattle.program_run.proofs.Stood.{IsMade, model_stands}
 
--- the first variables of what a state is read as are what it is read as for them
-take-read_off : (kind : Kind) (a b : ℕ) (chains : List (List ℕ)) (y : List Bool) → a ≤ b
-    → take a (read_off kind b chains y) ≡ read_off kind a chains y
-take-read_off kinds.Qubo a b chains y few = take-take a b y few
-take-read_off kinds.Ising a b chains y few = take-take a b y few
-take-read_off (kinds.Chimera rows cols shore) a b chains y few =
-    take-map (majority y) a (take b chains) ∙ ap (map (majority y)) (take-take a b chains few)
+-- ---- on each ground
 
 -- no chains are asked for
-chains_of : (target : Target) (unit : UnitChoice) (m : Written) → m.kind ≡ kind_of target
-    → HasChains m.kind (demand_of unit) m
-chains_of Qubo unit m kind = subst (λ k. HasChains k (demand_of unit) m) (sym kind) tt
-chains_of Ising unit m kind = subst (λ k. HasChains k (demand_of unit) m) (sym kind) tt
+no_chains : (target : NodeModel) (demand : Demand) (m : Written) → m.kind ≡ models.kind_of target
+    → HasChains m.kind demand m
+no_chains Qubo demand m kind = subst (λ k. HasChains k demand m) (sym kind) tt
+no_chains Ising demand m kind = subst (λ k. HasChains k demand m) (sym kind) tt
 
-module _ (target : Target) (unit : UnitChoice) (s : Source) (r : Read) (m : Written)
-    (stands : StandsFor s r) (made : IsModelOf r.problem r.variables target unit m) where
-  bits : m.variables ≡ s.form.bits
-  bits = made.variables ∙ stands.variables
+stands_on_nodes : (target : NodeModel) (unit : UnitChoice) (s : Source) (r : Read) (m : Written)
+    → StandsFor s r → IsModelOf r.problem r.variables target unit m
+    → IsModelFor (Nodes target) unit s m
+stands_on_nodes target unit s r m stands made =
+    let demand = plain_demand unit in
+    model_stands unit s r m stands (record {
+      fits = made.fits;
+      well_formed = made.well_formed;
+      variables = made.variables;
+      scale = made.scale;
+      threshold = made.threshold;
+      unit = made.unit;
+      relaxes = made.relaxes;
+    }) (Nodes target) demand made.kind refl refl (no_chains target demand m made.kind)
 
-  alike : DecodesAlike (form_of m) (first_decoded s.form.bits (decoding_to r.problem.variables m))
-      (decoding_of m)
-  alike y w =
-      ap (λ n. read_off m.kind n m.chains y) bits
-      ∙ sym (take-read_off m.kind s.form.bits r.problem.variables m.chains y
-      (omega (arith, stands.own, stands.variables)))
-
-  source_relaxed : Relaxes s.form (form_of m) (decoding_of m) m.unit m.figures
-  source_relaxed =
-      relaxes_alike s.form s.form (form_of m)
-      (first_decoded s.form.bits (decoding_to r.problem.variables m)) (decoding_of m)
-      m.unit m.figures (record { width = refl; costs = λ x. refl }) alike
-      (stands.relaxed (form_of m) (decoding_to r.problem.variables m) m.unit m.figures made.relaxes)
-
-  stated : IsStated s (demand_of unit) m
-  stated = record {
-    variables = bits;
-    scale = made.scale;
-    threshold = made.threshold
-        ∙ ap (λ upper. m.figures.scale *ℤ upper +ℤ m.figures.offset) stands.upper;
-    unit = made.unit;
-    chains = chains_of target unit m made.kind;
-  }
-
-  model_stands : IsModelFor target unit s m
-  model_stands = record {
-    kind = made.kind;
+module _ (unit : UnitChoice) (s : Source) (r : Read) (m : Written) (stands : StandsFor s r)
+    (graph : Chimera) (chains : List (List ℕ))
+    (made : IsGraphModelOf r.problem r.variables unit graph chains m) where
+  on_graph : IsMade r unit m
+  on_graph = record {
     fits = made.fits;
-    relaxes = source_relaxed;
-    faithful = relaxed_is_faithful s (demand_of unit) m made.well_formed stated source_relaxed;
+    well_formed = made.well_formed;
+    variables = made.variables;
+    scale = made.scale;
+    threshold = made.threshold;
+    unit = made.unit;
+    relaxes = made.relaxes;
   }
 
-source_is_compiled : (job : Job) (s : Source) (r : Read) (m : Written) → StandsFor s r
-    → IsModelOf r.problem r.variables job.target job.unit m → IsCompiled job s (model_text m)
-source_is_compiled job s r m stands made = record {
-  model = m;
-  stands = model_stands job.target job.unit s r m stands made;
-  text_of = record {
-    says = refl;
-    only = λ n formed fits same. texts_tell_models n m formed made.well_formed fits made.fits same;
-  };
+  chained : HasChains m.kind (qubits.demand_of unit graph chains) m
+  chained =
+      subst (λ k. HasChains k (qubits.demand_of unit graph chains) m) (sym made.kind) made.embedded
+
+  kind_by : (size : GraphSize) → IsGraph size graph
+      → m.kind ≡ kinds.Chimera size.rows size.cols size.shore
+  kind_by size numbered =
+      let kind = made.kind in
+      let rows = numbered.same_rows in
+      let cols = numbered.same_cols in
+      let shore = numbered.same_shore in cc
+
+  stands_on_map : (size : GraphSize) → IsGraph size graph
+      → IsModelFor (Map size chains) unit s m
+  stands_on_map size numbered =
+      model_stands unit s r m stands on_graph (Map size chains)
+      (qubits.demand_of unit graph chains) (kind_by size numbered) (graph, numbered, refl) refl
+      chained
+
+  stands_on_clique : (size : GraphSize) (nodes : ℕ) → IsGraph size graph
+      → chains ≡ clique_of graph nodes → IsModelFor (Clique size) unit s m
+  stands_on_clique size nodes numbered same =
+      let all = made.embedded.chains ∙ same in
+      let count : length m.chains ≡ nodes =
+      ap length all ∙ length-map-range_with_len (clique_chain graph) 0 nodes in
+      let again : chains ≡ clique_of graph (length m.chains) =
+      same ∙ ap (clique_of graph) (sym count) in
+      model_stands unit s r m stands on_graph (Clique size)
+      (qubits.demand_of unit graph chains) (kind_by size numbered)
+      (graph, numbered, ap (qubits.demand_of unit graph) again) refl chained
+
+-- a model that stands on a ground for the problem of a source stands there for the source
+stands_for : (base : Ground) (choices : Choices) (unit : UnitChoice) (s : Source) (r : Read)
+    (m : Written) → StandsFor s r → Stands (plan_of r choices unit base) m
+    → IsModelFor base unit s m
+stands_for (Nodes target) choices unit s r m stands made =
+    stands_on_nodes target unit s r m stands made
+stands_for (Clique size) choices unit s r m stands made =
+    let nodes = nodes_in (plan_of r choices unit (Clique size)) in
+    stands_on_clique unit s r m stands made.0 (clique_of made.0 nodes) made.2 size nodes made.1 refl
+stands_for (Map size map) choices unit s r m stands made =
+    stands_on_map unit s r m stands made.0 map made.2 size made.1
+
+formed_on : (base : Ground) (choices : Choices) (unit : UnitChoice) (r : Read) (m : Written)
+    → Stands (plan_of r choices unit base) m → IsWellFormed m
+formed_on (Nodes target) choices unit r m made = made.well_formed
+formed_on (Clique size) choices unit r m made = made.2.well_formed
+formed_on (Map size map) choices unit r m made = made.2.well_formed
+
+-- ---- of a command
+
+text_is_its : (m : Written) → IsWellFormed m → FitsFields m → IsTextOf m (model_text m)
+text_is_its m formed fits = record {
+  says = refl;
+  only = λ n other fit same. texts_tell_models n m other formed fit fits same;
 }
 
-compiled_from : (words : List (List ℕ)) (held : NamedFiles) (job : Job) (r : Read) (m : Written)
-    → sourcing words held job ≡ Some (Ok r)
-    → IsModelOf r.problem r.variables job.target job.unit m
+compiled_from : (words : List (List ℕ)) (held : NamedFiles) (job : Job) (r : Read)
+    (base : Ground) (m : Written) → sourcing words held job ≡ Some (Ok r)
+    → grounding words held job.target ≡ Some (Ok base)
+    → Stands (plan_of r job.choices job.unit base) m
     → IsCompiledFrom words held job (model_text m)
-compiled_from words held job r m e made =
+compiled_from words held job r base m e f made =
     let taken = source_is_taken words held job r e in
-    let s = problem_stands job.format taken.bytes r taken.read in (
-      s.0,
-      record { bytes = taken.bytes; found = taken.found; says = s.1 },
-      source_is_compiled job s.0 r m s.2 made,
-    )
+    let s = problem_stands job.format taken.bytes r taken.read in
+    let stands = stands_for base job.choices job.unit s.0 r m s.2 made in
+    record {
+      source = s.0;
+      from = record { bytes = taken.bytes; found = taken.found; says = s.1 };
+      base = base;
+      on = ground_is_taken words held job.target base f;
+      compiled = record {
+        model = m;
+        stands = stands;
+        text_of = text_is_its m (formed_on base job.choices job.unit r m made) stands.fits;
+      };
+    }
 
 -- the same, where the files tell what they hold
-pub told_is_compiled : (told : Option NamedFiles) (words : List (List ℕ)) (job : Job) (r : Read)
-    (m : Written)
+pub told_is_compiled : (told later : Option NamedFiles) (words : List (List ℕ)) (job : Job)
+    (r : Read) (base : Ground) (m : Written) → later ≡ told
     → WhereTold told (λ held. sourcing words held job ≡ Some (Ok r))
-    → IsModelOf r.problem r.variables job.target job.unit m
+    → WhereTold later (λ held. grounding words held job.target ≡ Some (Ok base))
+    → Stands (plan_of r job.choices job.unit base) m
     → WhereTold told (λ held. IsCompiledFrom words held job (model_text m))
-told_is_compiled None words job r m e made = tt
-told_is_compiled (Some held) words job r m e made = compiled_from words held job r m e made
+told_is_compiled None later words job r base m same e f made = tt
+told_is_compiled (Some held) later words job r base m same e f made =
+    compiled_from words held job r base m e
+    (subst (λ (told : Option NamedFiles).
+    WhereTold told (λ h. grounding words h job.target ≡ Some (Ok base))) same f) made
 
--- the summary of a model of what a sample is read into
-pub sample_is_summed : (sample : Sample) (r : Read) (m : Written) → IsSampleRead sample r
-    → IsModelOf r.problem r.variables sample.target sample.unit m
-    → IsSampled sample (summary_text m)
-sample_is_summed sample r m read made =
+summed_of : (words : List (List ℕ)) (held : NamedFiles) (sample : Sample) (r : Read)
+    (base : Ground) (m : Written) → IsSampleRead sample r
+    → grounding words held sample.target ≡ Some (Ok base)
+    → Stands (plan_of r sample.choices sample.unit base) m
+    → IsSampled words held sample (summary_text m)
+summed_of words held sample r base m read f made =
     let s = problem_stands Wcnf (sample_text sample.number sample.clauses) r read.read_from in
     record {
       source = s.0;
       says = s.1;
+      base = base;
+      on = ground_is_taken words held sample.target base f;
       model = m;
-      stands = model_stands sample.target sample.unit s.0 r m s.2 made;
+      stands = stands_for base sample.choices sample.unit s.0 r m s.2 made;
       summary = refl;
     }
+
+-- the summary of a model of what a sample is read into
+pub sample_is_summed : (told : Option NamedFiles) (words : List (List ℕ)) (sample : Sample)
+    (r : Read) (base : Ground) (m : Written) → IsSampleRead sample r
+    → WhereTold told (λ held. grounding words held sample.target ≡ Some (Ok base))
+    → Stands (plan_of r sample.choices sample.unit base) m
+    → WhereTold told (λ held. IsSampled words held sample (summary_text m))
+sample_is_summed None words sample r base m read f made = tt
+sample_is_summed (Some held) words sample r base m read f made =
+    summed_of words held sample r base m read f made

@@ -15,7 +15,7 @@ use Rattle.source_texts.specs.declared.reading.Read.{Read}
 use Rattle.source_texts.specs.Sources.{problem_of, problem_of_words, style_of}
 use Rattle.source_texts.proofs.WordTexts.{words_read}
 use Rattle.program_run.specs.declared.status.Status.{Status}
-use Rattle.program_run.specs.declared.status.Status.TheVariants.{Done, Usage, ReadFault, WriteFault, BadText, Limit, NoState, NoMemory}
+use Rattle.program_run.specs.declared.status.Status.TheVariants.{Done, Usage, ReadFault, WriteFault, BadText, Limit, NotEmbedded, NoState, NoMemory}
 use Rattle.program_run.specs.Outcome.{Step, ◌>>=◌, taking, from_text, reading, Meets, Refuses}
 use Rattle.program_run.specs.Cut.{AreWordsOf, cutting}
 use Rattle.program_run.proofs.Taken.{bound}
@@ -154,6 +154,7 @@ refuses_as WriteFault m n same refused = refused
 refuses_as (Usage position) m n same refused = refused
 refuses_as (BadText which kind line) m n same refused = same refused
 refuses_as (Limit which kind number) m n same refused = same refused
+refuses_as (NotEmbedded fault) m n same refused = refused
 refuses_as (NoState width) m n same refused = same refused
 
 -- a source that could not be taken is refused

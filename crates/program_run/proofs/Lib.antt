@@ -1,5 +1,13 @@
 pub mod Refusals
+pub mod SameGraph
 pub mod Taken
+pub mod Grounded
+pub mod NextFile
+pub mod CommandFiles
+pub mod Embedded
+pub mod Plans
+pub mod Stood
 pub mod Compiled
 pub mod Cutting
 pub mod Sampled
+pub mod Said

@@ -1,17 +1,14 @@
 -- The text of a sample is read, and passes no limit.
-use Rattle.std.proofs.Common.{◌≡◌, ◌≤◌, ℕ, List, Ok, Err, Some, None, Result, refl, sym, ap, ◌∙◌, subst}
+use Rattle.std.proofs.Common.{◌≡◌, ◌≤◌, Ok, Err, Result, sym, ap, ◌∙◌, subst}
 use Rattle.whole_text.specs.declared.faults.TextFault.{TextFault}
 use Rattle.whole_text.specs.Steps.{◌>>=◌}
 use Rattle.problem_form.specs.Problems.{ProblemContent}
-use Rattle.problem_form.specs.Limits.{limit_fault}
 use Rattle.command_words.specs.declared.commands.Format.TheVariants.{Wcnf}
 use Rattle.command_words.specs.declared.commands.Sample.{Sample}
 use Rattle.sample_text.specs.Sample.{sample_text}
 use Rattle.sample_text.proofs.EachRead.{each_sample_is_read}
-use Rattle.model_text.specs.Summary.{summary_text}
 use Rattle.source_texts.specs.declared.reading.Read.{Read}
 use Rattle.source_texts.specs.Sources.{own, problem_of}
-use Rattle.program_run.specs.Outcome.{sample_model, sampling}
 use Rattle.program_run.specs.Samples.{IsSampleRead}
 
 -- there is something that it is read into
@@ -40,9 +37,3 @@ sample_has_no_fault sample fault few e =
     let other = read_into sample few in
     let both = sym other.1.read_from ∙ e in
     absurd cc
-
--- so its summary is that of the model
-pub sample_is_answered : (sample : Sample) (read : Read) → IsSampleRead sample read
-    → sampling sample ≡ Some (Ok (summary_text (sample_model sample read)))
-unfolding sampling
-sample_is_answered sample read is_read = rw (is_read.read_from, is_read.within) refl

@@ -40,7 +40,7 @@ pub taken_is_held : (held : NamedFiles) (which : Which) (name bytes : List ℕ)
 unfolding taking
 taken_is_held held which name bytes e = found_is_held which bytes (find_file held name) e
 
-text_is_read : {A : Type 0} (which : Which) (read : Result A TextFault) (x : A)
+pub text_is_read : {A : Type 0} (which : Which) (read : Result A TextFault) (x : A)
     → from_text which read ≡ Some (Ok x) → read ≡ Ok x
 text_is_read which (Ok y) x e = cc
 text_is_read which (Err fault) x e = absurd cc

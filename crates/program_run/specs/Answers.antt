@@ -1,5 +1,5 @@
 -- What a command answers of the held files, and how the answer is delivered.
-use Rattle.std.specs.Prelude.{◌≡◌, ℕ, List, [], Ok, Err, Some, Result, false, ⊤}
+use Rattle.std.specs.Prelude.{◌≡◌, ℕ, List, length, Ok, Err, Some, Result, ⊤}
 use Rattle.std.specs.declared.option.Option.{Option}
 use Rattle.std.specs.Io.KnownBytes.{Appends}
 use Rattle.edge_io.specs.Held.{NamedFiles, find_file, WhereTold}
@@ -15,6 +15,10 @@ use Rattle.model_text.specs.Summary.{summary_text}
 use Rattle.model_text.specs.Told.{IsTextOf}
 use Rattle.command_words.specs.declared.commands.Format.TheVariants.{Wcnf}
 use Rattle.command_words.specs.declared.commands.Target.{Target}
+use Rattle.command_words.specs.declared.commands.Target.TheVariants.{Nodes, Chimera}
+use Rattle.command_words.specs.declared.commands.Chaining.TheVariants.{Clique}
+use Rattle.command_words.specs.declared.commands.Chaining.TheVariants as chainings
+use Rattle.chain_map.specs.Maps as maps
 use Rattle.command_words.specs.declared.commands.Job.{Job}
 use Rattle.command_words.specs.declared.commands.Sample.{Sample}
 use Rattle.command_words.specs.declared.commands.Command.{Command}
@@ -22,7 +26,9 @@ use Rattle.command_words.specs.declared.commands.Command.TheVariants as commands
 use Rattle.command_words.specs.Commands.{command_of}
 use Rattle.command_words.specs.Names.{text_at}
 use Rattle.source_texts.specs.Sources.{source_of}
-use Rattle.model_pipeline.specs.Models.{kind_of}
+use Rattle.program_run.specs.declared.grounds.Ground.{Ground}
+use Rattle.program_run.specs.declared.grounds.Ground.TheVariants as grounds
+use Rattle.program_run.specs.Grounds.{kind_of, IsDemand}
 use Rattle.program_run.specs.declared.answers.Answer.{Answer}
 use Rattle.program_run.specs.declared.answers.Answer.TheVariants.{Model, Text}
 use Rattle.program_run.specs.declared.status.Status.{Status}
@@ -37,38 +43,52 @@ pub record IsHeldSource (words : List (List ℕ)) (held : NamedFiles) (job : Job
   pub found : find_file held (text_at words job.file) ≡ Some bytes
   pub says : source_of job.format bytes ≡ Ok source
 
--- what a command asks of its model: the unit that it chooses, and no chains
-abbrev pub demand_of : UnitChoice → Demand
-demand_of unit = record { unit = unit; chains = []; joined = λ p q. false }
+-- the ground of a target, its map read from the held file
+abbrev pub IsGroundOf : List (List ℕ) → NamedFiles → Target → Ground → Type 0
+IsGroundOf words held (Nodes target) base = base ≡ grounds.Nodes target
+IsGroundOf words held (Chimera size Clique) base = base ≡ grounds.Clique size
+IsGroundOf words held (Chimera size (chainings.Map at)) base =
+    (bytes : List ℕ) × (find_file held (text_at words at) ≡ Some bytes)
+    × ((map : List (List ℕ)) × (maps.reading bytes ≡ Ok map) × (base ≡ grounds.Map size map))
 
--- a model for this target, every state of which stands for the source, and whose least states are
+-- a model on this ground, every state of which stands for the source, and whose least states are
 -- the least assignments of the source
-pub record IsModelFor (target : Target) (unit : UnitChoice) (source : Source) (model : Written)
+pub record IsModelFor (base : Ground) (unit : UnitChoice) (source : Source) (model : Written)
     : Type 0 where
-  pub kind : model.kind ≡ kind_of target
+  pub kind : model.kind ≡ kind_of base
   pub fits : FitsFields model
   pub relaxes : Relaxes source.form (form_of model) (decoding_of model) model.unit model.figures
-  pub faithful : Faithful source (demand_of unit) model
+  pub demand : Demand
+  pub asked : IsDemand base unit (length model.chains) demand
+  pub faithful : Faithful source demand model
 
 -- the text is that of one such model
-pub record IsCompiled (job : Job) (source : Source) (text : List ℕ) : Type 0 where
+pub record IsCompiled (base : Ground) (unit : UnitChoice) (source : Source) (text : List ℕ)
+    : Type 0 where
   pub model : Written
-  pub stands : IsModelFor job.target job.unit source model
+  pub stands : IsModelFor base unit source model
   pub text_of : IsTextOf model text
 
--- the text is compiled from the held source of a job
-abbrev pub IsCompiledFrom : List (List ℕ) → NamedFiles → Job → List ℕ → Type 0
-IsCompiledFrom words held job text =
-    (source : Source) × IsHeldSource words held job source × IsCompiled job source text
+-- the text is compiled from the held source of a job, on the ground of its target
+pub record IsCompiledFrom (words : List (List ℕ)) (held : NamedFiles) (job : Job) (text : List ℕ)
+    : Type 0 where
+  pub source : Source
+  pub from : IsHeldSource words held job source
+  pub base : Ground
+  pub on : IsGroundOf words held job.target base
+  pub compiled : IsCompiled base job.unit source text
 
 -- ---- of a sample
 
 -- the text is the summary of such a model of the source that the sample's text says
-pub record IsSampled (sample : Sample) (text : List ℕ) : Type 0 where
+pub record IsSampled (words : List (List ℕ)) (held : NamedFiles) (sample : Sample) (text : List ℕ)
+    : Type 0 where
   pub source : Source
   pub says : source_of Wcnf (sample_text sample.number sample.clauses) ≡ Ok source
+  pub base : Ground
+  pub on : IsGroundOf words held sample.target base
   pub model : Written
-  pub stands : IsModelFor sample.target sample.unit source model
+  pub stands : IsModelFor base sample.unit source model
   pub summary : text ≡ summary_text model
 
 -- ---- of a command
@@ -76,7 +96,7 @@ pub record IsSampled (sample : Sample) (text : List ℕ) : Type 0 where
 -- what a command answers: a line a command
 abbrev pub IsAnswer : List (List ℕ) → NamedFiles → Command → List ℕ → Type 0
 IsAnswer words held (commands.Compile job) text = IsCompiledFrom words held job text
-IsAnswer words held (commands.Sample sample) text = IsSampled sample text
+IsAnswer words held (commands.Sample sample) text = IsSampled words held sample text
 
 -- the text is the answer to a command of the words
 abbrev pub IsAnswerIn : List (List ℕ) → NamedFiles → Result Command ℕ → List ℕ → Type 0

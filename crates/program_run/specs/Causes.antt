@@ -4,9 +4,13 @@ use Rattle.std.specs.Prelude.{◌≡◌, ◌≤◌, ℕ, zero, suc, List, [], �
 use Rattle.edge_io.specs.Counts.{Counts, Rose, count_after}
 use Rattle.problem_form.specs.declared.limits.LimitKind.TheVariants.{Bytes}
 use Rattle.command_words.specs.declared.names.Which.{Which}
-use Rattle.command_words.specs.declared.names.Which.TheVariants.{Source, State}
+use Rattle.command_words.specs.declared.names.Which.TheVariants.{Source, Map, State}
 use Rattle.command_words.specs.declared.commands.Command.{Command}
-use Rattle.command_words.specs.Names.{name_of, place_of, files_of, number_in}
+use Rattle.command_words.specs.declared.commands.Target.{Target}
+use Rattle.command_words.specs.declared.commands.Target.TheVariants.{Nodes, Chimera}
+use Rattle.command_words.specs.declared.commands.Chaining.TheVariants.{Clique}
+use Rattle.command_words.specs.declared.commands.Chaining.TheVariants as chainings
+use Rattle.command_words.specs.Names.{text_at, name_of, place_of, files_of, number_in}
 use Rattle.program_run.specs.declared.status.Status.{Status}
 use Rattle.program_run.specs.declared.status.Status.TheVariants.{Usage, ReadFault, BadText, Limit, NoState, NoMemory}
 
@@ -57,10 +61,24 @@ IsRefusedBy which name count (NoState width) old new = (which ≡ State) × AreR
 IsRefusedBy which name count NoMemory old new = ⊤
 IsRefusedBy which name count status old new = ⊥
 
--- what a step leaves that takes so many files, the last of them of this name: they are read, and the count of faults did not fall
+-- what a step leaves that takes so many files, the last of them of this name: they are read, and the
+-- count of faults did not fall
 pub record IsPassed (name : List ℕ) (count : ℕ) (old new : Counts) : Type 0 where
   pub read : AreRead name count old new
   pub later : old.faults ≤ new.faults
+
+-- what is left where a target's ground is taken: the map that it names is read, or nothing is
+abbrev pub IsGrounded : List (List ℕ) → Target → Counts → Counts → Type 0
+IsGrounded words (Nodes target) old new = new ≡ old
+IsGrounded words (Chimera size Clique) old new = new ≡ old
+IsGrounded words (Chimera size (chainings.Map at)) old new = IsPassed (text_at words at) 1 old new
+
+-- what is left where it is refused, which only a map is
+abbrev pub IsUngrounded : List (List ℕ) → Target → Status → Counts → Counts → Type 0
+IsUngrounded words (Nodes target) status old new = ⊥
+IsUngrounded words (Chimera size Clique) status old new = ⊥
+IsUngrounded words (Chimera size (chainings.Map at)) status old new =
+    IsRefusedBy Map (text_at words at) 1 status old new
 
 -- ---- of a command
 

@@ -1,5 +1,7 @@
 pub mod Statuses
 pub mod Causes
+pub mod Grounds
+pub mod Standing
 pub mod Outcome
 pub mod Answers
 pub mod Lines

@@ -7,6 +7,8 @@ use Rattle.edge_io.specs.Counts.{Rose}
 use Rattle.edge_io.specs.Sinks.{AppendsFront}
 use Rattle.whole_text.specs.declared.faults.TextKind.{TextKind}
 use Rattle.whole_text.specs.declared.faults.TextKind.TheVariants.{Word, Number, Range, End, Extra}
+use Rattle.chain_map.specs.declared.faults.EmbedFault.{EmbedFault}
+use Rattle.chain_map.specs.declared.faults.EmbedFault.TheVariants.{ChainCount, EmptyChain, NoSuchQubit, Repeated, Disconnected, NoCoupler, TooManyNodes}
 use Rattle.problem_form.specs.declared.limits.LimitKind.{LimitKind}
 use Rattle.problem_form.specs.declared.limits.LimitKind.TheVariants.{Bytes, Variables, Degree, Negations, Pairs, Weight}
 use Rattle.command_words.specs.declared.names.Which.{Which}
@@ -15,7 +17,7 @@ use Rattle.command_words.specs.declared.commands.Command.{Command}
 use Rattle.command_words.specs.Commands.{command_of}
 use Rattle.command_words.specs.Names.{name_of}
 use Rattle.program_run.specs.declared.status.Status.{Status}
-use Rattle.program_run.specs.declared.status.Status.TheVariants.{Done, Usage, ReadFault, WriteFault, BadText, Limit, NoState, NoMemory}
+use Rattle.program_run.specs.declared.status.Status.TheVariants.{Done, Usage, ReadFault, WriteFault, BadText, Limit, NotEmbedded, NoState, NoMemory}
 
 -- the file that a status speaks of
 abbrev pub file_in : Status → Which
@@ -51,6 +53,22 @@ limit_words Negations = codes ": limit negations "
 limit_words Pairs = codes ": limit pairs "
 limit_words Weight = codes ": limit weight "
 
+-- what the line for an embedding says after its first words
+abbrev pub fault_pieces : EmbedFault → List (List ℕ)
+fault_pieces (ChainCount count) = decimal count ∷ codes " chains\n" ∷ []
+fault_pieces (EmptyChain node) = codes "chain " ∷ decimal node ∷ codes " is empty\n" ∷ []
+fault_pieces (NoSuchQubit node qubit) =
+    codes "chain " ∷ decimal node ∷ codes " names qubit " ∷ decimal qubit ∷ codes "\n" ∷ []
+fault_pieces (Repeated qubit) = codes "qubit " ∷ decimal qubit ∷ codes " is repeated\n" ∷ []
+fault_pieces (Disconnected node qubit) =
+    codes "chain " ∷ decimal node ∷ codes " does not reach qubit " ∷ decimal qubit
+    ∷ codes "\n" ∷ []
+fault_pieces (NoCoupler first second) =
+    codes "no coupler between " ∷ decimal first ∷ codes " and " ∷ decimal second
+    ∷ codes "\n" ∷ []
+fault_pieces (TooManyNodes nodes places) =
+    decimal nodes ∷ codes " nodes for " ∷ decimal places ∷ codes " places\n" ∷ []
+
 -- the line, piece by piece, of the file's name
 abbrev pub error_pieces : Status → List ℕ → List (List ℕ)
 error_pieces Done name = []
@@ -60,6 +78,7 @@ error_pieces WriteFault name = codes "cannot write\n" ∷ []
 error_pieces (BadText which kind line) name = name ∷ codes ":" ∷ decimal line ∷ kind_end kind ∷ []
 error_pieces (Limit which kind number) name =
     name ∷ limit_words kind ∷ decimal number ∷ codes "\n" ∷ []
+error_pieces (NotEmbedded fault) name = codes "not embedded: " ∷ fault_pieces fault
 error_pieces (NoState length) name =
     name ∷ codes ": no state of " ∷ decimal length ∷ codes " characters\n" ∷ []
 error_pieces NoMemory name = codes "out of memory\n" ∷ []

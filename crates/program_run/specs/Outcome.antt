@@ -11,21 +11,28 @@ use Rattle.problem_form.specs.declared.limits.LimitFault.{LimitFault}
 use Rattle.problem_form.specs.declared.limits.LimitKind.TheVariants.{Bytes}
 use Rattle.problem_form.specs.Limits.{limit_fault, most_bytes}
 use Rattle.command_words.specs.declared.names.Which.{Which}
-use Rattle.command_words.specs.declared.names.Which.TheVariants.{Source}
+use Rattle.command_words.specs.declared.names.Which.TheVariants.{Source, Map}
 use Rattle.sample_text.specs.Sample.{sample_text}
 use Rattle.command_words.specs.declared.commands.Format.TheVariants.{Wcnf}
 use Rattle.command_words.specs.declared.commands.Job.{Job}
 use Rattle.command_words.specs.declared.commands.Sample.{Sample}
 use Rattle.command_words.specs.declared.commands.Command.{Command}
 use Rattle.command_words.specs.declared.commands.Command.TheVariants as commands
+use Rattle.command_words.specs.declared.commands.Target.{Target}
+use Rattle.command_words.specs.declared.commands.Target.TheVariants.{Nodes, Chimera}
+use Rattle.command_words.specs.declared.commands.Chaining.TheVariants.{Clique}
+use Rattle.command_words.specs.declared.commands.Chaining.TheVariants as chainings
+use Rattle.chain_map.specs.Maps as maps
 use Rattle.command_words.specs.Commands.{command_of}
 use Rattle.command_words.specs.Names.{text_at}
 use Rattle.source_texts.specs.declared.reading.Read.{Read}
 use Rattle.source_texts.specs.Sources.{problem_of}
-use Rattle.model_pipeline.specs.Models.{model}
 use Rattle.program_run.specs.Statuses.{IsDoneOrWant}
+use Rattle.program_run.specs.declared.grounds.Ground.{Ground}
+use Rattle.program_run.specs.declared.grounds.Ground.TheVariants as grounds
+use Rattle.program_run.specs.Grounds.{Plan, plan_of, IsModelBy, CanStand, IsFaultIn}
 use Rattle.program_run.specs.declared.status.Status.{Status}
-use Rattle.program_run.specs.declared.status.Status.TheVariants.{Done, Usage, ReadFault, WriteFault, BadText, Limit, NoMemory}
+use Rattle.program_run.specs.declared.status.Status.TheVariants.{Done, Usage, ReadFault, WriteFault, BadText, Limit, NotEmbedded, NoMemory}
 
 -- ---- steps
 
@@ -75,65 +82,81 @@ sourcing words held job = do
   read ← reading words held job
   from_limits read (limit_fault job.choices.normal read.problem)
 
+-- the chains of a map, read from the file of this name
+unfoldable pub mapping : NamedFiles → List ℕ → Step (List (List ℕ))
+mapping held name = do
+  bytes ← taking held Map name
+  from_text Map (maps.reading bytes)
+
+-- what a target stands on, with the map that it names
+unfoldable pub grounding : List (List ℕ) → NamedFiles → Target → Step Ground
+grounding words held (Nodes target) = Some (Ok (grounds.Nodes target))
+grounding words held (Chimera size Clique) = Some (Ok (grounds.Clique size))
+grounding words held (Chimera size (chainings.Map at)) = do
+  map ← mapping held (text_at words at)
+  Some (Ok (grounds.Map size map))
+
 -- ---- commands
 
--- the model of a source, as a job chooses its steps
-abbrev pub model_for : Job → Read → Written
-model_for job read = model job.choices job.target job.unit read.variables read.problem
-
--- the text of the model of the source
-unfoldable pub compiling : List (List ℕ) → NamedFiles → Job → Step (List ℕ)
+-- what the model of a source is made of
+unfoldable pub compiling : List (List ℕ) → NamedFiles → Job → Step Plan
 compiling words held job = do
   read ← sourcing words held job
-  Some (Ok (model_text (model_for job read)))
+  base ← grounding words held job.target
+  Some (Ok (plan_of read job.choices job.unit base))
 
--- the model of a source, as a sample chooses its steps
-abbrev pub sample_model : Sample → Read → Written
-sample_model sample read =
-    model sample.choices sample.target sample.unit read.variables read.problem
-
--- the summary of the model of a sample: its text is read and checked as a file's is
-unfoldable pub sampling : Sample → Step (List ℕ)
-sampling sample = do
+-- what the model of a sample is made of: its text is read and checked as a file's is
+unfoldable pub sampling : List (List ℕ) → NamedFiles → Sample → Step Plan
+sampling words held sample = do
   read ← from_text Source (problem_of Wcnf (sample_text sample.number sample.clauses))
   checked ← from_limits read (limit_fault sample.choices.normal read.problem)
-  Some (Ok (summary_text (sample_model sample checked)))
+  base ← grounding words held sample.target
+  Some (Ok (plan_of checked sample.choices sample.unit base))
 
--- what a command answers: a line a command
-abbrev pub answering : List (List ℕ) → NamedFiles → Command → Step (List ℕ)
-answering words held (commands.Compile job) = compiling words held job
-answering words held (commands.Sample sample) = sampling sample
+-- what the model of a command is made of: a line a command
+abbrev pub planning : List (List ℕ) → NamedFiles → Command → Step Plan
+planning words held (commands.Compile job) = compiling words held job
+planning words held (commands.Sample sample) = sampling words held sample
+
+-- what a command says of its model: all of it, or a summary
+abbrev pub said : Command → Written → List ℕ
+said (commands.Compile job) m = model_text m
+said (commands.Sample sample) m = summary_text m
 
 -- ---- the outcome
 
--- the status of what is answered
-abbrev pub status_of : Step (List ℕ) → Option Status
-status_of None = None
-status_of (Some (Ok text)) = Some Done
-status_of (Some (Err status)) = Some status
+-- what the model of the words is made of; where they are no command, the position is a usage fault
+abbrev pub planned_in : List (List ℕ) → NamedFiles → Result Command ℕ → Step Plan
+planned_in words held (Err position) = Some (Err (Usage position))
+planned_in words held (Ok command) = planning words held command
 
--- the outcome of a command of the words; there is none where a file isn't held
-abbrev pub outcome_in : List (List ℕ) → NamedFiles → Result Command ℕ → Option Status
-outcome_in words held (Err position) = Some (Usage position)
-outcome_in words held (Ok command) = status_of (answering words held command)
+abbrev pub planned : List (List ℕ) → NamedFiles → Step Plan
+planned words held = planned_in words held (command_of words)
 
--- the outcome of words
-abbrev pub outcome_of : List (List ℕ) → NamedFiles → Option Status
-outcome_of words held = outcome_in words held (command_of words)
+-- the outcome: the status of the first step that refuses, the embedding being the last one, and
+-- else Done; there is none where a file isn't held
+abbrev pub IsOutcome : Step Plan → Status → Type 0
+IsOutcome None status = ⊥
+IsOutcome (Some (Err refusal)) status = status ≡ refusal
+IsOutcome (Some (Ok plan)) Done = CanStand plan
+IsOutcome (Some (Ok plan)) (NotEmbedded fault) = IsFaultIn plan fault
+IsOutcome (Some (Ok plan)) status = ⊥
 
 -- the status is the outcome, unless it is a fault or want of memory; a file that cannot be read
 -- comes before its outcome, and what cannot be written comes only where the outcome is Done
-abbrev pub MeetsOutcome : Status → Option Status → Type 0
-MeetsOutcome (ReadFault which) outcome = ⊤
-MeetsOutcome NoMemory outcome = ⊤
-MeetsOutcome WriteFault outcome = outcome ≡ Some Done
-MeetsOutcome status outcome = outcome ≡ Some status
+abbrev pub MeetsOutcome : Status → Step Plan → Type 0
+MeetsOutcome (ReadFault which) step = ⊤
+MeetsOutcome NoMemory step = ⊤
+MeetsOutcome WriteFault step = IsOutcome step Done
+MeetsOutcome status step = IsOutcome step status
 
 -- where the files tell what they hold, and the outcome is Done, so is the status, or memory was
 -- wanting
 abbrev pub IsComplete : Status → Option NamedFiles → List (List ℕ) → Type 0
 IsComplete status told words =
-    WhereTold told (λ held. outcome_of words held ≡ Some Done → IsDoneOrWant status)
+    WhereTold told (λ held. IsOutcome (planned words held) Done → IsDoneOrWant status)
+
+-- ---- what functions return of it
 
 -- a status that a step may have refuses as the step does
 abbrev pub Refuses : {A : Type 0} → Status → Step A → Type 0
@@ -142,9 +165,25 @@ Refuses NoMemory step = ⊤
 Refuses Done step = ⊥
 Refuses WriteFault step = ⊥
 Refuses (Usage position) step = ⊥
+Refuses (NotEmbedded fault) step = ⊥
 Refuses status step = step ≡ Some (Err status)
 
 -- what a function returned, seen by view, is what the step gives
 abbrev pub Meets : {X A : Type 0} → (X → A) → Result X Status → Step A → Type 0
 Meets view (Ok x) step = step ≡ Some (Ok (view x))
 Meets view (Err status) step = Refuses status step
+
+-- a status that a command may have refuses as its steps do, or as the embedding does
+abbrev pub RefusesPlan : Status → Step Plan → Type 0
+RefusesPlan (NotEmbedded fault) step =
+    (plan : Plan) × (step ≡ Some (Ok plan)) × IsFaultIn plan fault × ¬ (CanStand plan)
+RefusesPlan status step = Refuses status step
+
+-- what a function returned, seen by view, says of a model what is asked, and is the model of the
+-- plan that the step gives
+abbrev pub MeetsPlan : {X : Type 0} → (X → List ℕ) → (Written → List ℕ) → Result X Status
+    → Step Plan → Type 0
+MeetsPlan view say (Ok x) step =
+    (plan : Plan) × (step ≡ Some (Ok plan)) × CanStand plan
+    × ((m : Written) × IsModelBy plan m × (view x ≡ say m))
+MeetsPlan view say (Err status) step = RefusesPlan status step

@@ -1,9 +1,9 @@
 -- What holds at one status.
 use Rattle.std.specs.Prelude.{◌≡◌, ℕ, Ok, Err, Result, ⊤}
 use Rattle.command_words.specs.declared.commands.Command.{Command}
-use Rattle.command_words.specs.declared.names.Which.TheVariants.{Source}
+use Rattle.command_words.specs.declared.names.Which.{Which}
 use Rattle.program_run.specs.declared.status.Status.{Status}
-use Rattle.program_run.specs.declared.status.Status.TheVariants.{Done, Usage, ReadFault, WriteFault, BadText, Limit, NoState, NoMemory}
+use Rattle.program_run.specs.declared.status.Status.TheVariants.{Done, Usage, ReadFault, WriteFault, BadText, Limit, NotEmbedded, NoState, NoMemory}
 
 -- `Usage` comes exactly where the words are no command, and has the position
 abbrev pub IsUsageOf : Status → Result Command ℕ → Type 0
@@ -60,6 +60,7 @@ exit_number (ReadFault which) = 3
 exit_number WriteFault = 4
 exit_number (BadText which kind line) = 5
 exit_number (Limit which kind number) = 6
+exit_number (NotEmbedded fault) = 7
 exit_number (NoState length) = 8
 exit_number NoMemory = 9
 
@@ -74,8 +75,8 @@ IsUntaken NoMemory = ⊤
 IsUntaken (Usage position) = position ≡ 0
 IsUntaken _ = ⊥
 
--- a status of a text: it is bad, or memory was wanting
-abbrev pub IsTextRefusal : Status → Type 0
-IsTextRefusal (BadText which kind line) = which ≡ Source
-IsTextRefusal NoMemory = ⊤
-IsTextRefusal status = ⊥
+-- a status of the text of a file: it is bad, or memory was wanting
+abbrev pub IsTextRefusal : Which → Status → Type 0
+IsTextRefusal which (BadText other kind line) = other ≡ which
+IsTextRefusal which NoMemory = ⊤
+IsTextRefusal which status = ⊥

@@ -2,7 +2,8 @@
 ghost use Rattle.std.specs.Prelude.{◌≡◌, map, string_bytes, IfOk, IfErr};
 ghost use Rattle.edge_io.specs.Held.{WhereTold};
 ghost use Rattle.command_words.specs.Commands.{HasFewClauses};
-ghost use Rattle.program_run.specs.Outcome.{Meets, answering};
+ghost use Rattle.command_words.specs.Shapes.{HasShape};
+ghost use Rattle.program_run.specs.Outcome.{MeetsPlan, planning, said};
 ghost use Rattle.program_run.specs.Statuses.{ended, IsRefusal};
 ghost use Rattle.program_run.specs.Answers.{text_of, IsAnswer};
 ghost use Rattle.program_run.specs.Causes.{AreFiles};
@@ -29,9 +30,10 @@ pub fn answer_to<F: Files>(
     command: Command,
     files: &mut F,
 ) -> Result<Answer, Status>
-    requires { HasFewClauses command }
-    ensures step { WhereTold (F.held files.old) (λ held. Meets text_of result
-        (answering (map string_bytes words.now) held command)) }
+    requires few { HasFewClauses command }
+    requires shape { HasShape command }
+    ensures step { WhereTold (F.held files.old) (λ held. MeetsPlan text_of (said command) result
+        (planning (map string_bytes words.now) held command)) }
     ensures files { AreFiles (map string_bytes words.now) command (ended result)
         (F.counts files.old) (F.counts files.new) }
     ensures answer { IfOk result (λ answer. WhereTold (F.held files.old) (λ held.
@@ -40,6 +42,6 @@ pub fn answer_to<F: Files>(
 {
     match command {
         Command::Compile(job) => compile(alloc, words, job, files),
-        Command::Sample(drawn) => sample(alloc, drawn),
+        Command::Sample(drawn) => sample(alloc, words, drawn, files),
     }
 }

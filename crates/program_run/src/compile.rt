@@ -1,21 +1,23 @@
 //! The command `compile`: the model of a source.
-ghost use Rattle.std.specs.Prelude.{◌≡◌, [], ◌∷◌, map, string_bytes, IfOk, IfErr};
+ghost use Rattle.std.specs.Prelude.{◌≡◌, map, string_bytes, IfOk, IfErr};
 ghost use Rattle.edge_io.specs.Held.{WhereTold};
-ghost use Rattle.command_words.specs.Names.{files_of};
-ghost use Rattle.program_run.specs.Outcome.{Meets, compiling};
+ghost use Rattle.model_text.specs.Rows.{model_text};
+ghost use Rattle.command_words.specs.Shapes.{HasShapeIn};
+ghost use Rattle.program_run.specs.Outcome.{MeetsPlan, compiling};
 ghost use Rattle.program_run.specs.Statuses.{ended, IsRefusal};
 ghost use Rattle.program_run.specs.Answers.{text_of, IsCompiledFrom};
 ghost use Rattle.program_run.specs.Causes.{AreFiles};
 
 use crate::answers::Answer;
+use crate::grounds::take_ground;
+use crate::planned::model_on;
 use crate::status::Status;
 use crate::steps::take_source;
-use command_words::{Command, Job, Which};
+use command_words::{Command, Job};
 use edge_io::Files;
-use model_pipeline::model_of;
 use std::alloc::Global;
 
-/// The model of the source.
+/// The model of the source, on the ground of its target.
 #[tactic(auto, unfolding(crate::specs::Outcome::compiling))]
 pub fn compile<F: Files>(
     alloc: Global,
@@ -23,8 +25,8 @@ pub fn compile<F: Files>(
     job: Job,
     files: &mut F,
 ) -> Result<Answer, Status>
-    requires { files_of (Command.Compile job) ≡ Which.Source ∷ [] }
-    ensures step { WhereTold (F.held files.old) (λ held. Meets text_of result
+    requires { HasShapeIn job.target }
+    ensures step { WhereTold (F.held files.old) (λ held. MeetsPlan text_of model_text result
         (compiling (map string_bytes words.now) held job)) }
     ensures files { AreFiles (map string_bytes words.now) (Command.Compile job) (ended result)
         (F.counts files.old) (F.counts files.new) }
@@ -33,15 +35,12 @@ pub fn compile<F: Files>(
     ensures refusal { IfErr result IsRefusal }
 {
     let read = take_source(alloc, words, job, files)?;
-    match model_of(
-        alloc,
-        read.problem,
-        read.variables,
-        &job.choices,
-        job.target,
-        job.unit,
-    ) {
+    let base = match take_ground(alloc, words, job.target, files) {
+        Ok(base) => base,
+        Err(status) => return Err(status),
+    };
+    match model_on(alloc, read, &job.choices, job.unit, base) {
         Ok(model) => Ok(Answer::Model(model)),
-        Err(_) => Err(Status::NoMemory),
+        Err(status) => Err(status),
     }
 }

@@ -1,9 +1,10 @@
 //! The line for a status, written in pieces that take no memory.
-ghost use Rattle.std.specs.Prelude.{◌≡◌, [], ◌∷◌};
+ghost use Rattle.std.specs.Prelude.{◌≡◌, [], ◌∷◌, codes, decimal};
 ghost use Rattle.std.specs.List.{concat};
-ghost use Rattle.program_run.specs.Lines.{error_line, kind_end, limit_words, IsSaid};
+ghost use Rattle.program_run.specs.Lines.{error_line, fault_pieces, kind_end, limit_words, IsSaid};
 
 use crate::status::Status;
+use chain_map::EmbedFault;
 use edge_io::{Sink, write_pieces};
 use itoa::Buffer;
 use problem_form::LimitKind;
@@ -42,6 +43,88 @@ fn put<E: Sink>(err: &mut E, first: &[u8], second: &[u8], third: &[u8], last: &[
     let _ = write_pieces(err, &[first, second, third, last]);
 }
 
+/// Writes six pieces, or a front of them where the sink fails.
+fn put_six<E: Sink>(
+    err: &mut E,
+    first: &[u8],
+    second: &[u8],
+    third: &[u8],
+    fourth: &[u8],
+    fifth: &[u8],
+    last: &[u8],
+)
+    ensures { IsSaid (E.bytes err.old) (E.bytes err.new) (E.faults err.old) (E.faults err.new)
+        (concat (first.now ∷ second.now ∷ third.now ∷ fourth.now ∷ fifth.now ∷ last.now ∷ [])) }
+{
+    let _ = write_pieces(err, &[first, second, third, fourth, fifth, last]);
+}
+
+/// Writes what is wrong with an embedding in words round a number, or a front of them where the
+/// sink fails.
+fn put_number<E: Sink>(err: &mut E, before: &[u8], number: u64, after: &[u8])
+    ensures { IsSaid (E.bytes err.old) (E.bytes err.new) (E.faults err.old) (E.faults err.new)
+        (concat (codes "not embedded: " ∷ before.now ∷ decimal number ∷ after.now ∷ [])) }
+{
+    let mut digits = Buffer::new();
+    let number = digits.format(number).as_bytes();
+    put(err, b"not embedded: ", before, number, after);
+}
+
+/// The same, in words round two numbers.
+fn put_numbers<E: Sink>(
+    err: &mut E,
+    before: &[u8],
+    first: u64,
+    between: &[u8],
+    second: u64,
+    after: &[u8],
+)
+    ensures { IsSaid (E.bytes err.old) (E.bytes err.new) (E.faults err.old) (E.faults err.new)
+        (concat (codes "not embedded: " ∷ before.now ∷ decimal first ∷ between.now
+        ∷ decimal second ∷ after.now ∷ [])) }
+{
+    let mut digits = Buffer::new();
+    let mut others = Buffer::new();
+    let first = digits.format(first).as_bytes();
+    let second = others.format(second).as_bytes();
+    let opening = b"not embedded: ";
+    put_six(err, opening, before, first, between, second, after);
+}
+
+/// Writes the line for an embedding that is not valid, or a front of it where the sink fails.
+fn say_fault<E: Sink>(fault: EmbedFault, err: &mut E)
+    ensures { IsSaid (E.bytes err.old) (E.bytes err.new) (E.faults err.old) (E.faults err.new)
+        (concat (codes "not embedded: " ∷ fault_pieces fault)) }
+{
+    match fault {
+        EmbedFault::ChainCount(count) => put_number(err, b"", count as u64, b" chains\n"),
+        EmbedFault::EmptyChain(node) => put_number(err, b"chain ", node as u64, b" is empty\n"),
+        EmbedFault::NoSuchQubit(node, qubit) => {
+            put_numbers(err, b"chain ", node as u64, b" names qubit ", qubit, b"\n");
+        }
+        EmbedFault::Repeated(qubit) => put_number(err, b"qubit ", qubit, b" is repeated\n"),
+        EmbedFault::Disconnected(node, qubit) => {
+            let node = node as u64;
+            put_numbers(
+                err,
+                b"chain ",
+                node,
+                b" does not reach qubit ",
+                qubit,
+                b"\n",
+            );
+        }
+        EmbedFault::NoCoupler(a, b) => {
+            let a = a as u64;
+            put_numbers(err, b"no coupler between ", a, b" and ", b as u64, b"\n");
+        }
+        EmbedFault::TooManyNodes(nodes, places) => {
+            let nodes = nodes as u64;
+            put_numbers(err, b"", nodes, b" nodes for ", places as u64, b" places\n");
+        }
+    }
+}
+
 /// Writes the line for a status, of the file's name, or a front of it where the sink fails.
 pub fn say<E: Sink>(status: Status, name: &str, err: &mut E)
     ensures said { IsSaid (E.bytes err.old) (E.bytes err.new) (E.faults err.old) (E.faults err.new)
@@ -66,6 +149,7 @@ pub fn say<E: Sink>(status: Status, name: &str, err: &mut E)
             let number = digits.format(number).as_bytes();
             put(err, name, limit_words(kind), number, b"\n");
         }
+        Status::NotEmbedded(fault) => say_fault(fault, err),
         Status::NoState(length) => {
             let length = digits.format(length).as_bytes();
             put(err, name, b": no state of ", length, b" characters\n");

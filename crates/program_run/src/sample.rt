@@ -1,14 +1,21 @@
 //! The command `sample`: the summary of the model of a text that is drawn.
-ghost use Rattle.std.specs.Prelude.{◌≡◌, ◌≤◌, Some, Ok, IfOk, IfErr};
-ghost use Rattle.program_run.specs.Outcome.{Meets, sampling};
+ghost use Rattle.std.specs.Prelude.{◌≡◌, ◌≤◌, map, string_bytes, IfOk, IfErr};
+ghost use Rattle.edge_io.specs.Held.{WhereTold};
+ghost use Rattle.model_text.specs.Summary.{summary_text};
+ghost use Rattle.command_words.specs.Shapes.{HasShapeIn};
+ghost use Rattle.program_run.specs.Outcome.{MeetsPlan, sampling};
+ghost use Rattle.program_run.specs.Statuses.{ended, IsRefusal};
 ghost use Rattle.program_run.specs.Answers.{text_of, IsSampled};
+ghost use Rattle.program_run.specs.Causes.{AreFiles};
 ghost use Rattle.program_run.specs.Samples.{IsSampleRead};
 
 use crate::answers::Answer;
+use crate::grounds::take_ground;
+use crate::planned::model_on;
 use crate::status::Status;
-use bits_model::NoMemory;
-use command_words::{Format, Sample};
-use model_pipeline::model_of;
+use bits_model::{NoMemory, OutputModel};
+use command_words::{Command, Format, Sample};
+use edge_io::Files;
 use model_text::written_summary;
 use sample_text::sample_text;
 use source_texts::{Read, read_source};
@@ -30,33 +37,52 @@ fn read_sample(alloc: Global, sample: Sample) -> Result<Read, NoMemory>
     }
 }
 
-/// The summary of the model of a sample.
-#[tactic(auto, using(crate::proofs::Sampled::sample_is_answered, crate::proofs::Compiled::sample_is_summed))]
-fn summary_of(alloc: Global, sample: Sample) -> Result<Vec<u8>, NoMemory>
-    requires { sample.clauses ≤ 100000 }
-    ensures step { IfOk result (λ text. sampling sample ≡ Some (Ok text.items)) }
-    ensures answer { IfOk result (λ text. IsSampled sample text.items) }
+/// The model of what a sample is read into, on the ground of its target.
+fn sample_model<F: Files>(
+    alloc: Global,
+    words: &[String],
+    sample: Sample,
+    files: &mut F,
+) -> Result<OutputModel, Status>
+    requires few { sample.clauses ≤ 100000 }
+    requires shape { HasShapeIn sample.target }
+    ensures step { WhereTold (F.held files.old) (λ held. MeetsPlan summary_text summary_text result
+        (sampling (map string_bytes words.now) held sample)) }
+    ensures files { AreFiles (map string_bytes words.now) (Command.Sample sample) (ended result)
+        (F.counts files.old) (F.counts files.new) }
+    ensures answer { IfOk result (λ m. WhereTold (F.held files.old) (λ held.
+        IsSampled (map string_bytes words.now) held sample (summary_text m))) }
+    ensures refusal { IfErr result IsRefusal }
 {
-    let read = read_sample(alloc, sample)?;
-    let model = model_of(
-        alloc,
-        read.problem,
-        read.variables,
-        &sample.choices,
-        sample.target,
-        sample.unit,
-    )?;
-    written_summary(alloc, &model)
+    let Ok(read) = read_sample(alloc, sample) else {
+        return Err(Status::NoMemory);
+    };
+    let base = match take_ground(alloc, words, sample.target, files) {
+        Ok(base) => base,
+        Err(status) => return Err(status),
+    };
+    model_on(alloc, read, &sample.choices, sample.unit, base)
 }
 
-/// The summary of the model of a sample, for which no file is read.
-pub fn sample(alloc: Global, sample: Sample) -> Result<Answer, Status>
-    requires { sample.clauses ≤ 100000 }
-    ensures step { Meets text_of result (sampling sample) }
-    ensures answer { IfOk result (λ answer. IsSampled sample (text_of answer)) }
-    ensures want { IfErr result (λ status. status ≡ Status.NoMemory) }
+/// The summary of the model of a sample. No file is read for its source.
+pub fn sample<F: Files>(
+    alloc: Global,
+    words: &[String],
+    sample: Sample,
+    files: &mut F,
+) -> Result<Answer, Status>
+    requires few { sample.clauses ≤ 100000 }
+    requires shape { HasShapeIn sample.target }
+    ensures step { WhereTold (F.held files.old) (λ held. MeetsPlan text_of summary_text result
+        (sampling (map string_bytes words.now) held sample)) }
+    ensures files { AreFiles (map string_bytes words.now) (Command.Sample sample) (ended result)
+        (F.counts files.old) (F.counts files.new) }
+    ensures answer { IfOk result (λ answer. WhereTold (F.held files.old) (λ held.
+        IsSampled (map string_bytes words.now) held sample (text_of answer))) }
+    ensures refusal { IfErr result IsRefusal }
 {
-    match summary_of(alloc, sample) {
+    let model = sample_model(alloc, words, sample, files)?;
+    match written_summary(alloc, &model) {
         Ok(text) => Ok(Answer::Text(text)),
         Err(_) => Err(Status::NoMemory),
     }

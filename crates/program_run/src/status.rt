@@ -1,6 +1,7 @@
 //! How a run ends.
 ghost use Rattle.std.specs.Prelude.{◌≡◌};
 
+use chain_map::EmbedFault;
 use command_words::Which;
 use problem_form::LimitKind;
 use whole_text::TextKind;
@@ -14,6 +15,7 @@ pub enum Status {
     WriteFault,
     BadText(Which, TextKind, u64),
     Limit(Which, LimitKind, u128),
+    NotEmbedded(EmbedFault),
     NoState(usize),
     NoMemory,
 }
@@ -32,6 +34,7 @@ impl Status {
             Status::WriteFault => 4,
             Status::BadText(..) => 5,
             Status::Limit(..) => 6,
+            Status::NotEmbedded(_) => 7,
             Status::NoState(_) => 8,
             Status::NoMemory => 9,
         }

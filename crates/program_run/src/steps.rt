@@ -7,7 +7,7 @@ ghost use Rattle.whole_text.specs.declared.faults.TextFault.{TextFault};
 ghost use Rattle.whole_text.specs.TokenTexts.{words_of};
 ghost use Rattle.whole_text.specs.Steps.{Gives};
 ghost use Rattle.source_texts.specs.declared.reading.Read.{Read};
-ghost use Rattle.program_run.specs.Outcome.{Meets, from_text, reading, sourcing};
+ghost use Rattle.program_run.specs.Outcome.{Meets, taking, from_text, reading, sourcing};
 ghost use Rattle.program_run.specs.Statuses.{IsTextRefusal};
 ghost use Rattle.program_run.specs.Cut.{cutting};
 ghost use Rattle.program_run.specs.Causes.{IsRefusedBy, IsPassed};
@@ -15,7 +15,7 @@ ghost use Rattle.program_run.specs.Causes.{IsRefusedBy, IsPassed};
 use crate::cut::read_words;
 use crate::status::Status;
 use command_words::{Job, Which, text_at};
-use edge_io::{Files, ReadAnswer};
+use edge_io::{Files, ReadAnswer, read_all};
 use problem_form::{LimitKind, MOST_BYTES, check_limits};
 use source_texts::{Read, read_source_words, style_of};
 use std::alloc::Global;
@@ -50,12 +50,40 @@ fn take_words<F: Files>(
     }
 }
 
+/// Takes the bytes of a file of this name.
+#[tactic(auto, unfolding(crate::specs::Outcome::taking))]
+pub fn take_bytes<F: Files>(
+    alloc: Global,
+    name: &str,
+    which: Which,
+    files: &mut F,
+) -> Result<Vec<u8>, Status>
+    ensures step { WhereTold (F.held files.old) (λ held. Meets (λ bytes. bytes.items) result
+        (taking held which name.now)) }
+    ensures held { F.held files.new ≡ F.held files.old }
+    ensures short { IfOk result (λ bytes. length bytes.items ≤ 2 ^ 24) }
+    ensures passed { OnOk result (IsPassed name.now 1
+        (F.counts files.old) (F.counts files.new)) }
+    ensures refused { IfErr result (λ status. IsRefusedBy which name.now 1 status
+        (F.counts files.old) (F.counts files.new)) }
+{
+    let Ok(begun) = String::from_str(alloc, name) else {
+        return Err(Status::NoMemory);
+    };
+    match read_all(alloc, files, begun, MOST_BYTES) {
+        Ok(bytes) => Ok(bytes),
+        Err(ReadAnswer::ReadFault) => Err(Status::ReadFault(which)),
+        Err(ReadAnswer::TooLong) => Err(Status::Limit(which, LimitKind::Bytes, 16_777_217)),
+        Err(ReadAnswer::NoMemory) => Err(Status::NoMemory),
+    }
+}
+
 /// The problem that a source is read into, or the status of its fault.
 pub fn judged(read: Result<Read, TextAnswer>) -> Result<Read, Status>
     ensures step { (said : Result Read TextFault) → Gives (λ read. read) read said
         → Meets (λ read. read) result (from_text Which.Source said) }
     ensures good { IfOk result (λ problem. read ≡ Ok problem) }
-    ensures bad { IfErr result IsTextRefusal }
+    ensures bad { IfErr result (IsTextRefusal Which.Source) }
 {
     match read {
         Ok(read) => Ok(read),

@@ -1,6 +1,8 @@
 //! Words, what they ask for, and the file that they name.
 use bits_model::UnitChoice;
-use command_words::{Command, Format, Job, Target, Which, WordAt, command, name_of};
+use command_words::{
+    Chaining, Command, Format, GraphSize, Job, NodeModel, Target, Which, WordAt, command, name_of,
+};
 use problem_form::{Choices, High, Normal};
 use std::alloc::{AllocError, Global};
 
@@ -27,7 +29,7 @@ fn asked(alloc: Global, words: &[&str]) -> Result<Result<Command, usize>, AllocE
 const COMPILE: Command = Command::Compile(Job {
     format: Format::Wcnf,
     file: WordAt::Whole(3),
-    target: Target::Qubo,
+    target: Target::Nodes(NodeModel::Qubo),
     choices: Choices {
         normal: Normal::Literal,
         high: High::Monomial,
@@ -110,41 +112,71 @@ fn are_compiled(
     Ok(asked(alloc, words)? == Ok(compile_in(format, target, normal, unit)))
 }
 
+const SIZE: GraphSize = GraphSize {
+    rows: 2,
+    cols: 3,
+    shore: 4,
+};
+
 const FORMATS: &[(&[&str], Format, Target, UnitChoice)] = &[
     (
         &["compile", "wcnf", "ising", "FILE"],
         Format::Wcnf,
-        Target::Ising,
+        Target::Nodes(NodeModel::Ising),
         UnitChoice::One,
     ),
     (
         &["compile", "opb", "qubo", "FILE"],
         Format::Opb,
-        Target::Qubo,
+        Target::Nodes(NodeModel::Qubo),
         UnitChoice::One,
     ),
     (
         &["compile", "ising", "qubo", "FILE", "unit=one"],
         Format::Ising,
-        Target::Qubo,
+        Target::Nodes(NodeModel::Qubo),
         UnitChoice::One,
     ),
     (
         &["compile", "ising", "ising", "FILE", "unit=reduce"],
         Format::Ising,
-        Target::Ising,
+        Target::Nodes(NodeModel::Ising),
         UnitChoice::Reduce,
     ),
     (
         &["compile", "qubo", "qubo", "FILE", "unit=reduce"],
         Format::Qubo,
-        Target::Qubo,
+        Target::Nodes(NodeModel::Qubo),
+        UnitChoice::Reduce,
+    ),
+    (
+        &[
+            "compile", "poly", "chimera", "FILE", "rows=2", "map=a=b", "cols=3", "shore=4",
+        ],
+        Format::Poly,
+        Target::Chimera(SIZE, Chaining::Map(WordAt::Value(5))),
+        UnitChoice::One,
+    ),
+    (
+        &[
+            "compile",
+            "opb",
+            "chimera",
+            "FILE",
+            "shore=4",
+            "embed=clique",
+            "cols=3",
+            "unit=reduce",
+            "rows=02",
+        ],
+        Format::Opb,
+        Target::Chimera(SIZE, Chaining::Clique),
         UnitChoice::Reduce,
     ),
     (
         &["compile", "qubo", "ising", "unit=reduce"],
         Format::Qubo,
-        Target::Ising,
+        Target::Nodes(NodeModel::Ising),
         UnitChoice::One,
     ),
 ];
@@ -201,7 +233,7 @@ fn normal_forms_and_units_in_any_order(rt: HostRuntime) {
             rt.alloc(),
             words,
             Format::Poly,
-            Target::Qubo,
+            Target::Nodes(NodeModel::Qubo),
             *normal,
             *unit,
         );

@@ -5,6 +5,8 @@
 #![tactic(auto)]
 
 #[cfg(test)]
+mod chimera;
+#[cfg(test)]
 mod endless;
 #[cfg(test)]
 mod faults;

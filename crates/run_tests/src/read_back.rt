@@ -4,7 +4,7 @@ ghost use Rattle.std.specs.Prelude.{◌≡◌, ◌≤◌};
 use crate::runs::{SOUND, run_words};
 use crate::states::{bit, energy, numbers};
 use bits_model::{Cost, Costed};
-use command_words::Target;
+use command_words::NodeModel;
 use ising_file::read_ising;
 use problem_form::Problem;
 use program_run::Status;
@@ -51,10 +51,10 @@ struct Rows<'a> {
 }
 
 /// The rows among the numbers of a text, which has five figures before its header.
-fn rows_in(target: Target, numbers: &[i64]) -> Option<Rows> {
+fn rows_in(target: NodeModel, numbers: &[i64]) -> Option<Rows> {
     let (nodes, entries) = match (target, numbers) {
-        (Target::Qubo, [_, _, _, _, _, 0, nodes, _, _, entries @ ..]) => (nodes, entries),
-        (Target::Ising, [_, _, _, _, _, nodes, _, _, entries @ ..]) => (nodes, entries),
+        (NodeModel::Qubo, [_, _, _, _, _, 0, nodes, _, _, entries @ ..]) => (nodes, entries),
+        (NodeModel::Ising, [_, _, _, _, _, nodes, _, _, entries @ ..]) => (nodes, entries),
         _ => return None,
     };
     Some(Rows {
@@ -63,16 +63,16 @@ fn rows_in(target: Target, numbers: &[i64]) -> Option<Rows> {
     })
 }
 
-fn energy_of(target: Target, rows: Rows, state: u64) -> Cost {
+fn energy_of(target: NodeModel, rows: Rows, state: u64) -> Cost {
     Cost::Whole(i128::from(match target {
-        Target::Qubo => energy(rows.entries, state),
-        Target::Ising => spin_energy(rows.entries, state),
+        NodeModel::Qubo => energy(rows.entries, state),
+        NodeModel::Ising => spin_energy(rows.entries, state),
     }))
 }
 
 /// How many states a problem of these nodes has that costs what the rows give under each of them;
 /// none where one costs something else.
-fn alike(problem: &Problem, target: Target, rows: Rows) -> Option<u64> {
+fn alike(problem: &Problem, target: NodeModel, rows: Rows) -> Option<u64> {
     if rows.nodes > MOST || problem.variables != rows.nodes as u64 {
         return None;
     }
@@ -87,20 +87,20 @@ fn alike(problem: &Problem, target: Target, rows: Rows) -> Option<u64> {
 }
 
 /// The problem of a text of this kind.
-fn read_back(alloc: Global, target: Target, text: &[u8]) -> Option<Problem> {
+fn read_back(alloc: Global, target: NodeModel, text: &[u8]) -> Option<Problem> {
     if text.len() > 1 << 24 {
         return None;
     }
     match target {
-        Target::Qubo => read_qubo(alloc, text).ok(),
-        Target::Ising => read_ising(alloc, text).ok(),
+        NodeModel::Qubo => read_qubo(alloc, text).ok(),
+        NodeModel::Ising => read_ising(alloc, text).ok(),
     }
 }
 
 /// How many states cost alike in the text that a run with these words writes and in its problem.
 fn alike_of(
     alloc: Global,
-    target: Target,
+    target: NodeModel,
     words: &[&str],
     text: &str,
 ) -> Result<Option<u64>, Fail> {
@@ -139,7 +139,7 @@ const SOURCES: [(&str, &str, u32); 10] = [
     ),
 ];
 
-const TARGETS: [(Target, &str); 2] = [(Target::Qubo, "qubo"), (Target::Ising, "ising")];
+const TARGETS: [(NodeModel, &str); 2] = [(NodeModel::Qubo, "qubo"), (NodeModel::Ising, "ising")];
 
 #[test]
 fn what_is_written_is_read_back_and_costs_what_its_rows_give(rt: HostRuntime) -> Result<(), Fail> {

@@ -57,6 +57,26 @@ fn file_a(alloc: Global, text: &str, failing: u64) -> Result<MemoryFiles, Fail> 
     Ok(MemoryFiles::new(FileList::new(files), calls(alloc, failing)?))
 }
 
+/// One run with these words over files of these names and texts: its status, and the sinks of its
+/// text and line.
+pub(crate) fn run_over(
+    alloc: Global,
+    words: &[&str],
+    texts: &[(&str, &str)],
+) -> Result<(Status, MemorySink, MemorySink), Fail> {
+    let mut files = Vec::new(alloc);
+    for (name, text) in texts {
+        let bytes = text.as_bytes().to_vec(alloc)?;
+        files.push((String::from_str(alloc, name)?, bytes))?;
+    }
+    let given = owned(alloc, words)?;
+    let mut files = MemoryFiles::new(FileList::new(files), calls(alloc, 0)?);
+    let mut out = sink(alloc, 1000, 60_000, 0)?;
+    let mut err = sink(alloc, 1000, 1000, 0)?;
+    let status = run(alloc, &given, &mut files, &mut out, &mut err);
+    Ok((status, out, err))
+}
+
 /// One run with these words over the file `a` of this text: its status, and the sinks of its text
 /// and line.
 pub(crate) fn run_words(

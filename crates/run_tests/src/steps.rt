@@ -3,7 +3,7 @@ ghost use Rattle.std.specs.Prelude.{◌≡◌, IfSome};
 ghost use Rattle.bits_model.specs.declared.output.Kind.TheVariants.{Qubo};
 
 use bits_model::{Cost, Costed, Figures, NoMemory, OutputModel, UnitChoice};
-use command_words::{Format, Target};
+use command_words::{Format, NodeModel};
 use model_pipeline::model_of;
 use model_text::written_text;
 use problem_form::{Choices, High, Normal, Problem, check_limits};
@@ -40,7 +40,7 @@ fn model_of_text(alloc: Global, text: &str) -> Option<OutputModel>
         read.problem,
         read.variables,
         &CHOICES,
-        Target::Qubo,
+        NodeModel::Qubo,
         one,
     )
     .ok()
