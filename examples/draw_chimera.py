@@ -1,3 +1,4 @@
+#!/usr/bin/env python3
 """Draws a model on the qubits of a Chimera graph, as SVG.
 
     compile_program compile FORMAT chimera FILE .. | python3 draw_chimera.py >picture.svg
