@@ -8,3 +8,4 @@ pub mod Faulty
 pub mod Owning
 pub mod Noting
 pub mod PlacedRows
+pub mod Runs

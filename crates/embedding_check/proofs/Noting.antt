@@ -28,7 +28,7 @@ pub least_pair_same : (S T : ℕ × ℕ → Type 0) (r : Option (ℕ × ℕ)) �
 least_pair_same S T None to from least = λ p t. least p (from p t)
 least_pair_same S T (Some r) to from least = (to r least.0, λ p t. least.1 p (from p t))
 
-before_self : (p : ℕ × ℕ) → IsBefore p p
+pub before_self : (p : ℕ × ℕ) → IsBefore p p
 before_self p = inr (refl, omega arith)
 
 least_self : (x : Option (ℕ × ℕ)) → IsLeastPair (λ p. x ≡ Some p) x
@@ -136,13 +136,13 @@ least_of_notes T xs ys notes v low none =
 
 -- ---- the two qubits of a join
 
-ordered_up : (a b : ℕ) → a < b → ordered a b ≡ (a, b)
+pub ordered_up : (a b : ℕ) → a < b → ordered a b ≡ (a, b)
 ordered_up a b less = rw (test a b less) refl
   where
     test : (a b : ℕ) → a < b → nat_lt a b ≡ true
     test a b less = grind (arith, nat_tests)
 
-ordered_down : (a b : ℕ) → b < a → ordered a b ≡ (b, a)
+pub ordered_down : (a b : ℕ) → b < a → ordered a b ≡ (b, a)
 ordered_down a b less = rw (test a b less) refl
   where
     test : (a b : ℕ) → b < a → nat_lt a b ≡ false

@@ -1,11 +1,12 @@
 -- The least joined pairs that are noted from one node to later ones.
-use Rattle.std.specs.Prelude.{◌≡◌, ℕ, ◌<◌, ◌⊎◌, ◌==◌, true, List, length, Option, Some, None, nat_lt, if◌then◌else◌}
+use Rattle.std.specs.Prelude.{◌≡◌, ℕ, ◌<◌, ◌≤◌, ◌⊎◌, ◌==◌, true, List, length, Option, Some, None, nat_lt, if◌then◌else◌}
 use Rattle.std.specs.List.{slice_index_or}
 use Rattle.chimera_graph.specs.declared.span.Span.{Span}
 use Rattle.chimera_graph.specs.Spans.{IsFaced}
 use Rattle.embedding_check.specs.declared.noted.Mark.{Mark}
 use Rattle.chain_map.specs.Chains.{Joins, chain_of}
 use Rattle.embedding_check.specs.Owners.{owner_of}
+use Rattle.embedding_check.specs.Checked.{IsBefore}
 use Rattle.embedding_check.specs.Least.{IsLeastPair, IsPlaceIn}
 
 -- a pair is noted in the turn of its mark alone
@@ -34,6 +35,11 @@ pub record IsJoin (joined : Joins) (owners : List ℕ) (node a b v : ℕ) (p : �
   pub linked : joined a b ≡ true
   pub pair : p ≡ ordered a b
 
+-- the joins of a to qubits from b on and before the end
+abbrev pub IsRunJoin : Joins → List ℕ → ℕ → ℕ → ℕ → ℕ → ℕ → ℕ × ℕ → Type 0
+IsRunJoin joined owners node a b end v p =
+    (c : ℕ) × (b ≤ c) × (c < end) × IsJoin joined owners node a c v p
+
 -- the joins of a to qubits of a span, and to a number
 abbrev pub IsSpanJoin : Joins → List ℕ → ℕ → ℕ → Span → ℕ → ℕ × ℕ → Type 0
 IsSpanJoin joined owners node a span v p =
@@ -51,6 +57,18 @@ IsQubitJoin joined owners node a v p = (b : ℕ) × IsJoin joined owners node a 
 abbrev pub IsChainJoin : Joins → List ℕ → ℕ → List ℕ → ℕ → ℕ → ℕ × ℕ → Type 0
 IsChainJoin joined owners node chain n v p =
     (i : ℕ) × (i < n) × IsQubitJoin joined owners node (slice_index_or chain i 0) v p
+
+-- what is noted for a later node is not greater than the pair of a and any of its qubits here
+abbrev pub AreNotedTo : List (Option (ℕ × ℕ)) → List ℕ → ℕ → ℕ → (ℕ → Type 0) → Type 0
+AreNotedTo noted owners node a Here =
+    (c : ℕ) → Here c → c < length owners → node < owner_of owners c
+    → owner_of owners c < length noted
+    → (q : ℕ × ℕ) × (noted_at noted (owner_of owners c) ≡ Some q) × IsBefore q (ordered a c)
+
+-- the same, for the qubits of a span and for all qubits from a on in the place of a
+abbrev pub AreNotedFrom : List (Option (ℕ × ℕ)) → List ℕ → ℕ → ℕ → Span → Type 0
+AreNotedFrom noted owners node a span =
+    (b : ℕ) → a ≤ b → AreNotedTo noted owners node b (IsFaced span)
 
 -- the least joined pairs from a node to later ones are noted; where it is no node, nothing is said
 abbrev pub AreNoted : Joins → List (List ℕ) → ℕ → List (Option (ℕ × ℕ)) → Type 0

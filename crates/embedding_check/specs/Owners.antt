@@ -1,5 +1,5 @@
 -- Which node's chain each qubit is in.
-use Rattle.std.specs.Prelude.{◌≡◌, ℕ, ◌<◌, true, List, length}
+use Rattle.std.specs.Prelude.{◌≡◌, ℕ, ◌<◌, ◌≤◌, true, List, length}
 use Rattle.std.specs.List.{slice_index_or}
 use Rattle.bits_model.specs.Walks.{is_in}
 use Rattle.chain_map.specs.Chains.{chain_of}
@@ -18,3 +18,14 @@ pub record AreOwners (chains : List (List ℕ)) (owners : List ℕ) : Type 0 whe
       → owner_of owners b ≡ w
   pub owned : (w b : ℕ) → w < length chains → b < length owners → owner_of owners b ≡ w
       → is_in (chain_of chains w) b ≡ true
+
+-- the qubits from b on and before the end have the owner of b
+pub record IsRun (owners : List ℕ) (b end : ℕ) : Type 0 where
+  pub after : b < end
+  pub within : end ≤ length owners
+  pub same : (c : ℕ) → b ≤ c → c < end → owner_of owners c ≡ owner_of owners b
+
+-- where the run of each qubit ends
+pub record AreRuns (owners runs : List ℕ) : Type 0 where
+  pub same : length runs ≡ length owners
+  pub each : (b : ℕ) → b < length owners → IsRun owners b (slice_index_or runs b 0)

@@ -47,6 +47,38 @@ impl Embedded {
     ghost use Rattle.std.specs.Prelude.{◌≡◌};
     ghost use Rattle.embedding_check.specs.Embeddings.{IsEmbedding};
 
+    /// An embedding of these parts.
+    pub fn of(
+        ising: Ising,
+        chains: ChainList,
+        qubits: u32,
+        parents: ChainList,
+        places: PairList,
+    ) -> Embedded
+        requires { IsEmbedding (record {
+          ising = ising;
+          chains = chains;
+          qubits = qubits;
+          parents = parents;
+          places = places;
+        }) }
+        ensures { result ≡ record {
+          ising = ising;
+          chains = chains;
+          qubits = qubits;
+          parents = parents;
+          places = places;
+        } }
+    {
+        Embedded {
+            ising,
+            chains,
+            qubits,
+            parents,
+            places,
+        }
+    }
+
     /// The form that is embedded.
     pub fn ising(&self) -> &Ising
         ensures form { result.now ≡ self.now.ising }

@@ -1,9 +1,10 @@
 //! The least joined pairs from one node's chain to the chains of later nodes.
 //!
 //! All joins of the chain are gone over once, and the least pair for each other node is kept in a
-//! table. The table is emptied for the next chain without going over it: a mark says in which turn
-//! its pair was noted.
-ghost use Rattle.std.specs.Prelude.{◌≡◌, ◌≤◌, ◌<◌, ℕ, true, false, length, All, Option, Some, None, IfOk};
+//! table. Of a run of qubits with one owner only the first joined one is looked at, and a span that
+//! several qubits of the chain face is gone over for the first of them. The table is emptied for
+//! the next chain without going over it: a mark says in which turn its pair was noted.
+ghost use Rattle.std.specs.Prelude.{◌≡◌, ◌≤◌, ◌<◌, ℕ, true, false, length, All, Option, Some, None, IfOk, IfSome};
 ghost use Rattle.chimera_graph.specs.declared.span.Span.{Span};
 ghost use Rattle.embedding_check.specs.Checked.{IsBefore};
 ghost use Rattle.embedding_check.specs.Least.{IsLeastPair};
@@ -13,12 +14,16 @@ ghost use Rattle.embedding_check.specs.Noted.{
   ordered,
   Notes,
   IsJoin,
+  IsRunJoin,
   IsSpanJoin,
   IsNumberJoin,
   IsQubitJoin,
   IsChainJoin,
+  AreNotedTo,
+  AreNotedFrom,
 };
 
+use crate::owners::Owned;
 use bits_model::NoMemory;
 use chimera_graph::{Hardware, Span};
 use std::alloc::Global;
@@ -64,6 +69,13 @@ fn ordered(a: u32, b: u32) -> (u32, u32)
     ensures { result ≡ ordered a b }
 {
     if a < b { (a, b) } else { (b, a) }
+}
+
+/// Whether two spans are the same.
+fn is_same(one: Span, other: Span) -> bool
+    ensures { result ≡ true → one ≡ other }
+{
+    one.start == other.start && one.end == other.end
 }
 
 /// Whether nothing is noted in a turn, or only a pair that is not less.
@@ -152,43 +164,86 @@ impl Noted {
     }
 
     /// Notes the pair of two qubits, if they are joined and the second one is a later node's.
-    fn note<H: Hardware>(&mut self, hardware: &H, owners: &[u32], node: u32, a: u32, b: u32)
+    fn note<H: Hardware>(&mut self, hardware: &H, owners: &Owned, node: u32, a: u32, b: u32)
         requires owners { length owners.now ≡ H.qubits hardware.now }
         requires first { a < H.qubits hardware.now }
         requires second { b < H.qubits hardware.now }
         ensures { Notes (IsJoin (H.joined hardware.now) owners.now node a b) self.old self.new }
     {
-        let owner = owners[b as usize];
+        let owner = owners.owner(b);
         if node < owner && (owner as usize) < self.len() && hardware.joined(a, b) {
             let (from, to) = ordered(a, b);
             self.put(owner as usize, from, to);
         }
     }
 
-    /// Notes the joins of a qubit to those of a span.
+    /// Notes the joins of a qubit to those from `b` on and below `end`, as far as they have one owner,
+    /// and gives where it stopped. Once one of them is joined, no later one has a lesser pair; where one of a later
+    /// node is not joined, it stops after that one and says so.
+    fn note_run<H: Hardware>(
+        &mut self,
+        hardware: &H,
+        owners: &Owned,
+        node: u32,
+        a: u32,
+        b: u32,
+        end: u32,
+    ) -> (u32, bool)
+        requires owners { length owners.now ≡ H.qubits hardware.now }
+        requires first { a < H.qubits hardware.now }
+        requires second { b < end }
+        requires end { end ≤ H.qubits hardware.now }
+        ensures after { b < result.0 }
+        ensures within { result.0 ≤ end }
+        ensures noted { Notes (IsRunJoin (H.joined hardware.now) owners.now node a b result.0)
+            self.old self.new }
+        ensures all { result.1 ≡ true
+            → AreNotedTo self.new owners.now node a (λ c. (b ≤ c) × (c < result.0)) }
+    {
+        let owner = owners.owner(b);
+        if owner <= node || self.len() <= owner as usize {
+            return (lesser(owners.run_end(b), end), true);
+        }
+        if hardware.joined(a, b) {
+            let (from, to) = ordered(a, b);
+            self.put(owner as usize, from, to);
+            return (lesser(owners.run_end(b), end), true);
+        }
+        (b + 1, false)
+    }
+
+    /// Notes the joins of a qubit to those of a span, and says whether each qubit of a later node there
+    /// has a pair that is noted or not less.
     fn note_span<H: Hardware>(
         &mut self,
         hardware: &H,
-        owners: &[u32],
+        owners: &Owned,
         node: u32,
         a: u32,
         span: Span,
-    )
+    ) -> bool
         requires owners { length owners.now ≡ H.qubits hardware.now }
         requires qubit { a < H.qubits hardware.now }
-        ensures { Notes (IsSpanJoin (H.joined hardware.now) owners.now node a span)
+        ensures noted { Notes (IsSpanJoin (H.joined hardware.now) owners.now node a span)
             self.old self.new }
+        ensures all { result ≡ true → AreNotedFrom self.new owners.now node a span }
     {
-        for b in span.start..lesser(span.end, hardware.qubits()) {
-            self.note(hardware, owners, node, a, b);
+        let end = lesser(span.end, hardware.qubits());
+        let mut b = span.start;
+        let mut all = true;
+        'runs: while b < end {
+            let (next, noted) = self.note_run(hardware, owners, node, a, b, end);
+            b = next;
+            all = all && noted;
         }
+        all
     }
 
     /// Notes the join of a qubit to a number, if there is one.
     fn note_number<H: Hardware>(
         &mut self,
         hardware: &H,
-        owners: &[u32],
+        owners: &Owned,
         node: u32,
         a: u32,
         number: Option<u32>,
@@ -208,27 +263,74 @@ impl Noted {
         }
     }
 
-    /// Notes all joins of a qubit.
-    fn note_qubit<H: Hardware>(&mut self, hardware: &H, owners: &[u32], node: u32, a: u32)
+    /// Notes the joins of a qubit to those of the span that it faces, unless this was done for a lesser
+    /// qubit. It gives the qubit and the span for which it is done.
+    fn note_faced<H: Hardware>(
+        &mut self,
+        hardware: &H,
+        owners: &Owned,
+        node: u32,
+        a: u32,
+        done: Option<(u32, Span)>,
+    ) -> Option<(u32, Span)>
         requires owners { length owners.now ≡ H.qubits hardware.now }
         requires qubit { a < H.qubits hardware.now }
-        ensures { Notes (IsQubitJoin (H.joined hardware.now) owners.now node a) self.old self.new }
+        requires done { IfSome done (λ p. AreNotedFrom self.old owners.now node p.0 p.1) }
+        ensures noted { Notes
+            (IsSpanJoin (H.joined hardware.now) owners.now node a (H.facing hardware.now a))
+            self.old self.new }
+        ensures done { IfSome result (λ p. AreNotedFrom self.new owners.now node p.0 p.1) }
     {
-        self.note_span(hardware, owners, node, a, hardware.facing(a));
+        let span = hardware.facing(a);
+        match done {
+            Some((least, faced)) => {
+                if least <= a && is_same(faced, span) {
+                    return done;
+                }
+            }
+            None => {}
+        }
+        if self.note_span(hardware, owners, node, a, span) {
+            Some((a, span))
+        } else {
+            None
+        }
+    }
+
+    /// Notes all joins of a qubit. It takes and gives a qubit and a span for whose joins that is done
+    /// already.
+    fn note_qubit<H: Hardware>(
+        &mut self,
+        hardware: &H,
+        owners: &Owned,
+        node: u32,
+        a: u32,
+        done: Option<(u32, Span)>,
+    ) -> Option<(u32, Span)>
+        requires owners { length owners.now ≡ H.qubits hardware.now }
+        requires qubit { a < H.qubits hardware.now }
+        requires done { IfSome done (λ p. AreNotedFrom self.old owners.now node p.0 p.1) }
+        ensures noted { Notes (IsQubitJoin (H.joined hardware.now) owners.now node a)
+            self.old self.new }
+        ensures done { IfSome result (λ p. AreNotedFrom self.new owners.now node p.0 p.1) }
+    {
+        let next = self.note_faced(hardware, owners, node, a, done);
         self.note_number(hardware, owners, node, a, hardware.before(a));
         self.note_number(hardware, owners, node, a, hardware.after(a));
+        next
     }
 
     /// Notes all joins of a chain.
-    fn note_all<H: Hardware>(&mut self, hardware: &H, owners: &[u32], node: u32, chain: &[u32])
+    fn note_all<H: Hardware>(&mut self, hardware: &H, owners: &Owned, node: u32, chain: &[u32])
         requires owners { length owners.now ≡ H.qubits hardware.now }
         requires within { All (λ q. q < H.qubits hardware.now) chain.now }
         ensures { Notes
             (IsChainJoin (H.joined hardware.now) owners.now node chain.now (length chain.now))
             self.old self.new }
     {
+        let mut done = None;
         for k in 0..chain.len() {
-            self.note_qubit(hardware, owners, node, chain[k]);
+            done = self.note_qubit(hardware, owners, node, chain[k], done);
         }
     }
 
@@ -236,7 +338,7 @@ impl Noted {
     pub(crate) fn note_chain<H: Hardware>(
         &mut self,
         hardware: &H,
-        owners: &[u32],
+        owners: &Owned,
         node: u32,
         chain: &[u32],
     )

@@ -20,10 +20,10 @@ use crate::chains::{chain, len};
 use crate::embedded::PairList;
 use crate::least::place_between;
 use crate::noted::Noted;
-use crate::owners::owners_of;
+use crate::owners::{Owned, owners_of};
 use bits_model::{ChainList, CouplerList, Items, Row};
 use chain_map::{CheckAnswer, EmbedFault};
-use chimera_graph::Hardware;
+use chimera_graph::{Hardware, Span};
 use std::alloc::Global;
 
 /// How many qubits the chains of a row's couplings have, each with the first node's own chain: what
@@ -38,18 +38,40 @@ fn walk_cost(chains: &ChainList, own: &[u32], row: &Row<'_>) -> u64
     cost
 }
 
-/// Whether it costs at most so much to go over all joins of a chain.
-fn is_noting_cheap<H: Hardware>(hardware: &H, chain: &[u32], cost: u64) -> bool
-    requires { All (λ q. q < H.qubits hardware.now) chain.now }
+/// How many runs of qubits with one owner a span has, as far as they are fewer than `most`.
+fn runs_in(owners: &Owned, span: Span, most: u64) -> u64
+    requires { length owners.now < 2 ^ 32 }
+    ensures { result ≤ most }
+{
+    let mut runs = 0;
+    let mut qubit = span.start;
+    'runs: while runs < most && qubit < span.end && (qubit as usize) < owners.len() {
+        qubit = owners.run_end(qubit);
+        runs += 1;
+    }
+    runs
+}
+
+/// Whether it costs at most so much to go over all joins of a chain. A span that several of its
+/// qubits face one after another is gone over once, and so is a run of qubits with one owner.
+fn is_noting_cheap<H: Hardware>(hardware: &H, owners: &Owned, chain: &[u32], cost: u64) -> bool
+    requires within { All (λ q. q < H.qubits hardware.now) chain.now }
+    requires few { length owners.now < 2 ^ 32 }
 {
     let mut left = cost;
+    let mut last = Span { start: 0, end: 0 };
     for qubit in chain {
         let span = hardware.facing(*qubit);
-        let faced = span.end.saturating_sub(span.start) as u64;
-        if faced >= left {
+        let steps = if span == last {
+            1
+        } else {
+            runs_in(owners, span, left)
+        };
+        if steps >= left {
             return false;
         }
-        left -= faced;
+        left -= steps;
+        last = span;
     }
     true
 }
@@ -58,7 +80,7 @@ fn is_noting_cheap<H: Hardware>(hardware: &H, chain: &[u32], cost: u64) -> bool
 /// says whether.
 fn note_row<H: Hardware>(
     hardware: &H,
-    owners: &[u32],
+    owners: &Owned,
     chains: &ChainList,
     row: &Row<'_>,
     noted: &mut Noted,
@@ -76,7 +98,7 @@ fn note_row<H: Hardware>(
 {
     let node = row.first();
     let own = chain(chains, node as usize);
-    if !is_noting_cheap(hardware, own, walk_cost(chains, own, row)) {
+    if !is_noting_cheap(hardware, owners, own, walk_cost(chains, own, row)) {
         return false;
     }
     noted.note_chain(hardware, owners, node, own);

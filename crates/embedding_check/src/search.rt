@@ -305,6 +305,9 @@ pub(crate) fn parents_of<H: Hardware>(
     requires sorted { IsSortedChain chain.now sorted.now }
     ensures { IfOk result (AreFound (H.joined hardware.now) chain.now) }
 {
+    if chain.len() == 1 {
+        return Ok(Parents::All(Vec::new(alloc)));
+    }
     let first = position_in(chain, sorted, 0);
     let search = search_chain(alloc, hardware, chain, sorted, first)?;
     let mut parents = Vec::with_capacity(alloc, chain.len() - 1)?;

@@ -1,5 +1,4 @@
 use Rattle.std.proofs.Common.{◌≡◌, ◌∙◌, sym, arith}
-use Rattle.embedding_check.specs.Owners.{owner_of}
 use Rattle.embedding_check.specs.Noted.{IsJoin}
 use Rattle.embedding_check.proofs.Noting.{notes_same}
 use Rattle.embedding_check.proofs.noted.Noted.note.Goals as goal
@@ -8,15 +7,18 @@ pub returns-then-joined : goal.returns-then-joined
 returns-then-joined g c =
     let joined = g.H.Hardware.joined c.args.hardware.now in
     let owners = c.args.owners.now in
-    let owner = owner_of owners c.args.b in
+    let owner = c.owner-owner.result in
     let pair = c.ordered-from.result in
     notes_same (λ v p. (v ≡ owner) × (p ≡ (pair.0, pair.1)))
     (IsJoin joined owners c.args.node c.args.a c.args.b) c.args.self.now c.put.new.self
     (λ v p low x. record {
       below = omega (arith, c.requires.second, c.requires.owners);
-      owner = sym x.0;
+      owner = sym c.owner-owner.ensures ∙ sym x.0;
       later = omega (arith, c.if-node-owner.true, x.0);
       linked = sym c.joined.ensures ∙ c.if-joined.true;
       pair = x.1 ∙ c.ordered-from.ensures;
     })
-    (λ v p low join. (sym join.owner, join.pair ∙ sym c.ordered-from.ensures)) c.put.ensures
+    (λ v p low join. (
+      sym join.owner ∙ sym c.owner-owner.ensures,
+      join.pair ∙ sym c.ordered-from.ensures,
+    )) c.put.ensures

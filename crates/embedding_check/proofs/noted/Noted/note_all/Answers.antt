@@ -16,7 +16,7 @@ loop-k-preserved g c =
     let New = IsQubitJoin joined owners node (qubit_at chain k) in
     record {
       noted = notes_same _ (IsChainJoin joined owners node chain (k + 1)) c.args.self.now
-          c.note_qubit.new.self
+          c.note_qubit-done.new.self
           (λ v p low. elim [
             | inl x ↦ (x.0, omega (arith, x.1), x.2)
             | inr x ↦ (k, omega arith, x)
@@ -25,6 +25,7 @@ loop-k-preserved g c =
             | inl e ↦ inr (subst (λ i. IsQubitJoin joined owners node (qubit_at chain i) v p) e x.2)
             | inr e ↦ inl (x.0, omega (arith, x.1, e), x.2)
           ])
-          (notes_both Old New c.args.self.now c.loop-k.self c.note_qubit.new.self
-          c.loop-k.invariant.noted c.note_qubit.ensures);
+          (notes_both Old New c.args.self.now c.loop-k.self c.note_qubit-done.new.self
+          c.loop-k.invariant.noted c.note_qubit-done.ensures.noted);
+      done = c.note_qubit-done.ensures.done;
     }

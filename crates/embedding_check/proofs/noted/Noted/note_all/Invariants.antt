@@ -1,4 +1,5 @@
-use Rattle.embedding_check.specs.Noted.{Notes, IsChainJoin}
+use Rattle.std.specs.Prelude.{IfSome}
+use Rattle.embedding_check.specs.Noted.{Notes, IsChainJoin, AreNotedFrom}
 use Rattle.embedding_check.proofs.noted.Noted.note_all.Given as goal
 
 -- the joins of the qubits so far are noted
@@ -6,4 +7,5 @@ abbrev pub invariant-loop-k : goal.invariant-loop-k
 invariant-loop-k g l = record {
   noted : Notes (IsChainJoin (g.H.Hardware.joined l.hardware) l.owners l.node l.chain l.k)
       l.fn.self l.self;
+  done : IfSome l.done (λ p. AreNotedFrom l.self l.owners l.node p.0 p.1);
 }

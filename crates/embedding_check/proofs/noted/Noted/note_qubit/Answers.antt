@@ -1,31 +1,30 @@
 use Rattle.std.proofs.Common.{◌≡◌, ℕ, ◌<◌, ◌⊎◌, inl, inr, true, sym, subst, arith}
 use Rattle.std.specs.Prelude.{Option}
-use Rattle.chimera_graph.specs.declared.span.Span.{Span}
 use Rattle.chimera_graph.specs.Spans.{CanBeJoined}
 use Rattle.embedding_check.specs.Noted.{IsSpanJoin, IsNumberJoin, IsQubitJoin}
 use Rattle.embedding_check.proofs.Noting.{notes_same, notes_both}
+use Rattle.embedding_check.proofs.Runs.{done_later}
 use Rattle.embedding_check.proofs.noted.Noted.note_qubit.Goals as goal
 
-pub returns : goal.returns
-returns g c =
+pub returns-clause-noted : goal.returns-clause-noted
+returns-clause-noted g c =
     let graph = c.args.hardware.now in
     let joined = g.H.Hardware.joined graph in
     let owners = c.args.owners.now in
     let node = c.args.node in
     let a = c.args.a in
-    let span = c.facing.result in
+    let span = g.H.Hardware.facing graph a in
     let before = c.before-2.result in
     let after = c.after.result in
     let findable : (b : ℕ) → b < g.H.Hardware.qubits graph → joined a b ≡ true → CanBeJoined span before after b = λ b below linked.
-    subst (λ (s : Span). CanBeJoined s before after b) (sym c.facing.ensures)
-    (subst (λ (x : Option ℕ). CanBeJoined (g.H.Hardware.facing graph a) x after b) (sym c.before-2.ensures)
-    (subst (λ (x : Option ℕ). CanBeJoined (g.H.Hardware.facing graph a) (g.H.Hardware.before graph a) x b) (sym c.after.ensures)
-    (g.met.H.Hardware.findable graph a b c.requires.qubit below linked))) in
+    subst (λ (x : Option ℕ). CanBeJoined span x after b) (sym c.before-2.ensures)
+    (subst (λ (x : Option ℕ). CanBeJoined span (g.H.Hardware.before graph a) x b) (sym c.after.ensures)
+    (g.met.H.Hardware.findable graph a b c.requires.qubit below linked)) in
     let S = IsSpanJoin joined owners node a span in
     let B = IsNumberJoin joined owners node a before in
     let A = IsNumberJoin joined owners node a after in
     let now = c.args.self.now in
-    let two = notes_both S B now c.note_span.new.self c.note_number.new.self c.note_span.ensures
+    let two = notes_both S B now c.note_faced-next.new.self c.note_number.new.self c.note_faced-next.ensures.noted
     c.note_number.ensures in
     notes_same (λ v p. (S v p ⊎ B v p) ⊎ A v p) (IsQubitJoin joined owners node a) now
     c.note_number-2.new.self
@@ -47,3 +46,15 @@ returns g c =
     ])
     (notes_both (λ v p. S v p ⊎ B v p) A now c.note_number.new.self c.note_number-2.new.self two
     c.note_number-2.ensures)
+
+pub returns-clause-done : goal.returns-clause-done
+returns-clause-done g c =
+    let joined = g.H.Hardware.joined c.args.hardware.now in
+    let owners = c.args.owners.now in
+    let node = c.args.node in
+    let a = c.args.a in
+    done_later (IsNumberJoin joined owners node a c.after.result) owners node c.note_number.new.self
+    c.note_number-2.new.self c.note_number-2.ensures c.note_faced-next.result
+    (done_later (IsNumberJoin joined owners node a c.before-2.result) owners node
+    c.note_faced-next.new.self c.note_number.new.self c.note_number.ensures c.note_faced-next.result
+    c.note_faced-next.ensures.done)

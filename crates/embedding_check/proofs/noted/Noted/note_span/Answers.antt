@@ -1,67 +1,74 @@
-use Rattle.std.proofs.Common.{ℕ, ◌+◌, ◌<◌, inl, inr, subst, arith}
-use Rattle.std.proofs.lemmas.Bool.{cases_eq}
-use Rattle.chimera_graph.specs.Spans.{IsFaced}
-use Rattle.embedding_check.specs.Noted.{IsJoin, IsSpanJoin}
-use Rattle.embedding_check.proofs.Noting.{notes_none, notes_same, notes_both}
+use Rattle.std.proofs.Common.{arith}
+use Rattle.embedding_check.specs.Noted.{IsSpanJoin, IsRunJoin}
+use Rattle.embedding_check.proofs.Noting.{notes_same}
+use Rattle.embedding_check.proofs.Taking.{not_both}
+use Rattle.embedding_check.proofs.Runs.{IsJoinBelow, span_more, done_more, done_all}
 use Rattle.embedding_check.proofs.noted.Noted.note_span.Goals as goal
 
-pub loop-b-init : goal.loop-b-init
-loop-b-init g c = record {
-  noted = notes_none _ c.args.self.now (λ v p low x. absurd (omega (arith, x.1.from, x.2)));
-}
-
-pub loop-b-preserved : goal.loop-b-preserved
-loop-b-preserved g c =
+pub runs-preserved-then-all : goal.runs-preserved-then-all
+runs-preserved-then-all g c =
     let joined = g.H.Hardware.joined c.args.hardware.now in
     let owners = c.args.owners.now in
     let node = c.args.node in
     let a = c.args.a in
     let span = c.args.span in
-    let at = c.loop-b.b in
+    let run = c.note_run-next in
     record {
-      noted = notes_same _
-          (λ v p. (b : ℕ) × IsFaced span b × (b < at + 1) × IsJoin joined owners node a b v p)
-          c.args.self.now c.note.new.self
-          (λ v p low. elim [
-            | inl x ↦ (x.0, x.1, omega (arith, x.2), x.3)
-            | inr join ↦ (
-              at,
-              record {
-                from = c.loop-b.auto.b;
-                below = omega (arith, c.loop-b-test.true, c.lesser-b-end.ensures.first);
-              },
-              omega arith,
-              join,
-            )
-          ])
-          (λ v p low x. elim (cases_eq x.0 at) [
-            | inl e ↦ inr (subst (λ b. IsJoin joined owners node a b v p) e x.3)
-            | inr e ↦ inl (x.0, x.1, omega (arith, x.2, e), x.3)
-          ])
-          (notes_both
-          (λ v p. (b : ℕ) × IsFaced span b × (b < at) × IsJoin joined owners node a b v p)
-          (IsJoin joined owners node a at) c.args.self.now c.loop-b.self c.note.new.self
-          c.loop-b.invariant.noted c.note.ensures);
+      from = omega (arith, c.runs.invariant.from, run.ensures.after);
+      noted = span_more joined owners node a span c.runs.b run.result.0 c.args.self.now c.runs.self
+          run.new.self c.runs.invariant.from run.ensures.after
+          (omega (arith, run.ensures.within, c.lesser-end.ensures.first))
+          c.runs.invariant.noted run.ensures.noted;
+      done = λ yes. done_more (IsRunJoin joined owners node a c.runs.b run.result.0) owners node a span
+          c.runs.b run.result.0 c.runs.self run.new.self run.ensures.noted
+          (c.runs.invariant.done c.if-all.true) (run.ensures.all yes);
     }
 
-pub returns : goal.returns
-returns g c =
+pub runs-preserved : goal.runs-preserved
+runs-preserved g c =
     let joined = g.H.Hardware.joined c.args.hardware.now in
     let owners = c.args.owners.now in
     let node = c.args.node in
     let a = c.args.a in
     let span = c.args.span in
-    notes_same
-    (λ v p. (b : ℕ) × IsFaced span b × (b < c.loop-b.b) × IsJoin joined owners node a b v p)
-    (IsSpanJoin joined owners node a span) c.args.self.now c.loop-b.self
+    let run = c.note_run-next in
+    record {
+      from = omega (arith, c.runs.invariant.from, run.ensures.after);
+      noted = span_more joined owners node a span c.runs.b run.result.0 c.args.self.now c.runs.self
+          run.new.self c.runs.invariant.from run.ensures.after
+          (omega (arith, run.ensures.within, c.lesser-end.ensures.first))
+          c.runs.invariant.noted run.ensures.noted;
+      done = λ yes. absurd (not_both _ yes c.if-all.false);
+    }
+
+pub returns-clause-noted : goal.returns-clause-noted
+returns-clause-noted g c =
+    let joined = g.H.Hardware.joined c.args.hardware.now in
+    let owners = c.args.owners.now in
+    let node = c.args.node in
+    let a = c.args.a in
+    let span = c.args.span in
+    notes_same (IsJoinBelow joined owners node a span c.runs.b) (IsSpanJoin joined owners node a span)
+    c.args.self.now c.runs.self
     (λ v p low x. (x.0, x.1, x.3)) (λ v p low x. (
       x.0,
       x.1,
       omega (
         arith,
-        c.lesser-b-end.ensures.between x.0 x.1.below
+        c.lesser-end.ensures.between x.0 x.1.below
             (omega (arith, x.2.below, c.requires.owners, c.qubits.ensures)),
-        c.loop-b-test.false,
+        c.runs-test.false,
       ),
       x.2,
-    )) c.loop-b.invariant.noted
+    )) c.runs.invariant.noted
+
+pub returns-clause-all : goal.returns-clause-all
+returns-clause-all g c = λ yes b after.
+    done_all c.args.owners.now c.args.node c.args.a c.args.span c.runs.b c.runs.self b after
+    (λ x faced below. omega (
+      arith,
+      c.lesser-end.ensures.between x faced.below
+          (omega (arith, below, c.requires.owners, c.qubits.ensures)),
+      c.runs-test.false,
+    ))
+    (c.runs.invariant.done yes)
