@@ -29,13 +29,13 @@ use Rattle.chain_map.proofs.Paths.{is_in_at, path_connected}
 
 -- ---- places
 
-abbrev down_place : ℕ → ℕ → ℕ → Place
+abbrev pub down_place : ℕ → ℕ → ℕ → Place
 down_place i k row = record { row = row; col = i; side = 0; at = k }
 
-abbrev along_place : ℕ → ℕ → ℕ → Place
+abbrev pub along_place : ℕ → ℕ → ℕ → Place
 along_place i k col = record { row = i; col = col; side = 1; at = k }
 
-place_again : (graph : Chimera) (p : Place) → IsPlaceIn graph p
+pub place_again : (graph : Chimera) (p : Place) → IsPlaceIn graph p
     → place_of graph (index_of graph p) ≡ p
 place_again graph p inside = λ i. record { row = row i; col = col i; side = side i; at = at i }
   where
@@ -60,7 +60,7 @@ place_again graph p inside = λ i. record { row = row i; col = col i; side = sid
     at : index_of graph p % graph.shore ≡ p.at
     at = mod-mul-add (cell * 2 + p.side) graph.shore p.at inside.at_below
 
-down_in : (graph : Chimera) (i k row : ℕ) → i < diagonal_of graph → k < graph.shore → row ≤ i
+pub down_in : (graph : Chimera) (i k row : ℕ) → i < diagonal_of graph → k < graph.shore → row ≤ i
     → IsPlaceIn graph (down_place i k row)
 down_in graph i k row cell at low = record {
   row_below = omega (arith, cell, low, min-le_left graph.rows graph.cols);
@@ -69,7 +69,7 @@ down_in graph i k row cell at low = record {
   at_below = at;
 }
 
-along_in : (graph : Chimera) (i k col : ℕ) → i < diagonal_of graph → k < graph.shore
+pub along_in : (graph : Chimera) (i k col : ℕ) → i < diagonal_of graph → k < graph.shore
     → col < diagonal_of graph → IsPlaceIn graph (along_place i k col)
 along_in graph i k col cell at high = record {
   row_below = omega (arith, cell, min-le_left graph.rows graph.cols);
@@ -80,7 +80,7 @@ along_in graph i k col cell at high = record {
 
 -- ---- one path
 
-path_len : (graph : Chimera) (i k : ℕ) → i < diagonal_of graph
+pub path_len : (graph : Chimera) (i k : ℕ) → i < diagonal_of graph
     → length (path_of graph i k) ≡ diagonal_of graph + 1
 path_len graph i k cell =
     omega (
@@ -92,14 +92,14 @@ path_len graph i k cell =
       length-map-range_with_len (along_qubit graph i k) i (diagonal_of graph - i),
     )
 
-path_down : (graph : Chimera) (i k j : ℕ) → j ≤ i → get_or (path_of graph i k) j 0 ≡ down_qubit graph i k j
+pub path_down : (graph : Chimera) (i k j : ℕ) → j ≤ i → get_or (path_of graph i k) j 0 ≡ down_qubit graph i k j
 path_down graph i k j low =
     let downs = map (down_qubit graph i k) (range_with_len 0 (i + 1)) in
     let len = length-map-range_with_len (down_qubit graph i k) 0 (i + 1) in
     get_or_append_left downs _ 0 j (omega (arith, low, len))
     ∙ get_or-map-range_with_len (down_qubit graph i k) 0 (i + 1) j j 0 (omega (arith, low)) (omega arith)
 
-path_along : (graph : Chimera) (i k col : ℕ) → i ≤ col → col < diagonal_of graph
+pub path_along : (graph : Chimera) (i k col : ℕ) → i ≤ col → col < diagonal_of graph
     → get_or (path_of graph i k) (col + 1) 0 ≡ along_qubit graph i k col
 path_along graph i k col high below =
     let downs = map (down_qubit graph i k) (range_with_len 0 (i + 1)) in
@@ -136,13 +136,13 @@ joined_places : (graph : Chimera) (p q : Place) → IsPlaceIn graph p → IsPlac
 joined_places graph p q in_p in_q linked =
     (λ i. are_joined (place_again graph p in_p i) (place_again graph q in_q i)) ∙ linked
 
-down_joined : (i k row : ℕ) → are_joined (down_place i k row) (down_place i k (row + 1)) ≡ true
+pub down_joined : (i k row : ℕ) → are_joined (down_place i k row) (down_place i k (row + 1)) ≡ true
 down_joined i k row = grind (arith, nat_tests)
 
-along_joined : (i k col : ℕ) → are_joined (along_place i k col) (along_place i k (col + 1)) ≡ true
+pub along_joined : (i k col : ℕ) → are_joined (along_place i k col) (along_place i k (col + 1)) ≡ true
 along_joined i k col = grind (arith, nat_tests)
 
-cell_joined : (i j k l : ℕ) → are_joined (down_place j l i) (along_place i k j) ≡ true
+pub cell_joined : (i j k l : ℕ) → are_joined (down_place j l i) (along_place i k j) ≡ true
 cell_joined i j k l = grind (arith, nat_tests)
 
 -- neighbours are joined
@@ -304,13 +304,13 @@ path_none graph i k q cell at other =
 
 -- ---- all chains
 
-cell_of : (graph : Chimera) (v : ℕ) → v < clique_places graph → v / graph.shore < diagonal_of graph
+pub cell_of : (graph : Chimera) (v : ℕ) → v < clique_places graph → v / graph.shore < diagonal_of graph
 cell_of graph v low =
     (div-lt_iff_lt-mul graph.shape.some_shore).1
     (subst (λ n. v < n) (mul_comm graph.shore (diagonal_of graph)) low)
 
 -- a later node has no earlier cell
-cells_rise : (graph : Chimera) (u v : ℕ) → u ≤ v → u / graph.shore ≤ v / graph.shore
+pub cells_rise : (graph : Chimera) (u v : ℕ) → u ≤ v → u / graph.shore ≤ v / graph.shore
 cells_rise graph u v before =
     (le-div_iff_mul-le graph.shape.some_shore).1 (omega (arith, before, div-mul-le_self u graph.shore))
 
@@ -329,7 +329,7 @@ clique_once graph nodes q fits =
           (mod-lt v graph.shape.some_shore)),
     )
 
-chain_at_node : (graph : Chimera) (nodes v : ℕ) (d : List ℕ) → v < nodes
+pub chain_at_node : (graph : Chimera) (nodes v : ℕ) (d : List ℕ) → v < nodes
     → get_or (clique_of graph nodes) v d ≡ clique_chain graph v
 chain_at_node graph nodes v d below =
     get_or-map-range_with_len (clique_chain graph) 0 nodes v v d below (omega arith)

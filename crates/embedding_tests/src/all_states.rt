@@ -1,5 +1,5 @@
 //! All states of small embedded forms, against what their chains are read as.
-ghost use Rattle.std.specs.Prelude.{◌≡◌, length};
+ghost use Rattle.std.specs.Prelude.{◌≡◌, length, IfOk};
 ghost use Rattle.chain_layer.specs.Image.{Fits};
 ghost use Rattle.embedding_tests.specs.SmallForms.{IsSmall};
 
@@ -10,6 +10,7 @@ use bits_model::{Layer, Lowered, NoMemory};
 use chain_layer::{ChainLink, Chains};
 use chain_map::{ChainMap, CheckAnswer, clique_map};
 use chimera_graph::{Chimera, Hardware};
+use clique_embedding::clique_embedded;
 use embedding_check::{Embedded, check};
 use ising_form::Ising;
 use std::alloc::Global;
@@ -174,6 +175,29 @@ fn seen_of(alloc: Global, embedded: &Embedded, map: &ChainMap) -> Result<Outcome
     seen_of_states(alloc, embedded, &made, map, &places)
 }
 
+/// What is seen of a form that was embedded in the chains of a map, if the map is valid.
+fn seen_of_answer(
+    alloc: Global,
+    answer: Result<Embedded, CheckAnswer>,
+    map: &ChainMap,
+) -> Result<Outcome, NoMemory>
+    requires { IfOk answer (λ e. IsSmall e.ising) }
+{
+    match answer {
+        Ok(embedded) => match seen_of(alloc, &embedded, map)? {
+            Outcome::Held(seen) => Ok(Outcome::Held(Seen {
+                models: 1,
+                couplings: embedded.ising().couplings.len() as u64,
+                broken: seen.broken,
+                tied: seen.tied,
+            })),
+            other => Ok(other),
+        },
+        Err(CheckAnswer::Fault(_)) => Ok(Outcome::Refused),
+        Err(CheckAnswer::NoMemory) => Err(NoMemory),
+    }
+}
+
 /// What is seen of a form on the chains of a map, if the map is valid.
 fn seen_on<H: Hardware>(
     alloc: Global,
@@ -183,20 +207,8 @@ fn seen_on<H: Hardware>(
 ) -> Result<Outcome, NoMemory>
     requires { IsSmall form }
 {
-    let couplings = form.couplings.len() as u64;
-    match check(alloc, hardware, form, map) {
-        Ok(embedded) => match seen_of(alloc, &embedded, map)? {
-            Outcome::Held(seen) => Ok(Outcome::Held(Seen {
-                models: 1,
-                couplings,
-                broken: seen.broken,
-                tied: seen.tied,
-            })),
-            other => Ok(other),
-        },
-        Err(CheckAnswer::Fault(_)) => Ok(Outcome::Refused),
-        Err(CheckAnswer::NoMemory) => Err(NoMemory),
-    }
+    let answer = check(alloc, hardware, form, map);
+    seen_of_answer(alloc, answer, map)
 }
 
 /// What is seen of a drawn form on chains that grow. Forms with too few couplings to join all nodes
@@ -248,7 +260,7 @@ fn all_states_of_drawn_models(rt: HostRuntime) -> Result<(), Fail> {
     Ok(())
 }
 
-/// What is seen of a drawn form on the chains of a clique.
+/// What is seen of a drawn form that is embedded in the chains of a clique, without a check.
 fn seen_of_clique(
     alloc: Global,
     shape: (u32, u32, u32),
@@ -263,7 +275,10 @@ fn seen_of_clique(
         return Ok(Outcome::Refused);
     };
     match draw_form(alloc, &mut dice, nodes)? {
-        Some(form) => seen_on(alloc, &graph, form, &map),
+        Some(form) => {
+            let answer = clique_embedded(alloc, &graph, form);
+            seen_of_answer(alloc, answer, &map)
+        }
         None => Ok(Outcome::Failed),
     }
 }

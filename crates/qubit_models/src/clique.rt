@@ -6,10 +6,11 @@ ghost use Rattle.chain_map.specs.Cliques.{clique_of, clique_places};
 ghost use Rattle.qubit_models.specs.QubitModels.{IsModelByCheck};
 ghost use Rattle.qubit_models.specs.Standing.{IsQubitModelOf};
 
-use crate::model::model_on_qubits;
+use crate::written::embedded_model;
 use bits_model::{Figures, OutputModel, UnitChoice};
-use chain_map::{CheckAnswer, EmbedFault, clique_map};
+use chain_map::{CheckAnswer, EmbedFault};
 use chimera_graph::Chimera;
+use clique_embedding::clique_embedded;
 use ising_form::Ising;
 use std::alloc::Global;
 
@@ -39,6 +40,6 @@ pub fn clique_on_qubits(
         (clique_places graph.now < length form.fields)
         × (f ≡ EmbedFault.TooManyNodes (length form.fields) (clique_places graph.now)))) }
 {
-    let map = clique_map(alloc, graph, form.fields.as_slice().len())?;
-    model_on_qubits(alloc, form, own, figures, unit, graph, &map)
+    let embedded = clique_embedded(alloc, graph, form)?;
+    Ok(embedded_model(alloc, embedded, own, figures, unit, graph)?)
 }

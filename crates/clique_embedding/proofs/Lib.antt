@@ -1,0 +1,4 @@
+pub mod PathParents
+pub mod CliquePaths
+pub mod LeastMeetings
+pub mod CliqueEmbeds
