@@ -4,3 +4,4 @@ pub mod Added
 pub mod Unchained
 pub mod Keys
 pub mod Written
+pub mod Gathering

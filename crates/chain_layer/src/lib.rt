@@ -8,6 +8,7 @@
 mod chains;
 mod decoding;
 mod extending;
+mod gathered;
 mod laws;
 mod link;
 mod shares;

@@ -11,6 +11,7 @@ ghost use Rattle.chain_layer.specs.Image.{
   ties_cost,
 };
 
+use crate::gathered::Gathered;
 use crate::link::chain;
 use bits_model::{CouplerList, Entry, NoMemory};
 use embedding_check::Embedded;
@@ -41,11 +42,11 @@ fn placed(
     couplings: &CouplerList,
     places: &[(u32, u32)],
     ties: u32,
-) -> Result<Vec<Entry>, NoMemory>
+) -> Result<Gathered, NoMemory>
     requires { length places.now ≡ length couplings.now }
-    ensures { IfOk result (λ v. v.items ≡ placed couplings.now places.now) }
+    ensures { IfOk result (λ v. v ≡ placed couplings.now places.now) }
 {
-    let mut made = Vec::with_capacity(alloc, places.len().saturating_add(ties as usize))?;
+    let mut made = Gathered::with_room(alloc, places.len().saturating_add(ties as usize))?;
     let mut at = 0;
     for coupling in couplings.iter() {
         let (first, second) = places[at];
@@ -61,15 +62,15 @@ fn placed(
 
 /// Appends the ties of a chain.
 fn push_ties(
-    couplings: &mut Vec<Entry>,
+    couplings: &mut Gathered,
     chain: &[u32],
     parents: &[u32],
     strength: u128,
 ) -> Result<(), NoMemory>
     requires matched { length chain.now ≡ length parents.now + 1 }
     requires small { strength < 2 ^ 127 }
-    ensures { OnOk result (couplings.new.items
-        ≡ couplings.old.items ++ ties (drop 1 chain.now) parents.now strength) }
+    ensures { OnOk result (couplings.new
+        ≡ couplings.old ++ ties (drop 1 chain.now) parents.now strength) }
 {
     for i in 0..parents.len() {
         couplings.push(coupling(chain[i + 1], parents[i], -(strength as i128)))?;
@@ -82,10 +83,10 @@ pub fn couplings_of(
     alloc: Global,
     source: &Embedded,
     strengths: &[u128],
-) -> Result<Vec<Entry>, NoMemory>
+) -> Result<Gathered, NoMemory>
     requires kept { IsEmbedding source.now }
     requires strengths { strengths.now ≡ map (strength source.now) (nodes_of source.now) }
-    ensures { IfOk result (λ v. v.items
+    ensures { IfOk result (λ v. v
         ≡ placed source.now.ising.couplings source.now.places ++ all_ties source.now) }
 {
     let mut made = placed(

@@ -20,7 +20,7 @@ invariant_of-result c =
     let fields = c.new.ensures ∙ c.in_ok-fields.ensures in
     let sorted = c.in_ok-couplings.ensures in
     let couplings =
-    sorted_is_image e c.requires.kept c.in_ok-gathered.gathered.items c.in_ok-couplings.couplings
+    sorted_is_image e c.requires.kept c.in_ok-gathered.gathered c.in_ok-couplings.couplings
     c.in_ok-gathered.ensures sorted.same sorted.ordered in
     let form : IsingContent = record {
       constant = to_z w128 (of_z w128 c.behind-source.inside.constant);
@@ -40,6 +40,6 @@ returns c =
     let fields = c.new.ensures ∙ c.in_ok-fields.ensures in
     let sorted = c.in_ok-couplings.ensures in
     let couplings =
-    sorted_is_image e c.requires.kept c.in_ok-gathered.gathered.items c.in_ok-couplings.couplings
+    sorted_is_image e c.requires.kept c.in_ok-gathered.gathered c.in_ok-couplings.couplings
     c.in_ok-gathered.ensures sorted.same sorted.ordered in
     λ k. record { constant = constant k; fields = fields k; couplings = couplings k }

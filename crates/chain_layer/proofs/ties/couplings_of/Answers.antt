@@ -53,10 +53,10 @@ loop-i-preserved c =
     let at = strength_at e c.args.strengths.now i c.requires.strengths c.loop-i-test.true in
     let chain = c.chain.ensures ∙ ap (λ cs. chain_of cs i) c.chains.ensures in
     let parents = c.chain-in-loop-i.ensures ∙ ap (λ cs. chain_of cs i) c.parents.ensures in
-    ties_more_nodes e (placed e.ising.couplings e.places) c.loop-i.made.items c.push_ties.new.couplings.items i
+    ties_more_nodes e (placed e.ising.couplings e.places) c.loop-i.made c.push_ties.new.couplings i
     c.loop-i.invariant
     (c.in_ok-push_ties.ensures
-    ∙ (λ k. c.loop-i.made.items ++ ties (drop 1 (chain k)) (parents k) (at.1 k)))
+    ∙ (λ k. c.loop-i.made ++ ties (drop 1 (chain k)) (parents k) (at.1 k)))
 
 pub returns : goal.returns
 returns c =

@@ -12,9 +12,9 @@ loop-coupling-preserved c =
     let place = get_or places at (0, 0) in
     let steps = c.in-Some.ensures.steps in
     let so_far = c.loop-coupling.invariant in
-    let made = c.loop-coupling.made.items in
+    let made = c.loop-coupling.made in
     let one : Entry = record { first = place.0; second = place.1; weight = e.weight } in
-    let pushed : c.push.new.self.items ≡ made ++ one ∷ [] = search rules in
+    let pushed : c.push.new.self ≡ made ++ one ∷ [] = search rules in
     record {
       here = omega (arith, so_far.here, ap length steps);
       made =

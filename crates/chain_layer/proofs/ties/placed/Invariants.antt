@@ -6,5 +6,5 @@ use Rattle.chain_layer.proofs.ties.placed.Given as goal
 abbrev pub invariant-loop-coupling : goal.invariant-loop-coupling
 invariant-loop-coupling l = record {
   here : l.at + length l.coupling-iterator ≡ length l.couplings;
-  made : l.made.items ++ placed l.coupling-iterator (drop l.at l.places) ≡ placed l.couplings l.places;
+  made : l.made ++ placed l.coupling-iterator (drop l.at l.places) ≡ placed l.couplings l.places;
 }

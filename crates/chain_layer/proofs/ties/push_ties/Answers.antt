@@ -9,11 +9,11 @@ loop-i-preserved c =
     let parents = c.args.parents.now in
     let n = c.args.strength in
     let i = c.loop-i.i in
-    let made = c.loop-i.couplings.items in
-    let pushed : c.push.new.self.items ≡ made ++ coupling_entry (get_or chain (i + 1) 0) (get_or parents i 0) (neg_ℤ (pos n)) ∷ [] =
+    let made = c.loop-i.couplings in
+    let pushed : c.push.new.self ≡ made ++ coupling_entry (get_or chain (i + 1) 0) (get_or parents i 0) (neg_ℤ (pos n)) ∷ [] =
     search rules in
     ap (λ es. es ++ ties (drop (i + 1 + 1) chain) (drop (i + 1) parents) n) pushed
-    ∙ ties_more made (c.args.couplings.now.items ++ ties (drop 1 chain) parents n) chain parents i n
+    ∙ ties_more made (c.args.couplings.now ++ ties (drop 1 chain) parents n) chain parents i n
     (omega (arith, c.loop-i-test.true, c.requires.matched))
     (omega (arith, c.loop-i-test.true))
     c.loop-i.invariant
