@@ -33,7 +33,7 @@ use Rattle.chimera_graph.specs.Shape.{IsShape}
 use Rattle.command_words.specs.declared.keys.Keys.{Keys}
 use Rattle.command_words.specs.declared.words.Verb.{Verb}
 use Rattle.command_words.specs.declared.words.Verb.TheVariants as verbs
-use Rattle.command_words.specs.Asked.{EachJobIsAskedFor, EachSampleIsAskedFor, EachUnitIsAskedFor, EachGraphIsAskedFor, EachKeyStands, CannotStand, NoKeyStandsTwice, NoGraphKeyElsewhere, NoGraphWithout, NoLargerGraph, IsRefusedAfterAll, NoOtherWordsAsk, Say, format_word, high_key, normal_key, fourth_word_job, sample_with, target_word, word_of, unit_key, rows_key, cols_key, shore_key, map_key, clique_key, job_words, compile_words, sample_words, size_with}
+use Rattle.command_words.specs.Asked.{EachJobIsAskedFor, EachDecodingIsAskedFor, EachExtensionIsAskedFor, EachSampleIsAskedFor, EachUnitIsAskedFor, EachGraphIsAskedFor, EachKeyStands, CannotStand, NoKeyStandsTwice, NoGraphKeyElsewhere, NoGraphWithout, NoLargerGraph, IsRefusedAfterAll, NoOtherWordsAsk, Say, format_word, high_key, normal_key, fourth_word_job, sample_with, target_word, word_of, unit_key, rows_key, cols_key, shore_key, map_key, clique_key, job_words, compile_words, decode_words, extend_words, sample_words, size_with}
 use Rattle.command_words.specs.Commands.{◌>>=◌, after_verb, chosen_target, clauses_of, command_of, format_of, job_of, named, sample_of, target_of, valued, verb_of}
 use Rattle.command_words.specs.Keys.{choices_of, chosen_unit, given, keys_from, no_keys, size_of, target_by, with_word}
 use Rattle.command_words.specs.Names.{text_at}
@@ -71,6 +71,20 @@ each_job format word file keys =
     (chain (keys_from word no_keys 4 keys)
     (chosen_target (compile_words format word file keys) word)
     (λ given target. fourth_word_job format target given) commands.Compile)
+
+pub each_decoding : EachDecodingIsAskedFor
+each_decoding format word file state keys =
+    rw (format_of-format_word format, target_of-target_word word)
+    (chain (keys_from word no_keys 5 keys)
+    (chosen_target (decode_words format word file state keys) word)
+    (λ given target. fourth_word_job format target given) (λ job. commands.Decode job (Whole 4)))
+
+pub each_extension : EachExtensionIsAskedFor
+each_extension format word file assignment keys =
+    rw (format_of-format_word format, target_of-target_word word)
+    (chain (keys_from word no_keys 5 keys)
+    (chosen_target (extend_words format word file assignment keys) word)
+    (λ given target. fourth_word_job format target given) (λ job. commands.Extend job (Whole 4)))
 
 pub each_sample : EachSampleIsAskedFor
 each_sample number clauses first second word keys one two =
@@ -236,6 +250,10 @@ no_target_given (Some s) = refl
 refused : (keys : Keys) → target_by Chimera keys ≡ None → IsRefusedAfterAll keys
 refused keys none = record {
   job = λ format file words asked. each_job format Chimera file words ∙ rw (asked, none) refl;
+  decoding = λ format file state words asked.
+      each_decoding format Chimera file state words ∙ rw (asked, none) refl;
+  extension = λ format file assignment words asked.
+      each_extension format Chimera file assignment words ∙ rw (asked, none) refl;
   sample = λ number clauses first second words one two asked.
       each_sample number clauses first second Chimera words one two ∙ rw (asked, none) refl;
 }
@@ -327,11 +345,15 @@ chosen_has_word words Chimera keys = go (size_of keys) keys.chains
 
 abbrev verb_word : Verb → List ℕ
 verb_word verbs.Compile = codes "compile"
+verb_word verbs.Decode = codes "decode"
+verb_word verbs.Extend = codes "extend"
 verb_word verbs.Sample = codes "sample"
 
 verb_of-word : (word : List ℕ) → IfSome (verb_of word) (λ verb. word ≡ verb_word verb)
 verb_of-word word =
-    line verb_word word verbs.Compile _ (line verb_word word verbs.Sample None tt)
+    line verb_word word verbs.Compile _
+    (line verb_word word verbs.Decode _
+    (line verb_word word verbs.Extend _ (line verb_word word verbs.Sample None tt)))
 
 -- ---- a word at its place
 
@@ -506,12 +528,43 @@ module _ (words : List (List ℕ)) where
 abbrev IsAsked : List (List ℕ) → Command → Type 0
 IsAsked words command = (keys : List (List ℕ)) × Say words command keys
 
+-- the words of a job, of one more file and of keys, after the first word
+abbrev with_file_words : List ℕ → List (List ℕ) → Job → WordAt → List (List ℕ)
+with_file_words first words job at =
+    first ∷ job_words job.format (word_of job.target) (text_at words job.file)
+    ++ text_at words at ∷ drop 5 words
+
+-- what a verb asks for that takes one more file
+with_file-words : (words : List (List ℕ)) (first : List ℕ) (make : Job → WordAt → Command)
+    → words ≡ first ∷ drop 1 words
+    → ((job : Job) (at : WordAt) → words ≡ with_file_words first words job at
+    → IsAsked words (make job at))
+    → IfOk (job_of words 5 >>= λ job. named words 4 >>= λ at. Ok (make job at)) (IsAsked words)
+with_file-words words first make begins asked =
+    next (job_of words 5) (λ job. named words 4 >>= λ at. Ok (make job at)) (HasJob words)
+    (IsAsked words) (job_of-words words 5)
+    (λ job stands.
+    next (named words 4) (λ at. Ok (make job at)) (λ at. StandsAt words 4 (text_at words at))
+    (IsAsked words) (named-word words 4)
+    (λ at fifth.
+    asked job at
+    (begins
+    ∙ ap (λ rest. first ∷ rest) stands
+    ∙ ap (λ rest.
+    first ∷ job_words job.format (word_of job.target) (text_at words job.file) ++ rest) fifth)))
+
 after_verb-words : (words : List (List ℕ)) (verb : Verb) → words ≡ verb_word verb ∷ drop 1 words
     → IfOk (after_verb verb words) (IsAsked words)
 after_verb-words words verbs.Compile first =
     next (job_of words 4) (λ job. Ok (commands.Compile job)) (HasJob words) (IsAsked words)
     (job_of-words words 4)
     (λ job stands. (drop 4 words, first ∙ ap (λ rest. codes "compile" ∷ rest) stands))
+after_verb-words words verbs.Decode first =
+    with_file-words words (codes "decode") commands.Decode first
+    (λ job state stands. (drop 5 words, stands))
+after_verb-words words verbs.Extend first =
+    with_file-words words (codes "extend") commands.Extend first
+    (λ job assignment stands. (drop 5 words, stands))
 after_verb-words words verbs.Sample first =
     next (sample_of words) (λ sample. Ok (commands.Sample sample)) (HasSample words) (IsAsked words)
     (sample_of-words words)

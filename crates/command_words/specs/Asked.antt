@@ -56,6 +56,16 @@ job_words format target file = format_word format ∷ target_word target ∷ fil
 abbrev pub compile_words : Format → TargetWord → List ℕ → List (List ℕ) → List (List ℕ)
 compile_words format target file keys = codes "compile" ∷ job_words format target file ++ keys
 
+-- the words that ask to take a state back to an assignment, with keys
+abbrev pub decode_words : Format → TargetWord → List ℕ → List ℕ → List (List ℕ) → List (List ℕ)
+decode_words format target file state keys =
+    codes "decode" ∷ job_words format target file ++ state ∷ keys
+
+-- the words that ask to take an assignment to a state, with keys
+abbrev pub extend_words : Format → TargetWord → List ℕ → List ℕ → List (List ℕ) → List (List ℕ)
+extend_words format target file assignment keys =
+    codes "extend" ∷ job_words format target file ++ assignment ∷ keys
+
 -- the words that ask for the model of a sample, with keys
 abbrev pub sample_words : List ℕ → List ℕ → TargetWord → List (List ℕ) → List (List ℕ)
 sample_words number clauses target keys =
@@ -119,6 +129,26 @@ EachJobIsAskedFor = (format : Format) (word : TargetWord) (file : List ℕ) (key
     ≡ (keys_from word no_keys 4 keys
     >>= λ given. chosen_target (compile_words format word file keys) word given
     >>= λ target. Ok (commands.Compile (fourth_word_job format target given)))
+
+-- with every format, target, file and state it can be asked for that state's assignment, with what
+-- the keys after them choose
+abbrev pub EachDecodingIsAskedFor : Type 0
+EachDecodingIsAskedFor =
+    (format : Format) (word : TargetWord) (file state : List ℕ) (keys : List (List ℕ))
+    → command_of (decode_words format word file state keys)
+    ≡ (keys_from word no_keys 5 keys
+    >>= λ given. chosen_target (decode_words format word file state keys) word given
+    >>= λ target. Ok (commands.Decode (fourth_word_job format target given) (Whole 4)))
+
+-- with every format, target, file and assignment it can be asked for that assignment's state, with
+-- what the keys after them choose
+abbrev pub EachExtensionIsAskedFor : Type 0
+EachExtensionIsAskedFor =
+    (format : Format) (word : TargetWord) (file assignment : List ℕ) (keys : List (List ℕ))
+    → command_of (extend_words format word file assignment keys)
+    ≡ (keys_from word no_keys 5 keys
+    >>= λ given. chosen_target (extend_words format word file assignment keys) word given
+    >>= λ target. Ok (commands.Extend (fourth_word_job format target given) (Whole 4)))
 
 -- every sample can be asked for, with any words for its numbers, and with what the keys after them
 -- choose
@@ -226,6 +256,14 @@ pub record IsRefusedAfterAll (given : Keys) : Type 0 where
       → keys_from Chimera no_keys 4 keys ≡ Ok given
       → command_of (compile_words format Chimera file keys)
       ≡ Err (length (compile_words format Chimera file keys) + 1)
+  pub decoding : (format : Format) (file state : List ℕ) (keys : List (List ℕ))
+      → keys_from Chimera no_keys 5 keys ≡ Ok given
+      → command_of (decode_words format Chimera file state keys)
+      ≡ Err (length (decode_words format Chimera file state keys) + 1)
+  pub extension : (format : Format) (file assignment : List ℕ) (keys : List (List ℕ))
+      → keys_from Chimera no_keys 5 keys ≡ Ok given
+      → command_of (extend_words format Chimera file assignment keys)
+      ≡ Err (length (extend_words format Chimera file assignment keys) + 1)
   pub sample : (number clauses : ℕ) (first second : List ℕ) (keys : List (List ℕ))
       → digits_number first ≡ Some number → clauses_of second ≡ Some clauses
       → keys_from Chimera no_keys 4 keys ≡ Ok given
@@ -257,6 +295,14 @@ pub record SaySample (words : List (List ℕ)) (sample : Sample) (keys : List (L
 abbrev pub Say : List (List ℕ) → Command → List (List ℕ) → Type 0
 Say words (commands.Compile job) keys =
     words ≡ compile_words job.format (word_of job.target) (text_at words job.file) keys
+Say words (commands.Decode job state) keys =
+    words
+    ≡ decode_words job.format (word_of job.target) (text_at words job.file) (text_at words state)
+    keys
+Say words (commands.Extend job assignment) keys =
+    words
+    ≡ extend_words job.format (word_of job.target) (text_at words job.file)
+    (text_at words assignment) keys
 Say words (commands.Sample sample) keys = SaySample words sample keys
 
 -- words that ask for a command say it, and then keys

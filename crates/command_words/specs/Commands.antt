@@ -105,6 +105,10 @@ abbrev pub verb_of : List ℕ → Option Verb
 verb_of word =
     if bytes_eq word (codes "compile")
     then Some verbs.Compile
+    else if bytes_eq word (codes "decode")
+    then Some verbs.Decode
+    else if bytes_eq word (codes "extend")
+    then Some verbs.Extend
     else if bytes_eq word (codes "sample") then Some verbs.Sample else None
 
 -- what a verb asks for, with the words that stand after it
@@ -112,6 +116,14 @@ abbrev pub after_verb : Verb → List (List ℕ) → Result Command ℕ
 after_verb verbs.Compile words = do
   job ← job_of words 4
   Ok (commands.Compile job)
+after_verb verbs.Decode words = do
+  job ← job_of words 5
+  state ← named words 4
+  Ok (commands.Decode job state)
+after_verb verbs.Extend words = do
+  job ← job_of words 5
+  assignment ← named words 4
+  Ok (commands.Extend job assignment)
 after_verb verbs.Sample words = do
   sample ← sample_of words
   Ok (commands.Sample sample)
@@ -125,6 +137,8 @@ command_of words = do
 -- a command with at most 100,000 clauses, where it is a sample
 abbrev pub HasFewClauses : Command → Type 0
 HasFewClauses (commands.Compile job) = ⊤
+HasFewClauses (commands.Decode job state) = ⊤
+HasFewClauses (commands.Extend job assignment) = ⊤
 HasFewClauses (commands.Sample sample) = sample.clauses ≤ 100000
 
 -- what the given words ask for

@@ -8,7 +8,7 @@ use Rattle.command_words.specs.declared.commands.Target.TheVariants as targets
 use Rattle.command_words.specs.declared.commands.Chaining.TheVariants.{Clique}
 use Rattle.command_words.specs.declared.commands.Chaining.TheVariants as chainings
 use Rattle.command_words.specs.declared.commands.Command.{Command}
-use Rattle.command_words.specs.declared.commands.Command.TheVariants.{Compile, Sample}
+use Rattle.command_words.specs.declared.commands.Command.TheVariants.{Compile, Decode, Extend, Sample}
 use Rattle.command_words.specs.declared.names.Which.{Which}
 use Rattle.command_words.specs.declared.names.Which.TheVariants.{Source, Map, State}
 use Rattle.command_words.specs.Keys.{cut}
@@ -25,11 +25,15 @@ text_at words (Value i) = option_map_or value_of (slice_get words i) []
 -- the target of a command's model
 abbrev pub target_in : Command → Target
 target_in (Compile job) = job.target
+target_in (Decode job state) = job.target
+target_in (Extend job assignment) = job.target
 target_in (Sample sample) = sample.target
 
 -- the place of the name of the source; a sample has no file
 abbrev pub file_of : Command → Option WordAt
 file_of (Compile job) = Some job.file
+file_of (Decode job state) = Some job.file
+file_of (Extend job assignment) = Some job.file
 file_of (Sample sample) = None
 
 -- the place of the name of the map of chains
@@ -41,6 +45,8 @@ map_of (targets.Chimera size (chainings.Map at)) = Some at
 -- the place of the name of a state or an assignment
 abbrev pub state_of : Command → Option WordAt
 state_of (Compile job) = None
+state_of (Decode job state) = Some state
+state_of (Extend job assignment) = Some assignment
 state_of (Sample sample) = None
 
 -- the place of the name of a file, where a command has such a file

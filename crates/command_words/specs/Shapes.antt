@@ -14,4 +14,6 @@ HasShapeIn (Chimera size chains) = IsShape size.rows size.cols size.shore
 -- a command with such a target
 abbrev pub HasShape : Command → Type 0
 HasShape (commands.Compile job) = HasShapeIn job.target
+HasShape (commands.Decode job state) = HasShapeIn job.target
+HasShape (commands.Extend job assignment) = HasShapeIn job.target
 HasShape (commands.Sample sample) = HasShapeIn sample.target

@@ -80,6 +80,13 @@ pub struct Sample {
 /// What a run does.
 #[derive(Clone, Copy, Debug, PartialEq, Eq)]
 pub enum Command {
+    /// Writes the model of a source.
     Compile(Job),
+    /// Takes a state of that model, from the file of this name, back to an assignment of the
+    /// source.
+    Decode(Job, WordAt),
+    /// Takes an assignment of the source, from the file of this name, to a state of that model.
+    Extend(Job, WordAt),
+    /// Writes the model of a sample.
     Sample(Sample),
 }

@@ -43,7 +43,7 @@ fn target_in(command: Command) -> Target
     ensures { result ≡ target_in command }
 {
     match command {
-        Command::Compile(job) => job.target,
+        Command::Compile(job) | Command::Decode(job, _) | Command::Extend(job, _) => job.target,
         Command::Sample(sample) => sample.target,
     }
 }
@@ -52,7 +52,7 @@ fn file_of(command: Command) -> Option<WordAt>
     ensures { result ≡ file_of command }
 {
     match command {
-        Command::Compile(job) => Some(job.file),
+        Command::Compile(job) | Command::Decode(job, _) | Command::Extend(job, _) => Some(job.file),
         Command::Sample(_) => None,
     }
 }
@@ -70,6 +70,7 @@ fn state_of(command: Command) -> Option<WordAt>
     ensures { result ≡ state_of command }
 {
     match command {
+        Command::Decode(_, state) | Command::Extend(_, state) => Some(state),
         Command::Compile(_) | Command::Sample(_) => None,
     }
 }

@@ -15,6 +15,8 @@ const MOST_CLAUSES: u64 = 100_000;
 #[derive(Clone, Copy, Debug, PartialEq, Eq)]
 pub enum Verb {
     Compile,
+    Decode,
+    Extend,
     Sample,
 }
 
@@ -23,6 +25,8 @@ fn verb_of(word: &str) -> Option<Verb>
 {
     match word {
         "compile" => Some(Verb::Compile),
+        "decode" => Some(Verb::Decode),
+        "extend" => Some(Verb::Extend),
         "sample" => Some(Verb::Sample),
         _ => None,
     }
@@ -195,6 +199,8 @@ pub fn command(words: &[String]) -> Result<Command, usize>
 {
     match verb_word(words)? {
         Verb::Compile => Ok(Command::Compile(job(words, 4)?)),
+        Verb::Decode => Ok(Command::Decode(job(words, 5)?, named(words, 4)?)),
+        Verb::Extend => Ok(Command::Extend(job(words, 5)?, named(words, 4)?)),
         Verb::Sample => Ok(Command::Sample(sample(words)?)),
     }
 }

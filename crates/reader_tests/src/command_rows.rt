@@ -26,7 +26,7 @@ fn asked(alloc: Global, words: &[&str]) -> Result<Result<Command, usize>, AllocE
     Ok(command(&words))
 }
 
-const COMPILE: Command = Command::Compile(Job {
+const JOB: Job = Job {
     format: Format::Wcnf,
     file: WordAt::Whole(3),
     target: Target::Nodes(NodeModel::Qubo),
@@ -35,7 +35,9 @@ const COMPILE: Command = Command::Compile(Job {
         high: High::Monomial,
     },
     unit: UnitChoice::One,
-});
+};
+
+const COMPILE: Command = Command::Compile(JOB);
 
 /// The command `compile` in a normal form, on the file that the fourth word names.
 fn compile_in(format: Format, target: Target, normal: Normal, unit: UnitChoice) -> Command {
@@ -54,7 +56,21 @@ fn compile_in(format: Format, target: Target, normal: Normal, unit: UnitChoice) 
 const POSITIONS: &[(&[&str], Result<Command, usize>)] = &[
     (&["compile", "wcnf", "qubo", "FILE"], Ok(COMPILE)),
     (&["compile", "wcnf", "qubo", "compile"], Ok(COMPILE)),
+    (
+        &["decode", "wcnf", "qubo", "FILE", "STATE"],
+        Ok(Command::Decode(JOB, WordAt::Whole(4))),
+    ),
+    (
+        &["extend", "wcnf", "qubo", "FILE", "high=", "unit=one"],
+        Ok(Command::Extend(JOB, WordAt::Whole(4))),
+    ),
     // a missing word
+    (&["decode", "wcnf", "qubo", "FILE"], Err(5)),
+    (&["extend", "wcnf", "chimera", "FILE", "STATE"], Err(6)),
+    (
+        &["extend", "wcnf", "qubo", "FILE", "STATE", "STATE"],
+        Err(6),
+    ),
     (&[], Err(1)),
     (&["compile"], Err(2)),
     (&["compile", "wcnf"], Err(3)),
@@ -286,7 +302,7 @@ fn are_chosen(
     push_owned(alloc, &mut words, keys)?;
     match command(&words) {
         Ok(Command::Compile(job)) => Ok(job.choices == Choices { normal, high }),
-        Ok(Command::Sample(_)) | Err(_) => Ok(false),
+        _ => Ok(false),
     }
 }
 

@@ -1,8 +1,14 @@
-use Rattle.command_words.proofs.AskedWords.{each_job, each_unit, each_graph, each_key, no_key_twice, no_graph_key_elsewhere, no_graph_without, no_larger_graph, no_others}
+use Rattle.command_words.proofs.AskedWords.{each_job, each_decoding, each_extension, each_unit, each_graph, each_key, no_key_twice, no_graph_key_elsewhere, no_graph_without, no_larger_graph, no_others}
 use Rattle.command_words.proofs.laws.laws_of_words.Goals as goal
 
 pub returns-clause-each_job : goal.returns-clause-each_job
 returns-clause-each_job c = each_job
+
+pub returns-clause-each_decoding : goal.returns-clause-each_decoding
+returns-clause-each_decoding c = each_decoding
+
+pub returns-clause-each_extension : goal.returns-clause-each_extension
+returns-clause-each_extension c = each_extension
 
 pub returns-clause-each_unit : goal.returns-clause-each_unit
 returns-clause-each_unit c = each_unit
