@@ -1,0 +1,44 @@
+//! The two texts of an answer.
+ghost use Rattle.std.specs.Prelude.{◌≡◌, IfOk};
+ghost use Rattle.answer_text.specs.Answers.{decoding_text, extension_text};
+
+use crate::rows::{push_bits_row, push_cost, push_energy, push_names};
+use bits_model::{Cost, NoMemory};
+use poly_reader::Names;
+use std::alloc::Global;
+
+/// The assignment that a state was taken back to, with the names of its variables where they have
+/// any, its cost, and the energy of the state.
+pub fn written_decoding(
+    alloc: Global,
+    x: &[bool],
+    names: &Option<Names>,
+    cost: Cost,
+    energy: i128,
+) -> Result<Vec<u8>, NoMemory>
+    ensures { IfOk result (λ text. text.items ≡ decoding_text x.now names.now cost energy) }
+{
+    let mut text = Vec::new(alloc);
+    push_bits_row(&mut text, b"assignment", x)?;
+    push_names(&mut text, names, x)?;
+    push_cost(&mut text, cost)?;
+    push_energy(&mut text, energy)?;
+    Ok(text)
+}
+
+/// The state that an assignment was taken to, the cost of the assignment, and the energy of the
+/// state.
+pub fn written_extension(
+    alloc: Global,
+    y: &[bool],
+    cost: Cost,
+    energy: i128,
+) -> Result<Vec<u8>, NoMemory>
+    ensures { IfOk result (λ text. text.items ≡ extension_text y.now cost energy) }
+{
+    let mut text = Vec::new(alloc);
+    push_bits_row(&mut text, b"state", y)?;
+    push_cost(&mut text, cost)?;
+    push_energy(&mut text, energy)?;
+    Ok(text)
+}

@@ -1,0 +1,30 @@
+//! The texts that answer for one assignment or one state: its bits, its cost and its energy.
+//!
+//! An assignment has the bits of a source's variables, a state those of a model's nodes or qubits.
+//! Both texts are rows of words with one space between two words, and each row ends in a line feed.
+//! The text of a decoded state has, in this order,
+//!
+//! - `assignment`, and a digit for each bit, `0` or `1`, with nothing between;
+//! - where the variables have names, a row for each of them: `name`, its name and its digit;
+//! - `cost`, and the cost of the assignment, or the word `infinite`;
+//! - `energy`, and the energy of the state.
+//!
+//! The text of an extended assignment has the rows `state`, with a digit for each bit, `cost` and
+//! `energy`. Where there are no bits, the row is the word and the space after it.
+//!
+//! For the assignment 111 of the variables x, y and z, of cost -5, and a state of energy -5:
+//!
+//! ```text
+//! assignment 111
+//! name x 1
+//! name y 1
+//! name z 1
+//! cost -5
+//! energy -5
+//! ```
+#![tactic(auto)]
+
+mod answers;
+mod rows;
+
+pub use answers::{written_decoding, written_extension};
