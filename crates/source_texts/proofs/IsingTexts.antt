@@ -12,8 +12,8 @@ use Rattle.entry_reader.specs.Problems.{problem_of, normal_reading, problem_of_w
 use Rattle.ising_file.specs.Cost.{source_of}
 use Rattle.ising_file.proofs.ReadCosts.{reading_keeps_costs}
 use Rattle.source_texts.specs.declared.reading.Read.{Read}
-use Rattle.source_texts.specs.Sources.{own, StandsFor}
-use Rattle.source_texts.proofs.Readings.{same_costs_stand, read_stands}
+use Rattle.source_texts.specs.Sources.{own, StandsFor, CostsAs}
+use Rattle.source_texts.proofs.Readings.{same_costs_stand, read_stands, same_costs, read_costs}
 
 -- the problem of what a text says
 abbrev normal_problem : Listing → ProblemContent
@@ -30,6 +30,18 @@ pub ising_stands : (text : List ℕ) (r : Read)
 unfolding normal_reading
 ising_stands text r e =
     read_stands source_of normal_problem own normal_form_stands (reading Ising text) r e
+
+normal_form_costs : (s : Listing) → CostsAs (source_of s) (own (normal_problem s))
+normal_form_costs s =
+    same_costs (source_of s) (own (normal_problem s))
+    (record { width = refl; costs = reading_keeps_costs s })
+
+pub ising_costs : (text : List ℕ) (r : Read) (s : Source)
+    → (normal_reading Ising text >>= λ p. Ok (own p)) ≡ Ok r
+    → (reading Ising text >>= λ t. Ok (source_of t)) ≡ Ok s → CostsAs s r
+unfolding normal_reading
+ising_costs text r s e said =
+    read_costs source_of normal_problem own normal_form_costs (reading Ising text) r s e said
 
 same_reading : (text : List ℕ)
     → normal_reading Ising text ≡ problem_of_words Ising (tokens_of Plain text)

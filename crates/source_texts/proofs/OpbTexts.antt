@@ -10,8 +10,8 @@ use Rattle.opb_reader.specs.Opb.{Opb, reading}
 use Rattle.opb_reader.specs.Cost.{problem_of, normal_reading, problem_of_words, source_of}
 use Rattle.opb_reader.proofs.ReadCosts.{reading_keeps_costs}
 use Rattle.source_texts.specs.declared.reading.Read.{Read}
-use Rattle.source_texts.specs.Sources.{own, StandsFor}
-use Rattle.source_texts.proofs.Readings.{same_costs_stand, read_stands}
+use Rattle.source_texts.specs.Sources.{own, StandsFor, CostsAs}
+use Rattle.source_texts.proofs.Readings.{same_costs_stand, read_stands, same_costs, read_costs}
 
 -- the problem of what a text says
 abbrev normal_problem : Opb → ProblemContent
@@ -27,6 +27,18 @@ pub opb_stands : (text : List ℕ) (r : Read)
     → (s : Source) × ((reading text >>= λ t. Ok (source_of t)) ≡ Ok s) × StandsFor s r
 unfolding normal_reading
 opb_stands text r e = read_stands source_of normal_problem own normal_form_stands (reading text) r e
+
+normal_form_costs : (s : Opb) → CostsAs (source_of s) (own (normal_problem s))
+normal_form_costs s =
+    same_costs (source_of s) (own (normal_problem s))
+    (record { width = refl; costs = reading_keeps_costs s })
+
+pub opb_costs : (text : List ℕ) (r : Read) (s : Source)
+    → (normal_reading text >>= λ p. Ok (own p)) ≡ Ok r
+    → (reading text >>= λ t. Ok (source_of t)) ≡ Ok s → CostsAs s r
+unfolding normal_reading
+opb_costs text r s e said =
+    read_costs source_of normal_problem own normal_form_costs (reading text) r s e said
 
 same_reading : (text : List ℕ) → normal_reading text ≡ problem_of_words (tokens_of styles.Opb text)
 unfolding normal_reading problem_of_words reading

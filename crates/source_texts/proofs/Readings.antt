@@ -12,7 +12,7 @@ use Rattle.whole_text.specs.Steps.{◌>>=◌}
 use Rattle.problem_form.specs.Problems.{ProblemContent, form_of}
 use Rattle.problem_form.specs.Limits.{upper}
 use Rattle.source_texts.specs.declared.reading.Read.{Read}
-use Rattle.source_texts.specs.Sources.{own, first_decoded, StandsFor}
+use Rattle.source_texts.specs.Sources.{own, first_decoded, StandsFor, CostsAs}
 
 -- all bits of what a state is decoded to are its first ones
 all_bits_first : (f g : Form) (d : Decoding) (u : ℤ) (n : Figures) → Relaxes f g d u n
@@ -33,6 +33,10 @@ same_costs_stand s p same bound = record {
       (all_bits_first (form_of p) g d u n r) r);
 }
 
+-- a problem with the costs of a source costs what it does
+pub same_costs : (s : Source) (r : Read) → HasSameCosts (form_of r.problem) s.form → CostsAs s r
+same_costs s r same = record { own = same.width; same = same.costs }
+
 -- ---- texts of which each says a source, and is read into its problem
 
 module _ {S P : Type 0} (source : S → Source) (problem : S → P) (kept : P → Read) where
@@ -45,3 +49,14 @@ module _ {S P : Type 0} (source : S → Source) (problem : S → P) (kept : P �
   read_stands each (Ok s) r e =
       let same : kept (problem s) ≡ r = cc in
       (source s, refl, subst (λ q. StandsFor (source s) q) same (each s))
+
+  -- where each problem costs what its source does
+  pub read_costs : ((s : S) → CostsAs (source s) (kept (problem s)))
+      → (said : Result S TextFault) (r : Read) (t : Source)
+      → ((said >>= λ s. Ok (problem s)) >>= λ p. Ok (kept p)) ≡ Ok r
+      → (said >>= λ s. Ok (source s)) ≡ Ok t → CostsAs t r
+  read_costs each (Err fault) r t e said_so = absurd cc
+  read_costs each (Ok s) r t e said_so =
+      let same : kept (problem s) ≡ r = cc in
+      let this : source s ≡ t = cc in
+      subst (λ q. CostsAs t q) same (subst (λ q. CostsAs q (kept (problem s))) this (each s))

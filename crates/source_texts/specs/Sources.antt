@@ -1,5 +1,5 @@
 -- What a text says in a format, and the problem that it is read into: a line a format.
-use Rattle.std.specs.Prelude.{◌≡◌, ℕ, ℤ, ◌≤◌, List, Ok, Some, None, Result, take}
+use Rattle.std.specs.Prelude.{◌≡◌, ℕ, ℤ, ◌≤◌, Bool, List, Ok, Err, Option, Some, None, Result, take}
 use Rattle.bits_model.specs.declared.costs.Figures.{Figures}
 use Rattle.bits_model.specs.Costs.{Form, Source}
 use Rattle.bits_model.specs.Relations.{Decoding, Relaxes}
@@ -50,6 +50,15 @@ problem_of Poly text = poly_cost.normal_reading text >>= λ q. Ok (named q)
 problem_of Ising text = entry_problems.normal_reading layouts.Ising text >>= λ p. Ok (own p)
 problem_of Qubo text = entry_problems.normal_reading layouts.Qubo text >>= λ p. Ok (own p)
 
+-- the names of what was read
+abbrev pub read_names : Result Read TextFault → Option (List (List ℕ))
+read_names (Ok r) = r.names
+read_names (Err _) = None
+
+-- the names of a text's variables, where it has names for them
+abbrev pub names_of : Format → List ℕ → Option (List (List ℕ))
+names_of format text = read_names (problem_of format text)
+
 -- ---- from the words of a text
 
 -- how the texts of a format are cut into words
@@ -97,3 +106,15 @@ pub record StandsFor (s : Source) (r : Read) : Type 0 where
 abbrev pub ProblemsStandForSources : Type 0
 ProblemsStandForSources = (format : Format) (text : List ℕ) (r : Read) → problem_of format text ≡ Ok r
     → (s : Source) × (source_of format text ≡ Ok s) × StandsFor s r
+
+-- ---- what a problem costs
+
+-- the problem's variables are the source's, and each assignment costs what it costs in the source
+pub record CostsAs (s : Source) (r : Read) : Type 0 where
+  pub own : r.problem.variables ≡ s.form.bits
+  pub same : (x : List Bool) → (form_of r.problem).cost x ≡ s.form.cost x
+
+-- a problem that a text is read into costs what the source costs that the text says
+abbrev pub ProblemsCostAsSources : Type 0
+ProblemsCostAsSources = (format : Format) (text : List ℕ) (r : Read) (s : Source)
+    → problem_of format text ≡ Ok r → source_of format text ≡ Ok s → CostsAs s r
