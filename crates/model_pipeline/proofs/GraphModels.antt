@@ -13,7 +13,7 @@ use Rattle.ising_form.specs.Isings.{IsingContent}
 use Rattle.ising_form.specs.Spins.{coupled}
 use Rattle.ising_form.specs.Spins as spins
 use Rattle.ising_form.specs.laws.Spun.{length-fields}
-use Rattle.ising_form.proofs.Images.{total-image, size-image}
+use Rattle.ising_form.proofs.Images.{image_is_ising, total-image, size-image}
 use Rattle.chimera_graph.specs.declared.chimera.Chimera.{Chimera}
 use Rattle.qubit_models.specs.Standing.{IsQubitModelOf}
 use Rattle.model_pipeline.specs.Models.{ising_figures}
@@ -30,6 +30,7 @@ spun_stands p q kept made =
     let stated = ising_figures_are_stated p made.threshold in
     let width = length-fields (coupled q.couplers) 0 q.diagonal in record {
       figures = refl;
+      kept = image_is_ising q kept made.total;
       enough = omega (arith, width, made.enough);
       total = omega (arith, total-image q, made.total_low);
       size = omega (arith, size-image q, made.size_low);

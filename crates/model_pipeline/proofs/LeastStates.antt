@@ -29,7 +29,8 @@ use Rattle.direct_quad.specs.laws.FlatKept.{first, second, fits_first, fits_seco
 use Rattle.direct_quad.specs.laws.Relaxing.{figures-still}
 use Rattle.model_pipeline.specs.Models.{low_terms_of, quad_by, terms_of}
 use Rattle.model_pipeline.specs.Extensions.{low_extension, extension_by, ExtendsLeastBy, IsLeastExtension}
-use Rattle.model_pipeline.proofs.Standing.{LowFits, low_keeps, low_source, steps, terms_width}
+use Rattle.model_pipeline.specs.Decoders.{LowFits}
+use Rattle.model_pipeline.proofs.Standing.{low_keeps, low_source, steps, terms_width}
 
 -- slack bits extend an assignment with the least cost
 terms_extend : (normal : Normal) (a : BitsLink) (p : ProblemContent) (x : List Bool)
@@ -49,7 +50,7 @@ low_reaches Rosenberg b t x fits width = rosen_reaches b t x fits width
 
 module _ (normal : Normal) (high : High) (p : ProblemContent) where
   -- the steps decode a state to its first bits
-  steps-first : (a b c : BitsLink) → penalty.Fits a p → LowFits high b (terms_of normal p)
+  pub steps-first : (a b c : BitsLink) → penalty.Fits a p → LowFits high b (terms_of normal p)
       → (y : List Bool) → (steps a b c).decoded y ≡ take p.variables y
   steps-first a b c fits_a fits_b y =
       let source = low_source high b (terms_of normal p) fits_b ∙ terms_width normal p in
@@ -112,6 +113,11 @@ pub least_by_pairs : (normal : Normal) (choices : Choices) (p : ProblemContent) 
     → IsLeastExtension choices p x y
 least_by_pairs normal choices p x y normal_is high_is width same (a, fits_a) (b, fits_b) (c, fits_c) =
     least_by_steps normal Rosenberg p choices a b c x y normal_is high_is fits_a fits_b fits_c width same
+
+-- what is true of every value is true of a result's
+pub if_ok-always : {T E : Type 0} (r : Result T E) {P : T → Type 0} → ((y : T) → P y) → IfOk r P
+if_ok-always (Ok y) f = f y
+if_ok-always (Err e) f = tt
 
 -- what follows of a result from three facts
 pub if_ok-by_three : {T E : Type 0} (r : Result T E) {P Q R S : T → Type 0} → IfOk r P → IfOk r Q

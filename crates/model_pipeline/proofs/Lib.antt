@@ -3,3 +3,9 @@ pub mod GraphModels
 pub mod Standing
 pub mod LeastStates
 pub mod PairForms
+pub mod LongSets
+pub mod FewNodes
+pub mod Rooms
+pub mod WrittenStates
+pub mod WrittenExtensions
+pub mod Decoders

@@ -28,7 +28,6 @@ use Rattle.normal_form.specs.laws.Relaxing.{multilinear_relaxes}
 use Rattle.monomial_layer.specs.Monomials as monomials
 use Rattle.monomial_layer.specs.laws.Kept.{mono_keeps}
 use Rattle.rosenberg_layer.specs.Rosenberg.{excess}
-use Rattle.rosenberg_layer.specs.Rosenberg as rosenberg
 use Rattle.rosenberg_layer.specs.laws.Kept.{rosen_keeps, width-run-le}
 use Rattle.quad_form.specs.Quads.{QuadContent, IsQuad, quad_size, quad_total}
 use Rattle.quad_form.specs.Quads as quads
@@ -44,6 +43,7 @@ use Rattle.ising_form.specs.laws.Spun.{length-fields, spins_keeps}
 use Rattle.ising_form.proofs.Images.{image_is_ising}
 use Rattle.model_pipeline.specs.Models.{IsModelOf, form_model, ising_figures, low_terms_of, quad_by, terms_of}
 use Rattle.model_pipeline.specs.Formed.{IsFormed, Stands}
+use Rattle.model_pipeline.specs.Decoders.{LowFits}
 use Rattle.model_pipeline.proofs.FormModels.{HasFigures, figures_within, qubo_stands, ising_stands}
 
 -- the same form, with the same figures
@@ -90,11 +90,6 @@ pub terms_width : (normal : Normal) (p : ProblemContent) → (terms_of normal p)
 terms_width Literal p = refl
 terms_width Multilinear p = refl
 
--- a link between terms and what stands for those of degree 3 or more
-abbrev pub LowFits : High → BitsLink → TableContent → Type 0
-LowFits Monomial b t = monomials.Fits b t
-LowFits Rosenberg b t = rosenberg.Fits b t
-
 pub low_source : (high : High) (b : BitsLink) (t : TableContent) → LowFits high b t
     → b.source_width ≡ t.width
 low_source Monomial b t fits = fits.source
@@ -114,7 +109,7 @@ abbrev pub steps : BitsLink → BitsLink → BitsLink → Decoding
 steps a b c = decoding_after (decoding_after (first_bits a) (first_bits b)) (same_bits c)
 
 module _ (normal : Normal) (high : High) (p : ProblemContent) where
-  steps_enough : p.variables ≤ length (quad_by normal high p).diagonal
+  pub steps_enough : p.variables ≤ length (quad_by normal high p).diagonal
   steps_enough =
       omega (arith, length-image (low_terms_of high (terms_of normal p)), low_wider high (terms_of normal p), terms_width normal p)
 
@@ -178,10 +173,10 @@ ising_figures_are_stated p low = record {
 }
 
 -- the widths of a quadratic form and of its Ising form
-abbrev spins_link : QuadContent → BitsLink
+abbrev pub spins_link : QuadContent → BitsLink
 spins_link q = record { source_width = length q.diagonal; target_width = length q.diagonal }
 
-spins_fit : (q : QuadContent) → IsQuad q → spins.Fits (spins_link q) q
+pub spins_fit : (q : QuadContent) → IsQuad q → spins.Fits (spins_link q) q
 spins_fit q quad = record { source = refl; target = refl; quad = quad }
 
 -- its Ising form stands for what it stands for

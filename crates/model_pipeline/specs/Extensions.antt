@@ -1,20 +1,36 @@
--- The extension of an assignment: the bits of all nodes that the steps add to a problem.
-use Rattle.std.specs.Prelude.{Bool, List, length}
+-- The extension of an assignment: the bits of all nodes that the steps add to a problem, and the
+-- state of a written model.
+use Rattle.std.specs.Prelude.{◌≡◌, ◌⊎◌, ⊤, ℕ, ◌<◌, ℤ, ◌+ℤ◌, ◌*ℤ◌, ◌≤ℤ◌, Bool, ◌&&◌, List, length, map, All}
+use Rattle.std.specs.List.{list_any, range_with_len}
+use Rattle.bits_model.specs.declared.costs.Cost.TheVariants.{Whole}
 use Rattle.bits_model.specs.declared.layer.BitsLink.{BitsLink}
+use Rattle.bits_model.specs.declared.output.Kind.{Kind}
+use Rattle.bits_model.specs.declared.output.Kind.TheVariants.{Qubo, Ising, Chimera}
+use Rattle.bits_model.specs.declared.output.UnitChoice.{UnitChoice}
+use Rattle.bits_model.specs.Costs.{Form, energy}
 use Rattle.bits_model.specs.Links.{first_bits}
+use Rattle.bits_model.specs.Output.{Written, bit_at, decoding_of, form_of}
 use Rattle.bits_model.specs.Relations.{ExtendsLeast}
+use Rattle.bits_model.specs.Walks.{is_in}
 use Rattle.problem_form.specs.declared.limits.Choices.{Choices}
 use Rattle.problem_form.specs.declared.limits.Normal.{Normal}
 use Rattle.problem_form.specs.declared.limits.High.{High}
 use Rattle.problem_form.specs.declared.limits.High.TheVariants.{Monomial, Rosenberg}
 use Rattle.problem_form.specs.Problems.{ProblemContent}
 use Rattle.problem_form.specs.Problems as problems
+use Rattle.command_words.specs.declared.commands.NodeModel.{NodeModel}
 use Rattle.term_table.specs.Tables.{TableContent}
 use Rattle.penalty_layer.specs.Penalty as penalty
 use Rattle.monomial_layer.specs.Monomials as monomials
 use Rattle.rosenberg_layer.specs.Rosenberg as rosenberg
 use Rattle.quad_form.specs.Quads as quads
-use Rattle.model_pipeline.specs.Models.{terms_of, quad_by}
+use Rattle.chimera_graph.specs.declared.chimera.Chimera as graphs
+use Rattle.chimera_graph.specs.Graph.{qubits_of}
+use Rattle.chain_map.specs.Chains.{chain_of}
+use Rattle.chain_map.specs.Valid.{IsValid}
+use Rattle.qubit_models.specs.QubitModels.{joins_of, IsModelByCheck}
+use Rattle.model_pipeline.specs.Models.{terms_of, quad_by, ising_figures, model}
+use Rattle.model_pipeline.specs.GraphModels.{ising_of}
 
 -- ---- the bits
 
@@ -50,3 +66,65 @@ ExtendsLeastBy normal high p x y =
 -- the same, for the steps that a command chooses
 abbrev pub IsLeastExtension : Choices → ProblemContent → List Bool → List Bool → Type 0
 IsLeastExtension choices p x y = ExtendsLeastBy choices.normal choices.high p x y
+
+-- ---- the state of a written model
+
+-- the bit of the node whose chain the qubit is in, and 0 in no chain
+abbrev pub bit_on : List (List ℕ) → List Bool → ℕ → Bool
+bit_on chains x q =
+    list_any (λ node. bit_at x node && is_in (chain_of chains node) q)
+    (range_with_len 0 (length chains))
+
+-- the bits of a model's nodes, from those of its form's nodes: the same, or on a graph the bit of
+-- each qubit
+abbrev pub state_by : Kind → Written → List Bool → List Bool
+state_by Qubo m x = x
+state_by Ising m x = x
+state_by (Chimera rows cols shore) m x = map (bit_on m.chains x) (range_with_len 0 m.nodes)
+
+-- the same, by the model's own kind
+abbrev pub state_on : Written → List Bool → List Bool
+state_on m x = state_by m.kind m x
+
+-- a state of the form's nodes for which there are chains: on a graph one for each node, of qubits
+-- that exist
+abbrev pub FitsNodes : Kind → Written → List Bool → Type 0
+FitsNodes Qubo m x = ⊤
+FitsNodes Ising m x = ⊤
+FitsNodes (Chimera rows cols shore) m x =
+    (length x ≡ length m.chains) × All (λ chain. All (λ q. q < m.nodes) chain) m.chains
+
+-- the same, by the model's own kind
+abbrev pub FitsState : Written → List Bool → Type 0
+FitsState m x = FitsNodes m.kind m x
+
+-- ---- which models are meant
+
+-- the model of a problem on the nodes of its form, for some target and in some unit
+abbrev pub IsMadeOnNodes : Choices → ProblemContent → Written → Type 0
+IsMadeOnNodes choices p m =
+    (target : NodeModel) × (unit : UnitChoice) × (m ≡ model choices target unit p.variables p)
+
+-- the model of a problem on the chains of a valid map, on some graph and in some unit
+abbrev pub IsMadeOnChains : Choices → ProblemContent → Written → Type 0
+IsMadeOnChains choices p m =
+    (unit : UnitChoice) × (graph : graphs.Chimera) × (map : List (List ℕ))
+    × IsValid (joins_of graph) (qubits_of graph) (ising_of choices p) map
+    × IsModelByCheck unit graph (ising_of choices p) map p.variables
+    (ising_figures (penalty.figures p)) m
+
+-- the model of a problem, with the problem's variables
+abbrev pub IsMadeOf : Choices → ProblemContent → Written → Type 0
+IsMadeOf choices p m = IsMadeOnNodes choices p m ⊎ IsMadeOnChains choices p m
+
+-- ---- what is promised of it
+
+-- the state decodes to the assignment, no state that does has a lesser energy, and where the
+-- assignment's cost is whole, unit times the energy is scale times that cost, and offset
+pub record Extends (f : Form) (m : Written) (x y : List Bool) : Type 0 where
+  pub width : length y ≡ m.nodes
+  pub decodes : (decoding_of m).decoded y ≡ x
+  pub scaled : (v : ℤ) → f.cost x ≡ Whole v
+      → m.unit *ℤ energy (form_of m) y ≡ m.figures.scale *ℤ v +ℤ m.figures.offset
+  pub least : (y' : List Bool) → length y' ≡ m.nodes → (decoding_of m).decoded y' ≡ x
+      → energy (form_of m) y ≤ℤ energy (form_of m) y'

@@ -6,9 +6,9 @@ use Rattle.bits_model.specs.Relations.{Decoding, Relaxes}
 use Rattle.problem_form.specs.Problems.{ProblemContent, form_of}
 use Rattle.problem_form.specs.Limits.{upper}
 use Rattle.penalty_layer.specs.Penalty as penalty
-use Rattle.quad_form.specs.Quads.{QuadContent, quad_size, quad_total}
+use Rattle.quad_form.specs.Quads.{QuadContent, IsQuad, quad_size, quad_total}
 use Rattle.quad_form.specs.Quads as quads
-use Rattle.ising_form.specs.Isings.{IsingContent, ising_size, ising_total}
+use Rattle.ising_form.specs.Isings.{IsingContent, IsIsing, ising_size, ising_total}
 use Rattle.ising_form.specs.Isings as isings
 use Rattle.model_pipeline.specs.Models.{ising_figures}
 
@@ -16,6 +16,11 @@ use Rattle.model_pipeline.specs.Models.{ising_figures}
 pub record Stands (p : ProblemContent) (f : Form) (d : Decoding) (u : ℤ) (n : Figures) : Type 0 where
   pub relaxes : Relaxes (form_of p) f d u n
   pub decodes : (y : List Bool) → d.decoded y ≡ take p.variables y
+
+-- a quadratic form with room for its Ising form
+pub record HasRoom (q : QuadContent) : Type 0 where
+  pub quad : IsQuad q
+  pub total : (quad_total q + 1) * 2 ^ 2 ≤ 2 ^ 124
 
 -- a quadratic form that relaxes a problem with the problem's figures, and has room for the steps to
 -- a model
@@ -33,6 +38,7 @@ pub record IsFormed (p : ProblemContent) (q : QuadContent) (n : Figures) : Type 
 -- steps to a model on chains
 pub record IsSpun (p : ProblemContent) (f : IsingContent) (n : Figures) : Type 0 where
   pub figures : n ≡ ising_figures (penalty.figures p)
+  pub kept : IsIsing f
   pub enough : p.variables ≤ length f.fields
   pub total : (ising_total f + 1) * 2 ^ 21 ≤ 2 ^ 124
   pub size : (ising_size f + 4 * 2 ^ 20) * 2 ^ 1 ≤ 2 ^ 32

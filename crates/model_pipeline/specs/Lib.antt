@@ -1,4 +1,6 @@
 pub mod Models
 pub mod Formed
-pub mod Extensions
 pub mod GraphModels
+pub mod Sizes
+pub mod Extensions
+pub mod Decoders

@@ -2,9 +2,11 @@
 ghost use Rattle.std.specs.Prelude.{◌≡◌, ◌<◌, ◌≤◌, ◌+◌, ◌^◌, None, IfOk, length};
 ghost use Rattle.problem_form.specs.Limits.{limit_fault};
 ghost use Rattle.bits_model.specs.declared.layer.BitsLink.{BitsLink};
-ghost use Rattle.direct_quad.specs.FlatMonomials.{extension, Fits};
+ghost use Rattle.direct_quad.specs.FlatMonomials.{extension, image, Fits};
 ghost use Rattle.rosenberg_layer.specs.Rosenberg as rosenberg;
 ghost use Rattle.quad_form.specs.Flat as flat;
+ghost use Rattle.model_pipeline.specs.Models.{quad_of};
+ghost use Rattle.model_pipeline.specs.Formed.{HasRoom};
 ghost use Rattle.model_pipeline.specs.Extensions.{extension_of, IsLeastExtension};
 
 use crate::new_nodes::monomial_link;
@@ -27,13 +29,16 @@ fn by_monomials<G>(
 where
     G: Guard<Source = Problem, Target = Table>,
     requires admits { G.admits problem.now }
-    requires total { G.TOTAL_BITS + 26 ≤ 124 }
+    requires total { G.TOTAL_BITS + 28 ≤ 124 }
     requires size { G.SIZE_BITS + 2 ≤ 32 }
     requires width { length x.now ≡ problem.now.variables }
     ensures extension { IfOk result (λ y.
         y.items ≡ extension (G.image problem.now) (G.extension problem.now x.now)) }
     ensures first { IfOk result (λ _. (link : G.Link) × G.fits link problem.now) }
     ensures second { IfOk result (λ _. (link : BitsLink) × Fits link (G.image problem.now)) }
+
+    // What the steps to a model rest on.
+    ensures room { IfOk result (λ _. HasRoom (image (G.image problem.now))) }
 {
     let guarded = guard.guard(alloc, problem)?;
     let y = guard.extend(alloc, problem, &guarded.link, x)?;
@@ -65,7 +70,7 @@ fn by_pairs<G>(
 where
     G: Guard<Source = Problem, Target = Table>,
     requires admits { G.admits problem.now }
-    requires total { G.TOTAL_BITS + 15 ≤ 124 }
+    requires total { G.TOTAL_BITS + 19 ≤ 124 }
     requires size { G.SIZE_BITS + 2 ≤ 31 }
     requires width { length x.now ≡ problem.now.variables }
     ensures extension { IfOk result (λ y.
@@ -75,6 +80,9 @@ where
         (link : BitsLink) × rosenberg.Fits link (G.image problem.now)) }
     ensures third { IfOk result (λ _.
         (link : BitsLink) × flat.Fits link (rosenberg.image (G.image problem.now))) }
+
+    // What the steps to a model rest on.
+    ensures room { IfOk result (λ _. HasRoom (flat.image (rosenberg.image (G.image problem.now)))) }
 {
     let guarded = guard.guard(alloc, problem)?;
     let y = guard.extend(alloc, problem, &guarded.link, x)?;
@@ -97,6 +105,9 @@ pub fn extended(
     ensures exact { IfOk result (λ y. y.items ≡ extension_of choices.now problem.now x.now) }
     ensures least { IfOk result (λ y.
         IsLeastExtension choices.now problem.now x.now y.items) }
+
+    // What the steps to a model rest on.
+    ensures room { IfOk result (λ _. HasRoom (quad_of choices.now problem.now)) }
 {
     // a problem that is read is in normal form
     let _variables = problem.variables;

@@ -6,12 +6,13 @@ ghost use Rattle.problem_form.specs.Limits.{limit_fault};
 ghost use Rattle.model_pipeline.specs.Models.{quad_by, quad_of};
 ghost use Rattle.model_pipeline.specs.Formed.{IsFormed};
 
+use crate::held::Held;
 use crate::steps::quadratic_of;
 use bits_model::{Figures, Guard, Layer, NoMemory};
 use direct_quad::{DirectQuad, FlatMonomials};
 use normal_form::MultilinearForm;
 use penalty_layer::Penalty;
-use problem_form::{Choices, High, Normal, Problem};
+use problem_form::{Choices, High, Normal};
 use quad_form::Quad;
 use std::alloc::Global;
 
@@ -23,13 +24,13 @@ pub struct FiguredQuad {
 }
 
 /// Over literals, each term replaced by itself: at once, without the tables between.
-fn literal_monomial(alloc: Global, problem: Problem) -> Result<FiguredQuad, NoMemory>
-    requires { limit_fault normals.Literal problem ≡ None }
+fn literal_monomial<P: Held>(alloc: Global, problem: P) -> Result<FiguredQuad, NoMemory>
+    requires { limit_fault normals.Literal (P.problem problem) ≡ None }
     ensures image { IfOk result (λ made.
-        made.quad ≡ quad_by normals.Literal highs.Monomial problem) }
-    ensures stands { IfOk result (λ made. IsFormed problem made.quad made.figures) }
+        made.quad ≡ quad_by normals.Literal highs.Monomial (P.problem problem)) }
+    ensures stands { IfOk result (λ made. IsFormed (P.problem problem) made.quad made.figures) }
 {
-    let made = DirectQuad.guard(alloc, &problem)?;
+    let made = DirectQuad.guard(alloc, problem.problem())?;
     drop(problem);
     Ok(FiguredQuad {
         quad: made.target,
@@ -38,12 +39,14 @@ fn literal_monomial(alloc: Global, problem: Problem) -> Result<FiguredQuad, NoMe
 }
 
 /// Over literals, pairs replaced one after another: without the table of quadratic terms.
-fn literal_rosenberg(alloc: Global, problem: Problem) -> Result<FiguredQuad, NoMemory>
-    requires { limit_fault normals.Literal problem ≡ None }
+fn literal_rosenberg<P: Held>(alloc: Global, problem: P) -> Result<FiguredQuad, NoMemory>
+    requires { limit_fault normals.Literal (P.problem problem) ≡ None }
     ensures image { IfOk result (λ made.
-        made.quad ≡ quad_by normals.Literal highs.Rosenberg problem) }
-    ensures stands { IfOk result (λ made. IsFormed problem made.quad made.figures) }
+        made.quad ≡ quad_by normals.Literal highs.Rosenberg (P.problem problem)) }
+    ensures stands { IfOk result (λ made. IsFormed (P.problem problem) made.quad made.figures) }
 {
+    // a problem that is read is in normal form
+    let _problem = problem.problem();
     let made = quadratic_of(alloc, &Penalty, problem)?;
     Ok(FiguredQuad {
         quad: made.quad,
@@ -53,13 +56,13 @@ fn literal_rosenberg(alloc: Global, problem: Problem) -> Result<FiguredQuad, NoM
 
 /// Over variables alone, each term replaced by itself: without the table of quadratic terms. The
 /// table is let go as soon as the form stands.
-fn multilinear_monomial(alloc: Global, problem: Problem) -> Result<FiguredQuad, NoMemory>
-    requires { limit_fault normals.Multilinear problem ≡ None }
+fn multilinear_monomial<P: Held>(alloc: Global, problem: P) -> Result<FiguredQuad, NoMemory>
+    requires { limit_fault normals.Multilinear (P.problem problem) ≡ None }
     ensures image { IfOk result (λ made.
-        made.quad ≡ quad_by normals.Multilinear highs.Monomial problem) }
-    ensures stands { IfOk result (λ made. IsFormed problem made.quad made.figures) }
+        made.quad ≡ quad_by normals.Multilinear highs.Monomial (P.problem problem)) }
+    ensures stands { IfOk result (λ made. IsFormed (P.problem problem) made.quad made.figures) }
 {
-    let made = MultilinearForm.guard(alloc, &problem)?;
+    let made = MultilinearForm.guard(alloc, problem.problem())?;
     drop(problem);
     let lowered = FlatMonomials.lower(alloc, &made.target)?;
     drop(made.target);
@@ -70,12 +73,14 @@ fn multilinear_monomial(alloc: Global, problem: Problem) -> Result<FiguredQuad, 
 }
 
 /// Over variables alone, pairs replaced one after another: without the table of quadratic terms.
-fn multilinear_rosenberg(alloc: Global, problem: Problem) -> Result<FiguredQuad, NoMemory>
-    requires { limit_fault normals.Multilinear problem ≡ None }
+fn multilinear_rosenberg<P: Held>(alloc: Global, problem: P) -> Result<FiguredQuad, NoMemory>
+    requires { limit_fault normals.Multilinear (P.problem problem) ≡ None }
     ensures image { IfOk result (λ made.
-        made.quad ≡ quad_by normals.Multilinear highs.Rosenberg problem) }
-    ensures stands { IfOk result (λ made. IsFormed problem made.quad made.figures) }
+        made.quad ≡ quad_by normals.Multilinear highs.Rosenberg (P.problem problem)) }
+    ensures stands { IfOk result (λ made. IsFormed (P.problem problem) made.quad made.figures) }
 {
+    // a problem that is read is in normal form
+    let _problem = problem.problem();
     let made = quadratic_of(alloc, &MultilinearForm, problem)?;
     Ok(FiguredQuad {
         quad: made.quad,
@@ -85,10 +90,14 @@ fn multilinear_rosenberg(alloc: Global, problem: Problem) -> Result<FiguredQuad,
 
 /// The quadratic form of a problem within the limits. The problem is let go as soon as a form stands
 /// in its place.
-pub fn formed(alloc: Global, problem: Problem, choices: &Choices) -> Result<FiguredQuad, NoMemory>
-    requires { limit_fault choices.now.normal problem ≡ None }
-    ensures image { IfOk result (λ made. made.quad ≡ quad_of choices.now problem) }
-    ensures stands { IfOk result (λ made. IsFormed problem made.quad made.figures) }
+pub fn formed<P: Held>(
+    alloc: Global,
+    problem: P,
+    choices: &Choices,
+) -> Result<FiguredQuad, NoMemory>
+    requires { limit_fault choices.now.normal (P.problem problem) ≡ None }
+    ensures image { IfOk result (λ made. made.quad ≡ quad_of choices.now (P.problem problem)) }
+    ensures stands { IfOk result (λ made. IsFormed (P.problem problem) made.quad made.figures) }
 {
     match choices.normal {
         Normal::Literal => match choices.high {

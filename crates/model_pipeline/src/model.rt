@@ -4,25 +4,27 @@ ghost use Rattle.problem_form.specs.Limits.{limit_fault};
 ghost use Rattle.model_pipeline.specs.Models.{model, IsModelOf};
 
 use crate::forms::formed;
+use crate::held::Held;
 use crate::written::form_model;
 use bits_model::{NoMemory, OutputModel, UnitChoice};
 use command_words::NodeModel;
-use problem_form::{Choices, Problem};
+use problem_form::Choices;
 use std::alloc::Global;
 
 /// The model of a problem within the limits, of which so many variables are the source's own.
-pub fn model_of(
+pub fn model_of<P: Held>(
     alloc: Global,
-    problem: Problem,
+    problem: P,
     variables: u64,
     choices: &Choices,
     target: NodeModel,
     unit: UnitChoice,
 ) -> Result<OutputModel, NoMemory>
-    requires within { limit_fault choices.now.normal problem ≡ None }
-    requires own { variables ≤ problem.variables }
-    ensures image { IfOk result (λ m. m ≡ model choices.now target unit variables problem) }
-    ensures stands { IfOk result (λ m. IsModelOf problem variables target unit m) }
+    requires within { limit_fault choices.now.normal (P.problem problem) ≡ None }
+    requires own { variables ≤ (P.problem problem).variables }
+    ensures image { IfOk result (λ m.
+        m ≡ model choices.now target unit variables (P.problem problem)) }
+    ensures stands { IfOk result (λ m. IsModelOf (P.problem problem) variables target unit m) }
 {
     let variables = variables as u32;
     let made = formed(alloc, problem, choices)?;

@@ -8,9 +8,10 @@ ghost use Rattle.model_pipeline.specs.Formed.{IsSpun};
 ghost use Rattle.model_pipeline.specs.GraphModels.{ising_of};
 
 use crate::forms::formed;
+use crate::held::Held;
 use bits_model::{Figures, Layer, NoMemory};
 use ising_form::{Ising, ToSpins};
-use problem_form::{Choices, Problem};
+use problem_form::Choices;
 use quad_form::Quad;
 use std::alloc::Global;
 
@@ -45,10 +46,10 @@ fn spun_quad(alloc: Global, quad: Quad, figures: Figures) -> Result<FiguredIsing
 
 /// The Ising form of a problem within the limits. The problem is let go as soon as a form stands in
 /// its place.
-pub fn spun(alloc: Global, problem: Problem, choices: &Choices) -> Result<FiguredIsing, NoMemory>
-    requires { limit_fault choices.now.normal problem ≡ None }
-    ensures image { IfOk result (λ made. made.ising ≡ ising_of choices.now problem) }
-    ensures stands { IfOk result (λ made. IsSpun problem made.ising made.figures) }
+pub fn spun<P: Held>(alloc: Global, problem: P, choices: &Choices) -> Result<FiguredIsing, NoMemory>
+    requires { limit_fault choices.now.normal (P.problem problem) ≡ None }
+    ensures image { IfOk result (λ made. made.ising ≡ ising_of choices.now (P.problem problem)) }
+    ensures stands { IfOk result (λ made. IsSpun (P.problem problem) made.ising made.figures) }
 {
     let made = formed(alloc, problem, choices)?;
     spun_quad(alloc, made.quad, made.figures)

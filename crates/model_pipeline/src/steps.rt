@@ -5,6 +5,7 @@ ghost use Rattle.rosenberg_layer.specs.Rosenberg as rosenberg;
 ghost use Rattle.quad_form.specs.Quads.{quad_size, quad_total};
 ghost use Rattle.quad_form.specs.Flat as flat;
 
+use crate::held::Held;
 use bits_model::{Figures, Guard, NoMemory};
 use direct_rosenberg::quad_by_pairs;
 use problem_form::Problem;
@@ -22,24 +23,25 @@ pub struct Quadratic<G> {
 
 /// The quadratic form of what a guard gives, pairs of literals replaced one after another. Each form
 /// is let go as soon as the next one stands.
-pub fn quadratic_of<G>(
+pub fn quadratic_of<G, P>(
     alloc: Global,
     guard: &G,
-    problem: Problem,
+    problem: P,
 ) -> Result<Quadratic<G::Link>, NoMemory>
 where
     G: Guard<Source = Problem, Target = Table>,
-    requires admits { G.admits problem }
+    P: Held,
+    requires admits { G.admits (P.problem problem) }
     requires total { G.TOTAL_BITS + 15 ≤ 97 }
     requires size { G.SIZE_BITS + 2 ≤ 31 }
     ensures image { IfOk result (λ made.
-        made.quad ≡ flat.image (rosenberg.image (G.image problem))) }
-    ensures figures { IfOk result (λ made. made.figures ≡ G.figures problem) }
-    ensures first { IfOk result (λ made. G.fits made.link problem) }
+        made.quad ≡ flat.image (rosenberg.image (G.image (P.problem problem)))) }
+    ensures figures { IfOk result (λ made. made.figures ≡ G.figures (P.problem problem)) }
+    ensures first { IfOk result (λ made. G.fits made.link (P.problem problem)) }
     ensures second { IfOk result (λ _.
-        (link : BitsLink) × rosenberg.Fits link (G.image problem)) }
+        (link : BitsLink) × rosenberg.Fits link (G.image (P.problem problem))) }
     ensures third { IfOk result (λ _.
-        (link : BitsLink) × flat.Fits link (rosenberg.image (G.image problem))) }
+        (link : BitsLink) × flat.Fits link (rosenberg.image (G.image (P.problem problem)))) }
 
     // What the next step's sums rest on.
     ensures threshold { IfOk result (λ made.
@@ -47,7 +49,7 @@ where
     ensures total { IfOk result (λ made. quad_total made.quad + 1 ≤ 2 ^ (G.TOTAL_BITS + 17)) }
     ensures size { IfOk result (λ made. quad_size made.quad ≤ 2 ^ (G.SIZE_BITS + 3)) }
 {
-    let guarded = guard.guard(alloc, &problem)?;
+    let guarded = guard.guard(alloc, problem.problem())?;
     drop(problem);
     let quad = quad_by_pairs(alloc, guarded.target)?;
     Ok(Quadratic {

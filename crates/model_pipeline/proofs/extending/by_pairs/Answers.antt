@@ -1,5 +1,11 @@
-use Rattle.std.proofs.Common.{arith}
+use Rattle.std.proofs.Common.{subst, arith}
 use Rattle.bits_model.proofs.Growth.{grown_within}
+use Rattle.term_table.specs.Tables.{TableContent}
+use Rattle.rosenberg_layer.specs.Rosenberg as rosenberg
+use Rattle.quad_form.specs.Flat as flat
+use Rattle.model_pipeline.specs.Formed.{HasRoom}
+use Rattle.model_pipeline.proofs.LeastStates.{if_ok-always}
+use Rattle.model_pipeline.proofs.Rooms.{pair_room}
 use Rattle.model_pipeline.proofs.extending.by_pairs.Goals as goal
 
 pub lower-requires-clause-total : goal.lower-requires-clause-total
@@ -17,3 +23,13 @@ flat_link-link-requires g c =
     let source = grown_within _ g.G.Guard.SIZE_BITS 2 31 c.in_ok-guarded.ensures.size
     (omega (arith, c.requires.size)) in
     omega (arith, source, c.in_ok-low.ensures.size)
+
+pub returns-clause-room : goal.returns-clause-room
+returns-clause-room g c =
+    let guarded = c.in_ok-guarded.ensures in
+    let t : TableContent = c.in_ok-guarded.guarded.target in
+    let size = grown_within _ g.G.Guard.SIZE_BITS 2 31 guarded.size (omega (arith, c.requires.size)) in
+    let total = grown_within _ g.G.Guard.TOTAL_BITS 19 124 guarded.total (omega (arith, c.requires.total)) in
+    let room = pair_room t c.in_ok-low.ensures.fits.table size total in
+    if_ok-always c.extend-2.result
+    (λ y. subst (λ (u : TableContent). HasRoom (flat.image (rosenberg.image u))) guarded.image room)

@@ -10,8 +10,8 @@ use Rattle.model_pipeline.proofs.Standing.{formed_as, formed_by_steps}
 use Rattle.model_pipeline.proofs.forms.literal_rosenberg.Goals as goal
 
 pub returns-clause-stands : goal.returns-clause-stands
-returns-clause-stands c =
-    let p = c.args.problem in
+returns-clause-stands g c =
+    let p = g.P.Held.problem c.args.problem in
     let made = c.in_ok-made.ensures in
     let form = c.in_ok-made.made in
     let threshold : unsigned_abs (upper p) ≤ 2 ^ 64 =

@@ -8,28 +8,28 @@ use Rattle.model_pipeline.proofs.Standing.{formed_model}
 use Rattle.model_pipeline.proofs.model.model_of.Goals as goal
 
 pub form_model-requires-clause-enough : goal.form_model-requires-clause-enough
-form_model-requires-clause-enough c =
+form_model-requires-clause-enough g c =
     omega (arith, c.in_ok-made.ensures.stands.enough, c.requires.own)
 
 pub form_model-requires-clause-scale_low : goal.form_model-requires-clause-scale_low
-form_model-requires-clause-scale_low c =
+form_model-requires-clause-scale_low g c =
     omega (arith, ints, ap (λ (n : Figures). n.scale) c.in_ok-made.ensures.stands.figures)
 
 pub form_model-requires-clause-scale : goal.form_model-requires-clause-scale
-form_model-requires-clause-scale c =
+form_model-requires-clause-scale g c =
     omega (arith, ints, ap (λ (n : Figures). unsigned_abs n.scale) c.in_ok-made.ensures.stands.figures)
 
 pub form_model-requires-clause-offset : goal.form_model-requires-clause-offset
-form_model-requires-clause-offset c =
+form_model-requires-clause-offset g c =
     omega (arith, ints, ap (λ (n : Figures). unsigned_abs n.offset) c.in_ok-made.ensures.stands.figures)
 
 pub form_model-requires-clause-threshold : goal.form_model-requires-clause-threshold
-form_model-requires-clause-threshold c =
+form_model-requires-clause-threshold g c =
     let stands = c.in_ok-made.ensures.stands in
     omega (arith, ap (λ (n : Figures). unsigned_abs n.threshold) stands.figures, stands.threshold)
 
 pub returns-clause-image : goal.returns-clause-image
-returns-clause-image c =
+returns-clause-image g c =
     let made = c.in_ok-made.ensures in
     IfOk-weaker c.form_model.result _ _
     (λ m same. same
@@ -37,8 +37,8 @@ returns-clause-image c =
     c.form_model.ensures.model
 
 pub returns-clause-stands : goal.returns-clause-stands
-returns-clause-stands c =
-    let p = c.args.problem in
+returns-clause-stands g c =
+    let p = g.P.Held.problem c.args.problem in
     IfOk-weaker c.form_model.result _ _
     (λ m same. subst (λ w. IsModelOf p c.args.variables c.args.target c.args.unit w) (sym same)
     (formed_model c.args.target c.args.unit p c.args.variables _ _ c.form_model.ensures.kept

@@ -12,16 +12,16 @@ use Rattle.model_pipeline.proofs.GraphModels.{graph_model}
 use Rattle.model_pipeline.proofs.on_graph.mapped_model_of.Goals as goal
 
 pub model_on_qubits-requires-clause-own : goal.model_on_qubits-requires-clause-own
-model_on_qubits-requires-clause-own c =
+model_on_qubits-requires-clause-own g c =
     omega (arith, c.in_ok-made.ensures.stands.enough, c.requires.own)
 
 pub returns-clause-model : goal.returns-clause-model
-returns-clause-model c =
+returns-clause-model g c =
     let made = c.in_ok-made.ensures in
     let graph = c.args.graph.now in
     let map = c.args.map.now in
     let own = c.args.variables in
-    let figures = ising_figures (figures c.args.problem) in
+    let figures = ising_figures (figures (g.P.Held.problem c.args.problem)) in
     subst (λ f. IfOk c.model_on_qubits.result (IsModelByCheck c.args.unit graph f map own figures))
     made.image
     (subst
@@ -31,15 +31,15 @@ returns-clause-model c =
     c.model_on_qubits.ensures.model)
 
 pub returns-clause-stands : goal.returns-clause-stands
-returns-clause-stands c =
+returns-clause-stands g c =
     let graph = c.args.graph.now in
     IfOk-weaker c.model_on_qubits.result _ _
-    (λ m of. graph_model c.args.problem c.args.variables c.args.unit graph c.args.map.now m _ _
+    (λ m of. graph_model (g.P.Held.problem c.args.problem) c.args.variables c.args.unit graph c.args.map.now m _ _
     c.in_ok-made.ensures.stands of)
     c.model_on_qubits.ensures.stands
 
 pub returns-clause-valid : goal.returns-clause-valid
-returns-clause-valid c =
+returns-clause-valid g c =
     let graph = c.args.graph.now in
     subst
     (λ f. IfOk c.model_on_qubits.result
@@ -48,7 +48,7 @@ returns-clause-valid c =
     c.model_on_qubits.ensures.valid
 
 pub returns-clause-invalid : goal.returns-clause-invalid
-returns-clause-invalid c =
+returns-clause-invalid g c =
     let graph = c.args.graph.now in
     subst
     (λ f. IfErr c.model_on_qubits.result
@@ -57,7 +57,7 @@ returns-clause-invalid c =
     c.model_on_qubits.ensures.invalid
 
 pub returns-clause-fault : goal.returns-clause-fault
-returns-clause-fault c =
+returns-clause-fault g c =
     let graph = c.args.graph.now in
     subst
     (λ f. IfErr c.model_on_qubits.result

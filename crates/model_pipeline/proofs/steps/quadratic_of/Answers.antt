@@ -21,13 +21,15 @@ quad_by_pairs-requires-clause-size g c =
 pub returns-clause-image : goal.returns-clause-image
 returns-clause-image g c =
     c.in_ok-quad.ensures.image
-    ∙ ap (λ (t : TableContent). flat.image (rosenberg.image t)) c.in_ok-guarded.ensures.image
+    ∙ ap (λ (t : TableContent). flat.image (rosenberg.image t))
+    (c.in_ok-guarded.ensures.image ∙ ap g.G.Guard.image c.problem.ensures.same)
 
 pub returns-clause-second : goal.returns-clause-second
 returns-clause-second g c =
     let is : IsTable c.in_ok-guarded.guarded.target = c.in_ok-quad.ensures.kept in
     subst (λ (t : TableContent). (link : BitsLink) × rosenberg.Fits link t)
-    c.in_ok-guarded.ensures.image (pair_link c.in_ok-guarded.guarded.target is)
+    (c.in_ok-guarded.ensures.image ∙ ap g.G.Guard.image c.problem.ensures.same)
+    (pair_link c.in_ok-guarded.guarded.target is)
 
 pub returns-clause-third : goal.returns-clause-third
 returns-clause-third g c =
@@ -35,7 +37,8 @@ returns-clause-third g c =
     let small = grown_within _ g.G.Guard.TOTAL_BITS 15 124 c.in_ok-guarded.ensures.total
     (omega (arith, c.requires.total)) in
     subst (λ (t : TableContent). (link : BitsLink) × flat.Fits link (rosenberg.image t))
-    c.in_ok-guarded.ensures.image (flat_link c.in_ok-guarded.guarded.target is small)
+    (c.in_ok-guarded.ensures.image ∙ ap g.G.Guard.image c.problem.ensures.same)
+    (flat_link c.in_ok-guarded.guarded.target is small)
 
 pub returns-clause-total : goal.returns-clause-total
 returns-clause-total g c =

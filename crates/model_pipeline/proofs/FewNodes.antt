@@ -1,0 +1,71 @@
+-- The nodes of a quadratic form are at most the variables and the auxiliary bits: a new node for
+-- terms of degree 3 or more takes the place of a literal past the second of a term.
+use Rattle.std.proofs.Common.{◌≡◌, ℕ, zero, suc, ◌+◌, ◌-◌, ◌≤◌, Bool, true, false, cond, leb, List, [], ◌∷◌, length, Option, Some, None, pos, int_lt, refl, arith}
+use Rattle.std.specs.List.{sum_by}
+use Rattle.std.proofs.lemmas.Bool.Decides.{nat_tests}
+use Rattle.std.proofs.lemmas.List.Sums.{sum_by-cons}
+use Rattle.problem_form.specs.declared.limits.High.{High}
+use Rattle.problem_form.specs.declared.limits.High.TheVariants.{Monomial, Rosenberg}
+use Rattle.term_table.specs.Terms.{Term}
+use Rattle.term_table.specs.Tables.{TableContent}
+use Rattle.term_table.proofs.Additions.{sets_sum-cons}
+use Rattle.monomial_layer.specs.Monomials.{nodes_for, new_nodes}
+use Rattle.rosenberg_layer.specs.Rosenberg.{Pair, next_pair, with_next, substituted, run, excess}
+use Rattle.quad_form.specs.laws.Flattened.{length-image}
+use Rattle.model_pipeline.specs.Models.{low_terms_of, terms_of}
+use Rattle.model_pipeline.specs.Sizes.{NodesAreFew}
+use Rattle.model_pipeline.proofs.LongSets.{past, excess_within}
+use Rattle.model_pipeline.proofs.Standing.{terms_width}
+
+-- ---- each term replaced by itself
+
+new_nodes-past : (t : Term) → new_nodes t ≤ length t.0 - 2
+new_nodes-past t =
+    go (leb (length t.0) 2) (int_lt t.1 (pos 0)) (λ e. grind (arith, nat_tests))
+  where
+    go : (a b : Bool) → (a ≡ false → 3 ≤ length t.0)
+        → cond a 0 (cond b 1 (nodes_for (length t.0))) ≤ length t.0 - 2
+    go true b h = omega arith
+    go false true h = let high = h refl in omega arith
+    go false false h = let high = h refl in grind arith
+
+new_nodes-excess : (ts : List Term) → sum_by new_nodes ts ≤ excess ts
+new_nodes-excess [] = omega arith
+new_nodes-excess (t ∷ ts) =
+    omega (
+      arith,
+      new_nodes-past t,
+      new_nodes-excess ts,
+      sum_by-cons new_nodes t ts,
+      sets_sum-cons past t ts,
+    )
+
+-- ---- pairs replaced one after another
+
+-- a substitution adds at most one node
+next-width : (next : Option Pair) (t : TableContent) → (with_next next t).width ≤ t.width + 1
+next-width None t = omega arith
+next-width (Some pair) t = omega arith
+
+run-width : (k : ℕ) (t : TableContent) → (run k t).width ≤ t.width + k
+run-width zero t = omega arith
+run-width (suc k) t =
+    omega (arith, run-width k (substituted t), next-width (next_pair t.terms) t)
+
+-- ---- the whole
+
+low-width : (high : High) (t : TableContent)
+    → (low_terms_of high t).width ≤ t.width + excess t.terms
+low-width Monomial t = omega (arith, new_nodes-excess t.terms)
+low-width Rosenberg t = run-width (excess t.terms) t
+
+pub nodes_are_few : NodesAreFew
+nodes_are_few choices p =
+    let terms = terms_of choices.normal p in
+    omega (
+      arith,
+      length-image (low_terms_of choices.high terms),
+      low-width choices.high terms,
+      terms_width choices.normal p,
+      excess_within choices.normal p,
+    )

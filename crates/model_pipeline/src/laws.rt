@@ -1,0 +1,33 @@
+//! Laws of how states are taken back, as functions without code.
+ghost use Rattle.std.specs.Prelude.{◌≡◌};
+ghost use Rattle.bits_model.specs.declared.layer.BitsLink.{BitsLink};
+ghost use Rattle.bits_model.specs.Links.{first_bits};
+ghost use Rattle.quad_form.specs.Flat.{same_bits};
+ghost use Rattle.chain_layer.specs.declared.link.ChainLink.{ChainLink};
+ghost use Rattle.chain_layer.specs.Image.{decoding};
+ghost use Rattle.model_pipeline.specs.Decoders.{ReadOffIsDecoded};
+
+use bits_model::{Guard, Layer};
+use chain_layer::Chains;
+use ising_form::ToSpins;
+use monomial_layer::Monomials;
+use normal_form::MultilinearForm;
+use penalty_layer::Penalty;
+use quad_form::Flatten;
+use rosenberg_layer::Rosenberg;
+
+/// How each step decodes a state.
+pub fn decoders_of_steps()
+    ensures literal { (l : BitsLink) → ⟦<Penalty as Guard>⟧.decoding l ≡ first_bits l }
+    ensures multilinear { (l : BitsLink) → ⟦<MultilinearForm as Guard>⟧.decoding l ≡ first_bits l }
+    ensures monomial { (l : BitsLink) → ⟦<Monomials as Layer>⟧.decoding l ≡ first_bits l }
+    ensures rosenberg { (l : BitsLink) → ⟦<Rosenberg as Layer>⟧.decoding l ≡ first_bits l }
+    ensures flatten { (l : BitsLink) → ⟦<Flatten as Layer>⟧.decoding l ≡ same_bits l }
+    ensures spins { (l : BitsLink) → ⟦<ToSpins as Layer>⟧.decoding l ≡ same_bits l }
+    ensures chains { (l : ChainLink) → ⟦<Chains as Layer>⟧.decoding l ≡ decoding l }
+{}
+
+/// What is read off a state of a model is what these give, one after another.
+pub fn laws_of_decoding()
+    ensures { ReadOffIsDecoded }
+{}
