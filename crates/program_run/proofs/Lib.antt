@@ -6,8 +6,14 @@ pub mod NextFile
 pub mod CommandFiles
 pub mod Embedded
 pub mod Plans
+pub mod StateBits
+pub mod Widths
 pub mod Stood
 pub mod Compiled
+pub mod JobEnds
+pub mod Decoded
+pub mod Extended
 pub mod Cutting
+pub mod Owned
 pub mod Sampled
 pub mod Said

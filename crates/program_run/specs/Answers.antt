@@ -1,14 +1,17 @@
 -- What a command answers of the held files, and how the answer is delivered.
-use Rattle.std.specs.Prelude.{◌≡◌, ℕ, List, length, Ok, Err, Some, Result, ⊤}
+use Rattle.std.specs.Prelude.{◌≡◌, ℕ, ◌+◌, ◌≤◌, Bool, List, length, Ok, Err, Some, Result, ⊤}
 use Rattle.std.specs.declared.option.Option.{Option}
 use Rattle.std.specs.Io.KnownBytes.{Appends}
 use Rattle.edge_io.specs.Held.{NamedFiles, find_file, WhereTold}
 use Rattle.edge_io.specs.Sinks.{AppendsFront}
+use Rattle.bits_model.specs.declared.output.Kind.{Kind}
+use Rattle.bits_model.specs.declared.output.Kind.TheVariants as kinds
 use Rattle.bits_model.specs.declared.output.UnitChoice.{UnitChoice}
-use Rattle.bits_model.specs.Costs.{Source}
+use Rattle.bits_model.specs.Costs.{Source, energy}
 use Rattle.bits_model.specs.Relations.{Relaxes}
 use Rattle.bits_model.specs.Output.{Written, form_of, decoding_of}
 use Rattle.bits_model.specs.Faithful.{Demand, Faithful}
+use Rattle.problem_form.specs.Limits.{auxiliary_bits}
 use Rattle.sample_text.specs.Sample.{sample_text}
 use Rattle.model_text.specs.Rows.{FitsFields, model_text}
 use Rattle.model_text.specs.Summary.{summary_text}
@@ -19,16 +22,21 @@ use Rattle.command_words.specs.declared.commands.Target.TheVariants.{Nodes, Chim
 use Rattle.command_words.specs.declared.commands.Chaining.TheVariants.{Clique}
 use Rattle.command_words.specs.declared.commands.Chaining.TheVariants as chainings
 use Rattle.chain_map.specs.Maps as maps
+use Rattle.command_words.specs.declared.commands.WordAt.{WordAt}
 use Rattle.command_words.specs.declared.commands.Job.{Job}
 use Rattle.command_words.specs.declared.commands.Sample.{Sample}
 use Rattle.command_words.specs.declared.commands.Command.{Command}
 use Rattle.command_words.specs.declared.commands.Command.TheVariants as commands
 use Rattle.command_words.specs.Commands.{command_of}
 use Rattle.command_words.specs.Names.{text_at}
-use Rattle.source_texts.specs.Sources.{source_of}
+use Rattle.source_texts.specs.Sources.{source_of, names_of}
+use Rattle.state_file.specs.States.{state_of}
+use Rattle.answer_text.specs.Answers.{decoding_text, extension_text}
+use Rattle.model_pipeline.specs.Extensions.{extension_of, state_on, Extends}
 use Rattle.program_run.specs.declared.grounds.Ground.{Ground}
 use Rattle.program_run.specs.declared.grounds.Ground.TheVariants as grounds
-use Rattle.program_run.specs.Grounds.{kind_of, IsDemand}
+use Rattle.program_run.specs.Grounds.{Plan, kind_of, IsDemand, IsModelBy}
+use Rattle.program_run.specs.Outcome.{planning}
 use Rattle.program_run.specs.declared.answers.Answer.{Answer}
 use Rattle.program_run.specs.declared.answers.Answer.TheVariants.{Model, Text}
 use Rattle.program_run.specs.declared.status.Status.{Status}
@@ -62,21 +70,80 @@ pub record IsModelFor (base : Ground) (unit : UnitChoice) (source : Source) (mod
   pub asked : IsDemand base unit (length model.chains) demand
   pub faithful : Faithful source demand model
 
--- the text is that of one such model
-pub record IsCompiled (base : Ground) (unit : UnitChoice) (source : Source) (text : List ℕ)
-    : Type 0 where
-  pub model : Written
-  pub stands : IsModelFor base unit source model
-  pub text_of : IsTextOf model text
+-- ---- of a command's model
 
--- the text is compiled from the held source of a job, on the ground of its target
+-- how many nodes a model of a kind stands for: its own or, on a graph, those that have chains
+abbrev pub nodes_by : Kind → Written → ℕ
+nodes_by kinds.Qubo m = m.nodes
+nodes_by kinds.Ising m = m.nodes
+nodes_by (kinds.Chimera rows cols shore) m = length m.chains
+
+abbrev pub logical_nodes : Written → ℕ
+logical_nodes m = nodes_by m.kind m
+
+-- the model that a command's plan makes; its nodes are at most the variables and the auxiliary bits
+pub record IsMade (words : List (List ℕ)) (held : NamedFiles) (command : Command) (m : Written)
+    : Type 0 where
+  pub plan : Plan
+  pub planned : planning words held command ≡ Some (Ok plan)
+  pub by : IsModelBy plan m
+  pub few : logical_nodes m ≤ plan.read.variables
+      + auxiliary_bits plan.choices.normal plan.read.problem
+
+-- ---- of a job
+
+-- the text is that of the job's model of the held source, on the ground of its target
 pub record IsCompiledFrom (words : List (List ℕ)) (held : NamedFiles) (job : Job) (text : List ℕ)
     : Type 0 where
   pub source : Source
   pub from : IsHeldSource words held job source
   pub base : Ground
   pub on : IsGroundOf words held job.target base
-  pub compiled : IsCompiled base job.unit source text
+  pub model : Written
+  pub stands : IsModelFor base job.unit source model
+  pub made : IsMade words held (commands.Compile job) model
+  pub text_of : IsTextOf model text
+
+-- the text says what the held state of the job's model decodes to, with the source's names of the
+-- variables, what that costs the source, and the energy of the state
+pub record IsDecodedFrom (words : List (List ℕ)) (held : NamedFiles) (job : Job) (at : WordAt)
+    (text : List ℕ) : Type 0 where
+  pub source : Source
+  pub from : IsHeldSource words held job source
+  pub base : Ground
+  pub on : IsGroundOf words held job.target base
+  pub model : Written
+  pub stands : IsModelFor base job.unit source model
+  pub made : IsMade words held (commands.Decode job at) model
+  pub bytes : List ℕ
+  pub found : find_file held (text_at words at) ≡ Some bytes
+  pub state : List Bool
+  pub read : state_of model.nodes bytes ≡ Some state
+  pub said : text ≡ decoding_text ((decoding_of model).decoded state)
+      (names_of job.format from.bytes) (source.form.cost ((decoding_of model).decoded state))
+      (energy (form_of model) state)
+
+-- the text is the state of the job's model that extends the held assignment of the source, with
+-- what the assignment costs the source, and the energy of the state
+pub record IsExtendedFrom (words : List (List ℕ)) (held : NamedFiles) (job : Job) (at : WordAt)
+    (text : List ℕ) : Type 0 where
+  pub source : Source
+  pub from : IsHeldSource words held job source
+  pub base : Ground
+  pub on : IsGroundOf words held job.target base
+  pub model : Written
+  pub stands : IsModelFor base job.unit source model
+  pub made : IsMade words held (commands.Extend job at) model
+  pub bytes : List ℕ
+  pub found : find_file held (text_at words at) ≡ Some bytes
+  pub assignment : List Bool
+  pub read : state_of source.form.bits bytes ≡ Some assignment
+  pub state : List Bool
+  pub exact : state ≡ state_on model
+      (extension_of made.plan.choices made.plan.read.problem assignment)
+  pub extends : Extends source.form model assignment state
+  pub said : text
+      ≡ extension_text state (source.form.cost assignment) (energy (form_of model) state)
 
 -- ---- of a sample
 
@@ -89,6 +156,7 @@ pub record IsSampled (words : List (List ℕ)) (held : NamedFiles) (sample : Sam
   pub on : IsGroundOf words held sample.target base
   pub model : Written
   pub stands : IsModelFor base sample.unit source model
+  pub made : IsMade words held (commands.Sample sample) model
   pub summary : text ≡ summary_text model
 
 -- ---- of a command
@@ -96,6 +164,8 @@ pub record IsSampled (words : List (List ℕ)) (held : NamedFiles) (sample : Sam
 -- what a command answers: a line a command
 abbrev pub IsAnswer : List (List ℕ) → NamedFiles → Command → List ℕ → Type 0
 IsAnswer words held (commands.Compile job) text = IsCompiledFrom words held job text
+IsAnswer words held (commands.Decode job at) text = IsDecodedFrom words held job at text
+IsAnswer words held (commands.Extend job at) text = IsExtendedFrom words held job at text
 IsAnswer words held (commands.Sample sample) text = IsSampled words held sample text
 
 -- the text is the answer to a command of the words

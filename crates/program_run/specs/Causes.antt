@@ -1,6 +1,6 @@
 -- Why a file could not be read, how many files were begun, and how much was read of the last one: by
 -- what the store of files counted before and after.
-use Rattle.std.specs.Prelude.{◌≡◌, ◌≤◌, ℕ, zero, suc, List, [], ◌∷◌, length, IsSome, ⊤}
+use Rattle.std.specs.Prelude.{◌≡◌, ◌≤◌, ℕ, zero, suc, List, [], ◌∷◌, ◌++◌, length, IsSome, ⊤}
 use Rattle.edge_io.specs.Counts.{Counts, Rose, count_after}
 use Rattle.problem_form.specs.declared.limits.LimitKind.TheVariants.{Bytes}
 use Rattle.command_words.specs.declared.names.Which.{Which}
@@ -10,9 +10,9 @@ use Rattle.command_words.specs.declared.commands.Target.{Target}
 use Rattle.command_words.specs.declared.commands.Target.TheVariants.{Nodes, Chimera}
 use Rattle.command_words.specs.declared.commands.Chaining.TheVariants.{Clique}
 use Rattle.command_words.specs.declared.commands.Chaining.TheVariants as chainings
-use Rattle.command_words.specs.Names.{text_at, name_of, place_of, files_of, number_in}
+use Rattle.command_words.specs.Names.{text_at, name_of, place_of, if_named, files_of, number_in}
 use Rattle.program_run.specs.declared.status.Status.{Status}
-use Rattle.program_run.specs.declared.status.Status.TheVariants.{Usage, ReadFault, BadText, Limit, NoState, NoMemory}
+use Rattle.program_run.specs.declared.status.Status.TheVariants.{Usage, ReadFault, BadText, Limit, NotEmbedded, NoState, NoMemory}
 
 -- so many files were begun
 abbrev pub AreBegun : ℕ → Counts → Counts → Type 0
@@ -92,8 +92,18 @@ last_of (file ∷ next ∷ files) = last_of (next ∷ files)
 abbrev pub HasFile : Command → Which → Type 0
 HasFile command which = IsSome (place_of command which)
 
--- what files tell at a status of a command, which speaks only of a file that the command names: at a
--- read fault its cause, where a file is too long that one byte too many was taken, and else that the
+-- the files that the model of a command is made of
+abbrev pub model_files : Command → List Which
+model_files command = if_named command Source ++ if_named command Map
+
+-- so many files were begun, those of this list, and the last of them was read to its end
+abbrev pub AreAllRead : List (List ℕ) → Command → List Which → Counts → Counts → Type 0
+AreAllRead words command files old new =
+    AreRead (name_of words command (last_of files)) (length files) old new
+
+-- what files tell at a status of a command, which speaks only of a file that the command names: at
+-- a read fault its cause, where a file is too long that one byte too many was taken, where a model
+-- is not embedded that the files of the model were read and no state was begun, and else that the
 -- files up to the one of the status were read
 abbrev pub AreFiles : List (List ℕ) → Command → Status → Counts → Counts → Type 0
 AreFiles words command (ReadFault which) old new =
@@ -111,7 +121,8 @@ AreFiles words command (BadText which kind line) old new =
 AreFiles words command (NoState width) old new =
     HasFile command State
     × AreRead (name_of words command State) (number_in (files_of command) State) old new
+AreFiles words command (NotEmbedded fault) old new =
+    AreAllRead words command (model_files command) old new
 AreFiles words command (Usage position) old new = ⊤
 AreFiles words command NoMemory old new = ⊤
-AreFiles words command status old new =
-    AreRead (name_of words command (last_of (files_of command))) (length (files_of command)) old new
+AreFiles words command status old new = AreAllRead words command (files_of command) old new

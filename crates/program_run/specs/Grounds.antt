@@ -1,11 +1,13 @@
 -- What a model stands on, and what a model is made of.
-use Rattle.std.specs.Prelude.{◌≡◌, ℕ, ◌<◌, ◌≤◌, List, [], length, false, ⊤}
+use Rattle.std.specs.Prelude.{◌≡◌, ℕ, ◌*◌, ◌<◌, ◌≤◌, List, [], length, false, ⊤}
+use Rattle.std.specs.declared.option.Option.{Option}
 use Rattle.bits_model.specs.declared.output.Kind.{Kind}
 use Rattle.bits_model.specs.declared.output.Kind.TheVariants as kinds
 use Rattle.bits_model.specs.declared.output.UnitChoice.{UnitChoice}
 use Rattle.bits_model.specs.Output.{Written}
 use Rattle.bits_model.specs.Faithful.{Demand}
 use Rattle.problem_form.specs.declared.limits.Choices.{Choices}
+use Rattle.problem_form.specs.Problems.{ProblemContent}
 use Rattle.penalty_layer.specs.Penalty as penalty
 use Rattle.ising_form.specs.Isings.{IsingContent}
 use Rattle.chimera_graph.specs.declared.chimera.Chimera.{Chimera}
@@ -72,6 +74,12 @@ abbrev pub plan_of : Read → Choices → UnitChoice → Ground → Plan
 plan_of read choices unit base =
     record { read = read; choices = choices; unit = unit; base = base }
 
+-- the plan of a problem, so many variables of which are the source's own, with these names
+abbrev pub plan_by : ProblemContent → ℕ → Option (List (List ℕ)) → Choices → UnitChoice → Ground
+    → Plan
+plan_by problem variables names choices unit base =
+    plan_of (record { problem = problem; variables = variables; names = names }) choices unit base
+
 -- the Ising form that is put on chains
 abbrev pub form_in : Plan → IsingContent
 form_in plan = ising_of plan.choices plan.read.problem
@@ -79,6 +87,15 @@ form_in plan = ising_of plan.choices plan.read.problem
 -- how many nodes it has
 abbrev pub nodes_in : Plan → ℕ
 nodes_in plan = length (form_in plan).fields
+
+-- how many bits a state of its model has: one a node or, on a graph, one a qubit
+abbrev pub width_on : Ground → Plan → ℕ
+width_on (Nodes target) plan = nodes_in plan
+width_on (Clique size) plan = 2 * size.rows * size.cols * size.shore
+width_on (Map size map) plan = 2 * size.rows * size.cols * size.shore
+
+abbrev pub model_width : Plan → ℕ
+model_width plan = width_on plan.base plan
 
 -- the model by a check that puts the form on these chains of a graph
 abbrev pub IsOnChains : Plan → Chimera → List (List ℕ) → Written → Type 0

@@ -3,6 +3,7 @@ pub mod Causes
 pub mod Grounds
 pub mod Standing
 pub mod Outcome
+pub mod Jobs
 pub mod Answers
 pub mod Lines
 pub mod Cut

@@ -1,17 +1,14 @@
 -- The outcome of a run: a line a step, and the first step that refuses ends it.
-use Rattle.std.specs.Prelude.{◌≡◌, ℕ, ◌+◌, List, length, nat_lt, if◌then◌else◌, Ok, Err, Some, None, Result, ⊤}
+use Rattle.std.specs.Prelude.{◌≡◌, ℕ, ◌+◌, Bool, List, [], length, nat_lt, if◌then◌else◌, Ok, Err, Some, None, Result, ⊤}
 use Rattle.std.specs.declared.option.Option.{Option}
 use Rattle.std.specs.Option.{option_map_or}
 use Rattle.edge_io.specs.Held.{NamedFiles, find_file, WhereTold}
-use Rattle.bits_model.specs.Output.{Written}
-use Rattle.model_text.specs.Rows.{model_text}
-use Rattle.model_text.specs.Summary.{summary_text}
 use Rattle.whole_text.specs.declared.faults.TextFault.{TextFault}
 use Rattle.problem_form.specs.declared.limits.LimitFault.{LimitFault}
 use Rattle.problem_form.specs.declared.limits.LimitKind.TheVariants.{Bytes}
 use Rattle.problem_form.specs.Limits.{limit_fault, most_bytes}
 use Rattle.command_words.specs.declared.names.Which.{Which}
-use Rattle.command_words.specs.declared.names.Which.TheVariants.{Source, Map}
+use Rattle.command_words.specs.declared.names.Which.TheVariants.{Source, Map, State}
 use Rattle.sample_text.specs.Sample.{sample_text}
 use Rattle.command_words.specs.declared.commands.Format.TheVariants.{Wcnf}
 use Rattle.command_words.specs.declared.commands.Job.{Job}
@@ -27,12 +24,13 @@ use Rattle.command_words.specs.Commands.{command_of}
 use Rattle.command_words.specs.Names.{text_at}
 use Rattle.source_texts.specs.declared.reading.Read.{Read}
 use Rattle.source_texts.specs.Sources.{problem_of}
+use Rattle.state_file.specs.States.{state_of}
 use Rattle.program_run.specs.Statuses.{IsDoneOrWant}
 use Rattle.program_run.specs.declared.grounds.Ground.{Ground}
 use Rattle.program_run.specs.declared.grounds.Ground.TheVariants as grounds
-use Rattle.program_run.specs.Grounds.{Plan, plan_of, IsModelBy, CanStand, IsFaultIn}
+use Rattle.program_run.specs.Grounds.{Plan, plan_of, model_width, CanStand, IsFaultIn}
 use Rattle.program_run.specs.declared.status.Status.{Status}
-use Rattle.program_run.specs.declared.status.Status.TheVariants.{Done, Usage, ReadFault, WriteFault, BadText, Limit, NotEmbedded, NoMemory}
+use Rattle.program_run.specs.declared.status.Status.TheVariants.{Done, Usage, ReadFault, WriteFault, BadText, Limit, NotEmbedded, NoState, NoMemory}
 
 -- ---- steps
 
@@ -96,6 +94,17 @@ grounding words held (Chimera size (chainings.Map at)) = do
   map ← mapping held (text_at words at)
   Some (Ok (grounds.Map size map))
 
+-- a state that a text has, or that it has none of so many bits
+abbrev pub from_state : ℕ → Option (List Bool) → Step (List Bool)
+from_state width (Some bits) = Some (Ok bits)
+from_state width None = Some (Err (NoState width))
+
+-- so many bits, read from the file of this name
+unfoldable pub stating : NamedFiles → List ℕ → ℕ → Step (List Bool)
+stating held name width = do
+  bytes ← taking held State name
+  from_state width (state_of width bytes)
+
 -- ---- commands
 
 -- what the model of a source is made of
@@ -116,45 +125,58 @@ sampling words held sample = do
 -- what the model of a command is made of: a line a command
 abbrev pub planning : List (List ℕ) → NamedFiles → Command → Step Plan
 planning words held (commands.Compile job) = compiling words held job
+planning words held (commands.Decode job at) = compiling words held job
+planning words held (commands.Extend job at) = compiling words held job
 planning words held (commands.Sample sample) = sampling words held sample
 
--- what a command says of its model: all of it, or a summary
-abbrev pub said : Command → Written → List ℕ
-said (commands.Compile job) m = model_text m
-said (commands.Sample sample) m = summary_text m
+-- what a command reads once its model can be made: a state of the model, an assignment of the
+-- source, or nothing
+abbrev pub last_step : List (List ℕ) → NamedFiles → Command → Plan → Step (List Bool)
+last_step words held (commands.Compile job) plan = Some (Ok [])
+last_step words held (commands.Decode job at) plan =
+    stating held (text_at words at) (model_width plan)
+last_step words held (commands.Extend job at) plan =
+    stating held (text_at words at) plan.read.variables
+last_step words held (commands.Sample sample) plan = Some (Ok [])
 
 -- ---- the outcome
 
--- what the model of the words is made of; where they are no command, the position is a usage fault
-abbrev pub planned_in : List (List ℕ) → NamedFiles → Result Command ℕ → Step Plan
-planned_in words held (Err position) = Some (Err (Usage position))
-planned_in words held (Ok command) = planning words held command
+-- how a plan ends: its model cannot be embedded, or the last step refuses, or all is done
+abbrev pub IsEnd : Plan → Step (List Bool) → Status → Type 0
+IsEnd plan last Done = CanStand plan × ((bits : List Bool) × (last ≡ Some (Ok bits)))
+IsEnd plan last (NotEmbedded fault) = IsFaultIn plan fault × ¬ (CanStand plan)
+IsEnd plan last status = CanStand plan × (last ≡ Some (Err status))
 
-abbrev pub planned : List (List ℕ) → NamedFiles → Step Plan
-planned words held = planned_in words held (command_of words)
+-- how the steps of a command end: with the status of the first one that refuses, and else as the
+-- plan does; they have no end where a file isn't held
+abbrev pub IsEndOf : Step Plan → (Plan → Step (List Bool)) → Status → Type 0
+IsEndOf None last status = ⊥
+IsEndOf (Some (Err refusal)) last status = status ≡ refusal
+IsEndOf (Some (Ok plan)) last status = IsEnd plan (last plan) status
 
--- the outcome: the status of the first step that refuses, the embedding being the last one, and
--- else Done; there is none where a file isn't held
-abbrev pub IsOutcome : Step Plan → Status → Type 0
-IsOutcome None status = ⊥
-IsOutcome (Some (Err refusal)) status = status ≡ refusal
-IsOutcome (Some (Ok plan)) Done = CanStand plan
-IsOutcome (Some (Ok plan)) (NotEmbedded fault) = IsFaultIn plan fault
-IsOutcome (Some (Ok plan)) status = ⊥
+-- the outcome of a command, or of words that are none
+abbrev pub IsOutcomeOf : List (List ℕ) → NamedFiles → Result Command ℕ → Status → Type 0
+IsOutcomeOf words held (Err position) status = status ≡ Usage position
+IsOutcomeOf words held (Ok command) status =
+    IsEndOf (planning words held command) (last_step words held command) status
+
+-- the outcome of the words
+abbrev pub IsOutcome : List (List ℕ) → NamedFiles → Status → Type 0
+IsOutcome words held status = IsOutcomeOf words held (command_of words) status
 
 -- the status is the outcome, unless it is a fault or want of memory; a file that cannot be read
 -- comes before its outcome, and what cannot be written comes only where the outcome is Done
-abbrev pub MeetsOutcome : Status → Step Plan → Type 0
-MeetsOutcome (ReadFault which) step = ⊤
-MeetsOutcome NoMemory step = ⊤
-MeetsOutcome WriteFault step = IsOutcome step Done
-MeetsOutcome status step = IsOutcome step status
+abbrev pub MeetsOutcome : List (List ℕ) → NamedFiles → Status → Type 0
+MeetsOutcome words held (ReadFault which) = ⊤
+MeetsOutcome words held NoMemory = ⊤
+MeetsOutcome words held WriteFault = IsOutcome words held Done
+MeetsOutcome words held status = IsOutcome words held status
 
 -- where the files tell what they hold, and the outcome is Done, so is the status, or memory was
 -- wanting
 abbrev pub IsComplete : Status → Option NamedFiles → List (List ℕ) → Type 0
 IsComplete status told words =
-    WhereTold told (λ held. IsOutcome (planned words held) Done → IsDoneOrWant status)
+    WhereTold told (λ held. IsOutcome words held Done → IsDoneOrWant status)
 
 -- ---- what functions return of it
 
@@ -173,17 +195,17 @@ abbrev pub Meets : {X A : Type 0} → (X → A) → Result X Status → Step A �
 Meets view (Ok x) step = step ≡ Some (Ok (view x))
 Meets view (Err status) step = Refuses status step
 
--- a status that a command may have refuses as its steps do, or as the embedding does
-abbrev pub RefusesPlan : Status → Step Plan → Type 0
-RefusesPlan (NotEmbedded fault) step =
-    (plan : Plan) × (step ≡ Some (Ok plan)) × IsFaultIn plan fault × ¬ (CanStand plan)
-RefusesPlan status step = Refuses status step
+-- a status that a command may have before it writes is how its steps end
+abbrev pub Ends : Status → Step Plan → (Plan → Step (List Bool)) → Type 0
+Ends (ReadFault which) step last = ⊤
+Ends NoMemory step last = ⊤
+Ends Done step last = ⊥
+Ends WriteFault step last = ⊥
+Ends (Usage position) step last = ⊥
+Ends status step last = IsEndOf step last status
 
--- what a function returned, seen by view, says of a model what is asked, and is the model of the
--- plan that the step gives
-abbrev pub MeetsPlan : {X : Type 0} → (X → List ℕ) → (Written → List ℕ) → Result X Status
-    → Step Plan → Type 0
-MeetsPlan view say (Ok x) step =
-    (plan : Plan) × (step ≡ Some (Ok plan)) × CanStand plan
-    × ((m : Written) × IsModelBy plan m × (view x ≡ say m))
-MeetsPlan view say (Err status) step = RefusesPlan status step
+-- what a function returned is how the steps end: where it gave something, all is done
+abbrev pub MeetsEnd : {X : Type 0} → Result X Status → Step Plan → (Plan → Step (List Bool))
+    → Type 0
+MeetsEnd (Ok x) step last = IsEndOf step last Done
+MeetsEnd (Err status) step last = Ends status step last

@@ -80,3 +80,9 @@ abbrev pub IsTextRefusal : Which → Status → Type 0
 IsTextRefusal which (BadText other kind line) = other ≡ which
 IsTextRefusal which NoMemory = ⊤
 IsTextRefusal which status = ⊥
+
+-- a status of the text of a state: it has none, or memory was wanting
+abbrev pub IsStateRefusal : Status → Type 0
+IsStateRefusal (NoState width) = ⊤
+IsStateRefusal NoMemory = ⊤
+IsStateRefusal status = ⊥

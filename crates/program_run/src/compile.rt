@@ -1,9 +1,8 @@
 //! The command `compile`: the model of a source.
 ghost use Rattle.std.specs.Prelude.{◌≡◌, map, string_bytes, IfOk, IfErr};
 ghost use Rattle.edge_io.specs.Held.{WhereTold};
-ghost use Rattle.model_text.specs.Rows.{model_text};
 ghost use Rattle.command_words.specs.Shapes.{HasShapeIn};
-ghost use Rattle.program_run.specs.Outcome.{MeetsPlan, compiling};
+ghost use Rattle.program_run.specs.Outcome.{MeetsEnd, compiling, last_step};
 ghost use Rattle.program_run.specs.Statuses.{ended, IsRefusal};
 ghost use Rattle.program_run.specs.Answers.{text_of, IsCompiledFrom};
 ghost use Rattle.program_run.specs.Causes.{AreFiles};
@@ -26,20 +25,31 @@ pub fn compile<F: Files>(
     files: &mut F,
 ) -> Result<Answer, Status>
     requires { HasShapeIn job.target }
-    ensures step { WhereTold (F.held files.old) (λ held. MeetsPlan text_of model_text result
-        (compiling (map string_bytes words.now) held job)) }
+    ensures step { WhereTold (F.held files.old) (λ held. MeetsEnd result
+        (compiling (map string_bytes words.now) held job)
+        (last_step (map string_bytes words.now) held (Command.Compile job))) }
     ensures files { AreFiles (map string_bytes words.now) (Command.Compile job) (ended result)
         (F.counts files.old) (F.counts files.new) }
     ensures answer { IfOk result (λ answer. WhereTold (F.held files.old) (λ held.
         IsCompiledFrom (map string_bytes words.now) held job (text_of answer))) }
     ensures refusal { IfErr result IsRefusal }
 {
-    let read = take_source(alloc, words, job, files)?;
+    let read = match take_source(alloc, words, job, files) {
+        Ok(read) => read,
+        Err(status) => return Err(status),
+    };
     let base = match take_ground(alloc, words, job.target, files) {
         Ok(base) => base,
         Err(status) => return Err(status),
     };
-    match model_on(alloc, read, &job.choices, job.unit, base) {
+    match model_on(
+        alloc,
+        read.problem,
+        read.variables,
+        &job.choices,
+        job.unit,
+        base,
+    ) {
         Ok(model) => Ok(Answer::Model(model)),
         Err(status) => Err(status),
     }

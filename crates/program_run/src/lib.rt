@@ -5,13 +5,17 @@
 mod answers;
 mod compile;
 mod cut;
+mod decode;
 mod delivery;
+mod extend;
 mod grounds;
+mod jobs;
 mod lines;
 mod planned;
 mod program;
 mod running;
 mod sample;
+mod states;
 mod status;
 mod steps;
 

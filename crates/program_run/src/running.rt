@@ -4,7 +4,7 @@ ghost use Rattle.edge_io.specs.Counts.{Rose};
 ghost use Rattle.edge_io.specs.Held.{WhereTold};
 ghost use Rattle.command_words.specs.Commands.{asked};
 ghost use Rattle.program_run.specs.Statuses.{IsUsageOf, OnUsage, OnWriting, OnDone, OnRefusal};
-ghost use Rattle.program_run.specs.Outcome.{planned, MeetsOutcome, IsComplete};
+ghost use Rattle.program_run.specs.Outcome.{MeetsOutcome, IsComplete};
 ghost use Rattle.program_run.specs.Causes.{AreFiles};
 ghost use Rattle.program_run.specs.Answers.{IsAnswered, IsDelivered};
 ghost use Rattle.program_run.specs.Lines.{error_line, name_in, name_said, file_in, IsSaid};
@@ -58,7 +58,7 @@ pub fn run<F: Files, O: Sink, E: Sink>(
         → Rose (O.faults out.old) (O.faults out.new) }
 
     ensures outcome { WhereTold (F.held files.old) (λ held.
-        MeetsOutcome result (planned (map string_bytes words.now) held)) }
+        MeetsOutcome (map string_bytes words.now) held result) }
     ensures complete { ¬ (Rose (F.counts files.old).faults (F.counts files.new).faults)
         → ¬ (Rose (O.faults out.old) (O.faults out.new))
         → IsComplete result (F.held files.old) (map string_bytes words.now) }

@@ -3,7 +3,7 @@ ghost use Rattle.std.specs.Prelude.{◌≡◌, ◌≤◌, map, string_bytes, IfO
 ghost use Rattle.edge_io.specs.Held.{WhereTold};
 ghost use Rattle.model_text.specs.Summary.{summary_text};
 ghost use Rattle.command_words.specs.Shapes.{HasShapeIn};
-ghost use Rattle.program_run.specs.Outcome.{MeetsPlan, sampling};
+ghost use Rattle.program_run.specs.Outcome.{MeetsEnd, last_step, sampling};
 ghost use Rattle.program_run.specs.Statuses.{ended, IsRefusal};
 ghost use Rattle.program_run.specs.Answers.{text_of, IsSampled};
 ghost use Rattle.program_run.specs.Causes.{AreFiles};
@@ -46,8 +46,9 @@ fn sample_model<F: Files>(
 ) -> Result<OutputModel, Status>
     requires few { sample.clauses ≤ 100000 }
     requires shape { HasShapeIn sample.target }
-    ensures step { WhereTold (F.held files.old) (λ held. MeetsPlan summary_text summary_text result
-        (sampling (map string_bytes words.now) held sample)) }
+    ensures step { WhereTold (F.held files.old) (λ held. MeetsEnd result
+        (sampling (map string_bytes words.now) held sample)
+        (last_step (map string_bytes words.now) held (Command.Sample sample))) }
     ensures files { AreFiles (map string_bytes words.now) (Command.Sample sample) (ended result)
         (F.counts files.old) (F.counts files.new) }
     ensures answer { IfOk result (λ m. WhereTold (F.held files.old) (λ held.
@@ -61,7 +62,17 @@ fn sample_model<F: Files>(
         Ok(base) => base,
         Err(status) => return Err(status),
     };
-    model_on(alloc, read, &sample.choices, sample.unit, base)
+    match model_on(
+        alloc,
+        read.problem,
+        read.variables,
+        &sample.choices,
+        sample.unit,
+        base,
+    ) {
+        Ok(model) => Ok(model),
+        Err(status) => Err(status),
+    }
 }
 
 /// The summary of the model of a sample. No file is read for its source.
@@ -73,8 +84,9 @@ pub fn sample<F: Files>(
 ) -> Result<Answer, Status>
     requires few { sample.clauses ≤ 100000 }
     requires shape { HasShapeIn sample.target }
-    ensures step { WhereTold (F.held files.old) (λ held. MeetsPlan text_of summary_text result
-        (sampling (map string_bytes words.now) held sample)) }
+    ensures step { WhereTold (F.held files.old) (λ held. MeetsEnd result
+        (sampling (map string_bytes words.now) held sample)
+        (last_step (map string_bytes words.now) held (Command.Sample sample))) }
     ensures files { AreFiles (map string_bytes words.now) (Command.Sample sample) (ended result)
         (F.counts files.old) (F.counts files.new) }
     ensures answer { IfOk result (λ answer. WhereTold (F.held files.old) (λ held.

@@ -104,7 +104,7 @@ fn take_read<F: Files>(
     ensures step { WhereTold (F.held files.old) (λ held. Meets (λ read. read) result
         (reading (map string_bytes words.now) held job)) }
     ensures held { F.held files.new ≡ F.held files.old }
-    ensures own { IfOk result (λ read. read.variables ≤ read.problem.variables) }
+    ensures own { IfOk result (λ read. read.variables ≡ read.problem.variables) }
     ensures passed { OnOk result (IsPassed
         (text_at (map string_bytes words.now) job.file) 1
         (F.counts files.old) (F.counts files.new)) }
@@ -136,7 +136,7 @@ pub fn take_source<F: Files>(
     ensures held { F.held files.new ≡ F.held files.old }
     ensures within { IfOk result (λ read.
         limit_fault job.choices.normal read.problem ≡ None) }
-    ensures own { IfOk result (λ read. read.variables ≤ read.problem.variables) }
+    ensures own { IfOk result (λ read. read.variables ≡ read.problem.variables) }
     ensures passed { OnOk result (IsPassed
         (text_at (map string_bytes words.now) job.file) 1
         (F.counts files.old) (F.counts files.new)) }

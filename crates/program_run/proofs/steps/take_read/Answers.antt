@@ -1,11 +1,16 @@
-use Rattle.std.proofs.Common.{◌≡◌, List, ℕ, Ok, Some, string_bytes, map, subst}
+use Rattle.std.proofs.Common.{◌≡◌, List, ℕ, Ok, Some, Result, string_bytes, map, subst}
+use Rattle.std.proofs.lemmas.Result.{IfOk-weaker}
 use Rattle.edge_io.specs.Held.{WhereTold}
 use Rattle.whole_text.specs.TokenTexts.{words_of}
+use Rattle.whole_text.specs.declared.faults.TextAnswer.{TextAnswer}
+use Rattle.whole_text.specs.Steps.{Gives}
 use Rattle.command_words.specs.declared.names.Which.TheVariants.{Source}
+use Rattle.source_texts.specs.declared.reading.Read.{Read}
 use Rattle.source_texts.specs.Sources.{problem_of_words}
 use Rattle.program_run.specs.Outcome.{Refuses}
 use Rattle.program_run.specs.Cut.{cutting}
 use Rattle.program_run.proofs.Cutting.{read_from_words, read_refused}
+use Rattle.program_run.proofs.Owned.{words_own_all}
 use Rattle.program_run.proofs.steps.take_read.Goals as goal
 
 pub returns-clause-step : goal.returns-clause-step
@@ -29,3 +34,14 @@ returns-in-Err-clause-step g c =
     (subst (λ (name : List ℕ). WhereTold told
     (λ held. Refuses status (cutting held Source name style))) c.text_at-name.ensures
     c.in-Err.ensures.step)
+
+-- the words of the source are read into it
+pub returns-clause-own : goal.returns-clause-own
+returns-clause-own g c =
+    let format = c.args.job.format in
+    let cut = words_of c.in-Ok.text in
+    IfOk-weaker c.judged.result _ _
+    (λ r is. words_own_all format cut r
+    (subst (λ (read : Result Read TextAnswer). Gives (λ r. r) read (problem_of_words format cut)) is
+    c.read_source_words-read.ensures.read))
+    c.judged.ensures.good
