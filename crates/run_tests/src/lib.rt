@@ -5,6 +5,8 @@
 #![tactic(auto)]
 
 #[cfg(test)]
+mod both_ways;
+#[cfg(test)]
 mod chimera;
 #[cfg(test)]
 mod endless;
@@ -24,6 +26,8 @@ mod runs;
 mod samples;
 #[cfg(test)]
 mod sizes;
+#[cfg(test)]
+mod small_sources;
 #[cfg(test)]
 mod states;
 #[cfg(test)]

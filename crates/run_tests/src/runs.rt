@@ -57,6 +57,34 @@ fn file_a(alloc: Global, text: &str, failing: u64) -> Result<MemoryFiles, Fail> 
     Ok(MemoryFiles::new(FileList::new(files), calls(alloc, failing)?))
 }
 
+/// Files, each with its name and its bytes.
+pub(crate) type Named = Vec<(String, Vec<u8>)>;
+
+/// Appends a file of this name and text.
+pub(crate) fn push_file(
+    alloc: Global,
+    files: &mut Named,
+    name: &str,
+    text: &str,
+) -> Result<(), AllocError> {
+    let bytes = text.as_bytes().to_vec(alloc)?;
+    files.push((String::from_str(alloc, name)?, bytes))?;
+    Ok(())
+}
+
+/// One run with these words over these files: its status, and the sinks of its text and line.
+pub(crate) fn run_given(
+    alloc: Global,
+    words: &[String],
+    files: Named,
+) -> Result<(Status, MemorySink, MemorySink), Fail> {
+    let mut files = MemoryFiles::new(FileList::new(files), calls(alloc, 0)?);
+    let mut out = sink(alloc, 1000, 60_000, 0)?;
+    let mut err = sink(alloc, 1000, 1000, 0)?;
+    let status = run(alloc, words, &mut files, &mut out, &mut err);
+    Ok((status, out, err))
+}
+
 /// One run with these words over files of these names and texts: its status, and the sinks of its
 /// text and line.
 pub(crate) fn run_over(
@@ -66,15 +94,10 @@ pub(crate) fn run_over(
 ) -> Result<(Status, MemorySink, MemorySink), Fail> {
     let mut files = Vec::new(alloc);
     for (name, text) in texts {
-        let bytes = text.as_bytes().to_vec(alloc)?;
-        files.push((String::from_str(alloc, name)?, bytes))?;
+        push_file(alloc, &mut files, name, text)?;
     }
     let given = owned(alloc, words)?;
-    let mut files = MemoryFiles::new(FileList::new(files), calls(alloc, 0)?);
-    let mut out = sink(alloc, 1000, 60_000, 0)?;
-    let mut err = sink(alloc, 1000, 1000, 0)?;
-    let status = run(alloc, &given, &mut files, &mut out, &mut err);
-    Ok((status, out, err))
+    run_given(alloc, &given, files)
 }
 
 /// One run with these words over the file `a` of this text: its status, and the sinks of its text
