@@ -5,4 +5,5 @@ pub mod LeastStates
 pub mod DividedWeights
 pub mod NodeNumbers
 pub mod Packed
+pub mod ChainEnds
 pub mod EntryRows

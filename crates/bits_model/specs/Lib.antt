@@ -6,5 +6,6 @@ pub mod Least
 pub mod Walks
 pub mod Output
 pub mod Entries
+pub mod ChainLists
 pub mod Faithful
 pub mod Stated

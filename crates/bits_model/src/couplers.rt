@@ -65,6 +65,7 @@ fn end_of(count: usize, rows: &[RowStart], index: usize) -> usize
 }
 
 /// Whether the last row is that of this node.
+#[inline(always)]
 fn last_is(first: u32, rows: &[RowStart]) -> bool
     ensures { result ≡ last_is first rows.now }
 {
@@ -138,6 +139,7 @@ impl CouplerList {
     }
 
     /// Appends an entry: to the last row, where that has the same first node.
+    #[inline]
     pub fn push(&mut self, first: u32, second: u32, weight: i128) -> Result<(), NoMemory>
         ensures pushed { OnOk result (self.new
             ≡ self.old ++ record { first = first; second = second; weight = weight } ∷ []) }

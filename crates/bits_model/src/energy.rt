@@ -10,6 +10,7 @@ use crate::entries::EntryList;
 use crate::output::{Entry, Kind, OutputModel};
 
 /// The bit of a node, which is 0 past the state's end.
+#[inline]
 pub fn bit_at(y: &[bool], node: usize) -> bool
     ensures { result ≡ bit_at y.now node }
 {
@@ -20,6 +21,7 @@ pub fn bit_at(y: &[bool], node: usize) -> bool
 }
 
 /// A number times a spin.
+#[inline]
 pub fn times_spin(bit: bool, number: i128) -> i128
     requires { unsigned_abs number ≤ 2 ^ 124 }
     ensures { result ≡ times_spin bit number }
@@ -27,6 +29,7 @@ pub fn times_spin(bit: bool, number: i128) -> i128
     if bit { number } else { -number }
 }
 
+#[inline]
 fn bits_energy(y: &[bool], entry: &Entry) -> i128
     ensures { result ≡ bits_energy y.now entry.now }
 {
@@ -37,6 +40,7 @@ fn bits_energy(y: &[bool], entry: &Entry) -> i128
     }
 }
 
+#[inline]
 fn spins_energy(y: &[bool], entry: &Entry) -> i128
     requires { unsigned_abs entry.now.weight ≤ 2 ^ 124 }
     ensures { result ≡ spins_energy y.now entry.now }

@@ -2,6 +2,7 @@
 //! next, and the model that is written.
 #![tactic(auto)]
 
+mod chains;
 mod costed;
 mod costs;
 mod coupler_entries;
@@ -19,6 +20,7 @@ mod row;
 mod then;
 mod weights;
 
+pub use chains::ChainList;
 pub use costed::Costed;
 pub use costs::{Cost, Figures, NoMemory};
 pub use coupler_entries::CouplerEntries;
@@ -30,7 +32,7 @@ pub use items::Items;
 pub use laws::{laws_of_rows, relations_compose, relaxed_is_faithful};
 pub use layer::{BitsLink, Layer, Lowered, Reduced};
 pub use nodes::{NodeEntries, NodeWeights};
-pub use output::{ChainList, Entry, Kind, OutputModel, UnitChoice};
+pub use output::{Entry, Kind, OutputModel, UnitChoice};
 pub use row::Row;
 pub use then::{Then, ThenLink};
 pub use weights::{WeightList, divide_weights};

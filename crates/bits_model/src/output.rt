@@ -2,10 +2,10 @@
 ghost use Rattle.std.specs.Prelude.{◌≡◌, ◌+◌, ◌≤◌, ◌<◌, ◌^◌, ◌↔◌, length, List, ℤ, IsTrue};
 ghost use Rattle.std.specs.List.{slice_index_or};
 
+use crate::chains::ChainList;
 use crate::costed::Costed;
 use crate::costs::{Cost, Figures};
 use crate::entries::EntryList;
-use crate::items::Items;
 use std::alloc::Global;
 use std::marker::Model;
 
@@ -32,9 +32,6 @@ pub struct Entry {
     pub second: u32,
     pub weight: i128,
 }
-
-/// The qubits of each node's chain, in the chain's order.
-pub type ChainList = Items<Items<u32>>;
 
 /// The model that is written: the figures, the unit that energies count, and the weights of nodes
 /// and of couplers.

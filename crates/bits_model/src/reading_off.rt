@@ -3,8 +3,9 @@ ghost use Rattle.std.specs.Prelude.{◌≡◌, ◌≤◌, length, map, take};
 ghost use Rattle.std.specs.List.{slice_index_or};
 ghost use Rattle.bits_model.specs.Output.{ones_in, majority, decoding_of};
 
+use crate::chains::ChainList;
 use crate::energy::bit_at;
-use crate::output::{ChainList, Kind, OutputModel};
+use crate::output::{Kind, OutputModel};
 
 /// How many qubits of the chain are 1.
 fn ones_in(y: &[bool], chain: &[u32]) -> usize
@@ -57,7 +58,7 @@ fn read_chains(chains: &ChainList, y: &[bool], x: &mut [bool])
     ensures { x.new ≡ map (majority y.now) (take (length x.old) chains.now) }
 {
     for node in 0..x.len() {
-        x[node] = majority(y, chains.as_slice()[node].as_slice());
+        x[node] = majority(y, chains.chain(node));
     }
 }
 

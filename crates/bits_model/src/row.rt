@@ -44,6 +44,7 @@ impl<'a> Row<'a> {
     }
 
     /// The second node of an entry.
+    #[inline]
     pub fn second(&self, index: usize) -> u32
         requires { index < length self.now }
         ensures { (d : Entry) → (slice_index_or self.now index d).second ≡ result }
@@ -52,6 +53,7 @@ impl<'a> Row<'a> {
     }
 
     /// The weight of an entry.
+    #[inline]
     pub fn weight(&self, index: usize) -> i128
         requires { index < length self.now }
         ensures { (d : Entry) → (slice_index_or self.now index d).weight ≡ result }

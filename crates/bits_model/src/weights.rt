@@ -110,6 +110,7 @@ impl WeightList {
     }
 
     /// The weight at an index.
+    #[inline]
     pub fn get(&self, index: usize) -> i128
         requires { index < length self.now }
         ensures { result ≡ slice_index_or self.now index (pos 0) }
@@ -120,6 +121,7 @@ impl WeightList {
         }
     }
 
+    #[inline]
     pub fn push(&mut self, weight: i128) -> Result<(), NoMemory>
         ensures pushed { OnOk result (self.new ≡ self.old ++ weight ∷ []) }
         ensures unchanged { OnErr result (self.new ≡ self.old) }

@@ -12,7 +12,7 @@ ghost use Rattle.chain_map.specs.Cliques.{
 ghost use Rattle.clique_embedding.specs.Placing.{but_last};
 
 use crate::spot::{Spot, diagonal_of, spot_of};
-use bits_model::{ChainList, Items, NoMemory};
+use bits_model::{ChainList, NoMemory};
 use chimera_graph::{Chimera, Place};
 use std::alloc::Global;
 
@@ -53,16 +53,15 @@ fn push_along(graph: &Chimera, spot: Spot, chain: &mut Vec<u32>) -> Result<(), N
     Ok(())
 }
 
-/// The chain of a node.
-fn chain_of(alloc: Global, graph: &Chimera, node: u32) -> Result<Vec<u32>, NoMemory>
+/// Makes a list the chain of a node.
+fn set_chain(chain: &mut Vec<u32>, graph: &Chimera, node: u32) -> Result<(), NoMemory>
     requires { node < clique_places graph.now }
-    ensures { IfOk result (λ chain. chain.items ≡ clique_chain graph.now node) }
+    ensures { OnOk result (chain.new.items ≡ clique_chain graph.now node) }
 {
     let spot = spot_of(graph, node);
-    let mut chain = Vec::with_capacity(alloc, diagonal_of(graph) as usize + 1)?;
-    push_down(graph, spot, &mut chain)?;
-    push_along(graph, spot, &mut chain)?;
-    Ok(chain)
+    chain.clear();
+    push_down(graph, spot, chain)?;
+    push_along(graph, spot, chain)
 }
 
 /// The chains of so many nodes, for which there are places.
@@ -74,28 +73,29 @@ pub(crate) fn clique_chains(
     requires { nodes ≤ clique_places graph.now }
     ensures { IfOk result (λ chains. chains ≡ clique_of graph.now nodes) }
 {
-    let mut chains = Vec::with_capacity(alloc, nodes as usize)?;
+    let mut chains = ChainList::with_room(alloc, nodes as usize, 0)?;
+    let mut chain = Vec::new(alloc);
     for node in 0..nodes {
-        chains.push(Items::new(chain_of(alloc, graph, node)?))?;
+        set_chain(&mut chain, graph, node)?;
+        chains.push(&chain)?;
     }
-    Ok(Items::new(chains))
+    Ok(chains)
 }
 
 /// All qubits of a chain but the last.
-fn but_last(alloc: Global, chain: &[u32]) -> Result<Vec<u32>, NoMemory>
-    ensures { IfOk result (λ parents. parents.items ≡ but_last chain.now) }
+fn but_last(chain: &[u32]) -> &[u32]
+    ensures { result.now ≡ but_last chain.now }
 {
-    Ok(chain[..chain.len().saturating_sub(1)].to_vec(alloc)?)
+    &chain[..chain.len().saturating_sub(1)]
 }
 
 /// The parents on chains that are paths.
 pub(crate) fn path_parents(alloc: Global, chains: &ChainList) -> Result<ChainList, NoMemory>
     ensures { IfOk result (λ parents. parents ≡ map but_last chains.now) }
 {
-    let chains = chains.as_slice();
-    let mut parents = Vec::with_capacity(alloc, chains.len())?;
+    let mut parents = ChainList::with_room(alloc, chains.len(), 0)?;
     for k in 0..chains.len() {
-        parents.push(Items::new(but_last(alloc, chains[k].as_slice())?))?;
+        parents.push(but_last(chains.chain(k)))?;
     }
-    Ok(Items::new(parents))
+    Ok(parents)
 }

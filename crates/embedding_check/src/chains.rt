@@ -8,7 +8,7 @@ use bits_model::ChainList;
 pub(crate) fn len(chains: &ChainList) -> usize
     ensures { result ≡ length chains.now }
 {
-    chains.as_slice().len()
+    chains.len()
 }
 
 /// The chain of a node.
@@ -16,5 +16,5 @@ pub(crate) fn chain(chains: &ChainList, node: usize) -> &[u32]
     requires { node < length chains.now }
     ensures { result.now ≡ chain_of chains.now node }
 {
-    chains.as_slice()[node].as_slice()
+    chains.chain(node)
 }

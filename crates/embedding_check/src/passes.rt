@@ -1,5 +1,5 @@
 //! The passes over a map, one for each fault.
-ghost use Rattle.std.specs.Prelude.{◌≡◌, ◌≢◌, ◌==◌, ◌+◌, ◌≤◌, ◌<◌, ◌^◌, ℕ, [], length, take, count_by, All, Option, Some, None, IfOk, IfErr, IfSome, MatchOption, if◌then◌else◌};
+ghost use Rattle.std.specs.Prelude.{◌≡◌, ◌≢◌, ◌==◌, ◌+◌, ◌≤◌, ◌<◌, ◌^◌, ℕ, [], length, take, count_by, All, Option, Some, None, IfOk, OnOk, IfErr, IfSome, MatchOption, if◌then◌else◌};
 ghost use Rattle.std.specs.List.{slice_index_or, AllZip};
 ghost use Rattle.chain_map.specs.Chains.{chain_of, occurrences};
 ghost use Rattle.chain_map.specs.Faults.{IfFault};
@@ -18,7 +18,7 @@ ghost use Rattle.embedding_check.specs.Faults.{
 
 use crate::chains::{chain, len};
 use crate::search::{Parents, parents_of};
-use bits_model::{ChainList, Items};
+use bits_model::{ChainList, NoMemory};
 use chain_map::{ChainMap, CheckAnswer, EmbedFault};
 use chimera_graph::Hardware;
 use std::alloc::Global;
@@ -117,16 +117,15 @@ pub(crate) fn check_once(alloc: Global, map: &ChainMap, qubits: u32) -> Result<(
 }
 
 /// Numbers of qubits, as qubits.
-fn narrow(alloc: Global, chain: &[u64]) -> Result<Vec<u32>, CheckAnswer>
+fn narrow(narrowed: &mut Vec<u32>, chain: &[u64]) -> Result<(), NoMemory>
     requires { (j : ℕ) → j < length chain.now → slice_index_or chain.now j 0 < 2 ^ 32 }
-    ensures same { IfOk result (λ v. v.items ≡ chain.now) }
-    ensures memory { IfErr result (λ e. e ≡ CheckAnswer.NoMemory) }
+    ensures { OnOk result (narrowed.new.items ≡ chain.now) }
 {
-    let mut narrowed = Vec::with_capacity(alloc, chain.len())?;
+    narrowed.clear();
     for k in 0..chain.len() {
         narrowed.push(chain[k] as u32)?;
     }
-    Ok(narrowed)
+    Ok(())
 }
 
 /// The chains of a map whose numbers are all qubits.
@@ -136,12 +135,13 @@ pub(crate) fn qubits_of(alloc: Global, map: &ChainMap) -> Result<ChainList, Chec
     ensures same { IfOk result (λ v. v ≡ map.now) }
     ensures memory { IfErr result (λ e. e ≡ CheckAnswer.NoMemory) }
 {
-    let mut chains = Vec::new(alloc);
+    let mut chains = ChainList::with_room(alloc, map.len(), map.len())?;
+    let mut narrowed = Vec::new(alloc);
     for node in 0..map.len() {
-        let chain = narrow(alloc, map.chain(node))?;
-        chains.push(Items::new(chain))?;
+        narrow(&mut narrowed, map.chain(node))?;
+        chains.push(&narrowed)?;
     }
-    Ok(Items::new(chains))
+    Ok(chains)
 }
 
 /// The parents of all chains, or the first qubit that is not reached.
@@ -166,17 +166,17 @@ pub(crate) fn all_parents<H: Hardware>(
         × IsFirstAt chains.now (IsReachedAt (H.joined hardware.now) chains.now) v k
         × (f ≡ EmbedFault.Disconnected v (number_at chains.now v k)))) }
 {
-    let mut parents = Vec::new(alloc);
+    let mut parents = ChainList::with_room(alloc, len(chains), 0)?;
     for node in 0..len(chains) {
         let listed = chain(chains, node);
         match parents_of(alloc, hardware, listed, chain(sorted, node))? {
             Parents::All(found) => {
-                parents.push(Items::new(found))?;
+                parents.push(&found)?;
             }
             Parents::Unreached(k) => {
                 return Err(CheckAnswer::Fault(EmbedFault::Disconnected(node, listed[k] as u64)));
             }
         }
     }
-    Ok(Items::new(parents))
+    Ok(parents)
 }

@@ -25,7 +25,7 @@ ghost use Rattle.embedding_check.specs.Search.{
 
 use crate::chains::{chain, len};
 use crate::waiting::Waiting;
-use bits_model::{ChainList, Items, NoMemory};
+use bits_model::{ChainList, NoMemory};
 use chimera_graph::Hardware;
 use std::alloc::Global;
 use std::marker::Model;
@@ -266,14 +266,14 @@ fn position_in(chain: &[u32], sorted: &[u32], k: usize) -> usize
 }
 
 /// The qubits of a chain in ascending order.
-pub(crate) fn sorted_chain(alloc: Global, chain: &[u32]) -> Result<Vec<u32>, NoMemory>
+fn sort_chain(sorted: &mut Vec<u32>, chain: &[u32]) -> Result<(), NoMemory>
     requires { (q : ℕ) → count_by (λ p. p == q) chain.now ≤ 1 }
-    ensures sorted { IfOk result (λ v. IsSortedChain chain.now v.items) }
-    ensures permutation { IfOk result (λ v. IsPermutation chain.now v.items) }
+    ensures { OnOk result (IsSortedChain chain.now sorted.new.items) }
 {
-    let mut sorted = chain.to_vec(alloc)?;
+    sorted.clear();
+    sorted.extend_from_slice(chain)?;
     sorted.sort_unstable();
-    Ok(sorted)
+    Ok(())
 }
 
 /// The chains, each in ascending order.
@@ -283,12 +283,13 @@ pub(crate) fn sorted_chains(alloc: Global, chains: &ChainList) -> Result<ChainLi
     ensures sorted { IfOk result (λ v. (u : ℕ) → u < length chains.now
         → IsSortedChain (chain_of chains.now u) (chain_of v u)) }
 {
-    let mut sorted = Vec::with_capacity(alloc, len(chains))?;
+    let mut sorted = ChainList::with_room(alloc, len(chains), len(chains))?;
+    let mut ascending = Vec::new(alloc);
     for node in 0..len(chains) {
-        let chain = sorted_chain(alloc, chain(chains, node))?;
-        sorted.push(Items::new(chain))?;
+        sort_chain(&mut ascending, chain(chains, node))?;
+        sorted.push(&ascending)?;
     }
-    Ok(Items::new(sorted))
+    Ok(sorted)
 }
 
 /// The parents of a chain's qubits from its second on, or the position of the first listed one

@@ -80,13 +80,11 @@ fn are_parents<H: Hardware>(hardware: &H, chain: &[u64], parents: &[u32]) -> boo
 
 fn has_parents<H: Hardware>(hardware: &H, map: &ChainMap, embedded: &Embedded) -> bool {
     for node in 0..map.len() {
-        match embedded.parents().as_slice().get(node) {
-            Some(parents) => {
-                if !are_parents(hardware, map.chain(node), parents.as_slice()) {
-                    return false;
-                }
-            }
-            None => return false,
+        if embedded.parents().len() <= node {
+            return false;
+        }
+        if !are_parents(hardware, map.chain(node), embedded.parents().chain(node)) {
+            return false;
         }
     }
     true

@@ -7,7 +7,7 @@ ghost use Rattle.bits_model.specs.Output.{is_chained};
 ghost use Rattle.quad_form.specs.Quads.{node_entries};
 ghost use Rattle.ising_form.specs.Outputs.{is_marked, is_on_chain};
 
-use bits_model::{Items, NoMemory, NodeWeights};
+use bits_model::{ChainList, NoMemory, NodeWeights};
 use std::alloc::Global;
 
 /// Marks the qubits of a chain.
@@ -23,15 +23,15 @@ fn mark(marks: &mut [bool], chain: &[u32])
 }
 
 /// Which of so many qubits are on chains.
-fn marked(alloc: Global, nodes: usize, chains: &[Items<u32>]) -> Result<Vec<bool>, NoMemory>
+fn marked(alloc: Global, nodes: usize, chains: &ChainList) -> Result<Vec<bool>, NoMemory>
     requires { All (λ chain. All (λ q. q < nodes) chain) chains.now }
     ensures length { IfOk result (λ marks. length marks.items ≡ nodes) }
     ensures marked { IfOk result (λ marks. (q : ℕ)
         → slice_index_or marks.items q false ≡ is_chained chains.now q) }
 {
     let mut marks = vec![in alloc; false; nodes]?;
-    for chain in chains {
-        mark(&mut marks, chain.as_slice());
+    for node in 0..chains.len() {
+        mark(&mut marks, chains.chain(node));
     }
     Ok(marks)
 }
@@ -72,7 +72,7 @@ fn marked_nodes(alloc: Global, fields: &[i128], marks: &[bool]) -> Result<NodeWe
 pub fn chained_nodes(
     alloc: Global,
     fields: &[i128],
-    chains: &[Items<u32>],
+    chains: &ChainList,
 ) -> Result<NodeWeights, NoMemory>
     requires narrow { length fields.now < 2 ^ 32 }
     requires placed { All (λ chain. All (λ q. q < length fields.now) chain) chains.now }

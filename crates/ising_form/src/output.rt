@@ -21,7 +21,7 @@ fn nodes_for(
 {
     match kind {
         Kind::Qubo | Kind::Ising => Ok(NodeWeights::numbered(fields.into_vec())),
-        Kind::Chimera { .. } => chained_nodes(alloc, fields.as_slice(), chains.as_slice()),
+        Kind::Chimera { .. } => chained_nodes(alloc, fields.as_slice(), chains),
     }
 }
 

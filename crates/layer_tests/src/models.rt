@@ -2,8 +2,8 @@
 ghost use Rattle.std.specs.Prelude.{◌≡◌, ◌∷◌, [], pos, negsuc, IfOk};
 
 use bits_model::{
-    ChainList, Cost, Costed, CouplerList, Entry, EntryList, Figures, Items, Kind, NoMemory,
-    NodeWeights, OutputModel,
+    ChainList, Cost, Costed, CouplerList, Entry, EntryList, Figures, Kind, NoMemory, NodeWeights,
+    OutputModel,
 };
 use model_text::written_text;
 use std::alloc::Global;
@@ -46,13 +46,9 @@ fn entries(alloc: Global) -> Result<EntryList, NoMemory>
 fn chains(alloc: Global) -> Result<ChainList, NoMemory>
     ensures { IfOk result (λ cs. cs ≡ (1 ∷ []) ∷ (0 ∷ []) ∷ []) }
 {
-    let mut first = Items::empty(alloc);
-    first.push(1)?;
-    let mut second = Items::empty(alloc);
-    second.push(0)?;
     let mut list = ChainList::empty(alloc);
-    list.push(first)?;
-    list.push(second)?;
+    list.push(&[1])?;
+    list.push(&[0])?;
     Ok(list)
 }
 
@@ -137,13 +133,9 @@ fn chained_entries(alloc: Global) -> Result<EntryList, NoMemory>
 fn longer_chains(alloc: Global) -> Result<ChainList, NoMemory>
     ensures { IfOk result (λ cs. cs ≡ (0 ∷ 3 ∷ []) ∷ (1 ∷ 4 ∷ 2 ∷ []) ∷ []) }
 {
-    let mut first = Vec::new(alloc);
-    first.extend_from_slice(&[0, 3])?;
-    let mut second = Vec::new(alloc);
-    second.extend_from_slice(&[1, 4, 2])?;
     let mut list = ChainList::empty(alloc);
-    list.push(Items::new(first))?;
-    list.push(Items::new(second))?;
+    list.push(&[0, 3])?;
+    list.push(&[1, 4, 2])?;
     Ok(list)
 }
 

@@ -89,13 +89,12 @@ qubits_left qs i number within same =
     ap spaced_numbers (drop_more qs i 0 within)
     ∙ ap (λ (n : List ℕ). 32 ∷ (n ++ spaced_numbers (drop (i + 1) qs))) (sym (append-nil number ∙ same))
 
-pub chains_left : (chains : List (List ℕ)) (i : ℕ) (chain qs : List ℕ) → i < length chains → chain ≡ get_or chains i chain → qs ≡ chain
+pub chains_left : (chains : List (List ℕ)) (i : ℕ) (qs : List ℕ) → i < length chains → qs ≡ get_or chains i []
     → rows_text (chain_rows i (drop i chains)) ≡ row_text (chain_row i qs) ++ rows_text (chain_rows (i + 1) (drop (i + 1) chains))
-chains_left chains i chain qs within item same =
+chains_left chains i qs within item =
     let next : suc i ≡ i + 1 = omega arith in
-    let taken : get_or chains i chain ≡ qs = sym (same ∙ item) in
-    ap (λ (cs : List (List ℕ)). rows_text (chain_rows i cs)) (drop_more chains i chain within)
-    ∙ (λ k. row_text (chain_row i (taken k)) ++ rows_text (chain_rows (next k) (drop (i + 1) chains)))
+    ap (λ (cs : List (List ℕ)). rows_text (chain_rows i cs)) (drop_more chains i [] within)
+    ∙ (λ k. row_text (chain_row i (sym item k)) ++ rows_text (chain_rows (next k) (drop (i + 1) chains)))
 
 -- ---- the parts of a model's text
 

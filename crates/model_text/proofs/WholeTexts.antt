@@ -78,16 +78,16 @@ chain_rows-more node (c ∷ cs) (suc i) d lt =
     ∙ ap (λ (n : ℕ). chain_row node c ∷ (rows ++ chain_row n (get_or cs i d) ∷ [])) same
 
 pub chain_added : (old text more : List ℕ) (chains : List (List ℕ)) (i : ℕ) (chain : List ℕ)
-    → i < length chains → chain ≡ get_or chains i chain
+    → i < length chains → chain ≡ get_or chains i []
     → text ≡ old ++ rows_text (chain_rows 0 (take i chains))
     → more ≡ text ++ row_text (chain_row i chain)
     → more ≡ old ++ rows_text (chain_rows 0 (take (i + 1) chains))
 chain_added old text more chains i chain lt item so_far added =
     let rows = chain_rows 0 (take i chains) in
-    let numbered : chain_row i chain ≡ chain_row (0 + i) (get_or chains i chain) =
+    let numbered : chain_row i chain ≡ chain_row (0 + i) (get_or chains i []) =
     λ k. chain_row (sym (zero-add i) k) (item k) in
     let one_more : rows ++ chain_row i chain ∷ [] ≡ chain_rows 0 (take (i + 1) chains) =
-    ap (λ (row : Row). rows ++ row ∷ []) numbered ∙ sym (chain_rows-more 0 chains i chain lt) in
+    ap (λ (row : Row). rows ++ row ∷ []) numbered ∙ sym (chain_rows-more 0 chains i [] lt) in
     row_added old text more rows (chain_row i chain) so_far added
     ∙ ap (λ (all : List Row). old ++ rows_text all) one_more
 

@@ -10,7 +10,7 @@ ghost use Rattle.model_text.specs.Lines.{spaced_numbers};
 
 use crate::counts::counts_of;
 use crate::rows::words_of;
-use bits_model::{CouplerList, Entry, EntryList, Figures, Items, Kind, NodeWeights, Row};
+use bits_model::{ChainList, CouplerList, Entry, EntryList, Figures, Kind, NodeWeights, Row};
 use edge_io::{LineBuffer, Sink, WriteFault};
 use itoa::{Buffer, write_digits};
 
@@ -132,7 +132,7 @@ fn put_chain<S: Sink>(
 fn put_chains<S: Sink>(
     buffer: &mut LineBuffer,
     sink: &mut S,
-    chains: &[Items<u32>],
+    chains: &ChainList,
 ) -> Result<(), WriteFault>
     ensures passed { let rows = chain_rows 0 chains.now in
         OnOk result (Passes (S.bytes sink.old) (S.bytes sink.new)
@@ -143,8 +143,8 @@ fn put_chains<S: Sink>(
     ensures lost { OnErr result (buffer.new ≡ []) }
     ensures cause { HasCause (S.faults sink.old) (S.faults sink.new) result }
 {
-    for (node, chain) in chains.iter().enumerate() {
-        put_chain(buffer, sink, node, chain.as_slice())?;
+    for node in 0..chains.len() {
+        put_chain(buffer, sink, node, chains.chain(node))?;
     }
     Ok(())
 }
@@ -184,7 +184,7 @@ pub fn put_graph<S: Sink>(
     buffer: &mut LineBuffer,
     sink: &mut S,
     kind: Kind,
-    chains: &[Items<u32>],
+    chains: &ChainList,
 ) -> Result<(), WriteFault>
     ensures passed { let rows = graph_rows kind chains.now in
         OnOk result (Passes (S.bytes sink.old) (S.bytes sink.new)

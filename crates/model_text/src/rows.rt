@@ -4,7 +4,7 @@ ghost use Rattle.std.specs.List.{join_with_byte};
 ghost use Rattle.model_text.specs.Rows.{row_text, rows_text, figure_row, figure_rows, chimera_row, chain_row, chain_rows, graph_rows, kind_words, header_row, entry_row, FitsFigures, FitsGraph};
 
 use crate::counts::counts_of;
-use bits_model::{Entry, EntryList, Figures, Items, Kind, NoMemory};
+use bits_model::{ChainList, Entry, EntryList, Figures, Kind, NoMemory};
 use whole_text::push_number;
 
 /// A figure, after its name.
@@ -53,11 +53,11 @@ fn push_chain(out: &mut Vec<u8>, node: usize, qubits: &[u32]) -> Result<(), NoMe
 }
 
 /// Each chain, in order.
-fn push_chains(out: &mut Vec<u8>, chains: &[Items<u32>]) -> Result<(), NoMemory>
+fn push_chains(out: &mut Vec<u8>, chains: &ChainList) -> Result<(), NoMemory>
     ensures { OnOk result (out.new.items ≡ out.old.items ++ rows_text (chain_rows 0 chains.now)) }
 {
-    for (node, chain) in chains.iter().enumerate() {
-        push_chain(out, node, chain.as_slice())?;
+    for node in 0..chains.len() {
+        push_chain(out, node, chains.chain(node))?;
     }
     Ok(())
 }
@@ -78,7 +78,7 @@ fn push_chimera(out: &mut Vec<u8>, rows: u32, cols: u32, shore: u32) -> Result<(
 }
 
 /// The graph and the chains, where there are any.
-pub fn push_graph(out: &mut Vec<u8>, kind: Kind, chains: &[Items<u32>]) -> Result<(), NoMemory>
+pub fn push_graph(out: &mut Vec<u8>, kind: Kind, chains: &ChainList) -> Result<(), NoMemory>
     ensures text { let rows = graph_rows kind chains.now in
         OnOk result (out.new.items ≡ out.old.items ++ rows_text rows) }
     ensures fits { OnOk result (FitsGraph kind) }

@@ -20,7 +20,7 @@ pub fn written_text(alloc: Global, model: &OutputModel) -> Result<Vec<u8>, NoMem
     let entries = &model.entries;
     let mut text = Vec::with_capacity(alloc, entries.couplers.len().saturating_mul(16))?;
     push_figures(&mut text, model.figures, model.unit, model.variables)?;
-    push_graph(&mut text, model.kind, model.chains.as_slice())?;
+    push_graph(&mut text, model.kind, &model.chains)?;
     push_header(&mut text, model.kind, model.nodes, entries)?;
     push_entries(&mut text, entries)?;
     Ok(text)
@@ -41,7 +41,7 @@ fn put_text<S: Sink>(
 {
     let entries = &model.entries;
     put_figures(buffer, sink, model.figures, model.unit, model.variables)?;
-    put_graph(buffer, sink, model.kind, model.chains.as_slice())?;
+    put_graph(buffer, sink, model.kind, &model.chains)?;
     put_header(buffer, sink, model.kind, model.nodes, entries)?;
     put_entries(buffer, sink, entries)
 }

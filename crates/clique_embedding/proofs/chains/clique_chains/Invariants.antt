@@ -4,4 +4,4 @@ use Rattle.clique_embedding.proofs.chains.clique_chains.Given as goal
 
 -- the chains of the nodes so far
 abbrev pub invariant-loop-node : goal.invariant-loop-node
-invariant-loop-node l = l.chains.items ≡ clique_of l.graph l.node
+invariant-loop-node l = l.chains ≡ clique_of l.graph l.node

@@ -4,4 +4,4 @@ use Rattle.clique_embedding.proofs.chains.path_parents.Given as goal
 
 -- the parents on the chains so far
 abbrev pub invariant-loop-k : goal.invariant-loop-k
-invariant-loop-k l = l.parents.items ≡ map but_last (take l.k l.chains-2)
+invariant-loop-k l = l.parents ≡ map but_last (take l.k l.chains)

@@ -42,8 +42,8 @@ loop-node-preserved g c =
     let both = subst (λ (xs : List ℕ). AreFound joined xs (All c.in-All.found)) same found in
     record {
       parents = subst (AllZip (AreParents joined) (take (node + 1) chains))
-          (sym (c.in_ok-push-in-All.ensures.items ∙ ap (λ xs. c.loop-node.parents.items ++ xs ∷ []) c.new.ensures))
-          (all_zip_more (AreParents joined) chains c.loop-node.parents.items node (chain_of chains node)
+          (sym (c.in_ok-push-in-All.ensures.pushed ∙ ap (λ xs. c.loop-node.parents ++ xs ∷ []) c.deref.ensures.value))
+          (all_zip_more (AreParents joined) chains c.loop-node.parents node (chain_of chains node)
           c.in-All.found.items below (default_free chains node [] (chain_of chains node) below)
           c.loop-node.invariant.parents both.0);
       reached = places_more chains (IsReachedAt joined chains) node c.loop-node.invariant.reached (λ j low. both.1 j 0 low);

@@ -7,8 +7,8 @@ use Rattle.embedding_check.proofs.Passing.{once_each}
 use Rattle.embedding_check.proofs.Faulty.{pushed_more}
 use Rattle.embedding_check.proofs.search.sorted_chains.Goals as goal
 
-pub sorted_chain-requires : goal.sorted_chain-requires
-sorted_chain-requires c = λ q.
+pub sort_chain-requires : goal.sort_chain-requires
+sort_chain-requires c = λ q.
     subst (λ (xs : List ℕ). count_by (λ p. p == q) xs ≤ 1) (sym c.chain.ensures)
     (once_each c.args.chains.now c.requires c.loop-node.node (omega (arith, c.loop-node-test.true, c.len-node-end.ensures)) q)
 
@@ -16,11 +16,10 @@ pub loop-node-preserved : goal.loop-node-preserved
 loop-node-preserved c =
     let chains = c.args.chains.now in
     let node = c.loop-node.node in
-    let old = c.loop-node.sorted.items in
-    let new = c.in_ok-chain.chain in
-    let items = c.in_ok-push.ensures.items in
-    let here = subst (λ (xs : List ℕ). IsSortedChain xs new.items) c.chain.ensures c.in_ok-chain.ensures.sorted in
-    let pushed : c.push.new.self.items ≡ old ++ new.items ∷ [] = items ∙ ap (λ xs. old ++ xs ∷ []) c.new.ensures in
+    let old = c.loop-node.sorted in
+    let new = c.sort_chain.new.sorted in
+    let here = subst (λ (xs : List ℕ). IsSortedChain xs new.items) c.chain.ensures c.in_ok-sort_chain.ensures in
+    let pushed : c.push.new.self ≡ old ++ new.items ∷ [] = c.in_ok-push.ensures.pushed ∙ ap (λ xs. old ++ xs ∷ []) c.deref.ensures.value in
     record {
       len = ap length pushed ∙ (let l : length (old ++ new.items ∷ []) ≡ node + 1 = omega (arith, length-append old (new.items ∷ []), c.loop-node.invariant.len) in l);
       sorted = subst (λ (ys : List (List ℕ)). (u : ℕ) → u < node + 1 → IsSortedChain (chain_of chains u) (get_or ys u [])) (sym pushed)

@@ -35,7 +35,7 @@ returns-in_err-put_graph-clause-front g c =
     let m = written c.model.inside in
     let figures : Passes (g.S.Sink.bytes c.args.sink.now) (g.S.Sink.bytes c.put_figures.new.sink) c.args.buffer.now c.put_figures.new.buffer (rows_text (figure_rows m.figures m.unit m.variables)) =
     search rules in
-    let cut = sym (ap model_text c.model.view_is) ∙ text_parts m c.as_slice.result.now c.as_slice.ensures in
+    let cut = sym (ap model_text c.model.view_is) ∙ text_parts m m.chains refl in
     let figured =
     put_more _ _ _ c.args.buffer.now c.args.buffer.now c.put_figures.new.buffer _ _ _ _ cut (put_none _ c.args.buffer.now _) figures in
     at_error c.from_residual-in_err-put_graph.result
@@ -46,7 +46,7 @@ returns-in_err-put_header-clause-front g c =
     let m = written c.model.inside in
     let figures : Passes (g.S.Sink.bytes c.args.sink.now) (g.S.Sink.bytes c.put_figures.new.sink) c.args.buffer.now c.put_figures.new.buffer (rows_text (figure_rows m.figures m.unit m.variables)) =
     search rules in
-    let cut = sym (ap model_text c.model.view_is) ∙ text_parts m c.as_slice.result.now c.as_slice.ensures in
+    let cut = sym (ap model_text c.model.view_is) ∙ text_parts m m.chains refl in
     let figured =
     put_more _ _ _ c.args.buffer.now c.args.buffer.now c.put_figures.new.buffer _ _ _ _ cut (put_none _ c.args.buffer.now _) figures in
     let graphed = put_more _ _ _ c.args.buffer.now c.put_figures.new.buffer c.put_graph.new.buffer _ _ _ _ refl figured c.in_ok-put_graph.ensures.passed in
@@ -58,7 +58,7 @@ returns-clause-passed g c =
     let m = written c.model.inside in
     let figures : Passes (g.S.Sink.bytes c.args.sink.now) (g.S.Sink.bytes c.put_figures.new.sink) c.args.buffer.now c.put_figures.new.buffer (rows_text (figure_rows m.figures m.unit m.variables)) =
     search rules in
-    let cut = sym (ap model_text c.model.view_is) ∙ text_parts m c.as_slice.result.now c.as_slice.ensures in
+    let cut = sym (ap model_text c.model.view_is) ∙ text_parts m m.chains refl in
     let figured =
     put_more _ _ _ c.args.buffer.now c.args.buffer.now c.put_figures.new.buffer _ _ _ _ cut (put_none _ c.args.buffer.now _) figures in
     let graphed = put_more _ _ _ c.args.buffer.now c.put_figures.new.buffer c.put_graph.new.buffer _ _ _ _ refl figured c.in_ok-put_graph.ensures.passed in
@@ -73,7 +73,7 @@ returns-clause-front g c =
     let m = written c.model.inside in
     let figures : Passes (g.S.Sink.bytes c.args.sink.now) (g.S.Sink.bytes c.put_figures.new.sink) c.args.buffer.now c.put_figures.new.buffer (rows_text (figure_rows m.figures m.unit m.variables)) =
     search rules in
-    let cut = sym (ap model_text c.model.view_is) ∙ text_parts m c.as_slice.result.now c.as_slice.ensures in
+    let cut = sym (ap model_text c.model.view_is) ∙ text_parts m m.chains refl in
     let figured =
     put_more _ _ _ c.args.buffer.now c.args.buffer.now c.put_figures.new.buffer _ _ _ _ cut (put_none _ c.args.buffer.now _) figures in
     let graphed = put_more _ _ _ c.args.buffer.now c.put_figures.new.buffer c.put_graph.new.buffer _ _ _ _ refl figured c.in_ok-put_graph.ensures.passed in

@@ -1,4 +1,4 @@
-use Rattle.std.proofs.Common.{◌≡◌, ◌++◌, ◌<◌, ◌^◌, ℕ, List, map, sym, ap, subst, ◌∙◌, rules}
+use Rattle.std.proofs.Common.{◌≡◌, ◌++◌, ◌<◌, ◌^◌, map, sym, ap, subst, ◌∙◌, rules}
 use Rattle.bits_model.specs.declared.output.OutputModel.TheInside.{Inside}
 use Rattle.bits_model.specs.Output.{Written}
 use Rattle.model_text.specs.Rows.{row_text, rows_text, figure_rows, graph_rows, header_row, entry_row, model_text, FitsFields}
@@ -30,8 +30,7 @@ returns-clause-text c =
     let t4 = c.push_entries.new.out.items in
     let figured : t1 ≡ rows_text (figure_rows m.figures m.unit m.variables) = search rules in
     let graphed : t2 ≡ t1 ++ rows_text (graph_rows m.kind m.chains) =
-    c.in_ok-push_graph.ensures.text
-    ∙ ap (λ (cs : List (List ℕ)). t1 ++ rows_text (graph_rows m.kind cs)) c.as_slice.ensures in
+    c.in_ok-push_graph.ensures.text in
     let headed : t3 ≡ t2 ++ row_text (header_row m.kind m.nodes m.entries) =
     c.in_ok-push_header.ensures in
     let weighed : t4 ≡ t3 ++ rows_text (map entry_row m.entries) =
