@@ -9,12 +9,12 @@ ghost use Rattle.chain_layer.specs.Image.{image, nodes_of, strength};
 
 use crate::decoding::decoded;
 use crate::extending::extended;
-use crate::link::{ChainLink, chain};
+use crate::link::ChainLink;
 use crate::shares::shared_fields;
 use crate::sorting::in_order;
 use crate::strengths::strengths;
 use crate::ties::{couplings_of, ties_cost};
-use bits_model::{ChainList, Items, Layer, Lowered, NoMemory};
+use bits_model::{Layer, Lowered, NoMemory};
 use embedding_check::Embedded;
 use ising_form::Ising;
 use quad_form::NumberList;
@@ -24,17 +24,6 @@ use std::alloc::Global;
 /// joined qubits, and each qubit of a chain but the first is tied to its parent.
 #[derive(Drop)]
 pub struct Chains;
-
-/// The same chains in memory of their own.
-fn copied(alloc: Global, chains: &ChainList) -> Result<ChainList, NoMemory>
-    ensures { IfOk result (λ copy. copy ≡ chains.now) }
-{
-    let mut copy = Vec::with_capacity(alloc, chains.as_slice().len())?;
-    for i in 0..chains.as_slice().len() {
-        copy.push(Items::new(chain(chains, i).to_vec(alloc)?))?;
-    }
-    Ok(Items::new(copy))
-}
 
 /// The form on the qubits.
 fn image_of(alloc: Global, source: &Embedded, strengths: &[u128]) -> Result<Ising, NoMemory>
@@ -118,7 +107,7 @@ impl Layer for Chains {
         Ok(Lowered {
             target,
             link: ChainLink {
-                chains: copied(alloc, source.chains())?,
+                chains: source.chains().copied(alloc)?,
                 qubits: source.qubits(),
             },
             scale: 1,

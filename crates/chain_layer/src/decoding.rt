@@ -36,8 +36,8 @@ pub fn decoded(alloc: Global, chains: &ChainList, y: &[bool]) -> Result<Vec<bool
     requires { All (λ chain. chain ≢ []) chains.now }
     ensures { IfOk result (λ x. x.items ≡ map (majority y.now) chains.now) }
 {
-    let mut x = Vec::with_capacity(alloc, chains.as_slice().len())?;
-    for i in 0..chains.as_slice().len() {
+    let mut x = Vec::with_capacity(alloc, chains.len())?;
+    for i in 0..chains.len() {
         x.push(majority(y, chain(chains, i)))?;
     }
     Ok(x)

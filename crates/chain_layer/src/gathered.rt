@@ -1,16 +1,41 @@
 //! Couplings in the order in which they are gathered, in few bytes each.
 ghost use Rattle.std.specs.Prelude.{◌≡◌, ◌++◌, ◌∷◌, [], ◌<◌, IfOk, OnOk, length};
 ghost use Rattle.bits_model.specs.declared.output.Entry.{Entry};
-ghost use Rattle.chain_layer.specs.Steps.{entry_at};
+ghost use Rattle.quad_form.specs.Pairs.{pair_number};
+ghost use Rattle.chain_layer.specs.Steps.{entry_at, numbered, weighted_pairs};
 
 use bits_model::{Entry, NoMemory, WeightList};
 use std::alloc::Global;
 use std::marker::Model;
 
+/// Each number of a node is below it.
+const NODE_LIMIT: u64 = 1 << 32;
+
+/// The number of an entry's pair: pairs are ordered by their first qubits, and then by their second
+/// ones.
+#[inline]
+pub fn pair_number(entry: &Entry) -> u64
+    ensures { result ≡ pair_number entry.now }
+{
+    entry.first as u64 * NODE_LIMIT + entry.second as u64
+}
+
+/// The entry with this number of its pair.
+#[inline]
+pub fn numbered(number: u64, weight: i128) -> Entry
+    ensures { result ≡ numbered number weight }
+{
+    Entry {
+        first: (number / NODE_LIMIT) as u32,
+        second: (number % NODE_LIMIT) as u32,
+        weight,
+    }
+}
+
 /// Couplings, which contracts see as the list of their entries.
 #[derive(Drop)]
 pub struct Gathered {
-    pairs: Vec<(u32, u32)>,
+    numbers: Vec<u64>,
     weights: WeightList,
 }
 
@@ -21,9 +46,9 @@ impl Model for Gathered {
 
     ghost Value = { List Entry };
 
-    ghost view = { λ g. weighted_pairs g.pairs.items g.weights };
+    ghost view = { λ g. weighted_pairs g.numbers.items g.weights };
 
-    ghost invariant = { λ g. length g.weights ≡ length g.pairs.items };
+    ghost invariant = { λ g. length g.weights ≡ length g.numbers.items };
 }
 
 impl Gathered {
@@ -32,7 +57,7 @@ impl Gathered {
         ensures { IfOk result (λ g. g ≡ []) }
     {
         Ok(Gathered {
-            pairs: Vec::with_capacity(alloc, count)?,
+            numbers: Vec::with_capacity(alloc, count)?,
             weights: WeightList::with_room(alloc, count)?,
         })
     }
@@ -41,17 +66,17 @@ impl Gathered {
     pub fn len(&self) -> usize
         ensures { result ≡ length self.now }
     {
-        self.pairs.len()
+        self.numbers.len()
     }
 
     /// Appends one.
     pub fn push(&mut self, entry: Entry) -> Result<(), NoMemory>
         ensures { OnOk result (self.new ≡ self.old ++ entry ∷ []) }
     {
-        let count = self.pairs.len();
-        self.pairs.push((entry.first, entry.second))?;
+        let count = self.numbers.len();
+        self.numbers.push(pair_number(&entry))?;
         if self.weights.push(entry.weight).is_err() {
-            self.pairs.truncate(count);
+            self.numbers.truncate(count);
             return Err(NoMemory);
         }
         Ok(())
@@ -62,11 +87,15 @@ impl Gathered {
         requires { index < length self.now }
         ensures { result ≡ entry_at self.now index }
     {
-        let (first, second) = self.pairs[index];
-        Entry {
-            first,
-            second,
-            weight: self.weights.get(index),
-        }
+        numbered(self.numbers[index], self.weights.get(index))
+    }
+
+    /// The numbers of their pairs, and their weights.
+    pub fn into_parts(self) -> (Vec<u64>, WeightList)
+        ensures entries { self ≡ weighted_pairs result.0.items result.1 }
+        ensures matched { length result.1 ≡ length result.0.items }
+    {
+        let Gathered { numbers, weights } = self;
+        (numbers, weights)
     }
 }

@@ -16,5 +16,5 @@ pub fn chain(chains: &ChainList, node: usize) -> &[u32]
     requires { node < length chains.now }
     ensures { result.now ≡ chain_of chains.now node }
 {
-    chains.as_slice()[node].as_slice()
+    chains.chain(node)
 }

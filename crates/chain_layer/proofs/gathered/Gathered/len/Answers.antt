@@ -5,7 +5,7 @@ use Rattle.chain_layer.proofs.gathered.Gathered.len.Goals as goal
 pub returns : goal.returns
 returns c =
     let inside = c.self.inside in
-    let len : c.len.result ≡ length inside.pairs.items = search rules in
+    let len : c.len.result ≡ length inside.numbers.items = search rules in
     len
-    ∙ sym (length-weighted_pairs inside.pairs.items inside.weights c.self.invariant)
+    ∙ sym (length-weighted_pairs inside.numbers.items inside.weights c.self.invariant)
     ∙ ap length c.self.view_is

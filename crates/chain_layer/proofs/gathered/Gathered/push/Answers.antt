@@ -1,14 +1,18 @@
-use Rattle.std.proofs.Common.{◌≡◌, ◌++◌, [], ◌∷◌, ap, ◌∙◌, rules}
+use Rattle.std.proofs.Common.{◌≡◌, ◌<◌, ◌^◌, ◌++◌, [], ◌∷◌, ◌∙◌, rules}
+use Rattle.quad_form.specs.Pairs.{pair_number}
 use Rattle.chain_layer.specs.Steps.{weighted_pairs}
-use Rattle.chain_layer.proofs.Gathering.{weighted_pairs-more}
+use Rattle.chain_layer.proofs.Gathering.{numbered-pair_number, weighted_pairs-more}
 use Rattle.chain_layer.proofs.gathered.Gathered.push.Goals as goal
 
 pub returns : goal.returns
 returns c =
     let inside = c.self.inside in
+    let ns = inside.numbers.items in
+    let ws = inside.weights in
     let e = c.args.entry in
-    let pairs : c.push.new.self.items ≡ inside.pairs.items ++ (e.first, e.second) ∷ [] = search rules in
-    let weights : c.push-2.new.self ≡ inside.weights ++ e.weight ∷ [] = search rules in
-    (λ k. weighted_pairs (pairs k) (weights k))
-    ∙ weighted_pairs-more inside.pairs.items inside.weights (e.first, e.second) e.weight c.self.invariant
-    ∙ ap (λ es. es ++ e ∷ []) c.self.view_is
+    let numbers : c.push.new.self.items ≡ ns ++ pair_number e ∷ [] = search rules in
+    let weights : c.push-2.new.self ≡ ws ++ e.weight ∷ [] = search rules in
+    let low : e.second < 2 ^ 32 = search rules in
+    (λ k. weighted_pairs (numbers k) (weights k))
+    ∙ weighted_pairs-more ns ws (pair_number e) e.weight c.self.invariant
+    ∙ (λ k. c.self.view_is k ++ numbered-pair_number e low k ∷ [])
