@@ -80,6 +80,7 @@ impl DirectTerms {
     }
 
     /// Adds to the coefficient of a set of at most two literals.
+    #[inline(always)]
     fn add_short(&mut self, literals: &[Literal], coefficient: i128) -> Result<(), NoMemory>
         requires set { IsTermSet (length self.old.weights) literals.now }
         requires short { length literals.now ≤ 2 }
@@ -118,6 +119,7 @@ impl DirectTerms {
     }
 
     /// Adds to the coefficient of a set.
+    #[inline(always)]
     pub fn add(&mut self, literals: &[Literal], coefficient: i128) -> Result<(), NoMemory>
         requires set { IsTermSet (length self.old.weights) literals.now }
         requires small { self.old.total + unsigned_abs coefficient ≤ 2 ^ 97 }
@@ -195,6 +197,7 @@ impl Gather for DirectTerms {
 
     ghost holds = { λ terms t. AreHeld t terms };
 
+    #[inline(always)]
     fn gather(&mut self, literals: &[Literal], coefficient: i128) -> Result<(), NoMemory> {
         self.add(literals, coefficient)
     }

@@ -44,6 +44,17 @@ fn joined(mut pairs: Pairs, couplers: CouplerList) -> Result<Pairs, NoMemory>
     Ok(pairs)
 }
 
+/// Appends a coupler that does not come in order. Where memory is refused the list stays as it was.
+#[inline(never)]
+fn push_late(others: &mut Pairs, first: u32, second: u32, weight: i128) -> Result<(), NoMemory>
+    requires few { length others.old + 1 < 2 ^ 32 }
+    ensures pushed { OnOk result (others.new
+        ≡ others.old ++ record { first = first; second = second; weight = weight } ∷ []) }
+    ensures unchanged { OnErr result (others.new ≡ others.old) }
+{
+    others.push(first, second, weight)
+}
+
 impl GatheredPairs {
     /// No couplers yet. They begin packed where there are few enough nodes. Takes no memory.
     pub fn empty(alloc: Global, nodes: usize) -> GatheredPairs
@@ -57,6 +68,7 @@ impl GatheredPairs {
     }
 
     /// Appends a coupler. Where memory is refused the list stays as it was.
+    #[inline(always)]
     pub fn push(&mut self, first: u32, second: u32, weight: i128) -> Result<(), NoMemory>
         requires few { length self.old + 1 < 2 ^ 32 }
         ensures pushed { OnOk result (self.new
@@ -69,7 +81,7 @@ impl GatheredPairs {
             self.last = number;
             return Ok(());
         }
-        self.others.push(first, second, weight)
+        push_late(&mut self.others, first, second, weight)
     }
 
     /// The same couplers in the order of their pairs.

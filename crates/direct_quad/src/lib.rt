@@ -18,6 +18,7 @@ mod shares;
 mod short;
 mod weights;
 
+pub use additions::{Keyed, are_alike, ordered_additions};
 pub use direct::DirectQuad;
 pub use flat_monomials::FlatMonomials;
 pub use gathered::DirectTerms;

@@ -23,6 +23,7 @@ pub(crate) fn factor(degree: usize, place: usize) -> i128
 }
 
 /// A weight, whose sign a complement turns.
+#[inline(always)]
 pub(crate) fn signed(literal: Literal, weight: i128) -> i128
     requires { unsigned_abs weight ≤ 2 ^ 126 }
     ensures { result ≡ signed literal weight }

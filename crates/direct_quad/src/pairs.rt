@@ -187,6 +187,7 @@ fn with_longer(
 const NODE_LIMIT: u64 = 1 << 32;
 
 /// The number of a pair of nodes: pairs are ordered by their first nodes, and then by their second.
+#[inline(always)]
 pub(crate) fn number_of(first: u32, second: u32) -> u64
     ensures { result ≡ number_of first second }
 {

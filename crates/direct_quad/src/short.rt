@@ -12,6 +12,7 @@ use bits_model::NoMemory;
 use problem_form::Literal;
 
 /// Adds the share of a literal that is a term by itself.
+#[inline(always)]
 fn add_alone(weights: &mut [i128], literal: Literal, coefficient: i128)
     requires within { literal.variable < length weights.old }
     requires small { size_of weights.old + unsigned_abs coefficient ≤ 2 ^ 126 }
@@ -26,6 +27,7 @@ fn add_alone(weights: &mut [i128], literal: Literal, coefficient: i128)
 }
 
 /// Adds what a pair moves to the weight of one literal, where the other is a complement.
+#[inline(always)]
 fn move_weight(weights: &mut [i128], literal: Literal, other: Literal, coefficient: i128)
     requires within { literal.variable < length weights.old }
     requires small { size_of weights.old + unsigned_abs coefficient ≤ 2 ^ 126 }
@@ -38,6 +40,7 @@ fn move_weight(weights: &mut [i128], literal: Literal, other: Literal, coefficie
 }
 
 /// Adds what a term gives to the weights of nodes.
+#[inline(always)]
 pub(crate) fn add_short_shares(weights: &mut [i128], literals: &[Literal], coefficient: i128)
     requires within { All (λ l. l.variable < length weights.old) literals.now }
     requires small { size_of weights.old + 2 * unsigned_abs coefficient ≤ 2 ^ 126 }
@@ -55,6 +58,7 @@ pub(crate) fn add_short_shares(weights: &mut [i128], literals: &[Literal], coeff
 }
 
 /// What a term gives to the constant: all of it, where all its literals are complements.
+#[inline(always)]
 pub(crate) fn constant_of(literals: &[Literal], coefficient: i128) -> i128
     ensures { result ≡ short_constant (literals.now, coefficient) }
 {
@@ -66,7 +70,21 @@ pub(crate) fn constant_of(literals: &[Literal], coefficient: i128) -> i128
     if counts { coefficient } else { 0 }
 }
 
+/// A weight, whose sign two complements turn twice.
+#[inline(always)]
+fn twice_signed(first: Literal, second: Literal, weight: i128) -> i128
+    requires { unsigned_abs weight ≤ 2 ^ 126 }
+    ensures { result ≡ signed first (signed second weight) }
+{
+    if first.negated == second.negated {
+        weight
+    } else {
+        -weight
+    }
+}
+
 /// Appends the coupler of a term of two literals. Where memory is refused the list stays as it was.
+#[inline(always)]
 pub(crate) fn push_short(
     pairs: &mut GatheredPairs,
     literals: &[Literal],
@@ -82,6 +100,6 @@ pub(crate) fn push_short(
     let [first, second, ..] = literals else {
         return Ok(());
     };
-    let weight = signed(*first, signed(*second, coefficient));
+    let weight = twice_signed(*first, *second, coefficient);
     pairs.push(first.variable as u32, second.variable as u32, weight)
 }

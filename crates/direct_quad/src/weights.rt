@@ -6,6 +6,7 @@ ghost use Rattle.direct_quad.specs.RowSums.{size_of, with_weight};
 use bits_model::NoMemory;
 
 /// Adds to the weight of a node.
+#[inline(always)]
 pub(crate) fn add_weight(weights: &mut [i128], node: usize, weight: i128)
     requires within { node < length weights.old }
     requires small { size_of weights.old + unsigned_abs weight ≤ 2 ^ 126 }

@@ -50,6 +50,7 @@ impl Parts {
     }
 
     /// The literals and the coefficient of the part at a place.
+    #[inline]
     pub(crate) fn at(&self, i: usize) -> (&[Literal], i128)
         requires { i < length self.now }
         ensures { slice_get self.now i ≡ Some (result.0.now, result.1) }

@@ -11,6 +11,7 @@ use bits_model::NoMemory;
 use problem_form::{Literal, clashes};
 use term_table::unite;
 
+#[inline(always)]
 fn times(a: &i128, b: &i128) -> i128
     requires { unsigned_abs a.now * unsigned_abs b.now ≤ 2 ^ 99 }
     ensures { result ≡ a.now *ℤ b.now }
@@ -37,6 +38,7 @@ fn squared(factor: u128, a: &i128) -> i128
 }
 
 /// Adds a coefficient on the union of two literals, where they do not clash.
+#[inline(always)]
 fn add_pair<T: Gather>(
     terms: &mut T,
     l: Literal,
@@ -63,6 +65,7 @@ fn add_pair<T: Gather>(
 }
 
 /// Adds a coefficient on the union of two sets, where it has no clash.
+#[inline(always)]
 fn add_union<T: Gather>(
     terms: &mut T,
     set: &mut Vec<Literal>,
