@@ -1,5 +1,5 @@
 -- The state that the steps extend an assignment to has the least energy of those that decode to it.
-use Rattle.std.proofs.Common.{◌≡◌, pos, Bool, List, length, take, sym, ap, ◌∙◌, subst, arith}
+use Rattle.std.proofs.Common.{◌≡◌, pos, Bool, List, length, take, refl, sym, ap, ◌∙◌, subst, arith}
 use Rattle.std.specs.Prelude.{IfOk, Result, Ok, Err}
 use Rattle.std.proofs.lemmas.List.{take-take}
 use Rattle.bits_model.specs.declared.layer.BitsLink.{BitsLink}
@@ -24,11 +24,12 @@ use Rattle.rosenberg_layer.specs.laws.Kept.{rosen_reaches}
 use Rattle.quad_form.specs.Quads as quads
 use Rattle.quad_form.specs.Flat as flat
 use Rattle.quad_form.specs.laws.Flattened.{flat_keeps, flat_reaches}
+use Rattle.direct_quad.specs.Direct as direct
 use Rattle.direct_quad.specs.FlatMonomials as flat_monomials
 use Rattle.direct_quad.specs.laws.FlatKept.{first, second, fits_first, fits_second}
-use Rattle.direct_quad.specs.laws.Relaxing.{figures-still}
+use Rattle.direct_quad.specs.laws.Relaxing.{direct_extends, figures-still}
 use Rattle.model_pipeline.specs.Models.{low_terms_of, quad_by, terms_of}
-use Rattle.model_pipeline.specs.Extensions.{low_extension, extension_by, ExtendsLeastBy, IsLeastExtension}
+use Rattle.model_pipeline.specs.Extensions.{low_extension, extension_by, link_by, ExtendsLeastBy, IsLeastExtension}
 use Rattle.model_pipeline.specs.Decoders.{LowFits}
 use Rattle.model_pipeline.proofs.Standing.{low_keeps, low_source, steps, terms_width}
 
@@ -103,6 +104,18 @@ least_by_monomials normal choices p x y normal_is high_is width same (a, fits_a)
     let t = terms_of normal p in
     least_by_steps normal Monomial p choices a (first b t) (second b t) x y normal_is high_is fits_a
     (fits_first b t fits_b) (fits_second b t fits_b) width same
+
+-- the same over literals, without a table
+pub least_at_once : (choices : Choices) (p : ProblemContent) (x y : List Bool)
+    → choices.normal ≡ Literal → choices.high ≡ Monomial → penalty.Admits p
+    → length x ≡ p.variables → y ≡ direct.extension p x → IsLeastExtension choices p x y
+least_at_once choices p x y normal_is high_is admitted width same =
+    let link = link_by Literal Monomial p in
+    let fits : direct.Fits link p = record { source = refl; target = refl; admitted = admitted } in
+    let least = direct_extends link p x fits width in
+    subst (λ n. ExtendsLeastBy n choices.high p x y) (sym normal_is)
+    (subst (λ h. ExtendsLeastBy Literal h p x y) (sym high_is)
+    (subst (ExtendsLeastBy Literal Monomial p x) (sym same) least))
 
 -- pairs replaced one after another
 pub least_by_pairs : (normal : Normal) (choices : Choices) (p : ProblemContent) (x y : List Bool)

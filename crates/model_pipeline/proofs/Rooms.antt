@@ -1,8 +1,10 @@
--- The quadratic forms of tables have room for their Ising forms.
-use Rattle.std.proofs.Common.{◌≤◌, ◌<◌, ◌+◌, ◌*◌, ◌^◌, arith}
+-- The quadratic forms of tables and problems have room for their Ising forms.
+use Rattle.std.proofs.Common.{◌≤◌, ◌<◌, ◌+◌, ◌*◌, ◌^◌, refl, arith}
 use Rattle.bits_model.specs.declared.layer.BitsLink.{BitsLink}
+use Rattle.problem_form.specs.Problems.{ProblemContent}
 use Rattle.term_table.specs.Terms.{terms_total}
 use Rattle.term_table.specs.Tables.{TableContent, IsTable, table_size}
+use Rattle.penalty_layer.specs.Penalty.{Admits}
 use Rattle.monomial_layer.specs.Monomials as monomials
 use Rattle.monomial_layer.proofs.Sets.{IsLow-image}
 use Rattle.monomial_layer.proofs.Sizes.{all_nodes-le, total-image_terms}
@@ -11,8 +13,11 @@ use Rattle.rosenberg_layer.proofs.Growth.{size-image, total-image}
 use Rattle.quad_form.specs.Flat as flat
 use Rattle.quad_form.proofs.FlatForms.{quad_total-image}
 use Rattle.quad_form.proofs.UniqueForms.{IsQuad-image}
+use Rattle.direct_quad.specs.Direct as direct
 use Rattle.direct_quad.specs.FlatMonomials as flat_monomials
 use Rattle.direct_quad.specs.laws.FlatKept.{fits_second}
+use Rattle.direct_quad.proofs.AtOnce.{image-quad}
+use Rattle.direct_quad.proofs.Guarded.{IsWithin-of, made_total}
 use Rattle.model_pipeline.specs.Formed.{HasRoom}
 use Rattle.model_pipeline.proofs.PairForms.{flat_link, pair_total}
 
@@ -42,3 +47,10 @@ pair_room t is size total =
           (omega (arith, total-image t is.terms, total));
       total = omega (arith, pair_total t is, total);
     }
+
+-- .. and where no table is made
+pub direct_room : (p : ProblemContent) → Admits p → HasRoom (direct.image p)
+direct_room p admitted = record {
+  quad = image-quad (direct.additions_of p) (IsWithin-of p admitted);
+  total = omega (arith, made_total p (direct.image p) admitted refl);
+}

@@ -98,6 +98,16 @@ FitsNodes (Chimera rows cols shore) m x =
 abbrev pub FitsState : Written → List Bool → Type 0
 FitsState m x = FitsNodes m.kind m x
 
+-- how many nodes a model's form has: as many as the model, or on a graph one for each chain
+abbrev pub form_nodes_by : Kind → Written → ℕ
+form_nodes_by Qubo m = m.nodes
+form_nodes_by Ising m = m.nodes
+form_nodes_by (Chimera rows cols shore) m = length m.chains
+
+-- the same, by the model's own kind
+abbrev pub form_nodes : Written → ℕ
+form_nodes m = form_nodes_by m.kind m
+
 -- ---- which models are meant
 
 -- the model of a problem on the nodes of its form, for some target and in some unit

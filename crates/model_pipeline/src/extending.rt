@@ -2,6 +2,8 @@
 ghost use Rattle.std.specs.Prelude.{◌≡◌, ◌<◌, ◌≤◌, ◌+◌, ◌^◌, None, IfOk, length};
 ghost use Rattle.problem_form.specs.Limits.{limit_fault};
 ghost use Rattle.bits_model.specs.declared.layer.BitsLink.{BitsLink};
+ghost use Rattle.penalty_layer.specs.Penalty.{Admits};
+ghost use Rattle.direct_quad.specs.Direct as direct;
 ghost use Rattle.direct_quad.specs.FlatMonomials.{extension, image, Fits};
 ghost use Rattle.rosenberg_layer.specs.Rosenberg as rosenberg;
 ghost use Rattle.quad_form.specs.Flat as flat;
@@ -92,15 +94,36 @@ where
     Rosenberg.extend(alloc, &guarded.target, &low.link, &y)
 }
 
+/// The state that an assignment extends to over literals, where each term is replaced by itself: of
+/// the terms only long ones are gathered. The form has so many nodes.
+fn by_long_terms(
+    alloc: Global,
+    problem: &Problem,
+    nodes: usize,
+    x: &[bool],
+) -> Result<Vec<bool>, NoMemory>
+    requires admits { Admits problem.now }
+    requires nodes { nodes ≡ length (direct.image problem.now).diagonal }
+    requires width { length x.now ≡ problem.now.variables }
+    ensures extension { IfOk result (λ y. y.items ≡ direct.extension problem.now x.now) }
+
+    // What the steps to a model rest on.
+    ensures room { IfOk result (λ _. HasRoom (direct.image problem.now)) }
+{
+    long_extension::extended(alloc, problem, nodes, x)
+}
+
 /// The state of the quadratic form that an assignment of a problem within the limits extends to. No
-/// state that decodes to the assignment has a lesser energy.
+/// state that decodes to the assignment has a lesser energy. The form has so many nodes.
 pub fn extended(
     alloc: Global,
     problem: &Problem,
     choices: &Choices,
+    nodes: usize,
     x: &[bool],
 ) -> Result<Vec<bool>, NoMemory>
     requires within { limit_fault choices.now.normal problem.now ≡ None }
+    requires nodes { nodes ≡ length (quad_of choices.now problem.now).diagonal }
     requires width { length x.now ≡ problem.now.variables }
     ensures exact { IfOk result (λ y. y.items ≡ extension_of choices.now problem.now x.now) }
     ensures least { IfOk result (λ y.
@@ -113,7 +136,7 @@ pub fn extended(
     let _variables = problem.variables;
     match choices.normal {
         Normal::Literal => match choices.high {
-            High::Monomial => by_monomials(alloc, &Penalty, problem, x),
+            High::Monomial => by_long_terms(alloc, problem, nodes, x),
             High::Rosenberg => by_pairs(alloc, &Penalty, problem, x),
         },
         Normal::Multilinear => match choices.high {

@@ -3,6 +3,7 @@
 //! On the qubits of a graph the model stands on the chains of a map, or on those of a clique.
 #![tactic(auto)]
 
+mod energy;
 mod extending;
 mod forms;
 mod held;
@@ -16,6 +17,7 @@ mod states;
 mod steps;
 mod written;
 
+pub use energy::energy_of;
 pub use extending::extended;
 pub use forms::{FiguredQuad, formed};
 pub use held::Held;

@@ -8,6 +8,7 @@ ghost use Rattle.problem_form.specs.Problems as problems;
 ghost use Rattle.model_pipeline.specs.Extensions.{
   bit_on,
   extension_of,
+  form_nodes,
   state_on,
   Extends,
   FitsState,
@@ -24,7 +25,7 @@ fn chain(chains: &ChainList, node: usize) -> &[u32]
     requires { node < length chains.now }
     ensures { result.now ≡ chain_of chains.now node }
 {
-    chains.as_slice()[node].as_slice()
+    chains.chain(node)
 }
 
 /// Sets all qubits of a chain.
@@ -81,6 +82,16 @@ fn state_of(alloc: Global, model: &OutputModel, x: Vec<bool>) -> Result<Vec<bool
     }
 }
 
+/// How many nodes the form of a model has: on a graph, as many as there are chains.
+fn form_nodes(model: &OutputModel) -> usize
+    ensures { result ≡ form_nodes model.now }
+{
+    match model.kind {
+        Kind::Qubo | Kind::Ising => model.nodes as usize,
+        Kind::Chimera { .. } => model.chains.len(),
+    }
+}
+
 /// The state of a problem's model that an assignment extends to. It decodes to the assignment, and
 /// no state that does has a lesser energy.
 pub fn extended_state(
@@ -98,6 +109,6 @@ pub fn extended_state(
     ensures extends { IfOk result (λ y.
         Extends (problems.form_of problem.now) model.now x.now y.items) }
 {
-    let x = extended(alloc, problem, choices, x)?;
+    let x = extended(alloc, problem, choices, form_nodes(model), x)?;
     state_of(alloc, model, x)
 }

@@ -16,9 +16,10 @@ use crate::jobs::take_model;
 use crate::states::take_state;
 use crate::status::Status;
 use answer_text::written_decoding;
-use bits_model::{Costed, NoMemory, OutputModel, total_energy};
+use bits_model::{Costed, NoMemory, OutputModel};
 use command_words::{Command, Job, WordAt, text_at};
 use edge_io::Files;
+use model_pipeline::energy_of;
 use source_texts::Read;
 use std::alloc::Global;
 
@@ -59,7 +60,7 @@ fn decoded_text(
 {
     let x = decoded(alloc, model, state)?;
     let cost = read.problem.cost(&x);
-    let energy = total_energy(model.kind, state, &model.entries);
+    let energy = energy_of(model.kind, state, &model.entries);
     written_decoding(alloc, &x, &read.names, cost, energy)
 }
 

@@ -18,10 +18,10 @@ use crate::jobs::take_model;
 use crate::states::take_state;
 use crate::status::Status;
 use answer_text::written_extension;
-use bits_model::{Costed, NoMemory, OutputModel, total_energy};
+use bits_model::{Costed, NoMemory, OutputModel};
 use command_words::{Command, Job, WordAt, text_at};
 use edge_io::Files;
-use model_pipeline::extended_state;
+use model_pipeline::{energy_of, extended_state};
 use problem_form::{Choices, Problem};
 use std::alloc::Global;
 
@@ -41,7 +41,7 @@ fn extended_text(
 {
     let state = extended_state(alloc, problem, choices, model, x)?;
     let cost = problem.cost(x);
-    let energy = total_energy(model.kind, &state, &model.entries);
+    let energy = energy_of(model.kind, &state, &model.entries);
     written_extension(alloc, &state, cost, energy)
 }
 

@@ -2,8 +2,14 @@ use Rattle.std.proofs.Common.{ap, sym, subst, ◌∙◌}
 use Rattle.std.proofs.lemmas.Result.{IfOk-weaker}
 use Rattle.problem_form.specs.Problems as problems
 use Rattle.model_pipeline.specs.Extensions.{Extends, state_on}
+use Rattle.model_pipeline.proofs.FormNodes.{made_nodes}
 use Rattle.model_pipeline.proofs.WrittenExtensions.{made_extends, made_fits}
 use Rattle.model_pipeline.proofs.states.extended_state.Goals as goal
+
+pub extended-requires-clause-nodes : goal.extended-requires-clause-nodes
+extended-requires-clause-nodes c =
+    c.form_nodes.ensures
+    ∙ made_nodes c.args.choices.now c.args.problem.now c.args.model.now c.requires.made
 
 pub state_of-requires : goal.state_of-requires
 state_of-requires c =

@@ -1,11 +1,29 @@
-use Rattle.std.proofs.Common.{◌∙◌, ap, rules}
+use Rattle.std.proofs.Common.{◌≤◌, ◌^◌, ◌+ℤ◌, ◌∙◌, unsigned_abs, ap, arith, rules}
 use Rattle.std.specs.Int.{w128}
 use Rattle.std.proofs.lemmas.Int.{to_z-of_z}
 use Rattle.std.proofs.lemmas.Result.{IfOk-weaker}
 use Rattle.bits_model.specs.declared.output.Kind.TheVariants.{Ising}
+use Rattle.integers.proofs.Totals.{size-plus}
 use Rattle.bits_model.specs.Relations.{figures_moved}
+use Rattle.bits_model.proofs.Growth.{fits_below}
 use Rattle.ising_form.specs.Outputs.{written_of}
 use Rattle.model_pipeline.proofs.written.ising_model.Goals as goal
+
+pub moved-figures-requires-clause-offset : goal.moved-figures-requires-clause-offset
+moved-figures-requires-clause-offset c =
+    let small : unsigned_abs c.in_ok-made-in-Reduce.made.offset ≤ 2 ^ 124 = search rules in
+    let back = to_z-of_z w128 c.in_ok-made-in-Reduce.made.offset (search rules) in
+    let sum : unsigned_abs (c.args.figures.offset +ℤ c.in_ok-made-in-Reduce.made.offset) ≤ 2 ^ 126 =
+    omega (arith, small, c.requires.offset, size-plus c.args.figures.offset c.in_ok-made-in-Reduce.made.offset) in
+    rw back (fits_below _ (2 ^ 126) sum (omega arith))
+
+pub moved-figures-requires-clause-threshold : goal.moved-figures-requires-clause-threshold
+moved-figures-requires-clause-threshold c =
+    let small : unsigned_abs c.in_ok-made-in-Reduce.made.offset ≤ 2 ^ 124 = search rules in
+    let back = to_z-of_z w128 c.in_ok-made-in-Reduce.made.offset (search rules) in
+    let sum : unsigned_abs (c.args.figures.threshold +ℤ c.in_ok-made-in-Reduce.made.offset) ≤ 2 ^ 126 =
+    omega (arith, small, c.requires.threshold, size-plus c.args.figures.threshold c.in_ok-made-in-Reduce.made.offset) in
+    rw back (fits_below _ (2 ^ 126) sum (omega arith))
 
 pub returns-in_ok-made-in-Reduce : goal.returns-in_ok-made-in-Reduce
 returns-in_ok-made-in-Reduce c =

@@ -1,0 +1,4 @@
+pub mod CountedBits
+pub mod KeptTerms
+pub mod NewBits
+pub mod SummedBits

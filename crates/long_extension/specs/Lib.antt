@@ -1,0 +1,2 @@
+pub mod CountedSets
+pub mod Kept

@@ -1,0 +1,52 @@
+//! The long terms of a problem: those of three literals or more.
+ghost use Rattle.std.specs.Prelude.{◌≡◌, [], IfOk, map};
+ghost use Rattle.penalty_layer.specs.Penalty.{contributions, Admits};
+ghost use Rattle.direct_quad.specs.Parts.{long_additions};
+ghost use Rattle.direct_quad.specs.Long.{product_term};
+ghost use Rattle.long_extension.specs.Kept.{AreKept};
+
+use bits_model::NoMemory;
+use penalty_layer::{Gather, add_contributions, node_count};
+use problem_form::{Literal, Problem, ProductList};
+use std::alloc::Global;
+
+/// Additions of which those of three literals or more are kept, in the order in which they came.
+#[derive(Drop)]
+pub struct LongTerms {
+    pub(crate) width: usize,
+    pub(crate) total: u128,
+    pub(crate) long: ProductList,
+}
+
+impl Gather for LongTerms {
+    ghost width = { λ terms. terms.width };
+
+    ghost total = { λ terms. terms.total };
+
+    ghost pairs = { λ _. 0 };
+
+    ghost holds = { λ terms t. AreKept t terms };
+
+    fn gather(&mut self, literals: &[Literal], coefficient: i128) -> Result<(), NoMemory> {
+        if literals.len() > 2 {
+            self.long.push(literals, coefficient)?;
+        }
+        self.total += coefficient.unsigned_abs();
+        Ok(())
+    }
+}
+
+/// The long terms that a problem adds, in the order in which they came.
+pub(crate) fn long_additions(alloc: Global, problem: &Problem) -> Result<ProductList, NoMemory>
+    requires { Admits problem.now }
+    ensures { IfOk result (λ long.
+        map product_term long ≡ long_additions (contributions problem.now)) }
+{
+    let mut terms = LongTerms {
+        width: node_count(problem),
+        total: 0,
+        long: ProductList::empty(alloc),
+    };
+    add_contributions(alloc, &mut terms, problem)?;
+    Ok(terms.long)
+}

@@ -1,0 +1,117 @@
+-- The energy of bits, row by row.
+use Rattle.std.proofs.Common.{◌≡◌, ℕ, suc, ◌+◌, ◌≤◌, ◌<◌, ℤ, pos, ◌+ℤ◌, unsigned_abs, Bool, true, false, ◌&&◌, List, [], ◌∷◌, ◌++◌, All, length, get_or, take, drop, ap, sym, refl, ◌∙◌, arith}
+use Rattle.std.specs.List.{flat_map}
+use Rattle.std.proofs.lemmas.Int.{ints}
+use Rattle.std.proofs.lemmas.List.{take-append-drop}
+use Rattle.std.proofs.lemmas.List.Sums.{sum_by-append, sum_by-cons, sum_by_more}
+use Rattle.std.proofs.lemmas.Grind.{flat_map-append}
+use Rattle.integers.specs.Sums.{if_so, total_by}
+use Rattle.integers.proofs.Totals.{size-plus, total_by-append, total_by_more}
+use Rattle.bits_model.specs.declared.output.Entry.{Entry}
+use Rattle.bits_model.specs.declared.output.Kind.TheVariants.{Qubo}
+use Rattle.bits_model.specs.Entries.{rows_of}
+use Rattle.bits_model.specs.Output.{bit_at, bits_energy, weight_total}
+use Rattle.bits_model.proofs.Energies.{size-entry_energy}
+use Rattle.bits_model.proofs.EntryRows.{joined_rows}
+use Rattle.embedding_check.proofs.PlacedRows.{rows_before, rows_more, rows_all}
+
+-- ---- one row
+
+-- the weight of an entry whose second node has bit 1
+abbrev pub second_weight : List Bool → Entry → ℤ
+second_weight y e = if_so (bit_at y e.second) e.weight
+
+-- where the first node has bit 1, the second one alone decides
+pub row_of_one : (y : List Bool) (f : ℕ) (row : List Entry) → All (λ e. e.first ≡ f) row
+    → bit_at y f ≡ true → total_by (bits_energy y) row ≡ total_by (second_weight y) row
+row_of_one y f [] firsts one = refl
+row_of_one y f (e ∷ row) firsts one =
+    let here : bit_at y e.first ≡ true = ap (bit_at y) (firsts 0 e (omega arith)) ∙ one in
+    let rest = row_of_one y f row (λ i d low. firsts (suc i) d (omega (arith, low))) one in
+    λ i. if_so (here i && bit_at y e.second) e.weight +ℤ rest i
+
+-- where it has bit 0, the row adds nothing
+pub row_of_zero : (y : List Bool) (f : ℕ) (row : List Entry) → All (λ e. e.first ≡ f) row
+    → bit_at y f ≡ false → total_by (bits_energy y) row ≡ pos 0
+row_of_zero y f [] firsts zero = refl
+row_of_zero y f (e ∷ row) firsts zero =
+    let here : bit_at y e.first ≡ false = ap (bit_at y) (firsts 0 e (omega arith)) ∙ zero in
+    let rest = row_of_zero y f row (λ i d low. firsts (suc i) d (omega (arith, low))) zero in
+    λ i. if_so (here i && bit_at y e.second) e.weight +ℤ rest i
+
+-- one entry more, whose second node has bit 1
+pub sum_more : (y : List Bool) (row : List Entry) (i s : ℕ) (d : Entry) → i < length row
+    → (get_or row i d).second ≡ s → bit_at y s ≡ true
+    → total_by (second_weight y) (take (i + 1) row)
+    ≡ total_by (second_weight y) (take i row) +ℤ (get_or row i d).weight
+sum_more y row i s d below second one =
+    let bit : bit_at y (get_or row i d).second ≡ true = ap (bit_at y) second ∙ one in
+    total_by_more (second_weight y) row i d below
+    ∙ ap (λ b. total_by (second_weight y) (take i row) +ℤ if_so b (get_or row i d).weight) bit
+
+-- or bit 0
+pub sum_same : (y : List Bool) (row : List Entry) (i s : ℕ) (d : Entry) → i < length row
+    → (get_or row i d).second ≡ s → bit_at y s ≡ false
+    → total_by (second_weight y) (take (i + 1) row) ≡ total_by (second_weight y) (take i row)
+sum_same y row i s d below second zero =
+    let bit : bit_at y (get_or row i d).second ≡ false = ap (bit_at y) second ∙ zero in
+    total_by_more (second_weight y) row i d below
+    ∙ ap (λ b. total_by (second_weight y) (take i row) +ℤ if_so b (get_or row i d).weight) bit
+    ∙ omega (arith, ints)
+
+pub weight_more : (row : List Entry) (i : ℕ) (d : Entry) → i < length row
+    → weight_total (take (i + 1) row)
+    ≡ weight_total (take i row) + unsigned_abs (get_or row i d).weight
+weight_more row i d below = sum_by_more (λ (e : Entry). unsigned_abs e.weight) row i d below
+
+-- ---- rows one after another
+
+-- the energy of entries is at most their weights, in size
+pub size-bits_total : (y : List Bool) (es : List Entry)
+    → unsigned_abs (total_by (bits_energy y) es) ≤ weight_total es
+size-bits_total y [] = omega arith
+size-bits_total y (e ∷ es) =
+    omega (
+      arith,
+      size-plus (bits_energy y e) (total_by (bits_energy y) es),
+      size-entry_energy Qubo y e,
+      size-bits_total y es,
+      sum_by-cons (λ (d : Entry). unsigned_abs d.weight) e es,
+    )
+
+pub weight_total-append : (es ds : List Entry)
+    → weight_total (es ++ ds) ≡ weight_total es + weight_total ds
+weight_total-append es ds = sum_by-append (λ (e : Entry). unsigned_abs e.weight) es ds
+
+-- the rows before one weigh no more than all
+pub weight_before : (es : List Entry) (k : ℕ) → weight_total (rows_before es k) ≤ weight_total es
+weight_before es k =
+    let rows = rows_of es in
+    let after = flat_map (λ (row : List Entry). row) (drop k rows) in
+    let whole : rows_before es k ++ after ≡ es =
+    sym (flat_map-append (λ (row : List Entry). row) (take k rows) (drop k rows))
+    ∙ ap (flat_map (λ (row : List Entry). row)) (take-append-drop k rows)
+    ∙ joined_rows es in
+    omega (arith, sym (weight_total-append (rows_before es k) after) ∙ ap weight_total whole)
+
+-- one row more
+pub weight_of_row : (es row : List Entry) (k : ℕ) → k < length (rows_of es)
+    → row ≡ get_or (rows_of es) k []
+    → weight_total (rows_before es (k + 1)) ≡ weight_total (rows_before es k) + weight_total row
+weight_of_row es row k below is =
+    ap weight_total (rows_more es k below)
+    ∙ weight_total-append (rows_before es k) (get_or (rows_of es) k [])
+    ∙ ap (λ ds. weight_total (rows_before es k) + weight_total ds) (sym is)
+
+pub energy_of_row : (y : List Bool) (es row : List Entry) (k : ℕ) → k < length (rows_of es)
+    → row ≡ get_or (rows_of es) k []
+    → total_by (bits_energy y) (rows_before es (k + 1))
+    ≡ total_by (bits_energy y) (rows_before es k) +ℤ total_by (bits_energy y) row
+energy_of_row y es row k below is =
+    ap (total_by (bits_energy y)) (rows_more es k below)
+    ∙ total_by-append (bits_energy y) (rows_before es k) (get_or (rows_of es) k [])
+    ∙ ap (λ ds. total_by (bits_energy y) (rows_before es k) +ℤ total_by (bits_energy y) ds) (sym is)
+
+pub energy_of_all : (y : List Bool) (es : List Entry) (k : ℕ) → length (rows_of es) ≡ k
+    → total_by (bits_energy y) (rows_before es k) ≡ total_by (bits_energy y) es
+energy_of_all y es k all = ap (total_by (bits_energy y)) (rows_all es k all)

@@ -1,0 +1,50 @@
+use Rattle.std.proofs.Common.{◌≡◌, ◌+ℤ◌, ap, sym, ◌∙◌, to_z, of_z, arith}
+use Rattle.std.specs.Int.{w128}
+use Rattle.std.proofs.lemmas.Int.{ints}
+use Rattle.integers.specs.Sums.{total_by}
+use Rattle.integers.proofs.Totals.{total_by-append}
+use Rattle.bits_model.specs.Output.{bits_energy, weight_total}
+use Rattle.model_pipeline.proofs.RowEnergies.{size-bits_total, weight_total-append}
+use Rattle.model_pipeline.proofs.energy.energy_of.Goals as goal
+
+pub overflow_add-result : goal.overflow_add-result
+overflow_add-result c =
+    let y = c.args.y.now in
+    let ns = c.entries.inside.nodes in
+    let cs = c.entries.inside.couplers in
+    let weights = sym (weight_total-append ns cs) ∙ ap weight_total c.entries.view_is in
+    omega (
+      arith,
+      ints,
+      weights,
+      size-bits_total y ns,
+      size-bits_total y cs,
+      c.nodes_energy.ensures,
+      c.rows_energy.ensures,
+      c.requires,
+    )
+
+pub returns-in-Qubo : goal.returns-in-Qubo
+returns-in-Qubo c =
+    let y = c.args.y.now in
+    let ns = c.entries.inside.nodes in
+    let cs = c.entries.inside.couplers in
+    let weights = sym (weight_total-append ns cs) ∙ ap weight_total c.entries.view_is in
+    let energies =
+    sym (total_by-append (bits_energy y) ns cs) ∙ ap (total_by (bits_energy y)) c.entries.view_is in
+    let nodes = to_z w128 (of_z w128 c.nodes_energy.result) in
+    let rows = to_z w128 (of_z w128 c.rows_energy.result) in
+    let value : to_z w128 (of_z w128 (nodes +ℤ rows))
+    ≡ total_by (bits_energy y) c.args.entries.now =
+    omega (
+      arith,
+      ints,
+      energies,
+      weights,
+      size-bits_total y ns,
+      size-bits_total y cs,
+      c.nodes_energy.ensures,
+      c.rows_energy.ensures,
+      c.requires,
+    ) in
+    rw c.in-Qubo.is value

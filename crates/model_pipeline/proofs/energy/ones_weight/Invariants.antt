@@ -1,0 +1,12 @@
+use Rattle.std.proofs.Common.{◌≡◌, ◌≤◌, unsigned_abs, take}
+use Rattle.integers.specs.Sums.{total_by}
+use Rattle.bits_model.specs.Output.{weight_total}
+use Rattle.model_pipeline.proofs.RowEnergies.{second_weight}
+use Rattle.model_pipeline.proofs.energy.ones_weight.Given as goal
+
+-- the entries before this one are summed, and weigh no less than the sum
+abbrev pub invariant-loop-i : goal.invariant-loop-i
+invariant-loop-i l = record {
+  summed : l.sum ≡ total_by (second_weight l.y) (take l.i l.row);
+  small : unsigned_abs l.sum ≤ weight_total (take l.i l.row);
+}

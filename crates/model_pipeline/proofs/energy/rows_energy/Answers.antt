@@ -1,0 +1,69 @@
+use Rattle.std.proofs.Common.{◌≡◌, ◌<◌, ◌+◌, length, arith, ◌∙◌}
+use Rattle.std.proofs.lemmas.Int.{ints}
+use Rattle.bits_model.specs.Entries.{rows_of}
+use Rattle.embedding_check.proofs.PlacedRows.{rows_before}
+use Rattle.model_pipeline.proofs.RowEnergies.{size-bits_total, weight_before, weight_of_row, energy_of_row, energy_of_all}
+use Rattle.model_pipeline.proofs.energy.rows_energy.Goals as goal
+
+pub row_energy-energy-requires : goal.row_energy-energy-requires
+row_energy-energy-requires c =
+    let es = c.args.couplers.now in
+    let k = c.loop-index.index in
+    let below : k < length (rows_of es) =
+    omega (arith, c.loop-index-test.true, c.row_count-index-end.ensures) in
+    let within = weight_before es (k + 1) in
+    omega (arith, weight_of_row es _ k below c.row-row.ensures, within, c.requires)
+
+pub overflow_add-energy : goal.overflow_add-energy
+overflow_add-energy c =
+    let y = c.args.y.now in
+    let es = c.args.couplers.now in
+    let row = c.row-row.result in
+    let k = c.loop-index.index in
+    let below : k < length (rows_of es) =
+    omega (arith, c.loop-index-test.true, c.row_count-index-end.ensures) in
+    omega (
+      arith,
+      ints,
+      weight_of_row es row k below c.row-row.ensures,
+      weight_before es (k + 1),
+      size-bits_total y (rows_before es k),
+      size-bits_total y row,
+      c.loop-index.invariant,
+      c.row_energy-energy.ensures,
+      c.requires,
+    )
+
+pub loop-index-preserved : goal.loop-index-preserved
+loop-index-preserved c =
+    let y = c.args.y.now in
+    let es = c.args.couplers.now in
+    let row = c.row-row.result in
+    let k = c.loop-index.index in
+    let below : k < length (rows_of es) =
+    omega (arith, c.loop-index-test.true, c.row_count-index-end.ensures) in
+    omega (
+      arith,
+      ints,
+      energy_of_row y es row k below c.row-row.ensures,
+      weight_of_row es row k below c.row-row.ensures,
+      weight_before es (k + 1),
+      size-bits_total y (rows_before es k),
+      size-bits_total y row,
+      c.loop-index.invariant,
+      c.row_energy-energy.ensures,
+      c.requires,
+    )
+
+pub returns : goal.returns
+returns c =
+    let es = c.args.couplers.now in
+    let k = c.loop-index.index in
+    let all : length (rows_of es) ≡ k =
+    omega (
+      arith,
+      c.loop-index-test.false,
+      c.row_count-index-end.ensures,
+      c.loop-index.auto.index-end,
+    ) in
+    c.loop-index.invariant ∙ energy_of_all c.args.y.now es k all

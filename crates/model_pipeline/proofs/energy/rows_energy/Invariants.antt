@@ -1,0 +1,9 @@
+use Rattle.std.proofs.Common.{◌≡◌}
+use Rattle.integers.specs.Sums.{total_by}
+use Rattle.bits_model.specs.Output.{bits_energy}
+use Rattle.embedding_check.proofs.PlacedRows.{rows_before}
+use Rattle.model_pipeline.proofs.energy.rows_energy.Given as goal
+
+-- the rows before this one are summed
+abbrev pub invariant-loop-index : goal.invariant-loop-index
+invariant-loop-index l = l.energy ≡ total_by (bits_energy l.y) (rows_before l.couplers l.index)
