@@ -1,6 +1,6 @@
 //! Tests of chain maps and of their check: over maps by hand, and over random maps on small graphs
 //! with some joins taken away, against a plain search. And tests of the layer of chains, over all
-//! states of small models, against plain arithmetic.
+//! states of small models, against plain arithmetic, and of the sort of keys, against that of std.
 //!
 //! The crate stands above what it tests, so that no library is proved once more with its tests. Its
 //! only item beside them is a graph with some joins taken away.
@@ -15,6 +15,8 @@ mod cut;
 mod drawn;
 #[cfg(test)]
 mod forms;
+#[cfg(test)]
+mod keys;
 #[cfg(test)]
 mod maps;
 #[cfg(test)]
