@@ -2,8 +2,8 @@
 use Rattle.std.specs.Prelude.{ℕ, ℤ, Bool, true, false, List, [], ◌∷◌, ◌++◌, map, codes, Option, Some, None}
 use Rattle.std.specs.List.{zip}
 use Rattle.std.specs.Fmt.{signed_decimal}
-use Rattle.bits_model.specs.declared.costs.Cost.{Cost}
-use Rattle.bits_model.specs.declared.costs.Cost.TheVariants.{Whole, Infinite}
+use Rattle.base.specs.declared.costs.Cost.{Cost}
+use Rattle.base.specs.declared.costs.Cost.TheVariants.{Whole, Infinite}
 use Rattle.model_text.specs.Rows.{Row, rows_text}
 
 -- ---- bits

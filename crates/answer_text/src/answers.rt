@@ -3,7 +3,7 @@ ghost use Rattle.std.specs.Prelude.{◌≡◌, IfOk};
 ghost use Rattle.answer_text.specs.Answers.{decoding_text, extension_text};
 
 use crate::rows::{push_bits_row, push_cost, push_energy, push_names};
-use bits_model::{Cost, NoMemory};
+use base::{Cost, NoMemory};
 use poly_reader::Names;
 use std::alloc::Global;
 

@@ -3,7 +3,7 @@ ghost use Rattle.std.specs.Prelude.{◌≡◌, ◌++◌, ◌∷◌, [], OnOk};
 ghost use Rattle.model_text.specs.Rows.{row_text, rows_text};
 ghost use Rattle.answer_text.specs.Answers.{bits_word, cost_row, digit_of, energy_row, name_row, name_rows, named_rows};
 
-use bits_model::{Cost, NoMemory};
+use base::{Cost, NoMemory};
 use poly_reader::Names;
 use whole_text::push_number;
 

@@ -2,8 +2,8 @@
 use Rattle.std.proofs.Common.{◌≡◌, ℕ, ◌+◌, ◌≤◌, ℤ, ◌+ℤ◌, unsigned_abs, Bool, true, false, cond, List, ◌∷◌, ap, ◌∙◌, ◌<◌, length, take, get_or, arith}
 use Rattle.std.proofs.lemmas.Int.{ints}
 use Rattle.std.proofs.lemmas.List.Sums.{sum_by-cons, sum_by_more_le}
-use Rattle.integers.specs.Sums.{if_so, total_by}
-use Rattle.integers.proofs.Totals.{size-plus}
+use Rattle.base.specs.Sums.{if_so, total_by}
+use Rattle.base.proofs.Totals.{size-plus}
 use Rattle.bits_model.specs.declared.output.Entry.{Entry}
 use Rattle.bits_model.specs.declared.output.Kind.{Kind}
 use Rattle.bits_model.specs.declared.output.Kind.TheVariants.{Qubo, Ising, Chimera}

@@ -4,14 +4,14 @@ use Rattle.std.specs.List.{list_any, slice_index_or, sum_by}
 use Rattle.std.specs.List.Sorted.{IsStrictlySortedBy}
 use Rattle.std.specs.Ordering.{nat_cmp, bool_cmp, ordering_then, int_eq}
 use Rattle.std.specs.declared.cmp.Ordering.{Ordering}
-use Rattle.integers.specs.Sums.{total_by, if_so}
-use Rattle.bits_model.specs.declared.costs.Cost.TheVariants.{Whole}
-use Rattle.bits_model.specs.declared.costs.Figures.{Figures}
+use Rattle.base.specs.Sums.{total_by, if_so}
+use Rattle.base.specs.declared.costs.Cost.TheVariants.{Whole}
+use Rattle.base.specs.declared.costs.Figures.{Figures}
 use Rattle.bits_model.specs.declared.output.Entry.{Entry}
 use Rattle.bits_model.specs.declared.output.Kind.{Kind}
 use Rattle.bits_model.specs.declared.output.Kind.TheVariants.{Qubo, Ising, Chimera}
-use Rattle.bits_model.specs.Costs.{Form}
-use Rattle.bits_model.specs.Relations.{Decoding}
+use Rattle.base.specs.Costs.{Form}
+use Rattle.form_steps.specs.Relations.{Decoding}
 
 -- what a written model says
 pub record Written : Type 0 where

@@ -3,7 +3,7 @@ ghost use Rattle.std.specs.Prelude.{◌≡◌, ◌++◌, ◌∷◌, [], ◌-◌,
 ghost use Rattle.std.specs.List.{slice_index_or};
 ghost use Rattle.bits_model.specs.ChainLists.{start_of};
 
-use crate::costs::NoMemory;
+use base::NoMemory;
 use std::alloc::Global;
 use std::marker::Model;
 

@@ -6,11 +6,11 @@ ghost use Rattle.std.specs.Prelude.{◌≡◌, ◌++◌, ◌∷◌, [], ◌<◌,
 ghost use Rattle.std.specs.List.{slice_index_or};
 ghost use Rattle.bits_model.specs.Entries.{rows_of, divided, end_before, last_is};
 
-use crate::costs::NoMemory;
 use crate::coupler_entries::CouplerEntries;
 use crate::output::Entry;
 use crate::row::Row;
 use crate::weights::WeightList;
+use base::NoMemory;
 use std::alloc::Global;
 use std::marker::Model;
 

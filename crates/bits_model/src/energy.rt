@@ -1,13 +1,12 @@
 //! The energy of a written model.
 ghost use Rattle.std.specs.Prelude.{◌≡◌, ◌≤◌, ◌^◌, neg_ℤ, unsigned_abs};
-ghost use Rattle.integers.specs.Sums.{total_by};
+ghost use Rattle.base.specs.Sums.{total_by};
 ghost use Rattle.bits_model.specs.Output.{bit_at, times_spin, bits_energy, spins_energy, entry_energy, weight_total};
 
-use crate::costed::Costed;
-use crate::costs::Cost;
 use crate::couplers::CouplerList;
 use crate::entries::EntryList;
 use crate::output::{Entry, Kind, OutputModel};
+use base::{Cost, Costed};
 
 /// The bit of a node, which is 0 past the state's end.
 #[inline]

@@ -1,38 +1,30 @@
-//! What every crate speaks of: costs, the relations between forms, the steps from one form to the
-//! next, and the model that is written.
+//! The model that is written: its entries and chains, its energy, how a state of it is read, and what
+//! it promises of a source. What base and form_steps have of costs and steps is passed on.
 #![tactic(auto)]
 
 mod chains;
-mod costed;
-mod costs;
 mod coupler_entries;
 mod couplers;
 mod energy;
 mod entries;
-mod guard;
-mod items;
 mod laws;
-mod layer;
 mod nodes;
 mod output;
 mod reading_off;
 mod row;
-mod then;
 mod weights;
 
+pub use base::{Cost, Costed, Figures, Items, NoMemory, UnitChoice};
 pub use chains::ChainList;
-pub use costed::Costed;
-pub use costs::{Cost, Figures, NoMemory};
 pub use coupler_entries::CouplerEntries;
 pub use couplers::CouplerList;
 pub use energy::{bit_at, couplers_energy, times_spin, total_energy};
 pub use entries::{Entries, EntryList};
-pub use guard::{Guard, Guarded};
-pub use items::Items;
-pub use laws::{laws_of_rows, relations_compose, relaxed_is_faithful};
-pub use layer::{BitsLink, Layer, Lowered, Reduced};
+pub use form_steps::{
+    BitsLink, Guard, Guarded, Layer, Lowered, Reduced, Then, ThenLink, relations_compose,
+};
+pub use laws::laws_of_rows;
 pub use nodes::{NodeEntries, NodeWeights};
-pub use output::{Entry, Kind, OutputModel, UnitChoice};
+pub use output::{Entry, Kind, OutputModel};
 pub use row::Row;
-pub use then::{Then, ThenLink};
 pub use weights::{WeightList, divide_weights};

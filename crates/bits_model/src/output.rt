@@ -3,9 +3,8 @@ ghost use Rattle.std.specs.Prelude.{◌≡◌, ◌+◌, ◌≤◌, ◌<◌, ◌^
 ghost use Rattle.std.specs.List.{slice_index_or};
 
 use crate::chains::ChainList;
-use crate::costed::Costed;
-use crate::costs::{Cost, Figures};
 use crate::entries::EntryList;
+use base::{Cost, Costed, Figures};
 use std::alloc::Global;
 use std::marker::Model;
 
@@ -16,13 +15,6 @@ pub enum Kind {
     Qubo,
     Ising,
     Chimera { rows: u32, cols: u32, shore: u32 },
-}
-
-/// How the printed unit is chosen: it is 1, or the greatest whole number that divides all weights.
-#[derive(Clone, Copy, Debug, PartialEq, Eq)]
-pub enum UnitChoice {
-    One,
-    Reduce,
 }
 
 /// The weight of a node, where both numbers are equal, or of a coupler, where the first is less.

@@ -2,7 +2,7 @@
 ghost use Rattle.std.specs.Prelude.{◌≡◌, ◌++◌, ◌∷◌, [], ◌<◌, ◌≤ℤ◌, IfOk, OnOk, OnErr, length, map, pos, int_div};
 ghost use Rattle.std.specs.List.{slice_index_or};
 
-use crate::costs::NoMemory;
+use base::NoMemory;
 use std::alloc::Global;
 use std::marker::Model;
 

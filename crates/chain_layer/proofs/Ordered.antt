@@ -9,7 +9,7 @@ use Rattle.std.specs.List.{AllByRecursion, AllZip, range_with_len, flat_map}
 use Rattle.std.proofs.lemmas.Int.{ints}
 use Rattle.std.specs.List.Sorted.{IsPermutation, IsNonDecreasingBy}
 use Rattle.std.proofs.lemmas.List.Sorted.{All-permutation, sum_by-IsPermutation}
-use Rattle.integers.proofs.Totals.{total_by-IsPermutation}
+use Rattle.base.proofs.Totals.{total_by-IsPermutation}
 use Rattle.std.proofs.lemmas.Bool.{eq-eqb, ne_eqb, cases_eq, ltb-true, ltb-false, or_cases, and_parts, and_from, or_left, false_from_ne_true}
 use Rattle.std.proofs.lemmas.List.Elements.{recursion_from_All, All-from_recursion, length_all_zip}
 use Rattle.std.proofs.lemmas.List.FromFn.{length-map-range_with_len}

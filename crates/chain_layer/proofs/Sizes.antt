@@ -15,8 +15,8 @@ use Rattle.std.proofs.lemmas.List.Elements.{recursion_from_All}
 use Rattle.std.proofs.lemmas.List.Concat.{length-flat_map}
 use Rattle.std.proofs.lemmas.List.FromFn.{fill_by_all, length-map-range_with_len}
 use Rattle.std.proofs.lemmas.List.Sums.{sum_by-cons, sum_by-append, sum_by-le-sum_by}
-use Rattle.integers.specs.Sums.{total_by, if_so}
-use Rattle.integers.proofs.Totals.{total_by-plus, total_by-same, total_by-map}
+use Rattle.base.specs.Sums.{total_by, if_so}
+use Rattle.base.proofs.Totals.{total_by-plus, total_by-same, total_by-map}
 use Rattle.bits_model.specs.declared.output.Entry.{Entry}
 use Rattle.bits_model.specs.Output.{weight_total, entry_size, is_node}
 use Rattle.quad_form.specs.Quads.{node_entries, IsCoupler}

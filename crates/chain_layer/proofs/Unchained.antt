@@ -4,7 +4,7 @@ use Rattle.std.specs.Prelude.{◌==◌}
 use Rattle.std.specs.List.{AllByRecursion}
 use Rattle.std.proofs.lemmas.Int.{ints}
 use Rattle.std.proofs.lemmas.Bool.{or_parts}
-use Rattle.integers.specs.Sums.{if_so}
+use Rattle.base.specs.Sums.{if_so}
 use Rattle.bits_model.specs.declared.output.Entry.{Entry}
 use Rattle.bits_model.specs.Output.{is_chained}
 use Rattle.bits_model.specs.Walks.{is_in}

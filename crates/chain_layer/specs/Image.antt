@@ -6,10 +6,10 @@
 use Rattle.std.specs.Prelude.{◌≡◌, ◌≢◌, ℕ, ◌+◌, ◌-◌, ◌*◌, ◌<◌, ◌==◌, ℤ, pos, neg_ℤ, ◌+ℤ◌, unsigned_abs, Bool, ◌&&◌, ◌||◌, List, [], ◌∷◌, ◌++◌, map, length, take, drop, All, sum_by, flat_map, nat_lt, if◌then◌else◌}
 use Rattle.std.specs.List.{list_any, range_with_len, slice_index_or}
 use Rattle.std.specs.Int.{int_div_euclid, int_rem_euclid}
-use Rattle.integers.specs.Sums.{total_by, if_so}
+use Rattle.base.specs.Sums.{total_by, if_so}
 use Rattle.bits_model.specs.declared.output.Entry.{Entry}
 use Rattle.bits_model.specs.Output.{bit_at, majority}
-use Rattle.bits_model.specs.Relations.{Decoding}
+use Rattle.form_steps.specs.Relations.{Decoding}
 use Rattle.quad_form.specs.Pairs.{pair_number}
 use Rattle.ising_form.specs.Isings.{IsingContent}
 use Rattle.embedding_check.specs.Embeddings.{Embedding, IsEmbedding}

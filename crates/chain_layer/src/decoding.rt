@@ -3,7 +3,8 @@ ghost use Rattle.std.specs.Prelude.{◌≡◌, ◌≢◌, [], All, IfOk, map};
 ghost use Rattle.bits_model.specs.Output.{majority, ones_in};
 
 use crate::link::chain;
-use bits_model::{ChainList, NoMemory, bit_at};
+use base::NoMemory;
+use bits_model::{ChainList, bit_at};
 use std::alloc::Global;
 
 /// How many qubits of a chain are 1.

@@ -6,7 +6,7 @@ ghost use Rattle.embedding_check.specs.Embeddings.{IsEmbedding};
 ghost use Rattle.chain_layer.specs.Image.{extension};
 
 use crate::link::chain;
-use bits_model::NoMemory;
+use base::NoMemory;
 use embedding_check::Embedded;
 use std::alloc::Global;
 

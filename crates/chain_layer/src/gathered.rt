@@ -4,7 +4,8 @@ ghost use Rattle.bits_model.specs.declared.output.Entry.{Entry};
 ghost use Rattle.quad_form.specs.Pairs.{pair_number};
 ghost use Rattle.chain_layer.specs.Steps.{entry_at, numbered, weighted_pairs};
 
-use bits_model::{Entry, NoMemory, WeightList};
+use base::NoMemory;
+use bits_model::{Entry, WeightList};
 use std::alloc::Global;
 use std::marker::Model;
 

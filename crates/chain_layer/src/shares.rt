@@ -5,7 +5,7 @@ ghost use Rattle.chain_layer.specs.Image.{all_shares, equal_shares, field_at, fi
 ghost use Rattle.chain_layer.specs.Steps.{added, sizes_of};
 
 use crate::link::chain;
-use bits_model::NoMemory;
+use base::NoMemory;
 use embedding_check::Embedded;
 use std::alloc::Global;
 

@@ -6,7 +6,8 @@ ghost use Rattle.quad_form.specs.Quads.{IsCoupler};
 ghost use Rattle.embedding_check.specs.Embeddings.{IsEmbedding};
 ghost use Rattle.chain_layer.specs.Image.{couplings_at, nodes_of, strength};
 
-use bits_model::{CouplerList, NoMemory};
+use base::NoMemory;
+use bits_model::CouplerList;
 use embedding_check::Embedded;
 use std::alloc::Global;
 

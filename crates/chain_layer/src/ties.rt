@@ -13,7 +13,8 @@ ghost use Rattle.chain_layer.specs.Image.{
 
 use crate::gathered::Gathered;
 use crate::link::chain;
-use bits_model::{CouplerList, Entry, NoMemory};
+use base::NoMemory;
+use bits_model::{CouplerList, Entry};
 use embedding_check::Embedded;
 use std::alloc::Global;
 

@@ -14,7 +14,7 @@ ghost use Rattle.chain_map.specs.Cliques.{
 
 use crate::faults::{CheckAnswer, EmbedFault};
 use crate::map::ChainMap;
-use bits_model::NoMemory;
+use base::NoMemory;
 use chimera_graph::{Chimera, Place};
 use std::alloc::Global;
 use std::cmp::min;

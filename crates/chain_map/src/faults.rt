@@ -2,7 +2,7 @@
 ghost use Rattle.std.specs.Prelude.{◌≡◌};
 ghost use Rattle.chain_map.specs.declared.faults.CheckAnswer.TheVariants as answers;
 
-use bits_model::NoMemory;
+use base::NoMemory;
 use std::alloc::{AllocError, AllocFailed};
 
 /// The first fault of a map.

@@ -6,7 +6,7 @@ ghost use Rattle.chain_map.specs.Maps.{qubits_at, after_front, one_chain};
 ghost use Rattle.chain_map.specs.Chains.{chain_of};
 
 use crate::reading::push_qubits;
-use bits_model::NoMemory;
+use base::NoMemory;
 use std::alloc::Global;
 use std::marker::Model;
 use whole_text::TextAnswer;

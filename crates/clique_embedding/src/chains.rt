@@ -12,7 +12,8 @@ ghost use Rattle.chain_map.specs.Cliques.{
 ghost use Rattle.clique_embedding.specs.Placing.{but_last};
 
 use crate::spot::{Spot, diagonal_of, spot_of};
-use bits_model::{ChainList, NoMemory};
+use base::NoMemory;
+use bits_model::ChainList;
 use chimera_graph::{Chimera, Place};
 use std::alloc::Global;
 

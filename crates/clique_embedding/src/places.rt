@@ -5,7 +5,8 @@ ghost use Rattle.chain_map.specs.Cliques.{diagonal_of, clique_places};
 ghost use Rattle.clique_embedding.specs.Placing.{place_of_spots, clique_place};
 
 use crate::spot::{Spot, spot_of};
-use bits_model::{CouplerList, Items, NoMemory, Row};
+use base::{Items, NoMemory};
+use bits_model::{CouplerList, Row};
 use chimera_graph::{Chimera, Place};
 use embedding_check::PairList;
 use std::alloc::Global;

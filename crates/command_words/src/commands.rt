@@ -1,5 +1,5 @@
 //! Commands. All of one is `Copy`, since a name stands in it as its place in the words.
-use bits_model::UnitChoice;
+use base::UnitChoice;
 use problem_form::Choices;
 
 /// The layout of a source.

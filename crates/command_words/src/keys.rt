@@ -5,7 +5,7 @@ ghost use Rattle.command_words.specs.Shapes.{HasShapeIn};
 ghost use Rattle.command_words.specs.Keys.{chosen_unit, choices_of, cut, embed_of, high_of, keys_from, no_keys, normal_of, once, side_of, size_of, target_by, unit_of, with_graph_pair, with_pair, with_word};
 
 use crate::commands::{Chaining, GraphSize, Target, TargetWord, WordAt};
-use bits_model::UnitChoice;
+use base::UnitChoice;
 use problem_form::{Choices, High, Normal};
 use whole_text::digits;
 

@@ -10,9 +10,9 @@ use Rattle.std.proofs.lemmas.Bool.{cases_lt}
 use Rattle.std.proofs.lemmas.Bool.Decides.{Decides-eqb}
 use Rattle.std.proofs.lemmas.List.{same_lists, get_or_default, get_or-replicate, length-replicate}
 use Rattle.std.proofs.lemmas.List.Elements.{recursion_from_All}
-use Rattle.integers.specs.Sums.{if_so}
+use Rattle.base.specs.Sums.{if_so}
 use Rattle.bits_model.specs.declared.output.Entry.{Entry}
-use Rattle.problem_form.specs.declared.literal.Literal.{Literal}
+use Rattle.literal_lists.specs.declared.literal.Literal.{Literal}
 use Rattle.term_table.specs.Terms.{coefficient_of, terms_total, with_additions}
 use Rattle.term_table.specs.Tables.{TableContent, AreAdditions, table_size}
 use Rattle.term_table.specs.MultipliedOut.{contributions}

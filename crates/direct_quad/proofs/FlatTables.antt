@@ -2,7 +2,7 @@
 -- its bounds.
 use Rattle.std.proofs.Common.{◌≡◌, ℕ, ◌+◌, ◌*◌, ◌<◌, ◌≤◌, ◌^◌, ℤ, List, [], ◌∷◌, length, unsigned_abs, subst, sym, ap, ◌∙◌, arith}
 use Rattle.std.proofs.lemmas.List.Sums.{sum_by-cons}
-use Rattle.problem_form.specs.declared.literal.Literal.{Literal}
+use Rattle.literal_lists.specs.declared.literal.Literal.{Literal}
 use Rattle.term_table.specs.Terms.{Term, set_size, terms_size, terms_total}
 use Rattle.term_table.specs.Tables.{TableContent, IsTable, table_size, with_appended, with_more}
 use Rattle.term_table.proofs.Additions.{terms_size-cons, terms_size-with_additions}

@@ -1,9 +1,9 @@
 -- What the guard makes of a problem that it admits: the form of the three steps, within its bounds.
 use Rattle.std.proofs.Common.{◌≡◌, ℕ, ◌+◌, ◌<◌, ◌≤◌, ◌^◌, ℤ, pos, List, length, refl, subst, sym, ap, ◌∙◌, arith}
-use Rattle.bits_model.specs.declared.layer.BitsLink.{BitsLink}
+use Rattle.form_steps.specs.declared.layer.BitsLink.{BitsLink}
 use Rattle.bits_model.specs.declared.output.Entry.{Entry}
-use Rattle.bits_model.specs.Links.{first_bits}
-use Rattle.bits_model.specs.Relations.{Relaxes}
+use Rattle.form_steps.specs.Links.{first_bits}
+use Rattle.form_steps.specs.Relations.{Relaxes}
 use Rattle.problem_form.specs.Problems.{ProblemContent}
 use Rattle.problem_form.specs.Problems as problems
 use Rattle.problem_form.specs.Limits.{upper}

@@ -9,11 +9,11 @@ use Rattle.std.proofs.lemmas.Bool.{cases_lt}
 use Rattle.std.proofs.lemmas.List.{length-replicate, get_or_append_left, get_or-append_right, get_or_past}
 use Rattle.std.proofs.lemmas.List.Elements.{All-from_recursion, All-map, All-weaker, recursion_from_All}
 use Rattle.std.proofs.lemmas.List.Sums.{sum_by-append}
-use Rattle.integers.specs.Sums.{if_so, total_by}
-use Rattle.integers.proofs.Totals.{total_by-append, total_by-IsPermutation}
+use Rattle.base.specs.Sums.{if_so, total_by}
+use Rattle.base.proofs.Totals.{total_by-append, total_by-IsPermutation}
 use Rattle.bits_model.specs.declared.output.Entry.{Entry}
 use Rattle.bits_model.specs.Output.{weight_total}
-use Rattle.problem_form.specs.declared.literal.Literal.{Literal}
+use Rattle.literal_lists.specs.declared.literal.Literal.{Literal}
 use Rattle.term_table.specs.Terms.{Term, IsTermSet, terms_total, with_additions}
 use Rattle.term_table.specs.Tables.{TableContent, AreAdditions}
 use Rattle.term_table.proofs.Additions.{terms_total-with_additions}

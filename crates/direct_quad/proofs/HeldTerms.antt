@@ -8,11 +8,11 @@ use Rattle.std.proofs.lemmas.List.{map-append}
 use Rattle.std.proofs.lemmas.List.Elements.{All-append, All-push, All-from_recursion, recursion_from_All}
 use Rattle.std.proofs.lemmas.List.Sums.{sum_by-append, sum_by-cons}
 use Rattle.std.proofs.lemmas.Bool.{le-leb, lt-leb}
-use Rattle.integers.specs.Sums.{if_so, total_by}
-use Rattle.integers.proofs.Totals.{total_by-append, total_by_push}
+use Rattle.base.specs.Sums.{if_so, total_by}
+use Rattle.base.proofs.Totals.{total_by-append, total_by_push}
 use Rattle.bits_model.specs.declared.output.Entry.{Entry}
 use Rattle.bits_model.specs.Output.{weight_total}
-use Rattle.problem_form.specs.declared.literal.Literal.{Literal}
+use Rattle.literal_lists.specs.declared.literal.Literal.{Literal}
 use Rattle.problem_form.specs.declared.terms.Product.{Product}
 use Rattle.problem_form.specs.Problems.{products_total}
 use Rattle.term_table.specs.Terms.{terms_total, IsTermSet}

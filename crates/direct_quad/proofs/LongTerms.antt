@@ -8,10 +8,10 @@ use Rattle.std.specs.List.{flat_map}
 use Rattle.std.proofs.lemmas.Int.{ints}
 use Rattle.std.proofs.lemmas.Bool.Decides.{nat_tests}
 use Rattle.std.proofs.lemmas.List.Sums.{sum_by-cons}
-use Rattle.integers.specs.Sums.{total_by, if_so}
-use Rattle.integers.proofs.Products.{multiply_out, integers, times-plus, neg-times}
-use Rattle.integers.proofs.Totals.{total_by-append, total_by-map, total_by-same, total_by-plus, total_by-if_so, total_by_push}
-use Rattle.problem_form.specs.declared.literal.Literal.{Literal}
+use Rattle.base.specs.Sums.{total_by, if_so}
+use Rattle.base.proofs.Products.{multiply_out, integers, times-plus, neg-times}
+use Rattle.base.proofs.Totals.{total_by-append, total_by-map, total_by-same, total_by-plus, total_by-if_so, total_by_push}
+use Rattle.literal_lists.specs.declared.literal.Literal.{Literal}
 use Rattle.term_table.specs.Terms.{Term}
 use Rattle.term_table.proofs.Additions.{if_so-plus}
 use Rattle.monomial_layer.specs.Monomials.{node, with_each, each_with, pair_terms, factor, node_term, node_terms, nodes_for, positive_terms, negative_terms, new_terms}

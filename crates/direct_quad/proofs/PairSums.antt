@@ -10,7 +10,7 @@ use Rattle.std.proofs.lemmas.Bool.Decides.{Decides-eqb}
 use Rattle.std.proofs.lemmas.List.{get_or-map, length-map, map-append, map-id}
 use Rattle.std.proofs.lemmas.List.Sorted.{All-permutation, IsPermutation-append_comm}
 use Rattle.std.proofs.lemmas.List.Elements.{All-nil, All-push, All-tail, All-weaker, recursion_from_All}
-use Rattle.integers.proofs.Totals.{total_by-IsPermutation}
+use Rattle.base.proofs.Totals.{total_by-IsPermutation}
 use Rattle.bits_model.specs.declared.output.Entry.{Entry}
 use Rattle.quad_form.specs.Pairs.{IsPair, IsNonzero, weight_at, weight_for, pair_number, heavier, entry_in_front, sums_from, AreSummed}
 use Rattle.quad_form.proofs.PairOrder.{Rises, ordered_from_rising}

@@ -8,10 +8,10 @@ use Rattle.std.proofs.lemmas.Int.{ints}
 use Rattle.std.proofs.lemmas.Bool.{cases_lt}
 use Rattle.std.proofs.lemmas.Bool.Decides.{Decides-eqb}
 use Rattle.std.proofs.lemmas.List.Elements.{All-append, All-weaker, recursion_from_All}
-use Rattle.integers.specs.Sums.{if_so}
-use Rattle.integers.proofs.Totals.{total_by-append, total_by-flat_map, total_by-IsPermutation, total_by_push}
+use Rattle.base.specs.Sums.{if_so}
+use Rattle.base.proofs.Totals.{total_by-append, total_by-flat_map, total_by-IsPermutation, total_by_push}
 use Rattle.bits_model.specs.declared.output.Entry.{Entry}
-use Rattle.problem_form.specs.declared.literal.Literal.{Literal}
+use Rattle.literal_lists.specs.declared.literal.Literal.{Literal}
 use Rattle.monomial_layer.specs.Monomials.{factor, nodes_for}
 use Rattle.quad_form.specs.Quads.{IsCoupler}
 use Rattle.quad_form.specs.Pairs.{weight_for, weight_at}

@@ -9,9 +9,9 @@ use Rattle.std.proofs.lemmas.List.{take_more, take-map, map_push, drop_more}
 use Rattle.std.proofs.lemmas.List.Sums.{sum_by_push, sum_by-cons, sum_by-take-le}
 use Rattle.std.proofs.lemmas.List.Elements.{All-push, All-map, All-from_recursion, recursion_from_All}
 use Rattle.std.proofs.lemmas.Option.{slice_get_within, get_or_from_slice_get}
-use Rattle.problem_form.specs.declared.literal.Literal.{Literal}
+use Rattle.literal_lists.specs.declared.literal.Literal.{Literal}
 use Rattle.problem_form.specs.declared.terms.Product.{Product}
-use Rattle.problem_form.specs.Literals.{literal_cmp}
+use Rattle.literal_lists.specs.Literals.{literal_cmp}
 use Rattle.std.specs.Bool.{Decides}
 use Rattle.std.proofs.lemmas.Int.{ints}
 use Rattle.std.proofs.lemmas.Bool.Decides.{Decides-int_eq}

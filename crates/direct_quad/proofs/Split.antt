@@ -8,9 +8,9 @@ use Rattle.std.proofs.lemmas.Int.{ints}
 use Rattle.std.proofs.lemmas.Bool.Decides.{nat_tests}
 use Rattle.std.proofs.lemmas.List.Elements.{All-filter, filter_passes, All-weaker, recursion_from_All}
 use Rattle.std.proofs.lemmas.List.Sums.{sum_by-cons}
-use Rattle.integers.specs.Sums.{if_so}
-use Rattle.integers.proofs.Totals.{total_by-append}
-use Rattle.problem_form.specs.declared.literal.Literal.{Literal}
+use Rattle.base.specs.Sums.{if_so}
+use Rattle.base.proofs.Totals.{total_by-append}
+use Rattle.literal_lists.specs.declared.literal.Literal.{Literal}
 use Rattle.term_table.specs.Terms.{Term, set_cmp, with_additions, Ascends}
 use Rattle.term_table.specs.Tables.{TableContent}
 use Rattle.term_table.proofs.Additions.{if_so-plus}

@@ -12,8 +12,8 @@ use Rattle.std.proofs.lemmas.List.Sums.{sum_by-cons, sum_by-set, get_or-le-sum_b
 use Rattle.std.proofs.lemmas.List.Elements.{All-from_recursion, All-nil, All-push, Contains-append_left, Contains-push}
 use Rattle.std.specs.List.Sorted.{IsPermutation}
 use Rattle.std.proofs.lemmas.List.Sorted.{All-permutation, Contains-permutation}
-use Rattle.integers.specs.Sums.{if_so}
-use Rattle.integers.proofs.Totals.{size-plus}
+use Rattle.base.specs.Sums.{if_so}
+use Rattle.base.proofs.Totals.{size-plus}
 use Rattle.bits_model.specs.declared.output.Entry.{Entry}
 use Rattle.quad_form.specs.Pairs.{weight_for, weight_at, IsNonzero, entry_in_front}
 use Rattle.direct_quad.specs.RowSums.{with_weight, with_entries, size_of, AreTouched, AreFrom, AreSums, taken, emptied}

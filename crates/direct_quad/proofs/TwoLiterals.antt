@@ -2,9 +2,9 @@
 use Rattle.std.proofs.Common.{◌≡◌, ℕ, ◌≤◌, Bool, true, false, ◌&&◌, eqb, arith, ap, refl, List, [], ◌∷◌, ◌++◌, length, ℤ, pos, neg_ℤ, if◌then◌else◌}
 use Rattle.std.specs.Ordering.{is_eq}
 use Rattle.std.proofs.lemmas.Int.{ints}
-use Rattle.integers.specs.Sums.{if_so}
-use Rattle.problem_form.specs.declared.literal.Literal.{Literal}
-use Rattle.problem_form.specs.Literals.{literal_cmp}
+use Rattle.base.specs.Sums.{if_so}
+use Rattle.literal_lists.specs.declared.literal.Literal.{Literal}
+use Rattle.literal_lists.specs.Literals.{literal_cmp}
 use Rattle.term_table.specs.Terms.{Term, set_cmp, coefficient_of}
 use Rattle.term_table.specs.MultipliedOut.{plain}
 use Rattle.monomial_layer.specs.Monomials.{node}

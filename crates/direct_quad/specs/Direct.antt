@@ -1,7 +1,7 @@
 -- The quadratic form of a problem at once: penalties for hard clauses and constraints, quadratic
 -- terms in place of longer ones, and all multiplied out.
 use Rattle.std.specs.Prelude.{◌≡◌, Bool, List, length}
-use Rattle.bits_model.specs.declared.layer.BitsLink.{BitsLink}
+use Rattle.form_steps.specs.declared.layer.BitsLink.{BitsLink}
 use Rattle.problem_form.specs.Problems.{ProblemContent}
 use Rattle.term_table.specs.Tables.{TableContent}
 use Rattle.penalty_layer.specs.Penalty.{contributions, node_count, Admits}

@@ -1,7 +1,7 @@
 -- The quadratic form of a table at once: quadratic terms in place of longer ones, and all
 -- multiplied out.
 use Rattle.std.specs.Prelude.{◌≡◌, ◌+◌, ◌*◌, ◌≤◌, ◌^◌, Bool, List, length}
-use Rattle.bits_model.specs.declared.layer.BitsLink.{BitsLink}
+use Rattle.form_steps.specs.declared.layer.BitsLink.{BitsLink}
 use Rattle.term_table.specs.Terms.{terms_total}
 use Rattle.term_table.specs.Tables.{TableContent, IsTable}
 use Rattle.monomial_layer.specs.Monomials as monomials

@@ -2,7 +2,7 @@
 -- and the long ones as they came.
 use Rattle.std.specs.Prelude.{◌≡◌, ℕ, ◌+◌, ◌-◌, ◌*◌, ◌≤◌, ◌<◌, ◌^◌, ℤ, pos, ◌+ℤ◌, unsigned_abs, List, ◌++◌, map, length, replicate, All}
 use Rattle.std.specs.List.{flat_map, slice_index_or, sum_by}
-use Rattle.integers.specs.Sums.{total_by}
+use Rattle.base.specs.Sums.{total_by}
 use Rattle.bits_model.specs.declared.output.Entry.{Entry}
 use Rattle.bits_model.specs.Output.{weight_total}
 use Rattle.problem_form.specs.declared.terms.Product.{Product}

@@ -1,7 +1,7 @@
 -- Terms of three literals or more, as they are kept for what is made of them.
 use Rattle.std.specs.Prelude.{◌≡◌, ℕ, ◌+◌, ◌≤◌, ◌<◌, ◌^◌, ◌*◌, pos, int_lt, unsigned_abs, ℤ, ◌+ℤ◌, Bool, List, [], ◌∷◌, map, take, length, All, if◌then◌else◌}
 use Rattle.std.specs.List.{sum_by, slice_index_or}
-use Rattle.problem_form.specs.declared.literal.Literal.{Literal}
+use Rattle.literal_lists.specs.declared.literal.Literal.{Literal}
 use Rattle.problem_form.specs.declared.terms.Product.{Product}
 use Rattle.direct_quad.specs.declared.additions.Keyed.{Keyed}
 use Rattle.term_table.specs.Terms.{Term, terms_total, AreTerms}

@@ -7,7 +7,7 @@ use Rattle.std.specs.Prelude.{◌≡◌, ℕ, ◌+◌, ◌<◌, ℤ, pos, Bool, 
 use Rattle.std.specs.List.{filter, slice_index_or, sum_by}
 use Rattle.std.specs.List.Sorted.{IsStrictlySortedBy}
 use Rattle.bits_model.specs.Output.{entry_cmp}
-use Rattle.problem_form.specs.declared.literal.Literal.{Literal}
+use Rattle.literal_lists.specs.declared.literal.Literal.{Literal}
 use Rattle.term_table.specs.Terms.{Term, with_additions, coefficient_of}
 use Rattle.term_table.specs.Tables.{TableContent}
 use Rattle.term_table.specs.MultipliedOut.{contributions}

@@ -6,9 +6,9 @@
 -- sign of its couplers, and moves as much to the other node, or to the constant.
 use Rattle.std.specs.Prelude.{ℕ, zero, suc, ◌+◌, ◌-◌, ◌*◌, ◌/◌, ◌==◌, ℤ, pos, neg_ℤ, ◌-ℤ◌, ◌*ℤ◌, ◌&&◌, int_lt, List, [], ◌∷◌, ◌++◌, map, length, if◌then◌else◌}
 use Rattle.std.specs.List.{count_by}
-use Rattle.integers.specs.Sums.{total_by, if_so}
+use Rattle.base.specs.Sums.{total_by, if_so}
 use Rattle.bits_model.specs.declared.output.Entry.{Entry}
-use Rattle.problem_form.specs.declared.literal.Literal.{Literal}
+use Rattle.literal_lists.specs.declared.literal.Literal.{Literal}
 use Rattle.term_table.specs.Terms.{Term}
 use Rattle.monomial_layer.specs.Monomials.{factor, nodes_for, new_nodes}
 

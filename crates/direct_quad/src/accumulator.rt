@@ -8,7 +8,8 @@ ghost use Rattle.std.specs.List.{slice_index_or};
 ghost use Rattle.quad_form.specs.Pairs.{entry_in_front};
 ghost use Rattle.direct_quad.specs.RowSums.{with_weight, size_of, taken, emptied, Appends};
 
-use bits_model::{CouplerList, NoMemory};
+use base::NoMemory;
+use bits_model::CouplerList;
 use std::alloc::Global;
 use std::marker::Model;
 

@@ -9,8 +9,9 @@ ghost use Rattle.term_table.specs.Tables.{AreAdditions};
 ghost use Rattle.term_table.specs.Summed.{sums_of};
 ghost use Rattle.direct_quad.specs.Long.{terms_of, product_term, code_of, set_key, addition_at, additions_at, AreKeyed, HaveKeys};
 
-use bits_model::NoMemory;
-use problem_form::{Literal, Literals, ProductList};
+use base::NoMemory;
+use literal_lists::{Literal, Literals};
+use problem_form::ProductList;
 use std::alloc::Global;
 use std::cmp::Ordering;
 

@@ -1,6 +1,7 @@
 //! The guard from a problem to its quadratic form.
 use crate::gathered::{DirectTerms, Sums};
-use bits_model::{BitsLink, Costed, Figures, Guard, Guarded, Layer, NoMemory};
+use base::{Costed, Figures, NoMemory};
+use form_steps::{BitsLink, Guard, Guarded, Layer};
 use monomial_layer::Monomials;
 use penalty_layer::{Penalty, add_contributions, node_count};
 use problem_form::Problem;
@@ -21,7 +22,7 @@ impl Guard for DirectQuad {
     type Link = BitsLink;
 
     ghost use Rattle.std.specs.Prelude.{◌^◌};
-    ghost use Rattle.bits_model.specs.Links.{first_bits, HasFirstBits};
+    ghost use Rattle.form_steps.specs.Links.{first_bits, HasFirstBits};
     ghost use Rattle.penalty_layer.specs.Penalty.{Admits, figures};
     ghost use Rattle.direct_quad.specs.Direct.{image, extension, Fits};
     ghost use Rattle.direct_quad.specs.laws.Relaxing.{

@@ -6,7 +6,8 @@ ghost use Rattle.direct_quad.specs.Held.{AreHeld};
 ghost use Rattle.direct_quad.specs.FlatMonomials.{image};
 
 use crate::gathered::DirectTerms;
-use bits_model::{BitsLink, Costed, Layer, Lowered, NoMemory};
+use base::{Costed, NoMemory};
+use form_steps::{BitsLink, Layer, Lowered};
 use monomial_layer::Monomials;
 use quad_form::Quad;
 use std::alloc::Global;
@@ -56,7 +57,7 @@ impl Layer for FlatMonomials {
     type Link = BitsLink;
 
     ghost use Rattle.std.specs.Prelude.{pos};
-    ghost use Rattle.bits_model.specs.Links.{first_bits, HasFirstBits};
+    ghost use Rattle.form_steps.specs.Links.{first_bits, HasFirstBits};
     ghost use Rattle.direct_quad.specs.FlatMonomials.{image, extension, Fits};
     ghost use Rattle.direct_quad.specs.laws.FlatKept.{
       flat_mono_joins,

@@ -8,7 +8,8 @@ ghost use Rattle.bits_model.specs.Output.{weight_total};
 ghost use Rattle.quad_form.specs.Pairs.{pair_number, IsPair, AreSummed};
 
 use crate::pairs::{Pairs, number_of};
-use bits_model::{CouplerList, NoMemory};
+use base::NoMemory;
+use bits_model::CouplerList;
 use std::alloc::Global;
 use std::marker::Model;
 

@@ -8,8 +8,9 @@ ghost use Rattle.direct_quad.specs.RowSums.{head_of, head_part, IsHead};
 
 use crate::long_table::PlaceRef;
 use crate::new_nodes::{factor, nodes_for, signed};
-use bits_model::{CouplerList, NoMemory};
-use problem_form::Literal;
+use base::NoMemory;
+use bits_model::CouplerList;
+use literal_lists::Literal;
 
 /// A literal in a long term, and the term's degree, coefficient and first new node.
 #[derive(Clone, Copy)]

@@ -13,8 +13,9 @@ ghost use Rattle.direct_quad.specs.Occurrences.{has_variable, from_variable};
 
 use crate::additions::{ordered_additions, summed_additions};
 use crate::new_nodes::new_nodes;
-use bits_model::NoMemory;
-use problem_form::{Literal, Literals, ProductList};
+use base::NoMemory;
+use literal_lists::{Literal, Literals};
+use problem_form::ProductList;
 use std::alloc::Global;
 use std::marker::Model;
 

@@ -1,10 +1,10 @@
 //! The new nodes of a long term, and the signs of its couplers.
 ghost use Rattle.std.specs.Prelude.{◌≡◌, ◌<◌, ◌≤◌, ◌^◌, List, length, pos, unsigned_abs};
 ghost use Rattle.monomial_layer.specs.Monomials.{nodes_for, new_nodes, factor};
-ghost use Rattle.problem_form.specs.declared.literal.Literal.{Literal};
+ghost use Rattle.literal_lists.specs.declared.literal.Literal.{Literal};
 ghost use Rattle.direct_quad.specs.Places.{signed};
 
-use problem_form::Literal;
+use literal_lists::Literal;
 
 /// How many new nodes a positive term of this degree has.
 pub(crate) fn nodes_for(degree: usize) -> usize

@@ -8,7 +8,8 @@ ghost use Rattle.direct_quad.specs.declared.pairs.Shape.{Shape};
 ghost use Rattle.direct_quad.specs.PairLists.{entry_of, held_pairs, narrow_of, number_of, unpacked};
 
 use crate::accumulator::push_some;
-use bits_model::{CouplerList, Entry, NoMemory};
+use base::NoMemory;
+use bits_model::{CouplerList, Entry};
 use std::alloc::Global;
 use std::marker::Model;
 

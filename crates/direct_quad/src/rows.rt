@@ -8,7 +8,7 @@
 ghost use Rattle.std.specs.Prelude.{◌≡◌, ◌+◌, ◌*◌, ◌≤◌, ◌<◌, ◌^◌, ◌++◌, All, IfOk, OnOk, length, map, pos, replicate, drop, unsigned_abs};
 ghost use Rattle.std.specs.List.{flat_map};
 ghost use Rattle.bits_model.specs.Output.{weight_total};
-ghost use Rattle.problem_form.specs.declared.literal.Literal.{Literal};
+ghost use Rattle.literal_lists.specs.declared.literal.Literal.{Literal};
 ghost use Rattle.term_table.specs.Terms.{terms_total};
 ghost use Rattle.quad_form.specs.Pairs.{IsPair};
 ghost use Rattle.direct_quad.specs.Places.{pair_coupler, place_couplers, all_places};
@@ -25,8 +25,9 @@ use crate::long_table::{LongTable, PlaceRef};
 use crate::new_nodes::signed;
 use crate::occurrences::Occurrences;
 use crate::pairs::Pairs;
-use bits_model::{CouplerList, NoMemory};
-use problem_form::{Literal, Literals};
+use base::NoMemory;
+use bits_model::CouplerList;
+use literal_lists::{Literal, Literals};
 use std::alloc::Global;
 
 /// Adds the weights of a variable's pairs, the first of those from an index on, and gives the index

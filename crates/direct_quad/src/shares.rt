@@ -1,7 +1,7 @@
 //! What long terms add to the weights of nodes, and to the constant.
 ghost use Rattle.std.specs.Prelude.{◌≡◌, ◌+◌, ◌-◌, ◌*◌, ◌≤◌, ◌<◌, ◌^◌, ◌∷◌, [], ◌++◌, All, IfOk, List, length, map, pos, ◌-ℤ◌, ◌*ℤ◌, unsigned_abs};
-ghost use Rattle.problem_form.specs.declared.literal.Literal.{Literal};
-ghost use Rattle.integers.specs.Sums.{total_by};
+ghost use Rattle.literal_lists.specs.declared.literal.Literal.{Literal};
+ghost use Rattle.base.specs.Sums.{total_by};
 ghost use Rattle.term_table.specs.Terms.{terms_total, IsTermSet};
 ghost use Rattle.monomial_layer.specs.Monomials.{factor, nodes_for, new_nodes};
 ghost use Rattle.direct_quad.specs.Places.{complements, literal_share, node_share, node_shares, term_shares, all_shares, long_constant};
@@ -12,8 +12,8 @@ ghost use Rattle.direct_quad.specs.RowSums.{size_of};
 use crate::long_table::{LongTable, LongTerm};
 use crate::new_nodes::{factor, nodes_for};
 use crate::weights::{add_weight, widened};
-use bits_model::NoMemory;
-use problem_form::{Literal, Literals};
+use base::NoMemory;
+use literal_lists::{Literal, Literals};
 
 /// How many literals are complements.
 fn complements(literals: Literals<'_>) -> usize

@@ -8,8 +8,8 @@ ghost use Rattle.direct_quad.specs.RowSums.{size_of};
 use crate::gathered_pairs::GatheredPairs;
 use crate::new_nodes::signed;
 use crate::weights::add_weight;
-use bits_model::NoMemory;
-use problem_form::Literal;
+use base::NoMemory;
+use literal_lists::Literal;
 
 /// Adds the share of a literal that is a term by itself.
 #[inline(always)]

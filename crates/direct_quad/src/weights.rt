@@ -3,7 +3,7 @@ ghost use Rattle.std.specs.Prelude.{◌≡◌, ◌+◌, ◌≤◌, ◌<◌, ◌^
 ghost use Rattle.direct_quad.specs.Held.{widened};
 ghost use Rattle.direct_quad.specs.RowSums.{size_of, with_weight};
 
-use bits_model::NoMemory;
+use base::NoMemory;
 
 /// Adds to the weight of a node.
 #[inline(always)]

@@ -8,9 +8,9 @@ ghost use Rattle.rosenberg_layer.specs.Steps.{is_short};
 ghost use Rattle.rosenberg_layer.specs.Parts.{ties_of};
 ghost use Rattle.direct_rosenberg.specs.ByPairs.{Appends};
 
-use bits_model::NoMemory;
+use base::NoMemory;
 use direct_quad::DirectTerms;
-use problem_form::Literal;
+use literal_lists::Literal;
 use rosenberg_layer::{LowSet, Run, node};
 use term_table::Table;
 

@@ -5,7 +5,7 @@ ghost use Rattle.term_table.specs.Tables.{IsTable, table_size};
 ghost use Rattle.direct_rosenberg.specs.ByPairs.{image};
 
 use crate::adding::add_run;
-use bits_model::{Costed, NoMemory};
+use base::{Costed, NoMemory};
 use direct_quad::DirectTerms;
 use quad_form::Quad;
 use rosenberg_layer::{excess, run_of};

@@ -7,7 +7,7 @@ ghost use Rattle.edge_io.specs.Sinks.{AppendsFront, Passes};
 
 use crate::Sink;
 use crate::whole::{WriteFault, write_all};
-use bits_model::NoMemory;
+use base::NoMemory;
 use std::alloc::Global;
 use std::marker::Model;
 

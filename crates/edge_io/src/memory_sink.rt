@@ -6,7 +6,7 @@ ghost use Rattle.edge_io.specs.Sinks.{TakesSome};
 ghost use Rattle.edge_io.specs.InMemory.{empty_sink, write_fails, write_takes};
 
 use crate::{CallList, Failed, Sink};
-use bits_model::NoMemory;
+use base::NoMemory;
 use std::alloc::Global;
 use std::marker::Model;
 

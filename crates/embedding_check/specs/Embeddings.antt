@@ -1,7 +1,7 @@
 -- Ising forms whose nodes stand on chains of qubits, and what such an embedding keeps.
 use Rattle.std.specs.Prelude.{◌≡◌, ◌≢◌, ℕ, zero, suc, ◌+◌, ◌*◌, ◌≤◌, ◌<◌, ◌^◌, ◌==◌, true, List, [], ◌∷◌, length, drop, All, if◌then◌else◌}
 use Rattle.std.specs.List.{AllZip}
-use Rattle.bits_model.specs.Costs.{Form}
+use Rattle.base.specs.Costs.{Form}
 use Rattle.ising_form.specs.Isings.{IsingContent, IsIsing, ising_size}
 use Rattle.ising_form.specs.Isings as isings
 use Rattle.bits_model.specs.declared.output.Entry.{Entry}

@@ -1,5 +1,6 @@
 //! Ising forms whose nodes stand on chains of qubits.
-use bits_model::{ChainList, Cost, Costed, Items};
+use base::{Cost, Costed, Items};
+use bits_model::ChainList;
 use ising_form::Ising;
 use std::marker::Model;
 

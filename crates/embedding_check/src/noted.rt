@@ -24,7 +24,7 @@ ghost use Rattle.embedding_check.specs.Noted.{
 };
 
 use crate::owners::Owned;
-use bits_model::NoMemory;
+use base::NoMemory;
 use chimera_graph::{Hardware, Span};
 use std::alloc::Global;
 use std::marker::Model;

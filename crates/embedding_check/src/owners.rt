@@ -6,7 +6,8 @@ ghost use Rattle.embedding_check.specs.Faults.{number_at};
 ghost use Rattle.embedding_check.specs.Owners.{owner_of, nobody, AreOwners, AreRuns, IsRun};
 
 use crate::chains::{chain, len};
-use bits_model::{ChainList, NoMemory};
+use base::NoMemory;
+use bits_model::ChainList;
 use std::alloc::Global;
 use std::marker::Model;
 

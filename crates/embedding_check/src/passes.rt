@@ -18,7 +18,8 @@ ghost use Rattle.embedding_check.specs.Faults.{
 
 use crate::chains::{chain, len};
 use crate::search::{Parents, parents_of};
-use bits_model::{ChainList, NoMemory};
+use base::NoMemory;
+use bits_model::ChainList;
 use chain_map::{ChainMap, CheckAnswer, EmbedFault};
 use chimera_graph::Hardware;
 use std::alloc::Global;

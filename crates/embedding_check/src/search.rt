@@ -25,7 +25,8 @@ ghost use Rattle.embedding_check.specs.Search.{
 
 use crate::chains::{chain, len};
 use crate::waiting::Waiting;
-use bits_model::{ChainList, NoMemory};
+use base::NoMemory;
+use bits_model::ChainList;
 use chimera_graph::Hardware;
 use std::alloc::Global;
 use std::marker::Model;

@@ -1,5 +1,5 @@
 //! States, their energies and what their chains are read as, by plain arithmetic.
-use bits_model::NoMemory;
+use base::NoMemory;
 use chain_map::ChainMap;
 use ising_form::Ising;
 use std::alloc::Global;

@@ -5,7 +5,7 @@ ghost use Rattle.embedding_tests.specs.SmallForms.{IsSmall};
 use crate::forms::{Row, small_form};
 use crate::plain::meets;
 use crate::random::Dice;
-use bits_model::NoMemory;
+use base::NoMemory;
 use chain_map::ChainMap;
 use chimera_graph::Hardware;
 use ising_form::Ising;

@@ -2,7 +2,8 @@
 ghost use Rattle.std.specs.Prelude.{◌≡◌, ◌≤◌, ◌^◌, true, All, IfOk, IfSome, length, unsigned_abs};
 ghost use Rattle.embedding_tests.specs.SmallForms.{AreSmallCouplings, IsSmall};
 
-use bits_model::{CouplerList, Entry, NoMemory};
+use base::NoMemory;
+use bits_model::{CouplerList, Entry};
 use ising_form::Ising;
 use quad_form::NumberList;
 use std::alloc::Global;

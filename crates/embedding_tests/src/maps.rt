@@ -1,6 +1,6 @@
 //! Maps by hand, and cliques.
 use crate::forms::coupled_form;
-use bits_model::NoMemory;
+use base::NoMemory;
 use chain_map::{ChainMap, CheckAnswer, EmbedFault, clique_map, read_map};
 use chimera_graph::{Chimera, Hardware};
 use embedding_check::check;

@@ -2,7 +2,7 @@
 use crate::cut::Cut;
 use crate::forms::coupled_form;
 use crate::plain::{first_fault, parent, place};
-use bits_model::NoMemory;
+use base::NoMemory;
 use chain_map::{ChainMap, CheckAnswer};
 use chimera_graph::{Chimera, Hardware};
 use embedding_check::{Embedded, check};

@@ -4,7 +4,8 @@ ghost use Rattle.embedding_tests.specs.SmallForms.{IsSmall};
 
 use crate::arithmetic::{IN_TURN, read, state};
 use crate::forms::{Row, small_form};
-use bits_model::{ChainList, Figures, Kind, NoMemory, OutputModel, UnitChoice};
+use base::{Figures, NoMemory, UnitChoice};
+use bits_model::{ChainList, Kind, OutputModel};
 use chain_map::{ChainMap, CheckAnswer};
 use chimera_graph::Chimera;
 use ising_form::Ising;

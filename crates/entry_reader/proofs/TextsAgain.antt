@@ -5,7 +5,7 @@ use Rattle.std.specs.List.{AllByRecursion, join_with_byte}
 use Rattle.std.specs.Fmt.{decimal}
 use Rattle.std.proofs.lemmas.List.{length-map}
 use Rattle.std.proofs.lemmas.List.Sums.{count_by-le-length}
-use Rattle.bits_model.specs.declared.costs.Figures.{Figures}
+use Rattle.base.specs.declared.costs.Figures.{Figures}
 use Rattle.bits_model.specs.declared.output.Entry.{Entry}
 use Rattle.bits_model.specs.declared.output.Kind.{Kind}
 use Rattle.bits_model.specs.declared.output.Kind.TheVariants.{Qubo, Ising, Chimera}

@@ -5,8 +5,9 @@ ghost use Rattle.problem_form.specs.NormalForm.{with_product};
 ghost use Rattle.entry_reader.specs.Problems.{plain, times, field_products, coupling_products, products_of};
 
 use crate::layout::{Layout, Listed};
-use bits_model::NoMemory;
-use problem_form::{Literal, Problem};
+use base::NoMemory;
+use literal_lists::Literal;
+use problem_form::Problem;
 
 /// Puts variables, not complemented, into an empty list.
 fn put_plain(literals: &mut Vec<Literal>, variables: &[u64]) -> Result<(), NoMemory>

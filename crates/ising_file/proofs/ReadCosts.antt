@@ -2,10 +2,10 @@
 use Rattle.std.proofs.Common.{◌≡◌, eqb, Bool, true, false, cond, ◌&&◌, arith, refl, ap, ◌∙◌, List, [], ◌∷◌, ℤ, pos, negsuc, ◌+ℤ◌, ◌*ℤ◌, neg_ℤ}
 use Rattle.std.specs.List.{flat_map}
 use Rattle.std.proofs.lemmas.Int.{ints}
-use Rattle.bits_model.specs.declared.costs.Cost.TheVariants.{Whole}
+use Rattle.base.specs.declared.costs.Cost.TheVariants.{Whole}
 use Rattle.bits_model.specs.Output.{bit_at, times_spin}
-use Rattle.integers.specs.Sums.{total_by, if_so}
-use Rattle.integers.proofs.Totals.{total_by-append}
+use Rattle.base.specs.Sums.{total_by, if_so}
+use Rattle.base.proofs.Totals.{total_by-append}
 use Rattle.problem_form.specs.Problems.{product_value, sum_of, problem_cost}
 use Rattle.problem_form.proofs.NormalForms.{normal_form-cost}
 use Rattle.entry_reader.specs.declared.layout.Listed.{Listed}

@@ -1,8 +1,8 @@
 -- The text of a model of spins is read again, and costs what the model's energies are.
 use Rattle.std.proofs.Common.{◌≡◌, ◌≢◌, Bool, List, map, refl, sym, ap, ◌∙◌}
-use Rattle.integers.specs.Sums.{total_by}
-use Rattle.integers.proofs.Totals.{total_by-map, total_by-same}
-use Rattle.bits_model.specs.declared.costs.Cost.TheVariants.{Whole}
+use Rattle.base.specs.Sums.{total_by}
+use Rattle.base.proofs.Totals.{total_by-map, total_by-same}
+use Rattle.base.specs.declared.costs.Cost.TheVariants.{Whole}
 use Rattle.bits_model.specs.declared.output.Entry.{Entry}
 use Rattle.bits_model.specs.declared.output.Kind.{Kind}
 use Rattle.bits_model.specs.declared.output.Kind.TheVariants as kinds

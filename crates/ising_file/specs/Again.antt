@@ -3,7 +3,7 @@ use Rattle.std.specs.Prelude.{◌≡◌, ◌≢◌, Ok}
 use Rattle.bits_model.specs.declared.output.Kind.TheVariants as kinds
 use Rattle.bits_model.specs.Output as output
 use Rattle.bits_model.specs.Output.{Written}
-use Rattle.bits_model.specs.Stated.{HasSameCosts}
+use Rattle.form_steps.specs.Stated.{HasSameCosts}
 use Rattle.model_text.specs.Rows.{model_text}
 use Rattle.entry_reader.specs.declared.layout.Layout.TheVariants.{Ising}
 use Rattle.entry_reader.specs.Entries.{Listing, reading}

@@ -1,10 +1,10 @@
 -- What an Ising text costs, before any normal form: its energy. Bit 1 is the spin +1, and bit 0 the
 -- spin -1.
 use Rattle.std.specs.Prelude.{◌≡◌, ℤ, Bool, ◌==◌, List, if◌then◌else◌}
-use Rattle.integers.specs.Sums.{total_by}
-use Rattle.bits_model.specs.declared.costs.Cost.{Cost}
-use Rattle.bits_model.specs.declared.costs.Cost.TheVariants.{Whole}
-use Rattle.bits_model.specs.Costs.{Form, Source}
+use Rattle.base.specs.Sums.{total_by}
+use Rattle.base.specs.declared.costs.Cost.{Cost}
+use Rattle.base.specs.declared.costs.Cost.TheVariants.{Whole}
+use Rattle.base.specs.Costs.{Form, Source}
 use Rattle.bits_model.specs.Output.{bit_at, times_spin}
 use Rattle.problem_form.specs.Problems.{problem_cost}
 use Rattle.problem_form.specs.NormalForm.{normal_form}

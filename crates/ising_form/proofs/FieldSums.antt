@@ -5,8 +5,8 @@ use Rattle.std.proofs.lemmas.Bool.Decides.{eqb_tells}
 use Rattle.std.proofs.lemmas.Int.{ints}
 use Rattle.std.proofs.lemmas.List.{take_more}
 use Rattle.std.proofs.lemmas.List.Sums.{sum_by-cons}
-use Rattle.integers.specs.Sums.{total_by, if_so}
-use Rattle.integers.proofs.Totals.{total_by_more, size-plus, size-total_by}
+use Rattle.base.specs.Sums.{total_by, if_so}
+use Rattle.base.proofs.Totals.{total_by_more, size-plus, size-total_by}
 use Rattle.bits_model.specs.declared.output.Entry.{Entry}
 use Rattle.bits_model.specs.Output.{weight_total}
 use Rattle.quad_form.specs.Quads.{node_entries}

@@ -6,10 +6,10 @@ use Rattle.std.proofs.lemmas.Bool.{eq-eqb}
 use Rattle.std.proofs.lemmas.Bool.Decides.{Decides-int_eq}
 use Rattle.std.proofs.lemmas.Int.{ints}
 use Rattle.std.proofs.lemmas.List.Sums.{sum_by-cons, sum_by-append}
-use Rattle.integers.specs.Sums.{total_by}
-use Rattle.bits_model.specs.declared.layer.BitsLink.{BitsLink}
+use Rattle.base.specs.Sums.{total_by}
+use Rattle.form_steps.specs.declared.layer.BitsLink.{BitsLink}
 use Rattle.bits_model.specs.declared.output.Entry.{Entry}
-use Rattle.bits_model.specs.Relations.{Keeps}
+use Rattle.form_steps.specs.Relations.{Keeps}
 use Rattle.bits_model.specs.Output.{is_node, entry_size}
 use Rattle.quad_form.specs.Quads.{QuadContent, IsQuad, IsCoupler, node_entries, quad_total, quad_size}
 use Rattle.quad_form.specs.Quads as quads

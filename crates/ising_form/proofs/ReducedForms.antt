@@ -4,10 +4,10 @@ use Rattle.std.specs.Int.{◌∣◌}
 use Rattle.std.proofs.Math.Nat.{mul-le-mul_right}
 use Rattle.std.proofs.lemmas.Int.{ints}
 use Rattle.std.proofs.lemmas.List.{length-map}
-use Rattle.integers.specs.Sums.{total_by}
-use Rattle.integers.proofs.Products.{times-neg}
+use Rattle.base.specs.Sums.{total_by}
+use Rattle.base.proofs.Products.{times-neg}
 use Rattle.bits_model.specs.declared.output.Entry.{Entry}
-use Rattle.bits_model.specs.Relations.{Reduces}
+use Rattle.form_steps.specs.Relations.{Reduces}
 use Rattle.bits_model.specs.Output.{bit_at, times_spin, is_node, spins_energy, weight_total}
 use Rattle.quad_form.specs.Quads.{IsCoupler, node_entries}
 use Rattle.quad_form.specs.Units.{unit_of, counted_in, entry_in}

@@ -3,15 +3,15 @@ use Rattle.std.proofs.Common.{◌≡◌, ◌⊎◌, ℕ, ◌+◌, ◌<◌, ◌�
 use Rattle.std.specs.List.{filter}
 use Rattle.std.proofs.lemmas.Int.{ints}
 use Rattle.std.proofs.lemmas.List.Elements.{recursion_from_All, All-from_recursion}
-use Rattle.integers.specs.Sums.{total_by}
-use Rattle.integers.proofs.Totals.{total_by-append}
-use Rattle.bits_model.specs.declared.costs.Figures.{Figures}
+use Rattle.base.specs.Sums.{total_by}
+use Rattle.base.proofs.Totals.{total_by-append}
+use Rattle.base.specs.declared.costs.Figures.{Figures}
 use Rattle.bits_model.specs.declared.output.Entry.{Entry}
 use Rattle.bits_model.specs.declared.output.Kind.{Kind}
 use Rattle.bits_model.specs.declared.output.Kind.TheVariants.{Qubo, Ising, Chimera}
-use Rattle.bits_model.specs.Costs.{Form}
-use Rattle.bits_model.specs.Relations.{Decoding, Relaxes}
-use Rattle.bits_model.specs.Faithful.{IsMultiple}
+use Rattle.base.specs.Costs.{Form}
+use Rattle.form_steps.specs.Relations.{Decoding, Relaxes}
+use Rattle.bits_model.specs.Units.{IsMultiple}
 use Rattle.bits_model.specs.Output.{IsWellFormed, IsPlaced, is_chained, entry_energy, spins_energy, read_off, weight_total}
 use Rattle.quad_form.specs.Quads.{node_entries}
 use Rattle.quad_form.specs.Units.{entry_in}

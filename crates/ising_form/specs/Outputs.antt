@@ -1,11 +1,11 @@
 -- The models that are written for Ising forms.
 use Rattle.std.specs.Prelude.{◌≡◌, ◌≢◌, ℕ, ◌*◌, ◌≤◌, ◌<◌, ℤ, pos, neg_ℤ, Bool, false, List, [], ◌++◌, length, All}
 use Rattle.std.specs.List.{filter, slice_index_or}
-use Rattle.bits_model.specs.declared.costs.Figures.{Figures}
+use Rattle.base.specs.declared.costs.Figures.{Figures}
 use Rattle.bits_model.specs.declared.output.Entry.{Entry}
 use Rattle.bits_model.specs.declared.output.Kind.{Kind}
 use Rattle.bits_model.specs.declared.output.Kind.TheVariants.{Qubo, Ising, Chimera}
-use Rattle.bits_model.specs.Relations.{figures_moved}
+use Rattle.base.specs.Figures.{figures_moved}
 use Rattle.bits_model.specs.Output.{Written, is_chained}
 use Rattle.quad_form.specs.Quads.{node_entries}
 use Rattle.ising_form.specs.Isings.{IsingContent, entries_of}

@@ -1,8 +1,8 @@
 -- Ising forms whose weights are counted in their greatest unit.
 use Rattle.std.specs.Prelude.{ℕ, ℤ, pos, List, map}
-use Rattle.bits_model.specs.declared.costs.Figures.{Figures}
+use Rattle.base.specs.declared.costs.Figures.{Figures}
 use Rattle.bits_model.specs.declared.output.Kind.{Kind}
-use Rattle.bits_model.specs.Faithful.{IsReduced}
+use Rattle.bits_model.specs.Units.{IsReduced}
 use Rattle.quad_form.specs.Units.{unit_of, weights_of, counted_in, entry_in}
 use Rattle.ising_form.specs.Isings.{IsingContent}
 use Rattle.ising_form.specs.Outputs.{FitsOutput, written_of}

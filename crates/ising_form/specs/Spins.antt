@@ -2,9 +2,9 @@
 -- form has whole weights over spins.
 use Rattle.std.specs.Prelude.{◌≡◌, ℕ, suc, ◌==◌, ℤ, pos, ◌+ℤ◌, ◌*ℤ◌, List, [], ◌∷◌, length, slice_set}
 use Rattle.std.specs.List.{slice_index_or}
-use Rattle.integers.specs.Sums.{total_by, if_so}
+use Rattle.base.specs.Sums.{total_by, if_so}
 use Rattle.bits_model.specs.declared.output.Entry.{Entry}
-use Rattle.bits_model.specs.declared.layer.BitsLink.{BitsLink}
+use Rattle.form_steps.specs.declared.layer.BitsLink.{BitsLink}
 use Rattle.quad_form.specs.Quads.{QuadContent, IsQuad}
 use Rattle.ising_form.specs.Isings.{IsingContent}
 

@@ -1,9 +1,9 @@
 -- What a written model says of the form that it is made of.
 use Rattle.std.specs.Prelude.{◌≡◌, ◌⊎◌, ℕ, ℤ, pos, ◌≤ℤ◌, Bool, List}
-use Rattle.bits_model.specs.declared.costs.Figures.{Figures}
+use Rattle.base.specs.declared.costs.Figures.{Figures}
 use Rattle.bits_model.specs.declared.output.Kind.{Kind}
-use Rattle.bits_model.specs.Costs.{Form}
-use Rattle.bits_model.specs.Relations.{Decoding, Relaxes}
+use Rattle.base.specs.Costs.{Form}
+use Rattle.form_steps.specs.Relations.{Decoding, Relaxes}
 use Rattle.bits_model.specs.Output.{IsWellFormed, read_off}
 use Rattle.quad_form.specs.Stated.{RelaxesAsWritten}
 use Rattle.ising_form.specs.Isings.{IsingContent, IsIsing, form_of}

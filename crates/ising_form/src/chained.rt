@@ -7,7 +7,8 @@ ghost use Rattle.bits_model.specs.Output.{is_chained};
 ghost use Rattle.quad_form.specs.Quads.{node_entries};
 ghost use Rattle.ising_form.specs.Outputs.{is_marked, is_on_chain};
 
-use bits_model::{ChainList, NoMemory, NodeWeights};
+use base::NoMemory;
+use bits_model::{ChainList, NodeWeights};
 use std::alloc::Global;
 
 /// Marks the qubits of a chain.

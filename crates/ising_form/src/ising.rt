@@ -1,7 +1,9 @@
 //! Ising forms, and their weights counted in the greatest unit.
 ghost use Rattle.std.specs.Prelude.{◌≡◌, ◌≤◌, ◌^◌, IfOk};
 
-use bits_model::{CouplerList, NoMemory, Reduced};
+use base::NoMemory;
+use bits_model::CouplerList;
+use form_steps::Reduced;
 use quad_form::{NumberList, counted_couplers, counted_numbers, greatest_unit};
 use std::marker::Model;
 
@@ -34,7 +36,7 @@ impl Model for Ising {
 
 impl Ising {
     ghost use Rattle.std.specs.Prelude.{◌≡◌, ◌*◌, ◌≤◌, IfOk, neg_ℤ, unsigned_abs};
-    ghost use Rattle.bits_model.specs.Relations.{Reduces};
+    ghost use Rattle.form_steps.specs.Relations.{Reduces};
     ghost use Rattle.ising_form.specs.Isings.{form_of, ising_total};
     ghost use Rattle.ising_form.specs.Reduction.{ising_unit, reduced, IsReducedAsWritten};
 

@@ -4,7 +4,8 @@ ghost use Rattle.ising_form.specs.Outputs.{AreNodes, FitsOutput, written_nodes};
 
 use crate::chained::chained_nodes;
 use crate::ising::Ising;
-use bits_model::{ChainList, EntryList, Figures, Kind, NoMemory, NodeWeights, OutputModel};
+use base::{Figures, NoMemory};
+use bits_model::{ChainList, EntryList, Kind, NodeWeights, OutputModel};
 use quad_form::NumberList;
 use std::alloc::Global;
 

@@ -6,7 +6,8 @@ ghost use Rattle.bits_model.specs.Output.{weight_total};
 ghost use Rattle.quad_form.specs.Quads.{QuadContent, IsQuad, node_entries, quad_total};
 ghost use Rattle.ising_form.specs.Spins.{spins_constant, spins_fields, raised};
 
-use bits_model::{Entry, NoMemory};
+use base::NoMemory;
+use bits_model::Entry;
 use quad_form::Quad;
 use std::alloc::Global;
 

@@ -5,7 +5,8 @@ ghost use Rattle.std.specs.Prelude.{◌≡◌, IfOk};
 
 use crate::ising::Ising;
 use crate::spins::spins_of;
-use bits_model::{BitsLink, Costed, Layer, Lowered, NoMemory};
+use base::{Costed, NoMemory};
+use form_steps::{BitsLink, Layer, Lowered};
 use quad_form::{NumberList, Quad};
 use std::alloc::Global;
 

@@ -1,6 +1,6 @@
 -- What a term of at most six literals adds to the size of a table.
 use Rattle.std.proofs.Common.{◌≡◌, ◌+◌, ◌≤◌, ℤ, List, [], ◌∷◌, length, arith, ap, Result, Ok, Err, OnOk}
-use Rattle.problem_form.specs.declared.literal.Literal.{Literal}
+use Rattle.literal_lists.specs.declared.literal.Literal.{Literal}
 use Rattle.term_table.specs.Terms.{set_size, terms_size}
 use Rattle.term_table.specs.Tables.{TableContent, with_added}
 use Rattle.term_table.proofs.Additions.{terms_size-with_addition}

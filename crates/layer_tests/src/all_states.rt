@@ -1,16 +1,18 @@
 //! All states of small problems of hard and soft clauses, from the problem to its quadratic form.
 ghost use Rattle.std.specs.Prelude.{◌≡◌, ◌+◌, ◌<◌, ◌≤◌, ◌^◌, OnOk};
-ghost use Rattle.bits_model.specs.Links.{HasFirstBits};
+ghost use Rattle.form_steps.specs.Links.{HasFirstBits};
 ghost use Rattle.penalty_layer.specs.Penalty.{Admits};
 ghost use Rattle.problem_form.specs.Problems.{problem_total};
 ghost use Rattle.quad_form.specs.Flat.{IsSound};
 
 use crate::given::{A, add_clause, state};
 use crate::penalties::is_admitted;
-use bits_model::{BitsLink, Cost, Costed, Figures, Guard, NoMemory, Then, ThenLink};
+use base::{Cost, Costed, Figures, NoMemory};
+use form_steps::{BitsLink, Guard, Then, ThenLink};
+use literal_lists::Literal;
 use monomial_layer::Monomials;
 use penalty_layer::Penalty;
-use problem_form::{Literal, Problem};
+use problem_form::Problem;
 use quad_form::{Flatten, Quad};
 use std::alloc::Global;
 use std::test::Fail;

@@ -1,6 +1,6 @@
 //! Sums with bounds, under penalties: all states of small problems, and a knapsack.
 ghost use Rattle.std.specs.Prelude.{◌≡◌, ◌+◌, ◌*◌, ◌<◌, ◌≤◌, ◌^◌, [], false, All, IfOk, OnOk, length, unsigned_abs};
-ghost use Rattle.bits_model.specs.Links.{HasFirstBits};
+ghost use Rattle.form_steps.specs.Links.{HasFirstBits};
 ghost use Rattle.penalty_layer.specs.Penalty.{Admits};
 ghost use Rattle.problem_form.specs.Problems.{constraint_total, problem_total, products_total};
 
@@ -8,9 +8,11 @@ use crate::all_states::{Least, draw, note, number_of, stands_for};
 use crate::given::{A, B, C, NOT_A, NOT_B, NOT_C, add_clause, state};
 use crate::limits::add_product;
 use crate::penalties::is_admitted;
-use bits_model::{BitsLink, Cost, Costed, Figures, Guard, NoMemory};
+use base::{Cost, Costed, Figures, NoMemory};
+use form_steps::{BitsLink, Guard};
+use literal_lists::Literal;
 use penalty_layer::Penalty;
-use problem_form::{Constraint, Literal, Problem, ProductList};
+use problem_form::{Constraint, Problem, ProductList};
 use std::alloc::Global;
 use std::test::Fail;
 use term_table::Table;

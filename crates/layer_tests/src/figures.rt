@@ -2,9 +2,8 @@
 ghost use Rattle.std.specs.Prelude.{◌≤◌, ◌^◌, IfOk};
 ghost use Rattle.bits_model.specs.Output.{weight_total};
 
-use bits_model::{
-    CouplerList, EntryList, Figures, Items, Kind, NoMemory, NodeWeights, total_energy,
-};
+use base::{Figures, Items, NoMemory};
+use bits_model::{CouplerList, EntryList, Kind, NodeWeights, total_energy};
 use std::alloc::Global;
 
 const fn figures(scale: i128, offset: i128, threshold: i128) -> Figures {

@@ -3,8 +3,9 @@ ghost use Rattle.std.specs.Prelude.{◌≡◌, ◌↔◌, ◌+◌, ◌<◌, ◌�
 ghost use Rattle.problem_form.specs.Problems.{problem_total};
 ghost use Rattle.term_table.specs.Terms.{terms_total, terms_size};
 
-use bits_model::{Cost, Costed, NoMemory};
-use problem_form::{Choices, High, LimitKind, Literal, Normal, Problem, check_limits};
+use base::{Cost, Costed, NoMemory};
+use literal_lists::Literal;
+use problem_form::{Choices, High, LimitKind, Normal, Problem, check_limits};
 use std::alloc::Global;
 use term_table::{Table, Terms, is_set};
 

@@ -3,8 +3,9 @@ ghost use Rattle.std.specs.Prelude.{◌≡◌, ◌+◌, ◌<◌, ◌≤◌, ◌^
 ghost use Rattle.problem_form.specs.Problems.{constraint_total, problem_total};
 
 use crate::given::{A, B, C, NOT_A, NOT_B, add_clause, are_within, passed_limit, problem_of};
-use bits_model::NoMemory;
-use problem_form::{Constraint, LimitKind, Literal, Normal, Problem, ProductList};
+use base::NoMemory;
+use literal_lists::Literal;
+use problem_form::{Constraint, LimitKind, Normal, Problem, ProductList};
 use std::alloc::Global;
 
 /// A limit that a problem passes, and the number that is counted against it.

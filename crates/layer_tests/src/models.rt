@@ -1,10 +1,8 @@
 //! Models of each kind: their texts, and the energies of their states.
 ghost use Rattle.std.specs.Prelude.{◌≡◌, ◌∷◌, [], pos, negsuc, IfOk};
 
-use bits_model::{
-    ChainList, Cost, Costed, CouplerList, Entry, EntryList, Figures, Kind, NoMemory, NodeWeights,
-    OutputModel,
-};
+use base::{Cost, Costed, Figures, NoMemory};
+use bits_model::{ChainList, CouplerList, Entry, EntryList, Kind, NodeWeights, OutputModel};
 use model_text::written_text;
 use std::alloc::Global;
 

@@ -5,9 +5,11 @@ ghost use Rattle.normal_form.specs.Multilinear.{Admits};
 
 use crate::given::{A, B, C, NOT_A, NOT_B, are_terms, problem_of};
 use crate::penalties::extends_to;
-use bits_model::{Figures, Guard, NoMemory};
+use base::{Figures, NoMemory};
+use form_steps::Guard;
+use literal_lists::Literal;
 use normal_form::MultilinearForm;
-use problem_form::{Choices, High, Literal, Normal, Problem, check_limits};
+use problem_form::{Choices, High, Normal, Problem, check_limits};
 use std::alloc::Global;
 
 const CHOICES: Choices = Choices {

@@ -1,8 +1,9 @@
 //! Clauses as they are kept, and the costs of clauses and of bounded sums.
 use crate::given::{A, B, NOT_A, NOT_B, costs_of_two, problem_of};
 use crate::limits::bounded;
-use bits_model::{Cost, NoMemory};
-use problem_form::{ClauseRef, Literal, Problem};
+use base::{Cost, NoMemory};
+use literal_lists::Literal;
+use problem_form::{ClauseRef, Problem};
 use std::alloc::Global;
 
 fn is_clause(clause: ClauseRef<'_>, literals: &[Literal], weight: Option<u64>) -> bool {

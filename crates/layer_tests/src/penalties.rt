@@ -1,14 +1,16 @@
 //! Hard and soft clauses, under penalties, and then with new nodes, against hand arithmetic.
 ghost use Rattle.std.specs.Prelude.{◌≡◌};
 ghost use Rattle.std.specs.Bool.{OnTrue};
-ghost use Rattle.bits_model.specs.Costs.{IsOf};
+ghost use Rattle.base.specs.Costs.{IsOf};
 ghost use Rattle.penalty_layer.specs.Penalty.{Admits};
 
 use crate::given::{A, B, C, D, NOT_A, NOT_B, NOT_C, are_terms, costs_of_two, problem_of};
-use bits_model::{Cost, Figures, Guard, NoMemory, Then};
+use base::{Cost, Figures, NoMemory};
+use form_steps::{Guard, Then};
+use literal_lists::Literal;
 use monomial_layer::Monomials;
 use penalty_layer::Penalty;
-use problem_form::{Choices, High, Literal, Normal, Problem, check_limits};
+use problem_form::{Choices, High, Normal, Problem, check_limits};
 use std::alloc::Global;
 
 const CHOICES: Choices = Choices {

@@ -3,9 +3,10 @@ ghost use Rattle.std.specs.Prelude.{◌≡◌, ◌≤◌, length};
 ghost use Rattle.monomial_layer.specs.Monomials.{image, Fits};
 
 use crate::given::{A, B, C, D, E, F, G, are_terms, state, table_of};
-use bits_model::{BitsLink, Cost, Costed, Layer, Lowered, NoMemory};
+use base::{Cost, Costed, NoMemory};
+use form_steps::{BitsLink, Layer, Lowered};
+use literal_lists::Literal;
 use monomial_layer::Monomials;
-use problem_form::Literal;
 use std::alloc::Global;
 use std::test::Fail;
 use term_table::{LowTable, Table};

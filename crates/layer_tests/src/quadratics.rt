@@ -1,12 +1,14 @@
 //! Tables over two and three variables, their quadratic forms and the written model, against hand
 //! arithmetic.
 ghost use Rattle.std.specs.Prelude.{◌+◌, ◌*◌, ◌≤◌, ◌<◌, ◌^◌, ◌≤ℤ◌, length, pos};
-ghost use Rattle.bits_model.specs.Costs.{IsOf};
+ghost use Rattle.base.specs.Costs.{IsOf};
 
 use crate::given::{A, B, C, NOT_A, NOT_B, costs_of_two, table_of};
-use bits_model::{Cost, CouplerList, Figures, Layer, NoMemory, OutputModel, Then};
+use base::{Cost, Figures, NoMemory};
+use bits_model::{CouplerList, OutputModel};
+use form_steps::{Layer, Then};
+use literal_lists::Literal;
 use monomial_layer::Monomials;
-use problem_form::Literal;
 use quad_form::{Flatten, Quad};
 use std::alloc::Global;
 use term_table::low;

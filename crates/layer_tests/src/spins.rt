@@ -4,10 +4,12 @@ ghost use Rattle.std.specs.Prelude.{◌<◌, ◌≤◌, length};
 
 use crate::given::{A, B, table_of};
 use crate::quadratics::{ONE_PAIR, Row, SMALL, are_couplers, flattened, has_entries, has_parts};
-use bits_model::{ChainList, Figures, Kind, Layer, NoMemory, Then};
+use base::{Figures, NoMemory};
+use bits_model::{ChainList, Kind};
+use form_steps::{Layer, Then};
 use ising_form::{Ising, ToSpins};
+use literal_lists::Literal;
 use monomial_layer::Monomials;
-use problem_form::Literal;
 use quad_form::Flatten;
 use std::alloc::Global;
 

@@ -6,8 +6,9 @@ ghost use Rattle.term_table.specs.Terms.{terms_size, terms_total};
 
 use crate::all_states::draw;
 use crate::given::{A, B, C, D, E, NOT_B, are_terms, state, table_of};
-use bits_model::{BitsLink, Cost, Costed, Layer, Lowered, NoMemory};
-use problem_form::Literal;
+use base::{Cost, Costed, NoMemory};
+use form_steps::{BitsLink, Layer, Lowered};
+use literal_lists::Literal;
 use rosenberg_layer::Rosenberg;
 use std::alloc::Global;
 use std::test::Fail;

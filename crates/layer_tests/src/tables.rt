@@ -3,8 +3,8 @@ ghost use Rattle.std.specs.Prelude.{◌≡◌, ◌+◌, ◌<◌, ◌≤◌, ◌^
 ghost use Rattle.term_table.specs.Terms.{terms_total};
 
 use crate::given::{A, B, C, NOT_A, NOT_B, add_terms, are_terms, costs_of_two, table_of};
-use bits_model::{Cost, Costed, NoMemory};
-use problem_form::Literal;
+use base::{Cost, Costed, NoMemory};
+use literal_lists::Literal;
 use std::alloc::Global;
 use term_table::{GatheredTerms, LowTable, Table, is_set, low};
 

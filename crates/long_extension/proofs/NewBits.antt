@@ -6,7 +6,7 @@ use Rattle.std.specs.List.{filter, flat_map}
 use Rattle.std.proofs.lemmas.List.{nil_from_length}
 use Rattle.std.proofs.lemmas.List.Sums.{sum_by-cons}
 use Rattle.problem_form.specs.declared.terms.Product.{Product}
-use Rattle.problem_form.specs.Literals.{all_hold}
+use Rattle.literal_lists.specs.Literals.{all_hold}
 use Rattle.problem_form.specs.Problems.{ProblemContent}
 use Rattle.term_table.specs.Terms.{Term, with_additions}
 use Rattle.penalty_layer.specs.Penalty.{contributions, node_count}

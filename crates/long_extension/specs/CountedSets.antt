@@ -1,6 +1,6 @@
 -- How many literals of a set are true, and the bits of new nodes that this gives.
 use Rattle.std.specs.Prelude.{ℤ, pos, Bool, nat_eq, int_lt, List, [], ◌∷◌, length, if◌then◌else◌}
-use Rattle.problem_form.specs.declared.literal.Literal.{Literal}
+use Rattle.literal_lists.specs.declared.literal.Literal.{Literal}
 use Rattle.monomial_layer.specs.Monomials.{first_values, is_taken, nodes_for, true_literals}
 use Rattle.long_extension.specs.declared.counted.Counted.{Counted}
 

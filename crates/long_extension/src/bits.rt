@@ -14,7 +14,7 @@ ghost use Rattle.direct_quad.specs.Long.{additions_at, product_term, terms_of, H
 ghost use Rattle.long_extension.specs.CountedSets.{counted_bits, counted_of};
 
 use crate::counted::{Counted, counted_sets};
-use bits_model::NoMemory;
+use base::NoMemory;
 use direct_quad::{Keyed, are_alike, ordered_additions};
 use problem_form::ProductList;
 use std::alloc::Global;

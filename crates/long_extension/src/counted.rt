@@ -3,8 +3,9 @@ ghost use Rattle.std.specs.Prelude.{◌≡◌, ◌≤◌, IfOk, All, length, map
 ghost use Rattle.monomial_layer.specs.Monomials.{true_literals};
 ghost use Rattle.long_extension.specs.CountedSets.{counted_of};
 
-use bits_model::NoMemory;
-use problem_form::{Literals, ProductList};
+use base::NoMemory;
+use literal_lists::Literals;
+use problem_form::ProductList;
 use std::alloc::Global;
 
 /// The degree of a set, and how many of its literals are true.

@@ -7,7 +7,8 @@ ghost use Rattle.direct_quad.specs.Direct.{image, extension};
 
 use crate::bits::push_new_bits;
 use crate::gathered::long_additions;
-use bits_model::{BitsLink, Guard, NoMemory};
+use base::NoMemory;
+use form_steps::{BitsLink, Guard};
 use penalty_layer::{Penalty, node_count};
 use problem_form::Problem;
 use std::alloc::Global;

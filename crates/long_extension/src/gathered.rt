@@ -5,9 +5,10 @@ ghost use Rattle.direct_quad.specs.Parts.{long_additions};
 ghost use Rattle.direct_quad.specs.Long.{product_term};
 ghost use Rattle.long_extension.specs.Kept.{AreKept};
 
-use bits_model::NoMemory;
+use base::NoMemory;
+use literal_lists::Literal;
 use penalty_layer::{Gather, add_contributions, node_count};
-use problem_form::{Literal, Problem, ProductList};
+use problem_form::{Problem, ProductList};
 use std::alloc::Global;
 
 /// Additions of which those of three literals or more are kept, in the order in which they came.

@@ -6,16 +6,17 @@ use Rattle.std.proofs.lemmas.Int.{ints}
 use Rattle.std.proofs.lemmas.List.{length-map}
 use Rattle.std.proofs.lemmas.List.Elements.{All-nil}
 use Rattle.std.proofs.lemmas.List.Sums.{sum_by-append}
-use Rattle.bits_model.specs.declared.costs.Figures.{Figures}
+use Rattle.base.specs.declared.costs.Figures.{Figures}
 use Rattle.bits_model.specs.declared.output.Entry.{Entry}
 use Rattle.bits_model.specs.declared.output.Kind.TheVariants as kinds
-use Rattle.bits_model.specs.declared.output.UnitChoice.{UnitChoice}
-use Rattle.bits_model.specs.declared.output.UnitChoice.TheVariants.{One, Reduce}
-use Rattle.bits_model.specs.Costs.{Form}
-use Rattle.bits_model.specs.Relations.{Decoding, Reduces, figures_moved}
-use Rattle.bits_model.specs.Faithful.{HasUnit}
+use Rattle.base.specs.declared.unit.UnitChoice.{UnitChoice}
+use Rattle.base.specs.declared.unit.UnitChoice.TheVariants.{One, Reduce}
+use Rattle.base.specs.Costs.{Form}
+use Rattle.form_steps.specs.Relations.{Decoding, Reduces}
+use Rattle.base.specs.Figures.{figures_moved}
+use Rattle.faithful.specs.Faithful.{HasUnit}
 use Rattle.bits_model.specs.Output.{weight_total}
-use Rattle.bits_model.specs.laws.Composed.{reduces_after_relaxes}
+use Rattle.form_steps.specs.laws.Composed.{reduces_after_relaxes}
 use Rattle.model_text.specs.Rows.{FitsFigures}
 use Rattle.problem_form.specs.Problems.{ProblemContent, form_of}
 use Rattle.problem_form.specs.Limits.{upper}

@@ -1,10 +1,10 @@
 -- The model of a problem on the qubits of a graph: what it promises of the problem.
 use Rattle.std.proofs.Common.{◌≡◌, ℕ, ℤ, ◌*ℤ◌, List, refl, ap, sym, subst, ◌∙◌, arith}
 use Rattle.std.proofs.lemmas.Int.{ints}
-use Rattle.bits_model.specs.declared.costs.Figures.{Figures}
-use Rattle.bits_model.specs.declared.output.UnitChoice.{UnitChoice}
+use Rattle.base.specs.declared.costs.Figures.{Figures}
+use Rattle.base.specs.declared.unit.UnitChoice.{UnitChoice}
 use Rattle.bits_model.specs.Output.{Written}
-use Rattle.bits_model.specs.Faithful.{scale_of}
+use Rattle.faithful.specs.Faithful.{scale_of}
 use Rattle.problem_form.specs.Problems.{ProblemContent, form_of}
 use Rattle.problem_form.specs.Limits.{upper}
 use Rattle.penalty_layer.specs.Penalty.{figures}

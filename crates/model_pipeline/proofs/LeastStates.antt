@@ -2,10 +2,11 @@
 use Rattle.std.proofs.Common.{◌≡◌, pos, Bool, List, length, take, refl, sym, ap, ◌∙◌, subst, arith}
 use Rattle.std.specs.Prelude.{IfOk, Result, Ok, Err}
 use Rattle.std.proofs.lemmas.List.{take-take}
-use Rattle.bits_model.specs.declared.layer.BitsLink.{BitsLink}
-use Rattle.bits_model.specs.Links.{first_bits}
-use Rattle.bits_model.specs.Relations.{Extends, ExtendsLeast, figures_after}
-use Rattle.bits_model.specs.laws.Composed.{least-trans}
+use Rattle.form_steps.specs.declared.layer.BitsLink.{BitsLink}
+use Rattle.form_steps.specs.Links.{first_bits}
+use Rattle.form_steps.specs.Relations.{Extends, ExtendsLeast}
+use Rattle.base.specs.Figures.{figures_after}
+use Rattle.form_steps.specs.laws.Composed.{least-trans}
 use Rattle.problem_form.specs.declared.limits.Choices.{Choices}
 use Rattle.problem_form.specs.declared.limits.Normal.{Normal}
 use Rattle.problem_form.specs.declared.limits.Normal.TheVariants.{Literal, Multilinear}

@@ -1,6 +1,6 @@
 -- The quadratic form of a table whose pairs are replaced: its links, and how far it grows.
 use Rattle.std.proofs.Common.{◌≤◌, ◌+◌, ◌*◌, ◌^◌, ℕ, zero, suc, refl, arith}
-use Rattle.bits_model.specs.declared.layer.BitsLink.{BitsLink}
+use Rattle.form_steps.specs.declared.layer.BitsLink.{BitsLink}
 use Rattle.term_table.specs.Terms.{terms_total}
 use Rattle.term_table.specs.Tables.{TableContent, IsTable, table_size}
 use Rattle.rosenberg_layer.specs.Rosenberg as rosenberg

@@ -3,12 +3,13 @@ use Rattle.std.proofs.Common.{◌≡◌, ◌≤◌, ◌^◌, ◌*◌, ℕ, ◌+�
 use Rattle.std.specs.Prelude.{None, unsigned_abs}
 use Rattle.std.proofs.lemmas.Int.{ints}
 use Rattle.std.proofs.lemmas.List.{take-take}
-use Rattle.bits_model.specs.declared.costs.Figures.{Figures}
-use Rattle.bits_model.specs.declared.layer.BitsLink.{BitsLink}
-use Rattle.bits_model.specs.declared.output.UnitChoice.{UnitChoice}
-use Rattle.bits_model.specs.Relations.{Decoding, Keeps, Relaxes, decoding_after, figures_after}
-use Rattle.bits_model.specs.laws.Composed.{keeps_after_relaxes}
-use Rattle.bits_model.specs.Links.{first_bits}
+use Rattle.base.specs.declared.costs.Figures.{Figures}
+use Rattle.form_steps.specs.declared.layer.BitsLink.{BitsLink}
+use Rattle.base.specs.declared.unit.UnitChoice.{UnitChoice}
+use Rattle.form_steps.specs.Relations.{Decoding, Keeps, Relaxes, decoding_after}
+use Rattle.base.specs.Figures.{figures_after}
+use Rattle.form_steps.specs.laws.Composed.{keeps_after_relaxes}
+use Rattle.form_steps.specs.Links.{first_bits}
 use Rattle.problem_form.specs.declared.limits.Normal.{Normal}
 use Rattle.problem_form.specs.declared.limits.Normal.TheVariants.{Literal, Multilinear}
 use Rattle.problem_form.specs.declared.limits.Normal.TheVariants as normals

@@ -4,16 +4,16 @@ use Rattle.std.proofs.Common.{◌≡◌, ◌≤◌, ◌<◌, inl, inr, ℕ, ◌&
 use Rattle.std.specs.List.{list_any, range_with_len}
 use Rattle.std.proofs.lemmas.List.{length-map}
 use Rattle.std.proofs.lemmas.List.FromFn.{length-map-range_with_len}
-use Rattle.bits_model.specs.declared.costs.Figures.{Figures}
+use Rattle.base.specs.declared.costs.Figures.{Figures}
 use Rattle.bits_model.specs.declared.output.Kind.TheVariants as kinds
-use Rattle.bits_model.specs.declared.output.UnitChoice.{UnitChoice}
-use Rattle.bits_model.specs.declared.output.UnitChoice.TheVariants.{One, Reduce}
-use Rattle.bits_model.specs.Costs.{Form}
-use Rattle.bits_model.specs.Links.{first_bits}
+use Rattle.base.specs.declared.unit.UnitChoice.{UnitChoice}
+use Rattle.base.specs.declared.unit.UnitChoice.TheVariants.{One, Reduce}
+use Rattle.base.specs.Costs.{Form}
+use Rattle.form_steps.specs.Links.{first_bits}
 use Rattle.bits_model.specs.Output.{Written, bit_at, read_off}
-use Rattle.bits_model.specs.Relations.{Decoding, ExtendsLeast, decoding_after}
+use Rattle.form_steps.specs.Relations.{Decoding, ExtendsLeast, decoding_after}
 use Rattle.bits_model.specs.Walks.{is_in}
-use Rattle.bits_model.specs.laws.Composed.{least-trans}
+use Rattle.form_steps.specs.laws.Composed.{least-trans}
 use Rattle.problem_form.specs.declared.limits.Choices.{Choices}
 use Rattle.problem_form.specs.Problems.{ProblemContent}
 use Rattle.problem_form.specs.Problems as problems

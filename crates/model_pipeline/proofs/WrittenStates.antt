@@ -3,15 +3,16 @@
 use Rattle.std.proofs.Common.{◌≡◌, ◌⊎◌, inl, inr, ℕ, ℤ, pos, negsuc, ◌+ℤ◌, ◌*ℤ◌, ◌≤ℤ◌, ◌<ℤ◌, Bool, List, take, refl, sym, ap, ◌∙◌, arith}
 use Rattle.std.specs.Prelude.{neg_ℤ}
 use Rattle.std.proofs.lemmas.Int.{ints}
-use Rattle.integers.specs.Sums.{total_by}
-use Rattle.integers.proofs.Products.{times-lt}
-use Rattle.bits_model.specs.declared.costs.Figures.{Figures}
+use Rattle.base.specs.Sums.{total_by}
+use Rattle.base.proofs.Products.{times-lt}
+use Rattle.base.specs.declared.costs.Figures.{Figures}
 use Rattle.bits_model.specs.declared.output.Kind.{Kind}
-use Rattle.bits_model.specs.declared.output.UnitChoice.{UnitChoice}
-use Rattle.bits_model.specs.declared.output.UnitChoice.TheVariants.{One, Reduce}
-use Rattle.bits_model.specs.Costs.{Form, energy}
+use Rattle.base.specs.declared.unit.UnitChoice.{UnitChoice}
+use Rattle.base.specs.declared.unit.UnitChoice.TheVariants.{One, Reduce}
+use Rattle.base.specs.Costs.{Form, energy}
 use Rattle.bits_model.specs.Output.{Written, bits_energy, decoding_of, form_of, read_off, spins_energy}
-use Rattle.bits_model.specs.Relations.{Decoding, ExtendsLeast, Reduces, figures_moved}
+use Rattle.form_steps.specs.Relations.{Decoding, ExtendsLeast, Reduces}
+use Rattle.base.specs.Figures.{figures_moved}
 use Rattle.quad_form.specs.Quads.{QuadContent}
 use Rattle.quad_form.specs.Quads as quads
 use Rattle.quad_form.specs.Units as units

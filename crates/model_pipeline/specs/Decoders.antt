@@ -1,11 +1,11 @@
 -- The decoders of the steps in a row: how a state of a model is taken back, step by step.
 use Rattle.std.specs.Prelude.{◌≡◌, ◌≤◌, Bool, List, take}
-use Rattle.bits_model.specs.declared.layer.BitsLink.{BitsLink}
+use Rattle.form_steps.specs.declared.layer.BitsLink.{BitsLink}
 use Rattle.bits_model.specs.declared.output.Kind.{Kind}
 use Rattle.bits_model.specs.declared.output.Kind.TheVariants.{Qubo, Ising, Chimera}
-use Rattle.bits_model.specs.Links.{first_bits}
+use Rattle.form_steps.specs.Links.{first_bits}
 use Rattle.bits_model.specs.Output.{Written, decoding_of}
-use Rattle.bits_model.specs.Relations.{Decoding, decoding_after}
+use Rattle.form_steps.specs.Relations.{Decoding, decoding_after}
 use Rattle.problem_form.specs.declared.limits.Choices.{Choices}
 use Rattle.problem_form.specs.declared.limits.High.{High}
 use Rattle.problem_form.specs.declared.limits.High.TheVariants.{Monomial, Rosenberg}

@@ -2,15 +2,15 @@
 -- state of a written model.
 use Rattle.std.specs.Prelude.{◌≡◌, ◌⊎◌, ⊤, ℕ, ◌<◌, ℤ, ◌+ℤ◌, ◌*ℤ◌, ◌≤ℤ◌, Bool, ◌&&◌, List, length, map, All}
 use Rattle.std.specs.List.{list_any, range_with_len}
-use Rattle.bits_model.specs.declared.costs.Cost.TheVariants.{Whole}
-use Rattle.bits_model.specs.declared.layer.BitsLink.{BitsLink}
+use Rattle.base.specs.declared.costs.Cost.TheVariants.{Whole}
+use Rattle.form_steps.specs.declared.layer.BitsLink.{BitsLink}
 use Rattle.bits_model.specs.declared.output.Kind.{Kind}
 use Rattle.bits_model.specs.declared.output.Kind.TheVariants.{Qubo, Ising, Chimera}
-use Rattle.bits_model.specs.declared.output.UnitChoice.{UnitChoice}
-use Rattle.bits_model.specs.Costs.{Form, energy}
-use Rattle.bits_model.specs.Links.{first_bits}
+use Rattle.base.specs.declared.unit.UnitChoice.{UnitChoice}
+use Rattle.base.specs.Costs.{Form, energy}
+use Rattle.form_steps.specs.Links.{first_bits}
 use Rattle.bits_model.specs.Output.{Written, bit_at, decoding_of, form_of}
-use Rattle.bits_model.specs.Relations.{ExtendsLeast}
+use Rattle.form_steps.specs.Relations.{ExtendsLeast}
 use Rattle.bits_model.specs.Walks.{is_in}
 use Rattle.problem_form.specs.declared.limits.Choices.{Choices}
 use Rattle.problem_form.specs.declared.limits.Normal.{Normal}

@@ -1,8 +1,8 @@
 -- Forms that stand for a problem: what the steps to its model rest on.
 use Rattle.std.specs.Prelude.{◌≡◌, ◌≤◌, ◌<◌, ◌+◌, ◌*◌, ◌^◌, ℤ, pos, ◌≤ℤ◌, Bool, List, length, take, unsigned_abs}
-use Rattle.bits_model.specs.declared.costs.Figures.{Figures}
-use Rattle.bits_model.specs.Costs.{Form}
-use Rattle.bits_model.specs.Relations.{Decoding, Relaxes}
+use Rattle.base.specs.declared.costs.Figures.{Figures}
+use Rattle.base.specs.Costs.{Form}
+use Rattle.form_steps.specs.Relations.{Decoding, Relaxes}
 use Rattle.problem_form.specs.Problems.{ProblemContent, form_of}
 use Rattle.problem_form.specs.Limits.{upper}
 use Rattle.penalty_layer.specs.Penalty as penalty

@@ -1,10 +1,10 @@
 -- The model of a problem on the qubits of a graph: what it is built of, and what it promises of the
 -- problem.
 use Rattle.std.specs.Prelude.{◌≡◌, ℕ, ◌+ℤ◌, ◌*ℤ◌, List}
-use Rattle.bits_model.specs.declared.output.UnitChoice.{UnitChoice}
-use Rattle.bits_model.specs.Relations.{Relaxes}
+use Rattle.base.specs.declared.unit.UnitChoice.{UnitChoice}
+use Rattle.form_steps.specs.Relations.{Relaxes}
 use Rattle.bits_model.specs.Output.{Written, IsWellFormed, form_of}
-use Rattle.bits_model.specs.Faithful.{HasUnit, IsEmbedded, scale_of}
+use Rattle.faithful.specs.Faithful.{HasUnit, IsEmbedded, scale_of}
 use Rattle.model_text.specs.Rows.{FitsFields}
 use Rattle.problem_form.specs.declared.limits.Choices.{Choices}
 use Rattle.problem_form.specs.Problems.{ProblemContent}

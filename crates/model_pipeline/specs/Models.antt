@@ -2,12 +2,13 @@
 use Rattle.std.specs.Prelude.{◌≡◌, ℕ, pos, ◌+ℤ◌, ◌*ℤ◌, neg_ℤ, []}
 use Rattle.bits_model.specs.declared.output.Kind.{Kind}
 use Rattle.bits_model.specs.declared.output.Kind.TheVariants as kinds
-use Rattle.bits_model.specs.declared.costs.Figures.{Figures}
-use Rattle.bits_model.specs.declared.output.UnitChoice.{UnitChoice}
-use Rattle.bits_model.specs.declared.output.UnitChoice.TheVariants.{One, Reduce}
-use Rattle.bits_model.specs.Relations.{Decoding, Relaxes, figures_after, figures_moved}
+use Rattle.base.specs.declared.costs.Figures.{Figures}
+use Rattle.base.specs.declared.unit.UnitChoice.{UnitChoice}
+use Rattle.base.specs.declared.unit.UnitChoice.TheVariants.{One, Reduce}
+use Rattle.form_steps.specs.Relations.{Decoding, Relaxes}
+use Rattle.base.specs.Figures.{figures_after, figures_moved}
 use Rattle.bits_model.specs.Output.{Written, IsWellFormed, form_of, read_off}
-use Rattle.bits_model.specs.Faithful.{HasUnit, scale_of}
+use Rattle.faithful.specs.Faithful.{HasUnit, scale_of}
 use Rattle.model_text.specs.Rows.{FitsFields}
 use Rattle.problem_form.specs.declared.limits.Choices.{Choices}
 use Rattle.problem_form.specs.declared.limits.Normal.{Normal}

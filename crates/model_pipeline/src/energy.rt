@@ -3,7 +3,7 @@
 //! A row of couplers whose first node has bit 0 adds nothing, so it is passed over. In the other
 //! rows the second node alone decides.
 ghost use Rattle.std.specs.Prelude.{◌≡◌, ◌≤◌, ◌^◌};
-ghost use Rattle.integers.specs.Sums.{total_by, if_so};
+ghost use Rattle.base.specs.Sums.{total_by, if_so};
 ghost use Rattle.bits_model.specs.Output.{bit_at, bits_energy, entry_energy, weight_total};
 
 use bits_model::{CouplerList, Entry, EntryList, Kind, NodeWeights, Row, bit_at, total_energy};

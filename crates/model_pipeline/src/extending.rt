@@ -1,7 +1,7 @@
 //! The extension of an assignment, by the steps that a command chooses.
 ghost use Rattle.std.specs.Prelude.{◌≡◌, ◌<◌, ◌≤◌, ◌+◌, ◌^◌, None, IfOk, length};
 ghost use Rattle.problem_form.specs.Limits.{limit_fault};
-ghost use Rattle.bits_model.specs.declared.layer.BitsLink.{BitsLink};
+ghost use Rattle.form_steps.specs.declared.layer.BitsLink.{BitsLink};
 ghost use Rattle.penalty_layer.specs.Penalty.{Admits};
 ghost use Rattle.direct_quad.specs.Direct as direct;
 ghost use Rattle.direct_quad.specs.FlatMonomials.{extension, image, Fits};
@@ -12,8 +12,9 @@ ghost use Rattle.model_pipeline.specs.Formed.{HasRoom};
 ghost use Rattle.model_pipeline.specs.Extensions.{extension_of, IsLeastExtension};
 
 use crate::new_nodes::monomial_link;
-use bits_model::{BitsLink, Costed, Guard, Layer, NoMemory};
+use base::{Costed, NoMemory};
 use direct_quad::FlatMonomials;
+use form_steps::{BitsLink, Guard, Layer};
 use normal_form::MultilinearForm;
 use penalty_layer::Penalty;
 use problem_form::{Choices, High, Normal, Problem};

@@ -8,8 +8,9 @@ ghost use Rattle.model_pipeline.specs.Formed.{IsFormed};
 
 use crate::held::Held;
 use crate::steps::quadratic_of;
-use bits_model::{Figures, Guard, Layer, NoMemory};
+use base::{Figures, NoMemory};
 use direct_quad::{DirectQuad, FlatMonomials};
+use form_steps::{Guard, Layer};
 use normal_form::MultilinearForm;
 use penalty_layer::Penalty;
 use problem_form::{Choices, High, Normal};

@@ -1,14 +1,14 @@
 //! Laws of how states are taken back, as functions without code.
 ghost use Rattle.std.specs.Prelude.{◌≡◌};
-ghost use Rattle.bits_model.specs.declared.layer.BitsLink.{BitsLink};
-ghost use Rattle.bits_model.specs.Links.{first_bits};
+ghost use Rattle.form_steps.specs.declared.layer.BitsLink.{BitsLink};
+ghost use Rattle.form_steps.specs.Links.{first_bits};
 ghost use Rattle.quad_form.specs.Flat.{same_bits};
 ghost use Rattle.chain_layer.specs.declared.link.ChainLink.{ChainLink};
 ghost use Rattle.chain_layer.specs.Image.{decoding};
 ghost use Rattle.model_pipeline.specs.Decoders.{ReadOffIsDecoded};
 
-use bits_model::{Guard, Layer};
 use chain_layer::Chains;
+use form_steps::{Guard, Layer};
 use ising_form::ToSpins;
 use monomial_layer::Monomials;
 use normal_form::MultilinearForm;

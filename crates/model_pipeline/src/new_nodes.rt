@@ -6,8 +6,9 @@ ghost use Rattle.term_table.specs.Tables.{table_size, IsTable};
 ghost use Rattle.monomial_layer.specs.Monomials.{new_nodes};
 ghost use Rattle.direct_quad.specs.FlatMonomials.{Fits};
 
-use bits_model::{BitsLink, Costed};
-use problem_form::Literal;
+use base::Costed;
+use form_steps::BitsLink;
+use literal_lists::Literal;
 use term_table::Table;
 
 /// How many new nodes a term has.

@@ -13,7 +13,8 @@ ghost use Rattle.model_pipeline.specs.GraphModels.{ising_of, IsGraphModelOf};
 
 use crate::held::Held;
 use crate::spins::spun;
-use bits_model::{OutputModel, UnitChoice};
+use base::UnitChoice;
+use bits_model::OutputModel;
 use chain_map::{ChainMap, CheckAnswer, EmbedFault};
 use chimera_graph::Chimera;
 use problem_form::Choices;

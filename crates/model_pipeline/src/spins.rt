@@ -9,7 +9,8 @@ ghost use Rattle.model_pipeline.specs.GraphModels.{ising_of};
 
 use crate::forms::formed;
 use crate::held::Held;
-use bits_model::{Figures, Layer, NoMemory};
+use base::{Figures, NoMemory};
+use form_steps::Layer;
 use ising_form::{Ising, ToSpins};
 use problem_form::Choices;
 use quad_form::Quad;

@@ -16,7 +16,8 @@ ghost use Rattle.model_pipeline.specs.Extensions.{
 };
 
 use crate::extending::extended;
-use bits_model::{ChainList, Kind, NoMemory, OutputModel};
+use base::NoMemory;
+use bits_model::{ChainList, Kind, OutputModel};
 use problem_form::{Choices, Problem};
 use std::alloc::Global;
 

@@ -1,13 +1,14 @@
 //! The steps to a quadratic form in which pairs of literals are replaced.
 ghost use Rattle.std.specs.Prelude.{◌≡◌, ◌≤◌, ◌+◌, ◌^◌, unsigned_abs, IfOk};
-ghost use Rattle.bits_model.specs.declared.layer.BitsLink.{BitsLink};
+ghost use Rattle.form_steps.specs.declared.layer.BitsLink.{BitsLink};
 ghost use Rattle.rosenberg_layer.specs.Rosenberg as rosenberg;
 ghost use Rattle.quad_form.specs.Quads.{quad_size, quad_total};
 ghost use Rattle.quad_form.specs.Flat as flat;
 
 use crate::held::Held;
-use bits_model::{Figures, Guard, NoMemory};
+use base::{Figures, NoMemory};
 use direct_rosenberg::quad_by_pairs;
+use form_steps::Guard;
 use problem_form::Problem;
 use quad_form::Quad;
 use std::alloc::Global;

@@ -5,8 +5,10 @@ ghost use Rattle.quad_form.specs.Quads.{IsQuad, quad_size, quad_total};
 ghost use Rattle.ising_form.specs.Spins.{image};
 ghost use Rattle.model_pipeline.specs.Models.{form_model, ising_figures, ising_model, qubo_model};
 
-use bits_model::{ChainList, Figures, Kind, Layer, NoMemory, OutputModel, UnitChoice};
+use base::{Figures, NoMemory, UnitChoice};
+use bits_model::{ChainList, Kind, OutputModel};
 use command_words::NodeModel;
+use form_steps::Layer;
 use ising_form::{Ising, ToSpins};
 use quad_form::Quad;
 use std::alloc::Global;

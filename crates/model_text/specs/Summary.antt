@@ -1,7 +1,7 @@
 -- The summary of a written model: what it counts, its figures and its unit.
 use Rattle.std.specs.Prelude.{ℕ, ℤ, pos, List, [], ◌∷◌, codes, count_by}
 use Rattle.std.specs.Fmt.{signed_decimal}
-use Rattle.bits_model.specs.declared.costs.Figures.{Figures}
+use Rattle.base.specs.declared.costs.Figures.{Figures}
 use Rattle.bits_model.specs.Output.{Written, is_node, is_coupler}
 use Rattle.model_text.specs.Rows.{Row, rows_text}
 

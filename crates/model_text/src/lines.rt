@@ -10,7 +10,8 @@ ghost use Rattle.model_text.specs.Lines.{spaced_numbers};
 
 use crate::counts::counts_of;
 use crate::rows::words_of;
-use bits_model::{ChainList, CouplerList, Entry, EntryList, Figures, Kind, NodeWeights, Row};
+use base::Figures;
+use bits_model::{ChainList, CouplerList, Entry, EntryList, Kind, NodeWeights, Row};
 use edge_io::{LineBuffer, Sink, WriteFault};
 use itoa::{Buffer, write_digits};
 

@@ -4,7 +4,8 @@ ghost use Rattle.std.specs.List.{join_with_byte};
 ghost use Rattle.model_text.specs.Rows.{row_text, rows_text, figure_row, figure_rows, chimera_row, chain_row, chain_rows, graph_rows, kind_words, header_row, entry_row, FitsFigures, FitsGraph};
 
 use crate::counts::counts_of;
-use bits_model::{ChainList, Entry, EntryList, Figures, Kind, NoMemory};
+use base::{Figures, NoMemory};
+use bits_model::{ChainList, Entry, EntryList, Kind};
 use whole_text::push_number;
 
 /// A figure, after its name.

@@ -4,7 +4,8 @@ ghost use Rattle.model_text.specs.Rows.{row_text, rows_text};
 ghost use Rattle.model_text.specs.Summary.{summary_row, summary_rows, summary_text};
 
 use crate::counts::counts_of;
-use bits_model::{Figures, NoMemory, OutputModel};
+use base::{Figures, NoMemory};
+use bits_model::OutputModel;
 use std::alloc::Global;
 use whole_text::push_number;
 

@@ -8,7 +8,8 @@ ghost use Rattle.model_text.specs.Told.{TellsModel};
 
 use crate::lines::{put_entries, put_figures, put_graph, put_header};
 use crate::rows::{push_entries, push_figures, push_graph, push_header};
-use bits_model::{NoMemory, OutputModel};
+use base::NoMemory;
+use bits_model::OutputModel;
 use edge_io::{LineBuffer, Sink, WriteFault};
 use std::alloc::Global;
 

@@ -6,7 +6,7 @@ use Rattle.std.proofs.lemmas.List.Sums.{sum_by-cons, sum_by-append}
 use Rattle.std.proofs.lemmas.Bool.Decides.{nat_tests}
 use Rattle.std.proofs.lemmas.Int.{ints, unsigned_abs-mul}
 use Rattle.std.proofs.Math.Nat.{mul-le-mul_left, mul-le-mul_right, pow-succ', pow-zero}
-use Rattle.problem_form.specs.declared.literal.Literal.{Literal}
+use Rattle.literal_lists.specs.declared.literal.Literal.{Literal}
 use Rattle.term_table.specs.Terms.{Term, terms_total, terms_size, set_size, IsTermSet}
 use Rattle.term_table.specs.Tables.{TableContent, IsTable, table_size}
 use Rattle.term_table.proofs.Additions.{terms_total-cons, terms_total-append, terms_size-cons, terms_total-with_additions, terms_size-with_additions}

@@ -11,9 +11,9 @@
 -- case (2011).
 use Rattle.std.specs.Prelude.{◌≡◌, ℕ, zero, suc, ◌+◌, ◌-◌, ◌*◌, ◌/◌, ℤ, pos, neg_ℤ, ◌*ℤ◌, Bool, false, nat_eq, nat_le, int_lt, List, [], ◌∷◌, ◌++◌, map, length, if◌then◌else◌}
 use Rattle.std.specs.List.{count_by, flat_map, sum_by}
-use Rattle.bits_model.specs.declared.layer.BitsLink.{BitsLink}
-use Rattle.problem_form.specs.declared.literal.Literal.{Literal}
-use Rattle.problem_form.specs.Literals.{holds, all_hold}
+use Rattle.form_steps.specs.declared.layer.BitsLink.{BitsLink}
+use Rattle.literal_lists.specs.declared.literal.Literal.{Literal}
+use Rattle.literal_lists.specs.Literals.{holds, all_hold}
 use Rattle.term_table.specs.Terms.{Term, with_additions}
 use Rattle.term_table.specs.Tables.{TableContent, IsTable}
 

@@ -3,8 +3,8 @@ ghost use Rattle.std.specs.Prelude.{◌≡◌, ◌++◌, ◌<◌, ◌≤◌, ◌
 ghost use Rattle.monomial_layer.specs.Monomials.{first_values, is_taken, new_bits, true_literals};
 
 use crate::nodes::nodes_for;
-use bits_model::NoMemory;
-use problem_form::{Literal, all_hold};
+use base::NoMemory;
+use literal_lists::{Literal, all_hold};
 
 /// How many literals are true.
 fn true_literals(literals: &[Literal], x: &[bool]) -> usize

@@ -6,7 +6,8 @@ ghost use Rattle.monomial_layer.specs.Monomials.{extension};
 
 use crate::bits::push_bits;
 use crate::replace::quadratic_table;
-use bits_model::{BitsLink, Costed, Layer, Lowered, NoMemory};
+use base::{Costed, NoMemory};
+use form_steps::{BitsLink, Layer, Lowered};
 use std::alloc::Global;
 use term_table::{LowTable, Table, low};
 
@@ -47,7 +48,7 @@ impl Layer for Monomials {
     type Link = BitsLink;
 
     ghost use Rattle.std.specs.Prelude.{pos};
-    ghost use Rattle.bits_model.specs.Links.{first_bits, HasFirstBits};
+    ghost use Rattle.form_steps.specs.Links.{first_bits, HasFirstBits};
     ghost use Rattle.monomial_layer.specs.Monomials.{image, extension, Fits};
     ghost use Rattle.monomial_layer.specs.laws.Kept.{
       mono_sound,

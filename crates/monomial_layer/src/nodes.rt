@@ -4,7 +4,7 @@ ghost use Rattle.std.specs.List.{sum_by};
 ghost use Rattle.term_table.specs.Terms.{terms_size};
 ghost use Rattle.monomial_layer.specs.Monomials.{factor, new_nodes, node, nodes_for};
 
-use problem_form::Literal;
+use literal_lists::Literal;
 use term_table::Table;
 
 /// The node of a number, as a literal.

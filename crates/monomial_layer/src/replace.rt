@@ -5,7 +5,7 @@
 //! binary MRF minimization to the first-order case, 2011.
 ghost use Rattle.std.specs.Prelude.{◌≡◌, ◌+◌, ◌-◌, ◌*◌, ◌<◌, ◌≤◌, ◌^◌, All, IfOk, OnOk, length};
 ghost use Rattle.std.specs.List.{sum_by};
-ghost use Rattle.problem_form.specs.Literals.{IsLiteralSet};
+ghost use Rattle.literal_lists.specs.Literals.{IsLiteralSet};
 ghost use Rattle.term_table.specs.Terms.{with_additions, terms_size, terms_total, IsTermSet};
 ghost use Rattle.term_table.specs.Tables.{with_more, IsTable};
 ghost use Rattle.monomial_layer.specs.Monomials.{
@@ -25,8 +25,8 @@ ghost use Rattle.monomial_layer.specs.Monomials.{
 use crate::nodes::{
     all_new_nodes, negative_weight, new_nodes, node, node_weight, nodes_for, pair_weight,
 };
-use bits_model::{Costed, NoMemory};
-use problem_form::Literal;
+use base::{Costed, NoMemory};
+use literal_lists::Literal;
 use std::alloc::Global;
 use term_table::{GatheredTerms, Table};
 

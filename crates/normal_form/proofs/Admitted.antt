@@ -1,10 +1,10 @@
 -- What the guard makes of a problem that it admits.
 use Rattle.std.proofs.Common.{◌≡◌, ◌+◌, ◌≤◌, ◌^◌, pos, sym, ap, subst, arith, All}
 use Rattle.std.proofs.lemmas.List.Elements.{All-from_recursion, recursion_from_All}
-use Rattle.bits_model.specs.declared.costs.Figures.{Figures}
-use Rattle.bits_model.specs.declared.layer.BitsLink.{BitsLink}
-use Rattle.bits_model.specs.Links.{first_bits}
-use Rattle.bits_model.specs.Relations.{Relaxes}
+use Rattle.base.specs.declared.costs.Figures.{Figures}
+use Rattle.form_steps.specs.declared.layer.BitsLink.{BitsLink}
+use Rattle.form_steps.specs.Links.{first_bits}
+use Rattle.form_steps.specs.Relations.{Relaxes}
 use Rattle.problem_form.specs.Problems.{ProblemContent}
 use Rattle.problem_form.specs.Problems as problems
 use Rattle.term_table.specs.Terms.{Term, terms_total}

@@ -10,12 +10,12 @@ use Rattle.std.specs.declared.cmp.Ordering.{Ordering}
 use Rattle.std.specs.declared.cmp.Ordering.TheVariants.{Less, Equal, Greater}
 use Rattle.std.proofs.lemmas.List.{append-nil}
 use Rattle.std.proofs.lemmas.List.Sums.{sum_by-cons, sum_by-append}
-use Rattle.problem_form.specs.declared.literal.Literal.{Literal}
+use Rattle.literal_lists.specs.declared.literal.Literal.{Literal}
 use Rattle.problem_form.specs.declared.limits.Normal.TheVariants as normals
 use Rattle.problem_form.specs.declared.terms.Product.{Product}
 use Rattle.problem_form.specs.declared.terms.Clause.{Clause}
 use Rattle.problem_form.specs.declared.terms.Constraint.{Constraint}
-use Rattle.problem_form.specs.Literals.{literal_cmp, has_clash, with_literal, literal_set}
+use Rattle.literal_lists.specs.Literals.{literal_cmp, has_clash, with_literal, literal_set}
 use Rattle.problem_form.specs.Problems.{ProblemContent}
 use Rattle.problem_form.specs.Limits as limits
 use Rattle.problem_form.specs.Limits.{clause_complements, most_complements, negations, penalty, slack_range, slack_bits}

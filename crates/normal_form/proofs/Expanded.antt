@@ -1,7 +1,7 @@
 -- A table, multiplied out: what is gathered fits, term by term, and no complement is left.
 use Rattle.std.proofs.Common.{◌≡◌, ◌+◌, ◌*◌, ◌≤◌, ◌^◌, List, [], ◌∷◌, refl, sym, ap, ◌∙◌, subst, arith, All}
 use Rattle.std.proofs.lemmas.List.Elements.{recursion_from_All}
-use Rattle.problem_form.specs.declared.literal.Literal.{Literal}
+use Rattle.literal_lists.specs.declared.literal.Literal.{Literal}
 use Rattle.term_table.specs.Terms.{Term, terms_total, IsTermSet}
 use Rattle.term_table.specs.Tables.{TableContent, IsTable, AreAdditions, with_more}
 use Rattle.term_table.specs.MultipliedOut.{complements, ArePlain, plain_terms, contributions}

@@ -7,8 +7,8 @@ use Rattle.std.proofs.Math.Nat.{mul-le-mul_right}
 use Rattle.std.proofs.Math.Seq.{drop-cons}
 use Rattle.std.proofs.lemmas.List.{append_assoc, append-nil, map-append, take_all, take-append-drop}
 use Rattle.std.proofs.lemmas.List.Elements.{All-from_recursion, recursion_from_All}
-use Rattle.bits_model.proofs.Growth.{one_le_pow}
-use Rattle.problem_form.specs.declared.literal.Literal.{Literal}
+use Rattle.form_steps.proofs.Growth.{one_le_pow}
+use Rattle.literal_lists.specs.declared.literal.Literal.{Literal}
 use Rattle.term_table.specs.Terms.{Term, terms_total, IsTermSet}
 use Rattle.term_table.specs.Tables.{TableContent, with_more, AreAdditions}
 use Rattle.term_table.specs.MultipliedOut.{complements, ArePlain, plain, with_front, plain_terms}

@@ -9,8 +9,8 @@ use Rattle.std.specs.List.{sum_by}
 use Rattle.std.proofs.Math.Nat.{mul-le-mul_left, mul-le-mul_right}
 use Rattle.std.proofs.Math.Pow.{pow_mono}
 use Rattle.std.proofs.lemmas.List.Sums.{sum_by-cons, sum_by-append}
-use Rattle.bits_model.proofs.Growth.{one_le_pow}
-use Rattle.problem_form.specs.declared.literal.Literal.{Literal}
+use Rattle.form_steps.proofs.Growth.{one_le_pow}
+use Rattle.literal_lists.specs.declared.literal.Literal.{Literal}
 use Rattle.problem_form.specs.declared.terms.Product.{Product}
 use Rattle.problem_form.specs.declared.terms.Clause.{Clause}
 use Rattle.problem_form.specs.declared.terms.Constraint.{Constraint}

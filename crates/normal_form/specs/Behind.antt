@@ -1,6 +1,6 @@
 -- Terms behind literals that were taken already.
 use Rattle.std.specs.Prelude.{List, ◌++◌, map}
-use Rattle.problem_form.specs.declared.literal.Literal.{Literal}
+use Rattle.literal_lists.specs.declared.literal.Literal.{Literal}
 use Rattle.term_table.specs.Terms.{Term}
 
 -- each term, with these literals in front

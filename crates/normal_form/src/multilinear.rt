@@ -1,6 +1,6 @@
 //! The penalty method's table in multilinear form.
 ghost use Rattle.std.specs.Prelude.{◌^◌};
-ghost use Rattle.bits_model.specs.Links.{first_bits, HasFirstBits};
+ghost use Rattle.form_steps.specs.Links.{first_bits, HasFirstBits};
 ghost use Rattle.penalty_layer.specs.Penalty.{extension, figures, Fits};
 ghost use Rattle.penalty_layer.specs.laws.Relaxing.{penalty_sound};
 ghost use Rattle.normal_form.specs.Multilinear.{image, Admits};
@@ -11,7 +11,8 @@ ghost use Rattle.normal_form.specs.laws.Relaxing.{
 };
 
 use crate::multiplied::expand;
-use bits_model::{BitsLink, Guard, Guarded, NoMemory};
+use base::NoMemory;
+use form_steps::{BitsLink, Guard, Guarded};
 use penalty_layer::Penalty;
 use problem_form::Problem;
 use std::alloc::Global;

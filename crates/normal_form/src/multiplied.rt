@@ -9,8 +9,8 @@ ghost use Rattle.term_table.specs.MultipliedOut.{complements, plain, plain_terms
 ghost use Rattle.normal_form.specs.Behind.{behind};
 ghost use Rattle.normal_form.specs.Multilinear.{expanded, IsMultilinear};
 
-use bits_model::NoMemory;
-use problem_form::Literal;
+use base::NoMemory;
+use literal_lists::Literal;
 use std::alloc::Global;
 use term_table::{GatheredTerms, Table};
 

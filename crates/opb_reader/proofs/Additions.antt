@@ -11,7 +11,7 @@ use Rattle.whole_text.specs.Tokens.{Word}
 use Rattle.whole_text.specs.declared.faults.TextAnswer.{TextAnswer}
 use Rattle.whole_text.specs.declared.faults.TextAnswer.TheVariants as answers
 use Rattle.whole_text.specs.Steps.{◌>>=◌, Fails, end_line}
-use Rattle.problem_form.specs.declared.literal.Literal.{Literal}
+use Rattle.literal_lists.specs.declared.literal.Literal.{Literal}
 use Rattle.problem_form.specs.declared.terms.Product.{Product}
 use Rattle.problem_form.specs.declared.terms.Constraint.{Constraint}
 use Rattle.problem_form.specs.Problems.{ProblemContent}

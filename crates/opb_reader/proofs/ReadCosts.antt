@@ -3,10 +3,10 @@ use Rattle.std.proofs.Common.{◌≡◌, Bool, true, false, not, ◌||◌, arith
 use Rattle.std.specs.Prelude.{if◌then◌else◌}
 use Rattle.std.specs.List.{list_any}
 use Rattle.std.proofs.lemmas.Int.{ints}
-use Rattle.bits_model.specs.declared.costs.Cost.TheVariants.{Whole, Infinite}
-use Rattle.integers.specs.Sums.{if_so}
+use Rattle.base.specs.declared.costs.Cost.TheVariants.{Whole, Infinite}
+use Rattle.base.specs.Sums.{if_so}
 use Rattle.problem_form.specs.declared.terms.Product.{Product}
-use Rattle.problem_form.specs.Literals.{all_hold}
+use Rattle.literal_lists.specs.Literals.{all_hold}
 use Rattle.problem_form.specs.Problems.{sum_of, negated, fails, problem_cost}
 use Rattle.problem_form.proofs.NormalForms.{normal_form-cost}
 use Rattle.opb_reader.specs.declared.operator.Operator.{Operator}

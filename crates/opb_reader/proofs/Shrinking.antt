@@ -4,7 +4,7 @@ use Rattle.whole_text.specs.declared.faults.TextFault.{TextFault}
 use Rattle.whole_text.specs.declared.faults.TextKind.TheVariants as kinds
 use Rattle.whole_text.specs.Tokens.{Word}
 use Rattle.whole_text.specs.Steps.{◌>>=◌, fault, next_of, integer_at}
-use Rattle.problem_form.specs.declared.literal.Literal.{Literal}
+use Rattle.literal_lists.specs.declared.literal.Literal.{Literal}
 use Rattle.problem_form.specs.declared.terms.Product.{Product}
 use Rattle.opb_reader.specs.declared.operator.Operator.{Operator}
 use Rattle.opb_reader.specs.Opb.{Listed, begins_literal, is_operator, is_semicolon, literal_at, literals_at, product_at, coefficient_at, term_at, sum_at, operator_at, closed_at, comparison_at, constraint_at, constraints_at, never, WordsAreEnough}

@@ -2,9 +2,9 @@
 use Rattle.std.specs.Prelude.{◌≡◌, ℕ, ℤ, neg_ℤ, int_le, Bool, true, false, not, List, map, Result, Ok, if◌then◌else◌}
 use Rattle.std.specs.List.{list_any}
 use Rattle.std.specs.Ordering.{int_eq}
-use Rattle.bits_model.specs.declared.costs.Cost.{Cost}
-use Rattle.bits_model.specs.declared.costs.Cost.TheVariants.{Whole, Infinite}
-use Rattle.bits_model.specs.Costs.{Form, Source}
+use Rattle.base.specs.declared.costs.Cost.{Cost}
+use Rattle.base.specs.declared.costs.Cost.TheVariants.{Whole, Infinite}
+use Rattle.base.specs.Costs.{Form, Source}
 use Rattle.whole_text.specs.declared.faults.TextFault.{TextFault}
 use Rattle.whole_text.specs.Tokens.{Word}
 use Rattle.whole_text.specs.Steps.{◌>>=◌}

@@ -10,7 +10,7 @@ use Rattle.whole_text.specs.declared.token.Style.TheVariants as styles
 use Rattle.whole_text.specs.Numbers.{are_digits, digits_number, number_of}
 use Rattle.whole_text.specs.Tokens.{Word, tokens_of}
 use Rattle.whole_text.specs.Steps.{◌>>=◌, fault, end_line, next_of, integer_at}
-use Rattle.problem_form.specs.declared.literal.Literal.{Literal}
+use Rattle.literal_lists.specs.declared.literal.Literal.{Literal}
 use Rattle.problem_form.specs.declared.terms.Product.{Product}
 use Rattle.opb_reader.specs.declared.operator.Operator.{Operator}
 use Rattle.opb_reader.specs.declared.operator.Operator.TheVariants.{AtLeast, AtMost, Equal}

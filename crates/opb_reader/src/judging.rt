@@ -8,7 +8,7 @@ ghost use Rattle.whole_text.specs.TokenTexts.{word_of};
 ghost use Rattle.opb_reader.specs.Opb.{is_operator, is_semicolon, begins_literal, ends_in_colon, stands_elsewhere, index_at, name_at, literal_at, coefficient_at, operator_at};
 
 use crate::operator::Operator;
-use problem_form::Literal;
+use literal_lists::Literal;
 use whole_text::{TextFault, TextKind, WordRef, digits, fault, number};
 
 /// `>=`, `<=` or `=`.

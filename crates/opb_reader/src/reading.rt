@@ -8,7 +8,8 @@ ghost use Rattle.opb_reader.specs.Views.{head_read, constraint_read, constraints
 
 use crate::comparing::{compare, comparison};
 use crate::sums::{objective, sum};
-use problem_form::{Constraint, Literal, Problem, ProductList};
+use literal_lists::Literal;
+use problem_form::{Constraint, Problem, ProductList};
 use std::alloc::Global;
 use whole_text::{Lexer, Style, TextAnswer, TokenText, WordRef, Words};
 

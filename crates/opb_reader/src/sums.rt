@@ -7,8 +7,9 @@ ghost use Rattle.opb_reader.specs.Opb.{literals_in, widened, is_operator, produc
 ghost use Rattle.opb_reader.specs.Views.{left, literals_read, objective_read};
 
 use crate::judging::{begins_literal, coefficient, is_operator, is_semicolon, literal};
-use bits_model::NoMemory;
-use problem_form::{Literal, Problem, ProductList};
+use base::NoMemory;
+use literal_lists::Literal;
+use problem_form::{Problem, ProductList};
 use whole_text::{TextAnswer, TextKind, WordRef, Words, fault, next_word};
 
 /// Appends a literal, and gives so many variables that it has one.

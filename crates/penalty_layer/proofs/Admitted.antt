@@ -1,9 +1,9 @@
 -- What the guard makes of a problem that it admits.
 use Rattle.std.proofs.Common.{◌≡◌, ◌+◌, ◌≤◌, ◌^◌, pos, unsigned_abs, ℤ, [], subst, refl, sym, ap, ◌∙◌, arith}
 use Rattle.std.specs.Prelude.{None}
-use Rattle.bits_model.specs.declared.layer.BitsLink.{BitsLink}
-use Rattle.bits_model.specs.Relations.{Relaxes}
-use Rattle.bits_model.specs.Links.{first_bits}
+use Rattle.form_steps.specs.declared.layer.BitsLink.{BitsLink}
+use Rattle.form_steps.specs.Relations.{Relaxes}
+use Rattle.form_steps.specs.Links.{first_bits}
 use Rattle.problem_form.specs.declared.limits.Normal.TheVariants as normals
 use Rattle.problem_form.specs.Problems.{ProblemContent}
 use Rattle.problem_form.specs.Problems as problems

@@ -14,8 +14,8 @@ use Rattle.std.proofs.lemmas.Cmp.{ranked}
 use Rattle.std.proofs.lemmas.List.{length-map}
 use Rattle.std.proofs.lemmas.List.Elements.{All-from_recursion, recursion_from_All}
 use mathlib.Core.Bool.{beq}
-use Rattle.problem_form.specs.declared.literal.Literal.{Literal}
-use Rattle.problem_form.specs.Literals.{literal_cmp, are_opposite, has_clash, IsLiteralSet}
+use Rattle.literal_lists.specs.declared.literal.Literal.{Literal}
+use Rattle.literal_lists.specs.Literals.{literal_cmp, are_opposite, has_clash, IsLiteralSet}
 use Rattle.penalty_layer.specs.Penalty.{opposite}
 
 or_false_left : (a b : Bool) → (a || b) ≡ false → a ≡ false

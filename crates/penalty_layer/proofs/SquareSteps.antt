@@ -4,10 +4,10 @@ use Rattle.std.specs.List.{slice_get}
 use Rattle.std.proofs.lemmas.Int.{unsigned_abs-mul}
 use Rattle.std.proofs.lemmas.Option.{slice_get_within, get_or_from_slice_get}
 use Rattle.std.proofs.lemmas.Nat.{mul-le}
-use Rattle.problem_form.specs.declared.literal.Literal.{Literal}
-use Rattle.problem_form.specs.Literals.{literal_set}
-use Rattle.problem_form.proofs.LiteralSets.{literal_set-ascending}
-use Rattle.problem_form.proofs.WeighedParts.{drop-at}
+use Rattle.literal_lists.specs.declared.literal.Literal.{Literal}
+use Rattle.literal_lists.specs.Literals.{literal_set}
+use Rattle.literal_lists.proofs.LiteralSets.{literal_set-ascending}
+use Rattle.literal_lists.proofs.LentParts.{drop-at}
 use Rattle.term_table.specs.Terms.{Term, terms_total}
 use Rattle.term_table.specs.Products.{scaled, union_terms, product_terms, products_with, IsFactor}
 use Rattle.term_table.proofs.Additions.{terms_total-cons}

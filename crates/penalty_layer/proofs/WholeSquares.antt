@@ -9,12 +9,12 @@ use Rattle.std.specs.Ordering.{is_eq}
 use Rattle.std.proofs.lemmas.Int.{ints}
 use Rattle.std.proofs.lemmas.List.Elements.{recursion_from_All}
 use Rattle.std.proofs.Math.IntN.{*ℤ_comm}
-use Rattle.integers.specs.Sums.{total_by, if_so}
-use Rattle.integers.proofs.Products.{multiply_out, integers, times_assoc}
-use Rattle.integers.proofs.Totals.{total_by-append, total_by-flat_map, total_by-plus, total_by-same, total_by-times}
-use Rattle.problem_form.specs.declared.literal.Literal.{Literal}
-use Rattle.problem_form.specs.Literals.{has_clash, IsLiteralSet}
-use Rattle.problem_form.proofs.LiteralSets.{literal_set-turned, literal_set-twice}
+use Rattle.base.specs.Sums.{total_by, if_so}
+use Rattle.base.proofs.Products.{multiply_out, integers, times_assoc}
+use Rattle.base.proofs.Totals.{total_by-append, total_by-flat_map, total_by-plus, total_by-same, total_by-times}
+use Rattle.literal_lists.specs.declared.literal.Literal.{Literal}
+use Rattle.literal_lists.specs.Literals.{has_clash, IsLiteralSet}
+use Rattle.literal_lists.proofs.LiteralSets.{literal_set-turned, literal_set-twice}
 use Rattle.term_table.specs.Terms.{Term, set_cmp, coefficient_of}
 use Rattle.term_table.specs.Products.{union, union_terms, scaled, product_terms, products_with}
 use Rattle.penalty_layer.specs.Squares.{square_terms}

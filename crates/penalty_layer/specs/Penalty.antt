@@ -7,9 +7,9 @@
 -- off by slack bits. See Boros and Hammer, Pseudo-Boolean optimization (2002).
 use Rattle.std.specs.Prelude.{◌≡◌, ℕ, ◌+◌, pos, not, Bool, List, [], ◌∷◌, ◌++◌, map, unwrap_or, None}
 use Rattle.std.specs.List.{sum_by, flat_map}
-use Rattle.bits_model.specs.declared.costs.Figures.{Figures}
-use Rattle.bits_model.specs.declared.layer.BitsLink.{BitsLink}
-use Rattle.problem_form.specs.declared.literal.Literal.{Literal}
+use Rattle.base.specs.declared.costs.Figures.{Figures}
+use Rattle.form_steps.specs.declared.layer.BitsLink.{BitsLink}
+use Rattle.literal_lists.specs.declared.literal.Literal.{Literal}
 use Rattle.problem_form.specs.declared.terms.Clause.{Clause}
 use Rattle.problem_form.specs.declared.limits.Normal.TheVariants as normals
 use Rattle.problem_form.specs.Problems.{ProblemContent, IsNormal}

@@ -1,6 +1,6 @@
 -- The square of what a constraint's sum is off by, as terms.
 use Rattle.std.specs.Prelude.{ℕ, suc, ◌+◌, ◌*◌, pos, neg_ℤ, ◌-ℤ◌, ◌*ℤ◌, Bool, false, List, [], ◌∷◌, ◌++◌, map}
-use Rattle.problem_form.specs.declared.literal.Literal.{Literal}
+use Rattle.literal_lists.specs.declared.literal.Literal.{Literal}
 use Rattle.problem_form.specs.declared.terms.Constraint.{Constraint}
 use Rattle.problem_form.specs.declared.terms.Product.{Product}
 use Rattle.problem_form.specs.Problems.{sum_of}

@@ -1,9 +1,9 @@
 -- What slack bits and squares promise beside the guard's clauses.
 use Rattle.std.specs.Prelude.{◌≡◌, ℕ, ◌≤◌, ℤ, pos, ◌-ℤ◌, ◌*ℤ◌, Bool, List, All}
 use Rattle.std.specs.List.{flat_map}
-use Rattle.problem_form.specs.declared.literal.Literal.{Literal}
+use Rattle.literal_lists.specs.declared.literal.Literal.{Literal}
 use Rattle.problem_form.specs.declared.terms.Constraint.{Constraint}
-use Rattle.problem_form.specs.Literals.{IsLiteralSet}
+use Rattle.literal_lists.specs.Literals.{IsLiteralSet}
 use Rattle.problem_form.specs.Problems.{sum_of}
 use Rattle.problem_form.specs.Limits.{slack_range}
 use Rattle.term_table.specs.Terms.{Term, coefficient_of, terms_cost}

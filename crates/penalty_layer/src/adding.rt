@@ -15,8 +15,9 @@ ghost use Rattle.penalty_layer.specs.Weights.{clause_weights};
 
 use crate::constraints::add_constraints;
 use crate::gather::Gather;
-use bits_model::NoMemory;
-use problem_form::{ClauseList, ClauseRef, Literal, Literals, Problem, ProductList, ProductRef};
+use base::NoMemory;
+use literal_lists::{Literal, Literals};
+use problem_form::{ClauseList, ClauseRef, Problem, ProductList, ProductRef};
 use std::alloc::Global;
 
 /// Adds the products with their coefficients.

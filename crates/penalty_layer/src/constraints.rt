@@ -12,7 +12,7 @@ use crate::gather::Gather;
 use crate::parts::Parts;
 use crate::slack::slack_bits_of;
 use crate::squares::add_square;
-use bits_model::NoMemory;
+use base::NoMemory;
 use problem_form::{ConstraintList, Problem};
 use std::alloc::Global;
 

@@ -5,10 +5,9 @@ ghost use Rattle.penalty_layer.specs.Slack.{doubled, slack_weights};
 ghost use Rattle.penalty_layer.specs.Squares.{node, product_term, slack_form, slack_terms};
 
 use crate::slack::{last_weight, slack_bits_of};
-use bits_model::NoMemory;
-use problem_form::{
-    ConstraintRef, Literal, ProductRef, Products, WideLists, binary_digits_of, slack_range_of,
-};
+use base::NoMemory;
+use literal_lists::{Literal, WideLists};
+use problem_form::{ConstraintRef, ProductRef, Products, binary_digits_of, slack_range_of};
 use std::alloc::Global;
 use std::marker::Model;
 

@@ -1,13 +1,14 @@
 //! The penalty method.
 ghost use Rattle.std.specs.Prelude.{◌^◌};
 ghost use Rattle.penalty_layer.specs.Penalty.{Admits, extension, image, figures, Fits};
-ghost use Rattle.bits_model.specs.Links.{first_bits, HasFirstBits};
+ghost use Rattle.form_steps.specs.Links.{first_bits, HasFirstBits};
 ghost use Rattle.penalty_layer.specs.laws.Relaxing.{penalty_relaxes, penalty_joins, penalty_sound, penalty_whole};
 
 use crate::adding::add_contributions;
 use crate::constraints::node_count;
 use crate::slack::extended;
-use bits_model::{BitsLink, Figures, Guard, Guarded, NoMemory};
+use base::{Figures, NoMemory};
+use form_steps::{BitsLink, Guard, Guarded};
 use problem_form::Problem;
 use std::alloc::Global;
 use term_table::{GatheredTerms, Table};

@@ -6,7 +6,7 @@ ghost use Rattle.problem_form.specs.Limits.{slack_bits};
 ghost use Rattle.penalty_layer.specs.Slack.{bits_for, clamped, digit_bits, last_weight, value_bits};
 ghost use Rattle.penalty_layer.specs.Squares.{slack_state};
 
-use bits_model::NoMemory;
+use base::NoMemory;
 use problem_form::{
     ConstraintList, ConstraintRef, binary_digits_of, slack_range_of, sum_of_products,
 };

@@ -7,8 +7,8 @@ ghost use Rattle.penalty_layer.specs.Squares.{square_terms};
 
 use crate::gather::Gather;
 use crate::parts::Parts;
-use bits_model::NoMemory;
-use problem_form::{Literal, clashes};
+use base::NoMemory;
+use literal_lists::{Literal, clashes};
 use term_table::unite;
 
 #[inline(always)]

@@ -6,9 +6,9 @@ use Rattle.std.specs.List.{list_any, position_or_len}
 use Rattle.std.proofs.lemmas.List.{map-append}
 use Rattle.std.proofs.lemmas.List.Elements.{All-push}
 use Rattle.indexmap.specs.IndexSet.{insert_key}
-use Rattle.problem_form.specs.declared.literal.Literal.{Literal}
-use Rattle.problem_form.specs.FlatLists.{parts, AreEnds}
-use Rattle.problem_form.proofs.FlatParts.{parts-push, ends-push}
+use Rattle.literal_lists.specs.declared.literal.Literal.{Literal}
+use Rattle.literal_lists.specs.FlatLists.{parts, AreEnds}
+use Rattle.literal_lists.proofs.FlatParts.{parts-push, ends-push}
 use Rattle.poly_reader.specs.Poly.{is_name}
 use Rattle.poly_reader.specs.Numbering.{with_name, number_of, AreNames}
 use Rattle.poly_reader.specs.Views.{names_lent}

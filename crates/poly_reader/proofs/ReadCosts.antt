@@ -2,9 +2,9 @@
 use Rattle.std.proofs.Common.{◌≡◌, ℕ, Bool, ◌&&◌, List, [], ◌∷◌, map, pos, ◌+ℤ◌, refl, ap, ◌∙◌, arith}
 use Rattle.std.specs.List.{list_all}
 use Rattle.std.proofs.lemmas.Int.{ints}
-use Rattle.bits_model.specs.declared.costs.Cost.TheVariants.{Whole}
-use Rattle.integers.specs.Sums.{total_by, if_so}
-use Rattle.problem_form.specs.Literals.{all_hold}
+use Rattle.base.specs.declared.costs.Cost.TheVariants.{Whole}
+use Rattle.base.specs.Sums.{total_by, if_so}
+use Rattle.literal_lists.specs.Literals.{all_hold}
 use Rattle.problem_form.specs.Problems.{sum_of, problem_cost}
 use Rattle.problem_form.proofs.NormalForms.{normal_form-cost}
 use Rattle.poly_reader.specs.Poly.{Named, Listed}

@@ -6,7 +6,7 @@ use Rattle.whole_text.specs.declared.faults.TextFault.{TextFault}
 use Rattle.whole_text.specs.Tokens.{Word}
 use Rattle.whole_text.specs.TokenTexts.{word_of}
 use Rattle.whole_text.specs.Steps.{◌>>=◌, integer_at}
-use Rattle.problem_form.specs.declared.literal.Literal.{Literal}
+use Rattle.literal_lists.specs.declared.literal.Literal.{Literal}
 use Rattle.problem_form.specs.declared.terms.Product.{Product}
 use Rattle.problem_form.specs.Problems.{ProblemContent}
 use Rattle.problem_form.specs.NormalForm.{blank, with_variables, with_product}

@@ -8,7 +8,7 @@ ghost use Rattle.poly_reader.specs.Views.{named_of, left, literals_read, product
 
 use crate::name_table::NameTable;
 use crate::names::as_text;
-use problem_form::Literal;
+use literal_lists::Literal;
 use whole_text::{TextAnswer, TextFault, TextKind, WordRef, Words, fault, integer_word};
 
 /// A literal as it is written: a name, and whether there is a `~` before it.

@@ -4,7 +4,7 @@ ghost use Rattle.poly_reader.specs.Poly.{is_name};
 ghost use Rattle.poly_reader.specs.Numbering.{with_name, number_of};
 
 use crate::names::Names;
-use bits_model::NoMemory;
+use base::NoMemory;
 use indexmap::IndexSet;
 use std::alloc::Global;
 use std::marker::Model;

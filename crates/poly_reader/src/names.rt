@@ -1,9 +1,9 @@
 //! The names of variables.
 ghost use Rattle.std.specs.Prelude.{◌≡◌, ◌<◌, ◌≤◌, ◌++◌, ◌∷◌, [], Some, OnOk, true, length, slice_get, slice_range};
-ghost use Rattle.problem_form.specs.FlatLists.{AreEnds, parts, start_of};
+ghost use Rattle.literal_lists.specs.FlatLists.{AreEnds, parts, start_of};
 ghost use Rattle.poly_reader.specs.Poly.{is_name};
 
-use bits_model::NoMemory;
+use base::NoMemory;
 use std::alloc::Global;
 use std::marker::Model;
 use std::str;
@@ -59,7 +59,7 @@ impl Model for Names {
 
     ghost Value = { List (List ℕ) };
 
-    ghost use Rattle.problem_form.specs.FlatLists.{AreEnds, parts};
+    ghost use Rattle.literal_lists.specs.FlatLists.{AreEnds, parts};
     ghost use Rattle.poly_reader.specs.Numbering.{AreNames};
 
     ghost view = { λ a. parts a.bytes.items 0 a.ends.items };

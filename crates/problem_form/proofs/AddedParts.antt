@@ -5,8 +5,8 @@ use Rattle.std.proofs.Common.{◌≡◌, ℕ, arith, refl, sym, ap, ◌∙◌, L
 use Rattle.std.proofs.lemmas.Int.{ints}
 use Rattle.std.proofs.lemmas.List.{flat_map_more, map-append}
 use Rattle.std.proofs.lemmas.List.Folds.{fold-map}
-use Rattle.integers.proofs.Totals.{total_by-append}
-use Rattle.integers.specs.Sums.{total_by}
+use Rattle.base.proofs.Totals.{total_by-append}
+use Rattle.base.specs.Sums.{total_by}
 use Rattle.problem_form.specs.declared.terms.Product.{Product}
 use Rattle.problem_form.specs.declared.terms.Clause.{Clause}
 use Rattle.problem_form.specs.declared.terms.Constraint.{Constraint}

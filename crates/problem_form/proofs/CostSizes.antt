@@ -2,12 +2,12 @@
 use Rattle.std.proofs.Common.{◌≡◌, ℕ, ◌+◌, ◌≤◌, Bool, true, false, arith, ap, List, ℤ, pos, ◌+ℤ◌, unsigned_abs}
 use Rattle.std.specs.List.{sum_by, list_any}
 use Rattle.std.proofs.lemmas.List.Sums.{sum_by-le-sum_by}
-use Rattle.integers.specs.Sums.{total_by, if_so}
-use Rattle.integers.proofs.Totals.{size-total_by}
-use Rattle.bits_model.specs.declared.costs.Cost.TheVariants.{Whole}
+use Rattle.base.specs.Sums.{total_by, if_so}
+use Rattle.base.proofs.Totals.{size-total_by}
+use Rattle.base.specs.declared.costs.Cost.TheVariants.{Whole}
 use Rattle.problem_form.specs.declared.terms.Product.{Product}
 use Rattle.problem_form.specs.declared.terms.Clause.{Clause}
-use Rattle.problem_form.specs.Literals.{all_hold}
+use Rattle.literal_lists.specs.Literals.{all_hold}
 use Rattle.problem_form.specs.Problems.{ProblemContent, fails, fails_hard, problem_cost, problem_total, product_value, sum_of, is_violated, soft_cost, soft_weight, products_total}
 
 if_so-size : (b : Bool) (c : ℤ) → unsigned_abs (if_so b c) ≤ unsigned_abs c

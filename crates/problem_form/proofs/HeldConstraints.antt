@@ -1,14 +1,14 @@
 -- Constraints whose products lie one after another: more products leave them as they are, and one
 -- more constraint.
 use Rattle.std.proofs.Common.{◌≡◌, ◌+◌, ◌≤◌, arith, refl, sym, ap, subst, ◌∙◌, List, [], ◌∷◌, ◌++◌, length, length-append, map, take, drop}
-use Rattle.std.specs.Prelude.{All, OnErr, Result, Ok, Err, slice_range}
+use Rattle.std.specs.Prelude.{All, slice_range}
 use Rattle.std.proofs.lemmas.List.{take-append-drop, map-append}
 use Rattle.std.proofs.lemmas.List.Elements.{All-append, All-cons, All-nil, All-tail}
 use Rattle.std.proofs.Math.Seq.{take-append_seam}
 use Rattle.problem_form.specs.declared.terms.Product.{Product}
 use Rattle.problem_form.specs.declared.constraint_list.Row.{Row}
 use Rattle.problem_form.specs.ConstraintRows.{constraint_of, LiesWithin}
-use Rattle.problem_form.proofs.FlatParts.{slice_range-append, slice_range-last}
+use Rattle.literal_lists.proofs.FlatParts.{slice_range-append, slice_range-last}
 
 -- ---- more products
 
@@ -81,7 +81,3 @@ rows_pushed-within products kept products' rows rows' row at_products at_rows st
     subst AllOf (sym at_rows) both
 
 -- ---- an answer that is an error
-
-pub on_err : {T E P : Type 0} (r : Result T E) → P → OnErr r P
-on_err (Ok x) p = tt
-on_err (Err x) p = p

@@ -8,14 +8,14 @@ use Rattle.std.proofs.lemmas.Bool.{or_parts, or_left, or_right, or_from, eqb-fal
 use Rattle.std.proofs.lemmas.List.Elements.{All-append, All-cons, All-nil}
 use Rattle.std.proofs.lemmas.List.Sums.{sum_by-append}
 use Rattle.std.proofs.Math.Dec.{eqb-suc-zero}
-use Rattle.integers.proofs.Totals.{size-plus}
-use Rattle.problem_form.specs.declared.literal.Literal.{Literal}
+use Rattle.base.proofs.Totals.{size-plus}
+use Rattle.literal_lists.specs.declared.literal.Literal.{Literal}
 use Rattle.problem_form.specs.declared.terms.Clause.{Clause}
-use Rattle.problem_form.specs.Literals.{has_clash, with_literal, literal_set, IsLiteralSet, literal_cmp}
+use Rattle.literal_lists.specs.Literals.{has_clash, with_literal, literal_set, IsLiteralSet, literal_cmp}
 use Rattle.problem_form.specs.Fields.{IsSound}
 use Rattle.problem_form.specs.Problems.{ProblemContent, IsNormal, IsNormalClause, soft_weight, problem_total}
 use Rattle.problem_form.specs.NormalForm.{is_empty, is_plain_cost, kept_clause, clause_constant, weight_constant, with_clause}
-use Rattle.problem_form.proofs.LiteralSets.{literal_set-ascends, has_clash-literal_set, All-literal_set}
+use Rattle.literal_lists.proofs.LiteralSets.{literal_set-ascends, has_clash-literal_set, All-literal_set}
 
 -- ---- a list and its set
 

@@ -8,16 +8,16 @@ use Rattle.std.proofs.lemmas.Bool.Decides.{Decides-int_eq}
 use Rattle.std.proofs.lemmas.Bool.{or_left, or_right, or_from, false_from_ne_true}
 use Rattle.std.proofs.lemmas.List.Elements.{All-append, All-cons, All-nil, All-tail}
 use Rattle.std.proofs.lemmas.List.Sums.{sum_by-append, sum_by-cons}
-use Rattle.integers.specs.Sums.{total_by}
-use Rattle.integers.proofs.Totals.{size-plus}
-use Rattle.problem_form.specs.declared.literal.Literal.{Literal}
+use Rattle.base.specs.Sums.{total_by}
+use Rattle.base.proofs.Totals.{size-plus}
+use Rattle.literal_lists.specs.declared.literal.Literal.{Literal}
 use Rattle.problem_form.specs.declared.terms.Product.{Product}
 use Rattle.problem_form.specs.declared.terms.Constraint.{Constraint}
-use Rattle.problem_form.specs.Literals.{has_clash, literal_set}
+use Rattle.literal_lists.specs.Literals.{has_clash, literal_set}
 use Rattle.problem_form.specs.Fields.{IsSound}
 use Rattle.problem_form.specs.Problems.{ProblemContent, IsNormalProduct, products_total, constraint_total, problem_total}
 use Rattle.problem_form.specs.NormalForm.{is_empty, kept_product, product_constant, normal_constraint, with_product, with_constraint}
-use Rattle.problem_form.proofs.LiteralSets.{literal_set-ascends, has_clash-literal_set, All-literal_set}
+use Rattle.literal_lists.proofs.LiteralSets.{literal_set-ascends, has_clash-literal_set, All-literal_set}
 use Rattle.problem_form.proofs.KeptClauses.{is_empty-literal_set}
 
 -- ---- what is kept of a product, by the set of its literals

@@ -3,8 +3,8 @@ use Rattle.std.proofs.Common.{◌≡◌, ℕ, ◌+◌, ◌<◌, ◌≤◌, ◌^�
 use Rattle.std.specs.List.{sum_by}
 use Rattle.std.proofs.lemmas.List.Sums.{sum_by-cons}
 use Rattle.std.proofs.lemmas.Int.{ints}
-use Rattle.integers.specs.Sums.{total_by}
-use Rattle.integers.proofs.Totals.{size-plus}
+use Rattle.base.specs.Sums.{total_by}
+use Rattle.base.proofs.Totals.{size-plus}
 use Rattle.problem_form.specs.Limits.{answered_number}
 
 -- the sum so far and that of what is left are the whole, and their sizes are at most so much

@@ -1,4 +1,3 @@
-pub mod LiteralSets
 pub mod KeptClauses
 pub mod KeptProducts
 pub mod CountedNumbers
@@ -6,7 +5,6 @@ pub mod BinaryDigits
 pub mod CostSizes
 pub mod NormalForms
 pub mod AddedParts
-pub mod FlatParts
 pub mod WeighedParts
 pub mod LeftSums
 pub mod HeldConstraints

@@ -12,17 +12,17 @@ use Rattle.std.proofs.lemmas.List.Folds.{Any-from_list_any, list_any-append, lis
 use mathlib.Core.Bool.{beq}
 use Rattle.std.specs.Prelude.{if◌then◌else◌}
 use Rattle.std.proofs.Common.{◌<◌, unwrap_or}
-use Rattle.bits_model.specs.declared.costs.Cost.TheVariants.{Whole, Infinite}
-use Rattle.integers.specs.Sums.{total_by, if_so}
-use Rattle.integers.proofs.Totals.{total_by-append}
-use Rattle.problem_form.specs.declared.literal.Literal.{Literal}
+use Rattle.base.specs.declared.costs.Cost.TheVariants.{Whole, Infinite}
+use Rattle.base.specs.Sums.{total_by, if_so}
+use Rattle.base.proofs.Totals.{total_by-append}
+use Rattle.literal_lists.specs.declared.literal.Literal.{Literal}
 use Rattle.problem_form.specs.declared.terms.Product.{Product}
 use Rattle.problem_form.specs.declared.terms.Clause.{Clause}
 use Rattle.problem_form.specs.declared.terms.Constraint.{Constraint}
-use Rattle.problem_form.specs.Literals.{holds, all_hold, some_holds, are_opposite, has_clash, literal_set}
+use Rattle.literal_lists.specs.Literals.{holds, all_hold, some_holds, are_opposite, has_clash, literal_set}
 use Rattle.problem_form.specs.Problems.{product_value, sum_of, soft_cost, fails_hard, fails}
 use Rattle.problem_form.specs.NormalForm.{is_empty, kept_product, product_constant, is_plain_cost, kept_clause, weight_constant, clause_constant, normal_constraint, NormalFormKeepsCosts}
-use Rattle.problem_form.proofs.LiteralSets.{list_any-literal_set, list_all-literal_set}
+use Rattle.literal_lists.proofs.LiteralSets.{list_any-literal_set, list_all-literal_set}
 
 -- ---- a literal and its complement
 

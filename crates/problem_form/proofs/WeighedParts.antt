@@ -1,12 +1,11 @@
 -- What is made of two lists, place by place: its length, an element, and one more.
-use Rattle.std.proofs.Common.{◌≡◌, ◌≢◌, ℕ, zero, suc, ◌+◌, ◌<◌, List, [], ◌∷◌, ◌++◌, length, get_or, refl, sym, ap, ◌∙◌, arith, Option, Some, None, unwrap_or, drop, drop-cons, add-one, map, neg_ℤ, ℤ, unsigned_abs, All}
+use Rattle.std.proofs.Common.{◌≡◌, ◌≢◌, ℕ, zero, suc, ◌+◌, ◌<◌, List, [], ◌∷◌, ◌++◌, length, get_or, refl, ap, arith, Option, Some, None, unwrap_or, map, neg_ℤ, ℤ, unsigned_abs, All}
 use Rattle.std.specs.List.{AllByRecursion}
 use Rattle.std.proofs.lemmas.List.Elements.{All-from_recursion, recursion_from_All}
-use Rattle.problem_form.specs.declared.literal.Literal.{Literal}
+use Rattle.literal_lists.specs.declared.literal.Literal.{Literal}
 use Rattle.problem_form.specs.declared.terms.Product.{Product}
 use Rattle.problem_form.specs.Problems.{negated}
 use Rattle.std.specs.List.{slice_get}
-use Rattle.std.proofs.lemmas.Option.{slice_get_within, get_or_from_slice_get}
 use Rattle.problem_form.specs.WeighedLists.{zip_with, weight_of, product_of}
 
 pub length-zip_with : {A B C : Type 0} → (f : A → B → C) (xs : List A) (ys : List B) → length xs ≡ length ys → length (zip_with f xs ys) ≡ length ys
@@ -32,12 +31,6 @@ pub weight_of-unwrap_or : (weight : Option ℕ) → weight ≢ Some 0 → weight
 weight_of-unwrap_or None above = refl
 weight_of-unwrap_or (Some zero) above = absurd (above refl)
 weight_of-unwrap_or (Some (suc n)) above = refl
-
--- what is left from a place on begins with what stands there
-pub drop-at : {A : Type 0} → (xs : List A) (i : ℕ) (x : A) → slice_get xs i ≡ Some x → drop i xs ≡ x ∷ drop (i + 1) xs
-drop-at xs i x at =
-    drop-cons xs i x (slice_get_within xs i x at)
-    ∙ (λ j. get_or_from_slice_get xs i x x at j ∷ drop (sym (add-one i) j) xs)
 
 -- other signs
 pub zip_with-negated : (lists : List (List Literal)) (cs : List ℤ)

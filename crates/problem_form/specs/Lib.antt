@@ -1,9 +1,9 @@
-pub mod Literals
 pub mod Problems
 pub mod NormalForm
 pub mod Limits
 pub mod Fields
-pub mod FlatLists
-pub mod HeldLists
 pub mod WeighedLists
 pub mod ConstraintRows
+pub use Rattle.literal_lists.specs.Literals
+pub use Rattle.literal_lists.specs.FlatLists
+pub use Rattle.literal_lists.specs.HeldLists

@@ -1,7 +1,7 @@
 -- The numbers of a problem that are counted against limits, as mathematical whole numbers.
 use Rattle.std.specs.Prelude.{ℕ, zero, suc, ◌+◌, ◌-◌, ◌*◌, ◌^◌, ◌<◌, ◌≤◌, min, max, ℤ, pos, ◌+ℤ◌, ◌-ℤ◌, unsigned_abs, not, List, [], ◌∷◌, ◌++◌, length, Option, Some, None, is_none, map, fold, count_by, nat_lt, nat_le, if◌then◌else◌}
 use Rattle.std.specs.List.{sum_by, flat_map}
-use Rattle.integers.specs.Sums.{positive_part}
+use Rattle.base.specs.Sums.{positive_part}
 use Rattle.problem_form.specs.declared.limits.LimitKind.{LimitKind}
 use Rattle.problem_form.specs.declared.limits.LimitKind.TheVariants.{Variables, Degree, Negations, Pairs, Weight}
 use Rattle.problem_form.specs.declared.limits.LimitFault.{LimitFault}

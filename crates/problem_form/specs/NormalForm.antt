@@ -7,12 +7,12 @@
 use Rattle.std.specs.Prelude.{◌≡◌, ℕ, ℤ, pos, ◌+ℤ◌, ◌-ℤ◌, Bool, true, false, ◌||◌, List, [], ◌∷◌, ◌++◌, map, fold, Option, Some, None, if◌then◌else◌, ◌==◌}
 use Rattle.std.specs.List.{flat_map}
 use Rattle.std.specs.Ordering.{int_eq}
-use Rattle.integers.specs.Sums.{total_by}
-use Rattle.problem_form.specs.declared.literal.Literal.{Literal}
+use Rattle.base.specs.Sums.{total_by}
+use Rattle.literal_lists.specs.declared.literal.Literal.{Literal}
 use Rattle.problem_form.specs.declared.terms.Product.{Product}
 use Rattle.problem_form.specs.declared.terms.Clause.{Clause}
 use Rattle.problem_form.specs.declared.terms.Constraint.{Constraint}
-use Rattle.problem_form.specs.Literals.{has_clash, literal_set}
+use Rattle.literal_lists.specs.Literals.{has_clash, literal_set}
 use Rattle.problem_form.specs.Problems.{ProblemContent, problem_cost}
 
 -- a list without elements

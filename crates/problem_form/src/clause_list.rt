@@ -2,10 +2,8 @@
 ghost use Rattle.std.specs.Prelude.{◌≡◌, ◌≢◌, ◌<◌, ◌++◌, ◌∷◌, [], OnOk, OnErr, length, slice_get, Some, None};
 ghost use Rattle.problem_form.specs.WeighedLists.{weight_of};
 
-use crate::literal::Literal;
-use crate::literal_lists::LiteralLists;
-use crate::literals::Literals;
-use bits_model::NoMemory;
+use base::NoMemory;
+use literal_lists::{Literal, LiteralLists, Literals};
 use std::alloc::Global;
 use std::marker::Model;
 

@@ -3,9 +3,8 @@ ghost use Rattle.std.specs.Prelude.{◌≡◌, ◌++◌, pos, OnOk, OnErr};
 ghost use Rattle.problem_form.specs.NormalForm.{is_plain_cost, kept_clause, weight_constant};
 
 use crate::clause_list::ClauseList;
-use crate::literal::Literal;
-use crate::sets::{clashes, make_set};
-use bits_model::NoMemory;
+use base::NoMemory;
+use literal_lists::{Literal, clashes, make_set};
 
 /// What a clause adds to the constant: the weight of a soft one without literals.
 pub(crate) fn weight_constant(weight: Option<u64>, literals: &[Literal]) -> u64

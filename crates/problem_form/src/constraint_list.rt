@@ -3,11 +3,11 @@ ghost use Rattle.std.specs.Prelude.{◌≡◌, ◌<◌, ◌^◌, ◌++◌, ◌�
 ghost use Rattle.problem_form.specs.NormalForm.{normal_constraint};
 ghost use Rattle.problem_form.specs.Problems.{constraint_total};
 
-use crate::literal::Literal;
 use crate::product_list::{ProductList, Products};
 use crate::products::{keep_products, normal_bound};
 use crate::terms::Constraint;
-use bits_model::NoMemory;
+use base::NoMemory;
+use literal_lists::Literal;
 use std::alloc::Global;
 use std::marker::Model;
 

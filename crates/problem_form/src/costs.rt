@@ -1,28 +1,16 @@
 //! What an assignment costs.
 ghost use Rattle.std.specs.Prelude.{◌≡◌, ◌<◌, ◌^◌};
 ghost use Rattle.std.specs.List.{list_any, sum_by};
-ghost use Rattle.integers.specs.Sums.{total_by};
-ghost use Rattle.problem_form.specs.Literals.{all_hold, some_holds};
-ghost use Rattle.problem_form.specs.Problems.{
-  constraint_total,
-  fails,
-  fails_hard,
-  form_of,
-  problem_size,
-  problem_total,
-  product_value,
-  products_total,
-  soft_cost,
-  soft_weight,
-  sum_of,
-};
+ghost use Rattle.base.specs.Sums.{total_by};
+ghost use Rattle.literal_lists.specs.Literals.{all_hold, some_holds};
+ghost use Rattle.problem_form.specs.Problems.{constraint_total, fails, fails_hard, form_of, problem_size, problem_total, product_value, products_total, soft_cost, soft_weight, sum_of};
 
 use crate::clause_list::{ClauseList, ClauseRef};
 use crate::constraint_list::{ConstraintList, ConstraintRef};
-use crate::literals::Literals;
 use crate::problem::Problem;
 use crate::product_list::{ProductRef, Products};
-use bits_model::{Cost, Costed};
+use base::{Cost, Costed};
+use literal_lists::Literals;
 
 fn a_literal_holds(mut literals: Literals<'_>, x: &[bool]) -> bool
     ensures { result ≡ some_holds x.now literals.entry }

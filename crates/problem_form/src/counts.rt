@@ -1,7 +1,7 @@
 //! The numbers that are counted against limits.
 ghost use Rattle.std.specs.Prelude.{◌≡◌, ◌+◌, ◌*◌, ◌<◌, ◌^◌, ℤ, length, map, max, fold, count_by, is_none};
 ghost use Rattle.std.specs.List.{sum_by, flat_map};
-ghost use Rattle.integers.specs.Sums.{positive_part};
+ghost use Rattle.base.specs.Sums.{positive_part};
 ghost use Rattle.problem_form.specs.Problems.{constraint_total, products_total, soft_weight};
 ghost use Rattle.problem_form.specs.Limits.{answered_number, degree, positive_total, reach, slack_range, weight};
 

@@ -8,9 +8,9 @@ use crate::clause_list::{ClauseList, ClauseRef};
 use crate::constraint_list::{ConstraintList, ConstraintRef};
 use crate::counts::{products_degree, slack_range_of};
 use crate::limits::Normal;
-use crate::literals::Literals;
 use crate::problem::Problem;
 use crate::product_list::{ProductList, ProductRef, Products};
+use literal_lists::Literals;
 
 // ---- complements
 

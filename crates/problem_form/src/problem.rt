@@ -6,11 +6,11 @@ ghost use Rattle.problem_form.specs.Problems.{constraint_total, problem_total};
 use crate::clause_list::ClauseList;
 use crate::clauses::{keep_clause, weight_constant};
 use crate::constraint_list::ConstraintList;
-use crate::literal::Literal;
 use crate::product_list::ProductList;
 use crate::products::{coefficient_constant, keep_product};
 use crate::terms::Constraint;
-use bits_model::NoMemory;
+use base::NoMemory;
+use literal_lists::Literal;
 use std::alloc::Global;
 use std::marker::Model;
 

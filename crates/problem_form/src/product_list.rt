@@ -2,10 +2,8 @@
 ghost use Rattle.std.specs.Prelude.{◌≡◌, ◌<◌, ◌≤◌, ◌^◌, ◌++◌, ◌∷◌, [], All, OnOk, OnErr, length, map, neg_ℤ, unsigned_abs, slice_get, slice_range, Some};
 ghost use Rattle.problem_form.specs.Problems.{negated};
 
-use crate::literal::Literal;
-use crate::literal_lists::LiteralLists;
-use crate::literals::Literals;
-use bits_model::NoMemory;
+use base::NoMemory;
+use literal_lists::{Literal, LiteralLists, Literals};
 use std::alloc::Global;
 use std::marker::Model;
 

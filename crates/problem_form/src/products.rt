@@ -2,16 +2,15 @@
 ghost use Rattle.std.specs.Prelude.{◌≡◌, ◌==◌, if◌then◌else◌, pos, ◌<◌, ◌^◌, ◌||◌, ◌++◌, OnOk, OnErr, length, take};
 ghost use Rattle.std.specs.List.{flat_map};
 ghost use Rattle.std.specs.List.Sorted.{IsStrictlySortedBy};
-ghost use Rattle.integers.specs.Sums.{total_by};
-ghost use Rattle.problem_form.specs.Literals.{has_clash, literal_cmp};
+ghost use Rattle.base.specs.Sums.{total_by};
+ghost use Rattle.literal_lists.specs.Literals.{has_clash, literal_cmp};
 ghost use Rattle.problem_form.specs.NormalForm.{is_empty, kept_product, normal_constraint, product_constant};
 ghost use Rattle.problem_form.specs.Problems.{constraint_total, products_total};
 
-use crate::literal::Literal;
 use crate::product_list::{ProductList, ProductRef};
-use crate::sets::{clashes, make_set};
 use crate::terms::Constraint;
-use bits_model::NoMemory;
+use base::NoMemory;
+use literal_lists::{Literal, clashes, make_set};
 
 /// What a product adds to the constant: the coefficient of one without literals.
 pub(crate) fn coefficient_constant(literals: usize, coefficient: i128) -> i128

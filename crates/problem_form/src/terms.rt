@@ -1,7 +1,7 @@
 //! Products, clauses and constraints, each by itself.
 
-use crate::literal::LiteralList;
 use crate::product_list::ProductList;
+use literal_lists::LiteralList;
 
 /// Counts its coefficient where all its literals are true.
 #[derive(Drop)]

@@ -4,10 +4,10 @@ use Rattle.std.specs.declared.option.Option.{Option}
 use Rattle.std.proofs.lemmas.List.FromFn.{length-map-range_with_len}
 use Rattle.edge_io.specs.Held.{NamedFiles, WhereTold}
 use Rattle.bits_model.specs.declared.output.Kind.TheVariants as kinds
-use Rattle.bits_model.specs.declared.output.UnitChoice.{UnitChoice}
-use Rattle.bits_model.specs.Costs.{Source}
+use Rattle.base.specs.declared.unit.UnitChoice.{UnitChoice}
+use Rattle.base.specs.Costs.{Source}
 use Rattle.bits_model.specs.Output.{Written, IsWellFormed}
-use Rattle.bits_model.specs.Faithful.{Demand, HasChains}
+use Rattle.faithful.specs.Faithful.{Demand, HasChains}
 use Rattle.problem_form.specs.declared.limits.Choices.{Choices}
 use Rattle.problem_form.specs.Limits.{auxiliary_bits}
 use Rattle.chimera_graph.specs.declared.chimera.Chimera.{Chimera}

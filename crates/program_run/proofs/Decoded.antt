@@ -2,7 +2,7 @@
 use Rattle.std.proofs.Common.{◌≡◌, ℕ, Bool, List, Ok, Some, None, sym, ap, ◌∙◌, subst}
 use Rattle.std.specs.declared.option.Option.{Option}
 use Rattle.edge_io.specs.Held.{NamedFiles, WhereTold}
-use Rattle.bits_model.specs.Costs.{energy}
+use Rattle.base.specs.Costs.{energy}
 use Rattle.bits_model.specs.Output.{Written, form_of, decoding_of}
 use Rattle.problem_form.specs.Problems as problems
 use Rattle.command_words.specs.declared.commands.WordAt.{WordAt}

@@ -1,6 +1,6 @@
 -- A plan that cannot be embedded stands on bad graph.
 use Rattle.std.proofs.Common.{◌≡◌, ℕ, ◌<◌, ◌≤◌, List, subst, arith}
-use Rattle.bits_model.specs.declared.output.UnitChoice.{UnitChoice}
+use Rattle.base.specs.declared.unit.UnitChoice.{UnitChoice}
 use Rattle.problem_form.specs.declared.limits.Choices.{Choices}
 use Rattle.chimera_graph.specs.declared.chimera.Chimera.{Chimera}
 use Rattle.chimera_graph.specs.Graph.{qubits_of}

@@ -2,8 +2,8 @@
 use Rattle.std.proofs.Common.{◌≡◌, ℕ, inl, inr, Bool, List, Ok, Some, None, sym, ap, ◌∙◌, subst}
 use Rattle.std.specs.declared.option.Option.{Option}
 use Rattle.edge_io.specs.Held.{NamedFiles, WhereTold}
-use Rattle.bits_model.specs.declared.output.UnitChoice.{UnitChoice}
-use Rattle.bits_model.specs.Costs.{Form, energy}
+use Rattle.base.specs.declared.unit.UnitChoice.{UnitChoice}
+use Rattle.base.specs.Costs.{Form, energy}
 use Rattle.bits_model.specs.Output.{Written, form_of}
 use Rattle.problem_form.specs.declared.limits.Choices.{Choices}
 use Rattle.problem_form.specs.Problems.{ProblemContent}

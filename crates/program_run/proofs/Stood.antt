@@ -3,14 +3,14 @@ use Rattle.std.proofs.Common.{◌≡◌, ◌≤◌, ℕ, ◌+ℤ◌, ◌*ℤ◌,
 use Rattle.std.proofs.lemmas.List.{take-take, take-map}
 use Rattle.bits_model.specs.declared.output.Kind.{Kind}
 use Rattle.bits_model.specs.declared.output.Kind.TheVariants as kinds
-use Rattle.bits_model.specs.Costs.{Source}
-use Rattle.bits_model.specs.Relations.{Relaxes}
+use Rattle.base.specs.Costs.{Source}
+use Rattle.form_steps.specs.Relations.{Relaxes}
 use Rattle.bits_model.specs.Output.{Written, IsWellFormed, form_of, decoding_of, read_off, majority}
-use Rattle.bits_model.specs.Faithful.{Demand, HasUnit, IsStated, HasChains, scale_of}
-use Rattle.bits_model.specs.Stated.{DecodesAlike}
-use Rattle.bits_model.proofs.Alike.{relaxes_alike}
-use Rattle.bits_model.proofs.LeastStates.{relaxed_is_faithful}
-use Rattle.bits_model.specs.declared.output.UnitChoice.{UnitChoice}
+use Rattle.faithful.specs.Faithful.{Demand, HasUnit, IsStated, HasChains, scale_of}
+use Rattle.form_steps.specs.Stated.{DecodesAlike}
+use Rattle.form_steps.proofs.Alike.{relaxes_alike}
+use Rattle.faithful.proofs.LeastStates.{relaxed_is_faithful}
+use Rattle.base.specs.declared.unit.UnitChoice.{UnitChoice}
 use Rattle.model_text.specs.Rows.{FitsFields}
 use Rattle.problem_form.specs.Problems as problems
 use Rattle.problem_form.specs.Limits.{upper}

@@ -6,11 +6,11 @@ use Rattle.edge_io.specs.Held.{NamedFiles, find_file, WhereTold}
 use Rattle.edge_io.specs.Sinks.{AppendsFront}
 use Rattle.bits_model.specs.declared.output.Kind.{Kind}
 use Rattle.bits_model.specs.declared.output.Kind.TheVariants as kinds
-use Rattle.bits_model.specs.declared.output.UnitChoice.{UnitChoice}
-use Rattle.bits_model.specs.Costs.{Source, energy}
-use Rattle.bits_model.specs.Relations.{Relaxes}
+use Rattle.base.specs.declared.unit.UnitChoice.{UnitChoice}
+use Rattle.base.specs.Costs.{Source, energy}
+use Rattle.form_steps.specs.Relations.{Relaxes}
 use Rattle.bits_model.specs.Output.{Written, form_of, decoding_of}
-use Rattle.bits_model.specs.Faithful.{Demand, Faithful}
+use Rattle.faithful.specs.Faithful.{Demand, Faithful}
 use Rattle.problem_form.specs.Limits.{auxiliary_bits}
 use Rattle.sample_text.specs.Sample.{sample_text}
 use Rattle.model_text.specs.Rows.{FitsFields, model_text}

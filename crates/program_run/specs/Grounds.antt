@@ -3,9 +3,9 @@ use Rattle.std.specs.Prelude.{◌≡◌, ℕ, ◌*◌, ◌<◌, ◌≤◌, List,
 use Rattle.std.specs.declared.option.Option.{Option}
 use Rattle.bits_model.specs.declared.output.Kind.{Kind}
 use Rattle.bits_model.specs.declared.output.Kind.TheVariants as kinds
-use Rattle.bits_model.specs.declared.output.UnitChoice.{UnitChoice}
+use Rattle.base.specs.declared.unit.UnitChoice.{UnitChoice}
 use Rattle.bits_model.specs.Output.{Written}
-use Rattle.bits_model.specs.Faithful.{Demand}
+use Rattle.faithful.specs.Faithful.{Demand}
 use Rattle.problem_form.specs.declared.limits.Choices.{Choices}
 use Rattle.problem_form.specs.Problems.{ProblemContent}
 use Rattle.penalty_layer.specs.Penalty as penalty

@@ -3,7 +3,7 @@ use Rattle.std.specs.Prelude.{◌≡◌, ℕ, Bool, List, Ok, Some}
 use Rattle.std.specs.declared.option.Option.{Option}
 use Rattle.edge_io.specs.Counts.{Counts}
 use Rattle.edge_io.specs.Held.{NamedFiles, WhereTold}
-use Rattle.bits_model.specs.Costs.{energy}
+use Rattle.base.specs.Costs.{energy}
 use Rattle.bits_model.specs.Output.{Written, form_of}
 use Rattle.problem_form.specs.declared.limits.Choices.{Choices}
 use Rattle.problem_form.specs.Problems.{ProblemContent}

@@ -1,7 +1,7 @@
 //! The command `decode`: the assignment that a state of a source's model stands for.
 ghost use Rattle.std.specs.Prelude.{◌≡◌, ◌<◌, ◌^◌, map, string_bytes, length, IfOk, IfErr};
 ghost use Rattle.edge_io.specs.Held.{WhereTold};
-ghost use Rattle.bits_model.specs.Costs.{energy};
+ghost use Rattle.base.specs.Costs.{energy};
 ghost use Rattle.bits_model.specs.Output.{form_of, decoding_of};
 ghost use Rattle.problem_form.specs.Problems as problems;
 ghost use Rattle.command_words.specs.Shapes.{HasShapeIn};
@@ -16,7 +16,8 @@ use crate::jobs::take_model;
 use crate::states::take_state;
 use crate::status::Status;
 use answer_text::written_decoding;
-use bits_model::{Costed, NoMemory, OutputModel};
+use base::{Costed, NoMemory};
+use bits_model::OutputModel;
 use command_words::{Command, Job, WordAt, text_at};
 use edge_io::Files;
 use model_pipeline::energy_of;

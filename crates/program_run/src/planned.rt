@@ -8,7 +8,8 @@ ghost use Rattle.program_run.specs.Standing.{Stands, IsUnembedded, unembedded};
 
 use crate::grounds::{Ground, graph_of};
 use crate::status::Status;
-use bits_model::{OutputModel, UnitChoice};
+use base::UnitChoice;
+use bits_model::OutputModel;
 use chain_map::CheckAnswer;
 use model_pipeline::{Held, clique_model_of, mapped_model_of, model_of};
 use problem_form::Choices;

@@ -1,7 +1,7 @@
 -- Sets of at most two literals: where they are literal sets, and their literals by place.
 use Rattle.std.proofs.Common.{◌≡◌, ℕ, ◌<◌, ◌≤◌, ℤ, List, [], ◌∷◌, length, get_or, ap, arith}
-use Rattle.problem_form.specs.declared.literal.Literal.{Literal}
-use Rattle.problem_form.specs.Literals.{IsLiteralSet}
+use Rattle.literal_lists.specs.declared.literal.Literal.{Literal}
+use Rattle.literal_lists.specs.Literals.{IsLiteralSet}
 use Rattle.term_table.specs.Terms.{IsTermSet}
 use Rattle.term_table.specs.Tables.{TableContent, with_added}
 use Rattle.term_table.proofs.SmallSets.{IsTermSet-none, IsTermSet-one, IsTermSet-two}

@@ -3,7 +3,7 @@
 use Rattle.std.proofs.Common.{ℕ, ◌*◌, ◌≤◌, Bool, true, false, ℤ, unsigned_abs, List, [], ◌∷◌, length, arith}
 use Rattle.std.specs.List.{AllByRecursion}
 use Rattle.std.proofs.lemmas.List.Sums.{sum_by-append, count_by-le-length}
-use Rattle.problem_form.specs.declared.literal.Literal.{Literal}
+use Rattle.literal_lists.specs.declared.literal.Literal.{Literal}
 use Rattle.term_table.specs.Terms.{Term, set_size, terms_total, terms_size}
 use Rattle.term_table.specs.MultipliedOut.{complements, plain, plain_terms, contributions}
 use Rattle.term_table.proofs.Additions.{terms_total-cons, terms_size-cons, sets_sum}

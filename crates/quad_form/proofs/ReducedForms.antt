@@ -4,9 +4,9 @@ use Rattle.std.specs.Int.{◌∣◌}
 use Rattle.std.proofs.Math.Nat.{mul-le-mul_right}
 use Rattle.std.proofs.lemmas.Int.{ints}
 use Rattle.std.proofs.lemmas.List.{length-map}
-use Rattle.integers.specs.Sums.{total_by, if_so}
+use Rattle.base.specs.Sums.{total_by, if_so}
 use Rattle.bits_model.specs.declared.output.Entry.{Entry}
-use Rattle.bits_model.specs.Relations.{Reduces}
+use Rattle.form_steps.specs.Relations.{Reduces}
 use Rattle.bits_model.specs.Output.{bits_energy, weight_total}
 use Rattle.quad_form.specs.Quads.{QuadContent, IsQuad, IsCoupler, entries_of, node_entries, quad_total, form_of}
 use Rattle.quad_form.specs.Units.{unit_of, counted_in, entry_in, quad_unit, reduced, IsReducedAsWritten}

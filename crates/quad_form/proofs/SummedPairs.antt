@@ -13,8 +13,8 @@ use Rattle.std.proofs.lemmas.Bool.Decides.{Decides-eqb, Decides-int_eq}
 use Rattle.std.proofs.lemmas.List.Elements.{All-from_recursion, recursion_from_All}
 use Rattle.std.proofs.lemmas.List.Sums.{sum_by-cons, sum_by-drop_more}
 use Rattle.std.proofs.lemmas.List.Sorted.{All-permutation, sum_by-IsPermutation}
-use Rattle.integers.specs.Sums.{if_so}
-use Rattle.integers.proofs.Totals.{size-plus, total_by-IsPermutation}
+use Rattle.base.specs.Sums.{if_so}
+use Rattle.base.proofs.Totals.{size-plus, total_by-IsPermutation}
 use Rattle.bits_model.specs.declared.output.Entry.{Entry}
 use Rattle.bits_model.specs.Output.{weight_total}
 use Rattle.term_table.specs.laws.MultipliedOut.{if_so-plus}

@@ -11,11 +11,11 @@ use Rattle.std.proofs.lemmas.Int.{ints}
 use Rattle.std.proofs.lemmas.Bool.Decides.{nat_tests, Decides-eqb}
 use Rattle.std.proofs.lemmas.List.{same_lists, get_or_default, get_or-set_same, get_or-set_other, length-replicate}
 use Rattle.std.proofs.lemmas.List.Elements.{All-weaker, recursion_from_All}
-use Rattle.integers.specs.Sums.{if_so}
-use Rattle.integers.proofs.Totals.{total_by_push}
+use Rattle.base.specs.Sums.{if_so}
+use Rattle.base.proofs.Totals.{total_by_push}
 use Rattle.bits_model.specs.declared.output.Entry.{Entry}
-use Rattle.problem_form.specs.declared.literal.Literal.{Literal}
-use Rattle.problem_form.specs.Literals.{literal_cmp}
+use Rattle.literal_lists.specs.declared.literal.Literal.{Literal}
+use Rattle.literal_lists.specs.Literals.{literal_cmp}
 use Rattle.term_table.specs.Terms.{Term, set_cmp, coefficient_of, with_additions, terms_total}
 use Rattle.term_table.specs.Tables.{TableContent, IsTable, IsLow}
 use Rattle.term_table.specs.MultipliedOut.{contributions}

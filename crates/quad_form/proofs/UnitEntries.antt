@@ -9,10 +9,10 @@ use Rattle.std.proofs.lemmas.Int.{ints, unsigned_abs-mul}
 use Rattle.std.proofs.lemmas.List.{map-append}
 use Rattle.std.proofs.lemmas.List.Sums.{sum_by-cons, sum_by-append}
 use Rattle.std.proofs.lemmas.List.Elements.{recursion_from_All, All-from_recursion}
-use Rattle.integers.specs.Sums.{total_by}
-use Rattle.integers.proofs.Products.{times-plus}
+use Rattle.base.specs.Sums.{total_by}
+use Rattle.base.proofs.Products.{times-plus}
 use Rattle.bits_model.specs.declared.output.Entry.{Entry}
-use Rattle.bits_model.specs.Faithful.{IsMultiple}
+use Rattle.bits_model.specs.Units.{IsMultiple}
 use Rattle.bits_model.specs.Output.{entry_cmp, weight_total}
 use Rattle.quad_form.specs.Quads.{node_entries, IsCoupler}
 use Rattle.quad_form.specs.Units.{greatest_within, IsCommonDivisor, weight_of, weights_of, counted_in, entry_in}

@@ -3,10 +3,10 @@
 use Rattle.std.proofs.Common.{◌≡◌, ℕ, ◌≤◌, ◌⊎◌, inl, inr, ℤ, pos, neg_ℤ, ◌+ℤ◌, ◌*ℤ◌, ◌≤ℤ◌, ◌<ℤ◌, Bool, List, length, take, refl, sym, ap, ◌∙◌, arith}
 use Rattle.std.proofs.lemmas.Int.{ints}
 use Rattle.std.proofs.lemmas.List.Elements.{recursion_from_All}
-use Rattle.integers.specs.Sums.{total_by}
-use Rattle.bits_model.specs.declared.costs.Figures.{Figures}
-use Rattle.bits_model.specs.Costs.{Form}
-use Rattle.bits_model.specs.Relations.{Decoding, Relaxes}
+use Rattle.base.specs.Sums.{total_by}
+use Rattle.base.specs.declared.costs.Figures.{Figures}
+use Rattle.base.specs.Costs.{Form}
+use Rattle.form_steps.specs.Relations.{Decoding, Relaxes}
 use Rattle.bits_model.specs.Output.{IsWellFormed, bits_energy}
 use Rattle.quad_form.specs.Quads.{QuadContent, IsQuad, form_of, written_of, entries_of}
 use Rattle.quad_form.specs.Stated.{RelaxesAsWritten}

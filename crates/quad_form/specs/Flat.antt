@@ -6,9 +6,9 @@
 use Rattle.std.specs.Prelude.{◌≡◌, ℕ, ◌<◌, ⊤, ℤ, pos, ◌+ℤ◌, false, List, [], ◌∷◌, ◌++◌, fold, replicate, slice_set}
 use Rattle.std.specs.List.{slice_index_or}
 use Rattle.bits_model.specs.declared.output.Entry.{Entry}
-use Rattle.bits_model.specs.declared.layer.BitsLink.{BitsLink}
-use Rattle.bits_model.specs.Relations.{Decoding}
-use Rattle.problem_form.specs.declared.literal.Literal.{Literal}
+use Rattle.form_steps.specs.declared.layer.BitsLink.{BitsLink}
+use Rattle.form_steps.specs.Relations.{Decoding}
+use Rattle.literal_lists.specs.declared.literal.Literal.{Literal}
 use Rattle.term_table.specs.Terms.{Term, with_additions}
 use Rattle.term_table.specs.Tables.{TableContent, IsTable, IsLow}
 use Rattle.term_table.specs.MultipliedOut.{contributions}

@@ -1,8 +1,8 @@
 -- What a written model says of the form that it is made of.
 use Rattle.std.specs.Prelude.{◌≡◌, ◌≤◌, ◌⊎◌, ℕ, ℤ, pos, ◌≤ℤ◌, Bool, List, length, take}
-use Rattle.bits_model.specs.declared.costs.Figures.{Figures}
-use Rattle.bits_model.specs.Costs.{Form}
-use Rattle.bits_model.specs.Relations.{Decoding, Relaxes}
+use Rattle.base.specs.declared.costs.Figures.{Figures}
+use Rattle.base.specs.Costs.{Form}
+use Rattle.form_steps.specs.Relations.{Decoding, Relaxes}
 use Rattle.bits_model.specs.Output.{Written, IsWellFormed, decoding_of}
 use Rattle.bits_model.specs.Output as output
 use Rattle.quad_form.specs.Quads.{QuadContent, IsQuad, form_of, written_of}

@@ -3,8 +3,8 @@ use Rattle.std.specs.Prelude.{ℕ, zero, suc, ◌%◌, ◌==◌, ℤ, pos, int_d
 use Rattle.std.specs.Int.{◌∣◌}
 use Rattle.std.specs.List.{list_all, sum_by}
 use Rattle.bits_model.specs.declared.output.Entry.{Entry}
-use Rattle.bits_model.specs.declared.costs.Figures.{Figures}
-use Rattle.bits_model.specs.Faithful.{IsReduced}
+use Rattle.base.specs.declared.costs.Figures.{Figures}
+use Rattle.bits_model.specs.Units.{IsReduced}
 use Rattle.quad_form.specs.Quads.{QuadContent, written_of}
 
 -- the weight is a multiple of d

@@ -1,11 +1,12 @@
 //! The cost of a quadratic form.
 ghost use Rattle.std.specs.Prelude.{◌≡◌, ◌≤◌, ◌^◌};
-ghost use Rattle.integers.specs.Sums.{if_so, total_by};
+ghost use Rattle.base.specs.Sums.{if_so, total_by};
 ghost use Rattle.bits_model.specs.Output.{bits_energy, weight_total};
 ghost use Rattle.quad_form.specs.Quads.{node_entries};
 
 use crate::quad::Quad;
-use bits_model::{Cost, Costed, Kind, bit_at, couplers_energy};
+use base::{Cost, Costed};
+use bits_model::{Kind, bit_at, couplers_energy};
 
 /// The weight of a node that is 1, and 0 for one that is not.
 fn node_energy(bit: bool, weight: &i128) -> i128

@@ -4,7 +4,7 @@
 //! to the constant, to a node's weight, or among the couplers, of which a pair may have several. In
 //! the end they are sorted, so that each pair has one coupler, and a pair whose sum is 0 has none.
 ghost use Rattle.std.specs.Prelude.{◌≡◌, ◌+◌, ◌*◌, ◌<◌, ◌≤◌, ◌^◌, [], ◌∷◌, false, IfOk, OnOk, fold, length, unsigned_abs};
-ghost use Rattle.problem_form.specs.Literals.{IsLiteralSet};
+ghost use Rattle.literal_lists.specs.Literals.{IsLiteralSet};
 ghost use Rattle.term_table.specs.Terms.{terms_total};
 ghost use Rattle.term_table.specs.Tables.{IsTable, IsLow};
 ghost use Rattle.quad_form.specs.Quads.{quad_total};
@@ -13,8 +13,9 @@ ghost use Rattle.quad_form.specs.Flat.{with_term, quad_of};
 
 use crate::parts::Parts;
 use crate::quad::Quad;
-use bits_model::{BitsLink, Costed, Layer, Lowered, NoMemory};
-use problem_form::Literal;
+use base::{Costed, NoMemory};
+use form_steps::{BitsLink, Layer, Lowered};
+use literal_lists::Literal;
 use std::alloc::Global;
 use term_table::LowTable;
 

@@ -6,8 +6,9 @@ ghost use Rattle.quad_form.specs.Pairs.{IsPair, IsSettled};
 
 use crate::couplers::sorted_sums;
 use crate::quad::{NumberList, Quad};
-use bits_model::{CouplerList, Entry, NoMemory};
-use problem_form::Literal;
+use base::NoMemory;
+use bits_model::{CouplerList, Entry};
+use literal_lists::Literal;
 use std::alloc::Global;
 use std::marker::Model;
 

@@ -1,7 +1,6 @@
 //! Quadratic forms, and the models that are written for them.
-use bits_model::{
-    ChainList, CouplerList, EntryList, Figures, Items, Kind, NoMemory, NodeWeights, OutputModel,
-};
+use base::{Figures, Items, NoMemory};
+use bits_model::{ChainList, CouplerList, EntryList, Kind, NodeWeights, OutputModel};
 use std::alloc::Global;
 use std::marker::Model;
 

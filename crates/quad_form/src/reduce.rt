@@ -1,12 +1,13 @@
 //! Quadratic forms whose weights are counted in their greatest unit.
 ghost use Rattle.std.specs.Prelude.{◌≡◌, ◌*◌, ◌≤◌, IfOk, neg_ℤ, unsigned_abs};
-ghost use Rattle.bits_model.specs.Relations.{Reduces};
+ghost use Rattle.form_steps.specs.Relations.{Reduces};
 ghost use Rattle.quad_form.specs.Quads.{form_of, quad_total};
 ghost use Rattle.quad_form.specs.Units.{quad_unit, reduced, IsReducedAsWritten};
 
 use crate::quad::{NumberList, Quad};
 use crate::units::{counted_couplers, counted_numbers, greatest_unit};
-use bits_model::{NoMemory, Reduced};
+use base::NoMemory;
+use form_steps::Reduced;
 
 impl Quad {
     /// The form whose weights are counted in their greatest unit, without the constant. The weights

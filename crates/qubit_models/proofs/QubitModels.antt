@@ -5,15 +5,16 @@ use Rattle.std.specs.Int.{w128}
 use Rattle.std.proofs.Math.Nat.{mul-le-mul_left, mul-le-mul_right}
 use Rattle.std.proofs.lemmas.Int.{ints, fits_signed_from_abs}
 use Rattle.std.proofs.lemmas.List.Sums.{sum_by-append}
-use Rattle.bits_model.specs.declared.costs.Figures.{Figures}
+use Rattle.base.specs.declared.costs.Figures.{Figures}
 use Rattle.bits_model.specs.declared.output.Entry.{Entry}
-use Rattle.bits_model.specs.declared.output.UnitChoice.{UnitChoice}
-use Rattle.bits_model.specs.declared.output.UnitChoice.TheVariants.{One, Reduce}
-use Rattle.bits_model.specs.Costs.{Form}
-use Rattle.bits_model.specs.Relations.{Decoding, Relaxes, decoding_after, figures_moved}
+use Rattle.base.specs.declared.unit.UnitChoice.{UnitChoice}
+use Rattle.base.specs.declared.unit.UnitChoice.TheVariants.{One, Reduce}
+use Rattle.base.specs.Costs.{Form}
+use Rattle.form_steps.specs.Relations.{Decoding, Relaxes, decoding_after}
+use Rattle.base.specs.Figures.{figures_moved}
 use Rattle.bits_model.specs.Walks.{IsConnected}
-use Rattle.bits_model.specs.Faithful.{HasUnit}
-use Rattle.bits_model.specs.laws.Composed.{keeps_after_relaxes, reduces_after_relaxes}
+use Rattle.faithful.specs.Faithful.{HasUnit}
+use Rattle.form_steps.specs.laws.Composed.{keeps_after_relaxes, reduces_after_relaxes}
 use Rattle.model_text.specs.Rows.{FitsFigures, FitsGraph}
 use Rattle.quad_form.specs.Quads.{node_entries}
 use Rattle.quad_form.specs.Units.{weights_of}

@@ -1,11 +1,11 @@
 -- The model of an Ising form on the qubits of a graph, built of the images of the steps.
 use Rattle.std.specs.Prelude.{◌≡◌, ℕ, pos, neg_ℤ, Bool, List}
-use Rattle.bits_model.specs.declared.costs.Figures.{Figures}
+use Rattle.base.specs.declared.costs.Figures.{Figures}
 use Rattle.bits_model.specs.declared.output.Kind.{Kind}
 use Rattle.bits_model.specs.declared.output.Kind.TheVariants as kinds
-use Rattle.bits_model.specs.declared.output.UnitChoice.{UnitChoice}
-use Rattle.bits_model.specs.declared.output.UnitChoice.TheVariants.{One, Reduce}
-use Rattle.bits_model.specs.Relations.{figures_after, figures_moved}
+use Rattle.base.specs.declared.unit.UnitChoice.{UnitChoice}
+use Rattle.base.specs.declared.unit.UnitChoice.TheVariants.{One, Reduce}
+use Rattle.base.specs.Figures.{figures_after, figures_moved}
 use Rattle.bits_model.specs.Output.{Written}
 use Rattle.ising_form.specs.Isings.{IsingContent}
 use Rattle.ising_form.specs.Outputs as isings

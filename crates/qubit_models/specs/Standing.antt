@@ -1,11 +1,11 @@
 -- What a model on the qubits of a graph promises of the Ising form that it stands for.
 use Rattle.std.specs.Prelude.{◌≡◌, ℕ, ◌≤◌, pos, ◌-ℤ◌, Bool, List, length, take}
-use Rattle.bits_model.specs.declared.costs.Figures.{Figures}
-use Rattle.bits_model.specs.declared.output.UnitChoice.{UnitChoice}
-use Rattle.bits_model.specs.Costs.{Form}
-use Rattle.bits_model.specs.Relations.{Decoding, Relaxes}
+use Rattle.base.specs.declared.costs.Figures.{Figures}
+use Rattle.base.specs.declared.unit.UnitChoice.{UnitChoice}
+use Rattle.base.specs.Costs.{Form}
+use Rattle.form_steps.specs.Relations.{Decoding, Relaxes}
 use Rattle.bits_model.specs.Output.{Written, IsWellFormed, form_of, read_off}
-use Rattle.bits_model.specs.Faithful.{Demand, HasUnit, IsEmbedded}
+use Rattle.faithful.specs.Faithful.{Demand, HasUnit, IsEmbedded}
 use Rattle.model_text.specs.Rows.{FitsFields}
 use Rattle.ising_form.specs.Isings.{IsingContent}
 use Rattle.ising_form.specs.Isings as isings

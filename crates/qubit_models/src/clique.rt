@@ -7,7 +7,8 @@ ghost use Rattle.qubit_models.specs.QubitModels.{IsModelByCheck};
 ghost use Rattle.qubit_models.specs.Standing.{IsQubitModelOf};
 
 use crate::written::embedded_model;
-use bits_model::{Figures, OutputModel, UnitChoice};
+use base::{Figures, UnitChoice};
+use bits_model::OutputModel;
 use chain_map::{CheckAnswer, EmbedFault};
 use chimera_graph::Chimera;
 use clique_embedding::clique_embedded;

@@ -9,7 +9,8 @@ ghost use Rattle.qubit_models.specs.QubitModels.{joins_of, IsModelByCheck};
 ghost use Rattle.qubit_models.specs.Standing.{IsQubitModelOf};
 
 use crate::written::embedded_model;
-use bits_model::{Figures, OutputModel, UnitChoice};
+use base::{Figures, UnitChoice};
+use bits_model::OutputModel;
 use chain_map::{ChainMap, CheckAnswer};
 use chimera_graph::Chimera;
 use embedding_check::check;

@@ -6,10 +6,12 @@ ghost use Rattle.chimera_graph.specs.Graph.{qubits_of};
 ghost use Rattle.embedding_check.specs.Embeddings.{IsEmbedding};
 ghost use Rattle.qubit_models.specs.QubitModels.{chained_model, kind_of, qubit_model};
 
-use bits_model::{ChainList, Figures, Kind, Layer, NoMemory, OutputModel, UnitChoice};
+use base::{Figures, NoMemory, UnitChoice};
+use bits_model::{ChainList, Kind, OutputModel};
 use chain_layer::Chains;
 use chimera_graph::Chimera;
 use embedding_check::Embedded;
+use form_steps::Layer;
 use ising_form::Ising;
 use std::alloc::Global;
 

@@ -1,8 +1,8 @@
 -- The text of a QUBO is read again, and costs what the QUBO's energies are.
 use Rattle.std.proofs.Common.{◌≡◌, Bool, List, map, refl, sym, ap, ◌∙◌}
-use Rattle.integers.specs.Sums.{total_by}
-use Rattle.integers.proofs.Totals.{total_by-map}
-use Rattle.bits_model.specs.declared.costs.Cost.TheVariants.{Whole}
+use Rattle.base.specs.Sums.{total_by}
+use Rattle.base.proofs.Totals.{total_by-map}
+use Rattle.base.specs.declared.costs.Cost.TheVariants.{Whole}
 use Rattle.bits_model.specs.declared.output.Kind.TheVariants as kinds
 use Rattle.bits_model.specs.Output.{Written, entry_energy}
 use Rattle.model_text.specs.Rows.{model_text}

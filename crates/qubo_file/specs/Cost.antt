@@ -1,9 +1,9 @@
 -- What a QUBO text costs, before any normal form.
 use Rattle.std.specs.Prelude.{◌≡◌, ℤ, Bool, ◌&&◌, List}
-use Rattle.integers.specs.Sums.{total_by, if_so}
-use Rattle.bits_model.specs.declared.costs.Cost.{Cost}
-use Rattle.bits_model.specs.declared.costs.Cost.TheVariants.{Whole}
-use Rattle.bits_model.specs.Costs.{Form, Source}
+use Rattle.base.specs.Sums.{total_by, if_so}
+use Rattle.base.specs.declared.costs.Cost.{Cost}
+use Rattle.base.specs.declared.costs.Cost.TheVariants.{Whole}
+use Rattle.base.specs.Costs.{Form, Source}
 use Rattle.bits_model.specs.Output.{bit_at}
 use Rattle.problem_form.specs.Problems.{problem_cost}
 use Rattle.problem_form.specs.NormalForm.{normal_form}

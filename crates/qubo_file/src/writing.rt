@@ -7,7 +7,8 @@ ghost use Rattle.bits_model.specs.declared.output.Kind.TheVariants.{Qubo};
 ghost use Rattle.model_text.specs.Rows.{model_text};
 ghost use Rattle.model_text.specs.Told.{TellsModel};
 
-use bits_model::{NoMemory, OutputModel};
+use base::NoMemory;
+use bits_model::OutputModel;
 use edge_io::{LineBuffer, Sink, WriteFault};
 use model_text::{write_text, written_text};
 use std::alloc::Global;

@@ -1,5 +1,5 @@
 //! Words, what they ask for, and the file that they name.
-use bits_model::UnitChoice;
+use base::UnitChoice;
 use command_words::{
     Chaining, Command, Format, GraphSize, Job, NodeModel, Target, Which, WordAt, command, name_of,
 };

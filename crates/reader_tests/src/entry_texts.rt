@@ -3,7 +3,7 @@ ghost use Rattle.std.specs.Prelude.{◌<◌, length};
 
 use crate::changed_texts::count_answer;
 use crate::plain_entries::{PlainEntries, plain_entries};
-use bits_model::{Cost, Costed};
+use base::{Cost, Costed};
 use entry_reader::Layout;
 use ising_file::read_ising;
 use problem_form::Problem;

@@ -1,7 +1,7 @@
 //! Texts that come in pieces, and lines that go to a sink through a buffer.
 ghost use Rattle.std.specs.Prelude.{◌<◌, ◌≤◌, ◌^◌, length};
 
-use bits_model::{Cost, Costed, NoMemory};
+use base::{Cost, Costed, NoMemory};
 use command_words::Format;
 use edge_io::{CallList, LineBuffer, MemorySink, WriteFault};
 use source_texts::{Read, read_source_words, style_of};

@@ -1,5 +1,5 @@
 //! The tokens of a text, the values of words, and decimal texts.
-use bits_model::NoMemory;
+use base::NoMemory;
 use std::alloc::Global;
 use whole_text::{Style, Token, number, push_number, tokens};
 

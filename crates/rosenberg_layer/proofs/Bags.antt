@@ -15,8 +15,8 @@ use Rattle.std.proofs.lemmas.List.{append_assoc, append-nil}
 use Rattle.std.proofs.lemmas.List.Elements.{All-from_recursion, recursion_from_All, filter-append}
 use Rattle.std.proofs.lemmas.List.Sorted.{All-permutation, sum_by-IsPermutation, IsPermutation-append_right}
 use Rattle.std.proofs.lemmas.List.Sums.{sum_by-append, sum_by-cons}
-use Rattle.integers.specs.Sums.{total_by}
-use Rattle.problem_form.specs.declared.literal.Literal.{Literal}
+use Rattle.base.specs.Sums.{total_by}
+use Rattle.literal_lists.specs.declared.literal.Literal.{Literal}
 use Rattle.term_table.specs.Terms.{Term, set_cmp, in_front, terms_total, with_addition, with_additions, Ascends, IsTermSet}
 use Rattle.term_table.specs.Tables.{TableContent, IsTable}
 use Rattle.term_table.proofs.KeptTerms.{OfSet}

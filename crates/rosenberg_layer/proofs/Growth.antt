@@ -14,8 +14,8 @@ use Rattle.std.proofs.lemmas.Bool.Decides.{nat_tests}
 use Rattle.std.proofs.lemmas.Int.{ints}
 use Rattle.std.proofs.lemmas.List.Elements.{recursion_from_All}
 use Rattle.std.proofs.lemmas.List.Sums.{sum_by-cons, sum_by-append}
-use Rattle.integers.proofs.Totals.{size-plus}
-use Rattle.problem_form.specs.declared.literal.Literal.{Literal}
+use Rattle.base.proofs.Totals.{size-plus}
+use Rattle.literal_lists.specs.declared.literal.Literal.{Literal}
 use Rattle.term_table.specs.Terms.{Term, set_cmp, set_size, terms_total, terms_size, in_front, with_addition, with_additions, IsTermSet}
 use Rattle.term_table.specs.Tables.{TableContent, table_size}
 use Rattle.term_table.proofs.Additions.{sets_sum, sets_sum-cons, sets_sum-with_additions, terms_total-cons}

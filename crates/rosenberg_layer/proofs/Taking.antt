@@ -14,9 +14,9 @@ use Rattle.std.proofs.lemmas.Bool.Decides.{nat_tests}
 use Rattle.std.proofs.lemmas.Cmp.{tied_itself}
 use Rattle.std.proofs.lemmas.List.{append_assoc}
 use Rattle.std.proofs.lemmas.List.Sorted.{IsPermutation-trans, IsPermutation-append_left, IsPermutation-append_right, IsPermutation-append_comm, IsPermutation-to_front}
-use Rattle.problem_form.specs.declared.literal.Literal.{Literal}
-use Rattle.problem_form.specs.Literals.{literal_cmp}
-use Rattle.problem_form.proofs.LiteralSets.{literal_total}
+use Rattle.literal_lists.specs.declared.literal.Literal.{Literal}
+use Rattle.literal_lists.specs.Literals.{literal_cmp}
+use Rattle.literal_lists.proofs.LiteralSets.{literal_total}
 use Rattle.term_table.specs.Terms.{Term, set_cmp, Ascends}
 use Rattle.term_table.proofs.KeptTerms.{Under}
 use Rattle.rosenberg_layer.specs.Rosenberg.{Pair, is_long}

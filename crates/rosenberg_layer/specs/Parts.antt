@@ -2,7 +2,7 @@
 -- degree that are not summed yet.
 use Rattle.std.specs.Prelude.{◌≡◌, ◌≢◌, ℕ, ◌+◌, ◌-◌, ◌*◌, ◌^◌, ◌≤◌, pos, unsigned_abs, true, false, All, List, [], ◌∷◌, ◌++◌, length, Option, Some, None}
 use Rattle.std.specs.List.{AllByRecursion, sum_by}
-use Rattle.problem_form.specs.declared.literal.Literal.{Literal}
+use Rattle.literal_lists.specs.declared.literal.Literal.{Literal}
 use Rattle.term_table.specs.Terms.{Term, coefficient_of, terms_total, Ascends, AreTerms, IsTermSet}
 use Rattle.term_table.specs.Tables.{TableContent}
 use Rattle.rosenberg_layer.specs.Rosenberg.{Pair, node, is_long, tie_terms}

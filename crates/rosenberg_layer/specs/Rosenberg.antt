@@ -9,9 +9,9 @@
 use Rattle.std.specs.Prelude.{◌≡◌, ℕ, zero, suc, ◌+◌, ◌-◌, ◌*◌, pos, neg_ℤ, Bool, false, not, ◌&&◌, nat_le, List, [], ◌∷◌, ◌++◌, map, length, fold, Option, Some, None, if◌then◌else◌}
 use Rattle.std.specs.List.{filter, list_any, sum_by}
 use Rattle.std.specs.Ordering.{is_eq}
-use Rattle.bits_model.specs.declared.layer.BitsLink.{BitsLink}
-use Rattle.problem_form.specs.declared.literal.Literal.{Literal}
-use Rattle.problem_form.specs.Literals.{holds, literal_cmp}
+use Rattle.form_steps.specs.declared.layer.BitsLink.{BitsLink}
+use Rattle.literal_lists.specs.declared.literal.Literal.{Literal}
+use Rattle.literal_lists.specs.Literals.{holds, literal_cmp}
 use Rattle.term_table.specs.Terms.{Term, terms_total, with_additions}
 use Rattle.term_table.specs.Tables.{TableContent, IsTable}
 

@@ -1,7 +1,7 @@
 -- What the run of substitutions promises.
 use Rattle.std.specs.Prelude.{◌≡◌, ◌+◌, ◌≤◌, pos, Some}
-use Rattle.bits_model.specs.Links.{first_bits}
-use Rattle.bits_model.specs.Relations.{Keeps}
+use Rattle.form_steps.specs.Links.{first_bits}
+use Rattle.form_steps.specs.Relations.{Keeps}
 use Rattle.term_table.specs.Terms.{AreTerms}
 use Rattle.term_table.specs.Tables.{TableContent, IsLow, form_of}
 use Rattle.rosenberg_layer.specs.Rosenberg.{Pair, next_pair, substituted, excess, image}

@@ -6,8 +6,8 @@ use Rattle.std.specs.List.Sorted.{IsPermutation}
 use Rattle.std.specs.Ordering.{ordering_then}
 use Rattle.std.specs.declared.cmp.Ordering.{Ordering}
 use Rattle.std.specs.declared.cmp.Ordering.TheVariants.{Less}
-use Rattle.problem_form.specs.declared.literal.Literal.{Literal}
-use Rattle.problem_form.specs.Literals.{literal_cmp}
+use Rattle.literal_lists.specs.declared.literal.Literal.{Literal}
+use Rattle.literal_lists.specs.Literals.{literal_cmp}
 use Rattle.term_table.specs.Terms.{Term, terms_total}
 use Rattle.rosenberg_layer.specs.Rosenberg.{Pair, node, is_literal, is_long}
 

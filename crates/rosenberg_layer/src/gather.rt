@@ -23,8 +23,8 @@ ghost use Rattle.rosenberg_layer.specs.Parts.{ties_of};
 use crate::low_set::LowSet;
 use crate::run::Run;
 use crate::substitute::node;
-use bits_model::NoMemory;
-use problem_form::Literal;
+use base::NoMemory;
+use literal_lists::Literal;
 use std::alloc::Global;
 use term_table::{GatheredTerms, Table};
 

@@ -2,8 +2,8 @@
 ghost use Rattle.std.specs.Prelude.{◌≡◌, ◌≤◌, ◌∷◌, ◌++◌, [], length, drop, IfOk};
 ghost use Rattle.rosenberg_layer.specs.Steps.{pair_of};
 
-use bits_model::NoMemory;
-use problem_form::Literal;
+use base::NoMemory;
+use literal_lists::Literal;
 use std::alloc::Global;
 use std::marker::Model;
 
@@ -18,7 +18,7 @@ pub struct LongSet {
 
 impl Model for LongSet {
     ghost use Rattle.std.specs.Prelude.{◌≤◌, List, drop, length};
-    ghost use Rattle.problem_form.specs.declared.literal.Literal.{Literal};
+    ghost use Rattle.literal_lists.specs.declared.literal.Literal.{Literal};
 
     ghost Value = { List Literal };
 

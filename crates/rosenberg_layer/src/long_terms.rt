@@ -36,8 +36,8 @@ ghost use Rattle.rosenberg_layer.specs.Groups.{
 };
 
 use crate::long_set::LongSet;
-use bits_model::NoMemory;
-use problem_form::Literal;
+use base::NoMemory;
+use literal_lists::Literal;
 use std::alloc::Global;
 use std::collections::BTreeMap;
 use term_table::Table;

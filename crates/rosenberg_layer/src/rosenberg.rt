@@ -6,8 +6,9 @@ ghost use Rattle.rosenberg_layer.specs.Rosenberg.{extension, image, with_product
 
 use crate::gather::gathered;
 use crate::run::{excess, run_of};
-use bits_model::{BitsLink, Costed, Layer, Lowered, NoMemory};
-use problem_form::Literal;
+use base::{Costed, NoMemory};
+use form_steps::{BitsLink, Layer, Lowered};
+use literal_lists::Literal;
 use std::alloc::Global;
 use term_table::{LowTable, Table, low};
 
@@ -79,7 +80,7 @@ impl Layer for Rosenberg {
     type Link = BitsLink;
 
     ghost use Rattle.std.specs.Prelude.{pos};
-    ghost use Rattle.bits_model.specs.Links.{first_bits, HasFirstBits};
+    ghost use Rattle.form_steps.specs.Links.{first_bits, HasFirstBits};
     ghost use Rattle.rosenberg_layer.specs.Rosenberg.{extension, image, Fits};
     ghost use Rattle.rosenberg_layer.specs.laws.Kept.{
       rosen_sound,

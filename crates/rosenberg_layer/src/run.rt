@@ -26,8 +26,8 @@ ghost use Rattle.rosenberg_layer.specs.Parts.{ties_of, weights, AreParts, IsTurn
 use crate::long_terms::{LongTerms, long_terms, next_pair};
 use crate::low_set::LowSet;
 use crate::substitute::substitute;
-use bits_model::NoMemory;
-use problem_form::Literal;
+use base::NoMemory;
+use literal_lists::Literal;
 use std::alloc::Global;
 use term_table::Table;
 

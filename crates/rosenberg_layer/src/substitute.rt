@@ -22,8 +22,8 @@ ghost use Rattle.rosenberg_layer.specs.Groups.{all_terms, next_of, AreGrouped, A
 use crate::long_set::LongSet;
 use crate::long_terms::{LongTerms, take};
 use crate::low_set::LowSet;
-use bits_model::NoMemory;
-use problem_form::Literal;
+use base::NoMemory;
+use literal_lists::Literal;
 use std::alloc::Global;
 use std::collections::BTreeMap;
 

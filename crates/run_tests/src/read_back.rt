@@ -3,7 +3,7 @@ ghost use Rattle.std.specs.Prelude.{◌≡◌, ◌≤◌};
 
 use crate::runs::{SOUND, run_words};
 use crate::states::{bit, energy, numbers};
-use bits_model::{Cost, Costed};
+use base::{Cost, Costed};
 use command_words::NodeModel;
 use ising_file::read_ising;
 use problem_form::Problem;

@@ -2,7 +2,8 @@
 ghost use Rattle.std.specs.Prelude.{◌≡◌, IfSome};
 ghost use Rattle.bits_model.specs.declared.output.Kind.TheVariants.{Qubo};
 
-use bits_model::{Cost, Costed, Figures, NoMemory, OutputModel, UnitChoice};
+use base::{Cost, Costed, Figures, NoMemory, UnitChoice};
+use bits_model::OutputModel;
 use command_words::{Format, NodeModel};
 use model_pipeline::model_of;
 use model_text::written_text;

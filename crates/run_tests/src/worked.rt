@@ -1,6 +1,6 @@
 //! The worked example, read by the definitions alone: functions without code, whose contracts hold.
 ghost use Rattle.std.specs.Prelude.{◌≡◌, codes, Ok, None, [], ◌∷◌, pos, negsuc, true, false};
-ghost use Rattle.bits_model.specs.declared.costs.Cost.TheVariants.{Whole, Infinite};
+ghost use Rattle.base.specs.declared.costs.Cost.TheVariants.{Whole, Infinite};
 ghost use Rattle.wcnf_reader.specs.Wcnf.{reading};
 ghost use Rattle.problem_form.specs.NormalForm.{normal_form};
 ghost use Rattle.problem_form.specs.declared.limits.Normal.TheVariants as normals;

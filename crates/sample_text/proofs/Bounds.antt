@@ -12,13 +12,13 @@ use Rattle.std.proofs.lemmas.Int.{ints}
 use Rattle.std.proofs.lemmas.Nat.{mul-le}
 use Rattle.std.proofs.lemmas.List.Elements.{All-from_recursion}
 use Rattle.std.proofs.lemmas.List.Sums.{sum_by-append, sum_by-le, count_by-le-length}
-use Rattle.integers.specs.Sums.{total_by}
-use Rattle.integers.proofs.Totals.{size-plus}
-use Rattle.problem_form.specs.declared.literal.Literal.{Literal}
+use Rattle.base.specs.Sums.{total_by}
+use Rattle.base.proofs.Totals.{size-plus}
+use Rattle.literal_lists.specs.declared.literal.Literal.{Literal}
 use Rattle.problem_form.specs.declared.terms.Clause.{Clause}
 use Rattle.problem_form.specs.declared.limits.Normal.{Normal}
 use Rattle.problem_form.specs.declared.limits.Normal.TheVariants as normals
-use Rattle.problem_form.specs.Literals.{literal_cmp, has_clash, with_literal, literal_set}
+use Rattle.literal_lists.specs.Literals.{literal_cmp, has_clash, with_literal, literal_set}
 use Rattle.problem_form.specs.Problems.{ProblemContent, soft_weight}
 use Rattle.problem_form.specs.NormalForm.{is_plain_cost, kept_clause, clause_constant, normal_form, blank, with_variables}
 use Rattle.problem_form.specs.Limits.{degree, clause_complements, negations, clause_pairs, pairs, weight, limit_fault}

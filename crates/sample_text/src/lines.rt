@@ -5,7 +5,7 @@ ghost use Rattle.std.specs.Fmt.{decimal, signed_decimal};
 ghost use Rattle.sample_text.specs.Sample.{after, clause_words, drawn_clauses, header_words, line};
 
 use crate::draws::Draws;
-use bits_model::NoMemory;
+use base::NoMemory;
 use whole_text::push_number;
 
 /// The numbers of variables and of clauses, and the weight of a hard clause.

@@ -4,7 +4,7 @@ ghost use Rattle.sample_text.specs.Sample.{sample_text};
 
 use crate::draws::Draws;
 use crate::lines::{push_clauses, push_header};
-use bits_model::NoMemory;
+use base::NoMemory;
 use std::alloc::Global;
 
 /// The text of a number and a count of clauses, drawn by the minimal standard generator of Park and

@@ -1,6 +1,6 @@
 -- Ising texts: their problems stand for what they say.
 use Rattle.std.proofs.Common.{◌≡◌, ℕ, List, Ok, refl, ap}
-use Rattle.bits_model.specs.Costs.{Source}
+use Rattle.base.specs.Costs.{Source}
 use Rattle.whole_text.specs.Steps.{◌>>=◌}
 use Rattle.problem_form.specs.Problems.{ProblemContent}
 use Rattle.problem_form.specs.NormalForm.{normal_form}

@@ -2,11 +2,11 @@
 -- problem.
 use Rattle.std.proofs.Common.{◌≡◌, ℤ, Ok, Err, Result, refl, subst, arith}
 use Rattle.std.proofs.lemmas.List.{take_all}
-use Rattle.bits_model.specs.declared.costs.Figures.{Figures}
-use Rattle.bits_model.specs.Costs.{Form, Source}
-use Rattle.bits_model.specs.Relations.{Decoding, Relaxes}
-use Rattle.bits_model.specs.Stated.{HasSameCosts, DecodesAlike}
-use Rattle.bits_model.proofs.Alike.{relaxes_alike}
+use Rattle.base.specs.declared.costs.Figures.{Figures}
+use Rattle.base.specs.Costs.{Form, Source}
+use Rattle.form_steps.specs.Relations.{Decoding, Relaxes}
+use Rattle.form_steps.specs.Stated.{HasSameCosts, DecodesAlike}
+use Rattle.form_steps.proofs.Alike.{relaxes_alike}
 use Rattle.whole_text.specs.declared.faults.TextFault.{TextFault}
 use Rattle.whole_text.specs.Steps.{◌>>=◌}
 use Rattle.problem_form.specs.Problems.{ProblemContent, form_of}

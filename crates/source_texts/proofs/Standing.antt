@@ -1,7 +1,7 @@
 -- The problem that a text is read into stands for the source that the text says, and costs what it
 -- does: a line a format.
 use Rattle.std.proofs.Common.{◌≡◌, ℕ, List, Ok}
-use Rattle.bits_model.specs.Costs.{Source}
+use Rattle.base.specs.Costs.{Source}
 use Rattle.command_words.specs.declared.commands.Format.{Format}
 use Rattle.command_words.specs.declared.commands.Format.TheVariants.{Wcnf, Opb, Poly, Ising, Qubo}
 use Rattle.source_texts.specs.declared.reading.Read.{Read}

@@ -1,8 +1,8 @@
 -- What a text says in a format, and the problem that it is read into: a line a format.
 use Rattle.std.specs.Prelude.{◌≡◌, ℕ, ℤ, ◌≤◌, Bool, List, Ok, Err, Option, Some, None, Result, take}
-use Rattle.bits_model.specs.declared.costs.Figures.{Figures}
-use Rattle.bits_model.specs.Costs.{Form, Source}
-use Rattle.bits_model.specs.Relations.{Decoding, Relaxes}
+use Rattle.base.specs.declared.costs.Figures.{Figures}
+use Rattle.base.specs.Costs.{Form, Source}
+use Rattle.form_steps.specs.Relations.{Decoding, Relaxes}
 use Rattle.whole_text.specs.declared.faults.TextFault.{TextFault}
 use Rattle.whole_text.specs.declared.token.Style.{Style}
 use Rattle.whole_text.specs.declared.token.Style.TheVariants as styles

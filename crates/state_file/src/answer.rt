@@ -3,7 +3,7 @@
 ghost use Rattle.std.specs.Prelude.{◌≡◌};
 ghost use Rattle.state_file.specs.declared.answer.StateAnswer.TheVariants.{NoMemory as no_memory};
 
-use bits_model::NoMemory;
+use base::NoMemory;
 
 /// Why no state was read from a text.
 #[derive(Clone, Copy, Debug, PartialEq, Eq)]

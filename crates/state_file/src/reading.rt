@@ -27,7 +27,7 @@ ghost use Rattle.state_file.specs.States.{
 };
 
 use crate::answer::StateAnswer;
-use bits_model::NoMemory;
+use base::NoMemory;
 use std::alloc::Global;
 
 fn is_blank(byte: u8) -> bool

@@ -1,7 +1,7 @@
 -- An addition to a table leaves a table.
 use Rattle.std.proofs.Common.{◌≡◌, ◌+◌, ◌≤◌, ◌^◌, ℕ, ℤ, List, [], ◌∷◌, ◌++◌, arith, unsigned_abs, Result, Ok, Err, OnOk, OnErr}
 use Rattle.std.proofs.lemmas.List.Elements.{All-nil, All-push}
-use Rattle.problem_form.specs.declared.literal.Literal.{Literal}
+use Rattle.literal_lists.specs.declared.literal.Literal.{Literal}
 use Rattle.term_table.specs.Terms.{Term, with_addition, with_additions, terms_total, IsTermSet}
 use Rattle.term_table.specs.Tables.{TableContent, with_added, with_appended, IsTable, AreAdditions}
 use Rattle.term_table.proofs.Additions.{terms_total-with_addition, terms_total-append, terms_total-cons, terms_total-with_additions}

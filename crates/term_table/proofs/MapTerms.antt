@@ -13,7 +13,7 @@ use Rattle.std.proofs.lemmas.Bool.Decides.{Decides-int_eq}
 use Rattle.std.proofs.lemmas.Map.{lookup-none, NonePasses}
 use Rattle.std.proofs.lemmas.Map.Keys.{sorted_tail}
 use Rattle.std.proofs.lemmas.Map.Entries.{none_below_head}
-use Rattle.problem_form.specs.declared.literal.Literal.{Literal}
+use Rattle.literal_lists.specs.declared.literal.Literal.{Literal}
 use Rattle.term_table.specs.Terms.{Term, set_cmp, terms_total, in_front, with_addition, Ascends}
 use Rattle.term_table.specs.Entries.{IsRaised}
 use Rattle.term_table.proofs.SetOrder.{set_total}

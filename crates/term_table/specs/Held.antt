@@ -1,6 +1,6 @@
 -- The literals of a key of a table's map.
 use Rattle.std.specs.Prelude.{List, []}
-use Rattle.problem_form.specs.declared.literal.Literal.{Literal}
+use Rattle.literal_lists.specs.declared.literal.Literal.{Literal}
 use Rattle.term_table.specs.declared.literal_set.Held.{Held}
 use Rattle.term_table.specs.declared.literal_set.Held.TheVariants.{Empty, One, Two, More}
 

@@ -1,8 +1,8 @@
 -- What contracts see of a table.
 use Rattle.std.specs.Prelude.{◌≡◌, ℕ, ◌+◌, ◌≤◌, ◌^◌, ℤ, Bool, List, [], ◌∷◌, ◌++◌, length, All}
-use Rattle.bits_model.specs.declared.costs.Cost.TheVariants.{Whole}
-use Rattle.bits_model.specs.Costs.{Form}
-use Rattle.problem_form.specs.declared.literal.Literal.{Literal}
+use Rattle.base.specs.declared.costs.Cost.TheVariants.{Whole}
+use Rattle.base.specs.Costs.{Form}
+use Rattle.literal_lists.specs.declared.literal.Literal.{Literal}
 use Rattle.term_table.specs.Terms.{Term, terms_cost, terms_total, terms_size, with_addition, with_additions, coefficient_of, AreTerms, IsTermSet}
 
 -- a width, and terms over the variables below it

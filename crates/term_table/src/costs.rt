@@ -3,8 +3,8 @@ ghost use Rattle.term_table.specs.Terms.{terms_total};
 ghost use Rattle.term_table.specs.Tables.{form_of, table_size};
 
 use crate::table::Table;
-use bits_model::{Cost, Costed};
-use problem_form::all_hold;
+use base::{Cost, Costed};
+use literal_lists::all_hold;
 
 impl Costed for Table {
     ghost form = { form_of };

@@ -8,8 +8,8 @@ ghost use Rattle.term_table.specs.Entries.{IsRaised};
 ghost use Rattle.term_table.specs.Kept.{entries_terms};
 
 use crate::literal_set::LiteralSet;
-use bits_model::NoMemory;
-use problem_form::Literal;
+use base::NoMemory;
+use literal_lists::Literal;
 use std::alloc::Global;
 use std::collections::BTreeMap;
 

@@ -10,8 +10,8 @@ use crate::entries::Entries;
 use crate::literal_set::LiteralSet;
 use crate::sums::sorted_sums;
 use crate::table::Table;
-use bits_model::NoMemory;
-use problem_form::Literal;
+use base::NoMemory;
+use literal_lists::Literal;
 use std::alloc::Global;
 use std::marker::Model;
 

@@ -9,8 +9,8 @@ ghost use Rattle.std.specs.Ordering.{eq_by_cmp};
 ghost use Rattle.term_table.specs.Terms.{set_cmp};
 ghost use Rattle.term_table.specs.laws.Keys.{key_total, key_equal, key_alike};
 
-use bits_model::NoMemory;
-use problem_form::Literal;
+use base::NoMemory;
+use literal_lists::Literal;
 use std::alloc::Global;
 use std::cmp::Ordering;
 use std::marker::Model;
@@ -32,7 +32,7 @@ pub struct LiteralSet {
 
 impl Model for LiteralSet {
     ghost use Rattle.std.specs.Prelude.{List};
-    ghost use Rattle.problem_form.specs.declared.literal.Literal.{Literal};
+    ghost use Rattle.literal_lists.specs.declared.literal.Literal.{Literal};
     ghost use Rattle.term_table.specs.Held.{held_literals};
 
     ghost Value = { List Literal };

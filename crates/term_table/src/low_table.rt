@@ -6,7 +6,7 @@ ghost use Rattle.term_table.specs.Tables.{form_of, table_size, IsLow, IsTable};
 
 use crate::table::Table;
 use crate::terms::Terms;
-use bits_model::{Cost, Costed};
+use base::{Cost, Costed};
 use std::marker::Model;
 
 /// A table without terms of degree 3 or more.

@@ -6,8 +6,8 @@ ghost use Rattle.term_table.specs.Products.{pair_products, pairs_of, pairs_with,
 
 use crate::table::Table;
 use crate::unions::unite;
-use bits_model::NoMemory;
-use problem_form::{Literal, clashes};
+use base::NoMemory;
+use literal_lists::{Literal, clashes};
 
 fn times(a: &i128, b: &i128) -> i128
     requires { unsigned_abs a.now * unsigned_abs b.now ≤ 2 ^ 124 }

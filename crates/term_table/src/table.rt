@@ -8,8 +8,8 @@ ghost use Rattle.term_table.specs.Tables.{with_added, IsTable};
 
 use crate::entries::{Entries, add_to};
 use crate::terms::{Left, Terms};
-use bits_model::NoMemory;
-use problem_form::Literal;
+use base::NoMemory;
+use literal_lists::Literal;
 use std::alloc::Global;
 use std::collections::BTreeMap;
 use std::marker::Model;

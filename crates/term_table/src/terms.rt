@@ -1,6 +1,6 @@
 //! The terms of a table, one after another.
 use crate::literal_set::LiteralSet;
-use problem_form::Literal;
+use literal_lists::Literal;
 use std::collections::btree_map;
 use std::marker::Model;
 use std::slice;

@@ -5,7 +5,7 @@ use Rattle.whole_text.specs.declared.faults.TextFault.{TextFault}
 use Rattle.whole_text.specs.declared.faults.TextKind.TheVariants as kinds
 use Rattle.whole_text.specs.Tokens.{Word}
 use Rattle.whole_text.specs.Steps.{◌>>=◌, fault}
-use Rattle.problem_form.specs.declared.literal.Literal.{Literal}
+use Rattle.literal_lists.specs.declared.literal.Literal.{Literal}
 use Rattle.wcnf_reader.specs.Wcnf.{literal_at, literals_at}
 use Rattle.wcnf_reader.specs.Cost.{literal_of}
 use Rattle.wcnf_reader.specs.Views.{some_literal, literal_read, literals_read}

@@ -3,9 +3,9 @@ use Rattle.std.proofs.Common.{◌≡◌, ℕ, suc, ◌-◌, Bool, true, false, c
 use Rattle.std.specs.Prelude.{if◌then◌else◌}
 use Rattle.std.specs.List.{list_any, slice_index_or}
 use Rattle.std.proofs.lemmas.Int.{ints}
-use Rattle.bits_model.specs.declared.costs.Cost.TheVariants.{Whole, Infinite}
-use Rattle.integers.specs.Sums.{total_by, if_so}
-use Rattle.problem_form.specs.Literals.{holds, some_holds}
+use Rattle.base.specs.declared.costs.Cost.TheVariants.{Whole, Infinite}
+use Rattle.base.specs.Sums.{total_by, if_so}
+use Rattle.literal_lists.specs.Literals.{holds, some_holds}
 use Rattle.problem_form.specs.Problems.{fails_hard, soft_cost, problem_cost}
 use Rattle.problem_form.proofs.NormalForms.{normal_form-cost}
 use Rattle.wcnf_reader.specs.declared.layout.Layout.{Layout}

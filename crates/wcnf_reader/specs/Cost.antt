@@ -1,14 +1,14 @@
 -- What a weighted CNF text costs, before any normal form, and the problem that it becomes.
 use Rattle.std.specs.Prelude.{◌≡◌, ℕ, ◌-◌, ℤ, pos, negsuc, nat_abs, Bool, false, not, ◌&&◌, List, map, Option, Some, None, is_none, unwrap_or, Result, Ok, nat_le, if◌then◌else◌}
 use Rattle.std.specs.List.{list_any, slice_index_or}
-use Rattle.integers.specs.Sums.{total_by, if_so}
-use Rattle.bits_model.specs.declared.costs.Cost.{Cost}
-use Rattle.bits_model.specs.declared.costs.Cost.TheVariants.{Whole, Infinite}
-use Rattle.bits_model.specs.Costs.{Form, Source}
+use Rattle.base.specs.Sums.{total_by, if_so}
+use Rattle.base.specs.declared.costs.Cost.{Cost}
+use Rattle.base.specs.declared.costs.Cost.TheVariants.{Whole, Infinite}
+use Rattle.base.specs.Costs.{Form, Source}
 use Rattle.whole_text.specs.declared.faults.TextFault.{TextFault}
 use Rattle.whole_text.specs.Tokens.{Word}
 use Rattle.whole_text.specs.Steps.{◌>>=◌}
-use Rattle.problem_form.specs.declared.literal.Literal.{Literal}
+use Rattle.literal_lists.specs.declared.literal.Literal.{Literal}
 use Rattle.problem_form.specs.declared.terms.Clause.{Clause}
 use Rattle.problem_form.specs.Problems.{ProblemContent, problem_cost}
 use Rattle.problem_form.specs.NormalForm.{normal_form, blank, with_variables}

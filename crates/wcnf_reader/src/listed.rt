@@ -7,7 +7,7 @@ ghost use Rattle.wcnf_reader.specs.declared.layout.Layout.TheVariants.{Older};
 ghost use Rattle.wcnf_reader.specs.Views.{weight_kept, weight_read, literal_read, literals_read, bound_of, widened, clause_read};
 
 use crate::layout::Layout;
-use problem_form::Literal;
+use literal_lists::Literal;
 use whole_text::{
     TextAnswer, TextFault, TextKind, WordRef, Words, fault, integer_word, natural_word, number,
 };

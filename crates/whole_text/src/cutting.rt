@@ -6,7 +6,7 @@ ghost use Rattle.std.specs.List.{position_or_len};
 ghost use Rattle.whole_text.specs.Tokens.{is_feed, is_blank, is_operator, joins, comment_byte, is_comment, pieces_of_line, tokens_of_line, tokens_of, words_at, AreInOrder, IsWithin};
 
 use crate::token::{Style, Token};
-use bits_model::NoMemory;
+use base::NoMemory;
 use std::alloc::Global;
 
 /// Whether a byte stands between words.

@@ -3,7 +3,7 @@
 ghost use Rattle.std.specs.Prelude.{◌≡◌};
 ghost use Rattle.whole_text.specs.declared.faults.TextAnswer.TheVariants as answers;
 
-use bits_model::NoMemory;
+use base::NoMemory;
 use std::alloc::{AllocError, AllocFailed};
 
 /// What stood where it cannot stand.

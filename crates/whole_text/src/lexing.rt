@@ -10,7 +10,7 @@ use crate::cutting::{comment_byte, is_blank, joins};
 use crate::packed::TokenList;
 use crate::token::{Style, Token};
 use crate::token_text::TokenText;
-use bits_model::{Items, NoMemory};
+use base::{Items, NoMemory};
 use std::alloc::Global;
 use std::marker::Model;
 use std::simd::prelude::*;

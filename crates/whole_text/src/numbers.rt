@@ -8,7 +8,7 @@ ghost use Rattle.std.specs.List.{list_all};
 ghost use Rattle.std.specs.Fmt.{signed_decimal};
 ghost use Rattle.whole_text.specs.Numbers.{digits_number, is_point, is_zero, size_of, number_of};
 
-use bits_model::NoMemory;
+use base::NoMemory;
 use itoa::Buffer;
 
 /// The value of one or more digits, where it is below 2 ^ 64.

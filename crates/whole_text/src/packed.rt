@@ -5,7 +5,7 @@ ghost use Rattle.whole_text.specs.Packed.{strides, wide_marks};
 
 use crate::token::Token;
 use crate::words::Words;
-use bits_model::NoMemory;
+use base::NoMemory;
 use std::alloc::Global;
 use std::marker::Model;
 

@@ -5,7 +5,7 @@ ghost use Rattle.whole_text.specs.laws.Joined.{TakeAll-prop};
 
 use crate::packed::TokenList;
 use crate::words::Words;
-use bits_model::Items;
+use base::Items;
 
 /// A list of bytes.
 pub type ByteList = Items<u8>;

@@ -9,12 +9,12 @@ use Rattle.std.proofs.lemmas.List.{length-map, get_or-take, length-take}
 use Rattle.std.proofs.lemmas.List.Elements.{recursion_from_All}
 use Rattle.std.proofs.lemmas.List.FromFn.{length-map-range_with_len, get_or-map-range_with_len}
 use Rattle.std.proofs.lemmas.List.Sums.{sum_by-cons, sum_by_more_le, get_or-le-sum_by}
-use Rattle.integers.specs.Sums.{total_by}
-use Rattle.integers.proofs.Totals.{total_by-append, total_by-plus, total_by-flat_map}
+use Rattle.base.specs.Sums.{total_by}
+use Rattle.base.proofs.Totals.{total_by-append, total_by-plus, total_by-flat_map}
 use Rattle.bits_model.specs.declared.output.Entry.{Entry}
-use Rattle.bits_model.specs.Costs.{IsNeverInfinite}
+use Rattle.base.specs.Costs.{IsNeverInfinite}
 use Rattle.bits_model.specs.Output.{bit_at, majority, spins_energy}
-use Rattle.bits_model.specs.Relations.{Keeps, Extends, Joins}
+use Rattle.form_steps.specs.Relations.{Keeps, Extends, Joins}
 use Rattle.quad_form.specs.Quads.{node_entries, IsCoupler}
 use Rattle.ising_form.specs.Isings.{ising_value}
 use Rattle.ising_form.specs.Isings as isings

@@ -11,9 +11,9 @@ use Rattle.std.proofs.lemmas.Bool.{ltb-true, ltb-false, and_parts}
 use Rattle.std.proofs.lemmas.List.{length-drop, length-take-le}
 use Rattle.std.proofs.lemmas.List.Elements.{All-from_recursion, recursion_from_All, All-take, All-drop}
 use Rattle.std.proofs.lemmas.List.Sums.{sum_by-cons, sum_by-append}
-use Rattle.integers.specs.Sums.{total_by}
-use Rattle.integers.proofs.Products.{times-plus, plus-times}
-use Rattle.integers.proofs.Totals.{total_by-append}
+use Rattle.base.specs.Sums.{total_by}
+use Rattle.base.proofs.Products.{times-plus, plus-times}
+use Rattle.base.proofs.Totals.{total_by-append}
 use Rattle.bits_model.specs.declared.output.Entry.{Entry}
 use Rattle.bits_model.specs.Output.{times_spin, weight_total}
 use Rattle.embedding_check.specs.Embeddings.{IsTie}

@@ -3,10 +3,10 @@
 use Rattle.std.specs.Prelude.{◌≡◌, ◌+◌, ◌*◌, ◌≤◌, ◌^◌, pos, Bool, List, [], length}
 use Rattle.std.proofs.Common.{arith, ◌∙◌, refl, subst}
 use Rattle.std.proofs.lemmas.Int.{ints}
-use Rattle.bits_model.specs.declared.layer.BitsLink.{BitsLink}
-use Rattle.bits_model.specs.Costs.{IsNeverInfinite}
-use Rattle.bits_model.specs.Links.{first_bits, HasFirstBits}
-use Rattle.bits_model.specs.Relations.{Keeps, Extends, Joins}
+use Rattle.form_steps.specs.declared.layer.BitsLink.{BitsLink}
+use Rattle.base.specs.Costs.{IsNeverInfinite}
+use Rattle.form_steps.specs.Links.{first_bits, HasFirstBits}
+use Rattle.form_steps.specs.Relations.{Keeps, Extends, Joins}
 use Rattle.term_table.specs.Terms.{terms_total, with_additions}
 use Rattle.term_table.specs.Tables.{TableContent, IsTable, AreAdditions}
 use Rattle.term_table.specs.Tables as tables

@@ -5,7 +5,7 @@ use Rattle.std.specs.Prelude.{All}
 use Rattle.std.specs.List.{AllByRecursion}
 use Rattle.std.proofs.lemmas.List.Elements.{All-nil, All-cons, All-append, recursion_from_All}
 use Rattle.std.proofs.lemmas.List.Sums.{sum_by-cons}
-use Rattle.problem_form.specs.declared.literal.Literal.{Literal}
+use Rattle.literal_lists.specs.declared.literal.Literal.{Literal}
 use Rattle.term_table.specs.Terms.{Term, IsTermSet}
 use Rattle.term_table.proofs.KeptTerms.{OfSet}
 use Rattle.term_table.proofs.SmallSets.{Ascend, IsBelow, IsLiteralSet-ascends, IsTermSet-one, IsTermSet-two, IsTermSet-wider}

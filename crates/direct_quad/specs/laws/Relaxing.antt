@@ -4,13 +4,14 @@ use Rattle.std.specs.Prelude.{◌≡◌, ◌+◌, ◌≤◌, ◌^◌, None, pos,
 use Rattle.std.proofs.Common.{arith, sym, ap, ◌∙◌, refl, subst}
 use Rattle.std.proofs.lemmas.Int.{ints}
 use Rattle.std.proofs.lemmas.List.{take-take}
-use Rattle.bits_model.specs.declared.costs.Figures.{Figures}
-use Rattle.bits_model.specs.declared.layer.BitsLink.{BitsLink}
-use Rattle.bits_model.specs.Costs.{Form, IsNeverInfinite}
-use Rattle.bits_model.specs.Links.{first_bits, HasFirstBits}
-use Rattle.bits_model.specs.Relations.{Decoding, Relaxes, ExtendsLeast, Joins, decoding_after, figures_after}
-use Rattle.bits_model.specs.laws.Composed.{keeps_after_relaxes, least-trans}
-use Rattle.bits_model.proofs.Alike.{relaxes_alike}
+use Rattle.base.specs.declared.costs.Figures.{Figures}
+use Rattle.form_steps.specs.declared.layer.BitsLink.{BitsLink}
+use Rattle.base.specs.Costs.{Form, IsNeverInfinite}
+use Rattle.form_steps.specs.Links.{first_bits, HasFirstBits}
+use Rattle.form_steps.specs.Relations.{Decoding, Relaxes, ExtendsLeast, Joins, decoding_after}
+use Rattle.base.specs.Figures.{figures_after}
+use Rattle.form_steps.specs.laws.Composed.{keeps_after_relaxes, least-trans}
+use Rattle.form_steps.proofs.Alike.{relaxes_alike}
 use Rattle.problem_form.specs.declared.limits.Normal.TheVariants as normals
 use Rattle.problem_form.specs.Problems.{ProblemContent}
 use Rattle.problem_form.specs.Problems as problems

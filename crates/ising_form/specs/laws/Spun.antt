@@ -10,13 +10,13 @@ use Rattle.std.proofs.lemmas.Bool.{eq-eqb}
 use Rattle.std.proofs.lemmas.Bool.Decides.{eqb_tells}
 use Rattle.std.proofs.lemmas.Int.{ints}
 use Rattle.std.proofs.lemmas.List.Elements.{recursion_from_All}
-use Rattle.integers.specs.Sums.{total_by, if_so}
-use Rattle.integers.proofs.Totals.{total_by-append}
-use Rattle.bits_model.specs.declared.layer.BitsLink.{BitsLink}
+use Rattle.base.specs.Sums.{total_by, if_so}
+use Rattle.base.proofs.Totals.{total_by-append}
+use Rattle.form_steps.specs.declared.layer.BitsLink.{BitsLink}
 use Rattle.bits_model.specs.declared.output.Entry.{Entry}
-use Rattle.bits_model.specs.Costs.{IsNeverInfinite}
+use Rattle.base.specs.Costs.{IsNeverInfinite}
 use Rattle.bits_model.specs.Output.{bit_at, times_spin, bits_energy, spins_energy}
-use Rattle.bits_model.specs.Relations.{Keeps, Extends, Joins}
+use Rattle.form_steps.specs.Relations.{Keeps, Extends, Joins}
 use Rattle.quad_form.specs.Quads.{QuadContent, IsQuad, IsCoupler, node_entries, quad_value}
 use Rattle.quad_form.specs.Quads as quads
 use Rattle.quad_form.specs.Flat.{same_bits, IsSound}

@@ -12,14 +12,14 @@ use Rattle.std.proofs.lemmas.Bool.Decides.{nat_tests}
 use Rattle.std.proofs.lemmas.List.{get_or-append-add, get_or_append_left, get_or_push, length_push, length-append, length-take, get_or-take, take-append-le, take_all}
 use Rattle.std.proofs.lemmas.List.Elements.{recursion_from_All}
 use Rattle.std.proofs.lemmas.List.Sums.{sum_by-cons}
-use Rattle.integers.specs.Sums.{if_so}
-use Rattle.integers.proofs.Totals.{total_by-append}
-use Rattle.bits_model.specs.declared.layer.BitsLink.{BitsLink}
-use Rattle.bits_model.specs.Costs.{IsNeverInfinite}
-use Rattle.bits_model.specs.Relations.{Keeps, Extends, Joins}
-use Rattle.bits_model.specs.Links.{first_bits, HasFirstBits}
-use Rattle.problem_form.specs.declared.literal.Literal.{Literal}
-use Rattle.problem_form.specs.Literals.{holds, all_hold}
+use Rattle.base.specs.Sums.{if_so}
+use Rattle.base.proofs.Totals.{total_by-append}
+use Rattle.form_steps.specs.declared.layer.BitsLink.{BitsLink}
+use Rattle.base.specs.Costs.{IsNeverInfinite}
+use Rattle.form_steps.specs.Relations.{Keeps, Extends, Joins}
+use Rattle.form_steps.specs.Links.{first_bits, HasFirstBits}
+use Rattle.literal_lists.specs.declared.literal.Literal.{Literal}
+use Rattle.literal_lists.specs.Literals.{holds, all_hold}
 use Rattle.term_table.specs.Terms.{Term, term_cost, terms_cost, IsTermSet}
 use Rattle.term_table.specs.Tables.{TableContent, IsTable}
 use Rattle.term_table.specs.Tables as tables

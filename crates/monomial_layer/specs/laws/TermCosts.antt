@@ -10,11 +10,11 @@ use Rattle.std.proofs.lemmas.List.Sums.{sum_by-cons, count_by-le-length}
 use Rattle.std.proofs.lemmas.Int.{ints}
 use Rattle.std.proofs.lemmas.Bool.{cases_lt}
 use Rattle.std.proofs.lemmas.Bool.Decides.{nat_tests}
-use Rattle.integers.specs.Sums.{if_so}
-use Rattle.integers.proofs.Products.{multiply_out, integers, times-le, times-le_negative, times-plus}
-use Rattle.integers.proofs.Totals.{total_by-append, total_by-map, total_by-if_so, total_by-same}
-use Rattle.problem_form.specs.declared.literal.Literal.{Literal}
-use Rattle.problem_form.specs.Literals.{holds, all_hold}
+use Rattle.base.specs.Sums.{if_so}
+use Rattle.base.proofs.Products.{multiply_out, integers, times-le, times-le_negative, times-plus}
+use Rattle.base.proofs.Totals.{total_by-append, total_by-map, total_by-if_so, total_by-same}
+use Rattle.literal_lists.specs.declared.literal.Literal.{Literal}
+use Rattle.literal_lists.specs.Literals.{holds, all_hold}
 use Rattle.term_table.specs.Terms.{term_cost, terms_cost}
 use Rattle.monomial_layer.specs.Monomials.{node, with_each, each_with, pair_terms, factor, node_term, node_terms, nodes_for, positive_terms, negative_terms, is_taken, true_literals}
 use Rattle.monomial_layer.specs.laws.Positive.{pairs, above, below, positive_bound, positive_reached, IsSized}

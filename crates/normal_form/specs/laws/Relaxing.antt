@@ -3,10 +3,10 @@
 use Rattle.std.specs.Prelude.{◌≡◌, pos, Bool, List, length}
 use Rattle.std.proofs.Common.{arith, ◌∙◌}
 use Rattle.std.proofs.lemmas.Int.{ints}
-use Rattle.bits_model.specs.declared.layer.BitsLink.{BitsLink}
-use Rattle.bits_model.specs.Costs.{IsNeverInfinite}
-use Rattle.bits_model.specs.Links.{first_bits}
-use Rattle.bits_model.specs.Relations.{Relaxes, ExtendsLeast, Joins}
+use Rattle.form_steps.specs.declared.layer.BitsLink.{BitsLink}
+use Rattle.base.specs.Costs.{IsNeverInfinite}
+use Rattle.form_steps.specs.Links.{first_bits}
+use Rattle.form_steps.specs.Relations.{Relaxes, ExtendsLeast, Joins}
 use Rattle.problem_form.specs.Problems.{ProblemContent}
 use Rattle.problem_form.specs.Problems as problems
 use Rattle.term_table.specs.Terms.{terms_cost}

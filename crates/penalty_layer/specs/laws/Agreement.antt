@@ -5,13 +5,13 @@ use Rattle.std.specs.Prelude.{All, if◌then◌else◌}
 use Rattle.std.specs.Ordering.{int_eq}
 use Rattle.std.specs.List.{AllByRecursion, list_any}
 use Rattle.std.proofs.lemmas.List.Elements.{recursion_from_All}
-use Rattle.integers.specs.Sums.{total_by, if_so}
-use Rattle.bits_model.specs.declared.costs.Cost.TheVariants.{Whole, Infinite}
-use Rattle.problem_form.specs.declared.literal.Literal.{Literal}
+use Rattle.base.specs.Sums.{total_by, if_so}
+use Rattle.base.specs.declared.costs.Cost.TheVariants.{Whole, Infinite}
+use Rattle.literal_lists.specs.declared.literal.Literal.{Literal}
 use Rattle.problem_form.specs.declared.terms.Product.{Product}
 use Rattle.problem_form.specs.declared.terms.Clause.{Clause}
 use Rattle.problem_form.specs.declared.terms.Constraint.{Constraint}
-use Rattle.problem_form.specs.Literals.{holds, all_hold, some_holds}
+use Rattle.literal_lists.specs.Literals.{holds, all_hold, some_holds}
 use Rattle.problem_form.specs.Problems.{ProblemContent, IsNormal, IsNormalProduct, IsNormalClause, sum_of, soft_weight, soft_cost, fails_hard, fails, problem_cost}
 
 -- the first n bits of the two states are the same

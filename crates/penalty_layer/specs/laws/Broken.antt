@@ -7,9 +7,9 @@ use Rattle.std.specs.List.{flat_map, list_any}
 use Rattle.std.proofs.lemmas.Int.{ints}
 use Rattle.std.proofs.lemmas.List.{length-append}
 use Rattle.std.proofs.lemmas.Bool.Decides.{Decides-int_eq}
-use Rattle.integers.specs.Sums.{positive_part}
-use Rattle.integers.proofs.Products.{times-le}
-use Rattle.integers.proofs.Totals.{total_by-append}
+use Rattle.base.specs.Sums.{positive_part}
+use Rattle.base.proofs.Products.{times-le}
+use Rattle.base.proofs.Totals.{total_by-append}
 use Rattle.problem_form.specs.declared.terms.Constraint.{Constraint}
 use Rattle.problem_form.specs.Problems.{sum_of, fails}
 use Rattle.problem_form.specs.Limits.{slack_range, slack_bits, positive_total}

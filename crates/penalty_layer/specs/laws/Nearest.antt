@@ -4,7 +4,7 @@ use Rattle.std.proofs.Common.{◌≡◌, ◌≢◌, ℕ, zero, suc, ◌<◌, ◌
 use Rattle.std.proofs.lemmas.Bool.{cases_lt}
 use Rattle.std.proofs.lemmas.Int.{ints}
 use Rattle.std.proofs.lemmas.Nat.{mul-le}
-use Rattle.integers.proofs.Products.{multiply_out, integers, times-le}
+use Rattle.base.proofs.Products.{multiply_out, integers, times-le}
 use Rattle.penalty_layer.specs.Slack.{clamped}
 
 pub square-not_negative : (a : ℤ) → pos 0 ≤ℤ (a *ℤ a)

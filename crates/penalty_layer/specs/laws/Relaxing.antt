@@ -4,14 +4,14 @@ use Rattle.std.specs.List.{list_any, sum_by, flat_map}
 use Rattle.std.proofs.lemmas.Int.{ints}
 use Rattle.std.proofs.lemmas.List.{take_all, length-take, length-append, get_or-take, take-append-le}
 use Rattle.std.proofs.lemmas.List.Sums.{sum_by-cons}
-use Rattle.integers.specs.Sums.{total_by, if_so}
-use Rattle.integers.proofs.Totals.{total_by-append}
-use Rattle.bits_model.specs.declared.costs.Cost.TheVariants.{Whole, Infinite}
-use Rattle.bits_model.specs.declared.layer.BitsLink.{BitsLink}
-use Rattle.bits_model.specs.Costs.{IsNeverInfinite}
-use Rattle.bits_model.specs.Relations.{Relaxes, Joins, ExtendsLeast}
-use Rattle.bits_model.specs.laws.Plain.{relaxes_in_one}
-use Rattle.bits_model.specs.Links.{first_bits, HasFirstBits}
+use Rattle.base.specs.Sums.{total_by, if_so}
+use Rattle.base.proofs.Totals.{total_by-append}
+use Rattle.base.specs.declared.costs.Cost.TheVariants.{Whole, Infinite}
+use Rattle.form_steps.specs.declared.layer.BitsLink.{BitsLink}
+use Rattle.base.specs.Costs.{IsNeverInfinite}
+use Rattle.form_steps.specs.Relations.{Relaxes, Joins, ExtendsLeast}
+use Rattle.form_steps.specs.laws.Plain.{relaxes_in_one}
+use Rattle.form_steps.specs.Links.{first_bits, HasFirstBits}
 use Rattle.problem_form.specs.declared.terms.Clause.{Clause}
 use Rattle.problem_form.specs.declared.terms.Constraint.{Constraint}
 use Rattle.problem_form.specs.Problems.{ProblemContent, sum_of, soft_cost, fails_hard, fails, problem_cost}

@@ -2,14 +2,14 @@
 use Rattle.std.proofs.Common.{◌≡◌, ℕ, suc, ◌*◌, Bool, true, false, cond, ◌&&◌, refl, sym, ap, ◌∙◌, arith, List, [], ◌∷◌, ◌++◌, map, get_or, ℤ, pos, ◌+ℤ◌, ◌*ℤ◌, neg_ℤ}
 use Rattle.std.specs.Prelude.{if◌then◌else◌}
 use Rattle.std.proofs.lemmas.Int.{ints}
-use Rattle.integers.specs.Sums.{if_so}
-use Rattle.integers.proofs.Products.{multiply_out, integers}
-use Rattle.integers.proofs.Totals.{total_by-append, total_by-flat_map, total_by-same, total_by-times}
-use Rattle.problem_form.specs.declared.literal.Literal.{Literal}
+use Rattle.base.specs.Sums.{if_so}
+use Rattle.base.proofs.Products.{multiply_out, integers}
+use Rattle.base.proofs.Totals.{total_by-append, total_by-flat_map, total_by-same, total_by-times}
+use Rattle.literal_lists.specs.declared.literal.Literal.{Literal}
 use Rattle.problem_form.specs.declared.terms.Constraint.{Constraint}
-use Rattle.problem_form.specs.Literals.{holds, all_hold, has_clash}
+use Rattle.literal_lists.specs.Literals.{holds, all_hold, has_clash}
 use Rattle.problem_form.specs.Limits.{slack_range}
-use Rattle.problem_form.proofs.LiteralSets.{list_all-literal_set}
+use Rattle.literal_lists.proofs.LiteralSets.{list_all-literal_set}
 use Rattle.problem_form.proofs.NormalForms.{all_hold-clash}
 use Rattle.term_table.specs.Terms.{Term, term_cost, terms_cost}
 use Rattle.term_table.specs.Products.{union, scaled, product_terms, products_with}

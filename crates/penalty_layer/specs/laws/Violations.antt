@@ -5,12 +5,12 @@ use Rattle.std.specs.List.{list_any, sum_by}
 use Rattle.std.specs.Option.{is_none}
 use Rattle.std.proofs.lemmas.Int.{ints}
 use Rattle.std.proofs.lemmas.List.Sums.{sum_by-cons}
-use Rattle.integers.specs.Sums.{total_by, if_so, positive_part}
-use Rattle.integers.proofs.Totals.{total_by-map, total_by-same}
-use Rattle.problem_form.specs.declared.literal.Literal.{Literal}
+use Rattle.base.specs.Sums.{total_by, if_so, positive_part}
+use Rattle.base.proofs.Totals.{total_by-map, total_by-same}
+use Rattle.literal_lists.specs.declared.literal.Literal.{Literal}
 use Rattle.problem_form.specs.declared.terms.Clause.{Clause}
 use Rattle.problem_form.specs.declared.terms.Product.{Product}
-use Rattle.problem_form.specs.Literals.{holds, all_hold, some_holds}
+use Rattle.literal_lists.specs.Literals.{holds, all_hold, some_holds}
 use Rattle.problem_form.specs.Problems.{sum_of, products_total, is_violated, soft_weight, soft_cost, fails_hard}
 use Rattle.problem_form.specs.Limits.{positive_total}
 use Rattle.term_table.specs.Terms.{term_cost, terms_cost}

@@ -9,14 +9,14 @@ use Rattle.std.proofs.Common.{arith, ap, sym, ◌∙◌, refl, subst}
 use Rattle.std.proofs.lemmas.Int.{ints}
 use Rattle.std.proofs.lemmas.List.{length-set, length-replicate}
 use Rattle.std.proofs.lemmas.List.Elements.{All-nil, All-append, All-head, All-tail, All-from_recursion, recursion_from_All}
-use Rattle.integers.specs.Sums.{total_by, if_so}
-use Rattle.integers.proofs.Totals.{total_by-append, total_by_push}
-use Rattle.bits_model.specs.declared.layer.BitsLink.{BitsLink}
-use Rattle.bits_model.specs.Costs.{IsNeverInfinite}
+use Rattle.base.specs.Sums.{total_by, if_so}
+use Rattle.base.proofs.Totals.{total_by-append, total_by_push}
+use Rattle.form_steps.specs.declared.layer.BitsLink.{BitsLink}
+use Rattle.base.specs.Costs.{IsNeverInfinite}
 use Rattle.bits_model.specs.Output.{bit_at, bits_energy}
-use Rattle.bits_model.specs.Relations.{Keeps, Extends, Joins}
-use Rattle.problem_form.specs.declared.literal.Literal.{Literal}
-use Rattle.problem_form.specs.Literals.{all_hold, are_opposite, IsLiteralSet}
+use Rattle.form_steps.specs.Relations.{Keeps, Extends, Joins}
+use Rattle.literal_lists.specs.declared.literal.Literal.{Literal}
+use Rattle.literal_lists.specs.Literals.{all_hold, are_opposite, IsLiteralSet}
 use Rattle.term_table.specs.Terms.{Term, term_cost, terms_cost, with_additions, IsTermSet}
 use Rattle.term_table.specs.Tables.{TableContent, IsTable, IsLow}
 use Rattle.term_table.specs.Tables as tables

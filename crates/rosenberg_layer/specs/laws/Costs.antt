@@ -7,10 +7,10 @@ use Rattle.std.specs.declared.cmp.Ordering.{Ordering}
 use Rattle.std.specs.declared.cmp.Ordering.TheVariants.{Less, Equal, Greater}
 use Rattle.std.proofs.Common.{arith, sym, ap, ◌∙◌, refl, ◌⊎◌, inl, inr}
 use Rattle.std.proofs.lemmas.Int.{ints}
-use Rattle.integers.specs.Sums.{if_so}
-use Rattle.integers.proofs.Totals.{total_by-append}
-use Rattle.problem_form.specs.declared.literal.Literal.{Literal}
-use Rattle.problem_form.specs.Literals.{holds, all_hold, literal_cmp}
+use Rattle.base.specs.Sums.{if_so}
+use Rattle.base.proofs.Totals.{total_by-append}
+use Rattle.literal_lists.specs.declared.literal.Literal.{Literal}
+use Rattle.literal_lists.specs.Literals.{holds, all_hold, literal_cmp}
 use Rattle.term_table.specs.Terms.{Term, term_cost, terms_cost, terms_total}
 use Rattle.term_table.proofs.Additions.{terms_total-cons}
 use Rattle.term_table.proofs.SetOrder.{same_set}

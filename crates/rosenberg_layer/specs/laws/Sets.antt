@@ -10,9 +10,9 @@ use Rattle.std.proofs.Common.{arith, sym, ap, ◌∙◌, refl, subst}
 use Rattle.std.proofs.lemmas.List.{length-append}
 use Rattle.std.proofs.lemmas.Cmp.{tied_itself}
 use Rattle.std.proofs.lemmas.List.Elements.{All-append, All-from_recursion, recursion_from_All}
-use Rattle.problem_form.specs.declared.literal.Literal.{Literal}
-use Rattle.problem_form.specs.Literals.{literal_cmp, IsLiteralSet}
-use Rattle.problem_form.proofs.LiteralSets.{Rises, no_clash, literal_total}
+use Rattle.literal_lists.specs.declared.literal.Literal.{Literal}
+use Rattle.literal_lists.specs.Literals.{literal_cmp, IsLiteralSet}
+use Rattle.literal_lists.proofs.LiteralSets.{Rises, no_clash, literal_total}
 use Rattle.term_table.specs.Terms.{Term, AreTerms, IsTermSet}
 use Rattle.term_table.specs.Tables.{TableContent}
 use Rattle.term_table.proofs.KeptTerms.{OfSet, AreTerms-with_additions}

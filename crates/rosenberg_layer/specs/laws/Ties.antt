@@ -3,7 +3,7 @@
 use Rattle.std.specs.Prelude.{ℤ, ℕ, pos, ◌+ℤ◌, neg_ℤ, ◌*◌, Bool, ◌&&◌, ◌≤ℤ◌, ◌≡◌, ◌≢◌, true, false, unsigned_abs}
 use Rattle.std.proofs.Common.{arith, refl, ◌⊎◌, inl, inr}
 use Rattle.std.proofs.lemmas.Int.{ints}
-use Rattle.integers.specs.Sums.{if_so}
+use Rattle.base.specs.Sums.{if_so}
 
 -- m * (p q - 2 p w - 2 q w + 3 w)
 abbrev pub tie : ℕ → Bool → Bool → Bool → ℤ

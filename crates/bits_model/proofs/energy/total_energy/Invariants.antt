@@ -1,5 +1,5 @@
 use Rattle.std.proofs.Common.{◌≡◌, ◌+◌, ◌≤◌, ◌^◌, ◌+ℤ◌, unsigned_abs}
-use Rattle.integers.specs.Sums.{total_by}
+use Rattle.base.specs.Sums.{total_by}
 use Rattle.bits_model.specs.Output.{entry_energy, weight_total}
 use Rattle.bits_model.proofs.energy.total_energy.Given as goal
 

@@ -1,7 +1,7 @@
 use Rattle.std.proofs.Common.{◌≡◌, ◌<◌, ℤ, List, int_div, pos, length, get_or, slice_set, to_z, of_z, ap, ◌∙◌, arith, rules}
 use Rattle.std.specs.Int.{w128}
 use Rattle.std.proofs.lemmas.Int.{to_z-of_z}
-use Rattle.bits_model.proofs.DividedWeights.{next_unchanged, one_changed}
+use Rattle.base.proofs.DividedWeights.{next_unchanged, one_changed}
 use Rattle.bits_model.proofs.weights.divide_weights.Goals as goal
 
 pub loop-weight-preserved : goal.loop-weight-preserved

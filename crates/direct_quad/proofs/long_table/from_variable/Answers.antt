@@ -1,6 +1,6 @@
 use Rattle.std.proofs.Common.{List, IsTrue, sym, ap, ◌∙◌, subst}
 use Rattle.std.proofs.lemmas.Map.Iter.{rest_more}
-use Rattle.problem_form.specs.declared.literal.Literal.{Literal}
+use Rattle.literal_lists.specs.declared.literal.Literal.{Literal}
 use Rattle.direct_quad.specs.Occurrences.{has_variable, from_variable}
 use Rattle.direct_quad.proofs.LongPlaces.{found_here, left_later, there_later}
 use Rattle.direct_quad.proofs.long_table.from_variable.Goals as goal

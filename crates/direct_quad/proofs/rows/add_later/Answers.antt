@@ -5,7 +5,7 @@ use Rattle.std.proofs.lemmas.Int.{to_z-of_z}
 use Rattle.std.proofs.lemmas.Map.Iter.{rest_more}
 use Rattle.std.proofs.lemmas.List.Elements.{All-rest, All-head}
 use Rattle.bits_model.specs.Output.{weight_total}
-use Rattle.problem_form.specs.declared.literal.Literal.{Literal}
+use Rattle.literal_lists.specs.declared.literal.Literal.{Literal}
 use Rattle.direct_quad.specs.Places.{signed, pair_coupler}
 use Rattle.direct_quad.specs.RowSums.{with_weight, with_entries, size_of}
 use Rattle.direct_quad.proofs.SummedRows.{length-with_weight}

@@ -1,7 +1,7 @@
 use Rattle.std.proofs.Common.{◌≡◌, ◌+◌, ◌<◌, ◌≤◌, ◌^◌, length, map}
 use Rattle.std.specs.Prelude.{All}
 use Rattle.bits_model.specs.Output.{weight_total}
-use Rattle.problem_form.specs.declared.literal.Literal.{Literal}
+use Rattle.literal_lists.specs.declared.literal.Literal.{Literal}
 use Rattle.direct_quad.specs.Places.{pair_coupler}
 use Rattle.direct_quad.specs.RowSums.{with_entries, size_of}
 use Rattle.direct_quad.proofs.rows.add_later.Given as goal

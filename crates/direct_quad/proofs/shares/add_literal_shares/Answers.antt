@@ -3,7 +3,7 @@ use Rattle.std.specs.Int.{w128}
 use Rattle.std.proofs.lemmas.Int.{to_z-of_z}
 use Rattle.std.proofs.lemmas.Map.Iter.{rest_more}
 use Rattle.std.proofs.lemmas.List.Elements.{All-rest}
-use Rattle.problem_form.specs.declared.literal.Literal.{Literal}
+use Rattle.literal_lists.specs.declared.literal.Literal.{Literal}
 use Rattle.direct_quad.specs.Places.{literal_share}
 use Rattle.direct_quad.specs.Held.{Gain}
 use Rattle.direct_quad.proofs.GainedShares.{gaining-more}

@@ -1,6 +1,6 @@
 use Rattle.std.proofs.Common.{◌<◌, length, map}
 use Rattle.std.specs.Prelude.{All}
-use Rattle.problem_form.specs.declared.literal.Literal.{Literal}
+use Rattle.literal_lists.specs.declared.literal.Literal.{Literal}
 use Rattle.direct_quad.specs.Places.{literal_share}
 use Rattle.direct_quad.proofs.GainedShares.{Gaining}
 use Rattle.direct_quad.proofs.shares.add_literal_shares.Given as goal

@@ -2,7 +2,7 @@ use Rattle.std.proofs.Common.{rules, ◌≡◌, ◌+◌, ◌∙◌, ap, subst, s
 use Rattle.std.specs.Int.{w128}
 use Rattle.std.proofs.lemmas.Int.{to_z-of_z}
 use Rattle.std.proofs.lemmas.Option.{get_or_from_slice_get}
-use Rattle.integers.specs.Sums.{total_by}
+use Rattle.base.specs.Sums.{total_by}
 use Rattle.term_table.specs.Terms.{Term}
 use Rattle.direct_quad.specs.Places.{complements, term_shares, long_constant}
 use Rattle.direct_quad.specs.Held.{Gain, shares_total}

@@ -1,5 +1,5 @@
 use Rattle.std.proofs.Common.{◌≡◌, take}
-use Rattle.integers.specs.Sums.{total_by}
+use Rattle.base.specs.Sums.{total_by}
 use Rattle.direct_quad.specs.Places.{all_shares, long_constant}
 use Rattle.direct_quad.specs.Held.{Gain, shares_total}
 use Rattle.direct_quad.proofs.shares.add_shares.Given as goal

@@ -1,6 +1,6 @@
 use Rattle.std.proofs.Common.{◌≡◌, ◌+◌, ℕ, List, arith, sym, ap, subst, get_or, drop, false, length}
 use Rattle.std.specs.List.{AllByRecursion}
-use Rattle.problem_form.specs.declared.literal.Literal.{Literal}
+use Rattle.literal_lists.specs.declared.literal.Literal.{Literal}
 use Rattle.term_table.specs.Terms.{Term, IsTermSet}
 use Rattle.rosenberg_layer.specs.Rosenberg.{node, tie_terms, Pair}
 use Rattle.rosenberg_layer.specs.Parts.{ties_of}

@@ -1,6 +1,6 @@
 use Rattle.std.proofs.Common.{◌<◌, List, subst, sym, All}
 use Rattle.std.proofs.lemmas.List.Elements.{All-map}
-use Rattle.problem_form.specs.declared.literal.Literal.{Literal}
+use Rattle.literal_lists.specs.declared.literal.Literal.{Literal}
 use Rattle.entry_reader.specs.Problems.{plain}
 use Rattle.entry_reader.proofs.added.add_product.Goals as goal
 

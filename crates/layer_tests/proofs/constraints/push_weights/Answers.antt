@@ -1,7 +1,7 @@
 use Rattle.std.proofs.Common.{rules, ap, unsigned_abs, arith}
 use Rattle.std.specs.Int.{w128}
 use Rattle.std.proofs.lemmas.Int.{to_z-of_z}
-use Rattle.problem_form.specs.declared.literal.Literal.{Literal}
+use Rattle.literal_lists.specs.declared.literal.Literal.{Literal}
 use Rattle.layer_tests.proofs.SmallSums.{pushed_within, one_within, pushed_small}
 use Rattle.layer_tests.proofs.constraints.push_weights.Goals as goal
 

@@ -1,8 +1,8 @@
 use Rattle.std.proofs.Common.{◌≡◌, ◌+ℤ◌, ap, sym, ◌∙◌, to_z, of_z, arith}
 use Rattle.std.specs.Int.{w128}
 use Rattle.std.proofs.lemmas.Int.{ints}
-use Rattle.integers.specs.Sums.{total_by}
-use Rattle.integers.proofs.Totals.{total_by-append}
+use Rattle.base.specs.Sums.{total_by}
+use Rattle.base.proofs.Totals.{total_by-append}
 use Rattle.bits_model.specs.Output.{bits_energy, weight_total}
 use Rattle.model_pipeline.proofs.RowEnergies.{size-bits_total, weight_total-append}
 use Rattle.model_pipeline.proofs.energy.energy_of.Goals as goal

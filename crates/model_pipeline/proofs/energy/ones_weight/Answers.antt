@@ -1,7 +1,7 @@
 use Rattle.std.proofs.Common.{◌≡◌, ◌≤◌, ◌+◌, ◌<◌, ◌+ℤ◌, pos, true, false, unsigned_abs, length, get_or, take, ap, sym, ◌∙◌, to_z, of_z, arith}
 use Rattle.std.specs.Int.{w128}
 use Rattle.std.proofs.lemmas.Int.{ints}
-use Rattle.integers.proofs.Totals.{size-plus}
+use Rattle.base.proofs.Totals.{size-plus}
 use Rattle.bits_model.specs.declared.output.Entry.{Entry}
 use Rattle.bits_model.specs.Output.{bit_at, weight_total}
 use Rattle.bits_model.proofs.Energies.{weight_within}

@@ -1,5 +1,5 @@
 use Rattle.std.proofs.Common.{◌≡◌, ◌≤◌, unsigned_abs, take}
-use Rattle.integers.specs.Sums.{total_by}
+use Rattle.base.specs.Sums.{total_by}
 use Rattle.bits_model.specs.Output.{weight_total}
 use Rattle.model_pipeline.proofs.RowEnergies.{second_weight}
 use Rattle.model_pipeline.proofs.energy.ones_weight.Given as goal

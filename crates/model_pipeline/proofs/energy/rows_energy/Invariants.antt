@@ -1,5 +1,5 @@
 use Rattle.std.proofs.Common.{◌≡◌}
-use Rattle.integers.specs.Sums.{total_by}
+use Rattle.base.specs.Sums.{total_by}
 use Rattle.bits_model.specs.Output.{bits_energy}
 use Rattle.embedding_check.proofs.PlacedRows.{rows_before}
 use Rattle.model_pipeline.proofs.energy.rows_energy.Given as goal

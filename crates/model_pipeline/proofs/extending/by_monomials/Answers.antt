@@ -1,5 +1,5 @@
 use Rattle.std.proofs.Common.{subst, arith}
-use Rattle.bits_model.proofs.Growth.{grown_within}
+use Rattle.form_steps.proofs.Growth.{grown_within}
 use Rattle.term_table.specs.Tables.{TableContent}
 use Rattle.direct_quad.specs.FlatMonomials.{image}
 use Rattle.model_pipeline.specs.Formed.{HasRoom}

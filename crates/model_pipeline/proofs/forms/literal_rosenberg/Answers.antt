@@ -1,6 +1,6 @@
 use Rattle.std.proofs.Common.{◌≤◌, ◌^◌, ap, arith}
 use Rattle.std.specs.Prelude.{unsigned_abs}
-use Rattle.bits_model.specs.declared.costs.Figures.{Figures}
+use Rattle.base.specs.declared.costs.Figures.{Figures}
 use Rattle.problem_form.specs.declared.limits.Normal.TheVariants.{Literal}
 use Rattle.problem_form.specs.declared.limits.High.TheVariants.{Rosenberg}
 use Rattle.problem_form.specs.Limits.{upper}

@@ -2,7 +2,7 @@ use Rattle.std.proofs.Common.{◌∙◌, ap, arith, subst, sym}
 use Rattle.std.specs.Prelude.{unsigned_abs}
 use Rattle.std.proofs.lemmas.Int.{ints}
 use Rattle.std.proofs.lemmas.Result.{IfOk-weaker}
-use Rattle.bits_model.specs.declared.costs.Figures.{Figures}
+use Rattle.base.specs.declared.costs.Figures.{Figures}
 use Rattle.model_pipeline.specs.Models.{IsModelOf, form_model}
 use Rattle.model_pipeline.proofs.Standing.{formed_model}
 use Rattle.model_pipeline.proofs.model.model_of.Goals as goal

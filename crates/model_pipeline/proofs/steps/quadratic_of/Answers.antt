@@ -1,6 +1,6 @@
 use Rattle.std.proofs.Common.{ap, subst, ◌∙◌, arith}
-use Rattle.bits_model.proofs.Growth.{grown_within, grown_bits}
-use Rattle.bits_model.specs.declared.layer.BitsLink.{BitsLink}
+use Rattle.form_steps.proofs.Growth.{grown_within, grown_bits}
+use Rattle.form_steps.specs.declared.layer.BitsLink.{BitsLink}
 use Rattle.term_table.specs.Tables.{TableContent, IsTable}
 use Rattle.rosenberg_layer.specs.Rosenberg as rosenberg
 use Rattle.quad_form.specs.Quads.{quad_size, quad_total}

@@ -3,9 +3,9 @@ use Rattle.std.specs.Int.{w128}
 use Rattle.std.proofs.lemmas.Int.{to_z-of_z}
 use Rattle.std.proofs.lemmas.Result.{IfOk-weaker}
 use Rattle.bits_model.specs.declared.output.Kind.TheVariants.{Ising}
-use Rattle.integers.proofs.Totals.{size-plus}
-use Rattle.bits_model.specs.Relations.{figures_moved}
-use Rattle.bits_model.proofs.Growth.{fits_below}
+use Rattle.base.proofs.Totals.{size-plus}
+use Rattle.base.specs.Figures.{figures_moved}
+use Rattle.form_steps.proofs.Growth.{fits_below}
 use Rattle.ising_form.specs.Outputs.{written_of}
 use Rattle.model_pipeline.proofs.written.ising_model.Goals as goal
 

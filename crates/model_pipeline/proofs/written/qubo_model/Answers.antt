@@ -2,7 +2,7 @@ use Rattle.std.proofs.Common.{◌∙◌, ap, rules}
 use Rattle.std.specs.Int.{w128}
 use Rattle.std.proofs.lemmas.Int.{to_z-of_z}
 use Rattle.std.proofs.lemmas.Result.{IfOk-weaker}
-use Rattle.bits_model.specs.Relations.{figures_moved}
+use Rattle.base.specs.Figures.{figures_moved}
 use Rattle.quad_form.specs.Quads.{written_of}
 use Rattle.model_pipeline.proofs.written.qubo_model.Goals as goal
 

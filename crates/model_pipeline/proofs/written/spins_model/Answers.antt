@@ -1,7 +1,7 @@
 use Rattle.std.proofs.Common.{◌*ℤ◌, length, ◌∙◌, ap, arith, rules}
 use Rattle.std.specs.Int.{w128}
 use Rattle.std.proofs.lemmas.Int.{ints, to_z-of_z}
-use Rattle.bits_model.specs.declared.costs.Figures.{Figures}
+use Rattle.base.specs.declared.costs.Figures.{Figures}
 use Rattle.ising_form.specs.Isings.{IsingContent}
 use Rattle.ising_form.specs.Spins.{coupled}
 use Rattle.ising_form.specs.laws.Spun.{length-fields}

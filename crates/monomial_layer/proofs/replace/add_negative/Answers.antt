@@ -1,7 +1,7 @@
 use Rattle.std.proofs.Common.{◌∙◌, arith, ap, rules}
 use Rattle.std.specs.Int.{w128}
 use Rattle.std.proofs.lemmas.Int.{to_z-of_z}
-use Rattle.problem_form.specs.declared.literal.Literal.{Literal}
+use Rattle.literal_lists.specs.declared.literal.Literal.{Literal}
 use Rattle.term_table.proofs.SmallSets.{IsTermSet-one}
 use Rattle.monomial_layer.proofs.Adding.{negative_fits_more}
 use Rattle.monomial_layer.proofs.replace.add_negative.Goals as goal

@@ -1,5 +1,5 @@
 use Rattle.std.proofs.lemmas.List.Elements.{All-more}
-use Rattle.problem_form.specs.declared.literal.Literal.{Literal}
+use Rattle.literal_lists.specs.declared.literal.Literal.{Literal}
 use Rattle.std.proofs.Common.{rules, ◌≡◌, false}
 use Rattle.normal_form.proofs.multiplied.first_complement.Goals as goal
 

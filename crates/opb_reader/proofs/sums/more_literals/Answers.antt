@@ -1,7 +1,7 @@
 use Rattle.std.proofs.Common.{◌≡◌, ◌∷◌, [], length, true, false, sym, ap, ◌∙◌, arith}
 use Rattle.std.proofs.lemmas.Result.{err_from_is_err_and}
 use Rattle.whole_text.specs.TokenTexts.{word_of}
-use Rattle.problem_form.specs.declared.literal.Literal.{Literal}
+use Rattle.literal_lists.specs.declared.literal.Literal.{Literal}
 use Rattle.opb_reader.specs.Opb.{widened, begins_literal}
 use Rattle.opb_reader.proofs.Literals.{literal_goes_on, literal_fails, literals_stop, literals_end}
 use Rattle.opb_reader.proofs.Variables.{widened-append}

@@ -1,6 +1,6 @@
 use Rattle.std.proofs.Common.{◌≡◌, ◌∷◌, ◌++◌, [], List, sym, ap, ◌∙◌}
 use Rattle.whole_text.specs.TokenTexts.{word_of}
-use Rattle.problem_form.specs.declared.literal.Literal.{Literal}
+use Rattle.literal_lists.specs.declared.literal.Literal.{Literal}
 use Rattle.opb_reader.specs.Opb.{product_at}
 use Rattle.opb_reader.specs.Views.{literals_read}
 use Rattle.opb_reader.proofs.Literals.{product_first}

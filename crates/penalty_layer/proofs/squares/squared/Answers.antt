@@ -1,7 +1,7 @@
 use Rattle.std.proofs.Common.{rules, ◌≡◌, ◌*◌, ◌∙◌, ap, unsigned_abs, pos, ◌*ℤ◌, arith, to_z, of_z}
 use Rattle.std.specs.Int.{w128}
 use Rattle.std.proofs.lemmas.Int.{to_z-of_z}
-use Rattle.integers.proofs.Products.{times_assoc}
+use Rattle.base.proofs.Products.{times_assoc}
 use Rattle.penalty_layer.proofs.SquareSteps.{once_small, scaled_size}
 use Rattle.penalty_layer.proofs.squares.squared.Goals as goal
 

@@ -1,6 +1,6 @@
 use Rattle.std.proofs.Common.{length, get_or, ap, ◌∙◌, sym, arith, Some}
 use Rattle.std.specs.List.{slice_range}
-use Rattle.problem_form.proofs.FlatParts.{part_lies, parts-at}
+use Rattle.literal_lists.proofs.FlatParts.{part_lies, parts-at}
 use Rattle.poly_reader.proofs.names.part.Goals as goal
 
 pub between-requires-clause-ordered : goal.between-requires-clause-ordered

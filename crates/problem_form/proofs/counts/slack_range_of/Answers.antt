@@ -1,7 +1,7 @@
 use Rattle.std.proofs.Common.{◌≡◌, arith, sym, ap, ◌∙◌, pos, ◌-ℤ◌, to_z, of_z, false}
 use Rattle.std.specs.Int.{w128}
 use Rattle.std.proofs.lemmas.Int.{ints}
-use Rattle.integers.specs.Sums.{positive_part}
+use Rattle.base.specs.Sums.{positive_part}
 use Rattle.problem_form.specs.declared.terms.Constraint.{Constraint}
 use Rattle.problem_form.specs.Limits.{positive_total}
 use Rattle.problem_form.proofs.CountedNumbers.{positive_total-le}

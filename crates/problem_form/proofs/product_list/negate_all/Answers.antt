@@ -1,7 +1,7 @@
 use Rattle.std.proofs.Common.{◌≡◌, ◌<◌, ℤ, List, neg_ℤ, pos, length, get_or, slice_set, to_z, of_z, ap, ◌∙◌, arith, rules}
 use Rattle.std.specs.Int.{w128}
 use Rattle.std.proofs.lemmas.Int.{to_z-of_z}
-use Rattle.bits_model.proofs.DividedWeights.{next_unchanged, one_changed}
+use Rattle.base.proofs.DividedWeights.{next_unchanged, one_changed}
 use Rattle.problem_form.proofs.product_list.negate_all.Goals as goal
 
 pub loop-number-preserved : goal.loop-number-preserved

@@ -1,5 +1,5 @@
 use Rattle.std.proofs.Common.{◌≡◌, neg_ℤ}
-use Rattle.bits_model.proofs.DividedWeights.{changed_to}
+use Rattle.base.proofs.DividedWeights.{changed_to}
 use Rattle.problem_form.proofs.product_list.negate_all.Given as goal
 
 -- the signs of the numbers so far are turned, and the others are as before

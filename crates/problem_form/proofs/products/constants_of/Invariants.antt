@@ -1,5 +1,5 @@
 use Rattle.std.proofs.Common.{unsigned_abs}
-use Rattle.integers.specs.Sums.{total_by}
+use Rattle.base.specs.Sums.{total_by}
 use Rattle.problem_form.specs.declared.terms.Product.{Product}
 use Rattle.problem_form.specs.NormalForm.{product_constant}
 use Rattle.problem_form.specs.Problems.{products_total}

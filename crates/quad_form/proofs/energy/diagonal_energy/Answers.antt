@@ -1,7 +1,7 @@
 use Rattle.std.proofs.Common.{◌≡◌, pos, ◌+ℤ◌, to_z, of_z, get_or, ap, ◌∙◌, arith}
 use Rattle.std.specs.Int.{w128}
 use Rattle.std.proofs.lemmas.Int.{ints}
-use Rattle.integers.specs.Sums.{if_so}
+use Rattle.base.specs.Sums.{if_so}
 use Rattle.bits_model.specs.Output.{bit_at}
 use Rattle.quad_form.proofs.NodeEnergies.{energy_more, size_more, size-if_so, weights_within}
 use Rattle.quad_form.proofs.energy.diagonal_energy.Goals as goal

@@ -1,5 +1,5 @@
 use Rattle.std.proofs.Common.{◌≡◌, ◌≤◌, unsigned_abs, take}
-use Rattle.integers.specs.Sums.{total_by}
+use Rattle.base.specs.Sums.{total_by}
 use Rattle.bits_model.specs.Output.{bits_energy, weight_total}
 use Rattle.quad_form.specs.Quads.{node_entries}
 use Rattle.quad_form.proofs.energy.diagonal_energy.Given as goal

@@ -2,9 +2,9 @@ use Rattle.std.proofs.Common.{◌≤◌, ◌^◌, ◌+ℤ◌, ◌∙◌, unsigne
 use Rattle.std.specs.Int.{w128}
 use Rattle.std.proofs.lemmas.Int.{to_z-of_z}
 use Rattle.std.proofs.lemmas.Result.{IfOk-weaker}
-use Rattle.integers.proofs.Totals.{size-plus}
-use Rattle.bits_model.specs.Relations.{figures_moved}
-use Rattle.bits_model.proofs.Growth.{fits_below}
+use Rattle.base.proofs.Totals.{size-plus}
+use Rattle.base.specs.Figures.{figures_moved}
+use Rattle.form_steps.proofs.Growth.{fits_below}
 use Rattle.ising_form.specs.Outputs.{written_of}
 use Rattle.qubit_models.proofs.OnChains.{reduced_fits}
 use Rattle.qubit_models.proofs.written.chained_model.Goals as goal

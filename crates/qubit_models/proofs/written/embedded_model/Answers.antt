@@ -2,8 +2,8 @@ use Rattle.std.proofs.Common.{◌*ℤ◌, ◌∙◌, ap, arith, rules}
 use Rattle.std.specs.Int.{w128}
 use Rattle.std.proofs.lemmas.Int.{ints, to_z-of_z}
 use Rattle.std.proofs.lemmas.Result.{IfOk-weaker}
-use Rattle.bits_model.specs.declared.costs.Figures.{Figures}
-use Rattle.bits_model.specs.Relations.{figures_after}
+use Rattle.base.specs.declared.costs.Figures.{Figures}
+use Rattle.base.specs.Figures.{figures_after}
 use Rattle.chain_layer.proofs.Written.{image_fits_output}
 use Rattle.qubit_models.specs.QubitModels.{chained_model, kind_of}
 use Rattle.qubit_models.proofs.QubitModels.{tied_fits}

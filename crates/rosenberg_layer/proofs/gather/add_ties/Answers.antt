@@ -1,6 +1,6 @@
 use Rattle.std.proofs.Common.{◌+◌, ◌≤◌, ◌^◌, arith, sym, ap, subst, get_or, drop, false, List, ℕ}
 use Rattle.std.specs.List.{AllByRecursion}
-use Rattle.problem_form.specs.declared.literal.Literal.{Literal}
+use Rattle.literal_lists.specs.declared.literal.Literal.{Literal}
 use Rattle.term_table.specs.Terms.{Term, terms_total, IsTermSet}
 use Rattle.term_table.proofs.Additions.{terms_total-append}
 use Rattle.rosenberg_layer.specs.Rosenberg.{node, Pair, tie_terms}

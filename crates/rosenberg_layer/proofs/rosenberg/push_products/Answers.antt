@@ -1,8 +1,8 @@
 use Rattle.std.proofs.Common.{◌≡◌, ◌++◌, ◌∷◌, [], ◌∙◌, ◌&&◌, false, rules, ap, sym, get_or}
 use Rattle.std.proofs.lemmas.List.Sums.{fold_more}
 use Rattle.rosenberg_layer.specs.Rosenberg.{Pair, with_product}
-use Rattle.problem_form.specs.declared.literal.Literal.{Literal}
-use Rattle.problem_form.specs.Literals.{holds}
+use Rattle.literal_lists.specs.declared.literal.Literal.{Literal}
+use Rattle.literal_lists.specs.Literals.{holds}
 use Rattle.rosenberg_layer.proofs.rosenberg.push_products.Goals as goal
 use Rattle.rosenberg_layer.proofs.rosenberg.push_products.Goals.{then-holds, else-holds}
 

@@ -1,7 +1,7 @@
 use Rattle.std.proofs.Common.{rules, arith, ◌≡◌, ◌≢◌, ◌∙◌, ap, sym, pos, of_z, FitsSigned, List}
 use Rattle.std.specs.Int.{w128}
 use Rattle.std.proofs.lemmas.Int.{to_z-of_z, ints}
-use Rattle.problem_form.specs.declared.literal.Literal.{Literal}
+use Rattle.literal_lists.specs.declared.literal.Literal.{Literal}
 use Rattle.term_table.specs.Terms.{with_addition}
 use Rattle.term_table.proofs.MapTerms.{with_addition-raised, with_addition-cancelled, with_addition-missing, with_addition-nothing}
 use Rattle.term_table.proofs.entries.add_to_map.Goals as goal

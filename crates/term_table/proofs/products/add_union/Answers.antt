@@ -1,8 +1,8 @@
 use Rattle.std.proofs.Common.{◌++◌, List, subst, sym, ap, ◌∙◌}
 use Rattle.std.specs.List.Sorted.{IsStrictlySortedBy}
-use Rattle.problem_form.specs.declared.literal.Literal.{Literal}
-use Rattle.problem_form.specs.Literals.{literal_cmp, has_clash}
-use Rattle.problem_form.proofs.LiteralSets.{literal_set-ascends}
+use Rattle.literal_lists.specs.declared.literal.Literal.{Literal}
+use Rattle.literal_lists.specs.Literals.{literal_cmp, has_clash}
+use Rattle.literal_lists.proofs.LiteralSets.{literal_set-ascends}
 use Rattle.term_table.specs.Terms.{IsTermSet}
 use Rattle.term_table.proofs.TermProducts.{union_set}
 use Rattle.term_table.proofs.products.add_union.Goals as goal

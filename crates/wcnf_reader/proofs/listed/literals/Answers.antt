@@ -1,7 +1,7 @@
 use Rattle.std.proofs.Common.{◌<◌, ◌∷◌, [], length, ap, arith}
 use Rattle.std.proofs.lemmas.List.Elements.{All-append, All-cons, All-nil}
 use Rattle.std.proofs.lemmas.Result.{err_from_is_err_and}
-use Rattle.problem_form.specs.declared.literal.Literal.{Literal}
+use Rattle.literal_lists.specs.declared.literal.Literal.{Literal}
 use Rattle.whole_text.specs.TokenTexts.{word_of}
 use Rattle.wcnf_reader.specs.Views.{literals_read, bound_of}
 use Rattle.wcnf_reader.proofs.Loops.{literal_goes_on, literals_stop, literals_fail, literals_end}

@@ -1,6 +1,6 @@
 use Rattle.std.proofs.Common.{◌≡◌, ◌+◌, max, get_or, false, sym, ap, ◌∙◌, arith}
 use Rattle.std.proofs.Math.Nat.{le-max_left, le-max_right}
-use Rattle.problem_form.specs.declared.literal.Literal.{Literal}
+use Rattle.literal_lists.specs.declared.literal.Literal.{Literal}
 use Rattle.wcnf_reader.proofs.Widening.{widened_more, all_within}
 use Rattle.wcnf_reader.proofs.listed.widened.Goals as goal
 

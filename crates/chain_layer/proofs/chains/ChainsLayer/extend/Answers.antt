@@ -1,7 +1,7 @@
 use Rattle.std.proofs.Common.{sym, subst}
 use Rattle.std.specs.Prelude.{pos}
 use Rattle.std.proofs.lemmas.Result.{IfOk-weaker}
-use Rattle.bits_model.specs.Relations.{Extends}
+use Rattle.form_steps.specs.Relations.{Extends}
 use Rattle.ising_form.specs.Isings as isings
 use Rattle.embedding_check.specs.Embeddings.{form_of}
 use Rattle.chain_layer.specs.Image.{image, offset, decoding}

@@ -4,7 +4,7 @@ use Rattle.std.proofs.lemmas.Int.{ints}
 use Rattle.ising_form.specs.Isings.{IsingContent, ising_total, ising_size}
 use Rattle.ising_form.specs.Isings as isings
 use Rattle.embedding_check.specs.Embeddings.{form_of}
-use Rattle.bits_model.specs.Relations.{Keeps}
+use Rattle.form_steps.specs.Relations.{Keeps}
 use Rattle.chain_layer.specs.declared.link.ChainLink.{ChainLink}
 use Rattle.chain_layer.specs.Image.{image, offset, decoding, Fits}
 use Rattle.chain_layer.specs.laws.Kept.{chains_keep}

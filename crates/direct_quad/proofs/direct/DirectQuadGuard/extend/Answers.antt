@@ -1,6 +1,6 @@
 use Rattle.std.proofs.Common.{◌≡◌, refl, sym, subst, ◌∙◌}
-use Rattle.bits_model.specs.Links.{first_bits}
-use Rattle.bits_model.specs.Relations.{ExtendsLeast}
+use Rattle.form_steps.specs.Links.{first_bits}
+use Rattle.form_steps.specs.Relations.{ExtendsLeast}
 use Rattle.problem_form.specs.Problems as problems
 use Rattle.penalty_layer.specs.Penalty.{figures}
 use Rattle.penalty_layer.specs.Penalty as penalty

@@ -1,7 +1,7 @@
 use Rattle.std.proofs.Common.{◌∙◌, ap, sym, subst, length, pos, arith}
-use Rattle.bits_model.specs.declared.layer.BitsLink.{BitsLink}
-use Rattle.bits_model.specs.Links.{first_bits}
-use Rattle.bits_model.specs.Relations.{Keeps}
+use Rattle.form_steps.specs.declared.layer.BitsLink.{BitsLink}
+use Rattle.form_steps.specs.Links.{first_bits}
+use Rattle.form_steps.specs.Relations.{Keeps}
 use Rattle.term_table.specs.Tables as tables
 use Rattle.monomial_layer.specs.Monomials as monomials
 use Rattle.monomial_layer.proofs.Sets.{IsLow-image}

@@ -1,9 +1,9 @@
 use Rattle.std.proofs.Common.{◌≡◌, ◌+ℤ◌, ℤ, List, to_z, of_z, ap, ◌∙◌, arith}
 use Rattle.std.specs.Int.{w128}
 use Rattle.std.proofs.lemmas.Int.{ints}
-use Rattle.integers.specs.Sums.{total_by}
-use Rattle.integers.proofs.Totals.{total_by-append}
-use Rattle.bits_model.specs.declared.costs.Cost.TheVariants.{Whole}
+use Rattle.base.specs.Sums.{total_by}
+use Rattle.base.proofs.Totals.{total_by-append}
+use Rattle.base.specs.declared.costs.Cost.TheVariants.{Whole}
 use Rattle.bits_model.specs.Output.{spins_energy}
 use Rattle.quad_form.specs.Quads.{node_entries}
 use Rattle.quad_form.proofs.NodeEnergies.{weights-append}

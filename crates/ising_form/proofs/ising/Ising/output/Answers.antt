@@ -2,7 +2,7 @@ use Rattle.std.proofs.Common.{◌≡◌, ◌≤◌, ◌^◌, ◌++◌, length, s
 use Rattle.std.specs.Int.{w128}
 use Rattle.std.proofs.lemmas.Int.{ints, to_z-of_z}
 use Rattle.bits_model.specs.Output.{Written, IsWellFormed, weight_total}
-use Rattle.bits_model.specs.Relations.{figures_moved}
+use Rattle.base.specs.Figures.{figures_moved}
 use Rattle.ising_form.specs.Isings.{IsingContent, IsIsing}
 use Rattle.ising_form.specs.Outputs.{AreNodes, written_entries, written_of}
 use Rattle.ising_form.proofs.WrittenModels.{written_is_well_formed, written_total, nodes_and_couplings, are_nodes}

@@ -1,7 +1,7 @@
 use Rattle.std.proofs.Common.{◌≡◌, to_z, of_z, ap, sym, subst, ◌∙◌, arith, rules}
 use Rattle.std.specs.Int.{w128}
 use Rattle.std.proofs.lemmas.Int.{to_z-of_z}
-use Rattle.bits_model.specs.declared.layer.BitsLink.{BitsLink}
+use Rattle.form_steps.specs.declared.layer.BitsLink.{BitsLink}
 use Rattle.quad_form.specs.Quads.{QuadContent}
 use Rattle.ising_form.specs.Isings.{IsIsing, ising_total, ising_size}
 use Rattle.ising_form.specs.Spins.{image, Fits}

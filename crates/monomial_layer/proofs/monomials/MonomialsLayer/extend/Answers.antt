@@ -1,7 +1,7 @@
 use Rattle.std.proofs.Common.{sym, subst}
 use Rattle.std.specs.Prelude.{pos}
-use Rattle.bits_model.specs.Links.{first_bits}
-use Rattle.bits_model.specs.Relations.{Extends}
+use Rattle.form_steps.specs.Links.{first_bits}
+use Rattle.form_steps.specs.Relations.{Extends}
 use Rattle.term_table.specs.Tables.{form_of}
 use Rattle.monomial_layer.specs.Monomials.{image}
 use Rattle.monomial_layer.specs.laws.Kept.{mono_reaches}

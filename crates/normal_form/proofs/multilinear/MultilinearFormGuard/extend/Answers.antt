@@ -1,7 +1,7 @@
 use Rattle.std.proofs.Common.{List, Bool, subst, sym}
 use Rattle.std.proofs.lemmas.Result.{IfOk-weaker}
-use Rattle.bits_model.specs.Links.{first_bits}
-use Rattle.bits_model.specs.Relations.{ExtendsLeast}
+use Rattle.form_steps.specs.Links.{first_bits}
+use Rattle.form_steps.specs.Relations.{ExtendsLeast}
 use Rattle.problem_form.specs.Problems as problems
 use Rattle.term_table.specs.Tables as tables
 use Rattle.penalty_layer.specs.Penalty.{figures}

@@ -1,8 +1,8 @@
 use Rattle.std.proofs.Common.{List, Bool, ◌++◌, subst, sym, ap, ◌∙◌}
 use Rattle.std.specs.List.{flat_map}
 use Rattle.std.proofs.lemmas.Result.{IfOk-weaker}
-use Rattle.bits_model.specs.Links.{first_bits}
-use Rattle.bits_model.specs.Relations.{ExtendsLeast}
+use Rattle.form_steps.specs.Links.{first_bits}
+use Rattle.form_steps.specs.Relations.{ExtendsLeast}
 use Rattle.problem_form.specs.Problems.{ProblemContent}
 use Rattle.problem_form.specs.Problems as problems
 use Rattle.term_table.specs.Tables as tables

@@ -1,5 +1,5 @@
 use Rattle.std.proofs.Common.{◌≡◌, rules, length, sym, ap, ◌∙◌}
-use Rattle.problem_form.proofs.FlatParts.{length-parts}
+use Rattle.literal_lists.proofs.FlatParts.{length-parts}
 use Rattle.poly_reader.proofs.names.Names.len.Goals as goal
 
 pub returns : goal.returns

@@ -1,7 +1,7 @@
 use Rattle.std.proofs.Common.{◌≡◌, true, List, ℕ, length, get_or, slice_get, Some, ap, sym, subst, ◌∙◌, arith}
 use Rattle.std.proofs.lemmas.Option.{get_or_from_slice_get}
-use Rattle.problem_form.specs.FlatLists.{parts}
-use Rattle.problem_form.proofs.FlatParts.{length-parts}
+use Rattle.literal_lists.specs.FlatLists.{parts}
+use Rattle.literal_lists.proofs.FlatParts.{length-parts}
 use Rattle.poly_reader.specs.Poly.{is_name}
 use Rattle.poly_reader.proofs.names.Names.name.Goals as goal
 

@@ -1,5 +1,5 @@
 use Rattle.std.proofs.Common.{◌∙◌, sym}
-use Rattle.problem_form.proofs.WeighedParts.{drop-at}
+use Rattle.literal_lists.proofs.LentParts.{drop-at}
 use Rattle.problem_form.proofs.clause_list.ClausesIterator.next.Goals as goal
 
 pub returns-clause-steps : goal.returns-clause-steps

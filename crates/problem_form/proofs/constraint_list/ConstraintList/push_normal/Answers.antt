@@ -3,7 +3,8 @@ use Rattle.std.specs.List.{flat_map}
 use Rattle.problem_form.specs.declared.constraint_list.Row.{Row}
 use Rattle.problem_form.specs.ConstraintRows.{constraint_of}
 use Rattle.problem_form.specs.NormalForm.{kept_product}
-use Rattle.problem_form.proofs.HeldConstraints.{on_err, rows_kept, row_pushed, rows_pushed-within}
+use Rattle.literal_lists.proofs.LentParts.{on_err}
+use Rattle.problem_form.proofs.HeldConstraints.{rows_kept, row_pushed, rows_pushed-within}
 use Rattle.problem_form.proofs.constraint_list.ConstraintList.push_normal.Goals as goal
 
 pub returns-in_err-keep_products-clause-unchanged : goal.returns-in_err-keep_products-clause-unchanged

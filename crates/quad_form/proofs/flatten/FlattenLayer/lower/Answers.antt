@@ -1,5 +1,5 @@
 use Rattle.std.proofs.Common.{◌≡◌, ℕ, length, All, subst, sym, ap, ◌∙◌, arith}
-use Rattle.bits_model.specs.declared.layer.BitsLink.{BitsLink}
+use Rattle.form_steps.specs.declared.layer.BitsLink.{BitsLink}
 use Rattle.term_table.specs.MultipliedOut.{contributions}
 use Rattle.quad_form.specs.Quads.{QuadContent, quad_total, quad_size}
 use Rattle.quad_form.specs.Flat.{Fits}

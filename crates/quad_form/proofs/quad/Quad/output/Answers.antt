@@ -3,7 +3,7 @@ use Rattle.std.specs.Int.{w128}
 use Rattle.std.proofs.lemmas.Int.{ints, to_z-of_z}
 use Rattle.bits_model.specs.declared.output.Kind.TheVariants.{Qubo}
 use Rattle.bits_model.specs.Output.{Written, IsWellFormed, weight_total}
-use Rattle.bits_model.specs.Relations.{figures_moved}
+use Rattle.base.specs.Figures.{figures_moved}
 use Rattle.quad_form.specs.Quads.{QuadContent, IsQuad, entries_of, node_entries, written_of}
 use Rattle.quad_form.proofs.WrittenModels.{written_is_well_formed}
 use Rattle.quad_form.proofs.quad.Quad.output.Goals as goal

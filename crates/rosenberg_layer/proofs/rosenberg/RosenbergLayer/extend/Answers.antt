@@ -1,8 +1,8 @@
 use Rattle.std.proofs.Common.{sym, subst}
 use Rattle.std.specs.Prelude.{pos}
 use Rattle.std.proofs.lemmas.Result.{IfOk-weaker}
-use Rattle.bits_model.specs.Links.{first_bits}
-use Rattle.bits_model.specs.Relations.{Extends}
+use Rattle.form_steps.specs.Links.{first_bits}
+use Rattle.form_steps.specs.Relations.{Extends}
 use Rattle.term_table.specs.Tables.{form_of}
 use Rattle.rosenberg_layer.specs.Rosenberg.{image}
 use Rattle.rosenberg_layer.specs.laws.Kept.{rosen_reaches}

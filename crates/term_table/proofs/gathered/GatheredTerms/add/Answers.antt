@@ -1,7 +1,7 @@
 use Rattle.std.proofs.Common.{subst, sym, unsigned_abs, ◌≡◌, ◌+◌, ◌≤◌, ◌^◌, List, rules}
 use Rattle.std.specs.Int.{w128}
 use Rattle.std.proofs.lemmas.Int.{to_z-of_z}
-use Rattle.problem_form.specs.declared.literal.Literal.{Literal}
+use Rattle.literal_lists.specs.declared.literal.Literal.{Literal}
 use Rattle.term_table.specs.Terms.{terms_total, IsTermSet}
 use Rattle.term_table.specs.Tables.{TableContent}
 use Rattle.term_table.proofs.KeptTables.{AreAdditions-by_result}

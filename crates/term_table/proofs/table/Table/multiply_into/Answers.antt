@@ -2,7 +2,7 @@ use Rattle.std.proofs.Common.{rules, ◌≡◌, ◌∙◌, ap, subst, sym, arith
 use Rattle.std.specs.Int.{w128}
 use Rattle.std.proofs.lemmas.Int.{to_z-of_z}
 use Rattle.std.proofs.lemmas.List.Elements.{All-head, All-tail}
-use Rattle.problem_form.proofs.HeldConstraints.{on_err}
+use Rattle.literal_lists.proofs.LentParts.{on_err}
 use Rattle.term_table.specs.Terms.{Term, terms_total}
 use Rattle.term_table.specs.Tables.{TableContent, with_all}
 use Rattle.term_table.specs.Products.{pairs_with, pairs_of, pair_products, IsFactor, HasPrefix}

@@ -1,0 +1,3 @@
+pub mod Products
+pub mod Totals
+pub mod DividedWeights

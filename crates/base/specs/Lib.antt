@@ -1,0 +1,4 @@
+pub mod Sums
+pub mod Stated
+pub mod Figures
+pub mod Costs

@@ -1,0 +1,180 @@
+-- What relaxes a source has least states that stand for its least assignments.
+--
+-- A state reaches each assignment of whole cost, at the bound that no state with a cost lies below,
+-- and a state without one lies above all of these. So least assignments are reached by least
+-- states, and only by these. That there is a least state at all is a recursion on the width.
+use Rattle.std.proofs.Common.{◌≡◌, ℕ, zero, suc, ℤ, pos, ◌+ℤ◌, ◌*ℤ◌, ◌≤ℤ◌, ◌<ℤ◌, Bool, true, false, List, [], ◌∷◌, length, refl, arith, ap, subst}
+use Rattle.std.proofs.lemmas.Int.{ints, by_lt_z}
+use Rattle.base.proofs.Products.{times-le, times-lt}
+use Rattle.base.specs.declared.costs.Cost.{Cost}
+use Rattle.base.specs.declared.costs.Cost.TheVariants.{Whole, Infinite}
+use Rattle.base.specs.declared.costs.Figures.{Figures}
+use Rattle.base.specs.Costs.{Form, Source, energy}
+use Rattle.form_steps.specs.Relations.{Decoding, Relaxes, ReachesIn}
+use Rattle.faithful.specs.Least.{HasCost, IsFeasible, IsLeast, IsLeastAt, IsLeastState}
+use Rattle.bits_model.specs.Output.{Written, IsWellFormed, form_of, decoding_of}
+use Rattle.faithful.specs.Faithful.{Demand, Faithful, IsStated}
+
+-- ---- there is a least state
+
+-- y is a list of n bits with the least value of g
+record IsLeastOf (n : ℕ) (g : List Bool → ℤ) (y : List Bool) : Type 0 where
+  width : length y ≡ n
+  least : (y' : List Bool) → length y' ≡ n → g y ≤ℤ g y'
+
+-- what holds of both continuations holds of each list that is longer by one
+each_longer : (n : ℕ) (g : List Bool → ℤ) (e : ℤ)
+    → ((y : List Bool) → length y ≡ n → e ≤ℤ g (true ∷ y))
+    → ((y : List Bool) → length y ≡ n → e ≤ℤ g (false ∷ y))
+    → (y : List Bool) → length y ≡ suc n → e ≤ℤ g y
+each_longer n g e t f [] w = absurd (omega arith)
+each_longer n g e t f (true ∷ y) w = t y (omega arith)
+each_longer n g e t f (false ∷ y) w = f y (omega arith)
+
+le-trans : (a b c : ℤ) → a ≤ℤ b → b ≤ℤ c → a ≤ℤ c
+le-trans a b c p q = omega (arith, ints)
+
+only_empty : (g : List Bool → ℤ) (y : List Bool) → length y ≡ 0 → g [] ≤ℤ g y
+only_empty g [] w = omega (arith, ints)
+only_empty g (x ∷ y) w = absurd (omega arith)
+
+-- the lesser of the least lists that begin with either bit
+least_of : (n : ℕ) (g : List Bool → ℤ) → (y : List Bool) × IsLeastOf n g y
+least_of zero g = ([], record { width = refl; least = only_empty g })
+least_of (suc n) g =
+    let s = least_of n (λ y. g (true ∷ y)) in
+    let r = least_of n (λ y. g (false ∷ y)) in
+    by_lt_z (g (true ∷ s.0)) (g (false ∷ r.0))
+    (λ lt. (
+      true ∷ s.0,
+      record {
+        width = ap suc s.1.width;
+        least = each_longer n g (g (true ∷ s.0)) s.1.least
+            (λ y w. le-trans _ (g (false ∷ r.0)) _ (omega (arith, ints)) (r.1.least y w));
+      },
+    ))
+    (λ le. (
+      false ∷ r.0,
+      record {
+        width = ap suc r.1.width;
+        least = each_longer n g (g (false ∷ r.0))
+            (λ y w. le-trans _ (g (true ∷ s.0)) _ le (s.1.least y w)) r.1.least;
+      },
+    ))
+
+pub least_state : (g : Form) → (y : List Bool) × IsLeastState g y
+least_state g =
+    let s = least_of g.bits (energy g) in
+    (s.0, record { width = s.1.width; least = s.1.least })
+
+-- ---- what least states say
+
+-- a cost is whole or infinite
+whole_or_infinite : {P : Type 0} (c : Cost) → ((v : ℤ) → c ≡ Whole v → P) → (c ≡ Infinite → P) → P
+whole_or_infinite (Whole v) w i = w v refl
+whole_or_infinite Infinite w i = i refl
+
+scaled-le : (a v w : ℤ) → pos 1 ≤ℤ a → v ≤ℤ w → (a *ℤ v) ≤ℤ (a *ℤ w)
+scaled-le a v w p h = times-le a v w (omega (arith, ints)) h
+
+unscaled-le : (a v w : ℤ) → pos 1 ≤ℤ a → (a *ℤ v) ≤ℤ (a *ℤ w) → v ≤ℤ w
+unscaled-le a v w p h =
+    by_lt_z w v (λ lt. absurd (omega (arith, ints, times-lt a w v p lt, h))) (λ le. le)
+
+module _ {f g : Form} {d : Decoding} {u : ℤ} {n : Figures} where
+  -- a state that reaches a least assignment is a least state
+  reaching_is_least : Relaxes f g d u n → (x y : List Bool) (v : ℤ) → IsLeastAt f x v
+      → ReachesIn u g d x (n.scale *ℤ v +ℤ n.offset) y → IsLeastState g y
+  reaching_is_least p x y v l s = record {
+    width = s.width;
+    least = λ z w. unscaled-le u (energy g y) (energy g z) p.unit (whole_or_infinite (f.cost (d.decoded z))
+        (λ c e.
+        let cost : HasCost f (d.decoded z) c = record { width = p.width z w; whole = e } in
+        let no_less = l.least (d.decoded z) c cost in
+        omega (arith, ints, s.energy, p.bound z w c e, scaled-le n.scale v c p.positive no_less))
+        (λ e. omega (arith, ints, s.energy, p.above z w e, p.below x l.has.width v l.has.whole)));
+  }
+
+  -- where some assignment has a whole cost, a least state decodes to one that has
+  least_has_cost : Relaxes f g d u n → (x : List Bool) (v : ℤ) → HasCost f x v → (y : List Bool)
+      → IsLeastState g y → (c : ℤ) × HasCost f (d.decoded y) c
+  least_has_cost p x v h y l =
+      let s = p.reached x h.width v h.whole in
+      whole_or_infinite (f.cost (d.decoded y))
+      (λ c e. (c, record { width = p.width y l.width; whole = e }))
+      (λ e.
+      let no_less = scaled-le u (energy g y) (energy g s.0) p.unit (l.least s.0 s.1.width) in
+      let over = p.above y l.width e in
+      absurd (omega (arith, ints, over, no_less, s.1.energy, p.below x h.width v h.whole)))
+
+  pub least_decodes : Relaxes f g d u n → (x : List Bool) (v : ℤ) → HasCost f x v → (y : List Bool)
+      → IsLeastState g y → IsLeast f (d.decoded y)
+  least_decodes p x v h y l =
+      let c = least_has_cost p x v h y l in (
+        c.0,
+        record {
+          has = c.1;
+          least = λ z w k.
+              let s = p.reached z k.width w k.whole in
+              by_lt_z w c.0
+              (λ lt.
+              let less = times-lt n.scale w c.0 p.positive lt in
+              let bound = p.bound y l.width c.0 c.1.whole in
+              let no_less = scaled-le u (energy g y) (energy g s.0) p.unit (l.least s.0 s.1.width) in
+              absurd (omega (arith, ints, less, bound, no_less, s.1.energy)))
+              (λ le. le);
+        },
+      )
+
+  pub least_energy : Relaxes f g d u n → (x : List Bool) (v : ℤ) (y : List Bool) → IsLeastAt f x v
+      → IsLeastState g y → u *ℤ energy g y ≡ n.scale *ℤ v +ℤ n.offset
+  least_energy p x v y l s =
+      let c = least_has_cost p x v l.has y s in
+      let q = p.reached x l.has.width v l.has.whole in
+      let scaled = scaled-le n.scale v c.0 p.positive (l.least (d.decoded y) c.0 c.1) in
+      let bound = p.bound y s.width c.0 c.1.whole in
+      let no_less = scaled-le u (energy g y) (energy g q.0) p.unit (s.least q.0 q.1.width) in
+      omega (arith, ints, no_less, q.1.energy, bound, scaled)
+
+  pub no_feasible_above : Relaxes f g d u n → IsFeasible f
+      → ((y : List Bool) × IsLeastState g y × (n.threshold <ℤ (u *ℤ energy g y))) → ⊥
+  no_feasible_above p (x, v, h) (y, l, lt) =
+      let s = p.reached x h.width v h.whole in
+      let no_less = scaled-le u (energy g y) (energy g s.0) p.unit (l.least s.0 s.1.width) in
+      omega (arith, ints, lt, no_less, s.1.energy, p.below x h.width v h.whole)
+
+  pub above_of : Relaxes f g d u n → ¬ (IsFeasible f)
+      → (y : List Bool) × IsLeastState g y × (n.threshold <ℤ (u *ℤ energy g y))
+  above_of p never =
+      let s = least_state g in (
+        s.0,
+        s.1,
+        whole_or_infinite (f.cost (d.decoded s.0))
+            (λ c e.
+            absurd (never (d.decoded s.0, c, record { width = p.width s.0 s.1.width; whole = e })))
+            (λ e. p.above s.0 s.1.width e),
+      )
+
+  pub least_found : Relaxes f g d u n → (x : List Bool) → IsLeast f x
+      → (y : List Bool) × IsLeastState g y × (d.decoded y ≡ x)
+  least_found p x l =
+      let s = p.reached x l.1.has.width l.0 l.1.has.whole in
+      (s.0, reaching_is_least p x s.0 l.0 l.1 s.1, s.1.decodes)
+
+pub relaxed_is_faithful : (source : Source) (demand : Demand) (m : Written) → IsWellFormed m
+    → IsStated source demand m
+    → Relaxes source.form (form_of m) (decoding_of m) m.unit m.figures
+    → Faithful source demand m
+relaxed_is_faithful source demand m formed stated p = record {
+  well_formed = formed;
+  exact = λ feasible x. (
+    least_found p x,
+    λ e.
+        let l = least_decodes p feasible.0 feasible.1 feasible.2 e.0 e.1 in
+        subst (IsLeast source.form) e.2 l,
+  );
+  decodes = λ feasible y l. least_decodes p feasible.0 feasible.1 feasible.2 y l;
+  least_energy = least_energy p;
+  infeasible = (above_of p, λ e feasible. no_feasible_above p feasible e);
+  stated = stated;
+}

@@ -1,0 +1,37 @@
+-- What relaxes a form relaxes every form with the same costs, by any decoding that agrees.
+use Rattle.std.proofs.Common.{◌≡◌, ℤ, Bool, List, ap, sym, ◌∙◌, length}
+use Rattle.base.specs.declared.costs.Cost.{Cost}
+use Rattle.base.specs.declared.costs.Cost.TheVariants.{Whole, Infinite}
+use Rattle.base.specs.declared.costs.Figures.{Figures}
+use Rattle.base.specs.Costs.{Form, IsOf}
+use Rattle.form_steps.specs.Relations.{Decoding, Relaxes}
+use Rattle.form_steps.specs.Stated.{HasSameCosts, DecodesAlike}
+
+-- the cost of what the one decodes to, as that of what the other decodes to
+cost_alike : (f f' g : Form) (d d' : Decoding) → HasSameCosts f f' → DecodesAlike g d d'
+    → (y : List Bool) → IsOf g y → (c : Cost) → f'.cost (d'.decoded y) ≡ c
+    → f.cost (d.decoded y) ≡ c
+cost_alike f f' g d d' same alike y w c e =
+    ap f.cost (sym (alike y w)) ∙ same.costs (d'.decoded y) ∙ e
+
+pub relaxes_alike : (f f' g : Form) (d d' : Decoding) (u : ℤ) (n : Figures) → HasSameCosts f f'
+    → DecodesAlike g d d' → Relaxes f g d u n → Relaxes f' g d' u n
+relaxes_alike f f' g d d' u n same alike p = record {
+  unit = p.unit;
+  positive = p.positive;
+  width = λ y w. ap length (alike y w) ∙ p.width y w ∙ same.width;
+  bound = λ y w v whole. p.bound y w v (cost_alike f f' g d d' same alike y w (Whole v) whole);
+  above = λ y w infinite. p.above y w (cost_alike f f' g d d' same alike y w Infinite infinite);
+  reached = λ x w v whole.
+      let y = p.reached x (w ∙ sym same.width) v (same.costs x ∙ whole) in (
+        y.0,
+        record {
+          width = y.1.width;
+          decodes = alike y.0 y.1.width ∙ y.1.decodes;
+          energy = y.1.energy;
+        },
+      );
+  below = λ x w v whole. p.below x (w ∙ sym same.width) v (same.costs x ∙ whole);
+  onto = λ x w.
+      let y = p.onto x (w ∙ sym same.width) in (y.0, y.1, alike y.0 y.1 ∙ y.2);
+}

@@ -1,0 +1,87 @@
+-- How the energies of one form stand for the costs of another.
+use Rattle.std.specs.Prelude.{◌≡◌, ℕ, ℤ, pos, ◌+ℤ◌, ◌*ℤ◌, ◌≤ℤ◌, ◌<ℤ◌, Bool, List}
+use Rattle.base.specs.declared.costs.Cost.TheVariants.{Whole, Infinite}
+use Rattle.base.specs.declared.costs.Figures.{Figures}
+use Rattle.base.specs.Costs.{Form, IsOf, energy}
+
+-- how states of one width are decoded to assignments of another
+pub record Decoding : Type 0 where
+  pub source_width : ℕ
+  pub target_width : ℕ
+  pub decoded : List Bool → List Bool
+
+-- the state y decodes to x and has the energy e
+pub record Reaches (g : Form) (d : Decoding) (x : List Bool) (e : ℤ) (y : List Bool) : Type 0 where
+  pub width : IsOf g y
+  pub decodes : d.decoded y ≡ x
+  pub energy : energy g y ≡ e
+
+-- g keeps f, with the scale a and the offset b: no state lies below the cost that it decodes to,
+-- scaled and moved, and every assignment is reached with equality
+pub record Keeps (f g : Form) (d : Decoding) (a b : ℤ) : Type 0 where
+  pub positive : pos 1 ≤ℤ a
+  pub width : (z : List Bool) → IsOf g z → IsOf f (d.decoded z)
+  pub bound : (z : List Bool) → IsOf g z → (a *ℤ energy f (d.decoded z) +ℤ b) ≤ℤ energy g z
+  pub reached : (y : List Bool) → IsOf f y
+      → (z : List Bool) × Reaches g d y (a *ℤ energy f y +ℤ b) z
+
+-- the state y decodes to x, and u times its energy is e
+pub record ReachesIn (u : ℤ) (g : Form) (d : Decoding) (x : List Bool) (e : ℤ) (y : List Bool)
+    : Type 0 where
+  pub width : IsOf g y
+  pub decodes : d.decoded y ≡ x
+  pub energy : u *ℤ energy g y ≡ e
+
+-- g, whose costs are whole and count u each, relaxes f, whose costs may be infinite: no state lies
+-- below the whole cost that it decodes to, scaled and moved, one that decodes to an infinite cost
+-- lies above the threshold, every whole cost is reached with equality and lies at most at the
+-- threshold, and some state decodes to each assignment
+pub record Relaxes (f g : Form) (d : Decoding) (u : ℤ) (n : Figures) : Type 0 where
+  pub unit : pos 1 ≤ℤ u
+  pub positive : pos 1 ≤ℤ n.scale
+  pub width : (y : List Bool) → IsOf g y → IsOf f (d.decoded y)
+  pub bound : (y : List Bool) → IsOf g y → (v : ℤ) → f.cost (d.decoded y) ≡ Whole v
+      → (n.scale *ℤ v +ℤ n.offset) ≤ℤ (u *ℤ energy g y)
+  pub above : (y : List Bool) → IsOf g y → f.cost (d.decoded y) ≡ Infinite
+      → n.threshold <ℤ (u *ℤ energy g y)
+  pub reached : (x : List Bool) → IsOf f x → (v : ℤ) → f.cost x ≡ Whole v
+      → (y : List Bool) × ReachesIn u g d x (n.scale *ℤ v +ℤ n.offset) y
+  pub below : (x : List Bool) → IsOf f x → (v : ℤ) → f.cost x ≡ Whole v
+      → (n.scale *ℤ v +ℤ n.offset) ≤ℤ n.threshold
+  pub onto : (x : List Bool) → IsOf f x → (y : List Bool) × IsOf g y × (d.decoded y ≡ x)
+
+-- h is g with its constant moved and its energies divided: u times the energy in h is that in g,
+-- and b more
+pub record Reduces (g h : Form) (u b : ℤ) : Type 0 where
+  pub positive : pos 1 ≤ℤ u
+  pub width : h.bits ≡ g.bits
+  pub energy : (y : List Bool) → IsOf g y → u *ℤ energy h y ≡ energy g y +ℤ b
+
+-- ---- of a layer's or a guard's link
+
+-- the decoding takes states of g to assignments of f
+pub record Joins (f g : Form) (d : Decoding) : Type 0 where
+  pub source : d.source_width ≡ f.bits
+  pub target : d.target_width ≡ g.bits
+
+-- y decodes to x, and its energy is the cost of x, scaled and moved
+abbrev pub Extends : (f g : Form) → Decoding → (a b : ℤ) → (x y : List Bool) → Type 0
+Extends f g d a b x y = Reaches g d x (a *ℤ energy f x +ℤ b) y
+
+-- y decodes to x, no state that does has a lesser energy, and where the cost of x is whole the
+-- energy of y is that cost, scaled and moved
+pub record ExtendsLeast (f g : Form) (d : Decoding) (n : Figures) (x y : List Bool) : Type 0 where
+  pub width : IsOf g y
+  pub decodes : d.decoded y ≡ x
+  pub scaled : (v : ℤ) → f.cost x ≡ Whole v → energy g y ≡ n.scale *ℤ v +ℤ n.offset
+  pub least : (y' : List Bool) → IsOf g y' → d.decoded y' ≡ x → energy g y ≤ℤ energy g y'
+
+-- ---- one step after another
+
+-- the second step's decoding, and then the first's
+abbrev pub decoding_after : Decoding → Decoding → Decoding
+decoding_after d e = record {
+  source_width = d.source_width;
+  target_width = e.target_width;
+  decoded = λ z. d.decoded (e.decoded z);
+}

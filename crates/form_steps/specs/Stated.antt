@@ -1,0 +1,39 @@
+-- The laws of the relations, as statements.
+use Rattle.std.specs.Prelude.{◌≡◌, ℤ, pos, ◌+ℤ◌, ◌*ℤ◌, Bool, List}
+use Rattle.base.specs.declared.costs.Figures.{Figures}
+use Rattle.base.specs.Costs.{Form, IsOf}
+use Rattle.form_steps.specs.Relations.{Decoding, Keeps, Relaxes, Reduces, decoding_after}
+use Rattle.base.specs.Figures.{figures_after, figures_moved}
+
+-- what keeps a form that relaxes a source relaxes the source
+abbrev pub KeepsAfterRelaxes : Type 0
+KeepsAfterRelaxes =
+    (f g h : Form) (d e : Decoding) (n : Figures) (a b : ℤ) → Relaxes f g d (pos 1) n
+    → Keeps g h e a b → Relaxes f h (decoding_after d e) (pos 1) (figures_after n a b)
+
+-- what keeps a form that keeps another keeps the other
+abbrev pub KeepsAfterKeeps : Type 0
+KeepsAfterKeeps =
+    (f g h : Form) (d e : Decoding) (a1 b1 a2 b2 : ℤ) → Keeps f g d a1 b1 → Keeps g h e a2 b2
+    → Keeps f h (decoding_after d e) (a1 *ℤ a2) (a2 *ℤ b1 +ℤ b2)
+
+-- a form that relaxes a source, divided by a unit, relaxes it in this unit
+abbrev pub ReducesAfterRelaxes : Type 0
+ReducesAfterRelaxes =
+    (f g h : Form) (d : Decoding) (n : Figures) (u b : ℤ) → Relaxes f g d (pos 1) n
+    → Reduces g h u b → Relaxes f h d u (figures_moved n b)
+
+-- both forms have as many bits, and every assignment the same cost
+pub record HasSameCosts (f f' : Form) : Type 0 where
+  pub width : f.bits ≡ f'.bits
+  pub costs : (x : List Bool) → f.cost x ≡ f'.cost x
+
+-- both decodings give the same for every state of g
+abbrev pub DecodesAlike : Form → Decoding → Decoding → Type 0
+DecodesAlike g d d' = (y : List Bool) → IsOf g y → d'.decoded y ≡ d.decoded y
+
+-- what relaxes a form relaxes every form with the same costs, by any decoding that agrees
+abbrev pub RelaxesAlike : Type 0
+RelaxesAlike =
+    (f f' g : Form) (d d' : Decoding) (u : ℤ) (n : Figures) → HasSameCosts f f'
+    → DecodesAlike g d d' → Relaxes f g d u n → Relaxes f' g d' u n

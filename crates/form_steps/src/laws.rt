@@ -1,0 +1,10 @@
+//! Laws, as functions without code: each contract is a statement of `specs/`.
+ghost use Rattle.form_steps.specs.Stated.{KeepsAfterKeeps, KeepsAfterRelaxes, ReducesAfterRelaxes, RelaxesAlike};
+
+/// Steps compose, also where a check that keeps the form stands between them.
+pub fn relations_compose()
+    ensures relaxed { KeepsAfterRelaxes }
+    ensures kept { KeepsAfterKeeps }
+    ensures reduced { ReducesAfterRelaxes }
+    ensures alike { RelaxesAlike }
+{}

@@ -1,0 +1,13 @@
+//! Steps from one form to the next, one step after another, and how the energies of one form stand
+//! for the costs of another.
+#![tactic(auto)]
+
+mod guard;
+mod laws;
+mod layer;
+mod then;
+
+pub use guard::{Guard, Guarded};
+pub use laws::relations_compose;
+pub use layer::{BitsLink, Layer, Lowered, Reduced};
+pub use then::{Then, ThenLink};

@@ -1,0 +1,3 @@
+pub mod LentParts
+pub mod LiteralSets
+pub mod FlatParts

@@ -1,0 +1,20 @@
+use Rattle.std.proofs.Common.{◌≡◌, ◌++◌, ◌∷◌, [], length, ap, ◌∙◌, rules}
+use Rattle.literal_lists.proofs.FlatParts.{narrow_pushed}
+use Rattle.literal_lists.proofs.narrow_lists.NarrowLists.push.Goals as goal
+
+pub invariant_of-self-else-is_err : goal.invariant_of-self-else-is_err
+invariant_of-self-else-is_err c =
+    let codes = c.self.inside.codes.items in
+    let ends = c.self.inside.ends.items in
+    let more : c.append_codes.new.codes.items ≡ _ = c.in_ok-append_codes.ensures.appended in
+    let ended : c.push.new.self.items ≡ ends ++ length c.append_codes.new.codes.items ∷ [] = search rules in
+    (narrow_pushed codes c.args.literals.now ends _ _ c.self.invariant more ended).0
+
+pub returns-clause-pushed : goal.returns-clause-pushed
+returns-clause-pushed c =
+    let codes = c.self.inside.codes.items in
+    let ends = c.self.inside.ends.items in
+    let more : c.append_codes.new.codes.items ≡ _ = c.in_ok-append_codes.ensures.appended in
+    let ended : c.push.new.self.items ≡ ends ++ length c.append_codes.new.codes.items ∷ [] = search rules in
+    (narrow_pushed codes c.args.literals.now ends _ _ c.self.invariant more ended).1
+    ∙ ap (λ ls. ls ++ c.args.literals.now ∷ []) c.self.view_is

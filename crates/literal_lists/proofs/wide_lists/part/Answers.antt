@@ -1,0 +1,22 @@
+use Rattle.std.proofs.Common.{length, get_or, ap, ◌∙◌, sym, arith, Some}
+use Rattle.std.specs.List.{slice_range}
+use Rattle.literal_lists.proofs.FlatParts.{part_lies, parts-at}
+use Rattle.literal_lists.proofs.wide_lists.part.Goals as goal
+
+pub lent_part-requires-clause-ordered : goal.lent_part-requires-clause-ordered
+lent_part-requires-clause-ordered c =
+    let lies = part_lies c.args.ends.now (length c.args.literals.now) c.args.i c.requires.ends c.requires.within in
+    omega (arith, c.start_of-start.ensures, lies.0)
+
+pub lent_part-requires-clause-within : goal.lent_part-requires-clause-within
+lent_part-requires-clause-within c =
+    let lies = part_lies c.args.ends.now (length c.args.literals.now) c.args.i c.requires.ends c.requires.within in
+    omega (arith, lies.1)
+
+pub returns : goal.returns
+returns c =
+    let literals = c.args.literals.now in
+    let ends = c.args.ends.now in
+    let here = c.lent_part.ensures
+    ∙ ap (λ s. slice_range literals s (get_or ends c.args.i 0)) c.start_of-start.ensures in
+    parts-at literals ends c.args.i c.requires.within ∙ ap (λ ls. Some ls) (sym here)

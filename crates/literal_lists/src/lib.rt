@@ -1,0 +1,15 @@
+//! Literals, lists of them that lie flat, and literals as they are kept.
+#![tactic(auto)]
+
+mod literal;
+mod literal_lists;
+mod literals;
+mod narrow_lists;
+mod sets;
+mod wide_lists;
+
+pub use literal::{Literal, LiteralList, all_hold};
+pub use literal_lists::LiteralLists;
+pub use literals::Literals;
+pub use sets::{clashes, make_set};
+pub use wide_lists::WideLists;
