@@ -5,7 +5,7 @@ ghost use Rattle.literal_lists.specs.Literals.{all_hold, holds};
 use base::Items;
 
 /// A variable or its complement. A variable stands before its complement.
-#[derive(Clone, Copy, Debug, PartialEq, Eq, PartialOrd, Ord)]
+#[derive(Clone, Copy, Debug, Default, PartialEq, Eq, PartialOrd, Ord)]
 pub struct Literal {
     pub variable: u64,
     pub negated: bool,

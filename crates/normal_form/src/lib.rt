@@ -5,4 +5,4 @@ mod multilinear;
 mod multiplied;
 
 pub use multilinear::MultilinearForm;
-pub use multiplied::expand;
+pub use multiplied::{add_plain_terms, expand};

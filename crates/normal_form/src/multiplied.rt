@@ -48,7 +48,7 @@ fn first_complement(literals: &[Literal]) -> usize
 
 /// Adds what a term is multiplied out to whose first literals, without complements, stand in the
 /// list already. The list ends as it began.
-fn add_plain_terms(
+pub fn add_plain_terms(
     terms: &mut GatheredTerms,
     list: &mut Vec<Literal>,
     literals: &[Literal],

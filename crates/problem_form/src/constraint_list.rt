@@ -104,7 +104,7 @@ impl ConstraintList {
 
     /// Appends a constraint as written in normal form. Where memory is refused the list stays as it
     /// was.
-    pub(crate) fn push_normal(&mut self, constraint: &Constraint) -> Result<(), NoMemory>
+    pub fn push_normal(&mut self, constraint: &Constraint) -> Result<(), NoMemory>
         requires { constraint_total constraint.now < 2 ^ 100 }
         ensures pushed { OnOk result (self.new ≡ self.old ++ normal_constraint constraint.now ∷ []) }
         ensures unchanged { OnErr result (self.new ≡ self.old) }

@@ -4,7 +4,7 @@ use Rattle.std.specs.Prelude.{◌≡◌, ℕ, ◌+◌, ◌-◌, ◌<◌, ◌≤�
 use Rattle.std.specs.Option.{option_map_or}
 use Rattle.std.specs.List.{slice_split, slice_range, onto_first, flat_map}
 use Rattle.whole_text.specs.declared.token.Style.{Style}
-use Rattle.whole_text.specs.declared.token.Style.TheVariants.{Plain, Opb}
+use Rattle.whole_text.specs.declared.token.Style.TheVariants.{Plain, Opb, Wbo}
 use Rattle.whole_text.specs.declared.token.Token.{Token}
 
 -- what a token says: its bytes, and the number of its line
@@ -37,13 +37,22 @@ words line = filter is_filled (slice_split is_blank line)
 abbrev pub is_operator : ℕ → Bool
 is_operator c = (c == 60) || ((c == 61) || (c == 62))
 
--- whether two neighbours in a word stand in one token: in the style of OPB not beside a `;` (59) nor
--- behind a `:` (58), and else where both or neither is of an operator
-abbrev pub joins : Style → ℕ → ℕ → Bool
-joins Plain c d = true
-joins Opb c d =
+-- `[` or `]`
+abbrev pub is_bracket : ℕ → Bool
+is_bracket c = (c == 91) || (c == 93)
+
+-- neighbours of one token of a sum or of what stands around it: not beside a `;` (59) nor behind a
+-- `:` (58), and else where both or neither is of an operator
+abbrev pub terms_join : ℕ → ℕ → Bool
+terms_join c d =
     not ((c == 59) || ((d == 59) || (c == 58)))
     && (if is_operator c then is_operator d else not (is_operator d))
+
+-- whether two neighbours in a word stand in one token: in the style of WBO not beside a bracket
+abbrev pub joins : Style → ℕ → ℕ → Bool
+joins Plain c d = true
+joins Opb c d = terms_join c d
+joins Wbo c d = not (is_bracket c || is_bracket d) && terms_join c d
 
 -- a word, cut between neighbours that do not join
 unfoldable pub pieces : Style → List ℕ → List (List ℕ)
@@ -58,10 +67,11 @@ pieces style (c ∷ d ∷ cs) =
 abbrev pub pieces_of_line : Style → List ℕ → List (List ℕ)
 pieces_of_line style line = flat_map (pieces style) (words line)
 
--- the byte that begins a comment: `c`, in the style of OPB `*`
+-- the byte that begins a comment: `c`, in the styles of OPB and WBO `*`
 abbrev pub comment_byte : Style → ℕ
 comment_byte Plain = 99
 comment_byte Opb = 42
+comment_byte Wbo = 42
 
 -- the first word begins with this byte
 abbrev pub begins_with : ℕ → List (List ℕ) → Bool

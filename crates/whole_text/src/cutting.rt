@@ -3,7 +3,7 @@
 
 ghost use Rattle.std.specs.Prelude.{◌≡◌, ◌<◌, ◌≤◌, ◌++◌, ◌∷◌, false, not, length, take, drop, All, slice_range, slice_index, OnOk, IfOk};
 ghost use Rattle.std.specs.List.{position_or_len};
-ghost use Rattle.whole_text.specs.Tokens.{is_feed, is_blank, is_operator, joins, comment_byte, is_comment, pieces_of_line, tokens_of_line, tokens_of, words_at, AreInOrder, IsWithin};
+ghost use Rattle.whole_text.specs.Tokens.{is_feed, is_blank, is_operator, is_bracket, joins, terms_join, comment_byte, is_comment, pieces_of_line, tokens_of_line, tokens_of, words_at, AreInOrder, IsWithin};
 
 use crate::token::{Style, Token};
 use base::NoMemory;
@@ -23,7 +23,7 @@ pub(crate) fn comment_byte(style: Style) -> u8
 {
     match style {
         Style::Plain => b'c',
-        Style::Opb => b'*',
+        Style::Opb | Style::Wbo => b'*',
     }
 }
 
@@ -35,6 +35,22 @@ fn is_operator(byte: u8) -> bool
     byte == b'<' || byte == b'=' || byte == b'>'
 }
 
+/// Whether two neighbours in a word stand in one token of a linear program.
+#[inline(always)]
+fn terms_join(byte: u8, next: u8) -> bool
+    ensures { result ≡ terms_join byte next }
+{
+    byte != b';' && next != b';' && byte != b':' && is_operator(byte) == is_operator(next)
+}
+
+/// Whether a byte is `[` or `]`.
+#[inline(always)]
+fn is_bracket(byte: u8) -> bool
+    ensures { result ≡ is_bracket byte }
+{
+    byte == b'[' || byte == b']'
+}
+
 /// Whether two neighbours in a word stand in one token.
 #[inline(always)]
 pub(crate) fn joins(style: Style, byte: u8, next: u8) -> bool
@@ -42,9 +58,8 @@ pub(crate) fn joins(style: Style, byte: u8, next: u8) -> bool
 {
     match style {
         Style::Plain => true,
-        Style::Opb => {
-            byte != b';' && next != b';' && byte != b':' && is_operator(byte) == is_operator(next)
-        }
+        Style::Opb => terms_join(byte, next),
+        Style::Wbo => !is_bracket(byte) && !is_bracket(next) && terms_join(byte, next),
     }
 }
 
@@ -110,6 +125,7 @@ fn token_len(bytes: &[u8], style: Style) -> usize
     match style {
         Style::Plain => word_len(bytes),
         Style::Opb => piece_len(bytes, Style::Opb),
+        Style::Wbo => piece_len(bytes, Style::Wbo),
     }
 }
 

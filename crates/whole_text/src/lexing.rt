@@ -116,6 +116,7 @@ impl Lexer {
         let fed = match self.style {
             Style::Plain => self.steps(piece, Style::Plain),
             Style::Opb => self.steps(piece, Style::Opb),
+            Style::Wbo => self.steps(piece, Style::Wbo),
         };
         match fed {
             Ok(()) => Ok(()),

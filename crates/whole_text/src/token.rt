@@ -6,11 +6,13 @@
 /// `Plain`: each word between blanks is a token, and a line whose first byte that is no blank is
 /// `c` is a comment. `Opb`: a line whose first byte that is no blank is `*` is a comment, and a word
 /// is cut further. Each `;` is a token of its own, and so is each longest run of `<`, `=` and `>`. A
-/// `:` ends its token and belongs to it.
+/// `:` ends its token and belongs to it. `Wbo`: as `Opb`, and each `[` and each `]` is a token of its
+/// own.
 #[derive(Clone, Copy, Debug, PartialEq, Eq)]
 pub enum Style {
     Plain,
     Opb,
+    Wbo,
 }
 
 /// A token of a text: the place of its first byte, the place after its last, and its line.
