@@ -6,13 +6,13 @@
 use Rattle.std.proofs.Common.{◌≡◌, ℕ, zero, suc, ℤ, pos, ◌+ℤ◌, ◌*ℤ◌, ◌≤ℤ◌, ◌<ℤ◌, Bool, true, false, List, [], ◌∷◌, length, refl, arith, ap, subst}
 use Rattle.std.proofs.lemmas.Int.{ints, by_lt_z}
 use Rattle.base.proofs.Products.{times-le, times-lt}
-use Rattle.base.specs.declared.costs.Cost.{Cost}
-use Rattle.base.specs.declared.costs.Cost.TheVariants.{Whole, Infinite}
 use Rattle.base.specs.declared.costs.Figures.{Figures}
 use Rattle.base.specs.Costs.{Form, Source, energy}
 use Rattle.form_steps.specs.Relations.{Decoding, Relaxes, ReachesIn}
+use Rattle.form_steps.proofs.Rewritten.{whole_or_infinite}
 use Rattle.faithful.specs.Least.{HasCost, IsFeasible, IsLeast, IsLeastAt, IsLeastState}
 use Rattle.bits_model.specs.Output.{Written, IsWellFormed, form_of, decoding_of}
+use Rattle.faithful.specs.AtLeast.{StandsAtLeast}
 use Rattle.faithful.specs.Faithful.{Demand, Faithful, IsStated}
 
 -- ---- there is a least state
@@ -69,11 +69,6 @@ least_state g =
 
 -- ---- what least states say
 
--- a cost is whole or infinite
-whole_or_infinite : {P : Type 0} (c : Cost) → ((v : ℤ) → c ≡ Whole v → P) → (c ≡ Infinite → P) → P
-whole_or_infinite (Whole v) w i = w v refl
-whole_or_infinite Infinite w i = i refl
-
 scaled-le : (a v w : ℤ) → pos 1 ≤ℤ a → v ≤ℤ w → (a *ℤ v) ≤ℤ (a *ℤ w)
 scaled-le a v w p h = times-le a v w (omega (arith, ints)) h
 
@@ -107,7 +102,7 @@ module _ {f g : Form} {d : Decoding} {u : ℤ} {n : Figures} where
       let over = p.above y l.width e in
       absurd (omega (arith, ints, over, no_less, s.1.energy, p.below x h.width v h.whole)))
 
-  pub least_decodes : Relaxes f g d u n → (x : List Bool) (v : ℤ) → HasCost f x v → (y : List Bool)
+  least_decodes : Relaxes f g d u n → (x : List Bool) (v : ℤ) → HasCost f x v → (y : List Bool)
       → IsLeastState g y → IsLeast f (d.decoded y)
   least_decodes p x v h y l =
       let c = least_has_cost p x v h y l in (
@@ -126,7 +121,7 @@ module _ {f g : Form} {d : Decoding} {u : ℤ} {n : Figures} where
         },
       )
 
-  pub least_energy : Relaxes f g d u n → (x : List Bool) (v : ℤ) (y : List Bool) → IsLeastAt f x v
+  least_energy : Relaxes f g d u n → (x : List Bool) (v : ℤ) (y : List Bool) → IsLeastAt f x v
       → IsLeastState g y → u *ℤ energy g y ≡ n.scale *ℤ v +ℤ n.offset
   least_energy p x v y l s =
       let c = least_has_cost p x v l.has y s in
@@ -136,14 +131,14 @@ module _ {f g : Form} {d : Decoding} {u : ℤ} {n : Figures} where
       let no_less = scaled-le u (energy g y) (energy g q.0) p.unit (s.least q.0 q.1.width) in
       omega (arith, ints, no_less, q.1.energy, bound, scaled)
 
-  pub no_feasible_above : Relaxes f g d u n → IsFeasible f
+  no_feasible_above : Relaxes f g d u n → IsFeasible f
       → ((y : List Bool) × IsLeastState g y × (n.threshold <ℤ (u *ℤ energy g y))) → ⊥
   no_feasible_above p (x, v, h) (y, l, lt) =
       let s = p.reached x h.width v h.whole in
       let no_less = scaled-le u (energy g y) (energy g s.0) p.unit (l.least s.0 s.1.width) in
       omega (arith, ints, lt, no_less, s.1.energy, p.below x h.width v h.whole)
 
-  pub above_of : Relaxes f g d u n → ¬ (IsFeasible f)
+  above_of : Relaxes f g d u n → ¬ (IsFeasible f)
       → (y : List Bool) × IsLeastState g y × (n.threshold <ℤ (u *ℤ energy g y))
   above_of p never =
       let s = least_state g in (
@@ -155,26 +150,42 @@ module _ {f g : Form} {d : Decoding} {u : ℤ} {n : Figures} where
             (λ e. p.above s.0 s.1.width e),
       )
 
-  pub least_found : Relaxes f g d u n → (x : List Bool) → IsLeast f x
+  least_found : Relaxes f g d u n → (x : List Bool) → IsLeast f x
       → (y : List Bool) × IsLeastState g y × (d.decoded y ≡ x)
   least_found p x l =
       let s = p.reached x l.1.has.width l.0 l.1.has.whole in
       (s.0, reaching_is_least p x s.0 l.0 l.1 s.1, s.1.decodes)
 
-pub relaxed_is_faithful : (source : Source) (demand : Demand) (m : Written) → IsWellFormed m
-    → IsStated source demand m
-    → Relaxes source.form (form_of m) (decoding_of m) m.unit m.figures
-    → Faithful source demand m
-relaxed_is_faithful source demand m formed stated p = record {
-  well_formed = formed;
+-- ---- what relaxes stands
+
+pub relaxed_stands : (f g : Form) (d : Decoding) (u : ℤ) (n : Figures) → Relaxes f g d u n
+    → StandsAtLeast f g d u n
+relaxed_stands f g d u n p = record {
   exact = λ feasible x. (
     least_found p x,
     λ e.
         let l = least_decodes p feasible.0 feasible.1 feasible.2 e.0 e.1 in
-        subst (IsLeast source.form) e.2 l,
+        subst (IsLeast f) e.2 l,
   );
   decodes = λ feasible y l. least_decodes p feasible.0 feasible.1 feasible.2 y l;
   least_energy = least_energy p;
   infeasible = (above_of p, λ e feasible. no_feasible_above p feasible e);
+}
+
+pub standing_is_faithful : (source : Source) (demand : Demand) (m : Written) → IsWellFormed m
+    → IsStated source demand m
+    → StandsAtLeast source.form (form_of m) (decoding_of m) m.unit m.figures
+    → Faithful source demand m
+standing_is_faithful source demand m formed stated stands = record {
+  well_formed = formed;
+  stands = stands;
   stated = stated;
 }
+
+pub relaxed_is_faithful : (source : Source) (demand : Demand) (m : Written) → IsWellFormed m
+    → IsStated source demand m
+    → Relaxes source.form (form_of m) (decoding_of m) m.unit m.figures
+    → Faithful source demand m
+relaxed_is_faithful source demand m formed stated p =
+    standing_is_faithful source demand m formed stated
+    (relaxed_stands source.form (form_of m) (decoding_of m) m.unit m.figures p)

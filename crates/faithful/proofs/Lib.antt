@@ -1,1 +1,3 @@
 pub mod LeastStates
+pub mod LeastSteps
+pub mod LongerSources

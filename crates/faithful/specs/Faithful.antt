@@ -1,12 +1,12 @@
 -- What the written model promises of the source.
-use Rattle.std.specs.Prelude.{◌≡◌, ◌≢◌, ◌↔◌, ℕ, ◌≤◌, ◌<◌, ◌==◌, ℤ, pos, ◌+ℤ◌, ◌*ℤ◌, ◌<ℤ◌, Bool, true, List, [], All, count_by, ⊤}
+use Rattle.std.specs.Prelude.{◌≡◌, ◌≢◌, ℕ, ◌≤◌, ◌==◌, ℤ, pos, ◌+ℤ◌, ◌*ℤ◌, true, List, [], All, count_by, Bool, ⊤}
 use Rattle.std.specs.List.{concat}
 use Rattle.bits_model.specs.declared.output.Kind.{Kind}
 use Rattle.bits_model.specs.declared.output.Kind.TheVariants.{Qubo, Ising, Chimera}
 use Rattle.base.specs.declared.unit.UnitChoice.{UnitChoice}
 use Rattle.base.specs.declared.unit.UnitChoice.TheVariants.{One, Reduce}
-use Rattle.base.specs.Costs.{Source, energy}
-use Rattle.faithful.specs.Least.{IsFeasible, IsLeast, IsLeastAt, IsLeastState}
+use Rattle.base.specs.Costs.{Source}
+use Rattle.faithful.specs.AtLeast.{StandsAtLeast}
 use Rattle.bits_model.specs.Walks.{IsConnected}
 use Rattle.bits_model.specs.Output.{Written, IsWellFormed, is_coupler, form_of, decoding_of}
 use Rattle.bits_model.specs.Units.{IsReduced}
@@ -59,18 +59,5 @@ pub record IsStated (source : Source) (demand : Demand) (m : Written) : Type 0 w
 -- the least states of the model are the least assignments of the source
 pub record Faithful (source : Source) (demand : Demand) (m : Written) : Type 0 where
   pub well_formed : IsWellFormed m
-  -- where the source is feasible: exactly the least assignments are decoded from least states
-  pub exact : IsFeasible source.form → (x : List Bool)
-      → IsLeast source.form x
-      ↔ ((y : List Bool) × IsLeastState (form_of m) y × ((decoding_of m).decoded y ≡ x))
-  pub decodes : IsFeasible source.form → (y : List Bool) → IsLeastState (form_of m) y
-      → IsLeast source.form ((decoding_of m).decoded y)
-  -- unit times the least energy is scale times the least cost, and offset
-  pub least_energy : (x : List Bool) (v : ℤ) (y : List Bool)
-      → IsLeastAt source.form x v → IsLeastState (form_of m) y
-      → m.unit *ℤ energy (form_of m) y ≡ m.figures.scale *ℤ v +ℤ m.figures.offset
-  -- infeasible exactly where unit times the least energy is above the threshold
-  pub infeasible : ¬ (IsFeasible source.form)
-      ↔ ((y : List Bool) × IsLeastState (form_of m) y
-      × (m.figures.threshold <ℤ (m.unit *ℤ energy (form_of m) y)))
+  pub stands : StandsAtLeast source.form (form_of m) (decoding_of m) m.unit m.figures
   pub stated : IsStated source demand m

@@ -1,4 +1,5 @@
 pub mod Least
+pub mod AtLeast
 pub mod Faithful
 pub mod Stated
 pub use Rattle.base.specs.Costs

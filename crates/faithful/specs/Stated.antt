@@ -1,8 +1,22 @@
--- The law of the promise, as a statement.
-use Rattle.base.specs.Costs.{Source}
-use Rattle.form_steps.specs.Relations.{Relaxes}
+-- The laws of the promise, as statements.
+use Rattle.std.specs.Prelude.{ℤ, pos}
+use Rattle.base.specs.declared.costs.Figures.{Figures}
+use Rattle.base.specs.Costs.{Form, Source}
+use Rattle.base.specs.Figures.{figures_after, figures_moved}
+use Rattle.form_steps.specs.Relations.{Decoding, Relaxes, Reduces, Rewrites, decoding_after, first_decoded}
 use Rattle.bits_model.specs.Output.{Written, IsWellFormed, form_of, decoding_of}
+use Rattle.faithful.specs.AtLeast.{StandsAtLeast, KeepsLeast}
 use Rattle.faithful.specs.Faithful.{Demand, Faithful, IsStated}
+
+-- ---- of models
+
+-- a well-formed model whose least states are the least assignments of the source, with what is
+-- stated, is faithful to it
+abbrev pub StandingIsFaithful : Type 0
+StandingIsFaithful = (source : Source) (demand : Demand) (m : Written) → IsWellFormed m
+    → IsStated source demand m
+    → StandsAtLeast source.form (form_of m) (decoding_of m) m.unit m.figures
+    → Faithful source demand m
 
 -- a well-formed model that relaxes the source, with what is stated, is faithful to it
 abbrev pub RelaxedIsFaithful : Type 0
@@ -10,3 +24,30 @@ RelaxedIsFaithful = (source : Source) (demand : Demand) (m : Written) → IsWell
     → IsStated source demand m
     → Relaxes source.form (form_of m) (decoding_of m) m.unit m.figures
     → Faithful source demand m
+
+-- ---- of least states
+
+-- the least states of what relaxes a source are its least assignments
+abbrev pub RelaxedStandsAtLeast : Type 0
+RelaxedStandsAtLeast =
+    (f g : Form) (d : Decoding) (u : ℤ) (n : Figures) → Relaxes f g d u n → StandsAtLeast f g d u n
+
+-- so are those of what keeps the least states of such a form
+abbrev pub LeastAfterLeast : Type 0
+LeastAfterLeast =
+    (f g h : Form) (d e : Decoding) (n : Figures) (a b : ℤ) → StandsAtLeast f g d (pos 1) n
+    → KeepsLeast g h e a b
+    → StandsAtLeast f h (decoding_after d e) (pos 1) (figures_after n a b)
+
+-- and those of such a form divided by a unit, in this unit
+abbrev pub ReducesAfterLeast : Type 0
+ReducesAfterLeast =
+    (f g h : Form) (d : Decoding) (n : Figures) (u b : ℤ) → StandsAtLeast f g d (pos 1) n
+    → Reduces g h u b → StandsAtLeast f h d u (figures_moved n b)
+
+-- where they are the least assignments of a rewritten source, their first bits are those of the
+-- source
+abbrev pub LeastAfterRewrites : Type 0
+LeastAfterRewrites =
+    (f f' g : Form) (d : Decoding) (u : ℤ) (n : Figures) → Rewrites f f'
+    → StandsAtLeast f' g d u n → StandsAtLeast f g (first_decoded f.bits d) u n

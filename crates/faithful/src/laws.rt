@@ -1,7 +1,22 @@
-//! The law of the promise, as a function without code: the contract is a statement of `specs/`.
-ghost use Rattle.faithful.specs.Stated.{RelaxedIsFaithful};
+//! The laws of the promise, as functions without code: each contract is a statement of `specs/`.
+ghost use Rattle.faithful.specs.Stated.{StandingIsFaithful, RelaxedIsFaithful, RelaxedStandsAtLeast, LeastAfterLeast, ReducesAfterLeast, LeastAfterRewrites};
+
+/// A well-formed model whose least states stand for the least assignments of a source, with what
+/// is stated of it, is faithful to it.
+pub fn standing_is_faithful()
+    ensures { StandingIsFaithful }
+{}
 
 /// A well-formed model that relaxes a source, with what is stated of it, is faithful to it.
 pub fn relaxed_is_faithful()
     ensures { RelaxedIsFaithful }
+{}
+
+/// Least states stand for least assignments wherever a form relaxes a source, and after each step
+/// that keeps least states.
+pub fn least_states_compose()
+    ensures relaxed { RelaxedStandsAtLeast }
+    ensures kept { LeastAfterLeast }
+    ensures reduced { ReducesAfterLeast }
+    ensures rewritten { LeastAfterRewrites }
 {}

@@ -3,4 +3,4 @@
 
 mod laws;
 
-pub use laws::relaxed_is_faithful;
+pub use laws::{least_states_compose, relaxed_is_faithful, standing_is_faithful};

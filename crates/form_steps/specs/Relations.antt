@@ -1,5 +1,5 @@
 -- How the energies of one form stand for the costs of another.
-use Rattle.std.specs.Prelude.{◌≡◌, ℕ, ℤ, pos, ◌+ℤ◌, ◌*ℤ◌, ◌≤ℤ◌, ◌<ℤ◌, Bool, List}
+use Rattle.std.specs.Prelude.{◌≡◌, ◌≤◌, ℕ, ℤ, pos, ◌+ℤ◌, ◌*ℤ◌, ◌≤ℤ◌, ◌<ℤ◌, Bool, List, take}
 use Rattle.base.specs.declared.costs.Cost.TheVariants.{Whole, Infinite}
 use Rattle.base.specs.declared.costs.Figures.{Figures}
 use Rattle.base.specs.Costs.{Form, IsOf, energy}
@@ -56,6 +56,25 @@ pub record Reduces (g h : Form) (u b : ℤ) : Type 0 where
   pub positive : pos 1 ≤ℤ u
   pub width : h.bits ≡ g.bits
   pub energy : (y : List Bool) → IsOf g y → u *ℤ energy h y ≡ energy g y +ℤ b
+
+-- ---- of a source that is rewritten with more variables
+
+-- the variables of f come first in f': no list costs less in f' than its first bits cost in f, and
+-- each whole cost of f is that of a list in f' that begins so
+pub record Rewrites (f f' : Form) : Type 0 where
+  pub more : f.bits ≤ f'.bits
+  pub bound : (x : List Bool) → IsOf f' x → (v : ℤ) → f'.cost x ≡ Whole v
+      → (w : ℤ) × (f.cost (take f.bits x) ≡ Whole w) × (w ≤ℤ v)
+  pub reached : (x : List Bool) → IsOf f x → (v : ℤ) → f.cost x ≡ Whole v
+      → (x' : List Bool) × IsOf f' x' × (take f.bits x' ≡ x) × (f'.cost x' ≡ Whole v)
+
+-- the first n bits of what states are decoded to
+abbrev pub first_decoded : ℕ → Decoding → Decoding
+first_decoded n d = record {
+  source_width = n;
+  target_width = d.target_width;
+  decoded = λ y. take n (d.decoded y);
+}
 
 -- ---- of a layer's or a guard's link
 

@@ -2,7 +2,7 @@
 use Rattle.std.specs.Prelude.{◌≡◌, ℤ, pos, ◌+ℤ◌, ◌*ℤ◌, Bool, List}
 use Rattle.base.specs.declared.costs.Figures.{Figures}
 use Rattle.base.specs.Costs.{Form, IsOf}
-use Rattle.form_steps.specs.Relations.{Decoding, Keeps, Relaxes, Reduces, decoding_after}
+use Rattle.form_steps.specs.Relations.{Decoding, Keeps, Relaxes, Reduces, Rewrites, decoding_after, first_decoded}
 use Rattle.base.specs.Figures.{figures_after, figures_moved}
 
 -- what keeps a form that relaxes a source relaxes the source
@@ -37,3 +37,9 @@ abbrev pub RelaxesAlike : Type 0
 RelaxesAlike =
     (f f' g : Form) (d d' : Decoding) (u : ℤ) (n : Figures) → HasSameCosts f f'
     → DecodesAlike g d d' → Relaxes f g d u n → Relaxes f' g d' u n
+
+-- what relaxes a rewritten source relaxes the source, by the first bits of what it decodes to
+abbrev pub RelaxesAfterRewrites : Type 0
+RelaxesAfterRewrites =
+    (f f' g : Form) (d : Decoding) (u : ℤ) (n : Figures) → Rewrites f f' → Relaxes f' g d u n
+    → Relaxes f g (first_decoded f.bits d) u n

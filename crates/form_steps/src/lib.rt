@@ -8,6 +8,6 @@ mod layer;
 mod then;
 
 pub use guard::{Guard, Guarded};
-pub use laws::relations_compose;
+pub use laws::{relations_compose, rewriting_relaxes};
 pub use layer::{BitsLink, Layer, Lowered, Reduced};
 pub use then::{Then, ThenLink};

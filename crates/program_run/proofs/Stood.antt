@@ -4,7 +4,7 @@ use Rattle.std.proofs.lemmas.List.{take-take, take-map}
 use Rattle.bits_model.specs.declared.output.Kind.{Kind}
 use Rattle.bits_model.specs.declared.output.Kind.TheVariants as kinds
 use Rattle.base.specs.Costs.{Source}
-use Rattle.form_steps.specs.Relations.{Relaxes}
+use Rattle.form_steps.specs.Relations.{Relaxes, first_decoded}
 use Rattle.bits_model.specs.Output.{Written, IsWellFormed, form_of, decoding_of, read_off, majority}
 use Rattle.faithful.specs.Faithful.{Demand, HasUnit, IsStated, HasChains, scale_of}
 use Rattle.form_steps.specs.Stated.{DecodesAlike}
@@ -15,7 +15,7 @@ use Rattle.model_text.specs.Rows.{FitsFields}
 use Rattle.problem_form.specs.Problems as problems
 use Rattle.problem_form.specs.Limits.{upper}
 use Rattle.source_texts.specs.declared.reading.Read.{Read}
-use Rattle.source_texts.specs.Sources.{StandsFor, first_decoded}
+use Rattle.source_texts.specs.Sources.{StandsFor}
 use Rattle.model_pipeline.specs.Models.{decoding_to}
 use Rattle.program_run.specs.declared.grounds.Ground.{Ground}
 use Rattle.program_run.specs.Grounds.{kind_of, IsDemand}

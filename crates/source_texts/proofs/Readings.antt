@@ -4,7 +4,7 @@ use Rattle.std.proofs.Common.{◌≡◌, ℤ, Ok, Err, Result, refl, subst, arit
 use Rattle.std.proofs.lemmas.List.{take_all}
 use Rattle.base.specs.declared.costs.Figures.{Figures}
 use Rattle.base.specs.Costs.{Form, Source}
-use Rattle.form_steps.specs.Relations.{Decoding, Relaxes}
+use Rattle.form_steps.specs.Relations.{Decoding, Relaxes, first_decoded}
 use Rattle.form_steps.specs.Stated.{HasSameCosts, DecodesAlike}
 use Rattle.form_steps.proofs.Alike.{relaxes_alike}
 use Rattle.whole_text.specs.declared.faults.TextFault.{TextFault}
@@ -12,7 +12,7 @@ use Rattle.whole_text.specs.Steps.{◌>>=◌}
 use Rattle.problem_form.specs.Problems.{ProblemContent, form_of}
 use Rattle.problem_form.specs.Limits.{upper}
 use Rattle.source_texts.specs.declared.reading.Read.{Read}
-use Rattle.source_texts.specs.Sources.{own, first_decoded, StandsFor, CostsAs}
+use Rattle.source_texts.specs.Sources.{own, StandsFor, CostsAs}
 
 -- all bits of what a state is decoded to are its first ones
 all_bits_first : (f g : Form) (d : Decoding) (u : ℤ) (n : Figures) → Relaxes f g d u n

@@ -1,8 +1,8 @@
 -- What a text says in a format, and the problem that it is read into: a line a format.
-use Rattle.std.specs.Prelude.{◌≡◌, ℕ, ℤ, ◌≤◌, Bool, List, Ok, Err, Option, Some, None, Result, take}
+use Rattle.std.specs.Prelude.{◌≡◌, ℕ, ℤ, ◌≤◌, Bool, List, Ok, Err, Option, Some, None, Result}
 use Rattle.base.specs.declared.costs.Figures.{Figures}
 use Rattle.base.specs.Costs.{Form, Source}
-use Rattle.form_steps.specs.Relations.{Decoding, Relaxes}
+use Rattle.form_steps.specs.Relations.{Decoding, Relaxes, first_decoded}
 use Rattle.whole_text.specs.declared.faults.TextFault.{TextFault}
 use Rattle.whole_text.specs.declared.token.Style.{Style}
 use Rattle.whole_text.specs.declared.token.Style.TheVariants as styles
@@ -84,14 +84,6 @@ WordsAreReadAsTexts = (format : Format) (text : List ℕ)
     → problem_of format text ≡ problem_of_words format (tokens_of (style_of format) text)
 
 -- ---- what a problem stands for
-
--- the first n bits of what states are decoded to
-abbrev pub first_decoded : ℕ → Decoding → Decoding
-first_decoded n d = record {
-  source_width = n;
-  target_width = d.target_width;
-  decoded = λ y. take n (d.decoded y);
-}
 
 -- the problem has the source's variables first and its upper bound, and what relaxes the problem
 -- relaxes the source, decoded to these variables

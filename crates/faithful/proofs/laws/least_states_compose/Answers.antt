@@ -1,0 +1,16 @@
+use Rattle.faithful.proofs.LeastStates.{relaxed_stands}
+use Rattle.faithful.proofs.LeastSteps.{kept_stands, reduced_stands}
+use Rattle.faithful.proofs.LongerSources.{rewritten_stands}
+use Rattle.faithful.proofs.laws.least_states_compose.Goals as goal
+
+pub returns-clause-relaxed : goal.returns-clause-relaxed
+returns-clause-relaxed c = relaxed_stands
+
+pub returns-clause-kept : goal.returns-clause-kept
+returns-clause-kept c = λ f g h d e n a b p k. kept_stands p k
+
+pub returns-clause-reduced : goal.returns-clause-reduced
+returns-clause-reduced c = reduced_stands
+
+pub returns-clause-rewritten : goal.returns-clause-rewritten
+returns-clause-rewritten c = rewritten_stands

@@ -1,0 +1,107 @@
+-- A source that is rewritten with more variables, and a form that relaxes what it becomes.
+--
+-- What is above the threshold in the longer source lies above every whole cost of the shorter one,
+-- since each of these is reached at most at the threshold.
+use Rattle.std.proofs.Common.{◌≡◌, ℕ, ◌-◌, ℤ, ◌+ℤ◌, ◌*ℤ◌, ◌≤ℤ◌, ◌<ℤ◌, Bool, false, List, ◌++◌, length, take, replicate, refl, ap, ◌∙◌, arith, subst}
+use Rattle.std.proofs.lemmas.Int.{ints}
+use Rattle.std.proofs.Math.Seq.{take-append_seam}
+use Rattle.std.proofs.lemmas.List.{length-append, length-replicate, length-take-le}
+use Rattle.base.proofs.Products.{times-le}
+use Rattle.base.specs.declared.costs.Cost.{Cost}
+use Rattle.base.specs.declared.costs.Cost.TheVariants.{Whole, Infinite}
+use Rattle.base.specs.declared.costs.Figures.{Figures}
+use Rattle.base.specs.Costs.{Form, IsOf, energy}
+use Rattle.form_steps.specs.Relations.{Decoding, Relaxes, ReachesIn, Rewrites, first_decoded}
+
+-- ---- costs
+
+-- a cost is whole or infinite
+pub whole_or_infinite : {P : Type 0} (c : Cost) → ((v : ℤ) → c ≡ Whole v → P) → (c ≡ Infinite → P)
+    → P
+whole_or_infinite (Whole v) w i = w v refl
+whole_or_infinite Infinite w i = i refl
+
+-- and not both
+not_both : (c : Cost) (v : ℤ) → c ≡ Whole v → c ≡ Infinite → ⊥
+not_both c v e f = cc
+
+one_whole : (c : Cost) (v w : ℤ) → c ≡ Whole v → c ≡ Whole w → v ≡ w
+one_whole c v w e f = cc
+
+-- ---- what relaxes
+
+take-front : (n : ℕ) (a b : List Bool) → length a ≡ n → take n (a ++ b) ≡ a
+take-front n a b w = subst (λ k. take k (a ++ b) ≡ a) w (take-append_seam a b)
+
+-- the first bits of a longer assignment are an assignment
+pub first_is_of : {f f' : Form} → Rewrites f f' → (x : List Bool) → IsOf f' x
+    → IsOf f (take f.bits x)
+first_is_of {f} {f'} r x w = let m = r.more in length-take-le f.bits x (omega (arith, w, m))
+
+module _ {f f' g : Form} {d : Decoding} {u : ℤ} {n : Figures} (r : Rewrites f f')
+    (p : Relaxes f' g d u n) where
+  below : (x : List Bool) → IsOf f x → (v : ℤ) → f.cost x ≡ Whole v
+      → (n.scale *ℤ v +ℤ n.offset) ≤ℤ n.threshold
+  below x w v whole = let s = r.reached x w v whole in p.below s.0 s.1 v s.3
+
+  bound : (y : List Bool) → IsOf g y → (v : ℤ) → f.cost (take f.bits (d.decoded y)) ≡ Whole v
+      → (n.scale *ℤ v +ℤ n.offset) ≤ℤ (u *ℤ energy g y)
+  bound y w v whole =
+      let x = d.decoded y in
+      let wide = p.width y w in
+      whole_or_infinite (f'.cost x)
+      (λ c e.
+      let first = r.bound x wide c e in
+      let same = one_whole (f.cost (take f.bits x)) first.0 v first.1 whole in
+      let le : v ≤ℤ c = subst (λ t. t ≤ℤ c) same first.2 in
+      let positive = p.positive in
+      let scaled = times-le n.scale v c (omega (arith, ints, positive)) le in
+      omega (arith, ints, scaled, p.bound y w c e))
+      (λ e.
+      let narrow = first_is_of r x wide in
+      omega (arith, ints, p.above y w e, below (take f.bits x) narrow v whole))
+
+  above : (y : List Bool) → IsOf g y → f.cost (take f.bits (d.decoded y)) ≡ Infinite
+      → n.threshold <ℤ (u *ℤ energy g y)
+  above y w infinite =
+      let x = d.decoded y in
+      whole_or_infinite (f'.cost x)
+      (λ c e.
+      let first = r.bound x (p.width y w) c e in
+      absurd (not_both (f.cost (take f.bits x)) first.0 first.1 infinite))
+      (λ e. p.above y w e)
+
+  reached : (x : List Bool) → IsOf f x → (v : ℤ) → f.cost x ≡ Whole v
+      → (y : List Bool) × ReachesIn u g (first_decoded f.bits d) x (n.scale *ℤ v +ℤ n.offset) y
+  reached x w v whole =
+      let s = r.reached x w v whole in
+      let y = p.reached s.0 s.1 v s.3 in (
+        y.0,
+        record {
+          width = y.1.width;
+          decodes = ap (take f.bits) y.1.decodes ∙ s.2;
+          energy = y.1.energy;
+        },
+      )
+
+  -- an assignment with bits of 0 behind it
+  onto : (x : List Bool) → IsOf f x → (y : List Bool) × IsOf g y × (take f.bits (d.decoded y) ≡ x)
+  onto x w =
+      let zeros : List Bool = replicate (f'.bits - f.bits) false in
+      let m = r.more in
+      let count : length zeros ≡ f'.bits - f.bits = length-replicate (f'.bits - f.bits) false in
+      let wide : IsOf f' (x ++ zeros) = length-append x zeros ∙ omega (arith, w, m, count) in
+      let y = p.onto (x ++ zeros) wide in
+      (y.0, y.1, ap (take f.bits) y.2 ∙ take-front f.bits x zeros w)
+
+  pub rewritten_relaxes : Relaxes f g (first_decoded f.bits d) u n
+  rewritten_relaxes = record {
+    unit = p.unit;
+    positive = p.positive;
+    width = λ y w. first_is_of r (d.decoded y) (p.width y w);
+    bound = bound;
+    above = above;
+    reached = reached;
+    below = below;
+    onto = onto;
+  }
