@@ -16,6 +16,7 @@ where it names one. The status is 0 where all holds.
 import difflib
 import os
 import re
+import shutil
 import subprocess
 import sys
 import tempfile
@@ -202,9 +203,10 @@ def main():
     if len(sys.argv) < 2 or sys.argv[1].startswith('-'):
         print(__doc__.strip())
         return 2
-    program = Path(sys.argv[1]).resolve()
-    if not os.access(program, os.X_OK) or program.is_dir():
+    program = shutil.which(sys.argv[1])
+    if program is None:
         raise ValueError(f'{sys.argv[1]} is no program')
+    program = Path(program).resolve()
     faults = sum(check_document(name, program) for name in sys.argv[2:] or DOCUMENTS)
     faults += check_links()
     print('all holds' if not faults else f'{faults} faults')
