@@ -1,3 +1,4 @@
 pub mod Products
 pub mod Totals
 pub mod DividedWeights
+pub mod FlatParts

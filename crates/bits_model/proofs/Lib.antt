@@ -1,5 +1,4 @@
 pub mod Energies
 pub mod NodeNumbers
 pub mod Packed
-pub mod ChainEnds
 pub mod EntryRows

@@ -1,7 +1,6 @@
 pub mod Walks
 pub mod Output
 pub mod Entries
-pub mod ChainLists
 pub mod Stated
 pub use Rattle.base.specs.Sums
 pub use Rattle.base.specs.Costs

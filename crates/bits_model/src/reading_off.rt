@@ -58,7 +58,7 @@ fn read_chains(chains: &ChainList, y: &[bool], x: &mut [bool])
     ensures { x.new ≡ map (majority y.now) (take (length x.old) chains.now) }
 {
     for node in 0..x.len() {
-        x[node] = majority(y, chains.chain(node));
+        x[node] = majority(y, chains.list(node));
     }
 }
 

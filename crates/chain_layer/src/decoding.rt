@@ -2,7 +2,6 @@
 ghost use Rattle.std.specs.Prelude.{◌≡◌, ◌≢◌, [], All, IfOk, map};
 ghost use Rattle.bits_model.specs.Output.{majority, ones_in};
 
-use crate::link::chain;
 use base::NoMemory;
 use bits_model::{ChainList, bit_at};
 use std::alloc::Global;
@@ -39,7 +38,7 @@ pub fn decoded(alloc: Global, chains: &ChainList, y: &[bool]) -> Result<Vec<bool
 {
     let mut x = Vec::with_capacity(alloc, chains.len())?;
     for i in 0..chains.len() {
-        x.push(majority(y, chain(chains, i)))?;
+        x.push(majority(y, chains.list(i)))?;
     }
     Ok(x)
 }

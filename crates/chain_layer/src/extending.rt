@@ -5,7 +5,6 @@ ghost use Rattle.bits_model.specs.Walks.{is_in};
 ghost use Rattle.embedding_check.specs.Embeddings.{IsEmbedding};
 ghost use Rattle.chain_layer.specs.Image.{extension};
 
-use crate::link::chain;
 use base::NoMemory;
 use embedding_check::Embedded;
 use std::alloc::Global;
@@ -42,7 +41,7 @@ pub fn extended(alloc: Global, source: &Embedded, x: &[bool]) -> Result<Vec<bool
 {
     let mut y = vec![in alloc; false; source.qubits() as usize]?;
     for i in 0..x.len() {
-        set_where(&mut y, x[i], chain(source.chains(), i));
+        set_where(&mut y, x[i], source.chains().list(i));
     }
     Ok(y)
 }

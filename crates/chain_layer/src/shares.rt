@@ -4,7 +4,6 @@ ghost use Rattle.std.specs.List.{range_with_len};
 ghost use Rattle.chain_layer.specs.Image.{all_shares, equal_shares, field_at, field_entry, shares};
 ghost use Rattle.chain_layer.specs.Steps.{added, sizes_of};
 
-use crate::link::chain;
 use base::NoMemory;
 use embedding_check::Embedded;
 use std::alloc::Global;
@@ -56,7 +55,7 @@ pub fn shared_fields(alloc: Global, source: &Embedded) -> Result<Vec<i128>, NoMe
 {
     let mut fields = vec![in alloc; 0; source.qubits() as usize]?;
     for (i, field) in source.ising().fields.as_slice().iter().enumerate() {
-        add_shares(&mut fields, chain(source.chains(), i), *field);
+        add_shares(&mut fields, source.chains().list(i), *field);
     }
     Ok(fields)
 }

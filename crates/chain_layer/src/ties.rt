@@ -12,7 +12,6 @@ ghost use Rattle.chain_layer.specs.Image.{
 };
 
 use crate::gathered::Gathered;
-use crate::link::chain;
 use base::NoMemory;
 use bits_model::{CouplerList, Entry};
 use embedding_check::Embedded;
@@ -99,8 +98,8 @@ pub fn couplings_of(
     for i in 0..strengths.len() {
         push_ties(
             &mut made,
-            chain(source.chains(), i),
-            chain(source.parents(), i),
+            source.chains().list(i),
+            source.parents().list(i),
             strengths[i],
         )?;
     }
@@ -116,7 +115,7 @@ pub fn ties_cost(source: &Embedded, strengths: &[u128]) -> u128
 {
     let mut cost = 0;
     for i in 0..strengths.len() {
-        cost += strengths[i] * (chain(source.chains(), i).len() - 1) as u128;
+        cost += strengths[i] * (source.chains().list(i).len() - 1) as u128;
     }
     cost
 }

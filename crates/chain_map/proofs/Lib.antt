@@ -1,4 +1,3 @@
-pub mod ManyParts
 pub mod Occurrences
 pub mod Rows
 pub mod LineNumbers

@@ -8,13 +8,9 @@ use Rattle.whole_text.specs.Steps.{◌>>=◌, natural_at, Fails}
 use Rattle.whole_text.specs.declared.faults.TextAnswer.{TextAnswer}
 use Rattle.whole_text.specs.declared.faults.TextAnswer.TheVariants.{Bad, NoMemory}
 use Rattle.std.proofs.lemmas.List.{append_assoc, append-nil, length-append}
-use Rattle.chain_map.specs.Maps.{rows_from, node_at, qubits_at, one_chain, chain_at, chains_at, after_front}
+use Rattle.chain_map.specs.Maps.{rows_from, node_at, qubits_at, chain_at, chains_at, after_front}
 
 -- ---- readings
-
-abbrev numbers_said : Result (List ℕ) TextFault → List ℕ
-numbers_said (Ok xs) = xs
-numbers_said (Err f) = []
 
 qubits_go : (front : List ℕ) (q : ℕ) (rest : Result (List ℕ) TextFault)
     → after_front front (rest >>= (λ others. Ok (q ∷ others))) ≡ after_front (front ++ q ∷ []) rest
@@ -36,13 +32,6 @@ pub qubits_end : (front : List ℕ) → after_front front (qubits_at []) ≡ Ok 
 unfolding qubits_at
 qubits_end front = ap Ok (append-nil front)
 
--- the one chain of the qubits that are read
-pub one_from : (xs zs : List ℕ) (read : Result (List ℕ) TextFault) (m now : List (List ℕ))
-    → after_front xs read ≡ Ok zs → ((ys : List ℕ) → zs ≡ xs ++ ys → now ≡ m ++ ys ∷ [])
-    → after_front m (one_chain read) ≡ Ok now
-one_from xs zs (Ok ys) m now e more = ap Ok (sym (more ys (sym (ap numbers_said e))))
-one_from xs zs (Err f) m now e more = absurd cc
-
 -- the chain of a line
 pub chain_none : (m : List (List ℕ)) (node : ℕ) → after_front m (chain_at node []) ≡ Ok m
 unfolding chain_at
@@ -53,10 +42,21 @@ pub chain_fail : (m : List (List ℕ)) (node : ℕ) (w : Word) (ws : List Word) 
 unfolding chain_at
 chain_fail m node w ws f read = rw read refl
 
-pub chain_one : (m : List (List ℕ)) (node : ℕ) (w : Word) (ws : List Word) → node_at node w ≡ Ok node
-    → after_front m (chain_at node (w ∷ ws)) ≡ after_front m (one_chain (qubits_at ws))
+-- its number is right, and its qubits cannot be read
+pub chain_unread : (m : List (List ℕ)) (node : ℕ) (w : Word) (ws : List Word) (e : TextAnswer)
+    → node_at node w ≡ Ok node → Fails e (qubits_at ws)
+    → Fails e (after_front m (chain_at node (w ∷ ws)))
 unfolding chain_at
-chain_one m node w ws read = rw read refl
+chain_unread m node w ws NoMemory read unread = tt
+chain_unread m node w ws (Bad f) read unread =
+    let said : qubits_at ws ≡ Err f = unread in
+    rw (read, said) refl
+
+pub chain_one : (m : List (List ℕ)) (node : ℕ) (w : Word) (ws : List Word) (qubits : List ℕ)
+    → node_at node w ≡ Ok node → qubits_at ws ≡ Ok qubits
+    → after_front m (chain_at node (w ∷ ws)) ≡ Ok (m ++ qubits ∷ [])
+unfolding chain_at
+chain_one m node w ws qubits read said = rw (read, said) refl
 
 -- a place inside a list has no default
 pub default_free : {X : Type 0} (xs : List X) (i : ℕ) (d e : X) → i < length xs
@@ -127,6 +127,6 @@ pub rows_last : (n : ℕ) (line : List ℕ) (before : List (List ℕ)) → befor
 unfolding rows_from
 rows_last n line before cut = ap (rows_from n) cut
 
-pub front_none : (rest : Result (List (List ℕ)) TextFault) → after_front [] rest ≡ rest
+pub front_none : {X : Type 0} (rest : Result (List X) TextFault) → after_front [] rest ≡ rest
 front_none (Ok xs) = refl
 front_none (Err f) = refl

@@ -1,5 +1,4 @@
 pub mod Chains
-pub mod Parts
 pub mod Valid
 pub mod Faults
 pub mod Maps

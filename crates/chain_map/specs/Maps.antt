@@ -29,10 +29,6 @@ abbrev pub after_front : {X : Type 0} → List X → Result (List X) TextFault �
 after_front front (Ok xs) = Ok (front ++ xs)
 after_front front (Err f) = Err f
 
--- the one chain that qubits make, where they can be read
-abbrev pub one_chain : Result (List ℕ) TextFault → Result (List (List ℕ)) TextFault
-one_chain read = read >>= λ qubits. Ok (qubits ∷ [])
-
 -- the chain that a line says, where it has tokens: the number of the next node, and its qubits
 unfoldable pub chain_at : ℕ → List Word → Result (List (List ℕ)) TextFault
 chain_at node [] = Ok []

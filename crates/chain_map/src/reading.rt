@@ -1,5 +1,5 @@
 //! The text of a map: a line for each node, with its number and the qubits of its chain.
-ghost use Rattle.std.specs.Prelude.{◌≡◌, ℕ, ◌≤◌, ◌++◌, List, length, map, take, slice_range, IfOk};
+ghost use Rattle.std.specs.Prelude.{◌≡◌, ◌≤◌, length, map, take, slice_range, IfOk};
 ghost use Rattle.std.specs.List.{position_or_len};
 ghost use Rattle.whole_text.specs.declared.token.Style.TheVariants.{Plain};
 ghost use Rattle.whole_text.specs.Tokens.{is_blank, word, words, tokens_of_line};
@@ -26,8 +26,9 @@ fn node_len(bytes: &[u8], line: u64, node: u64) -> Result<usize, TextFault>
     }
 }
 
-/// Adds the numbers of the words that stand from `from` to `end`, all of them on this line.
-pub(crate) fn push_qubits(
+/// The numbers of the words that stand from `from` to `end`, all of them on this line, in place of
+/// what the list had.
+fn fill_qubits(
     text: &[u8],
     from: usize,
     end: usize,
@@ -36,10 +37,10 @@ pub(crate) fn push_qubits(
 ) -> Result<(), TextAnswer>
     requires ordered { from ≤ end }
     requires within { end ≤ length text.now }
-    ensures read { Gives (λ _. qubits.new.items) result (after_front qubits.old.items
-        (qubits_at (map (word line) (words (slice_range text.now from end))))) }
-    ensures grown { (more : List ℕ) × (qubits.new.items ≡ qubits.old.items ++ more) }
+    ensures { Gives (λ _. qubits.new.items) result
+        (qubits_at (map (word line) (words (slice_range text.now from end)))) }
 {
+    qubits.clear();
     let mut at = from;
     while at < end {
         if is_blank(text[at]) {
@@ -53,13 +54,15 @@ pub(crate) fn push_qubits(
     Ok(())
 }
 
-/// Adds the chain that the words of a line say, if it has words and is no comment.
+/// Adds the chain that the words of a line say, if it has words and is no comment. Its numbers are
+/// read into a list that is used again for the next line.
 fn push_row(
     text: &[u8],
     start: usize,
     end: usize,
     line: u64,
     map: &mut ChainMap,
+    qubits: &mut Vec<u64>,
 ) -> Result<(), TextAnswer>
     requires ordered { start ≤ end }
     requires within { end ≤ length text.now }
@@ -71,19 +74,22 @@ fn push_row(
         return Ok(());
     }
     let len = node_len(&text[at..end], line, map.len() as u64)?;
-    map.push_words(text, at + len, end, line)
+    fill_qubits(text, at + len, end, line, qubits)?;
+    map.push(qubits)?;
+    Ok(())
 }
 
-/// The map of a text, or the first fault of the text. Each number is added as it is read.
+/// The map of a text, or the first fault of the text.
 pub fn read_map(alloc: Global, text: &[u8]) -> Result<ChainMap, TextAnswer>
     ensures { Gives (λ map. map) result (reading text.now) }
 {
     let mut map = ChainMap::new(alloc);
+    let mut qubits = Vec::new(alloc);
     let mut start = 0;
     let mut line = 1;
     loop {
         let end = start + line_len(&text[start..]);
-        push_row(text, start, end, line, &mut map)?;
+        push_row(text, start, end, line, &mut map, &mut qubits)?;
         if end == text.len() {
             return Ok(map);
         }

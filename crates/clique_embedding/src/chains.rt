@@ -96,7 +96,7 @@ pub(crate) fn path_parents(alloc: Global, chains: &ChainList) -> Result<ChainLis
 {
     let mut parents = ChainList::with_room(alloc, chains.len(), 0)?;
     for k in 0..chains.len() {
-        parents.push(but_last(chains.chain(k)))?;
+        parents.push(but_last(chains.list(k)))?;
     }
     Ok(parents)
 }

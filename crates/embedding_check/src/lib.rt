@@ -7,7 +7,6 @@
 //! for each coupling the least joined pair of qubits.
 #![tactic(auto)]
 
-mod chains;
 mod checking;
 mod embedded;
 mod least;

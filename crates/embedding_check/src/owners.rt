@@ -5,7 +5,6 @@ ghost use Rattle.chain_map.specs.Chains.{chain_of, occurrences};
 ghost use Rattle.embedding_check.specs.Faults.{number_at};
 ghost use Rattle.embedding_check.specs.Owners.{owner_of, nobody, AreOwners, AreRuns, IsRun};
 
-use crate::chains::{chain, len};
 use base::NoMemory;
 use bits_model::ChainList;
 use std::alloc::Global;
@@ -95,8 +94,8 @@ fn own_all(owners: &mut [u32], chains: &ChainList)
     ensures len { length owners.new ≡ length owners.old }
     ensures owners { AreOwners chains.now owners.new }
 {
-    for node in 0..len(chains) {
-        own(owners, chain(chains, node), node as u32);
+    for node in 0..chains.len() {
+        own(owners, chains.list(node), node as u32);
     }
 }
 

@@ -16,7 +16,6 @@ ghost use Rattle.embedding_check.specs.Faults.{
   number_at,
 };
 
-use crate::chains::{chain, len};
 use crate::search::{Parents, parents_of};
 use base::NoMemory;
 use bits_model::ChainList;
@@ -167,10 +166,10 @@ pub(crate) fn all_parents<H: Hardware>(
         × IsFirstAt chains.now (IsReachedAt (H.joined hardware.now) chains.now) v k
         × (f ≡ EmbedFault.Disconnected v (number_at chains.now v k)))) }
 {
-    let mut parents = ChainList::with_room(alloc, len(chains), 0)?;
-    for node in 0..len(chains) {
-        let listed = chain(chains, node);
-        match parents_of(alloc, hardware, listed, chain(sorted, node))? {
+    let mut parents = ChainList::with_room(alloc, chains.len(), 0)?;
+    for node in 0..chains.len() {
+        let listed = chains.list(node);
+        match parents_of(alloc, hardware, listed, sorted.list(node))? {
             Parents::All(found) => {
                 parents.push(&found)?;
             }

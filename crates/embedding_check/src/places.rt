@@ -16,7 +16,6 @@ ghost use Rattle.embedding_check.specs.Least.{IsPlaceIn};
 ghost use Rattle.embedding_check.specs.Owners.{AreOwners};
 ghost use Rattle.embedding_check.specs.Noted.{AreNoted};
 
-use crate::chains::{chain, len};
 use crate::embedded::PairList;
 use crate::least::place_between;
 use crate::noted::Noted;
@@ -34,7 +33,7 @@ fn walk_cost(chains: &ChainList, own: &[u32], row: &Row<'_>) -> u64
 {
     let mut cost = (own.len() as u64).saturating_mul(row.len() as u64);
     for k in 0..row.len() {
-        cost = cost.saturating_add(chain(chains, row.second(k) as usize).len() as u64);
+        cost = cost.saturating_add(chains.list(row.second(k) as usize).len() as u64);
     }
     cost
 }
@@ -98,7 +97,7 @@ fn note_row<H: Hardware>(
         All (λ c. AreNoted (H.joined hardware.now) chains.now c.first noted.new) row.now }
 {
     let node = row.first();
-    let own = chain(chains, node as usize);
+    let own = chains.list(node as usize);
     if !is_noting_cheap(hardware, owners, own, walk_cost(chains, own, row)) {
         return false;
     }
@@ -135,8 +134,8 @@ fn place_of<H: Hardware>(
     }
     place_between(
         hardware,
-        chain(sorted, first as usize),
-        chain(sorted, second as usize),
+        sorted.list(first as usize),
+        sorted.list(second as usize),
     )
 }
 
@@ -206,7 +205,7 @@ pub(crate) fn all_places<H: Hardware>(
         × (f ≡ EmbedFault.NoCoupler u v))) }
 {
     let owners = owners_of(alloc, chains, hardware.qubits())?;
-    let mut noted = Noted::new(alloc, len(chains))?;
+    let mut noted = Noted::new(alloc, chains.len())?;
     let mut places = Vec::with_capacity(alloc, couplings.len())?;
     for k in 0..couplings.row_count() {
         let row = couplings.row(k);

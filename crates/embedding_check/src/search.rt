@@ -23,7 +23,6 @@ ghost use Rattle.embedding_check.specs.Search.{
   emptied,
 };
 
-use crate::chains::{chain, len};
 use crate::waiting::Waiting;
 use base::NoMemory;
 use bits_model::ChainList;
@@ -284,10 +283,10 @@ pub(crate) fn sorted_chains(alloc: Global, chains: &ChainList) -> Result<ChainLi
     ensures sorted { IfOk result (λ v. (u : ℕ) → u < length chains.now
         → IsSortedChain (chain_of chains.now u) (chain_of v u)) }
 {
-    let mut sorted = ChainList::with_room(alloc, len(chains), len(chains))?;
+    let mut sorted = ChainList::with_room(alloc, chains.len(), chains.len())?;
     let mut ascending = Vec::new(alloc);
-    for node in 0..len(chains) {
-        sort_chain(&mut ascending, chain(chains, node))?;
+    for node in 0..chains.len() {
+        sort_chain(&mut ascending, chains.list(node))?;
         sorted.push(&ascending)?;
     }
     Ok(sorted)

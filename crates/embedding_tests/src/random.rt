@@ -83,7 +83,7 @@ fn has_parents<H: Hardware>(hardware: &H, map: &ChainMap, embedded: &Embedded) -
         if embedded.parents().len() <= node {
             return false;
         }
-        if !are_parents(hardware, map.chain(node), embedded.parents().chain(node)) {
+        if !are_parents(hardware, map.chain(node), embedded.parents().list(node)) {
             return false;
         }
     }

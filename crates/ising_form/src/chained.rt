@@ -32,7 +32,7 @@ fn marked(alloc: Global, nodes: usize, chains: &ChainList) -> Result<Vec<bool>, 
 {
     let mut marks = vec![in alloc; false; nodes]?;
     for node in 0..chains.len() {
-        mark(&mut marks, chains.chain(node));
+        mark(&mut marks, chains.list(node));
     }
     Ok(marks)
 }

@@ -1,3 +1,3 @@
 pub mod LentParts
 pub mod LiteralSets
-pub mod FlatParts
+pub mod CodedParts

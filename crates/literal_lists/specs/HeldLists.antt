@@ -6,7 +6,7 @@ use Rattle.literal_lists.specs.declared.literal_lists.HeldLists.{HeldLists}
 use Rattle.literal_lists.specs.declared.literal_lists.HeldLists.TheVariants.{Narrow, Wide}
 use Rattle.literal_lists.specs.declared.literals.HeldLiterals.{HeldLiterals}
 use Rattle.literal_lists.specs.declared.literals.HeldLiterals.TheVariants.{Codes, Listed}
-use Rattle.literal_lists.specs.FlatLists.{literal_of}
+use Rattle.literal_lists.specs.Codes.{literal_of}
 
 -- the lists, as codes or as literals
 abbrev pub lists_held : HeldLists → List (List Literal)

@@ -1,3 +1,3 @@
 pub mod Literals
-pub mod FlatLists
+pub mod Codes
 pub mod HeldLists

@@ -4,7 +4,7 @@ ghost use Rattle.std.specs.Prelude.{◌≡◌, ◌<◌, ◌++◌, ◌∷◌, [],
 use crate::literal::Literal;
 use crate::literals::Literals;
 use crate::narrow_lists::NarrowLists;
-use crate::wide_lists::WideLists;
+use crate::wide_lists::{WideLists, literals_at};
 use base::NoMemory;
 use std::alloc::Global;
 use std::marker::Model;
@@ -74,7 +74,7 @@ impl LiteralLists {
     {
         match &self.held {
             HeldLists::Narrow(lists) => lists.at(i),
-            HeldLists::Wide(lists) => lists.at(i),
+            HeldLists::Wide(lists) => literals_at(lists, i),
         }
     }
 

@@ -1,6 +1,6 @@
 //! Literals that are lent from a list.
-ghost use Rattle.std.specs.Prelude.{◌≡◌, ◌≤◌, OnOk, length, slice_range};
-ghost use Rattle.literal_lists.specs.FlatLists.{literal_of};
+ghost use Rattle.std.specs.Prelude.{◌≡◌, OnOk, length};
+ghost use Rattle.literal_lists.specs.Codes.{literal_of};
 
 use crate::literal::Literal;
 use base::NoMemory;
@@ -15,15 +15,6 @@ pub(crate) fn literal_of(code: u32) -> Literal
         variable: u64::from(code / 2),
         negated: code % 2 == 1,
     }
-}
-
-/// A part of a list.
-pub(crate) fn lent_part<T>(items: &[T], start: usize, end: usize) -> &[T]
-    requires ordered { start ≤ end }
-    requires within { end ≤ length items.now }
-    ensures { result.now ≡ slice_range items.now start end }
-{
-    &items[start..end]
 }
 
 /// Where lent literals lie: as their codes, or as they are.

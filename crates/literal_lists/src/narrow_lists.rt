@@ -1,10 +1,11 @@
 //! Lists of literals of the first 2^31 variables, below 2^32 literals in all: four bytes a literal,
 //! and four a list.
-ghost use Rattle.std.specs.Prelude.{◌≡◌, ◌↔◌, ◌<◌, ◌+◌, ◌*◌, ◌++◌, ◌∷◌, [], ◌^◌, All, IfOk, OnOk, OnErr, MatchBool, length, map, slice_get, slice_index, Some, take, IsTrue};
-ghost use Rattle.literal_lists.specs.FlatLists.{AreEnds, code_of, literal_of, literal_parts, start_of};
+ghost use Rattle.std.specs.Prelude.{◌≡◌, ◌↔◌, ◌<◌, ◌≤◌, ◌+◌, ◌*◌, ◌++◌, ◌∷◌, [], ◌^◌, All, IfOk, OnOk, OnErr, MatchBool, length, map, slice_get, slice_index, slice_range, Some, take, IsTrue};
+ghost use Rattle.base.specs.FlatLists.{AreEnds, start_of};
+ghost use Rattle.literal_lists.specs.Codes.{code_of, literal_of, literal_parts};
 
 use crate::literal::Literal;
-use crate::literals::{HeldLiterals, Literals, lent_part, literal_of};
+use crate::literals::{HeldLiterals, Literals, literal_of};
 use crate::wide_lists::WideLists;
 use base::NoMemory;
 use std::alloc::Global;
@@ -62,6 +63,15 @@ fn start_of(ends: &[u32], i: usize) -> usize
     if i == 0 { 0 } else { ends[i - 1] as usize }
 }
 
+/// The codes from one place to another.
+fn lent_part(codes: &[u32], start: usize, end: usize) -> &[u32]
+    requires ordered { start ≤ end }
+    requires within { end ≤ length codes.now }
+    ensures { result.now ≡ slice_range codes.now start end }
+{
+    &codes[start..end]
+}
+
 /// The list at a place.
 fn part<'a>(codes: &'a [u32], ends: &[u32], i: usize) -> Literals<'a>
     requires ends { AreEnds 0 ends.now (length codes.now) }
@@ -98,7 +108,8 @@ impl Model for NarrowLists {
 
     ghost Value = { List (List Literal) };
 
-    ghost use Rattle.literal_lists.specs.FlatLists.{AreEnds, literal_parts};
+    ghost use Rattle.base.specs.FlatLists.{AreEnds};
+    ghost use Rattle.literal_lists.specs.Codes.{literal_parts};
 
     ghost view = { λ a. literal_parts a.codes.items a.ends.items };
 

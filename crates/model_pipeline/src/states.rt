@@ -2,7 +2,6 @@
 ghost use Rattle.std.specs.Prelude.{◌≡◌, ◌<◌, ◌||◌, ◌&&◌, ℕ, true, All, None, IfOk, length, map};
 ghost use Rattle.std.specs.List.{range_with_len, slice_index_or};
 ghost use Rattle.bits_model.specs.Walks.{is_in};
-ghost use Rattle.chain_map.specs.Chains.{chain_of};
 ghost use Rattle.problem_form.specs.Limits.{limit_fault};
 ghost use Rattle.problem_form.specs.Problems as problems;
 ghost use Rattle.model_pipeline.specs.Extensions.{
@@ -20,14 +19,6 @@ use base::NoMemory;
 use bits_model::{ChainList, Kind, OutputModel};
 use problem_form::{Choices, Problem};
 use std::alloc::Global;
-
-/// The chain of a node.
-fn chain(chains: &ChainList, node: usize) -> &[u32]
-    requires { node < length chains.now }
-    ensures { result.now ≡ chain_of chains.now node }
-{
-    chains.chain(node)
-}
 
 /// Sets all qubits of a chain.
 fn set_chain(y: &mut [bool], chain: &[u32])
@@ -67,7 +58,7 @@ fn on_chains(
 {
     let mut y = vec![in alloc; false; qubits as usize]?;
     for i in 0..x.len() {
-        set_where(&mut y, x[i], chain(chains, i));
+        set_where(&mut y, x[i], chains.list(i));
     }
     Ok(y)
 }

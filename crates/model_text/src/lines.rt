@@ -145,7 +145,7 @@ fn put_chains<S: Sink>(
     ensures cause { HasCause (S.faults sink.old) (S.faults sink.new) result }
 {
     for node in 0..chains.len() {
-        put_chain(buffer, sink, node, chains.chain(node))?;
+        put_chain(buffer, sink, node, chains.list(node))?;
     }
     Ok(())
 }

@@ -58,7 +58,7 @@ fn push_chains(out: &mut Vec<u8>, chains: &ChainList) -> Result<(), NoMemory>
     ensures { OnOk result (out.new.items ≡ out.old.items ++ rows_text (chain_rows 0 chains.now)) }
 {
     for node in 0..chains.len() {
-        push_chain(out, node, chains.chain(node))?;
+        push_chain(out, node, chains.list(node))?;
     }
     Ok(())
 }

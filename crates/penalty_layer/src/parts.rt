@@ -54,7 +54,7 @@ impl Parts {
         requires { i < length self.now }
         ensures { slice_get self.now i ≡ Some (result.0.now, result.1) }
     {
-        (self.sets.lent(i), self.coefficients[i])
+        (self.sets.list(i), self.coefficients[i])
     }
 
     /// Takes all parts out.

@@ -1,5 +1,5 @@
--- Lists of names: as they lie one after another, and as they are lent.
-use Rattle.std.proofs.Common.{◌≡◌, ◌<◌, ◌≤◌, ℕ, Bool, true, false, not, cond, ◌||◌, ◌+◌, List, [], ◌∷◌, ◌++◌, length, All, refl, sym, ap, subst, ◌∙◌, arith, length-append}
+-- Lists of names as they are lent, and of their literals.
+use Rattle.std.proofs.Common.{◌≡◌, ◌<◌, ◌≤◌, ℕ, Bool, true, false, not, cond, ◌||◌, ◌+◌, List, [], ◌∷◌, ◌++◌, All, refl, ap, ◌∙◌, arith}
 use Rattle.std.specs.Prelude.{bytes_eq, if◌then◌else◌}
 use Rattle.std.specs.Borrow.{Bor}
 use Rattle.std.specs.List.{list_any, position_or_len}
@@ -7,34 +7,8 @@ use Rattle.std.proofs.lemmas.List.{map-append}
 use Rattle.std.proofs.lemmas.List.Elements.{All-push}
 use Rattle.indexmap.specs.IndexSet.{insert_key}
 use Rattle.literal_lists.specs.declared.literal.Literal.{Literal}
-use Rattle.literal_lists.specs.FlatLists.{parts, AreEnds}
-use Rattle.literal_lists.proofs.FlatParts.{parts-push, ends-push}
-use Rattle.poly_reader.specs.Poly.{is_name}
-use Rattle.poly_reader.specs.Numbering.{with_name, number_of, AreNames}
+use Rattle.poly_reader.specs.Numbering.{with_name, number_of}
 use Rattle.poly_reader.specs.Views.{names_lent}
-
--- ---- one more name behind the others
-
-pub names_pushed : (bytes name : List ℕ) (ends bytes' ends' : List ℕ) → AreEnds 0 ends (length bytes)
-    → AreNames (parts bytes 0 ends) → is_name name ≡ true → bytes' ≡ bytes ++ name
-    → ends' ≡ ends ++ length bytes' ∷ []
-    → AreEnds 0 ends' (length bytes') × AreNames (parts bytes' 0 ends')
-    × (parts bytes' 0 ends' ≡ parts bytes 0 ends ++ name ∷ [])
-names_pushed bytes name ends bytes' ends' is names form at_bytes at_ends =
-    let all = bytes ++ name in
-    let at_ends' : ends' ≡ ends ++ length all ∷ [] =
-    at_ends ∙ ap (λ (bs : List ℕ). ends ++ length bs ∷ []) at_bytes in
-    let longer : length bytes ≤ length all = omega (arith, length-append bytes name) in
-    let set : AreEnds 0 (ends ++ length all ∷ []) (length all) =
-    ends-push 0 ends (length bytes) (length all) is longer in
-    let one_more : parts bytes' 0 ends' ≡ parts bytes 0 ends ++ name ∷ [] =
-    (λ i. parts (at_bytes i) 0 (at_ends' i)) ∙ parts-push bytes name 0 ends is in (
-      let P : List ℕ → Type 0 = λ es. AreEnds 0 es (length bytes') in
-          let Q : List ℕ → Type 0 = λ bs. AreEnds 0 (ends ++ length all ∷ []) (length bs) in
-          subst P (sym at_ends') (subst Q (sym at_bytes) set),
-      subst AreNames (sym one_more) (All-push (λ n. is_name n ≡ true) (parts bytes 0 ends) name names form),
-      one_more,
-    )
 
 -- ---- lent names
 

@@ -1,39 +1,11 @@
 //! The names of variables.
-ghost use Rattle.std.specs.Prelude.{◌≡◌, ◌<◌, ◌≤◌, ◌++◌, ◌∷◌, [], Some, OnOk, true, length, slice_get, slice_range};
-ghost use Rattle.literal_lists.specs.FlatLists.{AreEnds, parts, start_of};
+ghost use Rattle.std.specs.Prelude.{◌≡◌, ◌<◌, ◌++◌, ◌∷◌, [], Some, OnOk, true, length, slice_get};
 ghost use Rattle.poly_reader.specs.Poly.{is_name};
 
-use base::NoMemory;
+use base::{Lists, NoMemory};
 use std::alloc::Global;
 use std::marker::Model;
 use std::str;
-
-/// Where the name at a place starts: at the end of the one before it.
-fn start_of(ends: &[usize], i: usize) -> usize
-    requires { i < length ends.now }
-    ensures { result ≡ start_of ends.now i }
-{
-    if i == 0 { 0 } else { ends[i - 1] }
-}
-
-/// A part of the bytes.
-fn between(bytes: &[u8], start: usize, end: usize) -> &[u8]
-    requires ordered { start ≤ end }
-    requires within { end ≤ length bytes.now }
-    ensures { result.now ≡ slice_range bytes.now start end }
-{
-    &bytes[start..end]
-}
-
-/// The name at a place.
-fn part<'a>(bytes: &'a [u8], ends: &[usize], i: usize) -> &'a [u8]
-    requires ends { AreEnds 0 ends.now (length bytes.now) }
-    requires within { i < length ends.now }
-    ensures { slice_get (parts bytes.now 0 ends.now) i ≡ Some result.now }
-{
-    let start = start_of(ends, i);
-    between(bytes, start, ends[i])
-}
 
 /// The bytes of a name as text.
 pub(crate) fn as_text(name: &[u8]) -> &str
@@ -50,22 +22,19 @@ pub(crate) fn as_text(name: &[u8]) -> &str
 /// takes no memory of its own. Contracts see the list of the names.
 #[derive(Drop)]
 pub struct Names {
-    bytes: Vec<u8>,
-    ends: Vec<usize>,
+    names: Lists<u8>,
 }
 
 impl Model for Names {
-    ghost use Rattle.std.specs.Prelude.{ℕ, List, length};
+    ghost use Rattle.std.specs.Prelude.{ℕ, List};
 
     ghost Value = { List (List ℕ) };
 
-    ghost use Rattle.literal_lists.specs.FlatLists.{AreEnds, parts};
     ghost use Rattle.poly_reader.specs.Numbering.{AreNames};
 
-    ghost view = { λ a. parts a.bytes.items 0 a.ends.items };
+    ghost view = { λ a. a.names };
 
-    ghost invariant = { λ a. AreEnds 0 a.ends.items (length a.bytes.items)
-        × AreNames (parts a.bytes.items 0 a.ends.items) };
+    ghost invariant = { λ a. AreNames a.names };
 }
 
 impl Names {
@@ -74,8 +43,7 @@ impl Names {
         ensures { result ≡ [] }
     {
         Names {
-            bytes: Vec::new(alloc),
-            ends: Vec::new(alloc),
+            names: Lists::empty(alloc),
         }
     }
 
@@ -83,7 +51,7 @@ impl Names {
     pub fn len(&self) -> usize
         ensures { result ≡ length self.now }
     {
-        self.ends.len()
+        self.names.len()
     }
 
     /// The name of a variable.
@@ -91,7 +59,7 @@ impl Names {
         requires { variable < length self.now }
         ensures { slice_get self.now variable ≡ Some result.now }
     {
-        as_text(part(&self.bytes, &self.ends, variable))
+        as_text(self.names.list(variable))
     }
 
     /// Appends a name.
@@ -99,12 +67,6 @@ impl Names {
         requires { is_name name.now ≡ true }
         ensures { OnOk result (self.new ≡ self.old ++ name.now ∷ []) }
     {
-        let start = self.bytes.len();
-        self.bytes.extend_from_slice(name.as_bytes())?;
-        if self.ends.push(self.bytes.len()).is_err() {
-            self.bytes.truncate(start);
-            return Err(NoMemory);
-        }
-        Ok(())
+        self.names.push(name.as_bytes())
     }
 }

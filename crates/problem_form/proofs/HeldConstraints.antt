@@ -8,7 +8,7 @@ use Rattle.std.proofs.Math.Seq.{take-append_seam}
 use Rattle.problem_form.specs.declared.terms.Product.{Product}
 use Rattle.problem_form.specs.declared.constraint_list.Row.{Row}
 use Rattle.problem_form.specs.ConstraintRows.{constraint_of, LiesWithin}
-use Rattle.literal_lists.proofs.FlatParts.{slice_range-append, slice_range-last}
+use Rattle.base.proofs.FlatParts.{slice_range-append, slice_range-last}
 
 -- ---- more products
 

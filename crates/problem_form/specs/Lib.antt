@@ -5,5 +5,5 @@ pub mod Fields
 pub mod WeighedLists
 pub mod ConstraintRows
 pub use Rattle.literal_lists.specs.Literals
-pub use Rattle.literal_lists.specs.FlatLists
+pub use Rattle.literal_lists.specs.Codes
 pub use Rattle.literal_lists.specs.HeldLists

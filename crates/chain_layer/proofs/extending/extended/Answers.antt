@@ -15,7 +15,7 @@ loop-i-preserved c =
     let i = c.loop-i.i in
     let next = c.set_where.new.y in
     let value = c.deref_mut.ensures.value in
-    let chain : c.chain.result.now ≡ chain_of e.chains i = c.chain.ensures ∙ ap (λ cs. chain_of cs i) c.chains.ensures in
+    let chain : c.list.result.now ≡ chain_of e.chains i = c.list.ensures.listed ∙ ap (λ cs. chain_of cs i) c.chains.ensures in
     let wide : length c.deref_mut.result.now ≡ e.qubits = ap length value ∙ c.loop-i.invariant.wide in
     let same =
     changed c.loop-i.y.items next c.loop-i.y.len

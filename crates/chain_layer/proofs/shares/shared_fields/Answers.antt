@@ -52,7 +52,7 @@ loop-i-preserved c =
     omega (arith, ints, small, weights_within hs i (pos 0) c.loop-i-test.true) in
     let field : to_z w128 (of_z w128 (get_or hs i (pos 0))) ≡ field_of e i =
     back ∙ ap (λ ws. get_or ws i (pos 0)) (c.as_slice-field-items.ensures ∙ ap (λ (f : IsingContent). f.fields) (c.behind-source.view_is ∙ c.ising.ensures.form)) in
-    let chain : c.chain.result.now ≡ chain_of e.chains i = c.chain.ensures ∙ ap (λ cs. chain_of cs i) c.chains.ensures in
+    let chain : c.list.result.now ≡ chain_of e.chains i = c.list.ensures.listed ∙ ap (λ cs. chain_of cs i) c.chains.ensures in
     let value = c.deref_mut.ensures.value in
     let same =
     changed c.loop-i.fields.items next c.loop-i.fields.len

@@ -18,13 +18,13 @@ placed-requires c =
     ∙ sym (zip_lengths _ _ _ c.requires.kept.placed)
     ∙ sym (ap (λ (f : IsingContent). length f.couplings) same)
 
-pub chain-requires : goal.chain-requires
-chain-requires c =
+pub list-requires : goal.list-requires
+list-requires c =
     let at = strength_at c.args.source.now c.args.strengths.now c.loop-i.i c.requires.strengths c.loop-i-test.true in
     omega (arith, at.0, c.requires.kept.counted, ap length c.chains.ensures)
 
-pub chain-requires-in-loop-i : goal.chain-requires-in-loop-i
-chain-requires-in-loop-i c =
+pub list-requires-in-loop-i : goal.list-requires-in-loop-i
+list-requires-in-loop-i c =
     let at = strength_at c.args.source.now c.args.strengths.now c.loop-i.i c.requires.strengths c.loop-i-test.true in
     omega (arith, at.0, c.requires.kept.counted, length_all_zip _ _ _ c.requires.kept.trees, ap length c.parents.ensures)
 
@@ -35,8 +35,8 @@ push_ties-requires-clause-matched c =
     let at = strength_at e c.args.strengths.now i c.requires.strengths c.loop-i-test.true in
     omega (
       arith,
-      ap length (c.chain.ensures ∙ ap (λ cs. chain_of cs i) c.chains.ensures),
-      ap length (c.chain-in-loop-i.ensures ∙ ap (λ cs. chain_of cs i) c.parents.ensures),
+      ap length (c.list.ensures.listed ∙ ap (λ cs. chain_of cs i) c.chains.ensures),
+      ap length (c.list-in-loop-i.ensures.listed ∙ ap (λ cs. chain_of cs i) c.parents.ensures),
       filled_lengths e i (node_at e c.requires.kept i at.0),
     )
 
@@ -51,8 +51,8 @@ loop-i-preserved c =
     let e = c.args.source.now in
     let i = c.loop-i.i in
     let at = strength_at e c.args.strengths.now i c.requires.strengths c.loop-i-test.true in
-    let chain = c.chain.ensures ∙ ap (λ cs. chain_of cs i) c.chains.ensures in
-    let parents = c.chain-in-loop-i.ensures ∙ ap (λ cs. chain_of cs i) c.parents.ensures in
+    let chain = c.list.ensures.listed ∙ ap (λ cs. chain_of cs i) c.chains.ensures in
+    let parents = c.list-in-loop-i.ensures.listed ∙ ap (λ cs. chain_of cs i) c.parents.ensures in
     ties_more_nodes e (placed e.ising.couplings e.places) c.loop-i.made c.push_ties.new.couplings i
     c.loop-i.invariant
     (c.in_ok-push_ties.ensures

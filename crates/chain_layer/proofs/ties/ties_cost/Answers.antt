@@ -7,8 +7,8 @@ use Rattle.chain_layer.specs.laws.Aligned.{node_cost, node_at}
 use Rattle.chain_layer.proofs.Added.{strength_at, sum_range, sum_within, filled_lengths}
 use Rattle.chain_layer.proofs.ties.ties_cost.Goals as goal
 
-pub chain-requires : goal.chain-requires
-chain-requires c =
+pub list-requires : goal.list-requires
+list-requires c =
     let at = strength_at c.args.source.now c.args.strengths.now c.loop-i.i c.requires.strengths c.loop-i-test.true in
     omega (arith, at.0, c.requires.kept.counted, ap length c.chains.ensures)
 
@@ -19,7 +19,7 @@ overflow_sub-cost c =
     let at = strength_at e c.args.strengths.now i c.requires.strengths c.loop-i-test.true in
     omega (
       arith,
-      ap length (c.chain.ensures ∙ ap (λ cs. chain_of cs i) c.chains.ensures),
+      ap length (c.list.ensures.listed ∙ ap (λ cs. chain_of cs i) c.chains.ensures),
       filled_lengths e i (node_at e c.requires.kept i at.0),
     )
 
@@ -28,7 +28,7 @@ overflow_mul-cost c =
     let e = c.args.source.now in
     let i = c.loop-i.i in
     let at = strength_at e c.args.strengths.now i c.requires.strengths c.loop-i-test.true in
-    let chain : c.chain.result.now ≡ chain_of e.chains i = c.chain.ensures ∙ ap (λ cs. chain_of cs i) c.chains.ensures in
+    let chain : c.list.result.now ≡ chain_of e.chains i = c.list.ensures.listed ∙ ap (λ cs. chain_of cs i) c.chains.ensures in
     let next : _ ≡ node_cost e i = λ k. at.1 k * (length (chain k) - 1) in
     rw next (omega (arith, sum_range (node_cost e) i, sum_within (node_cost e) (i + 1) (length e.ising.fields) (omega (arith, at.0)), c.requires.small))
 
@@ -37,7 +37,7 @@ overflow_add-cost c =
     let e = c.args.source.now in
     let i = c.loop-i.i in
     let at = strength_at e c.args.strengths.now i c.requires.strengths c.loop-i-test.true in
-    let chain : c.chain.result.now ≡ chain_of e.chains i = c.chain.ensures ∙ ap (λ cs. chain_of cs i) c.chains.ensures in
+    let chain : c.list.result.now ≡ chain_of e.chains i = c.list.ensures.listed ∙ ap (λ cs. chain_of cs i) c.chains.ensures in
     let next : _ ≡ node_cost e i = λ k. at.1 k * (length (chain k) - 1) in
     rw next (omega (arith, c.loop-i.invariant, sum_range (node_cost e) i, sum_within (node_cost e) (i + 1) (length e.ising.fields) (omega (arith, at.0)), c.requires.small))
 
@@ -46,7 +46,7 @@ loop-i-preserved c =
     let e = c.args.source.now in
     let i = c.loop-i.i in
     let at = strength_at e c.args.strengths.now i c.requires.strengths c.loop-i-test.true in
-    let chain : c.chain.result.now ≡ chain_of e.chains i = c.chain.ensures ∙ ap (λ cs. chain_of cs i) c.chains.ensures in
+    let chain : c.list.result.now ≡ chain_of e.chains i = c.list.ensures.listed ∙ ap (λ cs. chain_of cs i) c.chains.ensures in
     let next : _ ≡ node_cost e i = λ k. at.1 k * (length (chain k) - 1) in
     omega (arith, next, c.loop-i.invariant, sum_range (node_cost e) i)
 

@@ -11,9 +11,9 @@ use Rattle.chain_map.specs.Maps.{rows_from, chain_at, chains_at, after_front, re
 use Rattle.chain_map.proofs.Rows.{front_none, row_more, row_fails, rows_end, rows_next, rows_last}
 use Rattle.chain_map.proofs.reading.read_map.Goals as goal
 
-pub loop-map-init : goal.loop-map-init
+pub loop-qubits-init : goal.loop-qubits-init
 unfolding reading
-loop-map-init c =
+loop-qubits-init c =
     let rows = rows_from 1 (lines_from c.args.text.now 0) in
     record {
       within = omega arith;
@@ -25,10 +25,10 @@ loop-map-init c =
 pub returns-in_err-push_row : goal.returns-in_err-push_row
 returns-in_err-push_row c =
     let text = c.args.text.now in
-    let start = c.loop-map.start in
+    let start = c.loop-qubits.start in
     let n = c.line_len.result in
-    let line = c.loop-map.line in
-    let map = c.loop-map.map in
+    let line = c.loop-qubits.line in
+    let map = c.loop-qubits.map in
     let said = tokens_of_line Plain line (slice_range text start (start + n)) in
     let first = rw (take_rest text start) at c.line_len.ensures.first in
     let e = c.in_err-push_row.field-0.0 in
@@ -36,7 +36,7 @@ returns-in_err-push_row c =
     c.in_err-push_row.ensures in
     let p = err_from_is_err_and c.from_residual.result c.from_residual.ensures.1 in
     rw (p.1, p.2)
-    (subst (Fails e) c.loop-map.invariant.read
+    (subst (Fails e) c.loop-qubits.invariant.read
     (elim (cases_lt (start + n) (length text)) [
       | inl low ↦
           let cut = line_cut text start n first low in
@@ -44,7 +44,7 @@ returns-in_err-push_row c =
           (sym (rows_next line (slice_range text start (start + n)) (lines_from text start) _ cut))
           (row_fails map said _ e fails)
       | inr high ↦
-          let last = line_last text start n c.loop-map.invariant.within first (omega (arith, high)) in
+          let last = line_last text start n c.loop-qubits.invariant.within first (omega (arith, high)) in
           subst (λ rows. Fails e (after_front map (chains_at (length map) rows)))
           (sym (rows_last line (slice_range text start (start + n)) (lines_from text start) last))
           (row_fails map said [] e fails)
@@ -53,29 +53,29 @@ returns-in_err-push_row c =
 pub returns-then-end-text : goal.returns-then-end-text
 returns-then-end-text c =
     let text = c.args.text.now in
-    let start = c.loop-map.start in
+    let start = c.loop-qubits.start in
     let n = c.line_len.result in
-    let line = c.loop-map.line in
-    let map = c.loop-map.map in
+    let line = c.loop-qubits.line in
+    let map = c.loop-qubits.map in
     let new = c.push_row.new.map in
     let said = tokens_of_line Plain line (slice_range text start (start + n)) in
     let first = rw (take_rest text start) at c.line_len.ensures.first in
     let taken : after_front map (chain_at (length map) said) ≡ Ok new =
     c.in_ok-push_row.ensures in
-    let last = line_last text start n c.loop-map.invariant.within first c.if-end-text.true in
-    sym c.loop-map.invariant.read
+    let last = line_last text start n c.loop-qubits.invariant.within first c.if-end-text.true in
+    sym c.loop-qubits.invariant.read
     ∙ ap (λ rows. after_front map (chains_at (length map) rows))
     (rows_last line (slice_range text start (start + n)) (lines_from text start) last)
     ∙ row_more map new said [] taken
     ∙ rows_end new (length new)
 
-pub loop-map-preserved : goal.loop-map-preserved
-loop-map-preserved c =
+pub loop-qubits-preserved : goal.loop-qubits-preserved
+loop-qubits-preserved c =
     let text = c.args.text.now in
-    let start = c.loop-map.start in
+    let start = c.loop-qubits.start in
     let n = c.line_len.result in
-    let line = c.loop-map.line in
-    let map = c.loop-map.map in
+    let line = c.loop-qubits.line in
+    let map = c.loop-qubits.map in
     let new = c.push_row.new.map in
     let said = tokens_of_line Plain line (slice_range text start (start + n)) in
     let first = rw (take_rest text start) at c.line_len.ensures.first in
@@ -89,5 +89,5 @@ loop-map-preserved c =
           ∙ ap (λ rows. after_front map (chains_at (length map) rows))
           (sym (rows_next line (slice_range text start (start + n)) (lines_from text start)
           (lines_from text (start + n + 1)) cut))
-          ∙ c.loop-map.invariant.read;
+          ∙ c.loop-qubits.invariant.read;
     }

@@ -12,8 +12,8 @@ loop-node-preserved c =
     record {
       len = c.own.ensures.len ∙ c.loop-node.invariant.len;
       owned = own_more chains c.loop-node.owners new node c.requires.once (omega (arith, c.loop-node-test.true, c.len-node-end.ensures)) c.requires.few c.loop-node.invariant.owned c.own.ensures.len
-          (subst (λ (xs : List ℕ). (b : ℕ) → is_in xs b ≡ true → owner_of new b ≡ node) c.chain.ensures c.own.ensures.inside)
-          (subst (λ (xs : List ℕ). (b : ℕ) → (is_in xs b ≡ true) ⊎ (owner_of new b ≡ owner_of c.loop-node.owners b)) c.chain.ensures c.own.ensures.outside);
+          (subst (λ (xs : List ℕ). (b : ℕ) → is_in xs b ≡ true → owner_of new b ≡ node) c.list.ensures.listed c.own.ensures.inside)
+          (subst (λ (xs : List ℕ). (b : ℕ) → (is_in xs b ≡ true) ⊎ (owner_of new b ≡ owner_of c.loop-node.owners b)) c.list.ensures.listed c.own.ensures.outside);
     }
 
 pub returns-clause-owners : goal.returns-clause-owners

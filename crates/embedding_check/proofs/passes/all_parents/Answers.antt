@@ -13,7 +13,7 @@ use Rattle.embedding_check.proofs.passes.all_parents.Goals as goal
 
 pub parents_of-requires-clause-once : goal.parents_of-requires-clause-once
 parents_of-requires-clause-once g c = λ q.
-    subst (λ (xs : List ℕ). count_by (λ p. p == q) xs ≤ 1) (sym c.chain-listed.ensures)
+    subst (λ (xs : List ℕ). count_by (λ p. p == q) xs ≤ 1) (sym c.list-listed.ensures.listed)
     (once_each c.args.chains.now c.requires.once c.loop-node.node (omega (arith, c.loop-node-test.true, c.len-node-end.ensures)) q)
 
 pub returns-in-Unreached-clause-fault : goal.returns-in-Unreached-clause-fault
@@ -22,8 +22,8 @@ returns-in-Unreached-clause-fault g c =
     let chains = c.args.chains.now in
     let node = c.loop-node.node in
     let k = c.in-Unreached.k in
-    let same : c.chain-listed.result.now ≡ chain_of chains node = c.chain-listed.ensures in
-    let found = subst (λ r. AreFound joined c.chain-listed.result.now r) c.in-Unreached.is c.in_ok-found.ensures in
+    let same : c.list-listed.result.now ≡ chain_of chains node = c.list-listed.ensures.listed in
+    let found = subst (λ r. AreFound joined c.list-listed.result.now r) c.in-Unreached.is c.in_ok-found.ensures in
     let bad = subst (λ (xs : List ℕ). IsFirstBad (length xs) (λ j. IsReached joined xs (get_or xs j 0)) k) same found in (
       node,
       k,
@@ -37,8 +37,8 @@ loop-node-preserved g c =
     let chains = c.args.chains.now in
     let node = c.loop-node.node in
     let below : node < length chains = omega (arith, c.loop-node-test.true, c.len-node-end.ensures) in
-    let same : c.chain-listed.result.now ≡ chain_of chains node = c.chain-listed.ensures in
-    let found = subst (λ r. AreFound joined c.chain-listed.result.now r) c.in-All.is c.in_ok-found.ensures in
+    let same : c.list-listed.result.now ≡ chain_of chains node = c.list-listed.ensures.listed in
+    let found = subst (λ r. AreFound joined c.list-listed.result.now r) c.in-All.is c.in_ok-found.ensures in
     let both = subst (λ (xs : List ℕ). AreFound joined xs (All c.in-All.found)) same found in
     record {
       parents = subst (AllZip (AreParents joined) (take (node + 1) chains))

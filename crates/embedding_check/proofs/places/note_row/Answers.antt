@@ -8,8 +8,8 @@ use Rattle.embedding_check.specs.Noted.{AreNoted, noted_at, IsChainJoin}
 use Rattle.embedding_check.proofs.Noting.{noted_place}
 use Rattle.embedding_check.proofs.places.note_row.Goals as goal
 
-pub chain-own-requires : goal.chain-own-requires
-chain-own-requires g c =
+pub list-own-requires : goal.list-own-requires
+list-own-requires g c =
     let zero : Entry = record { first = 0; second = 0; weight = pos 0 } in
     let coupler : IsCoupler (length c.args.chains.now) (get_or c.args.row.now 0 zero) = c.requires.nodes 0 zero c.requires.some in
     omega (arith, coupler.upward, coupler.within, c.first-node.ensures 0 zero c.requires.some)
@@ -28,5 +28,5 @@ returns-clause-noted g c = λ yes k d low.
     (λ j h. subst (λ n. qubit_at (chain_of chains v) j < n) (sym c.requires.all)
     (c.requires.within v below j h))
     (subst (λ (xs : List ℕ). IsLeastPair (IsChainJoin joined owners node xs (length xs) v) (noted_at noted v))
-    c.chain-own.ensures (c.note_chain.ensures.noted v (omega (arith, below, c.requires.len)))) in
+    c.list-own.ensures.listed (c.note_chain.ensures.noted v (omega (arith, below, c.requires.len)))) in
     subst (λ n. AreNoted joined chains n noted) (sym (c.first-node.ensures k d low)) here

@@ -10,7 +10,7 @@ place_between-requires-clause-from g c =
     let n = g.H.Hardware.qubits c.args.hardware.now in
     let first = c.args.first in
     let below : first < length c.args.chains.now = omega (arith, c.requires.upward, c.requires.node) in
-    subst (λ (xs : List ℕ). All (λ q. q < n) xs) (sym c.chain.ensures)
+    subst (λ (xs : List ℕ). All (λ q. q < n) xs) (sym c.list.ensures.listed)
     (sorted_within n (chain_of c.args.chains.now first) (chain_of c.args.sorted.now first)
     (c.requires.within first below) (c.requires.sorted first below))
 
@@ -19,7 +19,7 @@ place_between-requires-clause-to g c =
     let n = g.H.Hardware.qubits c.args.hardware.now in
     let second = c.args.second in
     let below = c.requires.node in
-    subst (λ (xs : List ℕ). All (λ q. q < n) xs) (sym c.chain-2.ensures)
+    subst (λ (xs : List ℕ). All (λ q. q < n) xs) (sym c.list-2.ensures.listed)
     (sorted_within n (chain_of c.args.chains.now second) (chain_of c.args.sorted.now second)
     (c.requires.within second below) (c.requires.sorted second below))
 
@@ -35,6 +35,6 @@ returns g c =
     place_same joined (chain_of chains first) (chain_of chains second) (chain_of sorted first)
     (chain_of sorted second) r (c.requires.sorted first below)
     (c.requires.sorted second c.requires.node)
-    (subst (λ (xs : List ℕ). IsPlaceIn joined xs (chain_of sorted second) r) c.chain.ensures
-    (subst (λ (ys : List ℕ). IsPlaceIn joined c.chain.result.now ys r) c.chain-2.ensures
+    (subst (λ (xs : List ℕ). IsPlaceIn joined xs (chain_of sorted second) r) c.list.ensures.listed
+    (subst (λ (ys : List ℕ). IsPlaceIn joined c.list.result.now ys r) c.list-2.ensures.listed
     c.place_between.ensures))

@@ -3,8 +3,8 @@ use Rattle.bits_model.specs.declared.output.Entry.{Entry}
 use Rattle.quad_form.specs.Quads.{IsCoupler}
 use Rattle.embedding_check.proofs.places.walk_cost.Goals as goal
 
-pub chain-requires : goal.chain-requires
-chain-requires c =
+pub list-requires : goal.list-requires
+list-requires c =
     let row = c.args.row.now in
     let k = c.loop-k.k in
     let zero : Entry = record { first = 0; second = 0; weight = pos 0 } in

@@ -9,7 +9,7 @@ use Rattle.embedding_check.proofs.search.sorted_chains.Goals as goal
 
 pub sort_chain-requires : goal.sort_chain-requires
 sort_chain-requires c = λ q.
-    subst (λ (xs : List ℕ). count_by (λ p. p == q) xs ≤ 1) (sym c.chain.ensures)
+    subst (λ (xs : List ℕ). count_by (λ p. p == q) xs ≤ 1) (sym c.list.ensures.listed)
     (once_each c.args.chains.now c.requires c.loop-node.node (omega (arith, c.loop-node-test.true, c.len-node-end.ensures)) q)
 
 pub loop-node-preserved : goal.loop-node-preserved
@@ -18,7 +18,7 @@ loop-node-preserved c =
     let node = c.loop-node.node in
     let old = c.loop-node.sorted in
     let new = c.sort_chain.new.sorted in
-    let here = subst (λ (xs : List ℕ). IsSortedChain xs new.items) c.chain.ensures c.in_ok-sort_chain.ensures in
+    let here = subst (λ (xs : List ℕ). IsSortedChain xs new.items) c.list.ensures.listed c.in_ok-sort_chain.ensures in
     let pushed : c.push.new.self ≡ old ++ new.items ∷ [] = c.in_ok-push.ensures.pushed ∙ ap (λ xs. old ++ xs ∷ []) c.deref.ensures.value in
     record {
       len = ap length pushed ∙ (let l : length (old ++ new.items ∷ []) ≡ node + 1 = omega (arith, length-append old (new.items ∷ []), c.loop-node.invariant.len) in l);

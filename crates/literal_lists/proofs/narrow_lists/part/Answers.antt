@@ -1,7 +1,8 @@
 use Rattle.std.proofs.Common.{length, get_or, ap, ◌∙◌, sym, arith, Some, map}
 use Rattle.std.specs.List.{slice_range}
-use Rattle.literal_lists.specs.FlatLists.{literal_of}
-use Rattle.literal_lists.proofs.FlatParts.{part_lies, literal_parts-at}
+use Rattle.base.proofs.FlatParts.{part_lies}
+use Rattle.literal_lists.specs.Codes.{literal_of}
+use Rattle.literal_lists.proofs.CodedParts.{literal_parts-at}
 use Rattle.literal_lists.proofs.narrow_lists.part.Goals as goal
 
 pub lent_part-requires-clause-ordered : goal.lent_part-requires-clause-ordered

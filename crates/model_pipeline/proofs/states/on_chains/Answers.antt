@@ -25,7 +25,7 @@ loop-i-preserved c =
       bits = λ q l.
           ap (λ y. get_or y q true) same
           ∙ c.set_where.ensures.bits q (omega (arith, l, wide))
-          ∙ (λ k. get_or (value k) q true || (bit_at x i && is_in (c.chain.ensures k) q))
+          ∙ (λ k. get_or (value k) q true || (bit_at x i && is_in (c.list.ensures.listed k) q))
           ∙ ap (λ b. b || (bit_at x i && is_in (chain_of chains i) q)) (c.loop-i.invariant.bits q l)
           ∙ sym (any_range (λ j. bit_at x j && is_in (chain_of chains j) q) i);
     }

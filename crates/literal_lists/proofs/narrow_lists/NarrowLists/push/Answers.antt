@@ -1,5 +1,5 @@
 use Rattle.std.proofs.Common.{◌≡◌, ◌++◌, ◌∷◌, [], length, ap, ◌∙◌, rules}
-use Rattle.literal_lists.proofs.FlatParts.{narrow_pushed}
+use Rattle.literal_lists.proofs.CodedParts.{narrow_pushed}
 use Rattle.literal_lists.proofs.narrow_lists.NarrowLists.push.Goals as goal
 
 pub invariant_of-self-else-is_err : goal.invariant_of-self-else-is_err

@@ -7,8 +7,8 @@ use Rattle.term_table.specs.Terms.{Term}
 use Rattle.penalty_layer.specs.Gathered.{term_of}
 use Rattle.penalty_layer.proofs.parts.Parts.at.Goals as goal
 
-pub lent-requires : goal.lent-requires
-lent-requires c =
+pub list-requires : goal.list-requires
+list-requires c =
     let fields = c.self.inside in
     let count = length-zip_with term_of fields.sets fields.coefficients.items c.self.invariant in
     omega (arith, c.requires, ap length c.self.view_is, count, c.self.invariant)
@@ -27,8 +27,8 @@ returns c =
     let within : c.args.i < length fields.coefficients.items =
     omega (arith, c.requires, ap length c.self.view_is, count) in
     let here =
-    zip_with-at term_of fields.sets fields.coefficients.items c.args.i c.lent.result.now c.index.result.now
-    c.lent.ensures within c.index.ensures in
-    let part : ℤ → Option Term = λ coefficient. Some (c.lent.result.now, coefficient) in
+    zip_with-at term_of fields.sets fields.coefficients.items c.args.i c.list.result.now c.index.result.now
+    c.list.ensures.at within c.index.ensures in
+    let part : ℤ → Option Term = λ coefficient. Some (c.list.result.now, coefficient) in
     let same : c.index.result.now ≡ to_z w128 (of_z w128 c.index.result.now) = search rules in
     ap (λ ts. slice_get ts c.args.i) (sym c.self.view_is) ∙ here ∙ ap part same

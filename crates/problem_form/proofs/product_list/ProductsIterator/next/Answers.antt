@@ -1,5 +1,5 @@
 use Rattle.std.proofs.Common.{◌∙◌, sym, arith}
-use Rattle.literal_lists.proofs.FlatParts.{slice_range-step}
+use Rattle.literal_lists.proofs.LentParts.{slice_range-step}
 use Rattle.problem_form.proofs.product_list.ProductsIterator.next.Goals as goal
 
 pub returns-clause-steps : goal.returns-clause-steps

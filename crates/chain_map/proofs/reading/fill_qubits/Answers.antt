@@ -1,4 +1,4 @@
-use Rattle.std.proofs.Common.{◌≡◌, ◌+◌, false, [], ◌∷◌, ◌++◌, map, take, get_or, refl, sym, ap, ◌∙◌, arith, append_assoc}
+use Rattle.std.proofs.Common.{◌≡◌, ◌+◌, false, [], map, take, get_or, refl, sym, ap, ◌∙◌, arith}
 use Rattle.std.specs.List.{slice_range, position_or_len}
 use Rattle.std.proofs.lemmas.Result.{err_from_is_err_and}
 use Rattle.whole_text.specs.Tokens.{is_blank, word, words}
@@ -6,8 +6,16 @@ use Rattle.whole_text.proofs.LineWords.{words_none}
 use Rattle.whole_text.proofs.Slices.{slice_none}
 use Rattle.chain_map.specs.Maps.{qubits_at, after_front}
 use Rattle.chain_map.proofs.LineNumbers.{blank_passed, first_word}
-use Rattle.chain_map.proofs.Rows.{qubits_more, qubits_fail, qubits_end}
-use Rattle.chain_map.proofs.reading.push_qubits.Goals as goal
+use Rattle.chain_map.proofs.Rows.{qubits_more, qubits_fail, qubits_end, front_none}
+use Rattle.chain_map.proofs.reading.fill_qubits.Goals as goal
+
+pub loop-at-init : goal.loop-at-init
+loop-at-init c =
+    let said = qubits_at (map (word c.args.line) (words (slice_range c.args.text.now c.args.from c.args.end))) in
+    record {
+      high = c.requires.ordered;
+      read = ap (λ front. after_front front said) c.clear.ensures.items ∙ front_none said;
+    }
 
 pub loop-at-preserved-then-is_blank : goal.loop-at-preserved-then-is_blank
 loop-at-preserved-then-is_blank c =
@@ -20,11 +28,10 @@ loop-at-preserved-then-is_blank c =
       high = omega (arith, c.loop-at-test.true);
       read = ap (λ ws. after_front front (qubits_at (map (word line) ws))) (sym passed)
           ∙ c.loop-at.invariant.read;
-      grown = c.loop-at.invariant.grown;
     }
 
-pub returns-in_err-qubit-clause-read : goal.returns-in_err-qubit-clause-read
-returns-in_err-qubit-clause-read c =
+pub returns-in_err-qubit : goal.returns-in_err-qubit
+returns-in_err-qubit c =
     let text = c.args.text.now in
     let line = c.args.line in
     let at = c.loop-at.at in
@@ -60,7 +67,6 @@ loop-at-preserved c =
     let q = c.in_ok-qubit.qubit in
     let bytes = slice_range text at end in
     let rest = map (word line) (words (slice_range text (at + n) end)) in
-    let more = c.loop-at.invariant.grown in
     let ink : is_blank (get_or text at 0) ≡ false = sym c.is_blank.ensures ∙ c.if-is_blank.false in
     let w = first_word text at end n line c.loop-at-test.true c.requires.within ink c.in_ok-qubit.ensures.len in
     record {
@@ -70,16 +76,10 @@ loop-at-preserved c =
           c.in_ok-qubit.ensures.value)
           ∙ sym (ap (λ ws. after_front front (qubits_at ws)) w.2)
           ∙ c.loop-at.invariant.read;
-      grown = (
-        more.0 ++ q ∷ [],
-        c.in_ok-push.ensures.items
-            ∙ ap (λ xs. xs ++ q ∷ []) more.1
-            ∙ append_assoc c.args.qubits.now.items more.0 (q ∷ []),
-      );
     }
 
-pub returns-clause-read : goal.returns-clause-read
-returns-clause-read c =
+pub returns : goal.returns
+returns c =
     let text = c.args.text.now in
     let line = c.args.line in
     let end = c.args.end in

@@ -1,16 +1,15 @@
-use Rattle.std.proofs.Common.{◌≡◌, ℕ, ◌-◌, ◌≤◌, List, ◌++◌, map}
+use Rattle.std.proofs.Common.{◌≡◌, ◌-◌, ◌≤◌, map}
 use Rattle.std.specs.List.{slice_range}
 use Rattle.whole_text.specs.Tokens.{word, words}
 use Rattle.chain_map.specs.Maps.{qubits_at, after_front}
-use Rattle.chain_map.proofs.reading.push_qubits.Given as goal
+use Rattle.chain_map.proofs.reading.fill_qubits.Given as goal
 
 -- the qubits so far, in front of what the other words say, are all of them
 abbrev pub invariant-loop-at : goal.invariant-loop-at
 invariant-loop-at l = record {
   high : l.at ≤ l.end;
   read : after_front l.qubits.items (qubits_at (map (word l.line) (words (slice_range l.text l.at l.end))))
-      ≡ after_front l.fn.qubits.items (qubits_at (map (word l.line) (words (slice_range l.text l.fn.from l.end))));
-  grown : (more : List ℕ) × (l.qubits.items ≡ l.fn.qubits.items ++ more);
+      ≡ qubits_at (map (word l.line) (words (slice_range l.text l.fn.from l.end)));
 }
 
 abbrev pub decreases-loop-at : goal.decreases-loop-at

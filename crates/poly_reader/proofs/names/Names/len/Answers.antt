@@ -1,9 +1,0 @@
-use Rattle.std.proofs.Common.{◌≡◌, rules, length, sym, ap, ◌∙◌}
-use Rattle.literal_lists.proofs.FlatParts.{length-parts}
-use Rattle.poly_reader.proofs.names.Names.len.Goals as goal
-
-pub returns : goal.returns
-returns c =
-    let fields = c.self.inside in
-    let count : c.len.result ≡ length fields.ends.items = search rules in
-    count ∙ sym (length-parts fields.bytes.items 0 fields.ends.items) ∙ ap length c.self.view_is
