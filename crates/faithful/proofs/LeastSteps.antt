@@ -1,7 +1,8 @@
 -- Least states through a step that keeps them alone, and through a division by a unit.
 --
--- What reaches a least state is a least state, since the least energies of both forms stand for each
--- other; so each least assignment is still decoded from one, and what a least state decodes to is.
+-- What reaches a least state is a least state, since the least energies of both forms stand for
+-- each other. So each least assignment is still decoded from a least state, and each least state
+-- still decodes to one.
 use Rattle.std.proofs.Common.{◌≡◌, ℤ, pos, ◌+ℤ◌, ◌*ℤ◌, ◌<ℤ◌, Bool, List, sym, ap, ◌∙◌, arith, subst}
 use Rattle.std.proofs.lemmas.Int.{ints, by_lt_z}
 use Rattle.base.proofs.Products.{times-le, times-lt, scaled_twice}

@@ -1,5 +1,6 @@
 pub mod Least
 pub mod AtLeast
+pub mod Bounds
 pub mod Faithful
 pub mod Stated
 pub use Rattle.base.specs.Costs

@@ -1,11 +1,12 @@
 -- The laws of the promise, as statements.
-use Rattle.std.specs.Prelude.{ℤ, pos}
+use Rattle.std.specs.Prelude.{◌<◌, ◌^◌, ℤ, pos, unsigned_abs, Bool, List}
 use Rattle.base.specs.declared.costs.Figures.{Figures}
-use Rattle.base.specs.Costs.{Form, Source}
+use Rattle.base.specs.Costs.{Form, Source, energy}
 use Rattle.base.specs.Figures.{figures_after, figures_moved}
 use Rattle.form_steps.specs.Relations.{Decoding, Relaxes, Reduces, Rewrites, decoding_after, first_decoded}
 use Rattle.bits_model.specs.Output.{Written, IsWellFormed, form_of, decoding_of}
 use Rattle.faithful.specs.AtLeast.{StandsAtLeast, KeepsLeast}
+use Rattle.faithful.specs.Bounds.{IsBounded}
 use Rattle.faithful.specs.Faithful.{Demand, Faithful, IsStated}
 
 -- ---- of models
@@ -24,6 +25,11 @@ RelaxedIsFaithful = (source : Source) (demand : Demand) (m : Written) → IsWell
     → IsStated source demand m
     → Relaxes source.form (form_of m) (decoding_of m) m.unit m.figures
     → Faithful source demand m
+
+-- every energy of a bounded model is below 2 ^ 121 in size
+abbrev pub EnergiesAreBounded : Type 0
+EnergiesAreBounded =
+    (m : Written) → IsBounded m → (y : List Bool) → unsigned_abs (energy (form_of m) y) < 2 ^ 121
 
 -- ---- of least states
 

@@ -1,5 +1,5 @@
 //! The laws of the promise, as functions without code: each contract is a statement of `specs/`.
-ghost use Rattle.faithful.specs.Stated.{StandingIsFaithful, RelaxedIsFaithful, RelaxedStandsAtLeast, LeastAfterLeast, ReducesAfterLeast, LeastAfterRewrites};
+ghost use Rattle.faithful.specs.Stated.{StandingIsFaithful, RelaxedIsFaithful, EnergiesAreBounded, RelaxedStandsAtLeast, LeastAfterLeast, ReducesAfterLeast, LeastAfterRewrites};
 
 /// A well-formed model whose least states stand for the least assignments of a source, with what
 /// is stated of it, is faithful to it.
@@ -10,6 +10,11 @@ pub fn standing_is_faithful()
 /// A well-formed model that relaxes a source, with what is stated of it, is faithful to it.
 pub fn relaxed_is_faithful()
     ensures { RelaxedIsFaithful }
+{}
+
+/// No energy of a bounded model is 2^121 in size.
+pub fn energies_are_bounded()
+    ensures { EnergiesAreBounded }
 {}
 
 /// Least states stand for least assignments wherever a form relaxes a source, and after each step

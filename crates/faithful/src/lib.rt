@@ -3,4 +3,6 @@
 
 mod laws;
 
-pub use laws::{least_states_compose, relaxed_is_faithful, standing_is_faithful};
+pub use laws::{
+    energies_are_bounded, least_states_compose, relaxed_is_faithful, standing_is_faithful,
+};

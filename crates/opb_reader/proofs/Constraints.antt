@@ -17,7 +17,7 @@ use Rattle.problem_form.specs.declared.terms.Product.{Product}
 use Rattle.problem_form.specs.Problems.{ProblemContent, negated, products_total, constraint_total}
 use Rattle.opb_reader.specs.declared.operator.Operator.{Operator}
 use Rattle.opb_reader.specs.declared.operator.Operator.TheVariants.{AtLeast, AtMost, Equal}
-use Rattle.opb_reader.specs.Opb.{Listed, is_operator, never, sum_at, comparison_at, constraint_at, constraints_at, head_at}
+use Rattle.opb_reader.specs.Opb.{Listed, greatest_index, is_operator, never, sum_at, comparison_at, constraint_at, constraints_at, head_at}
 use Rattle.opb_reader.specs.Cost.{compared}
 use Rattle.opb_reader.specs.Views.{put_all, with_listed, objective_read, head_read, constraint_read, constraints_read}
 use Rattle.opb_reader.proofs.Many.{many_go_on, many_fail, many_end}
@@ -27,21 +27,23 @@ use Rattle.opb_reader.proofs.Variables.{AreWithin}
 -- ---- one constraint
 
 pub sum_fails : (e : TextAnswer) (p : ProblemContent) (end : ℕ) (w : Word) (ws : List Word)
-    → Fails e (sum_at is_operator end (w ∷ ws)) → Fails e (constraint_read p end w ws)
+    → Fails e (sum_at greatest_index is_operator end (w ∷ ws))
+    → Fails e (constraint_read p end w ws)
 unfolding constraint_at
 sum_fails answers.NoMemory p end w ws h = tt
 sum_fails (answers.Bad f) p end w ws h = rw h refl
 
 pub comparison_fails : (f : TextFault) (p : ProblemContent) (end : ℕ) (w : Word)
     (ws rest : List Word) (terms : List Product)
-    → sum_at is_operator end (w ∷ ws) ≡ Ok (terms, rest) → comparison_at end rest ≡ Err f
+    → sum_at greatest_index is_operator end (w ∷ ws) ≡ Ok (terms, rest) → comparison_at end rest
+    ≡ Err f
     → constraint_read p end w ws ≡ Err f
 unfolding constraint_at
 comparison_fails f p end w ws rest terms sum h = rw (sum, h) refl
 
 pub constraint_is : (p : ProblemContent) (end : ℕ) (w : Word) (ws rest after : List Word)
     (terms : List Product) (operator : Operator) (bound : ℤ)
-    → sum_at is_operator end (w ∷ ws) ≡ Ok (terms, rest)
+    → sum_at greatest_index is_operator end (w ∷ ws) ≡ Ok (terms, rest)
     → comparison_at end rest ≡ Ok (operator, bound, after)
     → constraint_read p end w ws
     ≡ Ok (with_listed p (record { terms = terms; operator = operator; bound = bound }), after)
@@ -105,7 +107,8 @@ unfolding constraints_at
 constraint_goes_on p q end w ws rest le one =
     constraints_read-put p end (w ∷ ws)
     ∙ ap (λ (r : Result (ProblemContent × List Word) TextFault). r >>= first_part)
-    (many_go_on with_listed p q never (constraint_at end) w ws rest (constraint_shrinks end) refl le one)
+    (many_go_on with_listed p q never (constraint_at greatest_index end) w ws rest
+    (constraint_shrinks greatest_index end) refl le one)
     ∙ sym (constraints_read-put q end rest)
 
 first_fails : (e : TextAnswer) (read : Result (ProblemContent × List Word) TextFault)
@@ -119,14 +122,14 @@ unfolding constraints_at
 constraint_fails e p end w ws h =
     rw (constraints_read-put p end (w ∷ ws))
     (first_fails e (put_all with_listed p (constraints_at end (w ∷ ws)))
-    (many_fail e with_listed p never (constraint_at end) w ws refl h))
+    (many_fail e with_listed p never (constraint_at greatest_index end) w ws refl h))
 
 pub constraints_end : (p : ProblemContent) (end : ℕ) → constraints_read p end [] ≡ Ok p
 unfolding constraints_at
 constraints_end p end =
     constraints_read-put p end []
     ∙ ap (λ (r : Result (ProblemContent × List Word) TextFault). r >>= first_part)
-    (many_end with_listed p never (constraint_at end))
+    (many_end with_listed p never (constraint_at greatest_index end))
 
 -- ---- where the objective may stand
 

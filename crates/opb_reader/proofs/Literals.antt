@@ -22,32 +22,34 @@ regroup : (front : List Literal) (l : Literal) (rest : Literals)
 regroup front l (Ok x) = ap (λ ls. Ok (ls, x.1)) (sym (append_assoc front (l ∷ []) x.0))
 regroup front l (Err e) = refl
 
-pub literal_goes_on : (front : List Literal) (w : Word) (ws : List Word) (l : Literal)
-    → begins_literal w.bytes ≡ true → literal_at w ≡ Ok l
-    → literals_read front (w ∷ ws) ≡ literals_read (front ++ l ∷ []) ws
+pub literal_goes_on : (limit : ℕ) (front : List Literal) (w : Word) (ws : List Word) (l : Literal)
+    → begins_literal w.bytes ≡ true → literal_at limit w ≡ Ok l
+    → literals_read limit front (w ∷ ws) ≡ literals_read limit (front ++ l ∷ []) ws
 unfolding literals_at
-literal_goes_on front w ws l begins read = rw (begins, read) (regroup front l (literals_at ws))
+literal_goes_on limit front w ws l begins read = rw (begins, read)
+    (regroup front l (literals_at limit ws))
 
-pub literal_fails : (front : List Literal) (w : Word) (ws : List Word) (f : TextFault)
-    → begins_literal w.bytes ≡ true → literal_at w ≡ Err f → literals_read front (w ∷ ws) ≡ Err f
+pub literal_fails : (limit : ℕ) (front : List Literal) (w : Word) (ws : List Word) (f : TextFault)
+    → begins_literal w.bytes ≡ true → literal_at limit w ≡ Err f
+    → literals_read limit front (w ∷ ws) ≡ Err f
 unfolding literals_at
-literal_fails front w ws f begins read = rw (begins, read) refl
+literal_fails limit front w ws f begins read = rw (begins, read) refl
 
-pub literals_stop : (front : List Literal) (w : Word) (ws : List Word)
-    → begins_literal w.bytes ≡ false → literals_read front (w ∷ ws) ≡ Ok (front, w ∷ ws)
+pub literals_stop : (limit : ℕ) (front : List Literal) (w : Word) (ws : List Word)
+    → begins_literal w.bytes ≡ false → literals_read limit front (w ∷ ws) ≡ Ok (front, w ∷ ws)
 unfolding literals_at
-literals_stop front w ws begins =
+literals_stop limit front w ws begins =
     rw begins (ap (λ (ls : List Literal). Ok (ls, w ∷ ws)) (append-nil front))
 
-pub literals_end : (front : List Literal) (ws : List Word) → ws ≡ []
-    → literals_read front ws ≡ Ok (front, [])
+pub literals_end : (limit : ℕ) (front : List Literal) (ws : List Word) → ws ≡ []
+    → literals_read limit front ws ≡ Ok (front, [])
 unfolding literals_at
-literals_end front ws none =
+literals_end limit front ws none =
     rw none (ap (λ (ls : List Literal). Ok (ls, [])) (append-nil front))
 
 -- the first literal, and those that follow
-pub product_first : (end : ℕ) (ws rest : List Word) (w : Word) (l : Literal)
-    → next_of end ws ≡ Ok (w, rest) → literal_at w ≡ Ok l
-    → product_at end ws ≡ literals_read (l ∷ []) rest
+pub product_first : (limit end : ℕ) (ws rest : List Word) (w : Word) (l : Literal)
+    → next_of end ws ≡ Ok (w, rest) → literal_at limit w ≡ Ok l
+    → product_at limit end ws ≡ literals_read limit (l ∷ []) rest
 unfolding product_at
-product_first end ws rest w l next read = rw (next, read) refl
+product_first limit end ws rest w l next read = rw (next, read) refl

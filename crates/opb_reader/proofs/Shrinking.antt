@@ -7,7 +7,7 @@ use Rattle.whole_text.specs.Steps.{◌>>=◌, fault, next_of, integer_at}
 use Rattle.literal_lists.specs.declared.literal.Literal.{Literal}
 use Rattle.problem_form.specs.declared.terms.Product.{Product}
 use Rattle.opb_reader.specs.declared.operator.Operator.{Operator}
-use Rattle.opb_reader.specs.Opb.{Listed, begins_literal, is_operator, is_semicolon, literal_at, literals_at, product_at, coefficient_at, term_at, sum_at, operator_at, closed_at, comparison_at, constraint_at, constraints_at, never, WordsAreEnough}
+use Rattle.opb_reader.specs.Opb.{Listed, begins_literal, is_operator, is_semicolon, literal_at, literals_at, product_at, coefficient_at, term_at, sum_at, operator_at, closed_at, comparison_at, constraint_at, constraints_at, greatest_index, never, WordsAreEnough}
 use Rattle.opb_reader.proofs.Many.{Leaves, Shrinks, many_leaves, many_enough, many_all}
 
 -- a fact on what a first step gives, and one on what the next gives with it
@@ -31,61 +31,72 @@ next_leaves end (w ∷ ws) = omega arith
 
 -- ---- literals
 
-abbrev first_literal : Literal → List Literal × List Word → Result (List Literal × List Word) TextFault
+abbrev first_literal : Literal → List Literal × List Word
+    → Result (List Literal × List Word) TextFault
 first_literal l more = Ok (l ∷ more.0, more.1)
 
-literals_leave : (ws : List Word) → IfOk (literals_at ws) (Leaves (length ws))
+literals_leave : (limit : ℕ) (ws : List Word) → IfOk (literals_at limit ws) (Leaves (length ws))
 unfolding literals_at
-literals_leave [] = omega arith
-literals_leave (w ∷ ws) = go (begins_literal w.bytes) (literals_leave ws)
+literals_leave limit [] = omega arith
+literals_leave limit (w ∷ ws) = go (begins_literal w.bytes) (literals_leave limit ws)
   where
-    go : (b : Bool) → IfOk (literals_at ws) (Leaves (length ws)) → IfOk (cond b (literal_at w >>= λ l. literals_at ws >>= first_literal l) (Ok ([], w ∷ ws))) (Leaves (length (w ∷ ws)))
+    go : (b : Bool) → IfOk (literals_at limit ws) (Leaves (length ws))
+        → IfOk (cond b (literal_at limit w >>= λ l. literals_at limit ws >>= first_literal l)
+        (Ok ([], w ∷ ws))) (Leaves (length (w ∷ ws)))
     go true more =
-        bind_if Any (Leaves (length (w ∷ ws))) (literal_at w) (λ l. literals_at ws >>= first_literal l)
-        (any (literal_at w))
-        (λ l _. bind_if (Leaves (length ws)) (Leaves (length (w ∷ ws))) (literals_at ws) (first_literal l)
+        bind_if Any (Leaves (length (w ∷ ws))) (literal_at limit w)
+        (λ l. literals_at limit ws >>= first_literal l)
+        (any (literal_at limit w))
+        (λ l _. bind_if (Leaves (length ws)) (Leaves (length (w ∷ ws))) (literals_at limit ws)
+        (first_literal l)
         more (λ x h. omega (arith, h)))
     go false more = omega arith
 
-abbrev literals_after : Word × List Word → Result (List Literal × List Word) TextFault
-literals_after w = literal_at w.0 >>= λ l. literals_at w.1 >>= first_literal l
+abbrev literals_after : ℕ → Word × List Word → Result (List Literal × List Word) TextFault
+literals_after limit w = literal_at limit w.0 >>= λ l. literals_at limit w.1 >>= first_literal l
 
-product_leaves : (end : ℕ) (ws : List Word) → IfOk (product_at end ws) (Leaves (length ws))
+product_leaves : (limit end : ℕ) (ws : List Word)
+    → IfOk (product_at limit end ws) (Leaves (length ws))
 unfolding product_at
-product_leaves end ws =
+product_leaves limit end ws =
     let most = length ws in
-    bind_if (Leaves most) (Leaves most) (next_of end ws) literals_after (next_leaves end ws)
-    (λ w less. bind_if Any (Leaves most) (literal_at w.0) (λ l. literals_at w.1 >>= first_literal l)
-    (any (literal_at w.0))
-    (λ l _. bind_if (Leaves (length w.1)) (Leaves most) (literals_at w.1) (first_literal l)
-    (literals_leave w.1) (λ x h. omega (arith, h, less))))
+    bind_if (Leaves most) (Leaves most) (next_of end ws) (literals_after limit) (next_leaves end ws)
+    (λ w less. bind_if Any (Leaves most) (literal_at limit w.0)
+    (λ l. literals_at limit w.1 >>= first_literal l)
+    (any (literal_at limit w.0))
+    (λ l _. bind_if (Leaves (length w.1)) (Leaves most) (literals_at limit w.1) (first_literal l)
+    (literals_leave limit w.1) (λ x h. omega (arith, h, less))))
 
 -- ---- terms
 
 abbrev as_term : ℤ → List Literal × List Word → Result (Product × List Word) TextFault
 as_term c ls = Ok (record { literals = ls.0; coefficient = c }, ls.1)
 
-pub term_shrinks : (end : ℕ) → Shrinks (term_at end)
+pub term_shrinks : (limit end : ℕ) → Shrinks (term_at limit end)
 unfolding term_at
-term_shrinks end = record {
+term_shrinks limit end = record {
   leaves = λ w ws.
-      bind_if Any (Leaves (length ws)) (coefficient_at w) (λ c. product_at end ws >>= as_term c)
+      bind_if Any (Leaves (length ws)) (coefficient_at w)
+      (λ c. product_at limit end ws >>= as_term c)
       (any (coefficient_at w))
-      (λ c _. bind_if (Leaves (length ws)) (Leaves (length ws)) (product_at end ws) (as_term c)
-      (product_leaves end ws) (λ x h. h));
+      (λ c _. bind_if (Leaves (length ws)) (Leaves (length ws)) (product_at limit end ws)
+      (as_term c)
+      (product_leaves limit end ws) (λ x h. h));
 }
 
-sum_leaves : (ends : List ℕ → Bool) (end : ℕ) (ws : List Word)
-    → IfOk (sum_at ends end ws) (Leaves (length ws))
+sum_leaves : (limit : ℕ) (ends : List ℕ → Bool) (end : ℕ) (ws : List Word)
+    → IfOk (sum_at limit ends end ws) (Leaves (length ws))
 unfolding sum_at
-sum_leaves ends end ws = many_leaves ends (term_at end) (term_shrinks end) (length ws) ws
+sum_leaves limit ends end ws = many_leaves ends (term_at limit end) (term_shrinks limit end)
+    (length ws) ws
 
 -- ---- constraints
 
 abbrev close : Word × List Word → Result (List Word) TextFault
 close w = cond (is_semicolon w.0.bytes) (Ok w.1) (Err (fault kinds.Word w.0.line))
 
-closed_leaves : (end : ℕ) (ws : List Word) → IfOk (closed_at end ws) (λ rest. length rest ≤ length ws)
+closed_leaves : (end : ℕ) (ws : List Word)
+    → IfOk (closed_at end ws) (λ rest. length rest ≤ length ws)
 unfolding closed_at
 closed_leaves end ws =
     bind_if (Leaves (length ws)) (λ rest. length rest ≤ length ws) (next_of end ws) close
@@ -120,30 +131,38 @@ comparison_leaves : (end : ℕ) (ws : List Word)
 unfolding comparison_at
 comparison_leaves end ws =
     let most = length ws in
-    bind_if (λ (x : Word × List Word). length x.1 < most) (LeavesLast most) (next_of end ws) (operator_part end) (next_less end ws)
-    (λ w h. bind_if Any (LeavesLast most) (operator_at w.0) (λ operator. next_of end w.1 >>= number_part end operator)
+    bind_if (λ (x : Word × List Word). length x.1 < most) (LeavesLast most) (next_of end ws)
+    (operator_part end) (next_less end ws)
+    (λ w h. bind_if Any (LeavesLast most) (operator_at w.0)
+    (λ operator. next_of end w.1 >>= number_part end operator)
     (any (operator_at w.0))
-    (λ operator _. bind_if (Leaves (length w.1)) (LeavesLast most) (next_of end w.1) (number_part end operator)
+    (λ operator _. bind_if (Leaves (length w.1)) (LeavesLast most) (next_of end w.1)
+    (number_part end operator)
     (next_leaves end w.1)
-    (λ number k. bind_if Any (LeavesLast most) (integer_at number.0) (λ bound. closed_at end number.1 >>= last_part operator bound)
+    (λ number k. bind_if Any (LeavesLast most) (integer_at number.0)
+    (λ bound. closed_at end number.1 >>= last_part operator bound)
     (any (integer_at number.0))
-    (λ bound _. bind_if (λ (rest : List Word). length rest ≤ length number.1) (LeavesLast most) (closed_at end number.1) (last_part operator bound)
+    (λ bound _. bind_if (λ (rest : List Word). length rest ≤ length number.1) (LeavesLast most)
+    (closed_at end number.1) (last_part operator bound)
     (closed_leaves end number.1) (λ rest m. omega (arith, h, k, m))))))
 
-abbrev as_listed : List Product × List Word → Operator × ℤ × List Word → Result (Listed × List Word) TextFault
+abbrev as_listed : List Product × List Word → Operator × ℤ × List Word
+    → Result (Listed × List Word) TextFault
 as_listed sum compared =
     Ok (record { terms = sum.0; operator = compared.0; bound = compared.1 }, compared.2)
 
 abbrev compared_part : ℕ → List Product × List Word → Result (Listed × List Word) TextFault
 compared_part end sum = comparison_at end sum.1 >>= as_listed sum
 
-pub constraint_shrinks : (end : ℕ) → Shrinks (constraint_at end)
+pub constraint_shrinks : (limit end : ℕ) → Shrinks (constraint_at limit end)
 unfolding constraint_at
-constraint_shrinks end = record {
+constraint_shrinks limit end = record {
   leaves = λ w ws.
-      bind_if (Leaves (length (w ∷ ws))) (Leaves (length ws)) (sum_at is_operator end (w ∷ ws))
-      (compared_part end) (sum_leaves is_operator end (w ∷ ws))
-      (λ sum h. bind_if (LeavesLast (length sum.1)) (Leaves (length ws)) (comparison_at end sum.1) (as_listed sum)
+      bind_if (Leaves (length (w ∷ ws))) (Leaves (length ws))
+      (sum_at limit is_operator end (w ∷ ws))
+      (compared_part end) (sum_leaves limit is_operator end (w ∷ ws))
+      (λ sum h. bind_if (LeavesLast (length sum.1)) (Leaves (length ws)) (comparison_at end sum.1)
+      (as_listed sum)
       (comparison_leaves end sum.1) (λ x k. omega (arith, h, k)));
 }
 
@@ -152,10 +171,13 @@ constraint_shrinks end = record {
 pub words_are_enough : WordsAreEnough
 unfolding sum_at constraints_at
 words_are_enough = record {
-  terms = λ ends count end ws h.
-      many_enough ends (term_at end) (term_shrinks end) count (length ws) ws h (omega arith);
+  terms = λ limit ends count end ws h.
+      many_enough ends (term_at limit end) (term_shrinks limit end) count (length ws) ws h
+      (omega arith);
   constraints = λ count end ws h.
-      many_enough never (constraint_at end) (constraint_shrinks end) count (length ws) ws h (omega arith);
+      many_enough never (constraint_at greatest_index end) (constraint_shrinks greatest_index end)
+      count (length ws) ws h (omega arith);
   all = λ end ws.
-      many_all never (constraint_at end) (constraint_shrinks end) (λ bytes. refl) (length ws) ws (omega arith);
+      many_all never (constraint_at greatest_index end) (constraint_shrinks greatest_index end)
+      (λ bytes. refl) (length ws) ws (omega arith);
 }

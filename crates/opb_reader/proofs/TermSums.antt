@@ -8,18 +8,21 @@ use Rattle.whole_text.specs.Tokens.{Word}
 use Rattle.whole_text.specs.Steps.{◌>>=◌, Fails, fault}
 use Rattle.problem_form.specs.declared.terms.Product.{Product}
 use Rattle.problem_form.specs.Problems.{ProblemContent}
-use Rattle.opb_reader.specs.Opb.{is_semicolon, term_at, sum_at, closed_at, objective_at}
+use Rattle.opb_reader.specs.Opb.{greatest_index, is_semicolon, term_at, sum_at, closed_at, objective_at}
 use Rattle.opb_reader.specs.Views.{put, put_all, with_term, objective_read}
 use Rattle.opb_reader.proofs.Many.{two_parts, many_go_on, many_fail, many_stop, many_end}
 use Rattle.opb_reader.proofs.Shrinking.{term_shrinks}
 
-pub term_goes_on : {B : Type 0} (step : B → Product → B) (b : B) (ends : List ℕ → Bool) (end : ℕ)
+pub term_goes_on : {B : Type 0} (limit : ℕ) (step : B → Product → B) (b : B) (ends : List ℕ → Bool)
+    (end : ℕ)
     (w : Word) (ws rest : List Word) (t : Product) → ends w.bytes ≡ false
-    → length rest ≤ length ws → term_at end w ws ≡ Ok (t, rest)
-    → put_all step b (sum_at ends end (w ∷ ws)) ≡ put_all step (step b t) (sum_at ends end rest)
+    → length rest ≤ length ws → term_at limit end w ws ≡ Ok (t, rest)
+    → put_all step b (sum_at limit ends end (w ∷ ws))
+    ≡ put_all step (step b t) (sum_at limit ends end rest)
 unfolding sum_at
-term_goes_on step b ends end w ws rest t going le read =
-    many_go_on step b (step b t) ends (term_at end) w ws rest (term_shrinks end) going le
+term_goes_on limit step b ends end w ws rest t going le read =
+    many_go_on step b (step b t) ends (term_at limit end) w ws rest (term_shrinks limit end) going
+    le
     (ap (put step b) read)
 
 put_fails : {A B : Type 0} (e : TextAnswer) (step : B → A → B) (b : B)
@@ -27,23 +30,26 @@ put_fails : {A B : Type 0} (e : TextAnswer) (step : B → A → B) (b : B)
 put_fails answers.NoMemory step b read h = tt
 put_fails (answers.Bad f) step b read h = ap (put step b) h
 
-pub term_fails : {B : Type 0} (e : TextAnswer) (step : B → Product → B) (b : B)
+pub term_fails : {B : Type 0} (limit : ℕ) (e : TextAnswer) (step : B → Product → B) (b : B)
     (ends : List ℕ → Bool) (end : ℕ) (w : Word) (ws : List Word) → ends w.bytes ≡ false
-    → Fails e (term_at end w ws) → Fails e (put_all step b (sum_at ends end (w ∷ ws)))
+    → Fails e (term_at limit end w ws) → Fails e (put_all step b (sum_at limit ends end (w ∷ ws)))
 unfolding sum_at
-term_fails e step b ends end w ws going fails =
-    many_fail e step b ends (term_at end) w ws going (put_fails e step b (term_at end w ws) fails)
+term_fails limit e step b ends end w ws going fails =
+    many_fail e step b ends (term_at limit end) w ws going
+    (put_fails e step b (term_at limit end w ws) fails)
 
-pub sum_stops : {B : Type 0} (step : B → Product → B) (b : B) (ends : List ℕ → Bool) (end : ℕ)
+pub sum_stops : {B : Type 0} (limit : ℕ) (step : B → Product → B) (b : B) (ends : List ℕ → Bool)
+    (end : ℕ)
     (w : Word) (ws : List Word) → ends w.bytes ≡ true
-    → put_all step b (sum_at ends end (w ∷ ws)) ≡ Ok (b, w ∷ ws)
+    → put_all step b (sum_at limit ends end (w ∷ ws)) ≡ Ok (b, w ∷ ws)
 unfolding sum_at
-sum_stops step b ends end w ws stops = many_stop step b ends (term_at end) w ws stops
+sum_stops limit step b ends end w ws stops = many_stop step b ends (term_at limit end) w ws stops
 
-pub sum_ends : {B : Type 0} (step : B → Product → B) (b : B) (ends : List ℕ → Bool) (end : ℕ)
-    → put_all step b (sum_at ends end []) ≡ Ok (b, [])
+pub sum_ends : {B : Type 0} (limit : ℕ) (step : B → Product → B) (b : B) (ends : List ℕ → Bool)
+    (end : ℕ)
+    → put_all step b (sum_at limit ends end []) ≡ Ok (b, [])
 unfolding sum_at
-sum_ends step b ends end = many_end step b ends (term_at end)
+sum_ends limit step b ends end = many_end step b ends (term_at limit end)
 
 -- ---- the objective
 
@@ -68,10 +74,10 @@ not_closed end = refl
 -- the `;` that ends the sum
 pub objective_closed : (p q : ProblemContent) (end : ℕ) (ws rest : List Word) (w : Word)
     → is_semicolon w.bytes ≡ true
-    → put_all with_term p (sum_at is_semicolon end ws) ≡ Ok (q, w ∷ rest)
+    → put_all with_term p (sum_at greatest_index is_semicolon end ws) ≡ Ok (q, w ∷ rest)
     → objective_read p end ws ≡ Ok (q, rest)
 unfolding objective_at
-objective_closed p q end ws rest w semicolon h = go (sum_at is_semicolon end ws) h
+objective_closed p q end ws rest w semicolon h = go (sum_at greatest_index is_semicolon end ws) h
   where
     go : (read : Terms) → put_all with_term p read ≡ Ok (q, w ∷ rest)
         → put_all with_term p (read >>= close end) ≡ Ok (q, rest)
@@ -79,15 +85,16 @@ objective_closed p q end ws rest w semicolon h = go (sum_at is_semicolon end ws)
     go (Ok x) e =
         let same = two_parts (fold with_term p x.0, x.1) (q, w ∷ rest) e in
         ap (λ (ws' : List Word). put_all with_term p (closed_at end ws' >>= with_rest x)) same.1
-        ∙ ap (λ (c : Result (List Word) TextFault). put_all with_term p (c >>= with_rest x)) (closed_by end w rest semicolon)
+        ∙ ap (λ (c : Result (List Word) TextFault). put_all with_term p (c >>= with_rest x))
+        (closed_by end w rest semicolon)
         ∙ ap (λ (r : ProblemContent). Ok (r, rest)) same.0
 
 -- the words end before it
 pub objective_open : (p q : ProblemContent) (end : ℕ) (ws : List Word)
-    → put_all with_term p (sum_at is_semicolon end ws) ≡ Ok (q, [])
+    → put_all with_term p (sum_at greatest_index is_semicolon end ws) ≡ Ok (q, [])
     → objective_read p end ws ≡ Err (fault kinds.End end)
 unfolding objective_at
-objective_open p q end ws h = go (sum_at is_semicolon end ws) h
+objective_open p q end ws h = go (sum_at greatest_index is_semicolon end ws) h
   where
     go : (read : Terms) → put_all with_term p read ≡ Ok (q, [])
         → put_all with_term p (read >>= close end) ≡ Err (fault kinds.End end)
@@ -95,13 +102,14 @@ objective_open p q end ws h = go (sum_at is_semicolon end ws) h
     go (Ok x) e =
         let same = two_parts (fold with_term p x.0, x.1) (q, []) e in
         ap (λ (ws' : List Word). put_all with_term p (closed_at end ws' >>= with_rest x)) same.1
-        ∙ ap (λ (c : Result (List Word) TextFault). put_all with_term p (c >>= with_rest x)) (not_closed end)
+        ∙ ap (λ (c : Result (List Word) TextFault). put_all with_term p (c >>= with_rest x))
+        (not_closed end)
 
 pub objective_fails : (e : TextAnswer) (p : ProblemContent) (end : ℕ) (ws : List Word)
-    → Fails e (put_all with_term p (sum_at is_semicolon end ws))
+    → Fails e (put_all with_term p (sum_at greatest_index is_semicolon end ws))
     → Fails e (objective_read p end ws)
 unfolding objective_at
-objective_fails e p end ws h = go e (sum_at is_semicolon end ws) h
+objective_fails e p end ws h = go e (sum_at greatest_index is_semicolon end ws) h
   where
     go : (e : TextAnswer) (read : Terms) → Fails e (put_all with_term p read)
         → Fails e (put_all with_term p (read >>= close end))

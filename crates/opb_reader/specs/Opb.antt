@@ -2,7 +2,7 @@
 --
 -- A reading goes through the words in order. The first word that cannot stand in its place makes
 -- the text bad, with a kind and the word's line.
-use Rattle.std.specs.Prelude.{◌≡◌, ℕ, zero, suc, ◌+◌, ◌-◌, ◌≤◌, ℤ, codes, Bool, true, false, ◌||◌, List, [], ◌∷◌, ◌++◌, length, drop, slice_index, max, map, fold, flat_map, Option, Some, None, Result, Ok, Err, IfOk, ◌==◌, bytes_eq, if◌then◌else◌}
+use Rattle.std.specs.Prelude.{◌≡◌, ℕ, zero, suc, ◌+◌, ◌-◌, ◌^◌, ◌≤◌, nat_lt, nat_le, ℤ, codes, Bool, true, false, ◌&&◌, ◌||◌, List, [], ◌∷◌, ◌++◌, length, drop, slice_index, max, map, fold, flat_map, Option, Some, None, Result, Ok, Err, IfOk, ◌==◌, bytes_eq, if◌then◌else◌}
 use Rattle.std.specs.Option.{ok_or}
 use Rattle.whole_text.specs.declared.faults.TextKind.TheVariants as kinds
 use Rattle.whole_text.specs.declared.faults.TextFault.{TextFault}
@@ -76,25 +76,31 @@ stands_elsewhere bytes =
     begins_literal bytes || (ends_in_colon bytes || (is_semicolon bytes || is_operator bytes))
 
 -- ---- literals: `~` or not, `x`, and digits
+--
+-- Indices are at most a limit, which is the first argument of what reads them.
+
+-- the greatest index of an OPB text
+abbrev pub greatest_index : ℕ
+greatest_index = 2 ^ 64 - 1
 
 -- the variable of an index; variables count from 0, and indices from 1
-abbrev pub variable_at : ℕ → Option ℕ → Result ℕ TextFault
-variable_at line None = Err (fault kinds.Range line)
-variable_at line (Some zero) = Err (fault kinds.Range line)
-variable_at line (Some (suc n)) = Ok n
+abbrev pub variable_at : ℕ → ℕ → Option ℕ → Result ℕ TextFault
+variable_at limit line None = Err (fault kinds.Range line)
+variable_at limit line (Some n) =
+    if nat_lt 0 n && nat_le n limit then Ok (n - 1) else Err (fault kinds.Range line)
 
--- an index of digits, which is below 2 ^ 64
-unfoldable pub index_at : ℕ → List ℕ → Result ℕ TextFault
-index_at line digits =
+-- an index of digits
+unfoldable pub index_at : ℕ → ℕ → List ℕ → Result ℕ TextFault
+index_at limit line digits =
     if are_digits digits
-    then variable_at line (digits_number digits)
+    then variable_at limit line (digits_number digits)
     else Err (fault kinds.Word line)
 
 -- `x` and an index
-unfoldable pub name_at : ℕ → List ℕ → Result ℕ TextFault
-name_at line bytes =
+unfoldable pub name_at : ℕ → ℕ → List ℕ → Result ℕ TextFault
+name_at limit line bytes =
     if slice_index bytes 0 == 120
-    then index_at line (drop 1 bytes)
+    then index_at limit line (drop 1 bytes)
     else Err (fault kinds.Word line)
 
 -- the literal of a variable
@@ -102,11 +108,11 @@ abbrev pub literal_of : Bool → ℕ → Result Literal TextFault
 literal_of negated n = Ok (record { variable = n; negated = negated })
 
 -- a literal
-unfoldable pub literal_at : Word → Result Literal TextFault
-literal_at w =
+unfoldable pub literal_at : ℕ → Word → Result Literal TextFault
+literal_at limit w =
     if slice_index w.bytes 0 == 126
-    then name_at w.line (drop 1 w.bytes) >>= literal_of true
-    else name_at w.line w.bytes >>= literal_of false
+    then name_at limit w.line (drop 1 w.bytes) >>= literal_of true
+    else name_at limit w.line w.bytes >>= literal_of false
 
 -- ---- one after another
 
@@ -121,21 +127,21 @@ many ends read (suc count) (w ∷ ws) =
     else (read w ws >>= λ x. many ends read count x.1 >>= λ more. Ok (x.0 ∷ more.0, more.1))
 
 -- the literals that follow one: words that begin with `x` or `~`
-unfoldable pub literals_at : List Word → Result (List Literal × List Word) TextFault
-literals_at [] = Ok ([], [])
-literals_at (w ∷ ws) =
+unfoldable pub literals_at : ℕ → List Word → Result (List Literal × List Word) TextFault
+literals_at limit [] = Ok ([], [])
+literals_at limit (w ∷ ws) =
     if begins_literal w.bytes
-    then (literal_at w >>= λ l. literals_at ws >>= λ more. Ok (l ∷ more.0, more.1))
+    then (literal_at limit w >>= λ l. literals_at limit ws >>= λ more. Ok (l ∷ more.0, more.1))
     else Ok ([], w ∷ ws)
 
 -- ---- sums
 
 -- one or more literals
-unfoldable pub product_at : ℕ → List Word → Result (List Literal × List Word) TextFault
-product_at end ws = do
+unfoldable pub product_at : ℕ → ℕ → List Word → Result (List Literal × List Word) TextFault
+product_at limit end ws = do
   w ← next_of end ws
-  l ← literal_at w.0
-  more ← literals_at w.1
+  l ← literal_at limit w.0
+  more ← literals_at limit w.1
   Ok (l ∷ more.0, more.1)
 
 -- a number, where a term may begin
@@ -145,15 +151,16 @@ coefficient_at w =
     (fault (if stands_elsewhere w.bytes then kinds.Word else kinds.Number) w.line)
 
 -- a term with this first word: a number, and one or more literals
-unfoldable pub term_at : ℕ → Word → List Word → Result (Product × List Word) TextFault
-term_at end w ws = do
+unfoldable pub term_at : ℕ → ℕ → Word → List Word → Result (Product × List Word) TextFault
+term_at limit end w ws = do
   c ← coefficient_at w
-  ls ← product_at end ws
+  ls ← product_at limit end ws
   Ok (record { literals = ls.0; coefficient = c }, ls.1)
 
 -- terms up to a word that ends the sum; there are fewer of them than words
-unfoldable pub sum_at : (List ℕ → Bool) → ℕ → List Word → Result (List Product × List Word) TextFault
-sum_at ends end ws = many ends (term_at end) (length ws) ws
+unfoldable pub sum_at : ℕ → (List ℕ → Bool) → ℕ → List Word
+    → Result (List Product × List Word) TextFault
+sum_at limit ends end ws = many ends (term_at limit end) (length ws) ws
 
 -- ---- constraints and the objective
 
@@ -178,9 +185,9 @@ comparison_at end ws = do
   Ok (operator, bound, rest)
 
 -- a constraint with this first word: a sum and its comparison
-unfoldable pub constraint_at : ℕ → Word → List Word → Result (Listed × List Word) TextFault
-constraint_at end w ws = do
-  sum ← sum_at is_operator end (w ∷ ws)
+unfoldable pub constraint_at : ℕ → ℕ → Word → List Word → Result (Listed × List Word) TextFault
+constraint_at limit end w ws = do
+  sum ← sum_at limit is_operator end (w ∷ ws)
   compared ← comparison_at end sum.1
   Ok (record { terms = sum.0; operator = compared.0; bound = compared.1 }, compared.2)
 
@@ -190,12 +197,12 @@ never bytes = false
 
 -- constraints up to the end; there are fewer of them than words
 unfoldable pub constraints_at : ℕ → List Word → Result (List Listed × List Word) TextFault
-constraints_at end ws = many never (constraint_at end) (length ws) ws
+constraints_at end ws = many never (constraint_at greatest_index end) (length ws) ws
 
 -- a sum and its `;`
 unfoldable pub objective_at : ℕ → List Word → Result (List Product × List Word) TextFault
 objective_at end ws = do
-  sum ← sum_at is_semicolon end ws
+  sum ← sum_at greatest_index is_semicolon end ws
   rest ← closed_at end sum.1
   Ok (sum.0, rest)
 
@@ -220,8 +227,9 @@ reading text = reading_of_words (tokens_of styles.Opb text)
 
 -- no greater count reads anything else, and no word is left behind the constraints
 pub record WordsAreEnough : Type 0 where
-  pub terms : (ends : List ℕ → Bool) (count end : ℕ) (ws : List Word) → length ws ≤ count
-      → many ends (term_at end) count ws ≡ sum_at ends end ws
+  pub terms : (limit : ℕ) (ends : List ℕ → Bool) (count end : ℕ) (ws : List Word)
+      → length ws ≤ count
+      → many ends (term_at limit end) count ws ≡ sum_at limit ends end ws
   pub constraints : (count end : ℕ) (ws : List Word) → length ws ≤ count
-      → many never (constraint_at end) count ws ≡ constraints_at end ws
+      → many never (constraint_at greatest_index end) count ws ≡ constraints_at end ws
   pub all : (end : ℕ) (ws : List Word) → IfOk (constraints_at end ws) (λ x. x.1 ≡ [])

@@ -1,25 +1,19 @@
 -- What the steps of the reader give: the readings of `Opb`, seen as parts of the problem.
-use Rattle.std.specs.Prelude.{ℕ, List, [], ◌∷◌, ◌++◌, fold, Option, Some, None, Result, Ok}
-use Rattle.whole_text.specs.declared.words.WordRef.{WordRef}
+use Rattle.std.specs.Prelude.{ℕ, List, ◌++◌, fold, Result, Ok}
 use Rattle.whole_text.specs.declared.faults.TextFault.{TextFault}
 use Rattle.whole_text.specs.Tokens.{Word}
-use Rattle.whole_text.specs.TokenTexts.{word_of}
 use Rattle.whole_text.specs.Steps.{◌>>=◌}
 use Rattle.literal_lists.specs.declared.literal.Literal.{Literal}
 use Rattle.problem_form.specs.declared.terms.Product.{Product}
 use Rattle.problem_form.specs.Problems.{ProblemContent}
 use Rattle.problem_form.specs.NormalForm.{with_variables, with_product, with_constraint}
-use Rattle.opb_reader.specs.Opb.{Listed, literals_in, widened, literals_at, head_at, objective_at, constraint_at, constraints_at}
+use Rattle.opb_reader.specs.Opb.{Listed, literals_in, widened, greatest_index, literals_at, head_at, objective_at, constraint_at, constraints_at}
 use Rattle.opb_reader.specs.Cost.{constraint_of}
 
--- the words that are left, the next of which was taken; none, where there was none to take
-abbrev pub left : Option WordRef → List Word → List Word
-left None ws = []
-left (Some w) ws = word_of w ∷ ws
-
 -- the literals that follow, put behind others, and what is left
-abbrev pub literals_read : List Literal → List Word → Result (List Literal × List Word) TextFault
-literals_read front ws = literals_at ws >>= λ x. Ok (front ++ x.0, x.1)
+abbrev pub literals_read : ℕ → List Literal → List Word
+    → Result (List Literal × List Word) TextFault
+literals_read limit front ws = literals_at limit ws >>= λ x. Ok (front ++ x.0, x.1)
 
 -- a problem with one more term of the objective, and variables enough for it
 abbrev pub with_term : ProblemContent → Product → ProblemContent
@@ -53,7 +47,7 @@ head_read p end ws = put_all with_term p (head_at end ws)
 -- a problem with the constraint that has this first word, and what is left
 abbrev pub constraint_read : ProblemContent → ℕ → Word → List Word
     → Result (ProblemContent × List Word) TextFault
-constraint_read p end w ws = put with_listed p (constraint_at end w ws)
+constraint_read p end w ws = put with_listed p (constraint_at greatest_index end w ws)
 
 -- a problem with all constraints
 abbrev pub constraints_read : ProblemContent → ℕ → List Word → Result ProblemContent TextFault

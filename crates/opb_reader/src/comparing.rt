@@ -3,9 +3,9 @@ ghost use Rattle.std.specs.Prelude.{◌≡◌, ◌<◌, ◌≤◌, ◌^◌, List
 ghost use Rattle.whole_text.specs.Tokens.{Word};
 ghost use Rattle.whole_text.specs.TokenTexts.{word_of};
 ghost use Rattle.whole_text.specs.Steps.{GivesAlways, next_of};
+ghost use Rattle.whole_text.specs.Rows.{left};
 ghost use Rattle.opb_reader.specs.Opb.{closed_at, comparison_at};
 ghost use Rattle.opb_reader.specs.Cost.{compared};
-ghost use Rattle.opb_reader.specs.Views.{left};
 
 use crate::judging::{is_semicolon, operator};
 use crate::operator::Operator;
@@ -14,7 +14,7 @@ use whole_text::{TextFault, TextKind, WordRef, Words, fault, integer_word, next_
 
 /// A `;`.
 #[tactic(auto, using(whole_text::proofs::Lengths::next_less), unfolding(crate::specs::Opb::closed_at))]
-fn closed(words: &mut Words<'_>, end: u64) -> Result<(), TextFault>
+pub fn closed(words: &mut Words<'_>, end: u64) -> Result<(), TextFault>
     ensures read { GivesAlways (λ _. words.new) result (closed_at end words.old) }
     ensures shorter { OnOk result (length words.new ≤ length words.old) }
 {
@@ -39,7 +39,7 @@ fn taken<'a>(next: Option<WordRef<'a>>, end: u64) -> Result<WordRef<'a>, TextFau
 
 /// The operator and the bound of a constraint, and its `;`.
 #[tactic(auto, using(whole_text::proofs::Lengths::next_less), unfolding(crate::specs::Opb::comparison_at))]
-pub(crate) fn comparison<'a>(
+pub fn comparison<'a>(
     next: Option<WordRef<'a>>,
     words: &mut Words<'a>,
     end: u64,
@@ -58,7 +58,7 @@ pub(crate) fn comparison<'a>(
 }
 
 /// Gives a sum its comparison.
-pub(crate) fn compare(constraint: &mut Constraint, operator: Operator, bound: i128)
+pub fn compare(constraint: &mut Constraint, operator: Operator, bound: i128)
     requires terms { All (λ t. unsigned_abs t.coefficient < 2 ^ 127) constraint.old.products }
     requires bound { nat_abs bound < 2 ^ 64 }
     ensures { constraint.new ≡ compared operator constraint.old.products bound }

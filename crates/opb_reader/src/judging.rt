@@ -1,15 +1,12 @@
 //! Words, judged by their place.
 ghost use Rattle.std.specs.Prelude.{◌≡◌, ◌<◌, ◌-◌, ◌^◌, ◌==◌, nat_abs, length, slice_index, IfOk, if◌then◌else◌};
-ghost use Rattle.std.specs.Char.{is_ascii_digit};
-ghost use Rattle.std.specs.List.{list_all};
 ghost use Rattle.whole_text.specs.declared.faults.TextKind.TheVariants as kinds;
-ghost use Rattle.whole_text.specs.Numbers.{are_digits};
 ghost use Rattle.whole_text.specs.TokenTexts.{word_of};
-ghost use Rattle.opb_reader.specs.Opb.{is_operator, is_semicolon, begins_literal, ends_in_colon, stands_elsewhere, index_at, name_at, literal_at, coefficient_at, operator_at};
+ghost use Rattle.opb_reader.specs.Opb.{is_operator, is_semicolon, begins_literal, ends_in_colon, stands_elsewhere, variable_at, index_at, name_at, literal_at, coefficient_at, operator_at};
 
 use crate::operator::Operator;
 use literal_lists::Literal;
-use whole_text::{TextFault, TextKind, WordRef, digits, fault, number};
+use whole_text::{TextFault, TextKind, WordRef, digits, fault, kind_of_digits, number};
 
 /// `>=`, `<=` or `=`.
 #[inline(always)]
@@ -87,65 +84,59 @@ pub(crate) fn operator(word: WordRef<'_>) -> Result<Operator, TextFault>
     }
 }
 
-fn all_digits(bytes: &[u8]) -> bool
-    ensures { result ≡ list_all is_ascii_digit bytes.now }
+/// The variable of an index, where it is at most the limit.
+#[inline(always)]
+fn variable(index: u64, limit: u64, line: u64) -> Result<u64, TextFault>
+    ensures value { result ≡ variable_at limit line (Some index) }
+    ensures small { IfOk result (λ n. n < limit) }
 {
-    bytes.iter().all(|byte| byte.is_ascii_digit())
-}
-
-/// What digits are that are no index: too many, or none.
-#[inline(never)]
-fn kind_of_index(bytes: &[u8]) -> TextKind
-    ensures { result ≡ (if are_digits bytes.now then kinds.Range else kinds.Word) }
-{
-    if bytes.len() > 0 && all_digits(bytes) {
-        TextKind::Range
+    if 0 < index && index <= limit {
+        Ok(index - 1)
     } else {
-        TextKind::Word
+        Err(fault(TextKind::Range, line))
     }
 }
 
 /// The variable of an index of digits.
 #[inline(always)]
 #[tactic(auto, unfolding(crate::specs::Opb::index_at, whole_text::specs::Numbers::digits_number))]
-fn index(bytes: &[u8], line: u64) -> Result<u64, TextFault>
-    ensures value { result ≡ index_at line bytes.now }
-    ensures small { IfOk result (λ n. n < 2 ^ 64 - 1) }
+fn index(bytes: &[u8], limit: u64, line: u64) -> Result<u64, TextFault>
+    ensures value { result ≡ index_at limit line bytes.now }
+    ensures small { IfOk result (λ n. n < limit) }
 {
     match digits(bytes) {
-        Some(0) => Err(fault(TextKind::Range, line)),
-        Some(index) => Ok(index - 1),
-        None => Err(fault(kind_of_index(bytes), line)),
+        Some(index) => variable(index, limit, line),
+        None => Err(fault(kind_of_digits(bytes), line)),
     }
 }
 
 /// The variable that `x` and an index stand for.
 #[inline(always)]
 #[tactic(auto, unfolding(crate::specs::Opb::name_at))]
-fn name(bytes: &[u8], line: u64) -> Result<u64, TextFault>
-    ensures value { result ≡ name_at line bytes.now }
-    ensures small { IfOk result (λ n. n < 2 ^ 64 - 1) }
+fn name(bytes: &[u8], limit: u64, line: u64) -> Result<u64, TextFault>
+    ensures value { result ≡ name_at limit line bytes.now }
+    ensures small { IfOk result (λ n. n < limit) }
 {
     match bytes {
-        [b'x', digits @ ..] => index(digits, line),
+        [b'x', digits @ ..] => index(digits, limit, line),
         _ => Err(fault(TextKind::Word, line)),
     }
 }
 
-/// A literal.
+/// A literal, whose index is at most the limit.
 #[inline(always)]
 #[tactic(auto, unfolding(crate::specs::Opb::literal_at))]
-pub(crate) fn literal(word: WordRef<'_>) -> Result<Literal, TextFault>
-    ensures value { result ≡ literal_at (word_of word.entry) }
-    ensures small { IfOk result (λ l. l.variable < 2 ^ 64 - 1) }
+pub(crate) fn literal(word: WordRef<'_>, limit: u64) -> Result<Literal, TextFault>
+    ensures value { result ≡ literal_at limit (word_of word.entry) }
+    ensures small { IfOk result (λ l. l.variable < limit) }
 {
     match word.bytes {
         [b'~', rest @ ..] => Ok(Literal {
-            variable: name(rest, word.line)?,
+            variable: name(rest, limit, word.line)?,
             negated: true,
         }),
         bytes => Ok(Literal {
-            variable: name(bytes, word.line)?,
+            variable: name(bytes, limit, word.line)?,
             negated: false,
         }),
     }

@@ -13,6 +13,8 @@ mod operator;
 mod reading;
 mod sums;
 
+pub use comparing::{closed, compare, comparison};
 pub use laws::laws_of_readings;
 pub use operator::Operator;
 pub use reading::{read_opb, read_opb_tokens};
+pub use sums::sum;

@@ -64,6 +64,7 @@ fn constraint<'a>(
         list,
         &mut written.products,
         &mut variables,
+        u64::MAX,
         end,
     )?;
     let (operator, bound) = comparison(next, words, end)?;

@@ -2,9 +2,10 @@
 ghost use Rattle.std.specs.Prelude.{◌≡◌, ◌+◌, ◌*◌, ◌-◌, ◌<◌, ◌≤◌, ◌^◌, ◌++◌, ◌∷◌, [], ℕ, length, nat_abs, All, OnOk, IfOk};
 ghost use Rattle.whole_text.specs.TokenTexts.{word_of};
 ghost use Rattle.whole_text.specs.Steps.{Gives};
+ghost use Rattle.whole_text.specs.Rows.{left};
 ghost use Rattle.problem_form.specs.Problems.{products_total, problem_total};
 ghost use Rattle.opb_reader.specs.Opb.{literals_in, widened, is_operator, product_at, term_at, sum_at};
-ghost use Rattle.opb_reader.specs.Views.{left, literals_read, objective_read};
+ghost use Rattle.opb_reader.specs.Views.{literals_read, objective_read};
 
 use crate::judging::{begins_literal, coefficient, is_operator, is_semicolon, literal};
 use base::NoMemory;
@@ -30,9 +31,10 @@ fn more_literals<'a>(
     words: &mut Words<'a>,
     list: &mut Vec<Literal>,
     variables: &mut u64,
+    limit: u64,
 ) -> Result<Option<WordRef<'a>>, TextAnswer>
     ensures read { Gives (λ next. (list.new.items, left next words.new)) result
-        (literals_read list.old.items words.old) }
+        (literals_read limit list.old.items words.old) }
     ensures counted { (v : ℕ) → variables.old ≡ widened v list.old.items
         → OnOk result (variables.new ≡ widened v list.new.items) }
     ensures shorter { IfOk result (λ next. length (left next words.new) ≤ length words.old) }
@@ -41,7 +43,7 @@ fn more_literals<'a>(
         if !begins_literal(word.bytes) {
             return Ok(Some(word));
         }
-        push(list, variables, literal(word)?)?;
+        push(list, variables, literal(word, limit)?)?;
     }
     Ok(None)
 }
@@ -54,17 +56,18 @@ fn product<'a>(
     words: &mut Words<'a>,
     list: &mut Vec<Literal>,
     variables: &mut u64,
+    limit: u64,
     end: u64,
 ) -> Result<Option<WordRef<'a>>, TextAnswer>
     requires { list.old.items ≡ [] }
     ensures read { Gives (λ next. (list.new.items, left next words.new)) result
-        (product_at end words.old) }
+        (product_at limit end words.old) }
     ensures counted { OnOk result (variables.new ≡ widened variables.old list.new.items) }
     ensures shorter { IfOk result (λ next. length (left next words.new) < length words.old) }
 {
     let first = next_word(words, end)?;
-    push(list, variables, literal(first)?)?;
-    more_literals(words, list, variables)
+    push(list, variables, literal(first, limit)?)?;
+    more_literals(words, list, variables, limit)
 }
 
 /// The term that begins with this word: its literals go into a list that is empty, and its number
@@ -76,35 +79,37 @@ fn term<'a>(
     words: &mut Words<'a>,
     list: &mut Vec<Literal>,
     variables: &mut u64,
+    limit: u64,
     end: u64,
 ) -> Result<(i128, Option<WordRef<'a>>), TextAnswer>
     requires { list.old.items ≡ [] }
     ensures read { Gives
         (λ x. (record { literals = list.new.items; coefficient = x.0 }, left x.1 words.new)) result
-        (term_at end (word_of first.entry) words.old) }
+        (term_at limit end (word_of first.entry) words.old) }
     ensures small { IfOk result (λ x. nat_abs x.0 < 2 ^ 64) }
     ensures counted { OnOk result (variables.new ≡ widened variables.old list.new.items) }
     ensures shorter { IfOk result (λ x. length (left x.1 words.new) < length words.old) }
 {
     let coefficient = coefficient(first)?;
-    let next = product(words, list, variables, end)?;
+    let next = product(words, list, variables, limit, end)?;
     Ok((coefficient, next))
 }
 
 /// Puts the terms up to an operator into a list that is empty. The operator is taken, and is the
-/// answer; `None` where the words end before it.
-pub(crate) fn sum<'a>(
+/// answer; `None` where the words end before it. No index is above the limit.
+pub fn sum<'a>(
     first: WordRef<'a>,
     words: &mut Words<'a>,
     list: &mut Vec<Literal>,
     terms: &mut ProductList,
     variables: &mut u64,
+    limit: u64,
     end: u64,
 ) -> Result<Option<WordRef<'a>>, TextAnswer>
     requires emptied { list.old.items ≡ [] }
     requires none { terms.old ≡ [] }
     ensures read { Gives (λ next. (terms.new, left next words.new)) result
-        (sum_at is_operator end (word_of first.entry ∷ words.old)) }
+        (sum_at limit is_operator end (word_of first.entry ∷ words.old)) }
     ensures counted { OnOk result (variables.new ≡ widened variables.old (literals_in terms.new)) }
     ensures small { IfOk result (λ next. products_total terms.new
         + length (left next words.new) * 2 ^ 64 ≤ (1 + length words.old) * 2 ^ 64) }
@@ -115,7 +120,7 @@ pub(crate) fn sum<'a>(
         if is_operator(word.bytes) {
             return Ok(Some(word));
         }
-        let (coefficient, after) = term(word, words, list, variables, end)?;
+        let (coefficient, after) = term(word, words, list, variables, limit, end)?;
         terms.push(list, coefficient)?;
         list.clear();
         next = after;
@@ -144,7 +149,7 @@ pub(crate) fn objective(
             return Ok(());
         }
         let mut variables = problem.variables;
-        let (coefficient, after) = term(word, words, list, &mut variables, end)?;
+        let (coefficient, after) = term(word, words, list, &mut variables, u64::MAX, end)?;
         problem.widen(variables);
         problem.add_term(list, coefficient)?;
         next = after;

@@ -2,7 +2,6 @@ pub mod NameForms
 pub mod NameNumbers
 pub mod NumberedNames
 pub mod NameLists
-pub mod LineWords
 pub mod Literals
 pub mod Products
 pub mod Additions

@@ -3,11 +3,12 @@ use Rattle.std.proofs.Common.{◌≡◌, ℕ, true, false, List, [], ◌∷◌, 
 use Rattle.whole_text.specs.declared.faults.TextFault.{TextFault}
 use Rattle.whole_text.specs.Tokens.{Word}
 use Rattle.whole_text.specs.Steps.{◌>>=◌}
+use Rattle.whole_text.specs.Rows.{each, on_line, past_line}
 use Rattle.literal_lists.specs.declared.literal.Literal.{Literal}
-use Rattle.poly_reader.specs.Poly.{Named, literal_at, each}
+use Rattle.poly_reader.specs.Poly.{Named, literal_at}
 use Rattle.poly_reader.specs.Numbering.{with_name, names_after}
 use Rattle.poly_reader.specs.Cost.{literal_of}
-use Rattle.poly_reader.specs.Views.{on_line, past_line, numbered, literals_read}
+use Rattle.poly_reader.specs.Views.{numbered, literals_read}
 use Rattle.poly_reader.proofs.NameNumbers.{names_after-longer, has-with_name, literal_of-longer}
 
 abbrev LiteralsRead : Type 0

@@ -5,14 +5,15 @@ use Rattle.whole_text.specs.declared.faults.TextAnswer.{TextAnswer}
 use Rattle.whole_text.specs.declared.faults.TextAnswer.TheVariants as answers
 use Rattle.whole_text.specs.Tokens.{Word}
 use Rattle.whole_text.specs.Steps.{◌>>=◌, Fails, integer_at}
+use Rattle.whole_text.specs.Rows.{each, by_line, on_line, past_line}
+use Rattle.whole_text.proofs.Rows.{row_of, by_line-first}
 use Rattle.literal_lists.specs.declared.literal.Literal.{Literal}
 use Rattle.problem_form.specs.declared.terms.Product.{Product}
 use Rattle.problem_form.specs.Problems.{ProblemContent}
 use Rattle.problem_form.specs.NormalForm.{with_variables, with_product}
-use Rattle.poly_reader.specs.Poly.{Named, Listed, literal_at, each, product_at, by_line, reading_of_words}
+use Rattle.poly_reader.specs.Poly.{Named, Listed, literal_at, product_at, reading_of_words}
 use Rattle.poly_reader.specs.Numbering.{names_after}
-use Rattle.poly_reader.specs.Views.{on_line, past_line, numbered, product_read, with_listed, products_put}
-use Rattle.poly_reader.proofs.LineWords.{line_of, by_line-first}
+use Rattle.poly_reader.specs.Views.{numbered, product_read, with_listed, products_put}
 
 -- a problem and the names of its variables
 abbrev State : Type 0
@@ -83,7 +84,7 @@ products_by ws = each product_at (by_line ws)
 
 first_line : (w : Word) (ws : List Word)
     → products_by (w ∷ ws)
-    ≡ product_at (line_of w (on_line w.line ws)) >>= before (products_by (past_line w.line ws))
+    ≡ product_at (row_of w (on_line w.line ws)) >>= before (products_by (past_line w.line ws))
 unfolding each
 first_line w ws = ap (each product_at) (by_line-first w ws)
 

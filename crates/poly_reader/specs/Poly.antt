@@ -10,6 +10,7 @@ use Rattle.whole_text.specs.declared.faults.TextFault.{TextFault}
 use Rattle.whole_text.specs.declared.token.Style.TheVariants.{Plain}
 use Rattle.whole_text.specs.Tokens.{Word, tokens_of}
 use Rattle.whole_text.specs.Steps.{◌>>=◌, fault, integer_at}
+use Rattle.whole_text.specs.Rows.{Row, by_line, each}
 
 -- ---- what a text says, as it says it
 
@@ -52,38 +53,13 @@ literal_at w =
     then named_at w.line true (drop 1 w.bytes)
     else named_at w.line false w.bytes
 
--- ---- lines
-
--- the words of a line: one or more
-pub record Line : Type 0 where
-  pub first : Word
-  pub others : List Word
-
--- a word before lines: of the first line, or of a line of its own
-abbrev pub onto_lines : Word → List Line → List Line
-onto_lines w [] = record { first = w; others = [] } ∷ []
-onto_lines w (l ∷ ls) =
-    if l.first.line == w.line
-    then record { first = w; others = l.first ∷ l.others } ∷ ls
-    else record { first = w; others = [] } ∷ l ∷ ls
-
--- the words, line by line
-unfoldable pub by_line : List Word → List Line
-by_line [] = []
-by_line (w ∷ ws) = onto_lines w (by_line ws)
-
 -- ---- a whole text
 
--- all of these, one after another
-unfoldable pub each : {A B : Type 0} → (A → Result B TextFault) → List A → Result (List B) TextFault
-each read [] = Ok []
-each read (a ∷ others) = read a >>= λ b. each read others >>= λ more. Ok (b ∷ more)
-
 -- the product of a line: a number, and then literals
-unfoldable pub product_at : Line → Result Listed TextFault
-product_at l =
-    integer_at l.first
-    >>= λ c. each literal_at l.others >>= λ ls. Ok (record { coefficient = c; literals = ls })
+unfoldable pub product_at : Row → Result Listed TextFault
+product_at r =
+    integer_at r.first
+    >>= λ c. each literal_at r.others >>= λ ls. Ok (record { coefficient = c; literals = ls })
 
 -- what the words say
 unfoldable pub reading_of_words : List Word → Result (List Listed) TextFault

@@ -1,17 +1,16 @@
 -- What the steps of the reader give: the readings of `Poly`, seen as parts of the problem.
-use Rattle.std.specs.Prelude.{ℕ, List, [], ◌∷◌, ◌++◌, length, map, fold, Option, Some, None, Result, Ok, ◌==◌, if◌then◌else◌}
+use Rattle.std.specs.Prelude.{ℕ, List, [], ◌++◌, length, map, fold, Result, Ok}
 use Rattle.std.specs.Borrow.{Bor}
-use Rattle.whole_text.specs.declared.words.WordRef.{WordRef}
 use Rattle.whole_text.specs.declared.faults.TextFault.{TextFault}
 use Rattle.whole_text.specs.Tokens.{Word}
-use Rattle.whole_text.specs.TokenTexts.{word_of}
 use Rattle.whole_text.specs.Steps.{◌>>=◌, integer_at}
+use Rattle.whole_text.specs.Rows.{each, on_line, past_line}
 use Rattle.literal_lists.specs.declared.literal.Literal.{Literal}
 use Rattle.problem_form.specs.declared.terms.Product.{Product}
 use Rattle.problem_form.specs.Problems.{ProblemContent}
 use Rattle.problem_form.specs.NormalForm.{blank, with_variables, with_product}
 use Rattle.poly_reader.specs.declared.listed.NamedRef.{NamedRef}
-use Rattle.poly_reader.specs.Poly.{Named, Listed, literal_at, each, reading_of_words}
+use Rattle.poly_reader.specs.Poly.{Named, Listed, literal_at, reading_of_words}
 use Rattle.poly_reader.specs.Numbering.{names_after}
 use Rattle.poly_reader.specs.Cost.{literal_of, product_of}
 
@@ -22,21 +21,6 @@ names_lent names = map (λ name. name.now) names
 -- what a literal says
 abbrev pub named_of : NamedRef → Named
 named_of l = record { name = l.name.now; negated = l.negated }
-
--- the words that are left, the next of which was taken; none, where there was none to take
-abbrev pub left : Option WordRef → List Word → List Word
-left None ws = []
-left (Some w) ws = word_of w ∷ ws
-
--- the words up to the end of this line
-abbrev pub on_line : ℕ → List Word → List Word
-on_line line [] = []
-on_line line (w ∷ ws) = if w.line == line then w ∷ on_line line ws else []
-
--- the words after this line
-abbrev pub past_line : ℕ → List Word → List Word
-past_line line [] = []
-past_line line (w ∷ ws) = if w.line == line then past_line line ws else w ∷ ws
 
 -- literals by the numbers that their names have among those before and their own
 abbrev pub numbered : List (List ℕ) → List Named → List Literal

@@ -3,8 +3,9 @@ ghost use Rattle.std.specs.Prelude.{◌≡◌, ◌<◌, ◌≤◌, ◌^◌, ◌�
 ghost use Rattle.std.specs.List.{list_all};
 ghost use Rattle.whole_text.specs.TokenTexts.{word_of};
 ghost use Rattle.whole_text.specs.Steps.{Gives, GivesAlways};
+ghost use Rattle.whole_text.specs.Rows.{left};
 ghost use Rattle.poly_reader.specs.Poly.{is_name, begins_name, is_name_byte, named_at, literal_at};
-ghost use Rattle.poly_reader.specs.Views.{named_of, left, literals_read, product_read};
+ghost use Rattle.poly_reader.specs.Views.{named_of, literals_read, product_read};
 
 use crate::name_table::NameTable;
 use crate::names::as_text;

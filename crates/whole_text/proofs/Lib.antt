@@ -10,3 +10,4 @@ pub mod DigitLoop
 pub mod NumberAgain
 pub mod LexerSteps
 pub mod LexerFields
+pub mod Rows

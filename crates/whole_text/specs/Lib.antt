@@ -4,5 +4,6 @@ pub mod Packed
 pub mod laws
 pub mod TokenTexts
 pub mod Steps
+pub mod Rows
 pub mod Lexing
 pub mod LexerPlaces

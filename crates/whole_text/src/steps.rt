@@ -3,7 +3,11 @@
 //! A reading is a function of the words that the tokens stand for. `end` is the line of the last
 //! one, where a text that ends too soon has its fault.
 
-ghost use Rattle.std.specs.Prelude.{◌≡◌, ◌<◌, ◌^◌, nat_abs, All, IfOk, slice_range};
+ghost use Rattle.std.specs.Prelude.{◌≡◌, ◌<◌, ◌^◌, nat_abs, All, IfOk, slice_range, if◌then◌else◌};
+ghost use Rattle.std.specs.Char.{is_ascii_digit};
+ghost use Rattle.std.specs.List.{list_all};
+ghost use Rattle.whole_text.specs.declared.faults.TextKind.TheVariants as kinds;
+ghost use Rattle.whole_text.specs.Numbers.{are_digits};
 ghost use Rattle.whole_text.specs.Tokens.{word_at, words_at, IsWithin};
 ghost use Rattle.whole_text.specs.TokenTexts.{word_of};
 ghost use Rattle.whole_text.specs.Steps.{GivesAlways, fault, end_line, next_of, integer_at, natural_at};
@@ -18,6 +22,25 @@ pub fn fault(kind: TextKind, line: u64) -> TextFault
     ensures { result ≡ fault kind line }
 {
     TextFault { kind, line }
+}
+
+/// Whether all bytes are ASCII digits.
+fn all_digits(bytes: &[u8]) -> bool
+    ensures { result ≡ list_all is_ascii_digit bytes.now }
+{
+    bytes.iter().all(|byte| byte.is_ascii_digit())
+}
+
+/// What bytes are that stand for no number in its range: digits that do not fit, or no digits.
+#[inline(never)]
+pub fn kind_of_digits(bytes: &[u8]) -> TextKind
+    ensures { result ≡ (if are_digits bytes.now then kinds.Range else kinds.Word) }
+{
+    if bytes.len() > 0 && all_digits(bytes) {
+        TextKind::Range
+    } else {
+        TextKind::Word
+    }
 }
 
 /// The bytes of a token.

@@ -3,12 +3,13 @@ use Rattle.std.specs.Int.{w128}
 use Rattle.std.proofs.lemmas.Int.{to_z-of_z}
 use Rattle.std.proofs.lemmas.Result.{err_from_is_err_and}
 use Rattle.whole_text.specs.TokenTexts.{word_of}
+use Rattle.whole_text.specs.Rows.{left}
 use Rattle.problem_form.specs.Problems.{ProblemContent}
 use Rattle.problem_form.specs.NormalForm.{with_variables, with_constraint}
 use Rattle.problem_form.proofs.KeptProducts.{with_constraint-total}
 use Rattle.opb_reader.specs.Opb.{Listed, literals_in, widened}
 use Rattle.opb_reader.specs.Cost.{compared}
-use Rattle.opb_reader.specs.Views.{left, with_listed}
+use Rattle.opb_reader.specs.Views.{with_listed}
 use Rattle.opb_reader.proofs.Constraints.{sum_fails, comparison_fails, constraint_is, compared_within, compared-total}
 use Rattle.opb_reader.proofs.Variables.{AreWithin, widened-le, terms_within}
 use Rattle.opb_reader.proofs.reading.constraint.Goals as goal

@@ -13,7 +13,7 @@ returns-then-not-begins_literal-clause-read c =
     let before = rw c.in-Some.ensures at c.loop-word.invariant.read in
     let begins : begins_literal w.bytes ≡ false =
     sym c.begins_literal.ensures ∙ c.if-not-begins_literal.true in
-    sym before ∙ literals_stop c.loop-word.list.items w c.next.new.self begins
+    sym before ∙ literals_stop c.args.limit c.loop-word.list.items w c.next.new.self begins
 
 pub returns-in_err-literal-clause-read : goal.returns-in_err-literal-clause-read
 returns-in_err-literal-clause-read c =
@@ -24,8 +24,12 @@ returns-in_err-literal-clause-read c =
     let p = err_from_is_err_and c.from_residual.result c.from_residual.ensures.1 in
     rw (p.1, p.2)
     (sym before
-    ∙ literal_fails c.loop-word.list.items w c.next.new.self c.in_err-literal.field-0.0 begins
+    ∙ literal_fails c.args.limit c.loop-word.list.items w c.next.new.self
+    c.in_err-literal.field-0.0 begins
     (sym c.in_err-literal.ensures.value))
+
+pub push-requires : goal.push-requires
+push-requires c = omega (arith, c.in_ok-literal.ensures.small, c.ranges.limit)
 
 pub loop-word-preserved : goal.loop-word-preserved
 loop-word-preserved c =
@@ -36,7 +40,7 @@ loop-word-preserved c =
     sym c.begins_literal.ensures ∙ c.if-not-begins_literal.false in
     record {
       read = rw c.in_ok-push.ensures.pushed
-          (sym (literal_goes_on c.loop-word.list.items w c.next.new.self l begins
+          (sym (literal_goes_on c.args.limit c.loop-word.list.items w c.next.new.self l begins
           (sym c.in_ok-literal.ensures.value))
           ∙ before);
       counted = λ v h. rw c.in_ok-push.ensures.pushed
@@ -49,4 +53,4 @@ loop-word-preserved c =
 pub returns-clause-read : goal.returns-clause-read
 returns-clause-read c =
     sym c.loop-word.invariant.read
-    ∙ literals_end c.loop-word.list.items c.loop-word.words c.in_default.ensures.0
+    ∙ literals_end c.args.limit c.loop-word.list.items c.loop-word.words c.in_default.ensures.0

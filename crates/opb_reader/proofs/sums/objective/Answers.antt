@@ -3,12 +3,13 @@ use Rattle.std.specs.Int.{w128}
 use Rattle.std.proofs.lemmas.Int.{to_z-of_z}
 use Rattle.std.proofs.lemmas.Result.{err_from_is_err_and}
 use Rattle.whole_text.specs.TokenTexts.{word_of}
+use Rattle.whole_text.specs.Rows.{left}
 use Rattle.problem_form.specs.declared.terms.Product.{Product}
 use Rattle.problem_form.specs.Problems.{ProblemContent}
 use Rattle.problem_form.specs.NormalForm.{with_variables, with_product}
 use Rattle.problem_form.proofs.KeptProducts.{with_product-total}
-use Rattle.opb_reader.specs.Opb.{widened, is_semicolon}
-use Rattle.opb_reader.specs.Views.{left, with_term}
+use Rattle.opb_reader.specs.Opb.{greatest_index, widened, is_semicolon}
+use Rattle.opb_reader.specs.Views.{with_term}
 use Rattle.opb_reader.proofs.TermSums.{term_goes_on, term_fails, sum_stops, sum_ends, objective_closed, objective_open, objective_fails}
 use Rattle.opb_reader.proofs.Variables.{widened-le, widened_within}
 use Rattle.opb_reader.proofs.sums.objective.Goals as goal
@@ -21,7 +22,8 @@ returns-then-is_semicolon-clause-read c =
     let semicolon : is_semicolon w.bytes ≡ true =
     sym c.is_semicolon.ensures ∙ c.if-is_semicolon.true in
     objective_closed c.args.problem.now p c.args.end c.args.words.now c.loop-next.words w semicolon
-    (sym before ∙ sum_stops with_term p is_semicolon c.args.end w c.loop-next.words semicolon)
+    (sym before ∙ sum_stops greatest_index with_term p is_semicolon c.args.end w c.loop-next.words
+    semicolon)
 
 pub returns-in_err-coefficient-clause-read : goal.returns-in_err-coefficient-clause-read
 returns-in_err-coefficient-clause-read c =
@@ -29,7 +31,7 @@ returns-in_err-coefficient-clause-read c =
     let p = c.loop-next.problem in
     let e = c.in_err-coefficient.field-0.0 in
     let before = rw c.in-Some.is at c.loop-next.invariant.read in
-    let failed = term_fails e with_term p is_semicolon c.args.end w c.loop-next.words
+    let failed = term_fails greatest_index e with_term p is_semicolon c.args.end w c.loop-next.words
     (sym c.is_semicolon.ensures ∙ c.if-is_semicolon.false) c.in_err-coefficient.ensures.read in
     let r = err_from_is_err_and c.from_residual.result c.from_residual.ensures.1 in
     rw (r.1, r.2)
@@ -72,12 +74,14 @@ loop-next-preserved c =
     c.in_ok-coefficient.ensures.counted ∙ ap (λ v. widened v t.literals) before_it in
     let state : c.add_term.new.self ≡ with_term p t =
     c.in_ok-add_term.ensures.added
-    ∙ (λ i. with_product (c.widen.ensures i) (record { literals = t.literals; coefficient = whole i }))
+    ∙ (λ i. with_product (c.widen.ensures i)
+    (record { literals = t.literals; coefficient = whole i }))
     ∙ ap (λ v. with_product (with_variables p v) t) least in
     let shorter = c.in_ok-coefficient.ensures.shorter in
     record {
       read = rw state
-          (sym (term_goes_on with_term p is_semicolon c.args.end w c.loop-next.words rest t
+          (sym (term_goes_on greatest_index with_term p is_semicolon c.args.end w c.loop-next.words
+          rest t
           (sym c.is_semicolon.ensures ∙ c.if-is_semicolon.false) (omega (arith, shorter))
           c.in_ok-coefficient.ensures.read)
           ∙ before);
@@ -98,4 +102,4 @@ returns-clause-read c =
     let before = rw c.in_default.is at c.loop-next.invariant.read in
     rw c.fault.ensures
     (objective_open c.args.problem.now p c.args.end c.args.words.now
-    (sym before ∙ sum_ends with_term p is_semicolon c.args.end))
+    (sym before ∙ sum_ends greatest_index with_term p is_semicolon c.args.end))

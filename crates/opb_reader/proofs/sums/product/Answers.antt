@@ -1,4 +1,4 @@
-use Rattle.std.proofs.Common.{◌≡◌, ◌∷◌, ◌++◌, [], List, sym, ap, ◌∙◌}
+use Rattle.std.proofs.Common.{◌≡◌, ◌∷◌, ◌++◌, [], List, sym, ap, ◌∙◌, arith}
 use Rattle.whole_text.specs.TokenTexts.{word_of}
 use Rattle.literal_lists.specs.declared.literal.Literal.{Literal}
 use Rattle.opb_reader.specs.Opb.{product_at}
@@ -6,14 +6,18 @@ use Rattle.opb_reader.specs.Views.{literals_read}
 use Rattle.opb_reader.proofs.Literals.{product_first}
 use Rattle.opb_reader.proofs.sums.product.Goals as goal
 
+pub push-requires : goal.push-requires
+push-requires c = omega (arith, c.in_ok-literal.ensures.small, c.ranges.limit)
+
 pub returns-clause-read : goal.returns-clause-read
 returns-clause-read c =
     let l : Literal = c.in_ok-literal.field-0 in
     let list : c.push.new.list.items ≡ l ∷ [] =
     c.in_ok-push.ensures.pushed ∙ ap (λ (ls : List Literal). ls ++ l ∷ []) c.requires in
-    let same : product_at c.args.end c.args.words.now
-    ≡ literals_read c.push.new.list.items c.next_word.new.words =
-    product_first c.args.end c.args.words.now c.next_word.new.words (word_of c.in_ok-first.first) l
+    let same : product_at c.args.limit c.args.end c.args.words.now
+    ≡ literals_read c.args.limit c.push.new.list.items c.next_word.new.words =
+    product_first c.args.limit c.args.end c.args.words.now c.next_word.new.words
+    (word_of c.in_ok-first.first) l
     c.in_ok-first.ensures (sym c.in_ok-literal.ensures.value)
-    ∙ ap (λ (ls : List Literal). literals_read ls c.next_word.new.words) (sym list) in
+    ∙ ap (λ (ls : List Literal). literals_read c.args.limit ls c.next_word.new.words) (sym list) in
     rw same c.more_literals.ensures.read

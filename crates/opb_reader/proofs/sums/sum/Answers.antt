@@ -4,9 +4,10 @@ use Rattle.std.proofs.lemmas.Int.{to_z-of_z}
 use Rattle.std.proofs.lemmas.List.{flat_map_more}
 use Rattle.std.proofs.lemmas.Result.{err_from_is_err_and}
 use Rattle.whole_text.specs.TokenTexts.{word_of}
+use Rattle.whole_text.specs.Rows.{left}
 use Rattle.problem_form.specs.declared.terms.Product.{Product}
 use Rattle.opb_reader.specs.Opb.{widened, literals_in, is_operator, sum_at}
-use Rattle.opb_reader.specs.Views.{left, put_all}
+use Rattle.opb_reader.specs.Views.{put_all}
 use Rattle.opb_reader.proofs.Many.{push, put_none}
 use Rattle.opb_reader.proofs.TermSums.{term_goes_on, term_fails, sum_stops, sum_ends}
 use Rattle.opb_reader.proofs.Variables.{widened-append}
@@ -15,7 +16,8 @@ use Rattle.opb_reader.proofs.sums.sum.Goals as goal
 
 pub loop-next-init : goal.loop-next-init
 loop-next-init c =
-    let read = sum_at is_operator c.args.end (word_of c.args.first ∷ c.args.words.now) in
+    let words = word_of c.args.first ∷ c.args.words.now in
+    let read = sum_at c.args.limit is_operator c.args.end words in
     record {
       read = ap (λ (ts : List Product). put_all push ts read) c.requires.none ∙ put_none read;
       counted = rw c.requires.none refl;
@@ -28,7 +30,7 @@ returns-then-is_operator-clause-read c =
     let w = word_of c.in-Some.word in
     let before = rw c.in-Some.is at c.loop-next.invariant.read in
     sym before
-    ∙ sum_stops push c.loop-next.terms is_operator c.args.end w c.loop-next.words
+    ∙ sum_stops c.args.limit push c.loop-next.terms is_operator c.args.end w c.loop-next.words
     (sym c.is_operator.ensures ∙ c.if-is_operator.true)
 
 pub returns-in_err-coefficient-clause-read : goal.returns-in_err-coefficient-clause-read
@@ -38,7 +40,8 @@ returns-in_err-coefficient-clause-read c =
     let p = err_from_is_err_and c.from_residual.result c.from_residual.ensures.1 in
     rw (p.1, p.2)
     (rw (← before)
-    (term_fails c.in_err-coefficient.field-0.0 push c.loop-next.terms is_operator c.args.end w
+    (term_fails c.args.limit c.in_err-coefficient.field-0.0 push c.loop-next.terms is_operator
+    c.args.end w
     c.loop-next.words (sym c.is_operator.ensures ∙ c.if-is_operator.false)
     c.in_err-coefficient.ensures.read))
 
@@ -61,7 +64,8 @@ loop-next-preserved c =
     let shorter = c.in_ok-coefficient.ensures.shorter in
     record {
       read = rw pushed
-          (sym (term_goes_on push terms is_operator c.args.end w c.loop-next.words rest t
+          (sym (term_goes_on c.args.limit push terms is_operator c.args.end w c.loop-next.words
+          rest t
           (sym c.is_operator.ensures ∙ c.if-is_operator.false) (omega (arith, shorter))
           c.in_ok-coefficient.ensures.read)
           ∙ before);
@@ -69,7 +73,8 @@ loop-next-preserved c =
           (c.in_ok-coefficient.ensures.counted
           ∙ ap (λ v. widened v t.literals) c.loop-next.invariant.counted
           ∙ sym (widened-append c.args.variables.now (literals_in terms) t.literals)
-          ∙ ap (widened c.args.variables.now) (flat_map_more (λ (u : Product). u.literals) [] terms t));
+          ∙ ap (widened c.args.variables.now)
+          (flat_map_more (λ (u : Product). u.literals) [] terms t));
       small = rw pushed
           (omega (
             arith,
@@ -84,4 +89,4 @@ loop-next-preserved c =
 pub returns-clause-read : goal.returns-clause-read
 returns-clause-read c =
     let before = rw c.in_default.is at c.loop-next.invariant.read in
-    sym before ∙ sum_ends push c.loop-next.terms is_operator c.args.end
+    sym before ∙ sum_ends c.args.limit push c.loop-next.terms is_operator c.args.end

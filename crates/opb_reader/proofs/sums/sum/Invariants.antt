@@ -1,8 +1,9 @@
 use Rattle.std.proofs.Common.{◌≡◌, ◌+◌, ◌*◌, ◌^◌, ◌≤◌, [], ◌∷◌, length}
 use Rattle.whole_text.specs.TokenTexts.{word_of}
+use Rattle.whole_text.specs.Rows.{left}
 use Rattle.problem_form.specs.Problems.{products_total}
 use Rattle.opb_reader.specs.Opb.{literals_in, widened, is_operator, sum_at}
-use Rattle.opb_reader.specs.Views.{left, put_all}
+use Rattle.opb_reader.specs.Views.{put_all}
 use Rattle.opb_reader.proofs.Many.{push}
 use Rattle.opb_reader.proofs.sums.sum.Given as goal
 
@@ -10,8 +11,8 @@ use Rattle.opb_reader.proofs.sums.sum.Given as goal
 -- at least, and added less than 2 ^ 64
 abbrev pub invariant-loop-next : goal.invariant-loop-next
 invariant-loop-next l = record {
-  read : put_all push l.terms (sum_at is_operator l.fn.end (left l.next l.words))
-      ≡ sum_at is_operator l.fn.end (word_of l.fn.first ∷ l.fn.words);
+  read : put_all push l.terms (sum_at l.fn.limit is_operator l.fn.end (left l.next l.words))
+      ≡ sum_at l.fn.limit is_operator l.fn.end (word_of l.fn.first ∷ l.fn.words);
   counted : l.variables ≡ widened l.fn.variables (literals_in l.terms);
   small : products_total l.terms + length (left l.next l.words) * 2 ^ 64
       ≤ (1 + length l.fn.words) * 2 ^ 64;

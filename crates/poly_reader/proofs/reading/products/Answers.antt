@@ -4,10 +4,10 @@ use Rattle.std.proofs.lemmas.Int.{to_z-of_z}
 use Rattle.std.proofs.lemmas.Result.{err_from_is_err_and}
 use Rattle.whole_text.specs.TokenTexts.{word_of}
 use Rattle.whole_text.specs.Steps.{Fails}
+use Rattle.whole_text.specs.Rows.{left}
 use Rattle.problem_form.specs.declared.terms.Product.{Product}
 use Rattle.problem_form.specs.NormalForm.{with_variables, with_product}
 use Rattle.problem_form.proofs.KeptProducts.{with_product-total}
-use Rattle.poly_reader.specs.Views.{left}
 use Rattle.poly_reader.proofs.Products.{product_goes_on, product_fails, products_end}
 use Rattle.poly_reader.proofs.reading.products.Goals as goal
 
