@@ -34,11 +34,11 @@ fn add_union(
     ks: &[Literal],
     coefficient: i128,
 ) -> Result<(), NoMemory>
-    requires left { IsFactor into.old.width ls.now }
-    requires right { IsFactor into.old.width ks.now }
-    requires small { terms_total into.old.terms + unsigned_abs coefficient ≤ 2 ^ 124 }
+    requires left { IsFactor into.old.content.width ls.now }
+    requires right { IsFactor into.old.content.width ks.now }
+    requires small { terms_total into.old.content.terms + unsigned_abs coefficient ≤ 2 ^ 124 }
     ensures added { OnOk result
-        (into.new ≡ with_all into.old (union_terms ls.now ks.now coefficient)) }
+        (into.new.content ≡ with_all into.old.content (union_terms ls.now ks.now coefficient)) }
     ensures unchanged { OnErr result (into.new ≡ into.old) }
 {
     unite(set, ls, ks)?;
@@ -57,15 +57,15 @@ fn multiply_row(
     other: &Table,
     factor: &i128,
 ) -> Result<(), NoMemory>
-    requires left { IsFactor into.old.width ls.now }
-    requires width { other.now.width ≡ into.old.width }
-    requires short { All (λ t. length t.0 ≤ 1024) other.now.terms }
-    requires small { terms_total into.old.terms
-        + unsigned_abs factor.now * (unsigned_abs a.now * terms_total other.now.terms) ≤ 2 ^ 124 }
-    ensures multiplied { OnOk result (into.new ≡ with_all into.old
-        (pair_products factor.now (pairs_with (ls.now, a.now) other.now.terms))) }
-    ensures prefix { OnErr result (HasPrefix into.old into.new factor.now
-        (pairs_with (ls.now, a.now) other.now.terms)) }
+    requires left { IsFactor into.old.content.width ls.now }
+    requires width { other.now.content.width ≡ into.old.content.width }
+    requires short { All (λ t. length t.0 ≤ 1024) other.now.content.terms }
+    requires small { terms_total into.old.content.terms
+        + unsigned_abs factor.now * (unsigned_abs a.now * terms_total other.now.content.terms) ≤ 2 ^ 124 }
+    ensures multiplied { OnOk result (into.new.content ≡ with_all into.old.content
+        (pair_products factor.now (pairs_with (ls.now, a.now) other.now.content.terms))) }
+    ensures prefix { OnErr result (HasPrefix into.old.content into.new.content factor.now
+        (pairs_with (ls.now, a.now) other.now.content.terms)) }
 {
     for (ks, b) in other.terms() {
         add_union(into, set, ls, ks, product_of(factor, a, &b))?;
@@ -82,17 +82,17 @@ impl Table {
         factor: i128,
         into: &mut Table,
     ) -> Result<(), NoMemory>
-        requires width { self.now.width ≡ into.old.width }
-        requires other_width { other.now.width ≡ into.old.width }
-        requires short { All (λ t. length t.0 ≤ 1024) self.now.terms }
-        requires other_short { All (λ t. length t.0 ≤ 1024) other.now.terms }
-        requires small { terms_total into.old.terms
-            + unsigned_abs factor * (terms_total self.now.terms * terms_total other.now.terms)
+        requires width { self.now.content.width ≡ into.old.content.width }
+        requires other_width { other.now.content.width ≡ into.old.content.width }
+        requires short { All (λ t. length t.0 ≤ 1024) self.now.content.terms }
+        requires other_short { All (λ t. length t.0 ≤ 1024) other.now.content.terms }
+        requires small { terms_total into.old.content.terms
+            + unsigned_abs factor * (terms_total self.now.content.terms * terms_total other.now.content.terms)
             ≤ 2 ^ 124 }
-        ensures multiplied { OnOk result (into.new ≡ with_all into.old
-            (pair_products factor (pairs_of self.now.terms other.now.terms))) }
-        ensures prefix { OnErr result (HasPrefix into.old into.new factor
-            (pairs_of self.now.terms other.now.terms)) }
+        ensures multiplied { OnOk result (into.new.content ≡ with_all into.old.content
+            (pair_products factor (pairs_of self.now.content.terms other.now.content.terms))) }
+        ensures prefix { OnErr result (HasPrefix into.old.content into.new.content factor
+            (pairs_of self.now.content.terms other.now.content.terms)) }
     {
         let mut set = Vec::new(into.alloc);
         for (ls, a) in self.terms() {

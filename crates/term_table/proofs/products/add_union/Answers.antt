@@ -14,7 +14,7 @@ clashes-requires c =
 
 pub add-requires-clause-set : goal.add-requires-clause-set
 add-requires-clause-set c =
-    let width = c.args.into.now.width in
+    let width = c.args.into.now.content.width in
     let apart =
     ap has_clash (sym (c.deref.ensures.value ∙ c.in_ok-unite.ensures)) ∙ sym c.clashes.ensures ∙ c.if-clashes.false in
     subst (λ (us : List Literal). IsTermSet width us) (sym (c.deref-2.ensures.value ∙ c.in_ok-unite.ensures))
