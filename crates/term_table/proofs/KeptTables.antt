@@ -1,13 +1,13 @@
 -- An addition to a table leaves a table.
-use Rattle.std.proofs.Common.{◌≡◌, ◌+◌, ◌≤◌, ◌^◌, ℕ, ℤ, List, [], ◌∷◌, ◌++◌, ap, ◌∙◌, arith, unsigned_abs, Result, Ok, Err, OnOk, OnErr}
+use Rattle.std.proofs.Common.{◌≡◌, ◌+◌, ◌≤◌, ◌^◌, ℕ, ℤ, List, [], ◌∷◌, ◌++◌, ap, ◌∙◌, arith, unsigned_abs, All, Result, Ok, Err, OnOk, OnErr}
 use Rattle.std.proofs.lemmas.List.Elements.{All-nil, All-push}
 use Rattle.literal_lists.specs.declared.literal.Literal.{Literal}
-use Rattle.term_table.specs.Terms.{Term, with_addition, with_additions, terms_total, IsTermSet}
-use Rattle.term_table.specs.Runs.{Run, merged_terms, with_entry, one_run, AreRuns}
-use Rattle.term_table.specs.Tables.{TableContent, kept_in, with_added, with_appended, IsTable, IsKept, AreAdditions}
-use Rattle.term_table.proofs.Additions.{terms_total-with_addition, terms_total-append, terms_total-cons, terms_total-with_additions}
-use Rattle.term_table.proofs.KeptTerms.{OfSet, AreTerms-nil, AreTerms-with_addition, AreTerms-with_additions}
-use Rattle.term_table.proofs.Runs.{AreRuns-nil, AreRuns-one_run, AreRuns-with_entry, AreTerms-merged, merged_terms-one_run, merged_terms-with_entry}
+use Rattle.term_table.specs.Terms.{Term, with_additions, terms_total, IsTermSet}
+use Rattle.term_table.specs.Runs.{Run, merged_terms, settled, with_entry, one_run}
+use Rattle.term_table.specs.Tables.{TableContent, kept_in, with_added, with_all, with_appended, IsTable, IsKept, AreAdditions}
+use Rattle.term_table.proofs.Additions.{terms_total-with_addition, terms_total-append, terms_total-cons, terms_total-more, terms_total-with_additions}
+use Rattle.term_table.proofs.KeptTerms.{OfSet, AreTerms-with_additions}
+use Rattle.term_table.proofs.Runs.{AreRuns-nil, AreRuns-one_run, AreRuns-settled, AreRuns-with_entry, AreTerms-merged, merged_terms-one_run, merged_terms-with_entry, merged_terms-with_sums}
 
 -- a table's runs make a table
 pub IsTable-kept : (width : ℕ) (runs : List Run) → IsKept width runs
@@ -20,8 +20,9 @@ IsTable-kept width runs kept = record {
 pub IsKept-nil : (width : ℕ) → IsKept width []
 IsKept-nil width = record { runs = AreRuns-nil width; small = omega arith }
 
-IsKept-with_entry : (width : ℕ) (runs : List Run) (ls : List Literal) (c : ℤ) → IsKept width runs
-    → IsTermSet width ls → terms_total (merged_terms runs) + unsigned_abs c ≤ 2 ^ 124
+pub IsKept-with_entry : (width : ℕ) (runs : List Run) (ls : List Literal) (c : ℤ)
+    → IsKept width runs → IsTermSet width ls
+    → terms_total (merged_terms runs) + unsigned_abs c ≤ 2 ^ 124
     → IsKept width (with_entry runs ls c)
 IsKept-with_entry width runs ls c kept set small = record {
   runs = AreRuns-with_entry width runs ls c kept.runs set small;
@@ -33,14 +34,29 @@ IsKept-with_entry width runs ls c kept set small = record {
       );
 }
 
+-- the sums of additions, put after the runs
+pub IsKept-with_sums : (width : ℕ) (runs : List Run) (ts : List Term) → IsKept width runs
+    → All (OfSet (IsTermSet width)) ts
+    → terms_total (merged_terms runs) + terms_total ts ≤ 2 ^ 124
+    → IsKept width (settled (runs ++ with_additions [] ts ∷ []))
+IsKept-with_sums width runs ts kept sets small = record {
+  runs =
+      AreRuns-settled width runs (with_additions [] ts) kept.runs
+      (AreTerms-with_additions width ts sets) (omega (arith, small, terms_total-with_additions ts));
+  small =
+      omega (
+        arith,
+        ap terms_total (merged_terms-with_sums runs ts),
+        terms_total-more (merged_terms runs) ts,
+      );
+}
+
 -- whether memory was left or not
-pub IsKept-by_result : {E : Type 0} (r : Result (Unit {0}) E) (width : ℕ) (runs new : List Run)
-    (ls : List Literal) (c : ℤ) → IsKept width runs → IsTermSet width ls
-    → terms_total (merged_terms runs) + unsigned_abs c ≤ 2 ^ 124
-    → OnOk r (new ≡ with_entry runs ls c) → OnErr r (new ≡ runs) → IsKept width new
-IsKept-by_result (Ok u) width runs new ls c kept set small done same =
-    rw done (IsKept-with_entry width runs ls c kept set small)
-IsKept-by_result (Err u) width runs new ls c kept set small done same = rw same kept
+pub IsKept-by_result : {E : Type 0} (r : Result (Unit {0}) E) (width : ℕ) (runs new next : List Run)
+    → IsKept width runs → IsKept width next → OnOk r (new ≡ next) → OnErr r (new ≡ runs)
+    → IsKept width new
+IsKept-by_result (Ok u) width runs new next before after done same = rw done after
+IsKept-by_result (Err u) width runs new next before after done same = rw same before
 
 -- what contracts see after it
 pub content-by_result : {E : Type 0} (r : Result (Unit {0}) E) (width : ℕ) (runs new : List Run)
@@ -50,6 +66,14 @@ content-by_result (Ok u) width runs new ls c done =
     ap (λ (ts : List Term). record { width = width; terms = ts })
     (ap merged_terms done ∙ merged_terms-with_entry runs ls c)
 content-by_result (Err u) width runs new ls c done = tt
+
+pub sums-by_result : {E : Type 0} (r : Result (Unit {0}) E) (width : ℕ) (runs new : List Run)
+    (ts : List Term) → OnOk r (new ≡ settled (runs ++ with_additions [] ts ∷ []))
+    → OnOk r ((kept_in width new).content ≡ with_all (kept_in width runs).content ts)
+sums-by_result (Ok u) width runs new ts done =
+    ap (λ (us : List Term). record { width = width; terms = us })
+    (ap merged_terms done ∙ merged_terms-with_sums runs ts)
+sums-by_result (Err u) width runs new ts done = tt
 
 -- ---- additions that are to be summed
 

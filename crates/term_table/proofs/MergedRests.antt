@@ -1,22 +1,22 @@
 -- Runs that are gone through together: the least set with which one of them begins is taken from all,
 -- with the sum of its coefficients.
-use Rattle.std.proofs.Common.{◌≡◌, ◌≢◌, ℕ, zero, suc, ◌+◌, ◌-◌, ◌<◌, ◌≤◌, ◌^◌, Bool, true, false, cond, arith, length, get_or, take, drop, set, map, List, [], ◌∷◌, ◌++◌, sym, ap, ◌∙◌, subst, refl, ℤ, pos, ◌+ℤ◌, unsigned_abs, All}
-use Rattle.std.specs.Prelude.{⊤, if◌then◌else◌}
-use Rattle.std.specs.List.{AllByRecursion, flat_map}
+use Rattle.std.proofs.Common.{◌≡◌, ℕ, zero, suc, ◌<◌, ◌≤◌, ◌^◌, Bool, true, false, cond, arith, length, get_or, take, map, List, [], ◌∷◌, ◌++◌, sym, ap, ◌∙◌, subst, refl, ℤ, pos, ◌+ℤ◌, unsigned_abs, All}
+use Rattle.std.specs.Prelude.{if◌then◌else◌}
+use Rattle.std.specs.List.{AllByRecursion}
 use Rattle.std.specs.List.Sorted.{IsStrictlySortedBy}
-use Rattle.std.specs.Ordering.{int_eq, is_eq, is_lt, ordering_reverse}
+use Rattle.std.specs.Ordering.{is_eq, is_lt}
 use Rattle.std.specs.declared.cmp.Ordering.{Ordering}
 use Rattle.std.specs.declared.cmp.Ordering.TheVariants.{Less, Equal, Greater}
 use Rattle.std.proofs.lemmas.Int.{ints}
 use Rattle.std.proofs.lemmas.List.{length-append}
-use Rattle.std.proofs.lemmas.List.Elements.{All-head, All-tail}
-use Rattle.base.specs.Sums.{total_by, if_so}
+use Rattle.std.proofs.lemmas.List.Elements.{All-tail}
+use Rattle.base.specs.Sums.{if_so}
 use Rattle.literal_lists.specs.declared.literal.Literal.{Literal}
 use Rattle.term_table.specs.Terms.{Term, set_cmp, in_front, with_addition, with_additions, coefficient_of, Ascends}
 use Rattle.term_table.specs.Runs.{Run, entries, merged_terms, sum_over}
 use Rattle.term_table.specs.Newest.{AreOrdered}
-use Rattle.term_table.specs.Rests.{rests_of, without, NotBelow, Begins, IsLeast, AreRests}
-use Rattle.term_table.proofs.SetOrder.{set_total, same_set, set_itself}
+use Rattle.term_table.specs.Rests.{without, NotBelow, Begins, IsLeast, AreRests}
+use Rattle.term_table.proofs.SetOrder.{same_set, set_itself}
 use Rattle.term_table.proofs.Additions.{weight-in_front}
 use Rattle.term_table.proofs.KeptTerms.{IsNonzero, Under, Under-with_addition, Under-further, greater_back, Ascends-in_front, nonzero-in_front, Ascends-with_additions, nonzero-with_additions}
 use Rattle.term_table.proofs.UniqueTerms.{coefficient_of-under, same_terms}

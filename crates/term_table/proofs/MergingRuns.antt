@@ -1,16 +1,17 @@
 -- Steps of merging two runs: the lesser of the two first sets goes first.
-use Rattle.std.proofs.Common.{◌≡◌, ◌≢◌, ℕ, ◌+◌, ◌<◌, ◌≤◌, ◌^◌, ◌⊎◌, inl, inr, Bool, true, false, cond, arith, length, get_or, take, drop, List, [], ◌∷◌, ◌++◌, sym, ap, ◌∙◌, subst, refl, append_assoc, append-nil, ℤ, pos, ◌+ℤ◌, unsigned_abs, All}
+use Rattle.std.proofs.Common.{◌≡◌, ℕ, ◌+◌, ◌<◌, ◌≤◌, ◌⊎◌, inl, inr, Bool, true, false, cond, length, get_or, drop, List, [], ◌∷◌, ◌++◌, sym, ap, ◌∙◌, subst, refl, append_assoc, append-nil, ℤ, pos, ◌+ℤ◌, All}
 use Rattle.std.specs.Bool.{Decides}
 use Rattle.std.specs.List.Sorted.{IsStrictlySortedBy}
 use Rattle.std.specs.Ordering.{int_eq, match_ordering, ordering_reverse}
 use Rattle.std.specs.declared.cmp.Ordering.TheVariants.{Less, Equal, Greater}
 use Rattle.std.proofs.lemmas.Bool.Decides.{Decides-int_eq}
-use Rattle.std.proofs.lemmas.List.{drop_more, drop_all, get_or_default}
+use Rattle.std.proofs.lemmas.List.{drop_more, drop_all}
 use Rattle.std.proofs.lemmas.List.Elements.{All-head, All-tail}
 use Rattle.literal_lists.specs.declared.literal.Literal.{Literal}
 use Rattle.term_table.specs.Terms.{Term, set_cmp, in_front, with_addition, with_additions, Ascends}
 use Rattle.term_table.specs.Runs.{merged}
 use Rattle.term_table.proofs.SetOrder.{set_total, same_set}
+use Rattle.term_table.proofs.Steps.{appended_more}
 use Rattle.term_table.proofs.KeptTerms.{IsNonzero, Under, Under-further, greater_back}
 
 pub less_back : (ks ls : List Literal) → set_cmp ks ls ≡ Less → set_cmp ls ks ≡ Greater
@@ -123,14 +124,6 @@ tail_up : (t : Term) (ts : List Term) → Ascends (t ∷ ts) → Ascends ts
 unfolding IsStrictlySortedBy
 tail_up t ts up = up.1
 
-one_more : (now new front rest before all : List Term) → new ≡ now ++ front → before ≡ front ++ rest
-    → now ++ before ≡ all → new ++ rest ≡ all
-one_more now new front rest before all pushed step whole =
-    ap (λ ts. ts ++ rest) pushed
-    ∙ append_assoc now front rest
-    ∙ ap (λ ts. now ++ ts) (sym step)
-    ∙ whole
-
 module _ (now new left right all : List Term) (t : Term) (ts : List Term) (u : Term) (us : List Term) where
   opened : left ≡ t ∷ ts → right ≡ u ∷ us → MergedRuns now left right all
       → MergedRuns now (t ∷ ts) (u ∷ us) all
@@ -145,7 +138,7 @@ module _ (now new left right all : List Term) (t : Term) (ts : List Term) (u : T
       subst (λ (ys : List Term). MergedRuns new ts ys all) (sym at_u)
       (record {
         whole =
-            one_more now new (in_front t.0 t.1 []) (merged ts (u ∷ us)) (merged (t ∷ ts) (u ∷ us)) all pushed
+            appended_more now new (in_front t.0 t.1 []) (merged ts (u ∷ us)) (merged (t ∷ ts) (u ∷ us)) all pushed
             (merged-less t ts u us m.right_up (All-head IsNonzero t ts m.left_some) e) m.whole;
         left_up = tail_up t ts m.left_up;
         right_up = m.right_up;
@@ -160,7 +153,7 @@ module _ (now new left right all : List Term) (t : Term) (ts : List Term) (u : T
       let m = opened at_t at_u before in
       record {
         whole =
-            one_more now new (in_front t.0 (t.1 +ℤ u.1) []) (merged ts us) (merged (t ∷ ts) (u ∷ us)) all pushed
+            appended_more now new (in_front t.0 (t.1 +ℤ u.1) []) (merged ts us) (merged (t ∷ ts) (u ∷ us)) all pushed
             (merged-equal t ts u us m.right_up e) m.whole;
         left_up = tail_up t ts m.left_up;
         right_up = tail_up u us m.right_up;
@@ -175,7 +168,7 @@ module _ (now new left right all : List Term) (t : Term) (ts : List Term) (u : T
       subst (λ (xs : List Term). MergedRuns new xs us all) (sym at_t)
       (record {
         whole =
-            one_more now new (in_front u.0 u.1 []) (merged (t ∷ ts) us) (merged (t ∷ ts) (u ∷ us)) all pushed
+            appended_more now new (in_front u.0 u.1 []) (merged (t ∷ ts) us) (merged (t ∷ ts) (u ∷ us)) all pushed
             (merged-greater t ts u us m.right_up e) m.whole;
         left_up = m.left_up;
         right_up = tail_up u us m.right_up;

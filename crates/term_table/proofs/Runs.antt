@@ -1,25 +1,25 @@
 -- Runs that are listed the newest first: what their sums are, and what settling keeps of them.
-use Rattle.std.proofs.Common.{◌≡◌, ◌≢◌, ℕ, zero, suc, ◌+◌, ◌*◌, ◌<◌, ◌≤◌, ◌^◌, ltb, Bool, true, false, cond, arith, sym, ap, subst, ◌∙◌, refl, List, [], ◌∷◌, ◌++◌, length, get_or, take, drop, reverse, ℤ, pos, ◌+ℤ◌, unsigned_abs, All, inl, inr}
-use Rattle.std.specs.Prelude.{⊤, if◌then◌else◌}
-use Rattle.std.specs.List.{flat_map, AllByRecursion}
+use Rattle.std.proofs.Common.{◌≡◌, ℕ, zero, suc, ◌+◌, ◌*◌, ◌<◌, ◌≤◌, ◌^◌, Bool, true, false, cond, arith, sym, ap, subst, ◌∙◌, refl, List, [], ◌∷◌, ◌++◌, length, get_or, take, reverse, ℤ, pos, ◌+ℤ◌, unsigned_abs, All, inl, inr}
+use Rattle.std.specs.Prelude.{if◌then◌else◌}
+use Rattle.std.specs.List.{AllByRecursion}
 use Rattle.std.specs.Bool.{Decides}
 use Rattle.std.specs.Ordering.{int_eq, is_eq}
 use Rattle.std.proofs.lemmas.Int.{ints}
 use Rattle.std.proofs.lemmas.Bool.{cases_lt}
 use Rattle.std.proofs.lemmas.Bool.Decides.{Decides-int_eq, Decides-ltb, not_from_Decides}
-use Rattle.std.proofs.lemmas.List.{take_more, reverse-append, reverse-reverse, length-reverse, length-append, length-take-le, take-append-le, take_all, get_or_append_left, get_or_push, length_push, append-nil}
+use Rattle.std.proofs.lemmas.List.{take_more, reverse-append, length-reverse, take-append-le, take_all, get_or_append_left, get_or_push, length_push, append-nil}
 use Rattle.std.proofs.Math.Nat.{pow-succ'}
 use Rattle.std.proofs.lemmas.Nat.{mul-le}
 use Rattle.std.proofs.lemmas.List.Elements.{All-nil, All-cons, All-push, All-append, All-get_or, All-head, recursion_from_All}
-use Rattle.base.specs.Sums.{total_by, if_so}
-use Rattle.base.proofs.Totals.{total_by-append, total_by-flat_map, size-plus, size-total_by}
+use Rattle.base.specs.Sums.{if_so}
+use Rattle.base.proofs.Totals.{total_by-append, total_by-flat_map, size-plus}
 use Rattle.literal_lists.specs.declared.literal.Literal.{Literal}
-use Rattle.term_table.specs.Terms.{Term, set_cmp, terms_total, coefficient_of, with_addition, with_additions, Ascends, AreTerms, IsTermSet}
+use Rattle.term_table.specs.Terms.{Term, set_cmp, terms_total, coefficient_of, with_addition, with_additions, AreTerms, IsTermSet}
 use Rattle.term_table.specs.Runs.{Run, entries, merged_terms, sum_over, merged, is_empty, is_long, settled_with, settled_back, settled, with_entry, one_run, AreRuns}
 use Rattle.term_table.specs.Rests.{AreRests}
-use Rattle.term_table.specs.Newest.{SmallSums, Halve, Each, AreOrdered, AreSettling}
-use Rattle.term_table.proofs.Additions.{weight, weight-with_addition, weight-with_additions, coefficient_of-with_additions, terms_total-with_additions, terms_total-cons}
-use Rattle.term_table.proofs.KeptTerms.{IsNonzero, OfSet, AreTerms-nil, AreTerms-with_addition, AreTerms-more, AreTerms-with_additions, Ascends-with_additions, Ascends-more, nonzero-with_additions, nonzero-more}
+use Rattle.term_table.specs.Newest.{SmallSums, Halve, Each, AreOrdered}
+use Rattle.term_table.proofs.Additions.{weight-with_addition, weight-with_additions, coefficient_of-with_additions, terms_total-cons}
+use Rattle.term_table.proofs.KeptTerms.{OfSet, AreTerms-nil, AreTerms-with_addition, AreTerms-more, AreTerms-with_additions, Ascends-with_additions, Ascends-more, nonzero-with_additions, nonzero-more}
 use Rattle.term_table.proofs.UniqueTerms.{same_terms}
 use Rattle.term_table.proofs.MergingRuns.{merged-none}
 
@@ -89,6 +89,18 @@ sum_over-settled_with ls last (before ∷ older) =
     go true long e dropped joined = omega (arith, ints, dropped, none_of_empty ls last e)
     go false true e dropped joined = joined ∙ sum_over-merged ls last before older
     go false false e dropped joined = refl
+
+settled_back_sum : (ls : List Literal) (rs : List Run)
+    → sum_over ls (settled_back rs) ≡ sum_over ls rs
+settled_back_sum ls [] = refl
+settled_back_sum ls (r ∷ rs) = sum_over-settled_with ls r rs
+
+pub sum_over-settled : (ls : List Literal) (runs : List Run)
+    → sum_over ls (settled runs) ≡ sum_over ls runs
+sum_over-settled ls runs =
+    sum_over-reverse ls (settled_back (reverse runs))
+    ∙ settled_back_sum ls (reverse runs)
+    ∙ sum_over-reverse ls runs
 
 pub settled_is : (runs : List Run) (entry : Run)
     → settled (runs ++ entry ∷ []) ≡ reverse (settled_with entry (reverse runs))
@@ -247,11 +259,11 @@ Halve-turned width runs kept = turned_all runs Halve tt more
 
 -- and back
 
-back_terms : (width : ℕ) (rs : List Run) → Each width rs → All (AreTerms width) (reverse rs)
-back_terms width [] each = All-nil (AreTerms width)
-back_terms width (r ∷ rs) each =
-    subst (All (AreTerms width)) (sym (reverse_more r rs))
-    (All-push (AreTerms width) (reverse rs) r (back_terms width rs each.1) each.0)
+pub back_each : (P : Run → Type 0) (rs : List Run) → AllByRecursion P rs → All P (reverse rs)
+back_each P [] each = All-nil P
+back_each P (r ∷ rs) each =
+    subst (All P) (sym (reverse_more r rs))
+    (All-push P (reverse rs) r (back_each P rs each.1) each.0)
 
 back_some : (rs : List Run) → Halve rs → All (λ (r : Run). 1 ≤ length r) (reverse rs)
 back_some [] h = All-nil (λ (r : Run). 1 ≤ length r)
@@ -316,59 +328,64 @@ back_halve (r ∷ s ∷ rs) h k in' =
 pub AreRuns-back : (width : ℕ) (rs : List Run) → Each width rs → Halve rs → SmallSums rs
     → AreRuns width (reverse rs)
 AreRuns-back width rs each halve small = record {
-  terms = back_terms width rs each;
+  terms = back_each (AreTerms width) rs each;
   some = back_some rs halve;
   halve = back_halve rs halve;
   small = back_small rs small;
 }
 
--- the sum of a set is no more than all sizes
+-- a set's coefficient is no more than all sizes
+coefficient_small : (ls : List Literal) (ts : List Term)
+    → unsigned_abs (coefficient_of ls ts) ≤ terms_total ts
+coefficient_small ls [] = omega arith
+coefficient_small ls (t ∷ ts) =
+    omega (
+      arith,
+      size-plus (if_so (is_eq (set_cmp ls t.0)) t.1) (coefficient_of ls ts),
+      part (is_eq (set_cmp ls t.0)) t.1,
+      coefficient_small ls ts,
+      terms_total-cons t ts,
+    )
+  where
+    part : (b : Bool) (c : ℤ) → unsigned_abs (if_so b c) ≤ unsigned_abs c
+    part true c = omega arith
+    part false c = omega arith
+
 pub sum_small : (ls : List Literal) (runs : List Run)
     → unsigned_abs (sum_over ls runs) ≤ terms_total (merged_terms runs)
 sum_small ls runs =
     omega (
       arith,
       ap unsigned_abs (sym (coefficient_of-merged ls runs)),
-      given_size ls (merged_terms runs),
+      coefficient_small ls (merged_terms runs),
     )
+
+-- a run more, on top of the others
+pub SmallSums-run : (width : ℕ) (runs : List Run) (entry : Run) → AreRuns width runs
+    → terms_total (merged_terms runs) + terms_total entry ≤ 2 ^ 124
+    → SmallSums (entry ∷ reverse runs)
+SmallSums-run width runs entry kept small = (here, SmallSums-turned width runs kept)
   where
-    given_size : (ls : List Literal) (ts : List Term)
-        → unsigned_abs (coefficient_of ls ts) ≤ terms_total ts
-    given_size ls [] = omega arith
-    given_size ls (t ∷ ts) =
+    here : (ls : List Literal) → unsigned_abs (sum_over ls (entry ∷ reverse runs)) ≤ 2 ^ 124
+    here ls =
         omega (
           arith,
-          size-plus (if_so (is_eq (set_cmp ls t.0)) t.1) (coefficient_of ls ts),
-          part (is_eq (set_cmp ls t.0)) t.1,
-          given_size ls ts,
-          terms_total-cons t ts,
-        )
-      where
-        part : (b : Bool) (c : ℤ) → unsigned_abs (if_so b c) ≤ unsigned_abs c
-        part true c = omega arith
-        part false c = omega arith
-
--- the entry, on top of the others
-pub SmallSums-entry : (width : ℕ) (runs : List Run) (ls : List Literal) (c : ℤ) → AreRuns width runs
-    → terms_total (merged_terms runs) + unsigned_abs c ≤ 2 ^ 124
-    → SmallSums (((ls, c) ∷ []) ∷ reverse runs)
-SmallSums-entry width runs ls c kept small = (here, SmallSums-turned width runs kept)
-  where
-    part : (b : Bool) → unsigned_abs (if_so b c +ℤ pos 0) ≤ unsigned_abs c
-    part true = omega (arith, ints)
-    part false = omega arith
-
-    here : (ks : List Literal)
-        → unsigned_abs (sum_over ks (((ls, c) ∷ []) ∷ reverse runs)) ≤ 2 ^ 124
-    here ks =
-        omega (
-          arith,
-          size-plus (coefficient_of ks ((ls, c) ∷ [])) (sum_over ks (reverse runs)),
-          part (is_eq (set_cmp ks ls)),
-          ap unsigned_abs (sum_over-reverse ks runs),
-          sum_small ks runs,
+          size-plus (coefficient_of ls entry) (sum_over ls (reverse runs)),
+          coefficient_small ls entry,
+          ap unsigned_abs (sum_over-reverse ls runs),
+          sum_small ls runs,
           small,
         )
+
+pub AreRuns-settled : (width : ℕ) (runs : List Run) (entry : Run) → AreRuns width runs
+    → AreTerms width entry → terms_total (merged_terms runs) + terms_total entry ≤ 2 ^ 124
+    → AreRuns width (settled (runs ++ entry ∷ []))
+AreRuns-settled width runs entry kept terms small =
+    subst (AreRuns width) (sym (settled_is runs entry))
+    (AreRuns-back width (settled_with entry (reverse runs))
+    (Each-settled_with width entry (reverse runs) terms (Each-turned width runs kept))
+    (Halve-settled_with entry (reverse runs) (Halve-turned width runs kept))
+    (SmallSums-settled_with entry (reverse runs) (SmallSums-run width runs entry kept small)))
 
 entry_terms : (width : ℕ) (ls : List Literal) (c : ℤ) → IsTermSet width ls → int_eq c (pos 0) ≡ false
     → AreTerms width ((ls, c) ∷ [])
@@ -386,12 +403,8 @@ AreRuns-with_entry width runs ls c kept set small = go (int_eq c (pos 0)) refl
         → AreRuns width (cond zero runs (settled (runs ++ ((ls, c) ∷ []) ∷ [])))
     go true e = kept
     go false e =
-        let entry : Run = (ls, c) ∷ [] in
-        subst (AreRuns width) (sym (settled_is runs entry))
-        (AreRuns-back width (settled_with entry (reverse runs))
-        (Each-settled_with width entry (reverse runs) (entry_terms width ls c set e) (Each-turned width runs kept))
-        (Halve-settled_with entry (reverse runs) (Halve-turned width runs kept))
-        (SmallSums-settled_with entry (reverse runs) (SmallSums-entry width runs ls c kept small)))
+        AreRuns-settled width runs ((ls, c) ∷ []) kept (entry_terms width ls c set e)
+        (omega (arith, small, terms_total-cons (ls, c) []))
 
 -- the sums after an addition
 sum_over-with_entry : (ks : List Literal) (runs : List Run) (ls : List Literal) (c : ℤ)
@@ -411,10 +424,8 @@ sum_over-with_entry ks runs ls c = go (int_eq c (pos 0)) (Decides-int_eq c (pos 
         omega (
           arith,
           ints,
-          ap (sum_over ks) (settled_is runs entry),
-          sum_over-reverse ks (settled_with entry (reverse runs)),
-          sum_over-settled_with ks entry (reverse runs),
-          sum_over-reverse ks runs,
+          sum_over-settled ks (runs ++ entry ∷ []),
+          sum_over-append ks runs (entry ∷ []),
         )
 
 -- the merged view after an addition is that with the addition
@@ -434,6 +445,29 @@ merged_terms-with_entry runs ls c =
       sum_over-with_entry ks runs ls c,
       coefficient_of-merged ks runs,
       weight-with_addition (λ ms. is_eq (set_cmp ks ms)) (merged_terms runs) ls c,
+    ))
+
+-- and so is that after additions that are summed first
+pub merged_terms-with_sums : (runs : List Run) (ts : List Term)
+    → merged_terms (settled (runs ++ with_additions [] ts ∷ []))
+    ≡ with_additions (merged_terms runs) ts
+merged_terms-with_sums runs ts =
+    let sums : Run = with_additions [] ts in
+    let new : List Run = settled (runs ++ sums ∷ []) in
+    same_terms (merged_terms new) (with_additions (merged_terms runs) ts)
+    (Ascends-with_additions (entries new))
+    (Ascends-more (merged_terms runs) ts (Ascends-with_additions (entries runs)))
+    (nonzero-with_additions (entries new))
+    (nonzero-more (merged_terms runs) ts (nonzero-with_additions (entries runs)))
+    (λ ls. omega (
+      arith,
+      ints,
+      coefficient_of-merged ls new,
+      sum_over-settled ls (runs ++ sums ∷ []),
+      sum_over-append ls runs (sums ∷ []),
+      coefficient_of-with_additions ls ts,
+      coefficient_of-merged ls runs,
+      weight-with_additions (λ ms. is_eq (set_cmp ls ms)) (merged_terms runs) ts,
     ))
 
 -- ---- runs that are made at once

@@ -1,5 +1,5 @@
 -- Steps of settling: the last run is merged with the one before it, or nothing more is done.
-use Rattle.std.proofs.Common.{◌≡◌, ◌≢◌, ℕ, zero, suc, ◌+◌, ◌-◌, ◌*◌, ◌/◌, ◌<◌, ◌≤◌, ◌^◌, ◌⊎◌, inl, inr, ltb, Bool, true, false, cond, arith, length, get_or, take, drop, reverse, List, [], ◌∷◌, ◌++◌, sym, ap, ◌∙◌, subst, refl, append-nil, ℤ, pos, ◌+ℤ◌, unsigned_abs, All}
+use Rattle.std.proofs.Common.{◌≡◌, ◌≢◌, ℕ, ◌+◌, ◌*◌, ◌<◌, ◌≤◌, ◌^◌, Bool, true, false, arith, length, get_or, take, reverse, List, [], ◌∷◌, ◌++◌, sym, ap, ◌∙◌, subst, refl, append-nil, ℤ, pos, ◌+ℤ◌, unsigned_abs, All}
 use Rattle.std.specs.Prelude.{⊤, if◌then◌else◌}
 use Rattle.std.specs.Bool.{Decides}
 use Rattle.std.specs.List.{AllByRecursion}
@@ -7,19 +7,18 @@ use Rattle.std.specs.List.Sorted.{IsStrictlySortedBy}
 use Rattle.std.specs.Ordering.{is_eq}
 use Rattle.std.proofs.lemmas.Int.{ints}
 use Rattle.std.proofs.lemmas.Bool.Decides.{Decides-ltb}
-use Rattle.std.proofs.lemmas.List.{take_more, take_all, reverse-append, reverse-reverse}
+use Rattle.std.proofs.lemmas.List.{take_all, reverse-reverse}
 use Rattle.std.proofs.lemmas.List.Elements.{All-nil, All-cons, All-from_recursion}
 use Rattle.base.specs.Sums.{if_so}
-use Rattle.base.proofs.Totals.{size-plus}
 use Rattle.literal_lists.specs.declared.literal.Literal.{Literal}
-use Rattle.term_table.specs.Terms.{Term, set_cmp, terms_total, coefficient_of, with_additions, Ascends, AreTerms, IsTermSet}
-use Rattle.term_table.specs.Runs.{Run, merged_terms, sum_over, merged, is_empty, is_long, settled_with, settled, one_run, AreRuns}
+use Rattle.term_table.specs.Terms.{Term, set_cmp, terms_total, coefficient_of, Ascends}
+use Rattle.term_table.specs.Runs.{Run, merged_terms, sum_over, merged, is_long, settled_with, settled, one_run, AreRuns}
 use Rattle.term_table.specs.Newest.{SmallSums, Halve, Each, AreOrdered, AreSettling}
-use Rattle.term_table.proofs.SetOrder.{set_itself}
-use Rattle.term_table.proofs.KeptTerms.{IsNonzero, Under, Under-further, Ascends-more, nonzero-more}
-use Rattle.term_table.proofs.UniqueTerms.{coefficient_of-first, coefficient_of-under}
+use Rattle.term_table.proofs.Additions.{terms_total-cons}
+use Rattle.term_table.proofs.KeptTerms.{IsNonzero, Under, Ascends-more, nonzero-more}
+use Rattle.term_table.proofs.UniqueTerms.{coefficient_of-first}
 use Rattle.term_table.proofs.MergingRuns.{less_back}
-use Rattle.term_table.proofs.Runs.{reverse_more, reverse_push, sum_over-merged, settled_is, reverse_taken, SmallSums-entry, Each-turned, Halve-turned}
+use Rattle.term_table.proofs.Runs.{reverse_more, sum_over-merged, settled_is, reverse_taken, SmallSums-run, Each-turned, Halve-turned}
 
 -- ---- how large an entry can be
 
@@ -61,7 +60,7 @@ entries_small r rs up small =
 
 -- ---- one step
 
-settled_long : (last before : Run) (older : List Run) → length before < 2 * length last
+pub settled_long : (last before : Run) (older : List Run) → length before < 2 * length last
     → settled_with last (before ∷ older) ≡ settled_with (merged before last) older
 settled_long [] before older long = absurd (omega arith)
 settled_long (t ∷ ts) before older long =
@@ -73,7 +72,7 @@ settled_long (t ∷ ts) before older long =
     go true d = refl
     go false d = let no = d.1 long in absurd cc
 
-not_long : (last before : Run) → 2 * length last ≤ length before → is_long before last ≡ false
+pub not_long : (last before : Run) → 2 * length last ≤ length before → is_long before last ≡ false
 not_long last before short = go (is_long before last) (Decides-ltb (length before) (2 * length last))
   where
     go : (l : Bool) → Decides l (length before < 2 * length last) → l ≡ false
@@ -208,19 +207,25 @@ fits_before runs last kept next down up short =
 
 -- ---- an addition to a table's runs
 
-ordered_each : (width : ℕ) (rs : List Run) → Each width rs → AreOrdered rs
+pub ordered_each : (width : ℕ) (rs : List Run) → Each width rs → AreOrdered rs
 ordered_each width [] each = tt
 ordered_each width (r ∷ rs) each = ((each.0.ordered, each.0.nonzero), ordered_each width rs each.1)
+
+-- a run of sums can be put after the runs
+pub settling_run : (width : ℕ) (runs : List Run) (entry : Run) → AreRuns width runs → Ascends entry
+    → All IsNonzero entry → terms_total (merged_terms runs) + terms_total entry ≤ 2 ^ 124
+    → AreSettling runs entry
+settling_run width runs entry kept up some small = record {
+  ordered = ((up, some), ordered_each width (reverse runs) (Each-turned width runs kept));
+  small = SmallSums-run width runs entry kept small;
+  halve = Halve-turned width runs kept;
+}
 
 pub settling_entry : (width : ℕ) (runs : List Run) (ls : List Literal) (c : ℤ) → AreRuns width runs
     → terms_total (merged_terms runs) + unsigned_abs c ≤ 2 ^ 124 → c ≢ pos 0
     → AreSettling runs ((ls, c) ∷ [])
 unfolding IsStrictlySortedBy
-settling_entry width runs ls c kept small some = record {
-  ordered = (
-    ((tt, tt), All-cons IsNonzero (ls, c) [] some (All-nil IsNonzero)),
-    ordered_each width (reverse runs) (Each-turned width runs kept),
-  );
-  small = SmallSums-entry width runs ls c kept small;
-  halve = Halve-turned width runs kept;
-}
+settling_entry width runs ls c kept small some =
+    settling_run width runs ((ls, c) ∷ []) kept (tt, tt)
+    (All-cons IsNonzero (ls, c) [] some (All-nil IsNonzero))
+    (omega (arith, small, terms_total-cons (ls, c) []))

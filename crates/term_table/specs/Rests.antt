@@ -1,5 +1,5 @@
 -- What is left of runs that are gone through together.
-use Rattle.std.specs.Prelude.{◌≡◌, ℕ, ◌≤◌, ◌^◌, ℤ, pos, unsigned_abs, Bool, false, cond, Option, None, Some, fold, List, [], ◌∷◌, length, map, drop, take, get_or, ⊤, if◌then◌else◌}
+use Rattle.std.specs.Prelude.{◌≡◌, ℕ, ◌≤◌, ◌^◌, ℤ, pos, unsigned_abs, false, Option, None, Some, fold, List, [], ◌∷◌, drop, take, get_or, ⊤, if◌then◌else◌}
 use Rattle.std.specs.List.{AllByRecursion}
 use Rattle.std.specs.Ordering.{is_eq, is_lt}
 use Rattle.base.specs.Sums.{if_so}

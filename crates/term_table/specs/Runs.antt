@@ -1,5 +1,5 @@
 -- Runs: terms in order, in which a table keeps what was added to it. A set may stand in several.
-use Rattle.std.specs.Prelude.{◌≡◌, ℕ, ◌+◌, ◌*◌, ◌<◌, ◌≤◌, ◌^◌, ℤ, pos, unsigned_abs, Bool, true, false, ltb, cond, List, [], ◌∷◌, ◌++◌, length, take, reverse, get_or, All, if◌then◌else◌}
+use Rattle.std.specs.Prelude.{ℕ, ◌+◌, ◌*◌, ◌<◌, ◌≤◌, ◌^◌, ℤ, pos, unsigned_abs, Bool, true, false, ltb, cond, List, [], ◌∷◌, ◌++◌, length, take, reverse, get_or, All, if◌then◌else◌}
 use Rattle.std.specs.List.{flat_map}
 use Rattle.std.specs.Ordering.{int_eq}
 use Rattle.base.specs.Sums.{total_by}

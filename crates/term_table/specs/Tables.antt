@@ -4,7 +4,7 @@ use Rattle.base.specs.declared.costs.Cost.TheVariants.{Whole}
 use Rattle.base.specs.Costs.{Form}
 use Rattle.literal_lists.specs.declared.literal.Literal.{Literal}
 use Rattle.term_table.specs.Terms.{Term, terms_cost, terms_total, terms_size, with_addition, with_additions, coefficient_of, AreTerms, IsTermSet}
-use Rattle.term_table.specs.Runs.{Run, with_entry, one_run, merged_terms, AreRuns}
+use Rattle.term_table.specs.Runs.{Run, one_run, merged_terms, AreRuns}
 
 -- a width, and terms over the variables below it
 pub record TableContent : Type 0 where

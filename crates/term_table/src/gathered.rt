@@ -4,11 +4,12 @@
 //! each.
 ghost use Rattle.std.specs.Prelude.{◌≡◌, ◌+◌, ◌≤◌, ◌^◌, ◌∷◌, ◌++◌, [], unsigned_abs, OnOk, OnErr};
 ghost use Rattle.term_table.specs.Terms.{with_additions, terms_total, IsTermSet};
-ghost use Rattle.term_table.specs.Runs.{one_run};
-ghost use Rattle.term_table.specs.Tables.{with_appended, kept_at_once};
+ghost use Rattle.term_table.specs.Runs.{one_run, settled};
+ghost use Rattle.term_table.specs.Tables.{with_all, with_appended, kept_at_once};
 
 use crate::run::Run;
 use crate::run_term::RunTerm;
+use crate::settling::append_run;
 use crate::sums::sorted_sums;
 use crate::table::Table;
 use base::NoMemory;
@@ -102,5 +103,24 @@ impl GatheredTerms {
             alloc,
             runs: runs_of(alloc, sorted_sums(terms)),
         }
+    }
+}
+
+impl Table {
+    /// Adds all gathered terms: their sums are put after the runs as one more, and all are settled.
+    pub(crate) fn add_gathered(&mut self, gathered: GatheredTerms) -> Result<(), NoMemory>
+        requires width { gathered.width ≡ self.old.content.width }
+        requires small { terms_total self.old.content.terms + terms_total gathered.terms
+            ≤ 2 ^ 124 }
+        ensures added { OnOk result (self.new.content ≡ with_all self.old.content gathered.terms) }
+        ensures settled { OnOk result
+            (self.new.runs ≡ settled (self.old.runs ++ with_additions [] gathered.terms ∷ [])) }
+        ensures unchanged { OnErr result (self.new ≡ self.old) }
+    {
+        let GatheredTerms { terms, .. } = gathered;
+        let sums = Run {
+            terms: sorted_sums(terms),
+        };
+        append_run(self.alloc, &mut self.runs, sums)
     }
 }

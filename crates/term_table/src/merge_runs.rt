@@ -19,7 +19,8 @@ fn append(
     term: &RunTerm,
     coefficient: i128,
 ) -> Result<(), NoMemory>
-    ensures { OnOk result (terms.new.items ≡ terms.old.items ++ in_front term.now.0 coefficient []) }
+    ensures { OnOk result
+        (terms.new.items ≡ terms.old.items ++ in_front term.now.0 coefficient []) }
 {
     if coefficient == 0 {
         return Ok(());

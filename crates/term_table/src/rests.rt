@@ -1,7 +1,7 @@
 //! What is left of several runs, which are merged as they are gone through.
 //!
-//! Each run has a place in a fixed row, so no memory is taken. The least set with which a run begins
-//! is looked for from the oldest run on, and its coefficients are summed in this order.
+//! Each run has a place in a fixed row, so no memory is taken. The least set with which a run
+//! begins is looked for from the oldest run on, and its coefficients are summed in this order.
 ghost use Rattle.std.specs.Prelude.{◌≡◌, ◌≤◌, length, map, drop};
 ghost use Rattle.std.specs.Option.{option_copied};
 ghost use Rattle.std.specs.Map.Iter.{TakesFirst};
@@ -42,7 +42,8 @@ fn head_at<'a>(run: &'a Run, place: usize) -> Option<&'a RunTerm>
 
 /// Of two terms the one of the lesser set, and the first one where the sets are equal.
 fn lesser<'a>(least: Option<&'a RunTerm>, other: Option<&'a RunTerm>) -> Option<&'a RunTerm>
-    ensures { option_copied result ≡ lesser_of (option_copied least.entry) (option_copied other.entry) }
+    ensures { option_copied result
+        ≡ lesser_of (option_copied least.entry) (option_copied other.entry) }
 {
     match (least, other) {
         (Some(term), Some(next)) => {

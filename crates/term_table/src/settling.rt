@@ -1,5 +1,5 @@
-//! Additions to runs: a run of one term is appended, and runs at the end are merged until each is at
-//! least twice as long as the next.
+//! Additions to runs: a run is put after the others, and runs at the end are merged until each is
+//! at least twice as long as the next.
 //!
 //! So there are at most 64 runs, and a term is copied once for each doubling of its run.
 ghost use Rattle.std.specs.Prelude.{◌≡◌, ◌+◌, ◌≤◌, ◌^◌, ℕ, ◌++◌, ◌∷◌, [], length, take, unsigned_abs, IfOk, OnOk, OnErr};
@@ -57,6 +57,16 @@ fn replace_end(runs: &mut SmallVec<Run, 1>, kept: usize, last: Run) -> Result<()
     }
 }
 
+/// Puts a run after others, and settles all. What is new is made before the runs are touched.
+pub fn append_run(alloc: Global, runs: &mut SmallVec<Run, 1>, entry: Run) -> Result<(), NoMemory>
+    requires { AreSettling runs.old.items entry }
+    ensures settled { OnOk result (runs.new.items ≡ settled (runs.old.items ++ entry ∷ [])) }
+    ensures unchanged { OnErr result (runs.new.items ≡ runs.old.items) }
+{
+    let Settled { kept, last } = settle(alloc, runs.as_slice(), entry)?;
+    replace_end(runs, kept, last)
+}
+
 /// Adds to the coefficient of a set. All that is new is made before the runs are touched.
 pub fn add_to(
     alloc: Global,
@@ -65,7 +75,8 @@ pub fn add_to(
     coefficient: i128,
 ) -> Result<(), NoMemory>
     requires runs { (width : ℕ) × AreRuns width runs.old.items }
-    requires small { terms_total (merged_terms runs.old.items) + unsigned_abs coefficient ≤ 2 ^ 124 }
+    requires small { terms_total (merged_terms runs.old.items) + unsigned_abs coefficient
+        ≤ 2 ^ 124 }
     ensures added { OnOk result
         (runs.new.items ≡ with_entry runs.old.items literals.now coefficient) }
     ensures unchanged { OnErr result (runs.new.items ≡ runs.old.items) }
@@ -74,6 +85,5 @@ pub fn add_to(
         return Ok(());
     }
     let entry = Run::of_one(alloc, literals, coefficient)?;
-    let Settled { kept, last } = settle(alloc, runs.as_slice(), entry)?;
-    replace_end(runs, kept, last)
+    append_run(alloc, runs, entry)
 }

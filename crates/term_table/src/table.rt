@@ -1,8 +1,8 @@
 //! A table: literal sets in order, with coefficients that are not 0.
 //!
-//! What is added lies in runs, each of them in order and at least twice as long as the next. A set may
-//! stand in several runs, and its coefficient is the sum over them. A table that was made at once has
-//! one run.
+//! What is added lies in runs, each of them in order and at least twice as long as the next. A set
+//! may stand in several runs, and its coefficient is the sum over them. A table that was made at
+//! once has one run.
 ghost use Rattle.std.specs.Prelude.{◌≡◌, ◌+◌, ◌<◌, ◌≤◌, ◌^◌, [], get_or, length, unsigned_abs, OnOk, OnErr};
 ghost use Rattle.term_table.specs.Terms.{terms_total, IsTermSet};
 ghost use Rattle.term_table.specs.Runs.{with_entry, AreRuns};

@@ -1,13 +1,13 @@
-use Rattle.std.proofs.Common.{◌≡◌, ◌+◌, ◌<◌, ◌≤◌, length, sym, ap, subst, ◌∙◌, refl, arith, List, [], ◌∷◌, Some, None, pos, ℤ, to_z, of_z, cond, true, false, Bool, map, rules, FitsSigned}
+use Rattle.std.proofs.Common.{◌≡◌, length, sym, ap, subst, ◌∙◌, refl, arith, List, [], ◌∷◌, pos, ℤ, to_z, of_z, cond, true, false, Bool, map, rules, FitsSigned}
 use Rattle.std.specs.Int.{w128}
 use Rattle.std.specs.Option.{option_copied}
 use Rattle.std.specs.Ordering.{int_eq}
 use Rattle.std.specs.Bool.{Decides}
 use Rattle.std.proofs.lemmas.Bool.Decides.{Decides-int_eq}
 use Rattle.std.proofs.lemmas.Int.{ints, to_z-of_z}
-use Rattle.term_table.specs.Terms.{Term, with_additions}
+use Rattle.term_table.specs.Terms.{with_additions}
 use Rattle.term_table.specs.Runs.{Run, entries, merged_terms, sum_over}
-use Rattle.term_table.specs.Rests.{rests_of, without, least_in, IsLeast, AreRests}
+use Rattle.term_table.specs.Rests.{rests_of, without, AreRests}
 use Rattle.term_table.proofs.MergedRests.{merged_terms-least, AreRests-without, length-least}
 use Rattle.term_table.proofs.RestSteps.{least_is, least_none}
 use Rattle.term_table.proofs.rests.Rests.next_term.Goals as goal

@@ -5,7 +5,7 @@ use Rattle.literal_lists.specs.Literals.{literal_cmp, has_clash}
 use Rattle.literal_lists.proofs.LiteralSets.{literal_set-ascends}
 use Rattle.term_table.specs.Terms.{IsTermSet}
 use Rattle.term_table.proofs.TermProducts.{union_set}
-use Rattle.term_table.proofs.products.add_union.Goals as goal
+use Rattle.term_table.proofs.products.gather_union.Goals as goal
 
 pub clashes-requires : goal.clashes-requires
 clashes-requires c =
@@ -14,7 +14,7 @@ clashes-requires c =
 
 pub add-requires-clause-set : goal.add-requires-clause-set
 add-requires-clause-set c =
-    let width = c.args.into.now.content.width in
+    let width = c.args.into.now.width in
     let apart =
     ap has_clash (sym (c.deref.ensures.value ∙ c.in_ok-unite.ensures)) ∙ sym c.clashes.ensures ∙ c.if-clashes.false in
     subst (λ (us : List Literal). IsTermSet width us) (sym (c.deref-2.ensures.value ∙ c.in_ok-unite.ensures))
