@@ -12,4 +12,4 @@ total_after (Ok x) t u ls added =
 total_after (Err x) t u ls added = tt
 
 pub returns-clause-total : goal.returns-clause-total
-returns-clause-total c = total_after c.add.result c.args.table.now c.add.new.self _ c.add.ensures.added
+returns-clause-total c = total_after c.add.result c.args.table.now.content c.add.new.self.content _ c.add.ensures.added

@@ -5,7 +5,7 @@ use Rattle.literal_lists.specs.declared.literal.Literal.{Literal}
 use Rattle.term_table.specs.Terms.{terms_total}
 use Rattle.term_table.specs.Tables.{TableContent, with_added}
 use Rattle.term_table.proofs.Additions.{terms_total-with_addition}
-use Rattle.table_rows.proofs.many_entries.add_small.Goals as goal
+use Rattle.layer_tests.proofs.many_entries.add_small.Goals as goal
 
 total_after : {T E : Type 0} (r : Result T E) (t u : TableContent) (ls : List Literal) (k : ℤ)
     → OnOk r (u ≡ with_added t ls k) → unsigned_abs k ≤ 1000
@@ -17,5 +17,5 @@ total_after (Err x) t u ls k added small = tt
 pub returns-clause-total : goal.returns-clause-total
 returns-clause-total c =
     let back = to_z-of_z w128 c.args.coefficient (search rules) in
-    total_after c.add.result c.args.table.now c.add.new.self _ _ c.add.ensures.added
+    total_after c.add.result c.args.table.now.content c.add.new.self.content _ _ c.add.ensures.added
     (rw back (omega (arith, ints)))

@@ -1,4 +1,4 @@
-//! Two thousand drawn entries, against a plain ordered map.
+//! Two thousand drawn entries of a table, against a plain ordered map.
 ghost use Rattle.std.specs.Prelude.{◌≡◌, ◌+◌, ◌<◌, ◌≤◌, ◌^◌, OnOk};
 ghost use Rattle.term_table.specs.Terms.{terms_total};
 
@@ -25,11 +25,11 @@ fn variable(number: u64) -> Literal {
 
 /// Adds a small coefficient, where the literals are a set.
 fn add_small(table: &mut Table, literals: &[Literal], coefficient: i128) -> Result<(), NoMemory>
-    requires width { table.old.width ≡ 20 }
-    requires total { terms_total table.old.terms ≤ 2 ^ 40 }
-    ensures width { OnOk result (table.new.width ≡ 20) }
+    requires width { table.old.content.width ≡ 20 }
+    requires total { terms_total table.old.content.terms ≤ 2 ^ 40 }
+    ensures width { OnOk result (table.new.content.width ≡ 20) }
     ensures total { OnOk result
-        (terms_total table.new.terms ≤ terms_total table.old.terms + 1000) }
+        (terms_total table.new.content.terms ≤ terms_total table.old.content.terms + 1000) }
 {
     if coefficient.unsigned_abs() > 1000 || !is_set(literals, 20) {
         return Ok(());
@@ -39,11 +39,11 @@ fn add_small(table: &mut Table, literals: &[Literal], coefficient: i128) -> Resu
 
 /// Adds to the coefficient of the set of one or two variables.
 fn add_pair(table: &mut Table, first: u64, second: u64, coefficient: i128) -> Result<(), NoMemory>
-    requires width { table.old.width ≡ 20 }
-    requires total { terms_total table.old.terms ≤ 2 ^ 40 }
-    ensures width { OnOk result (table.new.width ≡ 20) }
+    requires width { table.old.content.width ≡ 20 }
+    requires total { terms_total table.old.content.terms ≤ 2 ^ 40 }
+    ensures width { OnOk result (table.new.content.width ≡ 20) }
     ensures total { OnOk result
-        (terms_total table.new.terms ≤ terms_total table.old.terms + 1000) }
+        (terms_total table.new.content.terms ≤ terms_total table.old.content.terms + 1000) }
 {
     if first == second {
         add_small(table, &[variable(first)], coefficient)
