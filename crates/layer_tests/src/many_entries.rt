@@ -53,8 +53,8 @@ fn add_pair(table: &mut Table, first: u64, second: u64, coefficient: i128) -> Re
     }
 }
 
-/// The least variable of a pair, and one more than the other one, or 0 where they are equal: in this
-/// order the sets are.
+/// The least variable of a pair, and one more than the other one, or 0 where they are equal: the
+/// sets are in this order.
 fn key_of(first: u64, second: u64) -> (u64, u64)
     requires first { first < 20 }
     requires second { second < 20 }

@@ -3,8 +3,9 @@
 //!
 //!     table_bench KIND COUNT
 //!
-//! `different`: COUNT pairs over 65,536 variables, one by one; `alike`: pairs over 300 variables, one
-//! by one; `gathered`: pairs over 65,536 variables, at once; `triples`: the same with a third literal.
+//! `different`: COUNT pairs over 65,536 variables, one by one; `alike`: pairs over 300 variables,
+//! one by one; `gathered`: pairs over 65,536 variables, at once; `triples`: the same with a third
+//! literal.
 #![tactic(auto)]
 
 ghost use Rattle.std.specs.Prelude.{◌≡◌, ◌+◌, ◌≤◌, ◌^◌, OnOk};

@@ -32,6 +32,7 @@ sum_over ls runs = total_by (coefficient_of ls) runs
 abbrev pub merged : Run → Run → Run
 merged older newer = with_additions older newer
 
+-- whether a run has no term
 abbrev pub is_empty : Run → Bool
 is_empty [] = true
 is_empty (t ∷ ts) = false

@@ -74,7 +74,7 @@ fn gather_row(
 
 impl Table {
     /// Adds a factor times the product of two tables: that of each pair of their terms. All
-    /// products are gathered first and added at once, so where memory is refused, nothing was added.
+    /// products are gathered first and added at once, so where memory is refused, none was added.
     pub fn multiply_into(
         &self,
         other: &Table,
