@@ -18,6 +18,8 @@ mod graphs;
 #[cfg(test)]
 mod limits;
 #[cfg(test)]
+mod many_entries;
+#[cfg(test)]
 mod models;
 #[cfg(test)]
 mod multilinear;

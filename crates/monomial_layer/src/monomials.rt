@@ -20,7 +20,7 @@ pub struct Monomials;
 
 /// A table without terms of three literals, as one that is known to have none.
 fn known_low(table: Table) -> LowTable
-    requires { IsLow table }
+    requires { IsLow table.content }
     ensures { result ≡ table }
 {
     match low(table) {
@@ -31,7 +31,7 @@ fn known_low(table: Table) -> LowTable
 
 /// An assignment, and the bits of all new nodes.
 fn extension_of(alloc: Global, table: &Table, x: &[bool]) -> Result<Vec<bool>, NoMemory>
-    ensures { IfOk result (λ y. y.items ≡ extension x.now table.now.terms) }
+    ensures { IfOk result (λ y. y.items ≡ extension x.now table.now.content.terms) }
 {
     let mut bits = x.to_vec(alloc)?;
     for (literals, coefficient) in table.terms() {
@@ -49,6 +49,7 @@ impl Layer for Monomials {
 
     ghost use Rattle.std.specs.Prelude.{pos};
     ghost use Rattle.form_steps.specs.Links.{first_bits, HasFirstBits};
+    ghost use Rattle.term_table.specs.Tables.{kept_at_once};
     ghost use Rattle.monomial_layer.specs.Monomials.{image, extension, Fits};
     ghost use Rattle.monomial_layer.specs.laws.Kept.{
       mono_sound,
@@ -64,29 +65,29 @@ impl Layer for Monomials {
 
     ghost OFFSET_FACTOR = { 0 };
 
-    ghost image = { image };
+    ghost image = { λ t. kept_at_once (image t.content) };
 
     ghost scale = { λ _. pos 1 };
 
     ghost offset = { λ _. pos 0 };
 
-    ghost extension = { λ t x. extension x t.terms };
+    ghost extension = { λ t x. extension x t.content.terms };
 
     ghost decoding = { first_bits };
 
     ghost is_sound = { HasFirstBits };
 
-    ghost fits = { λ link t. Fits link t };
+    ghost fits = { λ link t. Fits link t.content };
 
-    ghost sound = { mono_sound };
+    ghost sound = { λ link t. mono_sound link t.content };
 
-    ghost joins = { mono_joins };
+    ghost joins = { λ link t. mono_joins link t.content };
 
-    ghost keeps = { mono_keeps };
+    ghost keeps = { λ link t. mono_keeps link t.content };
 
-    ghost whole_source = { mono_whole_source };
+    ghost whole_source = { λ t. mono_whole_source t.content };
 
-    ghost whole = { mono_whole };
+    ghost whole = { λ t. mono_whole t.content };
 
     fn lower(
         &self,

@@ -75,8 +75,8 @@ pub fn new_nodes(literals: &[Literal], coefficient: i128) -> usize
 
 /// How many new nodes all terms have.
 pub fn all_new_nodes(table: &Table) -> usize
-    requires { terms_size table.now.terms ≤ 2 ^ 32 }
-    ensures { result ≡ sum_by new_nodes table.now.terms }
+    requires { terms_size table.now.content.terms ≤ 2 ^ 32 }
+    ensures { result ≡ sum_by new_nodes table.now.content.terms }
 {
     let mut nodes = 0;
     for (literals, coefficient) in table.terms() {

@@ -7,7 +7,7 @@ ghost use Rattle.std.specs.Prelude.{◌≡◌, ◌+◌, ◌-◌, ◌*◌, ◌<�
 ghost use Rattle.std.specs.List.{sum_by};
 ghost use Rattle.literal_lists.specs.Literals.{IsLiteralSet};
 ghost use Rattle.term_table.specs.Terms.{with_additions, terms_size, terms_total, IsTermSet};
-ghost use Rattle.term_table.specs.Tables.{with_more, IsTable};
+ghost use Rattle.term_table.specs.Tables.{with_more, kept_at_once, IsTable};
 ghost use Rattle.monomial_layer.specs.Monomials.{
   each_with,
   image,
@@ -202,12 +202,12 @@ fn add_replaced(
 
 /// The table of what stands for the terms, one after another.
 pub fn quadratic_table(alloc: Global, table: &Table) -> Result<Table, NoMemory>
-    requires size { (table.now.width + terms_size table.now.terms) * 2 ^ 2 ≤ 2 ^ 32 }
-    requires total { (terms_total table.now.terms + 1) * 2 ^ 24 ≤ 2 ^ 124 }
-    ensures made { IfOk result (λ quadratic. quadratic ≡ image table.now) }
+    requires size { (table.now.content.width + terms_size table.now.content.terms) * 2 ^ 2 ≤ 2 ^ 32 }
+    requires total { (terms_total table.now.content.terms + 1) * 2 ^ 24 ≤ 2 ^ 124 }
+    ensures made { IfOk result (λ quadratic. quadratic ≡ kept_at_once (image table.now.content)) }
 
     // What the laws of the layer rest on.
-    ensures kept { IsTable table.now }
+    ensures kept { IsTable table.now.content }
 {
     let mut next = table.width();
     let mut quadratic = GatheredTerms::new(alloc, next + all_new_nodes(table));

@@ -40,7 +40,7 @@ weight-in_front test ls c ts = go (int_eq c (pos 0)) (Decides-int_eq c (pos 0))
     go true d = omega (arith, ints, if_so-zero (test ls) c (d.0 refl))
     go false d = refl
 
-weight-with_addition : (test : List Literal → Bool) (ts : List Term) (ls : List Literal) (c : ℤ)
+pub weight-with_addition : (test : List Literal → Bool) (ts : List Term) (ls : List Literal) (c : ℤ)
     → weight test (with_addition ts ls c) ≡ weight test ts +ℤ if_so (test ls) c
 weight-with_addition test [] ls c = omega (arith, ints, weight-in_front test ls c [])
 weight-with_addition test (t ∷ ts) ls c = go (set_cmp ls t.0) refl (weight-with_addition test ts ls c)
@@ -62,7 +62,7 @@ weight-with_addition test (t ∷ ts) ls c = go (set_cmp ls t.0) refl (weight-wit
         )
     go Greater e rest = omega (arith, ints)
 
-weight-with_additions : (test : List Literal → Bool) (table ts : List Term)
+pub weight-with_additions : (test : List Literal → Bool) (table ts : List Term)
     → weight test (with_additions table ts) ≡ weight test table +ℤ weight test ts
 weight-with_additions test table [] = omega (arith, ints)
 weight-with_additions test table (t ∷ ts) =

@@ -1,29 +1,79 @@
 -- An addition to a table leaves a table.
-use Rattle.std.proofs.Common.{◌≡◌, ◌+◌, ◌≤◌, ◌^◌, ℕ, ℤ, List, [], ◌∷◌, ◌++◌, arith, unsigned_abs, Result, Ok, Err, OnOk, OnErr}
+use Rattle.std.proofs.Common.{◌≡◌, ◌+◌, ◌≤◌, ◌^◌, ℕ, ℤ, List, [], ◌∷◌, ◌++◌, ap, ◌∙◌, arith, unsigned_abs, All, Result, Ok, Err, OnOk, OnErr}
 use Rattle.std.proofs.lemmas.List.Elements.{All-nil, All-push}
 use Rattle.literal_lists.specs.declared.literal.Literal.{Literal}
-use Rattle.term_table.specs.Terms.{Term, with_addition, with_additions, terms_total, IsTermSet}
-use Rattle.term_table.specs.Tables.{TableContent, with_added, with_appended, IsTable, AreAdditions}
-use Rattle.term_table.proofs.Additions.{terms_total-with_addition, terms_total-append, terms_total-cons, terms_total-with_additions}
-use Rattle.term_table.proofs.KeptTerms.{OfSet, AreTerms-nil, AreTerms-with_addition, AreTerms-with_additions}
+use Rattle.term_table.specs.Terms.{Term, with_additions, terms_total, IsTermSet}
+use Rattle.term_table.specs.Runs.{Run, merged_terms, settled, with_entry, one_run}
+use Rattle.term_table.specs.Tables.{TableContent, kept_in, with_added, with_all, with_appended, IsTable, IsKept, AreAdditions}
+use Rattle.term_table.proofs.Additions.{terms_total-with_addition, terms_total-append, terms_total-cons, terms_total-more, terms_total-with_additions}
+use Rattle.term_table.proofs.KeptTerms.{OfSet, AreTerms-with_additions}
+use Rattle.term_table.proofs.Runs.{AreRuns-nil, AreRuns-one_run, AreRuns-settled, AreRuns-with_entry, AreTerms-merged, merged_terms-one_run, merged_terms-with_entry, merged_terms-with_sums}
 
-pub IsTable-nil : (width : ℕ) → IsTable (record { width = width; terms = [] })
-IsTable-nil width = record { terms = AreTerms-nil width; small = omega arith }
+-- a table's runs make a table
+pub IsTable-kept : (width : ℕ) (runs : List Run) → IsKept width runs
+    → IsTable (record { width = width; terms = merged_terms runs })
+IsTable-kept width runs kept = record {
+  terms = AreTerms-merged width runs kept.runs.terms;
+  small = kept.small;
+}
 
-pub IsTable-with_addition : (t : TableContent) (ls : List Literal) (c : ℤ) → IsTable t → IsTermSet t.width ls
-    → terms_total t.terms + unsigned_abs c ≤ 2 ^ 124 → IsTable (with_added t ls c)
-IsTable-with_addition t ls c table set small = record {
-  terms = AreTerms-with_addition t.width t.terms ls c table.terms set;
-  small = omega (arith, terms_total-with_addition t.terms ls c);
+pub IsKept-nil : (width : ℕ) → IsKept width []
+IsKept-nil width = record { runs = AreRuns-nil width; small = omega arith }
+
+pub IsKept-with_entry : (width : ℕ) (runs : List Run) (ls : List Literal) (c : ℤ)
+    → IsKept width runs → IsTermSet width ls
+    → terms_total (merged_terms runs) + unsigned_abs c ≤ 2 ^ 124
+    → IsKept width (with_entry runs ls c)
+IsKept-with_entry width runs ls c kept set small = record {
+  runs = AreRuns-with_entry width runs ls c kept.runs set small;
+  small =
+      omega (
+        arith,
+        ap terms_total (merged_terms-with_entry runs ls c),
+        terms_total-with_addition (merged_terms runs) ls c,
+      );
+}
+
+-- the sums of additions, put after the runs
+pub IsKept-with_sums : (width : ℕ) (runs : List Run) (ts : List Term) → IsKept width runs
+    → All (OfSet (IsTermSet width)) ts
+    → terms_total (merged_terms runs) + terms_total ts ≤ 2 ^ 124
+    → IsKept width (settled (runs ++ with_additions [] ts ∷ []))
+IsKept-with_sums width runs ts kept sets small = record {
+  runs =
+      AreRuns-settled width runs (with_additions [] ts) kept.runs
+      (AreTerms-with_additions width ts sets) (omega (arith, small, terms_total-with_additions ts));
+  small =
+      omega (
+        arith,
+        ap terms_total (merged_terms-with_sums runs ts),
+        terms_total-more (merged_terms runs) ts,
+      );
 }
 
 -- whether memory was left or not
-pub IsTable-by_result : {E : Type 0} (r : Result (Unit {0}) E) (t : TableContent) (ls : List Literal)
-    (c : ℤ) (terms : List Term) → IsTable t → IsTable (with_added t ls c)
-    → OnOk r (terms ≡ with_addition t.terms ls c) → OnErr r (terms ≡ t.terms)
-    → IsTable (record { width = t.width; terms = terms })
-IsTable-by_result (Ok u) t ls c terms old new done same = rw done new
-IsTable-by_result (Err u) t ls c terms old new done same = rw same old
+pub IsKept-by_result : {E : Type 0} (r : Result (Unit {0}) E) (width : ℕ) (runs new next : List Run)
+    → IsKept width runs → IsKept width next → OnOk r (new ≡ next) → OnErr r (new ≡ runs)
+    → IsKept width new
+IsKept-by_result (Ok u) width runs new next before after done same = rw done after
+IsKept-by_result (Err u) width runs new next before after done same = rw same before
+
+-- what contracts see after it
+pub content-by_result : {E : Type 0} (r : Result (Unit {0}) E) (width : ℕ) (runs new : List Run)
+    (ls : List Literal) (c : ℤ) → OnOk r (new ≡ with_entry runs ls c)
+    → OnOk r ((kept_in width new).content ≡ with_added (kept_in width runs).content ls c)
+content-by_result (Ok u) width runs new ls c done =
+    ap (λ (ts : List Term). record { width = width; terms = ts })
+    (ap merged_terms done ∙ merged_terms-with_entry runs ls c)
+content-by_result (Err u) width runs new ls c done = tt
+
+pub sums-by_result : {E : Type 0} (r : Result (Unit {0}) E) (width : ℕ) (runs new : List Run)
+    (ts : List Term) → OnOk r (new ≡ settled (runs ++ with_additions [] ts ∷ []))
+    → OnOk r ((kept_in width new).content ≡ with_all (kept_in width runs).content ts)
+sums-by_result (Ok u) width runs new ts done =
+    ap (λ (us : List Term). record { width = width; terms = us })
+    (ap merged_terms done ∙ merged_terms-with_sums runs ts)
+sums-by_result (Err u) width runs new ts done = tt
 
 -- ---- additions that are to be summed
 
@@ -49,9 +99,20 @@ AreAdditions-by_result (Ok u) t ls c terms all set small done same =
     rw done (AreAdditions-with_appended t ls c all set small)
 AreAdditions-by_result (Err u) t ls c terms all set small done same = rw same all
 
-pub IsTable-with_additions : (t : TableContent) → AreAdditions t
-    → IsTable (record { width = t.width; terms = with_additions [] t.terms })
-IsTable-with_additions t all = record {
-  terms = AreTerms-with_additions t.width t.terms all.sets;
-  small = omega (arith, terms_total-with_additions t.terms, all.small);
-}
+-- the table of sums has one run
+pub IsKept-with_additions : (t : TableContent) → AreAdditions t
+    → IsKept t.width (one_run (with_additions [] t.terms))
+IsKept-with_additions t all =
+    let terms = AreTerms-with_additions t.width t.terms all.sets in
+    let total : terms_total (with_additions [] t.terms) ≤ 2 ^ 124 =
+    omega (arith, terms_total-with_additions t.terms, all.small) in
+    record {
+      runs = AreRuns-one_run t.width (with_additions [] t.terms) terms total;
+      small = rw (merged_terms-one_run t.width (with_additions [] t.terms) terms) total;
+    }
+
+-- what contracts see of it
+pub listed-with_additions : (t : TableContent) → AreAdditions t
+    → merged_terms (one_run (with_additions [] t.terms)) ≡ with_additions [] t.terms
+listed-with_additions t all =
+    merged_terms-one_run t.width (with_additions [] t.terms) (AreTerms-with_additions t.width t.terms all.sets)

@@ -98,7 +98,7 @@ Under-in_front ks ls c ts less under = go (int_eq c (pos 0))
     go true = under
     go false = (less, under)
 
-Under-with_addition : (ks : List Literal) (ts : List Term) (ls : List Literal) (c : ℤ)
+pub Under-with_addition : (ks : List Literal) (ts : List Term) (ls : List Literal) (c : ℤ)
     → set_cmp ks ls ≡ Less → Under ks ts → Under ks (with_addition ts ls c)
 Under-with_addition ks [] ls c less under = Under-in_front ks ls c [] less under
 Under-with_addition ks (t ∷ ts) ls c less under =
@@ -164,7 +164,7 @@ AreTerms-with_addition width ts ls c terms here = record {
   nonzero = nonzero-with_addition ts ls c terms.nonzero;
 }
 
-AreTerms-more : (width : ℕ) (table ts : List Term) → AreTerms width table
+pub AreTerms-more : (width : ℕ) (table ts : List Term) → AreTerms width table
     → All (OfSet (IsTermSet width)) ts → AreTerms width (with_additions table ts)
 AreTerms-more width table [] terms each = terms
 AreTerms-more width table (t ∷ ts) terms each =
@@ -178,7 +178,7 @@ AreTerms-with_additions width ts each = AreTerms-more width [] ts (AreTerms-nil 
 
 -- ---- the order, and that no coefficient is 0, of any additions
 
-Ascends-more : (table ts : List Term) → Ascends table → Ascends (with_additions table ts)
+pub Ascends-more : (table ts : List Term) → Ascends table → Ascends (with_additions table ts)
 Ascends-more table [] ascends = ascends
 Ascends-more table (t ∷ ts) ascends =
     Ascends-more (with_addition table t.0 t.1) ts (Ascends-with_addition table t.0 t.1 ascends)
@@ -186,7 +186,7 @@ Ascends-more table (t ∷ ts) ascends =
 pub Ascends-with_additions : (ts : List Term) → Ascends (with_additions [] ts)
 Ascends-with_additions ts = Ascends-more [] ts Ascends-nil
 
-nonzero-more : (table ts : List Term) → All IsNonzero table → All IsNonzero (with_additions table ts)
+pub nonzero-more : (table ts : List Term) → All IsNonzero table → All IsNonzero (with_additions table ts)
 nonzero-more table [] all = all
 nonzero-more table (t ∷ ts) all =
     nonzero-more (with_addition table t.0 t.1) ts (nonzero-with_addition table t.0 t.1 all)

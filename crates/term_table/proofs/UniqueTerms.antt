@@ -20,14 +20,14 @@ use Rattle.term_table.proofs.KeptTerms.{Under, Under-further, greater_back}
 abbrev given : List Literal → Term → ℤ
 given ls t = if_so (is_eq (set_cmp ls t.0)) t.1
 
-coefficient_of-under : (ls : List Literal) (ts : List Term) → Under ls ts
+pub coefficient_of-under : (ls : List Literal) (ts : List Term) → Under ls ts
     → coefficient_of ls ts ≡ pos 0
 coefficient_of-under ls [] under = refl
 coefficient_of-under ls (t ∷ ts) under =
     let none : given ls t ≡ pos 0 = ap (λ o. if_so (is_eq o) t.1) under.0 in
     omega (arith, ints, coefficient_of-under ls ts under.1)
 
-coefficient_of-first : (t : Term) (ts : List Term) → Under t.0 ts
+pub coefficient_of-first : (t : Term) (ts : List Term) → Under t.0 ts
     → coefficient_of t.0 (t ∷ ts) ≡ t.1
 coefficient_of-first t ts under =
     let whole : given t.0 t ≡ t.1 = ap (λ o. if_so (is_eq o) t.1) (set_itself t.0) in

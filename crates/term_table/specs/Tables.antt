@@ -4,11 +4,28 @@ use Rattle.base.specs.declared.costs.Cost.TheVariants.{Whole}
 use Rattle.base.specs.Costs.{Form}
 use Rattle.literal_lists.specs.declared.literal.Literal.{Literal}
 use Rattle.term_table.specs.Terms.{Term, terms_cost, terms_total, terms_size, with_addition, with_additions, coefficient_of, AreTerms, IsTermSet}
+use Rattle.term_table.specs.Runs.{Run, one_run, merged_terms, AreRuns}
 
 -- a width, and terms over the variables below it
 pub record TableContent : Type 0 where
   pub width : ℕ
   pub terms : List Term
+
+-- a table: its content, and the runs in which that is kept
+pub record KeptTable : Type 0 where
+  pub content : TableContent
+  pub runs : List Run
+
+-- content that is kept at once
+abbrev pub kept_at_once : TableContent → KeptTable
+kept_at_once t = record { content = t; runs = one_run t.terms }
+
+-- the content that runs are
+abbrev pub kept_in : ℕ → List Run → KeptTable
+kept_in width runs = record {
+  content = record { width = width; terms = merged_terms runs };
+  runs = runs;
+}
 
 -- its width, and the cost of its terms
 abbrev pub form_of : TableContent → Form
@@ -22,6 +39,11 @@ table_size t = t.width + terms_size t.terms
 pub record IsTable (t : TableContent) : Type 0 where
   pub terms : AreTerms t.width t.terms
   pub small : terms_total t.terms ≤ 2 ^ 124
+
+-- what a table of a width keeps of its runs, and that their terms are small in sum
+pub record IsKept (width : ℕ) (all : List Run) : Type 0 where
+  pub runs : AreRuns width all
+  pub small : terms_total (merged_terms all) ≤ 2 ^ 124
 
 -- no term has more than two literals
 abbrev pub IsLow : TableContent → Type 0

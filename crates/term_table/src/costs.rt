@@ -7,11 +7,11 @@ use base::{Cost, Costed};
 use literal_lists::all_hold;
 
 impl Costed for Table {
-    ghost form = { form_of };
+    ghost form = { λ t. form_of t.content };
 
-    ghost total = { λ t. terms_total t.terms };
+    ghost total = { λ t. terms_total t.content.terms };
 
-    ghost size = { table_size };
+    ghost size = { λ t. table_size t.content };
 
     fn width(&self) -> usize {
         self.width

@@ -4,19 +4,22 @@
 //! each.
 ghost use Rattle.std.specs.Prelude.{◌≡◌, ◌+◌, ◌≤◌, ◌^◌, ◌∷◌, ◌++◌, [], unsigned_abs, OnOk, OnErr};
 ghost use Rattle.term_table.specs.Terms.{with_additions, terms_total, IsTermSet};
-ghost use Rattle.term_table.specs.Tables.{with_appended};
+ghost use Rattle.term_table.specs.Runs.{one_run, settled};
+ghost use Rattle.term_table.specs.Tables.{with_all, with_appended, kept_at_once};
 
-use crate::entries::Entries;
-use crate::literal_set::LiteralSet;
+use crate::run::Run;
+use crate::run_term::RunTerm;
+use crate::settling::append_run;
 use crate::sums::sorted_sums;
 use crate::table::Table;
 use base::NoMemory;
 use literal_lists::Literal;
+use smallvec::SmallVec;
 use std::alloc::Global;
 use std::marker::Model;
 
 /// Appends a term.
-fn append(terms: &mut Vec<(LiteralSet, i128)>, term: (LiteralSet, i128)) -> Result<(), NoMemory>
+fn append(terms: &mut Vec<RunTerm>, term: RunTerm) -> Result<(), NoMemory>
     ensures appended { OnOk result (terms.new.items ≡ terms.old.items ++ term ∷ []) }
     ensures unchanged { OnErr result (terms.new.items ≡ terms.old.items) }
 {
@@ -26,12 +29,22 @@ fn append(terms: &mut Vec<(LiteralSet, i128)>, term: (LiteralSet, i128)) -> Resu
     }
 }
 
+/// The runs of terms that are kept at once. Takes no memory.
+fn runs_of(alloc: Global, terms: Vec<RunTerm>) -> SmallVec<Run, 1>
+    ensures { result.items ≡ one_run terms.items }
+{
+    if terms.is_empty() {
+        return SmallVec::new(alloc);
+    }
+    SmallVec::from_buf(alloc, [Run { terms }])
+}
+
 /// Terms that are to be summed, in the order in which they came.
 #[derive(Drop)]
 pub struct GatheredTerms {
     width: usize,
     alloc: Global,
-    terms: Vec<(LiteralSet, i128)>,
+    terms: Vec<RunTerm>,
 }
 
 impl Model for GatheredTerms {
@@ -59,7 +72,7 @@ impl GatheredTerms {
 
     /// Over the variables of a table. Takes no memory.
     pub fn as_wide_as(alloc: Global, table: &Table) -> GatheredTerms
-        ensures { result ≡ record { width = table.now.width; terms = [] } }
+        ensures { result ≡ record { width = table.now.content.width; terms = [] } }
     {
         GatheredTerms::new(alloc, table.width)
     }
@@ -71,13 +84,14 @@ impl GatheredTerms {
         ensures added { OnOk result (self.new ≡ with_appended self.old literals.now coefficient) }
         ensures unchanged { OnErr result (self.new ≡ self.old) }
     {
-        let key = LiteralSet::from_slice(self.alloc, literals)?;
-        append(&mut self.terms, (key, coefficient))
+        let term = RunTerm::of(self.alloc, literals, coefficient)?;
+        append(&mut self.terms, term)
     }
 
     /// The table of the sums. Takes no memory.
     pub fn into_table(self) -> Table
-        ensures { result ≡ record { width = self.width; terms = with_additions [] self.terms } }
+        ensures { result
+            ≡ kept_at_once (record { width = self.width; terms = with_additions [] self.terms }) }
     {
         let GatheredTerms {
             width,
@@ -87,7 +101,26 @@ impl GatheredTerms {
         Table {
             width,
             alloc,
-            entries: Entries::Listed(sorted_sums(terms)),
+            runs: runs_of(alloc, sorted_sums(terms)),
         }
+    }
+}
+
+impl Table {
+    /// Adds all gathered terms: their sums are put after the runs as one more, and all are settled.
+    pub(crate) fn add_gathered(&mut self, gathered: GatheredTerms) -> Result<(), NoMemory>
+        requires width { gathered.width ≡ self.old.content.width }
+        requires small { terms_total self.old.content.terms + terms_total gathered.terms
+            ≤ 2 ^ 124 }
+        ensures added { OnOk result (self.new.content ≡ with_all self.old.content gathered.terms) }
+        ensures settled { OnOk result
+            (self.new.runs ≡ settled (self.old.runs ++ with_additions [] gathered.terms ∷ [])) }
+        ensures unchanged { OnErr result (self.new ≡ self.old) }
+    {
+        let GatheredTerms { terms, .. } = gathered;
+        let sums = Run {
+            terms: sorted_sums(terms),
+        };
+        append_run(self.alloc, &mut self.runs, sums)
     }
 }

@@ -16,19 +16,19 @@ pub struct LowTable {
 }
 
 impl Model for LowTable {
-    ghost use Rattle.term_table.specs.Tables.{TableContent, IsLow};
+    ghost use Rattle.term_table.specs.Tables.{KeptTable, IsLow};
 
-    ghost Value = { TableContent };
+    ghost Value = { KeptTable };
 
     ghost view = { λ t. t.table };
 
-    ghost invariant = { λ t. IsLow t.table };
+    ghost invariant = { λ t. IsLow t.table.content };
 }
 
 /// Whether no term has more than two literals.
 fn is_low(table: &Table) -> bool
-    ensures low { OnTrue result (IsLow table.now) }
-    ensures high { OnFalse result (Any (λ u. 2 < length u.0) table.now.terms) }
+    ensures low { OnTrue result (IsLow table.now.content) }
+    ensures high { OnFalse result (Any (λ u. 2 < length u.0) table.now.content.terms) }
 {
     for (literals, _) in table.terms() {
         if literals.len() > 2 {
@@ -41,10 +41,10 @@ fn is_low(table: &Table) -> bool
 /// The table where it is low, and the table as an error elsewhere. Takes no memory.
 pub fn low(table: Table) -> Result<LowTable, Table>
     ensures low { IfOk result (λ t. t ≡ table) }
-    ensures within { OnOk result (IsLow table) }
+    ensures within { OnOk result (IsLow table.content) }
 
     ensures high { IfErr result (λ t. t ≡ table) }
-    ensures above { OnErr result (Any (λ u. 2 < length u.0) table.terms) }
+    ensures above { OnErr result (Any (λ u. 2 < length u.0) table.content.terms) }
 {
     if is_low(&table) {
         Ok(LowTable { table })
@@ -56,20 +56,20 @@ pub fn low(table: Table) -> Result<LowTable, Table>
 impl LowTable {
     /// The terms in order. Takes no memory.
     pub fn terms(&self) -> Terms<'_>
-        ensures terms { result ≡ self.now.terms }
-        ensures kept { IsTable self.now }
-        ensures low { IsLow self.now }
+        ensures terms { result ≡ self.now.content.terms }
+        ensures kept { IsTable self.now.content }
+        ensures low { IsLow self.now.content }
     {
         self.table.terms()
     }
 }
 
 impl Costed for LowTable {
-    ghost form = { form_of };
+    ghost form = { λ t. form_of t.content };
 
-    ghost total = { λ t. terms_total t.terms };
+    ghost total = { λ t. terms_total t.content.terms };
 
-    ghost size = { table_size };
+    ghost size = { λ t. table_size t.content };
 
     fn width(&self) -> usize {
         self.table.width()

@@ -1,9 +1,10 @@
-//! Products of two tables, which are added into a third one.
+//! Products of two tables, which are gathered and then added into a third one.
 ghost use Rattle.std.specs.Prelude.{◌≡◌, ◌≢◌, ◌+◌, ◌*◌, ◌≤◌, ◌^◌, ◌*ℤ◌, pos, length, unsigned_abs, All, OnOk, OnErr};
 ghost use Rattle.term_table.specs.Terms.{terms_total};
-ghost use Rattle.term_table.specs.Tables.{with_all};
+ghost use Rattle.term_table.specs.Tables.{with_all, with_more};
 ghost use Rattle.term_table.specs.Products.{pair_products, pairs_of, pairs_with, union_terms, HasPrefix, IsFactor};
 
+use crate::gathered::GatheredTerms;
 use crate::table::Table;
 use crate::unions::unite;
 use base::NoMemory;
@@ -26,9 +27,9 @@ fn product_of(factor: &i128, a: &i128, b: &i128) -> i128
     times(&times(factor, a), b)
 }
 
-/// Adds a coefficient on the union of two sets, where it has no clash.
-fn add_union(
-    into: &mut Table,
+/// Gathers a coefficient on the union of two sets, where it has no clash.
+fn gather_union(
+    into: &mut GatheredTerms,
     set: &mut Vec<Literal>,
     ls: &[Literal],
     ks: &[Literal],
@@ -37,9 +38,8 @@ fn add_union(
     requires left { IsFactor into.old.width ls.now }
     requires right { IsFactor into.old.width ks.now }
     requires small { terms_total into.old.terms + unsigned_abs coefficient ≤ 2 ^ 124 }
-    ensures added { OnOk result
-        (into.new ≡ with_all into.old (union_terms ls.now ks.now coefficient)) }
-    ensures unchanged { OnErr result (into.new ≡ into.old) }
+    ensures { OnOk result
+        (into.new ≡ with_more into.old (union_terms ls.now ks.now coefficient)) }
 {
     unite(set, ls, ks)?;
     if clashes(set) {
@@ -48,9 +48,9 @@ fn add_union(
     into.add(set, coefficient)
 }
 
-/// Adds a factor times the products of a term and each of a table's.
-fn multiply_row(
-    into: &mut Table,
+/// Gathers a factor times the products of a term and each of a table's.
+fn gather_row(
+    into: &mut GatheredTerms,
     set: &mut Vec<Literal>,
     ls: &[Literal],
     a: &i128,
@@ -58,46 +58,47 @@ fn multiply_row(
     factor: &i128,
 ) -> Result<(), NoMemory>
     requires left { IsFactor into.old.width ls.now }
-    requires width { other.now.width ≡ into.old.width }
-    requires short { All (λ t. length t.0 ≤ 1024) other.now.terms }
+    requires width { other.now.content.width ≡ into.old.width }
+    requires short { All (λ t. length t.0 ≤ 1024) other.now.content.terms }
     requires small { terms_total into.old.terms
-        + unsigned_abs factor.now * (unsigned_abs a.now * terms_total other.now.terms) ≤ 2 ^ 124 }
-    ensures multiplied { OnOk result (into.new ≡ with_all into.old
-        (pair_products factor.now (pairs_with (ls.now, a.now) other.now.terms))) }
-    ensures prefix { OnErr result (HasPrefix into.old into.new factor.now
-        (pairs_with (ls.now, a.now) other.now.terms)) }
+        + unsigned_abs factor.now * (unsigned_abs a.now * terms_total other.now.content.terms)
+        ≤ 2 ^ 124 }
+    ensures { OnOk result (into.new ≡ with_more into.old
+        (pair_products factor.now (pairs_with (ls.now, a.now) other.now.content.terms))) }
 {
     for (ks, b) in other.terms() {
-        add_union(into, set, ls, ks, product_of(factor, a, &b))?;
+        gather_union(into, set, ls, ks, product_of(factor, a, &b))?;
     }
     Ok(())
 }
 
 impl Table {
-    /// Adds a factor times the product of two tables: that of each pair of their terms, in order.
-    /// Where memory is refused, those of the first pairs were added.
+    /// Adds a factor times the product of two tables: that of each pair of their terms. All
+    /// products are gathered first and added at once, so where memory is refused, none was added.
     pub fn multiply_into(
         &self,
         other: &Table,
         factor: i128,
         into: &mut Table,
     ) -> Result<(), NoMemory>
-        requires width { self.now.width ≡ into.old.width }
-        requires other_width { other.now.width ≡ into.old.width }
-        requires short { All (λ t. length t.0 ≤ 1024) self.now.terms }
-        requires other_short { All (λ t. length t.0 ≤ 1024) other.now.terms }
-        requires small { terms_total into.old.terms
-            + unsigned_abs factor * (terms_total self.now.terms * terms_total other.now.terms)
+        requires width { self.now.content.width ≡ into.old.content.width }
+        requires other_width { other.now.content.width ≡ into.old.content.width }
+        requires short { All (λ t. length t.0 ≤ 1024) self.now.content.terms }
+        requires other_short { All (λ t. length t.0 ≤ 1024) other.now.content.terms }
+        requires small { terms_total into.old.content.terms + unsigned_abs factor
+            * (terms_total self.now.content.terms * terms_total other.now.content.terms)
             ≤ 2 ^ 124 }
-        ensures multiplied { OnOk result (into.new ≡ with_all into.old
-            (pair_products factor (pairs_of self.now.terms other.now.terms))) }
-        ensures prefix { OnErr result (HasPrefix into.old into.new factor
-            (pairs_of self.now.terms other.now.terms)) }
+        ensures multiplied { OnOk result (into.new.content ≡ with_all into.old.content
+            (pair_products factor (pairs_of self.now.content.terms other.now.content.terms))) }
+        ensures prefix { OnErr result (HasPrefix into.old.content into.new.content factor
+            (pairs_of self.now.content.terms other.now.content.terms)) }
+        ensures unchanged { OnErr result (into.new ≡ into.old) }
     {
+        let mut products = GatheredTerms::as_wide_as(into.alloc, into);
         let mut set = Vec::new(into.alloc);
         for (ls, a) in self.terms() {
-            multiply_row(into, &mut set, ls, &a, other, &factor)?;
+            gather_row(&mut products, &mut set, ls, &a, other, &factor)?;
         }
-        Ok(())
+        into.add_gathered(products)
     }
 }

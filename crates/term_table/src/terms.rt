@@ -1,15 +1,15 @@
 //! The terms of a table, one after another.
-use crate::literal_set::LiteralSet;
+use crate::rests::Rests;
+use crate::run_term::RunTerm;
 use literal_lists::Literal;
-use std::collections::btree_map;
 use std::marker::Model;
 use std::slice;
 
-/// What is left of a map or of a list.
+/// What is left of one run, or of several that are merged.
 #[derive(Drop)]
 pub enum Left<'a> {
-    InMap(btree_map::Iter<'a, LiteralSet, i128>),
-    InList(slice::Iter<'a, (LiteralSet, i128)>),
+    Listed(slice::Iter<'a, RunTerm>),
+    Merged(Rests<'a>),
 }
 
 /// Terms in order, which contracts see as the list of those that are left.
@@ -41,14 +41,11 @@ impl<'a> Iterator for Terms<'a> {
 
     fn next(&mut self) -> Option<(&'a [Literal], i128)> {
         match &mut self.left {
-            Left::InMap(rest) => match rest.next() {
-                Some((literals, coefficient)) => Some((literals.as_slice(), *coefficient)),
+            Left::Listed(rest) => match rest.next() {
+                Some(term) => Some((term.as_slice(), term.weight())),
                 None => None,
             },
-            Left::InList(rest) => match rest.next() {
-                Some((literals, coefficient)) => Some((literals.as_slice(), *coefficient)),
-                None => None,
-            },
+            Left::Merged(rests) => rests.next_term(),
         }
     }
 }

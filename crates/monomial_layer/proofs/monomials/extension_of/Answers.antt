@@ -17,5 +17,5 @@ loop-literals-preserved c =
     let new : c.push_bits.new.bits.items ≡ c.loop-literals.bits.items ++ new_bits x t = rw back at c.in_ok-push_bits.ensures in
     record {
       whole = bits_left x c.loop-literals.bits.items _ _ t _ _ left new c.loop-literals.invariant.whole;
-      sets = All-rest (λ (u : Term). IsTermSet c.args.table.now.width u.0) _ _ _ left c.loop-literals.invariant.sets;
+      sets = All-rest (λ (u : Term). IsTermSet c.args.table.now.content.width u.0) _ _ _ left c.loop-literals.invariant.sets;
     }

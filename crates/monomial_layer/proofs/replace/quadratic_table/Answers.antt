@@ -20,13 +20,13 @@ overflow_add-next c =
       arith,
       c.width-next.ensures,
       c.all_new_nodes.ensures,
-      all_nodes-le c.args.table.now.terms,
+      all_nodes-le c.args.table.now.content.terms,
       c.requires.size,
     )
 
 pub loop-literals-init : goal.loop-literals-init
 loop-literals-init c =
-    let t = c.args.table.now in
+    let t = c.args.table.now.content in
     let left : c.into_iter-literals-iterator.result ≡ t.terms =
     c.into_iter-literals-iterator.ensures.into_iter_gives ∙ c.terms-literals-items.ensures.terms in
     let empty : c.new-quadratic.result.terms ≡ [] = ap (λ (u : TableContent). u.terms) c.new-quadratic.ensures in
@@ -54,13 +54,13 @@ add_replaced-requires-clause-narrow c =
     omega (
       arith,
       c.loop-literals.invariant.width,
-      all_nodes-le c.args.table.now.terms,
+      all_nodes-le c.args.table.now.content.terms,
       c.requires.size,
     )
 
 pub add_replaced-requires-clause-set : goal.add_replaced-requires-clause-set
 add_replaced-requires-clause-set c =
-    let t = c.args.table.now in
+    let t = c.args.table.now.content in
     let left = rest_more _ c.loop-literals.literals-iterator c.next.new.self c.next.result (c.in-Some.literals, c.in-Some.coefficient) c.in-Some.is c.next.ensures.steps in
     IsTermSet-wider t.width c.loop-literals.next c.in-Some.literals.now c.loop-literals.invariant.above
     (first_left (λ (u : Term). IsTermSet t.width u.0) _ _ _ left c.loop-literals.invariant.sets)
@@ -103,6 +103,6 @@ loop-literals-preserved c =
       width = ap (λ (u : TableContent). u.width) made ∙ c.loop-literals.invariant.width;
       numbered = nodes_left next c.new_nodes-next.result _ t _ _ left found c.loop-literals.invariant.numbered;
       above = let up = c.loop-literals.invariant.above in omega (arith, up);
-      sets = All-rest (λ (u : Term). IsTermSet c.args.table.now.width u.0) _ _ _ left c.loop-literals.invariant.sets;
+      sets = All-rest (λ (u : Term). IsTermSet c.args.table.now.content.width u.0) _ _ _ left c.loop-literals.invariant.sets;
       small = replaced_fit_more now after t _ _ next _ _ left number made c.loop-literals.invariant.small;
     }

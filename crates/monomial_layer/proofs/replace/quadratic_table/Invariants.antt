@@ -8,10 +8,10 @@ use Rattle.monomial_layer.proofs.replace.quadratic_table.Given as goal
 -- ones
 abbrev pub invariant-loop-literals : goal.invariant-loop-literals
 invariant-loop-literals l = record {
-  whole : l.quadratic.terms ++ all_new_terms l.literals-iterator l.next ≡ all_new_terms l.table.terms l.table.width;
-  width : l.quadratic.width ≡ l.table.width + sum_by new_nodes l.table.terms;
-  numbered : l.next + sum_by new_nodes l.literals-iterator ≡ l.table.width + sum_by new_nodes l.table.terms;
-  above : l.table.width ≤ l.next;
-  sets : All (λ (t : Term). IsTermSet l.table.width t.0) l.literals-iterator;
+  whole : l.quadratic.terms ++ all_new_terms l.literals-iterator l.next ≡ all_new_terms l.table.content.terms l.table.content.width;
+  width : l.quadratic.width ≡ l.table.content.width + sum_by new_nodes l.table.content.terms;
+  numbered : l.next + sum_by new_nodes l.literals-iterator ≡ l.table.content.width + sum_by new_nodes l.table.content.terms;
+  above : l.table.content.width ≤ l.next;
+  sets : All (λ (t : Term). IsTermSet l.table.content.width t.0) l.literals-iterator;
   small : terms_total l.quadratic.terms + terms_total (all_new_terms l.literals-iterator l.next) ≤ 2 ^ 124;
 }

@@ -10,7 +10,7 @@ use Rattle.monomial_layer.proofs.monomials.MonomialsLayer.extend.Goals as goal
 
 pub returns-clause-reaches : goal.returns-clause-reaches
 returns-clause-reaches c =
-    let t = c.args.source.now in
+    let t = c.args.source.now.content in
     let x = c.args.x.now in
     let reaches = mono_reaches c.args._link.now t x c.requires.fits c.requires.width in
     if_ok-then c.extension_of.result c.extension_of.ensures

@@ -1,0 +1,287 @@
+-- Steps of loops over runs and their places.
+use Rattle.std.proofs.Common.{◌≡◌, ℕ, zero, suc, ◌+◌, ◌<◌, ◌≤◌, ◌^◌, Bool, true, false, arith, length, get_or, take, drop, set, map, List, [], ◌∷◌, ◌++◌, ◌⊎◌, inl, inr, sym, ap, ◌∙◌, subst, refl, ◌+ℤ◌, unsigned_abs, Option, None, Some}
+use Rattle.std.specs.Prelude.{⊤, replicate, fold, if◌then◌else◌}
+use Rattle.std.specs.List.{AllByRecursion, slice_get}
+use Rattle.std.specs.List.Sorted.{IsStrictlySortedBy}
+use Rattle.std.specs.Ordering.{is_eq, is_lt}
+use Rattle.std.specs.declared.cmp.Ordering.{Ordering}
+use Rattle.std.specs.declared.cmp.Ordering.TheVariants.{Less, Equal, Greater}
+use Rattle.std.proofs.lemmas.Int.{ints}
+use Rattle.std.proofs.lemmas.List.{take_more}
+use Rattle.std.proofs.lemmas.List.Sums.{fold-append}
+use Rattle.base.proofs.Totals.{total_by_more}
+use Rattle.literal_lists.specs.declared.literal.Literal.{Literal}
+use Rattle.term_table.specs.Terms.{Term, set_cmp, coefficient_of, Ascends}
+use Rattle.term_table.specs.Runs.{Run, entries, sum_over}
+use Rattle.term_table.specs.Newest.{AreOrdered}
+use Rattle.term_table.specs.Rests.{rests_of, head_of, lesser_of, least_in, first_weight, without, NotBelow, Begins, IsLeast, AreRests}
+use Rattle.term_table.proofs.SetOrder.{set_total, set_itself, same_set}
+use Rattle.term_table.proofs.KeptTerms.{Under, Under-further, greater_back}
+use Rattle.term_table.proofs.UniqueTerms.{coefficient_of-under}
+use Rattle.term_table.proofs.MergingRuns.{less_back}
+
+pub head-drop : (r : Run) (p : ℕ) → slice_get r p ≡ head_of (drop p r)
+head-drop [] zero = refl
+head-drop [] (suc p) = refl
+head-drop (t ∷ ts) zero = refl
+head-drop (t ∷ ts) (suc p) = head-drop ts p
+
+-- ---- the rest of a run, by its place
+
+pub rests_start : (n : ℕ) (runs : List Run) → rests_of (replicate n 0) runs ≡ runs
+rests_start zero [] = refl
+rests_start zero (r ∷ rs) = refl
+rests_start (suc n) [] = refl
+rests_start (suc n) (r ∷ rs) = ap (λ (ss : List Run). r ∷ ss) (rests_start n rs)
+
+pub rest_at : (places : List ℕ) (runs : List Run) (k d : ℕ) (e : Run) → k < length runs
+    → k < length places → get_or (rests_of places runs) k [] ≡ drop (get_or places k d) (get_or runs k e)
+rest_at places [] k d e in' there = absurd (omega arith)
+rest_at [] (r ∷ rs) k d e in' there = absurd (omega arith)
+rest_at (p ∷ ps) (r ∷ rs) zero d e in' there = refl
+rest_at (p ∷ ps) (r ∷ rs) (suc k) d e in' there = rest_at ps rs k d e (omega arith) (omega arith)
+
+pub rest_set : (places : List ℕ) (runs : List Run) (k p : ℕ) (e : Run) → k < length runs
+    → k < length places → rests_of (set places k p) runs ≡ set (rests_of places runs) k (drop p (get_or runs k e))
+rest_set places [] k p e in' there = absurd (omega arith)
+rest_set [] (r ∷ rs) k p e in' there = absurd (omega arith)
+rest_set (q ∷ ps) (r ∷ rs) zero p e in' there = refl
+rest_set (q ∷ ps) (r ∷ rs) (suc k) p e in' there =
+    ap (λ (ss : List Run). drop q r ∷ ss) (rest_set ps rs k p e (omega arith) (omega arith))
+
+pub length-rests : (places : List ℕ) (runs : List Run) → length (rests_of places runs) ≡ length runs
+length-rests places [] = refl
+length-rests [] (r ∷ rs) = refl
+length-rests (p ∷ ps) (r ∷ rs) = ap suc (length-rests ps rs)
+
+same_some : (t u : Term) → Some t ≡ Some u → t ≡ u
+same_some t u e = cc
+
+self_up : (ls : List Literal) → is_lt (set_cmp ls ls) ≡ false
+self_up ls = ap is_lt (set_itself ls)
+
+-- ---- the least of the first sets
+
+pub least_more : (rs : List Run) (k : ℕ) → k < length rs
+    → least_in (take (k + 1) rs) ≡ lesser_of (least_in (take k rs)) (head_of (get_or rs k []))
+least_more rs k in' =
+    ap least_in (take_more rs k [] in')
+    ∙ fold-append (λ (o : Option Term) (run : Run). lesser_of o (head_of run)) None (take k rs)
+    (get_or rs k [] ∷ [])
+
+not_less : (ls ks ms : List Literal) → is_lt (set_cmp ls ks) ≡ false → is_lt (set_cmp ks ms) ≡ false
+    → is_lt (set_cmp ls ms) ≡ false
+not_less ls ks ms first second = go (set_cmp ls ms) refl (set_cmp ks ms) refl
+  where
+    clash : is_lt (set_cmp ls ks) ≡ true → ⊥
+    clash e = let both : true ≡ false = sym e ∙ first in cc
+
+    go : (o : Ordering) → set_cmp ls ms ≡ o → (p : Ordering) → set_cmp ks ms ≡ p → is_lt o ≡ false
+    go Equal e p f = refl
+    go Greater e p f = refl
+    go Less e Less f = let both : true ≡ false = sym (ap is_lt f) ∙ second in absurd cc
+    go Less e Equal f =
+        let same : set_cmp ls ks ≡ Less =
+        ap (λ (ns : List Literal). set_cmp ls ns) (same_set ks ms f) ∙ e in
+        absurd (clash (ap is_lt same))
+    go Less e Greater f =
+        absurd (clash (ap is_lt (set_total.trans ls ms ks e (greater_back ks ms f))))
+
+less_turned : (ls ks : List Literal) → is_lt (set_cmp ls ks) ≡ true → is_lt (set_cmp ks ls) ≡ false
+less_turned ls ks less = go (set_cmp ls ks) refl
+  where
+    go : (o : Ordering) → set_cmp ls ks ≡ o → is_lt (set_cmp ks ls) ≡ false
+    go Less e = ap is_lt (less_back ls ks e)
+    go Equal e = let both : true ≡ false = sym less ∙ ap is_lt e in absurd cc
+    go Greater e = let both : true ≡ false = sym less ∙ ap is_lt e in absurd cc
+
+-- the least of a term and the first ones
+abbrev least_from : Option Term → List Run → Option Term
+least_from o rs = fold (λ o run. lesser_of o (head_of run)) o rs
+
+-- the term isn't below the other one
+abbrev Above : List Literal → Option Term → Type 0
+Above ls None = ⊤
+Above ls (Some t) = is_lt (set_cmp t.0 ls) ≡ false
+
+record Found (o : Option Term) (rs : List Run) (t : Term) : Type 0 where
+  below : AllByRecursion (NotBelow t.0) rs
+  start : Above t.0 o
+  place : ((k : ℕ) × Begins t.0 (get_or rs k [])) ⊎ (o ≡ Some t)
+
+later : (t : Term) (r : Run) (rs : List Run) → (k : ℕ) × Begins t.0 (get_or rs k [])
+    → (k : ℕ) × Begins t.0 (get_or (r ∷ rs) k [])
+later t r rs (k, b) = (suc k, b)
+
+found : (o : Option Term) (rs : List Run) (t : Term) → least_from o rs ≡ Some t → Found o rs t
+found o [] t e = record { below = tt; start = rw e (self_up t.0); place = inr e }
+found None ([] ∷ rs) t e =
+    let rest = found None rs t e in
+    record {
+      below = (tt, rest.below);
+      start = tt;
+      place = elim rest.place [ inl p ↦ inl (later t [] rs p) | inr f ↦ absurd cc ];
+    }
+found None ((u ∷ us) ∷ rs) t e =
+    let rest = found (Some u) rs t e in
+    record {
+      below = (rest.start, rest.below);
+      start = tt;
+      place = elim rest.place [ inl p ↦ inl (later t (u ∷ us) rs p) | inr f ↦ inl (0, ap (λ (v : Term). v.0) (same_some u t f)) ];
+    }
+found (Some s) ([] ∷ rs) t e =
+    let rest = found (Some s) rs t e in
+    record {
+      below = (tt, rest.below);
+      start = rest.start;
+      place = elim rest.place [ inl p ↦ inl (later t [] rs p) | inr f ↦ inr f ];
+    }
+found (Some s) ((u ∷ us) ∷ rs) t e =
+    go (is_lt (set_cmp u.0 s.0)) refl (found (Some u) rs t) (found (Some s) rs t) e
+  where
+    go : (less : Bool) → is_lt (set_cmp u.0 s.0) ≡ less
+        → (least_from (Some u) rs ≡ Some t → Found (Some u) rs t)
+        → (least_from (Some s) rs ≡ Some t → Found (Some s) rs t)
+        → least_from (if less then Some u else Some s) rs ≡ Some t
+        → Found (Some s) ((u ∷ us) ∷ rs) t
+    go true h newer older f =
+        let rest = newer f in
+        record {
+          below = (rest.start, rest.below);
+          start = not_less s.0 u.0 t.0 (less_turned u.0 s.0 h) rest.start;
+          place = elim rest.place [ inl p ↦ inl (later t (u ∷ us) rs p) | inr g ↦ inl (0, ap (λ (v : Term). v.0) (same_some u t g)) ];
+        }
+    go false h newer older f =
+        let rest = older f in
+        record {
+          below = (not_less u.0 s.0 t.0 h rest.start, rest.below);
+          start = rest.start;
+          place = elim rest.place [ inl p ↦ inl (later t (u ∷ us) rs p) | inr g ↦ inr g ];
+        }
+
+pub least_is : (rs : List Run) (t : Term) → least_in rs ≡ Some t → IsLeast t.0 rs
+least_is rs t e =
+    let f = found None rs t e in
+    elim f.place [
+      | inl p ↦ record { below = f.below; place = p.0; begins = p.1 }
+      | inr g ↦ absurd cc
+    ]
+
+none_from : (o : Option Term) (rs : List Run) → least_from o rs ≡ None → (o ≡ None) × (entries rs ≡ [])
+none_from o [] e = (e, refl)
+none_from None ([] ∷ rs) e = none_from None rs e
+none_from None ((u ∷ us) ∷ rs) e = let f = none_from (Some u) rs e in absurd (let g = f.0 in cc)
+none_from (Some s) ([] ∷ rs) e = let f = none_from (Some s) rs e in absurd (let g = f.0 in cc)
+none_from (Some s) ((u ∷ us) ∷ rs) e =
+    go (is_lt (set_cmp u.0 s.0)) (none_from (Some u) rs) (none_from (Some s) rs) e
+  where
+    go : (less : Bool)
+        → (least_from (Some u) rs ≡ None → (Some u ≡ None) × (entries rs ≡ []))
+        → (least_from (Some s) rs ≡ None → (Some s ≡ None) × (entries rs ≡ []))
+        → least_from (if less then Some u else Some s) rs ≡ None
+        → (Some s ≡ None) × (entries ((u ∷ us) ∷ rs) ≡ [])
+    go true newer older h = absurd (let g = (newer h).0 in cc)
+    go false newer older h = absurd (let g = (older h).0 in cc)
+
+pub least_none : (rs : List Run) → least_in rs ≡ None → entries rs ≡ []
+least_none rs e = (none_from None rs e).1
+
+-- ---- the set is taken from each run
+
+-- one place on, where the rest begins with the set
+pub past_first : (r : Run) (p : ℕ) (t : Term) (ls : List Literal) → head_of (drop p r) ≡ Some t
+    → is_eq (set_cmp ls t.0) ≡ true → drop (p + 1) r ≡ without ls (drop p r)
+past_first [] zero t ls e same = absurd cc
+past_first [] (suc p) t ls e same = absurd cc
+past_first (u ∷ us) zero t ls e same =
+    let first : u ≡ t = same_some u t e in
+    let alike : is_eq (set_cmp ls u.0) ≡ true = ap (λ (v : Term). is_eq (set_cmp ls v.0)) first ∙ same in
+    sym (ap (λ (b : Bool). if b then us else u ∷ us) alike)
+past_first (u ∷ us) (suc p) t ls e same =
+    let place : suc p + 1 ≡ suc (p + 1) = omega arith in
+    ap (λ (k : ℕ). drop k (u ∷ us)) place ∙ past_first us p t ls e same
+
+-- a term at a place lies before the end
+pub place_below : (r : Run) (p : ℕ) (t : Term) → head_of (drop p r) ≡ Some t → p < length r
+place_below [] zero t e = absurd cc
+place_below [] (suc p) t e = absurd cc
+place_below (u ∷ us) zero t e = omega arith
+place_below (u ∷ us) (suc p) t e = let rest = place_below us p t e in omega arith
+
+pub weight_is : (ls : List Literal) (r : Run) → Ascends r → NotBelow ls r
+    → first_weight ls r ≡ coefficient_of ls r
+unfolding IsStrictlySortedBy
+weight_is ls [] up not = refl
+weight_is ls (t ∷ ts) up not =
+    let nothing = coefficient_of-under ls ts (under (set_cmp ls t.0) refl) in
+    omega (arith, ints, nothing)
+  where
+    under : (o : Ordering) → set_cmp ls t.0 ≡ o → Under ls ts
+    under Less e = Under-further ls t.0 ts e up.0
+    under Equal e = subst (λ (ks : List Literal). Under ks ts) (sym (same_set ls t.0 e)) up.0
+    under Greater e =
+        let both : true ≡ false = sym (ap is_lt (greater_back ls t.0 e)) ∙ not in absurd cc
+
+abbrev half_taken : List Literal → ℕ → List Run → List Run
+half_taken ls k rs = map (without ls) (take k rs) ++ drop k rs
+
+taken_suc : (ls : List Literal) (rs : List Run) (k : ℕ) → k < length rs
+    → set (half_taken ls k rs) k (without ls (get_or rs k [])) ≡ half_taken ls (suc k) rs
+taken_suc ls [] k in' = absurd (omega arith)
+taken_suc ls (r ∷ rs) zero in' = refl
+taken_suc ls (r ∷ rs) (suc k) in' = ap (λ (ss : List Run). without ls r ∷ ss) (taken_suc ls rs k (omega arith))
+
+taken_at : (ls : List Literal) (rs : List Run) (k : ℕ) → get_or (half_taken ls k rs) k [] ≡ get_or rs k []
+taken_at ls [] zero = refl
+taken_at ls [] (suc k) = refl
+taken_at ls (r ∷ rs) zero = refl
+taken_at ls (r ∷ rs) (suc k) = taken_at ls rs k
+
+module _ (ls : List Literal) (places : List ℕ) (runs rests : List Run) (k : ℕ) (d : ℕ) (e : Run) (in' : k < length runs) (there : k < length places) where
+  -- what the step finds
+  pub step_rest : rests_of places runs ≡ map (without ls) (take k rests) ++ drop k rests
+      → drop (get_or places k d) (get_or runs k e) ≡ get_or rests k []
+  step_rest taken =
+      sym (rest_at places runs k d e in' there)
+      ∙ ap (λ (rs : List Run). get_or rs k []) taken
+      ∙ taken_at ls rests k
+
+  -- what it leaves
+  pub step_taken : (next : ℕ) → length runs ≡ length rests
+      → rests_of places runs ≡ map (without ls) (take k rests) ++ drop k rests
+      → drop next (get_or runs k e) ≡ without ls (get_or rests k [])
+      → rests_of (set places k next) runs
+      ≡ map (without ls) (take (k + 1) rests) ++ drop (k + 1) rests
+  step_taken next size taken left =
+      let place : k + 1 ≡ suc k = omega arith in
+      rw place
+      (rest_set places runs k next e in' there
+      ∙ (λ i. set (taken i) k (left i))
+      ∙ taken_suc ls rests k (omega (arith, size)))
+
+below_at : (ls : List Literal) (rs : List Run) (k : ℕ) → AllByRecursion (NotBelow ls) rs
+    → NotBelow ls (get_or rs k [])
+below_at ls [] k all = tt
+below_at ls (r ∷ rs) zero all = all.0
+below_at ls (r ∷ rs) (suc k) all = below_at ls rs k all.1
+
+ordered_at : (rs : List Run) (k : ℕ) → AreOrdered rs → Ascends (get_or rs k [])
+unfolding IsStrictlySortedBy
+ordered_at [] k all = tt
+ordered_at (r ∷ rs) zero all = all.0.0
+ordered_at (r ∷ rs) (suc k) all = ordered_at rs k all.1
+
+-- the sum grows by the coefficient of the run
+pub step_sum : (ls : List Literal) (rests : List Run) (k : ℕ) → k < length rests → AreRests rests
+    → IsLeast ls rests
+    → sum_over ls (take (k + 1) rests) ≡ sum_over ls (take k rests) +ℤ first_weight ls (get_or rests k [])
+step_sum ls rests k in' kept least =
+    total_by_more (coefficient_of ls) rests k [] in'
+    ∙ ap (λ c. sum_over ls (take k rests) +ℤ c)
+    (sym (weight_is ls (get_or rests k []) (ordered_at rests k kept.ordered) (below_at ls rests k least.below)))
+
+pub step_small : (ls : List Literal) (rests : List Run) (k : ℕ) → k < length rests → AreRests rests
+    → IsLeast ls rests
+    → unsigned_abs (sum_over ls (take k rests) +ℤ first_weight ls (get_or rests k [])) ≤ 2 ^ 124
+step_small ls rests k in' kept least =
+    rw (sym (step_sum ls rests k in' kept least)) (kept.small ls (k + 1))

@@ -1,0 +1,558 @@
+-- Runs that are listed the newest first: what their sums are, and what settling keeps of them.
+use Rattle.std.proofs.Common.{◌≡◌, ℕ, zero, suc, ◌+◌, ◌*◌, ◌<◌, ◌≤◌, ◌^◌, Bool, true, false, cond, arith, sym, ap, subst, ◌∙◌, refl, List, [], ◌∷◌, ◌++◌, length, get_or, take, reverse, ℤ, pos, ◌+ℤ◌, unsigned_abs, All, inl, inr}
+use Rattle.std.specs.Prelude.{if◌then◌else◌}
+use Rattle.std.specs.List.{AllByRecursion}
+use Rattle.std.specs.Bool.{Decides}
+use Rattle.std.specs.Ordering.{int_eq, is_eq}
+use Rattle.std.proofs.lemmas.Int.{ints}
+use Rattle.std.proofs.lemmas.Bool.{cases_lt}
+use Rattle.std.proofs.lemmas.Bool.Decides.{Decides-int_eq, Decides-ltb, not_from_Decides}
+use Rattle.std.proofs.lemmas.List.{take_more, reverse-append, length-reverse, take-append-le, take_all, get_or_append_left, get_or_push, length_push, append-nil}
+use Rattle.std.proofs.Math.Nat.{pow-succ'}
+use Rattle.std.proofs.lemmas.Nat.{mul-le}
+use Rattle.std.proofs.lemmas.List.Elements.{All-nil, All-cons, All-push, All-append, All-get_or, All-head, recursion_from_All}
+use Rattle.base.specs.Sums.{if_so}
+use Rattle.base.proofs.Totals.{total_by-append, total_by-flat_map, size-plus}
+use Rattle.literal_lists.specs.declared.literal.Literal.{Literal}
+use Rattle.term_table.specs.Terms.{Term, set_cmp, terms_total, coefficient_of, with_addition, with_additions, AreTerms, IsTermSet}
+use Rattle.term_table.specs.Runs.{Run, entries, merged_terms, sum_over, merged, is_empty, is_long, settled_with, settled_back, settled, with_entry, one_run, AreRuns}
+use Rattle.term_table.specs.Rests.{AreRests}
+use Rattle.term_table.specs.Newest.{SmallSums, Halve, Each, AreOrdered}
+use Rattle.term_table.proofs.Additions.{weight-with_addition, weight-with_additions, coefficient_of-with_additions, terms_total-cons}
+use Rattle.term_table.proofs.KeptTerms.{OfSet, AreTerms-nil, AreTerms-with_addition, AreTerms-more, AreTerms-with_additions, Ascends-with_additions, Ascends-more, nonzero-with_additions, nonzero-more}
+use Rattle.term_table.proofs.UniqueTerms.{same_terms}
+use Rattle.term_table.proofs.MergingRuns.{merged-none}
+
+-- ---- sums
+
+pub reverse_more : {X : Type 0} (x : X) (xs : List X) → reverse (x ∷ xs) ≡ reverse xs ++ x ∷ []
+reverse_more x xs = reverse-append (x ∷ []) xs
+
+pub reverse_push : {X : Type 0} (xs : List X) (x : X) → reverse (xs ++ x ∷ []) ≡ x ∷ reverse xs
+reverse_push xs x = reverse-append xs (x ∷ [])
+
+pub sum_over-append : (ls : List Literal) (rs ss : List Run)
+    → sum_over ls (rs ++ ss) ≡ sum_over ls rs +ℤ sum_over ls ss
+sum_over-append ls rs ss = total_by-append (coefficient_of ls) rs ss
+
+pub sum_over-reverse : (ls : List Literal) (rs : List Run)
+    → sum_over ls (reverse rs) ≡ sum_over ls rs
+sum_over-reverse ls [] = refl
+sum_over-reverse ls (r ∷ rs) =
+    omega (
+      arith,
+      ints,
+      ap (sum_over ls) (reverse_more r rs),
+      sum_over-append ls (reverse rs) (r ∷ []),
+      sum_over-reverse ls rs,
+    )
+
+-- the merged view gives each set its sum
+pub coefficient_of-merged : (ls : List Literal) (rs : List Run)
+    → coefficient_of ls (merged_terms rs) ≡ sum_over ls rs
+coefficient_of-merged ls rs =
+    coefficient_of-with_additions ls (entries rs)
+    ∙ total_by-flat_map (λ (t : Term). if_so (is_eq (set_cmp ls t.0)) t.1) (λ (r : Run). r) rs
+
+pub sum_over-merged : (ls : List Literal) (last before : Run) (older : List Run)
+    → sum_over ls (merged before last ∷ older) ≡ sum_over ls (last ∷ before ∷ older)
+sum_over-merged ls last before older =
+    omega (arith, ints, weight-with_additions (λ ks. is_eq (set_cmp ls ks)) before last)
+
+none_of_empty : (ls : List Literal) (r : Run) → is_empty r ≡ true → coefficient_of ls r ≡ pos 0
+none_of_empty ls [] e = refl
+none_of_empty ls (t ∷ ts) e = absurd cc
+
+-- ---- settling keeps each sum
+
+pub sum_over-settled_with : (ls : List Literal) (last : Run) (older : List Run)
+    → sum_over ls (settled_with last older) ≡ sum_over ls (last ∷ older)
+sum_over-settled_with ls last [] = go (is_empty last) refl
+  where
+    go : (empty : Bool) → is_empty last ≡ empty
+        → sum_over ls (if empty then [] else last ∷ []) ≡ sum_over ls (last ∷ [])
+    go true e = omega (arith, ints, none_of_empty ls last e)
+    go false e = refl
+sum_over-settled_with ls last (before ∷ older) =
+    go (is_empty last) (is_long before last) refl (sum_over-settled_with ls before older)
+    (sum_over-settled_with ls (merged before last) older)
+  where
+    go : (empty long : Bool) → is_empty last ≡ empty
+        → sum_over ls (settled_with before older) ≡ sum_over ls (before ∷ older)
+        → sum_over ls (settled_with (merged before last) older)
+        ≡ sum_over ls (merged before last ∷ older)
+        → sum_over ls
+        (if empty
+        then settled_with before older
+        else if long then settled_with (merged before last) older else last ∷ before ∷ older)
+        ≡ sum_over ls (last ∷ before ∷ older)
+    go true long e dropped joined = omega (arith, ints, dropped, none_of_empty ls last e)
+    go false true e dropped joined = joined ∙ sum_over-merged ls last before older
+    go false false e dropped joined = refl
+
+settled_back_sum : (ls : List Literal) (rs : List Run)
+    → sum_over ls (settled_back rs) ≡ sum_over ls rs
+settled_back_sum ls [] = refl
+settled_back_sum ls (r ∷ rs) = sum_over-settled_with ls r rs
+
+pub sum_over-settled : (ls : List Literal) (runs : List Run)
+    → sum_over ls (settled runs) ≡ sum_over ls runs
+sum_over-settled ls runs =
+    sum_over-reverse ls (settled_back (reverse runs))
+    ∙ settled_back_sum ls (reverse runs)
+    ∙ sum_over-reverse ls runs
+
+pub settled_is : (runs : List Run) (entry : Run)
+    → settled (runs ++ entry ∷ []) ≡ reverse (settled_with entry (reverse runs))
+settled_is runs entry = ap (λ rs. reverse (settled_back rs)) (reverse_push runs entry)
+
+-- ---- what is kept, of runs that are listed the newest first
+
+Halve-tail : (r : Run) (rs : List Run) → Halve (r ∷ rs) → Halve rs
+Halve-tail r [] h = tt
+Halve-tail r (s ∷ rs) h = h.2
+
+some_of : (r : Run) → is_empty r ≡ false → 1 ≤ length r
+some_of [] e = absurd cc
+some_of (t ∷ ts) e = omega arith
+
+not_empty : (r : Run) → 1 ≤ length r → is_empty r ≡ false
+not_empty [] h = absurd (omega arith)
+not_empty (t ∷ ts) h = refl
+
+Halve-settled_with : (last : Run) (older : List Run) → Halve older → Halve (settled_with last older)
+Halve-settled_with last [] h = go (is_empty last) refl
+  where
+    go : (empty : Bool) → is_empty last ≡ empty → Halve (if empty then [] else last ∷ [])
+    go true e = tt
+    go false e = some_of last e
+Halve-settled_with last (before ∷ older) h =
+    go (is_empty last) (is_long before last) refl
+    (Decides-ltb (length before) (2 * length last))
+    (Halve-settled_with before older (Halve-tail before older h))
+    (Halve-settled_with (merged before last) older (Halve-tail before older h))
+  where
+    go : (empty long : Bool) → is_empty last ≡ empty
+        → Decides long (length before < 2 * length last)
+        → Halve (settled_with before older) → Halve (settled_with (merged before last) older)
+        → Halve
+        (if empty
+        then settled_with before older
+        else if long then settled_with (merged before last) older else last ∷ before ∷ older)
+    go true long e d dropped joined = dropped
+    go false true e d dropped joined = joined
+    go false false e d dropped joined =
+        let short = not_from_Decides false d refl in (some_of last e, omega (arith, short), h)
+
+SmallSums-settled_with : (last : Run) (older : List Run) → SmallSums (last ∷ older)
+    → SmallSums (settled_with last older)
+SmallSums-settled_with last [] small = go (is_empty last)
+  where
+    go : (empty : Bool) → SmallSums (if empty then [] else last ∷ [])
+    go true = tt
+    go false = small
+SmallSums-settled_with last (before ∷ older) small =
+    go (is_empty last) (is_long before last) (SmallSums-settled_with before older small.1)
+    (SmallSums-settled_with (merged before last) older (smaller, small.1.1))
+  where
+    smaller : (ls : List Literal) → unsigned_abs (sum_over ls (merged before last ∷ older)) ≤ 2 ^ 124
+    smaller ls = rw (sum_over-merged ls last before older) (small.0 ls)
+
+    go : (empty long : Bool) → SmallSums (settled_with before older)
+        → SmallSums (settled_with (merged before last) older)
+        → SmallSums
+        (if empty
+        then settled_with before older
+        else if long then settled_with (merged before last) older else last ∷ before ∷ older)
+    go true long dropped joined = dropped
+    go false true dropped joined = joined
+    go false false dropped joined = small
+
+Each-settled_with : (width : ℕ) (last : Run) (older : List Run) → AreTerms width last
+    → Each width older → Each width (settled_with last older)
+Each-settled_with width last [] here each = go (is_empty last)
+  where
+    go : (empty : Bool) → Each width (if empty then [] else last ∷ [])
+    go true = tt
+    go false = (here, tt)
+Each-settled_with width last (before ∷ older) here each =
+    go (is_empty last) (is_long before last) (Each-settled_with width before older each.0 each.1)
+    (Each-settled_with width (merged before last) older (AreTerms-more width before last each.0 here.sets) each.1)
+  where
+    go : (empty long : Bool) → Each width (settled_with before older)
+        → Each width (settled_with (merged before last) older)
+        → Each width
+        (if empty
+        then settled_with before older
+        else if long then settled_with (merged before last) older else last ∷ before ∷ older)
+    go true long dropped joined = dropped
+    go false true dropped joined = joined
+    go false false dropped joined = (here, each)
+
+-- ---- the same of runs that are listed the oldest first
+
+pub reverse_taken : (runs : List Run) (n : ℕ) → n < length runs
+    → reverse (take (n + 1) runs) ≡ get_or runs n [] ∷ reverse (take n runs)
+reverse_taken runs n in' =
+    ap reverse (take_more runs n [] in') ∙ reverse_push (take n runs) (get_or runs n [])
+
+-- what holds of the runs by their places holds of them the newest first
+turned : (runs : List Run) (P : List Run → Type 0) → P []
+    → ((n : ℕ) → n < length runs → P (reverse (take n runs)) → P (reverse (take (n + 1) runs)))
+    → (n : ℕ) → n ≤ length runs → P (reverse (take n runs))
+turned runs P none more zero up = none
+turned runs P none more (suc n) up =
+    let place : n + 1 ≡ suc n = omega arith in
+    let Q : ℕ → Type 0 = λ k. P (reverse (take k runs)) in
+    subst Q place (more n (omega arith) (turned runs P none more n (omega arith)))
+
+turned_all : (runs : List Run) (P : List Run → Type 0) → P []
+    → ((n : ℕ) → n < length runs → P (reverse (take n runs)) → P (reverse (take (n + 1) runs)))
+    → P (reverse runs)
+turned_all runs P none more =
+    subst (λ (rs : List Run). P (reverse rs)) (take_all (length runs) runs (omega arith))
+    (turned runs P none more (length runs) (omega arith))
+
+pub SmallSums-turned : (width : ℕ) (runs : List Run) → AreRuns width runs → SmallSums (reverse runs)
+SmallSums-turned width runs kept = turned_all runs SmallSums tt more
+  where
+    small : (ls : List Literal) (n : ℕ)
+        → reverse (take (n + 1) runs) ≡ get_or runs n [] ∷ reverse (take n runs)
+        → unsigned_abs (sum_over ls (get_or runs n [] ∷ reverse (take n runs))) ≤ 2 ^ 124
+    small ls n list =
+        subst (λ (c : ℤ). unsigned_abs c ≤ 2 ^ 124)
+        (sym (sum_over-reverse ls (take (n + 1) runs)) ∙ ap (sum_over ls) list)
+        (kept.small ls (n + 1))
+
+    more : (n : ℕ) → n < length runs → SmallSums (reverse (take n runs))
+        → SmallSums (reverse (take (n + 1) runs))
+    more n in' before =
+        let list = reverse_taken runs n in' in
+        subst SmallSums (sym list) (λ ls. small ls n list, before)
+
+pub Each-turned : (width : ℕ) (runs : List Run) → AreRuns width runs → Each width (reverse runs)
+Each-turned width runs kept =
+    turned_all runs (Each width) tt
+    (λ n in' before. subst (Each width) (sym (reverse_taken runs n in'))
+    (All-get_or (AreTerms width) runs n [] in' kept.terms, before))
+
+pub Halve-turned : (width : ℕ) (runs : List Run) → AreRuns width runs → Halve (reverse runs)
+Halve-turned width runs kept = turned_all runs Halve tt more
+  where
+    some : (n : ℕ) → n < length runs → 1 ≤ length (get_or runs n [])
+    some n in' = All-get_or (λ (r : Run). 1 ≤ length r) runs n [] in' kept.some
+
+    more : (n : ℕ) → n < length runs → Halve (reverse (take n runs))
+        → Halve (reverse (take (n + 1) runs))
+    more zero in' before = subst Halve (sym (reverse_taken runs zero in')) (some zero in')
+    more (suc n) in' before =
+        let place : n + 1 ≡ suc n = omega arith in
+        let taken = reverse_taken runs n (omega arith) in
+        let here : reverse (take (suc n) runs) ≡ get_or runs n [] ∷ reverse (take n runs) =
+        subst (λ (k : ℕ). reverse (take k runs) ≡ get_or runs n [] ∷ reverse (take n runs)) place taken in
+        let half : 2 * length (get_or runs (suc n) []) ≤ length (get_or runs n []) =
+        subst (λ (k : ℕ). 2 * length (get_or runs k []) ≤ length (get_or runs n [])) place
+        (kept.halve n (omega arith)) in
+        subst Halve (sym (reverse_taken runs (suc n) in'))
+        (subst (λ (rs : List Run). Halve (get_or runs (suc n) [] ∷ rs)) (sym here)
+        (some (suc n) in', half, subst Halve here before))
+
+-- and back
+
+pub back_each : (P : Run → Type 0) (rs : List Run) → AllByRecursion P rs → All P (reverse rs)
+back_each P [] each = All-nil P
+back_each P (r ∷ rs) each =
+    subst (All P) (sym (reverse_more r rs))
+    (All-push P (reverse rs) r (back_each P rs each.1) each.0)
+
+back_some : (rs : List Run) → Halve rs → All (λ (r : Run). 1 ≤ length r) (reverse rs)
+back_some [] h = All-nil (λ (r : Run). 1 ≤ length r)
+back_some (r ∷ []) h = All-cons (λ (r : Run). 1 ≤ length r) r [] h (All-nil (λ (r : Run). 1 ≤ length r))
+back_some (r ∷ s ∷ rs) h =
+    subst (All (λ (r : Run). 1 ≤ length r)) (sym (reverse_more r (s ∷ rs)))
+    (All-push (λ (r : Run). 1 ≤ length r) (reverse (s ∷ rs)) r (back_some (s ∷ rs) h.2) h.0)
+
+back_small : (rs : List Run) → SmallSums rs → (ls : List Literal) (k : ℕ)
+    → unsigned_abs (sum_over ls (take k (reverse rs))) ≤ 2 ^ 124
+back_small [] small ls zero = omega arith
+back_small [] small ls (suc k) = omega arith
+back_small (r ∷ rs) small ls k =
+    elim (cases_lt (length rs) k) [
+      | inl above ↦
+          let whole : take k (reverse (r ∷ rs)) ≡ reverse (r ∷ rs) = take_all k (reverse (r ∷ rs)) (omega (arith, length-reverse (r ∷ rs))) in
+          rw (whole, sum_over-reverse ls (r ∷ rs)) (small.0 ls)
+      | inr below ↦
+          let front : take k (reverse (r ∷ rs)) ≡ take k (reverse rs) =
+          ap (take k) (reverse_more r rs)
+          ∙ take-append-le k (reverse rs) (r ∷ []) (omega (arith, length-reverse rs)) in
+          rw front (back_small rs small.1 ls k)
+    ]
+
+halve_push : (xs : List Run) (x : Run)
+    → ((k : ℕ) → k + 1 < length xs → 2 * length (get_or xs (k + 1) []) ≤ length (get_or xs k []))
+    → ((n : ℕ) → n + 1 ≡ length xs → 2 * length x ≤ length (get_or xs n []))
+    → (k : ℕ) → k + 1 < length (xs ++ x ∷ [])
+    → 2 * length (get_or (xs ++ x ∷ []) (k + 1) []) ≤ length (get_or (xs ++ x ∷ []) k [])
+halve_push xs x before last k in' =
+    let size : length (xs ++ x ∷ []) ≡ length xs + 1 = length_push xs x in
+    let here : get_or (xs ++ x ∷ []) k [] ≡ get_or xs k [] =
+    get_or_append_left xs (x ∷ []) [] k (omega (arith, size, in')) in
+    elim (cases_lt (k + 1) (length xs)) [
+      | inl inside ↦
+          let next : get_or (xs ++ x ∷ []) (k + 1) [] ≡ get_or xs (k + 1) [] = get_or_append_left xs (x ∷ []) [] (k + 1) inside in
+          omega (arith, ap length here, ap length next, before k inside)
+      | inr past ↦
+          let end : length xs ≡ k + 1 = omega (arith, size, in') in
+          let next : get_or (xs ++ x ∷ []) (k + 1) [] ≡ x = get_or_push xs x [] (k + 1) end in
+          omega (arith, ap length here, ap length next, last k (sym end))
+    ]
+
+back_halve : (rs : List Run) → Halve rs → (k : ℕ) → k + 1 < length (reverse rs)
+    → 2 * length (get_or (reverse rs) (k + 1) []) ≤ length (get_or (reverse rs) k [])
+back_halve [] h k in' = absurd (omega arith)
+back_halve (r ∷ []) h k in' = absurd (omega arith)
+back_halve (r ∷ s ∷ rs) h k in' =
+    let P : List Run → Type 0 = λ xs. (k : ℕ) → k + 1 < length xs → 2 * length (get_or xs (k + 1) []) ≤ length (get_or xs k []) in
+    let all : P (reverse (r ∷ s ∷ rs)) =
+    subst P (sym (reverse_more r (s ∷ rs)))
+    (halve_push (reverse (s ∷ rs)) r (back_halve (s ∷ rs) h.2)
+    (λ n end.
+    let first : get_or (reverse (s ∷ rs)) n [] ≡ s =
+    ap (λ (xs : List Run). get_or xs n []) (reverse_more s rs)
+    ∙ get_or_push (reverse rs) s [] n (omega (arith, length-reverse (s ∷ rs), length-reverse rs, end)) in
+    omega (arith, ap length first, h.1))) in
+    all k in'
+
+-- ---- an addition
+
+pub AreRuns-back : (width : ℕ) (rs : List Run) → Each width rs → Halve rs → SmallSums rs
+    → AreRuns width (reverse rs)
+AreRuns-back width rs each halve small = record {
+  terms = back_each (AreTerms width) rs each;
+  some = back_some rs halve;
+  halve = back_halve rs halve;
+  small = back_small rs small;
+}
+
+-- a set's coefficient is no more than all sizes
+coefficient_small : (ls : List Literal) (ts : List Term)
+    → unsigned_abs (coefficient_of ls ts) ≤ terms_total ts
+coefficient_small ls [] = omega arith
+coefficient_small ls (t ∷ ts) =
+    omega (
+      arith,
+      size-plus (if_so (is_eq (set_cmp ls t.0)) t.1) (coefficient_of ls ts),
+      part (is_eq (set_cmp ls t.0)) t.1,
+      coefficient_small ls ts,
+      terms_total-cons t ts,
+    )
+  where
+    part : (b : Bool) (c : ℤ) → unsigned_abs (if_so b c) ≤ unsigned_abs c
+    part true c = omega arith
+    part false c = omega arith
+
+pub sum_small : (ls : List Literal) (runs : List Run)
+    → unsigned_abs (sum_over ls runs) ≤ terms_total (merged_terms runs)
+sum_small ls runs =
+    omega (
+      arith,
+      ap unsigned_abs (sym (coefficient_of-merged ls runs)),
+      coefficient_small ls (merged_terms runs),
+    )
+
+-- a run more, on top of the others
+pub SmallSums-run : (width : ℕ) (runs : List Run) (entry : Run) → AreRuns width runs
+    → terms_total (merged_terms runs) + terms_total entry ≤ 2 ^ 124
+    → SmallSums (entry ∷ reverse runs)
+SmallSums-run width runs entry kept small = (here, SmallSums-turned width runs kept)
+  where
+    here : (ls : List Literal) → unsigned_abs (sum_over ls (entry ∷ reverse runs)) ≤ 2 ^ 124
+    here ls =
+        omega (
+          arith,
+          size-plus (coefficient_of ls entry) (sum_over ls (reverse runs)),
+          coefficient_small ls entry,
+          ap unsigned_abs (sum_over-reverse ls runs),
+          sum_small ls runs,
+          small,
+        )
+
+pub AreRuns-settled : (width : ℕ) (runs : List Run) (entry : Run) → AreRuns width runs
+    → AreTerms width entry → terms_total (merged_terms runs) + terms_total entry ≤ 2 ^ 124
+    → AreRuns width (settled (runs ++ entry ∷ []))
+AreRuns-settled width runs entry kept terms small =
+    subst (AreRuns width) (sym (settled_is runs entry))
+    (AreRuns-back width (settled_with entry (reverse runs))
+    (Each-settled_with width entry (reverse runs) terms (Each-turned width runs kept))
+    (Halve-settled_with entry (reverse runs) (Halve-turned width runs kept))
+    (SmallSums-settled_with entry (reverse runs) (SmallSums-run width runs entry kept small)))
+
+entry_terms : (width : ℕ) (ls : List Literal) (c : ℤ) → IsTermSet width ls → int_eq c (pos 0) ≡ false
+    → AreTerms width ((ls, c) ∷ [])
+entry_terms width ls c set some =
+    subst (λ (b : Bool). AreTerms width (cond b [] ((ls, c) ∷ []))) some
+    (AreTerms-with_addition width [] ls c (AreTerms-nil width) set)
+
+pub AreRuns-with_entry : (width : ℕ) (runs : List Run) (ls : List Literal) (c : ℤ)
+    → AreRuns width runs → IsTermSet width ls
+    → terms_total (merged_terms runs) + unsigned_abs c ≤ 2 ^ 124
+    → AreRuns width (with_entry runs ls c)
+AreRuns-with_entry width runs ls c kept set small = go (int_eq c (pos 0)) refl
+  where
+    go : (zero : Bool) → int_eq c (pos 0) ≡ zero
+        → AreRuns width (cond zero runs (settled (runs ++ ((ls, c) ∷ []) ∷ [])))
+    go true e = kept
+    go false e =
+        AreRuns-settled width runs ((ls, c) ∷ []) kept (entry_terms width ls c set e)
+        (omega (arith, small, terms_total-cons (ls, c) []))
+
+-- the sums after an addition
+sum_over-with_entry : (ks : List Literal) (runs : List Run) (ls : List Literal) (c : ℤ)
+    → sum_over ks (with_entry runs ls c) ≡ sum_over ks runs +ℤ if_so (is_eq (set_cmp ks ls)) c
+sum_over-with_entry ks runs ls c = go (int_eq c (pos 0)) (Decides-int_eq c (pos 0))
+  where
+    nothing : (b : Bool) → c ≡ pos 0 → if_so b c ≡ pos 0
+    nothing true e = e
+    nothing false e = refl
+
+    go : (zero : Bool) → Decides zero (c ≡ pos 0)
+        → sum_over ks (cond zero runs (settled (runs ++ ((ls, c) ∷ []) ∷ [])))
+        ≡ sum_over ks runs +ℤ if_so (is_eq (set_cmp ks ls)) c
+    go true d = omega (arith, ints, nothing (is_eq (set_cmp ks ls)) (d.0 refl))
+    go false d =
+        let entry : Run = (ls, c) ∷ [] in
+        omega (
+          arith,
+          ints,
+          sum_over-settled ks (runs ++ entry ∷ []),
+          sum_over-append ks runs (entry ∷ []),
+        )
+
+-- the merged view after an addition is that with the addition
+pub merged_terms-with_entry : (runs : List Run) (ls : List Literal) (c : ℤ)
+    → merged_terms (with_entry runs ls c) ≡ with_addition (merged_terms runs) ls c
+merged_terms-with_entry runs ls c =
+    let new = with_entry runs ls c in
+    same_terms (merged_terms new) (with_addition (merged_terms runs) ls c)
+    (Ascends-with_additions (entries new))
+    (Ascends-more (merged_terms runs) ((ls, c) ∷ []) (Ascends-with_additions (entries runs)))
+    (nonzero-with_additions (entries new))
+    (nonzero-more (merged_terms runs) ((ls, c) ∷ []) (nonzero-with_additions (entries runs)))
+    (λ ks. omega (
+      arith,
+      ints,
+      coefficient_of-merged ks new,
+      sum_over-with_entry ks runs ls c,
+      coefficient_of-merged ks runs,
+      weight-with_addition (λ ms. is_eq (set_cmp ks ms)) (merged_terms runs) ls c,
+    ))
+
+-- and so is that after additions that are summed first
+pub merged_terms-with_sums : (runs : List Run) (ts : List Term)
+    → merged_terms (settled (runs ++ with_additions [] ts ∷ []))
+    ≡ with_additions (merged_terms runs) ts
+merged_terms-with_sums runs ts =
+    let sums : Run = with_additions [] ts in
+    let new : List Run = settled (runs ++ sums ∷ []) in
+    same_terms (merged_terms new) (with_additions (merged_terms runs) ts)
+    (Ascends-with_additions (entries new))
+    (Ascends-more (merged_terms runs) ts (Ascends-with_additions (entries runs)))
+    (nonzero-with_additions (entries new))
+    (nonzero-more (merged_terms runs) ts (nonzero-with_additions (entries runs)))
+    (λ ls. omega (
+      arith,
+      ints,
+      coefficient_of-merged ls new,
+      sum_over-settled ls (runs ++ sums ∷ []),
+      sum_over-append ls runs (sums ∷ []),
+      coefficient_of-with_additions ls ts,
+      coefficient_of-merged ls runs,
+      weight-with_additions (λ ms. is_eq (set_cmp ls ms)) (merged_terms runs) ts,
+    ))
+
+-- ---- runs that are made at once
+
+pub AreRuns-nil : (width : ℕ) → AreRuns width []
+AreRuns-nil width = AreRuns-back width [] tt tt tt
+
+pub AreTerms-merged : (width : ℕ) (runs : List Run) → All (AreTerms width) runs
+    → AreTerms width (merged_terms runs)
+AreTerms-merged width runs each =
+    AreTerms-with_additions width (entries runs) (sets runs (recursion_from_All (AreTerms width) runs each))
+  where
+    sets : (rs : List Run) → Each width rs → All (OfSet (IsTermSet width)) (entries rs)
+    sets [] each = All-nil (OfSet (IsTermSet width))
+    sets (r ∷ rs) each =
+        All-append (OfSet (IsTermSet width)) r (entries rs) each.0.sets (sets rs each.1)
+
+pub merged_terms-one_run : (width : ℕ) (ts : List Term) → AreTerms width ts
+    → merged_terms (one_run ts) ≡ ts
+merged_terms-one_run width [] terms = refl
+merged_terms-one_run width (t ∷ ts) terms =
+    ap (with_additions []) (append-nil (t ∷ ts)) ∙ merged-none (t ∷ ts) terms.ordered terms.nonzero
+
+pub AreRuns-one_run : (width : ℕ) (ts : List Term) → AreTerms width ts → terms_total ts ≤ 2 ^ 124
+    → AreRuns width (one_run ts)
+AreRuns-one_run width [] terms small = AreRuns-nil width
+AreRuns-one_run width (t ∷ ts) terms small =
+    AreRuns-back width ((t ∷ ts) ∷ []) (terms, tt) (omega arith) (
+      λ ls. omega (
+        arith,
+        ints,
+        sum_small ls ((t ∷ ts) ∷ []),
+        ap terms_total (merged_terms-one_run width (t ∷ ts) terms),
+        small,
+      ),
+      tt,
+    )
+
+-- ---- what an iterator asks
+
+-- the oldest run has twice the entries for each run after it
+doubled : (width : ℕ) (runs : List Run) → AreRuns width runs → (k : ℕ) → k < length runs
+    → 2 ^ k * length (get_or runs k []) ≤ length (get_or runs 0 [])
+doubled width runs kept zero in' = omega arith
+doubled width runs kept (suc k) in' =
+    let place : k + 1 ≡ suc k = omega arith in
+    let half : 2 * length (get_or runs (suc k) []) ≤ length (get_or runs k []) =
+    subst (λ (n : ℕ). 2 * length (get_or runs n []) ≤ length (get_or runs k [])) place
+    (kept.halve k (omega arith)) in
+    let before = doubled width runs kept k (omega arith) in
+    let twice : 2 ^ suc k ≡ 2 * 2 ^ k = pow-succ' 2 k in
+    omega (
+      arith,
+      before,
+      ap (λ m. m * length (get_or runs (suc k) [])) twice,
+      mul-le (2 ^ k) (2 * length (get_or runs (suc k) [])) (2 ^ k) (length (get_or runs k [])) (omega arith) half,
+    )
+
+-- so there are at most 64
+pub few_runs : (width : ℕ) (runs : List Run) → AreRuns width runs
+    → length (get_or runs 0 []) < 2 ^ 64 → length runs ≤ 64
+few_runs width runs kept short =
+    elim (cases_lt 64 (length runs)) [
+      | inl more ↦
+          let much = doubled width runs kept 64 more in
+          let some : 1 ≤ length (get_or runs 64 []) = All-get_or (λ (r : Run). 1 ≤ length r) runs 64 [] more kept.some in
+          absurd (omega arith)
+      | inr few ↦ few
+    ]
+
+-- a run alone is the merged view
+pub merged_terms-only : (width : ℕ) (runs : List Run) (only : Run) → AreRuns width runs
+    → length runs ≡ 1 → only ≡ get_or runs 0 only → merged_terms runs ≡ only
+merged_terms-only width [] only kept one here = absurd (omega arith)
+merged_terms-only width (r ∷ s ∷ rs) only kept one here = absurd (omega arith)
+merged_terms-only width (r ∷ []) only kept one here =
+    let terms = All-head (AreTerms width) r [] kept.terms in
+    ap (with_additions []) (append-nil r) ∙ merged-none r terms.ordered terms.nonzero ∙ sym here
+
+pub AreRests-kept : (width : ℕ) (runs : List Run) → AreRuns width runs → AreRests runs
+AreRests-kept width runs kept = record {
+  ordered = ordered runs (recursion_from_All (AreTerms width) runs kept.terms);
+  small = kept.small;
+}
+  where
+    ordered : (rs : List Run) → Each width rs → AreOrdered rs
+    ordered [] each = tt
+    ordered (r ∷ rs) each = ((each.0.ordered, each.0.nonzero), ordered rs each.1)

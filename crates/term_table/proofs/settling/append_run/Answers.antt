@@ -1,0 +1,8 @@
+use Rattle.std.proofs.Common.{List, sym, subst}
+use Rattle.term_table.specs.Runs.{Run}
+use Rattle.term_table.specs.Newest.{AreSettling}
+use Rattle.term_table.proofs.settling.append_run.Goals as goal
+
+pub settle-requires : goal.settle-requires
+settle-requires c =
+    subst (λ (rs : List Run). AreSettling rs c.args.entry) (sym c.as_slice.ensures) c.requires
