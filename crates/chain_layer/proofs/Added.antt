@@ -194,7 +194,7 @@ range_more n =
     ∙ map-range_with_len_more (λ i. i) 0 n n (omega arith)
     ∙ ap (λ l. l ++ n ∷ []) (map-id (range_with_len 0 n))
 
-flat_range : (f : ℕ → List Entry) (n : ℕ)
+pub flat_range : (f : ℕ → List Entry) (n : ℕ)
     → flat_map f (range_with_len 0 (n + 1)) ≡ flat_map f (range_with_len 0 n) ++ f n
 flat_range f n = ap (flat_map f) (range_more n) ∙ sym (flat_map_more f [] (range_with_len 0 n) n)
 
@@ -256,7 +256,7 @@ strength_at e xs i same within =
           ∙ get_or-map-range_with_len (strength e) 0 (length e.ising.fields) i i 0 below (omega arith),
     )
 
-at_map : (f : ℤ → ℕ) (hs : List ℤ) (i : ℕ) → i < length hs
+pub at_map : (f : ℤ → ℕ) (hs : List ℤ) (i : ℕ) → i < length hs
     → get_or (map f hs) i 0 ≡ f (get_or hs i (pos 0))
 at_map f [] i h = absurd (omega arith)
 at_map f (x ∷ xs) zero h = refl

@@ -24,19 +24,19 @@ use Rattle.ising_form.specs.Isings.{IsIsing, ising_total}
 use Rattle.bits_model.specs.Walks.{is_in, first_of}
 use Rattle.embedding_check.specs.Embeddings.{Embedding, IsEmbedding, IsTie, parent_in, climbed}
 use Rattle.chain_map.specs.Chains.{IsBetween, chain_of}
-use Rattle.chain_map.proofs.Occurrences.{occurrences-chain-le}
 use Rattle.chain_layer.specs.Image.{strength, coupling_entry, ties, all_shares, all_ties, placed, field_at, inserted, in_order, image}
 use Rattle.chain_layer.specs.laws.Whole.{in_first, in_rest}
 use Rattle.chain_layer.specs.laws.Aligned.{node_at}
-use Rattle.chain_layer.specs.laws.Kept.{each_of_range, chain_within, counted_in, one_chain, each_at, rest_in}
+use Rattle.chain_layer.specs.laws.Kept.{each_of_range, chain_within, one_chain, each_at, rest_in}
+use Rattle.chain_layer.specs.laws.OnceChains.{Once, chain_once, AreOwn, apart_qubits, own_parents}
 use Rattle.chain_layer.proofs.Sizes.{total_grows}
 
 -- ---- entries of different pairs, in order
 
-abbrev Apart : Entry → List Entry → Type 0
+abbrev pub Apart : Entry → List Entry → Type 0
 Apart e es = AllByRecursion (λ f. pair_number e ≢ pair_number f) es
 
-abbrev AreApart : List Entry → Type 0
+abbrev pub AreApart : List Entry → Type 0
 AreApart [] = ⊤
 AreApart (e ∷ es) = Apart e es × AreApart es
 
@@ -163,7 +163,7 @@ apart-append (e ∷ es) fs p q cross =
     both e [] p q = q
     both e (g ∷ gs) p q = (p.0, both e gs p.1 q)
 
-each : {P Q : Entry → Type 0} → ((e : Entry) → P e → Q e) → (es : List Entry) → AllByRecursion P es
+pub each : {P Q : Entry → Type 0} → ((e : Entry) → P e → Q e) → (es : List Entry) → AllByRecursion P es
     → AllByRecursion Q es
 each weaker [] all = tt
 each weaker (e ∷ es) all = (weaker e all.0, each weaker es all.1)
@@ -300,59 +300,6 @@ ties_of_node e kept i within (q ∷ qs) (p ∷ ps) n ins all = (
 )
 
 -- ---- two ties of one chain
-
--- the qubits of the list are different
-abbrev Once : List ℕ → Type 0
-Once [] = ⊤
-Once (q ∷ qs) = (is_in qs q ≡ false) × Once qs
-
-once_of : (qs : List ℕ) → ((q : ℕ) → count_by (λ p. p == q) qs ≤ 1) → Once qs
-once_of [] h = tt
-once_of (q ∷ qs) h = (
-  false_from_ne_true _ (λ again.
-      omega (
-        arith,
-        counted_in qs q again,
-        h q,
-        sum_by-cons (λ p. cond (p == q) 1 0) q qs,
-        ap (λ b. cond {A = ℕ} b 1 0) (eq-eqb q q refl),
-      )),
-  once_of qs (λ p. omega (arith, h p, sum_by-cons (λ r. cond (r == p) 1 0) q qs)),
-)
-
-chain_once : (e : Embedding) → IsEmbedding e → (i : ℕ) → i < length e.ising.fields
-    → Once (chain_of e.chains i)
-chain_once e kept i within =
-    once_of (chain_of e.chains i) (λ q.
-    omega (arith, kept.once q, occurrences-chain-le q e.chains i (omega (arith, within, kept.counted))))
-
--- the parents that a look-up gives
-abbrev AreOwn : List ℕ → List ℕ → List ℕ → List ℕ → Type 0
-AreOwn cs ds qs ps = AllZip (λ q p. parent_in cs ds q ≡ p) qs ps
-
-apart_qubits : (q c : ℕ) (cs : List ℕ) → is_in cs c ≡ false → is_in cs q ≡ true → (c ≢ q)
-apart_qubits q c cs out in' same =
-    let both : true ≡ false = sym in' ∙ sym (ap (is_in cs) same) ∙ out in
-    cc
-
-own_parents : (cs ds : List ℕ) → Once cs → length cs ≡ length ds → AreOwn cs ds cs ds
-own_parents [] [] once same = tt
-own_parents [] (d ∷ ds) once same = absurd (omega (arith, same))
-own_parents (c ∷ cs) [] once same = absurd (omega (arith, same))
-own_parents (c ∷ cs) (d ∷ ds) once same = (
-  ap (λ b. cond b d (parent_in cs ds c)) (eq-eqb c c refl),
-  further cs ds (λ q in'. in') (own_parents cs ds once.1 (omega (arith, same))),
-)
-  where
-    further : (qs ps : List ℕ) → ((q : ℕ) → is_in qs q ≡ true → is_in cs q ≡ true) → AreOwn cs ds qs ps
-        → AreOwn (c ∷ cs) (d ∷ ds) qs ps
-    further [] [] ins all = tt
-    further [] (p ∷ ps) ins all = all
-    further (q ∷ qs) [] ins all = all
-    further (q ∷ qs) (p ∷ ps) ins all = (
-      ap (λ b. cond b d (parent_in cs ds q)) (ne_eqb c q (apart_qubits q c cs once.0 (ins q (in_first q qs)))) ∙ all.0,
-      further qs ps (λ r in'. ins r (in_rest q r qs in')) all.1,
-    )
 
 -- two qubits that are each other's parents lead nowhere else
 round : (cs ds : List ℕ) (n q p : ℕ) → parent_in cs ds q ≡ p → parent_in cs ds p ≡ q
@@ -585,7 +532,7 @@ all_pairs e kept =
     (all_couplers e kept))
 
 -- how many entries have this number
-abbrev numbered : ℕ → List Entry → ℕ
+abbrev pub numbered : ℕ → List Entry → ℕ
 numbered n es = count_by (λ e. pair_number e == n) es
 
 numbered-cons : (n : ℕ) (e : Entry) (es : List Entry)
@@ -609,7 +556,7 @@ none_numbered n (e ∷ es) all =
     ∙ none_numbered n es all.1
 
 -- entries of different pairs have each number at most once
-few_numbered : (es : List Entry) → AreApart es → (n : ℕ) → numbered n es ≤ 1
+pub few_numbered : (es : List Entry) → AreApart es → (n : ℕ) → numbered n es ≤ 1
 few_numbered [] apart n = omega arith
 few_numbered (e ∷ es) apart n = elim (cases_eq (pair_number e) n) [
   | inl same ↦
@@ -656,7 +603,7 @@ below_all n (e ∷ es) up none = elim (cases_eq (pair_number e) n) [
     less m n le other = grind arith
 
 -- sorted entries of different pairs rise
-rises_from_sorted : (es : List Entry) → IsNonDecreasingBy pair_number es
+pub rises_from_sorted : (es : List Entry) → IsNonDecreasingBy pair_number es
     → ((n : ℕ) → numbered n es ≤ 1) → Rises es
 rises_from_sorted [] sorted few = tt
 rises_from_sorted (e ∷ es) sorted few =

@@ -36,17 +36,17 @@ pub sum_is : {X : Type 0} (f : X → ℕ) (xs : List X) → total_by (λ x. pos 
 sum_is f [] = refl
 sum_is f (x ∷ xs) = omega (arith, ints, sum_is f xs, sum_by-cons f x xs)
 
-abbrev size : Entry → ℕ
+abbrev pub size : Entry → ℕ
 size e = unsigned_abs e.weight
 
-weights-append : (es ds : List Entry) → weight_total (es ++ ds) ≡ weight_total es + weight_total ds
+pub weights-append : (es ds : List Entry) → weight_total (es ++ ds) ≡ weight_total es + weight_total ds
 weights-append es ds = sum_by-append size es ds
 
 pub weights-in_order : (es : List Entry) → weight_total (in_order es) ≡ weight_total es
 weights-in_order es =
     omega (arith, ints, sum_is size (in_order es), sum_is size es, total_by-in_order (λ e. pos (size e)) es)
 
-weights-flat_map : (f : ℕ → List Entry) (is : List ℕ)
+pub weights-flat_map : (f : ℕ → List Entry) (is : List ℕ)
     → weight_total (flat_map f is) ≡ sum_by (λ i. weight_total (f i)) is
 weights-flat_map f [] = refl
 weights-flat_map f (i ∷ is) =
@@ -92,7 +92,7 @@ weights_of_fields hs =
     ∙ weights_of_nodes f 0 0 (length hs)
 
 -- the fields of qubits are no larger than the shares
-fields_small : (n : ℕ) (es : List Entry) → AllByRecursion (λ e. e.first < n) es
+pub fields_small : (n : ℕ) (es : List Entry) → AllByRecursion (λ e. e.first < n) es
     → total_by (λ q. pos (unsigned_abs (field_at es q))) (range_with_len 0 n)
     ≤ℤ total_by (λ e. pos (size e)) es
 fields_small n [] h = omega (arith, ints, range-zero 0 n)
@@ -115,7 +115,7 @@ fields_small n (e ∷ es) h =
     parts false w v = omega (arith, ints)
 
 -- all shares together have the sizes of the fields
-weights_of_shares : (e : Embedding) → IsEmbedding e
+pub weights_of_shares : (e : Embedding) → IsEmbedding e
     → weight_total (all_shares e) ≡ weight_total (node_entries 0 e.ising.fields)
 weights_of_shares e kept =
     weights-flat_map (λ i. shares (chain_of e.chains i) (field_of e i)) (nodes_of e)
@@ -123,7 +123,7 @@ weights_of_shares e kept =
     (λ i l. shares_size (chain_of e.chains i) (field_of e i) (node_at e kept i (omega (arith, l))).filled)
     ∙ sym (weights_of_fields e.ising.fields)
 
-weights_of_image_fields : (e : Embedding) → IsEmbedding e
+pub weights_of_image_fields : (e : Embedding) → IsEmbedding e
     → weight_total (node_entries 0 (image e).fields) ≤ weight_total (node_entries 0 e.ising.fields)
 weights_of_image_fields e kept =
     omega (
@@ -138,7 +138,7 @@ weights_of_image_fields e kept =
 
 -- ---- couplings and ties
 
-weights_placed : (cs : List Entry) (ps : List (ℕ × ℕ)) → weight_total (placed cs ps) ≤ weight_total cs
+pub weights_placed : (cs : List Entry) (ps : List (ℕ × ℕ)) → weight_total (placed cs ps) ≤ weight_total cs
 weights_placed [] ps = omega arith
 weights_placed (c ∷ cs) [] = omega arith
 weights_placed (c ∷ cs) (p ∷ ps) =
@@ -149,7 +149,7 @@ weights_placed (c ∷ cs) (p ∷ ps) =
       weights_placed cs ps,
     )
 
-weight_of_tie : (q p n : ℕ) → size (coupling_entry q p (neg_ℤ (pos n))) ≡ n
+pub weight_of_tie : (q p n : ℕ) → size (coupling_entry q p (neg_ℤ (pos n))) ≡ n
 weight_of_tie q p n = go (nat_lt q p)
   where
     go : (b : Bool)
@@ -169,7 +169,7 @@ weights_of_ties (q ∷ qs) (p ∷ ps) n =
       weights_of_ties qs ps n,
     )
 
-sums_le : (f g : ℕ → ℕ) (a n : ℕ) → ((i : ℕ) → i < a + n → f i ≤ g i)
+pub sums_le : (f g : ℕ → ℕ) (a n : ℕ) → ((i : ℕ) → i < a + n → f i ≤ g i)
     → sum_by f (range_with_len a n) ≤ sum_by g (range_with_len a n)
 sums_le f g a zero h = omega arith
 sums_le f g a (suc n) h =
@@ -369,7 +369,7 @@ offset_small e kept = omega (arith, ints, ties_cost-le e kept)
 
 -- ---- the size
 
-sizes-append : (es ds : List Entry) → sum_by entry_size (es ++ ds) ≡ sum_by entry_size es + sum_by entry_size ds
+pub sizes-append : (es ds : List Entry) → sum_by entry_size (es ++ ds) ≡ sum_by entry_size es + sum_by entry_size ds
 sizes-append es ds = sum_by-append entry_size es ds
 
 most_4 : (zero node : Bool) → (if zero then 0 else (if node then 1 else 4)) ≤ 4
@@ -380,12 +380,12 @@ most_4 false false = omega arith
 entry_size-le : (e : Entry) → entry_size e ≤ 4
 entry_size-le e = most_4 (int_eq e.weight (pos 0)) (is_node e)
 
-sizes-le : (es : List Entry) → sum_by entry_size es ≤ 4 * length es
+pub sizes-le : (es : List Entry) → sum_by entry_size es ≤ 4 * length es
 sizes-le [] = omega arith
 sizes-le (e ∷ es) = omega (arith, sum_by-cons entry_size e es, entry_size-le e, sizes-le es)
 
 -- a coupling counts four
-sizes_of_couplers : (n : ℕ) (cs : List Entry) → AllByRecursion (IsCoupler n) cs
+pub sizes_of_couplers : (n : ℕ) (cs : List Entry) → AllByRecursion (IsCoupler n) cs
     → sum_by entry_size cs ≡ 4 * length cs
 sizes_of_couplers n [] h = refl
 sizes_of_couplers n (c ∷ cs) h =
@@ -398,7 +398,7 @@ sizes_of_couplers n (c ∷ cs) h =
     nonzero true d = absurd (h.0.nonzero (d.0 refl))
     nonzero false d = refl
 
-length-placed : (cs : List Entry) (ps : List (ℕ × ℕ)) → length (placed cs ps) ≤ length cs
+pub length-placed : (cs : List Entry) (ps : List (ℕ × ℕ)) → length (placed cs ps) ≤ length cs
 length-placed [] ps = omega arith
 length-placed (c ∷ cs) [] = omega arith
 length-placed (c ∷ cs) (p ∷ ps) = omega (arith, length-placed cs ps)
@@ -423,7 +423,7 @@ length-all_ties e kept =
       few_qubits e kept,
     )
 
-sizes-in_order : (es : List Entry) → sum_by entry_size (in_order es) ≡ sum_by entry_size es
+pub sizes-in_order : (es : List Entry) → sum_by entry_size (in_order es) ≡ sum_by entry_size es
 sizes-in_order es =
     omega (
       arith,
@@ -434,7 +434,7 @@ sizes-in_order es =
     )
 
 -- a node counts one at most
-sizes_of_nodes : (ws : List ℤ) (n : ℕ) → sum_by entry_size (node_entries n ws) ≤ length ws
+pub sizes_of_nodes : (ws : List ℤ) (n : ℕ) → sum_by entry_size (node_entries n ws) ≤ length ws
 sizes_of_nodes [] n = omega arith
 sizes_of_nodes (w ∷ ws) n =
     let node : is_node (field_entry n w) ≡ true = eq-eqb n n refl in

@@ -48,10 +48,10 @@ read_off_the_chains link rows cols shore variables y = sym (take-map (majority y
 -- ---- joined qubits
 
 -- the qubits of an entry are joined
-abbrev IsJoined : Joins → Entry → Type 0
+abbrev pub IsJoined : Joins → Entry → Type 0
 IsJoined joined c = joined c.first c.second ≡ true
 
-placed_joined : (joined : Joins) (chains : List (List ℕ)) (cs : List Entry) (ps : List (ℕ × ℕ))
+pub placed_joined : (joined : Joins) (chains : List (List ℕ)) (cs : List Entry) (ps : List (ℕ × ℕ))
     → AllZip (IsPlaceOf joined chains) cs ps → AllByRecursion (IsJoined joined) (placed cs ps)
 placed_joined joined chains [] ps all = tt
 placed_joined joined chains (c ∷ cs) [] all = tt
@@ -78,7 +78,7 @@ ties_joined joined both_ways chain (q ∷ qs) (p ∷ ps) strong all = (
 )
 
 -- the ties of a node that has a chain, and there are none of another
-node_joined : (joined : Joins) → ((a b : ℕ) → joined a b ≡ joined b a) → (e : Embedding)
+pub node_joined : (joined : Joins) → ((a b : ℕ) → joined a b ≡ joined b a) → (e : Embedding)
     → AllZip (AreParents joined) e.chains e.parents → (i : ℕ)
     → AllByRecursion (IsJoined joined) (ties_at e i)
 node_joined joined both_ways e parents i = elim (cases_lt i (length e.chains)) [

@@ -4,3 +4,4 @@ pub mod Whole
 pub mod NodeEnergies
 pub mod Aligned
 pub mod Kept
+pub mod OnceChains

@@ -18,7 +18,7 @@ use embedding_check::Embedded;
 use std::alloc::Global;
 
 /// A coupling of two qubits, the lesser one first.
-fn coupling(p: u32, q: u32, weight: i128) -> Entry
+pub fn coupling(p: u32, q: u32, weight: i128) -> Entry
     ensures { result ≡ coupling_entry p q weight }
 {
     if p < q {
@@ -37,7 +37,7 @@ fn coupling(p: u32, q: u32, weight: i128) -> Entry
 }
 
 /// Each coupling on its pair of qubits, with room for so many ties.
-fn placed(
+pub fn placed(
     alloc: Global,
     couplings: &CouplerList,
     places: &[(u32, u32)],

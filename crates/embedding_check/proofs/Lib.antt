@@ -9,3 +9,4 @@ pub mod Owning
 pub mod Noting
 pub mod PlacedRows
 pub mod Runs
+pub mod Unique

@@ -9,3 +9,4 @@ pub mod Marks
 pub mod Least
 pub mod Owners
 pub mod Noted
+pub mod Stated

@@ -9,6 +9,7 @@
 
 mod checking;
 mod embedded;
+mod laws;
 mod least;
 mod noted;
 mod owners;
@@ -20,3 +21,4 @@ mod waiting;
 pub use chain_map::{ChainMap, CheckAnswer, EmbedFault, clique_map, read_map};
 pub use checking::check;
 pub use embedded::{Embedded, PairList};
+pub use laws::checks_give_one_embedding;

@@ -1,7 +1,8 @@
 -- The models of a form that stands for a problem, as it is and in its greatest unit.
-use Rattle.std.proofs.Common.{◌≡◌, ◌≤◌, ◌⊎◌, inl, inr, ℕ, zero, suc, ◌+◌, ◌^◌, ℤ, pos, ◌+ℤ◌, ◌*ℤ◌, Bool, true, false, List, [], ◌++◌, length, if◌then◌else◌, refl, ap, arith}
+use Rattle.std.proofs.Common.{◌≡◌, ◌≤◌, ◌<◌, ◌⊎◌, inl, inr, ℕ, zero, suc, ◌+◌, ◌*◌, ◌^◌, ℤ, pos, ◌+ℤ◌, ◌*ℤ◌, ◌≤ℤ◌, Bool, true, false, List, [], ◌++◌, length, if◌then◌else◌, refl, ap, arith}
 use Rattle.std.specs.Prelude.{unsigned_abs, neg_ℤ}
 use Rattle.std.specs.List.{list_all, sum_by}
+use Rattle.std.proofs.Math.Nat.{mul-le-mul_right}
 use Rattle.std.proofs.lemmas.Int.{ints}
 use Rattle.std.proofs.lemmas.List.{length-map}
 use Rattle.std.proofs.lemmas.List.Elements.{All-nil}
@@ -14,6 +15,7 @@ use Rattle.base.specs.declared.unit.UnitChoice.TheVariants.{One, Reduce}
 use Rattle.base.specs.Costs.{Form}
 use Rattle.form_steps.specs.Relations.{Decoding, Reduces}
 use Rattle.base.specs.Figures.{figures_moved}
+use Rattle.faithful.specs.Bounds.{AreBounded}
 use Rattle.faithful.specs.Faithful.{HasUnit}
 use Rattle.bits_model.specs.Output.{weight_total}
 use Rattle.form_steps.specs.laws.Composed.{reduces_after_relaxes}
@@ -21,14 +23,14 @@ use Rattle.model_text.specs.Rows.{FitsFigures}
 use Rattle.problem_form.specs.Problems.{ProblemContent, form_of}
 use Rattle.problem_form.specs.Limits.{upper}
 use Rattle.command_words.specs.declared.commands.NodeModel.TheVariants.{Qubo, Ising}
-use Rattle.quad_form.specs.Quads.{QuadContent, IsQuad, node_entries}
+use Rattle.quad_form.specs.Quads.{QuadContent, IsQuad, node_entries, quad_total}
 use Rattle.quad_form.specs.Quads as quads
 use Rattle.quad_form.specs.Units.{is_multiple, greatest_within, weights_of, counted_in, quad_unit}
 use Rattle.quad_form.specs.Units as units
 use Rattle.quad_form.proofs.UnitEntries.{sizes_of_weights}
 use Rattle.quad_form.proofs.ReducedForms as reduced_quads
 use Rattle.quad_form.proofs.WrittenModels as written_quads
-use Rattle.ising_form.specs.Isings.{IsingContent, IsIsing}
+use Rattle.ising_form.specs.Isings.{IsingContent, IsIsing, ising_total}
 use Rattle.ising_form.specs.Isings as isings
 use Rattle.ising_form.specs.Outputs as outputs
 use Rattle.ising_form.specs.Reduction.{ising_unit}
@@ -92,6 +94,21 @@ figures_fit scale p n most low has fits = record {
   threshold = omega (arith, has.threshold_low);
 }
 
+-- figures are bounded
+figures_bounded : (scale : ℤ) (p : ProblemContent) (n : Figures) (most : ℕ) → unsigned_abs scale ≤ 4
+    → HasFigures scale p n most → most < 2 ^ 124 → AreBounded n
+figures_bounded scale p n most low has small = record {
+  scale = omega (arith, ap unsigned_abs has.scale);
+  offset = omega (arith, has.offset_low);
+  threshold = omega (arith, has.threshold_low);
+}
+
+-- a number is no greater than some times itself
+once_low : (u : ℤ) (a b : ℕ) → pos 1 ≤ℤ u → unsigned_abs u * a ≤ b → a ≤ b
+once_low u a b one h =
+    let low : 1 ≤ unsigned_abs u = omega (arith, ints, one) in
+    omega (arith, mul-le-mul_right a low, h)
+
 -- ---- the greatest unit is no greater than the weights
 
 greatest_low : (n : ℕ) (ws : List ℤ) → greatest_within n ws ≤ n + 1
@@ -115,13 +132,13 @@ module _ (p : ProblemContent) (own : ℕ) (d : Decoding) where
 
   -- in any unit
   qubo_in : (choice : UnitChoice) (q : QuadContent) (u : ℤ) (n : Figures) → IsQuad q
-      → own ≤ length q.diagonal → (u ≡ pos 1) ⊎ (q.constant ≡ pos 0) → unsigned_abs u ≤ 2 ^ 125
-      → HasFigures (pos 1) p n (2 ^ 125) → Stands p (quads.form_of q) d u n
+      → own ≤ length q.diagonal → (u ≡ pos 1) ⊎ (q.constant ≡ pos 0) → quad_total q < 2 ^ 121
+      → unsigned_abs u ≤ 2 ^ 122 → HasFigures (pos 1) p n (2 ^ 122)
+      → Stands p (quads.form_of q) d u n
       → HasUnit choice (quads.written_of q own n u)
       → IsModelOf p own Qubo choice (quads.written_of q own n u)
-  qubo_in choice q u n quad least counted low has stands unit =
-      let small = quad.small in
-      let moved = figures_are_moved (pos 1) p n (2 ^ 125) (2 ^ 124) (neg_ℤ q.constant) has
+  qubo_in choice q u n quad least counted small low has stands unit =
+      let moved = figures_are_moved (pos 1) p n (2 ^ 122) (2 ^ 121) (neg_ℤ q.constant) has
       (minus_low q.constant _ (omega (arith, small))) in record {
         kind = refl;
         fits = record {
@@ -133,6 +150,11 @@ module _ (p : ProblemContent) (own : ℕ) (d : Decoding) where
           weights = omega (arith, small);
           qubits = All-nil _;
         };
+        bounded = record {
+          weights = omega (arith, small);
+          unit = omega (arith, low);
+          figures = figures_bounded (pos 1) p _ _ (omega (arith, ints)) moved (omega arith);
+        };
         well_formed = written_quads.written_is_well_formed q own n u quad least stands.relaxes.positive stands.relaxes.unit;
         variables = refl;
         scale = has.scale;
@@ -143,21 +165,24 @@ module _ (p : ProblemContent) (own : ℕ) (d : Decoding) where
 
   -- in the unit that is chosen
   pub qubo_stands : (choice : UnitChoice) (q : QuadContent) (n : Figures) → IsQuad q
-      → own ≤ length q.diagonal → HasFigures (pos 1) p n (2 ^ 124)
+      → own ≤ length q.diagonal → quad_total q < 2 ^ 121 → HasFigures (pos 1) p n (2 ^ 121)
       → Stands p (quads.form_of q) d (pos 1) n
       → IsModelOf p own Qubo choice (qubo_model choice q own n)
-  qubo_stands One q n quad least has stands =
-      qubo_in One q (pos 1) n quad least (inl refl) (omega (arith, ints))
+  qubo_stands One q n quad least small has stands =
+      qubo_in One q (pos 1) n quad least (inl refl) small (omega (arith, ints))
       (figures_within (pos 1) p n _ _ (omega arith) has) stands refl
-  qubo_stands Reduce q n quad least has stands =
-      let small = quad.small in
+  qubo_stands Reduce q n quad least small has stands =
       let c = neg_ℤ q.constant in
       let width = length-map q.diagonal (counted_in (quad_unit q)) in
-      let constant_low = minus_low q.constant (2 ^ 124) (omega (arith, small)) in
-      let low = unit_low q.diagonal q.couplers (2 ^ 124) (omega (arith, small)) in
+      let constant_low = minus_low q.constant (2 ^ 121) (omega (arith, small)) in
+      let low = unit_low q.diagonal q.couplers (2 ^ 121) (omega (arith, small)) in
+      let less = once_low (quad_unit q) (quad_total (units.reduced q)) (quad_total q)
+      (reduced_quads.one_le_quad_unit q)
+      (reduced_quads.total_reduced q) in
       qubo_in Reduce (units.reduced q) (quad_unit q) (figures_moved n c)
       (reduced_quads.reduced_is_quad q quad) (omega (arith, width, least)) (inr refl)
-      (omega (arith, low)) (figures_are_moved (pos 1) p n _ _ c has constant_low)
+      (omega (arith, less, small)) (omega (arith, low))
+      (figures_are_moved (pos 1) p n _ _ c has constant_low)
       (stands_reduced p (quads.form_of q) _ d (quad_unit q) n c stands
       (reduced_quads.reduced_reduces q))
       (reduced_quads.reduced_is_reduced q own (figures_moved n c))
@@ -167,14 +192,13 @@ module _ (p : ProblemContent) (own : ℕ) (d : Decoding) where
   -- in any unit
   ising_in : (choice : UnitChoice) (f : IsingContent) (u : ℤ) (n : Figures) → IsIsing f
       → own ≤ p.variables → p.variables ≤ length f.fields
-      → (u ≡ pos 1) ⊎ (f.constant ≡ pos 0) → unsigned_abs u ≤ 2 ^ 125
-      → HasFigures (pos 4) p n (2 ^ 125) → Stands p (isings.form_of f) d u n
+      → (u ≡ pos 1) ⊎ (f.constant ≡ pos 0) → ising_total f < 2 ^ 121 → unsigned_abs u ≤ 2 ^ 122
+      → HasFigures (pos 4) p n (2 ^ 122) → Stands p (isings.form_of f) d u n
       → HasUnit choice (outputs.written_of f own n u kinds.Ising [])
       → IsModelOf p own Ising choice (outputs.written_of f own n u kinds.Ising [])
-  ising_in choice f u n ising few enough counted low has stands unit =
-      let small = ising.small in
+  ising_in choice f u n ising few enough counted small low has stands unit =
       let least : own ≤ length f.fields = omega (arith, few, enough) in
-      let moved = figures_are_moved (pos 4) p n (2 ^ 125) (2 ^ 124) (neg_ℤ f.constant) has
+      let moved = figures_are_moved (pos 4) p n (2 ^ 122) (2 ^ 121) (neg_ℤ f.constant) has
       (minus_low f.constant _ (omega (arith, small))) in record {
         kind = refl;
         fits = record {
@@ -186,6 +210,11 @@ module _ (p : ProblemContent) (own : ℕ) (d : Decoding) where
           weights = omega (arith, small);
           qubits = All-nil _;
         };
+        bounded = record {
+          weights = omega (arith, small);
+          unit = omega (arith, low);
+          figures = figures_bounded (pos 4) p _ _ (omega (arith, ints)) moved (omega arith);
+        };
         well_formed = written_isings.written_is_well_formed f own n u kinds.Ising [] ising (refl, least) stands.relaxes.positive stands.relaxes.unit;
         variables = refl;
         scale = has.scale;
@@ -196,22 +225,25 @@ module _ (p : ProblemContent) (own : ℕ) (d : Decoding) where
 
   -- in the unit that is chosen
   pub ising_stands : (choice : UnitChoice) (f : IsingContent) (n : Figures) → IsIsing f
-      → own ≤ p.variables → p.variables ≤ length f.fields → HasFigures (pos 4) p n (2 ^ 124)
-      → Stands p (isings.form_of f) d (pos 1) n
+      → own ≤ p.variables → p.variables ≤ length f.fields → ising_total f < 2 ^ 121
+      → HasFigures (pos 4) p n (2 ^ 121) → Stands p (isings.form_of f) d (pos 1) n
       → IsModelOf p own Ising choice (ising_model choice f own n)
-  ising_stands One f n ising few enough has stands =
-      ising_in One f (pos 1) n ising few enough (inl refl) (omega (arith, ints))
+  ising_stands One f n ising few enough small has stands =
+      ising_in One f (pos 1) n ising few enough (inl refl) small (omega (arith, ints))
       (figures_within (pos 4) p n _ _ (omega arith) has) stands refl
-  ising_stands Reduce f n ising few enough has stands =
-      let small = ising.small in
+  ising_stands Reduce f n ising few enough small has stands =
       let c = neg_ℤ f.constant in
       let width = length-map f.fields (counted_in (ising_unit f)) in
-      let constant_low = minus_low f.constant (2 ^ 124) (omega (arith, small)) in
-      let low = unit_low f.fields f.couplings (2 ^ 124) (omega (arith, small)) in
+      let constant_low = minus_low f.constant (2 ^ 121) (omega (arith, small)) in
+      let low = unit_low f.fields f.couplings (2 ^ 121) (omega (arith, small)) in
+      let less = once_low (ising_unit f) (ising_total (reduction.reduced f)) (ising_total f)
+      (reduced_isings.one_le_ising_unit f)
+      (reduced_isings.made_total f (reduction.reduced f) (ising_unit f) refl refl) in
       let least : own ≤ length (reduction.reduced f).fields = omega (arith, width, few, enough) in
       ising_in Reduce (reduction.reduced f) (ising_unit f) (figures_moved n c)
       (reduced_isings.reduced_is_ising f ising) few (omega (arith, width, enough)) (inr refl)
-      (omega (arith, low)) (figures_are_moved (pos 4) p n _ _ c has constant_low)
+      (omega (arith, less, small)) (omega (arith, low))
+      (figures_are_moved (pos 4) p n _ _ c has constant_low)
       (stands_reduced p (isings.form_of f) _ d (ising_unit f) n c stands
       (reduced_isings.made_reduces f (reduction.reduced f) (ising_unit f) c refl refl refl))
       (written_isings.made_is_reduced f (reduction.reduced f) (ising_unit f) refl refl own (figures_moved n c) kinds.Ising [] (refl, least))

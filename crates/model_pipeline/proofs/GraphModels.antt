@@ -15,7 +15,7 @@ use Rattle.ising_form.specs.Spins as spins
 use Rattle.ising_form.specs.laws.Spun.{length-fields}
 use Rattle.ising_form.proofs.Images.{image_is_ising, total-image, size-image}
 use Rattle.chimera_graph.specs.declared.chimera.Chimera.{Chimera}
-use Rattle.qubit_models.specs.Standing.{IsQubitModelOf}
+use Rattle.qubit_models.specs.Standing.{AreSmall, IsQubitModelOf}
 use Rattle.model_pipeline.specs.Models.{ising_figures}
 use Rattle.model_pipeline.specs.Formed.{IsFormed, IsSpun}
 use Rattle.model_pipeline.specs.GraphModels.{IsGraphModelOf}
@@ -53,6 +53,14 @@ spun_as p q n f m kept made form figured =
 
 module _ (p : ProblemContent) (own : ℕ) (choice : UnitChoice) (graph : Chimera)
     (map : List (List ℕ)) (m : Written) (f : IsingContent) where
+  -- the figures are small
+  small : IsSpun p f (ising_figures (figures p)) → AreSmall (ising_figures (figures p))
+  small spun = record {
+    scale = omega (arith, ints);
+    offset = spun.offset_low;
+    threshold = spun.threshold_low;
+  }
+
   graph_stands : IsSpun p f (ising_figures (figures p))
       → IsQubitModelOf f (ising_figures (figures p)) own choice graph map m
       → IsGraphModelOf p own choice graph map m
@@ -60,6 +68,7 @@ module _ (p : ProblemContent) (own : ℕ) (choice : UnitChoice) (graph : Chimera
       let stands = spun.stands.1 in record {
         kind = of.kind;
         fits = of.fits;
+        bounded = of.bounded (record { total = spun.total; figures = small spun });
         well_formed = of.well_formed;
         variables = of.variables;
         scale = of.scale ∙ sym (ap scale_of of.kind);

@@ -41,7 +41,7 @@ use Rattle.ising_form.specs.Isings as isings
 use Rattle.ising_form.specs.Spins.{coupled}
 use Rattle.ising_form.specs.Spins as spins
 use Rattle.ising_form.specs.laws.Spun.{length-fields, spins_keeps}
-use Rattle.ising_form.proofs.Images.{image_is_ising}
+use Rattle.ising_form.proofs.Images.{image_is_ising, total-image}
 use Rattle.model_pipeline.specs.Models.{IsModelOf, form_model, ising_figures, low_terms_of, quad_by, terms_of}
 use Rattle.model_pipeline.specs.Formed.{IsFormed, Stands}
 use Rattle.model_pipeline.specs.Decoders.{LowFits}
@@ -60,7 +60,7 @@ literal_enough : (p : ProblemContent) → p.variables ≤ length (direct.image p
 literal_enough p = omega (arith, length-image (monomials.image (penalty.image p)))
 
 pub formed_at_once : (p : ProblemContent) (a : BitsLink) → limit_fault normals.Literal p ≡ None
-    → direct.Fits a p → quad_total (direct.image p) + 1 ≤ 2 ^ 99
+    → direct.Fits a p → quad_total (direct.image p) + 1 ≤ 2 ^ 98
     → quad_size (direct.image p) ≤ 2 ^ 29 → IsFormed p (direct.image p) (figures p)
 formed_at_once p a within fits total size = record {
   figures = refl;
@@ -116,7 +116,7 @@ module _ (normal : Normal) (high : High) (p : ProblemContent) where
 
   pub formed_by_steps : (a b c : BitsLink) → unsigned_abs (upper p) ≤ 2 ^ 64 → penalty.Fits a p
       → LowFits high b (terms_of normal p) → flat.Fits c (low_terms_of high (terms_of normal p))
-      → quad_total (quad_by normal high p) + 1 ≤ 2 ^ 99
+      → quad_total (quad_by normal high p) + 1 ≤ 2 ^ 98
       → quad_size (quad_by normal high p) ≤ 2 ^ 29
       → IsFormed p (quad_by normal high p) (figures p)
   formed_by_steps a b c threshold fits_a fits_b fits_c total size =
@@ -199,14 +199,17 @@ made_model : (target : NodeModel) (choice : UnitChoice) (p : ProblemContent) (ow
 made_model Qubo choice p own q kept made few =
     let least : own ≤ length q.diagonal = omega (arith, made.enough, few) in
     let figured = figures_within (pos 1) p (figures p) _ _ (omega arith) (figures_are_stated p made.threshold) in
-    qubo_stands p own made.stands.0 choice q (figures p) kept least figured made.stands.1
+    qubo_stands p own made.stands.0 choice q (figures p) kept least (omega (arith, made.total_low))
+    figured
+    made.stands.1
 made_model Ising choice p own q kept made few =
     let stands = spins_stand p q kept made.stands in
     let width = length-fields (coupled q.couplers) 0 q.diagonal in
     let enough : p.variables ≤ length (spins.image q).fields = omega (arith, width, made.enough) in
     let figured = figures_within (pos 4) p (ising_figures (figures p)) _ _ (omega arith) (ising_figures_are_stated p made.threshold) in
     ising_stands p own stands.0 choice (spins.image q) (ising_figures (figures p))
-    (image_is_ising q kept made.total) few enough figured stands.1
+    (image_is_ising q kept made.total) few enough
+    (omega (arith, total-image q, made.total_low)) figured stands.1
 
 -- the same with figures that are the problem's
 pub formed_model : (target : NodeModel) (choice : UnitChoice) (p : ProblemContent) (own : ℕ)

@@ -23,14 +23,14 @@ pub record HasRoom (q : QuadContent) : Type 0 where
   pub total : (quad_total q + 1) * 2 ^ 2 ≤ 2 ^ 124
 
 -- a quadratic form that relaxes a problem with the problem's figures, and has room for the steps to
--- a model
+-- a model: four times its total, and on chains 2 ^ 21 times that, stay below 2 ^ 121
 pub record IsFormed (p : ProblemContent) (q : QuadContent) (n : Figures) : Type 0 where
   pub figures : n ≡ penalty.figures p
   pub threshold : unsigned_abs (upper p) ≤ 2 ^ 64
   pub enough : p.variables ≤ length q.diagonal
   pub total : (quad_total q + 1) * 2 ^ 2 ≤ 2 ^ 124
   pub size : quad_size q * 2 ^ 1 ≤ 2 ^ 32
-  pub total_low : quad_total q + 1 ≤ 2 ^ 99
+  pub total_low : quad_total q + 1 ≤ 2 ^ 98
   pub size_low : quad_size q ≤ 2 ^ 29
   pub stands : (d : Decoding) × Stands p (quads.form_of q) d (pos 1) (penalty.figures p)
 
@@ -40,7 +40,7 @@ pub record IsSpun (p : ProblemContent) (f : IsingContent) (n : Figures) : Type 0
   pub figures : n ≡ ising_figures (penalty.figures p)
   pub kept : IsIsing f
   pub enough : p.variables ≤ length f.fields
-  pub total : (ising_total f + 1) * 2 ^ 21 ≤ 2 ^ 124
+  pub total : (ising_total f + 1) * 2 ^ 21 ≤ 2 ^ 121
   pub size : (ising_size f + 4 * 2 ^ 20) * 2 ^ 1 ≤ 2 ^ 32
   pub scale_low : pos 1 ≤ℤ n.scale
   pub offset_low : unsigned_abs n.offset < 2 ^ 122

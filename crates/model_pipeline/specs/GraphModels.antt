@@ -4,6 +4,7 @@ use Rattle.std.specs.Prelude.{◌≡◌, ℕ, ◌+ℤ◌, ◌*ℤ◌, List}
 use Rattle.base.specs.declared.unit.UnitChoice.{UnitChoice}
 use Rattle.form_steps.specs.Relations.{Relaxes}
 use Rattle.bits_model.specs.Output.{Written, IsWellFormed, form_of}
+use Rattle.faithful.specs.Bounds.{IsBounded}
 use Rattle.faithful.specs.Faithful.{HasUnit, IsEmbedded, scale_of}
 use Rattle.model_text.specs.Rows.{FitsFields}
 use Rattle.problem_form.specs.declared.limits.Choices.{Choices}
@@ -21,13 +22,14 @@ use Rattle.model_pipeline.specs.Models.{quad_of, decoding_to}
 abbrev pub ising_of : Choices → ProblemContent → IsingContent
 ising_of choices p = spins.image (quad_of choices p)
 
--- a well-formed model on this graph whose numbers fit their fields, with so many variables, the
--- stated figures, the unit that was chosen and the chains of the map, which relaxes the problem in
--- this unit
+-- a well-formed model on this graph whose numbers fit their fields, all of them below 2 ^ 124 and its
+-- energies below 2 ^ 121 in size, with so many variables, the stated figures, the unit that was
+-- chosen and the chains of the map, which relaxes the problem in this unit
 pub record IsGraphModelOf (p : ProblemContent) (own : ℕ) (choice : UnitChoice) (graph : Chimera)
     (map : List (List ℕ)) (m : Written) : Type 0 where
   pub kind : m.kind ≡ kind_of graph
   pub fits : FitsFields m
+  pub bounded : IsBounded m
   pub well_formed : IsWellFormed m
   pub variables : m.variables ≡ own
   pub scale : m.figures.scale ≡ scale_of m.kind

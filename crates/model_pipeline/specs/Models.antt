@@ -8,6 +8,7 @@ use Rattle.base.specs.declared.unit.UnitChoice.TheVariants.{One, Reduce}
 use Rattle.form_steps.specs.Relations.{Decoding, Relaxes}
 use Rattle.base.specs.Figures.{figures_after, figures_moved}
 use Rattle.bits_model.specs.Output.{Written, IsWellFormed, form_of, read_off}
+use Rattle.faithful.specs.Bounds.{IsBounded}
 use Rattle.faithful.specs.Faithful.{HasUnit, scale_of}
 use Rattle.model_text.specs.Rows.{FitsFields}
 use Rattle.problem_form.specs.declared.limits.Choices.{Choices}
@@ -102,12 +103,14 @@ decoding_to variables m = record {
   decoded = read_off m.kind variables m.chains;
 }
 
--- a well-formed model for this target whose numbers fit their fields, with so many variables, the
--- stated figures and the unit that was chosen, which relaxes the problem in this unit
+-- a well-formed model for this target whose numbers fit their fields, all of them below 2 ^ 124 and
+-- its energies below 2 ^ 121 in size, with so many variables, the stated figures and the unit that
+-- was chosen, which relaxes the problem in this unit
 pub record IsModelOf (p : ProblemContent) (own : ℕ) (target : NodeModel) (choice : UnitChoice)
     (m : Written) : Type 0 where
   pub kind : m.kind ≡ kind_of target
   pub fits : FitsFields m
+  pub bounded : IsBounded m
   pub well_formed : IsWellFormed m
   pub variables : m.variables ≡ own
   pub scale : m.figures.scale ≡ scale_of m.kind

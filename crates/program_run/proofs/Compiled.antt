@@ -59,6 +59,7 @@ stands_on_nodes target unit s r m stands made =
     let demand = plain_demand unit in
     model_stands unit s r m stands (record {
       fits = made.fits;
+      bounded = made.bounded;
       well_formed = made.well_formed;
       variables = made.variables;
       scale = made.scale;
@@ -73,6 +74,7 @@ module _ (unit : UnitChoice) (s : Source) (r : Read) (m : Written) (stands : Sta
   on_graph : IsMade r unit m
   on_graph = record {
     fits = made.fits;
+    bounded = made.bounded;
     well_formed = made.well_formed;
     variables = made.variables;
     scale = made.scale;

@@ -6,6 +6,7 @@ use Rattle.bits_model.specs.declared.output.Kind.TheVariants as kinds
 use Rattle.base.specs.Costs.{Source}
 use Rattle.form_steps.specs.Relations.{Relaxes, first_decoded}
 use Rattle.bits_model.specs.Output.{Written, IsWellFormed, form_of, decoding_of, read_off, majority}
+use Rattle.faithful.specs.Bounds.{IsBounded}
 use Rattle.faithful.specs.Faithful.{Demand, HasUnit, IsStated, HasChains, scale_of}
 use Rattle.form_steps.specs.Stated.{DecodesAlike}
 use Rattle.form_steps.proofs.Alike.{relaxes_alike}
@@ -32,6 +33,7 @@ take-read_off (kinds.Chimera rows cols shore) a b chains y few =
 -- what a model of a problem has, on whatever ground
 pub record IsMade (r : Read) (choice : UnitChoice) (m : Written) : Type 0 where
   pub fits : FitsFields m
+  pub bounded : IsBounded m
   pub well_formed : IsWellFormed m
   pub variables : m.variables ≡ r.variables
   pub scale : m.figures.scale ≡ scale_of m.kind
@@ -76,6 +78,7 @@ module _ (unit : UnitChoice) (s : Source) (r : Read) (m : Written) (stands : Sta
   model_stands base demand kind asked same chains = record {
     kind = kind;
     fits = made.fits;
+    bounded = made.bounded;
     relaxes = source_relaxed;
     demand = demand;
     asked = asked;

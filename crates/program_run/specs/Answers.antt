@@ -10,6 +10,7 @@ use Rattle.base.specs.declared.unit.UnitChoice.{UnitChoice}
 use Rattle.base.specs.Costs.{Source, energy}
 use Rattle.form_steps.specs.Relations.{Relaxes}
 use Rattle.bits_model.specs.Output.{Written, form_of, decoding_of}
+use Rattle.faithful.specs.Bounds.{IsBounded}
 use Rattle.faithful.specs.Faithful.{Demand, Faithful}
 use Rattle.problem_form.specs.Limits.{auxiliary_bits}
 use Rattle.sample_text.specs.Sample.{sample_text}
@@ -60,11 +61,13 @@ IsGroundOf words held (Chimera size (chainings.Map at)) base =
     × ((map : List (List ℕ)) × (maps.reading bytes ≡ Ok map) × (base ≡ grounds.Map size map))
 
 -- a model on this ground, every state of which stands for the source, and whose least states are
--- the least assignments of the source
+-- the least assignments of the source; its energies are below 2 ^ 121 in size, and all numbers that
+-- are written below 2 ^ 124
 pub record IsModelFor (base : Ground) (unit : UnitChoice) (source : Source) (model : Written)
     : Type 0 where
   pub kind : model.kind ≡ kind_of base
   pub fits : FitsFields model
+  pub bounded : IsBounded model
   pub relaxes : Relaxes source.form (form_of model) (decoding_of model) model.unit model.figures
   pub demand : Demand
   pub asked : IsDemand base unit (length model.chains) demand

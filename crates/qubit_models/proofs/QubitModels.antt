@@ -13,6 +13,7 @@ use Rattle.base.specs.Costs.{Form}
 use Rattle.form_steps.specs.Relations.{Decoding, Relaxes, decoding_after}
 use Rattle.base.specs.Figures.{figures_moved}
 use Rattle.bits_model.specs.Walks.{IsConnected}
+use Rattle.faithful.specs.Bounds.{AreBounded}
 use Rattle.faithful.specs.Faithful.{HasUnit}
 use Rattle.form_steps.specs.laws.Composed.{keeps_after_relaxes, reduces_after_relaxes}
 use Rattle.model_text.specs.Rows.{FitsFigures, FitsGraph}
@@ -23,7 +24,7 @@ use Rattle.ising_form.specs.Isings.{IsingContent, IsIsing, ising_total}
 use Rattle.ising_form.specs.Isings as isings
 use Rattle.ising_form.specs.Outputs.{FitsOutput, written_of}
 use Rattle.ising_form.specs.Reduction.{ising_unit, reduced}
-use Rattle.ising_form.proofs.ReducedForms.{reduced_is_ising, made_reduces, one_le_ising_unit}
+use Rattle.ising_form.proofs.ReducedForms.{reduced_is_ising, made_reduces, made_total, one_le_ising_unit}
 use Rattle.ising_form.proofs.WrittenModels.{written_is_well_formed, written_relaxes, written_total, made_is_reduced}
 use Rattle.chimera_graph.specs.declared.chimera.Chimera.{Chimera}
 use Rattle.chimera_graph.specs.Graph.{qubits_of, place_of}
@@ -35,10 +36,10 @@ use Rattle.chain_layer.specs.declared.link.ChainLink.{ChainLink}
 use Rattle.chain_layer.specs.Image.{image, offset, decoding, Fits}
 use Rattle.chain_layer.specs.laws.Kept.{chains_keep}
 use Rattle.chain_layer.proofs.Ordered.{image_is_ising}
-use Rattle.chain_layer.proofs.Sizes.{offset_small}
+use Rattle.chain_layer.proofs.Sizes.{offset_small, total_grows}
 use Rattle.chain_layer.proofs.Written.{image_fits_output, image_is_joined, read_off_the_chains}
 use Rattle.qubit_models.specs.QubitModels.{joins_of, kind_of, chained_figures, qubit_model}
-use Rattle.qubit_models.specs.Standing.{IsQubitModelOf}
+use Rattle.qubit_models.specs.Standing.{HasRoom, IsQubitModelOf}
 use Rattle.qubit_models.proofs.OnChains.{AreEndsJoined, reduced_fits, reduced_joined, written_joined, unit_low}
 
 -- ---- figures
@@ -111,6 +112,16 @@ moved_by_ties n e kept small offset_low threshold_low =
       threshold_low = omega (arith, tied_low n.threshold (offset e) threshold_low tied);
     }
 
+-- a number that is moved by nothing
+unmoved_low : (z : ℤ) → unsigned_abs z < 2 ^ 124 → unsigned_abs (z +ℤ neg_ℤ (pos 0)) < 2 ^ 124
+unmoved_low z h = omega (arith, ints)
+
+-- a number is no greater than some times itself
+once_low : (u : ℤ) (a b : ℕ) → pos 1 ≤ℤ u → unsigned_abs u * a ≤ b → a ≤ b
+once_low u a b one h =
+    let low : 1 ≤ unsigned_abs u = omega (arith, ints, one) in
+    omega (arith, mul-le-mul_right a low, h)
+
 -- figures fit their fields
 figures_fit : (n r : Figures) (most : ℕ) → unsigned_abs n.scale ≤ 2 ^ 127 → AreMoved n r most
     → most ≤ 2 ^ 127 → FitsFigures r
@@ -166,6 +177,12 @@ module _ (f : IsingContent) (n : Figures) (own : ℕ) (graph : Chimera) (map : L
       (source : Form) (d : Decoding) → Relaxes source (isings.form_of f) d (pos 1) n
       → Relaxes source (isings.form_of g) (decoding_after d (decoding link)) u r
 
+  -- the total, the unit and the moved figures are small
+  record HasBounds (g : IsingContent) (u : ℤ) (r : Figures) : Type 0 where
+    total : ising_total g < 2 ^ 121
+    unit : unsigned_abs u < 2 ^ 124
+    figures : AreBounded (figures_moved r (neg_ℤ g.constant))
+
   -- ---- in any unit
 
   stands_in : (choice : UnitChoice) (g : IsingContent) (u : ℤ) (r : Figures) → IsIsing g
@@ -173,10 +190,10 @@ module _ (f : IsingContent) (n : Figures) (own : ℕ) (graph : Chimera) (map : L
       → FitsOutput (kind_of graph) e.chains variables g)
       → All (AreEndsJoined (joins_of graph)) g.couplings
       → (u ≡ pos 1) ⊎ (g.constant ≡ pos 0) → pos 1 ≤ℤ u → unsigned_abs u ≤ 2 ^ 125
-      → AreMoved n r (2 ^ 125) → RelaxesToo g u r
+      → AreMoved n r (2 ^ 125) → RelaxesToo g u r → (HasRoom f n → HasBounds g u r)
       → HasUnit choice (written_of g own r u (kind_of graph) e.chains)
       → IsQubitModelOf f n own choice graph map (written_of g own r u (kind_of graph) e.chains)
-  stands_in choice g u r ising on_chains joined once one small are relaxes unit =
+  stands_in choice g u r ising on_chains joined once one small are relaxes bounds unit =
       let light = ising.small in
       let narrow = kept.ising.narrow in
       let width = ap (λ (g : IsingContent). length g.fields) checked.ising in
@@ -217,6 +234,12 @@ module _ (f : IsingContent) (n : Figures) (own : ℕ) (graph : Chimera) (map : L
             (λ y. reads ((decoding link).decoded y)
             ∙ sym (read_off_the_chains link graph.rows graph.cols graph.shore k y))
             (relaxes source d relaxed);
+        bounded = λ room.
+            let has = bounds room in record {
+              weights = omega (arith, has.total, written_total g (kind_of graph) e.chains);
+              unit = has.unit;
+              figures = has.figures;
+            };
       }
 
   -- ---- the image
@@ -238,6 +261,61 @@ module _ (f : IsingContent) (n : Figures) (own : ℕ) (graph : Chimera) (map : L
       (subst (λ g. Relaxes source (isings.form_of g) d (pos 1) n) (sym checked.ising) relaxed)
       (chains_keep link e links)
 
+  image_low : HasRoom f n → ising_total (image e) < 2 ^ 121
+  image_low room = omega (arith, total_grows e kept, ap ising_total checked.ising, room.total)
+
+  -- a figure on chains, without the constant
+  figure_low : HasRoom f n → (z : ℤ) → unsigned_abs z < 2 ^ 122
+      → unsigned_abs (pos 1 *ℤ z +ℤ offset e +ℤ neg_ℤ (image e).constant) < 2 ^ 124
+  figure_low room z low =
+      let light = image_low room in
+      let once : pos 1 *ℤ z +ℤ offset e ≡ z +ℤ offset e = omega (arith, ints) in
+      let ties : unsigned_abs (offset e) ≤ 2 ^ 120 =
+      omega (arith, offset_small e kept, ap ising_total checked.ising, room.total) in
+      let tied = sum_low z (offset e) (2 ^ 122) (2 ^ 120) (omega (arith, low)) ties in
+      let constant = minus_low (image e).constant (2 ^ 121) (omega (arith, light)) in
+      let both = sum_low (pos 1 *ℤ z +ℤ offset e) (neg_ℤ (image e).constant) (2 ^ 122 + 2 ^ 120)
+      (2 ^ 121)
+      (omega (arith, ap unsigned_abs once, tied))
+      constant in
+      omega (arith, both)
+
+  image_bounds : HasRoom f n → HasBounds (image e) (pos 1) (chained_figures e n)
+  image_bounds room =
+      let same : n.scale *ℤ pos 1 ≡ n.scale = omega (arith, ints) in record {
+        total = image_low room;
+        unit = omega (arith, ints);
+        figures = record {
+          scale = omega (arith, ap unsigned_abs same, room.figures.scale);
+          offset = figure_low room n.offset room.figures.offset;
+          threshold = figure_low room n.threshold room.figures.threshold;
+        };
+      }
+
+  reduced_bounds : HasRoom f n
+      → HasBounds (reduced (image e)) (ising_unit (image e))
+      (figures_moved (chained_figures e n) (neg_ℤ (image e).constant))
+  reduced_bounds room =
+      let g = image e in
+      let u = ising_unit g in
+      let whole = image_bounds room in
+      let light = image_low room in
+      let sizes = sizes_of_weights g.fields g.couplings in
+      let size = λ (e : Entry). unsigned_abs e.weight in
+      let all = sum_by-append size (node_entries 0 g.fields) g.couplings in
+      let unit = unit_low (weights_of g.fields g.couplings) in
+      let less = once_low u (ising_total (reduced g)) (ising_total g) (one_le_ising_unit g)
+      (made_total g (reduced g) u refl refl) in
+      record {
+        total = omega (arith, less, light);
+        unit = omega (arith, unit, sizes, all, light);
+        figures = record {
+          scale = whole.figures.scale;
+          offset = unmoved_low _ whole.figures.offset;
+          threshold = unmoved_low _ whole.figures.threshold;
+        };
+      }
+
   -- ---- in the unit that is chosen
 
   pub model_stands : (choice : UnitChoice) → (ising_total e.ising + 1) * 2 ^ 21 ≤ 2 ^ 124
@@ -252,6 +330,7 @@ module _ (f : IsingContent) (n : Figures) (own : ℕ) (graph : Chimera) (map : L
       (omega (arith, ints))
       (moved_within n _ _ _ (omega arith) are)
       image_relaxes
+      image_bounds
       refl
   model_stands Reduce small are =
       let g = image e in
@@ -277,4 +356,5 @@ module _ (f : IsingContent) (n : Figures) (own : ℕ) (graph : Chimera) (map : L
       (λ source d relaxed.
       reduces_after_relaxes (image_relaxes source d relaxed)
       (made_reduces g (reduced g) u c refl refl refl))
+      reduced_bounds
       (made_is_reduced g (reduced g) u refl refl own r (kind_of graph) e.chains (fits own few))

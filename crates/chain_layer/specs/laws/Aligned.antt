@@ -163,7 +163,7 @@ one_low s c d place a b false v w between in_c in_d =
     more false = omega (arith, ints)
 
 -- the places of these couplings
-abbrev ArePlaced : Embedding → List Entry → List (ℕ × ℕ) → Type 0
+abbrev pub ArePlaced : Embedding → List Entry → List (ℕ × ℕ) → Type 0
 ArePlaced e cs ps = AllZip (λ c place. IsBetween (chain_of e.chains c.first) (chain_of e.chains c.second) place) cs ps
 
 -- twice the size of a coupling for each end whose chain is broken
@@ -194,7 +194,7 @@ placed_low e s x reads (c ∷ cs) (p ∷ ps) couplers between =
       placed_low e s x reads cs ps couplers.1 between.1,
     )
 
-placed_equal : (e : Embedding) (s x : ℕ → Bool)
+pub placed_equal : (e : Embedding) (s x : ℕ → Bool)
     → ((i : ℕ) → i < length e.ising.fields → HasBit s (chain_of e.chains i) (x i))
     → (cs : List Entry) (ps : List (ℕ × ℕ))
     → AllByRecursion (IsCoupler (length e.ising.fields)) cs → ArePlaced e cs ps
@@ -220,7 +220,7 @@ placed_equal e s x has (c ∷ cs) (p ∷ ps) couplers between =
 pub couplers_of : (e : Embedding) → IsEmbedding e → AllByRecursion (IsCoupler (length e.ising.fields)) e.ising.couplings
 couplers_of e kept = recursion_from_All _ _ kept.ising.couplings
 
-costs_add_up : (f : ℕ → ℕ) (is : List ℕ)
+pub costs_add_up : (f : ℕ → ℕ) (is : List ℕ)
     → total_by (λ i. neg_ℤ (pos (f i))) is ≡ neg_ℤ (pos (sum_by f is))
 costs_add_up f [] = refl
 costs_add_up f (i ∷ is) = omega (arith, ints, costs_add_up f is, sum_by-cons f i is)

@@ -60,7 +60,7 @@ all_ties_upward e kept =
     (length e.ising.fields)
     (λ i a l. ties_upward (chain_of e.chains i) _ _ (strength e i) (node_at e kept i (omega (arith, l))).tree.ties)
 
-placed_upward : (chains : List (List ℕ)) (cs : List Entry) (ps : List (ℕ × ℕ))
+pub placed_upward : (chains : List (List ℕ)) (cs : List Entry) (ps : List (ℕ × ℕ))
     → AllZip (λ c place. IsBetween (chain_of chains c.first) (chain_of chains c.second) place) cs ps
     → AllByRecursion IsUpward (placed cs ps)
 placed_upward chains [] ps h = tt
@@ -72,7 +72,7 @@ pub couplings_upward : (n : ℕ) (cs : List Entry) → AllByRecursion (IsCoupler
 couplings_upward n [] h = tt
 couplings_upward n (c ∷ cs) h = (h.0.upward, couplings_upward n cs h.1)
 
-form_value : (e : Embedding) → IsEmbedding e → (x : List Bool)
+pub form_value : (e : Embedding) → IsEmbedding e → (x : List Bool)
     → ising_value e.ising x ≡ e.ising.constant +ℤ read_energy e (bit_at x)
 form_value e kept x =
     omega (
@@ -111,14 +111,14 @@ image_value e kept y =
 
 -- ---- every state
 
-bit_of_chain : (y : List Bool) (chains : List (List ℕ)) (i : ℕ) → i < length chains
+pub bit_of_chain : (y : List Bool) (chains : List (List ℕ)) (i : ℕ) → i < length chains
     → bit_at (map (majority y) chains) i ≡ majority y (chain_of chains i)
 bit_of_chain y [] i h = absurd (omega arith)
 bit_of_chain y (c ∷ cs) zero h = refl
 bit_of_chain y (c ∷ cs) (suc i) h = bit_of_chain y cs i (omega arith)
 
 -- the majority is the bit of a chain on which no tie is broken
-majority_reads : (e : Embedding) → IsEmbedding e → (y : List Bool)
+pub majority_reads : (e : Embedding) → IsEmbedding e → (y : List Bool)
     → Reads e (bit_at y) (bit_at (map (majority y) e.chains))
 majority_reads e kept y i within whole q in' =
     let node = node_at e kept i within in
@@ -141,7 +141,7 @@ image_low e kept y =
 
 -- ---- the extension
 
-any_of_range : (p : ℕ → Bool) (i a n : ℕ) → a ≤ i → i < a + n → p i ≡ true
+pub any_of_range : (p : ℕ → Bool) (i a n : ℕ) → a ≤ i → i < a + n → p i ≡ true
     → list_any p (range_with_len a n) ≡ true
 any_of_range p i a zero low high h = absurd (omega arith)
 any_of_range p i a (suc n) low high h =

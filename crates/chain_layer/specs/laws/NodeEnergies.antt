@@ -23,7 +23,7 @@ use Rattle.chain_layer.specs.laws.Whole.{are_same, is_whole, HasBit, each_in}
 
 -- ---- ties
 
-coupling_energy : (s : ℕ → Bool) (q p : ℕ) (w : ℤ)
+pub coupling_energy : (s : ℕ → Bool) (q p : ℕ) (w : ℤ)
     → pair_energy s (coupling_entry q p w) ≡ times_spin (s q) (times_spin (s p) w)
 coupling_energy s q p w = go (nat_lt q p)
   where
@@ -33,7 +33,7 @@ coupling_energy s q p w = go (nat_lt q p)
     go true = refl
     go false = times_spin-comm (s p) (s q) w
 
-coupling_upward : (q p : ℕ) (w : ℤ) → (q ≢ p) → IsUpward (coupling_entry q p w)
+pub coupling_upward : (q p : ℕ) (w : ℤ) → (q ≢ p) → IsUpward (coupling_entry q p w)
 coupling_upward q p w apart = go (nat_lt q p) (λ e. ltb-true q p e) (λ e. ltb-false q p e)
   where
     go : (b : Bool) → (b ≡ true → q < p) → (b ≡ false → p ≤ q)
@@ -49,7 +49,7 @@ ties_upward chain (q ∷ qs) (p ∷ ps) strong h =
     (coupling_upward q p _ h.0.apart, ties_upward chain qs ps strong h.1)
 
 -- a tie that holds and one that is broken
-tie_energy : (a b : Bool) (n : ℕ)
+pub tie_energy : (a b : Bool) (n : ℕ)
     → times_spin a (times_spin b (neg_ℤ (pos n))) ≡ cond (are_same a b) (neg_ℤ (pos n)) (pos n)
 tie_energy true true n = refl
 tie_energy true false n = omega (arith, ints)

@@ -6,11 +6,14 @@ use Rattle.problem_form.specs.declared.limits.High.TheVariants.{Monomial}
 use Rattle.problem_form.specs.Limits.{upper}
 use Rattle.problem_form.specs.Problems.{ProblemContent}
 use Rattle.normal_form.specs.Multilinear as multilinear
-use Rattle.quad_form.specs.Quads.{quad_size, quad_total}
+use Rattle.term_table.specs.Terms.{terms_total}
+use Rattle.term_table.specs.Tables.{TableContent}
+use Rattle.quad_form.specs.Quads.{quad_size}
 use Rattle.direct_quad.specs.FlatMonomials as flat_monomials
 use Rattle.direct_quad.specs.laws.FlatKept.{first, second, fits_first, fits_second}
 use Rattle.model_pipeline.specs.Models.{quad_by}
 use Rattle.model_pipeline.specs.Formed.{IsFormed}
+use Rattle.model_pipeline.proofs.Rooms.{monomial_total}
 use Rattle.model_pipeline.proofs.Standing.{formed_as, formed_by_steps}
 use Rattle.model_pipeline.proofs.forms.multilinear_monomial.Goals as goal
 
@@ -38,5 +41,10 @@ returns-clause-stands g c =
     made.fits
     (fits_first link t fits)
     (fits_second link t fits)
-    (omega (arith, ap quad_total image, lowered.total, made.total))
+    (omega (
+      arith,
+      monomial_total t fits.table,
+      ap (λ (s : TableContent). terms_total s.terms) made.image,
+      made.total,
+    ))
     (omega (arith, ap quad_size image, lowered.size, made.size))))

@@ -19,6 +19,9 @@ pub clique_on_qubits-requires-clause-own : goal.clique_on_qubits-requires-clause
 clique_on_qubits-requires-clause-own g c =
     omega (arith, c.in_ok-made.ensures.stands.enough, c.requires.own)
 
+pub clique_on_qubits-requires-clause-total : goal.clique_on_qubits-requires-clause-total
+clique_on_qubits-requires-clause-total g c = omega (arith, c.in_ok-made.ensures.stands.total)
+
 pub returns-clause-model : goal.returns-clause-model
 returns-clause-model g c =
     let made = c.in_ok-made.ensures in

@@ -15,6 +15,9 @@ pub model_on_qubits-requires-clause-own : goal.model_on_qubits-requires-clause-o
 model_on_qubits-requires-clause-own g c =
     omega (arith, c.in_ok-made.ensures.stands.enough, c.requires.own)
 
+pub model_on_qubits-requires-clause-total : goal.model_on_qubits-requires-clause-total
+model_on_qubits-requires-clause-total g c = omega (arith, c.in_ok-made.ensures.stands.total)
+
 pub returns-clause-model : goal.returns-clause-model
 returns-clause-model g c =
     let made = c.in_ok-made.ensures in

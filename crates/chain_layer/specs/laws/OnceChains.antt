@@ -1,0 +1,65 @@
+-- Chains without a qubit twice, and the parents of their qubits.
+use Rattle.std.proofs.Common.{◌≡◌, ◌≢◌, ℕ, ◌<◌, ◌≤◌, true, false, cond, List, [], ◌∷◌, length, refl, sym, ap, ◌∙◌, arith}
+use Rattle.std.specs.Prelude.{◌==◌, count_by, ⊤}
+use Rattle.std.specs.List.{AllZip}
+use Rattle.std.proofs.lemmas.Bool.{eq-eqb, ne_eqb, false_from_ne_true}
+use Rattle.std.proofs.lemmas.List.Sums.{sum_by-cons}
+use Rattle.bits_model.specs.Walks.{is_in}
+use Rattle.embedding_check.specs.Embeddings.{Embedding, IsEmbedding, parent_in}
+use Rattle.chain_map.specs.Chains.{chain_of}
+use Rattle.chain_map.proofs.Occurrences.{occurrences-chain-le}
+use Rattle.chain_layer.specs.laws.Whole.{in_first, in_rest}
+use Rattle.chain_layer.specs.laws.Kept.{counted_in}
+
+-- the qubits of the list are different
+abbrev pub Once : List ℕ → Type 0
+Once [] = ⊤
+Once (q ∷ qs) = (is_in qs q ≡ false) × Once qs
+
+once_of : (qs : List ℕ) → ((q : ℕ) → count_by (λ p. p == q) qs ≤ 1) → Once qs
+once_of [] h = tt
+once_of (q ∷ qs) h = (
+  false_from_ne_true _ (λ again.
+      omega (
+        arith,
+        counted_in qs q again,
+        h q,
+        sum_by-cons (λ p. cond (p == q) 1 0) q qs,
+        ap (λ b. cond {A = ℕ} b 1 0) (eq-eqb q q refl),
+      )),
+  once_of qs (λ p. omega (arith, h p, sum_by-cons (λ r. cond (r == p) 1 0) q qs)),
+)
+
+pub chain_once : (e : Embedding) → IsEmbedding e → (i : ℕ) → i < length e.ising.fields
+    → Once (chain_of e.chains i)
+chain_once e kept i within =
+    once_of (chain_of e.chains i) (λ q.
+    omega (arith, kept.once q, occurrences-chain-le q e.chains i (omega (arith, within, kept.counted))))
+
+-- the parents that a look-up gives
+abbrev pub AreOwn : List ℕ → List ℕ → List ℕ → List ℕ → Type 0
+AreOwn cs ds qs ps = AllZip (λ q p. parent_in cs ds q ≡ p) qs ps
+
+pub apart_qubits : (q c : ℕ) (cs : List ℕ) → is_in cs c ≡ false → is_in cs q ≡ true → (c ≢ q)
+apart_qubits q c cs out in' same =
+    let both : true ≡ false = sym in' ∙ sym (ap (is_in cs) same) ∙ out in
+    cc
+
+pub own_parents : (cs ds : List ℕ) → Once cs → length cs ≡ length ds → AreOwn cs ds cs ds
+own_parents [] [] once same = tt
+own_parents [] (d ∷ ds) once same = absurd (omega (arith, same))
+own_parents (c ∷ cs) [] once same = absurd (omega (arith, same))
+own_parents (c ∷ cs) (d ∷ ds) once same = (
+  ap (λ b. cond b d (parent_in cs ds c)) (eq-eqb c c refl),
+  further cs ds (λ q in'. in') (own_parents cs ds once.1 (omega (arith, same))),
+)
+  where
+    further : (qs ps : List ℕ) → ((q : ℕ) → is_in qs q ≡ true → is_in cs q ≡ true) → AreOwn cs ds qs ps
+        → AreOwn (c ∷ cs) (d ∷ ds) qs ps
+    further [] [] ins all = tt
+    further [] (p ∷ ps) ins all = all
+    further (q ∷ qs) [] ins all = all
+    further (q ∷ qs) (p ∷ ps) ins all = (
+      ap (λ b. cond b d (parent_in cs ds q)) (ne_eqb c q (apart_qubits q c cs once.0 (ins q (in_first q qs)))) ∙ all.0,
+      further qs ps (λ r in'. ins r (in_rest q r qs in')) all.1,
+    )

@@ -1,0 +1,102 @@
+-- What a check gives is one embedding alone.
+--
+-- Two parents of one qubit are each at most the other, and so are two places of one coupling.
+use Rattle.std.proofs.Common.{◌≡◌, inl, inr, ℕ, List, [], ◌∷◌, drop, refl, sym, ap, ◌∙◌, arith, subst}
+use Rattle.std.specs.List.{AllZip}
+use Rattle.bits_model.specs.declared.output.Entry.{Entry}
+use Rattle.ising_form.specs.Isings.{IsingContent}
+use Rattle.chain_map.specs.Chains.{Joins, chain_of}
+use Rattle.embedding_check.specs.Embeddings.{Embedding}
+use Rattle.embedding_check.specs.Distances.{IsParent, AreParents}
+use Rattle.embedding_check.specs.Checked.{IsBefore, IsPlace, IsPlaceOf, IsChecked}
+
+-- what stands for each item in turn is one list, where it is one item each
+zip_unique : {A B : Type 0} (R : A → B → Type 0)
+    → ((x : A) (y z : B) → R x y → R x z → y ≡ z)
+    → (xs : List A) (ys zs : List B) → AllZip R xs ys → AllZip R xs zs → ys ≡ zs
+zip_unique R one [] [] [] p q = refl
+zip_unique R one [] [] (z ∷ zs) p q = absurd q
+zip_unique R one [] (y ∷ ys) zs p q = absurd p
+zip_unique R one (x ∷ xs) [] zs p q = absurd p
+zip_unique R one (x ∷ xs) (y ∷ ys) [] p q = absurd q
+zip_unique R one (x ∷ xs) (y ∷ ys) (z ∷ zs) p q =
+    let head = one x y z p.0 q.0 in
+    let tail = zip_unique R one xs ys zs p.1 q.1 in cc
+
+-- ---- parents
+
+parent_unique : (joined : Joins) (chain : List ℕ) (q a b : ℕ) → IsParent joined chain q a
+    → IsParent joined chain q b → a ≡ b
+parent_unique joined chain q a b this that =
+    let up = this.least b that.nearer in
+    let down = that.least a this.nearer in
+    omega (arith, up, down)
+
+parents_unique : (joined : Joins) (chains ps qs : List (List ℕ))
+    → AllZip (AreParents joined) chains ps → AllZip (AreParents joined) chains qs → ps ≡ qs
+parents_unique joined chains ps qs p q =
+    zip_unique (AreParents joined)
+    (λ chain ys zs a b.
+        zip_unique (IsParent joined chain) (λ x y z c d. parent_unique joined chain x y z c d)
+        (drop 1 chain) ys zs a b)
+    chains ps qs p q
+
+-- ---- places
+
+abbrev pair : ℕ → ℕ → ℕ × ℕ
+pair a b = (a, b)
+
+both_before : (p q : ℕ × ℕ) → IsBefore p q → IsBefore q p → p ≡ q
+both_before p q (inl a) (inl b) = absurd (omega (arith, a, b))
+both_before p q (inl a) (inr b) = let e = b.0 in absurd (omega (arith, a, e))
+both_before p q (inr a) (inl b) = let e = a.0 in absurd (omega (arith, b, e))
+both_before p q (inr a) (inr b) =
+    let up = a.1 in
+    let down = b.1 in
+    let second : p.1 ≡ q.1 = omega (arith, up, down) in
+    ap (λ x. pair x p.1) a.0 ∙ ap (pair q.0) second
+
+place_unique : (joined : Joins) (c d : List ℕ) (p q : ℕ × ℕ) → IsPlace joined c d p
+    → IsPlace joined c d q → p ≡ q
+place_unique joined c d p q this that =
+    both_before p q (this.least q that.crossing) (that.least p this.crossing)
+
+places_unique : (joined : Joins) (chains : List (List ℕ)) (couplings : List Entry)
+    (ps qs : List (ℕ × ℕ)) → AllZip (IsPlaceOf joined chains) couplings ps
+    → AllZip (IsPlaceOf joined chains) couplings qs → ps ≡ qs
+places_unique joined chains couplings ps qs p q =
+    zip_unique (IsPlaceOf joined chains)
+    (λ c y z a b. place_unique joined (chain_of chains c.first) (chain_of chains c.second) y z a b)
+    couplings ps qs p q
+
+-- ---- embeddings
+
+-- the parents and the places for one map and one form
+parents_of_map : (joined : Joins) (n : ℕ) (f : IsingContent) (map : List (List ℕ)) (e : Embedding)
+    → IsChecked joined n f map e → AllZip (AreParents joined) map e.parents
+parents_of_map joined n f map e c =
+    subst (λ chains. AllZip (AreParents joined) chains e.parents) c.chains c.parents
+
+places_of_map : (joined : Joins) (n : ℕ) (f : IsingContent) (map : List (List ℕ)) (e : Embedding)
+    → IsChecked joined n f map e → AllZip (IsPlaceOf joined map) f.couplings e.places
+places_of_map joined n f map e c =
+    subst (λ g. AllZip (IsPlaceOf joined map) g.couplings e.places) c.ising
+    (subst (λ chains. AllZip (IsPlaceOf joined chains) e.ising.couplings e.places) c.chains c.places)
+
+pub checked_unique : (joined : Joins) (n : ℕ) (f : IsingContent) (map : List (List ℕ))
+    (e e' : Embedding) → IsChecked joined n f map e → IsChecked joined n f map e' → e ≡ e'
+checked_unique joined n f map e e' this that =
+    let ising : e.ising ≡ e'.ising = this.ising ∙ sym that.ising in
+    let chains : e.chains ≡ e'.chains = this.chains ∙ sym that.chains in
+    let qubits : e.qubits ≡ e'.qubits = this.qubits ∙ sym that.qubits in
+    let parents = parents_unique joined map e.parents e'.parents
+    (parents_of_map joined n f map e this) (parents_of_map joined n f map e' that) in
+    let places = places_unique joined map f.couplings e.places e'.places
+    (places_of_map joined n f map e this) (places_of_map joined n f map e' that) in
+    λ i. record {
+      ising = ising i;
+      chains = chains i;
+      qubits = qubits i;
+      parents = parents i;
+      places = places i;
+    }
