@@ -26,5 +26,6 @@ pub use form_steps::{
 pub use laws::laws_of_rows;
 pub use nodes::{NodeEntries, NodeWeights};
 pub use output::{Entry, Kind, OutputModel};
+pub use reading_off::majority;
 pub use row::Row;
 pub use weights::{WeightList, divide_weights};
