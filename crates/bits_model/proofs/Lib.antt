@@ -3,3 +3,4 @@ pub mod NodeNumbers
 pub mod Packed
 pub mod ChainEnds
 pub mod EntryRows
+pub mod PairNumbers
