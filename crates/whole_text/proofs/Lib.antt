@@ -8,5 +8,7 @@ pub mod Pieces
 pub mod Lines
 pub mod DigitLoop
 pub mod NumberAgain
+pub mod LineTokens
+pub mod WordsAgain
 pub mod LexerSteps
 pub mod LexerFields
