@@ -1,5 +1,5 @@
 -- The energy of a state, entry by entry.
-use Rattle.std.proofs.Common.{◌≡◌, ℕ, ◌+◌, ◌≤◌, ℤ, ◌+ℤ◌, unsigned_abs, Bool, true, false, cond, List, ◌∷◌, ap, ◌∙◌, ◌<◌, length, take, get_or, arith}
+use Rattle.std.proofs.Common.{◌≡◌, ℕ, ◌+◌, ◌≤◌, ℤ, ◌+ℤ◌, unsigned_abs, Bool, true, false, cond, List, [], ◌∷◌, ap, ◌∙◌, ◌<◌, length, take, get_or, arith}
 use Rattle.std.proofs.lemmas.Int.{ints}
 use Rattle.std.proofs.lemmas.List.Sums.{sum_by-cons, sum_by_more_le}
 use Rattle.base.specs.Sums.{if_so, total_by}
@@ -9,11 +9,11 @@ use Rattle.bits_model.specs.declared.output.Kind.{Kind}
 use Rattle.bits_model.specs.declared.output.Kind.TheVariants.{Qubo, Ising, Chimera}
 use Rattle.bits_model.specs.Output.{is_node, times_spin, bit_at, entry_energy, spins_energy, weight_total}
 
-size-if_so : (b : Bool) (w : ℤ) → unsigned_abs (if_so b w) ≤ unsigned_abs w
+pub size-if_so : (b : Bool) (w : ℤ) → unsigned_abs (if_so b w) ≤ unsigned_abs w
 size-if_so true w = omega arith
 size-if_so false w = omega arith
 
-size-times_spin : (b : Bool) (w : ℤ) → unsigned_abs (times_spin b w) ≤ unsigned_abs w
+pub size-times_spin : (b : Bool) (w : ℤ) → unsigned_abs (times_spin b w) ≤ unsigned_abs w
 size-times_spin true w = omega arith
 size-times_spin false w = omega (arith, ints)
 
@@ -36,6 +36,19 @@ pub size-entry_energy : (kind : Kind) (y : List Bool) (e : Entry)
 size-entry_energy Qubo y e = size-if_so _ e.weight
 size-entry_energy Ising y e = size-spins_energy y e
 size-entry_energy (Chimera rows cols shore) y e = size-spins_energy y e
+
+-- entries add at most their weights, in size
+pub size-energy : (kind : Kind) (y : List Bool) (es : List Entry)
+    → unsigned_abs (total_by (entry_energy kind y) es) ≤ weight_total es
+size-energy kind y [] = omega arith
+size-energy kind y (e ∷ es) =
+    omega (
+      arith,
+      size-plus (entry_energy kind y e) (total_by (entry_energy kind y) es),
+      size-entry_energy kind y e,
+      size-energy kind y es,
+      sum_by-cons (λ (d : Entry). unsigned_abs d.weight) e es,
+    )
 
 -- ---- entries that are left, of which one is taken
 

@@ -2,3 +2,4 @@ pub mod Energies
 pub mod NodeNumbers
 pub mod Packed
 pub mod EntryRows
+pub mod PairNumbers

@@ -1,6 +1,7 @@
 pub mod Walks
 pub mod Output
 pub mod Entries
+pub mod PairNumbers
 pub mod Stated
 pub use Rattle.base.specs.Sums
 pub use Rattle.base.specs.Costs

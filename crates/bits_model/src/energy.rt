@@ -28,8 +28,9 @@ pub fn times_spin(bit: bool, number: i128) -> i128
     if bit { number } else { -number }
 }
 
+/// What an entry adds to the energy of a state of bits.
 #[inline]
-fn bits_energy(y: &[bool], entry: &Entry) -> i128
+pub fn bits_energy(y: &[bool], entry: &Entry) -> i128
     ensures { result ≡ bits_energy y.now entry.now }
 {
     if bit_at(y, entry.first as usize) && bit_at(y, entry.second as usize) {

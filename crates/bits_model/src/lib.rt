@@ -10,6 +10,7 @@ mod entries;
 mod laws;
 mod nodes;
 mod output;
+mod pair_numbers;
 mod reading_off;
 mod row;
 mod weights;
@@ -18,13 +19,15 @@ pub use base::{Cost, Costed, Figures, Items, NoMemory, UnitChoice};
 pub use chains::ChainList;
 pub use coupler_entries::CouplerEntries;
 pub use couplers::CouplerList;
-pub use energy::{bit_at, couplers_energy, times_spin, total_energy};
+pub use energy::{bit_at, bits_energy, couplers_energy, times_spin, total_energy};
 pub use entries::{Entries, EntryList};
 pub use form_steps::{
     BitsLink, Guard, Guarded, Layer, Lowered, Reduced, Then, ThenLink, relations_compose,
 };
-pub use laws::laws_of_rows;
+pub use laws::{laws_of_pairs, laws_of_rows};
 pub use nodes::{NodeEntries, NodeWeights};
 pub use output::{Entry, Kind, OutputModel};
+pub use pair_numbers::{numbered, pair_number};
+pub use reading_off::majority;
 pub use row::Row;
 pub use weights::{WeightList, divide_weights};

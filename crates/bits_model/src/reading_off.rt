@@ -31,7 +31,8 @@ fn first_qubit(chain: &[u32]) -> u32
 }
 
 /// The bit that most qubits of the chain have, and on a tie that of its first qubit.
-fn majority(y: &[bool], chain: &[u32]) -> bool
+#[inline]
+pub fn majority(y: &[bool], chain: &[u32]) -> bool
     ensures { result ≡ majority y.now chain.now }
 {
     let ones = ones_in(y, chain);

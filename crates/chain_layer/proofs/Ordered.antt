@@ -16,9 +16,10 @@ use Rattle.std.proofs.lemmas.List.FromFn.{length-map-range_with_len}
 use Rattle.std.proofs.lemmas.List.Sums.{sum_by-cons}
 use Rattle.bits_model.specs.declared.output.Entry.{Entry}
 use Rattle.quad_form.specs.Quads.{IsCoupler}
-use Rattle.quad_form.specs.Pairs.{IsPair, pair_number, weight_for, weight_at}
+use Rattle.bits_model.specs.PairNumbers.{pair_number}
+use Rattle.quad_form.specs.Pairs.{IsPair, weight_for, weight_at}
 use Rattle.quad_form.proofs.PairOrder.{ArePairs, Before, Rises, same_pair, ordered_from_rising, rising_from_ordered}
-use Rattle.quad_form.proofs.UniqueForms.{same_entries}
+use Rattle.quad_form.proofs.UniqueForms.{Before-further, same_entries}
 use Rattle.chain_layer.specs.laws.SpinSums.{all_append, total_by-in_order}
 use Rattle.ising_form.specs.Isings.{IsIsing, ising_total}
 use Rattle.bits_model.specs.Walks.{is_in, first_of}
@@ -56,12 +57,6 @@ pub all_in_order : (P : Entry → Type 0) (es : List Entry) → AllByRecursion P
 all_in_order P [] all = tt
 all_in_order P (e ∷ es) all = all_inserted P e (in_order es) all.0 (all_in_order P es all.1)
 
-before_further : (d e : Entry) (es : List Entry) → pair_number d < pair_number e → Before e es
-    → Before d es
-before_further d e [] less before = tt
-before_further d e (f ∷ fs) less before =
-    (omega (arith, less, before.0), before_further d e fs less before.1)
-
 rises_inserted : (e : Entry) (es : List Entry) → Apart e es → Rises es → Rises (inserted e es)
 rises_inserted e [] apart rises = (tt, tt)
 rises_inserted e (f ∷ fs) apart rises =
@@ -78,7 +73,7 @@ rises_inserted e (f ∷ fs) apart rises =
         (all_inserted (λ g. pair_number f < pair_number g) e fs (lt refl) rises.0, later)
     go false lt ge later =
         let before = less (pair_number e) (pair_number f) (ge refl) apart.0 in
-        ((before, before_further e f fs before rises.0), rises)
+        ((before, Before-further e f fs before rises.0), rises)
 
 pub rises_in_order : (es : List Entry) → AreApart es → Rises (in_order es)
 rises_in_order [] apart = tt

@@ -20,7 +20,7 @@ use Rattle.base.proofs.Totals.{total_by-plus, total_by-same, total_by-map}
 use Rattle.bits_model.specs.declared.output.Entry.{Entry}
 use Rattle.bits_model.specs.Output.{weight_total, entry_size, is_node}
 use Rattle.quad_form.specs.Quads.{node_entries, IsCoupler}
-use Rattle.quad_form.proofs.NodeEnergies.{weights_within}
+use Rattle.quad_form.proofs.NodeEnergies.{weights_within, weights-append}
 use Rattle.ising_form.specs.Isings.{ising_total, ising_size}
 use Rattle.embedding_check.specs.Embeddings.{Embedding, IsEmbedding, embedding_size}
 use Rattle.chain_map.specs.Chains.{chain_of, occurrences}
@@ -38,9 +38,6 @@ sum_is f (x ∷ xs) = omega (arith, ints, sum_is f xs, sum_by-cons f x xs)
 
 abbrev pub size : Entry → ℕ
 size e = unsigned_abs e.weight
-
-pub weights-append : (es ds : List Entry) → weight_total (es ++ ds) ≡ weight_total es + weight_total ds
-weights-append es ds = sum_by-append size es ds
 
 pub weights-in_order : (es : List Entry) → weight_total (in_order es) ≡ weight_total es
 weights-in_order es =

@@ -10,7 +10,7 @@ use Rattle.base.specs.Sums.{total_by, if_so}
 use Rattle.bits_model.specs.declared.output.Entry.{Entry}
 use Rattle.bits_model.specs.Output.{bit_at, majority}
 use Rattle.form_steps.specs.Relations.{Decoding}
-use Rattle.quad_form.specs.Pairs.{pair_number}
+use Rattle.bits_model.specs.PairNumbers.{pair_number}
 use Rattle.ising_form.specs.Isings.{IsingContent}
 use Rattle.embedding_check.specs.Embeddings.{Embedding, IsEmbedding}
 use Rattle.chain_map.specs.Chains.{chain_of}

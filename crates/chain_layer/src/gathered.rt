@@ -1,37 +1,12 @@
 //! Couplings in the order in which they are gathered, in few bytes each.
 ghost use Rattle.std.specs.Prelude.{◌≡◌, ◌++◌, ◌∷◌, [], ◌<◌, IfOk, OnOk, length};
 ghost use Rattle.bits_model.specs.declared.output.Entry.{Entry};
-ghost use Rattle.quad_form.specs.Pairs.{pair_number};
-ghost use Rattle.chain_layer.specs.Steps.{entry_at, numbered, weighted_pairs};
+ghost use Rattle.chain_layer.specs.Steps.{entry_at, weighted_pairs};
 
 use base::NoMemory;
-use bits_model::{Entry, WeightList};
+use bits_model::{Entry, WeightList, numbered, pair_number};
 use std::alloc::Global;
 use std::marker::Model;
-
-/// Each number of a node is below it.
-const NODE_LIMIT: u64 = 1 << 32;
-
-/// The number of an entry's pair: pairs are ordered by their first qubits, and then by their second
-/// ones.
-#[inline]
-pub fn pair_number(entry: &Entry) -> u64
-    ensures { result ≡ pair_number entry.now }
-{
-    entry.first as u64 * NODE_LIMIT + entry.second as u64
-}
-
-/// The entry with this number of its pair.
-#[inline]
-pub fn numbered(number: u64, weight: i128) -> Entry
-    ensures { result ≡ numbered number weight }
-{
-    Entry {
-        first: (number / NODE_LIMIT) as u32,
-        second: (number % NODE_LIMIT) as u32,
-        weight,
-    }
-}
 
 /// Couplings, which contracts see as the list of their entries.
 #[derive(Drop)]

@@ -12,7 +12,8 @@ use Rattle.std.proofs.lemmas.List.Sorted.{All-permutation, IsPermutation-append_
 use Rattle.std.proofs.lemmas.List.Elements.{All-nil, All-push, All-tail, All-weaker, recursion_from_All}
 use Rattle.base.proofs.Totals.{total_by-IsPermutation}
 use Rattle.bits_model.specs.declared.output.Entry.{Entry}
-use Rattle.quad_form.specs.Pairs.{IsPair, IsNonzero, weight_at, weight_for, pair_number, heavier, entry_in_front, sums_from, AreSummed}
+use Rattle.bits_model.specs.PairNumbers.{pair_number}
+use Rattle.quad_form.specs.Pairs.{IsPair, IsNonzero, weight_at, weight_for, heavier, entry_in_front, sums_from, AreSummed}
 use Rattle.quad_form.proofs.PairOrder.{Rises, ordered_from_rising}
 use Rattle.direct_quad.specs.Rows.{AreRows}
 use Rattle.direct_quad.specs.declared.pairs.NarrowPair.{NarrowPair}

@@ -7,9 +7,10 @@ use Rattle.std.specs.List.{AllByRecursion}
 use Rattle.std.proofs.Math.Nat.{mul-le-mul, mul-le-mul_left, mul-le-mul_right}
 use Rattle.std.proofs.lemmas.Int.{ints, unsigned_abs-mul}
 use Rattle.std.proofs.lemmas.List.Sums.{sum_by-cons, sum_by-append, count_by-le-length}
-use Rattle.base.specs.Sums.{total_by, if_so}
+use Rattle.base.specs.Sums.{total_by}
 use Rattle.base.proofs.Totals.{size-plus}
 use Rattle.bits_model.specs.Output.{weight_total}
+use Rattle.bits_model.proofs.Energies.{size-if_so}
 use Rattle.literal_lists.specs.declared.literal.Literal.{Literal}
 use Rattle.term_table.specs.Terms.{Term, terms_total}
 use Rattle.term_table.proofs.Additions.{terms_total-cons}
@@ -27,10 +28,6 @@ size-signed l c = go l.negated
     go false = refl
 
 -- ---- short terms
-
-size-if_so : (b : Bool) (c : ℤ) → unsigned_abs (if_so b c) ≤ unsigned_abs c
-size-if_so true c = omega arith
-size-if_so false c = omega arith
 
 pub short_constant-size : (t : Term) → unsigned_abs (short_constant t) ≤ unsigned_abs t.1
 short_constant-size ([], c) = omega arith

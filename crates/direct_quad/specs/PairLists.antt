@@ -1,7 +1,8 @@
 -- Couplers that are held in as few bytes as their weights need, their rows, and their order.
-use Rattle.std.specs.Prelude.{◌≡◌, ℕ, ◌+◌, ◌*◌, ◌/◌, ◌%◌, ◌≤◌, ◌<◌, ◌^◌, pos, ◌-ℤ◌, List, [], ◌∷◌, map, length, All, ⊤}
+use Rattle.std.specs.Prelude.{◌≡◌, ℕ, ◌+◌, ◌/◌, ◌%◌, ◌≤◌, ◌<◌, ◌^◌, pos, ◌-ℤ◌, List, [], ◌∷◌, map, length, All, ⊤}
 use Rattle.bits_model.specs.declared.output.Entry.{Entry}
-use Rattle.quad_form.specs.Pairs.{pair_number, IsNonzero}
+use Rattle.bits_model.specs.PairNumbers.{pair_number}
+use Rattle.quad_form.specs.Pairs.{IsNonzero}
 use Rattle.direct_quad.specs.declared.pairs.NarrowPair.{NarrowPair}
 use Rattle.direct_quad.specs.declared.pairs.Shape.{Shape}
 use Rattle.direct_quad.specs.declared.pairs.Shape.TheVariants.{Few, Many}
@@ -46,10 +47,6 @@ AreFromRow i (e ∷ es) = (i ≤ e.first) × AreFromRow e.first es
 pub record AreAfterRow (i : ℕ) (es later : List Entry) : Type 0 where
   pub from : AreFromRow (i + 1) later
   pub same : (j : ℕ) → i < j → row_of j later ≡ row_of j es
-
--- the number of a pair of nodes, which rises with the first node, and then with the second
-abbrev pub number_of : ℕ → ℕ → ℕ
-number_of i j = i * 2 ^ 32 + j
 
 -- the pairs ascend, and none comes twice
 abbrev pub AreAscending : List Entry → Type 0

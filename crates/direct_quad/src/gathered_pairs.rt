@@ -5,11 +5,12 @@
 ghost use Rattle.std.specs.Prelude.{◌≡◌, ◌+◌, ◌++◌, ◌∷◌, [], ◌<◌, ◌≤◌, ◌^◌, All, IfOk, OnOk, OnErr, length};
 ghost use Rattle.std.specs.List.Sorted.{IsPermutation, IsNonDecreasingBy};
 ghost use Rattle.bits_model.specs.Output.{weight_total};
-ghost use Rattle.quad_form.specs.Pairs.{pair_number, IsPair, AreSummed};
+ghost use Rattle.bits_model.specs.PairNumbers.{pair_number};
+ghost use Rattle.quad_form.specs.Pairs.{IsPair, AreSummed};
 
-use crate::pairs::{Pairs, number_of};
+use crate::pairs::Pairs;
 use base::NoMemory;
-use bits_model::CouplerList;
+use bits_model::{CouplerList, Entry, pair_number};
 use std::alloc::Global;
 use std::marker::Model;
 
@@ -76,7 +77,11 @@ impl GatheredPairs {
             ≡ self.old ++ record { first = first; second = second; weight = weight } ∷ []) }
         ensures unchanged { OnErr result (self.new ≡ self.old) }
     {
-        let number = number_of(first, second);
+        let number = pair_number(&Entry {
+            first,
+            second,
+            weight,
+        });
         if self.others.len() == 0 && self.last < number && weight != 0 {
             self.ordered.push(first, second, weight)?;
             self.last = number;

@@ -3,13 +3,14 @@ ghost use Rattle.std.specs.Prelude.{◌≡◌, ◌+◌, ◌++◌, ◌∷◌, [],
 ghost use Rattle.std.specs.List.Sorted.{IsPermutation, IsNonDecreasingBy};
 ghost use Rattle.bits_model.specs.declared.output.Entry.{Entry};
 ghost use Rattle.bits_model.specs.Output.{weight_total};
-ghost use Rattle.quad_form.specs.Pairs.{pair_number, sums_from, sums_of, IsPair, AreSummed};
+ghost use Rattle.bits_model.specs.PairNumbers.{pair_number};
+ghost use Rattle.quad_form.specs.Pairs.{sums_from, sums_of, IsPair, AreSummed};
 ghost use Rattle.direct_quad.specs.declared.pairs.Shape.{Shape};
-ghost use Rattle.direct_quad.specs.PairLists.{entry_of, held_pairs, narrow_of, number_of, unpacked};
+ghost use Rattle.direct_quad.specs.PairLists.{entry_of, held_pairs, narrow_of, unpacked};
 
 use crate::accumulator::push_some;
 use base::NoMemory;
-use bits_model::{CouplerList, Entry};
+use bits_model::{CouplerList, Entry, pair_number};
 use std::alloc::Global;
 use std::marker::Model;
 
@@ -62,6 +63,7 @@ impl Model for Pairs {
 }
 
 /// A narrow coupler as an entry.
+#[inline(always)]
 fn entry_of(pair: NarrowPair) -> Entry
     ensures { result ≡ entry_of pair }
 {
@@ -184,17 +186,6 @@ fn with_longer(
     }
 }
 
-/// Each node is below it.
-const NODE_LIMIT: u64 = 1 << 32;
-
-/// The number of a pair of nodes: pairs are ordered by their first nodes, and then by their second.
-#[inline(always)]
-pub(crate) fn number_of(first: u32, second: u32) -> u64
-    ensures { result ≡ number_of first second }
-{
-    u64::from(first) * NODE_LIMIT + u64::from(second)
-}
-
 /// Packed couplers in the order of their pairs, in either shape: that of their codes.
 fn sorted_packed(mut codes: Vec<u64>) -> Vec<u64>
     ensures same { IsPermutation codes.items result.items }
@@ -210,7 +201,7 @@ fn sorted_narrow(mut pairs: Vec<NarrowPair>) -> Vec<NarrowPair>
     ensures same { IsPermutation pairs.items result.items }
     ensures ordered { IsNonDecreasingBy (λ p. pair_number (entry_of p)) result.items }
 {
-    pairs.sort_unstable_by_key(|pair| number_of(pair.first, pair.second));
+    pairs.sort_unstable_by_key(|pair| pair_number(&entry_of(*pair)));
     pairs
 }
 
@@ -219,7 +210,7 @@ fn sorted_wide(mut pairs: Vec<Entry>) -> Vec<Entry>
     ensures same { IsPermutation pairs.items result.items }
     ensures ordered { IsNonDecreasingBy pair_number result.items }
 {
-    pairs.sort_unstable_by_key(|pair| number_of(pair.first, pair.second));
+    pairs.sort_unstable_by_key(|pair| pair_number(pair));
     pairs
 }
 
@@ -248,7 +239,7 @@ fn add_pending(
     ensures small { OnOk result (unsigned_abs pending.new.weight
         ≤ unsigned_abs pending.old.weight + unsigned_abs entry.weight) }
 {
-    if number_of(pending.first, pending.second) == number_of(entry.first, entry.second) {
+    if pair_number(pending) == pair_number(&entry) {
         pending.weight += entry.weight;
         return Ok(());
     }

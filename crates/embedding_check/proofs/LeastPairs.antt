@@ -1,7 +1,7 @@
 -- The least joined pair between two chains.
-use Rattle.std.proofs.Common.{◌≡◌, ℕ, ◌<◌, ◌≤◌, ◌⊎◌, inl, inr, Bool, true, false, ◌&&◌, ◌||◌, List, length, refl, sym, ap, subst, ◌∙◌, arith}
+use Rattle.std.proofs.Common.{◌≡◌, ℕ, ◌<◌, ◌≤◌, ◌⊎◌, inl, inr, true, false, ◌&&◌, List, length, refl, sym, ap, subst, ◌∙◌, arith}
 use Rattle.std.specs.Prelude.{Option, Some, None}
-use Rattle.std.proofs.lemmas.Bool.{cases_eq, cases_lt, or_cases}
+use Rattle.std.proofs.lemmas.Bool.{cases_eq, cases_lt, or_cases, and_parts, and_from, or_left, or_right}
 use Rattle.chimera_graph.specs.declared.span.Span.{Span}
 use Rattle.chimera_graph.specs.Spans.{CanBeJoined}
 use Rattle.chain_map.specs.Chains.{Joins}
@@ -205,38 +205,23 @@ least_pair_of_two S T (Some m) (Some n) r s t left right both = elim (both m n r
   )
 ]
 
-pub both_true : (a b : Bool) → (a && b) ≡ true → (a ≡ true) × (b ≡ true)
-both_true true true h = (refl, refl)
-both_true true false h = absurd cc
-both_true false b h = absurd cc
-
-pub true_both : (a b : Bool) → a ≡ true → b ≡ true → (a && b) ≡ true
-true_both a b p q = rw (p, q) refl
-
-pub true_left : (a b : Bool) → a ≡ true → (a || b) ≡ true
-true_left a b p = rw p refl
-
-pub true_right : (a b : Bool) → b ≡ true → (a || b) ≡ true
-true_right true b p = refl
-true_right false b p = p
-
 pub place_of_arrows : (joined : Joins) (c d : List ℕ) (r : Option (ℕ × ℕ))
     → IsLeastPair (λ p. IsArrow joined c d p ⊎ IsArrow joined d c p) r → IsPlaceIn joined c d r
 place_of_arrows joined c d None least = λ p x. least p (way p x)
   where
     way : (p : ℕ × ℕ) → IsCrossing joined c d p → IsArrow joined c d p ⊎ IsArrow joined d c p
     way p x = elim (or_cases (is_in c p.0 && is_in d p.1) (is_in d p.0 && is_in c p.1) x.between.ends) [
-      | inl h ↦ let e = both_true _ _ h in inl (record { from = e.0; ahead = record { inside = e.1; above = x.between.upward; linked = x.linked } })
-      | inr h ↦ let e = both_true _ _ h in inr (record { from = e.0; ahead = record { inside = e.1; above = x.between.upward; linked = x.linked } })
+      | inl h ↦ let e = and_parts _ _ h in inl (record { from = e.0; ahead = record { inside = e.1; above = x.between.upward; linked = x.linked } })
+      | inr h ↦ let e = and_parts _ _ h in inr (record { from = e.0; ahead = record { inside = e.1; above = x.between.upward; linked = x.linked } })
     ]
 place_of_arrows joined c d (Some r) least = (
   elim least.0 [
     | inl f ↦ record {
-      between = record { upward = f.ahead.above; ends = true_left _ _ (true_both _ _ f.from f.ahead.inside) };
+      between = record { upward = f.ahead.above; ends = or_left _ _ (and_from _ _ f.from f.ahead.inside) };
       linked = f.ahead.linked;
     }
     | inr f ↦ record {
-      between = record { upward = f.ahead.above; ends = true_right _ _ (true_both _ _ f.from f.ahead.inside) };
+      between = record { upward = f.ahead.above; ends = or_right _ _ (and_from _ _ f.from f.ahead.inside) };
       linked = f.ahead.linked;
     }
   ],
@@ -245,6 +230,6 @@ place_of_arrows joined c d (Some r) least = (
   where
     way : (p : ℕ × ℕ) → IsCrossing joined c d p → IsArrow joined c d p ⊎ IsArrow joined d c p
     way p x = elim (or_cases (is_in c p.0 && is_in d p.1) (is_in d p.0 && is_in c p.1) x.between.ends) [
-      | inl h ↦ let e = both_true _ _ h in inl (record { from = e.0; ahead = record { inside = e.1; above = x.between.upward; linked = x.linked } })
-      | inr h ↦ let e = both_true _ _ h in inr (record { from = e.0; ahead = record { inside = e.1; above = x.between.upward; linked = x.linked } })
+      | inl h ↦ let e = and_parts _ _ h in inl (record { from = e.0; ahead = record { inside = e.1; above = x.between.upward; linked = x.linked } })
+      | inr h ↦ let e = and_parts _ _ h in inr (record { from = e.0; ahead = record { inside = e.1; above = x.between.upward; linked = x.linked } })
     ]

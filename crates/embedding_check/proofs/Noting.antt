@@ -1,7 +1,7 @@
 -- Noted pairs: each is the least of what was noted before and of what is new.
 use Rattle.std.proofs.Common.{◌≡◌, ℕ, ◌<◌, ◌≤◌, ◌==◌, ◌⊎◌, ◌&&◌, inl, inr, true, false, List, length, map, get_or, set, refl, sym, ap, subst, ◌∙◌, arith}
 use Rattle.std.specs.Prelude.{Option, Some, None, nat_lt}
-use Rattle.std.proofs.lemmas.Bool.{cases_eq, cases_lt, or_cases}
+use Rattle.std.proofs.lemmas.Bool.{cases_eq, cases_lt, or_cases, and_parts, and_from, or_left, or_right}
 use Rattle.std.proofs.lemmas.Bool.Decides.{nat_tests}
 use Rattle.std.proofs.lemmas.Option.{same_Some}
 use Rattle.std.proofs.lemmas.List.{get_or-map, get_or-set_same, get_or-set_other, length-map, length-set}
@@ -14,7 +14,7 @@ use Rattle.embedding_check.specs.Search.{qubit_at}
 use Rattle.embedding_check.specs.Least.{IsLeastPair, IsPlaceIn}
 use Rattle.embedding_check.specs.Owners.{AreOwners}
 use Rattle.embedding_check.specs.Noted.{marked_pair, noted_at, Notes, ordered, IsChainJoin}
-use Rattle.embedding_check.proofs.LeastPairs.{before_trans, both_true, true_both, true_left, true_right}
+use Rattle.embedding_check.proofs.LeastPairs.{before_trans}
 use Rattle.embedding_check.proofs.Taking.{not_both}
 use Rattle.embedding_check.proofs.Sorting.{is_in_at, at_of_in}
 
@@ -168,7 +168,7 @@ noted_place joined chains owners node v r symmetric irreflexive own later below 
         → p ≡ ordered a b → (a < b) ⊎ (b ≤ a) → IsCrossing joined c d p
     crossing a b p in_c in_d linked pair (inl up) =
         subst (IsCrossing joined c d) (sym (pair ∙ ordered_up a b up)) (record {
-          between = record { upward = up; ends = true_left _ _ (true_both _ _ in_c in_d) };
+          between = record { upward = up; ends = or_left _ _ (and_from _ _ in_c in_d) };
           linked = linked;
         })
     crossing a b p in_c in_d linked pair (inr down) = elim (cases_eq a b) [
@@ -176,7 +176,7 @@ noted_place joined chains owners node v r symmetric irreflexive own later below 
       | inr other ↦
           let less : b < a = omega (arith, down, other) in
           subst (IsCrossing joined c d) (sym (pair ∙ ordered_down a b less)) (record {
-            between = record { upward = less; ends = true_right _ _ (true_both _ _ in_d in_c) };
+            between = record { upward = less; ends = or_right _ _ (and_from _ _ in_d in_c) };
             linked = symmetric b a ∙ linked;
           })
     ]
@@ -211,10 +211,10 @@ noted_place joined chains owners node v r symmetric irreflexive own later below 
     from : (p : ℕ × ℕ) → IsCrossing joined c d p → IsChainJoin joined owners node c (length c) v p
     from p x = elim (or_cases (is_in c p.0 && is_in d p.1) (is_in d p.0 && is_in c p.1) x.between.ends) [
       | inl h ↦
-          let e = both_true _ _ h in
+          let e = and_parts _ _ h in
           join p.0 p.1 p e.0 e.1 x.linked (sym (ordered_up p.0 p.1 x.between.upward))
       | inr h ↦
-          let e = both_true _ _ h in
+          let e = and_parts _ _ h in
           join p.1 p.0 p e.1 e.0 (symmetric p.1 p.0 ∙ x.linked)
           (sym (ordered_down p.1 p.0 x.between.upward))
     ]

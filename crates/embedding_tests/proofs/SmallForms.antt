@@ -7,7 +7,8 @@ use Rattle.std.proofs.lemmas.List.Elements.{recursion_from_All, All-push}
 use Rattle.std.proofs.lemmas.List.Sums.{sum_by-append, sum_by-cons, sum_by-le}
 use Rattle.bits_model.specs.declared.output.Entry.{Entry}
 use Rattle.bits_model.specs.Output.{weight_total, entry_size, is_node}
-use Rattle.quad_form.specs.Pairs.{IsPair, pair_number}
+use Rattle.bits_model.specs.PairNumbers.{pair_number}
+use Rattle.quad_form.specs.Pairs.{IsPair}
 use Rattle.quad_form.specs.Quads.{node_entries, IsCoupler}
 use Rattle.quad_form.proofs.PairOrder.{Rises, ordered_from_rising}
 use Rattle.ising_form.specs.Isings.{IsIsing}

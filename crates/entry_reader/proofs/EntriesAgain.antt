@@ -2,7 +2,7 @@
 use Rattle.std.proofs.Common.{◌≡◌, ℕ, ◌+◌, ◌<◌, ◌≤◌, ◌^◌, Bool, true, false, cond, eqb, List, [], ◌∷◌, map, All, Ok, refl, ap, ◌∙◌, arith, zero-add, ◌-◌}
 use Rattle.std.specs.Prelude.{unsigned_abs, nat_lt, count_by}
 use Rattle.std.specs.Fmt.{decimal, signed_decimal}
-use Rattle.std.proofs.lemmas.Bool.{ne_eqb}
+use Rattle.std.proofs.lemmas.Bool.{ne_eqb, lt-ltb}
 use Rattle.std.proofs.lemmas.Bool.Decides.{nat_tests}
 use Rattle.std.proofs.lemmas.List.Elements.{All-tail}
 use Rattle.std.proofs.lemmas.List.Sums.{sum_by-cons}
@@ -10,13 +10,13 @@ use Rattle.bits_model.specs.declared.output.Entry.{Entry}
 use Rattle.bits_model.specs.Output.{IsPlaced, is_node, is_coupler}
 use Rattle.whole_text.specs.Tokens.{word}
 use Rattle.whole_text.specs.Steps.{◌>>=◌}
+use Rattle.whole_text.proofs.LineTokens.{AreInk, tokens_after, words_then, no_lines}
+use Rattle.whole_text.proofs.WordsAgain.{decimal_ink, signed_ink, number_first, integer_again, natural_again}
 use Rattle.model_text.specs.Rows.{entry_row}
 use Rattle.entry_reader.specs.declared.layout.Counts.{Counts}
-use Rattle.entry_reader.specs.Entries.{one_fewer, counted, none_to_come, entries_at}
+use Rattle.entry_reader.specs.Entries.{node_at, one_fewer, counted, none_to_come, entries_at}
 use Rattle.entry_reader.specs.Again.{listed_of}
 use Rattle.entry_reader.proofs.Words.{three, leaving, with_first, others_after, three_words}
-use Rattle.entry_reader.proofs.RowsAgain.{AreInk, tokens_after, row_again, no_rows}
-use Rattle.entry_reader.proofs.NumbersAgain.{decimal_ink, signed_ink, number_first, integer_again, node_again}
 
 -- what the header of these entries counts
 abbrev pub counts_of : ℕ → List Entry → Counts
@@ -25,6 +25,13 @@ counts_of nodes es = record {
   entries = count_by is_node es;
   couplers = count_by is_coupler es;
 }
+
+-- the number of a node is read again
+node_again : (nodes line i : ℕ) → i < nodes → nodes < 2 ^ 64
+    → node_at nodes (word line (decimal i)) ≡ Ok i
+unfolding node_at
+node_again nodes line i within small =
+    rw (natural_again 0 line i (omega arith) (omega arith), lt-ltb i nodes within) refl
 
 -- ---- an entry is counted
 
@@ -122,7 +129,7 @@ pub entries_again : (end line nodes : ℕ) (es : List Entry) → nodes < 2 ^ 32
     → entries_at end (counts_of nodes es) (tokens_after line (map entry_row es))
     ≡ Ok (map listed_of es)
 unfolding entries_at none_to_come
-entries_again end line nodes [] few placed small = rw (no_rows line) refl
+entries_again end line nodes [] few placed small = rw (no_lines line) refl
 entries_again end line nodes (e ∷ es) few placed small =
     let place : IsPlaced nodes e = placed 0 e (omega arith) in
     let size : unsigned_abs e.weight < 2 ^ 64 = small 0 e (omega arith) in
@@ -131,7 +138,7 @@ entries_again end line nodes (e ∷ es) few placed small =
     let weight = word line (signed_decimal e.weight) in
     let rest = tokens_after (line + 1) (map entry_row es) in
     let c = counts_of nodes (e ∷ es) in
-    let cut = row_again line (decimal e.first) (decimal e.second ∷ signed_decimal e.weight ∷ [])
+    let cut = words_then line (decimal e.first) (decimal e.second ∷ signed_decimal e.weight ∷ [])
     (map entry_row es) (row_is_ink nodes e few place size)
     (number_first e.first (decimal e.second ∷ signed_decimal e.weight ∷ [])
     (omega (arith, place.upward, place.within))) in

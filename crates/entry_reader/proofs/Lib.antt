@@ -1,6 +1,5 @@
 pub mod Words
 pub mod Puttings
 pub mod RowsAgain
-pub mod NumbersAgain
 pub mod EntriesAgain
 pub mod TextsAgain

@@ -1,14 +1,13 @@
 -- Entries that are read one after the other, and put into a problem.
-use Rattle.std.proofs.Common.{◌≡◌, ℕ, List, [], ◌∷◌, ◌++◌, map, fold, Result, Ok, Err, refl, sym, ap, ◌∙◌, append-nil, append_assoc}
+use Rattle.std.proofs.Common.{◌≡◌, ℕ, List, [], ◌∷◌, fold, Result, Ok, Err, refl, sym, ap, ◌∙◌}
 use Rattle.std.specs.List.{flat_map}
-use Rattle.std.proofs.lemmas.List.Folds.{fold-map}
+use Rattle.std.proofs.lemmas.List.Sums.{fold-append}
 use Rattle.whole_text.specs.declared.faults.TextFault.{TextFault}
 use Rattle.whole_text.specs.Tokens.{Word}
 use Rattle.whole_text.specs.Steps.{◌>>=◌, end_line}
-use Rattle.problem_form.specs.declared.terms.Product.{Product}
 use Rattle.problem_form.specs.Problems.{ProblemContent}
-use Rattle.problem_form.specs.NormalForm.{Widened, AddedProduct, blank, with_variables, with_product, with_part, as_written, normal_form}
-use Rattle.problem_form.proofs.AddedParts.{parts_add_up}
+use Rattle.problem_form.specs.NormalForm.{blank, with_variables, with_product, normal_form}
+use Rattle.problem_form.proofs.AddedParts.{products_add_up}
 use Rattle.entry_reader.specs.declared.layout.Layout.{Layout}
 use Rattle.entry_reader.specs.declared.layout.Counts.{Counts}
 use Rattle.entry_reader.specs.declared.layout.Listed.{Listed}
@@ -65,33 +64,12 @@ entries_end layout end c p ws last total none h so_far =
 
 -- ---- the problem of all entries
 
--- products that are added one by one give the normal form of them all
-products_written : (p : ProblemContent) (ts : List Product)
-    → fold as_written p (map AddedProduct ts) ≡ record p { objective = p.objective ++ ts }
-products_written p [] = λ i. record p { objective = sym (append-nil p.objective) i }
-products_written p (t ∷ ts) =
-    products_written (record p { objective = p.objective ++ t ∷ [] }) ts
-    ∙ (λ i. record p { objective = append_assoc p.objective (t ∷ []) ts i })
-
-products_add_up : (variables : ℕ) (ts : List Product)
-    → fold with_product (with_variables blank variables) ts
-    ≡ normal_form (record (with_variables blank variables) { objective = ts })
-products_add_up variables ts =
-    sym (fold-map with_part AddedProduct (with_variables blank variables) ts)
-    ∙ parts_add_up (Widened variables ∷ map AddedProduct ts)
-    ∙ ap normal_form (products_written (with_variables blank variables) ts)
-
-fold-append : (p : ProblemContent) (ts us : List Product)
-    → fold with_product p (ts ++ us) ≡ fold with_product (fold with_product p ts) us
-fold-append p [] us = refl
-fold-append p (t ∷ ts) us = fold-append (with_product p t) ts us
-
 entries_written : (layout : Layout) (p : ProblemContent) (es : List Listed)
     → fold (with_entry layout) p es ≡ fold with_product p (flat_map (products_of layout) es)
 entries_written layout p [] = refl
 entries_written layout p (e ∷ es) =
     entries_written layout (with_entry layout p e) es
-    ∙ sym (fold-append p (products_of layout e) (flat_map (products_of layout) es))
+    ∙ sym (fold-append with_product p (products_of layout e) (flat_map (products_of layout) es))
 
 -- what is put into a problem that says nothing is the normal form of what is listed
 into_blank : (layout : Layout) (nodes : ℕ) (read : Listing)

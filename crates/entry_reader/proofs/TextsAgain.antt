@@ -12,6 +12,8 @@ use Rattle.bits_model.specs.declared.output.Kind.TheVariants.{Qubo, Ising, Chime
 use Rattle.bits_model.specs.Output.{Written, is_node, is_coupler}
 use Rattle.whole_text.specs.Tokens.{Word, word, tokens_of}
 use Rattle.whole_text.specs.Steps.{end_line}
+use Rattle.whole_text.proofs.LineTokens.{IsInk, AreInk, tokens_after, words_then}
+use Rattle.whole_text.proofs.WordsAgain.{decimal_ink, natural_again}
 use Rattle.model_text.specs.Rows.{Row, row_text, rows_text, figure_rows, chain_rows, graph_rows, header_row, entry_row, model_rows, model_text}
 use Rattle.model_text.proofs.RowTexts.{IsRow, all_append}
 use Rattle.model_text.proofs.ModelRows.{figures_are_rows, graph_are_rows}
@@ -20,8 +22,7 @@ use Rattle.entry_reader.specs.declared.layout.Counts.{Counts}
 use Rattle.entry_reader.specs.declared.layout.Listed.{Listed}
 use Rattle.entry_reader.specs.Entries.{wanted_at, topology_at, topology_of, count_at, header_at, entries_at, listing_of, reading}
 use Rattle.entry_reader.specs.Again.{layout_of, listed_of, TextsAreReadAgain}
-use Rattle.entry_reader.proofs.RowsAgain.{IsInk, AreInk, IsComment, tokens_after, row_again, comments_skipped}
-use Rattle.entry_reader.proofs.NumbersAgain.{decimal_ink, natural_again}
+use Rattle.entry_reader.proofs.RowsAgain.{IsComment, comments_skipped}
 use Rattle.entry_reader.proofs.EntriesAgain.{counts_of, entries_again}
 
 -- ---- comments
@@ -85,13 +86,13 @@ header_then : (line : ℕ) (kind : Kind) (nodes : ℕ) (es : List Entry) (rows :
     → tokens_after line (header_row kind nodes es ∷ rows)
     ≡ map (word line) (header_row kind nodes es) ++ tokens_after (line + 1) rows
 header_then line Qubo nodes es rows few =
-    row_again line (codes "p") (codes "qubo" ∷ codes "0" ∷ header_numbers nodes es) rows
+    words_then line (codes "p") (codes "qubo" ∷ codes "0" ∷ header_numbers nodes es) rows
     (p_ink, (qubo_ink, (zero_ink, few_ink nodes es few))) refl
 header_then line Ising nodes es rows few =
-    row_again line (codes "p") (codes "ising" ∷ header_numbers nodes es) rows
+    words_then line (codes "p") (codes "ising" ∷ header_numbers nodes es) rows
     (p_ink, (ising_ink, few_ink nodes es few)) refl
 header_then line (Chimera a b c) nodes es rows few =
-    row_again line (codes "p") (codes "ising" ∷ header_numbers nodes es) rows
+    words_then line (codes "p") (codes "ising" ∷ header_numbers nodes es) rows
     (p_ink, (ising_ink, few_ink nodes es few)) refl
 
 header_again : (end line : ℕ) (kind : Kind) (nodes : ℕ) (es : List Entry) (rest : List Word)
@@ -100,10 +101,10 @@ header_again : (end line : ℕ) (kind : Kind) (nodes : ℕ) (es : List Entry) (r
     ≡ Ok (counts_of nodes es, rest)
 unfolding header_at wanted_at topology_of topology_at count_at
 header_again end line kind nodes es rest few =
-    let all = natural_again line nodes (omega (arith, few.0)) in
-    let some = natural_again line (count_by is_node es)
+    let all = natural_again 0 line nodes (omega arith) (omega (arith, few.0)) in
+    let some = natural_again 0 line (count_by is_node es) (omega arith)
     (omega (arith, few.1, count_by-le-length is_node es)) in
-    let others = natural_again line (count_by is_coupler es)
+    let others = natural_again 0 line (count_by is_coupler es) (omega arith)
     (omega (arith, few.1, count_by-le-length is_coupler es)) in
     elim kind as (λ k. header_at (layout_of k) end (map (word line) (header_row k nodes es) ++ rest)
     ≡ Ok (counts_of nodes es, rest)) [

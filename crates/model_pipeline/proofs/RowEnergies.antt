@@ -3,16 +3,15 @@ use Rattle.std.proofs.Common.{◌≡◌, ℕ, suc, ◌+◌, ◌≤◌, ◌<◌, 
 use Rattle.std.specs.List.{flat_map}
 use Rattle.std.proofs.lemmas.Int.{ints}
 use Rattle.std.proofs.lemmas.List.{take-append-drop}
-use Rattle.std.proofs.lemmas.List.Sums.{sum_by-append, sum_by-cons, sum_by_more}
+use Rattle.std.proofs.lemmas.List.Sums.{sum_by_more}
 use Rattle.std.proofs.lemmas.Grind.{flat_map-append}
 use Rattle.base.specs.Sums.{if_so, total_by}
-use Rattle.base.proofs.Totals.{size-plus, total_by-append, total_by_more}
+use Rattle.base.proofs.Totals.{total_by-append, total_by_more}
 use Rattle.bits_model.specs.declared.output.Entry.{Entry}
-use Rattle.bits_model.specs.declared.output.Kind.TheVariants.{Qubo}
 use Rattle.bits_model.specs.Entries.{rows_of}
 use Rattle.bits_model.specs.Output.{bit_at, bits_energy, weight_total}
-use Rattle.bits_model.proofs.Energies.{size-entry_energy}
 use Rattle.bits_model.proofs.EntryRows.{joined_rows}
+use Rattle.quad_form.proofs.NodeEnergies.{weights-append}
 use Rattle.embedding_check.proofs.PlacedRows.{rows_before, rows_more, rows_all}
 
 -- ---- one row
@@ -66,23 +65,6 @@ weight_more row i d below = sum_by_more (λ (e : Entry). unsigned_abs e.weight) 
 
 -- ---- rows one after another
 
--- the energy of entries is at most their weights, in size
-pub size-bits_total : (y : List Bool) (es : List Entry)
-    → unsigned_abs (total_by (bits_energy y) es) ≤ weight_total es
-size-bits_total y [] = omega arith
-size-bits_total y (e ∷ es) =
-    omega (
-      arith,
-      size-plus (bits_energy y e) (total_by (bits_energy y) es),
-      size-entry_energy Qubo y e,
-      size-bits_total y es,
-      sum_by-cons (λ (d : Entry). unsigned_abs d.weight) e es,
-    )
-
-pub weight_total-append : (es ds : List Entry)
-    → weight_total (es ++ ds) ≡ weight_total es + weight_total ds
-weight_total-append es ds = sum_by-append (λ (e : Entry). unsigned_abs e.weight) es ds
-
 -- the rows before one weigh no more than all
 pub weight_before : (es : List Entry) (k : ℕ) → weight_total (rows_before es k) ≤ weight_total es
 weight_before es k =
@@ -92,7 +74,7 @@ weight_before es k =
     sym (flat_map-append (λ (row : List Entry). row) (take k rows) (drop k rows))
     ∙ ap (flat_map (λ (row : List Entry). row)) (take-append-drop k rows)
     ∙ joined_rows es in
-    omega (arith, sym (weight_total-append (rows_before es k) after) ∙ ap weight_total whole)
+    omega (arith, sym (weights-append (rows_before es k) after) ∙ ap weight_total whole)
 
 -- one row more
 pub weight_of_row : (es row : List Entry) (k : ℕ) → k < length (rows_of es)
@@ -100,7 +82,7 @@ pub weight_of_row : (es row : List Entry) (k : ℕ) → k < length (rows_of es)
     → weight_total (rows_before es (k + 1)) ≡ weight_total (rows_before es k) + weight_total row
 weight_of_row es row k below is =
     ap weight_total (rows_more es k below)
-    ∙ weight_total-append (rows_before es k) (get_or (rows_of es) k [])
+    ∙ weights-append (rows_before es k) (get_or (rows_of es) k [])
     ∙ ap (λ ds. weight_total (rows_before es k) + weight_total ds) (sym is)
 
 pub energy_of_row : (y : List Bool) (es row : List Entry) (k : ℕ) → k < length (rows_of es)

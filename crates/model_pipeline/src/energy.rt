@@ -6,7 +6,9 @@ ghost use Rattle.std.specs.Prelude.{◌≡◌, ◌≤◌, ◌^◌};
 ghost use Rattle.base.specs.Sums.{total_by, if_so};
 ghost use Rattle.bits_model.specs.Output.{bit_at, bits_energy, entry_energy, weight_total};
 
-use bits_model::{CouplerList, Entry, EntryList, Kind, NodeWeights, Row, bit_at, total_energy};
+use bits_model::{
+    CouplerList, EntryList, Kind, NodeWeights, Row, bit_at, bits_energy, total_energy,
+};
 
 /// The sum of a row's weights whose second node has bit 1.
 fn ones_weight(y: &[bool], row: &Row<'_>) -> i128
@@ -45,18 +47,6 @@ fn rows_energy(y: &[bool], couplers: &CouplerList) -> i128
         energy += row_energy(y, &row);
     }
     energy
-}
-
-/// What an entry adds to the energy of a state of bits.
-#[inline]
-fn bits_energy(y: &[bool], entry: &Entry) -> i128
-    ensures { result ≡ bits_energy y.now entry.now }
-{
-    if bit_at(y, entry.first as usize) && bit_at(y, entry.second as usize) {
-        entry.weight
-    } else {
-        0
-    }
 }
 
 /// What the weights of nodes add to the energy of a state of bits.

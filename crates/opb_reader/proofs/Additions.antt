@@ -16,18 +16,13 @@ use Rattle.problem_form.specs.declared.terms.Product.{Product}
 use Rattle.problem_form.specs.declared.terms.Constraint.{Constraint}
 use Rattle.problem_form.specs.Problems.{ProblemContent}
 use Rattle.problem_form.specs.NormalForm.{Widened, AddedProduct, AddedConstraint, normal_form, blank, with_variables, with_product, with_constraint, with_part, as_written}
-use Rattle.problem_form.proofs.AddedParts.{parts_add_up}
+use Rattle.problem_form.proofs.AddedParts.{parts_add_up, products_apart, products_written}
 use Rattle.opb_reader.specs.Opb.{Listed, Opb, literals_in, widened, variables_of, constraints_at, head_at, reading_of_words}
 use Rattle.opb_reader.specs.Cost.{constraint_of, problem_of, problem_of_words}
 use Rattle.opb_reader.specs.Views.{with_term, with_listed, head_read, constraints_read}
 use Rattle.opb_reader.proofs.Variables.{widened-append}
 
 -- ---- variables apart
-
-products_apart : (p : ProblemContent) (v : ℕ) (ts : List Product)
-    → fold with_product (with_variables p v) ts ≡ with_variables (fold with_product p ts) v
-products_apart p v [] = refl
-products_apart p v (t ∷ ts) = products_apart (with_product p t) v ts
 
 constraints_apart : (p : ProblemContent) (v : ℕ) (ks : List Constraint)
     → fold with_constraint (with_variables p v) ks ≡ with_variables (fold with_constraint p ks) v
@@ -65,13 +60,6 @@ listed_apart p (k ∷ ks) =
     (sym (widened-append p.variables (literals_in k.terms) (constraint_literals ks)))
 
 -- ---- parts
-
-products_written : (p : ProblemContent) (ts : List Product)
-    → fold as_written p (map AddedProduct ts) ≡ record p { objective = p.objective ++ ts }
-products_written p [] = λ i. record p { objective = sym (append-nil p.objective) i }
-products_written p (t ∷ ts) =
-    products_written (record p { objective = p.objective ++ t ∷ [] }) ts
-    ∙ (λ i. record p { objective = append_assoc p.objective (t ∷ []) ts i })
 
 constraints_written : (p : ProblemContent) (ks : List Constraint)
     → fold as_written p (map AddedConstraint ks) ≡ record p { constraints = p.constraints ++ ks }

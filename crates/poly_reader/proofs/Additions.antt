@@ -1,19 +1,17 @@
 -- What is added to a problem one after another is the normal form of the whole.
 --
 -- A name keeps its number when more names come, so each product can be put down as it is read.
-use Rattle.std.proofs.Common.{◌≡◌, ℕ, List, [], ◌∷◌, ◌++◌, length, map, fold, Result, Ok, Err, refl, sym, ap, ◌∙◌, append-nil, append_assoc}
+use Rattle.std.proofs.Common.{◌≡◌, ℕ, List, [], ◌∷◌, ◌++◌, length, map, fold, Result, Ok, Err, refl, sym, ap, ◌∙◌}
 use Rattle.std.proofs.lemmas.List.{map-append}
-use Rattle.std.proofs.lemmas.List.Folds.{fold-map}
 use Rattle.std.proofs.lemmas.List.Sums.{fold-append}
 use Rattle.whole_text.specs.declared.faults.TextFault.{TextFault}
 use Rattle.whole_text.specs.declared.faults.TextAnswer.{TextAnswer}
 use Rattle.whole_text.specs.declared.faults.TextAnswer.TheVariants as answers
 use Rattle.whole_text.specs.Tokens.{Word}
 use Rattle.whole_text.specs.Steps.{◌>>=◌, Fails}
-use Rattle.problem_form.specs.declared.terms.Product.{Product}
 use Rattle.problem_form.specs.Problems.{ProblemContent}
-use Rattle.problem_form.specs.NormalForm.{Widened, AddedProduct, normal_form, blank, with_variables, with_product, with_part, as_written}
-use Rattle.problem_form.proofs.AddedParts.{parts_add_up}
+use Rattle.problem_form.specs.NormalForm.{normal_form, blank, with_variables, with_product}
+use Rattle.problem_form.proofs.AddedParts.{products_add_up, products_apart}
 use Rattle.poly_reader.specs.declared.reading.Polynomial.{Polynomial}
 use Rattle.poly_reader.specs.Poly.{Named, Listed, reading_of_words}
 use Rattle.poly_reader.specs.Numbering.{with_name, names_after, all_literals, names_of}
@@ -22,11 +20,6 @@ use Rattle.poly_reader.specs.Views.{with_listed, products_read}
 use Rattle.poly_reader.proofs.NameNumbers.{names_after-longer, names_after-all, literals_of-longer}
 
 -- ---- variables apart
-
-products_apart : (p : ProblemContent) (v : ℕ) (ts : List Product)
-    → fold with_product (with_variables p v) ts ≡ with_variables (fold with_product p ts) v
-products_apart p v [] = refl
-products_apart p v (t ∷ ts) = products_apart (with_product p t) v ts
 
 names_after-append : (names : List (List ℕ)) (ls ks : List Named)
     → names_after names (ls ++ ks) ≡ names_after (names_after names ls) ks
@@ -64,24 +57,6 @@ listed_apart p names (t ∷ ts) e =
     (products_apart (with_product p (product_of last t)) (length now) later)
     ∙ ap (λ (ns : List (List ℕ)). with_products p ns (t ∷ ts)) (sym all)
 
--- ---- parts
-
-products_written : (p : ProblemContent) (ts : List Product)
-    → fold as_written p (map AddedProduct ts) ≡ record p { objective = p.objective ++ ts }
-products_written p [] = λ i. record p { objective = sym (append-nil p.objective) i }
-products_written p (t ∷ ts) =
-    products_written (record p { objective = p.objective ++ t ∷ [] }) ts
-    ∙ (λ i. record p { objective = append_assoc p.objective (t ∷ []) ts i })
-
-products_are : (v : ℕ) (ts : List Product)
-    → fold with_product (with_variables blank v) ts
-    ≡ normal_form (record (with_variables blank v) { objective = ts })
-products_are v ts =
-    let wide = with_variables blank v in
-    sym (fold-map with_part AddedProduct wide ts)
-    ∙ parts_add_up (Widened v ∷ map AddedProduct ts)
-    ∙ ap normal_form (products_written wide ts)
-
 put_together : (ts : List Listed)
     → fold with_listed (blank, []) ts ≡ (normal_form (problem_of ts), names_of ts)
 put_together ts =
@@ -89,7 +64,7 @@ put_together ts =
     let products = map (product_of names) ts in
     listed_apart blank [] ts refl
     ∙ ap (λ (p : ProblemContent). (p, names))
-    (sym (products_apart blank (length names) products) ∙ products_are (length names) products)
+    (sym (products_apart blank (length names) products) ∙ products_add_up (length names) products)
 
 -- ---- a text
 

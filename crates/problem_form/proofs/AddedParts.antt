@@ -74,6 +74,30 @@ parts_from p (part ∷ parts) =
 pub parts_add_up : PartsAddUp
 parts_add_up parts = parts_from blank parts
 
+-- ---- products alone
+
+pub products_written : (p : ProblemContent) (ts : List Product)
+    → fold as_written p (map AddedProduct ts) ≡ record p { objective = p.objective ++ ts }
+products_written p [] = λ i. record p { objective = sym (append-nil p.objective) i }
+products_written p (t ∷ ts) =
+    products_written (record p { objective = p.objective ++ t ∷ [] }) ts
+    ∙ (λ i. record p { objective = append_assoc p.objective (t ∷ []) ts i })
+
+-- products that are added one by one give the normal form of them all
+pub products_add_up : (variables : ℕ) (ts : List Product)
+    → fold with_product (with_variables blank variables) ts
+    ≡ normal_form (record (with_variables blank variables) { objective = ts })
+products_add_up variables ts =
+    sym (fold-map with_part AddedProduct (with_variables blank variables) ts)
+    ∙ parts_add_up (Widened variables ∷ map AddedProduct ts)
+    ∙ ap normal_form (products_written (with_variables blank variables) ts)
+
+-- they do not ask how many variables there are
+pub products_apart : (p : ProblemContent) (v : ℕ) (ts : List Product)
+    → fold with_product (with_variables p v) ts ≡ with_variables (fold with_product p ts) v
+products_apart p v [] = refl
+products_apart p v (t ∷ ts) = products_apart (with_product p t) v ts
+
 -- ---- clauses alone
 
 clauses_written : (p : ProblemContent) (cs : List Clause)

@@ -1,9 +1,9 @@
 -- Common divisors of weights, and the greatest of them.
-use Rattle.std.proofs.Common.{◌≡◌, ◌⊎◌, inl, inr, ℕ, zero, suc, ◌*◌, ◌%◌, ◌≤◌, Bool, true, false, ◌&&◌, ℤ, pos, negsuc, neg_ℤ, ◌*ℤ◌, int_rem, unsigned_abs, List, [], ◌∷◌, ◌++◌, if◌then◌else◌, map, refl, sym, ap, ◌∙◌, subst, arith}
+use Rattle.std.proofs.Common.{◌≡◌, ◌⊎◌, inl, inr, ℕ, zero, suc, ◌*◌, ◌%◌, ◌≤◌, Bool, true, false, ℤ, pos, negsuc, neg_ℤ, ◌*ℤ◌, int_rem, unsigned_abs, List, [], ◌∷◌, ◌++◌, if◌then◌else◌, map, refl, sym, ap, ◌∙◌, subst, arith}
 use Rattle.std.specs.Int.{◌∣◌, IsGcd}
 use Rattle.std.specs.List.{AllByRecursion, list_all, sum_by}
 use Rattle.std.proofs.Math.Nat.{one-dvd, eq-zero_of_zero-dvd, dvd_trans, dvd_refl}
-use Rattle.std.proofs.lemmas.Bool.{eq-eqb, eqb-true}
+use Rattle.std.proofs.lemmas.Bool.{eq-eqb, eqb-true, and_parts, and_from}
 use Rattle.std.proofs.lemmas.Int.{ints, quot-rem, unsigned_abs-mul}
 use Rattle.std.proofs.lemmas.List.Sums.{sum_by-cons}
 use Rattle.std.proofs.lemmas.List.Elements.{recursion_from_All, All-from_recursion, All-append, All-nil}
@@ -17,29 +17,17 @@ Divides d ws = AllByRecursion (λ w. d ∣ unsigned_abs w) ws
 
 -- ---- one by one
 
-and_left : (a b : Bool) → (a && b) ≡ true → a ≡ true
-and_left true b h = refl
-and_left false b h = cc
-
-and_right : (a b : Bool) → (a && b) ≡ true → b ≡ true
-and_right true b h = h
-and_right false b h = cc
-
-and_both : (a b : Bool) → a ≡ true → b ≡ true → (a && b) ≡ true
-and_both true b p q = q
-and_both false b p q = cc
-
 Divides-from_test : (d : ℕ) (ws : List ℤ) → list_all (is_multiple d) ws ≡ true → Divides d ws
 Divides-from_test d [] h = tt
 Divides-from_test d (w ∷ ws) h = (
-  dvd_of_mod-eq-zero d (eqb-true _ _ (and_left (is_multiple d w) _ h)),
-  Divides-from_test d ws (and_right (is_multiple d w) _ h),
+  dvd_of_mod-eq-zero d (eqb-true _ _ ((and_parts (is_multiple d w) _ h).0)),
+  Divides-from_test d ws ((and_parts (is_multiple d w) _ h).1),
 )
 
 test-from_Divides : (d : ℕ) (ws : List ℤ) → Divides d ws → list_all (is_multiple d) ws ≡ true
 test-from_Divides d [] h = refl
 test-from_Divides d (w ∷ ws) h =
-    and_both (is_multiple d w) _ (eq-eqb _ _ (mod-eq-zero_of_dvd d h.0)) (test-from_Divides d ws h.1)
+    and_from (is_multiple d w) _ (eq-eqb _ _ (mod-eq-zero_of_dvd d h.0)) (test-from_Divides d ws h.1)
 
 one_divides : (ws : List ℤ) → Divides 1 ws
 one_divides [] = tt

@@ -6,6 +6,7 @@ use Rattle.base.specs.Sums.{total_by, if_so}
 use Rattle.base.proofs.Totals.{total_by_push, size-plus}
 use Rattle.bits_model.specs.declared.output.Entry.{Entry}
 use Rattle.bits_model.specs.Output.{bit_at, bits_energy, weight_total}
+use Rattle.bits_model.proofs.Energies.{size-if_so}
 use Rattle.quad_form.specs.Quads.{node_entries}
 use Rattle.quad_form.proofs.NodeEntries.{node_entries_more}
 
@@ -60,10 +61,6 @@ pub energy_more : (y : List Bool) (ws : List ℤ) (i : ℕ) (d so_far : ℤ) →
     ≡ total_by (bits_energy y) (node_entries 0 (take (i + 1) ws))
 energy_more y ws i d so_far h same = omega (arith, ints, same, energy_of_node y ws i d h)
 
-pub size-if_so : (b : Bool) (w : ℤ) → unsigned_abs (if_so b w) ≤ unsigned_abs w
-size-if_so true w = omega arith
-size-if_so false w = omega arith
-
 -- its size is within the weights
 pub size_more : (y : List Bool) (ws : List ℤ) (i : ℕ) (d so_far : ℤ) → i < length ws
     → unsigned_abs so_far ≤ weight_total (node_entries 0 (take i ws))
@@ -76,19 +73,6 @@ size_more y ws i d so_far h small =
       size-plus so_far (if_so (bit_at y i) (get_or ws i d)),
       size-if_so (bit_at y i) (get_or ws i d),
       weights_more ws i d h,
-    )
-
--- the size of an energy is within the weights of its entries
-pub size-energy : (y : List Bool) (es : List Entry)
-    → unsigned_abs (total_by (bits_energy y) es) ≤ weight_total es
-size-energy y [] = omega arith
-size-energy y (e ∷ es) =
-    omega (
-      arith,
-      size-plus (bits_energy y e) (total_by (bits_energy y) es),
-      size-if_so (bit_at y e.first && bit_at y e.second) e.weight,
-      size-energy y es,
-      sum_by-cons size e es,
     )
 
 pub weights-append : (es cs : List Entry) → weight_total (es ++ cs) ≡ weight_total es + weight_total cs

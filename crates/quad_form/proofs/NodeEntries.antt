@@ -1,11 +1,11 @@
 -- The entries of nodes that are numbered one after another, before couplers.
-use Rattle.std.proofs.Common.{◌≡◌, ◌≢◌, ◌⊎◌, inl, inr, ℕ, suc, ◌+◌, ◌<◌, ◌≤◌, Bool, true, false, ◌||◌, ltb, ℤ, pos, List, [], ◌∷◌, ◌++◌, length, take, get_or, All, refl, sym, ap, ◌∙◌, arith}
+use Rattle.std.proofs.Common.{◌≡◌, ◌≢◌, ◌⊎◌, inl, inr, ℕ, suc, ◌+◌, ◌<◌, ◌≤◌, true, false, ltb, ℤ, pos, List, [], ◌∷◌, ◌++◌, length, take, get_or, All, refl, sym, ap, ◌∙◌, arith}
 use Rattle.std.specs.List.{AllByRecursion}
 use Rattle.std.specs.List.Sorted.{IsStrictlySortedBy}
 use Rattle.std.specs.Ordering.{nat_cmp}
 use Rattle.std.specs.declared.cmp.Ordering.TheVariants.{Less}
 use Rattle.std.specs.Cmp.{nat_cmp_is}
-use Rattle.std.proofs.lemmas.Bool.{eq-eqb, lt-ltb, le-ltb}
+use Rattle.std.proofs.lemmas.Bool.{eq-eqb, lt-ltb, le-ltb, or_right}
 use Rattle.std.proofs.lemmas.List.{take_more, length-take}
 use Rattle.std.proofs.lemmas.List.Elements.{All-append, All-from_recursion, recursion_from_All}
 use Rattle.bits_model.specs.declared.output.Entry.{Entry}
@@ -103,17 +103,13 @@ couplers_up n (c ∷ cs) h = (h.0.upward, couplers_up n cs h.1)
 
 -- ---- each node has one
 
-or_true : (a b : Bool) → b ≡ true → (a || b) ≡ true
-or_true true b h = refl
-or_true false b h = h
-
 pub has_each_node : (n : ℕ) (ws : List ℤ) (cs : List Entry) (i : ℕ) → n ≤ i → i < n + length ws
     → has_node (node_entries n ws ++ cs) i ≡ true
 has_each_node n [] cs i low high = absurd (omega arith)
 has_each_node n (w ∷ ws) cs i low high =
     elim (cases n i low) [
       | inl same ↦ rw (eq-eqb n i same) refl
-      | inr above ↦ or_true _ _ (has_each_node (suc n) ws cs i above (omega arith))
+      | inr above ↦ or_right _ _ (has_each_node (suc n) ws cs i above (omega arith))
     ]
   where
     cases : (n i : ℕ) → n ≤ i → (n ≡ i) ⊎ (suc n ≤ i)

@@ -18,7 +18,8 @@ use Rattle.base.proofs.Totals.{size-plus, total_by-IsPermutation}
 use Rattle.bits_model.specs.declared.output.Entry.{Entry}
 use Rattle.bits_model.specs.Output.{weight_total}
 use Rattle.term_table.specs.laws.MultipliedOut.{if_so-plus}
-use Rattle.quad_form.specs.Pairs.{IsPair, IsNonzero, weight_for, weight_at, pair_number, heavier, entry_in_front, sums_from, sums_of, AreSummed}
+use Rattle.bits_model.specs.PairNumbers.{pair_number}
+use Rattle.quad_form.specs.Pairs.{IsPair, IsNonzero, weight_for, weight_at, heavier, entry_in_front, sums_from, sums_of, AreSummed}
 use Rattle.quad_form.proofs.PairOrder.{ArePairs, Before, Rises, same_pair, ordered_from_rising}
 
 -- ---- what holds of each entry

@@ -24,7 +24,8 @@ use Rattle.term_table.proofs.KeptTerms.{OfSet, AreTerms-with_additions}
 use Rattle.quad_form.specs.Quads.{QuadContent, IsCoupler, IsQuad}
 use Rattle.quad_form.specs.Flat.{pair_entry, with_term, zero_quad, quad_of, image, IsFlat}
 use Rattle.quad_form.specs.laws.Flattened.{length-with_term, flat_sets, flat_contributions}
-use Rattle.quad_form.specs.Pairs.{IsNonzero, weight_for, weight_at, pair_number, IsSettled}
+use Rattle.bits_model.specs.PairNumbers.{pair_number}
+use Rattle.quad_form.specs.Pairs.{IsNonzero, weight_for, weight_at, IsSettled}
 use Rattle.quad_form.proofs.FlatForms.{width_of, IsQuad-of}
 use Rattle.quad_form.proofs.FlatSets.{IsTermSet-flat}
 use Rattle.quad_form.proofs.FlatSums.{terms_total-contributions}
@@ -64,7 +65,8 @@ weight_at-first : (e : Entry) (es : List Entry) → Before e es
     → weight_at e.first e.second (e ∷ es) ≡ e.weight
 weight_at-first e es before = omega (arith, ints, weight_for-itself e, weight_at-before e es before)
 
-Before-further : (d e : Entry) (es : List Entry) → pair_number d < pair_number e → Before e es
+-- what stands before a list stands before it from further off
+pub Before-further : (d e : Entry) (es : List Entry) → pair_number d < pair_number e → Before e es
     → Before d es
 Before-further d e [] less before = tt
 Before-further d e (f ∷ fs) less before =

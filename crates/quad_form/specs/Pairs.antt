@@ -1,10 +1,11 @@
 -- Couplers that were gathered in any order, and the couplers of a form that stand for them.
-use Rattle.std.specs.Prelude.{◌≡◌, ◌≢◌, ℕ, ◌+◌, ◌*◌, ◌<◌, ◌≤◌, ◌^◌, ◌==◌, ℤ, pos, ◌+ℤ◌, ◌&&◌, List, [], ◌∷◌, All, if◌then◌else◌}
+use Rattle.std.specs.Prelude.{◌≡◌, ◌≢◌, ℕ, ◌<◌, ◌≤◌, ◌==◌, ℤ, pos, ◌+ℤ◌, ◌&&◌, List, [], ◌∷◌, All, if◌then◌else◌}
 use Rattle.std.specs.List.Sorted.{IsStrictlySortedBy}
 use Rattle.std.specs.Ordering.{int_eq}
 use Rattle.base.specs.Sums.{total_by, if_so}
 use Rattle.bits_model.specs.declared.output.Entry.{Entry}
 use Rattle.bits_model.specs.Output.{entry_cmp, weight_total}
+use Rattle.bits_model.specs.PairNumbers.{pair_number}
 use Rattle.quad_form.specs.Quads.{QuadContent}
 
 -- a pair of the first n nodes
@@ -25,10 +26,6 @@ abbrev pub weight_at : ℕ → ℕ → List Entry → ℤ
 weight_at i j es = total_by (weight_for i j) es
 
 -- ---- equal neighbours as one
-
--- the number of a pair, which rises with its first node, and then with its second
-abbrev pub pair_number : Entry → ℕ
-pair_number e = e.first * 2 ^ 32 + e.second
 
 -- an entry with more weight
 abbrev pub heavier : Entry → ℤ → Entry

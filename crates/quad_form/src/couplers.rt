@@ -4,19 +4,10 @@
 //! left out. Couplers that are in order already cost one pass.
 ghost use Rattle.std.specs.Prelude.{◌≡◌, ◌+◌, ◌<◌, ◌≤◌, ◌^◌, ◌++◌, [], ℕ, All, drop, length, take};
 ghost use Rattle.bits_model.specs.Output.{weight_total};
-ghost use Rattle.quad_form.specs.Pairs.{pair_number, entry_in_front, sums_of, IsPair, AreSummed};
+ghost use Rattle.bits_model.specs.PairNumbers.{pair_number};
+ghost use Rattle.quad_form.specs.Pairs.{entry_in_front, sums_of, IsPair, AreSummed};
 
-use bits_model::Entry;
-
-/// Each node is below it.
-const NODE_LIMIT: u64 = 1 << 32;
-
-/// The number of an entry's pair: pairs are ordered by their first nodes, and then by their second.
-fn pair_number(entry: &Entry) -> u64
-    ensures { result ≡ pair_number entry.now }
-{
-    entry.first as u64 * NODE_LIMIT + entry.second as u64
-}
+use bits_model::{Entry, pair_number};
 
 /// Stores an entry after the first `kept`, unless its weight is 0. The result says how many are
 /// kept then.

@@ -14,6 +14,7 @@ use Rattle.std.proofs.lemmas.List.Elements.{All-from_recursion}
 use Rattle.std.proofs.lemmas.List.Sums.{sum_by-append, sum_by-le, count_by-le-length}
 use Rattle.base.specs.Sums.{total_by}
 use Rattle.base.proofs.Totals.{size-plus}
+use Rattle.whole_text.proofs.LineTokens.{all_append}
 use Rattle.literal_lists.specs.declared.literal.Literal.{Literal}
 use Rattle.problem_form.specs.declared.terms.Clause.{Clause}
 use Rattle.problem_form.specs.declared.limits.Normal.{Normal}
@@ -23,7 +24,6 @@ use Rattle.problem_form.specs.Problems.{ProblemContent, soft_weight}
 use Rattle.problem_form.specs.NormalForm.{is_plain_cost, kept_clause, clause_constant, normal_form, blank, with_variables}
 use Rattle.problem_form.specs.Limits.{degree, clause_complements, negations, clause_pairs, pairs, weight, limit_fault}
 use Rattle.problem_form.proofs.KeptClauses.{kept_clause-size}
-use Rattle.sample_text.proofs.LineTokens.{all_append}
 
 -- ---- what is kept of a clause
 

@@ -1,7 +1,5 @@
 pub mod Clauses
 pub mod Sizes
-pub mod LineTokens
-pub mod Numerals
 pub mod Readings
 pub mod Bounds
 pub mod EachRead

@@ -1,21 +1,25 @@
 -- The words of a sample text are read: its header, its clauses, and nothing more.
 use Rattle.std.proofs.Common.{◌≡◌, ℕ, zero, suc, ◌+◌, ◌%◌, ◌<◌, ◌≤◌, ◌^◌, Bool, true, false, cond, eqb, ℤ, pos, neg_ℤ, List, [], ◌∷◌, ◌++◌, map, Some, Result, Ok, refl, sym, ap, ◌∙◌, arith}
 use Rattle.std.specs.Prelude.{nat_abs, codes}
-use Rattle.std.specs.Fmt.{decimal, signed_decimal}
+use Rattle.std.specs.Fmt.{decimal, signed_decimal, digits}
 use Rattle.std.proofs.Math.Nat.{mod-lt}
 use Rattle.std.proofs.lemmas.Bool.{ne_eqb, le-leb}
 use Rattle.whole_text.specs.declared.faults.TextFault.{TextFault}
 use Rattle.whole_text.specs.declared.token.Style.TheVariants.{Plain}
 use Rattle.whole_text.specs.Tokens.{Word, word, tokens_of}
 use Rattle.whole_text.specs.Steps.{◌>>=◌, end_line}
+use Rattle.whole_text.proofs.LineTokens.{IsInk, AreInk, tokens_after, no_lines, words_then}
+use Rattle.whole_text.proofs.WordsAgain.{decimal_ink, signed_ink, number_first, integer_again, natural_again}
 use Rattle.wcnf_reader.specs.declared.layout.Layout.TheVariants.{Older}
 use Rattle.wcnf_reader.specs.Wcnf.{Header, Listed, Wcnf, weight_of, literal_at, literals_at, clause_at, wanted_word, header_number, at_line_end, top_at, header_at, clauses_at, older_of, reading_of_words, reading}
 use Rattle.sample_text.specs.Sample.{seed, drawn, after, drawn_weight, drawn_literal, clause_words, drawn_clauses, header_words, variables_of, top_of, sample_text}
 use Rattle.sample_text.proofs.Sizes.{weight_small}
-use Rattle.sample_text.proofs.LineTokens.{IsInk, AreInk, tokens_after, no_lines, words_then}
-use Rattle.sample_text.proofs.Numerals.{decimal_ink, signed_ink, number_first, integer_again, natural_again, zero_text}
 
 -- ---- literals
+
+zero_text : signed_decimal (pos 0) ≡ codes "0"
+unfolding digits
+zero_text = refl
 
 -- a literal of one of so many variables
 abbrev pub IsDrawn : ℕ → ℤ → Type 0

@@ -8,6 +8,8 @@ pub mod Pieces
 pub mod Lines
 pub mod DigitLoop
 pub mod NumberAgain
+pub mod LineTokens
+pub mod WordsAgain
 pub mod LexerSteps
 pub mod LexerFields
 pub mod Rows

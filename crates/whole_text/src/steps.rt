@@ -3,14 +3,14 @@
 //! A reading is a function of the words that the tokens stand for. `end` is the line of the last
 //! one, where a text that ends too soon has its fault.
 
-ghost use Rattle.std.specs.Prelude.{◌≡◌, ◌<◌, ◌^◌, nat_abs, All, IfOk, slice_range, if◌then◌else◌};
+ghost use Rattle.std.specs.Prelude.{◌≡◌, ◌<◌, ◌^◌, nat_abs, IfOk, if◌then◌else◌};
 ghost use Rattle.std.specs.Char.{is_ascii_digit};
 ghost use Rattle.std.specs.List.{list_all};
 ghost use Rattle.whole_text.specs.declared.faults.TextKind.TheVariants as kinds;
 ghost use Rattle.whole_text.specs.Numbers.{are_digits};
-ghost use Rattle.whole_text.specs.Tokens.{word_at, words_at, IsWithin};
+ghost use Rattle.whole_text.specs.Tokens.{word_at, IsWithin};
 ghost use Rattle.whole_text.specs.TokenTexts.{word_of};
-ghost use Rattle.whole_text.specs.Steps.{GivesAlways, fault, end_line, next_of, integer_at, natural_at};
+ghost use Rattle.whole_text.specs.Steps.{GivesAlways, fault, next_of, integer_at, natural_at};
 
 use crate::faults::{TextFault, TextKind};
 use crate::numbers::number;
@@ -40,42 +40,6 @@ pub fn kind_of_digits(bytes: &[u8]) -> TextKind
         TextKind::Range
     } else {
         TextKind::Word
-    }
-}
-
-/// The bytes of a token.
-pub fn bytes_at<'a>(text: &'a [u8], token: Token) -> &'a [u8]
-    requires { IsWithin text.now token }
-    ensures { result.now ≡ slice_range text.now token.start token.end }
-{
-    &text[token.start..token.end]
-}
-
-/// The line of the last token, or 1 where there is none.
-pub fn end_line(text: &[u8], tokens: &[Token]) -> u64
-    ensures { result ≡ end_line (words_at text.now tokens.now) }
-{
-    match tokens.last() {
-        Some(token) => token.line,
-        None => 1,
-    }
-}
-
-/// The next token and what is left, or the fault that the text ended.
-pub fn next<'a>(
-    text: &[u8],
-    tokens: &'a [Token],
-    end: u64,
-) -> Result<(Token, &'a [Token]), TextFault>
-    requires { All (IsWithin text.now) tokens.now }
-    ensures read { GivesAlways (λ x. (word_at text.now x.0, words_at text.now x.1.now)) result
-        (next_of end (words_at text.now tokens.now)) }
-    ensures within { IfOk result (λ x. IsWithin text.now x.0) }
-    ensures rest { IfOk result (λ x. All (IsWithin text.now) x.1.now) }
-{
-    match tokens {
-        [] => Err(fault(TextKind::End, end)),
-        [token, rest @ ..] => Ok((*token, rest)),
     }
 }
 
@@ -112,23 +76,15 @@ pub fn natural_word(word: WordRef<'_>, least: u64) -> Result<u64, TextFault>
     }
 }
 
+/// The word of a token.
 fn word_at<'a>(text: &'a [u8], token: Token) -> WordRef<'a>
     requires { IsWithin text.now token }
     ensures { word_of result ≡ word_at text.now token }
 {
     WordRef {
-        bytes: bytes_at(text, token),
+        bytes: &text[token.start..token.end],
         line: token.line,
     }
-}
-
-/// A number.
-pub fn integer(text: &[u8], token: Token) -> Result<i128, TextFault>
-    requires { IsWithin text.now token }
-    ensures value { result ≡ integer_at (word_at text.now token) }
-    ensures small { IfOk result (λ z. nat_abs z < 2 ^ 64) }
-{
-    integer_word(word_at(text, token))
 }
 
 /// A number that is at least this.

@@ -2,7 +2,7 @@ use Rattle.std.proofs.Common.{List, map, ap, sym, subst, pos}
 use Rattle.std.specs.List.Sorted.{IsPermutation}
 use Rattle.std.proofs.lemmas.List.Sorted.{IsPermutation-map}
 use Rattle.bits_model.specs.declared.output.Entry.{Entry}
-use Rattle.quad_form.specs.Pairs.{pair_number}
+use Rattle.bits_model.specs.PairNumbers.{pair_number}
 use Rattle.direct_quad.specs.PairLists.{entry_of, held_pairs, unpacked}
 use Rattle.direct_quad.proofs.PairSums.{ordered-map}
 use Rattle.direct_quad.proofs.pairs.sorted_pairs.Goals as goal

@@ -1,6 +1,6 @@
 use Rattle.std.proofs.Common.{rules}
 use Rattle.std.proofs.lemmas.List.Sorted.{IsNonDecreasingBy-from_sort_by_key}
-use Rattle.quad_form.specs.Pairs.{pair_number}
+use Rattle.bits_model.specs.PairNumbers.{pair_number}
 use Rattle.direct_quad.proofs.pairs.sorted_wide.Goals as goal
 
 pub returns-clause-ordered : goal.returns-clause-ordered

@@ -3,8 +3,10 @@ use Rattle.std.specs.Int.{w128}
 use Rattle.std.proofs.lemmas.Int.{ints}
 use Rattle.base.specs.Sums.{total_by}
 use Rattle.base.proofs.Totals.{total_by-append}
+use Rattle.bits_model.specs.declared.output.Kind.TheVariants.{Qubo}
 use Rattle.bits_model.specs.Output.{bits_energy, weight_total}
-use Rattle.model_pipeline.proofs.RowEnergies.{size-bits_total, weight_total-append}
+use Rattle.bits_model.proofs.Energies.{size-energy}
+use Rattle.quad_form.proofs.NodeEnergies.{weights-append}
 use Rattle.model_pipeline.proofs.energy.energy_of.Goals as goal
 
 pub overflow_add-result : goal.overflow_add-result
@@ -12,13 +14,13 @@ overflow_add-result c =
     let y = c.args.y.now in
     let ns = c.entries.inside.nodes in
     let cs = c.entries.inside.couplers in
-    let weights = sym (weight_total-append ns cs) ∙ ap weight_total c.entries.view_is in
+    let weights = sym (weights-append ns cs) ∙ ap weight_total c.entries.view_is in
     omega (
       arith,
       ints,
       weights,
-      size-bits_total y ns,
-      size-bits_total y cs,
+      size-energy Qubo y ns,
+      size-energy Qubo y cs,
       c.nodes_energy.ensures,
       c.rows_energy.ensures,
       c.requires,
@@ -29,7 +31,7 @@ returns-in-Qubo c =
     let y = c.args.y.now in
     let ns = c.entries.inside.nodes in
     let cs = c.entries.inside.couplers in
-    let weights = sym (weight_total-append ns cs) ∙ ap weight_total c.entries.view_is in
+    let weights = sym (weights-append ns cs) ∙ ap weight_total c.entries.view_is in
     let energies =
     sym (total_by-append (bits_energy y) ns cs) ∙ ap (total_by (bits_energy y)) c.entries.view_is in
     let nodes = to_z w128 (of_z w128 c.nodes_energy.result) in
@@ -41,8 +43,8 @@ returns-in-Qubo c =
       ints,
       energies,
       weights,
-      size-bits_total y ns,
-      size-bits_total y cs,
+      size-energy Qubo y ns,
+      size-energy Qubo y cs,
       c.nodes_energy.ensures,
       c.rows_energy.ensures,
       c.requires,

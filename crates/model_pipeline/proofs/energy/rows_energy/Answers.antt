@@ -1,8 +1,10 @@
 use Rattle.std.proofs.Common.{◌≡◌, ◌<◌, ◌+◌, length, arith, ◌∙◌}
 use Rattle.std.proofs.lemmas.Int.{ints}
+use Rattle.bits_model.specs.declared.output.Kind.TheVariants.{Qubo}
 use Rattle.bits_model.specs.Entries.{rows_of}
+use Rattle.bits_model.proofs.Energies.{size-energy}
 use Rattle.embedding_check.proofs.PlacedRows.{rows_before}
-use Rattle.model_pipeline.proofs.RowEnergies.{size-bits_total, weight_before, weight_of_row, energy_of_row, energy_of_all}
+use Rattle.model_pipeline.proofs.RowEnergies.{weight_before, weight_of_row, energy_of_row, energy_of_all}
 use Rattle.model_pipeline.proofs.energy.rows_energy.Goals as goal
 
 pub row_energy-energy-requires : goal.row_energy-energy-requires
@@ -27,8 +29,8 @@ overflow_add-energy c =
       ints,
       weight_of_row es row k below c.row-row.ensures,
       weight_before es (k + 1),
-      size-bits_total y (rows_before es k),
-      size-bits_total y row,
+      size-energy Qubo y (rows_before es k),
+      size-energy Qubo y row,
       c.loop-index.invariant,
       c.row_energy-energy.ensures,
       c.requires,
@@ -48,8 +50,8 @@ loop-index-preserved c =
       energy_of_row y es row k below c.row-row.ensures,
       weight_of_row es row k below c.row-row.ensures,
       weight_before es (k + 1),
-      size-bits_total y (rows_before es k),
-      size-bits_total y row,
+      size-energy Qubo y (rows_before es k),
+      size-energy Qubo y row,
       c.loop-index.invariant,
       c.row_energy-energy.ensures,
       c.requires,

@@ -2,7 +2,8 @@ use Rattle.std.proofs.Common.{◌≡◌, ℕ, List, [], ◌++◌, length, take, 
 use Rattle.std.proofs.lemmas.List.{drop_all, take_all}
 use Rattle.std.proofs.lemmas.List.Sorted.{IsNonDecreasingBy-from_sort_by_key}
 use Rattle.bits_model.specs.declared.output.Entry.{Entry}
-use Rattle.quad_form.specs.Pairs.{pair_number, sums_of}
+use Rattle.bits_model.specs.PairNumbers.{pair_number}
+use Rattle.quad_form.specs.Pairs.{sums_of}
 use Rattle.quad_form.proofs.SummedPairs.{are_summed}
 use Rattle.quad_form.proofs.couplers.sorted_sums.Goals as goal
 

@@ -2,7 +2,8 @@ use Rattle.std.proofs.Common.{◌≡◌, ◌≢◌, ◌+◌, ◌<◌, pos, ◌+�
 use Rattle.std.specs.Int.{w128}
 use Rattle.std.proofs.lemmas.Int.{ints}
 use Rattle.bits_model.specs.declared.output.Entry.{Entry}
-use Rattle.quad_form.specs.Pairs.{pair_number, heavier}
+use Rattle.bits_model.specs.PairNumbers.{pair_number}
+use Rattle.quad_form.specs.Pairs.{heavier}
 use Rattle.quad_form.proofs.SummedPairs.{joined_more, stored_more, small_more, small_next}
 use Rattle.quad_form.proofs.couplers.sum_neighbours.Goals as goal
 use Rattle.quad_form.proofs.couplers.sum_neighbours.Goals.{then-pair_number, else-pair_number}

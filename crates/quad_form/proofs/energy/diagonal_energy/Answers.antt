@@ -3,7 +3,8 @@ use Rattle.std.specs.Int.{w128}
 use Rattle.std.proofs.lemmas.Int.{ints}
 use Rattle.base.specs.Sums.{if_so}
 use Rattle.bits_model.specs.Output.{bit_at}
-use Rattle.quad_form.proofs.NodeEnergies.{energy_more, size_more, size-if_so, weights_within}
+use Rattle.bits_model.proofs.Energies.{size-if_so}
+use Rattle.quad_form.proofs.NodeEnergies.{energy_more, size_more, weights_within}
 use Rattle.quad_form.proofs.energy.diagonal_energy.Goals as goal
 
 pub overflow_add-energy : goal.overflow_add-energy

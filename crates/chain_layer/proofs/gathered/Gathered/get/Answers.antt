@@ -1,7 +1,8 @@
 use Rattle.std.proofs.Common.{◌≡◌, ◌<◌, length, get_or, pos, to_z, of_z, sym, ap, ◌∙◌, arith, rules}
 use Rattle.std.specs.Int.{w128}
 use Rattle.std.proofs.lemmas.Int.{to_z-of_z}
-use Rattle.chain_layer.specs.Steps.{entry_at, numbered}
+use Rattle.bits_model.specs.PairNumbers.{numbered}
+use Rattle.chain_layer.specs.Steps.{entry_at}
 use Rattle.chain_layer.proofs.Gathering.{length-weighted_pairs, weighted_pairs-at}
 use Rattle.embedding_check.proofs.Passing.{default_free}
 use Rattle.chain_layer.proofs.gathered.Gathered.get.Goals as goal

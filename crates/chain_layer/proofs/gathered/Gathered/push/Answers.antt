@@ -1,7 +1,8 @@
 use Rattle.std.proofs.Common.{◌≡◌, ◌<◌, ◌^◌, ◌++◌, [], ◌∷◌, ◌∙◌, rules}
-use Rattle.quad_form.specs.Pairs.{pair_number}
+use Rattle.bits_model.specs.PairNumbers.{pair_number}
 use Rattle.chain_layer.specs.Steps.{weighted_pairs}
-use Rattle.chain_layer.proofs.Gathering.{numbered-pair_number, weighted_pairs-more}
+use Rattle.bits_model.proofs.PairNumbers.{pair_of_number}
+use Rattle.chain_layer.proofs.Gathering.{weighted_pairs-more}
 use Rattle.chain_layer.proofs.gathered.Gathered.push.Goals as goal
 
 pub returns : goal.returns
@@ -15,4 +16,4 @@ returns c =
     let low : e.second < 2 ^ 32 = search rules in
     (λ k. weighted_pairs (numbers k) (weights k))
     ∙ weighted_pairs-more ns ws (pair_number e) e.weight c.self.invariant
-    ∙ (λ k. c.self.view_is k ++ numbered-pair_number e low k ∷ [])
+    ∙ (λ k. c.self.view_is k ++ pair_of_number e low k ∷ [])

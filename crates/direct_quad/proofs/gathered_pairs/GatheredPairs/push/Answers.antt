@@ -12,6 +12,6 @@ invariant_of-self-then-weight-ne0 c =
     let some : c.args.weight ≢ pos 0 = search rules in
     let pushed : c.push.new.self ≡ es ++ e ∷ [] = search rules in
     let few : length (es ++ others) + 1 < 2 ^ 32 = omega (arith, c.requires.few, ap length c.self.view_is) in
-    subst (λ (fs : List Entry). AreGathered fs c.number_of-number.result others) (sym pushed)
-    (gathered-push es others e c.self.inside.last c.number_of-number.result c.self.invariant c.if-self-number.true
-    c.number_of-number.ensures some few)
+    subst (λ (fs : List Entry). AreGathered fs c.pair_number-number.result others) (sym pushed)
+    (gathered-push es others e c.self.inside.last c.pair_number-number.result c.self.invariant c.if-self-number.true
+    c.pair_number-number.ensures some few)

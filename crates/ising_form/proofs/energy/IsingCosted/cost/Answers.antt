@@ -4,11 +4,12 @@ use Rattle.std.proofs.lemmas.Int.{ints}
 use Rattle.base.specs.Sums.{total_by}
 use Rattle.base.proofs.Totals.{total_by-append}
 use Rattle.base.specs.declared.costs.Cost.TheVariants.{Whole}
+use Rattle.bits_model.specs.declared.output.Kind.TheVariants.{Ising}
 use Rattle.bits_model.specs.Output.{spins_energy}
+use Rattle.bits_model.proofs.Energies.{size-energy}
 use Rattle.quad_form.specs.Quads.{node_entries}
 use Rattle.quad_form.proofs.NodeEnergies.{weights-append}
 use Rattle.ising_form.specs.Isings.{IsingContent, ising_value}
-use Rattle.ising_form.proofs.FieldEnergies.{size-energy}
 use Rattle.ising_form.proofs.energy.IsingCosted.cost.Goals as goal
 
 pub overflow_add-result : goal.overflow_add-result
@@ -18,7 +19,7 @@ overflow_add-result c =
     let couplings = c.self.inside.couplings in
     let first = c.fields_energy-nodes.ensures ∙ ap (λ (ws : List ℤ). total_by (spins_energy y) (node_entries 0 ws)) c.as_slice.ensures in
     let second = c.couplers_energy-couplings.ensures in
-    omega (arith, ints, first, second, size-energy y nodes, size-energy y couplings, weights-append nodes couplings, c.self.invariant.small)
+    omega (arith, ints, first, second, size-energy Ising y nodes, size-energy Ising y couplings, weights-append nodes couplings, c.self.invariant.small)
 
 pub overflow_add-result-2 : goal.overflow_add-result-2
 overflow_add-result-2 c =
@@ -27,7 +28,7 @@ overflow_add-result-2 c =
     let couplings = c.self.inside.couplings in
     let first = c.fields_energy-nodes.ensures ∙ ap (λ (ws : List ℤ). total_by (spins_energy y) (node_entries 0 ws)) c.as_slice.ensures in
     let second = c.couplers_energy-couplings.ensures in
-    omega (arith, ints, first, second, size-energy y nodes, size-energy y couplings, weights-append nodes couplings, c.self.invariant.small)
+    omega (arith, ints, first, second, size-energy Ising y nodes, size-energy Ising y couplings, weights-append nodes couplings, c.self.invariant.small)
 
 pub returns : goal.returns
 returns c =
@@ -38,5 +39,5 @@ returns c =
     let second = c.couplers_energy-couplings.ensures in
     let whole = total_by-append (spins_energy y) nodes q.couplings in
     let sum : to_z w128 (of_z w128 (to_z w128 (of_z w128 q.constant) +ℤ to_z w128 (of_z w128 (to_z w128 (of_z w128 c.fields_energy-nodes.result) +ℤ to_z w128 (of_z w128 c.couplers_energy-couplings.result))))) ≡ ising_value q y =
-    omega (arith, ints, first, second, whole, size-energy y nodes, size-energy y q.couplings, weights-append nodes q.couplings, c.self.invariant.small) in
+    omega (arith, ints, first, second, whole, size-energy Ising y nodes, size-energy Ising y q.couplings, weights-append nodes q.couplings, c.self.invariant.small) in
     ap Whole (sum ∙ ap (λ (f : IsingContent). ising_value f y) c.self.view_is)

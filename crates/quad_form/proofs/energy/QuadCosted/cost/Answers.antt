@@ -4,9 +4,11 @@ use Rattle.std.proofs.lemmas.Int.{ints}
 use Rattle.base.specs.Sums.{total_by}
 use Rattle.base.proofs.Totals.{total_by-append}
 use Rattle.base.specs.declared.costs.Cost.TheVariants.{Whole}
+use Rattle.bits_model.specs.declared.output.Kind.TheVariants.{Qubo}
 use Rattle.bits_model.specs.Output.{bits_energy}
+use Rattle.bits_model.proofs.Energies.{size-energy}
 use Rattle.quad_form.specs.Quads.{QuadContent, node_entries, quad_value}
-use Rattle.quad_form.proofs.NodeEnergies.{size-energy, weights-append}
+use Rattle.quad_form.proofs.NodeEnergies.{weights-append}
 use Rattle.quad_form.proofs.energy.QuadCosted.cost.Goals as goal
 
 pub overflow_add-result : goal.overflow_add-result
@@ -16,7 +18,7 @@ overflow_add-result c =
     let couplers = c.self.inside.couplers in
     let first = c.diagonal_energy-nodes.ensures ∙ ap (λ (ws : List ℤ). total_by (bits_energy y) (node_entries 0 ws)) c.as_slice.ensures in
     let second = c.couplers_energy-couplers.ensures in
-    omega (arith, ints, first, second, size-energy y nodes, size-energy y couplers, weights-append nodes couplers, c.self.invariant.small)
+    omega (arith, ints, first, second, size-energy Qubo y nodes, size-energy Qubo y couplers, weights-append nodes couplers, c.self.invariant.small)
 
 pub overflow_add-result-2 : goal.overflow_add-result-2
 overflow_add-result-2 c =
@@ -25,7 +27,7 @@ overflow_add-result-2 c =
     let couplers = c.self.inside.couplers in
     let first = c.diagonal_energy-nodes.ensures ∙ ap (λ (ws : List ℤ). total_by (bits_energy y) (node_entries 0 ws)) c.as_slice.ensures in
     let second = c.couplers_energy-couplers.ensures in
-    omega (arith, ints, first, second, size-energy y nodes, size-energy y couplers, weights-append nodes couplers, c.self.invariant.small)
+    omega (arith, ints, first, second, size-energy Qubo y nodes, size-energy Qubo y couplers, weights-append nodes couplers, c.self.invariant.small)
 
 pub returns : goal.returns
 returns c =
@@ -36,5 +38,5 @@ returns c =
     let second = c.couplers_energy-couplers.ensures in
     let whole = total_by-append (bits_energy y) nodes q.couplers in
     let sum : to_z w128 (of_z w128 (to_z w128 (of_z w128 q.constant) +ℤ to_z w128 (of_z w128 (to_z w128 (of_z w128 c.diagonal_energy-nodes.result) +ℤ to_z w128 (of_z w128 c.couplers_energy-couplers.result))))) ≡ quad_value q y =
-    omega (arith, ints, first, second, whole, size-energy y nodes, size-energy y q.couplers, weights-append nodes q.couplers, c.self.invariant.small) in
+    omega (arith, ints, first, second, whole, size-energy Qubo y nodes, size-energy Qubo y q.couplers, weights-append nodes q.couplers, c.self.invariant.small) in
     ap Whole (sum ∙ ap (λ (f : QuadContent). quad_value f y) c.self.view_is)

@@ -1,11 +1,10 @@
 -- Numbers that are written in decimal are words, and are read again.
-use Rattle.std.proofs.Common.{◌≡◌, ℕ, suc, ◌<◌, ◌≤◌, ◌^◌, true, false, ℤ, pos, negsuc, List, [], ◌∷◌, Option, Result, Ok, Err, cond, refl, ap, ◌∙◌, arith}
-use Rattle.std.specs.Prelude.{unsigned_abs, nat_le}
+use Rattle.std.proofs.Common.{◌≡◌, ℕ, suc, ◌<◌, ◌≤◌, ◌^◌, false, ℤ, pos, negsuc, List, [], ◌∷◌, Option, Result, Ok, Err, cond, refl, ap, ◌∙◌, arith}
+use Rattle.std.specs.Prelude.{nat_abs}
 use Rattle.std.specs.Option.{ok_or}
 use Rattle.std.specs.Fmt.{decimal, signed_decimal}
 use Rattle.std.specs.Str.Parse.{AllDigits}
-use Rattle.std.proofs.lemmas.Bool.{ne_eqb, lt-ltb}
-use Rattle.std.proofs.lemmas.Bool.Decides.{nat_tests}
+use Rattle.std.proofs.lemmas.Bool.{ne_eqb, le-leb}
 use Rattle.std.proofs.lemmas.Fmt.{decimal_is_IsNumeral_wide}
 use Rattle.std.proofs.lemmas.Str.Parse.{digit_from_value}
 use Rattle.whole_text.specs.declared.faults.TextFault.{TextFault}
@@ -13,20 +12,27 @@ use Rattle.whole_text.specs.declared.faults.TextKind.TheVariants as kinds
 use Rattle.whole_text.specs.Tokens.{word, is_blank, begins_with}
 use Rattle.whole_text.specs.Steps.{◌>>=◌, fault, integer_at, natural_at, from_least}
 use Rattle.whole_text.proofs.NumberAgain.{number_again}
-use Rattle.model_text.specs.Rows.{Row}
-use Rattle.model_text.proofs.Numerals.{decimal_word}
-use Rattle.entry_reader.specs.Entries.{node_at}
-use Rattle.entry_reader.proofs.RowsAgain.{IsInk, LacksBlanks}
+use Rattle.whole_text.proofs.LineTokens.{IsInk, LacksBlanks, LacksFeeds}
+
+-- ---- words
 
 no_blank : (b : ℕ) → 48 ≤ b → is_blank b ≡ false
 no_blank b h =
-    rw (ne_eqb b 32 (λ e. omega arith), ne_eqb b 9 (λ e. omega arith), ne_eqb b 13 (λ e. omega arith))
-    refl
+    let space = ne_eqb b 32 (λ e. omega arith) in
+    let tab = ne_eqb b 9 (λ e. omega arith) in
+    let returned = ne_eqb b 13 (λ e. omega arith) in
+    rw (space, tab, returned) refl
 
 digits_lack_blanks : (bs : List ℕ) → AllDigits 10 bs → LacksBlanks bs
 digits_lack_blanks [] h = tt
 digits_lack_blanks (b ∷ bs) h =
     let range = digit_from_value b h.0 in (no_blank b (omega arith), digits_lack_blanks bs h.1)
+
+digits_lack_feeds : (bs : List ℕ) → AllDigits 10 bs → LacksFeeds bs
+digits_lack_feeds [] h = tt
+digits_lack_feeds (b ∷ bs) h =
+    let range = digit_from_value b h.0 in
+    (ne_eqb b 10 (λ e. omega arith), digits_lack_feeds bs h.1)
 
 pub decimal_ink : (n : ℕ) → n < 10 ^ 64 → IsInk (decimal n)
 decimal_ink n small =
@@ -34,10 +40,10 @@ decimal_ink n small =
     record {
       filled = d.0.0;
       blank = digits_lack_blanks (decimal n) d.0.1;
-      feed = (decimal_word n).feed;
+      feed = digits_lack_feeds (decimal n) d.0.1;
     }
 
-pub signed_ink : (z : ℤ) → unsigned_abs z < 2 ^ 64 → IsInk (signed_decimal z)
+pub signed_ink : (z : ℤ) → nat_abs z < 2 ^ 64 → IsInk (signed_decimal z)
 signed_ink (pos n) small = decimal_ink n (omega arith)
 signed_ink (negsuc n) small =
     let d = decimal_ink (suc n) (omega arith) in
@@ -47,33 +53,29 @@ signed_ink (negsuc n) small =
       feed = (refl, d.feed);
     }
 
-no_comment : (bs : List ℕ) (ws : Row) → AllDigits 10 bs → begins_with 99 (bs ∷ ws) ≡ false
+no_comment : (bs : List ℕ) (ws : List (List ℕ)) → AllDigits 10 bs
+    → begins_with 99 (bs ∷ ws) ≡ false
 no_comment [] ws h = refl
 no_comment (b ∷ bs) ws h =
     let range = digit_from_value b h.0 in ne_eqb b 99 (λ e. omega arith)
 
--- a row that begins with a number is no comment
-pub number_first : (n : ℕ) (ws : Row) → n < 10 ^ 64 → begins_with 99 (decimal n ∷ ws) ≡ false
+-- a line that begins with a number is no comment
+pub number_first : (n : ℕ) (ws : List (List ℕ)) → n < 10 ^ 64
+    → begins_with 99 (decimal n ∷ ws) ≡ false
 number_first n ws small =
     no_comment (decimal n) ws ((decimal_is_IsNumeral_wide n small).0.1)
 
 -- ---- read again
 
-pub integer_again : (line : ℕ) (z : ℤ) → unsigned_abs z < 2 ^ 64
+pub integer_again : (line : ℕ) (z : ℤ) → nat_abs z < 2 ^ 64
     → integer_at (word line (signed_decimal z)) ≡ Ok z
 unfolding integer_at
 integer_again line z small =
     ap (λ (o : Option ℤ). ok_or o (fault kinds.Number line)) (number_again z small)
 
-pub natural_again : (line n : ℕ) → n < 2 ^ 64 → natural_at 0 (word line (decimal n)) ≡ Ok n
+pub natural_again : (least line n : ℕ) → least ≤ n → n < 2 ^ 64
+    → natural_at least (word line (decimal n)) ≡ Ok n
 unfolding natural_at
-natural_again line n small =
-    let least : nat_le 0 n ≡ true = grind (arith, nat_tests) in
-    ap (λ (r : Result ℤ TextFault). r >>= from_least 0 line) (integer_again line (pos n) small)
-    ∙ ap (λ b. cond b (Ok n) (Err (fault kinds.Range line))) least
-
-pub node_again : (nodes line i : ℕ) → i < nodes → nodes < 2 ^ 64
-    → node_at nodes (word line (decimal i)) ≡ Ok i
-unfolding node_at
-node_again nodes line i within small =
-    rw (natural_again line i (omega arith), lt-ltb i nodes within) refl
+natural_again least line n enough small =
+    ap (λ (r : Result ℤ TextFault). r >>= from_least least line) (integer_again line (pos n) small)
+    ∙ ap (λ b. cond b (Ok n) (Err (fault kinds.Range line))) (le-leb least n enough)

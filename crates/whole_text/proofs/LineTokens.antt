@@ -7,7 +7,6 @@ use Rattle.std.proofs.lemmas.List.Splits.{slice_split_at, slice_split_none}
 use Rattle.whole_text.specs.declared.token.Style.TheVariants.{Plain}
 use Rattle.whole_text.specs.Tokens.{Word, word, is_blank, is_feed, is_filled, words, begins_with, is_comment, tokens_of_line, tokens_from}
 use Rattle.whole_text.proofs.Pieces.{plain_line}
-use Rattle.sample_text.specs.Sample.{line}
 
 -- ---- words that stand for themselves
 
@@ -62,7 +61,7 @@ words_joined w ws h = ap (filter is_filled) (split_ink w ws h) ∙ all_kept (w �
 -- ---- the tokens of a line
 
 -- the words of a line, each with the line's number, but none of a comment
-abbrev shown : ℕ → List (List ℕ) → List Word
+abbrev pub shown : ℕ → List (List ℕ) → List Word
 shown n ws = cond (begins_with 99 ws) [] (map (word n) ws)
 
 line_again : (n : ℕ) (w : List ℕ) (ws : List (List ℕ)) → AreInk (w ∷ ws)
@@ -75,11 +74,16 @@ line_again n w ws h other =
 
 -- ---- the lines of a text
 
+-- the text of a line: its words, separated by one space (32) and ended by a line feed (10)
+abbrev line : List (List ℕ) → List ℕ
+line ws = join_with_byte 32 ws ++ 10 ∷ []
+
 -- the tokens of lines that are numbered from n on
 abbrev pub tokens_after : ℕ → List (List (List ℕ)) → List Word
 tokens_after n lines = tokens_from Plain n (slice_split is_feed (flat_map line lines))
 
-line_then : (n : ℕ) (bytes rest : List ℕ) → LacksFeeds bytes
+-- a line, and the bytes after it
+pub line_then : (n : ℕ) (bytes rest : List ℕ) → LacksFeeds bytes
     → tokens_from Plain n (slice_split is_feed ((bytes ++ 10 ∷ []) ++ rest))
     ≡ tokens_of_line Plain n bytes ++ tokens_from Plain (n + 1) (slice_split is_feed rest)
 unfolding tokens_from
@@ -95,17 +99,23 @@ pub no_lines : (n : ℕ) → tokens_after n [] ≡ []
 unfolding tokens_from tokens_of_line is_comment words
 no_lines n = refl
 
-joined_lacks : (w : List ℕ) (ws : List (List ℕ)) → AreInk (w ∷ ws)
+-- words without line feeds are a line without any
+pub joined_lacks : (w : List ℕ) (ws : List (List ℕ)) → AllByRecursion LacksFeeds (w ∷ ws)
     → LacksFeeds (join_with_byte 32 (w ∷ ws))
-joined_lacks w [] h = h.0.feed
+joined_lacks w [] h = h.0
 joined_lacks w (v ∷ vs) h =
     let rest = 32 ∷ join_with_byte 32 (v ∷ vs) in
-    all_append (λ b. is_feed b ≡ false) w rest h.0.feed (refl, joined_lacks v vs h.1)
+    all_append (λ b. is_feed b ≡ false) w rest h.0 (refl, joined_lacks v vs h.1)
+
+ink_lacks : (ws : List (List ℕ)) → AreInk ws → AllByRecursion LacksFeeds ws
+ink_lacks [] h = tt
+ink_lacks (w ∷ ws) h = (h.0.feed, ink_lacks ws h.1)
 
 -- a line of words, and the lines after it
 pub words_then : (n : ℕ) (w : List ℕ) (ws : List (List ℕ)) (lines : List (List (List ℕ)))
     → AreInk (w ∷ ws) → begins_with 99 (w ∷ ws) ≡ false
     → tokens_after n ((w ∷ ws) ∷ lines) ≡ map (word n) (w ∷ ws) ++ tokens_after (n + 1) lines
 words_then n w ws lines h other =
-    line_then n (join_with_byte 32 (w ∷ ws)) (flat_map line lines) (joined_lacks w ws h)
+    line_then n (join_with_byte 32 (w ∷ ws)) (flat_map line lines)
+    (joined_lacks w ws (ink_lacks (w ∷ ws) h))
     ∙ ap (λ (front : List Word). front ++ tokens_after (n + 1) lines) (line_again n w ws h other)
