@@ -37,8 +37,8 @@ parents_unique : (joined : Joins) (chains ps qs : List (List ℕ))
 parents_unique joined chains ps qs p q =
     zip_unique (AreParents joined)
     (λ chain ys zs a b.
-        zip_unique (IsParent joined chain) (λ x y z c d. parent_unique joined chain x y z c d)
-        (drop 1 chain) ys zs a b)
+    zip_unique (IsParent joined chain) (λ x y z c d. parent_unique joined chain x y z c d)
+    (drop 1 chain) ys zs a b)
     chains ps qs p q
 
 -- ---- places
