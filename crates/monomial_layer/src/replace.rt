@@ -4,10 +4,9 @@
 //! settling what is possible, 2005. For a positive one: H. Ishikawa, Transformation of general
 //! binary MRF minimization to the first-order case, 2011.
 ghost use Rattle.std.specs.Prelude.{◌≡◌, ◌+◌, ◌-◌, ◌*◌, ◌<◌, ◌≤◌, ◌^◌, All, IfOk, OnOk, length};
-ghost use Rattle.std.specs.List.{sum_by};
 ghost use Rattle.literal_lists.specs.Literals.{IsLiteralSet};
-ghost use Rattle.term_table.specs.Terms.{with_additions, terms_size, terms_total, IsTermSet};
-ghost use Rattle.term_table.specs.Tables.{with_more, kept_at_once, IsTable};
+ghost use Rattle.term_table.specs.Terms.{terms_total, IsTermSet};
+ghost use Rattle.term_table.specs.Tables.{kept_at_once, table_size, with_more, IsTable};
 ghost use Rattle.monomial_layer.specs.Monomials.{
   each_with,
   image,
@@ -202,7 +201,7 @@ fn add_replaced(
 
 /// The table of what stands for the terms, one after another.
 pub fn quadratic_table(alloc: Global, table: &Table) -> Result<Table, NoMemory>
-    requires size { (table.now.content.width + terms_size table.now.content.terms) * 2 ^ 2 ≤ 2 ^ 32 }
+    requires size { table_size table.now.content * 2 ^ 2 ≤ 2 ^ 32 }
     requires total { (terms_total table.now.content.terms + 1) * 2 ^ 24 ≤ 2 ^ 124 }
     ensures made { IfOk result (λ quadratic. quadratic ≡ kept_at_once (image table.now.content)) }
 

@@ -115,14 +115,14 @@ fn place_term(parts: &mut Parts, literals: &[Literal], coefficient: i128) -> Res
 
 /// What the terms are multiplied out to, each in its place.
 fn parts_of(alloc: Global, table: &LowTable) -> Result<Parts, NoMemory>
-    requires narrow { table.now.width < 2 ^ 32 }
-    requires total { (terms_total table.now.terms + 1) * 2 ^ 2 ≤ 2 ^ 124 }
+    requires narrow { table.now.content.width < 2 ^ 32 }
+    requires total { (terms_total table.now.content.terms + 1) * 2 ^ 2 ≤ 2 ^ 124 }
     ensures placed { IfOk result (λ parts.
-        parts ≡ quad_of table.now.width (contributions table.now.terms)) }
+        parts ≡ quad_of table.now.content.width (contributions table.now.content.terms)) }
 
     // What the laws of the layer rest on.
-    ensures kept { IsTable table.now }
-    ensures low { IsLow table.now }
+    ensures kept { IsTable table.now.content }
+    ensures low { IsLow table.now.content }
 {
     let terms = table.terms();
     let mut parts = Parts::zero(alloc, table.width())?;
@@ -155,7 +155,7 @@ impl Layer for Flatten {
 
     ghost OFFSET_FACTOR = { 0 };
 
-    ghost image = { image };
+    ghost image = { λ t. image t.content };
 
     ghost scale = { λ _. pos 1 };
 
@@ -167,17 +167,17 @@ impl Layer for Flatten {
 
     ghost is_sound = { IsSound };
 
-    ghost fits = { λ link t. Fits link t };
+    ghost fits = { λ link t. Fits link t.content };
 
-    ghost sound = { flat_sound };
+    ghost sound = { λ link t. flat_sound link t.content };
 
-    ghost joins = { flat_joins };
+    ghost joins = { λ link t. flat_joins link t.content };
 
-    ghost keeps = { flat_keeps };
+    ghost keeps = { λ link t. flat_keeps link t.content };
 
-    ghost whole_source = { flat_whole_source };
+    ghost whole_source = { λ t. flat_whole_source t.content };
 
-    ghost whole = { flat_whole };
+    ghost whole = { λ t. flat_whole t.content };
 
     fn lower(&self, alloc: Global, source: &LowTable) -> Result<Lowered<Quad, BitsLink>, NoMemory> {
         let width = source.width();

@@ -15,7 +15,7 @@ ghost use Rattle.std.specs.Prelude.{
 };
 ghost use Rattle.std.specs.List.{filter, AllByRecursion};
 ghost use Rattle.term_table.specs.Terms.{with_additions, terms_total, IsTermSet};
-ghost use Rattle.term_table.specs.Tables.{with_more};
+ghost use Rattle.term_table.specs.Tables.{kept_at_once, with_more};
 ghost use Rattle.rosenberg_layer.specs.Rosenberg.{tie_terms};
 ghost use Rattle.rosenberg_layer.specs.Steps.{is_short};
 ghost use Rattle.rosenberg_layer.specs.Parts.{ties_of};
@@ -48,11 +48,11 @@ fn add_short(
 
 /// Adds the terms of degree 2 or less.
 fn add_low(quadratic: &mut GatheredTerms, table: &Table) -> Result<(), NoMemory>
-    requires wider { table.now.width ≤ quadratic.old.width }
+    requires wider { table.now.content.width ≤ quadratic.old.width }
     requires small { terms_total quadratic.old.terms
-        + terms_total (filter is_short table.now.terms) ≤ 2 ^ 124 }
+        + terms_total (filter is_short table.now.content.terms) ≤ 2 ^ 124 }
     ensures { OnOk result
-        (quadratic.new ≡ with_more quadratic.old (filter is_short table.now.terms)) }
+        (quadratic.new ≡ with_more quadratic.old (filter is_short table.now.content.terms)) }
 {
     for (literals, coefficient) in table.terms() {
         add_short(quadratic, literals, coefficient)?;
@@ -122,19 +122,19 @@ pub fn gathered(
     start: usize,
     width: usize,
 ) -> Result<Table, NoMemory>
-    requires wider { table.now.width ≤ width }
+    requires wider { table.now.content.width ≤ width }
     requires each { length made.now.weights.items ≡ length made.now.pairs.items }
     requires narrow { start + length made.now.pairs.items < 2 ^ 64 }
     requires sets { AllByRecursion (λ t. IsTermSet width t.0)
         (made.now.low.items ++ ties_of start made.now.pairs.items made.now.weights.items) }
-    requires small { terms_total (filter is_short table.now.terms)
+    requires small { terms_total (filter is_short table.now.content.terms)
         + terms_total (made.now.low.items ++ ties_of start made.now.pairs.items made.now.weights.items)
         ≤ 2 ^ 124 }
-    ensures { IfOk result (λ quadratic. quadratic ≡ record {
+    ensures { IfOk result (λ quadratic. quadratic ≡ kept_at_once (record {
       width = width;
-      terms = with_additions [] (filter is_short table.now.terms
+      terms = with_additions [] (filter is_short table.now.content.terms
           ++ (made.now.low.items ++ ties_of start made.now.pairs.items made.now.weights.items));
-    }) }
+    })) }
 {
     let mut quadratic = GatheredTerms::new(alloc, width);
     add_low(&mut quadratic, table)?;

@@ -51,9 +51,10 @@ pub struct LongTerms {
 
 /// The terms of degree 3 or more of a table.
 pub fn long_terms(alloc: Global, table: &Table) -> Result<LongTerms, NoMemory>
-    ensures long { IfOk result (λ long. reverse long.front.items ≡ filter is_long table.now.terms) }
+    ensures long { IfOk result
+        (λ long. reverse long.front.items ≡ filter is_long table.now.content.terms) }
     ensures none { IfOk result (λ long. long.groups.entries ≡ []) }
-    ensures kept { IsTable table.now }
+    ensures kept { IsTable table.now.content }
 {
     let mut front = Vec::new(alloc);
     for (literals, coefficient) in table.terms() {

@@ -1,7 +1,7 @@
 //! The layer that replaces pairs of literals, one after another.
 ghost use Rattle.std.specs.Prelude.{◌≡◌, ◌+◌, ◌*◌, ◌<◌, ◌≤◌, ◌^◌, IfOk, OnOk, fold};
-ghost use Rattle.term_table.specs.Terms.{terms_size, terms_total};
-ghost use Rattle.term_table.specs.Tables.{IsLow, IsTable};
+ghost use Rattle.term_table.specs.Terms.{terms_total};
+ghost use Rattle.term_table.specs.Tables.{kept_at_once, table_size, IsLow, IsTable};
 ghost use Rattle.rosenberg_layer.specs.Rosenberg.{extension, image, with_product};
 
 use crate::gather::gathered;
@@ -22,7 +22,7 @@ pub struct Rosenberg;
 
 /// A table without terms of three literals, as one that is known to have none.
 fn known_low(table: Table) -> LowTable
-    requires { IsLow table }
+    requires { IsLow table.content }
     ensures { result ≡ table }
 {
     match low(table) {
@@ -33,10 +33,10 @@ fn known_low(table: Table) -> LowTable
 
 /// The table at the end of the run.
 fn reduced(alloc: Global, table: &Table) -> Result<Table, NoMemory>
-    requires size { (table.now.width + terms_size table.now.terms) * 2 ^ 2 ≤ 2 ^ 32 }
-    requires total { (terms_total table.now.terms + 1) * 2 ^ 15 ≤ 2 ^ 124 }
-    ensures made { IfOk result (λ quadratic. quadratic ≡ image table.now) }
-    ensures kept { IsTable table.now }
+    requires size { table_size table.now.content * 2 ^ 2 ≤ 2 ^ 32 }
+    requires total { (terms_total table.now.content.terms + 1) * 2 ^ 15 ≤ 2 ^ 124 }
+    ensures made { IfOk result (λ quadratic. quadratic ≡ kept_at_once (image table.now.content)) }
+    ensures kept { IsTable table.now.content }
 {
     let width = table.width();
     let made = run_of(alloc, table, width, excess(table))?;
@@ -62,9 +62,9 @@ fn extended(
     bits: usize,
     x: &[bool],
 ) -> Result<Vec<bool>, NoMemory>
-    requires source { variables ≡ table.now.width }
-    requires target { bits ≡ (image table.now).width }
-    ensures { IfOk result (λ y. y.items ≡ extension x.now table.now) }
+    requires source { variables ≡ table.now.content.width }
+    requires target { bits ≡ (image table.now.content).width }
+    ensures { IfOk result (λ y. y.items ≡ extension x.now table.now.content) }
 {
     let made = run_of(alloc, table, variables, bits - variables)?;
     let mut y = x.to_vec(alloc)?;
@@ -81,6 +81,7 @@ impl Layer for Rosenberg {
 
     ghost use Rattle.std.specs.Prelude.{pos};
     ghost use Rattle.form_steps.specs.Links.{first_bits, HasFirstBits};
+    ghost use Rattle.term_table.specs.Tables.{kept_at_once};
     ghost use Rattle.rosenberg_layer.specs.Rosenberg.{extension, image, Fits};
     ghost use Rattle.rosenberg_layer.specs.laws.Kept.{
       rosen_sound,
@@ -96,29 +97,29 @@ impl Layer for Rosenberg {
 
     ghost OFFSET_FACTOR = { 0 };
 
-    ghost image = { image };
+    ghost image = { λ t. kept_at_once (image t.content) };
 
     ghost scale = { λ _. pos 1 };
 
     ghost offset = { λ _. pos 0 };
 
-    ghost extension = { λ t x. extension x t };
+    ghost extension = { λ t x. extension x t.content };
 
     ghost decoding = { first_bits };
 
     ghost is_sound = { HasFirstBits };
 
-    ghost fits = { λ link t. Fits link t };
+    ghost fits = { λ link t. Fits link t.content };
 
-    ghost sound = { rosen_sound };
+    ghost sound = { λ link t. rosen_sound link t.content };
 
-    ghost joins = { rosen_joins };
+    ghost joins = { λ link t. rosen_joins link t.content };
 
-    ghost keeps = { rosen_keeps };
+    ghost keeps = { λ link t. rosen_keeps link t.content };
 
-    ghost whole_source = { rosen_whole_source };
+    ghost whole_source = { λ t. rosen_whole_source t.content };
 
-    ghost whole = { rosen_whole };
+    ghost whole = { λ t. rosen_whole t.content };
 
     fn lower(
         &self,

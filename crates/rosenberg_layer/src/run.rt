@@ -42,8 +42,8 @@ pub struct Run {
 
 /// The sum of d - 2 over the terms of a degree d of 3 or more.
 pub fn excess(table: &Table) -> usize
-    requires { terms_size table.now.terms ≤ 2 ^ 32 }
-    ensures { result ≡ excess table.now.terms }
+    requires { terms_size table.now.content.terms ≤ 2 ^ 32 }
+    ensures { result ≡ excess table.now.content.terms }
 {
     let mut sum = 0;
     for (literals, _) in table.terms() {
@@ -74,16 +74,16 @@ fn turn(alloc: Global, long: &mut LongTerms, made: &mut Run, width: usize) -> Re
 
 /// What so many substitutions leave of lower degree, and their pairs.
 pub fn run_of(alloc: Global, table: &Table, width: usize, turns: usize) -> Result<Run, NoMemory>
-    requires width { width ≡ table.now.width }
-    requires narrow { (run turns table.now).width < 2 ^ 64 }
-    ensures parts { IfOk result (λ made. AreParts (run turns table.now)
-        (filter is_short table.now.terms
+    requires width { width ≡ table.now.content.width }
+    requires narrow { (run turns table.now.content).width < 2 ^ 64 }
+    ensures parts { IfOk result (λ made. AreParts (run turns table.now.content)
+        (filter is_short table.now.content.terms
         ++ (made.low.items ++ ties_of width made.pairs.items made.weights.items))
-        (filter is_long (run turns table.now).terms) (weights table.now.terms)) }
-    ensures pairs { IfOk result (λ made. made.pairs.items ≡ pairs_of turns table.now) }
+        (filter is_long (run turns table.now.content).terms) (weights table.now.content.terms)) }
+    ensures pairs { IfOk result (λ made. made.pairs.items ≡ pairs_of turns table.now.content) }
     ensures each { IfOk result (λ made. length made.weights.items ≡ length made.pairs.items) }
-    ensures few { IfOk result (λ made. length made.low.items ≤ length table.now.terms) }
-    ensures kept { IsTable table.now }
+    ensures few { IfOk result (λ made. length made.low.items ≤ length table.now.content.terms) }
+    ensures kept { IsTable table.now.content }
 {
     let mut long = long_terms(alloc, table)?;
     let mut made = Run {

@@ -16,7 +16,7 @@ pub place_term-requires-clause-set : goal.place_term-requires-clause-set
 place_term-requires-clause-set c =
     let left = rest_more _ c.loop-literals.literals-iterator c.next.new.self c.next.result (c.in-Some.literals, c.in-Some.coefficient) c.in-Some.is c.next.ensures.steps in
     rw c.loop-literals.invariant.width
-    (All-first (λ (t : Term). IsTermSet c.args.table.now.width t.0) _ _ _ left c.loop-literals.invariant.sets).set
+    (All-first (λ (t : Term). IsTermSet c.args.table.now.content.width t.0) _ _ _ left c.loop-literals.invariant.sets).set
 
 pub place_term-requires-clause-low : goal.place_term-requires-clause-low
 place_term-requires-clause-low c =
@@ -35,8 +35,8 @@ place_term-requires-clause-small c =
 
 pub loop-literals-init : goal.loop-literals-init
 loop-literals-init c =
-    let width = c.args.table.now.width in
-    let ts = c.args.table.now.terms in
+    let width = c.args.table.now.content.width in
+    let ts = c.args.table.now.content.terms in
     let same : c.in_ok-parts.parts ≡ zero_quad width = c.in_ok-parts.ensures ∙ ap zero_quad c.width.ensures in
     let items : c.into_iter-literals-iterator.result ≡ ts = search rules in
     let kept = c.terms-terms.ensures.kept in
@@ -58,7 +58,7 @@ loop-literals-preserved c =
     record {
       whole = placed_more c.loop-literals.parts c.place_term.new.parts ls c.in-Some.coefficient _ c.next.new.self _ left new c.loop-literals.invariant.whole;
       width = width-all c.loop-literals.parts c.place_term.new.parts (plain_terms ls c.in-Some.coefficient) new ∙ c.loop-literals.invariant.width;
-      sets = All-rest (λ (t : Term). IsTermSet c.args.table.now.width t.0) _ _ _ left c.loop-literals.invariant.sets;
+      sets = All-rest (λ (t : Term). IsTermSet c.args.table.now.content.width t.0) _ _ _ left c.loop-literals.invariant.sets;
       low = All-rest (λ (t : Term). length t.0 ≤ 2) _ _ _ left c.loop-literals.invariant.low;
       small = total_more c.loop-literals.parts c.place_term.new.parts ls c.in-Some.coefficient _ c.next.new.self _ left new short c.loop-literals.invariant.small;
     }

@@ -22,7 +22,7 @@ loop-literals-preserved c =
       whole = short_added now next t _ _ _ left added c.loop-literals.invariant.whole;
       width = ap (λ (u : TableContent). u.width) added ∙ c.loop-literals.invariant.width;
       sets =
-          All-rest (λ (u : Term). IsTermSet c.args.table.now.width u.0) _ _ _ left
+          All-rest (λ (u : Term). IsTermSet c.args.table.now.content.width u.0) _ _ _ left
           c.loop-literals.invariant.sets;
       small = short_fit_more now next t _ _ _ left added c.loop-literals.invariant.small;
     }

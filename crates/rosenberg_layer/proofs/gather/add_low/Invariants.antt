@@ -8,8 +8,8 @@ use Rattle.rosenberg_layer.proofs.gather.add_low.Given as goal
 abbrev pub invariant-loop-literals : goal.invariant-loop-literals
 invariant-loop-literals l = record {
   whole : l.quadratic.terms ++ filter is_short l.literals-iterator
-      ≡ l.fn.quadratic.terms ++ filter is_short l.table.terms;
+      ≡ l.fn.quadratic.terms ++ filter is_short l.table.content.terms;
   width : l.quadratic.width ≡ l.fn.quadratic.width;
-  sets : All (λ (t : Term). IsTermSet l.table.width t.0) l.literals-iterator;
+  sets : All (λ (t : Term). IsTermSet l.table.content.width t.0) l.literals-iterator;
   small : terms_total l.quadratic.terms + terms_total (filter is_short l.literals-iterator) ≤ 2 ^ 124;
 }

@@ -6,12 +6,12 @@ use Rattle.rosenberg_layer.proofs.rosenberg.extended.Goals as goal
 
 pub overflow_sub-bits : goal.overflow_sub-bits
 overflow_sub-bits c =
-    let t = c.args.table.now in
+    let t = c.args.table.now.content in
     omega (arith, c.requires.source, c.requires.target, width-run-le (excess t.terms) t)
 
 pub run_of-requires-clause-narrow : goal.run_of-requires-clause-narrow
 run_of-requires-clause-narrow c =
-    let t = c.args.table.now in
+    let t = c.args.table.now.content in
     omega (
       arith,
       c.requires.source,
@@ -22,7 +22,7 @@ run_of-requires-clause-narrow c =
 
 pub returns : goal.returns
 returns c =
-    let t = c.args.table.now in
+    let t = c.args.table.now.content in
     let x : List Bool = c.args.x.now in
     let k = c.args.bits - c.args.variables in
     let number : (image t).width ≡ t.width + k =

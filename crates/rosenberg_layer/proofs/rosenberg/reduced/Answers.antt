@@ -1,7 +1,8 @@
-use Rattle.std.proofs.Common.{◌≡◌, ◌++◌, arith, ap, length, List}
+use Rattle.std.proofs.Common.{◌≡◌, ◌++◌, arith, ap, length, List, ◌∙◌, refl}
 use Rattle.std.specs.List.{filter}
 use Rattle.std.proofs.lemmas.Result.{IfOk-weaker}
 use Rattle.term_table.specs.Terms.{Term}
+use Rattle.term_table.specs.Tables.{kept_at_once}
 use Rattle.rosenberg_layer.specs.Rosenberg.{is_long, pairs_of, run}
 use Rattle.rosenberg_layer.specs.Steps.{is_short}
 use Rattle.rosenberg_layer.specs.Parts.{ties_of, weights}
@@ -11,7 +12,7 @@ use Rattle.rosenberg_layer.proofs.rosenberg.reduced.Goals as goal
 
 pub run_of-requires-clause-narrow : goal.run_of-requires-clause-narrow
 run_of-requires-clause-narrow c =
-    let t = c.args.table.now in
+    let t = c.args.table.now.content in
     omega (
       arith,
       width-le c.excess.result t,
@@ -22,7 +23,7 @@ run_of-requires-clause-narrow c =
 
 pub gathered-requires-clause-narrow : goal.gathered-requires-clause-narrow
 gathered-requires-clause-narrow c =
-    let t = c.args.table.now in
+    let t = c.args.table.now.content in
     omega (
       arith,
       width-pairs c.excess.result t,
@@ -36,7 +37,7 @@ gathered-requires-clause-narrow c =
 
 pub gathered-requires-clause-sets : goal.gathered-requires-clause-sets
 gathered-requires-clause-sets c =
-    let t = c.args.table.now in
+    let t = c.args.table.now.content in
     let made = c.in_ok-made.made in
     let adds : List Term =
     made.low.items ++ ties_of c.width-width.result made.pairs.items made.weights.items in
@@ -49,7 +50,7 @@ gathered-requires-clause-sets c =
 
 pub gathered-requires-clause-small : goal.gathered-requires-clause-small
 gathered-requires-clause-small c =
-    let t = c.args.table.now in
+    let t = c.args.table.now.content in
     let made = c.in_ok-made.made in
     let adds : List Term =
     made.low.items ++ ties_of c.width-width.result made.pairs.items made.weights.items in
@@ -58,7 +59,7 @@ gathered-requires-clause-small c =
 
 pub returns-clause-made : goal.returns-clause-made
 returns-clause-made c =
-    let t = c.args.table.now in
+    let t = c.args.table.now.content in
     let made = c.in_ok-made.made in
     let adds : List Term =
     made.low.items ++ ties_of c.width-width.result made.pairs.items made.weights.items in
@@ -67,8 +68,10 @@ returns-clause-made c =
     omega (arith, c.len.ensures, ap length c.in_ok-made.ensures.pairs) in
     IfOk-weaker c.gathered.result _ _
     (λ quadratic new.
-    made-image t quadratic (base ++ adds) (filter is_long (run c.excess.result t).terms)
+    new
+    ∙ ap kept_at_once
+    (made-image t _ (base ++ adds) (filter is_long (run c.excess.result t).terms)
     c.width-width.result c.excess.result c.len.result (weights t.terms)
     c.in_ok-made.ensures.kept.terms c.excess.ensures c.width-width.ensures count
-    c.in_ok-made.ensures.parts new)
+    c.in_ok-made.ensures.parts refl))
     c.gathered.ensures

@@ -13,6 +13,6 @@ overflow_add-sum c =
     omega (
       arith,
       c.saturating_sub-sum.ensures,
-      excess_fits c.loop-literals.sum (2 ^ 32) t _ _ c.args.table.now.terms left
+      excess_fits c.loop-literals.sum (2 ^ 32) t _ _ c.args.table.now.content.terms left
           c.loop-literals.invariant c.requires,
     )

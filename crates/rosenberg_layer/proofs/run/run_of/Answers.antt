@@ -12,7 +12,7 @@ use Rattle.rosenberg_layer.proofs.run.run_of.Goals as goal
 
 pub loop-done-init : goal.loop-done-init
 loop-done-init c =
-    let t = c.args.table.now in
+    let t = c.args.table.now.content in
     let base = filter is_short t.terms in
     let long = c.in_ok-long.long in
     let front : List Term = reverse long.front.items in
@@ -40,7 +40,7 @@ loop-done-init c =
 
 pub turn-requires-clause-narrow : goal.turn-requires-clause-narrow
 turn-requires-clause-narrow c =
-    let t = c.args.table.now in
+    let t = c.args.table.now.content in
     let k = c.loop-done._done in
     omega (
       arith,
@@ -56,13 +56,13 @@ turn-requires-clause-kept c = c.loop-done.invariant.kept
 
 pub turn-requires-clause-small : goal.turn-requires-clause-small
 turn-requires-clause-small c =
-    let t = c.args.table.now in
+    let t = c.args.table.now.content in
     held-small (run c.loop-done._done t) _ (all_terms c.loop-done.long) (weights t.terms)
     c.loop-done.invariant.run.held
 
 pub loop-done-preserved : goal.loop-done-preserved
 loop-done-preserved c =
-    let t = c.args.table.now in
+    let t = c.args.table.now.content in
     let k = c.loop-done._done in
     let so_far = c.loop-done.invariant.run in
     let n = c.args.width + length c.loop-done.made.pairs.items in

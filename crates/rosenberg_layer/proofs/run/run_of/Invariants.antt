@@ -10,8 +10,8 @@ use Rattle.rosenberg_layer.proofs.run.run_of.Given as goal
 -- moves
 abbrev pub invariant-loop-done : goal.invariant-loop-done
 invariant-loop-done l = record {
-  run : IsRun l.table l._done l.width (filter is_short l.table.terms) l.made.low.items
-      (all_terms l.long) l.made.pairs.items l.made.weights.items (weights l.table.terms);
+  run : IsRun l.table.content l._done l.width (filter is_short l.table.content.terms) l.made.low.items
+      (all_terms l.long) l.made.pairs.items l.made.weights.items (weights l.table.content.terms);
   kept : AreGrouped l.long;
-  few : length l.made.low.items + length (all_terms l.long) ≤ length l.table.terms;
+  few : length l.made.low.items + length (all_terms l.long) ≤ length l.table.content.terms;
 }

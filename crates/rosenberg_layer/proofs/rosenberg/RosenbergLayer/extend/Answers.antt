@@ -10,7 +10,7 @@ use Rattle.rosenberg_layer.proofs.rosenberg.RosenbergLayer.extend.Goals as goal
 
 pub returns-clause-reaches : goal.returns-clause-reaches
 returns-clause-reaches c =
-    let t = c.args.source.now in
+    let t = c.args.source.now.content in
     let x = c.args.x.now in
     let reaches = rosen_reaches c.args.link.now t x c.requires.fits c.requires.width in
     IfOk-weaker c.extended.result _ _

@@ -4,7 +4,7 @@ use Rattle.form_steps.specs.declared.layer.BitsLink.{BitsLink}
 use Rattle.form_steps.specs.Links.{first_bits}
 use Rattle.form_steps.specs.Relations.{Keeps}
 use Rattle.term_table.specs.Terms.{terms_total}
-use Rattle.term_table.specs.Tables.{TableContent, IsLow, form_of, table_size}
+use Rattle.term_table.specs.Tables.{KeptTable, IsLow, form_of, table_size}
 use Rattle.rosenberg_layer.specs.Rosenberg.{Fits}
 use Rattle.rosenberg_layer.specs.laws.Kept.{rosen_keeps}
 use Rattle.rosenberg_layer.proofs.Ends.{IsLow-image, nodes-few}
@@ -14,8 +14,8 @@ use Rattle.rosenberg_layer.proofs.rosenberg.RosenbergLayer.lower.Goals as goal
 
 pub width-requires-2 : goal.width-requires-2
 width-requires-2 c =
-    let t = c.args.source.now in
-    let width = ap (λ (u : TableContent). u.width) c.in_ok-target.ensures.made in
+    let t = c.args.source.now.content in
+    let width = ap (λ (u : KeptTable). u.content.width) c.in_ok-target.ensures.made in
     omega (
       arith,
       width,
@@ -26,32 +26,32 @@ width-requires-2 c =
 
 pub known_low-requires : goal.known_low-requires
 known_low-requires c =
-    subst IsLow (sym c.in_ok-target.ensures.made)
-    (IsLow-image c.args.source.now c.in_ok-target.ensures.kept.terms)
+    subst (λ (u : KeptTable). IsLow u.content) (sym c.in_ok-target.ensures.made)
+    (IsLow-image c.args.source.now.content c.in_ok-target.ensures.kept.terms)
 
 pub returns-clause-keeps : goal.returns-clause-keeps
 returns-clause-keeps c =
-    let t = c.args.source.now in
+    let t = c.args.source.now.content in
     let link : BitsLink = record { source_width = c.width.result; target_width = c.width-2.result } in
     let made = c.in_ok-target.ensures.made in
     let fits : Fits link t = record {
       source = c.width.ensures;
-      target = c.width-2.ensures ∙ ap (λ (u : TableContent). u.width) made;
+      target = c.width-2.ensures ∙ ap (λ (u : KeptTable). u.content.width) made;
       table = c.in_ok-target.ensures.kept;
     } in
-    subst (λ u. Keeps (form_of t) (form_of u) (first_bits link) (pos 1) (pos 0))
+    subst (λ (u : KeptTable). Keeps (form_of t) (form_of u.content) (first_bits link) (pos 1) (pos 0))
     (sym (c.known_low.ensures ∙ made)) (rosen_keeps link t fits)
 
 pub returns-clause-total : goal.returns-clause-total
 returns-clause-total c =
-    let t = c.args.source.now in
+    let t = c.args.source.now.content in
     let same =
-    ap (λ (u : TableContent). terms_total u.terms)
+    ap (λ (u : KeptTable). terms_total u.content.terms)
     (c.known_low.ensures ∙ c.in_ok-target.ensures.made) in
     omega (arith, same, total-image t c.in_ok-target.ensures.kept.terms)
 
 pub returns-clause-size : goal.returns-clause-size
 returns-clause-size c =
-    let t = c.args.source.now in
-    let same = ap table_size (c.known_low.ensures ∙ c.in_ok-target.ensures.made) in
+    let t = c.args.source.now.content in
+    let same = ap (λ (u : KeptTable). table_size u.content) (c.known_low.ensures ∙ c.in_ok-target.ensures.made) in
     omega (arith, same, size-image t c.in_ok-target.ensures.kept.terms)
