@@ -16,7 +16,7 @@ from models import arguments, command, load, written
 
 
 class Walk:
-    """A state over bits, and for each bit what the others add to its weight."""
+    """A state over bits, what the others add to the weight of each bit, and the best state met."""
 
     def __init__(self, nodes, bits):
         self.pairs = [[] for _ in range(nodes)]
@@ -25,28 +25,53 @@ class Walk:
             if i != j:
                 self.pairs[i].append((j, weight))
                 self.pairs[j].append((i, weight))
+        self.best, self.least = [0] * nodes, 0
 
     def begin(self, state):
-        """Sets a state."""
+        """Sets a state, and its energy less that of all bits 0."""
         self.state = state
         self.field = [single + sum(weight for j, weight in pairs if state[j])
                       for single, pairs in zip(self.single, self.pairs)]
+        self.energy = sum(single + field for bit, single, field
+                          in zip(state, self.single, self.field) if bit) // 2
 
     def flip(self, node):
-        """Turns a bit, and tells what energy that takes."""
-        sign = 1 - 2 * self.state[node]
+        """Turns a bit."""
+        sign = -1 if self.state[node] else 1
+        self.energy += sign * self.field[node]
         self.state[node] ^= 1
+        field = self.field
         for j, weight in self.pairs[node]:
-            self.field[j] += sign * weight
-        return sign * self.field[node]
+            field[j] += sign * weight
 
-    def energy(self):
-        """The energy of the state, less that of all bits 0."""
-        return sum(single + field for bit, single, field
-                   in zip(self.state, self.single, self.field) if bit) // 2
+    def keep(self):
+        """Keeps the state where it is the best so far."""
+        if self.energy < self.least:
+            self.best, self.least = self.state[:], self.energy
+
+    def sweep(self, nodes, heat):
+        """Offers each node its other bit; rises of more than 40 heats are as good as never made."""
+        state, field, never = self.state, self.field, 40 * heat
+        for node in nodes:
+            rise = -field[node] if state[node] else field[node]
+            if rise <= 0 or rise < never and random.random() < math.exp(-rise / heat):
+                self.flip(node)
+                self.keep()
+
+    def sweep_chains(self, chains, heat):
+        """Offers each chain the other bit for all its qubits."""
+        for chain in chains:
+            before = self.energy
+            for node in chain:
+                self.flip(node)
+            rise = self.energy - before
+            if rise > 0 and random.random() >= math.exp(-rise / heat):
+                for node in chain:
+                    self.flip(node)
+            self.keep()
 
     def reach(self):
-        """The greatest energy that one bit may take, and the least of a weight."""
+        """The greatest energy that one bit may take, and the least size of a weight."""
         sizes = [abs(weight) for pairs in self.pairs for _, weight in pairs if weight]
         sizes += [abs(weight) for weight in self.single if weight]
         most = max((abs(single) + sum(abs(weight) for _, weight in pairs)
@@ -55,53 +80,32 @@ class Walk:
 
 
 def temperatures(walk, sweeps):
-    """From one where each move is common to one where each rise is rare, by equal factors."""
+    """From a tenth of the greatest rise down to where the least one is rare, by equal factors."""
     most, least = walk.reach()
-    hot, cold = most / math.log(2), least / math.log(100)
+    hot, cold = most / 10, least / math.log(100)
     return [hot * (cold / hot) ** (at / max(sweeps - 1, 1)) for at in range(sweeps)]
 
 
-def rise_of(walk, move):
-    """What energy a move takes; one of several bits is made for that."""
-    if len(move) == 1:
-        return (1 - 2 * walk.state[move[0]]) * walk.field[move[0]]
-    return sum([walk.flip(node) for node in move])
-
-
-def offer(walk, move, heat):
-    """Makes a move or leaves it, and tells what energy that takes."""
-    rise = rise_of(walk, move)
-    taken = rise <= 0 or random.random() < math.exp(-rise / heat)
-    if taken == (len(move) == 1):
-        for node in move:
-            walk.flip(node)
-    return rise if taken else 0
-
-
-def begin_anywhere(walk, nodes):
-    """Sets a random state, the nodes without weights being 0."""
-    state = [0] * len(walk.single)
+def random_state(count, nodes):
+    """Random bits of nodes, and 0 for all others."""
+    state = [0] * count
     for node in nodes:
         state[node] = int(random.random() < 0.5)
-    walk.begin(state)
+    return state
 
 
 def anneal(model, reads, sweeps):
     """The best state that any read meets."""
     walk = Walk(model.nodes, model.over_bits()[1])
-    moves = [[node] for node in model.used()]
-    moves += [chain for chain in model.chains or () if len(chain) > 1]
+    nodes = model.used()
+    chains = [chain for chain in model.chains or () if len(chain) > 1]
     heats = temperatures(walk, sweeps)
-    best, least = [0] * model.nodes, 0
     for _ in range(reads):
-        begin_anywhere(walk, model.used())
-        energy = walk.energy()
+        walk.begin(random_state(model.nodes, nodes))
         for heat in heats:
-            for move in moves:
-                energy += offer(walk, move, heat)
-                if energy < least:
-                    best, least = walk.state[:], energy
-    return best
+            walk.sweep(nodes, heat)
+            walk.sweep_chains(chains, heat)
+    return walk.best
 
 
 def main():

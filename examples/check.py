@@ -3,15 +3,15 @@
 
     check.py PROGRAM [DOCUMENT ..]
 
-A block ```sh holds commands. They are run by `sh -e` at the top of a scratch tree, which has links to
-all that the repository has but no build/, and with PROGRAM on the PATH as compile_program; they have
-to end with 0, and to leave files in build/ alone. A block ```output behind it says what they write
-to both outputs; a line `...` there stands for any lines. Blocks of other words are not run. A block
-that calls rt, or a tool that is not there, is skipped with a line that says so, and so is one that
-needs a file of such a block.
+A block ```sh holds commands. They are run by `sh -e` at the top of a scratch tree, one for each
+document, which has links to all that the repository has but no build/, and with PROGRAM on the PATH
+as compile_program. They have to end with 0, and to leave files in build/ alone. A block ```output
+behind it says what they write to both outputs; a line `...` there stands for any lines. Blocks of
+other words are not run. A block that calls rt, or a tool that is not there, is skipped with a line
+that says so, and so is one that needs a file of such a block.
 
-Each relative link of each document, *.md in any folder, has to lead to a file, and to a heading of it
-where it names one. The status is 0 where all holds.
+Each relative link of each document, *.md in any folder, has to lead to a file, and to a heading of
+it where it names one. The status is 0 where all holds.
 """
 import difflib
 import os
@@ -33,7 +33,7 @@ LEFT_OUT = {'.git', 'build', 'out', 'target'}
 
 
 class Step:
-    """The commands of a block, the line of the document they stand on, and what they are to write."""
+    """The commands of a block, the line of its document, and what they are to write."""
 
     def __init__(self, line, commands):
         self.line, self.commands, self.output = line, commands, None
@@ -79,7 +79,9 @@ def scratch(top, program):
             (top / 'tree' / entry.name).symlink_to(entry)
     (top / 'bin' / 'compile_program').symlink_to(program)
     path = f"{top / 'bin'}{os.pathsep}{os.environ.get('PATH', os.defpath)}"
-    return {**os.environ, 'PATH': path, 'PYTHONDONTWRITEBYTECODE': '1', 'LC_ALL': 'C.UTF-8'}
+    env = {**os.environ, 'PATH': path, 'PYTHONDONTWRITEBYTECODE': '1', 'LC_ALL': 'C.UTF-8'}
+    env.pop('PYTHONUNBUFFERED', None)
+    return env
 
 
 def missing_tool(step, env):

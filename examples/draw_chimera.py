@@ -5,14 +5,14 @@
 
 Without MODEL the standard input is drawn. Each chain has a colour. Thick lines are the ties of a
 chain, black ones the couplings between chains, and thin grey ones the joins of the graph that the
-model leaves alone. With a state the qubits of bit 0 are hollow, and a broken chain is named so; with
-a list of dead parts these are crossed out.
+model leaves alone. With a state the qubits of bit 0 are hollow, and a broken chain is named so;
+with a list of dead parts these are crossed out.
 
-The qubit `at` of a side of a cell has the number ((row * cols + col) * 2 + side) * shore + at. Side 0
-lies across its cell here, and is joined to the cells above and below; side 1 stands in it, and is
+The qubit `at` of a side of a cell has the number ((row * cols + col) * 2 + side) * shore + at. Side
+0 lies across its cell here, and is joined to the cells above and below; side 1 stands in it, and is
 joined to the cells to the left and right.
 """
-from models import arguments, command, load, read_lines, read_state, tokens_of, whole
+from models import arguments, called, command, load, read_lines, read_state, tokens_of, whole
 
 COLOURS = ['#0072b2', '#e69f00', '#009e73', '#cc79a7', '#d55e00', '#56b4e9', '#8c6d31', '#6a51a3']
 PITCH, RADIUS, MARGIN = 190, 13, 30
@@ -150,7 +150,7 @@ def main():
     words = arguments(__doc__, 'MODEL?', state='', dead='')
     model = load(words.MODEL)
     if model.shape is None:
-        raise ValueError(f'{words.MODEL}: this is no model on a Chimera graph')
+        raise ValueError(f'{called(words.MODEL)}: this is no model on a Chimera graph')
     state = read_state(words.state, model.nodes) if words.state else None
     dead = dead_parts(words.dead, model.nodes) if words.dead else []
     for text in Picture(model, state, dead).lines():

@@ -3,15 +3,15 @@
 
     judge.py FORMAT FILE MODEL STATE [key=value ..]
 
-FILE is the problem, MODEL what `compile` made of it, and STATE a file with a state of MODEL. The keys
-are those that `decode` is to be called with: compile_program, on the PATH, is asked for the front of
-the model that FILE has with them, and where that is another one than MODEL's, `decode` would read
-the state wrong. The status is 0 where the keys are the model's and all that is hard is kept, else 1.
+FILE is the problem, MODEL what `compile` made of it, and STATE a file with a state of MODEL. The
+keys are those that `decode` is to be called with: compile_program, on the PATH, is asked for the
+front of the model that FILE has with them, and where that is another one than MODEL's, `decode`
+would speak of another model. The status is 0 where the keys are the model's and the cost is finite,
+and else 1.
 """
 import argparse
 import shutil
 import subprocess
-import sys
 
 from models import command, load, read_lines, read_state, written
 from sources import read_source
@@ -52,10 +52,10 @@ def judge_keys(words, model):
     wanted = front(read_lines(words.MODEL))
     made = front_by_program(words.FORMAT, words.FILE, model.kind, words.KEY)
     if made == wanted:
-        print('keys as the model\'s')
+        print("keys as the model's")
         return True
     at = next((n for n, pair in enumerate(zip(made, wanted)) if pair[0] != pair[1]), -1)
-    print(f'keys of another model, or another file: it has `{made[at]}`, and {words.MODEL} has '
+    print(f"keys not the model's: with them {words.FILE} has `{made[at]}`, and {words.MODEL} "
           f'`{wanted[at]}`')
     return False
 
@@ -128,7 +128,6 @@ def main():
     places = 'nodes' if model.chains is None else 'qubits'
     print(f'model {model.kind} of {model.nodes} {places}, {model.precision()}')
     same = judge_keys(words, model)
-    sys.stdout.flush()
     judge_energy(model, state)
     finite = judge_assignment(source, model, state)
     return 0 if finite and same is not False else 1

@@ -56,7 +56,7 @@ class Model:
         return sum(w * spin[i] * (1 if i == j else spin[j]) for (i, j), w in self.weights.items())
 
     def above(self, energy):
-        """Whether an energy lies above the threshold, which no least state of a feasible file does."""
+        """Whether an energy lies above the threshold, as no least one of a feasible file does."""
         return self.threshold is not None and self.unit * energy > self.threshold
 
     def cost(self, energy):
@@ -64,7 +64,7 @@ class Model:
         return (self.unit * energy - self.offset) // self.scale
 
     def assignment(self, state):
-        """The bits of the variables: of a chain the bit of most qubits, on a tie that of its first."""
+        """The bits of the variables: of a chain that of most qubits, on a tie its first one's."""
         if self.chains is None:
             return list(state[:self.variables])
         return [majority([state[q] for q in chain]) for chain in self.chains[:self.variables]]
@@ -190,11 +190,18 @@ def parse(lines):
 
 
 def read_lines(name):
-    """The lines of a file; `-` is the standard input."""
+    """The lines of a file, which line feeds end; `-` is the standard input."""
     if name == '-':
-        return sys.stdin.read().splitlines()
-    with open(name, encoding='utf-8', errors='replace') as file:
-        return file.read().splitlines()
+        text = sys.stdin.buffer.read()
+    else:
+        with open(name, 'rb') as file:
+            text = file.read()
+    return text.decode('utf-8', 'replace').split('\n')
+
+
+def called(name):
+    """What a file is called in a fault."""
+    return 'the standard input' if name == '-' else name
 
 
 def load(name):
@@ -202,7 +209,7 @@ def load(name):
     try:
         return parse(read_lines(name))
     except ValueError as fault:
-        raise ValueError(f'{name}: {fault}') from None
+        raise ValueError(f'{called(name)}: {fault}') from None
 
 
 def read_state(name, count):
@@ -234,6 +241,12 @@ def arguments(doc, *names, **options):
     return parser.parse_args()
 
 
+def note(text):
+    """Writes a line to the error output, behind what was written to the other."""
+    sys.stdout.flush()
+    print(text, file=sys.stderr)
+
+
 def command(main):
     """Runs a command; a fault is one line on the error output, and the status 2."""
     try:
@@ -245,7 +258,7 @@ def command(main):
         sys.exit(2)
     except (ValueError, OSError) as fault:
         named = isinstance(fault, OSError) and fault.filename
-        print(f'cannot read {fault.filename}' if named else fault, file=sys.stderr)
+        note(f'cannot read {fault.filename}' if named else fault)
         sys.exit(2)
 
 

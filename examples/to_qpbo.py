@@ -6,12 +6,10 @@
 
 Variables are the model's nodes, or the qubits of a Chimera graph that have weights, in their order,
 numbered from 1. An Ising model is written over bits, so a value 1 is the spin +1. The format counts
-each pair twice, so its weight is halved; what toulbar2 calls the cost is the energy, less a constant
-for an Ising model.
+each pair twice, so its weight is halved. What toulbar2 calls the optimum is the energy, less a
+constant for an Ising model.
 """
-import sys
-
-from models import arguments, command, load
+from models import DOUBLES, arguments, command, load, note
 
 ROOM = 10 ** 18
 
@@ -32,9 +30,11 @@ def main():
     for (i, j), weight in rows:
         print(place[i], place[j], weight if i == j else half(weight))
     if constant:
-        print('energy = cost', '+-'[constant < 0], abs(constant), file=sys.stderr)
+        note(f"energy = optimum {'+-'[constant < 0]} {abs(constant)}")
     if sum(abs(weight) for _, weight in rows) * 10 ** 7 > ROOM:
-        print('the weights are wide: call toulbar2 with -precision=1', file=sys.stderr)
+        note('the weights are wide: call toulbar2 with -precision=1')
+    if model.total() > DOUBLES:
+        note(model.precision())
 
 
 if __name__ == '__main__':

@@ -6,26 +6,26 @@
 ANSWER is a file, or the standard input. Read are, also many of them and other lines between:
 
     {0: 1, 1: 0}  {"0": -1, "1": 1}    samples as a dict, of Python or as JSON; Sample(..) of dimod
-    [0, 1, 1]  [-1  1  1]              samples as a list or an array
+    [0, 1, 1]  [-1  1  1]  [0. 1. 1.]  samples as a list or an array
     0110  0 1 1 0  +--+  -1 1 1 -1     lines of bits or spins: of qbsolv, toulbar2 and anneal.py
     state 0110                         of least_state.py, and of compile_program
     tables of dimod and neal           their first line names the nodes: print(sampleset)
     v 1 -2 3 0    v 101    v x1 -x2    assignments: of a MaxSAT or pseudo-Boolean solver
 
-1 and + are the bit 1, the spin +1. A line may have a value for each node, or for each qubit that has
-weights, in their order. What a sample or an assignment does not name is given the bits of the least
-energy. The energy of the line that is written goes to the error output.
+1 and + are the bit 1, the spin +1. A line may have a value for each node, or for each qubit that
+has weights, in their order. What a sample or an assignment does not name is given the bits of the
+least energy. The energy of the line that is written goes to the error output.
 """
 import re
-import sys
 from collections import defaultdict
 
 from least_state import MOST, least
-from models import arguments, command, load, read_lines, written
+from models import arguments, called, command, load, note, read_lines, written
 
-PAIR = re.compile(r'''["']?(\d+)["']?\s*:\s*(?:[\w.]+\()?([+-]?\d+)(?![\d.])''')
-VALUES = {'0': 0, '1': 1, '+1': 1, '-1': 0, '+': 1, '-': 0}
-LITERAL = re.compile(r'(-?)x?(\d+)')
+PAIR = re.compile(r"""(?<![\w.])["']?(\d+)["']?\s*:\s*(?:[\w.]+\()?([^\s,)]+)""")
+VALUES = {'0': 0, '1': 1, '+1': 1, '-1': 0, '+': 1, '-': 0,
+          '0.': 0, '1.': 1, '-1.': 0, '0.0': 0, '1.0': 1, '-1.0': 0}
+LITERAL = re.compile(r'([-~]?)x?(\d+)')
 
 
 def bits_of(words):
@@ -48,7 +48,7 @@ def dicts(text):
 def lists(text):
     """The samples in brackets."""
     for inside in re.findall(r'\[([^\[\]]*)\]', text):
-        bits = bits_of(re.sub(r'[\w.]+\(([+-]?\d+)\)|,', r' \1 ', inside).split())
+        bits = bits_of(re.sub(r'[\w.]+\(([-+\d.]+)\)|,', r' \1 ', inside).split())
         if bits is not None:
             yield bits
 
@@ -90,11 +90,12 @@ def assignments(lines, variables):
         if len(value) == 1 and len(value[0]) == variables and set(value[0]) <= set('01'):
             yield dict(enumerate(map(int, value[0])))
             continue
-        for sign, index in LITERAL.findall(' '.join(value)):
-            if int(index) > variables:
-                raise ValueError(f'variable {index}, and the model has {variables}')
-            if index != '0':
-                known[int(index) - 1] = int(not sign)
+        for word in value:
+            literal = LITERAL.fullmatch(word)
+            if not literal or int(literal[2]) > variables:
+                raise ValueError(f'{word} is no literal of {variables} variables')
+            if literal[2] != '0':
+                known[int(literal[2]) - 1] = int(not literal[1])
         if known and (not value or value[-1] == '0'):
             yield known
             known = {}
@@ -185,14 +186,15 @@ def main():
     model = load(words.MODEL)
     found = list(samples(model, read_lines(words.ANSWER)))
     if not found:
-        raise ValueError(f'{words.ANSWER}: no state of {model.nodes} bits, no sample and no v line')
+        raise ValueError(f'{called(words.ANSWER)}: no state of {model.nodes} bits, no sample and '
+                         'no v line')
     bits = model.over_bits()[1]
     states = [filled(model, bits, known) for known in found]
     energies = [model.energy(state) for state in states]
     best = energies.index(min(energies))
     print(written(states[best]))
     of_many = f', the least of {len(states)} states' if len(states) > 1 else ''
-    print(f'energy {energies[best]}{of_many}', file=sys.stderr)
+    note(f'energy {energies[best]}{of_many}')
 
 
 if __name__ == '__main__':
