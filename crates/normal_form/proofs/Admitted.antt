@@ -8,7 +8,7 @@ use Rattle.form_steps.specs.Relations.{Relaxes}
 use Rattle.problem_form.specs.Problems.{ProblemContent}
 use Rattle.problem_form.specs.Problems as problems
 use Rattle.term_table.specs.Terms.{Term, terms_total}
-use Rattle.term_table.specs.Tables.{TableContent, table_size}
+use Rattle.term_table.specs.Tables.{KeptTable, kept_at_once, table_size}
 use Rattle.term_table.specs.Tables as tables
 use Rattle.term_table.specs.MultipliedOut.{complements, contributions}
 use Rattle.term_table.proofs.Additions.{terms_total-with_additions}
@@ -22,37 +22,39 @@ use Rattle.normal_form.proofs.Complements.{few-contributions}
 use Rattle.normal_form.proofs.Sizes.{size_within}
 
 -- the penalty method's table has few complements
-pub few-image : (p : ProblemContent) (t : TableContent) → Admits p → t ≡ penalty.image p
-    → All (λ (u : Term). complements u.0 ≤ 8) t.terms
+pub few-image : (p : ProblemContent) (t : KeptTable) → Admits p
+    → t ≡ kept_at_once (penalty.image p) → All (λ (u : Term). complements u.0 ≤ 8) t.content.terms
 few-image p t admitted made =
-    subst (λ (s : TableContent). All (λ (u : Term). complements u.0 ≤ 8) s.terms) (sym made)
+    subst (λ (s : KeptTable). All (λ (u : Term). complements u.0 ≤ 8) s.content.terms) (sym made)
     (All-with_additions (λ ls. complements ls ≤ 8) (penalty.contributions p)
     (All-from_recursion _ (penalty.contributions p)
     (few-contributions p (within_limits p admitted.within).negations)))
 
 -- multiplied out it is at most 256 times as great
-pub total-expanded : (t made : TableContent) → All (λ (u : Term). complements u.0 ≤ 8) t.terms
-    → terms_total t.terms + 1 ≤ 2 ^ 64 → made ≡ expanded t → terms_total made.terms + 1 ≤ 2 ^ 72
+pub total-expanded : (t made : KeptTable)
+    → All (λ (u : Term). complements u.0 ≤ 8) t.content.terms
+    → terms_total t.content.terms + 1 ≤ 2 ^ 64 → made ≡ kept_at_once (expanded t.content)
+    → terms_total made.content.terms + 1 ≤ 2 ^ 72
 total-expanded t made few small same =
     omega (
       arith,
       small,
-      ap (λ (s : TableContent). terms_total s.terms) same,
-      terms_total-with_additions (contributions t.terms),
-      contributions-grow 8 t.terms (recursion_from_All (λ (u : Term). complements u.0 ≤ 8) t.terms few),
+      ap (λ (s : KeptTable). terms_total s.content.terms) same,
+      terms_total-with_additions (contributions t.content.terms),
+      contributions-grow 8 t.content.terms (recursion_from_All (λ (u : Term). complements u.0 ≤ 8) t.content.terms few),
     )
 
 -- what is equal to the image relaxes the problem, with figures that are equal to the guard's
-pub relaxes-made : (link : BitsLink) (p : ProblemContent) (made : TableContent) (n : Figures)
-    → penalty.Fits link p → made ≡ image p → n ≡ penalty.figures p
-    → Relaxes (problems.form_of p) (tables.form_of made) (first_bits link) (pos 1) n
+pub relaxes-made : (link : BitsLink) (p : ProblemContent) (made : KeptTable) (n : Figures)
+    → penalty.Fits link p → made ≡ kept_at_once (image p) → n ≡ penalty.figures p
+    → Relaxes (problems.form_of p) (tables.form_of made.content) (first_bits link) (pos 1) n
 relaxes-made link p made n fits same figures =
-    let Q : TableContent → Figures → Type 0 =
-    λ t m. Relaxes (problems.form_of p) (tables.form_of t) (first_bits link) (pos 1) m in
+    let Q : KeptTable → Figures → Type 0 =
+    λ t m. Relaxes (problems.form_of p) (tables.form_of t.content) (first_bits link) (pos 1) m in
     subst (λ t. Q t n) (sym same)
-    (subst (λ m. Q (image p) m) (sym figures) (multilinear_relaxes link p fits))
+    (subst (λ m. Q (kept_at_once (image p)) m) (sym figures) (multilinear_relaxes link p fits))
 
-pub size-made : (p : ProblemContent) (made : TableContent) → Admits p → made ≡ image p
-    → table_size made ≤ 2 ^ 26
+pub size-made : (p : ProblemContent) (made : KeptTable) → Admits p
+    → made ≡ kept_at_once (image p) → table_size made.content ≤ 2 ^ 26
 size-made p made admitted same =
-    subst (λ t. table_size t ≤ 2 ^ 26) (sym same) (size_within p admitted.within)
+    subst (λ (t : KeptTable). table_size t.content ≤ 2 ^ 26) (sym same) (size_within p admitted.within)

@@ -1,6 +1,7 @@
 //! The penalty method's table in multilinear form.
 ghost use Rattle.std.specs.Prelude.{◌^◌};
 ghost use Rattle.form_steps.specs.Links.{first_bits, HasFirstBits};
+ghost use Rattle.term_table.specs.Tables.{kept_at_once};
 ghost use Rattle.penalty_layer.specs.Penalty.{extension, figures, Fits};
 ghost use Rattle.penalty_layer.specs.laws.Relaxing.{penalty_sound};
 ghost use Rattle.normal_form.specs.Multilinear.{image, Admits};
@@ -38,7 +39,7 @@ impl Guard for MultilinearForm {
 
     ghost admits = { Admits };
 
-    ghost image = { image };
+    ghost image = { λ problem. kept_at_once (image problem) };
 
     ghost figures = { figures };
 

@@ -4,7 +4,7 @@
 //! made one after another in one list of literals, and gathered.
 ghost use Rattle.std.specs.Prelude.{◌≡◌, ◌+◌, ◌*◌, ◌<◌, ◌≤◌, ◌^◌, Bool, true, List, get_or, length, take, neg_ℤ, unsigned_abs, All, IfOk, OnOk};
 ghost use Rattle.term_table.specs.Terms.{terms_cost, terms_total};
-ghost use Rattle.term_table.specs.Tables.{with_more, AreAdditions};
+ghost use Rattle.term_table.specs.Tables.{kept_at_once, with_more, AreAdditions};
 ghost use Rattle.term_table.specs.MultipliedOut.{complements, plain, plain_terms, ArePlain};
 ghost use Rattle.normal_form.specs.Behind.{behind};
 ghost use Rattle.normal_form.specs.Multilinear.{expanded, IsMultilinear};
@@ -78,12 +78,12 @@ pub fn add_plain_terms(
 /// The table without complements that costs the same: each is replaced by 1 less its variable, and
 /// everything is multiplied out.
 pub fn expand(alloc: Global, table: &Table) -> Result<Table, NoMemory>
-    requires few { All (λ t. complements t.0 ≤ 8) table.now.terms }
-    requires small { (terms_total table.now.terms + 1) * 2 ^ 8 ≤ 2 ^ 124 }
-    ensures image { IfOk result (λ made. made ≡ expanded table.now) }
+    requires few { All (λ t. complements t.0 ≤ 8) table.now.content.terms }
+    requires small { (terms_total table.now.content.terms + 1) * 2 ^ 8 ≤ 2 ^ 124 }
+    ensures image { IfOk result (λ made. made ≡ kept_at_once (expanded table.now.content)) }
     ensures cost { IfOk result (λ made. (x : List Bool) →
-        terms_cost x made.terms ≡ terms_cost x table.now.terms) }
-    ensures plain { IfOk result (λ made. IsMultilinear made) }
+        terms_cost x made.content.terms ≡ terms_cost x table.now.content.terms) }
+    ensures plain { IfOk result (λ made. IsMultilinear made.content) }
 {
     let mut terms = GatheredTerms::as_wide_as(alloc, table);
     let mut list = Vec::new(alloc);

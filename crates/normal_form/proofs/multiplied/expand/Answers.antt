@@ -3,7 +3,7 @@ use Rattle.std.specs.Int.{w128}
 use Rattle.std.proofs.lemmas.Int.{to_z-of_z}
 use Rattle.std.proofs.lemmas.Map.Iter.{rest_more}
 use Rattle.term_table.specs.Terms.{terms_cost}
-use Rattle.term_table.specs.Tables.{TableContent, with_more}
+use Rattle.term_table.specs.Tables.{KeptTable, kept_at_once, with_more}
 use Rattle.term_table.specs.MultipliedOut.{contributions}
 use Rattle.normal_form.specs.Multilinear.{expanded, IsMultilinear}
 use Rattle.normal_form.specs.laws.Relaxing.{cost_expanded}
@@ -15,11 +15,11 @@ add_plain_terms-requires c =
     let left = rest_more _ c.loop-literals.literals-iterator c.next.new.self c.next.result (c.in-Some.literals, c.in-Some.coefficient) c.in-Some.is c.next.ensures.steps in
     let back = to_z-of_z w128 c.in-Some.coefficient (search rules) in
     let h = c.loop-literals.invariant in
-    rw back (next_additions c.loop-literals.terms (multiplied c.args.table.now) _ _ _ _ left h.list h.whole h.fits)
+    rw back (next_additions c.loop-literals.terms (multiplied c.args.table.now.content) _ _ _ _ left h.list h.whole h.fits)
 
 pub loop-literals-init : goal.loop-literals-init
 loop-literals-init c =
-    let t = c.args.table.now in
+    let t = c.args.table.now.content in
     let items : c.into_iter-literals-iterator.result ≡ t.terms = search rules in
     record {
       whole = λ i. with_more (c.as_wide_as-terms.ensures i) (contributions (items i));
@@ -34,18 +34,18 @@ loop-literals-preserved c =
     let h = c.loop-literals.invariant in
     let made = rw back at c.in_ok-add_plain_terms.ensures.added in
     record {
-      whole = next_whole c.loop-literals.terms c.add_plain_terms.new.terms (multiplied c.args.table.now) _ _ _ _ left h.list h.whole made;
+      whole = next_whole c.loop-literals.terms c.add_plain_terms.new.terms (multiplied c.args.table.now.content) _ _ _ _ left h.list h.whole made;
       fits = h.fits;
       list = c.in_ok-add_plain_terms.ensures.kept ∙ h.list;
     }
 
 pub returns-clause-cost : goal.returns-clause-cost
 returns-clause-cost c =
-    let t = c.args.table.now in
-    let made : c.into_table.result ≡ expanded t = search rules in
-    λ x. ap (λ (u : TableContent). terms_cost x u.terms) made ∙ cost_expanded t x
+    let t = c.args.table.now.content in
+    let made : c.into_table.result ≡ kept_at_once (expanded t) = search rules in
+    λ x. ap (λ (u : KeptTable). terms_cost x u.content.terms) made ∙ cost_expanded t x
 
 pub returns-clause-plain : goal.returns-clause-plain
 returns-clause-plain c =
-    let made : c.into_table.result ≡ expanded c.args.table.now = search rules in
-    subst IsMultilinear (sym made) (multilinear-expanded c.args.table.now)
+    let made : c.into_table.result ≡ kept_at_once (expanded c.args.table.now.content) = search rules in
+    subst (λ (u : KeptTable). IsMultilinear u.content) (sym made) (multilinear-expanded c.args.table.now.content)

@@ -1,4 +1,5 @@
 use Rattle.std.proofs.Common.{◌≡◌, ap, ◌∙◌}
+use Rattle.term_table.specs.Tables.{KeptTable, kept_at_once}
 use Rattle.normal_form.specs.Multilinear.{expanded, image}
 use Rattle.normal_form.proofs.Limits.{penalty_admits}
 use Rattle.normal_form.proofs.Admitted.{few-image, total-expanded, relaxes-made, size-made}
@@ -13,8 +14,8 @@ expand-requires-clause-few c =
 
 pub returns-clause-relaxes : goal.returns-clause-relaxes
 returns-clause-relaxes c =
-    let made : c.in_ok-expand.field-0 ≡ image c.args.source.now =
-    c.in_ok-expand.ensures.image ∙ ap expanded c.in_ok-target.ensures.image in
+    let made : c.in_ok-expand.field-0 ≡ kept_at_once (image c.args.source.now) =
+    c.in_ok-expand.ensures.image ∙ ap (λ (t : KeptTable). kept_at_once (expanded t.content)) c.in_ok-target.ensures.image in
     relaxes-made c.in_ok-target.field-0.link c.args.source.now c.in_ok-expand.field-0
     c.in_ok-target.field-0.figures c.in_ok-target.ensures.fits made c.in_ok-target.ensures.figures
 
@@ -26,6 +27,6 @@ returns-clause-total c =
 
 pub returns-clause-size : goal.returns-clause-size
 returns-clause-size c =
-    let made : c.in_ok-expand.field-0 ≡ image c.args.source.now =
-    c.in_ok-expand.ensures.image ∙ ap expanded c.in_ok-target.ensures.image in
+    let made : c.in_ok-expand.field-0 ≡ kept_at_once (image c.args.source.now) =
+    c.in_ok-expand.ensures.image ∙ ap (λ (t : KeptTable). kept_at_once (expanded t.content)) c.in_ok-target.ensures.image in
     size-made c.args.source.now c.in_ok-expand.field-0 c.requires made
