@@ -1,5 +1,5 @@
 -- What the guard makes of a problem that it admits.
-use Rattle.std.proofs.Common.{◌≡◌, ◌+◌, ◌≤◌, ◌^◌, pos, unsigned_abs, ℤ, [], subst, refl, sym, ap, ◌∙◌, arith}
+use Rattle.std.proofs.Common.{◌≡◌, ◌+◌, ◌≤◌, ◌^◌, pos, unsigned_abs, ℤ, [], subst, sym, ap, ◌∙◌, arith}
 use Rattle.std.specs.Prelude.{None}
 use Rattle.form_steps.specs.declared.layer.BitsLink.{BitsLink}
 use Rattle.form_steps.specs.Relations.{Relaxes}
@@ -9,7 +9,7 @@ use Rattle.problem_form.specs.Problems.{ProblemContent}
 use Rattle.problem_form.specs.Problems as problems
 use Rattle.problem_form.specs.Limits.{upper, limit_fault}
 use Rattle.term_table.specs.Terms.{terms_total, with_additions}
-use Rattle.term_table.specs.Tables.{TableContent, table_size}
+use Rattle.term_table.specs.Tables.{TableContent, KeptTable, kept_at_once, table_size}
 use Rattle.term_table.specs.Tables as tables
 use Rattle.term_table.proofs.KeptTerms.{Ascends-with_additions}
 use Rattle.penalty_layer.specs.Penalty.{Admits, contributions, node_count, image, Fits}
@@ -19,37 +19,43 @@ use Rattle.penalty_layer.proofs.Sizes.{size_within}
 use Rattle.penalty_layer.proofs.Sums.{image-total}
 
 -- the additions, summed
-pub made_image : (p : ProblemContent) (gathered table : TableContent)
+pub made_image : (p : ProblemContent) (gathered : TableContent) (table : KeptTable)
     → gathered ≡ record { width = node_count p; terms = contributions p }
-    → table ≡ record { width = gathered.width; terms = with_additions [] gathered.terms }
-    → table ≡ image p
+    → table ≡ kept_at_once
+    (record { width = gathered.width; terms = with_additions [] gathered.terms })
+    → table ≡ kept_at_once (image p)
 made_image p gathered table added summed =
     summed
-    ∙ ap (λ (t : TableContent). record { width = t.width; terms = with_additions [] t.terms }) added
+    ∙ ap
+    (λ (t : TableContent). kept_at_once
+    (record { width = t.width; terms = with_additions [] t.terms })) added
 
-pub made_total : (p : ProblemContent) (third : TableContent) → limit_fault normals.Literal p ≡ None → third ≡ image p
-    → terms_total third.terms + 1 ≤ 2 ^ 64
+pub made_total : (p : ProblemContent) (third : KeptTable) → limit_fault normals.Literal p ≡ None
+    → third ≡ kept_at_once (image p) → terms_total third.content.terms + 1 ≤ 2 ^ 64
 made_total p third none made =
-    omega (arith, ap (λ (t : TableContent). terms_total t.terms) made, image-total p none)
+    omega (arith, ap (λ (t : KeptTable). terms_total t.content.terms) made, image-total p none)
 
-pub made_size : (p : ProblemContent) (third : TableContent) → Admits p → third ≡ image p
-    → table_size third ≤ 2 ^ 26
+-- the image is within the bound of the guard
+pub image_size : (p : ProblemContent) → Admits p → table_size (image p) ≤ 2 ^ 26
+image_size p admitted = size_within p admitted.within (Ascends-with_additions (contributions p))
+
+pub made_size : (p : ProblemContent) (third : KeptTable) → Admits p
+    → third ≡ kept_at_once (image p) → table_size third.content ≤ 2 ^ 26
 made_size p third admitted made =
-    subst (λ t. table_size t ≤ 2 ^ 26) (sym made)
-    (size_within p admitted.within (Ascends-with_additions (contributions p)))
+    subst (λ (t : KeptTable). table_size t.content ≤ 2 ^ 26) (sym made) (image_size p admitted)
 
 -- the nodes are few
 pub nodes_within : (p : ProblemContent) → Admits p → node_count p ≤ 2 ^ 26
-nodes_within p admitted = omega (arith, made_size p (image p) admitted refl)
+nodes_within p admitted = omega (arith, image_size p admitted)
 
-pub made_relaxes : (link : BitsLink) (p : ProblemContent) (third : TableContent) (threshold : ℤ)
-    → Fits link p → third ≡ image p → threshold ≡ upper p
-    → Relaxes (problems.form_of p) (tables.form_of third) (first_bits link) (pos 1)
+pub made_relaxes : (link : BitsLink) (p : ProblemContent) (third : KeptTable) (threshold : ℤ)
+    → Fits link p → third ≡ kept_at_once (image p) → threshold ≡ upper p
+    → Relaxes (problems.form_of p) (tables.form_of third.content) (first_bits link) (pos 1)
     (record { scale = pos 1; offset = pos 0; threshold = threshold })
 made_relaxes link p third threshold fit made high =
-    let Q : TableContent → ℤ → Type 0 =
-    λ t z. Relaxes (problems.form_of p) (tables.form_of t) (first_bits link) (pos 1) (record { scale = pos 1; offset = pos 0; threshold = z }) in
-    subst (λ t. Q t threshold) (sym made) (subst (λ z. Q (image p) z) (sym high) (penalty_relaxes link p fit))
+    let Q : KeptTable → ℤ → Type 0 =
+    λ t z. Relaxes (problems.form_of p) (tables.form_of t.content) (first_bits link) (pos 1) (record { scale = pos 1; offset = pos 0; threshold = z }) in
+    subst (λ t. Q t threshold) (sym made) (subst (λ z. Q (kept_at_once (image p)) z) (sym high) (penalty_relaxes link p fit))
 
 pub threshold_within : (p : ProblemContent) (threshold : ℤ) → limit_fault normals.Literal p ≡ None → threshold ≡ upper p
     → unsigned_abs threshold ≤ 2 ^ 64

@@ -2,6 +2,7 @@
 ghost use Rattle.std.specs.Prelude.{◌^◌};
 ghost use Rattle.penalty_layer.specs.Penalty.{Admits, extension, image, figures, Fits};
 ghost use Rattle.form_steps.specs.Links.{first_bits, HasFirstBits};
+ghost use Rattle.term_table.specs.Tables.{kept_at_once};
 ghost use Rattle.penalty_layer.specs.laws.Relaxing.{penalty_relaxes, penalty_joins, penalty_sound, penalty_whole};
 
 use crate::adding::add_contributions;
@@ -38,7 +39,7 @@ impl Guard for Penalty {
 
     ghost admits = { Admits };
 
-    ghost image = { image };
+    ghost image = { λ problem. kept_at_once (image problem) };
 
     ghost figures = { figures };
 

@@ -3,6 +3,7 @@ use Rattle.std.specs.Int.{w128}
 use Rattle.std.proofs.lemmas.Int.{to_z-of_z}
 use Rattle.form_steps.specs.declared.layer.BitsLink.{BitsLink}
 use Rattle.problem_form.specs.Problems.{ProblemContent}
+use Rattle.term_table.specs.Tables.{kept_at_once}
 use Rattle.penalty_layer.specs.Penalty.{image, Fits}
 use Rattle.penalty_layer.proofs.Admitted.{made_image, made_total, made_size, made_relaxes, threshold_within}
 use Rattle.penalty_layer.proofs.penalty.PenaltyGuard.guard.Goals as goal
@@ -10,7 +11,7 @@ use Rattle.penalty_layer.proofs.penalty.PenaltyGuard.guard.Goals as goal
 pub returns-clause-relaxes : goal.returns-clause-relaxes
 returns-clause-relaxes c =
     let p = c.args.source.now in
-    let made : c.into_table.result ≡ image p =
+    let made : c.into_table.result ≡ kept_at_once (image p) =
     made_image p c.add_contributions.new.terms c.into_table.result c.in_ok-add_contributions.ensures c.into_table.ensures in
     let link : BitsLink = record { source_width = c.source.inside.variables; target_width = c.node_count-width.result } in
     let fit : Fits link p = record {
