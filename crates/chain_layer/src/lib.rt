@@ -21,7 +21,7 @@ pub use decoding::decoded;
 pub use extending::extended;
 pub use gathered::Gathered;
 pub use laws::laws_of_images;
-pub use link::{ChainLink, chain};
+pub use link::ChainLink;
 pub use shares::shared_fields;
 pub use sorting::in_order;
 pub use ties::{coupling, placed};
