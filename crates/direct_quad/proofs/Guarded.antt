@@ -1,5 +1,5 @@
 -- What the guard makes of a problem that it admits: the form of the three steps, within its bounds.
-use Rattle.std.proofs.Common.{◌≡◌, ℕ, ◌+◌, ◌<◌, ◌≤◌, ◌^◌, ℤ, pos, List, length, refl, subst, sym, ap, ◌∙◌, arith}
+use Rattle.std.proofs.Common.{◌≡◌, ℕ, ◌+◌, ◌<◌, ◌≤◌, ◌^◌, ℤ, pos, List, length, subst, sym, ap, ◌∙◌, arith}
 use Rattle.form_steps.specs.declared.layer.BitsLink.{BitsLink}
 use Rattle.bits_model.specs.declared.output.Entry.{Entry}
 use Rattle.form_steps.specs.Links.{first_bits}
@@ -10,7 +10,7 @@ use Rattle.problem_form.specs.Limits.{upper}
 use Rattle.term_table.specs.Tables.{TableContent}
 use Rattle.penalty_layer.specs.Penalty.{Admits}
 use Rattle.penalty_layer.specs.Penalty as penalty
-use Rattle.penalty_layer.proofs.Admitted.{made_size}
+use Rattle.penalty_layer.proofs.Admitted.{image_size}
 use Rattle.monomial_layer.specs.Monomials as monomials
 use Rattle.monomial_layer.proofs.Sizes.{all_nodes-le}
 use Rattle.quad_form.specs.Quads.{QuadContent, IsQuad, quad_total, quad_size}
@@ -37,7 +37,7 @@ IsWithin-of p admitted =
     let t = additions_of p in
     record {
       additions = AreAdditions-of p admitted;
-      narrow = omega (arith, made_size p (penalty.image p) admitted refl, nodes-table t, all_nodes-le (table_of t).terms);
+      narrow = omega (arith, image_size p admitted, nodes-table t, all_nodes-le (table_of t).terms);
       total = omega (arith, total-additions p admitted.within);
     }
 
@@ -98,7 +98,7 @@ quad_size_within p q admitted made =
       arith,
       ap quad_size made,
       size-grows (additions_of p),
-      made_size p (penalty.image p) admitted refl,
+      image_size p admitted,
     )
 
 -- ---- the table that an assignment is extended by

@@ -20,8 +20,8 @@ use Rattle.term_table.specs.Tables.{AreAdditions}
 use Rattle.term_table.specs.Summed.{term_in_front, sums_from, sums_of}
 use Rattle.term_table.proofs.SetOrder.{same_set}
 use Rattle.term_table.proofs.KeptTerms.{All-with_additions}
-use Rattle.term_table.proofs.KeptTables.{IsTable-with_additions}
 use Rattle.direct_quad.specs.Parts.{table_of}
+use Rattle.direct_quad.specs.laws.Between.{IsTable-table_of}
 use Rattle.monomial_layer.specs.Monomials.{new_nodes}
 use Rattle.direct_quad.specs.declared.additions.Keyed.{Keyed}
 use Rattle.direct_quad.specs.Long.{product_term, terms_of, node_count, first_nodes, key_for, addition_at, additions_at, sums_with, AreLong, HaveKeys}
@@ -119,7 +119,7 @@ pub AreLong-table : (w : ℕ) (ps : List Product) → AreAdditions (terms_of w p
     → node_count (table_of (terms_of w ps)) < 2 ^ 32 → AreLong (table_of (terms_of w ps))
 AreLong-table w ps additions long narrow =
     let t = terms_of w ps in
-    let table = IsTable-with_additions t additions in
+    let table = IsTable-table_of t additions in
     record {
       terms = table.terms;
       long =

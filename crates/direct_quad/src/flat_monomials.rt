@@ -21,14 +21,14 @@ pub struct FlatMonomials;
 
 /// Adds the terms of a table.
 fn add_terms(terms: &mut DirectTerms, table: &Table) -> Result<(), NoMemory>
-    requires width { length terms.old.weights ≡ table.now.width }
-    requires total { terms.old.total + terms_total table.now.terms ≤ 2 ^ 97 }
-    requires few { 4 * length terms.old.pairs + terms_size table.now.terms ≤ 2 ^ 29 }
+    requires width { length terms.old.weights ≡ table.now.content.width }
+    requires total { terms.old.total + terms_total table.now.content.terms ≤ 2 ^ 97 }
+    requires few { 4 * length terms.old.pairs + terms_size table.now.content.terms ≤ 2 ^ 29 }
     ensures added { (t : TableContent) → AreHeld t terms.old
-        → OnOk result (AreHeld (with_more t table.now.terms) terms.new) }
+        → OnOk result (AreHeld (with_more t table.now.content.terms) terms.new) }
 
     // What the laws of the layer rest on.
-    ensures kept { IsTable table.now }
+    ensures kept { IsTable table.now.content }
 {
     let listed = table.terms();
     for (literals, coefficient) in listed {
@@ -39,10 +39,10 @@ fn add_terms(terms: &mut DirectTerms, table: &Table) -> Result<(), NoMemory>
 
 /// The quadratic form of a table: the sums of what its terms give.
 fn quad_of(alloc: Global, table: &Table) -> Result<Quad, NoMemory>
-    requires total { (terms_total table.now.terms + 1) * 2 ^ 27 ≤ 2 ^ 124 }
-    requires size { table_size table.now * 2 ^ 3 ≤ 2 ^ 32 }
-    ensures image { IfOk result (λ quad. quad ≡ image table.now) }
-    ensures kept { IfOk result (λ _. IsTable table.now) }
+    requires total { (terms_total table.now.content.terms + 1) * 2 ^ 27 ≤ 2 ^ 124 }
+    requires size { table_size table.now.content * 2 ^ 3 ≤ 2 ^ 32 }
+    ensures image { IfOk result (λ quad. quad ≡ image table.now.content) }
+    ensures kept { IfOk result (λ _. IsTable table.now.content) }
 {
     let mut terms = DirectTerms::new(alloc, table.width())?;
     add_terms(&mut terms, table)?;
@@ -74,29 +74,29 @@ impl Layer for FlatMonomials {
 
     ghost OFFSET_FACTOR = { 0 };
 
-    ghost image = { image };
+    ghost image = { λ t. image t.content };
 
     ghost scale = { λ _. pos 1 };
 
     ghost offset = { λ _. pos 0 };
 
-    ghost extension = { extension };
+    ghost extension = { λ t. extension t.content };
 
     ghost decoding = { first_bits };
 
     ghost is_sound = { HasFirstBits };
 
-    ghost fits = { λ link t. Fits link t };
+    ghost fits = { λ link t. Fits link t.content };
 
-    ghost sound = { flat_mono_sound };
+    ghost sound = { λ link t. flat_mono_sound link t.content };
 
-    ghost joins = { flat_mono_joins };
+    ghost joins = { λ link t. flat_mono_joins link t.content };
 
-    ghost keeps = { flat_mono_keeps };
+    ghost keeps = { λ link t. flat_mono_keeps link t.content };
 
-    ghost whole_source = { flat_mono_whole_source };
+    ghost whole_source = { λ t. flat_mono_whole_source t.content };
 
-    ghost whole = { flat_mono_whole };
+    ghost whole = { λ t. flat_mono_whole t.content };
 
     fn lower(&self, alloc: Global, source: &Table) -> Result<Lowered<Quad, BitsLink>, NoMemory> {
         let quad = quad_of(alloc, source)?;

@@ -10,7 +10,7 @@ use Rattle.direct_quad.proofs.flat_monomials.add_terms.Goals as goal
 
 pub loop-literals-init : goal.loop-literals-init
 loop-literals-init c =
-    let t = c.args.table.now in
+    let t = c.args.table.now.content in
     let left : c.into_iter-literals-iterator.result ≡ t.terms = search rules in
     record {
       added = added-none c.args.terms.now _ t.terms left;
@@ -19,7 +19,7 @@ loop-literals-init c =
 
 pub add-requires-clause-set : goal.add-requires-clause-set
 add-requires-clause-set c =
-    let t = c.args.table.now in
+    let t = c.args.table.now.content in
     let now = c.loop-literals.terms in
     let left = rest_more _ c.loop-literals.literals-iterator c.next.new.self c.next.result (c.in-Some.literals, c.in-Some.coefficient) c.in-Some.is c.next.ensures.steps in
     let wide : length now.weights ≡ t.width =
@@ -32,12 +32,12 @@ add-requires-clause-small c =
     let left = rest_more _ c.loop-literals.literals-iterator c.next.new.self c.next.result (c.in-Some.literals, c.in-Some.coefficient) c.in-Some.is c.next.ensures.steps in
     let back = to_z-of_z w128 c.in-Some.coefficient (search rules) in
     rw back
-    (added-fits c.args.terms.now c.loop-literals.terms _ _ c.args.table.now.terms c.in-Some.literals.now _ left c.loop-literals.invariant.added c.requires.total)
+    (added-fits c.args.terms.now c.loop-literals.terms _ _ c.args.table.now.content.terms c.in-Some.literals.now _ left c.loop-literals.invariant.added c.requires.total)
 
 pub add-requires-clause-few : goal.add-requires-clause-few
 add-requires-clause-few c =
     let left = rest_more _ c.loop-literals.literals-iterator c.next.new.self c.next.result (c.in-Some.literals, c.in-Some.coefficient) c.in-Some.is c.next.ensures.steps in
-    added-few c.args.terms.now c.loop-literals.terms _ _ c.args.table.now.terms c.in-Some.literals.now c.in-Some.coefficient left c.loop-literals.invariant.added c.requires.few
+    added-few c.args.terms.now c.loop-literals.terms _ _ c.args.table.now.content.terms c.in-Some.literals.now c.in-Some.coefficient left c.loop-literals.invariant.added c.requires.few
 
 pub loop-literals-preserved : goal.loop-literals-preserved
 loop-literals-preserved c =
@@ -46,13 +46,13 @@ loop-literals-preserved c =
     let more = c.in_ok-add.ensures in
     record {
       added =
-          added-more c.args.terms.now c.loop-literals.terms c.add.new.self _ _ c.args.table.now.terms c.in-Some.literals.now _ c.in-Some.coefficient
+          added-more c.args.terms.now c.loop-literals.terms c.add.new.self _ _ c.args.table.now.content.terms c.in-Some.literals.now _ c.in-Some.coefficient
           back left more.added more.width more.total more.pairs c.loop-literals.invariant.added;
-      sets = All-rest (λ (u : Term). IsTermSet c.args.table.now.width u.0) _ _ _ left c.loop-literals.invariant.sets;
+      sets = All-rest (λ (u : Term). IsTermSet c.args.table.now.content.width u.0) _ _ _ left c.loop-literals.invariant.sets;
     }
 
 pub returns-clause-added : goal.returns-clause-added
 returns-clause-added c =
-    added-all c.args.terms.now c.loop-literals.terms _ c.args.table.now.terms
+    added-all c.args.terms.now c.loop-literals.terms _ c.args.table.now.content.terms
     (rest_all _ c.loop-literals.literals-iterator c.next.new.self c.next.result c.in-None.is c.next.ensures.steps)
     c.loop-literals.invariant.added

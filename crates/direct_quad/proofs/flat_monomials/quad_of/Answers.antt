@@ -9,7 +9,7 @@ use Rattle.direct_quad.proofs.flat_monomials.quad_of.Goals as goal
 
 pub into_quad-requires : goal.into_quad-requires
 into_quad-requires c =
-    let t = c.args.table.now in
+    let t = c.args.table.now.content in
     let h = c.add_terms.new.terms in
     let held : AreHeld t h =
     subst (λ n. AreHeld (record { width = n; terms = t.terms }) h) c.width.ensures
@@ -18,7 +18,7 @@ into_quad-requires c =
 
 pub returns-clause-image : goal.returns-clause-image
 returns-clause-image c =
-    let t = c.args.table.now in
+    let t = c.args.table.now.content in
     let h = c.add_terms.new.terms in
     let table = c.add_terms.ensures.kept in
     let held : AreHeld t h =

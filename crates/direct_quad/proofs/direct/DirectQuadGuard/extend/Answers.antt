@@ -1,7 +1,8 @@
-use Rattle.std.proofs.Common.{◌≡◌, refl, sym, subst, ◌∙◌}
+use Rattle.std.proofs.Common.{◌≡◌, refl, sym, subst, ap, ◌∙◌}
 use Rattle.form_steps.specs.Links.{first_bits}
 use Rattle.form_steps.specs.Relations.{ExtendsLeast}
 use Rattle.problem_form.specs.Problems as problems
+use Rattle.term_table.specs.Tables.{KeptTable}
 use Rattle.penalty_layer.specs.Penalty.{figures}
 use Rattle.penalty_layer.specs.Penalty as penalty
 use Rattle.monomial_layer.specs.Monomials as monomials
@@ -14,9 +15,9 @@ use Rattle.direct_quad.proofs.direct.DirectQuadGuard.extend.Goals as goal
 
 pub extend-requires-2-clause-fits : goal.extend-requires-2-clause-fits
 extend-requires-2-clause-fits c =
-    fits_table c.args.link.now c.args.source.now c.in_ok-guarded.guarded.target
+    fits_table c.args.link.now c.args.source.now c.in_ok-guarded.guarded.target.content
     c.in_ok-guarded.guarded.link.target_width c.args.link.now.target_width c.requires.fits
-    c.in_ok-guarded.ensures.image c.in_ok-guarded.ensures.fits.target refl
+    (ap (λ (u : KeptTable). u.content) c.in_ok-guarded.ensures.image) c.in_ok-guarded.ensures.fits.target refl
 
 pub returns-clause-least : goal.returns-clause-least
 returns-clause-least c =
@@ -24,9 +25,9 @@ returns-clause-least c =
     let link = c.args.link.now in
     let x = c.args.x.now in
     let slack = c.deref.ensures.value ∙ c.in_ok-y.ensures.extension in
-    let both : monomials.extension c.deref.result.now c.in_ok-guarded.guarded.target.terms
+    let both : monomials.extension c.deref.result.now c.in_ok-guarded.guarded.target.content.terms
     ≡ monomials.extension (penalty.extension p x) (penalty.image p).terms =
-    (λ i. monomials.extension (slack i) (c.in_ok-guarded.ensures.image i).terms) in
+    (λ i. monomials.extension (slack i) (c.in_ok-guarded.ensures.image i).content.terms) in
     if_ok-then c.extend-2.result c.extend-2.ensures.extension
     (λ y same. subst (ExtendsLeast (problems.form_of p) (quads.form_of (image p)) (first_bits link) (figures p) x)
     (sym (same ∙ both))

@@ -15,13 +15,13 @@ extend-requires-clause-fits c =
     let fits = c.requires.fits in
     record {
       source = fits.source;
-      target = fits.target ∙ length-image (monomials.image c.args.source.now);
+      target = fits.target ∙ length-image (monomials.image c.args.source.now.content);
       table = fits.table;
     }
 
 pub returns-clause-reaches : goal.returns-clause-reaches
 returns-clause-reaches c =
-    let t = c.args.source.now in
+    let t = c.args.source.now.content in
     let x = c.args.x.now in
     let link = c.args.link.now in
     if_ok-then c.extend.result c.extend.ensures.extension

@@ -16,7 +16,7 @@ use Rattle.direct_quad.proofs.flat_monomials.FlatMonomialsLayer.lower.Goals as g
 
 pub width-requires-2 : goal.width-requires-2
 width-requires-2 c =
-    let t = c.args.source.now in
+    let t = c.args.source.now.content in
     omega (
       arith,
       ap (λ (q : QuadContent). length q.diagonal) c.in_ok-quad.ensures.image,
@@ -35,7 +35,7 @@ returns-clause-fits c = record {
 
 pub returns-clause-keeps : goal.returns-clause-keeps
 returns-clause-keeps c =
-    let t = c.args.source.now in
+    let t = c.args.source.now.content in
     let link : BitsLink = record { source_width = c.width.result; target_width = c.width-2.result } in
     let fits : Fits link t = returns-clause-fits c in
     subst (λ q. Keeps (tables.form_of t) (quads.form_of q) (first_bits link) (pos 1) (pos 0))
@@ -43,7 +43,7 @@ returns-clause-keeps c =
 
 pub returns-clause-total : goal.returns-clause-total
 returns-clause-total c =
-    let t = c.args.source.now in
+    let t = c.args.source.now.content in
     omega (
       arith,
       ap quad_total c.in_ok-quad.ensures.image,
@@ -53,7 +53,7 @@ returns-clause-total c =
 
 pub returns-clause-size : goal.returns-clause-size
 returns-clause-size c =
-    let t = c.args.source.now in
+    let t = c.args.source.now.content in
     omega (
       arith,
       ap quad_size c.in_ok-quad.ensures.image,
