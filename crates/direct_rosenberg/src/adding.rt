@@ -36,11 +36,11 @@ fn add_short(
 
 /// Adds the terms of degree 2 or less.
 fn add_low(terms: &mut DirectTerms, table: &Table) -> Result<(), NoMemory>
-    requires wider { table.now.width ≤ length terms.old.weights }
-    requires small { terms.old.total + terms_total (filter is_short table.now.terms) ≤ 2 ^ 97 }
-    requires few { 4 * length terms.old.pairs + squares (filter is_short table.now.terms)
+    requires wider { table.now.content.width ≤ length terms.old.weights }
+    requires small { terms.old.total + terms_total (filter is_short table.now.content.terms) ≤ 2 ^ 97 }
+    requires few { 4 * length terms.old.pairs + squares (filter is_short table.now.content.terms)
         ≤ 2 ^ 33 }
-    ensures { OnOk result (Appends terms.old terms.new (filter is_short table.now.terms)) }
+    ensures { OnOk result (Appends terms.old terms.new (filter is_short table.now.content.terms)) }
 {
     for (literals, coefficient) in table.terms() {
         add_short(terms, literals, coefficient)?;
@@ -112,18 +112,18 @@ pub fn add_run(
     made: &Run,
     start: usize,
 ) -> Result<(), NoMemory>
-    requires wider { table.now.width ≤ length terms.old.weights }
+    requires wider { table.now.content.width ≤ length terms.old.weights }
     requires each { length made.now.weights.items ≡ length made.now.pairs.items }
     requires narrow { start + length made.now.pairs.items < 2 ^ 64 }
     requires sets { AllByRecursion (λ t. IsTermSet (length terms.old.weights) t.0)
         (made.now.low.items ++ ties_of start made.now.pairs.items made.now.weights.items) }
-    requires small { terms.old.total + terms_total (filter is_short table.now.terms
+    requires small { terms.old.total + terms_total (filter is_short table.now.content.terms
         ++ (made.now.low.items ++ ties_of start made.now.pairs.items made.now.weights.items))
         ≤ 2 ^ 97 }
-    requires few { 4 * length terms.old.pairs + squares (filter is_short table.now.terms
+    requires few { 4 * length terms.old.pairs + squares (filter is_short table.now.content.terms
         ++ (made.now.low.items ++ ties_of start made.now.pairs.items made.now.weights.items))
         ≤ 2 ^ 33 }
-    ensures { OnOk result (Appends terms.old terms.new (filter is_short table.now.terms
+    ensures { OnOk result (Appends terms.old terms.new (filter is_short table.now.content.terms
         ++ (made.now.low.items ++ ties_of start made.now.pairs.items made.now.weights.items))) }
 {
     add_low(terms, table)?;

@@ -16,12 +16,12 @@ use term_table::Table;
 /// `Flatten` make in a row, without the table of quadratic terms between. The table is let go before
 /// the form is made.
 pub fn quad_by_pairs(alloc: Global, table: Table) -> Result<Quad, NoMemory>
-    requires total { (terms_total table.terms + 1) * 2 ^ 15 ≤ 2 ^ 97 }
-    requires size { table_size table * 2 ^ 2 ≤ 2 ^ 31 }
-    ensures image { IfOk result (λ quad. quad ≡ image table) }
+    requires total { (terms_total table.content.terms + 1) * 2 ^ 15 ≤ 2 ^ 97 }
+    requires size { table_size table.content * 2 ^ 2 ≤ 2 ^ 31 }
+    ensures image { IfOk result (λ quad. quad ≡ image table.content) }
 
     // What the laws of the two steps rest on.
-    ensures kept { IfOk result (λ _. IsTable table) }
+    ensures kept { IfOk result (λ _. IsTable table.content) }
 {
     let width = table.width();
     let made = run_of(alloc, &table, width, excess(&table))?;

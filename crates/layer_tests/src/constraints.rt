@@ -107,7 +107,7 @@ fn decoded(
     number: u64,
 ) -> Result<Option<(usize, Cost)>, NoMemory>
     requires sound { HasFirstBits link.now }
-    requires narrow { table.now.width < 2 ^ 32 }
+    requires narrow { table.now.content.width < 2 ^ 32 }
 {
     let y = state(alloc, link.target_width, number)?;
     if table.width() != y.len() {

@@ -137,12 +137,13 @@ fn add_term(
     literals: &[Literal],
     coefficient: i128,
 ) -> Result<(), NoMemory>
-    requires width { table.old.width ≡ width }
-    requires total { terms_total table.old.terms ≤ 2 ^ 40 }
-    ensures width { OnOk result (table.new.width ≡ width) }
+    requires width { table.old.content.width ≡ width }
+    requires total { terms_total table.old.content.terms ≤ 2 ^ 40 }
+    ensures width { OnOk result (table.new.content.width ≡ width) }
     ensures total { OnOk result
-        (terms_total table.new.terms ≤ terms_total table.old.terms + 1000) }
-    ensures size { OnOk result (terms_size table.new.terms ≤ terms_size table.old.terms + 25) }
+        (terms_total table.new.content.terms ≤ terms_total table.old.content.terms + 1000) }
+    ensures size { OnOk result
+        (terms_size table.new.content.terms ≤ terms_size table.old.content.terms + 25) }
 {
     if literals.len() > 5 || coefficient.unsigned_abs() > 1000 || !is_set(literals, width) {
         return Ok(());
@@ -157,12 +158,13 @@ pub fn add_terms(
     terms: &[(&[Literal], i128)],
 ) -> Result<(), NoMemory>
     requires few { length terms.now < 100 }
-    requires width { table.old.width ≡ width }
-    requires total { terms_total table.old.terms ≤ 100000 }
-    ensures width { OnOk result (table.new.width ≡ width) }
+    requires width { table.old.content.width ≡ width }
+    requires total { terms_total table.old.content.terms ≤ 100000 }
+    ensures width { OnOk result (table.new.content.width ≡ width) }
     ensures total { OnOk result
-        (terms_total table.new.terms ≤ terms_total table.old.terms + 100000) }
-    ensures size { OnOk result (terms_size table.new.terms ≤ terms_size table.old.terms + 2500) }
+        (terms_total table.new.content.terms ≤ terms_total table.old.content.terms + 100000) }
+    ensures size { OnOk result
+        (terms_size table.new.content.terms ≤ terms_size table.old.content.terms + 2500) }
 {
     for (literals, coefficient) in terms {
         add_term(table, width, literals, *coefficient)?;
@@ -177,9 +179,9 @@ pub fn table_of(
     terms: &[(&[Literal], i128)],
 ) -> Result<Table, NoMemory>
     requires { length terms.now < 100 }
-    ensures width { IfOk result (λ t. t.width ≡ width) }
-    ensures total { IfOk result (λ t. terms_total t.terms ≤ 100000) }
-    ensures size { IfOk result (λ t. terms_size t.terms ≤ 2500) }
+    ensures width { IfOk result (λ t. t.content.width ≡ width) }
+    ensures total { IfOk result (λ t. terms_total t.content.terms ≤ 100000) }
+    ensures size { IfOk result (λ t. terms_size t.content.terms ≤ 2500) }
 {
     let mut table = Table::new(alloc, width);
     add_terms(&mut table, width, terms)?;

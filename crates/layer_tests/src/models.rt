@@ -1,8 +1,10 @@
 //! Models of each kind: their texts, and the energies of their states.
-ghost use Rattle.std.specs.Prelude.{◌≡◌, ◌∷◌, [], pos, negsuc, IfOk};
+ghost use Rattle.std.specs.Prelude.{◌≡◌, ◌≢◌, ◌∷◌, [], pos, negsuc, IfOk};
+ghost use Rattle.bits_model.specs.declared.output.Kind.TheVariants.{Qubo};
 
 use base::{Cost, Costed, Figures, NoMemory};
 use bits_model::{ChainList, CouplerList, Entry, EntryList, Kind, NodeWeights, OutputModel};
+use ising_file::ising_text;
 use model_text::written_text;
 use std::alloc::Global;
 
@@ -159,10 +161,27 @@ fn chained(alloc: Global) -> Result<OutputModel, NoMemory> {
 
 // ---- texts
 
+/// Whether this is the text of a model of spins.
+fn has_spin_text(alloc: Global, model: &OutputModel, text: &[u8]) -> Result<bool, NoMemory>
+    requires { model.now.kind ≢ Qubo }
+{
+    Ok(ising_text(alloc, model)?.as_slice() == text)
+}
+
+/// Whether this is the text of a model, and that of its kind.
+fn is_text_of(alloc: Global, model: &OutputModel, text: &[u8]) -> Result<bool, NoMemory> {
+    let written = written_text(alloc, model)?;
+    if written.as_slice() != text {
+        return Ok(false);
+    }
+    match model.kind {
+        Kind::Qubo => Ok(true),
+        _ => has_spin_text(alloc, model, text),
+    }
+}
+
 fn has_text(alloc: Global, model: OutputModel, text: &[u8]) -> Result<bool, NoMemory> {
-    let written = written_text(alloc, &model);
-    drop(model);
-    Ok(written?.as_slice() == text)
+    is_text_of(alloc, &model, text)
 }
 
 const QUBO_TEXT: &[u8] = b"c scale 3\nc offset -4\nc threshold -1\nc unit 1\nc variables 1\n\

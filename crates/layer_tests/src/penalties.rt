@@ -6,6 +6,7 @@ ghost use Rattle.penalty_layer.specs.Penalty.{Admits};
 
 use crate::given::{A, B, C, D, NOT_A, NOT_B, NOT_C, are_terms, costs_of_two, problem_of};
 use base::{Cost, Figures, NoMemory};
+use direct_quad::DirectQuad;
 use form_steps::{Guard, Then};
 use literal_lists::Literal;
 use monomial_layer::Monomials;
@@ -145,7 +146,7 @@ fn an_assignment_is_its_own_state(rt: HostRuntime) {
     }
 }
 
-/// Whether an assignment of three variables extends to this state.
+/// Whether an assignment of three variables extends to this state, by two steps and at once.
 fn gets_bit(
     alloc: Global,
     problem: &Problem,
@@ -157,7 +158,8 @@ fn gets_bit(
     if !is_admitted(problem) {
         return Ok(false);
     }
-    extends_to(alloc, &steps(), problem, x, y)
+    let in_a_row = extends_to(alloc, &steps(), problem, x, y)?;
+    Ok(in_a_row && extends_to(alloc, &DirectQuad, problem, x, y)?)
 }
 
 fn gets_bit_of_three(alloc: Global, x: &[bool; 3], y: &[bool; 4]) -> Result<bool, NoMemory> {

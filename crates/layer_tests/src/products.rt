@@ -1,5 +1,6 @@
 //! Products of three, four and five variables, against tables by hand and all their states.
 ghost use Rattle.std.specs.Prelude.{◌≡◌, ◌≤◌, length};
+ghost use Rattle.term_table.specs.Tables.{kept_at_once};
 ghost use Rattle.monomial_layer.specs.Monomials.{image, Fits};
 
 use crate::given::{A, B, C, D, E, F, G, are_terms, state, table_of};
@@ -113,9 +114,9 @@ fn keeps_cost(
     made: &Lowered<LowTable, BitsLink>,
     number: u64,
 ) -> Result<bool, NoMemory>
-    requires narrow { source.now.width ≤ 5 }
-    requires fits { Fits made.now.link source.now }
-    requires image { made.now.target ≡ image source.now }
+    requires narrow { source.now.content.width ≤ 5 }
+    requires fits { Fits made.now.link source.now.content }
+    requires image { made.now.target ≡ kept_at_once (image source.now.content) }
 {
     if made.link.target_width > 7 {
         return Ok(false);

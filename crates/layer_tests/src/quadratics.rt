@@ -6,7 +6,9 @@ ghost use Rattle.base.specs.Costs.{IsOf};
 use crate::given::{A, B, C, NOT_A, NOT_B, costs_of_two, table_of};
 use base::{Cost, Figures, NoMemory};
 use bits_model::{CouplerList, OutputModel};
+use direct_quad::FlatMonomials;
 use form_steps::{Layer, Then};
+use ising_form::ToSpins;
 use literal_lists::Literal;
 use monomial_layer::Monomials;
 use quad_form::{Flatten, Quad};
@@ -273,6 +275,15 @@ fn comes_back(alloc: Global, x: &[bool; 3], y: &[bool; 4]) -> Result<bool, NoMem
     extends_to(alloc, &layers, &source, x, y)
 }
 
+fn comes_back_from_spins(alloc: Global, x: &[bool; 3], y: &[bool; 4]) -> Result<bool, NoMemory> {
+    let layers = Then {
+        first: FlatMonomials,
+        second: ToSpins,
+    };
+    let source = table_of(alloc, 3, &OF_THREE)?;
+    extends_to(alloc, &layers, &source, x, y)
+}
+
 #[test]
 fn an_assignment_comes_back_through_two_layers(rt: HostRuntime) {
     // The new node is taken where two or more of the three are true.
@@ -282,5 +293,9 @@ fn an_assignment_comes_back_through_two_layers(rt: HostRuntime) {
     ];
     for (x, y) in rows {
         assert!(rt; comes_back(rt.alloc(), &x, &y) == Ok(true), "{x:?}");
+        assert!(rt;
+            comes_back_from_spins(rt.alloc(), &x, &y) == Ok(true),
+            "{x:?}"
+        );
     }
 }

@@ -3,6 +3,7 @@
 ghost use Rattle.std.specs.Prelude.{◌≡◌, ◌+◌, ◌<◌, ◌≤◌, ◌^◌, IfOk, OnOk, length, unsigned_abs};
 ghost use Rattle.rosenberg_layer.specs.Rosenberg.{image, Fits};
 ghost use Rattle.term_table.specs.Terms.{terms_size, terms_total};
+ghost use Rattle.term_table.specs.Tables.{kept_at_once};
 
 use crate::all_states::draw;
 use crate::given::{A, B, C, D, E, NOT_B, are_terms, state, table_of};
@@ -80,12 +81,13 @@ fn draw_coefficient(seed: &mut u64) -> i128
 fn add_drawn(table: &mut Table, seed: &mut u64, degrees: u64) -> Result<(), NoMemory>
     requires some { 0 < degrees }
     requires few { degrees ≤ 4 }
-    requires width { table.old.width ≡ 6 }
-    requires total { terms_total table.old.terms ≤ 2 ^ 40 }
-    ensures width { OnOk result (table.new.width ≡ 6) }
+    requires width { table.old.content.width ≡ 6 }
+    requires total { terms_total table.old.content.terms ≤ 2 ^ 40 }
+    ensures width { OnOk result (table.new.content.width ≡ 6) }
     ensures total { OnOk result
-        (terms_total table.new.terms ≤ terms_total table.old.terms + 1000) }
-    ensures size { OnOk result (terms_size table.new.terms ≤ terms_size table.old.terms + 36) }
+        (terms_total table.new.content.terms ≤ terms_total table.old.content.terms + 1000) }
+    ensures size { OnOk result
+        (terms_size table.new.content.terms ≤ terms_size table.old.content.terms + 36) }
 {
     let literals = draw_literals(seed);
     let degree = 3 + draw(seed, degrees) as usize;
@@ -100,9 +102,9 @@ fn add_drawn(table: &mut Table, seed: &mut u64, degrees: u64) -> Result<(), NoMe
 
 /// A table of three terms, two of which have up to six literals.
 fn draw_table(alloc: Global, seed: u64) -> Result<Table, NoMemory>
-    ensures width { IfOk result (λ t. t.width ≡ 6) }
-    ensures total { IfOk result (λ t. terms_total t.terms ≤ 3000) }
-    ensures size { IfOk result (λ t. terms_size t.terms ≤ 108) }
+    ensures width { IfOk result (λ t. t.content.width ≡ 6) }
+    ensures total { IfOk result (λ t. terms_total t.content.terms ≤ 3000) }
+    ensures size { IfOk result (λ t. terms_size t.content.terms ≤ 108) }
 {
     let mut seed = seed;
     let mut table = Table::new(alloc, 6);
@@ -127,9 +129,9 @@ fn is_no_less(
     made: &Lowered<LowTable, BitsLink>,
     number: u64,
 ) -> Result<bool, NoMemory>
-    requires narrow { source.now.width ≡ 6 }
-    requires fits { Fits made.now.link source.now }
-    requires image { made.now.target ≡ image source.now }
+    requires narrow { source.now.content.width ≡ 6 }
+    requires fits { Fits made.now.link source.now.content }
+    requires image { made.now.target ≡ kept_at_once (image source.now.content) }
 {
     if made.link.target_width > 15 {
         return Ok(false);
@@ -146,9 +148,9 @@ fn is_reached(
     made: &Lowered<LowTable, BitsLink>,
     number: u64,
 ) -> Result<bool, NoMemory>
-    requires narrow { source.now.width ≡ 6 }
-    requires fits { Fits made.now.link source.now }
-    requires image { made.now.target ≡ image source.now }
+    requires narrow { source.now.content.width ≡ 6 }
+    requires fits { Fits made.now.link source.now.content }
+    requires image { made.now.target ≡ kept_at_once (image source.now.content) }
 {
     if made.link.target_width > 15 {
         return Ok(false);
@@ -161,9 +163,9 @@ fn is_reached(
 /// Whether no state costs less than the assignment of its first bits, and each assignment is reached
 /// by its extension.
 fn keeps_costs(alloc: Global, source: &Table) -> Result<bool, NoMemory>
-    requires width { source.now.width ≡ 6 }
-    requires total { terms_total source.now.terms ≤ 3000 }
-    requires size { terms_size source.now.terms ≤ 108 }
+    requires width { source.now.content.width ≡ 6 }
+    requires total { terms_total source.now.content.terms ≤ 3000 }
+    requires size { terms_size source.now.content.terms ≤ 108 }
 {
     let made = Rosenberg.lower(alloc, source)?;
     let mut kept = made.link.target_width <= 15;

@@ -1,5 +1,5 @@
 //! Tables of a few terms, against lists and costs by hand.
-ghost use Rattle.std.specs.Prelude.{◌≡◌, ◌+◌, ◌<◌, ◌≤◌, ◌^◌, IfOk, OnOk, length};
+ghost use Rattle.std.specs.Prelude.{◌≡◌, ◌+◌, ◌<◌, ◌≤◌, ◌^◌, IfOk, OnOk, length, unsigned_abs};
 ghost use Rattle.term_table.specs.Terms.{terms_total};
 
 use crate::given::{A, B, C, NOT_A, NOT_B, add_terms, are_terms, costs_of_two, table_of};
@@ -34,8 +34,8 @@ fn table_at_once(
     terms: &[(&[Literal], i128)],
 ) -> Result<Table, NoMemory>
     requires { length terms.now < 100 }
-    ensures width { IfOk result (λ t. t.width ≡ width) }
-    ensures total { IfOk result (λ t. terms_total t.terms ≤ 100000) }
+    ensures width { IfOk result (λ t. t.content.width ≡ width) }
+    ensures total { IfOk result (λ t. terms_total t.content.terms ≤ 100000) }
 {
     let mut gathered = GatheredTerms::new(alloc, width);
     for (literals, coefficient) in terms {
@@ -115,12 +115,108 @@ fn additions_in_any_order_give_one_list(rt: HostRuntime) {
     }
 }
 
+// ---- products
+
+/// Whether a factor times the product of two tables over two variables gives these terms.
+fn multiplies_to(
+    alloc: Global,
+    factor: i128,
+    left: &LowTable,
+    right: &LowTable,
+    rows: &[(&[Literal], i128)],
+) -> Result<bool, NoMemory>
+    requires factor { unsigned_abs factor ≤ 1000 }
+    requires left { left.now.content.width ≡ 2 }
+    requires right { right.now.content.width ≡ 2 }
+    requires left_total { terms_total left.now.content.terms ≤ 100000 }
+    requires right_total { terms_total right.now.content.terms ≤ 100000 }
+{
+    // no term has more than two literals
+    let (_left, _right) = (left.terms(), right.terms());
+    let mut product = Table::new(alloc, 2);
+    left.table
+        .multiply_into(&right.table, factor, &mut product)?;
+    Ok(are_terms(product.terms(), rows))
+}
+
+/// The same of two lists of terms.
+fn is_product(
+    alloc: Global,
+    factor: i128,
+    left: &[(&[Literal], i128)],
+    right: &[(&[Literal], i128)],
+    rows: &[(&[Literal], i128)],
+) -> Result<bool, NoMemory>
+    requires factor { unsigned_abs factor ≤ 1000 }
+    requires left { length left.now < 100 }
+    requires right { length right.now < 100 }
+{
+    match (
+        low(table_of(alloc, 2, left)?),
+        low(table_of(alloc, 2, right)?),
+    ) {
+        (Ok(left), Ok(right)) => multiplies_to(alloc, factor, &left, &right, rows),
+        _ => Ok(false),
+    }
+}
+
+const PRODUCTS: &[(
+    i128,
+    &[(&[Literal], i128)],
+    &[(&[Literal], i128)],
+    &[(&[Literal], i128)],
+)] = &[
+    // 2 (2 + a) (3 - b)
+    (
+        2,
+        &[(&[], 2), (&[A], 1)],
+        &[(&[], 3), (&[B], -1)],
+        &[(&[], 12), (&[A], 6), (&[A, B], -2), (&[B], -4)],
+    ),
+    // a literal meets its complement: (a + ~b) (~a + b)
+    (
+        1,
+        &[(&[A], 1), (&[NOT_B], 1)],
+        &[(&[NOT_A], 1), (&[B], 1)],
+        &[(&[A, B], 1), (&[NOT_A, NOT_B], 1)],
+    ),
+    // a variable meets itself: (a + 2 b) (a + 2 b)
+    (
+        1,
+        &[(&[A], 1), (&[B], 2)],
+        &[(&[A], 1), (&[B], 2)],
+        &[(&[A], 1), (&[A, B], 4), (&[B], 4)],
+    ),
+    // a sum is 0: -1 (a + b) (a - b)
+    (
+        -1,
+        &[(&[A], 1), (&[B], 1)],
+        &[(&[A], 1), (&[B], -1)],
+        &[(&[A], -1), (&[B], 1)],
+    ),
+    (0, &[(&[A], 1)], &[(&[B], 1)], &[]),
+    (1, &[], &[(&[B], 1)], &[]),
+];
+
+#[test]
+fn products_of_two_tables(rt: HostRuntime) {
+    for (factor, left, right, rows) in PRODUCTS {
+        assert!(rt; factor.unsigned_abs() <= 1000 && left.len() < 100 && right.len() < 100);
+        assert!(rt;
+            is_product(rt.alloc(), *factor, left, right, rows) == Ok(true),
+            "{factor}"
+        );
+    }
+}
+
+// ---- low tables
+
 /// a ~b - 1 + 4 ~a.
 const LOW: [(&[Literal], i128); 3] = [(&[A, NOT_B], 1), (&[], -1), (&[NOT_A], 4)];
 
 /// Whether a table of two variables has this first term and these costs.
 fn begins_and_costs(table: &LowTable, first: (&[Literal], i128), costs: &[Cost; 4]) -> bool
-    requires { table.now.width ≡ 2 }
+    requires { table.now.content.width ≡ 2 }
 {
     table.width() == 2 && table.terms().next() == Some(first) && costs_of_two(table) == *costs
 }

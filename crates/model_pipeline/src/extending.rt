@@ -36,12 +36,13 @@ where
     requires size { G.SIZE_BITS + 2 ≤ 32 }
     requires width { length x.now ≡ problem.now.variables }
     ensures extension { IfOk result (λ y.
-        y.items ≡ extension (G.image problem.now) (G.extension problem.now x.now)) }
+        y.items ≡ extension (G.image problem.now).content (G.extension problem.now x.now)) }
     ensures first { IfOk result (λ _. (link : G.Link) × G.fits link problem.now) }
-    ensures second { IfOk result (λ _. (link : BitsLink) × Fits link (G.image problem.now)) }
+    ensures second { IfOk result (λ _.
+        (link : BitsLink) × Fits link (G.image problem.now).content) }
 
     // What the steps to a model rest on.
-    ensures room { IfOk result (λ _. HasRoom (image (G.image problem.now))) }
+    ensures room { IfOk result (λ _. HasRoom (image (G.image problem.now).content)) }
 {
     let guarded = guard.guard(alloc, problem)?;
     let y = guard.extend(alloc, problem, &guarded.link, x)?;
@@ -51,8 +52,8 @@ where
 
 /// The link of a table of low terms and its quadratic form, which is not made.
 fn flat_link(table: &LowTable) -> BitsLink
-    requires { table.now.width < 2 ^ 32 }
-    ensures { flat.Fits result table.now }
+    requires { table.now.content.width < 2 ^ 32 }
+    ensures { flat.Fits result table.now.content }
 {
     let _terms = table.terms();
     let width = table.width();
@@ -77,15 +78,17 @@ where
     requires size { G.SIZE_BITS + 2 ≤ 31 }
     requires width { length x.now ≡ problem.now.variables }
     ensures extension { IfOk result (λ y.
-        y.items ≡ rosenberg.extension (G.extension problem.now x.now) (G.image problem.now)) }
+        y.items ≡ rosenberg.extension (G.extension problem.now x.now)
+        (G.image problem.now).content) }
     ensures first { IfOk result (λ _. (link : G.Link) × G.fits link problem.now) }
     ensures second { IfOk result (λ _.
-        (link : BitsLink) × rosenberg.Fits link (G.image problem.now)) }
+        (link : BitsLink) × rosenberg.Fits link (G.image problem.now).content) }
     ensures third { IfOk result (λ _.
-        (link : BitsLink) × flat.Fits link (rosenberg.image (G.image problem.now))) }
+        (link : BitsLink) × flat.Fits link (rosenberg.image (G.image problem.now).content)) }
 
     // What the steps to a model rest on.
-    ensures room { IfOk result (λ _. HasRoom (flat.image (rosenberg.image (G.image problem.now)))) }
+    ensures room { IfOk result (λ _.
+        HasRoom (flat.image (rosenberg.image (G.image problem.now).content))) }
 {
     let guarded = guard.guard(alloc, problem)?;
     let y = guard.extend(alloc, problem, &guarded.link, x)?;

@@ -26,11 +26,11 @@ fn new_nodes(literals: &[Literal], coefficient: i128) -> usize
 
 /// How many new nodes all terms have.
 fn all_new_nodes(table: &Table) -> usize
-    requires { terms_size table.now.terms ≤ 2 ^ 32 }
-    ensures nodes { result ≡ sum_by new_nodes table.now.terms }
+    requires { terms_size table.now.content.terms ≤ 2 ^ 32 }
+    ensures nodes { result ≡ sum_by new_nodes table.now.content.terms }
 
     // What the laws of the layer rest on.
-    ensures kept { IsTable table.now }
+    ensures kept { IsTable table.now.content }
 {
     let mut nodes = 0;
     for (literals, coefficient) in table.terms() {
@@ -41,9 +41,9 @@ fn all_new_nodes(table: &Table) -> usize
 
 /// The link of a table and its quadratic form, which is not made.
 pub fn monomial_link(table: &Table) -> BitsLink
-    requires size { table_size table.now * 2 ^ 2 ≤ 2 ^ 32 }
-    requires total { (terms_total table.now.terms + 1) * 2 ^ 26 ≤ 2 ^ 124 }
-    ensures { Fits result table.now }
+    requires size { table_size table.now.content * 2 ^ 2 ≤ 2 ^ 32 }
+    requires total { (terms_total table.now.content.terms + 1) * 2 ^ 26 ≤ 2 ^ 124 }
+    ensures { Fits result table.now.content }
 {
     let width = table.width();
     BitsLink {

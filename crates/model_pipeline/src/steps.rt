@@ -36,13 +36,14 @@ where
     requires total { G.TOTAL_BITS + 15 ≤ 97 }
     requires size { G.SIZE_BITS + 2 ≤ 31 }
     ensures image { IfOk result (λ made.
-        made.quad ≡ flat.image (rosenberg.image (G.image (P.problem problem)))) }
+        made.quad ≡ flat.image (rosenberg.image (G.image (P.problem problem)).content)) }
     ensures figures { IfOk result (λ made. made.figures ≡ G.figures (P.problem problem)) }
     ensures first { IfOk result (λ made. G.fits made.link (P.problem problem)) }
     ensures second { IfOk result (λ _.
-        (link : BitsLink) × rosenberg.Fits link (G.image (P.problem problem))) }
+        (link : BitsLink) × rosenberg.Fits link (G.image (P.problem problem)).content) }
     ensures third { IfOk result (λ _.
-        (link : BitsLink) × flat.Fits link (rosenberg.image (G.image (P.problem problem)))) }
+        (link : BitsLink)
+        × flat.Fits link (rosenberg.image (G.image (P.problem problem)).content)) }
 
     // What the next step's sums rest on.
     ensures threshold { IfOk result (λ made.

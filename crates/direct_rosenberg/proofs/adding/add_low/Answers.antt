@@ -13,7 +13,7 @@ use Rattle.direct_rosenberg.proofs.adding.add_low.Goals as goal
 
 pub loop-literals-init : goal.loop-literals-init
 loop-literals-init c =
-    let t = c.args.table.now in
+    let t = c.args.table.now.content in
     let left : c.into_iter-literals-iterator.result ≡ t.terms = search rules in
     record {
       added = added-none c.args.terms.now _ (filter is_short t.terms) (ap (filter is_short) left);
@@ -24,7 +24,7 @@ loop-literals-init c =
 
 pub add_short-requires-clause-set : goal.add_short-requires-clause-set
 add_short-requires-clause-set c =
-    let t = c.args.table.now in
+    let t = c.args.table.now.content in
     let now = c.loop-literals.terms in
     let left = rest_more _ c.loop-literals.literals-iterator c.next.new.self c.next.result (c.in-Some.literals, c.in-Some.coefficient) c.in-Some.is c.next.ensures.steps in
     let wide = added-wide c.args.terms.now now _ _ c.loop-literals.invariant.added in
@@ -34,7 +34,7 @@ add_short-requires-clause-set c =
 
 pub loop-literals-preserved : goal.loop-literals-preserved
 loop-literals-preserved c =
-    let t = c.args.table.now in
+    let t = c.args.table.now.content in
     let u : Term = (c.in-Some.literals.now, c.in-Some.coefficient) in
     let left = rest_more _ c.loop-literals.literals-iterator c.next.new.self c.next.result (c.in-Some.literals, c.in-Some.coefficient) c.in-Some.is c.next.ensures.steps in
     let back = to_z-of_z w128 c.in-Some.coefficient (search rules) in

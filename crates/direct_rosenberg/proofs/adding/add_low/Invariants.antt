@@ -9,6 +9,6 @@ use Rattle.direct_rosenberg.proofs.adding.add_low.Given as goal
 abbrev pub invariant-loop-literals : goal.invariant-loop-literals
 invariant-loop-literals l = record {
   added : IsAdded l.fn.terms l.terms (filter is_short l.literals-iterator)
-      (filter is_short l.table.terms);
-  sets : All (λ (t : Term). IsTermSet l.table.width t.0) l.literals-iterator;
+      (filter is_short l.table.content.terms);
+  sets : All (λ (t : Term). IsTermSet l.table.content.width t.0) l.literals-iterator;
 }

@@ -15,13 +15,13 @@ use Rattle.direct_rosenberg.proofs.adding.add_run.Goals as goal
 pub add_low-requires-clause-small : goal.add_low-requires-clause-small
 add_low-requires-clause-small c =
     let made = c.args.made.now in
-    first-total (filter is_short c.args.table.now.terms) made.low.items
+    first-total (filter is_short c.args.table.now.content.terms) made.low.items
     (ties_of c.args.start made.pairs.items made.weights.items) c.args.terms.now.total _ c.requires.small
 
 pub add_low-requires-clause-few : goal.add_low-requires-clause-few
 add_low-requires-clause-few c =
     let made = c.args.made.now in
-    first-few (filter is_short c.args.table.now.terms) made.low.items
+    first-few (filter is_short c.args.table.now.content.terms) made.low.items
     (ties_of c.args.start made.pairs.items made.weights.items) (4 * length c.args.terms.now.pairs) _ c.requires.few
 
 pub add_all-requires-clause-sets : goal.add_all-requires-clause-sets
@@ -40,7 +40,7 @@ add_all-requires-clause-small c =
     let made = c.args.made.now in
     let low : List Term = made.low.items in
     let fits =
-    second-total c.args.terms.now c.add_low.new.terms (filter is_short c.args.table.now.terms) low
+    second-total c.args.terms.now c.add_low.new.terms (filter is_short c.args.table.now.content.terms) low
     (ties_of c.args.start made.pairs.items made.weights.items) _ c.in_ok-add_low.ensures c.requires.small in
     subst (λ (ts : List Term). c.add_low.new.terms.total + terms_total ts ≤ 2 ^ 97) (sym c.deref.ensures.value) fits
 
@@ -49,7 +49,7 @@ add_all-requires-clause-few c =
     let made = c.args.made.now in
     let low : List Term = made.low.items in
     let few =
-    second-few c.args.terms.now c.add_low.new.terms (filter is_short c.args.table.now.terms) low
+    second-few c.args.terms.now c.add_low.new.terms (filter is_short c.args.table.now.content.terms) low
     (ties_of c.args.start made.pairs.items made.weights.items) _ c.in_ok-add_low.ensures c.requires.few in
     subst (λ (ts : List Term). 4 * length c.add_low.new.terms.pairs + squares ts ≤ 2 ^ 33) (sym c.deref.ensures.value) few
 
@@ -82,7 +82,7 @@ add_ties-requires-clause-small c =
     let two : Appends c.add_low.new.terms c.add_all.new.terms low =
     subst (λ (ts : List Term). Appends c.add_low.new.terms c.add_all.new.terms ts) c.deref.ensures.value c.in_ok-add_all.ensures in
     let fits =
-    third-total c.args.terms.now c.add_low.new.terms c.add_all.new.terms (filter is_short c.args.table.now.terms)
+    third-total c.args.terms.now c.add_low.new.terms c.add_all.new.terms (filter is_short c.args.table.now.content.terms)
     low (ties_of c.args.start pairs ms) _ c.in_ok-add_low.ensures two c.requires.small in
     let same : ties_of c.args.start pairs ms ≡ ties_of c.args.start c.deref-2.result.now c.deref-3.result.now =
     λ i. ties_of c.args.start (sym c.deref-2.ensures.value i) (sym c.deref-3.ensures.value i) in
@@ -97,7 +97,7 @@ add_ties-requires-clause-few c =
     let two : Appends c.add_low.new.terms c.add_all.new.terms low =
     subst (λ (ts : List Term). Appends c.add_low.new.terms c.add_all.new.terms ts) c.deref.ensures.value c.in_ok-add_all.ensures in
     let few =
-    third-few c.args.terms.now c.add_low.new.terms c.add_all.new.terms (filter is_short c.args.table.now.terms)
+    third-few c.args.terms.now c.add_low.new.terms c.add_all.new.terms (filter is_short c.args.table.now.content.terms)
     low (ties_of c.args.start pairs ms) _ c.in_ok-add_low.ensures two c.requires.few in
     let same : ties_of c.args.start pairs ms ≡ ties_of c.args.start c.deref-2.result.now c.deref-3.result.now =
     λ i. ties_of c.args.start (sym c.deref-2.ensures.value i) (sym c.deref-3.ensures.value i) in
@@ -106,7 +106,7 @@ add_ties-requires-clause-few c =
 pub returns : goal.returns
 returns c =
     let made = c.args.made.now in
-    let base = filter is_short c.args.table.now.terms in
+    let base = filter is_short c.args.table.now.content.terms in
     let low : List Term = made.low.items in
     let pairs : List Pair = made.pairs.items in
     let ms : List ℕ = made.weights.items in

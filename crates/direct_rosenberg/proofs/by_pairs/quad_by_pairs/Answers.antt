@@ -16,7 +16,7 @@ use Rattle.direct_rosenberg.proofs.by_pairs.quad_by_pairs.Goals as goal
 
 pub run_of-requires-clause-narrow : goal.run_of-requires-clause-narrow
 run_of-requires-clause-narrow c =
-    let t = c.args.table in
+    let t = c.args.table.content in
     omega (
       arith,
       width-le c.excess.result t,
@@ -27,7 +27,7 @@ run_of-requires-clause-narrow c =
 
 pub new-requires : goal.new-requires
 new-requires c =
-    let t = c.args.table in
+    let t = c.args.table.content in
     let made = c.in_ok-made.made in
     let ms : List ℕ = made.weights.items in
     let low : List Term = made.low.items in
@@ -43,7 +43,7 @@ new-requires c =
 
 pub add_run-requires-clause-narrow : goal.add_run-requires-clause-narrow
 add_run-requires-clause-narrow c =
-    let t = c.args.table in
+    let t = c.args.table.content in
     omega (
       arith,
       width-pairs c.excess.result t,
@@ -60,7 +60,7 @@ add_run-requires-clause-wider c = omega (arith, c.width-width.ensures, c.in_ok-t
 
 pub add_run-requires-clause-sets : goal.add_run-requires-clause-sets
 add_run-requires-clause-sets c =
-    let t = c.args.table in
+    let t = c.args.table.content in
     let made = c.in_ok-made.made in
     let ms : List ℕ = made.weights.items in
     let low : List Term = made.low.items in
@@ -77,7 +77,7 @@ add_run-requires-clause-sets c =
 
 pub add_run-requires-clause-small : goal.add_run-requires-clause-small
 add_run-requires-clause-small c =
-    let t = c.args.table in
+    let t = c.args.table.content in
     let made = c.in_ok-made.made in
     let ms : List ℕ = made.weights.items in
     let low : List Term = made.low.items in
@@ -91,7 +91,7 @@ add_run-requires-clause-small c =
 
 pub add_run-requires-clause-few : goal.add_run-requires-clause-few
 add_run-requires-clause-few c =
-    let t = c.args.table in
+    let t = c.args.table.content in
     let made = c.in_ok-made.made in
     let ms : List ℕ = made.weights.items in
     let pairs : List Pair = made.pairs.items in
@@ -114,7 +114,7 @@ add_run-requires-clause-few c =
 
 pub into_quad-requires : goal.into_quad-requires
 into_quad-requires c =
-    let t = c.args.table in
+    let t = c.args.table.content in
     let made = c.in_ok-made.made in
     let ms : List ℕ = made.weights.items in
     let low : List Term = made.low.items in
@@ -132,7 +132,7 @@ into_quad-requires c =
 
 pub returns-clause-image : goal.returns-clause-image
 returns-clause-image c =
-    let t = c.args.table in
+    let t = c.args.table.content in
     let made = c.in_ok-made.made in
     let ms : List ℕ = made.weights.items in
     let low : List Term = made.low.items in

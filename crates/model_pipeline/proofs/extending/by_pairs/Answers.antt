@@ -1,6 +1,6 @@
 use Rattle.std.proofs.Common.{subst, arith}
 use Rattle.form_steps.proofs.Growth.{grown_within}
-use Rattle.term_table.specs.Tables.{TableContent}
+use Rattle.term_table.specs.Tables.{KeptTable}
 use Rattle.rosenberg_layer.specs.Rosenberg as rosenberg
 use Rattle.quad_form.specs.Flat as flat
 use Rattle.model_pipeline.specs.Formed.{HasRoom}
@@ -27,9 +27,9 @@ flat_link-link-requires g c =
 pub returns-clause-room : goal.returns-clause-room
 returns-clause-room g c =
     let guarded = c.in_ok-guarded.ensures in
-    let t : TableContent = c.in_ok-guarded.guarded.target in
+    let t = c.in_ok-guarded.guarded.target.content in
     let size = grown_within _ g.G.Guard.SIZE_BITS 2 31 guarded.size (omega (arith, c.requires.size)) in
     let total = grown_within _ g.G.Guard.TOTAL_BITS 19 124 guarded.total (omega (arith, c.requires.total)) in
     let room = pair_room t c.in_ok-low.ensures.fits.table size total in
     if_ok-always c.extend-2.result
-    (λ y. subst (λ (u : TableContent). HasRoom (flat.image (rosenberg.image u))) guarded.image room)
+    (λ y. subst (λ (u : KeptTable). HasRoom (flat.image (rosenberg.image u.content))) guarded.image room)

@@ -5,6 +5,7 @@ use Rattle.problem_form.specs.declared.limits.Normal.TheVariants.{Multilinear}
 use Rattle.problem_form.specs.declared.limits.High.TheVariants.{Monomial}
 use Rattle.problem_form.specs.Limits.{upper}
 use Rattle.problem_form.specs.Problems.{ProblemContent}
+use Rattle.term_table.specs.Tables.{KeptTable}
 use Rattle.normal_form.specs.Multilinear as multilinear
 use Rattle.quad_form.specs.Quads.{quad_size, quad_total}
 use Rattle.direct_quad.specs.FlatMonomials as flat_monomials
@@ -16,7 +17,8 @@ use Rattle.model_pipeline.proofs.forms.multilinear_monomial.Goals as goal
 
 pub returns-clause-image : goal.returns-clause-image
 returns-clause-image g c =
-    c.in_ok-lowered.ensures.image ∙ ap flat_monomials.image c.in_ok-made.ensures.image
+    c.in_ok-lowered.ensures.image
+    ∙ ap (λ (u : KeptTable). flat_monomials.image u.content) c.in_ok-made.ensures.image
     ∙ ap (quad_by Multilinear Monomial) c.problem.ensures.same
 
 pub returns-clause-stands : goal.returns-clause-stands
@@ -27,8 +29,8 @@ returns-clause-stands g c =
     let lowered = c.in_ok-lowered.ensures in
     let link = c.in_ok-lowered.lowered.link in
     let quad = c.in_ok-lowered.lowered.target in
-    let image = lowered.image ∙ ap flat_monomials.image made.image in
-    let fits : flat_monomials.Fits link t = subst (flat_monomials.Fits link) made.image lowered.fits in
+    let image = lowered.image ∙ ap (λ (u : KeptTable). flat_monomials.image u.content) made.image in
+    let fits : flat_monomials.Fits link t = subst (λ (u : KeptTable). flat_monomials.Fits link u.content) made.image lowered.fits in
     let threshold : unsigned_abs (upper p) ≤ 2 ^ 64 =
     omega (arith, ap (λ (n : Figures). unsigned_abs n.threshold) made.figures, made.threshold_high) in
     subst (λ (r : ProblemContent). IsFormed r quad c.in_ok-made.made.figures) c.problem.ensures.same

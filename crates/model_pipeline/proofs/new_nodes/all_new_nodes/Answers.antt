@@ -17,7 +17,7 @@ overflow_add-nodes c =
     omega (
       arith,
       nodes_left c.loop-literals.nodes c.new_nodes-nodes.result _ t _ _ left new c.loop-literals.invariant.whole,
-      size-all_new_terms c.args.table.now.terms 0,
+      size-all_new_terms c.args.table.now.content.terms 0,
       c.requires,
     )
 

@@ -6,11 +6,11 @@ use Rattle.model_pipeline.proofs.new_nodes.monomial_link.Goals as goal
 
 pub overflow_add-result : goal.overflow_add-result
 overflow_add-result c =
-    omega (arith, c.requires.size, c.width-width.ensures, c.all_new_nodes.ensures.nodes, all_nodes-le c.args.table.now.terms)
+    omega (arith, c.requires.size, c.width-width.ensures, c.all_new_nodes.ensures.nodes, all_nodes-le c.args.table.now.content.terms)
 
 pub returns : goal.returns
 returns c =
-    let t = c.args.table.now in
+    let t = c.args.table.now.content in
     record {
       source = c.width-width.ensures;
       target = omega (arith, c.width-width.ensures, c.all_new_nodes.ensures.nodes, length-image (monomials.image t));
