@@ -1,5 +1,5 @@
 -- A text of rows is cut into the words of its rows, and its comments into none.
-use Rattle.std.proofs.Common.{◌≡◌, ℕ, ◌+◌, List, [], ◌∷◌, ◌++◌, refl, ap, ◌∙◌}
+use Rattle.std.proofs.Common.{◌≡◌, ℕ, ◌+◌, false, List, [], ◌∷◌, ◌++◌, refl, ap, ◌∙◌}
 use Rattle.std.specs.Prelude.{codes, filter}
 use Rattle.std.specs.List.{join_with_byte, slice_split, AllByRecursion}
 use Rattle.std.proofs.lemmas.List.Elements.{All-from_recursion}
