@@ -304,6 +304,7 @@ module _ (f : IsingContent) (n : Figures) (own : ℕ) (graph : Chimera) (map : L
       let size = λ (e : Entry). unsigned_abs e.weight in
       let all = sum_by-append size (node_entries 0 g.fields) g.couplings in
       let unit = unit_low (weights_of g.fields g.couplings) in
+      let moved = figures_moved (chained_figures e n) (neg_ℤ g.constant) in
       let less = once_low u (ising_total (reduced g)) (ising_total g) (one_le_ising_unit g)
       (made_total g (reduced g) u refl refl) in
       record {
@@ -311,8 +312,8 @@ module _ (f : IsingContent) (n : Figures) (own : ℕ) (graph : Chimera) (map : L
         unit = omega (arith, unit, sizes, all, light);
         figures = record {
           scale = whole.figures.scale;
-          offset = unmoved_low _ whole.figures.offset;
-          threshold = unmoved_low _ whole.figures.threshold;
+          offset = unmoved_low moved.offset whole.figures.offset;
+          threshold = unmoved_low moved.threshold whole.figures.threshold;
         };
       }
 
