@@ -1,4 +1,4 @@
-use Rattle.std.proofs.Common.{Result, ap, length, sym, subst, ◌∙◌, arith}
+use Rattle.std.proofs.Common.{Result, ap, length, sym, subst, arith}
 use Rattle.std.proofs.lemmas.Result.{err_from_is_err_and}
 use Rattle.whole_text.specs.declared.faults.TextFault.{TextFault}
 use Rattle.whole_text.specs.TokenTexts.{words_of}
