@@ -198,7 +198,8 @@ made_model : (target : NodeModel) (choice : UnitChoice) (p : ProblemContent) (ow
     → IsModelOf p own target choice (form_model target choice q own (figures p))
 made_model Qubo choice p own q kept made few =
     let least : own ≤ length q.diagonal = omega (arith, made.enough, few) in
-    let figured = figures_within (pos 1) p (figures p) _ _ (omega arith) (figures_are_stated p made.threshold) in
+    let figured =
+    figures_within (pos 1) p (figures p) _ _ (omega arith) (figures_are_stated p made.threshold) in
     qubo_stands p own made.stands.0 choice q (figures p) kept least (omega (arith, made.total_low))
     figured
     made.stands.1
@@ -206,7 +207,8 @@ made_model Ising choice p own q kept made few =
     let stands = spins_stand p q kept made.stands in
     let width = length-fields (coupled q.couplers) 0 q.diagonal in
     let enough : p.variables ≤ length (spins.image q).fields = omega (arith, width, made.enough) in
-    let figured = figures_within (pos 4) p (ising_figures (figures p)) _ _ (omega arith) (ising_figures_are_stated p made.threshold) in
+    let figured = figures_within (pos 4) p (ising_figures (figures p)) _ _ (omega arith)
+    (ising_figures_are_stated p made.threshold) in
     ising_stands p own stands.0 choice (spins.image q) (ising_figures (figures p))
     (image_is_ising q kept made.total) few enough
     (omega (arith, total-image q, made.total_low)) figured stands.1

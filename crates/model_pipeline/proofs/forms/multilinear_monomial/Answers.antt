@@ -8,7 +8,6 @@ use Rattle.problem_form.specs.Problems.{ProblemContent}
 use Rattle.term_table.specs.Tables.{KeptTable}
 use Rattle.normal_form.specs.Multilinear as multilinear
 use Rattle.term_table.specs.Terms.{terms_total}
-use Rattle.term_table.specs.Tables.{TableContent}
 use Rattle.quad_form.specs.Quads.{quad_size}
 use Rattle.direct_quad.specs.FlatMonomials as flat_monomials
 use Rattle.direct_quad.specs.laws.FlatKept.{first, second, fits_first, fits_second}
@@ -33,7 +32,8 @@ returns-clause-stands g c =
     let link = c.in_ok-lowered.lowered.link in
     let quad = c.in_ok-lowered.lowered.target in
     let image = lowered.image ∙ ap (λ (u : KeptTable). flat_monomials.image u.content) made.image in
-    let fits : flat_monomials.Fits link t = subst (λ (u : KeptTable). flat_monomials.Fits link u.content) made.image lowered.fits in
+    let fits : flat_monomials.Fits link t =
+    subst (λ (u : KeptTable). flat_monomials.Fits link u.content) made.image lowered.fits in
     let threshold : unsigned_abs (upper p) ≤ 2 ^ 64 =
     omega (arith, ap (λ (n : Figures). unsigned_abs n.threshold) made.figures, made.threshold_high) in
     subst (λ (r : ProblemContent). IsFormed r quad c.in_ok-made.made.figures) c.problem.ensures.same
@@ -46,7 +46,7 @@ returns-clause-stands g c =
     (omega (
       arith,
       monomial_total t fits.table,
-      ap (λ (s : TableContent). terms_total s.terms) made.image,
+      ap (λ (u : KeptTable). terms_total u.content.terms) made.image,
       made.total,
     ))
     (omega (arith, ap quad_size image, lowered.size, made.size))))
