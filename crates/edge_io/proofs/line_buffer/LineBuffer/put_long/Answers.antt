@@ -1,5 +1,4 @@
-use Rattle.std.proofs.Common.{◌≡◌, ◌++◌, List, ℕ, take, drop, sym, ap, ◌∙◌, subst, rules, append_assoc}
-use Rattle.std.proofs.lemmas.List.{take-append-drop}
+use Rattle.std.proofs.Common.{◌++◌, sym, ap, ◌∙◌, subst, rules, append_assoc}
 use Rattle.std.specs.Io.KnownBytes.{Appends}
 use Rattle.edge_io.specs.Sinks.{AppendsFront}
 use Rattle.edge_io.proofs.Pieces.{Passes-trans, Passes-written, Passes-front, AppendsFront-more, parts_again}
