@@ -14,31 +14,31 @@ use Rattle.problem_form.specs.declared.limits.High.TheVariants.{Monomial, Rosenb
 use Rattle.command_words.specs.declared.commands.Format.{Format}
 use Rattle.command_words.specs.declared.commands.Format.TheVariants as formats
 use Rattle.command_words.specs.declared.commands.Target.{Target}
-use Rattle.command_words.specs.declared.commands.Target.TheVariants as targets
 use Rattle.command_words.specs.declared.commands.NodeModel.{NodeModel}
 use Rattle.command_words.specs.declared.commands.NodeModel.TheVariants.{Qubo, Ising}
 use Rattle.command_words.specs.declared.commands.TargetWord.{TargetWord}
 use Rattle.command_words.specs.declared.commands.TargetWord.TheVariants.{Nodes, Chimera}
-use Rattle.command_words.specs.declared.commands.GraphSize.{GraphSize}
 use Rattle.command_words.specs.declared.commands.Chaining.{Chaining}
 use Rattle.command_words.specs.declared.commands.Chaining.TheVariants.{Clique, Map}
 use Rattle.command_words.specs.declared.commands.WordAt.{WordAt}
 use Rattle.command_words.specs.declared.commands.WordAt.TheVariants.{Whole, Value}
-use Rattle.command_words.specs.declared.commands.Job.{Job}
-use Rattle.command_words.specs.declared.commands.Sample.{Sample}
+use Rattle.command_words.specs.declared.commands.Ask.{Ask}
+use Rattle.command_words.specs.declared.commands.Ask.TheVariants as asks
 use Rattle.command_words.specs.declared.commands.Command.{Command}
-use Rattle.command_words.specs.declared.commands.Command.TheVariants as commands
+use Rattle.command_words.specs.declared.words.Job.{Job}
+use Rattle.command_words.specs.declared.words.Sample.{Sample}
 use Rattle.whole_text.specs.Numbers.{digits_number}
-use Rattle.chimera_graph.specs.Shape.{IsShape}
+use Rattle.chimera_graph.specs.declared.chimera.Chimera as graphs
 use Rattle.command_words.specs.declared.keys.Keys.{Keys}
 use Rattle.command_words.specs.declared.words.Verb.{Verb}
 use Rattle.command_words.specs.declared.words.Verb.TheVariants as verbs
-use Rattle.command_words.specs.Asked.{EachJobIsAskedFor, EachDecodingIsAskedFor, EachExtensionIsAskedFor, EachSampleIsAskedFor, EachUnitIsAskedFor, EachGraphIsAskedFor, EachKeyStands, CannotStand, NoKeyStandsTwice, NoGraphKeyElsewhere, NoGraphWithout, NoLargerGraph, IsRefusedAfterAll, NoOtherWordsAsk, Say, format_word, high_key, normal_key, fourth_word_job, sample_with, target_word, word_of, unit_key, rows_key, cols_key, shore_key, map_key, clique_key, job_words, compile_words, decode_words, extend_words, sample_words, size_with}
-use Rattle.command_words.specs.Commands.{◌>>=◌, after_verb, chosen_target, clauses_of, command_of, format_of, job_of, named, sample_of, target_of, valued, verb_of}
-use Rattle.command_words.specs.Keys.{choices_of, chosen_unit, given, keys_from, no_keys, size_of, target_by, with_word}
+use Rattle.command_words.specs.Asked.{EachJobIsAskedFor, EachDecodingIsAskedFor, EachExtensionIsAskedFor, EachSampleIsAskedFor, EachUnitIsAskedFor, EachGraphIsAskedFor, EachKeyStands, CannotStand, NoKeyStandsTwice, NoGraphKeyElsewhere, NoGraphWithout, NoLargerGraph, IsRefusedAfterAll, NoOtherWordsAsk, Say, format_word, high_key, normal_key, on_fourth_word, board_of, target_word, word_of, unit_key, rows_key, cols_key, shore_key, map_key, clique_key, job_words, compile_words, decode_words, extend_words, sample_words}
+use Rattle.command_words.specs.Commands.{◌>>=◌, after_verb, chosen_target, clauses_of, command_of, drawn, format_of, job_of, named, on_file, sample_of, target_of, valued, verb_of}
+use Rattle.command_words.specs.Keys.{choices_of, chosen_unit, given, graph_of, keys_from, no_keys, target_by, with_word}
 use Rattle.command_words.specs.Names.{text_at}
 use Rattle.command_words.proofs.CutWords.{cut_rows, cut_cols, cut_shore, cut_map}
-use Rattle.command_words.proofs.Sides.{few_cols, few_rows, few_shore, graph_size-larger, graph_size-shape, side_of-digits}
+use Rattle.command_words.proofs.Sides.{few_cols, few_rows, few_shore, side_of-digits}
+use Rattle.command_words.proofs.Graphs.{graph_with-its, graph_with-larger}
 
 -- ---- the words of a job
 
@@ -53,6 +53,26 @@ target_of-target_word : (word : TargetWord) → target_of (target_word word) ≡
 target_of-target_word (Nodes Qubo) = refl
 target_of-target_word (Nodes Ising) = refl
 target_of-target_word Chimera = refl
+
+-- the job on the file that the fourth word names
+abbrev fourth_word_job : Format → Target → Keys → Job
+fourth_word_job format target keys = record {
+  format = format;
+  file = Whole 3;
+  target = target;
+  choices = choices_of keys;
+  unit = chosen_unit keys;
+}
+
+-- the sample of these numbers
+abbrev sample_with : ℕ → ℕ → Target → Keys → Sample
+sample_with number clauses target keys = record {
+  number = number;
+  clauses = clauses;
+  target = target;
+  choices = choices_of keys;
+  unit = chosen_unit keys;
+}
 
 -- what is chosen step by step
 chain : {A B C : Type 0} (r : Result A ℕ) (f : A → Result B ℕ) (g : A → B → C) {D : Type 0} (h : C → D)
@@ -70,28 +90,28 @@ each_job format word file keys =
     rw (format_of-format_word format, target_of-target_word word)
     (chain (keys_from word no_keys 4 keys)
     (chosen_target (compile_words format word file keys) word)
-    (λ given target. fourth_word_job format target given) commands.Compile)
+    (λ given target. fourth_word_job format target given) (λ job. on_file job asks.Model))
 
 pub each_decoding : EachDecodingIsAskedFor
 each_decoding format word file state keys =
     rw (format_of-format_word format, target_of-target_word word)
     (chain (keys_from word no_keys 5 keys)
     (chosen_target (decode_words format word file state keys) word)
-    (λ given target. fourth_word_job format target given) (λ job. commands.Decode job (Whole 4)))
+    (λ given target. fourth_word_job format target given) (λ job. on_file job (asks.Decode (Whole 4))))
 
 pub each_extension : EachExtensionIsAskedFor
 each_extension format word file assignment keys =
     rw (format_of-format_word format, target_of-target_word word)
     (chain (keys_from word no_keys 5 keys)
     (chosen_target (extend_words format word file assignment keys) word)
-    (λ given target. fourth_word_job format target given) (λ job. commands.Extend job (Whole 4)))
+    (λ given target. fourth_word_job format target given) (λ job. on_file job (asks.Extend (Whole 4))))
 
 pub each_sample : EachSampleIsAskedFor
 each_sample number clauses first second word keys one two =
     rw (one, two, target_of-target_word word)
     (chain (keys_from word no_keys 4 keys)
     (chosen_target (sample_words first second word keys) word)
-    (λ given target. sample_with number clauses target given) commands.Sample)
+    (λ given target. sample_with number clauses target given) drawn)
 
 -- a key for the unit alone
 unit_alone : (model : NodeModel) (unit : UnitChoice)
@@ -143,15 +163,19 @@ graph_given rows cols shore chains = record no_keys {
 }
 
 -- the keys of a graph in a row
-graph_keys : (first second third fourth : List ℕ) (rows cols shore : ℕ) (chains : Chaining)
-    → digits_number first ≡ Some rows → digits_number second ≡ Some cols
-    → digits_number third ≡ Some shore → IsShape rows cols shore
+graph_keys : (first second third fourth : List ℕ) (graph : graphs.Chimera) (chains : Chaining)
+    → digits_number first ≡ Some graph.rows → digits_number second ≡ Some graph.cols
+    → digits_number third ≡ Some graph.shore
     → ((keys : Keys) → keys.chains ≡ None
     → with_word Chimera keys 7 fourth ≡ Some (record keys { chains = Some chains }))
     → keys_from Chimera no_keys 4
     (rows_key first ∷ cols_key second ∷ shore_key third ∷ fourth ∷ [])
-    ≡ Ok (graph_given rows cols shore chains)
-graph_keys first second third fourth rows cols shore chains r c s shape last =
+    ≡ Ok (graph_given graph.rows graph.cols graph.shore chains)
+graph_keys first second third fourth graph chains r c s last =
+    let shape = graph.shape in
+    let rows = graph.rows in
+    let cols = graph.cols in
+    let shore = graph.shore in
     rw (
       each_key.rows no_keys 4 first rows refl r shape.some_rows (few_rows rows cols shore shape),
       each_key.cols (record no_keys { rows = Some rows }) 5 second cols refl c shape.some_cols
@@ -161,32 +185,31 @@ graph_keys first second third fourth rows cols shore chains r c s shape last =
       last (record no_keys { rows = Some rows; cols = Some cols; shore = Some shore }) refl,
     ) refl
 
--- the job of a graph with chains of either kind
-graph_job : (format : Format) (file first second third fourth : List ℕ) (rows cols shore : ℕ)
-    (chains : Chaining) → digits_number first ≡ Some rows → digits_number second ≡ Some cols
-    → digits_number third ≡ Some shore → IsShape rows cols shore
+-- what is asked of a graph with chains of either kind
+graph_asked : (format : Format) (file first second third fourth : List ℕ) (graph : graphs.Chimera)
+    (chains : Chaining) → digits_number first ≡ Some graph.rows
+    → digits_number second ≡ Some graph.cols → digits_number third ≡ Some graph.shore
     → ((keys : Keys) → keys.chains ≡ None
     → with_word Chimera keys 7 fourth ≡ Some (record keys { chains = Some chains }))
     → command_of (compile_words format Chimera file
     (rows_key first ∷ cols_key second ∷ shore_key third ∷ fourth ∷ []))
-    ≡ Ok (commands.Compile
-    (fourth_word_job format (targets.Chimera (size_with rows cols shore) chains) no_keys))
-graph_job format file first second third fourth rows cols shore chains r c s shape last =
+    ≡ Ok (on_fourth_word format (board_of graph chains) no_keys asks.Model)
+graph_asked format file first second third fourth graph chains r c s last =
     each_job format Chimera file
     (rows_key first ∷ cols_key second ∷ shore_key third ∷ fourth ∷ [])
     ∙ rw (
-      graph_keys first second third fourth rows cols shore chains r c s shape last,
-      graph_size-shape rows cols shore shape,
+      graph_keys first second third fourth graph chains r c s last,
+      graph_with-its graph,
     ) refl
 
 pub each_graph : EachGraphIsAskedFor
 each_graph = record {
-  clique = λ format file first second third rows cols shore r c s shape.
-      graph_job format file first second third clique_key rows cols shore Clique r c s shape
+  clique = λ format file first second third graph r c s.
+      graph_asked format file first second third clique_key graph Clique r c s
       (λ keys free. each_key.clique keys 7 free);
-  map = λ format file first second third name rows cols shore r c s shape.
-      graph_job format file first second third (map_key name) rows cols shore (Map (Value 7)) r c s
-      shape (λ keys free. each_key.map keys 7 name free);
+  map = λ format file first second third name graph r c s.
+      graph_asked format file first second third (map_key name) graph (Map (Value 7)) r c s
+      (λ keys free. each_key.map keys 7 name free);
 }
 
 pub no_key_twice : NoKeyStandsTwice
@@ -235,16 +258,16 @@ no_graph_key_elsewhere = record {
 }
 
 -- nothing
-abbrev no_size : Option GraphSize
-no_size = None
+abbrev no_graph : Option graphs.Chimera
+no_graph = None
 
 abbrev no_target : Option Target
 no_target = None
 
--- nothing is given of a size
-no_target_given : (size : Option GraphSize) → given size (λ _. no_target) ≡ None
+-- nothing is given of a graph
+no_target_given : (graph : Option graphs.Chimera) → given graph (λ _. no_target) ≡ None
 no_target_given None = refl
-no_target_given (Some s) = refl
+no_target_given (Some g) = refl
 
 -- keys that choose no target are refused after all words
 refused : (keys : Keys) → target_by Chimera keys ≡ None → IsRefusedAfterAll keys
@@ -272,8 +295,8 @@ no_graph_without = record {
   no_cols keys none = rw none (go keys.rows)
     where
       go : (value : Option ℕ)
-          → given (given value (λ rows. no_size))
-          (λ size. given keys.chains (λ chains. Some (targets.Chimera size chains))) ≡ None
+          → given (given value (λ rows. no_graph))
+          (λ graph. given keys.chains (λ chains. Some (board_of graph chains))) ≡ None
       go None = refl
       go (Some rows) = refl
 
@@ -281,18 +304,18 @@ no_graph_without = record {
   no_shore keys none = rw none (go keys.rows keys.cols)
     where
       go : (first second : Option ℕ)
-          → given (given first (λ rows. given second (λ cols. no_size)))
-          (λ size. given keys.chains (λ chains. Some (targets.Chimera size chains))) ≡ None
+          → given (given first (λ rows. given second (λ cols. no_graph)))
+          (λ graph. given keys.chains (λ chains. Some (board_of graph chains))) ≡ None
       go None second = refl
       go (Some rows) None = refl
       go (Some rows) (Some cols) = refl
 
   no_chains : (keys : Keys) → keys.chains ≡ None → target_by Chimera keys ≡ None
-  no_chains keys none = rw none (no_target_given (size_of keys))
+  no_chains keys none = rw none (no_target_given (graph_of keys))
 
 pub no_larger_graph : NoLargerGraph
 no_larger_graph keys rows cols shore r c s larger =
-    refused keys (rw (r, c, s, graph_size-larger rows cols shore larger) refl)
+    refused keys (rw (r, c, s, graph_with-larger rows cols shore larger) refl)
 
 -- ---- a step, and the next one
 
@@ -334,10 +357,10 @@ target_of-word word =
 chosen_has_word : (words : List (List ℕ)) (word : TargetWord) (keys : Keys)
     → IfOk (chosen_target words word keys) (λ target. word_of target ≡ word)
 chosen_has_word words (Nodes model) keys = refl
-chosen_has_word words Chimera keys = go (size_of keys) keys.chains
+chosen_has_word words Chimera keys = go (graph_of keys) keys.chains
   where
-    go : (size : Option GraphSize) (chains : Option Chaining)
-        → IfOk (ok_or (given size (λ s. given chains (λ c. Some (targets.Chimera s c)))) (length words + 1))
+    go : (graph : Option graphs.Chimera) (chains : Option Chaining)
+        → IfOk (ok_or (given graph (λ g. given chains (λ c. Some (board_of g c)))) (length words + 1))
         (λ target. word_of target ≡ Chimera)
     go None chains = tt
     go (Some s) None = tt
@@ -535,16 +558,17 @@ with_file_words first words job at =
     ++ text_at words at ∷ drop 5 words
 
 -- what a verb asks for that takes one more file
-with_file-words : (words : List (List ℕ)) (first : List ℕ) (make : Job → WordAt → Command)
+with_file-words : (words : List (List ℕ)) (first : List ℕ) (make : WordAt → Ask)
     → words ≡ first ∷ drop 1 words
     → ((job : Job) (at : WordAt) → words ≡ with_file_words first words job at
-    → IsAsked words (make job at))
-    → IfOk (job_of words 5 >>= λ job. named words 4 >>= λ at. Ok (make job at)) (IsAsked words)
+    → IsAsked words (on_file job (make at)))
+    → IfOk (job_of words 5 >>= λ job. named words 4 >>= λ at. Ok (on_file job (make at)))
+    (IsAsked words)
 with_file-words words first make begins asked =
-    next (job_of words 5) (λ job. named words 4 >>= λ at. Ok (make job at)) (HasJob words)
+    next (job_of words 5) (λ job. named words 4 >>= λ at. Ok (on_file job (make at))) (HasJob words)
     (IsAsked words) (job_of-words words 5)
     (λ job stands.
-    next (named words 4) (λ at. Ok (make job at)) (λ at. StandsAt words 4 (text_at words at))
+    next (named words 4) (λ at. Ok (on_file job (make at))) (λ at. StandsAt words 4 (text_at words at))
     (IsAsked words) (named-word words 4)
     (λ at fifth.
     asked job at
@@ -556,25 +580,25 @@ with_file-words words first make begins asked =
 after_verb-words : (words : List (List ℕ)) (verb : Verb) → words ≡ verb_word verb ∷ drop 1 words
     → IfOk (after_verb verb words) (IsAsked words)
 after_verb-words words verbs.Compile first =
-    next (job_of words 4) (λ job. Ok (commands.Compile job)) (HasJob words) (IsAsked words)
+    next (job_of words 4) (λ job. Ok (on_file job asks.Model)) (HasJob words) (IsAsked words)
     (job_of-words words 4)
     (λ job stands. (drop 4 words, first ∙ ap (λ rest. codes "compile" ∷ rest) stands))
 after_verb-words words verbs.Decode first =
-    with_file-words words (codes "decode") commands.Decode first
+    with_file-words words (codes "decode") asks.Decode first
     (λ job state stands. (drop 5 words, stands))
 after_verb-words words verbs.Extend first =
-    with_file-words words (codes "extend") commands.Extend first
+    with_file-words words (codes "extend") asks.Extend first
     (λ job assignment stands. (drop 5 words, stands))
 after_verb-words words verbs.Sample first =
-    next (sample_of words) (λ sample. Ok (commands.Sample sample)) (HasSample words) (IsAsked words)
+    next (sample_of words) (λ sample. Ok (drawn sample)) (HasSample words) (IsAsked words)
     (sample_of-words words)
     (λ sample has. (
       drop 4 words,
       record {
         first = has.0;
         second = has.1;
-        number = has.2;
-        clauses = has.3;
+        number_said = has.2;
+        clauses_said = has.3;
         all = first ∙ ap (λ rest. codes "sample" ∷ rest) has.4;
       },
     ))

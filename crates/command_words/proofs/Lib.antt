@@ -1,4 +1,5 @@
 pub mod Texts
 pub mod CutWords
 pub mod Sides
+pub mod Graphs
 pub mod AskedWords

@@ -1,12 +1,10 @@
--- The numbers of a graph, as the keys give them.
-use Rattle.std.proofs.Common.{◌≡◌, ◌<◌, ◌≤◌, ◌*◌, ◌^◌, ℕ, false, List, None, Some, refl, arith}
+-- The numbers of a graph, as keys may give them.
+use Rattle.std.proofs.Common.{◌≡◌, ◌<◌, ◌≤◌, ◌*◌, ◌^◌, ℕ, List, Some, refl, arith}
 use Rattle.std.proofs.Math.Nat.{le-mul_of_pos_right, mul_comm}
-use Rattle.std.specs.Prelude.{nat_le, nat_lt, ◌&&◌}
-use Rattle.std.proofs.lemmas.Bool.{and_right, le-leb, lt-leb, lt-ltb}
+use Rattle.std.proofs.lemmas.Bool.{le-leb, lt-ltb}
 use Rattle.whole_text.specs.Numbers.{digits_number}
 use Rattle.chimera_graph.specs.Shape.{IsShape}
-use Rattle.command_words.specs.Asked.{size_with}
-use Rattle.command_words.specs.Keys.{fits_graph, graph_size, side_of}
+use Rattle.command_words.specs.Keys.{side_of}
 
 -- a number in digits is one of a graph from 1 to 2^20
 pub side_of-digits : (value : List ℕ) (side : ℕ) → digits_number value ≡ Some side → 0 < side
@@ -45,24 +43,3 @@ few_shore rows cols shore shape =
       mul_comm shore (2 * rows * cols),
       shape.few,
     )
-
--- a graph has these numbers where they are a shape
-pub graph_size-shape : (rows cols shore : ℕ) → IsShape rows cols shore
-    → graph_size rows cols shore ≡ Some (size_with rows cols shore)
-graph_size-shape rows cols shore shape =
-    rw (
-      lt-ltb 0 rows shape.some_rows,
-      lt-ltb 0 cols shape.some_cols,
-      lt-ltb 0 shore shape.some_shore,
-      le-leb (2 * rows * cols * shore) (2 ^ 20) shape.few,
-    ) refl
-
--- and none where there were too many qubits
-pub graph_size-larger : (rows cols shore : ℕ) → 2 ^ 20 < 2 * rows * cols * shore
-    → graph_size rows cols shore ≡ None
-graph_size-larger rows cols shore larger =
-    let too_large : fits_graph rows cols shore ≡ false =
-    and_right (nat_lt 0 rows && nat_lt 0 cols && nat_lt 0 shore)
-    (nat_le (2 * rows * cols * shore) (2 ^ 20))
-    (lt-leb (2 * rows * cols * shore) (2 ^ 20) larger) in
-    rw too_large refl

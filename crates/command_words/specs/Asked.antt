@@ -7,7 +7,7 @@ use Rattle.problem_form.specs.declared.limits.Normal.TheVariants.{Literal, Multi
 use Rattle.problem_form.specs.declared.limits.High.{High}
 use Rattle.problem_form.specs.declared.limits.High.TheVariants.{Monomial, Rosenberg}
 use Rattle.whole_text.specs.Numbers.{digits_number}
-use Rattle.chimera_graph.specs.Shape.{IsShape}
+use Rattle.chimera_graph.specs.declared.chimera.Chimera as graphs
 use Rattle.command_words.specs.declared.keys.Keys.{Keys}
 use Rattle.command_words.specs.declared.commands.Format.{Format}
 use Rattle.command_words.specs.declared.commands.Format.TheVariants as formats
@@ -17,14 +17,14 @@ use Rattle.command_words.specs.declared.commands.NodeModel.{NodeModel}
 use Rattle.command_words.specs.declared.commands.NodeModel.TheVariants.{Qubo, Ising}
 use Rattle.command_words.specs.declared.commands.TargetWord.{TargetWord}
 use Rattle.command_words.specs.declared.commands.TargetWord.TheVariants.{Nodes, Chimera}
-use Rattle.command_words.specs.declared.commands.GraphSize.{GraphSize}
 use Rattle.command_words.specs.declared.commands.Chaining.{Chaining}
 use Rattle.command_words.specs.declared.commands.Chaining.TheVariants.{Clique, Map}
 use Rattle.command_words.specs.declared.commands.WordAt.TheVariants.{Whole, Value}
-use Rattle.command_words.specs.declared.commands.Job.{Job}
-use Rattle.command_words.specs.declared.commands.Sample.{Sample}
+use Rattle.command_words.specs.declared.commands.Origin.{Origin}
+use Rattle.command_words.specs.declared.commands.Origin.TheVariants.{File, Drawn}
+use Rattle.command_words.specs.declared.commands.Ask.{Ask}
+use Rattle.command_words.specs.declared.commands.Ask.TheVariants as asks
 use Rattle.command_words.specs.declared.commands.Command.{Command}
-use Rattle.command_words.specs.declared.commands.Command.TheVariants as commands
 use Rattle.command_words.specs.Commands.{◌>>=◌, chosen_target, clauses_of, command_of}
 use Rattle.command_words.specs.Keys.{choices_of, chosen_unit, cut, keys_from, no_keys, with_word}
 use Rattle.command_words.specs.Names.{text_at}
@@ -46,7 +46,7 @@ target_word Chimera = codes "chimera"
 -- what the word of a target says
 abbrev pub word_of : Target → TargetWord
 word_of (targets.Nodes model) = Nodes model
-word_of (targets.Chimera size chains) = Chimera
+word_of (targets.Chimera board) = Chimera
 
 -- the words of a format, a target and a file
 abbrev pub job_words : Format → TargetWord → List ℕ → List (List ℕ)
@@ -71,24 +71,24 @@ abbrev pub sample_words : List ℕ → List ℕ → TargetWord → List (List �
 sample_words number clauses target keys =
     codes "sample" ∷ number ∷ clauses ∷ target_word target ∷ keys
 
--- the job on the file that the fourth word names
-abbrev pub fourth_word_job : Format → Target → Keys → Job
-fourth_word_job format target keys = record {
-  format = format;
-  file = Whole 3;
+-- what is asked of the file that the fourth word names
+abbrev pub on_fourth_word : Format → Target → Keys → Ask → Command
+on_fourth_word format target keys ask = record {
+  origin = File format (Whole 3);
   target = target;
   choices = choices_of keys;
   unit = chosen_unit keys;
+  ask = ask;
 }
 
--- the sample of these numbers
-abbrev pub sample_with : ℕ → ℕ → Target → Keys → Sample
-sample_with number clauses target keys = record {
-  number = number;
-  clauses = clauses;
+-- the summary of the sample of these numbers
+abbrev pub summary_of : ℕ → ℕ → Target → Keys → Command
+summary_of number clauses target keys = record {
+  origin = Drawn number clauses;
   target = target;
   choices = choices_of keys;
   unit = chosen_unit keys;
+  ask = asks.Summary;
 }
 
 -- the key that chooses a normal form
@@ -128,7 +128,7 @@ EachJobIsAskedFor = (format : Format) (word : TargetWord) (file : List ℕ) (key
     → command_of (compile_words format word file keys)
     ≡ (keys_from word no_keys 4 keys
     >>= λ given. chosen_target (compile_words format word file keys) word given
-    >>= λ target. Ok (commands.Compile (fourth_word_job format target given)))
+    >>= λ target. Ok (on_fourth_word format target given asks.Model))
 
 -- with every format, target, file and state it can be asked for that state's assignment, with what
 -- the keys after them choose
@@ -138,7 +138,7 @@ EachDecodingIsAskedFor =
     → command_of (decode_words format word file state keys)
     ≡ (keys_from word no_keys 5 keys
     >>= λ given. chosen_target (decode_words format word file state keys) word given
-    >>= λ target. Ok (commands.Decode (fourth_word_job format target given) (Whole 4)))
+    >>= λ target. Ok (on_fourth_word format target given (asks.Decode (Whole 4))))
 
 -- with every format, target, file and assignment it can be asked for that assignment's state, with
 -- what the keys after them choose
@@ -148,7 +148,7 @@ EachExtensionIsAskedFor =
     → command_of (extend_words format word file assignment keys)
     ≡ (keys_from word no_keys 5 keys
     >>= λ given. chosen_target (extend_words format word file assignment keys) word given
-    >>= λ target. Ok (commands.Extend (fourth_word_job format target given) (Whole 4)))
+    >>= λ target. Ok (on_fourth_word format target given (asks.Extend (Whole 4))))
 
 -- every sample can be asked for, with any words for its numbers, and with what the keys after them
 -- choose
@@ -158,36 +158,34 @@ EachSampleIsAskedFor = (number clauses : ℕ) (first second : List ℕ) (word : 
     → command_of (sample_words first second word keys)
     ≡ (keys_from word no_keys 4 keys
     >>= λ given. chosen_target (sample_words first second word keys) word given
-    >>= λ target. Ok (commands.Sample (sample_with number clauses target given)))
+    >>= λ target. Ok (summary_of number clauses target given))
 
 -- each way to choose the unit can be asked for, with every format, file and model on nodes
 abbrev pub EachUnitIsAskedFor : Type 0
 EachUnitIsAskedFor = (format : Format) (model : NodeModel) (file : List ℕ) (unit : UnitChoice)
     → command_of (compile_words format (Nodes model) file (unit_key unit ∷ []))
-    ≡ Ok (commands.Compile
-    (fourth_word_job format (targets.Nodes model) (record no_keys { unit = Some unit })))
+    ≡ Ok (on_fourth_word format (targets.Nodes model) (record no_keys { unit = Some unit })
+    asks.Model)
 
--- a graph of these numbers, its size
-abbrev pub size_with : ℕ → ℕ → ℕ → GraphSize
-size_with rows cols shore = record { rows = rows; cols = cols; shore = shore }
+-- a graph, and how the nodes get chains of its qubits
+abbrev pub board_of : graphs.Chimera → Chaining → Target
+board_of graph chains = targets.Chimera (record { graph = graph; chains = chains })
 
 -- each graph can be asked for, with every format and file, any words for its numbers, and the chains
 -- of a clique or of any map
 pub record EachGraphIsAskedFor : Type 0 where
-  pub clique : (format : Format) (file first second third : List ℕ) (rows cols shore : ℕ)
-      → digits_number first ≡ Some rows → digits_number second ≡ Some cols
-      → digits_number third ≡ Some shore → IsShape rows cols shore
+  pub clique : (format : Format) (file first second third : List ℕ) (graph : graphs.Chimera)
+      → digits_number first ≡ Some graph.rows → digits_number second ≡ Some graph.cols
+      → digits_number third ≡ Some graph.shore
       → command_of (compile_words format Chimera file
       (rows_key first ∷ cols_key second ∷ shore_key third ∷ clique_key ∷ []))
-      ≡ Ok (commands.Compile
-      (fourth_word_job format (targets.Chimera (size_with rows cols shore) Clique) no_keys))
-  pub map : (format : Format) (file first second third name : List ℕ) (rows cols shore : ℕ)
-      → digits_number first ≡ Some rows → digits_number second ≡ Some cols
-      → digits_number third ≡ Some shore → IsShape rows cols shore
+      ≡ Ok (on_fourth_word format (board_of graph Clique) no_keys asks.Model)
+  pub map : (format : Format) (file first second third name : List ℕ) (graph : graphs.Chimera)
+      → digits_number first ≡ Some graph.rows → digits_number second ≡ Some graph.cols
+      → digits_number third ≡ Some graph.shore
       → command_of (compile_words format Chimera file
       (rows_key first ∷ cols_key second ∷ shore_key third ∷ map_key name ∷ []))
-      ≡ Ok (commands.Compile
-      (fourth_word_job format (targets.Chimera (size_with rows cols shore) (Map (Value 7))) no_keys))
+      ≡ Ok (on_fourth_word format (board_of graph (Map (Value 7))) no_keys asks.Model)
 
 -- each value of a key can stand where that key is not given yet, whatever others are
 pub record EachKeyStands : Type 0 where
@@ -283,27 +281,31 @@ NoLargerGraph = (keys : Keys) (rows cols shore : ℕ) → keys.rows ≡ Some row
     → keys.cols ≡ Some cols → keys.shore ≡ Some shore → 2 ^ 20 < 2 * rows * cols * shore
     → IsRefusedAfterAll keys
 
--- the words say this sample, before keys
-pub record SaySample (words : List (List ℕ)) (sample : Sample) (keys : List (List ℕ)) : Type 0 where
+-- the words say a sample of these numbers, before keys
+pub record SaySample (words : List (List ℕ)) (number clauses : ℕ) (target : TargetWord)
+    (keys : List (List ℕ)) : Type 0 where
   pub first : List ℕ
   pub second : List ℕ
-  pub number : digits_number first ≡ Some sample.number
-  pub clauses : clauses_of second ≡ Some sample.clauses
-  pub all : words ≡ sample_words first second (word_of sample.target) keys
+  pub number_said : digits_number first ≡ Some number
+  pub clauses_said : clauses_of second ≡ Some clauses
+  pub all : words ≡ sample_words first second target keys
+
+-- the words say what is asked of a source, before keys; a summary is asked of a sample alone, and
+-- of a sample nothing else
+abbrev pub SayOf : List (List ℕ) → Origin → Ask → TargetWord → List (List ℕ) → Type 0
+SayOf words (File format at) asks.Model target keys =
+    words ≡ compile_words format target (text_at words at) keys
+SayOf words (File format at) (asks.Decode state) target keys =
+    words ≡ decode_words format target (text_at words at) (text_at words state) keys
+SayOf words (File format at) (asks.Extend assignment) target keys =
+    words ≡ extend_words format target (text_at words at) (text_at words assignment) keys
+SayOf words (Drawn number clauses) asks.Summary target keys =
+    SaySample words number clauses target keys
+SayOf words origin ask target keys = ⊥
 
 -- the words say this command, before keys
 abbrev pub Say : List (List ℕ) → Command → List (List ℕ) → Type 0
-Say words (commands.Compile job) keys =
-    words ≡ compile_words job.format (word_of job.target) (text_at words job.file) keys
-Say words (commands.Decode job state) keys =
-    words
-    ≡ decode_words job.format (word_of job.target) (text_at words job.file) (text_at words state)
-    keys
-Say words (commands.Extend job assignment) keys =
-    words
-    ≡ extend_words job.format (word_of job.target) (text_at words job.file)
-    (text_at words assignment) keys
-Say words (commands.Sample sample) keys = SaySample words sample keys
+Say words command keys = SayOf words command.origin command.ask (word_of command.target) keys
 
 -- words that ask for a command say it, and then keys
 abbrev pub NoOtherWordsAsk : Type 0

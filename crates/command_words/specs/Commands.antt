@@ -12,10 +12,13 @@ use Rattle.command_words.specs.declared.commands.TargetWord.{TargetWord}
 use Rattle.command_words.specs.declared.commands.TargetWord.TheVariants.{Nodes, Chimera}
 use Rattle.command_words.specs.declared.commands.WordAt.{WordAt}
 use Rattle.command_words.specs.declared.commands.WordAt.TheVariants.{Whole}
-use Rattle.command_words.specs.declared.commands.Job.{Job}
-use Rattle.command_words.specs.declared.commands.Sample.{Sample}
+use Rattle.command_words.specs.declared.commands.Origin.{Origin}
+use Rattle.command_words.specs.declared.commands.Origin.TheVariants.{File, Drawn}
+use Rattle.command_words.specs.declared.commands.Ask.{Ask}
+use Rattle.command_words.specs.declared.commands.Ask.TheVariants.{Model, Summary, Decode, Extend}
 use Rattle.command_words.specs.declared.commands.Command.{Command}
-use Rattle.command_words.specs.declared.commands.Command.TheVariants as commands
+use Rattle.command_words.specs.declared.words.Job.{Job}
+use Rattle.command_words.specs.declared.words.Sample.{Sample}
 use Rattle.command_words.specs.declared.words.Verb.{Verb}
 use Rattle.command_words.specs.declared.words.Verb.TheVariants as verbs
 use Rattle.command_words.specs.declared.keys.Keys.{Keys}
@@ -111,22 +114,42 @@ verb_of word =
     then Some verbs.Extend
     else if bytes_eq word (codes "sample") then Some verbs.Sample else None
 
+-- what is asked of a source in a file
+abbrev pub on_file : Job → Ask → Command
+on_file job ask = record {
+  origin = File job.format job.file;
+  target = job.target;
+  choices = job.choices;
+  unit = job.unit;
+  ask = ask;
+}
+
+-- the summary of the model of a source that is drawn
+abbrev pub drawn : Sample → Command
+drawn sample = record {
+  origin = Drawn sample.number sample.clauses;
+  target = sample.target;
+  choices = sample.choices;
+  unit = sample.unit;
+  ask = Summary;
+}
+
 -- what a verb asks for, with the words that stand after it
 abbrev pub after_verb : Verb → List (List ℕ) → Result Command ℕ
 after_verb verbs.Compile words = do
   job ← job_of words 4
-  Ok (commands.Compile job)
+  Ok (on_file job Model)
 after_verb verbs.Decode words = do
   job ← job_of words 5
   state ← named words 4
-  Ok (commands.Decode job state)
+  Ok (on_file job (Decode state))
 after_verb verbs.Extend words = do
   job ← job_of words 5
   assignment ← named words 4
-  Ok (commands.Extend job assignment)
+  Ok (on_file job (Extend assignment))
 after_verb verbs.Sample words = do
   sample ← sample_of words
-  Ok (commands.Sample sample)
+  Ok (drawn sample)
 
 -- all words of a command
 abbrev pub command_of : List (List ℕ) → Result Command ℕ
@@ -134,12 +157,10 @@ command_of words = do
   verb ← valued verb_of words 0
   after_verb verb words
 
--- a command with at most 100,000 clauses, where it is a sample
-abbrev pub HasFewClauses : Command → Type 0
-HasFewClauses (commands.Compile job) = ⊤
-HasFewClauses (commands.Decode job state) = ⊤
-HasFewClauses (commands.Extend job assignment) = ⊤
-HasFewClauses (commands.Sample sample) = sample.clauses ≤ 100000
+-- a source with at most 100,000 clauses, where it is drawn
+abbrev pub HasFewClauses : Origin → Type 0
+HasFewClauses (File format at) = ⊤
+HasFewClauses (Drawn number clauses) = clauses ≤ 100000
 
 -- what the given words ask for
 abbrev pub asked : {A : Type 0} → List (String A) → Result Command ℕ

@@ -1,5 +1,5 @@
 -- The keys of a command, in any order, each at most once: words of the form `NAME=VALUE`.
-use Rattle.std.specs.Prelude.{ℕ, ◌+◌, ◌*◌, ◌^◌, ◌==◌, nat_lt, nat_le, ◌&&◌, List, [], ◌∷◌, take, drop, Bool, codes, bytes_eq, if◌then◌else◌, Ok, Err, Some, None, Result, Option, option_and_then}
+use Rattle.std.specs.Prelude.{◌≡◌, refl, ℕ, ◌+◌, ◌^◌, ◌==◌, nat_lt, nat_le, ◌&&◌, List, [], ◌∷◌, take, drop, Bool, true, false, codes, bytes_eq, if◌then◌else◌, Ok, Err, Some, None, Result, Option, option_and_then}
 use Rattle.std.specs.List.{position}
 use Rattle.std.specs.Option.{option_map, option_map_or}
 use Rattle.base.specs.declared.unit.UnitChoice.{UnitChoice}
@@ -11,7 +11,8 @@ use Rattle.problem_form.specs.declared.limits.High.{High}
 use Rattle.problem_form.specs.declared.limits.High.TheVariants.{Monomial, Rosenberg}
 use Rattle.whole_text.specs.Numbers.{digits_number}
 use Rattle.command_words.specs.declared.commands.WordAt.TheVariants.{Value}
-use Rattle.command_words.specs.declared.commands.GraphSize.{GraphSize}
+use Rattle.chimera_graph.specs.declared.chimera.Chimera as graphs
+use Rattle.chimera_graph.specs.Shape.{IsShape}
 use Rattle.command_words.specs.declared.commands.Chaining.{Chaining}
 use Rattle.command_words.specs.declared.commands.Chaining.TheVariants.{Clique, Map}
 use Rattle.command_words.specs.declared.commands.TargetWord.{TargetWord}
@@ -19,6 +20,7 @@ use Rattle.command_words.specs.declared.commands.TargetWord.TheVariants.{Nodes, 
 use Rattle.command_words.specs.declared.commands.Target.{Target}
 use Rattle.command_words.specs.declared.commands.Target.TheVariants as targets
 use Rattle.command_words.specs.declared.keys.Keys.{Keys}
+use Rattle.command_words.specs.laws.Shapes.{fits_graph, fitting_is_shape}
 
 -- no key is given
 abbrev pub no_keys : Keys
@@ -43,33 +45,35 @@ choices_of keys = record {
 abbrev pub chosen_unit : Keys → UnitChoice
 chosen_unit keys = option_map_or (λ value. value) keys.unit One
 
--- whether a graph may have these numbers: none is 0, and there are at most 2^20 qubits
-abbrev pub fits_graph : ℕ → ℕ → ℕ → Bool
-fits_graph rows cols shore =
-    nat_lt 0 rows && nat_lt 0 cols && nat_lt 0 shore && nat_le (2 * rows * cols * shore) (2 ^ 20)
+-- the graph of these numbers, where a graph may have them
+abbrev pub graph_if : (rows cols shore : ℕ) (fits : Bool) → (fits ≡ true → IsShape rows cols shore)
+    → Option graphs.Chimera
+graph_if rows cols shore true shape =
+    Some (record { rows = rows; cols = cols; shore = shore; shape = shape refl })
+graph_if rows cols shore false shape = None
 
--- the size of a graph, or none where it cannot have these numbers
-abbrev pub graph_size : ℕ → ℕ → ℕ → Option GraphSize
-graph_size rows cols shore =
-    if fits_graph rows cols shore
-    then Some (record { rows = rows; cols = cols; shore = shore })
-    else None
+-- the graph of these numbers, or none where one of them is 0 or it had more than 2^20 qubits
+abbrev pub graph_with : ℕ → ℕ → ℕ → Option graphs.Chimera
+graph_with rows cols shore =
+    graph_if rows cols shore (fits_graph rows cols shore) (fitting_is_shape rows cols shore)
 
 -- a value that is given, and what it gives
 abbrev pub given : {A B : Type 0} → Option A → (A → Option B) → Option B
 given value next = option_and_then next value
 
 -- the graph that the keys choose, or none where a number is missing or it were too large
-abbrev pub size_of : Keys → Option GraphSize
-size_of keys =
-    given keys.rows (λ rows. given keys.cols (λ cols. given keys.shore (graph_size rows cols)))
+abbrev pub graph_of : Keys → Option graphs.Chimera
+graph_of keys =
+    given keys.rows (λ rows. given keys.cols (λ cols. given keys.shore (graph_with rows cols)))
 
 -- the target that a word and the keys choose, or none where a key is missing that a graph needs,
 -- or it were too large
 abbrev pub target_by : TargetWord → Keys → Option Target
 target_by (Nodes model) keys = Some (targets.Nodes model)
 target_by Chimera keys =
-    given (size_of keys) (λ size. given keys.chains (λ chains. Some (targets.Chimera size chains)))
+    given (graph_of keys) (λ graph.
+    given keys.chains (λ chains.
+    Some (targets.Chimera (record { graph = graph; chains = chains }))))
 
 -- the byte `=`
 abbrev pub is_equals : ℕ → Bool

@@ -1,5 +1,5 @@
+pub mod laws
 pub mod Keys
-pub mod Shapes
 pub mod Commands
 pub mod Names
 pub mod Asked

@@ -1,14 +1,18 @@
 -- The files that a command names.
-use Rattle.std.specs.Prelude.{ℕ, ◌+◌, List, [], ◌∷◌, ◌++◌, Some, None, Option, slice_get}
+use Rattle.std.specs.Prelude.{ℕ, List, [], ◌∷◌, ◌++◌, Some, None, Option, slice_get}
 use Rattle.std.specs.Option.{option_map_or}
 use Rattle.command_words.specs.declared.commands.WordAt.{WordAt}
 use Rattle.command_words.specs.declared.commands.WordAt.TheVariants.{Whole, Value}
 use Rattle.command_words.specs.declared.commands.Target.{Target}
 use Rattle.command_words.specs.declared.commands.Target.TheVariants as targets
+use Rattle.command_words.specs.declared.commands.Chaining.{Chaining}
 use Rattle.command_words.specs.declared.commands.Chaining.TheVariants.{Clique}
 use Rattle.command_words.specs.declared.commands.Chaining.TheVariants as chainings
+use Rattle.command_words.specs.declared.commands.Origin.{Origin}
+use Rattle.command_words.specs.declared.commands.Origin.TheVariants.{File, Drawn}
+use Rattle.command_words.specs.declared.commands.Ask.{Ask}
+use Rattle.command_words.specs.declared.commands.Ask.TheVariants.{Model, Summary, Decode, Extend}
 use Rattle.command_words.specs.declared.commands.Command.{Command}
-use Rattle.command_words.specs.declared.commands.Command.TheVariants.{Compile, Decode, Extend, Sample}
 use Rattle.command_words.specs.declared.names.Which.{Which}
 use Rattle.command_words.specs.declared.names.Which.TheVariants.{Source, Map, State}
 use Rattle.command_words.specs.Keys.{cut}
@@ -22,38 +26,33 @@ abbrev pub text_at : List (List ℕ) → WordAt → List ℕ
 text_at words (Whole i) = option_map_or (λ word. word) (slice_get words i) []
 text_at words (Value i) = option_map_or value_of (slice_get words i) []
 
--- the target of a command's model
-abbrev pub target_in : Command → Target
-target_in (Compile job) = job.target
-target_in (Decode job state) = job.target
-target_in (Extend job assignment) = job.target
-target_in (Sample sample) = sample.target
+-- the place of the name of the source; one that is drawn has no file
+abbrev pub file_of : Origin → Option WordAt
+file_of (File format at) = Some at
+file_of (Drawn number clauses) = None
 
--- the place of the name of the source; a sample has no file
-abbrev pub file_of : Command → Option WordAt
-file_of (Compile job) = Some job.file
-file_of (Decode job state) = Some job.file
-file_of (Extend job assignment) = Some job.file
-file_of (Sample sample) = None
+-- the place of the name of a map of chains
+abbrev pub map_in : Chaining → Option WordAt
+map_in Clique = None
+map_in (chainings.Map at) = Some at
 
--- the place of the name of the map of chains
+-- the place of the name of the map that a target has
 abbrev pub map_of : Target → Option WordAt
 map_of (targets.Nodes model) = None
-map_of (targets.Chimera size Clique) = None
-map_of (targets.Chimera size (chainings.Map at)) = Some at
+map_of (targets.Chimera board) = map_in board.chains
 
 -- the place of the name of a state or an assignment
-abbrev pub state_of : Command → Option WordAt
-state_of (Compile job) = None
-state_of (Decode job state) = Some state
-state_of (Extend job assignment) = Some assignment
-state_of (Sample sample) = None
+abbrev pub state_of : Ask → Option WordAt
+state_of Model = None
+state_of Summary = None
+state_of (Decode state) = Some state
+state_of (Extend assignment) = Some assignment
 
 -- the place of the name of a file, where a command has such a file
 abbrev pub place_of : Command → Which → Option WordAt
-place_of command Source = file_of command
-place_of command Map = map_of (target_in command)
-place_of command State = state_of command
+place_of command Source = file_of command.origin
+place_of command Map = map_of command.target
+place_of command State = state_of command.ask
 
 -- the name of a file of a command, empty where the command has no such file
 abbrev pub name_of : List (List ℕ) → Command → Which → List ℕ
@@ -63,15 +62,14 @@ name_of words command which = option_map_or (text_at words) (place_of command wh
 abbrev pub if_named : Command → Which → List Which
 if_named command which = option_map_or (λ place. which ∷ []) (place_of command which) []
 
+-- the files that the model of a command is made of, in the order in which they are taken
+abbrev pub model_files : Command → List Which
+model_files command = if_named command Source ++ if_named command Map
+
+-- the files that are taken once the model stands
+abbrev pub last_files : Command → List Which
+last_files command = if_named command State
+
 -- the files that a command takes, in the order in which it takes them
 abbrev pub files_of : Command → List Which
-files_of command = if_named command Source ++ (if_named command Map ++ if_named command State)
-
--- the number of a file among those that a command takes, counted from 1; of a file that is not
--- among them it is how many there are
-abbrev pub number_in : List Which → Which → ℕ
-number_in [] which = 0
-number_in (Source ∷ files) Source = 1
-number_in (Map ∷ files) Map = 1
-number_in (State ∷ files) State = 1
-number_in (file ∷ files) which = number_in files which + 1
+files_of command = model_files command ++ last_files command

@@ -1,5 +1,6 @@
 //! Commands. All of one is `Copy`, since a name stands in it as its place in the words.
 use base::UnitChoice;
+use chimera_graph::Chimera;
 use problem_form::Choices;
 
 /// The layout of a source.
@@ -19,15 +20,6 @@ pub enum NodeModel {
     Ising,
 }
 
-/// The numbers of a Chimera graph: its rows and columns of cells, and the qubits on each side of a
-/// cell.
-#[derive(Clone, Copy, Debug, PartialEq, Eq)]
-pub struct GraphSize {
-    pub rows: u32,
-    pub cols: u32,
-    pub shore: u32,
-}
-
 /// How the nodes of a form get chains of qubits: as those of a clique, or by the map in a file of
 /// this name.
 #[derive(Clone, Copy, Debug, PartialEq, Eq)]
@@ -36,11 +28,18 @@ pub enum Chaining {
     Map(WordAt),
 }
 
-/// What is written: a model on the nodes of a form, or one on the qubits of a graph.
+/// The qubits of a graph, and how the nodes of a form get chains of them.
+#[derive(Clone, Copy, Debug, PartialEq, Eq)]
+pub struct Board {
+    pub graph: Chimera,
+    pub chains: Chaining,
+}
+
+/// What a model stands on: the nodes of a form, or the qubits of a graph.
 #[derive(Clone, Copy, Debug, PartialEq, Eq)]
 pub enum Target {
     Nodes(NodeModel),
-    Chimera(GraphSize, Chaining),
+    Chimera(Board),
 }
 
 /// What the word of a target says.
@@ -57,36 +56,34 @@ pub enum WordAt {
     Value(usize),
 }
 
-/// A source, and how it becomes a model.
+/// Where a source comes from.
 #[derive(Clone, Copy, Debug, PartialEq, Eq)]
-pub struct Job {
-    pub format: Format,
-    pub file: WordAt,
+pub enum Origin {
+    /// A file of this name, in this format.
+    File(Format, WordAt),
+    /// The text that a number draws, with so many clauses.
+    Drawn(u64, u64),
+}
+
+/// What is asked of the model of a source.
+#[derive(Clone, Copy, Debug, PartialEq, Eq)]
+pub enum Ask {
+    /// The model itself.
+    Model,
+    /// Its summary.
+    Summary,
+    /// The assignment of the source that a state of it, in the file of this name, stands for.
+    Decode(WordAt),
+    /// The state of it that an assignment of the source, in the file of this name, extends to.
+    Extend(WordAt),
+}
+
+/// What a run does: a source, how it becomes a model, and what is asked of that model.
+#[derive(Clone, Copy, Debug, PartialEq, Eq)]
+pub struct Command {
+    pub origin: Origin,
     pub target: Target,
     pub choices: Choices,
     pub unit: UnitChoice,
-}
-
-/// The text of a number and a count of clauses, and how it becomes a model.
-#[derive(Clone, Copy, Debug, PartialEq, Eq)]
-pub struct Sample {
-    pub number: u64,
-    pub clauses: u64,
-    pub target: Target,
-    pub choices: Choices,
-    pub unit: UnitChoice,
-}
-
-/// What a run does.
-#[derive(Clone, Copy, Debug, PartialEq, Eq)]
-pub enum Command {
-    /// Writes the model of a source.
-    Compile(Job),
-    /// Takes a state of that model, from the file of this name, back to an assignment of the
-    /// source.
-    Decode(Job, WordAt),
-    /// Takes an assignment of the source, from the file of this name, to a state of that model.
-    Extend(Job, WordAt),
-    /// Writes the model of a sample.
-    Sample(Sample),
+    pub ask: Ask,
 }

@@ -1,16 +1,15 @@
 //! The keys of a command, in any order, each at most once: words of the form `NAME=VALUE`.
-ghost use Rattle.std.specs.Prelude.{◌≡◌, ◌+◌, ◌<◌, ◌^◌, length, map, string_bytes, Some, None, IfSome, MatchOption};
-ghost use Rattle.chimera_graph.specs.Shape.{IsShape};
-ghost use Rattle.command_words.specs.Shapes.{HasShapeIn};
-ghost use Rattle.command_words.specs.Keys.{chosen_unit, choices_of, cut, embed_of, high_of, keys_from, no_keys, normal_of, once, side_of, size_of, target_by, unit_of, with_graph_pair, with_pair, with_word};
+ghost use Rattle.std.specs.Prelude.{◌≡◌, ◌+◌, ◌<◌, ◌^◌, length, map, string_bytes, Some, None, MatchOption};
+ghost use Rattle.command_words.specs.Keys.{chosen_unit, choices_of, cut, embed_of, graph_of, high_of, keys_from, no_keys, normal_of, once, side_of, target_by, unit_of, with_graph_pair, with_pair, with_word};
 
-use crate::commands::{Chaining, GraphSize, Target, TargetWord, WordAt};
+use crate::commands::{Board, Chaining, Target, TargetWord, WordAt};
 use base::UnitChoice;
+use chimera_graph::Chimera;
 use problem_form::{Choices, High, Normal};
 use whole_text::digits;
 
-/// The greatest number of qubits of a graph.
-const MOST_QUBITS: u64 = 1 << 20;
+/// The greatest number of rows, columns or qubits on a side.
+const MOST_SIDE: u64 = 1 << 20;
 
 /// The keys that were given, each with its value.
 #[derive(Clone, Copy, Debug, PartialEq, Eq)]
@@ -57,33 +56,26 @@ pub(crate) fn chosen_unit(keys: Keys) -> UnitChoice
 }
 
 /// The graph that the keys choose, or none where a number is missing or it were too large.
-fn size_of(keys: Keys) -> Option<GraphSize>
-    ensures size { result ≡ size_of keys }
-    ensures shape { IfSome result (λ size. IsShape size.rows size.cols size.shore) }
+fn graph_of(keys: Keys) -> Option<Chimera>
+    ensures { result ≡ graph_of keys }
 {
     let rows = keys.rows?;
     let cols = keys.cols?;
     let shore = keys.shore?;
-    let qubits = 2 * u128::from(rows) * u128::from(cols) * u128::from(shore);
-    if 0 < rows && 0 < cols && 0 < shore && qubits <= u128::from(MOST_QUBITS) {
-        Some(GraphSize { rows, cols, shore })
-    } else {
-        None
-    }
+    Chimera::new(rows, cols, shore)
 }
 
 /// The target that a word and the keys choose, or none where a key is missing that a graph needs,
 /// or it were too large.
 pub(crate) fn target_by(target: TargetWord, keys: Keys) -> Option<Target>
-    ensures target { result ≡ target_by target keys }
-    ensures shape { IfSome result HasShapeIn }
+    ensures { result ≡ target_by target keys }
 {
     match target {
         TargetWord::Nodes(model) => Some(Target::Nodes(model)),
         TargetWord::Chimera => {
-            let size = size_of(keys)?;
+            let graph = graph_of(keys)?;
             let chains = keys.chains?;
-            Some(Target::Chimera(size, chains))
+            Some(Target::Chimera(Board { graph, chains }))
         }
     }
 }
@@ -142,7 +134,7 @@ fn side_of(value: &str) -> Option<u32>
     ensures { result ≡ side_of value.now }
 {
     let side = digits(value.as_bytes())?;
-    if 0 < side && side <= MOST_QUBITS {
+    if 0 < side && side <= MOST_SIDE {
         Some(side as u32)
     } else {
         None

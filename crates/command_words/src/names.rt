@@ -1,8 +1,8 @@
 //! The files that a command names.
 ghost use Rattle.std.specs.Prelude.{◌≡◌, map, string_bytes};
-ghost use Rattle.command_words.specs.Names.{file_of, map_of, name_of, place_of, state_of, target_in, text_at, value_of};
+ghost use Rattle.command_words.specs.Names.{file_of, map_of, name_of, place_of, state_of, text_at, value_of};
 
-use crate::commands::{Chaining, Command, Target, WordAt};
+use crate::commands::{Ask, Chaining, Command, Origin, Target, WordAt};
 use crate::keys::cut;
 
 /// A file that a command names: the source, the map of chains, or the state or assignment.
@@ -39,39 +39,36 @@ pub fn text_at(words: &[String], at: WordAt) -> &str
     }
 }
 
-fn target_in(command: Command) -> Target
-    ensures { result ≡ target_in command }
+/// The place of the name of the source. One that is drawn has no file.
+fn file_of(origin: Origin) -> Option<WordAt>
+    ensures { result ≡ file_of origin }
 {
-    match command {
-        Command::Compile(job) | Command::Decode(job, _) | Command::Extend(job, _) => job.target,
-        Command::Sample(sample) => sample.target,
+    match origin {
+        Origin::File(_, at) => Some(at),
+        Origin::Drawn(..) => None,
     }
 }
 
-fn file_of(command: Command) -> Option<WordAt>
-    ensures { result ≡ file_of command }
-{
-    match command {
-        Command::Compile(job) | Command::Decode(job, _) | Command::Extend(job, _) => Some(job.file),
-        Command::Sample(_) => None,
-    }
-}
-
+/// The place of the name of the map of chains.
 fn map_of(target: Target) -> Option<WordAt>
     ensures { result ≡ map_of target }
 {
     match target {
-        Target::Nodes(_) | Target::Chimera(_, Chaining::Clique) => None,
-        Target::Chimera(_, Chaining::Map(at)) => Some(at),
+        Target::Nodes(_) => None,
+        Target::Chimera(board) => match board.chains {
+            Chaining::Clique => None,
+            Chaining::Map(at) => Some(at),
+        },
     }
 }
 
-fn state_of(command: Command) -> Option<WordAt>
-    ensures { result ≡ state_of command }
+/// The place of the name of a state or an assignment.
+fn state_of(ask: Ask) -> Option<WordAt>
+    ensures { result ≡ state_of ask }
 {
-    match command {
-        Command::Decode(_, state) | Command::Extend(_, state) => Some(state),
-        Command::Compile(_) | Command::Sample(_) => None,
+    match ask {
+        Ask::Decode(at) | Ask::Extend(at) => Some(at),
+        Ask::Model | Ask::Summary => None,
     }
 }
 
@@ -80,9 +77,9 @@ fn place_of(command: Command, which: Which) -> Option<WordAt>
     ensures { result ≡ place_of command which }
 {
     match which {
-        Which::Source => file_of(command),
-        Which::Map => map_of(target_in(command)),
-        Which::State => state_of(command),
+        Which::Source => file_of(command.origin),
+        Which::Map => map_of(command.target),
+        Which::State => state_of(command.ask),
     }
 }
 

@@ -1,15 +1,36 @@
 //! The words of a command, one after another. Nothing here takes memory.
 ghost use Rattle.std.specs.Prelude.{◌≡◌, ◌<◌, ◌≤◌, ◌^◌, IfOk, IfSome, length, map, drop, string_bytes};
 ghost use Rattle.whole_text.specs.Numbers.{digits_number};
-ghost use Rattle.command_words.specs.Shapes.{HasShape, HasShapeIn};
-ghost use Rattle.command_words.specs.Commands.{HasFewClauses, chosen_target, clauses_of, command_of, format_of, job_of, named, sample_of, target_of, valued, verb_of};
+ghost use Rattle.command_words.specs.Commands.{HasFewClauses, chosen_target, clauses_of, command_of, drawn, format_of, job_of, named, on_file, sample_of, target_of, valued, verb_of};
 
-use crate::commands::{Command, Format, Job, NodeModel, Sample, Target, TargetWord, WordAt};
+use crate::commands::{Ask, Command, Format, NodeModel, Origin, Target, TargetWord, WordAt};
 use crate::keys::{Keys, choices_of, chosen_unit, keys_from, target_by};
+use base::UnitChoice;
+use problem_form::Choices;
 use whole_text::digits;
 
 /// The greatest number of clauses of a sample.
 const MOST_CLAUSES: u64 = 100_000;
+
+/// What FORMAT TARGET FILE say, and the keys.
+#[derive(Clone, Copy, Debug, PartialEq, Eq)]
+pub struct Job {
+    pub format: Format,
+    pub file: WordAt,
+    pub target: Target,
+    pub choices: Choices,
+    pub unit: UnitChoice,
+}
+
+/// What NUMBER CLAUSES TARGET say, and the keys.
+#[derive(Clone, Copy, Debug, PartialEq, Eq)]
+pub struct Sample {
+    pub number: u64,
+    pub clauses: u64,
+    pub target: Target,
+    pub choices: Choices,
+    pub unit: UnitChoice,
+}
 
 /// What the first word says.
 #[derive(Clone, Copy, Debug, PartialEq, Eq)]
@@ -143,17 +164,15 @@ fn words_from(words: &[String], i: usize) -> &[String]
 /// graph were too large, it is the position after all words.
 fn chosen_target(words: &[String], target: TargetWord, keys: Keys) -> Result<Target, usize>
     requires { length words.now < 2 ^ 60 }
-    ensures target { result ≡ chosen_target (map string_bytes words.now) target keys }
-    ensures shape { IfOk result HasShapeIn }
+    ensures { result ≡ chosen_target (map string_bytes words.now) target keys }
 {
     target_by(target, keys).ok_or(words.len() + 1)
 }
 
 /// The job of FORMAT TARGET FILE, from the second word on, with the keys from an index on.
-fn job(words: &[String], keys_at: usize) -> Result<Job, usize>
+fn read_job(words: &[String], keys_at: usize) -> Result<Job, usize>
     requires { keys_at < 2 ^ 32 }
-    ensures job { result ≡ job_of (map string_bytes words.now) keys_at }
-    ensures shape { IfOk result (λ job. HasShapeIn job.target) }
+    ensures { result ≡ job_of (map string_bytes words.now) keys_at }
 {
     let format = format_word(words)?;
     let word = target_word(words, 2)?;
@@ -170,10 +189,9 @@ fn job(words: &[String], keys_at: usize) -> Result<Job, usize>
 }
 
 /// The sample of NUMBER CLAUSES TARGET, with the keys after them.
-fn sample(words: &[String]) -> Result<Sample, usize>
+fn read_sample(words: &[String]) -> Result<Sample, usize>
     ensures sample { result ≡ sample_of (map string_bytes words.now) }
     ensures few { IfOk result (λ sample. sample.clauses ≤ 100000) }
-    ensures shape { IfOk result (λ sample. HasShapeIn sample.target) }
 {
     let number = number_word(words)?;
     let clauses = clauses_word(words)?;
@@ -189,18 +207,49 @@ fn sample(words: &[String]) -> Result<Sample, usize>
     })
 }
 
+/// What is asked of a source in a file.
+fn on_file(job: Job, ask: Ask) -> Command
+    ensures { result ≡ on_file job ask }
+{
+    Command {
+        origin: Origin::File(job.format, job.file),
+        target: job.target,
+        choices: job.choices,
+        unit: job.unit,
+        ask,
+    }
+}
+
+/// The summary of the model of a source that is drawn.
+fn drawn(sample: Sample) -> Command
+    ensures { result ≡ drawn sample }
+{
+    Command {
+        origin: Origin::Drawn(sample.number, sample.clauses),
+        target: sample.target,
+        choices: sample.choices,
+        unit: sample.unit,
+        ask: Ask::Summary,
+    }
+}
+
 /// What the words ask for, or the position of the first word that cannot stand, counted from 1;
 /// where no word is wrong but one is missing, or the graph were too large, it is the number of
 /// words and one.
 pub fn command(words: &[String]) -> Result<Command, usize>
     ensures asked { result ≡ command_of (map string_bytes words.now) }
-    ensures few { IfOk result HasFewClauses }
-    ensures shape { IfOk result HasShape }
+    ensures few { IfOk result (λ command. HasFewClauses command.origin) }
 {
     match verb_word(words)? {
-        Verb::Compile => Ok(Command::Compile(job(words, 4)?)),
-        Verb::Decode => Ok(Command::Decode(job(words, 5)?, named(words, 4)?)),
-        Verb::Extend => Ok(Command::Extend(job(words, 5)?, named(words, 4)?)),
-        Verb::Sample => Ok(Command::Sample(sample(words)?)),
+        Verb::Compile => Ok(on_file(read_job(words, 4)?, Ask::Model)),
+        Verb::Decode => {
+            let job = read_job(words, 5)?;
+            Ok(on_file(job, Ask::Decode(named(words, 4)?)))
+        }
+        Verb::Extend => {
+            let job = read_job(words, 5)?;
+            Ok(on_file(job, Ask::Extend(named(words, 4)?)))
+        }
+        Verb::Sample => Ok(drawn(read_sample(words)?)),
     }
 }

@@ -1,7 +1,9 @@
 //! Words, what they ask for, and the file that they name.
 use base::UnitChoice;
+use chimera_graph::Chimera;
 use command_words::{
-    Chaining, Command, Format, GraphSize, Job, NodeModel, Target, Which, WordAt, command, name_of,
+    Ask, Board, Chaining, Command, Format, NodeModel, Origin, Target, Which, WordAt, command,
+    name_of,
 };
 use problem_form::{Choices, High, Normal};
 use std::alloc::{AllocError, Global};
@@ -26,43 +28,41 @@ fn asked(alloc: Global, words: &[&str]) -> Result<Result<Command, usize>, AllocE
     Ok(command(&words))
 }
 
-const JOB: Job = Job {
-    format: Format::Wcnf,
-    file: WordAt::Whole(3),
-    target: Target::Nodes(NodeModel::Qubo),
-    choices: Choices {
-        normal: Normal::Literal,
-        high: High::Monomial,
-    },
-    unit: UnitChoice::One,
-};
-
-const COMPILE: Command = Command::Compile(JOB);
+/// What is asked of the file that the fourth word names, with the usual keys.
+fn plain(ask: Ask) -> Command {
+    Command {
+        origin: Origin::File(Format::Wcnf, WordAt::Whole(3)),
+        target: Target::Nodes(NodeModel::Qubo),
+        choices: Choices {
+            normal: Normal::Literal,
+            high: High::Monomial,
+        },
+        unit: UnitChoice::One,
+        ask,
+    }
+}
 
 /// The command `compile` in a normal form, on the file that the fourth word names.
 fn compile_in(format: Format, target: Target, normal: Normal, unit: UnitChoice) -> Command {
-    Command::Compile(Job {
-        format,
-        file: WordAt::Whole(3),
+    Command {
+        origin: Origin::File(format, WordAt::Whole(3)),
         target,
         choices: Choices {
             normal,
             high: High::Monomial,
         },
         unit,
-    })
+        ask: Ask::Model,
+    }
 }
 
-const POSITIONS: &[(&[&str], Result<Command, usize>)] = &[
-    (&["compile", "wcnf", "qubo", "FILE"], Ok(COMPILE)),
-    (&["compile", "wcnf", "qubo", "compile"], Ok(COMPILE)),
-    (
-        &["decode", "wcnf", "qubo", "FILE", "STATE"],
-        Ok(Command::Decode(JOB, WordAt::Whole(4))),
-    ),
+const POSITIONS: &[(&[&str], Result<Ask, usize>)] = &[
+    (&["compile", "wcnf", "qubo", "FILE"], Ok(Ask::Model)),
+    (&["compile", "wcnf", "qubo", "compile"], Ok(Ask::Model)),
+    (&["decode", "wcnf", "qubo", "FILE", "STATE"], Ok(Ask::Decode(WordAt::Whole(4)))),
     (
         &["extend", "wcnf", "qubo", "FILE", "high=", "unit=one"],
-        Ok(Command::Extend(JOB, WordAt::Whole(4))),
+        Ok(Ask::Extend(WordAt::Whole(4))),
     ),
     // a missing word
     (&["decode", "wcnf", "qubo", "FILE"], Err(5)),
@@ -88,7 +88,7 @@ const POSITIONS: &[(&[&str], Result<Command, usize>)] = &[
     // a key, and a further word that is none
     (
         &["compile", "wcnf", "qubo", "FILE", "high=monomial"],
-        Ok(COMPILE),
+        Ok(Ask::Model),
     ),
     (&["compile", "wcnf", "qubo", "FILE", "FILE"], Err(5)),
     (
@@ -101,9 +101,13 @@ const POSITIONS: &[(&[&str], Result<Command, usize>)] = &[
 fn are_asked(
     alloc: Global,
     words: &[&str],
-    wanted: &Result<Command, usize>,
+    wanted: &Result<Ask, usize>,
 ) -> Result<bool, AllocError> {
-    Ok(asked(alloc, words)? == *wanted)
+    let wanted = match *wanted {
+        Ok(ask) => Ok(plain(ask)),
+        Err(position) => Err(position),
+    };
+    Ok(asked(alloc, words)? == wanted)
 }
 
 #[test]
@@ -128,49 +132,52 @@ fn are_compiled(
     Ok(asked(alloc, words)? == Ok(compile_in(format, target, normal, unit)))
 }
 
-const SIZE: GraphSize = GraphSize {
-    rows: 2,
-    cols: 3,
-    shore: 4,
-};
-
-const FORMATS: &[(&[&str], Format, Target, UnitChoice)] = &[
+const FORMATS: &[(&[&str], Format, NodeModel, UnitChoice)] = &[
     (
         &["compile", "wcnf", "ising", "FILE"],
         Format::Wcnf,
-        Target::Nodes(NodeModel::Ising),
+        NodeModel::Ising,
         UnitChoice::One,
     ),
     (
         &["compile", "opb", "qubo", "FILE"],
         Format::Opb,
-        Target::Nodes(NodeModel::Qubo),
+        NodeModel::Qubo,
         UnitChoice::One,
     ),
     (
         &["compile", "ising", "qubo", "FILE", "unit=one"],
         Format::Ising,
-        Target::Nodes(NodeModel::Qubo),
+        NodeModel::Qubo,
         UnitChoice::One,
     ),
     (
         &["compile", "ising", "ising", "FILE", "unit=reduce"],
         Format::Ising,
-        Target::Nodes(NodeModel::Ising),
+        NodeModel::Ising,
         UnitChoice::Reduce,
     ),
     (
         &["compile", "qubo", "qubo", "FILE", "unit=reduce"],
         Format::Qubo,
-        Target::Nodes(NodeModel::Qubo),
+        NodeModel::Qubo,
         UnitChoice::Reduce,
     ),
+    (
+        &["compile", "qubo", "ising", "unit=reduce"],
+        Format::Qubo,
+        NodeModel::Ising,
+        UnitChoice::One,
+    ),
+];
+
+const GRAPHS: &[(&[&str], Format, Chaining, UnitChoice)] = &[
     (
         &[
             "compile", "poly", "chimera", "FILE", "rows=2", "map=a=b", "cols=3", "shore=4",
         ],
         Format::Poly,
-        Target::Chimera(SIZE, Chaining::Map(WordAt::Value(5))),
+        Chaining::Map(WordAt::Value(5)),
         UnitChoice::One,
     ),
     (
@@ -186,21 +193,39 @@ const FORMATS: &[(&[&str], Format, Target, UnitChoice)] = &[
             "rows=02",
         ],
         Format::Opb,
-        Target::Chimera(SIZE, Chaining::Clique),
+        Chaining::Clique,
         UnitChoice::Reduce,
-    ),
-    (
-        &["compile", "qubo", "ising", "unit=reduce"],
-        Format::Qubo,
-        Target::Nodes(NodeModel::Ising),
-        UnitChoice::One,
     ),
 ];
 
+/// Whether the words ask to compile a format on the graph of 2, 3 and 4, in a unit.
+fn are_compiled_on(
+    alloc: Global,
+    words: &[&str],
+    format: Format,
+    chains: Chaining,
+    unit: UnitChoice,
+) -> Result<bool, AllocError> {
+    let Some(graph) = Chimera::new(2, 3, 4) else {
+        return Ok(false);
+    };
+    let target = Target::Chimera(Board { graph, chains });
+    are_compiled(alloc, words, format, target, Normal::Literal, unit)
+}
+
+#[test]
+fn each_way_to_get_chains_on_a_graph(rt: HostRuntime) {
+    for (words, format, chains, unit) in GRAPHS {
+        let found = are_compiled_on(rt.alloc(), words, *format, *chains, *unit);
+        assert!(rt; found == Ok(true), "{words:?}");
+    }
+}
+
 #[test]
 fn each_format_and_target_in_each_unit(rt: HostRuntime) {
-    for (words, format, target, unit) in FORMATS {
-        let found = are_compiled(rt.alloc(), words, *format, *target, Normal::Literal, *unit);
+    for (words, format, model, unit) in FORMATS {
+        let target = Target::Nodes(*model);
+        let found = are_compiled(rt.alloc(), words, *format, target, Normal::Literal, *unit);
         assert!(rt; found == Ok(true), "{words:?}");
     }
 }
@@ -301,8 +326,8 @@ fn are_chosen(
     let mut words = owned(alloc, &["compile", "wcnf", "qubo", "FILE"])?;
     push_owned(alloc, &mut words, keys)?;
     match command(&words) {
-        Ok(Command::Compile(job)) => Ok(job.choices == Choices { normal, high }),
-        _ => Ok(false),
+        Ok(command) => Ok(command.choices == Choices { normal, high }),
+        Err(_) => Ok(false),
     }
 }
 
@@ -334,7 +359,7 @@ fn ways_to_replace_long_terms(rt: HostRuntime) {
 /// Whether this is the name of a file of the command.
 fn is_named(alloc: Global, words: &[&str], which: Which, name: &str) -> Result<bool, AllocError> {
     let words = owned(alloc, words)?;
-    Ok(name_of(&words, COMPILE, which) == name)
+    Ok(name_of(&words, plain(Ask::Model), which) == name)
 }
 
 const NAMES: &[(&[&str], Which, &str)] = &[
