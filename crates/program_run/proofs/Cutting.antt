@@ -3,22 +3,24 @@ use Rattle.std.proofs.Common.{◌≡◌, ℕ, ◌+◌, ◌<◌, ◌≤◌, List,
 use Rattle.std.proofs.lemmas.List.{append-nil, length-append, length-take, take-append-le}
 use Rattle.std.specs.Io.KnownBytes.{Consumes, IsAtEnd}
 use Rattle.std.specs.Prelude.{IsSomeAnd}
+use Rattle.std.specs.List.{Contains}
+use Rattle.std.proofs.lemmas.List.Elements.{Contains-append_left}
 use Rattle.std.specs.declared.option.Option.{Option}
 use Rattle.edge_io.specs.Held.{NamedFiles, find_file, IsFront, IsLonger, WhereTold}
 use Rattle.whole_text.specs.declared.token.Style.{Style}
 use Rattle.whole_text.specs.Tokens.{Word, tokens_of}
 use Rattle.whole_text.specs.Lexing.{LexerState, StandsFor}
-use Rattle.command_words.specs.declared.commands.Job.{Job}
+use Rattle.command_words.specs.declared.names.Which.{Which}
+use Rattle.command_words.specs.declared.commands.Format.{Format}
 use Rattle.command_words.specs.declared.names.Which.TheVariants.{Source}
-use Rattle.command_words.specs.Names.{text_at}
 use Rattle.source_texts.specs.declared.reading.Read.{Read}
 use Rattle.source_texts.specs.Sources.{problem_of, problem_of_words, style_of}
 use Rattle.source_texts.proofs.WordTexts.{words_read}
 use Rattle.program_run.specs.declared.status.Status.{Status}
 use Rattle.program_run.specs.declared.status.Status.TheVariants.{Done, Usage, ReadFault, WriteFault, BadText, Limit, NotEmbedded, NoState, NoMemory}
-use Rattle.program_run.specs.Outcome.{Step, ◌>>=◌, taking, from_text, reading, Meets, Refuses}
-use Rattle.program_run.specs.Cut.{AreWordsOf, cutting}
-use Rattle.program_run.proofs.Taken.{bound}
+use Rattle.program_run.specs.Outcome.{Steps, go_on, ◌>>=◌, ends, gives, taking, text_end, Meets, Refuses}
+use Rattle.program_run.specs.Cut.{AreWordsOf, cutting, reading_file}
+use Rattle.program_run.proofs.Stepping.{bound, meets_next}
 
 -- the lexer of this style stands for the bytes that were taken of the file, of which the rest is left
 pub record IsCut (held : Option NamedFiles) (name : List ℕ) (style : Style) (taken : ℕ)
@@ -106,67 +108,77 @@ cut_longer held name style taken count limit bytes rest left lexer cut within co
 
 -- ---- reading what was cut
 
-read_once : (held : NamedFiles) (words : List (List ℕ)) (job : Job) (style : Style)
-    (cut : List Word) (result : Result Read Status) → style ≡ style_of job.format
-    → cutting held Source (text_at words job.file) style ≡ Some (Ok cut)
-    → Meets (λ r. r) result (from_text Source (problem_of_words job.format cut))
-    → Meets (λ r. r) result (reading words held job)
-unfolding cutting reading
-read_once held words job style cut result its_own e meets =
-    let format = job.format in
-    let taken = bound (taking held Source (text_at words job.file))
-    (λ bytes. Some (Ok (tokens_of style bytes))) cut e in
+read_once : (held : NamedFiles) (name : List ℕ) (format : Format) (style : Style)
+    (cut : List Word) (result : Result Read Status) → style ≡ style_of format
+    → (cutting held Source name style).end ≡ Some (Ok cut)
+    → Meets (λ r. r) result (ends (text_end Source (problem_of_words format cut)))
+    → Meets (λ r. r) result (reading_file held name format)
+unfolding cutting reading_file
+read_once held name format style cut result its_own e meets =
+    let taken = bound (taking held Source name) (λ bytes. gives (tokens_of style bytes)) cut e in
     let same : tokens_of style taken.0 ≡ cut = let two = taken.2 in cc in
-    let read : problem_of format taken.0 ≡ problem_of_words format cut =
-    words_read format taken.0
-    ∙ ap (problem_of_words format) (ap (λ s. tokens_of s taken.0) (sym its_own) ∙ same) in
-    subst (λ (m : Step (List ℕ)). Meets (λ r. r) result
-    (m >>= λ bytes. from_text Source (problem_of format bytes))) (sym taken.1)
-    (subst (λ said. Meets (λ r. r) result (from_text Source said)) (sym read) meets)
+    let read : problem_of_words format cut ≡ problem_of format taken.0 =
+    sym (words_read format taken.0
+    ∙ ap (problem_of_words format) (ap (λ s. tokens_of s taken.0) (sym its_own) ∙ same)) in
+    meets_next result (taking held Source name)
+    (λ bytes. ends (text_end Source (problem_of format bytes))) taken.0 taken.1
+    (subst (λ said. Meets (λ r. r) result (ends (text_end Source said))) read meets)
 
--- what the words of the source are read into is what the source is read into
-pub read_from_words : (told : Option NamedFiles) (words : List (List ℕ)) (job : Job)
-    (style : Style) (cut : List Word) (result : Result Read Status)
-    → style ≡ style_of job.format
-    → WhereTold told
-    (λ held. cutting held Source (text_at words job.file) style ≡ Some (Ok cut))
-    → Meets (λ r. r) result (from_text Source (problem_of_words job.format cut))
-    → WhereTold told (λ held. Meets (λ r. r) result (reading words held job))
-read_from_words None words job style cut result its_own e meets = tt
-read_from_words (Some held) words job style cut result its_own e meets =
-    read_once held words job style cut result its_own e meets
+-- what the words of a file are read into is what the file is read into
+pub read_from_words : (told : Option NamedFiles) (name : List ℕ) (format : Format) (style : Style)
+    (cut : List Word) (result : Result Read Status) → style ≡ style_of format
+    → WhereTold told (λ held. (cutting held Source name style).end ≡ Some (Ok cut))
+    → Meets (λ r. r) result (ends (text_end Source (problem_of_words format cut)))
+    → WhereTold told (λ held. Meets (λ r. r) result (reading_file held name format))
+read_from_words None name format style cut result its_own e meets = tt
+read_from_words (Some held) name format style cut result its_own e meets =
+    read_once held name format style cut result its_own e meets
 
--- what refuses to take a file refuses whatever is done with it
-refused_alike : (m : Step (List ℕ)) (style : Style) (f : List ℕ → Step Read) (status : Status)
-    → (m >>= λ bytes. Some (Ok (tokens_of style bytes))) ≡ Some (Err status)
-    → (m >>= f) ≡ Some (Err status)
-refused_alike None style f status e = absurd cc
-refused_alike (Some (Ok bytes)) style f status e = absurd cc
-refused_alike (Some (Err other)) style f status e =
-    let same : other ≡ status = cc in ap (λ s. Some (Err s)) same
+-- taking a file refuses alike whatever is done with its bytes
+refused_alike : {A B : Type 0} (status : Status) (held : NamedFiles) (name : List ℕ)
+    (f : List ℕ → Steps A) (g : List ℕ → Steps B)
+    → ((bytes : List ℕ) → (a : A) × (f bytes ≡ gives a))
+    → Refuses status (taking held Source name >>= f) → Refuses status (taking held Source name >>= g)
+refused_alike {A = A} status held name f g given refused =
+    go status (taking held Source name) refused
+  where
+    taken_on : (which : Which) (taken : List Which) (end : Option (Result (List ℕ) Status))
+        → Contains (go_on taken end f).taken which → Contains (go_on taken end g).taken which
+    taken_on which taken None is = is
+    taken_on which taken (Some (Err s)) is = is
+    taken_on which taken (Some (Ok bytes)) is =
+        let none = ap (λ (m : Steps A). m.taken) (given bytes).1 in
+        Contains-append_left taken (g bytes).taken which
+        (subst (λ l. Contains l which) (append-nil taken)
+        (subst (λ l. Contains (taken ++ l) which) none is))
 
-refuses_as : {A B : Type 0} (status : Status) (m : Step A) (n : Step B)
-    → (m ≡ Some (Err status) → n ≡ Some (Err status)) → Refuses status m → Refuses status n
-refuses_as (ReadFault which) m n same refused = tt
-refuses_as NoMemory m n same refused = tt
-refuses_as Done m n same refused = refused
-refuses_as WriteFault m n same refused = refused
-refuses_as (Usage position) m n same refused = refused
-refuses_as (BadText which kind line) m n same refused = same refused
-refuses_as (Limit which kind number) m n same refused = same refused
-refuses_as (NotEmbedded fault) m n same refused = refused
-refuses_as (NoState width) m n same refused = same refused
+    end_on : (s : Status) (taken : List Which) (end : Option (Result (List ℕ) Status))
+        → (go_on taken end f).end ≡ Some (Err s) → (go_on taken end g).end ≡ Some (Err s)
+    end_on s taken None e = absurd cc
+    end_on s taken (Some (Err other)) e =
+        let same : other ≡ s = cc in ap (λ s. Some (Err s)) same
+    end_on s taken (Some (Ok bytes)) e =
+        let same = ap (λ (m : Steps A). m.end) (given bytes).1 in absurd cc
 
--- a source that could not be taken is refused
-pub read_refused : (told : Option NamedFiles) (words : List (List ℕ)) (job : Job)
-    (style : Style) (status : Status)
-    → WhereTold told
-    (λ held. Refuses status (cutting held Source (text_at words job.file) style))
-    → WhereTold told (λ held. Refuses status (reading words held job))
-unfolding cutting reading
-read_refused None words job style status refused = tt
-read_refused (Some held) words job style status refused =
-    let m = taking held Source (text_at words job.file) in
-    let f : List ℕ → Step Read = λ bytes. from_text Source (problem_of job.format bytes) in
-    refuses_as status (m >>= λ bytes. Some (Ok (tokens_of style bytes))) (m >>= f)
-    (refused_alike m style f status) refused
+    go : (status : Status) (m : Steps (List ℕ)) → Refuses status (m >>= f)
+        → Refuses status (m >>= g)
+    go (ReadFault which) m refused = taken_on which m.taken m.end refused
+    go NoMemory m refused = tt
+    go Done m refused = end_on Done m.taken m.end refused
+    go WriteFault m refused = end_on WriteFault m.taken m.end refused
+    go (Usage position) m refused = end_on (Usage position) m.taken m.end refused
+    go (BadText which kind line) m refused = end_on (BadText which kind line) m.taken m.end refused
+    go (Limit which kind number) m refused = end_on (Limit which kind number) m.taken m.end refused
+    go (NotEmbedded fault) m refused = end_on (NotEmbedded fault) m.taken m.end refused
+    go (NoState width) m refused = end_on (NoState width) m.taken m.end refused
+
+-- a file that could not be taken is refused
+pub read_refused : (told : Option NamedFiles) (name : List ℕ) (format : Format) (style : Style)
+    (status : Status) → WhereTold told (λ held. Refuses status (cutting held Source name style))
+    → WhereTold told (λ held. Refuses status (reading_file held name format))
+unfolding cutting reading_file
+read_refused None name format style status refused = tt
+read_refused (Some held) name format style status refused =
+    refused_alike status held name (λ bytes. gives (tokens_of style bytes))
+    (λ bytes. ends (text_end Source (problem_of format bytes)))
+    (λ bytes. (tokens_of style bytes, refl)) refused

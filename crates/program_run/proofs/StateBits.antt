@@ -8,8 +8,9 @@ use Rattle.std.specs.Option.{option_map}
 use Rattle.edge_io.specs.Held.{NamedFiles, find_file}
 use Rattle.command_words.specs.declared.names.Which.TheVariants.{State}
 use Rattle.state_file.specs.States.{is_one, is_bit, is_state, lines_of, state_of}
-use Rattle.program_run.specs.Outcome.{taking, from_state, stating}
-use Rattle.program_run.proofs.Taken.{bound, taken_is_held}
+use Rattle.program_run.specs.Outcome.{ends, taking, state_end, stating}
+use Rattle.program_run.proofs.Stepping.{bound}
+use Rattle.program_run.proofs.Taken.{taken_is_held}
 
 -- ---- how many they are
 
@@ -51,19 +52,20 @@ state_has_width width text bits e =
 -- ---- where they are from
 
 state_is_read : (width : ℕ) (said : Option (List Bool)) (bits : List Bool)
-    → from_state width said ≡ Some (Ok bits) → said ≡ Some bits
+    → state_end width said ≡ Ok bits → said ≡ Some bits
 state_is_read width (Some other) bits e = cc
 state_is_read width None bits e = absurd cc
 
 -- the bits that a step took are read from the held file
 pub state_is_taken : (held : NamedFiles) (name : List ℕ) (width : ℕ) (bits : List Bool)
-    → stating held name width ≡ Some (Ok bits)
+    → (stating held name width).end ≡ Some (Ok bits)
     → (bytes : List ℕ) × (find_file held name ≡ Some bytes) × (state_of width bytes ≡ Some bits)
 unfolding stating
 state_is_taken held name width bits e =
-    let taken = bound (taking held State name) (λ bytes. from_state width (state_of width bytes))
-    bits e in (
+    let taken = bound (taking held State name)
+    (λ bytes. ends (state_end width (state_of width bytes))) bits e in
+    let said : state_end width (state_of width taken.0) ≡ Ok bits = let two = taken.2 in cc in (
       taken.0,
       taken_is_held held State name taken.0 taken.1,
-      state_is_read width (state_of width taken.0) bits taken.2,
+      state_is_read width (state_of width taken.0) bits said,
     )

@@ -1,5 +1,5 @@
 -- A model of the problem that a source is read into stands for the source.
-use Rattle.std.proofs.Common.{◌≡◌, ◌≤◌, ℕ, ◌+ℤ◌, ◌*ℤ◌, Bool, List, length, map, take, refl, sym, ap, ◌∙◌, subst, arith}
+use Rattle.std.proofs.Common.{◌≡◌, ◌≤◌, ℕ, ◌+ℤ◌, ◌*ℤ◌, Bool, List, map, take, refl, sym, ap, ◌∙◌, subst, arith}
 use Rattle.std.proofs.lemmas.List.{take-take, take-map}
 use Rattle.bits_model.specs.declared.output.Kind.{Kind}
 use Rattle.bits_model.specs.declared.output.Kind.TheVariants as kinds
@@ -18,8 +18,8 @@ use Rattle.problem_form.specs.Limits.{upper}
 use Rattle.source_texts.specs.declared.reading.Read.{Read}
 use Rattle.source_texts.specs.Sources.{StandsFor}
 use Rattle.model_pipeline.specs.Models.{decoding_to}
-use Rattle.program_run.specs.declared.grounds.Ground.{Ground}
-use Rattle.program_run.specs.Grounds.{kind_of, IsDemand}
+use Rattle.program_run.specs.declared.placements.Placement.{Placement}
+use Rattle.program_run.specs.Placements.{kind_of, demand_of}
 use Rattle.program_run.specs.Answers.{IsModelFor}
 
 -- the first variables of what a state is read as are what it is read as for them
@@ -30,7 +30,7 @@ take-read_off kinds.Ising a b chains y few = take-take a b y few
 take-read_off (kinds.Chimera rows cols shore) a b chains y few =
     take-map (majority y) a (take b chains) ∙ ap (map (majority y)) (take-take a b chains few)
 
--- what a model of a problem has, on whatever ground
+-- what a model of a problem has, wherever it stands
 pub record IsMade (r : Read) (choice : UnitChoice) (m : Written) : Type 0 where
   pub fits : FitsFields m
   pub bounded : IsBounded m
@@ -72,16 +72,14 @@ module _ (unit : UnitChoice) (s : Source) (r : Read) (m : Written) (stands : Sta
   }
 
   -- what is made stands for the source, where it has the chains that are asked for
-  pub model_stands : (base : Ground) (demand : Demand) → m.kind ≡ kind_of base
-      → IsDemand base unit (length m.chains) demand → demand.unit ≡ unit
-      → HasChains m.kind demand m → IsModelFor base unit s m
-  model_stands base demand kind asked same chains = record {
+  pub model_stands : (base : Placement) (nodes : ℕ) → m.kind ≡ kind_of base
+      → (demand_of unit base nodes).unit ≡ unit → HasChains m.kind (demand_of unit base nodes) m
+      → IsModelFor base unit nodes s m
+  model_stands base nodes kind same chains = record {
     kind = kind;
     fits = made.fits;
     bounded = made.bounded;
     relaxes = source_relaxed;
-    demand = demand;
-    asked = asked;
-    faithful = relaxed_is_faithful s demand m made.well_formed (stated demand same chains)
-        source_relaxed;
+    faithful = relaxed_is_faithful s (demand_of unit base nodes) m made.well_formed
+        (stated (demand_of unit base nodes) same chains) source_relaxed;
   }

@@ -1,37 +1,36 @@
--- Why a file could not be read, how many files were begun, and how much was read of the last one: by
--- what the store of files counted before and after.
-use Rattle.std.specs.Prelude.{◌≡◌, ◌≤◌, ℕ, zero, suc, List, [], ◌∷◌, ◌++◌, length, IsSome, ⊤}
+-- Which files were begun, how far the last of them was read, and why one could not be read: by what
+-- the store of files counted before and after.
+use Rattle.std.specs.Prelude.{◌≡◌, ◌≤◌, ℕ, zero, suc, List, [], ◌∷◌, ◌++◌, length, None, Some, ⊤}
+use Rattle.std.specs.declared.option.Option.{Option}
 use Rattle.edge_io.specs.Counts.{Counts, Rose, count_after}
+use Rattle.edge_io.specs.Held.{NamedFiles}
+use Rattle.problem_form.specs.declared.limits.LimitKind.{LimitKind}
 use Rattle.problem_form.specs.declared.limits.LimitKind.TheVariants.{Bytes}
 use Rattle.command_words.specs.declared.names.Which.{Which}
-use Rattle.command_words.specs.declared.names.Which.TheVariants.{Source, Map, State}
+use Rattle.command_words.specs.declared.names.Which.TheVariants.{State}
 use Rattle.command_words.specs.declared.commands.Command.{Command}
-use Rattle.command_words.specs.declared.commands.Target.{Target}
-use Rattle.command_words.specs.declared.commands.Target.TheVariants.{Nodes, Chimera}
-use Rattle.command_words.specs.declared.commands.Chaining.TheVariants.{Clique}
-use Rattle.command_words.specs.declared.commands.Chaining.TheVariants as chainings
-use Rattle.command_words.specs.Names.{text_at, name_of, place_of, if_named, files_of, number_in}
+use Rattle.command_words.specs.Names.{name_of, model_files, last_files}
 use Rattle.program_run.specs.declared.status.Status.{Status}
-use Rattle.program_run.specs.declared.status.Status.TheVariants.{Usage, ReadFault, BadText, Limit, NotEmbedded, NoState, NoMemory}
+use Rattle.program_run.specs.declared.status.Status.TheVariants.{Done, Usage, ReadFault, WriteFault, BadText, Limit, NotEmbedded, NoState, NoMemory}
+
+-- ---- one file
 
 -- so many files were begun
 abbrev pub AreBegun : ℕ → Counts → Counts → Type 0
 AreBegun zero old new = new.begun ≡ old.begun
 AreBegun (suc n) old new = new.begun ≡ count_after old.begun (suc n)
 
--- the last begun file has this name, and was read to its end and no further: one read gave nothing
-pub record IsRead (name : List ℕ) (new : Counts) : Type 0 where
+-- so many files were begun, the last of them, of this name, was read to its end and no further (one
+-- read gave nothing), and the count of faults did not fall
+pub record IsReadTo (name : List ℕ) (count : ℕ) (old new : Counts) : Type 0 where
+  pub begun : AreBegun count old new
   pub named : new.name ≡ name
   pub ended : new.empty_reads ≡ 1
-
--- so many files were begun, and the last of them, of this name, was read to its end and no further
-abbrev pub AreRead : List ℕ → ℕ → Counts → Counts → Type 0
-AreRead name zero old new = new.begun ≡ old.begun
-AreRead name (suc n) old new = (new.begun ≡ count_after old.begun (suc n)) × IsRead name new
+  pub later : old.faults ≤ new.faults
 
 -- so many files were begun, and of the last of them, of this name, one byte more than is accepted was
 -- taken and nothing else
-pub record AreTooLong (name : List ℕ) (count : ℕ) (old new : Counts) : Type 0 where
+pub record IsTooLong (name : List ℕ) (count : ℕ) (old new : Counts) : Type 0 where
   pub begun : AreBegun count old new
   pub named : new.name ≡ name
   pub taken : new.taken ≡ 16777217
@@ -45,84 +44,76 @@ pub record IsCause (name : List ℕ) (count : ℕ) (old new : Counts) : Type 0 w
   pub named : new.name ≡ name
   pub begun : AreBegun count old new
 
--- ---- of one step
+-- a file passes a limit: it is too long, as the number says, or what was read passes another
+abbrev pub IsLimited : LimitKind → ℕ → List ℕ → ℕ → Counts → Counts → Type 0
+IsLimited Bytes number name count old new = (number ≡ 16777217) × IsTooLong name count old new
+IsLimited kind number name count old new = IsReadTo name count old new
 
--- what a step leaves that takes a file, the count-th one, and then refuses
-abbrev pub IsRefusedBy : Which → List ℕ → ℕ → Status → Counts → Counts → Type 0
-IsRefusedBy which name count (ReadFault other) old new =
-    (other ≡ which) × IsCause name count old new
-IsRefusedBy which name count (Limit other Bytes number) old new =
-    (other ≡ which) × AreTooLong name count old new
-IsRefusedBy which name count (Limit other kind number) old new =
-    (other ≡ which) × AreRead name count old new
-IsRefusedBy which name count (BadText other kind line) old new =
-    (other ≡ which) × AreRead name count old new
-IsRefusedBy which name count (NoState width) old new = (which ≡ State) × AreRead name count old new
-IsRefusedBy which name count NoMemory old new = ⊤
-IsRefusedBy which name count status old new = ⊥
+-- ---- files in a row
 
--- what a step leaves that takes so many files, the last of them of this name: they are read, and the
--- count of faults did not fall
-pub record IsPassed (name : List ℕ) (count : ℕ) (old new : Counts) : Type 0 where
-  pub read : AreRead name count old new
-  pub later : old.faults ≤ new.faults
+-- the last of files
+abbrev pub last_of : Which → List Which → Which
+last_of file [] = file
+last_of file (next ∷ files) = last_of next files
 
--- what is left where a target's ground is taken: the map that it names is read, or nothing is
-abbrev pub IsGrounded : List (List ℕ) → Target → Counts → Counts → Type 0
-IsGrounded words (Nodes target) old new = new ≡ old
-IsGrounded words (Chimera size Clique) old new = new ≡ old
-IsGrounded words (Chimera size (chainings.Map at)) old new = IsPassed (text_at words at) 1 old new
+-- the files of this list were begun and read to their ends, one after another, and no other
+abbrev pub AreRead : (Which → List ℕ) → List Which → Counts → Counts → Type 0
+AreRead name [] old new = new ≡ old
+AreRead name (file ∷ files) old new =
+    IsReadTo (name (last_of file files)) (suc (length files)) old new
 
--- what is left where it is refused, which only a map is
-abbrev pub IsUngrounded : List (List ℕ) → Target → Status → Counts → Counts → Type 0
-IsUngrounded words (Nodes target) status old new = ⊥
-IsUngrounded words (Chimera size Clique) status old new = ⊥
-IsUngrounded words (Chimera size (chainings.Map at)) status old new =
-    IsRefusedBy Map (text_at words at) 1 status old new
+-- the file stands in the list, and of its number there, counted from 1, this holds
+abbrev pub IsAt : List Which → Which → (ℕ → Type 0) → Type 0
+IsAt files which P =
+    (before after : List Which) × (files ≡ before ++ which ∷ after) × P (suc (length before))
 
--- ---- of a command
+-- one of these files was the last that was begun, and refused with this status
+abbrev pub AreRefused : (Which → List ℕ) → List Which → Status → Counts → Counts → Type 0
+AreRefused name files (ReadFault which) old new =
+    IsAt files which (λ count. IsCause (name which) count old new)
+AreRefused name files (Limit which kind number) old new =
+    IsAt files which (λ count. IsLimited kind number (name which) count old new)
+AreRefused name files (BadText which kind line) old new =
+    IsAt files which (λ count. IsReadTo (name which) count old new)
+AreRefused name files (NoState width) old new =
+    IsAt files State (λ count. IsReadTo (name State) count old new)
+AreRefused name files NoMemory old new = ⊤
+AreRefused name files status old new = ⊥
 
--- the last of files, and the source where there is none
-abbrev pub last_of : List Which → Which
-last_of [] = Source
-last_of (file ∷ []) = file
-last_of (file ∷ next ∷ files) = last_of (next ∷ files)
+-- what files tell at a status, where these are taken for a model, and those after it: one refused, or
+-- those of the model were read where it is not embedded, and else all
+abbrev pub AreFilesOf : (Which → List ℕ) → List Which → List Which → Status → Counts → Counts → Type 0
+AreFilesOf name made last Done old new = AreRead name (made ++ last) old new
+AreFilesOf name made last WriteFault old new = AreRead name (made ++ last) old new
+AreFilesOf name made last (NotEmbedded fault) old new = AreRead name made old new
+AreFilesOf name made last (Usage position) old new = ⊤
+AreFilesOf name made last status old new = AreRefused name (made ++ last) status old new
 
--- the command names such a file
-abbrev pub HasFile : Command → Which → Type 0
-HasFile command which = IsSome (place_of command which)
-
--- the files that the model of a command is made of
-abbrev pub model_files : Command → List Which
-model_files command = if_named command Source ++ if_named command Map
-
--- so many files were begun, those of this list, and the last of them was read to its end
-abbrev pub AreAllRead : List (List ℕ) → Command → List Which → Counts → Counts → Type 0
-AreAllRead words command files old new =
-    AreRead (name_of words command (last_of files)) (length files) old new
-
--- what files tell at a status of a command, which speaks only of a file that the command names: at
--- a read fault its cause, where a file is too long that one byte too many was taken, where a model
--- is not embedded that the files of the model were read and no state was begun, and else that the
--- files up to the one of the status were read
+-- what files tell at a status of a command
 abbrev pub AreFiles : List (List ℕ) → Command → Status → Counts → Counts → Type 0
-AreFiles words command (ReadFault which) old new =
-    HasFile command which
-    × IsCause (name_of words command which) (number_in (files_of command) which) old new
-AreFiles words command (Limit which Bytes number) old new =
-    HasFile command which
-    × AreTooLong (name_of words command which) (number_in (files_of command) which) old new
-AreFiles words command (Limit which kind number) old new =
-    HasFile command which
-    × AreRead (name_of words command which) (number_in (files_of command) which) old new
-AreFiles words command (BadText which kind line) old new =
-    HasFile command which
-    × AreRead (name_of words command which) (number_in (files_of command) which) old new
-AreFiles words command (NoState width) old new =
-    HasFile command State
-    × AreRead (name_of words command State) (number_in (files_of command) State) old new
-AreFiles words command (NotEmbedded fault) old new =
-    AreAllRead words command (model_files command) old new
-AreFiles words command (Usage position) old new = ⊤
-AreFiles words command NoMemory old new = ⊤
-AreFiles words command status old new = AreAllRead words command (files_of command) old new
+AreFiles words command status old new =
+    AreFilesOf (name_of words command) (model_files command) (last_files command) status old new
+
+-- ---- what they hold
+
+-- these files are held where a store tells them; where it tells nothing and none of them is taken,
+-- whatever files may be held
+abbrev pub MayHold : Option NamedFiles → List Which → NamedFiles → Type 0
+MayHold (Some told) files held = told ≡ held
+MayHold None [] held = ⊤
+MayHold None (file ∷ files) held = ⊥
+
+-- where these files are taken, P holds of what may be held
+abbrev pub WhereHeld : Option NamedFiles → List Which → (NamedFiles → Type 0) → Type 0
+WhereHeld told files P = (held : NamedFiles) → MayHold told files held → P held
+
+-- what a step leaves that takes a file of this name alone, and then refuses
+abbrev pub IsRefusedBy : Which → List ℕ → Status → Counts → Counts → Type 0
+IsRefusedBy which name (ReadFault other) old new = (other ≡ which) × IsCause name 1 old new
+IsRefusedBy which name (Limit other kind number) old new =
+    (other ≡ which) × IsLimited kind number name 1 old new
+IsRefusedBy which name (BadText other kind line) old new =
+    (other ≡ which) × IsReadTo name 1 old new
+IsRefusedBy which name (NoState width) old new = (which ≡ State) × IsReadTo name 1 old new
+IsRefusedBy which name NoMemory old new = ⊤
+IsRefusedBy which name status old new = ⊥

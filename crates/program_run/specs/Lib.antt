@@ -1,10 +1,11 @@
 pub mod Statuses
-pub mod Causes
-pub mod Grounds
-pub mod Standing
+pub mod Placements
+pub mod Plans
 pub mod Outcome
-pub mod Jobs
+pub mod Unembedded
+pub mod Made
+pub mod Causes
 pub mod Answers
 pub mod Lines
 pub mod Cut
-pub mod Samples
+pub mod Drawn

@@ -1,50 +1,67 @@
 -- The outcome of a run: a line a step, and the first step that refuses ends it.
-use Rattle.std.specs.Prelude.{◌≡◌, ℕ, ◌+◌, Bool, List, [], length, nat_lt, if◌then◌else◌, Ok, Err, Some, None, Result, ⊤}
+use Rattle.std.specs.Prelude.{◌≡◌, ◌⊎◌, ℕ, ◌+◌, Bool, List, [], ◌∷◌, ◌++◌, length, nat_lt, if◌then◌else◌, Ok, Err, Some, None, Result, Contains, ⊤}
 use Rattle.std.specs.declared.option.Option.{Option}
 use Rattle.std.specs.Option.{option_map_or}
-use Rattle.edge_io.specs.Held.{NamedFiles, find_file, WhereTold}
+use Rattle.edge_io.specs.Held.{NamedFiles, find_file}
+use Rattle.bits_model.specs.Output.{Written}
 use Rattle.whole_text.specs.declared.faults.TextFault.{TextFault}
 use Rattle.problem_form.specs.declared.limits.LimitFault.{LimitFault}
 use Rattle.problem_form.specs.declared.limits.LimitKind.TheVariants.{Bytes}
 use Rattle.problem_form.specs.Limits.{limit_fault, most_bytes}
 use Rattle.command_words.specs.declared.names.Which.{Which}
 use Rattle.command_words.specs.declared.names.Which.TheVariants.{Source, Map, State}
-use Rattle.sample_text.specs.Sample.{sample_text}
+use Rattle.command_words.specs.declared.commands.Format.{Format}
 use Rattle.command_words.specs.declared.commands.Format.TheVariants.{Wcnf}
-use Rattle.command_words.specs.declared.commands.Job.{Job}
-use Rattle.command_words.specs.declared.commands.Sample.{Sample}
-use Rattle.command_words.specs.declared.commands.Command.{Command}
-use Rattle.command_words.specs.declared.commands.Command.TheVariants as commands
-use Rattle.command_words.specs.declared.commands.Target.{Target}
-use Rattle.command_words.specs.declared.commands.Target.TheVariants.{Nodes, Chimera}
-use Rattle.command_words.specs.declared.commands.Chaining.TheVariants.{Clique}
+use Rattle.command_words.specs.declared.commands.Origin.{Origin}
+use Rattle.command_words.specs.declared.commands.Origin.TheVariants.{File, Drawn}
+use Rattle.command_words.specs.declared.commands.Chaining.{Chaining}
 use Rattle.command_words.specs.declared.commands.Chaining.TheVariants as chainings
-use Rattle.chain_map.specs.Maps as maps
+use Rattle.command_words.specs.declared.commands.Target.{Target}
+use Rattle.command_words.specs.declared.commands.Target.TheVariants as targets
+use Rattle.command_words.specs.declared.commands.Ask.{Ask}
+use Rattle.command_words.specs.declared.commands.Ask.TheVariants.{Model, Summary, Decode, Extend}
+use Rattle.command_words.specs.declared.commands.Command.{Command}
 use Rattle.command_words.specs.Commands.{command_of}
 use Rattle.command_words.specs.Names.{text_at}
+use Rattle.sample_text.specs.Sample.{sample_text}
+use Rattle.chain_map.specs.Maps as maps
 use Rattle.source_texts.specs.declared.reading.Read.{Read}
 use Rattle.source_texts.specs.Sources.{problem_of}
 use Rattle.state_file.specs.States.{state_of}
 use Rattle.program_run.specs.Statuses.{IsDoneOrWant}
-use Rattle.program_run.specs.declared.grounds.Ground.{Ground}
-use Rattle.program_run.specs.declared.grounds.Ground.TheVariants as grounds
-use Rattle.program_run.specs.Grounds.{Plan, plan_of, model_width, CanStand, IsFaultIn}
+use Rattle.program_run.specs.declared.placements.Perch.{Perch}
+use Rattle.program_run.specs.declared.placements.Perch.TheVariants as perches
+use Rattle.program_run.specs.declared.placements.Placement.{Placement}
+use Rattle.program_run.specs.declared.placements.Placement.TheVariants as placements
+use Rattle.program_run.specs.declared.plans.Plan.{Plan}
+use Rattle.program_run.specs.Plans.{plan_of, CanStand, IsModelBy, IsFaultIn}
 use Rattle.program_run.specs.declared.status.Status.{Status}
 use Rattle.program_run.specs.declared.status.Status.TheVariants.{Done, Usage, ReadFault, WriteFault, BadText, Limit, NotEmbedded, NoState, NoMemory}
 
 -- ---- steps
 
--- what a step gives: a value, the status that refuses, or nothing where a file isn't held
-abbrev pub Step : Type 0 → Type 0
-Step A = Option (Result A Status)
+-- the files that steps took, one after another, and how they end: with a value, with the status that
+-- refuses, or not at all where the last of those files isn't held
+pub record Steps (A : Type 0) : Type 0 where
+  pub taken : List Which
+  pub end : Option (Result A Status)
 
--- a step, and the next one with its value
+-- no file is taken
+abbrev pub ends : {A : Type 0} → Result A Status → Steps A
+ends result = record { taken = []; end = Some result }
+
+abbrev pub gives : {A : Type 0} → A → Steps A
+gives x = ends (Ok x)
+
+-- steps, and the next ones with their value
+abbrev pub go_on : {A B : Type 0} → List Which → Option (Result A Status) → (A → Steps B) → Steps B
+go_on taken None f = record { taken = taken; end = None }
+go_on taken (Some (Ok x)) f = record { taken = taken ++ (f x).taken; end = (f x).end }
+go_on taken (Some (Err status)) f = record { taken = taken; end = Some (Err status) }
+
 infixl 10 ◌>>=◌
-abbrev pub ◌>>=◌ : {A B : Type 0} → Option (Result A Status) → (A → Option (Result B Status))
-    → Option (Result B Status)
-None >>= f = None
-(Some (Ok x)) >>= f = f x
-(Some (Err status)) >>= f = Some (Err status)
+abbrev pub ◌>>=◌ : {A B : Type 0} → Steps A → (A → Steps B) → Steps B
+m >>= f = go_on m.taken m.end f
 
 -- the bytes of a file, unless it is too long
 abbrev pub not_too_long : Which → List ℕ → Result (List ℕ) Status
@@ -54,158 +71,163 @@ not_too_long which bytes =
     else Ok bytes
 
 -- taking the bytes of a file of this name
-unfoldable pub taking : NamedFiles → Which → List ℕ → Step (List ℕ)
-taking held which name =
-    option_map_or (λ bytes. Some (not_too_long which bytes)) (find_file held name) None
+abbrev pub taking : NamedFiles → Which → List ℕ → Steps (List ℕ)
+taking held which name = record {
+  taken = which ∷ [];
+  end = option_map_or (λ bytes. Some (not_too_long which bytes)) (find_file held name) None;
+}
 
--- reading a text
-abbrev pub from_text : {A : Type 0} → Which → Result A TextFault → Step A
-from_text which (Ok x) = Some (Ok x)
-from_text which (Err fault) = Some (Err (BadText which fault.kind fault.line))
+-- what a text is read into, or its fault
+abbrev pub text_end : {A : Type 0} → Which → Result A TextFault → Result A Status
+text_end which (Ok x) = Ok x
+text_end which (Err fault) = Err (BadText which fault.kind fault.line)
 
--- checking the limits
-abbrev pub from_limits : {A : Type 0} → A → Option LimitFault → Step A
-from_limits x None = Some (Ok x)
-from_limits x (Some fault) = Some (Err (Limit Source fault.kind fault.number))
+-- what is within the limits, or the one that it passes
+abbrev pub limits_end : {A : Type 0} → A → Option LimitFault → Result A Status
+limits_end x None = Ok x
+limits_end x (Some fault) = Err (Limit Source fault.kind fault.number)
 
--- taking the source and reading it
-unfoldable pub reading : List (List ℕ) → NamedFiles → Job → Step Read
-reading words held job = do
-  bytes ← taking held Source (text_at words job.file)
-  from_text Source (problem_of job.format bytes)
+-- so many bits, or that a text has no such state
+abbrev pub state_end : ℕ → Option (List Bool) → Result (List Bool) Status
+state_end width (Some bits) = Ok bits
+state_end width None = Err (NoState width)
+
+-- ---- of a command
+
+-- the format of a source
+abbrev pub format_in : Origin → Format
+format_in (File format at) = format
+format_in (Drawn number clauses) = Wcnf
+
+-- taking the text of a source: that of a file, or the one that is drawn
+unfoldable pub sourcing : List (List ℕ) → NamedFiles → Origin → Steps (List ℕ)
+sourcing words held (File format at) = taking held Source (text_at words at)
+sourcing words held (Drawn number clauses) = gives (sample_text number clauses)
+
+-- and then reading it
+unfoldable pub reading : List (List ℕ) → NamedFiles → Origin → Steps Read
+reading words held origin = do
+  text ← sourcing words held origin
+  ends (text_end Source (problem_of (format_in origin) text))
 
 -- and then checking its limits
-unfoldable pub sourcing : List (List ℕ) → NamedFiles → Job → Step Read
-sourcing words held job = do
-  read ← reading words held job
-  from_limits read (limit_fault job.choices.normal read.problem)
+unfoldable pub checking : List (List ℕ) → NamedFiles → Command → Steps Read
+checking words held command = do
+  read ← reading words held command.origin
+  ends (limits_end read (limit_fault command.choices.normal read.problem))
 
 -- the chains of a map, read from the file of this name
-unfoldable pub mapping : NamedFiles → List ℕ → Step (List (List ℕ))
+unfoldable pub mapping : NamedFiles → List ℕ → Steps (List (List ℕ))
 mapping held name = do
   bytes ← taking held Map name
-  from_text Map (maps.reading bytes)
+  ends (text_end Map (maps.reading bytes))
 
--- what a target stands on, with the map that it names
-unfoldable pub grounding : List (List ℕ) → NamedFiles → Target → Step Ground
-grounding words held (Nodes target) = Some (Ok (grounds.Nodes target))
-grounding words held (Chimera size Clique) = Some (Ok (grounds.Clique size))
-grounding words held (Chimera size (chainings.Map at)) = do
+-- where the chains come from, with the map that is named
+unfoldable pub perching : List (List ℕ) → NamedFiles → Chaining → Steps Perch
+perching words held chainings.Clique = gives perches.Clique
+perching words held (chainings.Map at) = do
   map ← mapping held (text_at words at)
-  Some (Ok (grounds.Map size map))
+  gives (perches.Map map)
 
--- a state that a text has, or that it has none of so many bits
-abbrev pub from_state : ℕ → Option (List Bool) → Step (List Bool)
-from_state width (Some bits) = Some (Ok bits)
-from_state width None = Some (Err (NoState width))
+-- what the model stands on
+unfoldable pub placing : List (List ℕ) → NamedFiles → Target → Steps Placement
+placing words held (targets.Nodes target) = gives (placements.Nodes target)
+placing words held (targets.Chimera board) = do
+  perch ← perching words held board.chains
+  gives (placements.Qubits board.graph perch)
+
+-- what the model of a command is made of
+unfoldable pub planning : List (List ℕ) → NamedFiles → Command → Steps Plan
+planning words held command = do
+  read ← checking words held command
+  base ← placing words held command.target
+  gives (plan_of read command.choices command.unit base)
 
 -- so many bits, read from the file of this name
-unfoldable pub stating : NamedFiles → List ℕ → ℕ → Step (List Bool)
+unfoldable pub stating : NamedFiles → List ℕ → ℕ → Steps (List Bool)
 stating held name width = do
   bytes ← taking held State name
-  from_state width (state_of width bytes)
+  ends (state_end width (state_of width bytes))
 
--- ---- commands
-
--- what the model of a source is made of
-unfoldable pub compiling : List (List ℕ) → NamedFiles → Job → Step Plan
-compiling words held job = do
-  read ← sourcing words held job
-  base ← grounding words held job.target
-  Some (Ok (plan_of read job.choices job.unit base))
-
--- what the model of a sample is made of: its text is read and checked as a file's is
-unfoldable pub sampling : List (List ℕ) → NamedFiles → Sample → Step Plan
-sampling words held sample = do
-  read ← from_text Source (problem_of Wcnf (sample_text sample.number sample.clauses))
-  checked ← from_limits read (limit_fault sample.choices.normal read.problem)
-  base ← grounding words held sample.target
-  Some (Ok (plan_of checked sample.choices sample.unit base))
-
--- what the model of a command is made of: a line a command
-abbrev pub planning : List (List ℕ) → NamedFiles → Command → Step Plan
-planning words held (commands.Compile job) = compiling words held job
-planning words held (commands.Decode job at) = compiling words held job
-planning words held (commands.Extend job at) = compiling words held job
-planning words held (commands.Sample sample) = sampling words held sample
-
--- what a command reads once its model can be made: a state of the model, an assignment of the
--- source, or nothing
-abbrev pub last_step : List (List ℕ) → NamedFiles → Command → Plan → Step (List Bool)
-last_step words held (commands.Compile job) plan = Some (Ok [])
-last_step words held (commands.Decode job at) plan =
-    stating held (text_at words at) (model_width plan)
-last_step words held (commands.Extend job at) plan =
-    stating held (text_at words at) plan.read.variables
-last_step words held (commands.Sample sample) plan = Some (Ok [])
+-- what is read once the model stands: a state of it, an assignment of the source, or nothing
+abbrev pub last_step : List (List ℕ) → NamedFiles → Ask → Plan → Written → Steps (List Bool)
+last_step words held Model plan m = gives []
+last_step words held Summary plan m = gives []
+last_step words held (Decode at) plan m = stating held (text_at words at) m.nodes
+last_step words held (Extend at) plan m = stating held (text_at words at) plan.read.variables
 
 -- ---- the outcome
 
--- how a plan ends: its model cannot be embedded, or the last step refuses, or all is done
-abbrev pub IsEnd : Plan → Step (List Bool) → Status → Type 0
-IsEnd plan last Done = CanStand plan × ((bits : List Bool) × (last ≡ Some (Ok bits)))
-IsEnd plan last (NotEmbedded fault) = IsFaultIn plan fault × ¬ (CanStand plan)
-IsEnd plan last status = CanStand plan × (last ≡ Some (Err status))
+-- the plan can stand, and of its model this holds
+abbrev pub OfModel : Plan → (Written → Type 0) → Type 0
+OfModel plan P = CanStand plan × ((m : Written) × IsModelBy plan m × P m)
 
--- how the steps of a command end: with the status of the first one that refuses, and else as the
--- plan does; they have no end where a file isn't held
-abbrev pub IsEndOf : Step Plan → (Plan → Step (List Bool)) → Status → Type 0
-IsEndOf None last status = ⊥
-IsEndOf (Some (Err refusal)) last status = status ≡ refusal
-IsEndOf (Some (Ok plan)) last status = IsEnd plan (last plan) status
+-- how a plan ends: its model cannot be embedded, or the last step refuses, or all is done
+abbrev pub IsEndOf : Plan → (Written → Steps (List Bool)) → Status → Type 0
+IsEndOf plan last Done = OfModel plan (λ m. (bits : List Bool) × ((last m).end ≡ Some (Ok bits)))
+IsEndOf plan last (NotEmbedded fault) = IsFaultIn plan fault × ¬ (CanStand plan)
+IsEndOf plan last status = OfModel plan (λ m. (last m).end ≡ Some (Err status))
+
+-- how all steps end: with the status of the first one that refuses, and else as the plan does; they
+-- have no end where a file isn't held
+abbrev pub IsEnd : Option (Result Plan Status) → (Plan → Written → Steps (List Bool)) → Status
+    → Type 0
+IsEnd None last status = ⊥
+IsEnd (Some (Err refusal)) last status = status ≡ refusal
+IsEnd (Some (Ok plan)) last status = IsEndOf plan (last plan) status
+
+-- a file is taken once the model stands
+abbrev pub IsTakenLast : Option (Result Plan Status) → (Plan → Written → Steps (List Bool)) → Which
+    → Type 0
+IsTakenLast None last which = ⊥
+IsTakenLast (Some (Err refusal)) last which = ⊥
+IsTakenLast (Some (Ok plan)) last which = OfModel plan (λ m. Contains (last plan m).taken which)
+
+-- each step before the taking of a file gave a value
+abbrev pub IsComeTo : Steps Plan → (Plan → Written → Steps (List Bool)) → Which → Type 0
+IsComeTo plans last which = Contains plans.taken which ⊎ IsTakenLast plans.end last which
+
+-- the status is how the steps end, unless it is a fault or want of memory: a file that cannot be read
+-- is one that they come to, and what cannot be written comes only where all is done
+abbrev pub Ends : Status → Steps Plan → (Plan → Written → Steps (List Bool)) → Type 0
+Ends (ReadFault which) plans last = IsComeTo plans last which
+Ends NoMemory plans last = ⊤
+Ends WriteFault plans last = IsEnd plans.end last Done
+Ends status plans last = IsEnd plans.end last status
 
 -- the outcome of a command, or of words that are none
 abbrev pub IsOutcomeOf : List (List ℕ) → NamedFiles → Result Command ℕ → Status → Type 0
 IsOutcomeOf words held (Err position) status = status ≡ Usage position
 IsOutcomeOf words held (Ok command) status =
-    IsEndOf (planning words held command) (last_step words held command) status
+    IsEnd (planning words held command).end (last_step words held command.ask) status
 
 -- the outcome of the words
 abbrev pub IsOutcome : List (List ℕ) → NamedFiles → Status → Type 0
 IsOutcome words held status = IsOutcomeOf words held (command_of words) status
 
--- the status is the outcome, unless it is a fault or want of memory; a file that cannot be read
--- comes before its outcome, and what cannot be written comes only where the outcome is Done
-abbrev pub MeetsOutcome : List (List ℕ) → NamedFiles → Status → Type 0
-MeetsOutcome words held (ReadFault which) = ⊤
-MeetsOutcome words held NoMemory = ⊤
-MeetsOutcome words held WriteFault = IsOutcome words held Done
-MeetsOutcome words held status = IsOutcome words held status
+-- the status of a command, or of words that are none, is its outcome, but for faults and want of
+-- memory
+abbrev pub MeetsOutcomeOf : List (List ℕ) → NamedFiles → Result Command ℕ → Status → Type 0
+MeetsOutcomeOf words held (Err position) status = status ≡ Usage position
+MeetsOutcomeOf words held (Ok command) status =
+    Ends status (planning words held command) (last_step words held command.ask)
 
--- where the files tell what they hold, and the outcome is Done, so is the status, or memory was
--- wanting
-abbrev pub IsComplete : Status → Option NamedFiles → List (List ℕ) → Type 0
-IsComplete status told words =
-    WhereTold told (λ held. IsOutcome words held Done → IsDoneOrWant status)
+abbrev pub MeetsOutcome : List (List ℕ) → NamedFiles → Status → Type 0
+MeetsOutcome words held status = MeetsOutcomeOf words held (command_of words) status
+
+-- where the outcome is Done, so is the status, or memory was wanting
+abbrev pub IsComplete : List (List ℕ) → NamedFiles → Status → Type 0
+IsComplete words held status = IsOutcome words held Done → IsDoneOrWant status
 
 -- ---- what functions return of it
 
--- a status that a step may have refuses as the step does
-abbrev pub Refuses : {A : Type 0} → Status → Step A → Type 0
-Refuses (ReadFault which) step = ⊤
-Refuses NoMemory step = ⊤
-Refuses Done step = ⊥
-Refuses WriteFault step = ⊥
-Refuses (Usage position) step = ⊥
-Refuses (NotEmbedded fault) step = ⊥
-Refuses status step = step ≡ Some (Err status)
+-- steps refuse as a status says: a file that cannot be read was taken by them
+abbrev pub Refuses : {A : Type 0} → Status → Steps A → Type 0
+Refuses (ReadFault which) steps = Contains steps.taken which
+Refuses NoMemory steps = ⊤
+Refuses status steps = steps.end ≡ Some (Err status)
 
--- what a function returned, seen by view, is what the step gives
-abbrev pub Meets : {X A : Type 0} → (X → A) → Result X Status → Step A → Type 0
-Meets view (Ok x) step = step ≡ Some (Ok (view x))
-Meets view (Err status) step = Refuses status step
-
--- a status that a command may have before it writes is how its steps end
-abbrev pub Ends : Status → Step Plan → (Plan → Step (List Bool)) → Type 0
-Ends (ReadFault which) step last = ⊤
-Ends NoMemory step last = ⊤
-Ends Done step last = ⊥
-Ends WriteFault step last = ⊥
-Ends (Usage position) step last = ⊥
-Ends status step last = IsEndOf step last status
-
--- what a function returned is how the steps end: where it gave something, all is done
-abbrev pub MeetsEnd : {X : Type 0} → Result X Status → Step Plan → (Plan → Step (List Bool))
-    → Type 0
-MeetsEnd (Ok x) step last = IsEndOf step last Done
-MeetsEnd (Err status) step last = Ends status step last
+-- what a function returned, seen by view, is what the steps give
+abbrev pub Meets : {X A : Type 0} → (X → A) → Result X Status → Steps A → Type 0
+Meets view (Ok x) steps = steps.end ≡ Some (Ok (view x))
+Meets view (Err status) steps = Refuses status steps

@@ -1,21 +1,21 @@
 //! What a command answers.
-ghost use Rattle.std.specs.Prelude.{◌≡◌, map, string_bytes, IfOk, IfErr};
-ghost use Rattle.edge_io.specs.Held.{WhereTold};
+ghost use Rattle.std.specs.Prelude.{◌≡◌, [], None, map, string_bytes, IfOk, IfErr};
+ghost use Rattle.problem_form.specs.Limits.{limit_fault};
 ghost use Rattle.command_words.specs.Commands.{HasFewClauses};
-ghost use Rattle.command_words.specs.Shapes.{HasShape};
-ghost use Rattle.program_run.specs.Outcome.{MeetsEnd, last_step, planning};
+ghost use Rattle.command_words.specs.Names.{name_of, files_of, last_files};
+ghost use Rattle.program_run.specs.Outcome.{Ends, last_step, planning};
+ghost use Rattle.program_run.specs.Made.{EndsOf, IsMadeText};
 ghost use Rattle.program_run.specs.Statuses.{ended, IsRefusal};
 ghost use Rattle.program_run.specs.Answers.{text_of, IsAnswer};
-ghost use Rattle.program_run.specs.Causes.{AreFiles};
+ghost use Rattle.program_run.specs.Causes.{AreFiles, AreFilesOf, WhereHeld};
 
-use crate::compile::compile;
-use crate::decode::decode;
-use crate::extend::extend;
-use crate::sample::sample;
+use crate::made::{answer_state, model_given};
+use crate::plans::{Plan, take_plan};
 use crate::status::Status;
 use bits_model::OutputModel;
-use command_words::Command;
+use command_words::{Ask, Command};
 use edge_io::Files;
+use model_text::written_summary;
 use std::alloc::Global;
 
 /// What is written for a command: a model, whose text is written row by row, or a text.
@@ -25,6 +25,46 @@ pub enum Answer {
     Text(Vec<u8>),
 }
 
+/// What a command answers of the model of its plan.
+fn answer_by<F: Files>(
+    alloc: Global,
+    words: &[String],
+    command: Command,
+    plan: Plan,
+    files: &mut F,
+) -> Result<Answer, Status>
+    requires within { limit_fault plan.choices.normal plan.read.problem ≡ None }
+    requires own { plan.read.variables ≡ plan.read.problem.variables }
+    ensures step { WhereHeld (F.held files.old) (last_files command) (λ held.
+        EndsOf (ended result) plan (last_step (map string_bytes words.now) held command.ask plan)) }
+    ensures files { AreFilesOf (name_of (map string_bytes words.now) command) [] (last_files command)
+        (ended result) (F.counts files.old) (F.counts files.new) }
+    ensures answer { IfOk result (λ answer. WhereHeld (F.held files.old) (last_files command)
+        (λ held. IsMadeText command.ask plan
+        (last_step (map string_bytes words.now) held command.ask plan) (text_of answer))) }
+    ensures refusal { IfErr result IsRefusal }
+{
+    match command.ask {
+        Ask::Model => match model_given(alloc, plan) {
+            Ok(model) => Ok(Answer::Model(model)),
+            Err(status) => Err(status),
+        },
+        Ask::Summary => match model_given(alloc, plan) {
+            Ok(model) => match written_summary(alloc, &model) {
+                Ok(text) => Ok(Answer::Text(text)),
+                Err(_) => Err(Status::NoMemory),
+            },
+            Err(status) => Err(status),
+        },
+        Ask::Decode(at) | Ask::Extend(at) => {
+            match answer_state(alloc, words, command, at, &plan, files) {
+                Ok(text) => Ok(Answer::Text(text)),
+                Err(status) => Err(status),
+            }
+        }
+    }
+}
+
 /// What a command answers, and nothing is written yet.
 pub fn answer_to<F: Files>(
     alloc: Global,
@@ -32,21 +72,22 @@ pub fn answer_to<F: Files>(
     command: Command,
     files: &mut F,
 ) -> Result<Answer, Status>
-    requires few { HasFewClauses command }
-    requires shape { HasShape command }
-    ensures step { WhereTold (F.held files.old) (λ held. MeetsEnd result
+    requires { HasFewClauses command.origin }
+    ensures step { WhereHeld (F.held files.old) (files_of command) (λ held. Ends (ended result)
         (planning (map string_bytes words.now) held command)
-        (last_step (map string_bytes words.now) held command)) }
+        (last_step (map string_bytes words.now) held command.ask)) }
     ensures files { AreFiles (map string_bytes words.now) command (ended result)
         (F.counts files.old) (F.counts files.new) }
-    ensures answer { IfOk result (λ answer. WhereTold (F.held files.old) (λ held.
-        IsAnswer (map string_bytes words.now) held command (text_of answer))) }
+    ensures answer { IfOk result (λ answer. WhereHeld (F.held files.old) (files_of command)
+        (λ held. IsAnswer (map string_bytes words.now) held command (text_of answer))) }
     ensures refusal { IfErr result IsRefusal }
 {
-    match command {
-        Command::Compile(job) => compile(alloc, words, job, files),
-        Command::Decode(job, at) => decode(alloc, words, job, at, files),
-        Command::Extend(job, at) => extend(alloc, words, job, at, files),
-        Command::Sample(drawn) => sample(alloc, words, drawn, files),
+    let plan = match take_plan(alloc, words, command, files) {
+        Ok(plan) => plan,
+        Err(status) => return Err(status),
+    };
+    match answer_by(alloc, words, command, plan, files) {
+        Ok(answer) => Ok(answer),
+        Err(status) => Err(status),
     }
 }

@@ -3,23 +3,25 @@
 #![tactic(auto)]
 
 mod answers;
-mod compile;
 mod cut;
 mod decode;
 mod delivery;
 mod extend;
-mod grounds;
-mod jobs;
+mod laws;
 mod lines;
-mod planned;
+mod made;
+mod models;
+mod placements;
+mod plans;
 mod program;
 mod running;
-mod sample;
+mod sources;
 mod states;
 mod status;
 mod steps;
 
 pub use answers::Answer;
+pub use laws::plans_make_one_model;
 pub use program::{exit_number, given_words};
 pub use running::run;
 pub use status::Status;

@@ -1,12 +1,11 @@
 //! One run: the answer to a command, its delivery, and the line for the status.
 ghost use Rattle.std.specs.Prelude.{◌≡◌, List, ℕ, map, string_bytes, IfOk};
 ghost use Rattle.edge_io.specs.Counts.{Rose};
-ghost use Rattle.edge_io.specs.Held.{WhereTold};
-ghost use Rattle.command_words.specs.Commands.{asked};
+ghost use Rattle.command_words.specs.Commands.{asked, HasFewClauses};
 ghost use Rattle.program_run.specs.Statuses.{IsUsageOf, OnUsage, OnWriting, OnDone, OnRefusal};
 ghost use Rattle.program_run.specs.Outcome.{MeetsOutcome, IsComplete};
-ghost use Rattle.program_run.specs.Causes.{AreFiles};
-ghost use Rattle.program_run.specs.Answers.{IsAnswered, IsDelivered};
+ghost use Rattle.program_run.specs.Causes.{AreFiles, WhereHeld};
+ghost use Rattle.program_run.specs.Answers.{files_in, IsAnswered, IsDelivered};
 ghost use Rattle.program_run.specs.Lines.{error_line, name_in, name_said, file_in, IsSaid};
 
 use crate::answers::answer_to;
@@ -38,6 +37,44 @@ fn name_in(words: &[String], asked: Result<Command, usize>, status: Status) -> &
     }
 }
 
+/// How a command ends, with its answer written to `out`, before which the whole answer stands.
+fn answered<F: Files, O: Sink>(
+    alloc: Global,
+    words: &[String],
+    said: Result<Command, usize>,
+    files: &mut F,
+    out: &mut O,
+) -> Status
+    requires same { said ≡ asked words.now }
+    requires few { IfOk said (λ command. HasFewClauses command.origin) }
+    ensures usage { IsUsageOf result said }
+    ensures no_call { OnUsage result (files.new ≡ files.old) }
+    ensures files { IfOk said (λ command.
+        AreFiles (map string_bytes words.now) command result
+        (F.counts files.old) (F.counts files.new)) }
+    ensures write_fault { result ≡ Status.WriteFault
+        → Rose (O.faults out.old) (O.faults out.new) }
+    ensures outcome { WhereHeld (F.held files.old) (files_in (map string_bytes words.now)) (λ held.
+        MeetsOutcome (map string_bytes words.now) held result) }
+    ensures answered { OnWriting result ((text : List ℕ)
+        × IsDelivered result (O.bytes out.old) (O.bytes out.new) text
+        × WhereHeld (F.held files.old) (files_in (map string_bytes words.now)) (λ held.
+        IsAnswered (map string_bytes words.now) held text)) }
+    ensures refused { OnRefusal result (out.new ≡ out.old) }
+{
+    match said {
+        Err(position) => Status::Usage(position),
+        Ok(command) => match answer_to(alloc, words, command, files) {
+            Err(status) => status,
+            Ok(answer) => {
+                let status = deliver(alloc, &answer, out);
+                drop(answer);
+                status
+            }
+        },
+    }
+}
+
 /// One run. Nothing is written to `out` before the whole answer stands, and to `err` goes the line
 /// for every status but `Done`.
 pub fn run<F: Files, O: Sink, E: Sink>(
@@ -57,16 +94,19 @@ pub fn run<F: Files, O: Sink, E: Sink>(
     ensures write_fault { result ≡ Status.WriteFault
         → Rose (O.faults out.old) (O.faults out.new) }
 
-    ensures outcome { WhereTold (F.held files.old) (λ held.
+    // Of what the store holds, or of whatever it may hold where no file is taken.
+    ensures outcome { WhereHeld (F.held files.old) (files_in (map string_bytes words.now)) (λ held.
         MeetsOutcome (map string_bytes words.now) held result) }
     ensures complete { ¬ (Rose (F.counts files.old).faults (F.counts files.new).faults)
         → ¬ (Rose (O.faults out.old) (O.faults out.new))
-        → IsComplete result (F.held files.old) (map string_bytes words.now) }
+        → WhereHeld (F.held files.old) (files_in (map string_bytes words.now)) (λ held.
+        IsComplete (map string_bytes words.now) held result) }
 
     // The headline.
     ensures answered { OnWriting result ((text : List ℕ)
         × IsDelivered result (O.bytes out.old) (O.bytes out.new) text
-        × IsAnswered (F.held files.old) (map string_bytes words.now) text) }
+        × WhereHeld (F.held files.old) (files_in (map string_bytes words.now)) (λ held.
+        IsAnswered (map string_bytes words.now) held text)) }
     ensures refused { OnRefusal result (out.new ≡ out.old) }
 
     ensures line { IsSaid (E.bytes err.old) (E.bytes err.new) (E.faults err.old) (E.faults err.new)
@@ -74,17 +114,7 @@ pub fn run<F: Files, O: Sink, E: Sink>(
     ensures silent { OnDone result (err.new ≡ err.old) }
 {
     let asked = command(words);
-    let status = match asked {
-        Err(position) => Status::Usage(position),
-        Ok(command) => match answer_to(alloc, words, command, files) {
-            Err(status) => status,
-            Ok(answer) => {
-                let status = deliver(alloc, &answer, out);
-                drop(answer);
-                status
-            }
-        },
-    };
+    let status = answered(alloc, words, asked, files, out);
     say(status, name_in(words, asked, status), err);
     status
 }

@@ -1,13 +1,14 @@
 //! A state of a model or an assignment of a source, read from a file.
-ghost use Rattle.std.specs.Prelude.{◌≡◌, None, Some, Bool, List, Option, length, IfOk, OnOk, IfErr, IsErrOf};
+ghost use Rattle.std.specs.Prelude.{◌≡◌, None, Some, Bool, List, Option, length, map, string_bytes, IfOk, OnOk, IfErr, IsErrOf};
 ghost use Rattle.edge_io.specs.Held.{WhereTold};
-ghost use Rattle.program_run.specs.Outcome.{Meets, from_state, stating};
-ghost use Rattle.program_run.specs.Statuses.{IsStateRefusal};
-ghost use Rattle.program_run.specs.Causes.{IsRefusedBy, IsPassed};
+ghost use Rattle.command_words.specs.Names.{name_of, last_files, state_of, text_at};
+ghost use Rattle.program_run.specs.Outcome.{Meets, ends, state_end, stating};
+ghost use Rattle.program_run.specs.Statuses.{IsRefusal, IsStateRefusal};
+ghost use Rattle.program_run.specs.Causes.{AreRead, AreRefused, IsReadTo, IsRefusedBy, WhereHeld};
 
 use crate::status::Status;
 use crate::steps::take_bytes;
-use command_words::Which;
+use command_words::{Command, Which, WordAt, text_at};
 use edge_io::Files;
 use state_file::{StateAnswer, read_state};
 use std::alloc::Global;
@@ -16,7 +17,7 @@ use std::alloc::Global;
 fn judged_state(read: Result<Vec<bool>, StateAnswer>, width: usize) -> Result<Vec<bool>, Status>
     ensures step { (said : Option (List Bool)) → IfOk read (λ bits. said ≡ Some bits.items)
         → (IsErrOf read StateAnswer.NoState → said ≡ None)
-        → Meets (λ bits. bits.items) result (from_state width said) }
+        → Meets (λ bits. bits.items) result (ends (state_end width said)) }
     ensures good { IfOk result (λ bits. read ≡ Ok bits) }
     ensures bad { IfErr result IsStateRefusal }
 {
@@ -29,7 +30,7 @@ fn judged_state(read: Result<Vec<bool>, StateAnswer>, width: usize) -> Result<Ve
 
 /// Takes a file of this name, and reads so many bits from it.
 #[tactic(auto, unfolding(crate::specs::Outcome::stating), using(crate::proofs::StateBits::state_has_width))]
-pub fn take_state<F: Files>(
+fn take_bits<F: Files>(
     alloc: Global,
     name: &str,
     width: usize,
@@ -39,12 +40,39 @@ pub fn take_state<F: Files>(
         (stating held name.now width)) }
     ensures width { IfOk result (λ bits. length bits.items ≡ width) }
     ensures held { F.held files.new ≡ F.held files.old }
-    ensures passed { OnOk result (IsPassed name.now 1 (F.counts files.old) (F.counts files.new)) }
-    ensures refused { IfErr result (λ status. IsRefusedBy Which.State name.now 1 status
+    ensures passed { OnOk result (IsReadTo name.now 1 (F.counts files.old) (F.counts files.new)) }
+    ensures refused { IfErr result (λ status. IsRefusedBy Which.State name.now status
         (F.counts files.old) (F.counts files.new)) }
 {
     let text = take_bytes(alloc, name, Which::State, files)?;
     let read = read_state(alloc, &text, width);
     drop(text);
     judged_state(read, width)
+}
+
+/// Takes the file of a command's state or assignment, and reads so many bits from it.
+pub fn take_state<F: Files>(
+    alloc: Global,
+    words: &[String],
+    command: Command,
+    at: WordAt,
+    width: usize,
+    files: &mut F,
+) -> Result<Vec<bool>, Status>
+    requires { state_of command.ask ≡ Some at }
+    ensures step { WhereHeld (F.held files.old) (last_files command) (λ held.
+        Meets (λ bits. bits.items) result
+        (stating held (text_at (map string_bytes words.now) at) width)) }
+    ensures width { IfOk result (λ bits. length bits.items ≡ width) }
+    ensures passed { OnOk result (AreRead (name_of (map string_bytes words.now) command)
+        (last_files command) (F.counts files.old) (F.counts files.new)) }
+    ensures refused { IfErr result (λ status. AreRefused
+        (name_of (map string_bytes words.now) command) (last_files command) status
+        (F.counts files.old) (F.counts files.new)) }
+    ensures refusal { IfErr result IsRefusal }
+{
+    match take_bits(alloc, text_at(words, at), width, files) {
+        Ok(bits) => Ok(bits),
+        Err(status) => Err(status),
+    }
 }

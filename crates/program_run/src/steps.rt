@@ -1,28 +1,26 @@
 //! The steps of a command: each gives a value, or the status that refuses.
-ghost use Rattle.std.specs.Prelude.{◌≡◌, ◌≤◌, ◌^◌, None, Ok, Result, map, string_bytes, length, IfOk, OnOk, IfErr};
+ghost use Rattle.std.specs.Prelude.{◌≡◌, ◌≤◌, ◌^◌, Ok, Result, length, IfOk, OnOk, IfErr};
 ghost use Rattle.edge_io.specs.Held.{WhereTold};
-ghost use Rattle.problem_form.specs.Limits.{limit_fault};
-ghost use Rattle.command_words.specs.Names.{text_at};
 ghost use Rattle.whole_text.specs.declared.faults.TextFault.{TextFault};
 ghost use Rattle.whole_text.specs.TokenTexts.{words_of};
 ghost use Rattle.whole_text.specs.Steps.{Gives};
 ghost use Rattle.source_texts.specs.declared.reading.Read.{Read};
-ghost use Rattle.program_run.specs.Outcome.{Meets, taking, from_text, reading, sourcing};
+ghost use Rattle.program_run.specs.Outcome.{Meets, ends, text_end, taking};
 ghost use Rattle.program_run.specs.Statuses.{IsTextRefusal};
-ghost use Rattle.program_run.specs.Cut.{cutting};
-ghost use Rattle.program_run.specs.Causes.{IsRefusedBy, IsPassed};
+ghost use Rattle.program_run.specs.Cut.{cutting, reading_file};
+ghost use Rattle.program_run.specs.Causes.{IsReadTo, IsRefusedBy};
 
 use crate::cut::read_words;
 use crate::status::Status;
-use command_words::{Job, Which, text_at};
+use command_words::{Format, Which};
 use edge_io::{Files, ReadAnswer, read_all};
-use problem_form::{LimitKind, MOST_BYTES, check_limits};
+use problem_form::{LimitKind, MOST_BYTES};
 use source_texts::{Read, read_source_words, style_of};
 use std::alloc::Global;
 use whole_text::{Style, TextAnswer, TokenText};
 
 /// Takes a file of this name, and cuts it into words as it comes, in a style.
-#[tactic(auto, unfolding(crate::specs::Outcome::taking, crate::specs::Cut::cutting))]
+#[tactic(auto, unfolding(crate::specs::Cut::cutting))]
 fn take_words<F: Files>(
     alloc: Global,
     name: &str,
@@ -34,9 +32,8 @@ fn take_words<F: Files>(
         (cutting held which name.now style)) }
     ensures held { F.held files.new ≡ F.held files.old }
     ensures short { IfOk result (λ text. length text.bytes ≤ 2 ^ 24) }
-    ensures passed { OnOk result (IsPassed name.now 1
-        (F.counts files.old) (F.counts files.new)) }
-    ensures refused { IfErr result (λ status. IsRefusedBy which name.now 1 status
+    ensures passed { OnOk result (IsReadTo name.now 1 (F.counts files.old) (F.counts files.new)) }
+    ensures refused { IfErr result (λ status. IsRefusedBy which name.now status
         (F.counts files.old) (F.counts files.new)) }
 {
     let Ok(begun) = String::from_str(alloc, name) else {
@@ -51,7 +48,6 @@ fn take_words<F: Files>(
 }
 
 /// Takes the bytes of a file of this name.
-#[tactic(auto, unfolding(crate::specs::Outcome::taking))]
 pub fn take_bytes<F: Files>(
     alloc: Global,
     name: &str,
@@ -62,9 +58,8 @@ pub fn take_bytes<F: Files>(
         (taking held which name.now)) }
     ensures held { F.held files.new ≡ F.held files.old }
     ensures short { IfOk result (λ bytes. length bytes.items ≤ 2 ^ 24) }
-    ensures passed { OnOk result (IsPassed name.now 1
-        (F.counts files.old) (F.counts files.new)) }
-    ensures refused { IfErr result (λ status. IsRefusedBy which name.now 1 status
+    ensures passed { OnOk result (IsReadTo name.now 1 (F.counts files.old) (F.counts files.new)) }
+    ensures refused { IfErr result (λ status. IsRefusedBy which name.now status
         (F.counts files.old) (F.counts files.new)) }
 {
     let Ok(begun) = String::from_str(alloc, name) else {
@@ -79,9 +74,9 @@ pub fn take_bytes<F: Files>(
 }
 
 /// The problem that a source is read into, or the status of its fault.
-pub fn judged(read: Result<Read, TextAnswer>) -> Result<Read, Status>
+fn judged(read: Result<Read, TextAnswer>) -> Result<Read, Status>
     ensures step { (said : Result Read TextFault) → Gives (λ read. read) read said
-        → Meets (λ read. read) result (from_text Which.Source said) }
+        → Meets (λ read. read) result (ends (text_end Which.Source said)) }
     ensures good { IfOk result (λ problem. read ≡ Ok problem) }
     ensures bad { IfErr result (IsTextRefusal Which.Source) }
 {
@@ -94,59 +89,27 @@ pub fn judged(read: Result<Read, TextAnswer>) -> Result<Read, Status>
     }
 }
 
-/// Takes the source, cut into words as it comes, and reads it.
-fn take_read<F: Files>(
+/// Takes the file of a source, cut into words as it comes, and reads it.
+pub fn take_read<F: Files>(
     alloc: Global,
-    words: &[String],
-    job: Job,
+    name: &str,
+    format: Format,
     files: &mut F,
 ) -> Result<Read, Status>
     ensures step { WhereTold (F.held files.old) (λ held. Meets (λ read. read) result
-        (reading (map string_bytes words.now) held job)) }
+        (reading_file held name.now format)) }
     ensures held { F.held files.new ≡ F.held files.old }
     ensures own { IfOk result (λ read. read.variables ≡ read.problem.variables) }
-    ensures passed { OnOk result (IsPassed
-        (text_at (map string_bytes words.now) job.file) 1
-        (F.counts files.old) (F.counts files.new)) }
-    ensures refused { IfErr result (λ status.
-        IsRefusedBy Which.Source (text_at (map string_bytes words.now) job.file) 1 status
+    ensures passed { OnOk result (IsReadTo name.now 1 (F.counts files.old) (F.counts files.new)) }
+    ensures refused { IfErr result (λ status. IsRefusedBy Which.Source name.now status
         (F.counts files.old) (F.counts files.new)) }
 {
-    let name = text_at(words, job.file);
-    let style = style_of(job.format);
+    let style = style_of(format);
     let text = match take_words(alloc, name, Which::Source, style, files) {
         Ok(text) => text,
         Err(status) => return Err(status),
     };
-    let read = read_source_words(alloc, job.format, &text);
+    let read = read_source_words(alloc, format, &text);
     drop(text);
     judged(read)
-}
-
-/// Takes the source, reads it and checks its limits.
-#[tactic(auto, unfolding(crate::specs::Outcome::sourcing), using(crate::proofs::Refusals::limits_refused))]
-pub fn take_source<F: Files>(
-    alloc: Global,
-    words: &[String],
-    job: Job,
-    files: &mut F,
-) -> Result<Read, Status>
-    ensures step { WhereTold (F.held files.old) (λ held. Meets (λ read. read) result
-        (sourcing (map string_bytes words.now) held job)) }
-    ensures held { F.held files.new ≡ F.held files.old }
-    ensures within { IfOk result (λ read.
-        limit_fault job.choices.normal read.problem ≡ None) }
-    ensures own { IfOk result (λ read. read.variables ≡ read.problem.variables) }
-    ensures passed { OnOk result (IsPassed
-        (text_at (map string_bytes words.now) job.file) 1
-        (F.counts files.old) (F.counts files.new)) }
-    ensures refused { IfErr result (λ status.
-        IsRefusedBy Which.Source (text_at (map string_bytes words.now) job.file) 1 status
-        (F.counts files.old) (F.counts files.new)) }
-{
-    let read = take_read(alloc, words, job, files)?;
-    match check_limits(&read.problem, &job.choices) {
-        Ok(()) => Ok(read),
-        Err(fault) => Err(Status::Limit(Which::Source, fault.kind, fault.number)),
-    }
 }

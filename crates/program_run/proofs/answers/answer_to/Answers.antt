@@ -1,10 +1,62 @@
+use Rattle.std.proofs.Common.{map, string_bytes}
+use Rattle.command_words.specs.Names.{name_of, model_files, last_files}
+use Rattle.program_run.specs.declared.status.Status.TheVariants.{Done}
+use Rattle.program_run.specs.Outcome.{planning, last_step}
+use Rattle.program_run.specs.Answers.{text_of}
+use Rattle.program_run.proofs.FilesRead.{made_refused, made_then}
+use Rattle.program_run.proofs.Holding.{may_first, may_next}
+use Rattle.program_run.proofs.Endings.{plan_ends}
+use Rattle.program_run.proofs.Answered.{made_answers}
 use Rattle.program_run.proofs.answers.answer_to.Goals as goal
 
-pub returns-in-Compile-clause-step : goal.returns-in-Compile-clause-step
-returns-in-Compile-clause-step g c = rw c.in-Compile.is c.compile.ensures.step
+pub returns-in-Err-clause-files : goal.returns-in-Err-clause-files
+returns-in-Err-clause-files g c =
+    let command = c.args.command in
+    made_refused (name_of (map string_bytes c.args.words.now) command) (model_files command)
+    (last_files command) c.in-Err.status (g.F.Files.counts c.args.files.now)
+    (g.F.Files.counts c.take_plan.new.files) c.in-Err.ensures.refused
 
-pub returns-in-Decode-clause-step : goal.returns-in-Decode-clause-step
-returns-in-Decode-clause-step g c = rw c.in-Decode.is c.decode.ensures.step
+pub returns-in-Ok-answer_by-clause-step : goal.returns-in-Ok-answer_by-clause-step
+returns-in-Ok-answer_by-clause-step g c = λ held may.
+    let words = map string_bytes c.args.words.now in
+    let command = c.args.command in
+    let told = g.F.Files.held c.args.files.now in
+    let made = model_files command in
+    let last = last_files command in
+    plan_ends Done (planning words held command) (last_step words held command.ask) c.in-Ok.plan
+    (c.in-Ok.ensures.step held (may_first told made last held may))
+    (c.in-Ok-answer_by.ensures.step held
+    (may_next told (g.F.Files.held c.take_plan.new.files) made last held c.in-Ok.ensures.held may))
 
-pub returns-in-Extend-clause-step : goal.returns-in-Extend-clause-step
-returns-in-Extend-clause-step g c = rw c.in-Extend.is c.extend.ensures.step
+pub returns-in-Ok-answer_by-clause-answer : goal.returns-in-Ok-answer_by-clause-answer
+returns-in-Ok-answer_by-clause-answer g c = λ held may.
+    let words = map string_bytes c.args.words.now in
+    let command = c.args.command in
+    let told = g.F.Files.held c.args.files.now in
+    let made = model_files command in
+    let last = last_files command in
+    made_answers words held command c.in-Ok.plan (text_of c.in-Ok-answer_by.answer)
+    (c.in-Ok.ensures.step held (may_first told made last held may))
+    (c.in-Ok-answer_by.ensures.answer held
+    (may_next told (g.F.Files.held c.take_plan.new.files) made last held c.in-Ok.ensures.held may))
+
+pub returns-in-Err-answer_by-clause-step : goal.returns-in-Err-answer_by-clause-step
+returns-in-Err-answer_by-clause-step g c = λ held may.
+    let words = map string_bytes c.args.words.now in
+    let command = c.args.command in
+    let told = g.F.Files.held c.args.files.now in
+    let made = model_files command in
+    let last = last_files command in
+    plan_ends c.in-Err-answer_by.status (planning words held command)
+    (last_step words held command.ask) c.in-Ok.plan
+    (c.in-Ok.ensures.step held (may_first told made last held may))
+    (c.in-Err-answer_by.ensures.step held
+    (may_next told (g.F.Files.held c.take_plan.new.files) made last held c.in-Ok.ensures.held may))
+
+pub returns-in-Err-answer_by-clause-files : goal.returns-in-Err-answer_by-clause-files
+returns-in-Err-answer_by-clause-files g c =
+    let command = c.args.command in
+    made_then (name_of (map string_bytes c.args.words.now) command) (model_files command)
+    (last_files command) c.in-Err-answer_by.status (g.F.Files.counts c.args.files.now)
+    (g.F.Files.counts c.take_plan.new.files) (g.F.Files.counts c.answer_by.new.files)
+    c.in-Ok.ensures.passed c.in-Err-answer_by.ensures.files

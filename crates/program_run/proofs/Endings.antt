@@ -1,0 +1,194 @@
+-- How the steps of a command end.
+use Rattle.std.proofs.Common.{◌≡◌, ℕ, ◌≤◌, IfOk, arith, inl, inr, Bool, List, Ok, Err, Some, None, Result, refl, sym, ap, ◌∙◌, subst}
+use Rattle.std.specs.declared.option.Option.{Option}
+use Rattle.bits_model.specs.Output.{Written}
+use Rattle.edge_io.specs.Counts.{Counts, Rose}
+use Rattle.edge_io.specs.Held.{NamedFiles}
+use Rattle.command_words.specs.declared.names.Which.{Which}
+use Rattle.command_words.specs.declared.commands.WordAt.{WordAt}
+use Rattle.command_words.specs.declared.commands.Ask.{Ask}
+use Rattle.command_words.specs.declared.commands.Ask.TheVariants.{Model, Summary, Decode, Extend}
+use Rattle.command_words.specs.declared.commands.Command.{Command}
+use Rattle.command_words.specs.Names.{state_of, text_at}
+use Rattle.program_run.specs.declared.plans.Plan.{Plan}
+use Rattle.program_run.specs.declared.status.Status.{Status}
+use Rattle.program_run.specs.declared.status.Status.TheVariants.{Done, Usage, ReadFault, WriteFault, BadText, Limit, NotEmbedded, NoState, NoMemory}
+use Rattle.program_run.specs.Statuses.{IsRefusal, IsDoneOrWant}
+use Rattle.program_run.specs.Outcome.{Steps, OfModel, IsEndOf, IsEnd, Ends, Refuses, planning, last_step, stating, IsOutcomeOf, MeetsOutcomeOf}
+use Rattle.program_run.specs.Made.{IsModelled, EndsOf, asked_width}
+use Rattle.program_run.specs.Causes.{AreRefused, AreFiles}
+use Rattle.program_run.specs.Unembedded.{IsUnembedded}
+use Rattle.program_run.proofs.OneModel.{one_model}
+
+-- ---- of a plan
+
+-- a plan that has no model
+pub unembedded_ends : (status : Status) (plan : Plan) (last : Written → Steps (List Bool))
+    → IsUnembedded plan status → EndsOf status plan last
+unembedded_ends (NotEmbedded fault) plan last is = is
+unembedded_ends NoMemory plan last is = tt
+unembedded_ends Done plan last is = absurd is
+unembedded_ends WriteFault plan last is = absurd is
+unembedded_ends (Usage position) plan last is = absurd is
+unembedded_ends (ReadFault which) plan last is = absurd is
+unembedded_ends (BadText which kind line) plan last is = absurd is
+unembedded_ends (Limit which kind number) plan last is = absurd is
+unembedded_ends (NoState width) plan last is = absurd is
+
+-- a status of the taking or reading of a file
+abbrev pub IsReading : Status → Type 0
+IsReading (NotEmbedded fault) = ⊥
+IsReading status = IsRefusal status
+
+-- a file that was refused was taken or read
+pub refused_reading : (name : Which → List ℕ) (files : List Which) (status : Status)
+    (a b : Counts) → AreRefused name files status a b → IsReading status
+refused_reading name files (ReadFault which) a b at = tt
+refused_reading name files (Limit which kind number) a b at = tt
+refused_reading name files (BadText which kind line) a b at = tt
+refused_reading name files (NoState width) a b at = tt
+refused_reading name files NoMemory a b at = tt
+refused_reading name files Done a b at = absurd at
+refused_reading name files WriteFault a b at = absurd at
+refused_reading name files (Usage position) a b at = absurd at
+refused_reading name files (NotEmbedded fault) a b at = absurd at
+
+-- the last step of a command on a state or an assignment
+pub last_is_state : (words : List (List ℕ)) (held : NamedFiles) (ask : Ask) (at : WordAt)
+    (plan : Plan) (m : Written) → state_of ask ≡ Some at
+    → last_step words held ask plan m
+    ≡ stating held (text_at words at) (asked_width ask plan.read.variables m)
+last_is_state words held Model at plan m is = absurd cc
+last_is_state words held Summary at plan m is = absurd cc
+last_is_state words held (Decode other) at plan m is =
+    let same : other ≡ at = cc in ap (λ a. stating held (text_at words a) m.nodes) same
+last_is_state words held (Extend other) at plan m is =
+    let same : other ≡ at = cc in ap (λ a. stating held (text_at words a) plan.read.variables) same
+
+-- its last step refuses
+pub last_refuses : (status : Status) (plan : Plan) (last : Written → Steps (List Bool))
+    (m : Written) → IsModelled plan m → IsReading status → Refuses status (last m)
+    → EndsOf status plan last
+last_refuses (ReadFault which) plan last m made refusal is = (made.can_stand, (m, made.by, is))
+last_refuses NoMemory plan last m made refusal is = tt
+last_refuses Done plan last m made refusal is = absurd refusal
+last_refuses WriteFault plan last m made refusal is = absurd refusal
+last_refuses (Usage position) plan last m made refusal is = absurd refusal
+last_refuses (NotEmbedded fault) plan last m made refusal is = absurd refusal
+last_refuses (BadText which kind line) plan last m made refusal is =
+    (made.can_stand, (m, made.by, is))
+last_refuses (Limit which kind number) plan last m made refusal is =
+    (made.can_stand, (m, made.by, is))
+last_refuses (NoState width) plan last m made refusal is = (made.can_stand, (m, made.by, is))
+
+-- all is done
+pub last_gives : (plan : Plan) (last : Written → Steps (List Bool)) (m : Written)
+    (bits : List Bool) → IsModelled plan m → (last m).end ≡ Some (Ok bits) → EndsOf Done plan last
+last_gives plan last m bits made e = (made.can_stand, (m, made.by, (bits, e)))
+
+-- ---- of all steps
+
+-- the plan is refused
+pub plan_refuses : (status : Status) (plans : Steps Plan)
+    (last : Plan → Written → Steps (List Bool)) → IsRefusal status → Refuses status plans
+    → Ends status plans last
+plan_refuses (ReadFault which) plans last refusal is = inl is
+plan_refuses NoMemory plans last refusal is = tt
+plan_refuses Done plans last refusal is = absurd refusal
+plan_refuses WriteFault plans last refusal is = absurd refusal
+plan_refuses (Usage position) plans last refusal is = absurd refusal
+plan_refuses (NotEmbedded fault) plans last refusal is = rw is refl
+plan_refuses (BadText which kind line) plans last refusal is = rw is refl
+plan_refuses (Limit which kind number) plans last refusal is = rw is refl
+plan_refuses (NoState width) plans last refusal is = rw is refl
+
+-- the plan stands, and its end is that of all
+pub plan_ends : (status : Status) (plans : Steps Plan) (last : Plan → Written → Steps (List Bool))
+    (plan : Plan) → plans.end ≡ Some (Ok plan) → EndsOf status plan (last plan)
+    → Ends status plans last
+plan_ends (ReadFault which) plans last plan e is = inr (rw e is)
+plan_ends NoMemory plans last plan e is = tt
+plan_ends Done plans last plan e is = rw e is
+plan_ends WriteFault plans last plan e is = rw e is
+plan_ends (Usage position) plans last plan e is = rw e is
+plan_ends (NotEmbedded fault) plans last plan e is = rw e is
+plan_ends (BadText which kind line) plans last plan e is = rw e is
+plan_ends (Limit which kind number) plans last plan e is = rw e is
+plan_ends (NoState width) plans last plan e is = rw e is
+
+-- ---- there is one end
+
+both : {A : Type 0} (step : Option (Result A Status)) (x : A) (status : Status)
+    → step ≡ Some (Ok x) → step ≡ Some (Err status) → ⊥
+both step x status e f = let same = sym e ∙ f in absurd cc
+
+-- a plan's last step gives bits or refuses
+gives_or_refuses : (plan : Plan) (last : Written → Steps (List Bool)) (status : Status)
+    → OfModel plan (λ m. (bits : List Bool) × ((last m).end ≡ Some (Ok bits)))
+    → OfModel plan (λ m. (last m).end ≡ Some (Err status)) → ⊥
+gives_or_refuses plan last status done refused =
+    let m = done.1.0 in
+    let n = refused.1.0 in
+    let same : m ≡ n = one_model plan m n done.1.1 refused.1.1 in
+    let bits = done.1.2.0 in
+    both (last n).end bits status
+    (subst (λ (w : Written). (last w).end ≡ Some (Ok bits)) same done.1.2.1) refused.1.2
+
+plan_done : (plan : Plan) (last : Written → Steps (List Bool)) (status : Status)
+    → IsEndOf plan last Done → IsEndOf plan last status → status ≡ Done
+plan_done plan last Done done is = refl
+plan_done plan last (NotEmbedded fault) done is = absurd (is.1 done.0)
+plan_done plan last (ReadFault which) done is =
+    absurd (gives_or_refuses plan last (ReadFault which) done is)
+plan_done plan last NoMemory done is = absurd (gives_or_refuses plan last NoMemory done is)
+plan_done plan last WriteFault done is = absurd (gives_or_refuses plan last WriteFault done is)
+plan_done plan last (Usage position) done is =
+    absurd (gives_or_refuses plan last (Usage position) done is)
+plan_done plan last (BadText which kind line) done is =
+    absurd (gives_or_refuses plan last (BadText which kind line) done is)
+plan_done plan last (Limit which kind number) done is =
+    absurd (gives_or_refuses plan last (Limit which kind number) done is)
+plan_done plan last (NoState width) done is =
+    absurd (gives_or_refuses plan last (NoState width) done is)
+
+-- where all is done, there is no other end
+pub one_end : (end : Option (Result Plan Status)) (last : Plan → Written → Steps (List Bool))
+    (status : Status) → IsEnd end last Done → IsEnd end last status → status ≡ Done
+one_end None last status done is = absurd done
+one_end (Some (Err refusal)) last status done is = is ∙ sym done
+one_end (Some (Ok plan)) last status done is = plan_done plan (last plan) status done is
+
+-- a status that is neither a fault nor want of memory is Done where all is done
+pub done_is_met : (plans : Steps Plan) (last : Plan → Written → Steps (List Bool))
+    (status : Status) → IsEnd plans.end last Done → Ends status plans last
+    → ((which : Which) → status ≡ ReadFault which → ⊥) → (status ≡ WriteFault → ⊥)
+    → IsDoneOrWant status
+done_is_met plans last Done done is read write = tt
+done_is_met plans last NoMemory done is read write = tt
+done_is_met plans last (ReadFault which) done is read write = absurd (read which refl)
+done_is_met plans last WriteFault done is read write = absurd (write refl)
+done_is_met plans last (Usage position) done is read write =
+    let same = one_end plans.end last (Usage position) done is in absurd cc
+done_is_met plans last (NotEmbedded fault) done is read write =
+    let same = one_end plans.end last (NotEmbedded fault) done is in absurd cc
+done_is_met plans last (BadText which kind line) done is read write =
+    let same = one_end plans.end last (BadText which kind line) done is in absurd cc
+done_is_met plans last (Limit which kind number) done is read write =
+    let same = one_end plans.end last (Limit which kind number) done is in absurd cc
+done_is_met plans last (NoState width) done is read write =
+    let same = one_end plans.end last (NoState width) done is in absurd cc
+
+rose_since : (a b n : ℕ) → a ≤ b → Rose b n → Rose a n
+rose_since a b n le rose = omega (arith, le, rose)
+
+-- where no count of faults rose, the status is Done where the outcome is
+pub done_is_complete : (words : List (List ℕ)) (held : NamedFiles) (said : Result Command ℕ)
+    (status : Status) (old new : Counts) → MeetsOutcomeOf words held said status
+    → IfOk said (λ command. AreFiles words command status old new)
+    → ¬ (Rose old.faults new.faults) → (status ≡ WriteFault → ⊥)
+    → IsOutcomeOf words held said Done → IsDoneOrWant status
+done_is_complete words held (Err position) status old new meets files calm quiet done = absurd cc
+done_is_complete words held (Ok command) status old new meets files calm quiet done =
+    done_is_met (planning words held command) (last_step words held command.ask) status done meets
+    (λ which is. let cause = subst (λ s. AreFiles words command s old new) is files in
+    calm (rose_since old.faults new.faults_at_begin new.faults cause.3.later cause.3.rose)) quiet

@@ -1,0 +1,65 @@
+-- What is answered once the model of a plan is made, in terms of the problem that was read.
+use Rattle.std.specs.Prelude.{◌≡◌, ℕ, Bool, List, Ok, Some, Contains, ⊤}
+use Rattle.base.specs.Costs.{energy}
+use Rattle.bits_model.specs.Output.{Written, form_of, decoding_of}
+use Rattle.problem_form.specs.declared.limits.Choices.{Choices}
+use Rattle.problem_form.specs.Problems.{ProblemContent}
+use Rattle.problem_form.specs.Problems as problems
+use Rattle.model_text.specs.Rows.{model_text}
+use Rattle.model_text.specs.Summary.{summary_text}
+use Rattle.answer_text.specs.Answers.{decoding_text, extension_text}
+use Rattle.model_pipeline.specs.Extensions.{extension_of, state_on, Extends}
+use Rattle.command_words.specs.declared.commands.Ask.{Ask}
+use Rattle.command_words.specs.declared.commands.Ask.TheVariants.{Model, Summary, Decode, Extend}
+use Rattle.source_texts.specs.declared.reading.Read.{Read}
+use Rattle.program_run.specs.declared.plans.Plan.{Plan}
+use Rattle.program_run.specs.declared.status.Status.{Status}
+use Rattle.program_run.specs.declared.status.Status.TheVariants.{Done, ReadFault, WriteFault, NoMemory}
+use Rattle.program_run.specs.Plans.{CanStand, IsModelBy, Stands}
+use Rattle.program_run.specs.Outcome.{Steps, OfModel, IsEndOf}
+
+-- the model is that of the plan, which can stand, and stands for its problem
+pub record IsModelled (plan : Plan) (m : Written) : Type 0 where
+  pub can_stand : CanStand plan
+  pub by : IsModelBy plan m
+  pub stands : Stands plan m
+
+-- the text is a state of the model that extends an assignment of the problem, with the cost of the
+-- assignment and the energy of the state
+pub record IsExtendedBy (choices : Choices) (problem : ProblemContent) (m : Written) (x : List Bool)
+    (text : List ℕ) : Type 0 where
+  pub state : List Bool
+  pub exact : state ≡ state_on m (extension_of choices problem x)
+  pub extends : Extends (problems.form_of problem) m x state
+  pub said : text
+      ≡ extension_text state ((problems.form_of problem).cost x) (energy (form_of m) state)
+
+-- the text is what is asked of the model
+abbrev pub IsTold : Ask → Read → Choices → Written → List Bool → List ℕ → Type 0
+IsTold Model read choices m bits text = text ≡ model_text m
+IsTold Summary read choices m bits text = text ≡ summary_text m
+IsTold (Decode at) read choices m bits text =
+    text ≡ decoding_text ((decoding_of m).decoded bits) read.names
+    ((problems.form_of read.problem).cost ((decoding_of m).decoded bits)) (energy (form_of m) bits)
+IsTold (Extend at) read choices m bits text = IsExtendedBy choices read.problem m bits text
+
+-- the text is what is asked of the plan's model, with the bits that are read last
+pub record IsMadeText (ask : Ask) (plan : Plan) (last : Written → Steps (List Bool))
+    (text : List ℕ) : Type 0 where
+  pub model : Written
+  pub made : IsModelled plan model
+  pub bits : List Bool
+  pub read : (last model).end ≡ Some (Ok bits)
+  pub told : IsTold ask plan.read plan.choices model bits text
+
+-- the status is how a plan ends, unless it is a fault or want of memory
+abbrev pub EndsOf : Status → Plan → (Written → Steps (List Bool)) → Type 0
+EndsOf (ReadFault which) plan last = OfModel plan (λ m. Contains (last m).taken which)
+EndsOf NoMemory plan last = ⊤
+EndsOf WriteFault plan last = IsEndOf plan last Done
+EndsOf status plan last = IsEndOf plan last status
+
+-- how many bits are read of a state or of an assignment
+abbrev pub asked_width : Ask → ℕ → Written → ℕ
+asked_width (Decode at) variables m = m.nodes
+asked_width ask variables m = variables

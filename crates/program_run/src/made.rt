@@ -1,0 +1,133 @@
+//! The answer of a command from the plan of its model: the model alone, or a state of it.
+ghost use Rattle.std.specs.Prelude.{◌≡◌, [], None, Some, map, string_bytes, length, IfOk, IfErr};
+ghost use Rattle.problem_form.specs.Limits.{limit_fault};
+ghost use Rattle.command_words.specs.Names.{name_of, last_files, state_of};
+ghost use Rattle.model_pipeline.specs.Extensions.{IsMadeOf};
+ghost use Rattle.program_run.specs.Plans.{plan_of};
+ghost use Rattle.program_run.specs.Outcome.{last_step};
+ghost use Rattle.program_run.specs.Made.{asked_width, EndsOf, IsMadeText, IsModelled, IsTold};
+ghost use Rattle.program_run.specs.Unembedded.{IsUnembedded};
+ghost use Rattle.program_run.specs.Statuses.{ended, IsRefusal};
+ghost use Rattle.program_run.specs.Causes.{AreFilesOf, WhereHeld};
+
+use crate::decode::decoded_text;
+use crate::extend::extended_text;
+use crate::models::model_on;
+use crate::plans::Plan;
+use crate::states::take_state;
+use crate::status::Status;
+use base::NoMemory;
+use bits_model::OutputModel;
+use command_words::{Ask, Command, WordAt};
+use edge_io::Files;
+use problem_form::Choices;
+use source_texts::Read;
+use std::alloc::Global;
+
+/// The model of a plan, which is let go. Its problem is, as soon as a form stands in its place.
+pub fn model_given(alloc: Global, plan: Plan) -> Result<OutputModel, Status>
+    requires within { limit_fault plan.choices.normal plan.read.problem ≡ None }
+    requires own { plan.read.variables ≡ plan.read.problem.variables }
+    ensures modelled { IfOk result (IsModelled plan) }
+    ensures refused { IfErr result (IsUnembedded plan) }
+{
+    let Plan {
+        read,
+        choices,
+        unit,
+        base,
+    } = plan;
+    model_on(alloc, read.problem, read.variables, &choices, unit, &base)
+}
+
+/// The model of a plan, which stays.
+fn model_lent(alloc: Global, plan: &Plan) -> Result<OutputModel, Status>
+    requires within { limit_fault plan.now.choices.normal plan.now.read.problem ≡ None }
+    requires own { plan.now.read.variables ≡ plan.now.read.problem.variables }
+    ensures modelled { IfOk result (IsModelled plan.now) }
+    ensures made { IfOk result (IsMadeOf plan.now.choices plan.now.read.problem) }
+    ensures refused { IfErr result (IsUnembedded plan.now) }
+{
+    let read = &plan.read;
+    model_on(
+        alloc,
+        &read.problem,
+        read.variables,
+        &plan.choices,
+        plan.unit,
+        &plan.base,
+    )
+}
+
+/// How many bits are asked for: those of a state of the model, or of an assignment.
+fn width_of(ask: Ask, read: &Read, model: &OutputModel) -> usize
+    ensures { result ≡ asked_width ask read.now.variables model.now }
+{
+    match ask {
+        Ask::Decode(_) => model.nodes as usize,
+        _ => read.variables as usize,
+    }
+}
+
+/// What is written for a state of a model, or for an assignment of its source.
+fn told(
+    alloc: Global,
+    ask: Ask,
+    read: &Read,
+    choices: &Choices,
+    model: &OutputModel,
+    bits: &[bool],
+) -> Result<Vec<u8>, NoMemory>
+    requires asked { state_of ask ≡ None → ⊥ }
+    requires within { limit_fault choices.now.normal read.now.problem ≡ None }
+    requires own { read.now.variables ≡ read.now.problem.variables }
+    requires variables { model.now.variables ≡ read.now.variables }
+    requires made { IsMadeOf choices.now read.now.problem model.now }
+    requires width { length bits.now ≡ asked_width ask read.now.variables model.now }
+    ensures { IfOk result (λ text.
+        IsTold ask read.now choices.now model.now bits.now text.items) }
+{
+    match ask {
+        Ask::Decode(_) => decoded_text(alloc, read, model, bits),
+        Ask::Extend(_) => extended_text(alloc, &read.problem, choices, model, bits),
+        Ask::Model | Ask::Summary => unreachable!(),
+    }
+}
+
+/// Takes a state of the plan's model, or an assignment of its source, from the file of this name, and
+/// says what is asked of it.
+pub fn answer_state<F: Files>(
+    alloc: Global,
+    words: &[String],
+    command: Command,
+    at: WordAt,
+    plan: &Plan,
+    files: &mut F,
+) -> Result<Vec<u8>, Status>
+    requires asked { state_of command.ask ≡ Some at }
+    requires within { limit_fault plan.now.choices.normal plan.now.read.problem ≡ None }
+    requires own { plan.now.read.variables ≡ plan.now.read.problem.variables }
+    ensures step { WhereHeld (F.held files.old) (last_files command) (λ held.
+        EndsOf (ended result) plan.now
+        (last_step (map string_bytes words.now) held command.ask plan.now)) }
+    ensures files { AreFilesOf (name_of (map string_bytes words.now) command) [] (last_files command)
+        (ended result) (F.counts files.old) (F.counts files.new) }
+    ensures answer { IfOk result (λ text. WhereHeld (F.held files.old) (last_files command) (λ held.
+        IsMadeText command.ask plan.now
+        (last_step (map string_bytes words.now) held command.ask plan.now) text.items)) }
+    ensures refusal { IfErr result IsRefusal }
+{
+    let model = match model_lent(alloc, plan) {
+        Ok(model) => model,
+        Err(status) => return Err(status),
+    };
+    let width = width_of(command.ask, &plan.read, &model);
+    let bits = match take_state(alloc, words, command, at, width, files) {
+        Ok(bits) => bits,
+        Err(status) => return Err(status),
+    };
+    match told(alloc, command.ask, &plan.read, &plan.choices, &model, &bits) {
+        Ok(text) => Ok(text),
+        Err(_) => Err(Status::NoMemory),
+    }
+}
