@@ -160,7 +160,8 @@ module _ (kind : Kind) (v : ℕ) (bit : Bool) (nodes : List ℕ) (entries : List
       → value_at nodes values y ≡ total_by (entry_energy kind (y ++ bit ∷ [])) entries
   begun_holds own sums y w =
       ap (λ vs. value_at nodes vs y) (is ∙ ap (λ vs. doubled ◌+ℤ◌ vs steps) first_is)
-      ∙ entries_value kind y bit nodes b steps entries (subst (λ n. AreOf n entries) (sym w) own) long
+      ∙ entries_value kind y bit nodes b steps entries (subst (λ n. AreOf n entries) (sym w) own)
+      long
       base (sums y)
 
   pub begun-small : sum_by unsigned_abs steps ≤ 2 * weight_total entries

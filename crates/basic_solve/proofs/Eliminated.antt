@@ -1,11 +1,10 @@
 -- Elimination of the nodes of a model, one after another.
-use Rattle.std.proofs.Common.{◌≡◌, ◌≢◌, ℕ, zero, suc, ◌+◌, ◌-◌, ◌*◌, ◌^◌, ◌<◌, ◌≤◌, ◌==◌, ◌&&◌, ℤ, pos, int_lt, unsigned_abs, max, Bool, true, false, cond, List, [], ◌∷◌, ◌++◌, length, take, get_or, set, replicate, Some, None, refl, sym, arith, ap, ◌∙◌, subst, eq-eqb, lt-ltb, ltb}
+use Rattle.std.proofs.Common.{◌≡◌, ◌≢◌, ℕ, zero, suc, ◌+◌, ◌-◌, ◌*◌, ◌^◌, ◌<◌, ◌≤◌, ◌==◌, ◌&&◌, ℤ, pos, int_lt, unsigned_abs, max, Bool, true, false, cond, List, [], ◌∷◌, ◌++◌, length, get_or, set, replicate, refl, sym, arith, ap, ◌∙◌, subst, eq-eqb, lt-ltb, ltb}
 use Rattle.std.specs.Int.{int_min}
-use Rattle.std.specs.List.{All, AllByRecursion, slice_get, sum_by}
-use Rattle.std.proofs.lemmas.Option.{slice_get_within, get_or_from_slice_get, slice_get-get_or}
+use Rattle.std.specs.List.{All, AllByRecursion, sum_by}
 use Rattle.std.specs.List.Sorted.{IsStrictlyIncreasing}
 use Rattle.std.proofs.lemmas.Bool.{eqb-true, ltb-true, ltb-false}
-use Rattle.std.proofs.lemmas.List.{length-append, get_or_append_left, get_or_past, take_all, take_more, get_or-set_same, get_or-set_other}
+use Rattle.std.proofs.lemmas.List.{length-append, get_or_append_left, get_or_past, get_or-set_same, get_or-set_other}
 use Rattle.std.proofs.lemmas.List.Elements.{All-append}
 use Rattle.std.proofs.Math.Seq.{get_or-append_seam}
 use Rattle.bits_model.specs.declared.output.Entry.{Entry}
@@ -14,10 +13,10 @@ use Rattle.base.specs.Costs.{energy}
 use Rattle.bits_model.specs.Output.{Written, IsPlaced, form_of, is_coupler, weight_total}
 use Rattle.bits_model.specs.Walks.{is_in}
 use Rattle.basic_solve.specs.Widths.{coupled, names_both, is_neighbour, AreNeighbourhoods}
-use Rattle.basic_solve.specs.Tables.{TableOver, AllBelow, AreOf, AreHeld, AreEntriesOf, IsChoiceOf, IsPassedTo, IsTableOfBit, LeadTo, is_part, most, own_size}
+use Rattle.basic_solve.specs.Tables.{TableOver, AllBelow, AreOf, AreHeld, AreEntriesOf, IsChoiceOf, IsHandedOn, IsPassedTo, IsTableOfBit, LeadTo, is_part, most, own_size}
 use Rattle.basic_solve.proofs.Ascending.{Ascends, ascends_from, in_cons, in_head, in_tail, no_true, or_left}
 use Rattle.basic_solve.proofs.Graphs.{graph-after, neighbour_left}
-use Rattle.basic_solve.proofs.Passing.{in_append_left, in_append_right, first_graph, named_within}
+use Rattle.basic_solve.proofs.Passing.{split_last, member_at, in_append_left, in_append_right, first_graph, named_within}
 use Rattle.basic_solve.proofs.Among.{first_neighbour, both_neighbours, part_of}
 use Rattle.basic_solve.proofs.TableSizes.{most-at, most-le}
 use Rattle.basic_solve.proofs.ListSums.{sum-push, sums-none, sums-push, sums-at, any_of-sum}
@@ -40,7 +39,8 @@ pub record Eliminated (m : Written) (sets : List (List ℕ)) (step : ℕ) (held 
   pub each : (s : ℕ) → s < step
       → IsChoiceOf m.nodes s (energy (form_of m)) (get_or sets s []) (get_or choices s [])
   pub lead : (w : ℕ) → w < length held → LeadTo (set_of m sets w) (get_or held w [])
-  pub passed : (w : ℕ) → w < length held → All (IsPassedTo w (set_of m sets w)) (get_or waiting w [])
+  pub passed : (w : ℕ) → w < length held → All (IsPassedTo w (set_of m sets w))
+      (get_or waiting w [])
   pub size : 3 * sum_by weight_total held + sum_by (sum_by table_size) waiting ≤ 3 * 2 ^ 124
 
 -- ---- at first
@@ -75,7 +75,8 @@ coupler_names : (e : Entry) (w : ℕ) → e.first < e.second → e.second ≡ w
 coupler_names e w lt is =
     and_true (is_coupler e) _ (lt-ltb e.first e.second lt)
     (or_left ((e.first == e.first) && (e.second == w)) _
-    (and_true (e.first == e.first) (e.second == w) (eq-eqb e.first e.first refl) (eq-eqb e.second w is)))
+    (and_true (e.first == e.first) (e.second == w) (eq-eqb e.first e.first refl)
+    (eq-eqb e.second w is)))
 
 one_where : (t : Bool) → t ≡ true → ◌≡◌ {A = ℕ} (cond t 1 0) 1
 one_where true e = refl
@@ -151,19 +152,11 @@ front_ascends : (a : ℕ) (rest : List ℕ) (q : ℕ) → Ascends a (rest ++ q �
 front_ascends a [] q h = tt
 front_ascends a (u ∷ us) q h = (h.0, front_ascends (suc u) us q h.1)
 
--- the last of some nodes
-pub last_some : (ns : List ℕ) (q : ℕ) → slice_get ns (length ns - 1) ≡ Some q
-    → ns ≡ take (length ns - 1) ns ++ q ∷ []
-last_some ns q e =
-    let lt = slice_get_within ns (length ns - 1) q e in
-    sym (take_all ((length ns - 1) + 1) ns (omega (arith, lt)))
-    ∙ take_more ns (length ns - 1) 0 lt
-    ∙ ap (λ x. take (length ns - 1) ns ++ x ∷ []) (get_or_from_slice_get ns (length ns - 1) q 0 e)
-
-pub last_none : (ns : List ℕ) → slice_get ns (length ns - 1) ≡ None → ns ≡ []
-last_none [] e = refl
-last_none (u ∷ us) e =
-    let is = sym e ∙ slice_get-get_or (u ∷ us) (length (u ∷ us) - 1) 0 (omega arith) in cc
+-- some nodes have a last one, or there are none
+by_last : {P : Type 0} (ns : List ℕ) → (ns ≡ [] → P)
+    → ((rest : List ℕ) (q : ℕ) → ns ≡ rest ++ q ∷ [] → P) → P
+by_last [] none some = none refl
+by_last (u ∷ us) none some = let s = split_last u us in some s.0 s.1 s.2
 
 -- ---- the lesser numbers
 
@@ -203,7 +196,8 @@ module _ (m : Written) (sets : List (List ℕ)) (near : AreNeighbourhoods 16 m s
   front_long = let l = e.left.left in omega (arith, held_long, v_is)
 
   waiting_long : length waiting ≡ suc (length before)
-  waiting_long = ap length waiting_is ∙ length-append before (tables ∷ []) ∙ plus_one (length before)
+  waiting_long = ap length waiting_is ∙ length-append before (tables ∷ [])
+      ∙ plus_one (length before)
 
   before_long : length before ≡ v
   before_long = let l = e.left.as_many in omega (arith, held_long, waiting_long, front_long)
@@ -253,14 +247,16 @@ module _ (m : Written) (sets : List (List ℕ)) (near : AreNeighbourhoods 16 m s
 
   waiting_sum : sum_by (sum_by table_size) waiting
       ≡ sum_by (sum_by table_size) before + sum_by table_size tables
-  waiting_sum = ap (sum_by (sum_by table_size)) waiting_is ∙ sum-push (sum_by table_size) before tables
+  waiting_sum = ap (sum_by (sum_by table_size)) waiting_is
+      ∙ sum-push (sum_by table_size) before tables
 
   pub own_small : own_size own tables ≤ 3 * 2 ^ 124
   own_small = let le = e.size in omega (arith, held_sum, waiting_sum, le)
 
   -- its neighbours are below it
   ascends : Ascends 0 ns
-  ascends = ascends_from ns 0 (λ l. omega arith) (subst IsStrictlyIncreasing set_is (near.each v node).ascending)
+  ascends = ascends_from ns 0 (λ l. omega arith)
+      (subst IsStrictlyIncreasing set_is (near.each v node).ascending)
 
   neighbour : (u : ℕ) → is_in ns u ≡ true → is_neighbour m v u ≡ true
   neighbour u i =
@@ -268,7 +264,8 @@ module _ (m : Written) (sets : List (List ℕ)) (near : AreNeighbourhoods 16 m s
 
   -- ---- what is chosen
 
-  module _ (placed : All (IsPlaced m.nodes) m.entries) (zeros ones values : List ℤ) (bits : List Bool)
+  module _ (placed : All (IsPlaced m.nodes) m.entries) (zeros ones values : List ℤ)
+      (bits : List Bool)
       (z : IsTableOfBit m.kind v false ns own tables zeros)
       (o : IsTableOfBit m.kind v true ns own tables ones) (bits_long : length bits ≡ length zeros)
       (bits_are : (x : ℕ) → x < length zeros
@@ -297,34 +294,45 @@ module _ (m : Written) (sets : List (List ℕ)) (near : AreNeighbourhoods 16 m s
         let graph = first_graph m.entries in
         let near_v = neighbour u i in
         let lt = neighbour_left m.nodes (coupled m.entries) graph
-        (named_within m.nodes m.entries placed) (m.nodes - suc v) (omega (arith, node)) u v near_v in
+        (named_within m.nodes m.entries placed) (m.nodes - suc v) (omega (arith, node)) u v
+        near_v in
         let other : u ≢ v = λ same.
         (graph-after m.nodes (coupled m.entries) graph (m.nodes - suc v)).apart v
         (subst (λ w. is_neighbour m v w ≡ true) same near_v) in
         omega (arith, node))
 
+    pub all_within : All (λ u. u < length before) ns
+    all_within k d h =
+        let lt = below_in v ns (get_or ns k d) below (member_at ns k d h) in
+        omega (arith, before_long, lt)
+
     settles : Settles m.kind m.nodes step (energy (form_of m)) held waiting front own before tables
         e.left held_is waiting_is table
     settles = record {
       below = subst (λ w. AllBelow w ns) (sym front_long) below;
-      holds = lesser_holds m.kind m.nodes step (energy (form_of m)) held waiting front own before tables
+      holds = lesser_holds m.kind m.nodes step (energy (form_of m)) held waiting front own before
+          tables
           e.left held_is waiting_is ns zeros ones zeros_front ones_front values values_are;
     }
 
     small : most values ≤ own_size own tables
-    small = lesser-most zeros ones values (own_size own tables) values_long values_are z.small o.small
+    small = lesser-most zeros ones values (own_size own tables) values_long values_are z.small
+        o.small
 
     all_each : (s : ℕ) → s < step + 1
-        → IsChoiceOf m.nodes s (energy (form_of m)) (get_or sets s []) (get_or (choices ++ bits ∷ []) s [])
+        → IsChoiceOf m.nodes s (energy (form_of m)) (get_or sets s [])
+        (get_or (choices ++ bits ∷ []) s [])
     all_each s h = go (s == step) refl
       where
         go : (t : Bool) → (s == step) ≡ t
-            → IsChoiceOf m.nodes s (energy (form_of m)) (get_or sets s []) (get_or (choices ++ bits ∷ []) s [])
+            → IsChoiceOf m.nodes s (energy (form_of m)) (get_or sets s [])
+            (get_or (choices ++ bits ∷ []) s [])
         go true q =
             let is : s ≡ step = eqb-true s step q in
             let at : length choices ≡ s = e.count ∙ sym is in
             subst (λ l. IsChoiceOf m.nodes s (energy (form_of m)) (get_or sets s []) l)
-            (sym (get_or-append_seam choices bits [] []) ∙ ap (λ k. get_or (choices ++ bits ∷ []) k []) at)
+            (sym (get_or-append_seam choices bits [] [])
+            ∙ ap (λ k. get_or (choices ++ bits ∷ []) k []) at)
             (subst (λ k. IsChoiceOf m.nodes k (energy (form_of m)) (get_or sets k []) bits) (sym is)
             (subst (λ l. IsChoiceOf m.nodes step (energy (form_of m)) l bits) ns_is choice))
         go false q =
@@ -352,12 +360,14 @@ module _ (m : Written) (sets : List (List ℕ)) (near : AreNeighbourhoods 16 m s
     all_count = length-append choices (bits ∷ []) ∙ ap (λ n. n + 1) e.count
 
     -- where it has no neighbours
-    pub eliminated_alone : ns ≡ []
+    eliminated_alone : ns ≡ []
         → Eliminated m sets (step + 1) front before (choices ++ bits ∷ [])
     eliminated_alone none = record {
-      left = left_alone m.kind m.nodes step (energy (form_of m)) held waiting front own before tables
+      left = left_alone m.kind m.nodes step (energy (form_of m)) held waiting front own before
+          tables
           e.left held_is waiting_is values
-          (subst (λ l. Settles m.kind m.nodes step (energy (form_of m)) held waiting front own before
+          (subst (λ l. Settles m.kind m.nodes step (energy (form_of m)) held waiting front own
+          before
           tables e.left held_is waiting_is (record { nodes = l; values = values })) none settles);
       count = all_count;
       each = all_each;
@@ -408,10 +418,11 @@ module _ (m : Written) (sets : List (List ℕ)) (near : AreNeighbourhoods 16 m s
       abbrev pub next : List (List TableOver)
       next = set before q (get_or before q [] ++ table ∷ [])
 
-      pub within : q < length before
+      within : q < length before
       within = omega (arith, last_below, before_long)
 
-      new_passed : (w : ℕ) → w < length front → All (IsPassedTo w (set_of m sets w)) (get_or next w [])
+      new_passed : (w : ℕ) → w < length front → All (IsPassedTo w (set_of m sets w))
+          (get_or next w [])
       new_passed w h = go (q == w) refl
         where
           go : (t : Bool) → (q == w) ≡ t → All (IsPassedTo w (set_of m sets w)) (get_or next w [])
@@ -433,20 +444,41 @@ module _ (m : Written) (sets : List (List ℕ)) (near : AreNeighbourhoods 16 m s
               (sym (get_or-set_other before q w (get_or before q [] ++ table ∷ []) [] other))
               (old_passed w h)
 
-      pub eliminated_next : Eliminated m sets (step + 1) front next (choices ++ bits ∷ [])
+      eliminated_next : Eliminated m sets (step + 1) front next (choices ++ bits ∷ [])
       eliminated_next = record {
-        left = left_next m.kind m.nodes step (energy (form_of m)) held waiting front own before tables
+        left = left_next m.kind m.nodes step (energy (form_of m)) held waiting front own before
+            tables
             e.left held_is waiting_is table q settles (omega (arith, last_below, front_long))
             (subst (AllBelow (suc q)) (sym parts)
-            (below_push (suc q) rest q (below_wider q (suc q) rest (omega arith) rest_below) (omega arith)));
+            (below_push (suc q) rest q (below_wider q (suc q) rest (omega arith) rest_below)
+            (omega arith)));
         count = all_count;
         each = all_each;
         lead = all_lead;
         passed = new_passed;
         size =
             let le = e.size in
-            omega (arith, held_sum, waiting_sum, le, sums-push table_size q before table within, small);
+            omega (
+              arith,
+              held_sum,
+              waiting_sum,
+              le,
+              sums-push table_size q before table within,
+              small,
+            );
       }
+
+    -- whichever nodes get the table
+    pub eliminated_one : (passed : List (List TableOver)) → IsHandedOn table before passed
+        → Eliminated m sets (step + 1) front passed (choices ++ bits ∷ [])
+    eliminated_one passed h =
+        by_last ns
+        (λ none.
+        subst (λ ws. Eliminated m sets (step + 1) front ws (choices ++ bits ∷ []))
+        (sym (h.none none)) (eliminated_alone none))
+        (λ rest q parts.
+        subst (λ ws. Eliminated m sets (step + 1) front ws (choices ++ bits ∷ []))
+        (sym (h.last rest q parts)) (eliminated_next rest q parts))
 
 -- ---- all nodes
 
@@ -481,7 +513,8 @@ pub moved_bits : {zs zs' os os' : List ℤ} (bits : List Bool) → zs ≡ zs' �
     → (x : ℕ) → x < length zs'
     → get_or bits x false ≡ int_lt (get_or os' x (pos 0)) (get_or zs' x (pos 0))
 moved_bits bits z o h x l =
-    h x (omega (arith, ap length z)) ∙ (λ i. int_lt (get_or (o i) x (pos 0)) (get_or (z i) x (pos 0)))
+    h x (omega (arith, ap length z))
+    ∙ (λ i. int_lt (get_or (o i) x (pos 0)) (get_or (z i) x (pos 0)))
 
 pub moved_lesser : {zs zs' os os' : List ℤ} (vs : List ℤ) → zs ≡ zs' → os ≡ os'
     → ((x : ℕ) → x < length zs

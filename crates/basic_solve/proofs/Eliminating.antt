@@ -1,10 +1,10 @@
 -- The elimination of one node.
 --
 -- Of a front of a state the least energy of all states that begin with it is a constant, what the
--- entries of the nodes in the front add, and what the tables add that are passed to these nodes. The
--- last node of the front is in its own entries and in the tables that are passed to it alone. So the
--- lesser of what these add for its two bits is a function of the other nodes in them, and a table
--- over these nodes takes their place.
+-- entries of the nodes in the front add, and what the tables add that are passed to these nodes.
+-- The last node of the front is in its own entries and in the tables that are passed to it alone.
+-- So the lesser of what these add for its two bits is a function of the other nodes in them, and a
+-- table over these nodes takes their place.
 use Rattle.std.proofs.Common.{◌≡◌, ℕ, zero, suc, ◌+◌, ◌<◌, ◌≤◌, ◌&&◌, ℤ, pos, ◌+ℤ◌, ◌≤ℤ◌, ◌<ℤ◌, int_lt, Bool, true, false, cond, List, [], ◌∷◌, ◌++◌, length, get_or, set, replicate, refl, sym, arith, ap, ◌∙◌, subst}
 use Rattle.std.specs.Int.{int_min}
 use Rattle.std.specs.List.{AllByRecursion}
@@ -31,7 +31,8 @@ spins_energy-front : (y z : List Bool) (e : Entry) → e.first < length y → e.
     → spins_energy (y ++ z) e ≡ spins_energy y e
 spins_energy-front y z e f s =
     λ i. cond (is_node e) (times_spin (bit_at-front y z e.first f i) e.weight)
-    (times_spin (bit_at-front y z e.first f i) (times_spin (bit_at-front y z e.second s i) e.weight))
+    (times_spin (bit_at-front y z e.first f i)
+    (times_spin (bit_at-front y z e.second s i) e.weight))
 
 entry_energy-front : (kind : Kind) (y z : List Bool) (e : Entry) → e.first < length y
     → e.second < length y → entry_energy kind (y ++ z) e ≡ entry_energy kind y e
@@ -47,7 +48,12 @@ entries-front kind y z w [] h p = refl
 entries-front kind y z w (e ∷ es) h p =
     let low = p.0.0 in
     let at = p.0.1 in
-    omega (arith, ints, entry_energy-front kind y z e (omega arith) (omega arith), entries-front kind y z w es h p.1)
+    omega (
+      arith,
+      ints,
+      entry_energy-front kind y z e (omega arith) (omega arith),
+      entries-front kind y z w es h p.1,
+    )
 
 held_energy-front : (kind : Kind) (y z : List Bool) (w : ℕ) (held : List (List Entry))
     → w + length held ≤ length y → AreHeld w held
@@ -70,7 +76,8 @@ tables-front : (y z : List Bool) (w : ℕ) (ts : List TableOver) → w < length 
     → total_by (table_energy (y ++ z)) ts ≡ total_by (table_energy y) ts
 tables-front y z w [] h p = refl
 tables-front y z w (t ∷ ts) h p =
-    let same = index_of-front y z t.nodes (below_more (suc w) (length y) t.nodes (omega arith) p.0) in
+    let same = index_of-front y z t.nodes
+    (below_more (suc w) (length y) t.nodes (omega arith) p.0) in
     omega (arith, ints, ap (λ i. get_or t.values i (pos 0)) same, tables-front y z w ts h p.1)
 
 waiting_energy-front : (y z : List Bool) (w : ℕ) (waiting : List (List TableOver))
@@ -108,10 +115,16 @@ waiting-push : (w q : ℕ) (waiting : List (List TableOver)) (t : TableOver) →
     → AreWaiting w waiting → AllBelow (suc (w + q)) t.nodes
     → AreWaiting w (set waiting q (get_or waiting q [] ++ t ∷ []))
 waiting-push w q [] t h p b = absurd (omega arith)
-waiting-push w zero (ts ∷ waiting) t h p b =
-    (all_push (λ t. AllBelow (suc w) t.nodes) ts t p.0 (below_more (suc (w + 0)) (suc w) t.nodes (omega arith) b), p.1)
-waiting-push w (suc q) (ts ∷ waiting) t h p b =
-    (p.0, waiting-push (suc w) q waiting t (omega arith) p.1 (below_more (suc (w + suc q)) (suc (suc w + q)) t.nodes (omega arith) b))
+waiting-push w zero (ts ∷ waiting) t h p b = (
+  all_push (λ t. AllBelow (suc w) t.nodes) ts t p.0
+      (below_more (suc (w + 0)) (suc w) t.nodes (omega arith) b),
+  p.1,
+)
+waiting-push w (suc q) (ts ∷ waiting) t h p b = (
+  p.0,
+  waiting-push (suc w) q waiting t (omega arith) p.1
+      (below_more (suc (w + suc q)) (suc (suc w + q)) t.nodes (omega arith) b),
+)
 
 waiting_energy-push : (y : List Bool) (q : ℕ) (waiting : List (List TableOver)) (t : TableOver)
     → q < length waiting
@@ -164,8 +177,8 @@ held_energy-none kind y (suc n) = omega (arith, ints, held_energy-none kind y n)
 
 -- ---- one node
 
--- so many nodes are eliminated: what is held and what waits tell the least energy of all states that
--- begin with a front of the nodes that are left
+-- so many nodes are eliminated: what is held and what waits tell the least energy of all states
+-- that begin with a front of the nodes that are left
 pub record LeftAfter (kind : Kind) (n step : ℕ) (g : List Bool → ℤ) (held : List (List Entry))
     (waiting : List (List TableOver)) : Type 0 where
   pub left : length held + step ≡ n
@@ -210,7 +223,8 @@ min_moved r a b = ap (λ t. cond t (r +ℤ b) (r +ℤ a)) (lt_moved r a b) ∙ g
 
 module _ (kind : Kind) (n step : ℕ) (g : List Bool → ℤ) (held : List (List Entry))
     (waiting : List (List TableOver)) (front : List (List Entry)) (own : List Entry)
-    (before : List (List TableOver)) (passed : List TableOver) (h : LeftAfter kind n step g held waiting)
+    (before : List (List TableOver)) (passed : List TableOver)
+    (h : LeftAfter kind n step g held waiting)
     (held_is : held ≡ front ++ own ∷ []) (waiting_is : waiting ≡ before ++ passed ∷ []) where
   -- what the front's nodes add to the energy of a state
   abbrev pub rest : List Bool → ℤ
@@ -225,7 +239,8 @@ module _ (kind : Kind) (n step : ℕ) (g : List Bool → ℤ) (held : List (List
   held_long = ap length held_is ∙ length-append front (own ∷ []) ∙ plus_one (length front)
 
   waiting_long : length waiting ≡ suc (length before)
-  waiting_long = ap length waiting_is ∙ length-append before (passed ∷ []) ∙ plus_one (length before)
+  waiting_long = ap length waiting_is ∙ length-append before (passed ∷ [])
+      ∙ plus_one (length before)
 
   same_long : length before ≡ length front
   same_long = let e = h.as_many in omega (arith, held_long, waiting_long)
@@ -234,7 +249,8 @@ module _ (kind : Kind) (n step : ℕ) (g : List Bool → ℤ) (held : List (List
   one_bit : (y : List Bool) (b : Bool) → length y ≡ length front
       → least_after step g (y ++ b ∷ []) ≡ rest y +ℤ own_energy y b
   one_bit y b w =
-      let long : length (y ++ b ∷ []) ≡ length held = omega (arith, length-append y (b ∷ []), held_long) in
+      let long : length (y ++ b ∷ []) ≡ length held
+      = omega (arith, length-append y (b ∷ []), held_long) in
       let entries = held-front 0 front own (subst (AreHeld 0) held_is h.entries) in
       let tables = waiting-front 0 before passed (subst (AreWaiting 0) waiting_is h.tables) in
       omega (
@@ -289,7 +305,13 @@ module _ (kind : Kind) (n step : ℕ) (g : List Bool → ℤ) (held : List (List
             let after = set before q (get_or before q [] ++ t ∷ []) in
             let sum : least_after (suc step) g y
             ≡ h.constant +ℤ (held_energy kind y front +ℤ waiting_energy y after)
-            = omega (arith, ints, next_least y w, s.holds y w, waiting_energy-push y q before t long) in
+            = omega (
+              arith,
+              ints,
+              next_least y w,
+              s.holds y w,
+              waiting_energy-push y q before t long,
+            ) in
             subst (λ k. least_after k g y
             ≡ h.constant +ℤ (held_energy kind y front +ℤ waiting_energy y after)) next sum;
       }

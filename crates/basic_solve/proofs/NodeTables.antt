@@ -24,14 +24,22 @@ doubled_value y nodes b steps l =
     ∙ stepped-sum y b nodes steps l
 
 -- so it holds what the entries of a node add
-pub entries_value : (kind : Kind) (y : List Bool) (bit : Bool) (nodes : List ℕ) (b : ℤ) (steps : List ℤ)
+pub entries_value : (kind : Kind) (y : List Bool) (bit : Bool) (nodes : List ℕ) (b : ℤ)
+    (steps : List ℤ)
     (es : List Entry) → AreOf (length y) es → length steps ≡ length nodes
     → b ≡ total_by (base_of kind bit) es
     → sum_where y nodes steps ≡ total_by (step_at kind bit y) es
     → value_at nodes (doubled ◌+ℤ◌ (b ∷ []) steps) y
     ≡ total_by (entry_energy kind (y ++ bit ∷ [])) es
 entries_value kind y bit nodes b steps es own l base sums =
-    omega (arith, ints, doubled_value y nodes b steps l, base, sums, entries_parts kind y bit es own)
+    omega (
+      arith,
+      ints,
+      doubled_value y nodes b steps l,
+      base,
+      sums,
+      entries_parts kind y bit es own,
+    )
 
 -- ---- a table that is passed to a node
 
@@ -70,7 +78,8 @@ passed_place y bit v nodes t p start w s =
         → start + get_or (doubled ◌+◌ (0 ∷ []) (places 1 nodes p.rest)) (index_of y nodes) 0
         ≡ index_of (y ++ bit ∷ []) t.nodes
     go b s last is =
-        sum b s (last ∙ ap (λ c. index_of (y ++ bit ∷ []) p.rest + 2 ^ length p.rest * cond c 1 0) is)
+        sum b s (last ∙ ap (λ c. index_of (y ++ bit ∷ []) p.rest + 2 ^ length p.rest * cond c 1 0)
+        is)
         ∙ ap (index_of (y ++ bit ∷ [])) (sym p.parts)
       where
         sum : (b : Bool) → start ≡ cond b (2 ^ length p.rest) 0
@@ -89,7 +98,8 @@ passed_place y bit v nodes t p start w s =
 
 module _ (kind : Kind) (n step : ℕ) (g : List Bool → ℤ) (held : List (List Entry))
     (waiting : List (List TableOver)) (front : List (List Entry)) (own : List Entry)
-    (before : List (List TableOver)) (passed : List TableOver) (h : LeftAfter kind n step g held waiting)
+    (before : List (List TableOver)) (passed : List TableOver)
+    (h : LeftAfter kind n step g held waiting)
     (held_is : held ≡ front ++ own ∷ []) (waiting_is : waiting ≡ before ++ passed ∷ [])
     (nodes : List ℕ) (zeros ones : List ℤ)
     (z : IsTableOfBit kind (length front) false nodes own passed zeros)

@@ -1,5 +1,5 @@
--- What the entries of a node add to the energy, for each of its bits: a base, and a step for each of
--- the other nodes whose bit is 1.
+-- What the entries of a node add to the energy, for each of its bits: a base, and a step for each
+-- of the other nodes whose bit is 1.
 use Rattle.std.proofs.Common.{◌≡◌, ◌≢◌, ◌<◌, ◌≤◌, ◌&&◌, ℤ, pos, ◌+ℤ◌, ◌*ℤ◌, neg_ℤ, Bool, true, false, cond, List, [], ◌∷◌, ◌++◌, length, refl, sym, arith, ap, ◌∙◌, eq-eqb}
 use Rattle.std.proofs.lemmas.Int.{ints}
 use Rattle.std.proofs.lemmas.Bool.{eqb-true}
@@ -19,7 +19,8 @@ module _ (y : List Bool) (e : Entry) (bit : Bool) (is : e.second ≡ length y) w
 
   -- a product of spins by its parts
   spins : (a b : Bool) (w : ℤ)
-      → times_spin a (times_spin b w) ≡ times_spin b (neg_ℤ w) +ℤ if_so a (times_spin b (pos 2 *ℤ w))
+      → times_spin a (times_spin b w) ≡ times_spin b (neg_ℤ w) +ℤ if_so a
+      (times_spin b (pos 2 *ℤ w))
   spins true true w = omega (arith, ints)
   spins true false w = omega (arith, ints)
   spins false true w = omega (arith, ints)
@@ -99,7 +100,8 @@ module _ (y : List Bool) (e : Entry) (bit : Bool) (is : e.second ≡ length y) w
           let other : e.first ≢ e.second = λ same. no_true (sym n ∙ eq-eqb e.first e.second same) in
           coupler_parts kind (omega (arith, is)) n
 
-pub entries_parts : (kind : Kind) (y : List Bool) (bit : Bool) (es : List Entry) → AreOf (length y) es
+pub entries_parts : (kind : Kind) (y : List Bool) (bit : Bool) (es : List Entry)
+    → AreOf (length y) es
     → total_by (entry_energy kind (y ++ bit ∷ [])) es
     ≡ total_by (base_of kind bit) es +ℤ total_by (step_at kind bit y) es
 entries_parts kind y bit [] p = refl

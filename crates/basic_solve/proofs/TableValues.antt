@@ -57,8 +57,10 @@ module _ {A : Type 0} (plus : A → A → A) where
   doubled_at y (u ∷ us) values (step ∷ steps) d p s w h l =
       let twice = values ++ map (λ v. plus v step) values in
       let b = bit_at y u in
-      ap (λ i. get_or (doubled plus twice steps) i d) (sym (index_more p s (cond b 1 0) (index_of y us)))
-      ∙ doubled_at y us twice steps d (p + s * cond b 1 0) (s + s) (length-one_doubled values step s w)
+      ap (λ i. get_or (doubled plus twice steps) i d)
+      (sym (index_more p s (cond b 1 0) (index_of y us)))
+      ∙ doubled_at y us twice steps d (p + s * cond b 1 0) (s + s)
+      (length-one_doubled values step s w)
       (digit-le p s b h) (omega arith)
       ∙ ap (λ v. stepped plus y v us steps) (one_doubled values step d p s b w h)
 
@@ -126,7 +128,8 @@ pub index_of-last : (y : List Bool) (nodes : List ℕ) (v : ℕ)
     ≡ index_of y nodes + 2 ^ length nodes * cond (bit_at y v) 1 0
 index_of-last y [] v = omega arith
 index_of-last y (u ∷ us) v =
-    go (cond (bit_at y u) 1 0) (cond (bit_at y v) 1 0) (index_of-last y us v) (pow-succ' 2 (length us))
+    go (cond (bit_at y u) 1 0) (cond (bit_at y v) 1 0) (index_of-last y us v)
+    (pow-succ' 2 (length us))
   where
     go : (s t : ℕ) → index_of y (us ++ v ∷ []) ≡ index_of y us + 2 ^ length us * t
         → 2 ^ suc (length us) ≡ 2 * 2 ^ length us

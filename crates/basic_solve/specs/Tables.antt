@@ -1,5 +1,5 @@
 -- Tables of least energies: a number for each choice of the bits of some nodes.
-use Rattle.std.specs.Prelude.{◌≡◌, ℕ, suc, ◌+◌, ◌*◌, ◌^◌, ◌<◌, ◌≤◌, ℤ, pos, ◌+ℤ◌, ◌*ℤ◌, neg_ℤ, unsigned_abs, max, ◌&&◌, ◌==◌, Bool, true, false, cond, List, [], ◌∷◌, ◌++◌, length, map}
+use Rattle.std.specs.Prelude.{◌≡◌, ℕ, suc, ◌+◌, ◌*◌, ◌^◌, ◌<◌, ◌≤◌, ℤ, pos, ◌+ℤ◌, ◌*ℤ◌, neg_ℤ, unsigned_abs, max, ◌&&◌, ◌==◌, Bool, true, false, cond, List, [], ◌∷◌, ◌++◌, length, map, set}
 use Rattle.basic_solve.specs.FirstLeast.{chosen}
 use Rattle.std.specs.List.{slice_index_or, All, AllByRecursion, sum_by}
 use Rattle.base.specs.Sums.{if_so, total_by}
@@ -53,14 +53,15 @@ pub record TableOver : Type 0 where
   pub nodes : List ℕ
   pub values : List ℤ
 
--- what it holds for a state
+-- what a table holds for a state
 abbrev pub table_energy : List Bool → TableOver → ℤ
 table_energy y t = value_at t.nodes t.values y
 
--- what the lists of entries and of tables add to the energy of a state
+-- what lists of entries add to the energy of a state
 abbrev pub held_energy : Kind → List Bool → List (List Entry) → ℤ
 held_energy kind y held = total_by (λ es. total_by (entry_energy kind y) es) held
 
+-- what lists of tables add to it
 abbrev pub waiting_energy : List Bool → List (List TableOver) → ℤ
 waiting_energy y waiting = total_by (λ ts. total_by (table_energy y) ts) waiting
 
@@ -76,7 +77,8 @@ AreHeld w (es ∷ held) = AreOf w es × AreHeld (suc w) held
 -- a list of tables for each node: it is the highest node of each of them
 abbrev pub AreWaiting : ℕ → List (List TableOver) → Type 0
 AreWaiting w [] = Unit {0}
-AreWaiting w (ts ∷ waiting) = AllByRecursion (λ t. AllBelow (suc w) t.nodes) ts × AreWaiting (suc w) waiting
+AreWaiting w (ts ∷ waiting) =
+    AllByRecursion (λ t. AllBelow (suc w) t.nodes) ts × AreWaiting (suc w) waiting
 
 -- ---- what the entries of a node add
 
@@ -87,17 +89,18 @@ base_of Ising bit e = times_spin bit (cond (is_node e) e.weight (neg_ℤ e.weigh
 base_of (Chimera rows cols shore) bit e =
     times_spin bit (cond (is_node e) e.weight (neg_ℤ e.weight))
 
--- what it adds besides where the other node has 1
+-- what such an entry adds besides where the other node has 1
 abbrev pub step_of : Kind → Bool → Entry → ℤ
 step_of Qubo bit e = if_so bit e.weight
 step_of Ising bit e = times_spin bit (pos 2 *ℤ e.weight)
 step_of (Chimera rows cols shore) bit e = times_spin bit (pos 2 *ℤ e.weight)
 
--- what it adds besides for a state
+-- what such an entry adds besides for a state
 abbrev pub step_at : Kind → Bool → List Bool → Entry → ℤ
 step_at kind bit y e = cond (is_node e) (pos 0) (if_so (bit_at y e.first) (step_of kind bit e))
 
--- the entries of each of n nodes, which add up to all entries
+-- the entries of each of n nodes, which add up to all entries, in what they add to energies and in
+-- any other number
 pub record AreEntriesOf (n : ℕ) (entries : List Entry) (held : List (List Entry)) : Type 0 where
   pub count : length held ≡ n
   pub each : AreHeld 0 held
@@ -108,14 +111,15 @@ pub record AreEntriesOf (n : ℕ) (entries : List Entry) (held : List (List Entr
 -- ---- choices
 
 -- the bits that a node chooses, one for each choice of its neighbours' bits
-pub record IsChoiceOf (n step : ℕ) (g : List Bool → ℤ) (nodes : List ℕ) (bits : List Bool) : Type 0 where
+pub record IsChoiceOf (n step : ℕ) (g : List Bool → ℤ) (nodes : List ℕ) (bits : List Bool)
+    : Type 0 where
   pub count : length bits ≡ 2 ^ length nodes
   pub each : (y : List Bool) → length y + suc step ≡ n
       → chosen step g y ≡ slice_index_or bits (index_of y nodes) false
 
--- those of all nodes, from the last one on
-pub record AreChoices (n : ℕ) (g : List Bool → ℤ) (sets : List (List ℕ)) (choices : List (List Bool))
-    : Type 0 where
+-- the choices of all nodes, from the last one on
+pub record AreChoices (n : ℕ) (g : List Bool → ℤ) (sets : List (List ℕ))
+    (choices : List (List Bool)) : Type 0 where
   pub count : length choices ≡ n
   pub each : (step : ℕ) → step < n
       → IsChoiceOf n step g (slice_index_or sets step []) (slice_index_or choices step [])
@@ -142,6 +146,12 @@ pub record IsPassedTo (v : ℕ) (nodes : List ℕ) (t : TableOver) : Type 0 wher
   pub among : is_part nodes rest ≡ true
   pub below : AllBelow v rest
   pub count : length t.values ≡ 2 ^ length t.nodes
+
+-- the lists of tables after this table is appended to the list of its last node
+pub record IsHandedOn (t : TableOver) (lists passed : List (List TableOver)) : Type 0 where
+  pub none : t.nodes ≡ [] → passed ≡ lists
+  pub last : (rest : List ℕ) (q : ℕ) → t.nodes ≡ rest ++ q ∷ []
+      → passed ≡ set lists q (slice_index_or lists q [] ++ t ∷ [])
 
 -- the couplers of a node lead to these nodes
 abbrev pub LeadTo : List ℕ → List Entry → Type 0

@@ -11,7 +11,7 @@ ghost use Rattle.basic_solve.specs.Widths.{AreNeighbourhoods};
 use crate::bits::Bits;
 use crate::buckets::Buckets;
 use crate::energies::{base, entries_of_nodes, step_of};
-use crate::passed::{Table, add_table, passed};
+use crate::passed::{Table, add_table, pass_table};
 use crate::steps::add_for;
 use crate::tables::{chosen_bits, doubled, take_lesser};
 use bits_model::{ChainList, Entry, Kind, NoMemory, OutputModel};
@@ -95,9 +95,7 @@ pub(crate) fn all_choices(
         let ones = table_of_bit(alloc, model.kind, node, true, set, &entries, &tables)?;
         choices.push(chosen_bits(alloc, &zeros, &ones)?)?;
         take_lesser(&mut zeros, &ones);
-        if let Some(highest) = set.last() {
-            waiting.push(*highest as usize, passed(alloc, set, zeros)?)?;
-        }
+        pass_table(alloc, &mut waiting, set, zeros)?;
     }
     Ok(choices)
 }

@@ -20,7 +20,7 @@ pub(crate) fn chosen_state(
 ) -> Result<Vec<bool>, NoMemory>
     requires narrow { (step : ℕ) → length (slice_index_or sets.now step []) ≤ 16 }
     requires sets { length sets.now ≡ model.now.nodes }
-    requires choices { AreChoices model.now.nodes (energy (form_of model.now)) sets.now choices.now }
+    requires chosen { AreChoices model.now.nodes (energy (form_of model.now)) sets.now choices.now }
     ensures { IfOk result (λ y. IsFirstLeast (form_of model.now) y.items) }
 {
     let nodes = model.nodes as usize;

@@ -15,7 +15,12 @@ pub loop-entry-init : goal.loop-entry-init
 loop-entry-init c =
     let made = c.loop.invariant in (
       ap length made ∙ length-replicate c.loop.index (pos 0) ∙ omega arith,
-      λ y. omega (arith, ints, ap (sum_where y c.args.nodes.now) made, none-sum y c.args.nodes.now c.loop.index),
+      λ y. omega (
+        arith,
+        ints,
+        ap (sum_where y c.args.nodes.now) made,
+        none-sum y c.args.nodes.now c.loop.index,
+      ),
       omega (arith, ap (sum_by unsigned_abs) made, none-size c.loop.index),
     )
 
@@ -26,7 +31,16 @@ add_for-requires-clause-small c =
     let all = ap (sum_by unsigned_abs) c.deref_mut.ensures.value in
     let left = sum_left (λ e. unsigned_abs e.weight) entries at no_entry c.loop-entry-test.true in
     let size = step-size c.args.kind c.args.bit (get_or entries at no_entry) in
-    omega (arith, ints, all, left, size, ap unsigned_abs c.step_of.ensures, c.loop-entry.invariant.2, c.requires.small)
+    omega (
+      arith,
+      ints,
+      all,
+      left,
+      size,
+      ap unsigned_abs c.step_of.ensures,
+      c.loop-entry.invariant.2,
+      c.requires.small,
+    )
 
 pub loop-entry-preserved : goal.loop-entry-preserved
 loop-entry-preserved c =
@@ -59,7 +73,8 @@ loop-entry-preserved c =
                 (λ y.
                 ap (sum_where y nodes) items
                 ∙ w.add_for.ensures.sums y
-                ∙ ap (λ l. sum_where y nodes l +ℤ if_so (bit_at y e.first) (to_z w128 (of_z w128 w.step_of.result))) olds),
+                ∙ ap (λ l. sum_where y nodes l +ℤ if_so (bit_at y e.first)
+                (to_z w128 (of_z w128 w.step_of.result))) olds),
             omega (
               arith,
               ap (sum_by unsigned_abs) items,
@@ -72,7 +87,8 @@ loop-entry-preserved c =
             ),
           )
       | else-entry w ↦
-          let items : c.if-entry.steps.items ≡ c.loop-entry.steps.items = ap (λ v. v.items) w.steps-is in (
+          let items : c.if-entry.steps.items ≡ c.loop-entry.steps.items
+          = ap (λ v. v.items) w.steps-is in (
             ap length items ∙ so_far.0,
             step_kept kind bit entries at no_entry within nodes c.loop-entry.steps.items
                 c.if-entry.steps.items so_far.1 (eq-eqb e.first e.second w.if-entry.false) items,

@@ -14,7 +14,8 @@ abbrev pub invariant-loop-entry : goal.invariant-loop-entry
 invariant-loop-entry l =
     (length l.steps.items ≡ length l.nodes)
     × ((y : List Bool)
-    → sum_where y l.nodes l.steps.items +ℤ total_by (step_at l.kind l.bit y) (drop l.entry-index l.entries)
+    → sum_where y l.nodes l.steps.items +ℤ total_by (step_at l.kind l.bit y)
+    (drop l.entry-index l.entries)
     ≡ total_by (step_at l.kind l.bit y) l.entries)
     × (sum_by unsigned_abs l.steps.items + 2 * weight_total (drop l.entry-index l.entries)
     ≤ 2 * weight_total l.entries)

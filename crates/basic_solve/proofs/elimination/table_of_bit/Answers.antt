@@ -54,7 +54,8 @@ loop-table-init c =
     let le = begun-small kind v bit nodes entries c.push.new.self.items steps
     c.in_ok-values.values.items b long first_is base c.in_ok-values.ensures
     (omega (arith, ap (sum_by unsigned_abs) same, c.in_ok-steps.ensures.size)) in (
-      begun-length kind v bit nodes entries c.push.new.self.items steps c.in_ok-values.values.items b
+      begun-length kind v bit nodes entries c.push.new.self.items steps c.in_ok-values.values.items
+          b
           long first_is base c.in_ok-values.ensures,
       λ y w.
           ap (λ s. s +ℤ total_by (table_energy (y ++ bit ∷ [])) tables)
@@ -73,7 +74,8 @@ add_table-requires-clause-small c =
     omega (
       arith,
       ap most c.deref_mut.ensures.value,
-      sum_left (λ t. most t.values) c.args.tables.now c.loop-table.table-index t c.loop-table-test.true,
+      sum_left (λ t. most t.values) c.args.tables.now c.loop-table.table-index t
+          c.loop-table-test.true,
       ap (λ t. most t.values) c.table-item.is,
       c.loop-table.invariant.2,
       c.requires.small,
@@ -89,7 +91,8 @@ loop-table-preserved c =
     let so_far = c.loop-table.invariant in
     let olds = c.deref_mut.ensures.value in
     let news = c.add_table.new.values in
-    let passed = subst (IsPassedTo c.args.node nodes) (sym c.table-item.is) (c.requires.passed at t within) in
+    let passed = subst (IsPassedTo c.args.node nodes) (sym c.table-item.is)
+    (c.requires.passed at t within) in
     let long : length news ≡ length c.loop-table.values.items
     = omega (arith, c.add_table.auto.values, ap length olds) in
     let items = written_items c.loop-table.values.len news c.loop-table.values.items
@@ -120,7 +123,8 @@ loop-table-preserved c =
 
 pub returns : goal.returns
 returns c =
-    let none = drop_all c.loop-table.table-index c.args.tables.now (omega (arith, c.loop-table-test.false)) in
+    let none = drop_all c.loop-table.table-index c.args.tables.now
+    (omega (arith, c.loop-table-test.false)) in
     let so_far = c.loop-table.invariant in
     record {
       count = so_far.0;

@@ -16,15 +16,16 @@ loop-node-preserved c =
     let at : length y + suc step ≡ m.nodes = omega (arith, nodes, c.loop-node.invariant.0) in
     let index = c.index_of-index.ensures.value
     ∙ (λ i. index_of (c.deref.ensures.value i) (c.list.ensures.listed i)) in
-    let within : step < length c.args.choices.now = omega (arith, at, c.requires.choices.count) in
+    let within : step < length c.args.choices.now = omega (arith, at, c.requires.chosen.count) in
     let pushed = c.in_ok-push.ensures.items in (
       ap length pushed ∙ length-append y _ ∙ ap (λ n. n + 1) c.loop-node.invariant.0,
       subst (IsBegun m.nodes (energy (form_of m))) (sym pushed)
           (begun_more m.nodes (energy (form_of m)) c.args.sets.now c.args.choices.now y step _
-          c.requires.choices c.loop-node.invariant.1 at
+          c.requires.chosen c.loop-node.invariant.1 at
           (c.at.ensures
           ∙ (λ i. get_or ((c.index-choices-step.is
-          ∙ default-any c.args.choices.now step c.index-choices-step.result [] within) i) (index i) false))),
+          ∙ default-any c.args.choices.now step c.index-choices-step.result [] within) i) (index i)
+          false))),
     )
 
 pub returns : goal.returns
@@ -32,4 +33,10 @@ returns c =
     let m = c.args.model.now in
     let nodes = ap (λ w. w.nodes) c.model.view_is in
     first_least (form_of m) c.loop-node.y.items c.loop-node.invariant.1
-    (omega (arith, nodes, c.loop-node.invariant.0, c.loop-node-test.false, c.loop-node.auto.node-end))
+    (omega (
+      arith,
+      nodes,
+      c.loop-node.invariant.0,
+      c.loop-node-test.false,
+      c.loop-node.auto.node-end,
+    ))
