@@ -1,5 +1,5 @@
 //! Small problems that look random, and their models.
-ghost use Rattle.std.specs.Prelude.{◌≡◌, ◌+◌, ◌<◌, ◌≤◌, ◌^◌, OnOk};
+ghost use Rattle.std.specs.Prelude.{◌≡◌, ◌↔◌, ◌+◌, ◌<◌, ◌≤◌, ◌^◌, All, IsTrue, OnOk};
 ghost use Rattle.problem_form.specs.Problems.{problem_total};
 
 use base::{NoMemory, UnitChoice};
@@ -48,6 +48,12 @@ fn positive(variable: u64) -> Literal {
     }
 }
 
+fn are_within(literals: &[Literal], variables: u64) -> bool
+    ensures { IsTrue result ↔ All (λ l. l.variable < variables) literals.now }
+{
+    literals.iter().all(|literal| literal.variable < variables)
+}
+
 /// Adds a weight of two nodes, or of one where both are the same, if the problem has them.
 pub fn add_weight(
     alloc: Global,
@@ -59,11 +65,12 @@ pub fn add_weight(
     requires { problem_total problem.old < 2 ^ 99 }
     ensures { OnOk result (problem_total problem.new ≤ problem_total problem.old + 2 ^ 7) }
 {
-    if problem.variables <= first || problem.variables <= second {
+    let literals = [positive(first), positive(second)];
+    if !are_within(&literals, problem.variables) {
         return Ok(());
     }
-    let mut literals = Vec::from_slice(alloc, &[positive(first), positive(second)])?;
-    problem.add_term(&mut literals, i128::from(weight))
+    let mut written = Vec::from_slice(alloc, &literals)?;
+    problem.add_term(&mut written, i128::from(weight))
 }
 
 /// Draws a weight for a node with each of so many nodes.

@@ -41,13 +41,11 @@ impl Shape {
         }
     }
 
-    /// -2 for a node, and 3 for two nodes that are joined.
-    fn weight(self, first: u32, second: u32) -> i8
-        requires { first ≤ second }
-    {
+    /// -2 for a node, and 3 for two nodes that are joined, the first of which is less.
+    fn weight(self, first: u32, second: u32) -> i8 {
         if first == second {
             -2
-        } else if self.joins(first, second) {
+        } else if first < second && self.joins(first, second) {
             3
         } else {
             0
@@ -69,7 +67,7 @@ impl Shape {
     }
 }
 
-/// Gives a node the weight -2, and 3 with each node after it that it is joined with.
+/// Gives a node its weight, and those with the nodes after it.
 fn add_row(
     alloc: Global,
     problem: &mut Problem,
@@ -80,7 +78,7 @@ fn add_row(
     requires { problem_total problem.old < 2 ^ 98 }
     ensures { OnOk result (problem_total problem.new ≤ problem_total problem.old + 2 ^ 39) }
 {
-    for second in first..nodes {
+    for second in 0..nodes {
         let weight = shape.weight(first, second);
         add_weight(alloc, problem, u64::from(first), u64::from(second), weight)?;
     }

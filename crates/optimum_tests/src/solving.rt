@@ -61,8 +61,8 @@ fn least_states(alloc: Global, model: &OutputModel) -> Result<u32, SolveAnswer> 
 
 /// A QUBO or an Ising model of up to eight nodes, or an Ising model of up to four nodes on the eight
 /// qubits of a cell.
-fn target_of(seed: u64) -> (Target, u32) {
-    let size = (seed / 3) as u32;
+fn target_of(seed: u32) -> (Target, u32) {
+    let size = seed / 3;
     match seed % 3 {
         0 => (Target::Nodes(NodeModel::Qubo), 1 + size % 8),
         1 => (Target::Nodes(NodeModel::Ising), 1 + size % 8),
@@ -70,15 +70,17 @@ fn target_of(seed: u64) -> (Target, u32) {
     }
 }
 
-fn drawn_model(alloc: Global, seed: u64) -> Result<Option<OutputModel>, NoMemory> {
+fn drawn_model(alloc: Global, seed: u32) -> Result<Option<OutputModel>, NoMemory> {
     let (target, nodes) = target_of(seed);
-    let mut dice = Dice { state: seed };
+    let mut dice = Dice {
+        state: u64::from(seed),
+    };
     let problem = drawn_problem(alloc, &mut dice, nodes)?;
     Ok(model_for(alloc, &problem, target))
 }
 
 /// How many least states a drawn model has, or 0 where the first of them is not found.
-fn drawn_states(alloc: Global, seed: u64) -> u32 {
+fn drawn_states(alloc: Global, seed: u32) -> u32 {
     match drawn_model(alloc, seed) {
         Ok(Some(model)) => least_states(alloc, &model).unwrap_or(0),
         _ => 0,
