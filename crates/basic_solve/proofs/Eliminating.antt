@@ -1,0 +1,337 @@
+-- The elimination of one node.
+--
+-- Of a front of a state the least energy of all states that begin with it is a constant, what the
+-- entries of the nodes in the front add, and what the tables add that are passed to these nodes.
+-- The last node of the front is in its own entries and in the tables that are passed to it alone.
+-- So the lesser of what these add for its two bits is a function of the other nodes in them, and a
+-- table over these nodes takes their place.
+use Rattle.std.proofs.Common.{◌≡◌, ℕ, zero, suc, ◌+◌, ◌<◌, ◌≤◌, ◌&&◌, ℤ, pos, ◌+ℤ◌, ◌≤ℤ◌, ◌<ℤ◌, int_lt, Bool, true, false, cond, List, [], ◌∷◌, ◌++◌, length, get_or, set, replicate, refl, sym, arith, ap, ◌∙◌, subst}
+use Rattle.std.specs.Int.{int_min}
+use Rattle.std.specs.List.{AllByRecursion}
+use Rattle.std.proofs.lemmas.Int.{ints}
+use Rattle.std.proofs.lemmas.List.{length-append, length-set, length-replicate}
+use Rattle.base.specs.Sums.{total_by, if_so}
+use Rattle.base.proofs.Totals.{total_by_push}
+use Rattle.bits_model.specs.declared.output.Entry.{Entry}
+use Rattle.bits_model.specs.declared.output.Kind.{Kind}
+use Rattle.bits_model.specs.declared.output.Kind.TheVariants.{Qubo, Ising, Chimera}
+use Rattle.base.specs.Costs.{energy}
+use Rattle.bits_model.specs.Output.{Written, form_of, entry_energy, is_node, times_spin, spins_energy}
+use Rattle.basic_solve.specs.Tables.{TableOver, table_energy, held_energy, waiting_energy, AreHeld, AreWaiting, AllBelow, AreOf, AreEntriesOf}
+use Rattle.basic_solve.proofs.TableValues.{bit_at-front, index_of-front}
+use Rattle.basic_solve.specs.FirstLeast.{least_after, chosen}
+use Rattle.basic_solve.proofs.Choices.{less, not_less}
+
+plus_one : (n : ℕ) → n + 1 ≡ suc n
+plus_one n = omega arith
+
+-- ---- bits past a front
+
+spins_energy-front : (y z : List Bool) (e : Entry) → e.first < length y → e.second < length y
+    → spins_energy (y ++ z) e ≡ spins_energy y e
+spins_energy-front y z e f s =
+    λ i. cond (is_node e) (times_spin (bit_at-front y z e.first f i) e.weight)
+    (times_spin (bit_at-front y z e.first f i)
+    (times_spin (bit_at-front y z e.second s i) e.weight))
+
+entry_energy-front : (kind : Kind) (y z : List Bool) (e : Entry) → e.first < length y
+    → e.second < length y → entry_energy kind (y ++ z) e ≡ entry_energy kind y e
+entry_energy-front Qubo y z e f s =
+    λ i. if_so (bit_at-front y z e.first f i && bit_at-front y z e.second s i) e.weight
+entry_energy-front Ising y z e f s = spins_energy-front y z e f s
+entry_energy-front (Chimera rows cols shore) y z e f s = spins_energy-front y z e f s
+
+entries-front : (kind : Kind) (y z : List Bool) (w : ℕ) (es : List Entry) → w < length y
+    → AreOf w es
+    → total_by (entry_energy kind (y ++ z)) es ≡ total_by (entry_energy kind y) es
+entries-front kind y z w [] h p = refl
+entries-front kind y z w (e ∷ es) h p =
+    let low = p.0.0 in
+    let at = p.0.1 in
+    omega (
+      arith,
+      ints,
+      entry_energy-front kind y z e (omega arith) (omega arith),
+      entries-front kind y z w es h p.1,
+    )
+
+held_energy-front : (kind : Kind) (y z : List Bool) (w : ℕ) (held : List (List Entry))
+    → w + length held ≤ length y → AreHeld w held
+    → held_energy kind (y ++ z) held ≡ held_energy kind y held
+held_energy-front kind y z w [] h p = refl
+held_energy-front kind y z w (es ∷ held) h p =
+    omega (
+      arith,
+      ints,
+      entries-front kind y z w es (omega arith) p.0,
+      held_energy-front kind y z (suc w) held (omega arith) p.1,
+    )
+
+below_more : (m n : ℕ) (us : List ℕ) → m ≤ n → AllBelow m us → AllBelow n us
+below_more m n [] h p = tt
+below_more m n (u ∷ us) h p = let lt = p.0 in (omega arith, below_more m n us h p.1)
+
+tables-front : (y z : List Bool) (w : ℕ) (ts : List TableOver) → w < length y
+    → AllByRecursion (λ t. AllBelow (suc w) t.nodes) ts
+    → total_by (table_energy (y ++ z)) ts ≡ total_by (table_energy y) ts
+tables-front y z w [] h p = refl
+tables-front y z w (t ∷ ts) h p =
+    let same = index_of-front y z t.nodes
+    (below_more (suc w) (length y) t.nodes (omega arith) p.0) in
+    omega (arith, ints, ap (λ i. get_or t.values i (pos 0)) same, tables-front y z w ts h p.1)
+
+waiting_energy-front : (y z : List Bool) (w : ℕ) (waiting : List (List TableOver))
+    → w + length waiting ≤ length y → AreWaiting w waiting
+    → waiting_energy (y ++ z) waiting ≡ waiting_energy y waiting
+waiting_energy-front y z w [] h p = refl
+waiting_energy-front y z w (ts ∷ waiting) h p =
+    omega (
+      arith,
+      ints,
+      tables-front y z w ts (omega arith) p.0,
+      waiting_energy-front y z (suc w) waiting (omega arith) p.1,
+    )
+
+-- ---- the lists without the last one
+
+held-front : (w : ℕ) (held : List (List Entry)) (es : List Entry) → AreHeld w (held ++ es ∷ [])
+    → AreHeld w held
+held-front w [] es p = tt
+held-front w (x ∷ held) es p = (p.0, held-front (suc w) held es p.1)
+
+waiting-front : (w : ℕ) (waiting : List (List TableOver)) (ts : List TableOver)
+    → AreWaiting w (waiting ++ ts ∷ []) → AreWaiting w waiting
+waiting-front w [] ts p = tt
+waiting-front w (x ∷ waiting) ts p = (p.0, waiting-front (suc w) waiting ts p.1)
+
+-- ---- a table that is passed
+
+all_push : {X : Type 0} (P : X → Type 0) (xs : List X) (x : X) → AllByRecursion P xs → P x
+    → AllByRecursion P (xs ++ x ∷ [])
+all_push P [] x a p = (p, tt)
+all_push P (y ∷ ys) x a p = (a.0, all_push P ys x a.1 p)
+
+waiting-push : (w q : ℕ) (waiting : List (List TableOver)) (t : TableOver) → q < length waiting
+    → AreWaiting w waiting → AllBelow (suc (w + q)) t.nodes
+    → AreWaiting w (set waiting q (get_or waiting q [] ++ t ∷ []))
+waiting-push w q [] t h p b = absurd (omega arith)
+waiting-push w zero (ts ∷ waiting) t h p b = (
+  all_push (λ t. AllBelow (suc w) t.nodes) ts t p.0
+      (below_more (suc (w + 0)) (suc w) t.nodes (omega arith) b),
+  p.1,
+)
+waiting-push w (suc q) (ts ∷ waiting) t h p b = (
+  p.0,
+  waiting-push (suc w) q waiting t (omega arith) p.1
+      (below_more (suc (w + suc q)) (suc (suc w + q)) t.nodes (omega arith) b),
+)
+
+waiting_energy-push : (y : List Bool) (q : ℕ) (waiting : List (List TableOver)) (t : TableOver)
+    → q < length waiting
+    → waiting_energy y (set waiting q (get_or waiting q [] ++ t ∷ []))
+    ≡ waiting_energy y waiting +ℤ table_energy y t
+waiting_energy-push y q [] t h = absurd (omega arith)
+waiting_energy-push y zero (ts ∷ waiting) t h =
+    omega (arith, ints, total_by_push (table_energy y) ts t)
+waiting_energy-push y (suc q) (ts ∷ waiting) t h =
+    omega (arith, ints, waiting_energy-push y q waiting t (omega arith))
+
+-- an entry that is put to its node
+pub held-push : (w q : ℕ) (held : List (List Entry)) (e : Entry) → q < length held → AreHeld w held
+    → e.first ≤ w + q → e.second ≡ w + q
+    → AreHeld w (set held q (get_or held q [] ++ e ∷ []))
+held-push w q [] e h p f s = absurd (omega arith)
+held-push w zero (es ∷ held) e h p f s =
+    (all_push (λ e. (e.first ≤ w) × (e.second ≡ w)) es e p.0 (omega arith, omega arith), p.1)
+held-push w (suc q) (es ∷ held) e h p f s =
+    (p.0, held-push (suc w) q held e (omega arith) p.1 (omega arith) (omega arith))
+
+pub held_energy-push : (kind : Kind) (y : List Bool) (q : ℕ) (held : List (List Entry)) (e : Entry)
+    → q < length held
+    → held_energy kind y (set held q (get_or held q [] ++ e ∷ []))
+    ≡ held_energy kind y held +ℤ entry_energy kind y e
+held_energy-push kind y q [] e h = absurd (omega arith)
+held_energy-push kind y zero (es ∷ held) e h =
+    omega (arith, ints, total_by_push (entry_energy kind y) es e)
+held_energy-push kind y (suc q) (es ∷ held) e h =
+    omega (arith, ints, held_energy-push kind y q held e (omega arith))
+
+-- ---- at first
+
+pub none_wait : (w n : ℕ) → AreWaiting w (replicate n [])
+none_wait w zero = tt
+none_wait w (suc n) = (tt, none_wait (suc w) n)
+
+pub waiting_energy-none : (y : List Bool) (n : ℕ) → waiting_energy y (replicate n []) ≡ pos 0
+waiting_energy-none y zero = refl
+waiting_energy-none y (suc n) = omega (arith, ints, waiting_energy-none y n)
+
+pub none_hold : (w n : ℕ) → AreHeld w (replicate n [])
+none_hold w zero = tt
+none_hold w (suc n) = (tt, none_hold (suc w) n)
+
+pub held_energy-none : (kind : Kind) (y : List Bool) (n : ℕ)
+    → held_energy kind y (replicate n []) ≡ pos 0
+held_energy-none kind y zero = refl
+held_energy-none kind y (suc n) = omega (arith, ints, held_energy-none kind y n)
+
+-- ---- one node
+
+-- so many nodes are eliminated: what is held and what waits tell the least energy of all states
+-- that begin with a front of the nodes that are left
+pub record LeftAfter (kind : Kind) (n step : ℕ) (g : List Bool → ℤ) (held : List (List Entry))
+    (waiting : List (List TableOver)) : Type 0 where
+  pub left : length held + step ≡ n
+  pub as_many : length waiting ≡ length held
+  pub entries : AreHeld 0 held
+  pub tables : AreWaiting 0 waiting
+  pub constant : ℤ
+  pub least : (y : List Bool) → length y ≡ length held
+      → least_after step g y
+      ≡ constant +ℤ (held_energy kind y held +ℤ waiting_energy y waiting)
+
+is_less : (a b : ℤ) → a <ℤ b → int_lt a b ≡ true
+is_less a b h = grind (arith, ints)
+
+is_not_less : (a b : ℤ) → b ≤ℤ a → int_lt a b ≡ false
+is_not_less a b h = grind (arith, ints)
+
+lt_moved : (r a b : ℤ) → int_lt (r +ℤ b) (r +ℤ a) ≡ int_lt b a
+lt_moved r a b = go (int_lt b a) refl
+  where
+    go : (t : Bool) → int_lt b a ≡ t → int_lt (r +ℤ b) (r +ℤ a) ≡ t
+    go true e = let lt = less a b e in is_less (r +ℤ b) (r +ℤ a) (omega (arith, ints))
+    go false e = let le = not_less a b e in is_not_less (r +ℤ b) (r +ℤ a) (omega (arith, ints))
+
+pub left_at_first : (m : Written) (held : List (List Entry)) → AreEntriesOf m.nodes m.entries held
+    → LeftAfter m.kind m.nodes 0 (energy (form_of m)) held (replicate m.nodes [])
+left_at_first m held a = record {
+  left = let e = a.count in omega arith;
+  as_many = length-replicate m.nodes [] ∙ sym a.count;
+  entries = a.each;
+  tables = none_wait 0 m.nodes;
+  constant = pos 0;
+  least = λ y w. omega (arith, ints, a.whole m.kind y, waiting_energy-none y m.nodes);
+}
+
+min_moved : (r a b : ℤ) → int_min (r +ℤ a) (r +ℤ b) ≡ r +ℤ int_min a b
+min_moved r a b = ap (λ t. cond t (r +ℤ b) (r +ℤ a)) (lt_moved r a b) ∙ go (int_lt b a)
+  where
+    go : (t : Bool) → cond t (r +ℤ b) (r +ℤ a) ≡ r +ℤ cond t b a
+    go true = refl
+    go false = refl
+
+module _ (kind : Kind) (n step : ℕ) (g : List Bool → ℤ) (held : List (List Entry))
+    (waiting : List (List TableOver)) (front : List (List Entry)) (own : List Entry)
+    (before : List (List TableOver)) (passed : List TableOver)
+    (h : LeftAfter kind n step g held waiting)
+    (held_is : held ≡ front ++ own ∷ []) (waiting_is : waiting ≡ before ++ passed ∷ []) where
+  -- what the front's nodes add to the energy of a state
+  abbrev pub rest : List Bool → ℤ
+  rest y = h.constant +ℤ (held_energy kind y front +ℤ waiting_energy y before)
+
+  -- what the last node adds where it has a bit
+  abbrev pub own_energy : List Bool → Bool → ℤ
+  own_energy y b =
+      total_by (entry_energy kind (y ++ b ∷ [])) own +ℤ total_by (table_energy (y ++ b ∷ [])) passed
+
+  held_long : length held ≡ suc (length front)
+  held_long = ap length held_is ∙ length-append front (own ∷ []) ∙ plus_one (length front)
+
+  waiting_long : length waiting ≡ suc (length before)
+  waiting_long = ap length waiting_is ∙ length-append before (passed ∷ [])
+      ∙ plus_one (length before)
+
+  same_long : length before ≡ length front
+  same_long = let e = h.as_many in omega (arith, held_long, waiting_long)
+
+  -- the least energy after a front and a bit
+  one_bit : (y : List Bool) (b : Bool) → length y ≡ length front
+      → least_after step g (y ++ b ∷ []) ≡ rest y +ℤ own_energy y b
+  one_bit y b w =
+      let long : length (y ++ b ∷ []) ≡ length held
+      = omega (arith, length-append y (b ∷ []), held_long) in
+      let entries = held-front 0 front own (subst (AreHeld 0) held_is h.entries) in
+      let tables = waiting-front 0 before passed (subst (AreWaiting 0) waiting_is h.tables) in
+      omega (
+        arith,
+        ints,
+        h.least (y ++ b ∷ []) long,
+        ap (held_energy kind (y ++ b ∷ [])) held_is,
+        ap (waiting_energy (y ++ b ∷ [])) waiting_is,
+        total_by_push (λ es. total_by (entry_energy kind (y ++ b ∷ [])) es) front own,
+        total_by_push (λ ts. total_by (table_energy (y ++ b ∷ [])) ts) before passed,
+        held_energy-front kind y (b ∷ []) 0 front (omega arith) entries,
+        waiting_energy-front y (b ∷ []) 0 before (omega (arith, same_long)) tables,
+      )
+
+  -- the bit that is chosen after a front is that for which the last node adds less
+  pub chosen-is : (y : List Bool) → length y ≡ length front
+      → chosen step g y ≡ int_lt (own_energy y true) (own_energy y false)
+  chosen-is y w =
+      (λ i. int_lt (one_bit y true w i) (one_bit y false w i))
+      ∙ lt_moved (rest y) (own_energy y false) (own_energy y true)
+
+  -- the least energy after a front
+  next_least : (y : List Bool) → length y ≡ length front
+      → least_after (suc step) g y ≡ rest y +ℤ int_min (own_energy y false) (own_energy y true)
+  next_least y w =
+      (λ i. int_min (one_bit y false w i) (one_bit y true w i))
+      ∙ min_moved (rest y) (own_energy y false) (own_energy y true)
+
+  -- ---- what takes the place of the last node
+
+  -- a table over some of the front's nodes holds the lesser of what the last node adds
+  pub record Settles (t : TableOver) : Type 0 where
+    pub below : AllBelow (length front) t.nodes
+    pub holds : (y : List Bool) → length y ≡ length front
+        → table_energy y t ≡ int_min (own_energy y false) (own_energy y true)
+
+  -- it is passed to one of them
+  pub left_next : (t : TableOver) (q : ℕ) → Settles t → q < length front → AllBelow (suc q) t.nodes
+      → LeftAfter kind n (step + 1) g front (set before q (get_or before q [] ++ t ∷ []))
+  left_next t q s lt b =
+      let long : q < length before = omega (arith, same_long) in
+      let next : suc step ≡ step + 1 = omega arith in
+      record {
+        left = let e = h.left in omega (arith, held_long);
+        as_many = length-set before q (get_or before q [] ++ t ∷ []) ∙ same_long;
+        entries = held-front 0 front own (subst (AreHeld 0) held_is h.entries);
+        tables = waiting-push 0 q before t long
+            (waiting-front 0 before passed (subst (AreWaiting 0) waiting_is h.tables))
+            (below_more (suc q) (suc (0 + q)) t.nodes (omega arith) b);
+        constant = h.constant;
+        least = λ y w.
+            let after = set before q (get_or before q [] ++ t ∷ []) in
+            let sum : least_after (suc step) g y
+            ≡ h.constant +ℤ (held_energy kind y front +ℤ waiting_energy y after)
+            = omega (
+              arith,
+              ints,
+              next_least y w,
+              s.holds y w,
+              waiting_energy-push y q before t long,
+            ) in
+            subst (λ k. least_after k g y
+            ≡ h.constant +ℤ (held_energy kind y front +ℤ waiting_energy y after)) next sum;
+      }
+
+  -- it is a constant where there is no other node
+  pub left_alone : (values : List ℤ) → Settles (record { nodes = []; values = values })
+      → LeftAfter kind n (step + 1) g front before
+  left_alone values s =
+      let next : suc step ≡ step + 1 = omega arith in
+      record {
+        left = let e = h.left in omega (arith, held_long);
+        as_many = same_long;
+        entries = held-front 0 front own (subst (AreHeld 0) held_is h.entries);
+        tables = waiting-front 0 before passed (subst (AreWaiting 0) waiting_is h.tables);
+        constant = h.constant +ℤ get_or values 0 (pos 0);
+        least = λ y w.
+            let moved = h.constant +ℤ get_or values 0 (pos 0) in
+            let sum : least_after (suc step) g y
+            ≡ moved +ℤ (held_energy kind y front +ℤ waiting_energy y before)
+            = omega (arith, ints, next_least y w, s.holds y w) in
+            subst (λ k. least_after k g y
+            ≡ moved +ℤ (held_energy kind y front +ℤ waiting_energy y before)) next sum;
+      }

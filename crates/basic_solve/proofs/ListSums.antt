@@ -1,0 +1,83 @@
+-- Sums over lists, and over lists of lists.
+use Rattle.std.proofs.Common.{◌≡◌, ℤ, ◌+ℤ◌, ℕ, zero, suc, ◌+◌, ◌<◌, ◌≤◌, ◌||◌, Bool, true, false, cond, List, [], ◌∷◌, ◌++◌, length, get_or, set, drop, replicate, refl, sym, arith, ap, ◌∙◌, add-one, drop-cons}
+use Rattle.std.specs.List.{sum_by, list_any}
+use Rattle.std.proofs.lemmas.List.Sums.{sum_by-cons}
+use Rattle.base.specs.Sums.{total_by}
+
+-- one item more
+pub sum-push : {X : Type 0} (f : X → ℕ) (xs : List X) (x : X)
+    → sum_by f (xs ++ x ∷ []) ≡ sum_by f xs + f x
+sum-push f [] x = sum_by-cons f x [] ∙ omega arith
+sum-push f (y ∷ ys) x =
+    omega (arith, sum_by-cons f y (ys ++ x ∷ []), sum_by-cons f y ys, sum-push f ys x)
+
+-- one item
+pub sum-at : {X : Type 0} (f : X → ℕ) (xs : List X) (k : ℕ) (d : X) → k < length xs
+    → f (get_or xs k d) ≤ sum_by f xs
+sum-at f [] k d h = absurd (omega arith)
+sum-at f (x ∷ xs) zero d h = omega (arith, sum_by-cons f x xs)
+sum-at f (x ∷ xs) (suc k) d h = omega (arith, sum_by-cons f x xs, sum-at f xs k d (omega arith))
+
+-- what is left loses its first item
+pub sum_left : {X : Type 0} (f : X → ℕ) (xs : List X) (at : ℕ) (d : X) → at < length xs
+    → sum_by f (drop at xs) ≡ f (get_or xs at d) + sum_by f (drop (at + 1) xs)
+sum_left f xs at d h =
+    ap (sum_by f) (drop-cons xs at d h)
+    ∙ sum_by-cons f (get_or xs at d) (drop (suc at) xs)
+    ∙ ap (λ k. f (get_or xs at d) + sum_by f (drop k xs)) (sym (add-one at))
+
+pub sum_parts : {X : Type 0} (left rest : List X) (x : X) → left ≡ x ∷ rest → (f : X → ℕ)
+    → sum_by f left ≡ f x + sum_by f rest
+sum_parts left rest x parts f = ap (sum_by f) parts ∙ sum_by-cons f x rest
+
+pub total_left : {X : Type 0} (f : X → ℤ) (xs : List X) (at : ℕ) (d : X) → at < length xs
+    → total_by f (drop at xs) ≡ f (get_or xs at d) +ℤ total_by f (drop (at + 1) xs)
+total_left f xs at d h =
+    ap (total_by f) (drop-cons xs at d h)
+    ∙ ap (λ k. f (get_or xs at d) +ℤ total_by f (drop k xs)) (sym (add-one at))
+
+-- ---- lists of lists
+
+pub sums-none : {X : Type 0} (f : X → ℕ) (n : ℕ) → sum_by (sum_by f) (replicate n []) ≡ 0
+sums-none f zero = refl
+sums-none f (suc n) = omega (arith, sum_by-cons (sum_by f) [] (replicate n []), sums-none f n)
+
+pub sums-push : {X : Type 0} (f : X → ℕ) (q : ℕ) (lists : List (List X)) (x : X) → q < length lists
+    → sum_by (sum_by f) (set lists q (get_or lists q [] ++ x ∷ []))
+    ≡ sum_by (sum_by f) lists + f x
+sums-push f q [] x h = absurd (omega arith)
+sums-push f zero (l ∷ ls) x h =
+    omega (
+      arith,
+      sum_by-cons (sum_by f) l ls,
+      sum_by-cons (sum_by f) (l ++ x ∷ []) ls,
+      sum-push f l x,
+    )
+sums-push f (suc q) (l ∷ ls) x h =
+    omega (
+      arith,
+      sum_by-cons (sum_by f) l ls,
+      sum_by-cons (sum_by f) l (set ls q (get_or ls q [] ++ x ∷ [])),
+      sums-push f q ls x (omega arith),
+    )
+
+-- one item of one of the lists
+pub sums-at : {X : Type 0} (f : X → ℕ) (lists : List (List X)) (w k : ℕ) (d : X) → w < length lists
+    → k < length (get_or lists w []) → f (get_or (get_or lists w []) k d) ≤ sum_by (sum_by f) lists
+sums-at f lists w k d h l =
+    omega (arith, sum-at f (get_or lists w []) k d l, sum-at (sum_by f) lists w [] h)
+
+-- ---- a test that holds of some item
+
+pub any_of-sum : {X : Type 0} (f : X → Bool) (xs : List X) → 0 < sum_by (λ x. cond (f x) 1 0) xs
+    → list_any f xs ≡ true
+any_of-sum f [] h = absurd (omega arith)
+any_of-sum f (x ∷ xs) h =
+    go (f x) (sum_by-cons (λ x. cond (f x) 1 0) x xs) (any_of-sum f xs)
+  where
+    go : (t : Bool)
+        → sum_by (λ x. cond (f x) 1 0) (x ∷ xs) ≡ cond t 1 0 + sum_by (λ x. cond (f x) 1 0) xs
+        → (0 < sum_by (λ x. cond (f x) 1 0) xs → list_any f xs ≡ true)
+        → (t || list_any f xs) ≡ true
+    go true e r = refl
+    go false e r = r (omega arith)

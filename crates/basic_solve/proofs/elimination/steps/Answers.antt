@@ -1,0 +1,97 @@
+use Rattle.std.proofs.Common.{◌≡◌, ◌+ℤ◌, ◌∙◌, ap, arith, length, pos, get_or, to_z, of_z, unsigned_abs, eq-eqb}
+use Rattle.std.specs.Int.{w128}
+use Rattle.std.specs.List.{sum_by}
+use Rattle.std.proofs.lemmas.Int.{ints}
+use Rattle.std.proofs.lemmas.List.{length-replicate}
+use Rattle.base.specs.Sums.{if_so}
+use Rattle.bits_model.specs.Output.{bit_at}
+use Rattle.basic_solve.specs.Tables.{sum_where, step_of}
+use Rattle.basic_solve.proofs.ListSums.{sum_left, sum-at}
+use Rattle.basic_solve.proofs.BitTables.{no_entry, written_items, step-size, not_node, none-sum, none-size, step_added, step_kept}
+use Rattle.basic_solve.proofs.elimination.steps.Goals as goal
+use Rattle.basic_solve.proofs.elimination.steps.Goals.{then-entry, else-entry}
+
+pub loop-entry-init : goal.loop-entry-init
+loop-entry-init c =
+    let made = c.loop.invariant in (
+      ap length made ∙ length-replicate c.loop.index (pos 0) ∙ omega arith,
+      λ y. omega (
+        arith,
+        ints,
+        ap (sum_where y c.args.nodes.now) made,
+        none-sum y c.args.nodes.now c.loop.index,
+      ),
+      omega (arith, ap (sum_by unsigned_abs) made, none-size c.loop.index),
+    )
+
+pub add_for-requires-clause-small : goal.add_for-requires-clause-small
+add_for-requires-clause-small c =
+    let entries = c.args.entries.now in
+    let at = c.loop-entry.entry-index in
+    let all = ap (sum_by unsigned_abs) c.deref_mut.ensures.value in
+    let left = sum_left (λ e. unsigned_abs e.weight) entries at no_entry c.loop-entry-test.true in
+    let size = step-size c.args.kind c.args.bit (get_or entries at no_entry) in
+    omega (
+      arith,
+      ints,
+      all,
+      left,
+      size,
+      ap unsigned_abs c.step_of.ensures,
+      c.loop-entry.invariant.2,
+      c.requires.small,
+    )
+
+pub loop-entry-preserved : goal.loop-entry-preserved
+loop-entry-preserved c =
+    let entries = c.args.entries.now in
+    let nodes = c.args.nodes.now in
+    let at = c.loop-entry.entry-index in
+    let kind = c.args.kind in
+    let bit = c.args.bit in
+    let e = get_or entries at no_entry in
+    let within = c.loop-entry-test.true in
+    let so_far = c.loop-entry.invariant in
+    let left = sum_left (λ e. unsigned_abs e.weight) entries at no_entry within in
+    let size = step-size kind bit e in
+    elim c.if-entry.branch [
+      | then-entry w ↦
+          let one = sum-at (λ e. unsigned_abs e.weight) entries at no_entry within in
+          let number : to_z w128 (of_z w128 w.step_of.result) ≡ step_of kind bit e
+          = omega (arith, ints, w.step_of.ensures, size, one, c.requires.small) in
+          let olds = w.deref_mut.ensures.value in
+          let long : length w.add_for.new.steps ≡ length c.loop-entry.steps.items
+          = omega (arith, w.add_for.auto.steps, ap length olds) in
+          let items : c.if-entry.steps.items ≡ w.add_for.new.steps
+          = ap (λ v. v.items) w.steps-is
+          ∙ written_items c.loop-entry.steps.len w.add_for.new.steps c.loop-entry.steps.items
+          (omega (arith, c.loop-entry.steps.ok.0)) long in (
+            ap length items ∙ long ∙ so_far.0,
+            step_added kind bit entries at no_entry within nodes c.loop-entry.steps.items
+                c.if-entry.steps.items so_far.1 (to_z w128 (of_z w128 w.step_of.result))
+                (not_node e w.if-entry.true) number
+                (λ y.
+                ap (sum_where y nodes) items
+                ∙ w.add_for.ensures.sums y
+                ∙ ap (λ l. sum_where y nodes l +ℤ if_so (bit_at y e.first)
+                (to_z w128 (of_z w128 w.step_of.result))) olds),
+            omega (
+              arith,
+              ap (sum_by unsigned_abs) items,
+              w.add_for.ensures.size,
+              ap (sum_by unsigned_abs) olds,
+              left,
+              size,
+              ap unsigned_abs number,
+              so_far.2,
+            ),
+          )
+      | else-entry w ↦
+          let items : c.if-entry.steps.items ≡ c.loop-entry.steps.items
+          = ap (λ v. v.items) w.steps-is in (
+            ap length items ∙ so_far.0,
+            step_kept kind bit entries at no_entry within nodes c.loop-entry.steps.items
+                c.if-entry.steps.items so_far.1 (eq-eqb e.first e.second w.if-entry.false) items,
+            omega (arith, ap (sum_by unsigned_abs) items, left, so_far.2),
+          )
+    ]

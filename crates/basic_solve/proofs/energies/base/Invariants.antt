@@ -1,0 +1,12 @@
+use Rattle.std.proofs.Common.{◌≡◌, ◌+◌, ◌≤◌, ◌^◌, ◌+ℤ◌, unsigned_abs, drop}
+use Rattle.base.specs.Sums.{total_by}
+use Rattle.bits_model.specs.Output.{weight_total}
+use Rattle.basic_solve.specs.Tables.{base_of}
+use Rattle.basic_solve.proofs.energies.base.Given as goal
+
+-- the sum so far, and what is left
+abbrev pub invariant-loop-entry : goal.invariant-loop-entry
+invariant-loop-entry l =
+    (l.sum +ℤ total_by (base_of l.kind l.bit) (drop l.entry-index l.entries)
+    ≡ total_by (base_of l.kind l.bit) l.entries)
+    × (unsigned_abs l.sum + weight_total (drop l.entry-index l.entries) ≤ 2 ^ 124)

@@ -1,0 +1,68 @@
+//! What the entries of a node add to the energy, for each of its bits.
+ghost use Rattle.std.specs.Prelude.{◌≡◌, ◌≤◌, ◌^◌, ℕ, All, IfOk, unsigned_abs};
+ghost use Rattle.base.specs.Sums.{total_by};
+ghost use Rattle.bits_model.specs.Output.{IsPlaced, weight_total};
+ghost use Rattle.basic_solve.specs.Tables.{base_of, step_of, AreEntriesOf};
+
+use crate::buckets::Buckets;
+use bits_model::{Entry, EntryList, Kind, NoMemory, times_spin};
+use std::alloc::Global;
+
+/// What an entry of a node adds where the node has this bit, and the other node has 0.
+fn base_of(kind: Kind, bit: bool, entry: &Entry) -> i128
+    requires { unsigned_abs entry.now.weight ≤ 2 ^ 124 }
+    ensures { result ≡ base_of kind bit entry.now }
+{
+    let own = entry.first == entry.second;
+    match kind {
+        Kind::Qubo => if bit && own { entry.weight } else { 0 },
+        Kind::Ising | Kind::Chimera { .. } => {
+            times_spin(bit, if own { entry.weight } else { -entry.weight })
+        }
+    }
+}
+
+/// What it adds besides where the other node has 1.
+pub(crate) fn step_of(kind: Kind, bit: bool, entry: &Entry) -> i128
+    requires { unsigned_abs entry.now.weight ≤ 2 ^ 124 }
+    ensures { result ≡ step_of kind bit entry.now }
+{
+    match kind {
+        Kind::Qubo => if bit { entry.weight } else { 0 },
+        Kind::Ising | Kind::Chimera { .. } => {
+            if bit {
+                2 * entry.weight
+            } else {
+                -(2 * entry.weight)
+            }
+        }
+    }
+}
+
+/// What the entries of a node add where it has this bit, and all other nodes have 0.
+pub(crate) fn base(kind: Kind, bit: bool, entries: &[Entry]) -> i128
+    requires { weight_total entries.now ≤ 2 ^ 124 }
+    ensures { result ≡ total_by (base_of kind bit) entries.now }
+{
+    let mut sum: i128 = 0;
+    for entry in entries {
+        sum += base_of(kind, bit, entry);
+    }
+    sum
+}
+
+/// The entries of each node: those of which it is the second one.
+pub(crate) fn entries_of_nodes(
+    alloc: Global,
+    nodes: usize,
+    entries: &EntryList,
+) -> Result<Buckets<Entry>, NoMemory>
+    requires { All (IsPlaced nodes) entries.now }
+    ensures { IfOk result (λ held. AreEntriesOf nodes entries.now held) }
+{
+    let mut held = Buckets::empty(alloc, nodes)?;
+    for entry in entries.iter() {
+        held.push(entry.second as usize, entry)?;
+    }
+    Ok(held)
+}
