@@ -1,6 +1,6 @@
 -- The tables of a model and of a certificate have the coefficients of their bit forms, so the first
 -- difference of the one is that of the other.
-use Rattle.std.proofs.Common.{◌≡◌, ◌≢◌, ◌≤◌, Bool, true, false, List, [], ◌∷◌, ◌++◌, ℤ, pos, ◌+ℤ◌, ◌-ℤ◌, ◌*ℤ◌, ◌≤ℤ◌, int_lt, unsigned_abs, ◌&&◌, Option, Some, None, refl, sym, ap, subst, ◌∙◌, arith, All}
+use Rattle.std.proofs.Common.{◌≡◌, ◌≢◌, Bool, true, false, List, [], ◌∷◌, ◌++◌, ℤ, pos, ◌+ℤ◌, ◌-ℤ◌, ◌*ℤ◌, ◌≤ℤ◌, int_lt, Option, Some, None, refl, sym, ap, subst, ◌∙◌, arith, All}
 use Rattle.std.specs.Prelude.{if◌then◌else◌}
 use Rattle.std.specs.List.{flat_map, AllByRecursion}
 use Rattle.std.specs.Ordering.{is_eq}
@@ -8,13 +8,12 @@ use Rattle.std.specs.declared.cmp.Ordering.TheVariants.{Less}
 use Rattle.std.proofs.lemmas.Int.{ints}
 use Rattle.std.proofs.lemmas.List.Elements.{All-from_recursion, recursion_from_All}
 use Rattle.base.specs.Sums.{if_so, total_by}
-use Rattle.std.proofs.lemmas.List.Sums.{sum_by-cons}
-use Rattle.base.proofs.Totals.{total_by-append, size-plus}
+use Rattle.base.proofs.Totals.{total_by-append}
 use Rattle.bits_model.specs.declared.output.Entry.{Entry}
 use Rattle.bits_model.specs.declared.output.Kind.{Kind}
 use Rattle.bits_model.specs.declared.output.Kind.TheVariants.{Qubo, Ising, Chimera}
 use Rattle.base.specs.Costs.{energy}
-use Rattle.bits_model.specs.Output.{Written, form_of, is_node, bit_at, times_spin, spins_energy, entry_energy, weight_total}
+use Rattle.bits_model.specs.Output.{Written, form_of, is_node}
 use Rattle.literal_lists.specs.declared.literal.Literal.{Literal}
 use Rattle.term_table.specs.Terms.{Term, set_cmp, coefficient_of, with_additions}
 use Rattle.term_table.proofs.Additions.{if_so-plus, weight-in_front, coefficient_of-with_additions}
@@ -202,51 +201,6 @@ none_negative (l ∷ ls) e = go (int_lt l.coefficient (pos 0)) refl e (none_nega
 pub signs : (ls : List Line) → first_negative ls ≡ None
     → All (λ (l : Line). pos 0 ≤ℤ l.coefficient) ls
 signs ls e = All-from_recursion (λ (l : Line). pos 0 ≤ℤ l.coefficient) ls (none_negative ls e)
-
--- ---- the energy
-
-spin-size : (b : Bool) (w : ℤ) → unsigned_abs (times_spin b w) ≤ unsigned_abs w
-spin-size true w = omega arith
-spin-size false w = omega (arith, ints)
-
-bits-size : (b : Bool) (w : ℤ) → unsigned_abs (if_so b w) ≤ unsigned_abs w
-bits-size true w = omega arith
-bits-size false w = omega arith
-
-spins-size : (y : List Bool) (e : Entry) → unsigned_abs (spins_energy y e) ≤ unsigned_abs e.weight
-spins-size y e = go (is_node e)
-  where
-    go : (node : Bool)
-        → unsigned_abs
-        (if node
-        then times_spin (bit_at y e.first) e.weight
-        else times_spin (bit_at y e.first) (times_spin (bit_at y e.second) e.weight))
-        ≤ unsigned_abs e.weight
-    go true = spin-size (bit_at y e.first) e.weight
-    go false =
-        omega (
-          arith,
-          spin-size (bit_at y e.first) (times_spin (bit_at y e.second) e.weight),
-          spin-size (bit_at y e.second) e.weight,
-        )
-
-entry-size : (kind : Kind) (y : List Bool) (e : Entry)
-    → unsigned_abs (entry_energy kind y e) ≤ unsigned_abs e.weight
-entry-size Qubo y e = bits-size (bit_at y e.first && bit_at y e.second) e.weight
-entry-size Ising y e = spins-size y e
-entry-size (Chimera rows cols shore) y e = spins-size y e
-
-pub energy-size : (kind : Kind) (y : List Bool) (es : List Entry)
-    → unsigned_abs (total_by (entry_energy kind y) es) ≤ weight_total es
-energy-size kind y [] = omega arith
-energy-size kind y (e ∷ es) =
-    omega (
-      arith,
-      size-plus (entry_energy kind y e) (total_by (entry_energy kind y) es),
-      entry-size kind y e,
-      energy-size kind y es,
-      sum_by-cons (λ (x : Entry). unsigned_abs x.weight) e es,
-    )
 
 -- ---- what is answered
 

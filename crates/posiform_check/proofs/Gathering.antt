@@ -41,7 +41,9 @@ module _ (old : TableContent) (i j : ℕ) (w : ℤ)
   pub first_fits : (c : ℤ) → c ≡ neg_ℤ (pos 2 *ℤ w)
       → AreAdditions (with_more old ((node_set i, c) ∷ []))
   first_fits c e =
-      rw e (additions_first old (first ∷ []) (second ∷ third ∷ []) (first ∷ second ∷ third ∷ []) refl fits)
+      rw e
+      (additions_first old (first ∷ []) (second ∷ third ∷ []) (first ∷ second ∷ third ∷ []) refl
+      fits)
 
   pub second_fits : (now : TableContent) (c : ℤ) → c ≡ neg_ℤ (pos 2 *ℤ w)
       → now ≡ with_more old ((node_set i, neg_ℤ (pos 2 *ℤ w)) ∷ [])
@@ -154,7 +156,9 @@ spin_sets-total e = go (is_node e)
           arith,
           ints,
           terms_total-cons (node_set e.first, neg_ℤ (pos 2 *ℤ e.weight))
-              ((node_set e.second, neg_ℤ (pos 2 *ℤ e.weight)) ∷ (pair_set e.first e.second, pos 4 *ℤ e.weight) ∷ []),
+              ((node_set e.second, neg_ℤ (pos 2 *ℤ e.weight))
+              ∷ (pair_set e.first e.second, pos 4 *ℤ e.weight)
+              ∷ []),
           terms_total-cons (node_set e.second, neg_ℤ (pos 2 *ℤ e.weight))
               ((pair_set e.first e.second, pos 4 *ℤ e.weight) ∷ []),
           total_one (pair_set e.first e.second) (pos 4 *ℤ e.weight),
@@ -236,7 +240,8 @@ most_right : (a b m : ℕ) → max a b ≤ m → b ≤ m
 most_right a b m h = omega (arith, h)
 
 -- no number is above the greatest
-pub none_above : (a m : ℕ) (ls : List Line) → fold max a (map (λ (l : Line). length l.literals) ls) ≤ m
+pub none_above : (a m : ℕ) (ls : List Line)
+    → fold max a (map (λ (l : Line). length l.literals) ls) ≤ m
     → (a ≤ m) × AllByRecursion (λ (l : Line). length l.literals ≤ m) ls
 none_above a m [] h = (h, tt)
 none_above a m (l ∷ ls) h =
@@ -301,7 +306,8 @@ certificate_fits n c is accepted within =
     let sets : AreSets n ts =
     lines_sets n c.lines (recursion_from_All IsLine c.lines is.lines)
     (recursion_from_All (λ (l : Line). All (λ k. k.variable < n) l.literals) c.lines within) few in
-    let rest = recursion_from_All (OfSet (IsTermSet n)) (contributions ts) (contributions-sets n ts sets) in
+    let rest =
+    recursion_from_All (OfSet (IsTermSet n)) (contributions ts) (contributions-sets n ts sets) in
     record {
       sets =
           All-from_recursion (OfSet (IsTermSet n)) (certificate_terms c)
@@ -373,7 +379,8 @@ behind_fits now all list l left rest steps empty whole fits =
     rw (ap (λ ls. behind ls (line_terms l)) empty ∙ behind-nothing (line_terms l))
     (line_fits now all l left rest steps whole fits)
 
-pub behind_left : (now next all : TableContent) (list : List Literal) (l : Line) (left rest : List Line)
+pub behind_left : (now next all : TableContent) (list : List Literal) (l : Line)
+    (left rest : List Line)
     → left ≡ l ∷ rest → list ≡ [] → with_more now (flat_map line_terms left) ≡ all
     → next ≡ with_more now (behind list (line_terms l))
     → with_more next (flat_map line_terms rest) ≡ all

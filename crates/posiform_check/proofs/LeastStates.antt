@@ -1,7 +1,7 @@
 -- A proved state is least, and what a least state tells of the source.
 --
--- Whether the source is feasible can't be asked of it in general. But it is not infeasible where the
--- energy is at most the threshold, and with that the cost of the decoded assignment is whole.
+-- Whether the source is feasible can't be asked of it in general. But it is not infeasible where
+-- the energy is at most the threshold, and with that the cost of the decoded assignment is whole.
 use Rattle.std.proofs.Common.{◌≡◌, ◌≢◌, ℕ, eqb, List, Bool, true, false, ◌*ℤ◌, ◌≤ℤ◌, refl, sym, ap, ◌∙◌, arith, length}
 use Rattle.std.proofs.lemmas.Int.{ints}
 use Rattle.std.proofs.lemmas.Bool.Decides.{Decides-eqb}
@@ -65,7 +65,8 @@ module _ (source : Source) (demand : Demand) (m : Written) (y : List Bool)
         below,
       ))
 
-  least_below : (m.unit *ℤ energy (form_of m) y) ≤ℤ m.figures.threshold → IsLeast source.form decoded
+  least_below : (m.unit *ℤ energy (form_of m) y) ≤ℤ m.figures.threshold
+      → IsLeast source.form decoded
   least_below below = go (source.form.cost decoded) refl
     where
       least_if : IsFeasible source.form → IsLeast source.form decoded

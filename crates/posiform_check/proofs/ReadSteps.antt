@@ -15,7 +15,7 @@ use Rattle.literal_lists.specs.declared.literal.Literal.{Literal}
 use Rattle.whole_text.specs.Rows.{by_line, each, left, on_line, past_line}
 use Rattle.posiform_check.specs.declared.lines.Line.{Line}
 use Rattle.posiform_check.specs.BitForms.{CertificateContent}
-use Rattle.posiform_check.specs.Reading.{literal_at, line_at, bound_of, kept_line, content_of, reading_of_words}
+use Rattle.posiform_check.specs.Texts.{written, literal_at, line_at, bound_of, kept_line, content_of, reading_of_words}
 use Rattle.posiform_check.specs.ReadingSteps.{literals_read, line_read, with_line, blank, lines_put}
 use Rattle.whole_text.proofs.Rows.{row_of, by_line-first}
 
@@ -42,7 +42,8 @@ pub literal_goes_on : (nodes line : ℕ) (front : List Literal) (w : Word) (ws :
     → literals_read nodes line (front ++ l ∷ []) ws ≡ literals_read nodes line front (w ∷ ws)
 unfolding each
 literal_goes_on nodes line front w ws l here read =
-    rw (here, read) (put_literal l front (past_line line ws) (each (literal_at nodes) (on_line line ws)))
+    rw (here, read)
+    (put_literal l front (past_line line ws) (each (literal_at nodes) (on_line line ws)))
 
 pub literal_fails : (nodes line : ℕ) (front : List Literal) (w : Word) (ws : List Word)
     (f : TextFault) → (w.line == line) ≡ true → literal_at nodes w ≡ Err f
@@ -74,16 +75,17 @@ both_parts : (x y : Part) → read_as x ≡ read_as y → (x.0 ≡ y.0) × (x.1 
 both_parts x y h =
     let same : x ≡ y = cc in (ap (λ (z : Part). z.0) same, ap (λ (z : Part). z.1) same)
 
-abbrev written : ℕ → ℤ → List Literal → Result Line TextFault
-written n c ls = Ok (record { literals = ls; coefficient = c; line = n })
+abbrev written_on : ℕ → ℤ → List Literal → Result Line TextFault
+written_on n c ls = Ok (written ls c n)
 
 abbrev put_line : ℕ → ℤ → List Literal × List Word → Result Part TextFault
-put_line n c x = Ok (record { literals = x.0; coefficient = c; line = n }, x.1)
+put_line n c x = Ok (written x.0 c n, x.1)
 
 abbrev before : Result (List Line) TextFault → Line → Result (List Line) TextFault
 before others l = others >>= λ ls. Ok (l ∷ ls)
 
-abbrev put_all : CertificateContent → Result (List Line) TextFault → Result CertificateContent TextFault
+abbrev put_all : CertificateContent → Result (List Line) TextFault
+    → Result CertificateContent TextFault
 put_all s read = read >>= λ ls. Ok (fold with_line s ls)
 
 put_one : (s : CertificateContent) (l : Line) (others : Result (List Line) TextFault)
@@ -95,23 +97,25 @@ one_goes_on : (s : CertificateContent) (n : ℕ) (rest rest' : List Word) (l : L
     (number : Result ℤ TextFault) (read : Result (List Literal) TextFault)
     (others : List Word → Result (List Line) TextFault)
     → (number >>= λ c. put_behind [] rest read >>= put_line n c) ≡ Ok (l, rest')
-    → put_all s ((number >>= λ c. read >>= written n c) >>= before (others rest))
+    → put_all s ((number >>= λ c. read >>= written_on n c) >>= before (others rest))
     ≡ put_all (with_line s l) (others rest')
 one_goes_on s n rest rest' l (Err f) read others h = absurd cc
 one_goes_on s n rest rest' l (Ok c) (Err f) others h = absurd cc
 one_goes_on s n rest rest' l (Ok c) (Ok ls) others h =
-    let same = both_parts (record { literals = ls; coefficient = c; line = n }, rest) (l, rest') h in
-    put_one s (record { literals = ls; coefficient = c; line = n }) (others rest)
+    let same = both_parts (written ls c n, rest) (l, rest') h in
+    put_one s (written ls c n) (others rest)
     ∙ (λ i. put_all (with_line s (same.0 i)) (others (same.1 i)))
 
 one_fails : (e : TextAnswer) (s : CertificateContent) (n : ℕ) (rest : List Word)
     (number : Result ℤ TextFault) (read : Result (List Literal) TextFault)
     (others : Result (List Line) TextFault)
     → Fails e (number >>= λ c. put_behind [] rest read >>= put_line n c)
-    → Fails e (put_all s ((number >>= λ c. read >>= written n c) >>= before others))
+    → Fails e (put_all s ((number >>= λ c. read >>= written_on n c) >>= before others))
 one_fails answers.NoMemory s n rest number read others h = tt
-one_fails (answers.Bad f) s n rest (Err g) read others h = let same : g ≡ f = cc in ap (λ e. Err e) same
-one_fails (answers.Bad f) s n rest (Ok c) (Err g) others h = let same : g ≡ f = cc in ap (λ e. Err e) same
+one_fails (answers.Bad f) s n rest (Err g) read others h =
+    let same : g ≡ f = cc in ap (λ e. Err e) same
+one_fails (answers.Bad f) s n rest (Ok c) (Err g) others h =
+    let same : g ≡ f = cc in ap (λ e. Err e) same
 one_fails (answers.Bad f) s n rest (Ok c) (Ok ls) others h = absurd cc
 
 abbrev lines_by : ℕ → List Word → Result (List Line) TextFault
@@ -154,10 +158,10 @@ all_lines s [] =
     let same : s.bound ≡ s.bound +ℤ pos 0 = omega (arith, ints) in
     λ i. record { bound = same i; lines = sym (append-nil s.lines) i }
 all_lines s (l ∷ ls) =
-    let same : (s.bound +ℤ bound_of l) +ℤ total_by bound_of ls ≡ s.bound +ℤ total_by bound_of (l ∷ ls) =
-    omega (arith, ints) in
-    all_lines (with_line s l) ls
-    ∙ (λ i. record { bound = same i; lines = append_assoc s.lines (kept_line l) (flat_map kept_line ls) i })
+    let same : (s.bound +ℤ bound_of l) +ℤ total_by bound_of ls
+    ≡ s.bound +ℤ total_by bound_of (l ∷ ls) = omega (arith, ints) in
+    let lines = append_assoc s.lines (kept_line l) (flat_map kept_line ls) in
+    all_lines (with_line s l) ls ∙ (λ i. record { bound = same i; lines = lines i })
 
 from_blank : (ls : List Line) → fold with_line blank ls ≡ content_of ls
 from_blank ls =

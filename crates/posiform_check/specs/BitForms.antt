@@ -19,12 +19,15 @@ pub record CertificateContent : Type 0 where
 
 -- ---- sets of nodes
 
+-- the bit of a node, as a literal
 abbrev pub bit : ℕ → Literal
 bit n = record { variable = n; negated = false }
 
+-- the set of one node
 abbrev pub node_set : ℕ → List Literal
 node_set n = bit n ∷ []
 
+-- the set of two nodes
 abbrev pub pair_set : ℕ → ℕ → List Literal
 pair_set n m = bit n ∷ bit m ∷ []
 
@@ -35,11 +38,12 @@ abbrev pub bit_sets : Entry → List Term
 bit_sets e =
     (if is_node e then node_set e.first else pair_set e.first e.second, e.weight) ∷ []
 
--- a spin is twice its bit, less 1: so a field h is -h and 2h on the node, and a coupling J is J, -2J
--- on each of its nodes and 4J on the pair
+-- a spin is twice its bit, less 1: so a field h is -h and 2h on the node, and a coupling J is J,
+-- -2J on each of its nodes and 4J on the pair
 abbrev pub spin_constant : Entry → ℤ
 spin_constant e = if is_node e then neg_ℤ e.weight else e.weight
 
+-- the terms of a coupling, but for its constant
 abbrev pub coupling_sets : ℕ → ℕ → ℤ → List Term
 coupling_sets n m w =
     (node_set n, neg_ℤ (pos 2 *ℤ w))
@@ -47,6 +51,7 @@ coupling_sets n m w =
     ∷ (pair_set n m, pos 4 *ℤ w)
     ∷ []
 
+-- the terms of an entry of spins, but for its constant
 abbrev pub spin_sets : Entry → List Term
 spin_sets e =
     if is_node e
@@ -92,6 +97,10 @@ line_terms l = plain_terms l.literals l.coefficient
 -- the bound and the lines as a sum over sets
 abbrev pub certificate_terms : CertificateContent → List Term
 certificate_terms c = ([], c.bound) ∷ flat_map line_terms c.lines
+
+-- the same, summed set by set and in table order
+abbrev pub certificate_list : CertificateContent → List Term
+certificate_list c = with_additions [] (certificate_terms c)
 
 -- ---- their comparison
 

@@ -3,5 +3,5 @@ pub mod BitForms
 pub mod Proved
 pub mod Differences
 pub mod Certificates
-pub mod Reading
+pub mod Texts
 pub mod ReadingSteps

@@ -7,7 +7,7 @@ use Rattle.literal_lists.specs.declared.literal.Literal.{Literal}
 use Rattle.whole_text.specs.Rows.{by_line, each, on_line, past_line}
 use Rattle.posiform_check.specs.declared.lines.Line.{Line}
 use Rattle.posiform_check.specs.BitForms.{CertificateContent}
-use Rattle.posiform_check.specs.Reading.{written, literal_at, line_at, bound_of, kept_line}
+use Rattle.posiform_check.specs.Texts.{written, literal_at, line_at, bound_of, kept_line}
 
 -- the literals up to the end of this line put behind others, and what is left
 abbrev pub literals_read : ℕ → ℕ → List Literal → List Word

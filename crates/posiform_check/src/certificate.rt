@@ -3,8 +3,8 @@
 use crate::lines::LineList;
 use std::marker::Model;
 
-/// A bound, and lines that are to show that no state lies below it. Each line has literals, in order
-/// and none beside its complement, and the sizes of all numbers sum to below 2^100.
+/// A bound, and lines that are to show that no state lies below it. Each line has literals, in
+/// order and none beside its complement, and the sizes of all numbers sum to below 2^100.
 #[derive(Drop)]
 pub struct Certificate {
     pub bound: i128,

@@ -36,7 +36,8 @@ fn differing(
 /// The first difference of a form, whose constant and whose other sets are given, from another: the
 /// coefficients of the first set in table order that differs.
 pub(crate) fn first_difference(constant: i128, form: &Table, other: &Table) -> Option<(i128, i128)>
-    ensures { result ≡ difference (in_front [] constant form.now.content.terms) other.now.content.terms }
+    ensures { result
+        ≡ difference (in_front [] constant form.now.content.terms) other.now.content.terms }
 {
     let mut others = other.terms();
     let mut next = others.next();

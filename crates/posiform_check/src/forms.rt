@@ -7,7 +7,7 @@ ghost use Rattle.term_table.specs.Terms.{terms_total, with_additions};
 ghost use Rattle.term_table.specs.Tables.{with_more, AreAdditions};
 ghost use Rattle.posiform_check.specs.BitForms.{
   bit_sets,
-  certificate_terms,
+  certificate_list,
   coupling_sets,
   entry_constant,
   entry_sets,
@@ -201,7 +201,7 @@ pub(crate) fn certificate_table(
     requires few { certificate_fault certificate.now ≡ None }
     requires nodes { AreOfNodes nodes certificate.now }
     ensures { IfOk result (λ table. table.content
-        ≡ record { width = nodes; terms = with_additions [] (certificate_terms certificate.now) }) }
+        ≡ record { width = nodes; terms = certificate_list certificate.now }) }
 {
     let mut terms = GatheredTerms::new(alloc, nodes);
     let mut line = Vec::new(alloc);

@@ -1,10 +1,10 @@
-//! Certificates of least states: posiforms, which show by their signs that no state lies below their
-//! bound.
+//! Certificates of least states: posiforms, which show by their signs that no state lies below
+//! their bound.
 //!
-//! A certificate is a bound and lines: products of literals with a coefficient. Where no coefficient
-//! is negative, its value is at least the bound under every list of bits. Where it is the energy of a
-//! model, set by set, and the energy of a state is the bound, no state of the model has a lesser one.
-//! Posiforms and their bounds are those of Boros and Hammer.
+//! A certificate is a bound and lines: products of literals with a coefficient. Where no
+//! coefficient is negative, its value is at least the bound under every list of bits. Where it is
+//! the energy of a model, set by set, and the energy of a state is the bound, no state of the model
+//! has a lesser one. Posiforms and their bounds are those of Boros and Hammer.
 #![tactic(auto)]
 
 mod certificate;

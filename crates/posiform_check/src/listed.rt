@@ -8,7 +8,7 @@ ghost use Rattle.whole_text.specs.TokenTexts.{word_of};
 ghost use Rattle.whole_text.specs.Steps.{Gives, GivesAlways};
 ghost use Rattle.problem_form.specs.NormalForm.{is_empty};
 ghost use Rattle.whole_text.specs.Rows.{left};
-ghost use Rattle.posiform_check.specs.Reading.{node_at, literal_at, kept_line, written};
+ghost use Rattle.posiform_check.specs.Texts.{node_at, literal_at, kept_line, written};
 ghost use Rattle.posiform_check.specs.ReadingSteps.{literals_read, line_read};
 
 use crate::lines::LineList;
@@ -19,7 +19,7 @@ use whole_text::{
 };
 
 /// The node of digits, which is below this number.
-#[tactic(auto, unfolding(crate::specs::Reading::node_at, whole_text::specs::Numbers::digits_number))]
+#[tactic(auto, unfolding(crate::specs::Texts::node_at, whole_text::specs::Numbers::digits_number))]
 fn node(bytes: &[u8], nodes: u64, line: u64) -> Result<u64, TextFault>
     ensures value { result ≡ node_at nodes line bytes.now }
     ensures small { IfOk result (λ n. n < nodes) }
@@ -32,7 +32,7 @@ fn node(bytes: &[u8], nodes: u64, line: u64) -> Result<u64, TextFault>
 }
 
 /// A literal.
-#[tactic(auto, unfolding(crate::specs::Reading::literal_at))]
+#[tactic(auto, unfolding(crate::specs::Texts::literal_at))]
 fn literal(word: WordRef<'_>, nodes: u64) -> Result<Literal, TextFault>
     ensures value { result ≡ literal_at nodes (word_of word.entry) }
     ensures small { IfOk result (λ l. l.variable < nodes) }
@@ -72,8 +72,8 @@ fn literals<'a>(
     Ok(None)
 }
 
-/// The line that begins with this word: its literals go into a list, in place of what it has, and its
-/// number is the answer, with the word after the line, which is taken.
+/// The line that begins with this word: its literals go into a list, in place of what it has, and
+/// its number is the answer, with the word after the line, which is taken.
 pub(crate) fn line<'a>(
     first: WordRef<'a>,
     words: &mut Words<'a>,

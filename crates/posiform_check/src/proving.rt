@@ -2,8 +2,7 @@
 ghost use Rattle.std.specs.Prelude.{◌≡◌, ◌-ℤ◌, ◌≤◌, ◌^◌, [], None, length, unsigned_abs, IfOk, IfErr};
 ghost use Rattle.base.specs.Costs.{energy};
 ghost use Rattle.bits_model.specs.Output.{form_of, weight_total};
-ghost use Rattle.term_table.specs.Terms.{with_additions};
-ghost use Rattle.posiform_check.specs.BitForms.{certificate_terms, model_list};
+ghost use Rattle.posiform_check.specs.BitForms.{certificate_list, model_list};
 ghost use Rattle.posiform_check.specs.Certificates.{certificate_fault, first_negative, AreOfNodes, IsRefusal};
 ghost use Rattle.posiform_check.specs.Differences.{difference};
 ghost use Rattle.posiform_check.specs.Proved.{Proves};
@@ -39,7 +38,7 @@ fn difference(
     requires accepted { certificate_fault certificate.now ≡ None }
     requires nodes { AreOfNodes model.now.nodes certificate.now }
     ensures { IfOk result (λ found. found
-        ≡ difference (model_list model.now) (with_additions [] (certificate_terms certificate.now))) }
+        ≡ difference (model_list model.now) (certificate_list certificate.now)) }
 {
     let nodes = model.nodes as usize;
     let constant = model_constant(model.kind, &model.entries);
@@ -57,8 +56,10 @@ fn above(energy: i128, bound: i128) -> i128
     energy - bound
 }
 
-/// The energy of a state of a model, where the certificate proves the state; else the first fault: a
-/// negative line, a set whose coefficients differ, or an energy above the bound.
+/// The energy of a state of a model, where the certificate proves the state; else the first fault:
+/// a negative line, a set whose coefficients differ, or an energy above the bound.
+///
+/// Both forms are made into tables, each by one sort, and compared from the least set on.
 pub fn prove(
     alloc: Global,
     model: &OutputModel,

@@ -3,7 +3,7 @@ ghost use Rattle.std.specs.Prelude.{◌≡◌, ◌≤◌, ◌^◌, length, OnOk,
 ghost use Rattle.whole_text.specs.TokenTexts.{words_of};
 ghost use Rattle.whole_text.specs.Steps.{Gives};
 ghost use Rattle.posiform_check.specs.Certificates.{AreOfNodes};
-ghost use Rattle.posiform_check.specs.Reading.{reading, reading_of_words};
+ghost use Rattle.posiform_check.specs.Texts.{reading, reading_of_words};
 
 use crate::certificate::Certificate;
 use crate::lines::LineList;
@@ -45,7 +45,7 @@ pub fn read_certificate_tokens(
 }
 
 /// The certificate of a text, for a model of so many nodes, or the first fault of the text.
-#[tactic(auto, unfolding(crate::specs::Reading::reading))]
+#[tactic(auto, unfolding(crate::specs::Texts::reading))]
 pub fn read_certificate(alloc: Global, text: &[u8], nodes: u32) -> Result<Certificate, TextAnswer>
     requires { length text.now ≤ 2 ^ 24 }
     ensures read { Gives (λ c. c) result (reading nodes text.now) }

@@ -3,7 +3,7 @@ use Rattle.std.specs.Int.{w128}
 use Rattle.literal_lists.specs.Literals.{has_clash, literal_set}
 use Rattle.problem_form.specs.NormalForm.{is_empty}
 use Rattle.posiform_check.specs.declared.lines.Line.{Line}
-use Rattle.posiform_check.specs.Reading.{written}
+use Rattle.posiform_check.specs.Texts.{written}
 use Rattle.posiform_check.proofs.KeptLines.{kept_clashing, kept_whole}
 use Rattle.posiform_check.proofs.listed.keep_line.Goals as goal
 

@@ -12,7 +12,8 @@ returns-then-word-line-clause-read c =
     let w = word_of c.in-Some.word in
     let before = rw c.in-Some.ensures at c.loop-word.invariant.read in
     let past : (w.line == c.args.line) ≡ false = search rules in
-    sym before ∙ literals_stop c.args.nodes c.args.line c.loop-word.list.items w c.next.new.self past
+    sym before
+    ∙ literals_stop c.args.nodes c.args.line c.loop-word.list.items w c.next.new.self past
 
 pub returns-in_err-literal-clause-read : goal.returns-in_err-literal-clause-read
 returns-in_err-literal-clause-read c =
@@ -47,4 +48,5 @@ loop-word-preserved c =
 pub returns-clause-read : goal.returns-clause-read
 returns-clause-read c =
     sym c.loop-word.invariant.read
-    ∙ literals_end c.args.nodes c.args.line c.loop-word.list.items c.loop-word.words c.in_default.ensures.0
+    ∙ literals_end c.args.nodes c.args.line c.loop-word.list.items c.loop-word.words
+    c.in_default.ensures.0

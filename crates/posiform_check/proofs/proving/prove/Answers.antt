@@ -1,13 +1,13 @@
-use Rattle.std.proofs.Common.{rules, ◌≡◌, ◌≢◌, [], None, Some, ◌-ℤ◌, to_z, of_z, arith}
+use Rattle.std.proofs.Common.{rules, ◌≡◌, ◌≢◌, None, Some, ◌-ℤ◌, to_z, of_z, arith}
 use Rattle.std.specs.Int.{w128}
 use Rattle.std.proofs.lemmas.Int.{to_z-of_z}
 use Rattle.base.specs.Costs.{energy}
 use Rattle.bits_model.specs.Output.{form_of}
-use Rattle.term_table.specs.Terms.{with_additions}
-use Rattle.posiform_check.specs.BitForms.{model_list, certificate_terms}
+use Rattle.bits_model.proofs.Energies.{size-energy}
+use Rattle.posiform_check.specs.BitForms.{certificate_list, model_list}
 use Rattle.posiform_check.specs.Certificates.{first_negative}
 use Rattle.posiform_check.specs.Differences.{difference}
-use Rattle.posiform_check.proofs.Compared.{comparison_says, energy-size, not_zero, proved}
+use Rattle.posiform_check.proofs.Compared.{comparison_says, not_zero, proved}
 use Rattle.posiform_check.proofs.proving.prove.Goals as goal
 
 pub returns-in-Some-2-clause-refused : goal.returns-in-Some-2-clause-refused
@@ -18,7 +18,7 @@ returns-in-Some-2-clause-refused c =
     let ours = c.in-Some-2.ours in
     let theirs = c.in-Some-2.theirs in
     let found : Some (ours, theirs)
-    ≡ difference (model_list m) (with_additions [] (certificate_terms cert)) = search rules in
+    ≡ difference (model_list m) (certificate_list cert) = search rules in
     let says = comparison_says m cert (Some (ours, theirs)) found in
     let our_own : to_z w128 (of_z w128 ours) ≡ ours = to_z-of_z w128 ours (search rules) in
     let their_own : to_z w128 (of_z w128 theirs) ≡ theirs = to_z-of_z w128 theirs (search rules) in
@@ -27,10 +27,10 @@ returns-in-Some-2-clause-refused c =
 pub above-requires-clause-energy : goal.above-requires-clause-energy
 above-requires-clause-energy c =
     let m = c.args.model.now in
-    let value : to_z w128 (of_z w128 c.total_energy-energy.result) ≡ energy (form_of m) c.args.y.now =
-    search rules in
+    let value : to_z w128 (of_z w128 c.total_energy-energy.result)
+    ≡ energy (form_of m) c.args.y.now = search rules in
     rw value
-    (omega (arith, energy-size m.kind c.args.y.now m.entries, c.requires.small))
+    (omega (arith, size-energy m.kind c.args.y.now m.entries, c.requires.small))
 
 pub returns-then-energy-certificate-clause-refused :
     goal.returns-then-energy-certificate-clause-refused
@@ -39,7 +39,7 @@ returns-then-energy-certificate-clause-refused c =
     let cert = c.args.certificate.now in
     let none : first_negative cert.lines ≡ None = search rules in
     let found : None
-    ≡ difference (model_list m) (with_additions [] (certificate_terms cert)) = search rules in
+    ≡ difference (model_list m) (certificate_list cert) = search rules in
     let same = comparison_says m cert None found in
     let value : c.total_energy-energy.result ≡ energy (form_of m) c.args.y.now = search rules in
     let over : to_z w128 (of_z w128 c.above.result) ≡ c.total_energy-energy.result -ℤ cert.bound =
@@ -53,7 +53,7 @@ returns-clause-proved c =
     let cert = c.args.certificate.now in
     let none : first_negative cert.lines ≡ None = search rules in
     let found : None
-    ≡ difference (model_list m) (with_additions [] (certificate_terms cert)) = search rules in
+    ≡ difference (model_list m) (certificate_list cert) = search rules in
     let same = comparison_says m cert None found in
     let value : c.total_energy-energy.result ≡ energy (form_of m) c.args.y.now = search rules in
     let equal : c.total_energy-energy.result ≡ cert.bound = search rules in

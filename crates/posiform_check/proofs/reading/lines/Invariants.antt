@@ -1,7 +1,7 @@
 use Rattle.std.proofs.Common.{◌≡◌, ◌+◌, ◌*◌, ◌^◌, ◌<◌, All, length}
 use Rattle.whole_text.specs.Rows.{left}
 use Rattle.posiform_check.specs.Certificates.{IsLine, certificate_total, AreOfNodes}
-use Rattle.posiform_check.specs.Reading.{reading_of_words}
+use Rattle.posiform_check.specs.Texts.{reading_of_words}
 use Rattle.posiform_check.specs.ReadingSteps.{lines_put}
 use Rattle.posiform_check.proofs.reading.lines.Given as goal
 

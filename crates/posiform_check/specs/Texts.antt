@@ -27,15 +27,18 @@ node_below nodes line None = Err (fault kinds.Range line)
 node_below nodes line (Some n) =
     if nat_lt n nodes then Ok n else Err (fault kinds.Range line)
 
+-- the node of digits
 unfoldable pub node_at : ℕ → ℕ → List ℕ → Result ℕ TextFault
 node_at nodes line bytes =
     if are_digits bytes
     then node_below nodes line (digits_number bytes)
     else Err (fault kinds.Word line)
 
+-- the literal of a node
 abbrev pub literal_of : Bool → ℕ → Result Literal TextFault
 literal_of negated n = Ok (record { variable = n; negated = negated })
 
+-- a literal
 unfoldable pub literal_at : ℕ → Word → Result Literal TextFault
 literal_at nodes w =
     if slice_index w.bytes 0 == 126
@@ -68,6 +71,7 @@ kept_line l =
     then []
     else record l { literals = literal_set l.literals } ∷ []
 
+-- the certificate of lines as they are written
 abbrev pub content_of : List Line → CertificateContent
 content_of ls = record { bound = total_by bound_of ls; lines = flat_map kept_line ls }
 
