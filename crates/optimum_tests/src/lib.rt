@@ -1,0 +1,9 @@
+//! Tests of what finds optima: over all states of small models, and on large ones whose first least
+//! state is known.
+//!
+//! The crate is a library without items. It stands above what it tests, so that no library is proved
+//! once more with its tests.
+#![tactic(auto)]
+
+#[cfg(test)]
+mod certificates;
