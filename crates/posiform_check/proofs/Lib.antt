@@ -1,0 +1,9 @@
+pub mod Energies
+pub mod Values
+pub mod LeastStates
+pub mod FirstDifferences
+pub mod Gathering
+pub mod Compared
+pub mod ReadValues
+pub mod ReadSteps
+pub mod KeptLines

@@ -1,0 +1,186 @@
+-- Literals and lines, one after another: one more is read, it fails, or there are no more.
+use Rattle.std.proofs.Common.{◌≡◌, ℕ, ℤ, pos, ◌+ℤ◌, true, false, List, [], ◌∷◌, ◌++◌, fold, Result, Ok, Err, refl, sym, ap, subst, ◌∙◌, append-nil, append_assoc, ◌==◌, arith}
+use Rattle.std.specs.Prelude.{Option, Some, None, MatchOption}
+use Rattle.std.specs.List.{flat_map}
+use Rattle.std.proofs.lemmas.Int.{ints}
+use Rattle.base.specs.Sums.{total_by}
+use Rattle.whole_text.specs.declared.faults.TextFault.{TextFault}
+use Rattle.whole_text.specs.declared.faults.TextAnswer.{TextAnswer}
+use Rattle.whole_text.specs.declared.faults.TextAnswer.TheVariants as answers
+use Rattle.whole_text.specs.declared.words.WordRef.{WordRef}
+use Rattle.whole_text.specs.TokenTexts.{word_of}
+use Rattle.whole_text.specs.Tokens.{Word}
+use Rattle.whole_text.specs.Steps.{◌>>=◌, Fails, integer_at}
+use Rattle.literal_lists.specs.declared.literal.Literal.{Literal}
+use Rattle.whole_text.specs.Rows.{by_line, each, left, on_line, past_line}
+use Rattle.posiform_check.specs.declared.lines.Line.{Line}
+use Rattle.posiform_check.specs.BitForms.{CertificateContent}
+use Rattle.posiform_check.specs.Texts.{written, literal_at, line_at, bound_of, kept_line, content_of, reading_of_words}
+use Rattle.posiform_check.specs.ReadingSteps.{literals_read, line_read, with_line, blank, lines_put}
+use Rattle.whole_text.proofs.Rows.{row_of, by_line-first}
+
+-- ---- literals
+
+abbrev LiteralsRead : Type 0
+LiteralsRead = Result (List Literal × List Word) TextFault
+
+abbrev first_before : Literal → Result (List Literal) TextFault → Result (List Literal) TextFault
+first_before l read = read >>= λ ls. Ok (l ∷ ls)
+
+abbrev put_behind : List Literal → List Word → Result (List Literal) TextFault → LiteralsRead
+put_behind front rest read = read >>= λ ls. Ok (front ++ ls, rest)
+
+put_literal : (l : Literal) (front : List Literal) (rest : List Word)
+    (read : Result (List Literal) TextFault)
+    → put_behind (front ++ l ∷ []) rest read ≡ put_behind front rest (first_before l read)
+put_literal l front rest (Err e) = refl
+put_literal l front rest (Ok ls) =
+    ap (λ (ks : List Literal). Ok (ks, rest)) (append_assoc front (l ∷ []) ls)
+
+pub literal_goes_on : (nodes line : ℕ) (front : List Literal) (w : Word) (ws : List Word)
+    (l : Literal) → (w.line == line) ≡ true → literal_at nodes w ≡ Ok l
+    → literals_read nodes line (front ++ l ∷ []) ws ≡ literals_read nodes line front (w ∷ ws)
+unfolding each
+literal_goes_on nodes line front w ws l here read =
+    rw (here, read)
+    (put_literal l front (past_line line ws) (each (literal_at nodes) (on_line line ws)))
+
+pub literal_fails : (nodes line : ℕ) (front : List Literal) (w : Word) (ws : List Word)
+    (f : TextFault) → (w.line == line) ≡ true → literal_at nodes w ≡ Err f
+    → literals_read nodes line front (w ∷ ws) ≡ Err f
+unfolding each
+literal_fails nodes line front w ws f here read = rw (here, read) refl
+
+pub literals_stop : (nodes line : ℕ) (front : List Literal) (w : Word) (ws : List Word)
+    → (w.line == line) ≡ false → literals_read nodes line front (w ∷ ws) ≡ Ok (front, w ∷ ws)
+unfolding each
+literals_stop nodes line front w ws past =
+    rw past (ap (λ (ks : List Literal). Ok (ks, w ∷ ws)) (append-nil front))
+
+pub literals_end : (nodes line : ℕ) (front : List Literal) (ws : List Word) → ws ≡ []
+    → literals_read nodes line front ws ≡ Ok (front, [])
+unfolding each
+literals_end nodes line front ws none =
+    rw none (ap (λ (ks : List Literal). Ok (ks, [])) (append-nil front))
+
+-- ---- lines
+
+abbrev Part : Type 0
+Part = Line × List Word
+
+abbrev read_as : Part → Result Part TextFault
+read_as x = Ok x
+
+both_parts : (x y : Part) → read_as x ≡ read_as y → (x.0 ≡ y.0) × (x.1 ≡ y.1)
+both_parts x y h =
+    let same : x ≡ y = cc in (ap (λ (z : Part). z.0) same, ap (λ (z : Part). z.1) same)
+
+abbrev written_on : ℕ → ℤ → List Literal → Result Line TextFault
+written_on n c ls = Ok (written ls c n)
+
+abbrev put_line : ℕ → ℤ → List Literal × List Word → Result Part TextFault
+put_line n c x = Ok (written x.0 c n, x.1)
+
+abbrev before : Result (List Line) TextFault → Line → Result (List Line) TextFault
+before others l = others >>= λ ls. Ok (l ∷ ls)
+
+abbrev put_all : CertificateContent → Result (List Line) TextFault
+    → Result CertificateContent TextFault
+put_all s read = read >>= λ ls. Ok (fold with_line s ls)
+
+put_one : (s : CertificateContent) (l : Line) (others : Result (List Line) TextFault)
+    → put_all s (before others l) ≡ put_all (with_line s l) others
+put_one s l (Ok ls) = refl
+put_one s l (Err f) = refl
+
+one_goes_on : (s : CertificateContent) (n : ℕ) (rest rest' : List Word) (l : Line)
+    (number : Result ℤ TextFault) (read : Result (List Literal) TextFault)
+    (others : List Word → Result (List Line) TextFault)
+    → (number >>= λ c. put_behind [] rest read >>= put_line n c) ≡ Ok (l, rest')
+    → put_all s ((number >>= λ c. read >>= written_on n c) >>= before (others rest))
+    ≡ put_all (with_line s l) (others rest')
+one_goes_on s n rest rest' l (Err f) read others h = absurd cc
+one_goes_on s n rest rest' l (Ok c) (Err f) others h = absurd cc
+one_goes_on s n rest rest' l (Ok c) (Ok ls) others h =
+    let same = both_parts (written ls c n, rest) (l, rest') h in
+    put_one s (written ls c n) (others rest)
+    ∙ (λ i. put_all (with_line s (same.0 i)) (others (same.1 i)))
+
+one_fails : (e : TextAnswer) (s : CertificateContent) (n : ℕ) (rest : List Word)
+    (number : Result ℤ TextFault) (read : Result (List Literal) TextFault)
+    (others : Result (List Line) TextFault)
+    → Fails e (number >>= λ c. put_behind [] rest read >>= put_line n c)
+    → Fails e (put_all s ((number >>= λ c. read >>= written_on n c) >>= before others))
+one_fails answers.NoMemory s n rest number read others h = tt
+one_fails (answers.Bad f) s n rest (Err g) read others h =
+    let same : g ≡ f = cc in ap (λ e. Err e) same
+one_fails (answers.Bad f) s n rest (Ok c) (Err g) others h =
+    let same : g ≡ f = cc in ap (λ e. Err e) same
+one_fails (answers.Bad f) s n rest (Ok c) (Ok ls) others h = absurd cc
+
+abbrev lines_by : ℕ → List Word → Result (List Line) TextFault
+lines_by nodes ws = each (line_at nodes) (by_line ws)
+
+first_line : (nodes : ℕ) (w : Word) (ws : List Word)
+    → lines_by nodes (w ∷ ws)
+    ≡ line_at nodes (row_of w (on_line w.line ws)) >>= before (lines_by nodes (past_line w.line ws))
+unfolding each
+first_line nodes w ws = ap (each (line_at nodes)) (by_line-first w ws)
+
+pub line_goes_on : (nodes : ℕ) (s : CertificateContent) (w : Word) (ws rest : List Word) (l : Line)
+    → line_read nodes w ws ≡ Ok (l, rest)
+    → lines_put nodes s (w ∷ ws) ≡ lines_put nodes (with_line s l) rest
+unfolding line_at
+line_goes_on nodes s w ws rest l h =
+    ap (put_all s) (first_line nodes w ws)
+    ∙ one_goes_on s w.line (past_line w.line ws) rest l (integer_at w)
+    (each (literal_at nodes) (on_line w.line ws)) (lines_by nodes) h
+
+pub line_fails : (nodes : ℕ) (e : TextAnswer) (s : CertificateContent) (w : Word) (ws : List Word)
+    → Fails e (line_read nodes w ws) → Fails e (lines_put nodes s (w ∷ ws))
+unfolding line_at
+line_fails nodes e s w ws h =
+    subst (Fails e) (sym (ap (put_all s) (first_line nodes w ws)))
+    (one_fails e s w.line (past_line w.line ws) (integer_at w)
+    (each (literal_at nodes) (on_line w.line ws)) (lines_by nodes (past_line w.line ws)) h)
+
+pub lines_end : (nodes : ℕ) (s : CertificateContent) (ws : List Word) → ws ≡ []
+    → lines_put nodes s ws ≡ Ok s
+unfolding each by_line
+lines_end nodes s ws none = rw none refl
+
+-- ---- all lines
+
+all_lines : (s : CertificateContent) (ls : List Line)
+    → fold with_line s ls
+    ≡ record { bound = s.bound +ℤ total_by bound_of ls; lines = s.lines ++ flat_map kept_line ls }
+all_lines s [] =
+    let same : s.bound ≡ s.bound +ℤ pos 0 = omega (arith, ints) in
+    λ i. record { bound = same i; lines = sym (append-nil s.lines) i }
+all_lines s (l ∷ ls) =
+    let same : (s.bound +ℤ bound_of l) +ℤ total_by bound_of ls
+    ≡ s.bound +ℤ total_by bound_of (l ∷ ls) = omega (arith, ints) in
+    let lines = append_assoc s.lines (kept_line l) (flat_map kept_line ls) in
+    all_lines (with_line s l) ls ∙ (λ i. record { bound = same i; lines = lines i })
+
+from_blank : (ls : List Line) → fold with_line blank ls ≡ content_of ls
+from_blank ls =
+    let same : pos 0 +ℤ total_by bound_of ls ≡ total_by bound_of ls = omega (arith, ints) in
+    all_lines blank ls ∙ (λ i. record { bound = same i; lines = flat_map kept_line ls })
+
+all_read : (read : Result (List Line) TextFault)
+    → put_all blank read ≡ (read >>= λ ls. Ok (content_of ls))
+all_read (Err e) = refl
+all_read (Ok ls) = ap (λ (c : CertificateContent). Ok c) (from_blank ls)
+
+pub lines_all : (nodes : ℕ) (ws : List Word) → lines_put nodes blank ws ≡ reading_of_words nodes ws
+unfolding reading_of_words
+lines_all nodes ws = all_read (lines_by nodes ws)
+
+-- ---- the next word, which is taken
+
+pub next_left : (next : Option WordRef) (old new : List Word)
+    → MatchOption next ((old ≡ []) × (new ≡ [])) (λ w. old ≡ word_of w ∷ new)
+    → left next new ≡ old
+next_left None old new h = sym h.0
+next_left (Some w) old new h = sym h

@@ -1,0 +1,12 @@
+use Rattle.std.proofs.Common.{rules, ◌≤◌, length}
+use Rattle.std.proofs.lemmas.List.Elements.{All-from_recursion}
+use Rattle.posiform_check.specs.declared.lines.Line.{Line}
+use Rattle.posiform_check.specs.Certificates.{most_literals}
+use Rattle.posiform_check.proofs.Gathering.{none_above}
+use Rattle.posiform_check.proofs.limits.check_certificate.Goals as goal
+
+pub pairs_of-pairs-requires : goal.pairs_of-pairs-requires
+pairs_of-pairs-requires c =
+    let lines = c.certificate.inside.lines in
+    let few : most_literals lines ≤ 8 = search rules in
+    All-from_recursion (λ (l : Line). length l.literals ≤ 8) lines (none_above 0 8 lines few).1

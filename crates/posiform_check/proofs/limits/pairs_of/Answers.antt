@@ -1,0 +1,31 @@
+use Rattle.std.proofs.Common.{ℕ, ◌≤◌, ◌^◌, All, List, length, subst, arith}
+use Rattle.std.proofs.lemmas.List.Elements.{All-head, All-tail}
+use Rattle.problem_form.proofs.LeftSums.{answered_left, answered_end}
+use Rattle.term_table.specs.MultipliedOut.{complements}
+use Rattle.posiform_check.specs.declared.lines.Line.{Line}
+use Rattle.posiform_check.proofs.limits.pairs_of.Goals as goal
+
+abbrev products : Line → ℕ
+products l = 2 ^ complements l.literals
+
+pub products_of-requires : goal.products_of-requires
+products_of-requires c =
+    All-head (λ (l : Line). length l.literals ≤ 8) _ _
+    (subst (λ (ls : List Line). All (λ l. length l.literals ≤ 8) ls) c.in-Some.ensures.steps
+    c.loop-line.invariant.few)
+
+pub loop-line-preserved : goal.loop-line-preserved
+loop-line-preserved c = record {
+  counted = answered_left products c.loop-line.line-iterator c.next.new.self c.in-Some.line
+      c.loop-line.total _ _ _ c.in-Some.ensures.steps
+      (omega (arith, c.products_of.ensures.value, c.products_of.ensures.small))
+      c.saturating_add-total.ensures c.loop-line.invariant.counted;
+  few = All-tail (λ (l : Line). length l.literals ≤ 8) _ _
+      (subst (λ (ls : List Line). All (λ l. length l.literals ≤ 8) ls) c.in-Some.ensures.steps
+      c.loop-line.invariant.few);
+}
+
+pub returns : goal.returns
+returns c =
+    answered_end products c.loop-line.line-iterator c.loop-line.total _
+    c.in-None.ensures.steps.0 c.loop-line.invariant.counted

@@ -1,0 +1,40 @@
+use Rattle.std.proofs.Common.{◌≡◌, ◌<◌, length, rules, arith, ap, sym, ◌∙◌, Some, List, ℤ, to_z, of_z}
+use Rattle.std.specs.Int.{w128}
+use Rattle.std.specs.List.{slice_get}
+use Rattle.std.specs.Vec.{vec_len}
+use Rattle.problem_form.specs.declared.terms.Product.{Product}
+use Rattle.problem_form.specs.WeighedLists.{product_of}
+use Rattle.problem_form.proofs.WeighedParts.{length-zip_with, zip_with-at}
+use Rattle.posiform_check.specs.declared.lines.Line.{Line}
+use Rattle.posiform_check.specs.Lines.{line_of}
+use Rattle.posiform_check.proofs.lines.LineList.at.Goals as goal
+
+pub at-requires : goal.at-requires
+at-requires c =
+    let fields = c.self.inside in
+    let count = length-zip_with line_of fields.products fields.numbers.items c.self.invariant in
+    omega (arith, c.requires, ap length c.self.view_is, count, c.self.invariant)
+
+pub index-requires : goal.index-requires
+index-requires c =
+    let fields = c.self.inside in
+    let held : vec_len fields.numbers ≡ length fields.numbers.items = search rules in
+    let count = length-zip_with line_of fields.products fields.numbers.items c.self.invariant in
+    omega (arith, c.requires, ap length c.self.view_is, count, held)
+
+pub returns : goal.returns
+returns c =
+    let fields = c.self.inside in
+    let count = length-zip_with line_of fields.products fields.numbers.items c.self.invariant in
+    let within : c.args.i < length fields.numbers.items =
+    omega (arith, c.requires, ap length c.self.view_is, count) in
+    let here =
+    zip_with-at line_of fields.products fields.numbers.items c.args.i c.at.result c.index.result.now
+    c.at.ensures within c.index.ensures in
+    let parts = c.literals.inside in
+    let number = c.index.result.now in
+    let whole : to_z w128 (of_z w128 parts.coefficient) ≡ parts.coefficient = search rules in
+    ap (λ (ls : List Line). slice_get ls c.args.i) (sym c.self.view_is)
+    ∙ here
+    ∙ ap (λ (t : Product). Some (line_of t number)) (sym c.literals.view_is)
+    ∙ ap (λ (k : ℤ). Some (line_of (product_of parts.literals k) number)) (sym whole)

@@ -1,0 +1,7 @@
+use Rattle.std.proofs.Common.{◌≡◌}
+use Rattle.posiform_check.specs.Certificates.{first_negative}
+use Rattle.posiform_check.proofs.proving.first_negative.Given as goal
+
+-- the first one is among those that are left
+abbrev pub invariant-loop-line : goal.invariant-loop-line
+invariant-loop-line l = first_negative l.line-iterator ≡ first_negative l.lines

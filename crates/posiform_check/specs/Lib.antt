@@ -1,0 +1,7 @@
+pub mod Lines
+pub mod BitForms
+pub mod Proved
+pub mod Differences
+pub mod Certificates
+pub mod Texts
+pub mod ReadingSteps
