@@ -1,0 +1,34 @@
+use Rattle.std.proofs.Common.{◌≡◌, ◌≤◌, ℕ, List, length, sym, ap, subst, ◌∙◌, arith}
+use Rattle.chain_map.specs.Cliques.{clique_places, clique_of}
+use Rattle.working_graph.specs.Places.{taken_places}
+use Rattle.working_graph.specs.Places.{IsForWorkingClique}
+use Rattle.working_graph.proofs.WorkingCliques.{working_clique_valid}
+use Rattle.working_graph.proofs.FreePlaces.{takes_below, chosen_is, clique_len}
+use Rattle.working_graph.proofs.clique.clique_working.Goals as goal
+
+pub chains_on-requires : goal.chains_on-requires
+chains_on-requires c = λ i low.
+    let w = c.args.working.now in
+    let all : c.in_ok-chains.chains ≡ clique_of w.graph (clique_places w.graph) =
+    c.in_ok-chains.ensures.chains ∙ (λ i. clique_of (c.graph-2.ensures i) ((c.clique_places-places.ensures ∙ ap clique_places c.graph.ensures) i)) in
+    omega (
+      arith,
+      takes_below w c.args.nodes c.deref.result.now (c.deref.ensures.value ∙ c.in_ok-taken.ensures) i low,
+      clique_len w.graph c.in_ok-chains.chains all,
+    )
+
+pub returns-clause-chains : goal.returns-clause-chains
+returns-clause-chains c =
+    let w = c.args.working.now in
+    let all : c.in_ok-chains.chains ≡ clique_of w.graph (clique_places w.graph) =
+    c.in_ok-chains.ensures.chains ∙ (λ i. clique_of (c.graph-2.ensures i) ((c.clique_places-places.ensures ∙ ap clique_places c.graph.ensures) i)) in
+    c.in_ok-chains_on.ensures
+    ∙ chosen_is w c.args.nodes c.in_ok-chains.chains c.deref.result.now all (c.deref.ensures.value ∙ c.in_ok-taken.ensures)
+
+pub returns-clause-valid : goal.returns-clause-valid
+returns-clause-valid c =
+    let w = c.args.working.now in
+    let nodes = c.args.nodes in
+    let fits : nodes ≤ length (taken_places w) =
+    omega (arith, c.if-nodes-len.false, c.len.ensures, ap (λ (xs : List ℕ). length xs) c.in_ok-taken.ensures) in
+    subst (IsForWorkingClique w nodes) (sym (returns-clause-chains c)) (working_clique_valid w nodes fits)
