@@ -24,7 +24,8 @@ all_exist fabric map existing = all_of_places map (λ chain q. fabric.exists q �
 -- where all numbers are those of qubits that exist, a fault on the joins is one here
 pub fault_on : (fabric : Fabric) (f : IsingContent) (map : List (List ℕ)) (x : EmbedFault)
     → AllExist fabric map
-    → ((u : ℕ) → u < length map → (j : ℕ) → j < length (chain_of map u) → Exists fabric.qubits map u j)
+    → ((u : ℕ) → u < length map → (j : ℕ) → j < length (chain_of map u)
+    → Exists fabric.qubits map u j)
     → IsFault fabric.joined fabric.qubits f map x → IsFaultOn fabric f map x
 fault_on fabric f map (ChainCount n) all within h = h
 fault_on fabric f map (EmptyChain v) all within h = h

@@ -60,7 +60,8 @@ pair_before joined xs k some before here j low = elim (cases_eq (suc j) k) [
 -- the number of a place by its cell and where it is in it
 pub place_below : (graph : Chimera) (row other : ℕ) → row < diagonal_of graph → other < graph.shore
     → row * graph.shore + other < clique_places graph
-place_below graph row other low below = mul-add-lt row graph.shore other (diagonal_of graph) low below
+place_below graph row other low below = mul-add-lt row graph.shore other
+    (diagonal_of graph) low below
 
 -- the chain of one place is coupled to that of another
 abbrev meets : WorkingGraph → ℕ → ℕ → Bool
@@ -141,14 +142,16 @@ next_of fabric chain n = ap (taken_of fabric chain) (step n)
     step : (n : ℕ) → n + 1 ≡ suc n
     step n = omega arith
 
-pub next_free : (fabric : Fabric) (chain : ℕ → List ℕ) (n : ℕ) (xs : List ℕ) → xs ≡ taken_of fabric chain n
+pub next_free : (fabric : Fabric) (chain : ℕ → List ℕ) (n : ℕ) (xs : List ℕ)
+    → xs ≡ taken_of fabric chain n
     → is_free fabric chain xs n ≡ true → xs ++ n ∷ [] ≡ taken_of fabric chain (n + 1)
 next_free fabric chain n xs same free =
     sym (next_of fabric chain n
     ∙ ap (λ ys. taken_next fabric chain ys n) (sym same)
     ∙ ap (λ b. if b then xs ++ n ∷ [] else xs) free)
 
-pub next_barred : (fabric : Fabric) (chain : ℕ → List ℕ) (n : ℕ) (xs : List ℕ) → xs ≡ taken_of fabric chain n
+pub next_barred : (fabric : Fabric) (chain : ℕ → List ℕ) (n : ℕ) (xs : List ℕ)
+    → xs ≡ taken_of fabric chain n
     → is_free fabric chain xs n ≡ false → xs ≡ taken_of fabric chain (n + 1)
 next_barred fabric chain n xs same barred =
     sym (next_of fabric chain n
@@ -177,25 +180,31 @@ unbarred w place row k cuts from marks is_cuts is_from rising inv done u e marke
     let in_cuts = subst (λ ns. is_in ns found.0 ≡ true) (sym is_cuts) found.1 in
     let at = at_of_in cuts found.0 in_cuts in
     let order : a ≤ b = omega (arith, mod-lt place some) in
-    let number : found.0 ≡ pair_number a b = is_same found.0 _ found.2 ∙ number_of_ordered a b order in
+    let number : found.0 ≡ pair_number a b = is_same found.0 _ found.2
+    ∙ number_of_ordered a b order in
     let start : from ≡ first_across w.graph place (u / T) =
     is_from ∙ ap (first_across w.graph place) (sym e) in
     let again : row * T + u % T ≡ u = ap (λ r. r * T + u % T) (sym e) ∙ div-add-mod' u T in
     passed_all cuts from k T (BarsIn w marks place row) rising inv done at.0 (u % T) at.1
-    (mod-lt u some) (omega (arith, at.2, number, start))
-    (subst (λ v. is_marked marks v ≡ true) (sym again) marked, subst (IsParted w place) (sym again) parted)
+    (mod-lt u some) (omega (arith, at.2, number, start)) (
+      subst (λ v. is_marked marks v ≡ true) (sym again) marked,
+      subst (IsParted w place)
+          (sym again) parted,
+    )
 
 -- ---- the chains of the taken places
 
-pub takes_below : (w : WorkingGraph) (nodes : ℕ) (xs : List ℕ) → xs ≡ taken_places w
-    → (i : ℕ) → i < length (take nodes xs) → get_or (take nodes xs) i 0 < clique_places w.graph
+pub takes_below : (w : WorkingGraph) (nodes : ℕ) (xs : List ℕ) → xs ≡ take nodes (taken_places w)
+    → (i : ℕ) → i < length xs → get_or xs i 0 < clique_places w.graph
 takes_below w nodes xs same i low =
-    let places = clique_places w.graph in
-    let taken = subst (AreTaken (fabric_of w) (clique_chain w.graph) places) (sym same)
-    (are_taken (fabric_of w) (clique_chain w.graph) places) in
-    let len = length-take nodes xs in
-    subst (λ n. n < places) (sym (get_or-take nodes xs i 0 (omega (arith, low, len))))
-    (taken.below i (omega (arith, low, len)))
+    let all = taken_places w in
+    let taken = are_taken (fabric_of w) (clique_chain w.graph) (clique_places w.graph) in
+    let len = length-take nodes all in
+    let here : i < length (take nodes all) =
+    subst (λ (ys : List ℕ). i < length ys) same low in
+    let at = ap (λ (ys : List ℕ). get_or ys i 0) same
+    ∙ get_or-take nodes all i 0 (omega (arith, here, len)) in
+    subst (λ n. n < clique_places w.graph) (sym at) (taken.below i (omega (arith, here, len)))
 
 map_same : (f g : ℕ → List ℕ) (xs : List ℕ)
     → ((i : ℕ) → i < length xs → f (get_or xs i 0) ≡ g (get_or xs i 0)) → map f xs ≡ map g xs
@@ -204,14 +213,14 @@ map_same f g (x ∷ xs) each =
     λ i. each 0 (omega arith) i ∷ map_same f g xs (λ j low. each (suc j) (omega (arith, low))) i
 
 pub chosen_is : (w : WorkingGraph) (nodes : ℕ) (chains : List (List ℕ)) (xs : List ℕ)
-    → chains ≡ clique_of w.graph (clique_places w.graph) → xs ≡ taken_places w
-    → map (chain_of chains) (take nodes xs) ≡ working_clique w nodes
+    → chains ≡ clique_of w.graph (clique_places w.graph) → xs ≡ take nodes (taken_places w)
+    → map (chain_of chains) xs ≡ working_clique w nodes
 chosen_is w nodes chains xs all same =
-    map_same (chain_of chains) (clique_chain w.graph) (take nodes xs) (λ i low.
-    let v = get_or (take nodes xs) i 0 in
+    map_same (chain_of chains) (clique_chain w.graph) xs (λ i low.
+    let v = get_or xs i 0 in
     ap (λ (m : List (List ℕ)). chain_of m v) all
     ∙ chain_at_node w.graph (clique_places w.graph) v [] (takes_below w nodes xs same i low))
-    ∙ ap (λ ys. map (clique_chain w.graph) (take nodes ys)) same
+    ∙ ap (map (clique_chain w.graph)) same
 
 pub clique_len : (graph : Chimera) (chains : List (List ℕ))
     → chains ≡ clique_of graph (clique_places graph) → length chains ≡ clique_places graph

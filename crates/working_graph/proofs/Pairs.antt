@@ -29,7 +29,8 @@ below_is : (a b : ℕ) → a < b → nat_lt a b ≡ true
 below_is a b e = grind (arith, nat_tests)
 
 -- the numbers below a bound come first
-pub rising_parted : (xs : List ℕ) (from : ℕ) → AreRising xs → IsPartitionedBy (λ n. nat_lt n from) xs
+pub rising_parted : (xs : List ℕ) (from : ℕ) → AreRising xs
+    → IsPartitionedBy (λ n. nat_lt n from) xs
 rising_parted xs from rising = λ i j d le low test.
     below_is (get_or xs i d) from
     (omega (

@@ -139,7 +139,8 @@ parts_from graph n lines = parts_of_words graph (tokens_from Plain n lines)
 pub line_more : (graph : Chimera) (front next : List DeadPart) (n : ℕ) (line : List ℕ)
     (before after : List (List ℕ)) → before ≡ line ∷ after
     → after_front front (parts_of_words graph (tokens_of_line Plain n line)) ≡ Ok next
-    → after_front front (parts_from graph n before) ≡ after_front next (parts_from graph (n + 1) after)
+    → after_front front (parts_from graph n before)
+    ≡ after_front next (parts_from graph (n + 1) after)
 unfolding parts_of_words
 line_more graph front next n line before after cut said =
     ap (λ lines. after_front front (parts_from graph n lines)) cut

@@ -30,20 +30,24 @@ use Rattle.working_graph.proofs.TakenPlaces.{and_left, and_right, all_at, are_ta
 
 -- ---- one chain
 
-pub linked_at : (joined : Joins) (xs : List ℕ) → are_linked joined xs ≡ true → (j : ℕ) → suc j < length xs
+pub linked_at : (joined : Joins) (xs : List ℕ) → are_linked joined xs ≡ true → (j : ℕ)
+    → suc j < length xs
     → joined (get_or xs j 0) (get_or xs (suc j) 0) ≡ true
 linked_at joined [] h j low = absurd (omega (arith, low))
 linked_at joined (a ∷ []) h j low = absurd (omega (arith, low))
 linked_at joined (a ∷ b ∷ qs) h zero low = and_left (joined a b) (are_linked joined (b ∷ qs)) h
 linked_at joined (a ∷ b ∷ qs) h (suc j) low =
-    linked_at joined (b ∷ qs) (and_right (joined a b) (are_linked joined (b ∷ qs)) h) j (omega (arith, low))
+    linked_at joined (b ∷ qs) (and_right (joined a b) (are_linked joined (b ∷ qs)) h) j (omega
+    (arith, low))
 
-pub whole_connected : (fabric : Fabric) (xs : List ℕ) → is_whole fabric xs ≡ true → IsConnected fabric.joined xs
+pub whole_connected : (fabric : Fabric) (xs : List ℕ) → is_whole fabric xs ≡ true
+    → IsConnected fabric.joined xs
 whole_connected fabric xs whole =
     path_connected fabric.joined xs
     (λ j low.
     subst (λ n. fabric.joined (get_or xs j 0) (get_or xs n 0) ≡ true) (next j)
-    (linked_at fabric.joined xs (and_right (list_all fabric.exists xs) (are_linked fabric.joined xs) whole) j (omega (arith, low))))
+    (linked_at fabric.joined xs (and_right (list_all fabric.exists xs)
+    (are_linked fabric.joined xs) whole) j (omega (arith, low))))
   where
     next : (j : ℕ) → suc j ≡ j + 1
     next j = omega arith
@@ -52,7 +56,8 @@ pub whole_exists : (fabric : Fabric) (xs : List ℕ) → is_whole fabric xs ≡ 
     → All (λ q. fabric.exists q ≡ true) xs
 whole_exists fabric xs whole = λ j d low.
     subst (λ q. fabric.exists q ≡ true) (default_free xs j 0 d low)
-    (all_at fabric.exists xs (and_left (list_all fabric.exists xs) (are_linked fabric.joined xs) whole) j low)
+    (all_at fabric.exists xs (and_left (list_all fabric.exists xs)
+    (are_linked fabric.joined xs) whole) j low)
 
 -- ---- two chains
 
@@ -92,7 +97,8 @@ crossing_of w c d a b in_d in_c linked = elim (cases_lt a b) [
     record {
       between = record {
         upward = low;
-        ends = or_right (is_in c a && is_in d b) (is_in d a && is_in c b) (both (is_in d a) (is_in c b) in_d in_c);
+        ends = or_right (is_in c a && is_in d b) (is_in d a && is_in c b) (both (is_in d a)
+            (is_in c b) in_d in_c);
       };
       linked = linked;
     },
@@ -105,7 +111,8 @@ crossing_of w c d a b in_d in_c linked = elim (cases_lt a b) [
       record {
         between = record {
           upward = omega (arith, high, other);
-          ends = or_left (is_in c b && is_in d a) (is_in d b && is_in c a) (both (is_in c b) (is_in d a) in_c in_d);
+          ends = or_left (is_in c b && is_in d a) (is_in d b && is_in c a) (both (is_in c b)
+              (is_in d a) in_c in_d);
         };
         linked = joined_in-comm w b a ∙ linked;
       },
@@ -128,11 +135,13 @@ coupled_crossing w c d coupled =
 abbrev on_place : WorkingGraph → ℕ → ℕ
 on_place w v = get_or (taken_places w) v 0
 
-chain_at : (w : WorkingGraph) (nodes v : ℕ) (d : List ℕ) → nodes ≤ length (taken_places w) → v < nodes
+chain_at : (w : WorkingGraph) (nodes v : ℕ) (d : List ℕ) → nodes ≤ length (taken_places w)
+    → v < nodes
     → get_or (working_clique w nodes) v d ≡ clique_chain w.graph (on_place w v)
 chain_at w nodes v d fits low =
     let taken = taken_places w in
-    get_or-map (clique_chain w.graph) (take nodes taken) v 0 d (omega (arith, low, fits, length-take nodes taken))
+    get_or-map (clique_chain w.graph) (take nodes taken) v 0 d (omega
+    (arith, low, fits, length-take nodes taken))
     ∙ ap (clique_chain w.graph) (get_or-take nodes taken v 0 low)
 
 working_once : (w : WorkingGraph) (nodes q : ℕ) → occurrences q (working_clique w nodes) ≤ 1
@@ -157,7 +166,12 @@ working_clique_valid w nodes fits = λ f ising counted. (
   record {
     counted = len ∙ sym counted;
     filled = each (λ chain. chain ≢ []) (λ v low none.
-        omega (arith, path_len graph (on_place w v / T) (on_place w v % T) (cell v low), ap length none));
+        omega (
+          arith,
+          path_len graph (on_place w v / T) (on_place w v % T)
+              (cell v low),
+          ap length none,
+        ));
     within = each (λ chain. All (λ q. q < qubits_of graph) chain) (λ v low.
         clique_within graph (on_place w v) (taken.below v (omega (arith, low, fits))));
     once = working_once w nodes;
@@ -202,11 +216,14 @@ working_clique_valid w nodes fits = λ f ising counted. (
         let u = c.first in
         let v = c.second in
         let low : u < nodes = omega (arith, is.upward, is.within) in
-        let crossing = coupled_crossing w (clique_chain graph (on_place w u)) (clique_chain graph (on_place w v))
+        let crossing = coupled_crossing w (clique_chain graph (on_place w u)) (clique_chain graph
+        (on_place w v))
         (taken.coupled u v is.upward (omega (arith, is.within, fits))) in (
           crossing.0,
-          subst (λ (d : List ℕ). IsCrossing (joined_in w) (chain_of (working_clique w nodes) u) d crossing.0)
+          subst (λ (d : List ℕ). IsCrossing (joined_in w) (chain_of
+              (working_clique w nodes) u) d crossing.0)
               (sym (chain_at w nodes v [] fits is.within))
-              (subst (λ (d : List ℕ). IsCrossing (joined_in w) d (clique_chain graph (on_place w v)) crossing.0)
+              (subst (λ (d : List ℕ). IsCrossing (joined_in w) d (clique_chain graph
+              (on_place w v)) crossing.0)
               (sym (chain_at w nodes u [] fits low)) crossing.1),
         )

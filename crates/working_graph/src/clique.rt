@@ -9,7 +9,7 @@ ghost use Rattle.working_graph.specs.Places.{IsForWorkingClique};
 
 use crate::taken::taken_places;
 use crate::working::Working;
-use bits_model::NoMemory;
+use base::NoMemory;
 use chain_map::{ChainMap, CheckAnswer, EmbedFault, clique_map};
 use chimera_graph::Chimera;
 use std::alloc::Global;
@@ -51,9 +51,9 @@ pub fn clique_working(
 {
     let places = clique_places(working.graph());
     let chains = clique_map(alloc, &working.graph(), places as usize)?;
-    let taken = taken_places(alloc, working, &chains, places)?;
-    if nodes > taken.len() {
+    let taken = taken_places(alloc, working, &chains, places, nodes)?;
+    if taken.len() < nodes {
         return Err(CheckAnswer::Fault(EmbedFault::TooManyNodes(nodes, taken.len())));
     }
-    Ok(chains_on(alloc, &chains, &taken[..nodes])?)
+    Ok(chains_on(alloc, &chains, &taken)?)
 }

@@ -1,5 +1,5 @@
 //! The places that are taken for a clique.
-ghost use Rattle.std.specs.Prelude.{◌≡◌, ◌<◌, ℕ, true, List, length, IfOk};
+ghost use Rattle.std.specs.Prelude.{◌≡◌, ◌<◌, ℕ, true, List, length, take, IfOk};
 ghost use Rattle.std.specs.List.{slice_index_or, list_all};
 ghost use Rattle.chimera_graph.specs.Graph.{qubits_of};
 ghost use Rattle.chain_map.specs.Cliques.{clique_places, clique_chain, clique_of};
@@ -16,7 +16,7 @@ ghost use Rattle.working_graph.specs.Places.{
 
 use crate::parting::is_parted;
 use crate::working::Working;
-use bits_model::NoMemory;
+use base::NoMemory;
 use chain_map::ChainMap;
 use chimera_graph::Hardware;
 use std::alloc::Global;
@@ -77,20 +77,25 @@ fn is_free(working: &Working, chains: &ChainMap, marks: &[bool], place: u32) -> 
     !is_parted(working, marks, place)
 }
 
-/// The places that are taken, from 0 upwards, of those that have these chains.
+/// The places that are taken, from 0 upwards, of those that have these chains; no more of them than
+/// are asked for.
 pub(crate) fn taken_places(
     alloc: Global,
     working: &Working,
     chains: &ChainMap,
     places: u32,
+    nodes: usize,
 ) -> Result<Vec<u32>, NoMemory>
     requires chains { chains.now ≡ clique_of working.now.graph (clique_places working.now.graph) }
     requires places { places ≡ clique_places working.now.graph }
-    ensures { IfOk result (λ taken. taken.items ≡ taken_places working.now) }
+    ensures { IfOk result (λ taken. taken.items ≡ take nodes (taken_places working.now)) }
 {
     let mut marks = vec![in alloc; false; places as usize]?;
     let mut taken = Vec::new(alloc);
     for place in 0..places {
+        if taken.len() == nodes {
+            return Ok(taken);
+        }
         if is_free(working, chains, &marks, place) {
             marks[place as usize] = true;
             taken.push(place)?;

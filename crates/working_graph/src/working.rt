@@ -2,7 +2,9 @@
 ghost use Rattle.std.specs.Prelude.{◌≡◌};
 ghost use Rattle.working_graph.specs.Working.{pair_number};
 
+use base::NoMemory;
 use chimera_graph::Chimera;
+use radix_sort::sorted_keys;
 use std::alloc::Global;
 use std::marker::Model;
 
@@ -40,7 +42,7 @@ pub(crate) fn pair_number(low: u32, high: u32) -> u64
 }
 
 impl Working {
-    ghost use Rattle.std.specs.Prelude.{◌<◌, ◌≤◌};
+    ghost use Rattle.std.specs.Prelude.{◌<◌, ◌≤◌, IfOk};
     ghost use Rattle.std.specs.List.Sorted.{IsPermutation};
     ghost use Rattle.chimera_graph.specs.Graph.{qubits_of};
     ghost use Rattle.working_graph.specs.Numbers.{AreRising};
@@ -57,13 +59,18 @@ impl Working {
     }
 
     /// What is left where these qubits are marked as dead and the couplers with these numbers are.
-    pub(crate) fn of(graph: Chimera, dead: Vec<bool>, mut cut: Vec<u64>) -> Working
-        ensures graph { result.graph ≡ graph }
-        ensures dead { result.dead ≡ dead.items }
-        ensures cut { IsPermutation cut.items result.cut }
+    pub(crate) fn of(
+        alloc: Global,
+        graph: Chimera,
+        dead: Vec<bool>,
+        cut: Vec<u64>,
+    ) -> Result<Working, NoMemory>
+        ensures graph { IfOk result (λ w. w.graph ≡ graph) }
+        ensures dead { IfOk result (λ w. w.dead ≡ dead.items) }
+        ensures cut { IfOk result (λ w. IsPermutation cut.items w.cut) }
     {
-        cut.sort_unstable();
-        Working { graph, dead, cut }
+        let cut = sorted_keys(alloc, cut, 0, 0)?;
+        Ok(Working { graph, dead, cut })
     }
 
     /// The graph of which it is what is left.

@@ -26,4 +26,5 @@ returns-in-Err c =
       | inl before ↦ omega (arith, is, here.1 i before, c.pair_number.ensures)
       | inr after ↦ omega (arith, is, here.2 i after below, c.pair_number.ensures)
     ]))) in
-    sym none ∙ ap (λ ns. list_any test ns) (c.deref.ensures.value ∙ ap (λ (w : WorkingGraph). w.cut) c.self.view_is)
+    sym none ∙ ap (λ ns. list_any test ns) (c.deref.ensures.value
+    ∙ ap (λ (w : WorkingGraph). w.cut) c.self.view_is)
