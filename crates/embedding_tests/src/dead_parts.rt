@@ -466,7 +466,7 @@ fn maps_agree(
 
 // ---- all of it
 
-/// Whether the graph without these parts has the joins, the places and the faults of a plain search.
+/// Whether the graph without these parts has the joins, places and faults of a plain search.
 fn agrees(
     alloc: Global,
     graph: Chimera,

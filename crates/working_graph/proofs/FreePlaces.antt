@@ -1,7 +1,7 @@
 -- Which place may be taken next, by what the code asks.
 use Rattle.std.proofs.Common.{◌≡◌, ℕ, suc, ◌+◌, ◌-◌, ◌*◌, ◌/◌, ◌%◌, ◌<◌, ◌≤◌, ◌==◌, inl, inr, Bool, true, false, not, ◌&&◌, ◌||◌, List, [], ◌∷◌, ◌++◌, length, map, take, set, min, max, if◌then◌else◌, get_or, refl, sym, ap, subst, ◌∙◌, arith, mod-lt}
 use Rattle.std.specs.List.{list_all}
-use Rattle.std.proofs.lemmas.Bool.{cases_eq}
+use Rattle.std.proofs.lemmas.Bool.{cases_eq, eqb-true}
 use Rattle.std.proofs.lemmas.List.Folds.{list_all_at, list_any-append}
 use Rattle.std.proofs.lemmas.List.{get_or-set_same, get_or-set_other, get_or-take, length-take}
 use Rattle.std.proofs.lemmas.List.FromFn.{length-map-range_with_len}
@@ -11,13 +11,13 @@ use Rattle.chimera_graph.specs.declared.chimera.Chimera.{Chimera}
 use Rattle.chain_map.specs.Chains.{Joins, chain_of}
 use Rattle.chain_map.specs.Cliques.{diagonal_of, clique_places, down_qubit, along_qubit, clique_chain, clique_of}
 use Rattle.chain_map.proofs.CliqueChains.{chain_at_node}
-use Rattle.embedding_check.proofs.Sorting.{is_in_at, at_of_in}
+use Rattle.embedding_check.proofs.Sorting.{same_test, is_in_at, at_of_in}
 use Rattle.working_graph.specs.Fabrics.{Fabric}
 use Rattle.working_graph.specs.Working.{WorkingGraph, pair_number, joined_in, fabric_of}
 use Rattle.working_graph.specs.Numbers.{AreRising}
 use Rattle.working_graph.specs.Places.{first_across, AreTaken, AreMarked, IsParted, are_linked, are_coupled, is_whole, is_free, is_marked, taken_next, taken_of, taken_places, working_clique}
 use Rattle.working_graph.proofs.TakenPlaces.{are_taken}
-use Rattle.working_graph.proofs.Pairs.{is_other, is_same, same_number, number_of_ordered}
+use Rattle.working_graph.proofs.Pairs.{is_other, number_of_ordered}
 use Rattle.working_graph.proofs.WorkingCliques.{any_of}
 use Rattle.working_graph.proofs.Barriers.{HasPassed, passed_all}
 use Rattle.working_graph.proofs.Meetings.{unparted_coupled, parted_uncoupled}
@@ -124,7 +124,7 @@ mark_more marks xs v low marked u = elim (cases_eq v u) [
   | inl e ↦
       subst (λ n. is_marked (set marks v true) n ≡ is_in (xs ++ v ∷ []) n) e
       (get_or-set_same marks v true false low
-      ∙ sym (listed_more xs v v ∙ (λ i. is_in xs v || (same_number v v refl i || false))
+      ∙ sym (listed_more xs v v ∙ (λ i. is_in xs v || (same_test v v refl i || false))
       ∙ or_true (is_in xs v)))
   | inr e ↦
       get_or-set_other marks v u true false (λ same. e (sym same))
@@ -180,7 +180,7 @@ unbarred w place row k cuts from marks is_cuts is_from rising inv done u e marke
     let in_cuts = subst (λ ns. is_in ns found.0 ≡ true) (sym is_cuts) found.1 in
     let at = at_of_in cuts found.0 in_cuts in
     let order : a ≤ b = omega (arith, mod-lt place some) in
-    let number : found.0 ≡ pair_number a b = is_same found.0 _ found.2
+    let number : found.0 ≡ pair_number a b = eqb-true found.0 _ found.2
     ∙ number_of_ordered a b order in
     let start : from ≡ first_across w.graph place (u / T) =
     is_from ∙ ap (first_across w.graph place) (sym e) in

@@ -5,7 +5,8 @@ use Rattle.whole_text.specs.declared.token.Style.{Style}
 use Rattle.whole_text.specs.Tokens.{Word, word, is_comment, pieces_of_line, tokens_of_line, tokens_from}
 use Rattle.whole_text.specs.Rows.{Row, onto_rows, by_line, on_line, past_line}
 use Rattle.whole_text.proofs.Rows.{row_of, by_line-first}
-use Rattle.working_graph.proofs.Pairs.{is_other, same_number}
+use Rattle.embedding_check.proofs.Sorting.{same_test}
+use Rattle.working_graph.proofs.Pairs.{is_other}
 
 -- ---- the words of one line
 
@@ -23,7 +24,7 @@ line_words style n line = go (is_comment style line)
 
 onto_same : (w : Word) (r : Row) → r.first.line ≡ w.line
     → onto_rows w (r ∷ []) ≡ row_of w (r.first ∷ r.others) ∷ []
-onto_same w r same = go (r.first.line == w.line) (same_number r.first.line w.line same)
+onto_same w r same = go (r.first.line == w.line) (same_test r.first.line w.line same)
   where
     go : (b : Bool) → b ≡ true
         → (if b then row_of w (r.first ∷ r.others) ∷ [] else row_of w [] ∷ r ∷ [])

@@ -1,8 +1,8 @@
 -- Where two places of a clique meet, and that dead couplers there alone can part them.
 --
--- A place goes down a column and on along a row. Of two places the later one goes down through the row
--- of the earlier one; in one cell of the diagonal the earlier one goes down through that of the later
--- one, too. Qubits of one kind are joined along a line, and no two places share one.
+-- A place goes down a column and on along a row. Of two places the later one goes down through the
+-- row of the earlier one; in one cell of the diagonal the earlier one goes down through that of the
+-- later one, too. Qubits of one kind are joined along a line, and no two places share one.
 use Rattle.std.proofs.Common.{◌≡◌, ℕ, ◌+◌, ◌-◌, ◌*◌, ◌/◌, ◌%◌, ◌<◌, ◌≤◌, ◌⊎◌, inl, inr, Bool, true, false, not, ◌&&◌, List, get_or, refl, sym, ap, subst, ◌∙◌, arith, mod-lt}
 use Rattle.std.specs.List.{list_any}
 use Rattle.std.proofs.lemmas.Bool.{cases_eq, cases_lt}

@@ -9,12 +9,6 @@ use Rattle.working_graph.specs.Numbers.{AreRising}
 pub is_other : (a b : ℕ) → a ≢ b → (a == b) ≡ false
 is_other a b e = grind (arith, nat_tests)
 
-pub is_same : (a b : ℕ) → (a == b) ≡ true → a ≡ b
-is_same a b e = grind (arith, nat_tests)
-
-pub same_number : (a b : ℕ) → a ≡ b → (a == b) ≡ true
-same_number a b e = grind (arith, nat_tests)
-
 -- the number of two that are in order
 pub number_of_ordered : (a b : ℕ) → a ≤ b → pair_number (min a b) (max a b) ≡ pair_number a b
 number_of_ordered a b le = grind (arith, nat_tests)

@@ -1,11 +1,10 @@
 -- The chains of the taken places are valid for every Ising form of so many nodes.
 --
--- A whole place is a path of the working graph, and two that are taken have a join. That its numbers
--- are below those of the graph and none is listed twice is so on the whole graph.
-use Rattle.std.proofs.Common.{◌≡◌, ◌≢◌, ℕ, zero, suc, ◌+◌, ◌/◌, ◌%◌, ◌<◌, ◌≤◌, ◌==◌, ◌⊎◌, inl, inr, Bool, true, false, ◌&&◌, ◌||◌, List, [], ◌∷◌, length, take, get_or, All, refl, sym, ap, subst, ◌∙◌, arith}
+-- A whole place is a path of the working graph, and two that are taken have a join. That its
+-- numbers are below those of the graph and none is listed twice is so on the whole graph.
+use Rattle.std.proofs.Common.{◌≡◌, ◌≢◌, ℕ, zero, suc, ◌+◌, ◌/◌, ◌%◌, ◌<◌, ◌≤◌, ◌==◌, ◌⊎◌, inl, inr, Bool, true, false, ◌&&◌, List, [], ◌∷◌, length, take, get_or, All, refl, sym, ap, subst, ◌∙◌, arith}
 use Rattle.std.specs.List.{count_by, list_any, list_all}
-use Rattle.std.proofs.lemmas.Bool.{cases_eq, cases_lt, or_cases}
-use Rattle.std.proofs.lemmas.Bool.Decides.{nat_tests}
+use Rattle.std.proofs.lemmas.Bool.{and_from, cases_eq, cases_lt, or_cases, or_left, or_right}
 use Rattle.std.proofs.lemmas.List.{length-map, length-take, get_or-map, get_or-take}
 use Rattle.std.proofs.lemmas.List.Sums.{sum_by-take-le}
 use Rattle.bits_model.specs.declared.output.Entry.{Entry}
@@ -20,13 +19,14 @@ use Rattle.chain_map.proofs.CliqueChains.{path_len, cell_of}
 use Rattle.chain_map.proofs.Occurrences.{occurrences-sum}
 use Rattle.chain_map.proofs.Paths.{path_connected}
 use Rattle.chain_map.proofs.Rows.{default_free}
+use Rattle.embedding_check.proofs.Sorting.{same_test}
 use Rattle.working_graph.specs.Fabrics.{Fabric}
 use Rattle.working_graph.specs.Working.{WorkingGraph, exists_in, joined_in, fabric_of}
 use Rattle.working_graph.specs.Places.{AreTaken, are_linked, are_coupled, is_whole, taken_places, working_clique}
 use Rattle.working_graph.specs.Places.{IsForWorkingClique}
 use Rattle.working_graph.specs.laws.WorkingJoins.{joined_in-comm, joined_in-self}
 use Rattle.working_graph.proofs.EmptyForm.{clique_once, clique_within}
-use Rattle.working_graph.proofs.TakenPlaces.{and_left, and_right, all_at, are_taken, sum_by-map, taken_sum}
+use Rattle.working_graph.proofs.TakenPlaces.{left_true, right_true, all_at, are_taken, sum_by-map, taken_sum}
 
 -- ---- one chain
 
@@ -35,9 +35,9 @@ pub linked_at : (joined : Joins) (xs : List ℕ) → are_linked joined xs ≡ tr
     → joined (get_or xs j 0) (get_or xs (suc j) 0) ≡ true
 linked_at joined [] h j low = absurd (omega (arith, low))
 linked_at joined (a ∷ []) h j low = absurd (omega (arith, low))
-linked_at joined (a ∷ b ∷ qs) h zero low = and_left (joined a b) (are_linked joined (b ∷ qs)) h
+linked_at joined (a ∷ b ∷ qs) h zero low = left_true (joined a b) (are_linked joined (b ∷ qs)) h
 linked_at joined (a ∷ b ∷ qs) h (suc j) low =
-    linked_at joined (b ∷ qs) (and_right (joined a b) (are_linked joined (b ∷ qs)) h) j (omega
+    linked_at joined (b ∷ qs) (right_true (joined a b) (are_linked joined (b ∷ qs)) h) j (omega
     (arith, low))
 
 pub whole_connected : (fabric : Fabric) (xs : List ℕ) → is_whole fabric xs ≡ true
@@ -46,7 +46,7 @@ whole_connected fabric xs whole =
     path_connected fabric.joined xs
     (λ j low.
     subst (λ n. fabric.joined (get_or xs j 0) (get_or xs n 0) ≡ true) (next j)
-    (linked_at fabric.joined xs (and_right (list_all fabric.exists xs)
+    (linked_at fabric.joined xs (right_true (list_all fabric.exists xs)
     (are_linked fabric.joined xs) whole) j (omega (arith, low))))
   where
     next : (j : ℕ) → suc j ≡ j + 1
@@ -56,24 +56,10 @@ pub whole_exists : (fabric : Fabric) (xs : List ℕ) → is_whole fabric xs ≡ 
     → All (λ q. fabric.exists q ≡ true) xs
 whole_exists fabric xs whole = λ j d low.
     subst (λ q. fabric.exists q ≡ true) (default_free xs j 0 d low)
-    (all_at fabric.exists xs (and_left (list_all fabric.exists xs)
+    (all_at fabric.exists xs (left_true (list_all fabric.exists xs)
     (are_linked fabric.joined xs) whole) j low)
 
 -- ---- two chains
-
-self_test : (a : ℕ) → (a == a) ≡ true
-self_test a = grind (arith, nat_tests)
-
-or_right : (a b : Bool) → b ≡ true → (a || b) ≡ true
-or_right true b h = refl
-or_right false b h = h
-
-or_left : (a b : Bool) → a ≡ true → (a || b) ≡ true
-or_left true b h = refl
-or_left false b h = absurd cc
-
-both : (a b : Bool) → a ≡ true → b ≡ true → (a && b) ≡ true
-both a b e f = rw (e, f) refl
 
 -- a listed number that passes a test
 pub any_of : (p : ℕ → Bool) (xs : List ℕ) → list_any p xs ≡ true
@@ -84,7 +70,7 @@ any_of p (x ∷ xs) h = go (or_cases (p x) (list_any p xs) h) (any_of p xs)
     go : (p x ≡ true) ⊎ (list_any p xs ≡ true)
         → (list_any p xs ≡ true → (q : ℕ) × (is_in xs q ≡ true) × (p q ≡ true))
         → (q : ℕ) × (is_in (x ∷ xs) q ≡ true) × (p q ≡ true)
-    go (inl here) more = (x, or_left (x == x) (is_in xs x) (self_test x), here)
+    go (inl here) more = (x, or_left (x == x) (is_in xs x) (same_test x x refl), here)
     go (inr there) more =
         let found = more there in
         (found.0, or_right (x == found.0) (is_in xs found.0) found.1, found.2)
@@ -97,7 +83,7 @@ crossing_of w c d a b in_d in_c linked = elim (cases_lt a b) [
     record {
       between = record {
         upward = low;
-        ends = or_right (is_in c a && is_in d b) (is_in d a && is_in c b) (both (is_in d a)
+        ends = or_right (is_in c a && is_in d b) (is_in d a && is_in c b) (and_from (is_in d a)
             (is_in c b) in_d in_c);
       };
       linked = linked;
@@ -111,7 +97,7 @@ crossing_of w c d a b in_d in_c linked = elim (cases_lt a b) [
       record {
         between = record {
           upward = omega (arith, high, other);
-          ends = or_left (is_in c b && is_in d a) (is_in d b && is_in c a) (both (is_in c b)
+          ends = or_left (is_in c b && is_in d a) (is_in d b && is_in c a) (and_from (is_in c b)
               (is_in d a) in_c in_d);
         };
         linked = joined_in-comm w b a ∙ linked;

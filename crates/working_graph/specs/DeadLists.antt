@@ -31,8 +31,8 @@ joined_at graph a w =
     then Ok b
     else Err (fault kinds.Range w.line)
 
--- what follows the number of a qubit on its line: nothing, and the qubit is dead, or the number of a
--- joined one, and their coupler is; a third word is too much
+-- what follows the number of a qubit on its line: nothing, and the qubit is dead, or the number of
+-- a joined one, and their coupler is; a third word is too much
 unfoldable pub rest_at : Chimera → ℕ → List Word → Result DeadPart TextFault
 rest_at graph a [] = Ok (Qubit a)
 rest_at graph a (w ∷ []) = joined_at graph a w >>= λ b. Ok (Coupler a b)

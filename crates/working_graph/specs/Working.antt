@@ -7,8 +7,8 @@ use Rattle.chimera_graph.specs.Places.{are_joined}
 use Rattle.chain_map.specs.Chains.{Joins}
 use Rattle.working_graph.specs.Fabrics.{Fabric}
 
--- a graph, a mark for each of its qubits, or for the first ones, which says that it is dead, and the
--- numbers of its dead couplers
+-- a graph, a mark for each of its qubits, or for the first ones, which says that it is dead, and
+-- the numbers of its dead couplers
 pub record WorkingGraph : Type 0 where
   pub graph : Chimera
   pub dead : List Bool
@@ -34,11 +34,13 @@ is_cut w a b = list_any (λ n. n == pair_number (min a b) (max a b)) w.cut
 abbrev pub exists_in : WorkingGraph → ℕ → Bool
 exists_in w q = nat_lt q (qubits_of w.graph) && not (is_dead w q)
 
--- two qubits of the working graph are joined where the graph joins them and no dead coupler names them
+-- two qubits of the working graph are joined where the graph joins them and no dead coupler names
+-- them
 abbrev pub joined_in : WorkingGraph → Joins
 joined_in w a b =
     are_joined (place_of w.graph a) (place_of w.graph b)
     && exists_in w a && exists_in w b && not (is_cut w a b)
 
+-- the qubits of the working graph and their joins
 abbrev pub fabric_of : WorkingGraph → Fabric
 fabric_of w = record { qubits = qubits_of w.graph; exists = exists_in w; joined = joined_in w }

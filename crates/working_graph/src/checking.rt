@@ -55,7 +55,8 @@ fn first_missing(working: &Working, chain: &[u64]) -> Option<usize>
 /// Whether each number of a map is one of a qubit that works, or the first one that is not.
 fn check_existing(working: &Working, map: &ChainMap) -> Result<(), CheckAnswer>
     ensures existing { IfOk result (λ _. (u : ℕ) → u < length map.now
-        → (j : ℕ) → j < length (chain_of map.now u) → ExistsAt (fabric_of working.now) map.now u j) }
+        → (j : ℕ) → j < length (chain_of map.now u)
+        → ExistsAt (fabric_of working.now) map.now u j) }
     ensures fault { IfErr result (λ e. IfFault e (λ f. (v : ℕ) × (k : ℕ)
         × IsFirstAt map.now (ExistsAt (fabric_of working.now) map.now) v k
         × (f ≡ EmbedFault.NoSuchQubit v (number_at map.now v k)))) }
@@ -70,8 +71,8 @@ fn check_existing(working: &Working, map: &ChainMap) -> Result<(), CheckAnswer>
     Ok(())
 }
 
-/// Embeds an Ising form by a map on what is left of a graph, or names the first fault of the map. It
-/// is refused exactly where the map is not valid there.
+/// Embeds an Ising form by a map on what is left of a graph, or names the first fault of the map.
+/// It is refused exactly where the map is not valid there.
 pub fn check_working(
     alloc: Global,
     working: &Working,
