@@ -17,6 +17,7 @@ pub enum DeadPart {
 
 /// The qubit of the graph that a token is the number of.
 #[tactic(auto, unfolding(crate::specs::DeadLists::qubit_at))]
+#[inline(always)]
 fn qubit_at(graph: &Chimera, text: &[u8], token: Token) -> Result<u32, TextFault>
     requires { IsWithin text.now token }
     ensures read { result ≡ qubit_at graph.now (word_at text.now token) }
@@ -68,6 +69,7 @@ fn rest_at(graph: &Chimera, from: u32, text: &[u8], others: &[Token]) -> Result<
 
 /// The part that a line names, by its first token and the others.
 #[tactic(auto, unfolding(crate::specs::DeadLists::part_at))]
+#[inline(always)]
 pub(crate) fn part_at(
     graph: &Chimera,
     text: &[u8],

@@ -13,6 +13,7 @@ use std::alloc::Global;
 use whole_text::{Style, TextAnswer, Token, line_len, push_line};
 
 /// Adds the part that a line names, if it has words and is no comment.
+#[inline(always)]
 fn push_part(
     graph: &Chimera,
     text: &[u8],
