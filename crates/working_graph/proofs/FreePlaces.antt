@@ -3,20 +3,18 @@ use Rattle.std.proofs.Common.{◌≡◌, ℕ, suc, ◌+◌, ◌-◌, ◌*◌, �
 use Rattle.std.specs.List.{list_all}
 use Rattle.std.proofs.lemmas.Bool.{cases_eq, eqb-true}
 use Rattle.std.proofs.lemmas.List.Folds.{list_all_at, list_any-append}
-use Rattle.std.proofs.lemmas.List.{get_or-set_same, get_or-set_other, get_or-take, length-take}
-use Rattle.std.proofs.lemmas.List.FromFn.{length-map-range_with_len}
+use Rattle.std.proofs.lemmas.List.{get_or-set_same, get_or-set_other, length-map, length-take, map-append, take_all}
 use Rattle.std.proofs.lemmas.Nat.{mul-add-lt, div-add-mod'}
 use Rattle.bits_model.specs.Walks.{is_in}
 use Rattle.chimera_graph.specs.declared.chimera.Chimera.{Chimera}
-use Rattle.chain_map.specs.Chains.{Joins, chain_of}
-use Rattle.chain_map.specs.Cliques.{diagonal_of, clique_places, down_qubit, along_qubit, clique_chain, clique_of}
-use Rattle.chain_map.proofs.CliqueChains.{chain_at_node}
+use Rattle.chain_map.specs.Chains.{Joins}
+use Rattle.chain_map.specs.Cliques.{diagonal_of, clique_places, down_qubit, along_qubit, clique_chain}
 use Rattle.embedding_check.proofs.Sorting.{same_test, is_in_at, at_of_in}
 use Rattle.working_graph.specs.Fabrics.{Fabric}
 use Rattle.working_graph.specs.Working.{WorkingGraph, pair_number, joined_in, fabric_of}
 use Rattle.working_graph.specs.Numbers.{AreRising}
 use Rattle.working_graph.specs.Places.{first_across, AreTaken, AreMarked, IsParted, are_linked, are_coupled, is_whole, is_free, is_marked, taken_next, taken_of, taken_places, working_clique}
-use Rattle.working_graph.proofs.TakenPlaces.{are_taken}
+use Rattle.working_graph.proofs.TakenPlaces.{taken_front}
 use Rattle.working_graph.proofs.Pairs.{is_other, number_of_ordered}
 use Rattle.working_graph.proofs.WorkingCliques.{any_of}
 use Rattle.working_graph.proofs.Barriers.{HasPassed, passed_all}
@@ -194,36 +192,38 @@ unbarred w place row k cuts from marks is_cuts is_from rising inv done u e marke
 
 -- ---- the chains of the taken places
 
-pub takes_below : (w : WorkingGraph) (nodes : ℕ) (xs : List ℕ) → xs ≡ take nodes (taken_places w)
-    → (i : ℕ) → i < length xs → get_or xs i 0 < clique_places w.graph
-takes_below w nodes xs same i low =
-    let all = taken_places w in
-    let taken = are_taken (fabric_of w) (clique_chain w.graph) (clique_places w.graph) in
-    let len = length-take nodes all in
-    let here : i < length (take nodes all) =
-    subst (λ (ys : List ℕ). i < length ys) same low in
-    let at = ap (λ (ys : List ℕ). get_or ys i 0) same
-    ∙ get_or-take nodes all i 0 (omega (arith, here, len)) in
-    subst (λ n. n < clique_places w.graph) (sym at) (taken.below i (omega (arith, here, len)))
+-- the chain of a place more
+pub more_chains : (F : ℕ → List ℕ) (xs ys : List ℕ) (v : ℕ) (m : List (List ℕ)) (c : List ℕ)
+    → m ≡ map F xs → c ≡ F v → xs ++ v ∷ [] ≡ ys → m ++ c ∷ [] ≡ map F ys
+more_chains F xs ys v m c same here more =
+    (λ i. same i ++ here i ∷ []) ∙ sym (map-append F xs (v ∷ [])) ∙ ap (map F) more
 
-map_same : (f g : ℕ → List ℕ) (xs : List ℕ)
-    → ((i : ℕ) → i < length xs → f (get_or xs i 0) ≡ g (get_or xs i 0)) → map f xs ≡ map g xs
-map_same f g [] each = refl
-map_same f g (x ∷ xs) each =
-    λ i. each 0 (omega arith) i ∷ map_same f g xs (λ j low. each (suc j) (omega (arith, low))) i
+-- the chains of so many places, once so many are taken
+pub chains_front : (w : WorkingGraph) (n nodes : ℕ) (m : List (List ℕ))
+    → n ≤ clique_places w.graph
+    → m ≡ map (clique_chain w.graph) (taken_of (fabric_of w) (clique_chain w.graph) n)
+    → length m ≡ nodes → m ≡ working_clique w nodes
+chains_front w n nodes m low same len =
+    let F = clique_chain w.graph in
+    let xs = taken_of (fabric_of w) F n in
+    let count : length xs ≡ nodes =
+    sym (length-map xs F) ∙ sym (ap (λ (cs : List (List ℕ)). length cs) same) ∙ len in
+    same ∙ ap (map F) (taken_front (fabric_of w) F n (clique_places w.graph) nodes xs low refl count)
 
-pub chosen_is : (w : WorkingGraph) (nodes : ℕ) (chains : List (List ℕ)) (xs : List ℕ)
-    → chains ≡ clique_of w.graph (clique_places w.graph) → xs ≡ take nodes (taken_places w)
-    → map (chain_of chains) xs ≡ working_clique w nodes
-chosen_is w nodes chains xs all same =
-    map_same (chain_of chains) (clique_chain w.graph) xs (λ i low.
-    let v = get_or xs i 0 in
-    ap (λ (m : List (List ℕ)). chain_of m v) all
-    ∙ chain_at_node w.graph (clique_places w.graph) v [] (takes_below w nodes xs same i low))
-    ∙ ap (map (clique_chain w.graph)) same
+-- the chains of all places that are taken, where they are few
+pub chains_all : (w : WorkingGraph) (n nodes : ℕ) (m : List (List ℕ)) → n ≡ clique_places w.graph
+    → m ≡ map (clique_chain w.graph) (taken_of (fabric_of w) (clique_chain w.graph) n)
+    → length m ≤ nodes → m ≡ working_clique w nodes
+chains_all w n nodes m last same few =
+    let F = clique_chain w.graph in
+    let all = taken_of (fabric_of w) F in
+    let len = length-map (all n) F in
+    let less : length (all n) ≤ nodes =
+    omega (arith, len, few, ap (λ (cs : List (List ℕ)). length cs) same) in
+    same ∙ ap (map F) (sym (take_all nodes (all n) less) ∙ ap (λ k. take nodes (all k)) last)
 
-pub clique_len : (graph : Chimera) (chains : List (List ℕ))
-    → chains ≡ clique_of graph (clique_places graph) → length chains ≡ clique_places graph
-clique_len graph chains all =
-    ap (λ (m : List (List ℕ)). length m) all
-    ∙ length-map-range_with_len (clique_chain graph) 0 (clique_places graph)
+pub clique_len : (w : WorkingGraph) (nodes : ℕ)
+    → length (working_clique w nodes) ≡ min nodes (length (taken_places w))
+clique_len w nodes =
+    length-map (take nodes (taken_places w)) (clique_chain w.graph)
+    ∙ length-take nodes (taken_places w)

@@ -1,20 +1,21 @@
 //! The places that are taken for a clique.
-ghost use Rattle.std.specs.Prelude.{◌≡◌, ◌<◌, ℕ, true, List, length, take, IfOk};
+ghost use Rattle.std.specs.Prelude.{◌≡◌, ◌<◌, ℕ, true, List, length, IfOk};
 ghost use Rattle.std.specs.List.{slice_index_or, list_all};
 ghost use Rattle.chimera_graph.specs.Graph.{qubits_of};
-ghost use Rattle.chain_map.specs.Cliques.{clique_places, clique_chain, clique_of};
+ghost use Rattle.chain_map.specs.Cliques.{clique_places, clique_chain};
 ghost use Rattle.working_graph.specs.Working.{exists_in, joined_in, fabric_of};
 ghost use Rattle.working_graph.specs.Places.{
   are_linked,
   is_whole,
   is_free,
   is_marked,
-  taken_places,
+  working_clique,
   AreMarked,
   AreTaken,
 };
 
 use crate::parting::is_parted;
+use crate::path::{clique_places, fill_chain};
 use crate::working::Working;
 use base::NoMemory;
 use chain_map::ChainMap;
@@ -62,8 +63,8 @@ fn is_whole(working: &Working, chain: &[u64]) -> bool
 }
 
 /// Whether a place may be taken after the marked ones.
-fn is_free(working: &Working, chains: &ChainMap, marks: &[bool], place: u32) -> bool
-    requires chains { chains.now ≡ clique_of working.now.graph (clique_places working.now.graph) }
+fn is_free(working: &Working, chain: &[u64], marks: &[bool], place: u32) -> bool
+    requires chain { chain.now ≡ clique_chain working.now.graph place }
     requires place { place < clique_places working.now.graph }
     requires len { length marks.now ≡ clique_places working.now.graph }
     requires earlier { (u : ℕ) → is_marked marks.now u ≡ true → u < place }
@@ -71,34 +72,33 @@ fn is_free(working: &Working, chains: &ChainMap, marks: &[bool], place: u32) -> 
         → AreTaken (fabric_of working.now) (clique_chain working.now.graph) place xs
         → result ≡ is_free (fabric_of working.now) (clique_chain working.now.graph) xs place }
 {
-    if !is_whole(working, chains.chain(place as usize)) {
+    if !is_whole(working, chain) {
         return false;
     }
     !is_parted(working, marks, place)
 }
 
-/// The places that are taken, from 0 upwards, of those that have these chains; no more of them than
-/// are asked for.
-pub(crate) fn taken_places(
+/// The chains of the places that are taken, from 0 upwards; no more of them than are asked for.
+pub(crate) fn taken_chains(
     alloc: Global,
     working: &Working,
-    chains: &ChainMap,
-    places: u32,
     nodes: usize,
-) -> Result<Vec<u32>, NoMemory>
-    requires chains { chains.now ≡ clique_of working.now.graph (clique_places working.now.graph) }
-    requires places { places ≡ clique_places working.now.graph }
-    ensures { IfOk result (λ taken. taken.items ≡ take nodes (taken_places working.now)) }
+) -> Result<ChainMap, NoMemory>
+    ensures { IfOk result (λ m. m ≡ working_clique working.now nodes) }
 {
+    let graph = working.graph();
+    let places = clique_places(&graph);
     let mut marks = vec![in alloc; false; places as usize]?;
-    let mut taken = Vec::new(alloc);
+    let mut chain = Vec::new(alloc);
+    let mut taken = ChainMap::new(alloc);
     for place in 0..places {
         if taken.len() == nodes {
             return Ok(taken);
         }
-        if is_free(working, chains, &marks, place) {
+        fill_chain(&graph, place, &mut chain)?;
+        if is_free(working, &chain, &marks, place) {
             marks[place as usize] = true;
-            taken.push(place)?;
+            taken.push(&chain)?;
         }
     }
     Ok(taken)
