@@ -1,0 +1,229 @@
+-- Which place may be taken next, by what the code asks.
+use Rattle.std.proofs.Common.{◌≡◌, ℕ, suc, ◌+◌, ◌-◌, ◌*◌, ◌/◌, ◌%◌, ◌<◌, ◌≤◌, ◌==◌, inl, inr, Bool, true, false, not, ◌&&◌, ◌||◌, List, [], ◌∷◌, ◌++◌, length, map, take, set, min, max, if◌then◌else◌, get_or, refl, sym, ap, subst, ◌∙◌, arith, mod-lt}
+use Rattle.std.specs.List.{list_all}
+use Rattle.std.proofs.lemmas.Bool.{cases_eq, eqb-true}
+use Rattle.std.proofs.lemmas.List.Folds.{list_all_at, list_any-append}
+use Rattle.std.proofs.lemmas.List.{get_or-set_same, get_or-set_other, length-map, length-take, map-append, take_all}
+use Rattle.std.proofs.lemmas.Nat.{mul-add-lt, div-add-mod'}
+use Rattle.bits_model.specs.Walks.{is_in}
+use Rattle.chimera_graph.specs.declared.chimera.Chimera.{Chimera}
+use Rattle.chain_map.specs.Chains.{Joins}
+use Rattle.chain_map.specs.Cliques.{diagonal_of, clique_places, down_qubit, along_qubit, clique_chain}
+use Rattle.embedding_check.proofs.Sorting.{same_test, is_in_at, at_of_in}
+use Rattle.working_graph.specs.Fabrics.{Fabric}
+use Rattle.working_graph.specs.Working.{WorkingGraph, pair_number, joined_in, fabric_of}
+use Rattle.working_graph.specs.Numbers.{AreRising}
+use Rattle.working_graph.specs.Places.{first_across, AreTaken, AreMarked, IsParted, are_linked, are_coupled, is_whole, is_free, is_marked, taken_next, taken_of, taken_places, working_clique}
+use Rattle.working_graph.proofs.TakenPlaces.{taken_front}
+use Rattle.working_graph.proofs.Pairs.{is_other, number_of_ordered}
+use Rattle.working_graph.proofs.WorkingCliques.{any_of}
+use Rattle.working_graph.proofs.Barriers.{HasPassed, passed_all}
+use Rattle.working_graph.proofs.Meetings.{unparted_coupled, parted_uncoupled}
+
+-- ---- tests of lists
+
+pub false_unless : (b : Bool) → (b ≡ true → ⊥) → b ≡ false
+false_unless true never = absurd (never refl)
+false_unless false never = refl
+
+pub all_from : (p : ℕ → Bool) (xs : List ℕ)
+    → ((i : ℕ) → i < length xs → p (get_or xs i 0) ≡ true) → list_all p xs ≡ true
+all_from p [] each = refl
+all_from p (x ∷ xs) each =
+    rw (each 0 (omega arith), all_from p xs (λ i low. each (suc i) (omega (arith, low)))) refl
+
+pub linked_from : (joined : Joins) (xs : List ℕ)
+    → ((j : ℕ) → suc j < length xs → joined (get_or xs j 0) (get_or xs (suc j) 0) ≡ true)
+    → are_linked joined xs ≡ true
+linked_from joined [] each = refl
+linked_from joined (a ∷ []) each = refl
+linked_from joined (a ∷ b ∷ qs) each =
+    let others = linked_from joined (b ∷ qs) (λ j low. each (suc j) (omega (arith, low))) in
+    rw (each 0 (omega arith), others) refl
+
+pub pair_before : (joined : Joins) (xs : List ℕ) (k : ℕ) → 1 ≤ k
+    → ((j : ℕ) → suc j < k → joined (get_or xs j 0) (get_or xs (suc j) 0) ≡ true)
+    → joined (get_or xs (k - 1) 0) (get_or xs k 0) ≡ true
+    → (j : ℕ) → suc j < k + 1 → joined (get_or xs j 0) (get_or xs (suc j) 0) ≡ true
+pair_before joined xs k some before here j low = elim (cases_eq (suc j) k) [
+  | inl e ↦
+      let first : k - 1 ≡ j = omega (arith, e, some) in
+      subst (λ n. joined (get_or xs j 0) (get_or xs n 0) ≡ true) (sym e)
+      (subst (λ n. joined (get_or xs n 0) (get_or xs k 0) ≡ true) first here)
+  | inr e ↦ before j (omega (arith, low, e))
+]
+
+-- ---- a place
+
+-- the number of a place by its cell and where it is in it
+pub place_below : (graph : Chimera) (row other : ℕ) → row < diagonal_of graph → other < graph.shore
+    → row * graph.shore + other < clique_places graph
+place_below graph row other low below = mul-add-lt row graph.shore other
+    (diagonal_of graph) low below
+
+-- the chain of one place is coupled to that of another
+abbrev meets : WorkingGraph → ℕ → ℕ → Bool
+meets w place u =
+    are_coupled (joined_in w) (clique_chain w.graph place) (clique_chain w.graph u)
+
+-- the answer that dead couplers part a place from a marked one, and that they part it from none
+abbrev IsBar : WorkingGraph → List Bool → ℕ → Type 0
+IsBar w marks place = (u : ℕ) × (is_marked marks u ≡ true) × IsParted w place u
+
+abbrev IsUnbarred : WorkingGraph → List Bool → ℕ → Type 0
+IsUnbarred w marks place = (u : ℕ) → is_marked marks u ≡ true → IsParted w place u → ⊥
+
+free_when : (w : WorkingGraph) (marks : List Bool) (place : ℕ) (xs : List ℕ) (b : Bool)
+    → place < clique_places w.graph → (b ≡ true → IsBar w marks place)
+    → (b ≡ false → IsUnbarred w marks place)
+    → is_whole (fabric_of w) (clique_chain w.graph place) ≡ true → AreMarked marks xs
+    → AreTaken (fabric_of w) (clique_chain w.graph) place xs
+    → not b ≡ list_all (meets w place) xs
+free_when w marks place xs true below found none whole marked taken =
+    let bar = found refl in
+    let at = at_of_in xs bar.0 (sym (marked bar.0) ∙ bar.1) in
+    let before : bar.0 < place = subst (λ u. u < place) at.2 (taken.below at.0 at.1) in
+    let apart = false_unless _ (parted_uncoupled w bar.0 place before below bar.2) in
+    sym (list_all_at (meets w place) xs at.0 0 at.1
+    (subst (λ u. meets w place u ≡ false) (sym at.2) apart))
+free_when w marks place xs false below found none whole marked taken =
+    sym (all_from (meets w place) xs (λ i low.
+    let u = get_or xs i 0 in
+    unparted_coupled w u place (taken.below i low) below (taken.whole i low) whole
+    (none refl u (marked u ∙ is_in_at xs i u low refl))))
+
+pub free_by : (w : WorkingGraph) (marks : List Bool) (place : ℕ) (xs : List ℕ) (b : Bool)
+    → place < clique_places w.graph → (b ≡ true → IsBar w marks place)
+    → (b ≡ false → IsUnbarred w marks place)
+    → is_whole (fabric_of w) (clique_chain w.graph place) ≡ true → AreMarked marks xs
+    → AreTaken (fabric_of w) (clique_chain w.graph) place xs
+    → not b ≡ is_free (fabric_of w) (clique_chain w.graph) xs place
+free_by w marks place xs b below found none whole marked taken =
+    free_when w marks place xs b below found none whole marked taken
+    ∙ sym (λ i. whole i && list_all (meets w place) xs)
+
+-- ---- marks
+
+or_true : (b : Bool) → (b || (true || false)) ≡ true
+or_true true = refl
+or_true false = refl
+
+or_false : (b : Bool) → (b || (false || false)) ≡ b
+or_false true = refl
+or_false false = refl
+
+listed_more : (xs : List ℕ) (v u : ℕ) → is_in (xs ++ v ∷ []) u ≡ (is_in xs u || ((v == u) || false))
+listed_more xs v u = list_any-append (λ p. p == u) xs (v ∷ [])
+
+-- a mark more, for a place more
+pub mark_more : (marks : List Bool) (xs : List ℕ) (v : ℕ) → v < length marks → AreMarked marks xs
+    → AreMarked (set marks v true) (xs ++ v ∷ [])
+mark_more marks xs v low marked u = elim (cases_eq v u) [
+  | inl e ↦
+      subst (λ n. is_marked (set marks v true) n ≡ is_in (xs ++ v ∷ []) n) e
+      (get_or-set_same marks v true false low
+      ∙ sym (listed_more xs v v ∙ (λ i. is_in xs v || (same_test v v refl i || false))
+      ∙ or_true (is_in xs v)))
+  | inr e ↦
+      get_or-set_other marks v u true false (λ same. e (sym same))
+      ∙ marked u
+      ∙ sym (listed_more xs v u ∙ (λ i. is_in xs u || (is_other v u e i || false))
+      ∙ or_false (is_in xs u))
+]
+
+-- ---- the next place
+
+next_of : (fabric : Fabric) (chain : ℕ → List ℕ) (n : ℕ)
+    → taken_of fabric chain (n + 1) ≡ taken_next fabric chain (taken_of fabric chain n) n
+next_of fabric chain n = ap (taken_of fabric chain) (step n)
+  where
+    step : (n : ℕ) → n + 1 ≡ suc n
+    step n = omega arith
+
+pub next_free : (fabric : Fabric) (chain : ℕ → List ℕ) (n : ℕ) (xs : List ℕ)
+    → xs ≡ taken_of fabric chain n
+    → is_free fabric chain xs n ≡ true → xs ++ n ∷ [] ≡ taken_of fabric chain (n + 1)
+next_free fabric chain n xs same free =
+    sym (next_of fabric chain n
+    ∙ ap (λ ys. taken_next fabric chain ys n) (sym same)
+    ∙ ap (λ b. if b then xs ++ n ∷ [] else xs) free)
+
+pub next_barred : (fabric : Fabric) (chain : ℕ → List ℕ) (n : ℕ) (xs : List ℕ)
+    → xs ≡ taken_of fabric chain n
+    → is_free fabric chain xs n ≡ false → xs ≡ taken_of fabric chain (n + 1)
+next_barred fabric chain n xs same barred =
+    sym (next_of fabric chain n
+    ∙ ap (λ ys. taken_next fabric chain ys n) (sym same)
+    ∙ ap (λ b. if b then xs ++ n ∷ [] else xs) barred)
+
+-- ---- dead couplers of one row
+
+-- the numbers of the couplers that part a place from the marked ones of a row
+abbrev pub BarsIn : WorkingGraph → List Bool → ℕ → ℕ → ℕ → Type 0
+BarsIn w marks place row at =
+    let u = row * w.graph.shore + at in
+    (is_marked marks u ≡ true) × IsParted w place u
+
+pub unbarred : (w : WorkingGraph) (place row k : ℕ) (cuts : List ℕ) (from : ℕ) (marks : List Bool)
+    → cuts ≡ w.cut → from ≡ first_across w.graph place row → AreRising cuts
+    → HasPassed cuts from k (BarsIn w marks place row)
+    → (k < length cuts → get_or cuts k 0 - from < w.graph.shore → ⊥)
+    → (u : ℕ) → u / w.graph.shore ≡ row → is_marked marks u ≡ true → IsParted w place u → ⊥
+unbarred w place row k cuts from marks is_cuts is_from rising inv done u e marked parted =
+    let T = w.graph.shore in
+    let some = w.graph.shape.some_shore in
+    let a = down_qubit w.graph (place / T) (place % T) (u / T) in
+    let b = along_qubit w.graph (u / T) (u % T) (place / T) in
+    let found = any_of (λ n. n == pair_number (min a b) (max a b)) w.cut parted.down in
+    let in_cuts = subst (λ ns. is_in ns found.0 ≡ true) (sym is_cuts) found.1 in
+    let at = at_of_in cuts found.0 in_cuts in
+    let order : a ≤ b = omega (arith, mod-lt place some) in
+    let number : found.0 ≡ pair_number a b = eqb-true found.0 _ found.2
+    ∙ number_of_ordered a b order in
+    let start : from ≡ first_across w.graph place (u / T) =
+    is_from ∙ ap (first_across w.graph place) (sym e) in
+    let again : row * T + u % T ≡ u = ap (λ r. r * T + u % T) (sym e) ∙ div-add-mod' u T in
+    passed_all cuts from k T (BarsIn w marks place row) rising inv done at.0 (u % T) at.1
+    (mod-lt u some) (omega (arith, at.2, number, start)) (
+      subst (λ v. is_marked marks v ≡ true) (sym again) marked,
+      subst (IsParted w place)
+          (sym again) parted,
+    )
+
+-- ---- the chains of the taken places
+
+-- the chain of a place more
+pub more_chains : (F : ℕ → List ℕ) (xs ys : List ℕ) (v : ℕ) (m : List (List ℕ)) (c : List ℕ)
+    → m ≡ map F xs → c ≡ F v → xs ++ v ∷ [] ≡ ys → m ++ c ∷ [] ≡ map F ys
+more_chains F xs ys v m c same here more =
+    (λ i. same i ++ here i ∷ []) ∙ sym (map-append F xs (v ∷ [])) ∙ ap (map F) more
+
+-- the chains of so many places, once so many are taken
+pub chains_front : (w : WorkingGraph) (n nodes : ℕ) (m : List (List ℕ))
+    → n ≤ clique_places w.graph
+    → m ≡ map (clique_chain w.graph) (taken_of (fabric_of w) (clique_chain w.graph) n)
+    → length m ≡ nodes → m ≡ working_clique w nodes
+chains_front w n nodes m low same len =
+    let F = clique_chain w.graph in
+    let xs = taken_of (fabric_of w) F n in
+    let count : length xs ≡ nodes =
+    sym (length-map xs F) ∙ sym (ap (λ (cs : List (List ℕ)). length cs) same) ∙ len in
+    same ∙ ap (map F) (taken_front (fabric_of w) F n (clique_places w.graph) nodes xs low refl count)
+
+-- the chains of all places that are taken, where they are few
+pub chains_all : (w : WorkingGraph) (n nodes : ℕ) (m : List (List ℕ)) → n ≡ clique_places w.graph
+    → m ≡ map (clique_chain w.graph) (taken_of (fabric_of w) (clique_chain w.graph) n)
+    → length m ≤ nodes → m ≡ working_clique w nodes
+chains_all w n nodes m last same few =
+    let F = clique_chain w.graph in
+    let all = taken_of (fabric_of w) F in
+    let len = length-map (all n) F in
+    let less : length (all n) ≤ nodes =
+    omega (arith, len, few, ap (λ (cs : List (List ℕ)). length cs) same) in
+    same ∙ ap (map F) (sym (take_all nodes (all n) less) ∙ ap (λ k. take nodes (all k)) last)
+
+pub clique_len : (w : WorkingGraph) (nodes : ℕ)
+    → length (working_clique w nodes) ≡ min nodes (length (taken_places w))
+clique_len w nodes =
+    length-map (take nodes (taken_places w)) (clique_chain w.graph)
+    ∙ length-take nodes (taken_places w)

@@ -1,0 +1,11 @@
+pub mod Pairs
+pub mod EmptyForm
+pub mod TakenPlaces
+pub mod WorkingCliques
+pub mod Barriers
+pub mod Meetings
+pub mod FreePlaces
+pub mod FaultsOn
+pub mod LineRows
+pub mod PartRows
+pub mod LeftParts

@@ -1,0 +1,46 @@
+-- Numbers of pairs, and where in a rising list they stand.
+use Rattle.std.proofs.Common.{◌≡◌, ◌≢◌, ℕ, ◌<◌, ◌≤◌, ◌==◌, false, true, nat_lt, List, length, get_or, min, max, arith}
+use Rattle.std.specs.List.Sorted.{IsPartitionedBy, IsPartitionPoint}
+use Rattle.std.proofs.lemmas.Bool.Decides.{nat_tests}
+use Rattle.std.proofs.lemmas.Grind.{get_or_default_zero}
+use Rattle.working_graph.specs.Working.{pair_number}
+use Rattle.working_graph.specs.Numbers.{AreRising}
+
+pub is_other : (a b : ℕ) → a ≢ b → (a == b) ≡ false
+is_other a b e = grind (arith, nat_tests)
+
+-- the number of two that are in order
+pub number_of_ordered : (a b : ℕ) → a ≤ b → pair_number (min a b) (max a b) ≡ pair_number a b
+number_of_ordered a b le = grind (arith, nat_tests)
+
+is_below : (a b : ℕ) → nat_lt a b ≡ true → a < b
+is_below a b e = grind (arith, nat_tests)
+
+is_above : (a b : ℕ) → nat_lt a b ≡ false → b ≤ a
+is_above a b e = grind (arith, nat_tests)
+
+below_is : (a b : ℕ) → a < b → nat_lt a b ≡ true
+below_is a b e = grind (arith, nat_tests)
+
+-- the numbers below a bound come first
+pub rising_parted : (xs : List ℕ) (from : ℕ) → AreRising xs
+    → IsPartitionedBy (λ n. nat_lt n from) xs
+rising_parted xs from rising = λ i j d le low test.
+    below_is (get_or xs i d) from
+    (omega (
+      arith,
+      rising i j le low,
+      is_below (get_or xs j d) from test,
+      get_or_default_zero xs i d (omega (arith, le, low)),
+      get_or_default_zero xs j d low,
+    ))
+
+pub below_point : (xs : List ℕ) (from at : ℕ)
+    → IsPartitionPoint (λ n. nat_lt n from ≡ true) (λ n. nat_lt n from ≡ false) xs at
+    → (i : ℕ) → i < at → get_or xs i 0 < from
+below_point xs from at parted i low = is_below (get_or xs i 0) from (parted.0 i 0 (omega arith) low)
+
+pub above_point : (xs : List ℕ) (from at : ℕ)
+    → IsPartitionPoint (λ n. nat_lt n from ≡ true) (λ n. nat_lt n from ≡ false) xs at
+    → (i : ℕ) → at ≤ i → i < length xs → from ≤ get_or xs i 0
+above_point xs from at parted i high low = is_above (get_or xs i 0) from (parted.1 i 0 high low)

@@ -1,0 +1,175 @@
+-- The parts that rows name, one row after another, and one line after another.
+use Rattle.std.proofs.Common.{◌≡◌, ℕ, ◌+◌, ◌-◌, ◌≤◌, ◌++◌, List, [], ◌∷◌, length, get_or, take, drop, All, Ok, Err, refl, sym, ap, subst, ◌∙◌, arith}
+use Rattle.std.specs.Prelude.{Result}
+use Rattle.std.proofs.lemmas.List.{append_assoc, append-nil, take_all}
+use Rattle.whole_text.specs.declared.faults.TextFault.{TextFault}
+use Rattle.whole_text.specs.declared.faults.TextAnswer.{TextAnswer}
+use Rattle.whole_text.specs.declared.faults.TextAnswer.TheVariants.{Bad, NoMemory}
+use Rattle.whole_text.specs.declared.token.Style.TheVariants.{Plain}
+use Rattle.whole_text.specs.declared.token.Token.{Token}
+use Rattle.whole_text.specs.Tokens.{Word, word_at, words_at, tokens_of_line, tokens_from, IsWithin, AreInOrder}
+use Rattle.whole_text.specs.Rows.{by_line, each}
+use Rattle.whole_text.specs.Steps.{◌>>=◌, Fails}
+use Rattle.whole_text.proofs.Order.{order_wider, order_within}
+use Rattle.whole_text.proofs.Rows.{row_of}
+use Rattle.chimera_graph.specs.declared.chimera.Chimera.{Chimera}
+use Rattle.chain_map.specs.Maps.{after_front}
+use Rattle.working_graph.specs.declared.parts.DeadPart.{DeadPart}
+use Rattle.working_graph.specs.DeadLists.{part_at, parts_of_words}
+use Rattle.working_graph.proofs.LineRows.{one_row, rows_of_lines}
+
+-- ---- readings of lists
+
+one_before : {B : Type 0} (front : List B) (b : B) (rest : Result (List B) TextFault)
+    → after_front front (rest >>= λ more. Ok (b ∷ more)) ≡ after_front (front ++ b ∷ []) rest
+one_before front b (Ok bs) = ap Ok (sym (append_assoc front (b ∷ []) bs))
+one_before front b (Err f) = refl
+
+abbrev said_of : {B : Type 0} → Result (List B) TextFault → List B
+said_of (Ok bs) = bs
+said_of (Err f) = []
+
+step_more : {B : Type 0} (front next : List B) (b : Result B TextFault)
+    (some all rest : Result (List B) TextFault)
+    → ((c : B) → after_front (front ++ c ∷ []) some ≡ Ok next
+    → after_front (front ++ c ∷ []) all ≡ rest)
+    → after_front front (b >>= λ c. some >>= λ more. Ok (c ∷ more)) ≡ Ok next
+    → after_front front (b >>= λ c. all >>= λ more. Ok (c ∷ more)) ≡ rest
+step_more front next (Ok c) some all rest go said =
+    one_before front c all ∙ go c (sym (one_before front c some) ∙ said)
+step_more front next (Err f) some all rest go said = absurd cc
+
+-- what some are read as, and then the others
+each_more : {A B : Type 0} (read : A → Result B TextFault) (front next : List B) (xs ys : List A)
+    → after_front front (each read xs) ≡ Ok next
+    → after_front front (each read (xs ++ ys)) ≡ after_front next (each read ys)
+unfolding each
+each_more {B = B} read front next [] ys said =
+    ap (λ (bs : List B). after_front bs (each read ys)) (sym (append-nil front) ∙ ap said_of said)
+each_more read front next (x ∷ xs) ys said =
+    step_more front next (read x) (each read xs) (each read (xs ++ ys))
+    (after_front next (each read ys)) (λ c. each_more read (front ++ c ∷ []) next xs ys) said
+
+step_fails : {B : Type 0} (front : List B) (b : Result B TextFault)
+    (some all : Result (List B) TextFault) (f : TextFault)
+    → ((c : B) → after_front (front ++ c ∷ []) some ≡ Err f
+    → after_front (front ++ c ∷ []) all ≡ Err f)
+    → after_front front (b >>= λ c. some >>= λ more. Ok (c ∷ more)) ≡ Err f
+    → after_front front (b >>= λ c. all >>= λ more. Ok (c ∷ more)) ≡ Err f
+step_fails front (Ok c) some all f go fails =
+    one_before front c all ∙ go c (sym (one_before front c some) ∙ fails)
+step_fails front (Err g) some all f go fails = fails
+
+-- a fault of some
+each_fails : {A B : Type 0} (read : A → Result B TextFault) (front : List B) (xs ys : List A)
+    (f : TextFault) → after_front front (each read xs) ≡ Err f
+    → after_front front (each read (xs ++ ys)) ≡ Err f
+unfolding each
+each_fails read front [] ys f fails = absurd cc
+each_fails read front (x ∷ xs) ys f fails =
+    step_fails front (read x) (each read xs) (each read (xs ++ ys)) f
+    (λ c. each_fails read (front ++ c ∷ []) xs ys f) fails
+
+-- ---- one line
+
+-- a line without words
+pub parts_none : (graph : Chimera) (front : List DeadPart) (ws : List Word) → ws ≡ []
+    → after_front front (parts_of_words graph ws) ≡ Ok front
+unfolding parts_of_words each by_line
+parts_none graph front ws none = rw none (ap Ok (append-nil front))
+
+-- a line that names a part, or is bad
+one_said : (front : List DeadPart) (said : Result DeadPart TextFault)
+    → after_front front (said >>= λ part. Ok (part ∷ []))
+    ≡ said >>= λ part. Ok (front ++ part ∷ [])
+one_said front (Ok part) = refl
+one_said front (Err f) = refl
+
+pub line_says : (graph : Chimera) (front : List DeadPart) (n : ℕ) (line : List ℕ) (w : Word)
+    (ws : List Word) → tokens_of_line Plain n line ≡ w ∷ ws
+    → after_front front (parts_of_words graph (tokens_of_line Plain n line))
+    ≡ part_at graph (row_of w ws) >>= λ part. Ok (front ++ part ∷ [])
+unfolding parts_of_words each
+line_says graph front n line w ws said =
+    ap (λ vs. after_front front (each (part_at graph) (by_line vs))) said
+    ∙ ap (λ rows. after_front front (each (part_at graph) rows)) (one_row Plain n line w ws said)
+    ∙ one_said front (part_at graph (row_of w ws))
+
+-- the tokens of a line, in a list that was emptied before
+pub tokens_within : (text : List ℕ) (old new seen : List Token) (start end : ℕ) → old ≡ []
+    → (AreInOrder 0 old start → AreInOrder 0 new end) → end ≤ length text → seen ≡ new
+    → All (IsWithin text) seen
+tokens_within text old new seen start end none ordered low same =
+    let before = subst (λ (ts : List Token). AreInOrder 0 ts start) (sym none) (omega arith) in
+    subst (λ (ts : List Token). All (IsWithin text) ts) (sym same)
+    (order_within text new (order_wider 0 new end (length text) (ordered before) low))
+
+pub tokens_said : (text : List ℕ) (old new seen : List Token) (ws : List Word) → old ≡ []
+    → words_at text new ≡ words_at text old ++ ws → seen ≡ new → words_at text seen ≡ ws
+tokens_said text old new seen ws none cut same =
+    ap (words_at text) same ∙ cut ∙ ap (λ (ts : List Token). words_at text ts ++ ws) none
+
+pub nothing_said : (text : List ℕ) (ts : List Token) (ws : List Word) → length ts ≤ 0
+    → words_at text ts ≡ ws → ws ≡ []
+nothing_said text [] ws low said = sym said
+nothing_said text (t ∷ ts) ws low said = absurd (omega (arith, low))
+
+rest_is : (t : Token) (ts : List Token) → take (length (t ∷ ts) - 1) (drop 1 (t ∷ ts)) ≡ ts
+rest_is t ts = take_all (length (t ∷ ts) - 1) ts (omega arith)
+
+-- what they say, the first one and the others
+pub tokens_say : (graph : Chimera) (front : List DeadPart) (n : ℕ) (line text : List ℕ)
+    (ts : List Token) (d : Token) → 1 ≤ length ts → words_at text ts ≡ tokens_of_line Plain n line
+    → after_front front (parts_of_words graph (tokens_of_line Plain n line))
+    ≡ part_at graph
+    (row_of (word_at text (get_or ts 0 d)) (words_at text (take (length ts - 1) (drop 1 ts))))
+    >>= λ part. Ok (front ++ part ∷ [])
+tokens_say graph front n line text [] d some said = absurd (omega (arith, some))
+tokens_say graph front n line text (t ∷ ts) d some said =
+    line_says graph front n line (word_at text t) (words_at text ts) (sym said)
+    ∙ ap (λ (us : List Token). part_at graph (row_of (word_at text t) (words_at text us))
+    >>= λ part. Ok (front ++ part ∷ [])) (sym (rest_is t ts))
+
+-- ---- one line after another
+
+abbrev parts_from : Chimera → ℕ → List (List ℕ) → Result (List DeadPart) TextFault
+parts_from graph n lines = parts_of_words graph (tokens_from Plain n lines)
+
+-- what one line says, and then the others
+pub line_more : (graph : Chimera) (front next : List DeadPart) (n : ℕ) (line : List ℕ)
+    (before after : List (List ℕ)) → before ≡ line ∷ after
+    → after_front front (parts_of_words graph (tokens_of_line Plain n line)) ≡ Ok next
+    → after_front front (parts_from graph n before)
+    ≡ after_front next (parts_from graph (n + 1) after)
+unfolding parts_of_words
+line_more graph front next n line before after cut said =
+    ap (λ lines. after_front front (parts_from graph n lines)) cut
+    ∙ ap (λ rows. after_front front (each (part_at graph) rows)) (rows_of_lines Plain n line after)
+    ∙ each_more (part_at graph) front next (by_line (tokens_of_line Plain n line))
+    (by_line (tokens_from Plain (n + 1) after)) said
+
+line_bad : (graph : Chimera) (front : List DeadPart) (n : ℕ) (line : List ℕ)
+    (before after : List (List ℕ)) (f : TextFault) → before ≡ line ∷ after
+    → after_front front (parts_of_words graph (tokens_of_line Plain n line)) ≡ Err f
+    → after_front front (parts_from graph n before) ≡ Err f
+unfolding parts_of_words
+line_bad graph front n line before after f cut fails =
+    ap (λ lines. after_front front (parts_from graph n lines)) cut
+    ∙ ap (λ rows. after_front front (each (part_at graph) rows)) (rows_of_lines Plain n line after)
+    ∙ each_fails (part_at graph) front (by_line (tokens_of_line Plain n line))
+    (by_line (tokens_from Plain (n + 1) after)) f fails
+
+-- a fault of one line
+pub line_fails : (graph : Chimera) (front : List DeadPart) (n : ℕ) (line : List ℕ)
+    (before after : List (List ℕ)) (e : TextAnswer) → before ≡ line ∷ after
+    → Fails e (after_front front (parts_of_words graph (tokens_of_line Plain n line)))
+    → Fails e (after_front front (parts_from graph n before))
+line_fails graph front n line before after NoMemory cut fails = tt
+line_fails graph front n line before after (Bad f) cut fails =
+    line_bad graph front n line before after f cut fails
+
+-- after the last line there is nothing
+pub lines_end : (graph : Chimera) (front : List DeadPart) (n : ℕ)
+    → after_front front (parts_from graph n []) ≡ Ok front
+unfolding tokens_from
+lines_end graph front n = parts_none graph front (tokens_from Plain n []) refl
