@@ -23,7 +23,7 @@ use Rattle.chain_layer.specs.laws.Kept.{each_of_range}
 use Rattle.chain_layer.proofs.Ordered.{Apart, AreApart, each, ties_at, all_in_order, rises_in_order, couplings_apart, all_couplers, numbered, few_numbered, rises_from_sorted}
 use Rattle.cut_chains.specs.Sides.{cut_strength}
 use Rattle.cut_chains.specs.CutImage.{ties_of, cut_ties}
-use Rattle.cut_chains.specs.laws.Mended.{node_ties, couplers_placed}
+use Rattle.cut_chains.specs.laws.Mended.{node_ties, all_parts, couplers_placed}
 
 -- ---- entries of the same pairs
 
@@ -135,19 +135,14 @@ ties_nonzero weak (q ∷ qs) (p ∷ ps) = (tie_nonzero q p (weak q), ties_nonzer
 
 -- ---- the couplings of the image
 
-right_part : (P : Entry → Type 0) (es ds : List Entry) → AllByRecursion P (es ++ ds)
-    → AllByRecursion P ds
-right_part P [] ds all = all
-right_part P (e ∷ es) ds all = right_part P es ds all.1
-
 pub cut_ties_couplers : (e : Embedding) → IsEmbedding e
     → AllByRecursion (IsCoupler e.qubits) (cut_ties e)
 cut_ties_couplers e kept =
     couplers_alike e.qubits (all_ties e) (cut_ties e) (all_ties_alike e)
     (each_of_range (λ (d : Entry). d.weight ≢ pos 0) (node_ties e) 0 (length e.ising.fields)
     (λ i low high. ties_nonzero _ (drop 1 (chain_of e.chains i)) (chain_of e.parents i)))
-    (right_part (IsCoupler e.qubits) (placed e.ising.couplings e.places) (all_ties e)
-    (all_couplers e kept))
+    (all_parts (IsCoupler e.qubits) (placed e.ising.couplings e.places) (all_ties e)
+    (all_couplers e kept)).1
 
 -- each is a coupling of two qubits, and not 0
 pub cut_couplers : (e : Embedding) → IsEmbedding e

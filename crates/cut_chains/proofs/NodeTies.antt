@@ -1,5 +1,5 @@
 -- The ties of one node, from the sums over its chain.
-use Rattle.std.proofs.Common.{◌≡◌, inl, inr, ℕ, ◌+◌, ◌-◌, ◌<◌, ◌≤◌, ◌^◌, true, not, List, [], ◌∷◌, length, drop, get_or, All, pos, neg_ℤ, refl, ap, ◌∙◌, arith}
+use Rattle.std.proofs.Common.{◌≡◌, inl, inr, ℕ, ◌+◌, ◌-◌, ◌<◌, ◌≤◌, ◌^◌, true, not, List, [], ◌∷◌, length, drop, get_or, All, pos, neg_ℤ, refl, sym, ap, subst, ◌∙◌, arith}
 use Rattle.std.specs.Prelude.{◌==◌, min, sum_by}
 use Rattle.std.proofs.lemmas.Int.{ints}
 use Rattle.std.proofs.lemmas.Bool.{eqb-true, or_cases}
@@ -14,7 +14,7 @@ use Rattle.chain_layer.specs.laws.Kept.{chain_within}
 use Rattle.cut_chains.specs.Sides.{is_below, weight_of, side_weight, cut_strength}
 use Rattle.cut_chains.specs.CutImage.{ties_of}
 use Rattle.cut_chains.specs.Steps.{strength_in}
-use Rattle.cut_chains.specs.laws.Mended.{node_ties}
+use Rattle.cut_chains.specs.laws.Mended.{IsOnceTree, node_ties, once_tree}
 use Rattle.chain_layer.specs.laws.OnceChains.{chain_once}
 use Rattle.cut_chains.proofs.Subtrees.{same_held}
 use Rattle.cut_chains.proofs.CutSizes.{both_sides, chain_weighs, all_weigh}
@@ -54,80 +54,97 @@ chain_small e kept i within =
       kept.ising.small,
     )
 
-module _ (e : Embedding) (kept : IsEmbedding e) (i : ℕ) (within : i < length e.ising.fields)
-    (old new : List ℕ)
-    (held : (q : ℕ) → is_in (chain_of e.chains i) q ≡ true → get_or old q 0 ≡ weight_of e q) where
-  pub old_small : sum_by (λ q. get_or old q 0) (chain_of e.chains i) < 2 ^ 127
-  old_small =
+-- ---- the node whose chain is summed
+
+-- the chain of a node and its parents, where the qubits of the chain hold their weights
+pub record IsNext (e : Embedding) (i : ℕ) (old chain parents : List ℕ) : Type 0 where
+  pub kept : IsEmbedding e
+  pub within : i < length e.ising.fields
+  pub chain_is : chain ≡ chain_of e.chains i
+  pub parents_is : parents ≡ chain_of e.parents i
+  pub held : (q : ℕ) → is_in (chain_of e.chains i) q ≡ true → get_or old q 0 ≡ weight_of e q
+
+-- what the sums have become: at the first qubit the whole, and at each other the weight below it
+pub record AreSummed (old new chain parents : List ℕ) : Type 0 where
+  pub below : (q : ℕ) → is_in (drop 1 chain) q ≡ true
+      → get_or new q 0 ≡ side_weight (λ r. get_or old r 0) chain (is_below chain parents q)
+  pub all : get_or new (first_of chain) 0 ≡ sum_by (λ r. get_or old r 0) chain
+
+module _ (e : Embedding) (i : ℕ) (old chain parents : List ℕ)
+    (next : IsNext e i old chain parents) where
+  pub next_tree : IsOnceTree chain parents
+  next_tree =
+      subst (λ qs. IsOnceTree qs parents) (sym next.chain_is)
+      (subst (IsOnceTree (chain_of e.chains i)) (sym next.parents_is)
+      (once_tree e next.kept i next.within))
+
+  pub next_small : sum_by (λ q. get_or old q 0) chain < 2 ^ 127
+  next_small =
       omega (
         arith,
-        same_sums (λ q. get_or old q 0) (weight_of e) (chain_of e.chains i) held,
-        chain_small e kept i within,
+        ap (sum_by (λ q. get_or old q 0)) next.chain_is,
+        same_sums (λ q. get_or old q 0) (weight_of e) (chain_of e.chains i) next.held,
+        chain_small e next.kept i next.within,
       )
 
-  module _
-      (below : (q : ℕ) → is_in (drop 1 (chain_of e.chains i)) q ≡ true
-      → get_or new q 0
-      ≡ side_weight (λ r. get_or old r 0) (chain_of e.chains i)
-      (is_below (chain_of e.chains i) (chain_of e.parents i) q))
-      (all : get_or new (first_of (chain_of e.chains i)) 0
-      ≡ sum_by (λ r. get_or old r 0) (chain_of e.chains i)) where
-    pub all_small : get_or new (first_of (chain_of e.chains i)) 0 < 2 ^ 127
-    all_small = omega (arith, all, old_small)
+  module _ (new : List ℕ) (sums : AreSummed old new chain parents) where
+    pub all_small : get_or new (first_of chain) 0 < 2 ^ 127
+    all_small = omega (arith, sums.all, next_small)
 
-    part_of : (q : ℕ) → is_in (drop 1 (chain_of e.chains i)) q ≡ true
-        → get_or new q 0 ≤ get_or new (first_of (chain_of e.chains i)) 0
+    -- what is below a qubit is no more than the whole
+    part_of : (q : ℕ) → is_in (drop 1 chain) q ≡ true
+        → get_or new q 0 ≤ get_or new (first_of chain) 0
     part_of q in' =
-        let weight : ℕ → ℕ = λ r. get_or old r 0 in
         omega (
           arith,
-          below q in',
-          all,
-          both_sides weight (chain_of e.chains i)
-              (is_below (chain_of e.chains i) (chain_of e.parents i) q),
+          sums.below q in',
+          sums.all,
+          both_sides (λ r. get_or old r 0) chain (is_below chain parents q),
         )
 
-    pub parts_small : All (λ q. get_or new q 0 ≤ get_or new (first_of (chain_of e.chains i)) 0)
-        (chain_of e.chains i)
+    pub parts_small : All (λ q. get_or new q 0 ≤ get_or new (first_of chain) 0) chain
     parts_small =
-        All-from_recursion (λ q. get_or new q 0 ≤ get_or new (first_of (chain_of e.chains i)) 0)
-        (chain_of e.chains i)
-        (each_in (λ q. get_or new q 0 ≤ get_or new (first_of (chain_of e.chains i)) 0)
-        (chain_of e.chains i) (λ q in'. split (chain_of e.chains i) q in' part_of))
+        All-from_recursion (λ q. get_or new q 0 ≤ get_or new (first_of chain) 0) chain
+        (each_in (λ q. get_or new q 0 ≤ get_or new (first_of chain) 0) chain
+        (λ q in'. split chain q in' part_of))
       where
-        split : (chain : List ℕ) (q : ℕ) → is_in chain q ≡ true
-            → ((q : ℕ) → is_in (drop 1 chain) q ≡ true
-            → get_or new q 0 ≤ get_or new (first_of chain) 0)
-            → get_or new q 0 ≤ get_or new (first_of chain) 0
+        split : (qs : List ℕ) (q : ℕ) → is_in qs q ≡ true
+            → ((r : ℕ) → is_in (drop 1 qs) r ≡ true → get_or new r 0 ≤ get_or new (first_of qs) 0)
+            → get_or new q 0 ≤ get_or new (first_of qs) 0
         split [] q in' part = absurd cc
         split (c ∷ cs) q in' part = elim (or_cases (c == q) (is_in cs q) in') [
           | inl same ↦ omega (arith, ap (λ r. get_or new r 0) (eqb-true c q same))
           | inr later ↦ part q later
         ]
 
-    pub same_strength : (q : ℕ) → is_in (drop 1 (chain_of e.chains i)) q ≡ true
+    at_node : AreSummed old new (chain_of e.chains i) (chain_of e.parents i)
+    at_node =
+        subst (λ qs. AreSummed old new qs (chain_of e.parents i)) next.chain_is
+        (subst (AreSummed old new chain) next.parents_is sums)
+
+    same_strength : (q : ℕ) → is_in (drop 1 (chain_of e.chains i)) q ≡ true
         → strength_in new (first_of (chain_of e.chains i)) q ≡ cut_strength e i q
     same_strength q in' =
-        let chain = chain_of e.chains i in
+        let qs = chain_of e.chains i in
         let weight : ℕ → ℕ = λ r. get_or old r 0 in
-        let is_on = is_below chain (chain_of e.parents i) q in
-        let under : get_or new q 0 ≡ side_weight (weight_of e) chain is_on =
-        below q in' ∙ same_held is_on (weight_of e) weight chain held in
-        let over : get_or new (first_of chain) 0 - get_or new q 0
-        ≡ side_weight (weight_of e) chain (λ r. not (is_on r)) =
+        let is_on = is_below qs (chain_of e.parents i) q in
+        let under : get_or new q 0 ≡ side_weight (weight_of e) qs is_on =
+        at_node.below q in' ∙ same_held is_on (weight_of e) weight qs next.held in
+        let over : get_or new (first_of qs) 0 - get_or new q 0
+        ≡ side_weight (weight_of e) qs (λ r. not (is_on r)) =
         omega (
           arith,
           under,
-          all,
-          same_sums weight (weight_of e) chain held,
-          both_sides
-              (weight_of e) chain is_on,
+          at_node.all,
+          same_sums weight (weight_of e) qs next.held,
+          both_sides (weight_of e) qs is_on,
         ) in
         λ k. min (under k) (over k) + 1
 
-    pub node_made : ties_of (strength_in new (first_of (chain_of e.chains i)))
-        (drop 1 (chain_of e.chains i)) (chain_of e.parents i)
+    pub node_made : ties_of (strength_in new (first_of chain)) (drop 1 chain) parents
         ≡ node_ties e i
     node_made =
-        same_ties (strength_in new (first_of (chain_of e.chains i))) (cut_strength e i)
+        (λ k. ties_of (strength_in new (first_of (next.chain_is k))) (drop 1 (next.chain_is k))
+        (next.parents_is k))
+        ∙ same_ties (strength_in new (first_of (chain_of e.chains i))) (cut_strength e i)
         (drop 1 (chain_of e.chains i)) (chain_of e.parents i) same_strength

@@ -11,9 +11,16 @@ use Rattle.std.proofs.Math.ListN.{set, length-set}
 use Rattle.std.proofs.Math.Seq.{take-append_seam, get_or-append_seam}
 use Rattle.std.proofs.Math.Bool.{or-false}
 use Rattle.bits_model.specs.Walks.{is_in}
-use Rattle.cut_chains.specs.Orders.{IsReached, IsClimb}
+use Rattle.cut_chains.specs.Orders.{IsClimb}
 use Rattle.chain_layer.specs.laws.OnceChains.{Once}
 use Rattle.cut_chains.proofs.Members.{is_in-append, is_in-listed, once_more}
+
+-- each qubit of the list stands after its parent, or its parent is the first, and none stands twice
+pub record IsReached (first : ℕ) (up : ℕ → ℕ) (order : List ℕ) : Type 0 where
+  pub after : (j : ℕ) → j < length order
+      → is_in (first ∷ take j order) (up (get_or order j 0)) ≡ true
+  pub once : (j : ℕ) → j < length order
+      → is_in (first ∷ take j order) (get_or order j 0) ≡ false
 
 pub climb_more : (up : ℕ → ℕ) (path : List ℕ) (from q : ℕ) → IsClimb up path from q
     → IsClimb up (path ++ q ∷ []) from (up q)

@@ -14,11 +14,11 @@ use Rattle.bits_model.specs.Walks.{is_in, first_of}
 use Rattle.chain_map.proofs.Paths.{is_in_at}
 use Rattle.embedding_check.specs.Embeddings.{parent_in, climbed}
 use Rattle.chain_layer.specs.laws.Kept.{each_at}
-use Rattle.cut_chains.specs.Orders.{IsOrder, IsReached, IsClimb, IsClimbed}
+use Rattle.cut_chains.specs.Orders.{IsOrder, IsClimb, IsClimbed}
 use Rattle.cut_chains.specs.Steps.{Climbable}
 use Rattle.cut_chains.specs.laws.Trees.{same_answer, not_again}
 use Rattle.cut_chains.proofs.Members.{is_in-push, is_in-listed}
-use Rattle.cut_chains.proofs.Paths.{reached_path}
+use Rattle.cut_chains.proofs.Paths.{IsReached, reached_path}
 
 module _ (up : List ℕ) (before : List Bool) (first : ℕ) (cs : List ℕ)
     (t : Climbable up before first cs) where

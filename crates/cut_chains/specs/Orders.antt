@@ -1,5 +1,5 @@
--- An order of the qubits of a chain in which each stands after its parent, and walks from a qubit to
--- its parents.
+-- An order of the qubits of a chain in which each stands after its parent, and walks from a qubit
+-- to its parents.
 use Rattle.std.specs.Prelude.{◌≡◌, ℕ, ◌<◌, ◌||◌, Bool, true, false, List, [], ◌∷◌, length, take, All}
 use Rattle.std.specs.List.{slice_index_or}
 use Rattle.bits_model.specs.Walks.{is_in}
@@ -13,13 +13,6 @@ pub record IsOrder (first : ℕ) (cs ps order : List ℕ) : Type 0 where
   pub once : (j : ℕ) → j < length order
       → is_in (first ∷ take j order) (slice_index_or order j 0) ≡ false
   pub all : (q : ℕ) → is_in order q ≡ is_in cs q
-
--- each qubit of the list stands after its parent, or its parent is the first, and none stands twice
-pub record IsReached (first : ℕ) (up : ℕ → ℕ) (order : List ℕ) : Type 0 where
-  pub after : (j : ℕ) → j < length order
-      → is_in (first ∷ take j order) (up (slice_index_or order j 0)) ≡ true
-  pub once : (j : ℕ) → j < length order
-      → is_in (first ∷ take j order) (slice_index_or order j 0) ≡ false
 
 -- a walk from a qubit to its parents, up to q
 abbrev pub IsClimb : (ℕ → ℕ) → List ℕ → ℕ → ℕ → Type 0

@@ -1,5 +1,5 @@
--- Steps of the layer: what the walks over a chain and the sums over its order take, and the strength
--- that a tie has by its sum.
+-- Steps of the layer: what the walks over a chain and the sums over its order take, and the
+-- strength that a tie has by its sum.
 use Rattle.std.specs.Prelude.{◌≡◌, ℕ, ◌+◌, ◌-◌, ◌<◌, ◌^◌, min, Bool, true, false, List, ◌∷◌, length, sum_by}
 use Rattle.std.specs.List.{AllByRecursion, slice_index_or}
 use Rattle.bits_model.specs.Walks.{is_in}

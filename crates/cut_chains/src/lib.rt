@@ -15,5 +15,5 @@ mod ties;
 mod weights;
 
 pub use cut_chains::CutChains;
-pub use laws::laws_of_cut_images;
+pub use laws::{law_of_least_states, laws_of_cut_images, laws_of_cut_links};
 pub use link::CutLink;

@@ -3,12 +3,12 @@
 --
 -- The fields and placed couplings of that side give back at most twice its weight. The tie itself
 -- gives twice its strength, which is one more than the weight, and no other tie changes.
-use Rattle.std.specs.Prelude.{◌≡◌, ◌≢◌, ℕ, ◌+◌, ◌*◌, ◌<◌, ◌≤◌, ◌==◌, ℤ, pos, ◌+ℤ◌, ◌≤ℤ◌, unsigned_abs, Bool, true, false, not, ◌&&◌, List, [], ◌∷◌, length, drop}
+use Rattle.std.specs.Prelude.{◌≡◌, ◌≢◌, ℕ, ◌+◌, ◌*◌, ◌<◌, ◌≤◌, ◌==◌, ℤ, pos, ◌+ℤ◌, ◌≤ℤ◌, unsigned_abs, Bool, true, false, not, ◌&&◌, List, [], ◌∷◌, ◌++◌, length, drop}
 use Rattle.std.specs.List.{AllByRecursion, AllZip, range_with_len}
 use Rattle.std.proofs.Common.{arith, ap, sym, ◌∙◌, refl, inl, inr, subst}
 use Rattle.std.proofs.Math.Nat.{min-eq_left, min-eq_right}
 use Rattle.std.proofs.lemmas.Int.{ints}
-use Rattle.std.proofs.lemmas.Bool.{cases_eq, cases_lt, eq-eqb, ne_eqb, or_cases, and_parts, and_left, false_from_ne_true}
+use Rattle.std.proofs.lemmas.Bool.{cases_eq, cases_lt, eq-eqb, ne_eqb, and_left, false_from_ne_true}
 use Rattle.std.proofs.lemmas.List.Elements.{length_all_zip}
 use Rattle.base.specs.Sums.{total_by, if_so}
 use Rattle.base.proofs.Totals.{total_by-plus}
@@ -16,12 +16,13 @@ use Rattle.bits_model.specs.declared.output.Entry.{Entry}
 use Rattle.bits_model.specs.Output.{times_spin}
 use Rattle.bits_model.specs.Walks.{is_in}
 use Rattle.quad_form.specs.Quads.{IsCoupler}
-use Rattle.chain_map.specs.Chains.{IsBetween, chain_of}
+use Rattle.chain_map.specs.Chains.{chain_of}
 use Rattle.embedding_check.specs.Embeddings.{Embedding, IsEmbedding, IsTie, IsTree, parent_in}
-use Rattle.chain_layer.specs.Image.{nodes_of, couplings_at, all_shares, field_at, placed}
+use Rattle.chain_layer.specs.Image.{nodes_of, couplings_at, all_shares, all_ties, field_at, placed}
+use Rattle.chain_layer.proofs.Ordered.{all_couplers}
 use Rattle.chain_layer.specs.laws.SpinSums.{pair_energy, range-same, hit}
 use Rattle.chain_layer.specs.laws.Whole.{are_same, in_first, in_rest}
-use Rattle.chain_layer.specs.laws.Aligned.{node_at, whole_at, couplers_of, ArePlaced}
+use Rattle.chain_layer.specs.laws.Aligned.{node_at, whole_at}
 use Rattle.chain_layer.specs.laws.Kept.{chain_within, each_at, one_chain, rest_in}
 use Rattle.cut_chains.specs.Sides.{is_below, weight_of, side_weight, tie_strength, cut_strength}
 use Rattle.cut_chains.specs.CutImage.{ties_of}
@@ -270,46 +271,19 @@ all_ties_flip e kept s i c is_on light within =
 
 -- ---- fields and placed couplings
 
-place_inside : (e : Embedding) → IsEmbedding e → (c : Entry) (place : ℕ × ℕ)
-    → IsCoupler (length e.ising.fields) c
-    → IsBetween (chain_of e.chains c.first) (chain_of e.chains c.second) place
-    → place.1 < e.qubits
-place_inside e kept c place coupler between =
-    let first_in : c.first < length e.ising.fields =
-    omega (arith, coupler.upward, coupler.within) in
-    elim (or_cases _ _ between.ends) [
-      | inl ends ↦
-          let parts =
-          and_parts (is_in (chain_of e.chains c.first) place.0)
-          (is_in (chain_of e.chains c.second) place.1) ends in
-          each_at (λ p. p < e.qubits) (chain_of e.chains c.second) place.1
-          (chain_within e kept c.second coupler.within) parts.1
-      | inr ends ↦
-          let parts =
-          and_parts (is_in (chain_of e.chains c.second) place.0)
-          (is_in (chain_of e.chains c.first) place.1) ends in
-          each_at (λ p. p < e.qubits) (chain_of e.chains c.first) place.1
-          (chain_within e kept c.first first_in) parts.1
-    ]
-
-placed_couplers : (e : Embedding) → IsEmbedding e → (cs : List Entry) (ps : List (ℕ × ℕ))
-    → AllByRecursion (IsCoupler (length e.ising.fields)) cs → ArePlaced e cs ps
-    → AllByRecursion (IsCoupler e.qubits) (placed cs ps)
-placed_couplers e kept [] ps couplers all = tt
-placed_couplers e kept (c ∷ cs) [] couplers all = tt
-placed_couplers e kept (c ∷ cs) (p ∷ ps) couplers all = (
-  record {
-    upward = all.0.upward;
-    within = place_inside e kept c p couplers.0 all.0;
-    nonzero = couplers.0.nonzero;
-  },
-  placed_couplers e kept cs ps couplers.1 all.1,
-)
+-- what holds of each entry of two lists, one after the other, holds of each of both
+pub all_parts : (P : Entry → Type 0) (es ds : List Entry) → AllByRecursion P (es ++ ds)
+    → AllByRecursion P es × AllByRecursion P ds
+all_parts P [] ds all = (tt, all)
+all_parts P (e ∷ es) ds all =
+    let rest = all_parts P es ds all.1 in
+    ((all.0, rest.0), rest.1)
 
 pub couplers_placed : (e : Embedding) → IsEmbedding e
     → AllByRecursion (IsCoupler e.qubits) (placed e.ising.couplings e.places)
 couplers_placed e kept =
-    placed_couplers e kept e.ising.couplings e.places (couplers_of e kept) kept.placed
+    (all_parts (IsCoupler e.qubits) (placed e.ising.couplings e.places) (all_ties e)
+    (all_couplers e kept)).0
 
 -- what fields and placed couplings give back is at most twice the weight of the side
 free_flip : (e : Embedding) → IsEmbedding e → (s : ℕ → Bool) (i : ℕ) (is_on : ℕ → Bool)
