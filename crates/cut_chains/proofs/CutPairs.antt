@@ -1,0 +1,222 @@
+-- The couplings of the image are in order, and none of them has the pair of another.
+--
+-- They have the pairs of the layer of chains, whose ties are of the same qubits.
+use Rattle.std.proofs.Common.{◌≡◌, ◌≢◌, ℕ, ◌+◌, ◌*◌, ◌<◌, ◌≤◌, ◌^◌, Bool, true, false, cond, List, [], ◌∷◌, ◌++◌, length, drop, ℤ, pos, neg_ℤ, refl, sym, subst, ◌∙◌, arith}
+use Rattle.std.specs.Prelude.{All, ◌==◌, nat_lt, flat_map}
+use Rattle.std.specs.List.{AllByRecursion, AllZip}
+use Rattle.std.specs.List.Sorted.{IsPermutation, IsNonDecreasingBy}
+use Rattle.std.proofs.lemmas.Int.{ints}
+use Rattle.std.proofs.lemmas.List.Sorted.{All-permutation, sum_by-IsPermutation}
+use Rattle.std.proofs.lemmas.List.Elements.{recursion_from_All, All-from_recursion}
+use Rattle.base.proofs.Totals.{total_by-IsPermutation}
+use Rattle.bits_model.specs.declared.output.Entry.{Entry}
+use Rattle.quad_form.specs.Quads.{IsCoupler}
+use Rattle.bits_model.specs.PairNumbers.{pair_number}
+use Rattle.quad_form.specs.Pairs.{IsPair, weight_for}
+use Rattle.quad_form.proofs.PairOrder.{ArePairs, Rises}
+use Rattle.quad_form.proofs.UniqueForms.{same_entries}
+use Rattle.embedding_check.specs.Embeddings.{Embedding, IsEmbedding}
+use Rattle.chain_map.specs.Chains.{chain_of}
+use Rattle.chain_layer.specs.Image.{nodes_of, strength, coupling_entry, ties, all_ties, placed, in_order}
+use Rattle.chain_layer.specs.laws.SpinSums.{all_append, total_by-in_order}
+use Rattle.chain_layer.specs.laws.Kept.{each_of_range}
+use Rattle.chain_layer.proofs.Ordered.{Apart, AreApart, each, ties_at, all_in_order, rises_in_order, couplings_apart, all_couplers, numbered, few_numbered, rises_from_sorted}
+use Rattle.cut_chains.specs.Sides.{cut_strength}
+use Rattle.cut_chains.specs.CutImage.{ties_of, cut_ties}
+use Rattle.cut_chains.specs.laws.Mended.{node_ties, all_parts, couplers_placed}
+
+-- ---- entries of the same pairs
+
+-- two entries of one pair
+pub record IsAlike (f g : Entry) : Type 0 where
+  pub first : f.first ≡ g.first
+  pub second : f.second ≡ g.second
+
+abbrev pub AreAlike : List Entry → List Entry → Type 0
+AreAlike es ds = AllZip IsAlike es ds
+
+itself_alike : (es : List Entry) → AreAlike es es
+itself_alike [] = tt
+itself_alike (e ∷ es) = (record { first = refl; second = refl }, itself_alike es)
+
+append_alike : (es ds fs gs : List Entry) → AreAlike es ds → AreAlike fs gs
+    → AreAlike (es ++ fs) (ds ++ gs)
+append_alike [] [] fs gs p q = q
+append_alike [] (d ∷ ds) fs gs p q = absurd p
+append_alike (e ∷ es) [] fs gs p q = absurd p
+append_alike (e ∷ es) (d ∷ ds) fs gs p q = (p.0, append_alike es ds fs gs p.1 q)
+
+each_alike : (f g : ℕ → List Entry) (is : List ℕ) → ((i : ℕ) → AreAlike (f i) (g i))
+    → AreAlike (flat_map f is) (flat_map g is)
+each_alike f g [] h = tt
+each_alike f g (i ∷ is) h =
+    append_alike (f i) (g i) (flat_map f is) (flat_map g is) (h i) (each_alike f g is h)
+
+tie_alike : (q p : ℕ) (v w : ℤ) → IsAlike (coupling_entry q p v) (coupling_entry q p w)
+tie_alike q p v w = go (nat_lt q p)
+  where
+    go : (b : Bool)
+        → IsAlike
+        (cond b (record { first = q; second = p; weight = v })
+        (record { first = p; second = q; weight = v }))
+        (cond b (record { first = q; second = p; weight = w })
+        (record { first = p; second = q; weight = w }))
+    go true = record { first = refl; second = refl }
+    go false = record { first = refl; second = refl }
+
+ties_alike : (n : ℕ) (strong : ℕ → ℕ) (qs ps : List ℕ)
+    → AreAlike (ties qs ps n) (ties_of strong qs ps)
+ties_alike n strong [] ps = tt
+ties_alike n strong (q ∷ qs) [] = tt
+ties_alike n strong (q ∷ qs) (p ∷ ps) =
+    (tie_alike q p (neg_ℤ (pos n)) (neg_ℤ (pos (strong q))), ties_alike n strong qs ps)
+
+pub all_ties_alike : (e : Embedding) → AreAlike (all_ties e) (cut_ties e)
+all_ties_alike e =
+    each_alike (ties_at e) (node_ties e) (nodes_of e)
+    (λ i. ties_alike (strength e i) (cut_strength e i) (drop 1 (chain_of e.chains i))
+    (chain_of e.parents i))
+
+-- ---- what they share
+
+same_number : (f g : Entry) → IsAlike f g → pair_number f ≡ pair_number g
+same_number f g alike = λ k. alike.first k * 2 ^ 32 + alike.second k
+
+apart_alike : (es ds : List Entry) → AreAlike es ds → AreApart es → AreApart ds
+apart_alike [] [] alike apart = tt
+apart_alike [] (d ∷ ds) alike apart = absurd alike
+apart_alike (e ∷ es) [] alike apart = absurd alike
+apart_alike (e ∷ es) (d ∷ ds) alike apart =
+    (one es ds alike.1 apart.0, apart_alike es ds alike.1 apart.1)
+  where
+    one : (fs gs : List Entry) → AreAlike fs gs → Apart e fs → Apart d gs
+    one [] [] p q = tt
+    one [] (g ∷ gs) p q = absurd p
+    one (f ∷ fs) [] p q = absurd p
+    one (f ∷ fs) (g ∷ gs) p q = (
+      λ same. q.0 (same_number e d alike.0 ∙ same ∙ sym (same_number f g p.0)),
+      one fs gs p.1 q.1,
+    )
+
+couplers_alike : (n : ℕ) (es ds : List Entry) → AreAlike es ds
+    → AllByRecursion (λ (d : Entry). d.weight ≢ pos 0) ds → AllByRecursion (IsCoupler n) es
+    → AllByRecursion (IsCoupler n) ds
+couplers_alike n [] [] alike nonzero all = tt
+couplers_alike n [] (d ∷ ds) alike nonzero all = absurd alike
+couplers_alike n (e ∷ es) [] alike nonzero all = absurd alike
+couplers_alike n (e ∷ es) (d ∷ ds) alike nonzero all = (
+  record {
+    upward =
+        subst (λ m. m < d.second) alike.0.first
+        (subst (λ m. e.first < m) alike.0.second all.0.upward);
+    within = subst (λ m. m < n) alike.0.second all.0.within;
+    nonzero = nonzero.0;
+  },
+  couplers_alike n es ds alike.1 nonzero.1 all.1,
+)
+
+-- ---- no tie is 0
+
+tie_nonzero : (q p n : ℕ) → (coupling_entry q p (neg_ℤ (pos (n + 1)))).weight ≢ pos 0
+tie_nonzero q p n = go (nat_lt q p)
+  where
+    go : (b : Bool)
+        → (cond {A = Entry} b (record { first = q; second = p; weight = neg_ℤ (pos (n + 1)) })
+        (record { first = p; second = q; weight = neg_ℤ (pos (n + 1)) })).weight
+        ≢ pos 0
+    go true = λ same. omega (arith, ints, same)
+    go false = λ same. omega (arith, ints, same)
+
+ties_nonzero : (weak : ℕ → ℕ) (qs ps : List ℕ)
+    → AllByRecursion (λ (d : Entry). d.weight ≢ pos 0) (ties_of (λ q. weak q + 1) qs ps)
+ties_nonzero weak [] ps = tt
+ties_nonzero weak (q ∷ qs) [] = tt
+ties_nonzero weak (q ∷ qs) (p ∷ ps) = (tie_nonzero q p (weak q), ties_nonzero weak qs ps)
+
+-- ---- the couplings of the image
+
+pub cut_ties_couplers : (e : Embedding) → IsEmbedding e
+    → AllByRecursion (IsCoupler e.qubits) (cut_ties e)
+cut_ties_couplers e kept =
+    couplers_alike e.qubits (all_ties e) (cut_ties e) (all_ties_alike e)
+    (each_of_range (λ (d : Entry). d.weight ≢ pos 0) (node_ties e) 0 (length e.ising.fields)
+    (λ i low high. ties_nonzero _ (drop 1 (chain_of e.chains i)) (chain_of e.parents i)))
+    (all_parts (IsCoupler e.qubits) (placed e.ising.couplings e.places) (all_ties e)
+    (all_couplers e kept)).1
+
+-- each is a coupling of two qubits, and not 0
+pub cut_couplers : (e : Embedding) → IsEmbedding e
+    → AllByRecursion (IsCoupler e.qubits) (placed e.ising.couplings e.places ++ cut_ties e)
+cut_couplers e kept =
+    all_append (IsCoupler e.qubits) (placed e.ising.couplings e.places) (cut_ties e)
+    (couplers_placed e kept)
+    (cut_ties_couplers e kept)
+
+-- no two of them have one pair
+pub cut_apart : (e : Embedding) → IsEmbedding e
+    → AreApart (placed e.ising.couplings e.places ++ cut_ties e)
+cut_apart e kept =
+    apart_alike (placed e.ising.couplings e.places ++ all_ties e)
+    (placed e.ising.couplings e.places ++ cut_ties e)
+    (append_alike (placed e.ising.couplings e.places) (placed e.ising.couplings e.places)
+    (all_ties e) (cut_ties e)
+    (itself_alike (placed e.ising.couplings e.places)) (all_ties_alike e))
+    (couplings_apart e kept)
+
+-- ---- sorted lists
+
+as_pairs : (n : ℕ) (es : List Entry) → n ≤ 2 ^ 20 → AllByRecursion (IsCoupler n) es → ArePairs es
+as_pairs n es few all =
+    each (λ f h. let up = h.upward in let below = h.within in record {
+      upward = up;
+      within = omega
+          (arith, below, few);
+    })
+    es all
+
+-- couplings of different pairs, put in order
+pub in_order_rises : (n : ℕ) (es : List Entry) → n ≤ 2 ^ 20 → AllByRecursion (IsCoupler n) es
+    → AreApart es
+    → ArePairs (in_order es) × Rises (in_order es) × AllByRecursion (IsCoupler n) (in_order es)
+in_order_rises n es few all apart =
+    let here = all_in_order (IsCoupler n) es all in
+    (as_pairs n (in_order es) few here, rises_in_order es apart, here)
+
+-- sorted by their numbers they are in order
+pub sorted_is_in_order : (n : ℕ) (from to : List Entry) → n ≤ 2 ^ 20
+    → AllByRecursion (IsCoupler n) from → AreApart from → IsPermutation from to
+    → IsNonDecreasingBy pair_number to → to ≡ in_order from
+sorted_is_in_order n from to few all apart moved sorted =
+    let here : AllByRecursion (IsCoupler n) to =
+    recursion_from_All (IsCoupler n) to
+    (All-permutation (IsCoupler n) from to moved (All-from_recursion (IsCoupler n) from all)) in
+    let once : (m : ℕ) → numbered m to ≤ 1 =
+    λ m.
+    omega (
+      arith,
+      sum_by-IsPermutation (λ f. cond (pair_number f == m) 1 0) from to moved,
+      few_numbered from apart m,
+    ) in
+    let ordered = in_order_rises n from few all apart in
+    same_entries to (in_order from)
+    (as_pairs n to few here)
+    ordered.0
+    (rises_from_sorted to sorted once)
+    ordered.1
+    (each (λ (f : Entry) (h : IsCoupler n f). h.nonzero) to here)
+    (each (λ (f : Entry) (h : IsCoupler n f). h.nonzero) (in_order from) ordered.2)
+    (λ i j. total_by-IsPermutation (weight_for i j) from to moved
+    ∙ sym (total_by-in_order (weight_for i j) from))
+
+-- they are pairs of qubits
+pub cut_pairs : (e : Embedding) → IsEmbedding e
+    → All (IsPair (2 ^ 20)) (placed e.ising.couplings e.places ++ cut_ties e)
+cut_pairs e kept =
+    let es = placed e.ising.couplings e.places ++ cut_ties e in
+    All-from_recursion (IsPair (2 ^ 20)) es
+    (each (λ f h. let up = h.upward in let below = h.within in record {
+      upward = up;
+      within = omega
+          (arith, below, kept.few);
+    })
+    es (cut_couplers e kept))

@@ -1,0 +1,115 @@
+-- How much each qubit weighs, and that it is small.
+use Rattle.chain_layer.proofs.Added.{at_map}
+use Rattle.std.proofs.Common.{◌≡◌, inl, inr, Bool, true, false, replicate, ℕ, ◌+◌, ◌<◌, ◌≤◌, ◌^◌, List, map, length, get_or, ℤ, pos, unsigned_abs, sym, ap, subst, ◌∙◌, arith}
+use Rattle.std.specs.List.{range_with_len}
+use Rattle.std.specs.Prelude.{All}
+use Rattle.std.proofs.lemmas.Bool.{cases_lt}
+use Rattle.std.proofs.lemmas.List.Elements.{All-from_recursion}
+use Rattle.std.proofs.lemmas.List.{get_or_past, length-map, get_or-replicate}
+use Rattle.std.proofs.lemmas.List.FromFn.{fill_by_all, get_or-map-range_with_len, length-map-range_with_len}
+use Rattle.bits_model.specs.declared.output.Entry.{Entry}
+use Rattle.bits_model.specs.Output.{weight_total}
+use Rattle.quad_form.specs.Quads.{node_entries, IsCoupler}
+use Rattle.quad_form.proofs.NodeEnergies.{weights_within, weights-append}
+use Rattle.bits_model.specs.Walks.{is_in}
+use Rattle.chain_map.specs.Chains.{chain_of}
+use Rattle.chain_layer.specs.laws.Kept.{each_at, chain_within}
+use Rattle.embedding_check.specs.Embeddings.{Embedding, IsEmbedding}
+use Rattle.chain_layer.specs.Image.{all_shares, field_at, placed, couplings_at}
+use Rattle.chain_layer.proofs.Sizes.{weights_of_image_fields, weights_placed}
+use Rattle.cut_chains.specs.Sides.{weight_of}
+use Rattle.cut_chains.specs.laws.Mended.{couplers_placed}
+
+-- a field weighs at most what all fields do
+field_within : (hs : List ℤ) (i : ℕ)
+    → get_or (map (λ h. unsigned_abs h) hs) i 0 ≤ weight_total (node_entries 0 hs)
+field_within hs i = elim (cases_lt i (length hs)) [
+  | inl within ↦
+      omega (arith, at_map (λ h. unsigned_abs h) hs i within, weights_within hs i (pos 0) within)
+  | inr past ↦
+      omega (
+        arith,
+        get_or_past (map (λ h. unsigned_abs h) hs) i 0
+            (omega (arith, past, length-map hs (λ (h : ℤ). unsigned_abs h))),
+      )
+]
+
+-- the size of a field, and of all couplings that are placed
+pub first_small : (e : Embedding) → IsEmbedding e → (xs : List ℕ) (cs : List Entry)
+    → xs ≡ map (λ h. unsigned_abs h) (map (field_at (all_shares e)) (range_with_len 0 e.qubits))
+    → cs ≡ placed e.ising.couplings e.places
+    → (i : ℕ) → get_or xs i 0 + weight_total cs < 2 ^ 127
+first_small e kept xs cs same listed i =
+    omega (
+      arith,
+      ap (λ l. get_or l i 0) same,
+      ap weight_total listed,
+      field_within (map (field_at (all_shares e)) (range_with_len 0 e.qubits)) i,
+      weights_of_image_fields e kept,
+      weights_placed e.ising.couplings e.places,
+      weights-append (node_entries 0 e.ising.fields) e.ising.couplings,
+      kept.ising.small,
+    )
+
+-- the sizes of the fields, raised by those of the couplings, are the weights
+pub all_weights : (e : Embedding) (xs ys : List ℕ) (cs : List Entry)
+    → xs ≡ map (λ h. unsigned_abs h) (map (field_at (all_shares e)) (range_with_len 0 e.qubits))
+    → cs ≡ placed e.ising.couplings e.places
+    → length ys ≡ length xs
+    → ((i : ℕ) → i < length xs → get_or ys i 0 ≡ get_or xs i 0 + couplings_at i cs)
+    → ys ≡ map (weight_of e) (range_with_len 0 e.qubits)
+all_weights e xs ys cs same listed size sums =
+    let hs = map (field_at (all_shares e)) (range_with_len 0 e.qubits) in
+    let many : length hs ≡ e.qubits =
+    length-map-range_with_len (field_at (all_shares e)) 0 e.qubits in
+    let wide : length xs ≡ e.qubits =
+    ap length same ∙ length-map hs (λ (h : ℤ). unsigned_abs h) ∙ many in
+    fill_by_all (weight_of e) ys e.qubits 0 (size ∙ wide)
+    (λ k l.
+    omega (
+      arith,
+      sums k (omega (arith, l, wide)),
+      ap (λ s. get_or s k 0) same,
+      at_map (λ h. unsigned_abs h) hs k (omega (arith, l, many)),
+      ap unsigned_abs (get_or-map-range_with_len (field_at (all_shares e)) 0 e.qubits k k (pos 0) l
+          (omega arith)),
+      ap (couplings_at k) listed,
+    ))
+
+-- the couplings that are placed are of qubits that have a weight
+pub first_couplers : (e : Embedding) → IsEmbedding e → (xs : List ℕ) (cs : List Entry)
+    → xs ≡ map (λ h. unsigned_abs h) (map (field_at (all_shares e)) (range_with_len 0 e.qubits))
+    → cs ≡ placed e.ising.couplings e.places
+    → All (IsCoupler (length xs)) cs
+first_couplers e kept xs cs same listed =
+    let hs = map (field_at (all_shares e)) (range_with_len 0 e.qubits) in
+    let wide : length xs ≡ e.qubits =
+    ap length same
+    ∙ length-map hs (λ (h : ℤ). unsigned_abs h)
+    ∙ length-map-range_with_len (field_at (all_shares e)) 0 e.qubits in
+    subst (All (IsCoupler (length xs))) (sym listed)
+    (subst (λ n. All (IsCoupler n) (placed e.ising.couplings e.places)) (sym wide)
+    (All-from_recursion _ _ (couplers_placed e kept)))
+
+-- ---- where the ties begin
+
+-- each qubit of a chain holds its weight
+pub all_held : (e : Embedding) → IsEmbedding e → (xs : List ℕ)
+    → xs ≡ map (weight_of e) (range_with_len 0 e.qubits)
+    → (j : ℕ) → j < length e.ising.fields → (q : ℕ) → is_in (chain_of e.chains j) q ≡ true
+    → get_or xs q 0 ≡ weight_of e q
+all_held e kept xs same j j_in q q_in =
+    let below : q < e.qubits =
+    each_at (λ p. p < e.qubits) (chain_of e.chains j) q (chain_within e kept j j_in) q_in in
+    ap (λ l. get_or l q 0) same
+    ∙ get_or-map-range_with_len (weight_of e) 0 e.qubits q q 0 below (omega arith)
+
+-- and none is marked
+pub none_seen : (e : Embedding) → IsEmbedding e → (seen : List Bool)
+    → seen ≡ replicate e.qubits false
+    → (j : ℕ) → j < length e.ising.fields → (q : ℕ) → is_in (chain_of e.chains j) q ≡ true
+    → get_or seen q true ≡ false
+none_seen e kept seen same j j_in q q_in =
+    let below : q < e.qubits =
+    each_at (λ p. p < e.qubits) (chain_of e.chains j) q (chain_within e kept j j_in) q_in in
+    ap (λ l. get_or l q true) same ∙ get_or-replicate e.qubits q false true below

@@ -1,0 +1,12 @@
+pub mod Members
+pub mod CutPairs
+pub mod CutSizes
+pub mod CutWeights
+pub mod Joined
+pub mod Subtrees
+pub mod SinkSteps
+pub mod Paths
+pub mod Reaching
+pub mod Noting
+pub mod TiesOf
+pub mod NodeTies

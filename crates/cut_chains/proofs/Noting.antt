@@ -1,0 +1,204 @@
+-- The parents that are noted for a chain, and what the walks and sums over it ask.
+use Rattle.std.proofs.Common.{◌≡◌, inl, inr, ℕ, ◌+◌, ◌<◌, ◌^◌, Bool, true, false, cond, ◌||◌, List, [], ◌∷◌, length, take, drop, get_or, All, refl, sym, ap, subst, ◌∙◌, arith}
+use Rattle.std.specs.Prelude.{◌==◌, sum_by}
+use Rattle.std.specs.List.{AllByRecursion, AllZip}
+use Rattle.std.proofs.lemmas.Bool.{cases_eq, eqb-true, or_cases}
+use Rattle.std.proofs.lemmas.List.{get_or-drop, get_or-set_same, get_or-set_other, length-drop}
+use Rattle.std.proofs.lemmas.List.Elements.{AllZip-get_or, recursion_from_All, All-from_recursion, length_all_zip}
+use Rattle.std.proofs.Math.ListN.{set, length-set}
+use Rattle.bits_model.specs.Walks.{is_in, first_of}
+use Rattle.embedding_check.specs.Embeddings.{IsTie, parent_in}
+use Rattle.chain_layer.specs.laws.Whole.{in_first, in_rest}
+use Rattle.chain_layer.specs.laws.Kept.{each_at}
+use Rattle.cut_chains.specs.Sides.{is_below, side_weight}
+use Rattle.cut_chains.specs.laws.Trees.{IsRooted, is_below_first}
+use Rattle.chain_layer.specs.laws.OnceChains.{Once, own_parents}
+use Rattle.cut_chains.specs.laws.Mended.{IsOnceTree, rooted_tree}
+use Rattle.std.proofs.lemmas.List.Sums.{sum_by-cons}
+use Rattle.cut_chains.specs.Orders.{IsOrder}
+use Rattle.cut_chains.specs.Steps.{Climbable, Sinkable}
+use Rattle.cut_chains.proofs.Reaching.{chain_parts}
+use Rattle.cut_chains.proofs.Members.{in_more}
+
+-- what is noted so far
+pub record IsNoted (before up chain parents : List ℕ) (i : ℕ) : Type 0 where
+  pub sized : length up ≡ length before
+  pub own : (q : ℕ) → is_in (take i (drop 1 chain)) q ≡ true
+      → get_or up q 0 ≡ parent_in (drop 1 chain) parents q
+  pub within : (n : ℕ) → All (λ q. q < n) before → All (λ q. q < n) parents → All (λ q. q < n) up
+
+pub noted_more : (before up next chain parents : List ℕ) (i : ℕ)
+    → length chain ≡ length parents + 1 → i < length parents → Once (drop 1 chain)
+    → All (λ q. q < length before) chain
+    → IsNoted before up chain parents i
+    → next ≡ set up (get_or chain (i + 1) 0) (get_or parents i 0)
+    → IsNoted before next chain parents (i + 1)
+noted_more before up next chain parents i matched i_in once inside noted stored =
+    let cs = drop 1 chain in
+    let at = get_or chain (i + 1) 0 in
+    let value = get_or parents i 0 in
+    let counted : length cs ≡ length parents = omega (arith, length-drop 1 chain, matched) in
+    let next_is : 1 + i ≡ i + 1 = omega arith in
+    let here : get_or cs i 0 ≡ at = get_or-drop 1 chain i 0 ∙ ap (λ n. get_or chain n 0) next_is in
+    let own : parent_in cs parents (get_or cs i 0) ≡ value =
+    AllZip-get_or (λ q p. parent_in cs parents q ≡ p) cs parents i 0 0
+    (own_parents cs parents once counted) (omega (arith, counted, i_in)) in
+    let at_in : at < length up =
+    omega (arith, noted.sized, inside (i + 1) 0 (omega (arith, matched, i_in))) in
+    record {
+      sized = ap length stored ∙ length-set up at value ∙ noted.sized;
+      own = λ q q_in.
+          ap (λ xs. get_or xs q 0) stored
+          ∙ elim (cases_eq q at) [
+            | inl same ↦
+                ap (λ r. get_or (set up at value) r 0) same
+                ∙ get_or-set_same up at value 0 at_in
+                ∙ sym own
+                ∙ ap (parent_in cs parents) (here ∙ sym same)
+            | inr other ↦
+                get_or-set_other up at q value 0 other
+                ∙ noted.own q (elim (or_cases (is_in (take i cs) q) (get_or cs i 0 == q)
+                (sym (in_more cs i q (omega (arith, counted, i_in))) ∙ q_in)) [
+                  | inl before ↦ before
+                  | inr last ↦ absurd (other (sym (sym here ∙ eqb-true (get_or cs i 0) q last)))
+                ])
+          ];
+      within = λ n old all k d k_in.
+          let k_up : k < length up =
+          omega (arith, ap length stored, length-set up at value, k_in) in
+          subst (λ m. m < n) (sym (ap (λ xs. get_or xs k d) stored))
+          (elim (cases_eq k at) [
+            | inl same ↦
+                subst (λ m. m
+                < n) (sym (ap (λ r. get_or (set up at value) r d) same
+                ∙ get_or-set_same up at value d at_in))
+                (all i 0 i_in)
+            | inr other ↦
+                subst (λ m. m < n) (sym (get_or-set_other up at k value d other))
+                (noted.within n old all k d k_up)
+          ]);
+    }
+
+-- a parent is in the chain
+parent_in_chain : (chain cs ps : List ℕ) (q : ℕ) → AllZip (IsTie chain) cs ps → is_in cs q ≡ true
+    → is_in chain (parent_in cs ps q) ≡ true
+parent_in_chain chain [] ps q ties in' = absurd cc
+parent_in_chain chain (c ∷ cs) [] q ties in' = absurd ties
+parent_in_chain chain (c ∷ cs) (p ∷ ps) q ties in' =
+    go (c == q) in' (parent_in_chain chain cs ps q ties.1)
+  where
+    go : (b : Bool) → (b || is_in cs q) ≡ true
+        → (is_in cs q ≡ true → is_in chain (parent_in cs ps q) ≡ true)
+        → is_in chain (cond b p (parent_in cs ps q)) ≡ true
+    go true h later = ties.0.inside
+    go false h later = later h
+
+-- ---- a chain, as its first qubit and the others
+
+pub chain_root : (chain parents : List ℕ) → IsOnceTree chain parents
+    → IsRooted (first_of chain) (drop 1 chain) parents
+chain_root [] parents t = absurd (t.filled refl)
+chain_root (first ∷ cs) parents t = rooted_tree first cs parents t
+
+pub chain_different : (chain parents : List ℕ) → IsOnceTree chain parents → Once (drop 1 chain)
+chain_different [] parents t = absurd (t.filled refl)
+chain_different (first ∷ cs) parents t = t.once.1
+
+pub chain_all : (P : ℕ → Type 0) (chain parents : List ℕ) → IsOnceTree chain parents → All P chain
+    → AllByRecursion P (first_of chain ∷ drop 1 chain)
+chain_all P [] parents t all = absurd (t.filled refl)
+chain_all P (first ∷ cs) parents t all = recursion_from_All P (first ∷ cs) all
+
+pub chain_closed : (chain parents : List ℕ) → IsOnceTree chain parents → (q : ℕ)
+    → is_in (drop 1 chain) q ≡ true
+    → is_in (first_of chain ∷ drop 1 chain) (parent_in (drop 1 chain) parents q) ≡ true
+chain_closed [] parents t q in' = absurd (t.filled refl)
+chain_closed (first ∷ cs) parents t q in' =
+    parent_in_chain (first ∷ cs) cs parents q t.tree.ties in'
+
+pub parents_within : (n : ℕ) (chain cs ps : List ℕ) → AllZip (IsTie chain) cs ps
+    → All (λ q. q < n) chain → All (λ q. q < n) ps
+parents_within n chain cs ps ties inside = All-from_recursion (λ q. q < n) ps (each cs ps ties)
+  where
+    each : (cs ps : List ℕ) → AllZip (IsTie chain) cs ps → AllByRecursion (λ q. q < n) ps
+    each [] [] ties = tt
+    each [] (p ∷ ps) ties = absurd ties
+    each (c ∷ cs) [] ties = tt
+    each (c ∷ cs) (p ∷ ps) ties = (
+      each_at (λ q. q < n) chain p (recursion_from_All (λ q. q < n) chain inside) ties.0.inside,
+      each cs ps ties.1,
+    )
+
+pub tree_lengths : (chain parents : List ℕ) → IsOnceTree chain parents
+    → length chain ≡ length parents + 1
+tree_lengths [] parents t = absurd (t.filled refl)
+tree_lengths (first ∷ cs) parents t =
+    omega (arith, length_all_zip (IsTie (first ∷ cs)) cs parents t.tree.ties)
+
+-- all qubits of a chain are below the first
+pub all_below : (weight : ℕ → ℕ) (chain parents : List ℕ) → IsOnceTree chain parents
+    → side_weight weight (first_of chain ∷ drop 1 chain)
+    (is_below (first_of chain ∷ drop 1 chain) parents (first_of chain))
+    ≡ sum_by weight chain
+all_below weight [] parents t = absurd (t.filled refl)
+all_below weight (first ∷ cs) parents t =
+    every (first ∷ cs) (λ r in'. is_below_first first cs parents (rooted_tree first cs parents t) r
+    (elim (or_cases (first == r) (is_in cs r) in') [
+      | inl same ↦ inl (sym (eqb-true first r same))
+      | inr later ↦ inr later
+    ]))
+  where
+    every : (qs : List ℕ)
+        → ((r : ℕ) → is_in qs r ≡ true → is_below (first ∷ cs) parents first r ≡ true)
+        → side_weight weight qs (is_below (first ∷ cs) parents first) ≡ sum_by weight qs
+    every [] all = refl
+    every (q ∷ qs) all =
+        omega (
+          arith,
+          sum_by-cons (λ r. cond (is_below (first ∷ cs) parents first r) (weight r) 0) q qs,
+          sum_by-cons weight q qs,
+          ap (λ b. cond b (weight q) 0) (all q (in_first q qs)),
+          every qs (λ r in'. all r (in_rest q r qs in')),
+        )
+
+-- ---- what walks and sums ask
+
+-- what the walks over a chain ask
+abbrev pub climbable : (up : List ℕ) (seen : List Bool) (chain parents : List ℕ)
+    → IsOnceTree chain parents → All (λ q. q < length seen) chain
+    → All (λ q. get_or seen q true ≡ false) chain
+    → ((q : ℕ) → is_in (drop 1 chain) q ≡ true → get_or up q 0 ≡ parent_in (drop 1 chain) parents q)
+    → Climbable up seen (first_of chain) (drop 1 chain)
+climbable up seen chain parents tree inside unseen own = record {
+  ps = parents;
+  root = chain_root chain parents tree;
+  different = chain_different chain parents tree;
+  inside = chain_all (λ q. q < length seen) chain parents tree inside;
+  unseen = chain_all (λ q. get_or seen q true ≡ false) chain parents tree unseen;
+  parents = own;
+  closed = chain_closed chain parents tree;
+}
+
+-- what the sums over it ask
+abbrev pub sinkable : (up sums order chain parents : List ℕ) → IsOnceTree chain parents
+    → IsOrder (first_of chain) (drop 1 chain) parents order
+    → All (λ q. q < length sums) chain → length up ≡ length sums
+    → ((q : ℕ) → is_in (drop 1 chain) q ≡ true → get_or up q 0 ≡ parent_in (drop 1 chain) parents q)
+    → sum_by (λ q. get_or sums q 0) chain < 2 ^ 127
+    → Sinkable up sums order
+sinkable up sums order chain parents tree ordered inside same own small = record {
+  first = first_of chain;
+  cs = drop 1 chain;
+  ps = parents;
+  root = chain_root chain parents tree;
+  ordered = ordered;
+  different = chain_different chain parents tree;
+  inside = chain_all (λ q. q < length sums) chain parents tree inside;
+  parents = own;
+  known =
+      subst (λ n. AllByRecursion (λ q. q < n) (drop 1 chain)) (sym same)
+      (chain_all (λ q. q < length sums) chain parents tree inside).1;
+  small =
+      subst (λ qs. sum_by (λ q. get_or sums q 0) qs < 2 ^ 127) (sym (chain_parts chain tree.filled))
+      small;
+}

@@ -1,0 +1,250 @@
+-- How the order of a chain comes about, walk by walk.
+--
+-- No walk comes back to a qubit of its own, since steps to the parent lead to the chain's first
+-- qubit. So each ends at a qubit that was listed before.
+use Rattle.std.proofs.Common.{◌≡◌, ◌≢◌, inl, inr, ℕ, ◌<◌, Bool, true, false, ◌||◌, List, [], ◌∷◌, ◌++◌, length, take, drop, get_or, refl, sym, ap, subst, ◌∙◌, arith}
+use Rattle.std.specs.Prelude.{◌==◌, reverse}
+use Rattle.std.specs.List.{AllByRecursion}
+use Rattle.std.proofs.lemmas.Bool.{cases_lt, cases_eq, eq-eqb, eqb-true, ne_eqb, or_cases, or_left, or_right, or_parts, or_from, both_ways, false_from_ne_true}
+use Rattle.std.proofs.lemmas.List.{append-nil, get_or_past, get_or-set_same, get_or-set_other}
+use Rattle.std.proofs.lemmas.List.Elements.{recursion_from_All}
+use Rattle.std.proofs.Math.ListN.{set, length-set}
+use Rattle.std.proofs.Math.Bool.{or-false}
+use Rattle.bits_model.specs.Walks.{is_in, first_of}
+use Rattle.chain_map.proofs.Paths.{is_in_at}
+use Rattle.embedding_check.specs.Embeddings.{parent_in, climbed}
+use Rattle.chain_layer.specs.laws.Kept.{each_at}
+use Rattle.cut_chains.specs.Orders.{IsOrder, IsClimb, IsClimbed}
+use Rattle.cut_chains.specs.Steps.{Climbable}
+use Rattle.cut_chains.specs.laws.Trees.{same_answer, not_again}
+use Rattle.cut_chains.proofs.Members.{is_in-push, is_in-listed}
+use Rattle.cut_chains.proofs.Paths.{IsReached, reached_path}
+
+module _ (up : List ℕ) (before : List Bool) (first : ℕ) (cs : List ℕ)
+    (t : Climbable up before first cs) where
+  -- the parent that is told of a qubit
+  abbrev pub parent_at : ℕ → ℕ
+  parent_at q = get_or up q 0
+
+  -- what is listed so far, where the qubits `done` have been walked from
+  pub record IsReaching (seen : List Bool) (order done : List ℕ) : Type 0 where
+    pub sized : length seen ≡ length before
+    pub reached : IsReached first parent_at order
+    pub marked : (q : ℕ) → q < length before
+        → get_or seen q true ≡ (get_or before q true || is_in (first ∷ order) q)
+    pub inside : (q : ℕ) → is_in order q ≡ true → is_in cs q ≡ true
+    pub walked : (q : ℕ) → is_in done q ≡ true → is_in (first ∷ order) q ≡ true
+
+  pub reach_start : (seen : List Bool) → seen ≡ set before first true → IsReaching seen [] []
+  reach_start seen stored = record {
+    sized = ap length stored ∙ length-set before first true;
+    reached =
+        record {
+          after = λ j in'. absurd (omega (arith, in'));
+          once = λ j in'. absurd
+              (omega (arith, in'));
+        };
+    marked = λ q within.
+        ap (λ xs. get_or xs q true) stored
+        ∙ elim (cases_eq q first) [
+          | inl same ↦
+              ap (λ i. get_or (set before first true) i true) same
+              ∙ get_or-set_same before first true true t.inside.0
+              ∙ sym (or_right (get_or before q true) (is_in (first ∷ []) q)
+              (or_left (first == q) false (eq-eqb first q (sym same))))
+          | inr other ↦
+              get_or-set_other before first q true true other
+              ∙ sym (ap (λ b. get_or before q true || b)
+              (or_from (first == q) false (ne_eqb first q (λ e. other (sym e))) refl)
+              ∙ or-false (get_or before q true))
+        ];
+    inside = λ q in'. absurd cc;
+    walked = λ q in'. absurd cc;
+  }
+
+  -- ---- one walk
+
+  parent_same : (q : ℕ) → is_in cs q ≡ true → parent_at q ≡ parent_in cs t.ps q
+  parent_same q in' = t.parents q in'
+
+  -- a walk from a qubit of the chain that does not pass the first stays in the chain
+  path_inside : (path : List ℕ) (from q : ℕ) → IsClimb parent_at path from q
+      → is_in (first ∷ cs) from ≡ true → AllByRecursion (λ p. (first == p) ≡ false) path
+      → AllByRecursion (λ p. is_in cs p ≡ true) path × (is_in (first ∷ cs) q ≡ true)
+  path_inside [] from q climb in' others = (tt, ap (is_in (first ∷ cs)) (sym climb) ∙ in')
+  path_inside (p ∷ ps) from q climb in' others =
+      let p_in : is_in cs p ≡ true =
+      elim (or_cases (first == p) (is_in cs p) (ap (is_in (first ∷ cs)) (sym climb.0) ∙ in')) [
+        | inl same ↦ absurd (both_ways (first == p) others.0 same)
+        | inr later ↦ later
+      ] in
+      let rest = path_inside ps (parent_at p) q climb.1
+      (ap (is_in (first ∷ cs)) (parent_same p p_in) ∙ t.closed p p_in) others.1 in
+      ((p_in, rest.0), rest.1)
+
+  steps_of : (path : List ℕ) (from q : ℕ) → IsClimb parent_at path from q
+      → AllByRecursion (λ p. is_in cs p ≡ true) path → climbed cs t.ps (length path) from ≡ q
+  steps_of [] from q climb all = climb
+  steps_of (p ∷ ps) from q climb all =
+      ap (λ r. climbed cs t.ps (length ps) (parent_in cs t.ps r)) climb.0
+      ∙ ap (climbed cs t.ps (length ps)) (sym (parent_same p all.0))
+      ∙ steps_of ps (parent_at p) q climb.1 all.1
+
+  -- it does not end where it has been
+  no_round : (path : List ℕ) (from q : ℕ) → IsClimb parent_at path from q
+      → AllByRecursion (λ p. is_in cs p ≡ true) path → is_in path q ≡ true → ⊥
+  no_round [] from q climb all in' = absurd cc
+  no_round (p ∷ ps) from q climb all in' =
+      elim (or_cases (p == q) (is_in ps q) in') [
+        | inl same ↦
+            let equal : p ≡ q = eqb-true p q same in
+            not_again first cs t.ps t.root (length ps) p all.0
+            (ap (climbed cs t.ps (length ps)) (sym (parent_same p all.0))
+            ∙ steps_of ps (parent_at p) q climb.1 all.1
+            ∙ sym equal)
+        | inr later ↦ no_round ps (parent_at p) q climb.1 all.1 later
+      ]
+
+  -- what is not marked is a qubit
+  fresh_within : (seen : List Bool) (q : ℕ) → get_or seen q true ≡ false → q < length seen
+  fresh_within seen q fresh = elim (cases_lt q (length seen)) [
+    | inl less ↦ less
+    | inr past ↦
+        let beyond = get_or_past seen q true past in
+        let both : true ≡ false = sym beyond ∙ fresh in
+        absurd cc
+  ]
+
+  -- and is not listed
+  fresh_path : (seen : List Bool) (order done path : List ℕ) → IsReaching seen order done
+      → AllByRecursion (λ p. get_or seen p true ≡ false) path
+      → AllByRecursion (λ p. is_in (first ∷ order) p ≡ false) path
+  fresh_path seen order done [] reaching fresh = tt
+  fresh_path seen order done (p ∷ ps) reaching fresh =
+      let within : p < length before = omega (arith, fresh_within seen p fresh.0, reaching.sized) in
+      let parts =
+      or_parts (get_or before p true) (is_in (first ∷ order) p)
+      (sym (reaching.marked p within) ∙ fresh.0) in
+      (parts.1, fresh_path seen order done ps reaching fresh.1)
+
+  not_first : (order path : List ℕ) → AllByRecursion (λ p. is_in (first ∷ order) p ≡ false) path
+      → AllByRecursion (λ p. (first == p) ≡ false) path
+  not_first order [] fresh = tt
+  not_first order (p ∷ ps) fresh =
+      ((or_parts (first == p) (is_in order p) fresh.0).0, not_first order ps fresh.1)
+
+  pub reach_more : (seen next : List Bool) (order done path : List ℕ) (from : ℕ)
+      → IsReaching seen order done → is_in cs from ≡ true
+      → IsClimbed parent_at seen next from path
+      → IsReaching next (order ++ reverse path) (done ++ from ∷ [])
+  reach_more seen next order done path from reaching from_in walk =
+      let q = walk.walk.0 in
+      let climb = walk.walk.1 in
+      let fresh =
+      fresh_path seen order done path reaching
+      (recursion_from_All (λ p. get_or seen p true ≡ false) path walk.unmarked) in
+      let sides =
+      path_inside path from q climb (or_right (first == from) (is_in cs from) from_in)
+      (not_first order path fresh) in
+      let within : q < length before = omega (arith, walk.walk.2, reaching.sized) in
+      let listed : is_in (first ∷ order) q ≡ true =
+      elim (or_cases (get_or seen q true) (is_in path q) walk.walk.3) [
+        | inr again ↦ absurd (no_round path from q climb sides.0 again)
+        | inl seen_before ↦
+            elim (or_cases (get_or before q true) (is_in (first ∷ order) q)
+            (sym (reaching.marked q within) ∙ seen_before)) [
+              | inr here ↦ here
+              | inl marked ↦
+                  absurd (both_ways (get_or before q true)
+                  (each_at (λ p. get_or before p true ≡ false) (first ∷ cs) q t.unseen sides.1)
+                  marked)
+            ]
+      ] in
+      record {
+        sized = walk.sized ∙ reaching.sized;
+        reached =
+            reached_path first parent_at order path from q reaching.reached climb listed fresh
+            walk.different;
+        marked = λ r r_within.
+            walk.marked r (omega (arith, r_within, reaching.sized))
+            ∙ ap (λ b. b || is_in path r) (reaching.marked r r_within)
+            ∙ regroup (get_or before r true) (first == r) (is_in order r) (is_in path r)
+            ∙ sym (ap (λ b. get_or before r true || ((first == r) || b))
+            (is_in-listed order path r));
+        inside = λ r in'.
+            elim (or_cases (is_in order r) (is_in path r)
+            (sym (is_in-listed order path r) ∙ in')) [
+              | inl old ↦ reaching.inside r old
+              | inr new ↦ each_at (λ p. is_in cs p ≡ true) path r sides.0 new
+            ];
+        walked = λ r in'.
+            elim (or_cases (is_in done r) (from == r) (sym (is_in-push done from r) ∙ in')) [
+              | inl old ↦ wider r (reaching.walked r old)
+              | inr same ↦
+                  subst (λ s. is_in (first ∷ (order ++ reverse path)) s ≡ true)
+                  (eqb-true from r same)
+                  (begun path climb listed)
+            ];
+      }
+    where
+      regroup : (a b c d : Bool) → ((a || (b || c)) || d) ≡ (a || (b || (c || d)))
+      regroup true b c d = refl
+      regroup false true c d = refl
+      regroup false false c d = refl
+
+      wider : (r : ℕ) → is_in (first ∷ order) r ≡ true
+          → is_in (first ∷ (order ++ reverse path)) r ≡ true
+      wider r in' = elim (or_cases (first == r) (is_in order r) in') [
+        | inl same ↦ or_left (first == r) (is_in (order ++ reverse path) r) same
+        | inr old ↦
+            or_right (first == r) (is_in (order ++ reverse path) r)
+            (is_in-listed order path r ∙ or_left (is_in order r) (is_in path r) old)
+      ]
+
+      begun : (ps : List ℕ) → IsClimb parent_at ps from walk.walk.0
+          → is_in (first ∷ order) walk.walk.0 ≡ true
+          → is_in (first ∷ (order ++ reverse ps)) from ≡ true
+      begun [] climb listed =
+          ap (λ qs. is_in (first ∷ qs) from) (append-nil order) ∙ ap (is_in (first ∷ order)) climb
+          ∙ listed
+      begun (p ∷ ps) climb listed =
+          or_right (first == from) (is_in (order ++ reverse (p ∷ ps)) from)
+          (is_in-listed order (p ∷ ps) from
+          ∙ or_right (is_in order from) (is_in (p ∷ ps) from)
+          (or_left (p == from) (is_in ps from) (eq-eqb p from (sym climb.0))))
+
+  -- ---- the end
+
+  pub reach_end : (seen : List Bool) (order : List ℕ) → IsReaching seen order cs
+      → IsOrder first cs t.ps order
+  reach_end seen order reaching = record {
+    after = λ j within.
+        ap (is_in (first ∷ take j order))
+        (sym (parent_same (get_or order j 0)
+        (reaching.inside (get_or order j 0) (is_in_at order j (get_or order j 0) within refl))))
+        ∙ reaching.reached.after j within;
+    once = reaching.reached.once;
+    all = λ q. same_answer (is_in order q) (is_in cs q) (reaching.inside q) (λ in'.
+        elim (or_cases (first == q) (is_in order q) (reaching.walked q in')) [
+          | inl same ↦
+              absurd (both_ways (is_in cs q)
+              (ap (is_in cs) (sym (eqb-true first q same)) ∙ t.root.apart) in')
+          | inr here ↦ here
+        ]);
+  }
+
+  pub reach_others : (seen : List Bool) (order done : List ℕ) → IsReaching seen order done → (q : ℕ)
+      → q < length before → is_in (first ∷ cs) q ≡ false → get_or seen q true ≡ get_or before q true
+  reach_others seen order done reaching q within out =
+      let parts = or_parts (first == q) (is_in cs q) out in
+      reaching.marked q within
+      ∙ ap (λ b. get_or before q true || b)
+      (or_from (first == q) (is_in order q) parts.0
+      (false_from_ne_true (is_in order q)
+      (λ in'. both_ways (is_in cs q) parts.1 (reaching.inside q in'))))
+      ∙ or-false (get_or before q true)
+
+-- a chain is its first qubit and the others
+pub chain_parts : (chain : List ℕ) → (chain ≢ []) → (first_of chain ∷ drop 1 chain) ≡ chain
+chain_parts [] filled = absurd (filled refl)
+chain_parts (q ∷ qs) filled = refl

@@ -1,0 +1,156 @@
+-- One step of the sums of subtrees, on lists.
+use Rattle.std.proofs.Common.{◌≡◌, inl, inr, ℕ, suc, ◌+◌, ◌<◌, ◌≤◌, ◌^◌, Bool, true, false, cond, List, [], ◌∷◌, length, get_or, refl, sym, ap, subst, ◌∙◌, arith}
+use Rattle.std.specs.Prelude.{◌==◌, sum_by}
+use Rattle.std.proofs.lemmas.Bool.{eq-eqb, eqb-true, or_cases, or_left, or_right, both_ways}
+use Rattle.std.proofs.lemmas.List.{get_or-set_same, get_or-set_other}
+use Rattle.std.proofs.lemmas.List.Sums.{sum_by-cons}
+use Rattle.std.proofs.Math.ListN.{set}
+use Rattle.bits_model.specs.Walks.{is_in}
+use Rattle.embedding_check.specs.Embeddings.{parent_in}
+use Rattle.chain_layer.specs.laws.Kept.{each_at}
+use Rattle.cut_chains.specs.Sides.{is_below, side_weight}
+use Rattle.cut_chains.specs.Steps.{Sinkable, held_below}
+use Rattle.cut_chains.specs.laws.Trees.{tied_below}
+use Rattle.cut_chains.proofs.Subtrees.{IsSinking, order_inside, front_inside, giving_small, sink_one, starts_sinking}
+
+side_weight-le : (weight : ℕ → ℕ) (qs : List ℕ) (is_on : ℕ → Bool)
+    → side_weight weight qs is_on ≤ sum_by weight qs
+side_weight-le weight [] is_on = omega arith
+side_weight-le weight (q ∷ qs) is_on =
+    omega (
+      arith,
+      sum_by-cons (λ r. cond (is_on r) (weight r) 0) q qs,
+      sum_by-cons weight q qs,
+      some (is_on q) (weight q),
+      side_weight-le weight qs is_on,
+    )
+  where
+    some : (b : Bool) (n : ℕ) → cond b n 0 ≤ n
+    some true n = omega arith
+    some false n = omega arith
+
+module _ (up sums order xs : List ℕ) (t : Sinkable up sums order) where
+  -- what is kept, for the qubits from the i-th on
+  abbrev pub Sinks : List ℕ → ℕ → Type 0
+  Sinks ys i =
+      IsSinking t.first t.cs t.ps order t.root t.ordered (λ q. get_or sums q 0) (λ q. get_or ys q 0)
+      i
+
+  pub starts : Sinks sums (length order)
+  starts =
+      starts_sinking t.first t.cs t.ps order t.root t.ordered (λ q. get_or sums q 0) (length sums)
+      t.different
+      t.inside.1
+
+  inside_of : (q : ℕ) → is_in (t.first ∷ t.cs) q ≡ true → q < length sums
+  inside_of q in' = each_at (λ p. p < length sums) (t.first ∷ t.cs) q t.inside in'
+
+  module _ (same : length xs ≡ length sums) (a : ℕ) (within : a < length order) where
+    giver_in : is_in t.cs (get_or order a 0) ≡ true
+    giver_in = order_inside t.first t.cs t.ps order t.root t.ordered a within
+
+    parent_is : get_or up (get_or order a 0) 0 ≡ parent_in t.cs t.ps (get_or order a 0)
+    parent_is = t.parents (get_or order a 0) giver_in
+
+    parent_inside : is_in (t.first ∷ t.cs) (parent_in t.cs t.ps (get_or order a 0)) ≡ true
+    parent_inside =
+        elim (front_inside t.first t.cs t.ps order t.root t.ordered a
+        (parent_in t.cs t.ps (get_or order a 0)) (omega (arith, within))
+        (t.ordered.after a within)) [
+          | inl here ↦
+              or_left (t.first == parent_in t.cs t.ps (get_or order a 0)) _ (eq-eqb _ _ (sym here))
+          | inr there ↦ or_right (t.first == parent_in t.cs t.ps (get_or order a 0)) _ there
+        ]
+
+    pub giver_below : get_or order a 0 < length xs
+    giver_below =
+        omega (
+          arith,
+          same,
+          inside_of (get_or order a 0)
+              (or_right (t.first == get_or order a 0) _ giver_in),
+        )
+
+    pub giver_known : get_or order a 0 < length up
+    giver_known = each_at (λ p. p < length up) t.cs (get_or order a 0) t.known giver_in
+
+    pub parent_below : get_or up (get_or order a 0) 0 < length xs
+    parent_below =
+        omega (
+          arith,
+          same,
+          parent_is,
+          inside_of (parent_in t.cs t.ps (get_or order a 0))
+              parent_inside,
+        )
+
+    pub step_fits : Sinks xs (a + 1)
+        → get_or xs (get_or up (get_or order a 0) 0) 0 + get_or xs (get_or order a 0) 0 < 2 ^ 127
+    step_fits sinking =
+        omega (
+          arith,
+          ap (λ r. get_or xs r 0) parent_is,
+          giving_small t.first t.cs t.ps order t.root t.ordered (λ q. get_or sums q 0)
+              (λ q. get_or xs q 0) a within sinking,
+          side_weight-le (λ q. get_or sums q 0) (t.first ∷ t.cs)
+              (is_below (t.first ∷ t.cs) t.ps (parent_in t.cs t.ps (get_or order a 0))),
+          t.small,
+        )
+
+    pub step_next : Sinks xs (a + 1)
+        → Sinks
+        (set xs (get_or up (get_or order a 0) 0)
+        (get_or xs (get_or up (get_or order a 0) 0) 0 + get_or xs (get_or order a 0) 0))
+        a
+    step_next sinking =
+        let q = get_or order a 0 in
+        let p = get_or up q 0 in
+        let more = get_or xs p 0 + get_or xs q 0 in
+        sink_one t.first t.cs t.ps order t.root t.ordered (λ r. get_or sums r 0)
+        (λ r. get_or xs r 0)
+        (λ r. get_or (set xs p more) r 0)
+        a
+        within
+        sinking
+        (ap (λ r. get_or (set xs p more) r 0) (sym parent_is)
+        ∙ get_or-set_same xs p more 0 parent_below
+        ∙ ap (λ r. get_or xs r 0 + get_or xs q 0) parent_is)
+        (λ r other. get_or-set_other xs p r more 0 (λ e. other (e ∙ parent_is)))
+
+    pub step_others : (r : ℕ) → is_in (t.first ∷ t.cs) r ≡ false
+        → get_or (set xs (get_or up (get_or order a 0) 0)
+        (get_or xs (get_or up (get_or order a 0) 0) 0 + get_or xs (get_or order a 0) 0)) r 0
+        ≡ get_or xs r 0
+    step_others r out =
+        get_or-set_other xs (get_or up (get_or order a 0) 0) r _ 0
+        (λ e. both_ways (is_in (t.first ∷ t.cs) r) out
+        (ap (is_in (t.first ∷ t.cs)) (e ∙ parent_is) ∙ parent_inside))
+
+  -- at the end
+  pub ends_below : Sinks xs 0 → (q : ℕ) → is_in t.cs q ≡ true → get_or xs q 0 ≡ held_below t q
+  ends_below sinking q in' =
+      found order (λ j in''. sinking.done j (omega arith) in'') (t.ordered.all q ∙ in')
+    where
+      found : (qs : List ℕ)
+          → ((j : ℕ) → j < length qs → get_or xs (get_or qs j 0) 0 ≡ held_below t (get_or qs j 0))
+          → is_in qs q ≡ true → get_or xs q 0 ≡ held_below t q
+      found [] each in'' = absurd cc
+      found (r ∷ rs) each in'' =
+          elim (or_cases (r == q) (is_in rs q) in'') [
+            | inl same ↦
+                subst (λ s. get_or xs s 0 ≡ held_below t s) (eqb-true r q same)
+                (each 0 (omega arith))
+            | inr later ↦ found rs (λ j l. each (suc j) (omega (arith, l))) later
+          ]
+
+  pub ends_all : Sinks xs 0 → get_or xs t.first 0 ≡ held_below t t.first
+  ends_all sinking =
+      let below = is_below (t.first ∷ t.cs) t.ps t.first in
+      let all =
+      sinking.left t.first (or_left (t.first == t.first) false (eq-eqb t.first t.first refl)) in
+      omega (
+        arith,
+        all,
+        sum_by-cons (λ r. cond (below r) (get_or xs r 0) 0) t.first [],
+        ap (λ b. cond b (get_or xs t.first 0) 0) (tied_below t.first t.cs t.ps t.root t.first),
+      )

@@ -1,0 +1,447 @@
+-- How sums of subtrees come about: in an order of the qubits in which each stands after its parent,
+-- from the last one on, each gives what it holds to its parent.
+--
+-- What the qubits that have not given yet hold below a qubit is always the weight below it. The
+-- next one to give has none of the others below it, so it holds the weight below it.
+use Rattle.std.proofs.Common.{◌≡◌, ◌≢◌, ◌⊎◌, inl, inr, ℕ, zero, suc, ◌+◌, ◌<◌, ◌≤◌, Bool, true, false, cond, ◌||◌, List, [], ◌∷◌, length, take, get_or, refl, sym, ap, subst, ◌∙◌, arith}
+use Rattle.std.specs.Prelude.{◌==◌, ℤ, pos, ◌+ℤ◌}
+use Rattle.std.specs.List.{AllByRecursion, range_with_len}
+use Rattle.std.proofs.lemmas.Int.{ints}
+use Rattle.std.proofs.lemmas.Bool.{cases_eq, eq-eqb, eqb-true, ne_eqb, or_cases, or_left, or_right, or_parts, false_from_ne_true, both_ways, or_from}
+use Rattle.std.proofs.lemmas.List.{take_more}
+use Rattle.std.proofs.Math.Seq.{take-length}
+use Rattle.std.proofs.lemmas.List.Sums.{sum_by-cons, sum_by_more}
+use Rattle.base.specs.Sums.{total_by, if_so}
+use Rattle.base.proofs.Totals.{total_by-plus}
+use Rattle.bits_model.specs.Walks.{is_in}
+use Rattle.chain_map.proofs.Paths.{is_in_at}
+use Rattle.embedding_check.specs.Embeddings.{parent_in, climbed}
+use Rattle.chain_layer.specs.laws.SpinSums.{range-zero, range-same, hit}
+use Rattle.chain_layer.specs.laws.Kept.{each_at}
+use Rattle.cut_chains.specs.Sides.{is_below, side_weight}
+use Rattle.cut_chains.specs.Orders.{IsOrder}
+use Rattle.cut_chains.specs.laws.Trees.{IsRooted, parent_outside, same_side, tied_below, is_below_first, found_in_range}
+use Rattle.chain_layer.specs.laws.OnceChains.{Once}
+use Rattle.cut_chains.proofs.Members.{is_in-push, once_more}
+
+-- ---- sums over lists of different qubits
+
+-- a qubit that is not in the list is of no account
+pub same_held : (is_on : ℕ → Bool) (held next : ℕ → ℕ) (qs : List ℕ)
+    → ((r : ℕ) → is_in qs r ≡ true → next r ≡ held r)
+    → side_weight next qs is_on ≡ side_weight held qs is_on
+same_held is_on held next [] same = refl
+same_held is_on held next (q ∷ qs) same =
+    omega (
+      arith,
+      sum_by-cons (λ r. cond (is_on r) (next r) 0) q qs,
+      sum_by-cons (λ r. cond (is_on r) (held r) 0) q qs,
+      ap (λ n. cond (is_on q) n 0) (same q (or_left (q == q) (is_in qs q) (eq-eqb q q refl))),
+      same_held is_on held next qs (λ r in'. same r (or_right (q == r) (is_in qs r) in')),
+    )
+
+-- one qubit of the list gets more
+pub more_held : (is_on : ℕ → Bool) (held next : ℕ → ℕ) (p more : ℕ) (qs : List ℕ) → Once qs
+    → is_in qs p ≡ true → next p ≡ held p + more
+    → ((r : ℕ) → (r ≢ p) → next r ≡ held r)
+    → side_weight next qs is_on ≡ side_weight held qs is_on + cond (is_on p) more 0
+more_held is_on held next p more [] once in' gets keeps = absurd cc
+more_held is_on held next p more (q ∷ qs) once in' gets keeps =
+    elim (cases_eq q p) [
+      | inl same ↦
+          let others = same_held is_on held next qs
+          (λ r r_in. keeps r (λ e. both_ways (is_in qs r) (ap (is_in qs) (e ∙ sym same) ∙ once.0)
+          r_in)) in
+          omega (
+            arith,
+            sum_by-cons (λ r. cond (is_on r) (next r) 0) q qs,
+            sum_by-cons (λ r. cond (is_on r) (held r) 0) q qs,
+            ap (λ r. cond (is_on r) (next r) 0) same,
+            ap (λ r. cond (is_on r) (held r) 0) same,
+            ap (λ n. cond (is_on p) n 0) gets,
+            split (is_on p) (held p),
+            others,
+          )
+      | inr other ↦
+          omega (
+            arith,
+            sum_by-cons (λ r. cond (is_on r) (next r) 0) q qs,
+            sum_by-cons (λ r. cond (is_on r) (held r) 0) q qs,
+            ap (λ n. cond (is_on q) n 0) (keeps q other),
+            more_held is_on held next p more qs once.1 (later (q == p) (ne_eqb q p other) in') gets
+                keeps,
+          )
+    ]
+  where
+    split : (b : Bool) (m : ℕ) → cond b (m + more) 0 ≡ cond b m 0 + cond b more 0
+    split true m = omega arith
+    split false m = omega arith
+
+    later : (b : Bool) → b ≡ false → (b || is_in qs p) ≡ true → is_in qs p ≡ true
+    later true out h = absurd cc
+    later false out h = h
+
+-- one element of a sum is no more than it
+pub one_held : (is_on : ℕ → Bool) (held : ℕ → ℕ) (p : ℕ) (qs : List ℕ) → is_in qs p ≡ true
+    → is_on p ≡ true → held p ≤ side_weight held qs is_on
+one_held is_on held p [] in' on = absurd cc
+one_held is_on held p (q ∷ qs) in' on =
+    elim (or_cases (q == p) (is_in qs p) in') [
+      | inl same ↦
+          let here : cond (is_on q) (held q) 0 ≡ held p =
+          ap (λ r. cond (is_on r) (held r) 0) (eqb-true q p same)
+          ∙ ap (λ b. cond b (held p) 0) on in
+          omega (arith, here, sum_by-cons (λ r. cond (is_on r) (held r) 0) q qs)
+      | inr later ↦
+          omega (
+            arith,
+            one_held is_on held p qs later on,
+            sum_by-cons
+                (λ r. cond (is_on r) (held r) 0) q qs,
+          )
+    ]
+
+-- nothing is held where nobody is on the side
+none_held : (is_on : ℕ → Bool) (held : ℕ → ℕ) (qs : List ℕ)
+    → ((r : ℕ) → is_in qs r ≡ true → is_on r ≡ false) → side_weight held qs is_on ≡ 0
+none_held is_on held [] none = refl
+none_held is_on held (q ∷ qs) none =
+    omega (
+      arith,
+      sum_by-cons (λ r. cond (is_on r) (held r) 0) q qs,
+      ap (λ b. cond b (held q) 0) (none q (or_left (q == q) (is_in qs q) (eq-eqb q q refl))),
+      none_held is_on held qs (λ r in'. none r (or_right (q == r) (is_in qs r) in')),
+    )
+
+-- ---- in an order
+
+-- the first qubits of an order, with the chain's first
+abbrev pub front : ℕ → List ℕ → ℕ → List ℕ
+front first order i = first ∷ take i order
+
+module _ (first : ℕ) (cs ps order : List ℕ) (root : IsRooted first cs ps)
+    (ordered : IsOrder first cs ps order) where
+  in_front_more : (i q : ℕ) → i < length order
+      → is_in (front first order (i + 1)) q
+      ≡ (is_in (front first order i) q || (get_or order i 0 == q))
+  in_front_more i q within =
+      ap (λ qs. is_in (first ∷ qs) q) (take_more order i 0 within)
+      ∙ is_in-push (front first order i) (get_or order i 0) q
+
+  first_in_front : (i : ℕ) → is_in (front first order i) first ≡ true
+  first_in_front i = or_left (first == first) (is_in (take i order) first) (eq-eqb first first refl)
+
+  -- parents of qubits in front are in front
+  parent_in_front : (i q : ℕ) → i ≤ length order → is_in (front first order i) q ≡ true
+      → is_in (front first order i) (parent_in cs ps q) ≡ true
+  parent_in_front zero q few in' =
+      elim (or_cases (first == q) false in') [
+        | inl same ↦
+            subst (λ r. is_in (front first order 0) r ≡ true)
+            (eqb-true first q same
+            ∙ sym (parent_outside cs ps q
+            (ap (is_in cs) (sym (eqb-true first q same)) ∙ root.apart)))
+            (first_in_front 0)
+        | inr none ↦ absurd cc
+      ]
+  parent_in_front (suc i) q few in' =
+      let within : i < length order = omega (arith, few) in
+      let one : suc i ≡ i + 1 = omega arith in
+      let here : is_in (front first order (i + 1)) q ≡ true =
+      ap (λ n. is_in (front first order n) q) (sym one) ∙ in' in
+      let up : is_in (front first order i) (parent_in cs ps q) ≡ true =
+      elim (or_cases (is_in (front first order i) q) (get_or order i 0 == q)
+      (sym (in_front_more i q within) ∙ here)) [
+        | inl before ↦ parent_in_front i q (omega (arith, few)) before
+        | inr same ↦
+            ap (λ r. is_in (front first order i) (parent_in cs ps r))
+            (sym (eqb-true (get_or order i 0) q same))
+            ∙ ordered.after i within
+      ] in
+      ap (λ n. is_in (front first order n) (parent_in cs ps q)) one
+      ∙ in_front_more i (parent_in cs ps q) within
+      ∙ or_left (is_in (front first order i) (parent_in cs ps q))
+      (get_or order i 0 == parent_in cs ps q) up
+
+  climbed_in_front : (i n q : ℕ) → i ≤ length order → is_in (front first order i) q ≡ true
+      → is_in (front first order i) (climbed cs ps n q) ≡ true
+  climbed_in_front i zero q few in' = in'
+  climbed_in_front i (suc n) q few in' =
+      climbed_in_front i n (parent_in cs ps q) few (parent_in_front i q few in')
+
+  -- a qubit of the order is one of the chain
+  pub order_inside : (i : ℕ) → i < length order → is_in cs (get_or order i 0) ≡ true
+  order_inside i within =
+      sym (ordered.all (get_or order i 0)) ∙ is_in_at order i (get_or order i 0) within refl
+
+  -- none in front is below the next one
+  none_below : (i r : ℕ) → i < length order → is_in (front first order i) r ≡ true
+      → is_below (first ∷ cs) ps (get_or order i 0) r ≡ false
+  none_below i r within in' = false_from_ne_true _ (λ below.
+      let found =
+      found_in_range (λ n. climbed cs ps n r == get_or order i 0) 0 (suc (length cs)) below in
+      let met : climbed cs ps found.0 r ≡ get_or order i 0 =
+      eqb-true (climbed cs ps found.0 r) (get_or order i 0) found.2 in
+      both_ways (is_in (front first order i) (get_or order i 0)) (ordered.once i within)
+      (ap (is_in (front first order i)) (sym met)
+      ∙ climbed_in_front i found.0 r (omega (arith, within)) in'))
+
+  pub front_inside : (i q : ℕ) → i ≤ length order → is_in (front first order i) q ≡ true
+      → (q ≡ first) ⊎ (is_in cs q ≡ true)
+  front_inside zero q few in' =
+      elim (or_cases (first == q) false in') [
+        | inl same ↦ inl (sym (eqb-true first q same))
+        | inr none ↦ absurd cc
+      ]
+  front_inside (suc i) q few in' =
+      let within : i < length order = omega (arith, few) in
+      let one : suc i ≡ i + 1 = omega arith in
+      let here : is_in (front first order (i + 1)) q ≡ true =
+      ap (λ n. is_in (front first order n) q) (sym one) ∙ in' in
+      elim (or_cases (is_in (front first order i) q) (get_or order i 0 == q)
+      (sym (in_front_more i q within) ∙ here)) [
+        | inl before ↦ front_inside i q (omega (arith, few)) before
+        | inr same ↦
+            inr (ap (is_in cs) (sym (eqb-true (get_or order i 0) q same)) ∙ order_inside i within)
+      ]
+
+  -- the next one is below just those that its parent is below
+  below_alike : (i x : ℕ) → i < length order → is_in (front first order i) x ≡ true
+      → is_below (first ∷ cs) ps x (get_or order i 0)
+      ≡ is_below (first ∷ cs) ps x (parent_in cs ps (get_or order i 0))
+  below_alike i x within in' =
+      let q = get_or order i 0 in
+      let q_in = order_inside i within in
+      elim (front_inside i x (omega (arith, within)) in') [
+        | inl same ↦
+            subst (λ r. is_below (first ∷ cs) ps r q
+            ≡ is_below (first ∷ cs) ps r (parent_in cs ps q)) (sym same)
+            (is_below_first first cs ps root q (inr q_in)
+            ∙ sym (is_below_first first cs ps root (parent_in cs ps q)
+            (front_inside i (parent_in cs ps q) (omega (arith, within)) (ordered.after i within))))
+        | inr x_in ↦
+            same_side first cs ps root x q x_in q_in
+            (λ e. both_ways (is_in (front first order i) x)
+            (ap (is_in (front first order i)) (sym e) ∙ ordered.once i within) in')
+      ]
+
+  once_front : (i : ℕ) → i ≤ length order → Once (front first order i)
+  once_front zero few = (refl, tt)
+  once_front (suc i) few =
+      let within : i < length order = omega (arith, few) in
+      let one : suc i ≡ i + 1 = omega arith in
+      subst (λ n. Once (front first order n)) (sym one)
+      (subst (λ qs. Once (first ∷ qs)) (sym (take_more order i 0 within))
+      (once_more (front first order i) (get_or order i 0) (once_front i (omega (arith, few)))
+      (ordered.once i within)))
+
+  -- ---- giving to the parent
+
+  held_more : (is_on : ℕ → Bool) (held : ℕ → ℕ) (i : ℕ) → i < length order
+      → side_weight held (front first order (i + 1)) is_on
+      ≡ side_weight held (front first order i) is_on
+      + cond (is_on (get_or order i 0)) (held (get_or order i 0)) 0
+  held_more is_on held i within =
+      let f : ℕ → ℕ = λ r. cond (is_on r) (held r) 0 in
+      omega (
+        arith,
+        sum_by-cons f first (take (i + 1) order),
+        sum_by-cons f first (take i order),
+        sum_by_more f order i 0 within,
+      )
+
+  -- the weight below a qubit
+  abbrev pub below_weight : (ℕ → ℕ) → ℕ → ℕ
+  below_weight weight x = side_weight weight (first ∷ cs) (is_below (first ∷ cs) ps x)
+
+  -- those in front hold what is below each of them, and the others the weight below themselves
+  pub record IsSinking (weight held : ℕ → ℕ) (i : ℕ) : Type 0 where
+    pub left : (x : ℕ) → is_in (front first order i) x ≡ true
+        → side_weight held (front first order i) (is_below (first ∷ cs) ps x)
+        ≡ below_weight weight x
+    pub done : (j : ℕ) → i ≤ j → j < length order
+        → held (get_or order j 0) ≡ below_weight weight (get_or order j 0)
+
+  -- what the next one gives, and what its parent holds, are below its parent
+  pub giving_small : (weight held : ℕ → ℕ) (i : ℕ) → i < length order
+      → IsSinking weight held (i + 1)
+      → held (parent_in cs ps (get_or order i 0)) + held (get_or order i 0)
+      ≤ below_weight weight (parent_in cs ps (get_or order i 0))
+  giving_small weight held i within sinking =
+      let q = get_or order i 0 in
+      let p = parent_in cs ps q in
+      let p_in = ordered.after i within in
+      let below = is_below (first ∷ cs) ps p in
+      let p_in_more : is_in (front first order (i + 1)) p ≡ true =
+      in_front_more i p within ∙ or_left (is_in (front first order i) p) (q == p) p_in in
+      let itself = tied_below first cs ps root p in
+      let q_below : below q ≡ true = below_alike i p within p_in ∙ itself in
+      omega (
+        arith,
+        sinking.left p p_in_more,
+        held_more below held i within,
+        one_held below held p (front first order i) p_in itself,
+        ap (λ b. cond b (held q) 0) q_below,
+      )
+
+  pub sink_one : (weight held next : ℕ → ℕ) (i : ℕ) → i < length order
+      → IsSinking weight held (i + 1)
+      → next (parent_in cs ps (get_or order i 0))
+      ≡ held (parent_in cs ps (get_or order i 0)) + held (get_or order i 0)
+      → ((r : ℕ) → (r ≢ parent_in cs ps (get_or order i 0)) → next r ≡ held r)
+      → IsSinking weight next i
+  sink_one weight held next i within sinking gives keeps =
+      let q = get_or order i 0 in
+      let p = parent_in cs ps q in
+      let p_in = ordered.after i within in
+      let q_in_more : is_in (front first order (i + 1)) q ≡ true =
+      in_front_more i q within
+      ∙ or_right (is_in (front first order i) q) (q == q) (eq-eqb q q refl) in
+      let kept : (r : ℕ) → is_in (front first order i) r ≡ false → next r ≡ held r = λ r out.
+      keeps r (λ e. both_ways (is_in (front first order i) r) out
+      (ap (is_in (front first order i)) e ∙ p_in)) in
+      record {
+        left = λ x x_in.
+            let below = is_below (first ∷ cs) ps x in
+            let x_in_more : is_in (front first order (i + 1)) x ≡ true =
+            in_front_more i x within ∙ or_left (is_in (front first order i) x) (q == x) x_in in
+            omega (
+              arith,
+              more_held below held next p (held q) (front first order i)
+                  (once_front i (omega (arith, within))) p_in gives keeps,
+              sinking.left x x_in_more,
+              held_more below held i within,
+              ap (λ b. cond b (held q) 0) (below_alike i x within x_in),
+            );
+        done = λ j from in'.
+            elim (cases_eq j i) [
+              | inl same ↦
+                  let itself : next q ≡ held q = kept q (ordered.once i within) in
+                  let below = is_below (first ∷ cs) ps q in
+                  let held_here : held q ≡ below_weight weight q =
+                  omega (
+                    arith,
+                    sinking.left q q_in_more,
+                    held_more below held i within,
+                    none_held below held (front first order i)
+                        (λ r r_in. none_below i r within r_in),
+                    ap (λ b. cond b (held q) 0) (tied_below first cs ps root q),
+                  ) in
+                  subst (λ k. next (get_or order k 0) ≡ below_weight weight (get_or order k 0))
+                  (sym same) (itself ∙ held_here)
+              | inr other ↦
+                  let more : i + 1 ≤ j = above i j from other in
+                  kept (get_or order j 0) (later_out i j more in')
+                  ∙ sinking.done j more in'
+            ];
+      }
+    where
+      above : (i j : ℕ) → i ≤ j → (j ≢ i) → i + 1 ≤ j
+      above i j le ne = grind arith
+
+      -- who stands later is not in front
+      later_out : (i j : ℕ) → i + 1 ≤ j → j < length order
+          → is_in (front first order i) (get_or order j 0) ≡ false
+      later_out i j more in' =
+          let out =
+          or_parts (first == get_or order j 0) (is_in (take j order) (get_or order j 0))
+          (ordered.once j in') in
+          or_from (first == get_or order j 0) (is_in (take i order) (get_or order j 0)) out.0
+          (false_from_ne_true _ (λ here. both_ways (is_in (take j order) (get_or order j 0)) out.1
+          (wider order i j (get_or order j 0) (omega (arith, more)) here)))
+        where
+          wider : (qs : List ℕ) (i j q : ℕ) → i ≤ j → is_in (take i qs) q ≡ true
+              → is_in (take j qs) q ≡ true
+          wider qs zero j q le here = absurd cc
+          wider [] (suc i) j q le here = absurd cc
+          wider (r ∷ rs) (suc i) zero q le here = absurd (omega (arith, le))
+          wider (r ∷ rs) (suc i) (suc j) q le here =
+              elim (or_cases (r == q) (is_in (take i rs) q) here) [
+                | inl same ↦ or_left (r == q) (is_in (take j rs) q) same
+                | inr later ↦
+                    or_right (r == q) (is_in (take j rs) q)
+                    (wider rs i j q (omega (arith, le)) later)
+              ]
+
+-- ---- the start
+
+-- different qubits, as some of the first n
+once_spread : (is_on : ℕ → Bool) (held : ℕ → ℕ) (n : ℕ) (qs : List ℕ) → Once qs
+    → AllByRecursion (λ q. q < n) qs
+    → pos (side_weight held qs is_on)
+    ≡ total_by (λ q. if_so (is_in qs q) (pos (cond (is_on q) (held q) 0))) (range_with_len 0 n)
+once_spread is_on held n [] once within = sym (range-zero 0 n)
+once_spread is_on held n (c ∷ cs) once within =
+    let f : ℕ → ℕ = λ q. cond (is_on q) (held q) 0 in
+    let here : ℕ → ℤ = λ q. if_so (q == c) (pos (f q)) in
+    let rest : ℕ → ℤ = λ q. if_so (is_in cs q) (pos (f q)) in
+    omega (
+      arith,
+      ints,
+      range-same (λ q. here q +ℤ rest q) (λ q. if_so (is_in (c ∷ cs) q) (pos (f q))) 0 n
+          (λ q l. one (q == c) (c == q) (is_in cs q) (f q) (turned q c) (turned c q)
+          (λ e. ap (is_in cs) (sym (eqb-true c q e)) ∙ once.0)),
+      total_by-plus here rest (range_with_len 0 n),
+      hit (λ q. pos (f q)) c 0 n (omega arith) (omega (arith, within.0)),
+      once_spread is_on held n cs once.1 within.1,
+      sum_by-cons f c cs,
+    )
+  where
+    turned : (a b : ℕ) → (a == b) ≡ true → (b == a) ≡ true
+    turned a b h = eq-eqb b a (sym (eqb-true a b h))
+
+    one : (a b i : Bool) (w : ℕ) → (a ≡ true → b ≡ true) → (b ≡ true → a ≡ true)
+        → (b ≡ true → i ≡ false)
+        → if_so a (pos w) +ℤ if_so i (pos w) ≡ if_so (b || i) (pos w)
+    one true true true w to from out = absurd (let both : true ≡ false = out refl in cc)
+    one true true false w to from out = omega (arith, ints)
+    one true false i w to from out = absurd (let both : false ≡ true = to refl in cc)
+    one false true i w to from out = absurd (let both : false ≡ true = from refl in cc)
+    one false false true w to from out = omega (arith, ints)
+    one false false false w to from out = omega (arith, ints)
+
+-- lists of the same different qubits hold the same
+pub same_qubits : (is_on : ℕ → Bool) (held : ℕ → ℕ) (n : ℕ) (qs rs : List ℕ) → Once qs → Once rs
+    → AllByRecursion (λ q. q < n) qs → AllByRecursion (λ q. q < n) rs
+    → ((q : ℕ) → is_in qs q ≡ is_in rs q) → side_weight held qs is_on ≡ side_weight held rs is_on
+same_qubits is_on held n qs rs once_qs once_rs within_qs within_rs same =
+    omega (
+      arith,
+      ints,
+      once_spread is_on held n qs once_qs within_qs,
+      once_spread is_on held n rs once_rs within_rs,
+      range-same (λ q. if_so (is_in qs q) (pos (cond (is_on q) (held q) 0)))
+          (λ q. if_so (is_in rs q) (pos (cond (is_on q) (held q) 0))) 0 n
+          (λ q l. ap (λ b. if_so b (pos (cond (is_on q) (held q) 0))) (same q)),
+    )
+
+within_alike : (n : ℕ) (qs rs : List ℕ) → AllByRecursion (λ q. q < n) rs
+    → ((q : ℕ) → is_in qs q ≡ true → is_in rs q ≡ true) → AllByRecursion (λ q. q < n) qs
+within_alike n [] rs within inside = tt
+within_alike n (q ∷ qs) rs within inside = (
+  each_at (λ p. p < n) rs q within (inside q (or_left (q == q) (is_in qs q) (eq-eqb q q refl))),
+  within_alike n qs rs within (λ r in'. inside r (or_right (q == r) (is_in qs r) in')),
+)
+
+-- at the start each holds its own weight
+pub starts_sinking : (first : ℕ) (cs ps order : List ℕ) (root : IsRooted first cs ps)
+    (ordered : IsOrder first cs ps order) (weight : ℕ → ℕ) (n : ℕ) → Once cs
+    → AllByRecursion (λ q. q < n) cs
+    → IsSinking first cs ps order root ordered weight weight (length order)
+starts_sinking first cs ps order root ordered weight n once within = record {
+  left = λ x x_in.
+      let below = is_below (first ∷ cs) ps x in
+      let whole : take (length order) order ≡ order = take-length order in
+      let both = once_front first cs ps order root ordered (length order) (omega arith) in
+      let f : ℕ → ℕ = λ r. cond (below r) (weight r) 0 in
+      omega (
+        arith,
+        sum_by-cons f first (take (length order) order),
+        sum_by-cons f first cs,
+        ap (λ qs. side_weight weight qs below) whole,
+        same_qubits below weight n order cs (subst Once whole both.1) once
+            (within_alike n order cs within (λ q in'. sym (ordered.all q) ∙ in')) within
+            ordered.all,
+      );
+  done = λ j from in'. absurd (omega (arith, from, in'));
+}

@@ -1,0 +1,72 @@
+use Rattle.std.proofs.Common.{◌≡◌, ◌^◌, ◌++◌, All, to_z, of_z, subst, sym, ap, ◌∙◌, rules, arith}
+use Rattle.std.specs.Int.{w128}
+use Rattle.std.specs.List.Sorted.{IsPermutation}
+use Rattle.std.proofs.lemmas.Int.{to_z-of_z}
+use Rattle.quad_form.specs.Pairs.{IsPair}
+use Rattle.ising_form.specs.Isings.{IsingContent, IsIsing}
+use Rattle.chain_layer.specs.Image.{placed}
+use Rattle.cut_chains.specs.CutImage.{cut_image, cut_ties}
+use Rattle.cut_chains.proofs.CutPairs.{cut_pairs, cut_apart, cut_couplers, sorted_is_in_order}
+use Rattle.cut_chains.proofs.CutSizes.{cut_cost-le, left_cost, cut_is_ising}
+use Rattle.cut_chains.proofs.image.image_of.Goals as goal
+
+pub cost_from-cost-requires-clause-small : goal.cost_from-cost-requires-clause-small
+cost_from-cost-requires-clause-small c =
+    let e = c.args.source.now in
+    let kept = c.ising.ensures.kept in
+    let made = c.in_ok-gathered.ensures in
+    omega (arith, left_cost e kept _ _ made.made made.count, cut_cost-le e kept, c.requires.total)
+
+pub in_order-requires : goal.in_order-requires
+in_order-requires c =
+    subst (All (IsPair (2 ^ 20))) (sym c.in_ok-gathered.ensures.made)
+    (cut_pairs c.args.source.now c.ising.ensures.kept)
+
+pub invariant_of-target : goal.invariant_of-target
+invariant_of-target c =
+    let e = c.args.source.now in
+    let kept = c.ising.ensures.kept in
+    let es = placed e.ising.couplings e.places ++ cut_ties e in
+    let constant : to_z w128 (of_z w128 c.behind-source.inside.constant) ≡ e.ising.constant =
+    to_z-of_z w128 c.behind-source.inside.constant (search rules)
+    ∙ ap (λ (f : IsingContent). f.constant) (c.behind-source.view_is ∙ c.ising.ensures.form) in
+    let fields = c.new.ensures ∙ c.in_ok-fields.ensures in
+    let sorted = c.in_ok-couplings.ensures in
+    let couplings =
+    sorted_is_in_order e.qubits es c.in_ok-couplings.couplings kept.few (cut_couplers e kept)
+    (cut_apart e kept)
+    (subst (λ l. IsPermutation l c.in_ok-couplings.couplings) c.in_ok-gathered.ensures.made
+    sorted.same)
+    sorted.ordered in
+    let form : IsingContent = record {
+      constant = to_z w128 (of_z w128 c.behind-source.inside.constant);
+      fields = c.new.result;
+      couplings = c.in_ok-couplings.couplings;
+    } in
+    let same : form ≡ cut_image e = λ k.
+    record { constant = constant k; fields = fields k; couplings = couplings k } in
+    subst IsIsing (sym same) (cut_is_ising e kept c.requires.total)
+
+pub returns-clause-image : goal.returns-clause-image
+returns-clause-image c =
+    let e = c.args.source.now in
+    let kept = c.ising.ensures.kept in
+    let es = placed e.ising.couplings e.places ++ cut_ties e in
+    let constant : to_z w128 (of_z w128 c.behind-source.inside.constant) ≡ e.ising.constant =
+    to_z-of_z w128 c.behind-source.inside.constant (search rules)
+    ∙ ap (λ (f : IsingContent). f.constant) (c.behind-source.view_is ∙ c.ising.ensures.form) in
+    let fields = c.new.ensures ∙ c.in_ok-fields.ensures in
+    let sorted = c.in_ok-couplings.ensures in
+    let couplings =
+    sorted_is_in_order e.qubits es c.in_ok-couplings.couplings kept.few (cut_couplers e kept)
+    (cut_apart e kept)
+    (subst (λ l. IsPermutation l c.in_ok-couplings.couplings) c.in_ok-gathered.ensures.made
+    sorted.same)
+    sorted.ordered in
+    λ k. record { constant = constant k; fields = fields k; couplings = couplings k }
+
+pub returns-clause-cost : goal.returns-clause-cost
+returns-clause-cost c =
+    let made = c.in_ok-gathered.ensures in
+    c.cost_from-cost.ensures
+    ∙ left_cost c.args.source.now c.ising.ensures.kept _ _ made.made made.count

@@ -1,0 +1,43 @@
+use Rattle.std.proofs.Common.{◌<◌, ℕ, length, get_or, true, false, refl, sym, subst, ◌∙◌, arith}
+use Rattle.std.proofs.lemmas.List.{get_or_default}
+use Rattle.std.proofs.Math.ListN.{set}
+use Rattle.cut_chains.proofs.Paths.{IsWalking, walking_more}
+use Rattle.cut_chains.proofs.orders.climb.Goals as goal
+
+pub loop-seen-preserved : goal.loop-seen-preserved
+loop-seen-preserved c =
+    let up : ℕ → ℕ = λ q. get_or c.args.up.now q 0 in
+    let before = c.args.seen.now in
+    let seen = c.loop-seen.seen in
+    let q = c.loop-seen.q in
+    let walking = c.loop-seen.invariant in
+    let within : q < length seen = omega (arith, walking.bound, walking.sized) in
+    let known : q < length c.args.up.now = omega (arith, walking.bound, c.requires.sized) in
+    subst (IsWalking up before (set seen q true) c.args.from (up q))
+    (sym c.in_ok-push.ensures.items)
+    (walking_more up before seen (set seen q true) c.args.from q c.loop-seen.path.items walking
+    (get_or_default seen q true false within ∙ c.loop-seen-test.true)
+    (c.requires.within q 0 known)
+    refl)
+
+pub returns : goal.returns
+returns c =
+    let seen = c.loop-seen.seen in
+    let q = c.loop-seen.q in
+    let walking = c.loop-seen.invariant in
+    let within : q < length seen = omega (arith, walking.bound, walking.sized) in
+    record {
+      climbed = record {
+        sized = walking.sized;
+        walk = (
+          q,
+          walking.walk,
+          walking.bound,
+          sym (walking.marked q walking.bound) ∙ get_or_default seen q true false within
+              ∙ c.loop-seen-test.false,
+        );
+        unmarked = walking.unmarked;
+        different = walking.different;
+        marked = walking.marked;
+      };
+    }

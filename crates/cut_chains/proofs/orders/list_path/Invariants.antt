@@ -1,0 +1,11 @@
+use Rattle.std.proofs.Common.{◌≡◌, ◌++◌, length}
+use Rattle.std.specs.Prelude.{reverse}
+use Rattle.cut_chains.proofs.orders.list_path.Given as goal
+
+-- what is listed, and what is left of the path
+abbrev pub invariant-loop-qubit : goal.invariant-loop-qubit
+invariant-loop-qubit l =
+    l.order.items ++ reverse l.path.items ≡ l.fn.order.items ++ reverse l.fn.path.items
+
+abbrev pub decreases-loop-qubit : goal.decreases-loop-qubit
+decreases-loop-qubit l = length l.path.items

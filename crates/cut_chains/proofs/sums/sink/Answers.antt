@@ -1,0 +1,84 @@
+use Rattle.std.proofs.Common.{◌≡◌, ◌<◌, ◌+◌, ◌-◌, length, refl, subst, ◌∙◌, arith}
+use Rattle.std.proofs.Math.ListN.{length-set}
+use Rattle.cut_chains.proofs.SinkSteps.{Sinks, starts, giver_below, giver_known, parent_below, step_fits, step_next, step_others, ends_below, ends_all}
+use Rattle.cut_chains.proofs.sums.sink.Goals as goal
+
+pub loop-i-init : goal.loop-i-init
+loop-i-init c = record {
+  sized = refl;
+  sinking = λ t. starts c.args.up.now c.args.sums.now c.args.order.now c.args.sums.now t;
+  others = λ t q out. refl;
+}
+
+pub bounds-sums-qubit : goal.bounds-sums-qubit
+bounds-sums-qubit c =
+    giver_below c.args.up.now c.args.sums.now c.args.order.now c.loop-i.sums c.requires.able
+    c.loop-i.invariant.sized (c.loop-i.i - 1) (omega (arith, c.loop-i-test.true, c.loop-i.auto.i))
+
+pub bounds-up-qubit : goal.bounds-up-qubit
+bounds-up-qubit c =
+    giver_known c.args.up.now c.args.sums.now c.args.order.now c.loop-i.sums c.requires.able
+    c.loop-i.invariant.sized (c.loop-i.i - 1) (omega (arith, c.loop-i-test.true, c.loop-i.auto.i))
+
+pub bounds-sums-up : goal.bounds-sums-up
+bounds-sums-up c =
+    parent_below c.args.up.now c.args.sums.now c.args.order.now c.loop-i.sums c.requires.able
+    c.loop-i.invariant.sized (c.loop-i.i - 1) (omega (arith, c.loop-i-test.true, c.loop-i.auto.i))
+
+pub bounds-sums-up-in-loop-i : goal.bounds-sums-up-in-loop-i
+bounds-sums-up-in-loop-i c =
+    parent_below c.args.up.now c.args.sums.now c.args.order.now c.loop-i.sums c.requires.able
+    c.loop-i.invariant.sized (c.loop-i.i - 1) (omega (arith, c.loop-i-test.true, c.loop-i.auto.i))
+
+pub overflow_add-sums : goal.overflow_add-sums
+overflow_add-sums c =
+    let up = c.args.up.now in
+    let sums = c.args.sums.now in
+    let order = c.args.order.now in
+    let xs = c.loop-i.sums in
+    let a = c.loop-i.i - 1 in
+    let within : a < length order = omega (arith, c.loop-i-test.true, c.loop-i.auto.i) in
+    let last : c.loop-i.i ≡ a + 1 = omega (arith, c.loop-i-test.true) in
+    let sinking =
+    subst (Sinks up sums order xs c.requires.able xs) last
+    (c.loop-i.invariant.sinking c.requires.able) in
+    omega (
+      arith,
+      step_fits up sums order xs c.requires.able c.loop-i.invariant.sized a within
+          sinking,
+    )
+
+pub loop-i-preserved : goal.loop-i-preserved
+loop-i-preserved c =
+    let up = c.args.up.now in
+    let sums = c.args.sums.now in
+    let order = c.args.order.now in
+    let xs = c.loop-i.sums in
+    let a = c.loop-i.i - 1 in
+    let within : a < length order = omega (arith, c.loop-i-test.true, c.loop-i.auto.i) in
+    let last : c.loop-i.i ≡ a + 1 = omega (arith, c.loop-i-test.true) in
+    record {
+      sized = length-set xs _ _ ∙ c.loop-i.invariant.sized;
+      sinking = λ t.
+          step_next up sums order xs t c.loop-i.invariant.sized a within
+          (subst (Sinks up sums order xs t xs) last (c.loop-i.invariant.sinking t));
+      others = λ t q out.
+          step_others up sums order xs t c.loop-i.invariant.sized a within q out
+          ∙ c.loop-i.invariant.others t q out;
+    }
+
+pub returns-clause-below : goal.returns-clause-below
+returns-clause-below c t q in' =
+    let none : c.loop-i.i ≡ 0 = omega (arith, c.loop-i-test.false) in
+    ends_below c.args.up.now c.args.sums.now c.args.order.now c.loop-i.sums t
+    (subst (Sinks c.args.up.now c.args.sums.now c.args.order.now c.loop-i.sums t c.loop-i.sums) none
+    (c.loop-i.invariant.sinking t))
+    q
+    in'
+
+pub returns-clause-all : goal.returns-clause-all
+returns-clause-all c t =
+    let none : c.loop-i.i ≡ 0 = omega (arith, c.loop-i-test.false) in
+    ends_all c.args.up.now c.args.sums.now c.args.order.now c.loop-i.sums t
+    (subst (Sinks c.args.up.now c.args.sums.now c.args.order.now c.loop-i.sums t c.loop-i.sums) none
+    (c.loop-i.invariant.sinking t))

@@ -1,0 +1,16 @@
+use Rattle.std.proofs.Common.{◌≡◌, ◌∷◌, ℕ, false, length, get_or}
+use Rattle.bits_model.specs.Walks.{is_in}
+use Rattle.cut_chains.specs.Steps.{Sinkable}
+use Rattle.cut_chains.proofs.Subtrees.{IsSinking}
+use Rattle.cut_chains.proofs.sums.sink.Given as goal
+
+-- those that have not given hold what is below them, and the others what is below themselves
+abbrev pub invariant-loop-i : goal.invariant-loop-i
+invariant-loop-i l = record {
+  sized : length l.sums ≡ length l.initial.sums;
+  sinking : (t : Sinkable l.up l.initial.sums l.order)
+      → IsSinking t.first t.cs t.ps l.order t.root t.ordered (λ q. get_or l.initial.sums q 0)
+      (λ q. get_or l.sums q 0) l.i;
+  others : (t : Sinkable l.up l.initial.sums l.order) (q : ℕ) → is_in (t.first ∷ t.cs) q ≡ false
+      → get_or l.sums q 0 ≡ get_or l.initial.sums q 0;
+}

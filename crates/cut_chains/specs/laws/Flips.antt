@@ -1,0 +1,260 @@
+-- What an energy changes by when some spins are flipped. Nothing here has to be believed.
+use Rattle.chain_layer.specs.laws.NodeEnergies.{coupling_energy}
+use Rattle.std.specs.Prelude.{◌≡◌, ◌≢◌, ℕ, ◌*◌, ◌<◌, ◌==◌, ℤ, pos, neg_ℤ, ◌+ℤ◌, ◌≤ℤ◌, unsigned_abs, Bool, true, false, not, cond, ◌&&◌, ◌||◌, List, [], ◌∷◌}
+use Rattle.std.specs.List.{AllByRecursion, AllZip, range_with_len}
+use Rattle.std.proofs.Common.{arith, ap, sym, ◌∙◌, refl, inl, inr}
+use Rattle.std.proofs.lemmas.Int.{ints}
+use Rattle.std.proofs.lemmas.Bool.{cases_eq, eq-eqb, ne_eqb, eqb-true, or_left, or_right, or_parts, both_ways, and_cases}
+use Rattle.std.proofs.lemmas.List.Sums.{sum_by-cons}
+use Rattle.base.specs.Sums.{total_by, if_so}
+use Rattle.base.proofs.Totals.{total_by-plus}
+use Rattle.bits_model.specs.declared.output.Entry.{Entry}
+use Rattle.bits_model.specs.Output.{times_spin}
+use Rattle.bits_model.specs.Walks.{is_in}
+use Rattle.quad_form.specs.Quads.{IsCoupler}
+use Rattle.chain_layer.specs.Image.{couplings_at}
+use Rattle.chain_layer.specs.laws.SpinSums.{pair_energy, range-le, range-zero, hit, marked_ends}
+use Rattle.chain_layer.specs.laws.Whole.{are_same, is_whole}
+use Rattle.cut_chains.specs.Sides.{side_weight}
+use Rattle.cut_chains.specs.CutImage.{ties_of}
+use Rattle.chain_layer.specs.laws.OnceChains.{Once}
+
+-- the spins with those of a side turned over
+abbrev pub flipped : (side s : ℕ → Bool) → ℕ → Bool
+flipped side s q = cond (side q) (not (s q)) (s q)
+
+-- ---- fields
+
+-- a field gives back at most twice its size
+field_flip : (t b : Bool) (w : ℤ)
+    → times_spin (cond t (not b) b) w ≤ℤ (times_spin b w +ℤ if_so t (pos (2 * unsigned_abs w)))
+field_flip true true w = omega (arith, ints)
+field_flip true false w = omega (arith, ints)
+field_flip false b w = omega (arith, ints)
+
+-- and all of those on the side together twice the sum of their sizes
+pub fields_flip : (side s : ℕ → Bool) (f : ℕ → ℤ) (n : ℕ)
+    → total_by (λ q. times_spin (flipped side s q) (f q)) (range_with_len 0 n)
+    ≤ℤ (total_by (λ q. times_spin (s q) (f q)) (range_with_len 0 n)
+    +ℤ total_by (λ q. if_so (side q) (pos (2 * unsigned_abs (f q)))) (range_with_len 0 n))
+fields_flip side s f n =
+    let before : ℕ → ℤ = λ q. times_spin (s q) (f q) in
+    let due : ℕ → ℤ = λ q. if_so (side q) (pos (2 * unsigned_abs (f q))) in
+    omega (
+      arith,
+      ints,
+      range-le (λ q. times_spin (flipped side s q) (f q)) (λ q. before q +ℤ due q) 0 n
+          (λ q l. field_flip (side q) (s q) (f q)),
+      total_by-plus before due (range_with_len 0 n),
+    )
+
+-- ---- placed couplings
+
+pair_flip : (t u a b : Bool) (w : ℤ)
+    → times_spin (cond t (not a) a) (times_spin (cond u (not b) b) w)
+    ≤ℤ (times_spin a (times_spin b w)
+    +ℤ (if_so t (pos (2 * unsigned_abs w)) +ℤ if_so u (pos (2 * unsigned_abs w))))
+pair_flip true true a b w = omega (arith, ints, both a b)
+  where
+    both : (a b : Bool) → times_spin (not a) (times_spin (not b) w) ≡ times_spin a (times_spin b w)
+    both true true = omega (arith, ints)
+    both true false = omega (arith, ints)
+    both false true = omega (arith, ints)
+    both false false = omega (arith, ints)
+pair_flip true false true true w = omega (arith, ints)
+pair_flip true false true false w = omega (arith, ints)
+pair_flip true false false true w = omega (arith, ints)
+pair_flip true false false false w = omega (arith, ints)
+pair_flip false true true true w = omega (arith, ints)
+pair_flip false true true false w = omega (arith, ints)
+pair_flip false true false true w = omega (arith, ints)
+pair_flip false true false false w = omega (arith, ints)
+pair_flip false false a b w = omega (arith, ints)
+
+-- what couplings give back for their ends on the side
+abbrev ends_due : (ℕ → Bool) → Entry → ℤ
+ends_due side c =
+    if_so (side c.first) (pos (2 * unsigned_abs c.weight))
+    +ℤ if_so (side c.second) (pos (2 * unsigned_abs c.weight))
+
+pairs_flip : (side s : ℕ → Bool) (cs : List Entry)
+    → total_by (pair_energy (flipped side s)) cs
+    ≤ℤ (total_by (pair_energy s) cs +ℤ total_by (ends_due side) cs)
+pairs_flip side s [] = omega (arith, ints)
+pairs_flip side s (c ∷ cs) =
+    omega (
+      arith,
+      ints,
+      pair_flip (side c.first) (side c.second) (s c.first) (s c.second) c.weight,
+      pairs_flip side s cs,
+    )
+
+-- twice the sizes of the couplings at the qubits of the side
+pub couplings_flip : (side s : ℕ → Bool) (n : ℕ) (cs : List Entry) → AllByRecursion (IsCoupler n) cs
+    → total_by (pair_energy (flipped side s)) cs
+    ≤ℤ (total_by (pair_energy s) cs
+    +ℤ total_by (λ q. if_so (side q) (pos (2 * couplings_at q cs))) (range_with_len 0 n))
+couplings_flip side s n cs couplers =
+    omega (arith, ints, pairs_flip side s cs, marked_ends side n cs couplers)
+
+-- ---- the weight of a side
+
+-- of a chain's qubits on the side, each is one of all
+pub side_counted : (weight : ℕ → ℕ) (is_on : ℕ → Bool) (n : ℕ) (chain : List ℕ)
+    → AllByRecursion (λ q. q < n) chain
+    → total_by (λ q. if_so (is_in chain q && is_on q) (pos (2 * weight q))) (range_with_len 0 n)
+    ≤ℤ pos (2 * side_weight weight chain is_on)
+side_counted weight is_on n [] within = omega (arith, ints, range-zero 0 n)
+side_counted weight is_on n (c ∷ cs) within =
+    let here : ℕ → ℤ = λ q. if_so (q == c) (pos (2 * cond (is_on q) (weight q) 0)) in
+    let rest : ℕ → ℤ = λ q. if_so (is_in cs q && is_on q) (pos (2 * weight q)) in
+    omega (
+      arith,
+      ints,
+      range-le (λ q. if_so (is_in (c ∷ cs) q && is_on q) (pos (2 * weight q)))
+          (λ q. here q +ℤ rest q) 0 n
+          (λ q l. one (c == q) (q == c) (is_in cs q) (is_on q) (weight q) (turned c q)),
+      total_by-plus here rest (range_with_len 0 n),
+      hit (λ q. pos (2 * cond (is_on q) (weight q) 0)) c 0 n (omega arith)
+          (omega (arith, within.0)),
+      side_counted weight is_on n cs within.1,
+      sum_by-cons (λ r. cond (is_on r) (weight r) 0) c cs,
+    )
+  where
+    turned : (a b : ℕ) → (a == b) ≡ true → (b == a) ≡ true
+    turned a b h = eq-eqb b a (sym (eqb-true a b h))
+
+    one : (a b i t : Bool) (w : ℕ) → (a ≡ true → b ≡ true)
+        → if_so ((a || i) && t) (pos (2 * w))
+        ≤ℤ (if_so b (pos (2 * cond t w 0)) +ℤ if_so (i && t) (pos (2 * w)))
+    one true true true true w h = omega (arith, ints)
+    one true true true false w h = omega (arith, ints)
+    one true true false true w h = omega (arith, ints)
+    one true true false false w h = omega (arith, ints)
+    one true false i t w h = absurd (let both : false ≡ true = h refl in cc)
+    one false true true true w h = omega (arith, ints)
+    one false true true false w h = omega (arith, ints)
+    one false true false true w h = omega (arith, ints)
+    one false true false false w h = omega (arith, ints)
+    one false false i t w h = omega (arith, ints)
+
+-- ---- ties
+
+-- both ends on one side, or none of them
+kept_flip : (t u a b : Bool) (w : ℤ) → t ≡ u
+    → times_spin (cond t (not a) a) (times_spin (cond u (not b) b) w)
+    ≡ times_spin a (times_spin b w)
+kept_flip true true true true w same = omega (arith, ints)
+kept_flip true true true false w same = omega (arith, ints)
+kept_flip true true false true w same = omega (arith, ints)
+kept_flip true true false false w same = omega (arith, ints)
+kept_flip true false a b w same = absurd (cc)
+kept_flip false true a b w same = absurd (cc)
+kept_flip false false a b w same = refl
+
+-- one end of a broken tie on the side
+mended_flip : (t u a b : Bool) (n : ℕ) → u ≡ not t → are_same a b ≡ false
+    → times_spin (cond t (not a) a) (times_spin (cond u (not b) b) (neg_ℤ (pos n))) +ℤ pos (2 * n)
+    ≡ times_spin a (times_spin b (neg_ℤ (pos n)))
+mended_flip true true a b n other broken = absurd (cc)
+mended_flip false false a b n other broken = absurd (cc)
+mended_flip t u true true n other broken = absurd (cc)
+mended_flip t u false false n other broken = absurd (cc)
+mended_flip true false true false n other broken = omega (arith, ints)
+mended_flip true false false true n other broken = omega (arith, ints)
+mended_flip false true true false n other broken = omega (arith, ints)
+mended_flip false true false true n other broken = omega (arith, ints)
+
+-- the ends of these ties are on one side
+abbrev pub AreKept : (ℕ → Bool) → List ℕ → List ℕ → Type 0
+AreKept side qs ps = AllZip (λ q p. side q ≡ side p) qs ps
+
+pub ties_kept : (side s : ℕ → Bool) (strong : ℕ → ℕ) (qs ps : List ℕ) → AreKept side qs ps
+    → total_by (pair_energy (flipped side s)) (ties_of strong qs ps)
+    ≡ total_by (pair_energy s) (ties_of strong qs ps)
+ties_kept side s strong [] ps kept = refl
+ties_kept side s strong (q ∷ qs) [] kept = refl
+ties_kept side s strong (q ∷ qs) (p ∷ ps) kept =
+    let w = neg_ℤ (pos (strong q)) in
+    omega (
+      arith,
+      ints,
+      coupling_energy (flipped side s) q p w,
+      coupling_energy s q p w,
+      kept_flip (side q) (side p) (s q) (s p) w kept.0,
+      ties_kept side s strong qs ps kept.1,
+    )
+
+-- what is known of the ties when one of them is broken, and a side of it is turned over
+pub record IsCut (side s : ℕ → Bool) (c q p : ℕ) : Type 0 where
+  pub same : (q ≢ c) → side q ≡ side p
+  pub cut : q ≡ c → side p ≡ not (side q)
+  pub broken : q ≡ c → are_same (s q) (s p) ≡ false
+
+kept_of_cut : (side s : ℕ → Bool) (c : ℕ) (qs ps : List ℕ) → is_in qs c ≡ false
+    → AllZip (IsCut side s c) qs ps → AreKept side qs ps
+kept_of_cut side s c [] [] out cuts = tt
+kept_of_cut side s c [] (p ∷ ps) out cuts = cuts
+kept_of_cut side s c (q ∷ qs) [] out cuts = cuts
+kept_of_cut side s c (q ∷ qs) (p ∷ ps) out cuts =
+    let parts = or_parts (q == c) (is_in qs c) out in (
+      cuts.0.same (λ e. both_ways (q == c) parts.0 (eq-eqb q c e)),
+      kept_of_cut side s c qs ps parts.1 cuts.1,
+    )
+
+-- the broken tie is mended, and all others stay
+pub ties_mended : (side s : ℕ → Bool) (strong : ℕ → ℕ) (c : ℕ) (qs ps : List ℕ) → Once qs
+    → is_in qs c ≡ true → AllZip (IsCut side s c) qs ps
+    → total_by (pair_energy (flipped side s)) (ties_of strong qs ps) +ℤ pos (2 * strong c)
+    ≡ total_by (pair_energy s) (ties_of strong qs ps)
+ties_mended side s strong c [] ps once in' cuts = absurd cc
+ties_mended side s strong c (q ∷ qs) [] once in' cuts = absurd cuts
+ties_mended side s strong c (q ∷ qs) (p ∷ ps) once in' cuts =
+    let w = neg_ℤ (pos (strong q)) in
+    elim (cases_eq q c) [
+      | inl same ↦
+          omega (
+            arith,
+            ints,
+            coupling_energy (flipped side s) q p w,
+            coupling_energy s q p w,
+            mended_flip (side q) (side p) (s q) (s p) (strong q) (cuts.0.cut same)
+                (cuts.0.broken same),
+            ap strong same,
+            ties_kept side s strong qs ps
+                (kept_of_cut side s c qs ps (sym (ap (is_in qs) same) ∙ once.0) cuts.1),
+          )
+      | inr other ↦
+          omega (
+            arith,
+            ints,
+            coupling_energy (flipped side s) q p w,
+            coupling_energy s q p w,
+            kept_flip (side q) (side p) (s q) (s p) w (cuts.0.same other),
+            ties_mended side s strong c qs ps once.1 (later (q == c) (ne_eqb q c other) in') cuts.1,
+          )
+    ]
+  where
+    later : (b : Bool) → b ≡ false → (b || is_in qs c) ≡ true → is_in qs c ≡ true
+    later true out h = absurd cc
+    later false out h = h
+
+-- ---- broken ties
+
+-- where ties are not whole, one of them is broken
+pub broken_tie : (s : ℕ → Bool) (up : ℕ → ℕ) (qs ps : List ℕ) → AllZip (λ q p. up q ≡ p) qs ps
+    → is_whole s qs ps ≡ false
+    → (c : ℕ) × (is_in qs c ≡ true) × (are_same (s c) (s (up c)) ≡ false)
+broken_tie s up [] ps owns h = absurd cc
+broken_tie s up (q ∷ qs) [] owns h = absurd cc
+broken_tie s up (q ∷ qs) (p ∷ ps) owns h =
+    elim (and_cases (are_same (s q) (s p)) (is_whole s qs ps) h) [
+      | inl here ↦ (
+        q,
+        or_left (q == q) (is_in qs q) (eq-eqb q q refl),
+        ap (λ r. are_same (s q) (s r)) owns.0 ∙ here,
+      )
+      | inr later ↦
+          let found = broken_tie s up qs ps owns.1 later in
+          (found.0, or_right (q == found.0) (is_in qs found.0) found.1, found.2)
+    ]

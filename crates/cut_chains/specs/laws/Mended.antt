@@ -1,0 +1,345 @@
+-- Where a tie is broken, the qubits of the lighter of its sides can be flipped, and the energy
+-- falls by at least 2. Nothing here has to be believed.
+--
+-- The fields and placed couplings of that side give back at most twice its weight. The tie itself
+-- gives twice its strength, which is one more than the weight, and no other tie changes.
+use Rattle.std.specs.Prelude.{◌≡◌, ◌≢◌, ℕ, ◌+◌, ◌*◌, ◌<◌, ◌≤◌, ◌==◌, ℤ, pos, ◌+ℤ◌, ◌≤ℤ◌, unsigned_abs, Bool, true, false, not, ◌&&◌, List, [], ◌∷◌, ◌++◌, length, drop}
+use Rattle.std.specs.List.{AllByRecursion, AllZip, range_with_len}
+use Rattle.std.proofs.Common.{arith, ap, sym, ◌∙◌, refl, inl, inr, subst}
+use Rattle.std.proofs.Math.Nat.{min-eq_left, min-eq_right}
+use Rattle.std.proofs.lemmas.Int.{ints}
+use Rattle.std.proofs.lemmas.Bool.{cases_eq, cases_lt, eq-eqb, ne_eqb, and_left, false_from_ne_true}
+use Rattle.std.proofs.lemmas.List.Elements.{length_all_zip}
+use Rattle.base.specs.Sums.{total_by, if_so}
+use Rattle.base.proofs.Totals.{total_by-plus}
+use Rattle.bits_model.specs.declared.output.Entry.{Entry}
+use Rattle.bits_model.specs.Output.{times_spin}
+use Rattle.bits_model.specs.Walks.{is_in}
+use Rattle.quad_form.specs.Quads.{IsCoupler}
+use Rattle.chain_map.specs.Chains.{chain_of}
+use Rattle.embedding_check.specs.Embeddings.{Embedding, IsEmbedding, IsTie, IsTree, parent_in}
+use Rattle.chain_layer.specs.Image.{nodes_of, couplings_at, all_shares, all_ties, field_at, placed}
+use Rattle.chain_layer.proofs.Ordered.{all_couplers}
+use Rattle.chain_layer.specs.laws.SpinSums.{pair_energy, range-same, hit}
+use Rattle.chain_layer.specs.laws.Whole.{are_same, in_first, in_rest}
+use Rattle.chain_layer.specs.laws.Aligned.{node_at, whole_at}
+use Rattle.chain_layer.specs.laws.Kept.{chain_within, each_at, one_chain, rest_in}
+use Rattle.cut_chains.specs.Sides.{is_below, weight_of, side_weight, tie_strength, cut_strength}
+use Rattle.cut_chains.specs.CutImage.{ties_of}
+use Rattle.cut_chains.specs.laws.Trees.{IsRooted, same_side, tied_below, parent_above}
+use Rattle.chain_layer.specs.laws.OnceChains.{Once, AreOwn, own_parents, chain_once}
+use Rattle.cut_chains.specs.laws.Flips.{flipped, fields_flip, couplings_flip, side_counted, AreKept, ties_kept, IsCut, ties_mended, broken_tie}
+
+-- ---- energies over spins
+
+-- what the fields of the qubits and the placed couplings cost
+abbrev pub free_energy : Embedding → (ℕ → Bool) → ℤ
+free_energy e s =
+    total_by (λ q. times_spin (s q) (field_at (all_shares e) q)) (range_with_len 0 e.qubits)
+    +ℤ total_by (pair_energy s) (placed e.ising.couplings e.places)
+
+-- the ties of a node's chain
+abbrev pub node_ties : Embedding → ℕ → List Entry
+node_ties e i = ties_of (cut_strength e i) (drop 1 (chain_of e.chains i)) (chain_of e.parents i)
+
+-- what they cost
+abbrev pub tied_energy : Embedding → (ℕ → Bool) → ℕ → ℤ
+tied_energy e s i = total_by (pair_energy s) (node_ties e i)
+
+-- what all cost
+abbrev pub cut_energy : Embedding → (ℕ → Bool) → ℤ
+cut_energy e s = free_energy e s +ℤ total_by (tied_energy e s) (nodes_of e)
+
+-- ---- the chain of a node
+
+-- a tree on a chain without a qubit twice
+pub record IsOnceTree (chain parents : List ℕ) : Type 0 where
+  pub filled : chain ≢ []
+  pub once : Once chain
+  pub tree : IsTree chain parents
+
+pub once_tree : (e : Embedding) → IsEmbedding e → (i : ℕ) → i < length e.ising.fields
+    → IsOnceTree (chain_of e.chains i) (chain_of e.parents i)
+once_tree e kept i within =
+    let node = node_at e kept i within in
+    record { filled = node.filled; once = chain_once e kept i within; tree = node.tree }
+
+pub rooted_tree : (first : ℕ) (cs ps : List ℕ) → IsOnceTree (first ∷ cs) ps → IsRooted first cs ps
+rooted_tree first cs ps t = record {
+  apart = t.once.0;
+  leads = λ q in'. t.tree.rooted q (in_rest first q cs in');
+}
+
+pub parents_of_tree : (first : ℕ) (cs ps : List ℕ) → IsOnceTree (first ∷ cs) ps → AreOwn cs ps cs ps
+parents_of_tree first cs ps t = own_parents cs ps t.once.1 (length_all_zip _ _ _ t.tree.ties)
+
+-- ---- the lighter side of a tie
+
+-- a side of the tie of the qubit c: each other tie has both ends on it or none
+pub record IsSide (chain parents : List ℕ) (c : ℕ) (is_on : ℕ → Bool) : Type 0 where
+  pub same : (q : ℕ) → is_in (drop 1 chain) q ≡ true → (q ≢ c)
+      → is_on q ≡ is_on (parent_in (drop 1 chain) parents q)
+  pub cut : is_on (parent_in (drop 1 chain) parents c) ≡ not (is_on c)
+
+below_is_side : (first : ℕ) (cs ps : List ℕ) (c : ℕ) → IsRooted first cs ps → is_in cs c ≡ true
+    → IsSide (first ∷ cs) ps c (is_below (first ∷ cs) ps c)
+below_is_side first cs ps c root c_in = record {
+  same = λ q in' other. same_side first cs ps root c q c_in in' other;
+  cut = parent_above first cs ps root c c_in ∙ sym (ap not (tied_below first cs ps root c));
+}
+
+others_are_side : (chain parents : List ℕ) (c : ℕ) (is_on : ℕ → Bool) → IsSide chain parents c is_on
+    → IsSide chain parents c (λ r. not (is_on r))
+others_are_side chain parents c is_on side = record {
+  same = λ q in' other. ap not (side.same q in' other);
+  cut = ap not side.cut;
+}
+
+-- the strength of the tie is one more than the weight of one of its sides
+lighter_side : (weight : ℕ → ℕ) (first : ℕ) (cs ps : List ℕ) (c : ℕ) → IsRooted first cs ps
+    → is_in cs c ≡ true
+    → (is_on : ℕ → Bool) × IsSide (first ∷ cs) ps c is_on
+    × (side_weight weight (first ∷ cs) is_on + 1 ≡ tie_strength weight (first ∷ cs) ps c)
+lighter_side weight first cs ps c root c_in =
+    let below = is_below (first ∷ cs) ps c in
+    let side = below_is_side first cs ps c root c_in in
+    let under : ℕ = side_weight weight (first ∷ cs) below in
+    let over : ℕ = side_weight weight (first ∷ cs) (λ r. not (below r)) in
+    elim (cases_lt over under) [
+      | inl less ↦ (
+        (λ r. not (below r)),
+        others_are_side (first ∷ cs) ps c below side,
+        ap (λ n. n + 1) (sym (min-eq_right (weaker over under less))),
+      )
+      | inr more ↦ (below, side, ap (λ n. n + 1) (sym (min-eq_left more)))
+    ]
+  where
+    weaker : (m n : ℕ) → m < n → m ≤ n
+    weaker m n less = omega arith
+
+-- ---- what flipping it does
+
+-- the qubits of a chain that are on a side
+abbrev pub on_chain : List ℕ → (ℕ → Bool) → ℕ → Bool
+on_chain chain is_on q = is_in chain q && is_on q
+
+chosen : (chain : List ℕ) (is_on : ℕ → Bool) (q : ℕ) → is_in chain q ≡ true
+    → on_chain chain is_on q ≡ is_on q
+chosen chain is_on q in' = ap (λ b. b && is_on q) in'
+
+-- the ties of the chain itself
+cut_ties_of_chain : (s : ℕ → Bool) (chain parents : List ℕ) (c : ℕ) (is_on : ℕ → Bool)
+    → IsSide chain parents c is_on
+    → are_same (s c) (s (parent_in (drop 1 chain) parents c)) ≡ false
+    → (qs ps : List ℕ) → ((q : ℕ) → is_in qs q ≡ true → is_in (drop 1 chain) q ≡ true)
+    → ((q : ℕ) → is_in (drop 1 chain) q ≡ true → is_in chain q ≡ true)
+    → AreOwn (drop 1 chain) parents qs ps → AllZip (IsTie chain) qs ps
+    → AllZip (IsCut (on_chain chain is_on) s c) qs ps
+cut_ties_of_chain s chain parents c is_on side broken [] [] ins rest owns ties = tt
+cut_ties_of_chain s chain parents c is_on side broken [] (p ∷ ps) ins rest owns ties = ties
+cut_ties_of_chain s chain parents c is_on side broken (q ∷ qs) [] ins rest owns ties = ties
+cut_ties_of_chain s chain parents c is_on side broken (q ∷ qs) (p ∷ ps) ins rest owns ties =
+    let q_in = ins q (in_first q qs) in
+    let at_q = chosen chain is_on q (rest q q_in) in
+    let at_p = chosen chain is_on p ties.0.inside in (
+      record {
+        same = λ other. at_q ∙ side.same q q_in other ∙ ap is_on owns.0 ∙ sym at_p;
+        cut = λ same.
+            at_p ∙ ap is_on (sym owns.0)
+            ∙ ap (λ r. is_on (parent_in (drop 1 chain) parents r)) same
+            ∙ side.cut
+            ∙ ap (λ r. not (is_on r)) (sym same)
+            ∙ ap not (sym at_q);
+        broken = λ same.
+            ap (λ r. are_same (s q) (s r)) (sym owns.0)
+            ∙ ap (λ r. are_same (s r) (s (parent_in (drop 1 chain) parents r))) same
+            ∙ broken;
+      },
+      cut_ties_of_chain s chain parents c is_on side broken qs ps
+          (λ r in'. ins r (in_rest q r qs in')) rest owns.1 ties.1,
+    )
+
+-- a broken tie and a side of it: the strength of the tie is one more than the weight of the side
+pub record IsLight (e : Embedding) (s : ℕ → Bool) (i c : ℕ) (is_on : ℕ → Bool) : Type 0 where
+  pub cuts : AllZip (IsCut (on_chain (chain_of e.chains i) is_on) s c)
+      (drop 1 (chain_of e.chains i)) (chain_of e.parents i)
+  pub inside : is_in (drop 1 (chain_of e.chains i)) c ≡ true
+  pub once : Once (drop 1 (chain_of e.chains i))
+  pub light : side_weight (weight_of e) (chain_of e.chains i) is_on + 1 ≡ cut_strength e i c
+
+light_of : (weight : ℕ → ℕ) (s : ℕ → Bool) (chain parents : List ℕ) → IsOnceTree chain parents
+    → (c : ℕ) → is_in (drop 1 chain) c ≡ true
+    → are_same (s c) (s (parent_in (drop 1 chain) parents c)) ≡ false
+    → (is_on : ℕ → Bool) × AllZip (IsCut (on_chain chain is_on) s c) (drop 1 chain) parents
+    × (side_weight weight chain is_on + 1 ≡ tie_strength weight chain parents c)
+    × Once (drop 1 chain)
+light_of weight s [] parents t c c_in broken = absurd (t.filled refl)
+light_of weight s (first ∷ cs) parents t c c_in broken =
+    let light = lighter_side weight first cs parents c (rooted_tree first cs parents t) c_in in
+    let cuts =
+    cut_ties_of_chain s (first ∷ cs) parents c light.0 light.1 broken cs parents (λ q in'. in')
+    (λ q in'. in_rest first q cs in') (parents_of_tree first cs parents t) t.tree.ties in
+    (light.0, cuts, light.2, t.once.1)
+
+pub light_side : (e : Embedding) → IsEmbedding e → (s : ℕ → Bool) (i c : ℕ)
+    → i < length e.ising.fields → is_in (drop 1 (chain_of e.chains i)) c ≡ true
+    → are_same (s c) (s (parent_in (drop 1 (chain_of e.chains i)) (chain_of e.parents i) c)) ≡ false
+    → (is_on : ℕ → Bool) × IsLight e s i c is_on
+light_side e kept s i c within c_in broken =
+    let found =
+    light_of (weight_of e) s (chain_of e.chains i) (chain_of e.parents i)
+    (once_tree e kept i within) c c_in broken in
+    (found.0, record { cuts = found.1; inside = c_in; once = found.3; light = found.2 })
+
+-- the ties of another chain, of which no qubit is flipped
+others_kept : (side : ℕ → Bool) (chain qs ps : List ℕ)
+    → ((q : ℕ) → is_in chain q ≡ true → side q ≡ false)
+    → ((q : ℕ) → is_in qs q ≡ true → is_in chain q ≡ true) → AllZip (IsTie chain) qs ps
+    → AreKept side qs ps
+others_kept side chain [] [] none ins ties = tt
+others_kept side chain [] (p ∷ ps) none ins ties = ties
+others_kept side chain (q ∷ qs) [] none ins ties = ties
+others_kept side chain (q ∷ qs) (p ∷ ps) none ins ties = (
+  none q (ins q (in_first q qs)) ∙ sym (none p ties.0.inside),
+  others_kept side chain qs ps none (λ r in'. ins r (in_rest q r qs in')) ties.1,
+)
+
+-- the side of a chain has no qubit of another
+not_on_other : (e : Embedding) → IsEmbedding e → (i j : ℕ) → i < length e.ising.fields
+    → j < length e.ising.fields → (j ≢ i) → (is_on : ℕ → Bool) (q : ℕ)
+    → is_in (chain_of e.chains j) q ≡ true → on_chain (chain_of e.chains i) is_on q ≡ false
+not_on_other e kept i j i_in j_in other is_on q in' =
+    and_left (is_in (chain_of e.chains i) q) (is_on q) (false_from_ne_true _ (λ here.
+    other (one_chain e.chains q j i (kept.once q) (omega (arith, j_in, kept.counted))
+    (omega (arith, i_in, kept.counted)) in' here)))
+
+-- the ties of one node, before and after
+tied_flip : (e : Embedding) → IsEmbedding e → (s : ℕ → Bool) (i c : ℕ) (is_on : ℕ → Bool)
+    → IsLight e s i c is_on → i < length e.ising.fields → (j : ℕ) → j < length e.ising.fields
+    → tied_energy e (flipped (on_chain (chain_of e.chains i) is_on) s) j
+    +ℤ if_so (j == i) (pos (2 * cut_strength e i c))
+    ≡ tied_energy e s j
+tied_flip e kept s i c is_on light i_in j j_in =
+    let side = on_chain (chain_of e.chains i) is_on in
+    elim (cases_eq j i) [
+      | inl same ↦
+          subst (λ k. tied_energy e (flipped side s) k
+          +ℤ if_so (k == i) (pos (2 * cut_strength e i c)) ≡ tied_energy e s k)
+          (sym same)
+          (ap (λ b. tied_energy e (flipped side s) i +ℤ if_so b (pos (2 * cut_strength e i c)))
+          (eq-eqb i i refl)
+          ∙ ties_mended side s (cut_strength e i) c (drop 1 (chain_of e.chains i))
+          (chain_of e.parents i) light.once light.inside light.cuts)
+      | inr other ↦
+          let node = node_at e kept j j_in in
+          let kept_ties =
+          others_kept side (chain_of e.chains j) (drop 1 (chain_of e.chains j))
+          (chain_of e.parents j)
+          (not_on_other e kept i j i_in j_in other is_on)
+          (λ q in'. each_at (λ p. is_in (chain_of e.chains j) p ≡ true)
+          (drop 1 (chain_of e.chains j)) q (rest_in (chain_of e.chains j)) in')
+          node.tree.ties in
+          let none : if_so (j == i) (pos (2 * cut_strength e i c)) ≡ pos 0 =
+          ap (λ b. if_so b (pos (2 * cut_strength e i c))) (ne_eqb j i other) in
+          omega (
+            arith,
+            ints,
+            none,
+            ties_kept side s (cut_strength e j) (drop 1 (chain_of e.chains j))
+                (chain_of e.parents j) kept_ties,
+          )
+    ]
+
+-- all ties cost less by twice the strength of the broken one
+all_ties_flip : (e : Embedding) → IsEmbedding e → (s : ℕ → Bool) (i c : ℕ) (is_on : ℕ → Bool)
+    → IsLight e s i c is_on → i < length e.ising.fields
+    → total_by (tied_energy e (flipped (on_chain (chain_of e.chains i) is_on) s)) (nodes_of e)
+    +ℤ pos (2 * cut_strength e i c)
+    ≡ total_by (tied_energy e s) (nodes_of e)
+all_ties_flip e kept s i c is_on light within =
+    let n = length e.ising.fields in
+    let after : ℕ → ℤ = tied_energy e (flipped (on_chain (chain_of e.chains i) is_on) s) in
+    let won : ℕ → ℤ = λ j. if_so (j == i) (pos (2 * cut_strength e i c)) in
+    omega (
+      arith,
+      ints,
+      range-same (λ j. after j +ℤ won j) (tied_energy e s) 0 n
+          (λ j l. tied_flip e kept s i c is_on light within j (omega (arith, l))),
+      total_by-plus after won (nodes_of e),
+      hit (λ j. pos (2 * cut_strength e i c)) i 0 n (omega arith) (omega (arith, within)),
+    )
+
+-- ---- fields and placed couplings
+
+-- what holds of each entry of two lists, one after the other, holds of each of both
+pub all_parts : (P : Entry → Type 0) (es ds : List Entry) → AllByRecursion P (es ++ ds)
+    → AllByRecursion P es × AllByRecursion P ds
+all_parts P [] ds all = (tt, all)
+all_parts P (e ∷ es) ds all =
+    let rest = all_parts P es ds all.1 in
+    ((all.0, rest.0), rest.1)
+
+pub couplers_placed : (e : Embedding) → IsEmbedding e
+    → AllByRecursion (IsCoupler e.qubits) (placed e.ising.couplings e.places)
+couplers_placed e kept =
+    (all_parts (IsCoupler e.qubits) (placed e.ising.couplings e.places) (all_ties e)
+    (all_couplers e kept)).0
+
+-- what fields and placed couplings give back is at most twice the weight of the side
+free_flip : (e : Embedding) → IsEmbedding e → (s : ℕ → Bool) (i : ℕ) (is_on : ℕ → Bool)
+    → i < length e.ising.fields
+    → free_energy e (flipped (on_chain (chain_of e.chains i) is_on) s)
+    ≤ℤ (free_energy e s +ℤ pos (2 * side_weight (weight_of e) (chain_of e.chains i) is_on))
+free_flip e kept s i is_on within =
+    let chain = chain_of e.chains i in
+    let side = on_chain chain is_on in
+    let f : ℕ → ℤ = field_at (all_shares e) in
+    let pairs = placed e.ising.couplings e.places in
+    let of_field : ℕ → ℤ = λ q. if_so (side q) (pos (2 * unsigned_abs (f q))) in
+    let of_pairs : ℕ → ℤ = λ q. if_so (side q) (pos (2 * couplings_at q pairs)) in
+    omega (
+      arith,
+      ints,
+      fields_flip side s f e.qubits,
+      couplings_flip side s e.qubits pairs (couplers_placed e kept),
+      total_by-plus of_field of_pairs (range_with_len 0 e.qubits),
+      range-same (λ q. of_field q +ℤ of_pairs q) (λ q. if_so (side q) (pos (2 * weight_of e q))) 0
+          e.qubits
+          (λ q l. both (side q) (unsigned_abs (f q)) (couplings_at q pairs)),
+      side_counted (weight_of e) is_on e.qubits chain (chain_within e kept i within),
+    )
+  where
+    both : (b : Bool) (m n : ℕ)
+        → if_so b (pos (2 * m)) +ℤ if_so b (pos (2 * n)) ≡ if_so b (pos (2 * (m + n)))
+    both true m n = omega (arith, ints)
+    both false m n = refl
+
+-- ---- the energy falls
+
+-- the spins of a side of a broken tie can be flipped so that the energy falls
+pub flip_lowers : (e : Embedding) → IsEmbedding e → (s : ℕ → Bool) (i : ℕ)
+    → i < length e.ising.fields → whole_at e s i ≡ false
+    → (is_on : ℕ → Bool)
+    × ((cut_energy e (flipped (on_chain (chain_of e.chains i) is_on) s) +ℤ pos 2) ≤ℤ cut_energy e s)
+flip_lowers e kept s i within broken =
+    let chain = chain_of e.chains i in
+    let parents = chain_of e.parents i in
+    let t = once_tree e kept i within in
+    let found =
+    broken_tie s (parent_in (drop 1 chain) parents) (drop 1 chain) parents (own_of chain parents t)
+    broken in
+    let light = light_side e kept s i found.0 within found.1 found.2 in (
+      light.0,
+      omega (
+        arith,
+        ints,
+        free_flip e kept s i light.0 within,
+        all_ties_flip e kept s i found.0 light.0 light.1 within,
+        light.1.light,
+      ),
+    )
+  where
+    own_of : (chain parents : List ℕ) → IsOnceTree chain parents
+        → AreOwn (drop 1 chain) parents (drop 1 chain) parents
+    own_of [] parents t = absurd (t.filled refl)
+    own_of (first ∷ cs) parents t = parents_of_tree first cs parents t

@@ -1,0 +1,70 @@
+//! How much each qubit weighs: the sizes of its field and of the placed couplings that end at it.
+ghost use Rattle.std.specs.Prelude.{◌≡◌, ◌+◌, ◌<◌, ◌^◌, ℕ, All, IfOk, length, map, unsigned_abs};
+ghost use Rattle.std.specs.List.{range_with_len, slice_index_or, slice_set};
+ghost use Rattle.bits_model.specs.Output.{weight_total};
+ghost use Rattle.quad_form.specs.Quads.{IsCoupler};
+ghost use Rattle.chain_layer.specs.Image.{couplings_at, all_shares, field_at, placed};
+ghost use Rattle.embedding_check.specs.Embeddings.{IsEmbedding};
+ghost use Rattle.cut_chains.specs.Sides.{weight_of};
+
+use base::NoMemory;
+use chain_layer::Gathered;
+use embedding_check::Embedded;
+use std::alloc::Global;
+
+/// The size of each field.
+fn field_weights(alloc: Global, fields: &[i128]) -> Result<Vec<u128>, NoMemory>
+    ensures { IfOk result (λ v. v.items ≡ map (λ h. unsigned_abs h) fields.now) }
+{
+    let mut weights = Vec::with_capacity(alloc, fields.len())?;
+    for field in fields {
+        weights.push(field.unsigned_abs())?;
+    }
+    Ok(weights)
+}
+
+/// Adds to the weight of a qubit.
+fn raise(weights: &mut [u128], qubit: u32, size: u128)
+    requires within { qubit < length weights.old }
+    requires small { slice_index_or weights.old qubit 0 + size < 2 ^ 127 }
+    ensures { weights.new
+        ≡ slice_set weights.old qubit (slice_index_or weights.old qubit 0 + size) }
+{
+    weights[qubit as usize] += size;
+}
+
+/// Adds the size of each coupling to both of its qubits.
+fn add_couplings(weights: &mut [u128], couplings: &Gathered)
+    requires within { All (IsCoupler (length weights.old)) couplings.now }
+    requires small { (i : ℕ)
+        → slice_index_or weights.old i 0 + weight_total couplings.now < 2 ^ 127 }
+    ensures length { length weights.new ≡ length weights.old }
+    ensures sums { (i : ℕ) → i < length weights.old → slice_index_or weights.new i 0
+        ≡ slice_index_or weights.old i 0 + couplings_at i couplings.now }
+{
+    for k in 0..couplings.len() {
+        let coupling = couplings.get(k);
+        let size = coupling.weight.unsigned_abs();
+        raise(weights, coupling.first, size);
+        raise(weights, coupling.second, size);
+    }
+}
+
+/// How much each qubit weighs.
+pub fn weights_of(
+    alloc: Global,
+    source: &Embedded,
+    fields: &[i128],
+    couplings: &Gathered,
+) -> Result<Vec<u128>, NoMemory>
+    requires kept { IsEmbedding source.now }
+    requires fields { fields.now
+        ≡ map (field_at (all_shares source.now)) (range_with_len 0 source.now.qubits) }
+    requires placed { couplings.now ≡ placed source.now.ising.couplings source.now.places }
+    ensures { IfOk result (λ v. v.items
+        ≡ map (weight_of source.now) (range_with_len 0 source.now.qubits)) }
+{
+    let mut weights = field_weights(alloc, fields)?;
+    add_couplings(&mut weights, couplings);
+    Ok(weights)
+}
