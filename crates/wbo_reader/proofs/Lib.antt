@@ -1,0 +1,14 @@
+pub mod Relaxing
+pub mod Agreeing
+pub mod Easing
+pub mod Spending
+pub mod Merging
+pub mod Rewritten
+pub mod ReadCosts
+pub mod Sound
+pub mod Standing
+pub mod Copied
+pub mod Added
+pub mod Steps
+pub mod Whole
+pub mod Paid

@@ -1,0 +1,5 @@
+pub mod Wbo
+pub mod Rewriting
+pub mod Reading
+pub mod Extensions
+pub mod SoftLists
