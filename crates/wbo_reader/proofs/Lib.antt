@@ -12,3 +12,9 @@ pub mod Added
 pub mod Steps
 pub mod Whole
 pub mod Paid
+pub mod Fronts
+pub mod Indices
+pub mod Together
+pub mod Read
+pub mod WeighedSteps
+pub mod LeastNumbers

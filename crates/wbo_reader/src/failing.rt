@@ -1,5 +1,5 @@
-//! Which constraints fail under an assignment, and the list of bits that stands for it in a rewritten
-//! problem.
+//! Which constraints fail under an assignment, and the list of bits that stands for it in a
+//! rewritten problem.
 ghost use Rattle.std.specs.Prelude.{◌≡◌, ◌<◌, ◌^◌, IfOk};
 ghost use Rattle.std.specs.List.{list_any};
 ghost use Rattle.base.specs.Costs.{IsOf};
