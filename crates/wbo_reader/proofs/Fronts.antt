@@ -1,14 +1,14 @@
 -- What is read of a constraint with its weight leaves no more words than there were.
-use Rattle.std.proofs.Common.{ℕ, ◌≤◌, Bool, true, false, List, [], ◌∷◌, length, Option, Some, None, Result, Ok, Err, IfOk, codes, arith}
+use Rattle.std.proofs.Common.{ℕ, ◌≤◌, Bool, true, false, List, [], ◌∷◌, length, Option, Some, None, Result, Ok, Err, IfOk, codes, arith, refl}
 use Rattle.std.specs.Prelude.{bytes_eq, if◌then◌else◌}
 use Rattle.whole_text.specs.declared.faults.TextFault.{TextFault}
 use Rattle.whole_text.specs.declared.faults.TextKind.TheVariants as kinds
 use Rattle.whole_text.specs.Tokens.{Word}
 use Rattle.whole_text.specs.Steps.{◌>>=◌, fault, next_of, natural_at}
-use Rattle.opb_reader.specs.Opb.{Listed, constraint_at}
-use Rattle.opb_reader.proofs.Many.{Leaves, Shrinks}
+use Rattle.opb_reader.specs.Opb.{Listed, never, constraint_at}
+use Rattle.opb_reader.proofs.Many.{Leaves, Shrinks, many_enough, many_all}
 use Rattle.opb_reader.proofs.Shrinking.{constraint_shrinks}
-use Rattle.wbo_reader.specs.Reading.{Weighed, greatest_index, after_word, weight_at, front_at, weighed_at}
+use Rattle.wbo_reader.specs.Reading.{Weighed, greatest_index, after_word, weight_at, front_at, weighed_at, constraints_at, WordsAreEnough}
 
 -- a fact on what a first step gives, and one on what the next gives with it
 pub bind_if : {A B : Type 0} (P : A → Type 0) (Q : B → Type 0) (first : Result A TextFault)
@@ -107,4 +107,17 @@ weighed_shrinks end = record {
       (constraint_at greatest_index end front.1 front.2) (as_weighed front.0)
       ((constraint_shrinks greatest_index end).leaves front.1 front.2)
       (λ k less. omega (arith, h, less)));
+}
+
+-- ---- as many as there are words are enough
+
+pub words_are_enough : WordsAreEnough
+unfolding constraints_at
+words_are_enough = record {
+  constraints = λ count end ws h.
+      many_enough never (weighed_at end) (weighed_shrinks end) count (length ws) ws h
+      (omega arith);
+  all = λ end ws.
+      many_all never (weighed_at end) (weighed_shrinks end) (λ bytes. refl) (length ws) ws
+      (omega arith);
 }

@@ -1,6 +1,6 @@
 -- What a WBO text says: a cost that is infinite or none, and constraints, of which some have a
 -- weight. The constraints are those of OPB texts, but for the indices, which are below 2^63.
-use Rattle.std.specs.Prelude.{◌≡◌, ℕ, zero, suc, ◌-◌, ◌^◌, pos, codes, Bool, true, false, not, ◌||◌, ◌&&◌, unwrap_or, List, [], ◌∷◌, length, flat_map, Option, Some, None, is_none, Result, Ok, Err, bytes_eq, if◌then◌else◌}
+use Rattle.std.specs.Prelude.{◌≡◌, ℕ, ◌≤◌, zero, suc, ◌-◌, ◌^◌, pos, codes, Bool, true, false, not, ◌||◌, ◌&&◌, unwrap_or, List, [], ◌∷◌, length, flat_map, Option, Some, None, is_none, Result, Ok, Err, IfOk, bytes_eq, if◌then◌else◌}
 use Rattle.std.specs.List.{list_any, sum_by}
 use Rattle.base.specs.declared.costs.Cost.{Cost}
 use Rattle.base.specs.declared.costs.Cost.TheVariants.{Whole, Infinite}
@@ -179,6 +179,12 @@ unfoldable pub normal_reading : List ℕ → Result WboContent TextFault
 normal_reading text = reading text >>= λ t. Ok (content_of t)
 
 -- ---- laws
+
+-- no greater count reads anything else, and no word is left behind the constraints
+pub record WordsAreEnough : Type 0 where
+  pub constraints : (count end : ℕ) (ws : List Word) → length ws ≤ count
+      → many never (weighed_at end) count ws ≡ constraints_at end ws
+  pub all : (end : ℕ) (ws : List Word) → IfOk (constraints_at end ws) (λ x. x.1 ≡ [])
 
 -- the source in normal form costs what its text costs, under every assignment
 abbrev pub ReadingKeepsCosts : Type 0

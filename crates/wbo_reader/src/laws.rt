@@ -1,6 +1,11 @@
 //! Laws, as functions without code: each contract is a statement of `specs/`.
 ghost use Rattle.wbo_reader.specs.Extensions.{ExtendsAfterRewrites};
-ghost use Rattle.wbo_reader.specs.Reading.{ReadingIsNormal, ReadingKeepsCosts, RewritesItsText};
+ghost use Rattle.wbo_reader.specs.Reading.{
+  ReadingIsNormal,
+  ReadingKeepsCosts,
+  RewritesItsText,
+  WordsAreEnough,
+};
 ghost use Rattle.wbo_reader.specs.Rewriting.{
   CarriesAssignments,
   RewritesItsSource,
@@ -22,10 +27,11 @@ pub fn laws_of_extensions()
     ensures { ExtendsAfterRewrites }
 {}
 
-/// What is read is in normal form and costs what its text costs, and the problem that it is
-/// rewritten to stands for the text.
+/// What is read is in normal form and costs what its text costs, the problem that it is rewritten to
+/// stands for the text, and all constraints are read.
 pub fn laws_of_readings()
     ensures normal { ReadingIsNormal }
     ensures costs { ReadingKeepsCosts }
     ensures rewrites { RewritesItsText }
+    ensures enough { WordsAreEnough }
 {}
