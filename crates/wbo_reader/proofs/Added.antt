@@ -1,0 +1,134 @@
+-- Problems that are sound with more rows or products: the first of these can be added.
+use Rattle.std.proofs.Common.{◌≡◌, ℕ, ◌+◌, ◌<◌, ◌^◌, List, [], ◌∷◌, ◌++◌, All, ◌+ℤ◌, unsigned_abs, sym, subst, arith}
+use Rattle.std.specs.List.{AllByRecursion}
+use Rattle.std.proofs.lemmas.Int.{ints}
+use Rattle.std.proofs.lemmas.List.{append_assoc, append-nil}
+use Rattle.std.proofs.lemmas.List.Sums.{sum_by-append, sum_by-cons}
+use Rattle.std.proofs.lemmas.List.Elements.{All-from_recursion, recursion_from_All}
+use Rattle.literal_lists.specs.declared.literal.Literal.{Literal}
+use Rattle.problem_form.specs.declared.terms.Product.{Product}
+use Rattle.problem_form.specs.declared.terms.Constraint.{Constraint}
+use Rattle.problem_form.specs.NormalForm.{with_product, product_constant}
+use Rattle.problem_form.specs.Problems.{ProblemContent, constraint_total, problem_total, IsNormalProduct}
+use Rattle.problem_form.specs.Fields.{IsSound}
+use Rattle.wbo_reader.specs.Wbo.{IsNormalConstraint}
+use Rattle.wbo_reader.specs.Rewriting.{with_products, with_rows}
+use Rattle.wbo_reader.proofs.Copied.{product_itself, no_constant}
+
+-- ---- all of some
+
+module _ {A : Type 0} (P : A → Type 0) where
+  first_of : (xs ys : List A) → AllByRecursion P (xs ++ ys) → AllByRecursion P xs
+  first_of [] ys h = tt
+  first_of (x ∷ xs) ys h = (h.0, first_of xs ys h.1)
+
+  last_of : (xs : List A) (y : A) → AllByRecursion P (xs ++ y ∷ []) → P y
+  last_of [] y h = h.0
+  last_of (x ∷ xs) y h = last_of xs y h.1
+
+  pub All-first : (xs ys : List A) → All P (xs ++ ys) → All P xs
+  All-first xs ys h = All-from_recursion P xs (first_of xs ys (recursion_from_All P (xs ++ ys) h))
+
+  pub All-last : (xs : List A) (y : A) → All P (xs ++ y ∷ []) → P y
+  All-last xs y h = last_of xs y (recursion_from_All P (xs ++ y ∷ []) h)
+
+-- ---- rows
+
+pub more_rows : (p : ProblemContent) (xs ys : List Constraint)
+    → with_rows (with_rows p xs) ys ≡ with_rows p (xs ++ ys)
+more_rows p xs ys = λ i. record p { constraints = append_assoc p.constraints xs ys i }
+
+pub no_rows : (p : ProblemContent) → with_rows p [] ≡ p
+no_rows p = λ i. record p { constraints = append-nil p.constraints i }
+
+pub first_rows : (p : ProblemContent) (xs ys : List Constraint)
+    → IsSound (with_rows p (xs ++ ys)) → IsSound (with_rows p xs)
+first_rows p xs ys h =
+    let joined = append_assoc p.constraints xs ys in (
+      record {
+        objective = h.0.objective;
+        clauses = h.0.clauses;
+        constraints =
+            All-first (IsNormalConstraint p.variables) (p.constraints ++ xs) ys
+            (subst (All (IsNormalConstraint p.variables)) (sym joined) h.0.constraints);
+      },
+      omega (
+        arith,
+        h.1,
+        sum_by-append constraint_total p.constraints (xs ++ ys),
+        sum_by-append constraint_total xs ys,
+        sum_by-append constraint_total p.constraints xs,
+      ),
+    )
+
+pub row_normal : (p : ProblemContent) (k : Constraint) → IsSound (with_rows p (k ∷ []))
+    → IsNormalConstraint p.variables k
+row_normal p k h = All-last (IsNormalConstraint p.variables) p.constraints k h.0.constraints
+
+pub row_small : (p : ProblemContent) (k : Constraint) → IsSound (with_rows p (k ∷ []))
+    → problem_total p + constraint_total k < 2 ^ 100
+row_small p k h =
+    omega (
+      arith,
+      h.1,
+      sum_by-append constraint_total p.constraints (k ∷ []),
+      sum_by-cons constraint_total k [],
+    )
+
+-- ---- products
+
+abbrev size : Product → ℕ
+size t = unsigned_abs t.coefficient
+
+pub more_products : (p : ProblemContent) (xs ys : List Product)
+    → with_products (with_products p xs) ys ≡ with_products p (xs ++ ys)
+more_products p xs ys = λ i. record p { objective = append_assoc p.objective xs ys i }
+
+pub no_products : (p : ProblemContent) → with_products p [] ≡ p
+no_products p = λ i. record p { objective = append-nil p.objective i }
+
+pub first_products : (p : ProblemContent) (xs ys : List Product)
+    → IsSound (with_products p (xs ++ ys)) → IsSound (with_products p xs)
+first_products p xs ys h =
+    let joined = append_assoc p.objective xs ys in (
+      record {
+        objective =
+            All-first (IsNormalProduct p.variables) (p.objective ++ xs) ys
+            (subst (All (IsNormalProduct p.variables)) (sym joined) h.0.objective);
+        clauses = h.0.clauses;
+        constraints = h.0.constraints;
+      },
+      omega (
+        arith,
+        h.1,
+        sum_by-append size p.objective (xs ++ ys),
+        sum_by-append size xs ys,
+        sum_by-append size p.objective xs,
+      ),
+    )
+
+pub product_normal : (p : ProblemContent) (t : Product) → IsSound (with_products p (t ∷ []))
+    → IsNormalProduct p.variables t
+product_normal p t h = All-last (IsNormalProduct p.variables) p.objective t h.0.objective
+
+pub product_small : (p : ProblemContent) (t : Product) → IsSound (with_products p (t ∷ []))
+    → problem_total p + unsigned_abs t.coefficient < 2 ^ 100
+product_small p t h =
+    omega (arith, h.1, sum_by-append size p.objective (t ∷ []), sum_by-cons size t [])
+
+pub product_added : (p : ProblemContent) (t : Product) → IsSound (with_products p (t ∷ []))
+    → with_product p t ≡ with_products p (t ∷ [])
+product_added p t h =
+    let is = product_normal p t h in
+    let constant : p.constant +ℤ product_constant t ≡ p.constant =
+    omega (arith, ints, no_constant p.variables t is) in
+    λ i. record p {
+      constant = constant i;
+      objective = p.objective ++ product_itself p.variables t is i;
+    }
+
+-- ---- literals
+
+pub row_within : (p : ProblemContent) (k : Constraint) → IsSound (with_rows p (k ∷ []))
+    → All (λ (t : Product). All (λ (l : Literal). l.variable < p.variables) t.literals) k.products
+row_within p k h i t at = (row_normal p k h i t at).set.within

@@ -1,0 +1,255 @@
+-- No index that is read is above the limit, so as many variables are enough; and there are no more
+-- constraints than words.
+use Rattle.std.proofs.Common.{◌≡◌, ℕ, zero, suc, ◌-◌, ◌<◌, ◌≤◌, ◌+◌, Bool, true, false, ◌&&◌, ℤ, List, [], ◌∷◌, ◌++◌, length, drop, slice_index, Option, Some, None, Result, Ok, Err, IfOk, ◌==◌, refl, arith, max}
+use Rattle.std.specs.Prelude.{nat_lt, nat_le, if◌then◌else◌}
+use Rattle.std.proofs.Math.Nat.{max-le}
+use Rattle.std.proofs.lemmas.Bool.Decides.{nat_tests}
+use Rattle.whole_text.specs.declared.faults.TextFault.{TextFault}
+use Rattle.whole_text.specs.declared.faults.TextKind.TheVariants as kinds
+use Rattle.whole_text.specs.Numbers.{are_digits, digits_number}
+use Rattle.whole_text.specs.Tokens.{Word}
+use Rattle.whole_text.specs.Steps.{◌>>=◌, fault, next_of}
+use Rattle.literal_lists.specs.declared.literal.Literal.{Literal}
+use Rattle.problem_form.specs.declared.terms.Product.{Product}
+use Rattle.opb_reader.specs.declared.operator.Operator.{Operator}
+use Rattle.opb_reader.specs.Opb.{Listed, widened, literals_in, begins_literal, is_operator, never, many, variable_at, index_at, name_at, literal_of, literal_at, literals_at, product_at, coefficient_at, term_at, sum_at, comparison_at, constraint_at}
+use Rattle.opb_reader.proofs.Many.{Reader}
+use Rattle.opb_reader.proofs.Variables.{widened-append}
+use Rattle.wbo_reader.specs.Reading.{Weighed, greatest_index, all_literals, front_at, weighed_at, constraints_at}
+use Rattle.wbo_reader.proofs.Fronts.{bind_if, Any, any, as_weighed, sum_part}
+
+-- ---- one literal
+
+variable_within : (limit line : ℕ) (n : Option ℕ)
+    → IfOk (variable_at limit line n) (λ v. v < limit)
+variable_within limit line None = tt
+variable_within limit line (Some n) = go (nat_lt 0 n && nat_le n limit) refl
+  where
+    go : (b : Bool) → (nat_lt 0 n && nat_le n limit) ≡ b
+        → IfOk (if b then Ok (n - 1) else Err (fault kinds.Range line)) (λ v. v < limit)
+    go true e = grind (arith, nat_tests)
+    go false e = tt
+
+index_within : (limit line : ℕ) (digits : List ℕ)
+    → IfOk (index_at limit line digits) (λ v. v < limit)
+unfolding index_at
+index_within limit line digits = go (are_digits digits)
+  where
+    go : (b : Bool)
+        → IfOk (if b then variable_at limit line (digits_number digits)
+        else Err (fault kinds.Word line)) (λ v. v < limit)
+    go true = variable_within limit line (digits_number digits)
+    go false = tt
+
+name_within : (limit line : ℕ) (bytes : List ℕ)
+    → IfOk (name_at limit line bytes) (λ v. v < limit)
+unfolding name_at
+name_within limit line bytes = go (slice_index bytes 0 == 120)
+  where
+    go : (b : Bool)
+        → IfOk (if b then index_at limit line (drop 1 bytes) else Err (fault kinds.Word line))
+        (λ v. v < limit)
+    go true = index_within limit line (drop 1 bytes)
+    go false = tt
+
+-- the variable of a literal is below this
+abbrev IsBelow : ℕ → Literal → Type 0
+IsBelow limit l = l.variable < limit
+
+literal_within : (limit : ℕ) (w : Word) → IfOk (literal_at limit w) (IsBelow limit)
+unfolding literal_at
+literal_within limit w = go (slice_index w.bytes 0 == 126)
+  where
+    named : (negated : Bool) (bytes : List ℕ)
+        → IfOk (name_at limit w.line bytes >>= literal_of negated) (IsBelow limit)
+    named negated bytes =
+        bind_if (λ v. v < limit) (IsBelow limit) (name_at limit w.line bytes) (literal_of negated)
+        (name_within limit w.line bytes) (λ v h. h)
+
+    go : (b : Bool)
+        → IfOk (if b then name_at limit w.line (drop 1 w.bytes) >>= literal_of true
+        else name_at limit w.line w.bytes >>= literal_of false) (IsBelow limit)
+    go true = named true (drop 1 w.bytes)
+    go false = named false w.bytes
+
+-- ---- literals
+
+-- no more variables than this are needed, where no more were needed before
+abbrev pub Fits : ℕ → List Literal → Type 0
+Fits limit ls = (v : ℕ) → v ≤ limit → widened v ls ≤ limit
+
+fits_first : (limit : ℕ) (l : Literal) (ls : List Literal) → l.variable < limit → Fits limit ls
+    → Fits limit (l ∷ ls)
+fits_first limit l ls below rest v le =
+    rest (max v (l.variable + 1)) (max-le le (omega (arith, below)))
+
+fits-append : (limit : ℕ) (ls ks : List Literal) → Fits limit ls → Fits limit ks
+    → Fits limit (ls ++ ks)
+fits-append limit ls ks first second v le =
+    omega (arith, widened-append v ls ks, second (widened v ls) (first v le))
+
+-- what is read fits
+abbrev FitsFirst : ℕ → List Literal × List Word → Type 0
+FitsFirst limit x = Fits limit x.0
+
+abbrev with_first : Literal → List Literal × List Word → Result (List Literal × List Word) TextFault
+with_first l x = Ok (l ∷ x.0, x.1)
+
+first_fits : (limit : ℕ) (w : Word) (rest : Result (List Literal × List Word) TextFault)
+    → IfOk rest (FitsFirst limit)
+    → IfOk (literal_at limit w >>= λ l. rest >>= with_first l) (FitsFirst limit)
+first_fits limit w rest h =
+    bind_if (IsBelow limit) (FitsFirst limit) (literal_at limit w) (λ l. rest >>= with_first l)
+    (literal_within limit w)
+    (λ l below. bind_if (FitsFirst limit) (FitsFirst limit) rest (with_first l) h
+    (λ x fits. fits_first limit l x.0 below fits))
+
+literals_fit : (limit : ℕ) (ws : List Word) → IfOk (literals_at limit ws) (FitsFirst limit)
+unfolding literals_at
+literals_fit limit [] = λ v le. le
+literals_fit limit (w ∷ ws) = go (begins_literal w.bytes) (literals_fit limit ws)
+  where
+    go : (b : Bool) → IfOk (literals_at limit ws) (FitsFirst limit)
+        → IfOk (if b then (literal_at limit w >>= λ l. literals_at limit ws >>= with_first l)
+        else Ok ([], w ∷ ws)) (FitsFirst limit)
+    go true more = first_fits limit w (literals_at limit ws) more
+    go false more = λ v le. le
+
+abbrev product_part : ℕ → Word × List Word → Result (List Literal × List Word) TextFault
+product_part limit w = literal_at limit w.0 >>= λ l. literals_at limit w.1 >>= with_first l
+
+product_fits : (limit end : ℕ) (ws : List Word) → IfOk (product_at limit end ws) (FitsFirst limit)
+unfolding product_at
+product_fits limit end ws =
+    bind_if Any (FitsFirst limit) (next_of end ws) (product_part limit) (any (next_of end ws))
+    (λ w _. first_fits limit w.0 (literals_at limit w.1) (literals_fit limit w.1))
+
+-- ---- sums
+
+abbrev FitsTerm : ℕ → Product × List Word → Type 0
+FitsTerm limit x = Fits limit x.0.literals
+
+abbrev as_term : ℤ → List Literal × List Word → Result (Product × List Word) TextFault
+as_term c ls = Ok (record { literals = ls.0; coefficient = c }, ls.1)
+
+term_fits : (limit end : ℕ) (w : Word) (ws : List Word)
+    → IfOk (term_at limit end w ws) (FitsTerm limit)
+unfolding term_at
+term_fits limit end w ws =
+    bind_if Any (FitsTerm limit) (coefficient_at w) (λ c. product_at limit end ws >>= as_term c)
+    (any (coefficient_at w))
+    (λ c _. bind_if (FitsFirst limit) (FitsTerm limit) (product_at limit end ws) (as_term c)
+    (product_fits limit end ws) (λ x h. h))
+
+-- what holds of each thing that is read holds of all, where one more and the others keep it
+module _ {A : Type 0} (P : A → Type 0) (Q : List A → Type 0) (none : Q [])
+    (more : (a : A) (as' : List A) → P a → Q as' → Q (a ∷ as')) (ends : List ℕ → Bool)
+    (read : Reader A) (each : (w : Word) (ws : List Word) → IfOk (read w ws) (λ x. P x.0)) where
+  abbrev others : A × List Word → List A × List Word → Result (List A × List Word) TextFault
+  others x y = Ok (x.0 ∷ y.0, y.1)
+
+  abbrev others_have : Result (List A × List Word) TextFault → Type 0
+  others_have r = IfOk r (λ x. Q x.0)
+
+  one_more : (f : List Word → Result (List A × List Word) TextFault) (w : Word) (ws : List Word)
+      → ((rest : List Word) → others_have (f rest))
+      → others_have (read w ws >>= λ x. f x.1 >>= others x)
+  one_more f w ws all =
+      bind_if (λ (x : A × List Word). P x.0) (λ (x : List A × List Word). Q x.0) (read w ws)
+      (λ x. f x.1 >>= others x) (each w ws)
+      (λ x h. bind_if (λ (y : List A × List Word). Q y.0) (λ (y : List A × List Word). Q y.0)
+      (f x.1) (others x) (all x.1) (λ y k. more x.0 y.0 h k))
+
+  one_or_none : (b : Bool) (f : List Word → Result (List A × List Word) TextFault) (w : Word)
+      (ws : List Word) → others_have (read w ws >>= λ x. f x.1 >>= others x)
+      → others_have (if b then Ok ([], w ∷ ws) else (read w ws >>= λ x. f x.1 >>= others x))
+  one_or_none true f w ws h = none
+  one_or_none false f w ws h = h
+
+  pub many_have : (n : ℕ) (ws : List Word) → others_have (many ends read n ws)
+  unfolding many
+  many_have n [] = none
+  many_have zero (w ∷ ws) = none
+  many_have (suc n) (w ∷ ws) =
+      one_or_none (ends w.bytes) (many ends read n) w ws
+      (one_more (many ends read n) w ws (many_have n))
+
+sum_fits : (limit : ℕ) (ends : List ℕ → Bool) (end : ℕ) (ws : List Word)
+    → IfOk (sum_at limit ends end ws) (λ x. Fits limit (literals_in x.0))
+unfolding sum_at
+sum_fits limit ends end ws =
+    many_have (λ (t : Product). Fits limit t.literals)
+    (λ (ts : List Product). Fits limit (literals_in ts)) (λ v le. le)
+    (λ t ts first rest. fits-append limit t.literals (literals_in ts) first rest) ends
+    (term_at limit end) (term_fits limit end) (length ws) ws
+
+-- ---- constraints
+
+abbrev as_listed : List Product × List Word → Operator × ℤ × List Word
+    → Result (Listed × List Word) TextFault
+as_listed sum compared =
+    Ok (record { terms = sum.0; operator = compared.0; bound = compared.1 }, compared.2)
+
+abbrev compared_part : ℕ → List Product × List Word → Result (Listed × List Word) TextFault
+compared_part end sum = comparison_at end sum.1 >>= as_listed sum
+
+abbrev FitsListed : ℕ → Listed × List Word → Type 0
+FitsListed limit x = Fits limit (literals_in x.0.terms)
+
+constraint_fits : (limit end : ℕ) (w : Word) (ws : List Word)
+    → IfOk (constraint_at limit end w ws) (FitsListed limit)
+unfolding constraint_at
+constraint_fits limit end w ws =
+    bind_if (λ (x : List Product × List Word). Fits limit (literals_in x.0)) (FitsListed limit)
+    (sum_at limit is_operator end (w ∷ ws)) (compared_part end)
+    (sum_fits limit is_operator end (w ∷ ws))
+    (λ sum h. bind_if Any (FitsListed limit) (comparison_at end sum.1) (as_listed sum)
+    (any (comparison_at end sum.1)) (λ x _. h))
+
+abbrev FitsWeighed : Weighed → Type 0
+FitsWeighed k = Fits greatest_index (literals_in k.listed.terms)
+
+weighed_fits : (end : ℕ) (w : Word) (ws : List Word)
+    → IfOk (weighed_at end w ws) (λ x. FitsWeighed x.0)
+unfolding weighed_at
+weighed_fits end w ws =
+    bind_if Any (λ (x : Weighed × List Word). FitsWeighed x.0) (front_at end w ws) (sum_part end)
+    (any (front_at end w ws))
+    (λ front _. bind_if (FitsListed greatest_index) (λ (x : Weighed × List Word). FitsWeighed x.0)
+    (constraint_at greatest_index end front.1 front.2) (as_weighed front.0)
+    (constraint_fits greatest_index end front.1 front.2) (λ k h. h))
+
+-- no index of a text is above the greatest
+pub constraints_fit : (end : ℕ) (ws : List Word)
+    → IfOk (constraints_at end ws) (λ x. Fits greatest_index (all_literals x.0))
+unfolding constraints_at
+constraints_fit end ws =
+    many_have FitsWeighed (λ (ks : List Weighed). Fits greatest_index (all_literals ks))
+    (λ v le. le)
+    (λ k ks first rest. fits-append greatest_index (literals_in k.listed.terms) (all_literals ks)
+    first rest)
+    never (weighed_at end) (weighed_fits end) (length ws) ws
+
+-- ---- how many there are
+
+abbrev counted : Weighed × List Word → List Weighed × List Word
+    → Result (List Weighed × List Word) TextFault
+counted x y = Ok (x.0 ∷ y.0, y.1)
+
+few_read : (end n : ℕ) (ws : List Word)
+    → IfOk (many never (weighed_at end) n ws) (λ x. length x.0 ≤ n)
+unfolding many
+few_read end n [] = omega arith
+few_read end zero (w ∷ ws) = omega arith
+few_read end (suc n) (w ∷ ws) =
+    bind_if Any (λ (x : List Weighed × List Word). length x.0 ≤ suc n) (weighed_at end w ws)
+    (λ x. many never (weighed_at end) n x.1 >>= counted x) (any (weighed_at end w ws))
+    (λ x _. bind_if (λ (y : List Weighed × List Word). length y.0 ≤ n)
+    (λ (y : List Weighed × List Word). length y.0 ≤ suc n) (many never (weighed_at end) n x.1)
+    (counted x) (few_read end n x.1) (λ y le. omega (arith, le)))
+
+-- there are no more constraints than words
+pub constraints_few : (end : ℕ) (ws : List Word)
+    → IfOk (constraints_at end ws) (λ x. length x.0 ≤ length ws)
+unfolding constraints_at
+constraints_few end ws = few_read end (length ws) ws

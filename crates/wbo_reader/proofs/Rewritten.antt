@@ -1,0 +1,258 @@
+-- The rewritten problem stands for its source. Where a constraint that stands for a soft one holds,
+-- the bit is 1 or the soft constraint holds: so the bits that are 1 cost no less than what fails.
+use Rattle.std.proofs.Common.{◌≡◌, ℕ, suc, ◌+◌, ◌≤◌, Bool, true, false, cond, not, ◌&&◌, ◌||◌, List, [], ◌∷◌, ◌++◌, map, take, length, Option, Some, None, ℤ, pos, ◌+ℤ◌, ◌≤ℤ◌, refl, sym, ap, subst, ◌∙◌, arith}
+use Rattle.std.specs.Prelude.{if◌then◌else◌, ⊤}
+use Rattle.std.specs.List.{list_any, AllByRecursion}
+use Rattle.std.proofs.lemmas.Int.{ints}
+use Rattle.std.proofs.lemmas.Bool.Decides.{nat_tests}
+use Rattle.std.proofs.lemmas.List.{append_assoc, take-append-le, take_all, length-append, length-map}
+use Rattle.std.proofs.lemmas.List.Folds.{list_any-append}
+use Rattle.std.proofs.lemmas.List.Sums.{sum_by-cons}
+use Rattle.std.proofs.lemmas.List.Elements.{recursion_from_All}
+use Rattle.base.specs.declared.costs.Cost.{Cost}
+use Rattle.base.specs.declared.costs.Cost.TheVariants.{Whole, Infinite}
+use Rattle.base.specs.Costs.{whole_of}
+use Rattle.problem_form.specs.Problems.{sum_of, fails, problem_cost}
+use Rattle.wbo_reader.specs.declared.soft.Soft.{Soft}
+use Rattle.wbo_reader.specs.Wbo.{WboContent, wbo_cost, paid, paid_for, reaches_top, IsNormalConstraint, IsNormalSource}
+use Rattle.wbo_reader.specs.Rewriting.{all_of, rewritten, rewritten_constraints, extended, eased_row, eased_rows, hard_rows, merged, top_rows, weighed_bits, RewritesItsSource, CarriesAssignments}
+use Rattle.wbo_reader.proofs.Agreeing.{fails-first, all_fail-first}
+use Rattle.wbo_reader.proofs.Easing.{bit_of, eased_row-fails}
+use Rattle.wbo_reader.proofs.Spending.{spent, weighed_bits-sum, top_rows-fail}
+use Rattle.wbo_reader.proofs.Merging.{any_in-merged, concat-hard_rows}
+
+-- ---- soft constraints
+
+-- some of the soft constraints fail under x while their bit in x', from v on, is 0
+abbrev unpaid : (x x' : List Bool) → ℕ → List Soft → Bool
+unpaid x x' v [] = false
+unpaid x x' v (s ∷ soft) = (not (bit_of x' v) && fails x s.constraint) || unpaid x x' (suc v) soft
+
+eased_rows-fail : (n : ℕ) (x' : List Bool) (v : ℕ) (soft : List Soft)
+    → AllByRecursion (λ (s : Soft). IsNormalConstraint n s.constraint) soft
+    → list_any (fails x') (all_of (eased_rows v soft)) ≡ unpaid (take n x') x' v soft
+eased_rows-fail n x' v [] h = refl
+eased_rows-fail n x' v (s ∷ soft) h =
+    list_any-append (fails x') (eased_row v s.constraint) (all_of (eased_rows (suc v) soft))
+    ∙ (λ i. (eased_row-fails x' v s.constraint
+    ∙ ap (λ f. not (bit_of x' v) && f) (fails-first n x' s.constraint h.0)) i
+    || eased_rows-fail n x' (suc v) soft h.1 i)
+
+-- one constraint: where it fails its bit is 1, so what is paid for it is spent
+paid_once : (fail bit : Bool) (w : ℕ) → (not bit && fail) ≡ false
+    → cond fail w 0 ≤ cond bit w 0
+paid_once true true w e = omega arith
+paid_once true false w e = absurd cc
+paid_once false true w e = omega arith
+paid_once false false w e = omega arith
+
+neither : (a b : Bool) → (a || b) ≡ false → (a ≡ false) × (b ≡ false)
+neither true b e = absurd cc
+neither false b e = (refl, e)
+
+paid-le : (x x' : List Bool) (v : ℕ) (soft : List Soft) → unpaid x x' v soft ≡ false
+    → paid x soft ≤ spent x' v soft
+paid-le x x' v [] e = omega arith
+paid-le x x' v (s ∷ soft) e =
+    let parts = neither (not (bit_of x' v) && fails x s.constraint) (unpaid x x' (suc v) soft) e in
+    omega (
+      arith,
+      sum_by-cons (paid_for x) s soft,
+      paid_once (fails x s.constraint) (bit_of x' v) s.weight parts.0,
+      paid-le x x' (suc v) soft parts.1,
+    )
+
+-- ---- the whole
+
+-- the cost of a problem whose constraints are told in three parts
+abbrev told_cost : (hard soft : Bool) → Option ℕ → ℕ → Cost
+told_cost hard soft top sum =
+    if (hard || soft) || reaches_top top sum then Infinite else Whole (pos sum)
+
+module _ (s : WboContent) (is : IsNormalSource s) (x' : List Bool) where
+  abbrev pub firsts : List Bool
+  firsts = take s.variables x'
+
+  hard_failing : list_any (fails x') (all_of (hard_rows s.hard)) ≡ list_any (fails firsts) s.hard
+  hard_failing =
+      ap (list_any (fails x')) (concat-hard_rows s.hard)
+      ∙ all_fail-first s.variables x' s.hard
+      (recursion_from_All (IsNormalConstraint s.variables) s.hard is.hard)
+
+  soft_failing : list_any (fails x') (all_of (eased_rows s.variables s.soft))
+      ≡ unpaid firsts x' s.variables s.soft
+  soft_failing =
+      eased_rows-fail s.variables x' s.variables s.soft
+      (recursion_from_All (λ (k : Soft). IsNormalConstraint s.variables k.constraint) s.soft
+      is.soft)
+
+  all_failing : list_any (fails x') (rewritten_constraints s)
+      ≡ ((list_any (fails firsts) s.hard || unpaid firsts x' s.variables s.soft)
+      || reaches_top s.top (spent x' s.variables s.soft))
+  all_failing =
+      list_any-append (fails x')
+      (all_of (merged s.order (hard_rows s.hard) (eased_rows s.variables s.soft)))
+      (top_rows s.variables s.top s.soft)
+      ∙ (λ i. (any_in-merged (fails x') s.order (hard_rows s.hard) (eased_rows s.variables s.soft)
+      ∙ (λ j. hard_failing j || soft_failing j)) i
+      || top_rows-fail x' s.variables s.top s.soft i)
+
+  objective : pos 0 +ℤ sum_of x' (weighed_bits s.variables s.soft) +ℤ pos 0
+      ≡ pos (spent x' s.variables s.soft)
+  objective = omega (arith, ints, weighed_bits-sum x' s.variables s.soft)
+
+  -- what a list of the problem costs
+  pub rewritten_cost : problem_cost (rewritten s) x'
+      ≡ told_cost (list_any (fails firsts) s.hard) (unpaid firsts x' s.variables s.soft) s.top
+      (spent x' s.variables s.soft)
+  rewritten_cost = λ i. if all_failing i then Infinite else Whole (objective i)
+
+-- ---- no list costs less than its first bits
+
+-- the order of costs: infinite is above every whole number
+abbrev IsAtMost : Cost → Cost → Type 0
+IsAtMost (Whole v) (Whole w) = v ≤ℤ w
+IsAtMost (Whole v) Infinite = ⊤
+IsAtMost Infinite (Whole w) = ⊥
+IsAtMost Infinite Infinite = ⊤
+
+at_most_whole : (c d : Cost) (v : ℤ) → IsAtMost c d → d ≡ Whole v
+    → (w : ℤ) × (c ≡ Whole w) × (w ≤ℤ v)
+at_most_whole (Whole a) (Whole b) v le e =
+    (a, refl, omega (arith, ints, le, ap whole_of e))
+at_most_whole (Whole a) Infinite v le e = absurd cc
+at_most_whole Infinite (Whole b) v le e = absurd le
+at_most_whole Infinite Infinite v le e = absurd cc
+
+reaches_more : (top : Option ℕ) (a b : ℕ) → a ≤ b → reaches_top top b ≡ false
+    → reaches_top top a ≡ false
+reaches_more None a b le e = refl
+reaches_more (Some top) a b le e = grind (arith, nat_tests)
+
+infinite_above : (c : Cost) → IsAtMost c Infinite
+infinite_above (Whole v) = tt
+infinite_above Infinite = tt
+
+told_at_most : (hard soft : Bool) (top : Option ℕ) (a b : ℕ) → (soft ≡ false → a ≤ b)
+    → IsAtMost (if hard || reaches_top top a then Infinite else Whole (pos a))
+    (told_cost hard soft top b)
+told_at_most true soft top a b le = tt
+told_at_most false true top a b le = infinite_above _
+told_at_most false false top a b le = go (reaches_top top b) refl
+  where
+    go : (reached : Bool) → reaches_top top b ≡ reached
+        → IsAtMost (if reaches_top top a then Infinite else Whole (pos a))
+        (if reached then Infinite else Whole (pos b))
+    go true e = infinite_above _
+    go false e =
+        subst (λ r. IsAtMost (if r then Infinite else Whole (pos a)) (Whole (pos b)))
+        (sym (reaches_more top a b (le refl) e)) (omega (arith, ints, le refl))
+
+bounded : (s : WboContent) → IsNormalSource s → (x' : List Bool)
+    → IsAtMost (wbo_cost s (take s.variables x')) (problem_cost (rewritten s) x')
+bounded s is x' =
+    let x = take s.variables x' in
+    subst (IsAtMost (wbo_cost s x)) (sym (rewritten_cost s is x'))
+    (told_at_most (list_any (fails x) s.hard) (unpaid x x' s.variables s.soft) s.top
+    (paid x s.soft) (spent x' s.variables s.soft)
+    (paid-le x x' s.variables s.soft))
+
+-- ---- the extension
+
+-- each bit from v on says whether its soft constraint fails
+abbrev AreFailing : (x x' : List Bool) → ℕ → List Soft → Type 0
+AreFailing x x' v [] = ⊤
+AreFailing x x' v (s ∷ soft) =
+    (bit_of x' v ≡ fails x s.constraint) × AreFailing x x' (suc v) soft
+
+first_after : (front rest : List Bool) (b : Bool) → bit_of (front ++ b ∷ rest) (length front) ≡ b
+first_after [] rest b = refl
+first_after (a ∷ front) rest b = first_after front rest b
+
+are_failing : (x front : List Bool) (soft : List Soft)
+    → AreFailing x (front ++ map (λ (k : Soft). fails x k.constraint) soft) (length front) soft
+are_failing x front [] = tt
+are_failing x front (s ∷ soft) =
+    let b = fails x s.constraint in
+    let rest = map (λ (k : Soft). fails x k.constraint) soft in (
+      first_after front rest b,
+      subst (λ (l : List Bool). AreFailing x l (suc (length front)) soft)
+          (append_assoc front (b ∷ []) rest)
+          (subst (λ (n : ℕ). AreFailing x ((front ++ b ∷ []) ++ rest) n soft)
+          (omega (arith, length-append front (b ∷ [])))
+          (are_failing x (front ++ b ∷ []) soft)),
+    )
+
+spent_is_paid : (x x' : List Bool) (v : ℕ) (soft : List Soft) → AreFailing x x' v soft
+    → spent x' v soft ≡ paid x soft
+spent_is_paid x x' v [] h = refl
+spent_is_paid x x' v (s ∷ soft) h =
+    (λ i. cond (h.0 i) s.weight 0 + spent_is_paid x x' (suc v) soft h.1 i)
+    ∙ sym (sum_by-cons (paid_for x) s soft)
+
+no_more : (b : Bool) → (not b && b) ≡ false
+no_more true = refl
+no_more false = refl
+
+all_paid : (x x' : List Bool) (v : ℕ) (soft : List Soft) → AreFailing x x' v soft
+    → unpaid x x' v soft ≡ false
+all_paid x x' v [] h = refl
+all_paid x x' v (s ∷ soft) h =
+    λ i. ((ap (λ b. not b && fails x s.constraint) h.0 ∙ no_more (fails x s.constraint)) i)
+    || all_paid x x' (suc v) soft h.1 i
+
+-- what is told of a problem whose soft constraints are all paid is the cost of the source
+all_paid_cost : (hard : Bool) (top : Option ℕ) (sum : ℕ)
+    → told_cost hard false top sum
+    ≡ (if hard || reaches_top top sum then Infinite else Whole (pos sum))
+all_paid_cost true top sum = refl
+all_paid_cost false top sum = refl
+
+module _ (s : WboContent) (is : IsNormalSource s) (x : List Bool) (w : length x ≡ s.variables) where
+  abbrev bits : List Bool
+  bits = map (λ (k : Soft). fails x k.constraint) s.soft
+
+  front : take s.variables (extended s x) ≡ x
+  front =
+      take-append-le s.variables x bits (omega (arith, w))
+      ∙ take_all s.variables x (omega (arith, w))
+
+  failing : AreFailing x (extended s x) s.variables s.soft
+  failing = subst (λ (n : ℕ). AreFailing x (extended s x) n s.soft) w (are_failing x x s.soft)
+
+  long : length (extended s x) ≡ s.variables + length s.soft
+  long =
+      omega (
+        arith,
+        w,
+        length-append x bits,
+        length-map s.soft (λ (k : Soft). fails x k.constraint),
+      )
+
+  cost : problem_cost (rewritten s) (extended s x) ≡ wbo_cost s x
+  cost =
+      rewritten_cost s is (extended s x)
+      ∙ (λ i. told_cost (list_any (fails (front i)) s.hard)
+      (unpaid (front i) (extended s x) s.variables s.soft) s.top
+      (spent (extended s x) s.variables s.soft))
+      ∙ (λ i. told_cost (list_any (fails x) s.hard)
+      (all_paid x (extended s x) s.variables s.soft failing i) s.top
+      (spent_is_paid x (extended s x) s.variables s.soft failing i))
+      ∙ all_paid_cost (list_any (fails x) s.hard) s.top (paid x s.soft)
+
+pub carries_assignments : CarriesAssignments
+carries_assignments s is x w = record {
+  width = long s is x w;
+  begins = front s is x w;
+  costs = cost s is x w;
+}
+
+pub rewrites_its_source : RewritesItsSource
+rewrites_its_source s is = record {
+  more = omega arith;
+  bound = λ x' w v whole.
+      at_most_whole (wbo_cost s (take s.variables x')) (problem_cost (rewritten s) x') v
+      (bounded s is x') whole;
+  reached = λ x w v whole.
+      (extended s x, long s is x w, front s is x w, cost s is x w ∙ whole);
+}

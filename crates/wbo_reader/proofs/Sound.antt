@@ -1,0 +1,440 @@
+-- The rewritten problem is in normal form, and its sizes sum to at most four times those of its
+-- source.
+use Rattle.std.proofs.Common.{◌≡◌, ◌≢◌, ℕ, suc, ◌+◌, ◌*◌, ◌<◌, ◌≤◌, Bool, true, false, ◌&&◌, ◌||◌, eqb, List, [], ◌∷◌, ◌++◌, map, length, All, Option, Some, None, unwrap_or, ℤ, pos, negsuc, ◌-ℤ◌, neg_ℤ, int_le, unsigned_abs, refl, arith}
+use Rattle.std.specs.Prelude.{if◌then◌else◌, nat_le}
+use Rattle.std.specs.List.{sum_by, AllByRecursion}
+use Rattle.std.specs.List.Sorted.{IsStrictlySortedBy}
+use Rattle.std.proofs.lemmas.Int.{ints}
+use Rattle.std.proofs.lemmas.List.Sums.{sum_by-append, sum_by-cons}
+use Rattle.std.proofs.lemmas.List.Elements.{All-nil, All-cons, All-weaker, All-from_recursion, recursion_from_All}
+use Rattle.base.specs.Sums.{positive_part}
+use Rattle.literal_lists.specs.declared.literal.Literal.{Literal}
+use Rattle.problem_form.specs.declared.terms.Product.{Product}
+use Rattle.problem_form.specs.declared.terms.Constraint.{Constraint}
+use Rattle.literal_lists.specs.Literals.{IsLiteralSet}
+use Rattle.problem_form.specs.Problems.{negated, products_total, constraint_total, problem_total, IsNormalProduct}
+use Rattle.problem_form.specs.Limits.{positive_total}
+use Rattle.wbo_reader.specs.declared.soft.Soft.{Soft}
+use Rattle.wbo_reader.specs.Wbo.{WboContent, IsNormalConstraint, soft_total, wbo_total}
+use Rattle.wbo_reader.specs.Rewriting.{bit_product, weighed_bits, least_sum, eased, eased_row, eased_rows, hard_rows, merged, all_of, top_rows, rewritten, rewritten_constraints, RewrittenIsSound}
+
+-- ---- products
+
+wider_product : (v n : ℕ) → v ≤ n → (t : Product) → IsNormalProduct v t → IsNormalProduct n t
+wider_product v n le t is = record {
+  set = record {
+    ordered = is.set.ordered;
+    apart = is.set.apart;
+    within = All-weaker (λ (l : Literal). l.variable < v) (λ l. l.variable < n) (λ l lt. omega
+        (arith, lt, le)) t.literals is.set.within;
+  };
+  filled = is.filled;
+  nonzero = is.nonzero;
+}
+
+none_of_one : (b : Bool) → (((b && false) || false) || false) ≡ false
+none_of_one true = refl
+none_of_one false = refl
+
+bit_set : (v n : ℕ) → v < n → IsLiteralSet n (record { variable = v; negated = false } ∷ [])
+unfolding IsStrictlySortedBy
+bit_set v n lt = record {
+  ordered = (tt, tt);
+  apart = none_of_one (eqb v v);
+  within = All-cons (λ (k : Literal). k.variable < n)
+      (record { variable = v; negated = false }) [] lt (All-nil (λ (k : Literal). k.variable < n));
+}
+
+bit_normal : (v n : ℕ) (c : ℤ) → v < n → c ≢ pos 0 → IsNormalProduct n (bit_product v c)
+bit_normal v n c lt some = record {
+  set = bit_set v n lt;
+  filled = λ e. cc;
+  nonzero = some;
+}
+
+negated_normal : (n : ℕ) (t : Product) → IsNormalProduct n t → IsNormalProduct n (negated t)
+negated_normal n t is = record {
+  set = is.set;
+  filled = is.filled;
+  nonzero = λ e. is.nonzero (omega (arith, ints, e));
+}
+
+all_negated : (n : ℕ) (ts : List Product) → AllByRecursion (IsNormalProduct n) ts
+    → AllByRecursion (IsNormalProduct n) (map negated ts)
+all_negated n [] h = tt
+all_negated n (t ∷ ts) h = (negated_normal n t h.0, all_negated n ts h.1)
+
+all_wider : (v n : ℕ) → v ≤ n → (ts : List Product) → AllByRecursion (IsNormalProduct v) ts
+    → AllByRecursion (IsNormalProduct n) ts
+all_wider v n le [] h = tt
+all_wider v n le (t ∷ ts) h = (wider_product v n le t h.0, all_wider v n le ts h.1)
+
+with_last : (n : ℕ) (ts : List Product) (t : Product) → AllByRecursion (IsNormalProduct n) ts
+    → IsNormalProduct n t → AllByRecursion (IsNormalProduct n) (ts ++ t ∷ [])
+with_last n [] t h is = (is, tt)
+with_last n (u ∷ ts) t h is = (h.0, with_last n ts t h.1 is)
+
+-- ---- constraints
+
+abbrev IsGood : ℕ → Constraint → Type 0
+IsGood n k = AllByRecursion (IsNormalProduct n) k.products
+
+above : (bound low : ℤ) → int_le bound low ≡ false → bound -ℤ low ≢ pos 0
+above bound low e same = absurd (no (grind (arith, ints)))
+  where
+    no : int_le bound low ≡ true → ⊥
+    no h = absurd cc
+
+eased_good : (v n : ℕ) (ts : List Product) (bound : ℤ) → v < n
+    → AllByRecursion (IsNormalProduct n) ts → IsGood n (eased v ts bound)
+eased_good v n ts bound lt h = go (int_le bound (least_sum ts)) refl
+  where
+    go : (enough : Bool) → int_le bound (least_sum ts) ≡ enough
+        → AllByRecursion (IsNormalProduct n)
+        (if enough then ts else ts ++ bit_product v (bound -ℤ least_sum ts) ∷ [])
+    go true e = h
+    go false e =
+        with_last n ts (bit_product v (bound -ℤ least_sum ts)) h
+        (bit_normal v n (bound -ℤ least_sum ts) lt (above bound (least_sum ts) e))
+
+row_good : (v n : ℕ) (k : Constraint) → v < n → IsGood n k
+    → AllByRecursion (IsGood n) (eased_row v k)
+row_good v n k lt h = go k.exact
+  where
+    go : (exact : Bool)
+        → AllByRecursion (IsGood n)
+        (if exact
+        then eased v k.products k.bound ∷ eased v (map negated k.products) (neg_ℤ k.bound) ∷ []
+        else eased v k.products k.bound ∷ [])
+    go true = (
+      eased_good v n k.products k.bound lt h,
+      (eased_good v n (map negated k.products) (neg_ℤ k.bound) lt (all_negated n k.products h), tt),
+    )
+    go false = (eased_good v n k.products k.bound lt h, tt)
+
+rows_good : (v n : ℕ) (soft : List Soft) → v + length soft ≤ n
+    → AllByRecursion (λ (s : Soft). IsGood n s.constraint) soft
+    → AllByRecursion (AllByRecursion (IsGood n)) (eased_rows v soft)
+rows_good v n [] le h = tt
+rows_good v n (s ∷ soft) le h = (
+  row_good v n s.constraint (omega (arith, le)) h.0,
+  rows_good (suc v) n soft (omega (arith, le)) h.1,
+)
+
+hard_good : (n : ℕ) (hard : List Constraint) → AllByRecursion (IsGood n) hard
+    → AllByRecursion (AllByRecursion (IsGood n)) (hard_rows hard)
+hard_good n [] h = tt
+hard_good n (k ∷ hard) h = ((h.0, tt), hard_good n hard h.1)
+
+module _ {A : Type 0} (P : A → Type 0) where
+  all_both : (xs ys : List A) → AllByRecursion P xs → AllByRecursion P ys
+      → AllByRecursion P (xs ++ ys)
+  all_both [] ys a b = b
+  all_both (x ∷ xs) ys a b = (a.0, all_both xs ys a.1 b)
+
+  all_merged : (order : List Bool) (xs ys : List A) → AllByRecursion P xs → AllByRecursion P ys
+      → AllByRecursion P (merged order xs ys)
+  all_merged [] xs ys a b = all_both xs ys a b
+  all_merged (true ∷ order) xs [] a b = a
+  all_merged (true ∷ order) xs (y ∷ ys) a b = (b.0, all_merged order xs ys a b.1)
+  all_merged (false ∷ order) [] ys a b = b
+  all_merged (false ∷ order) (x ∷ xs) ys a b = (a.0, all_merged order xs ys a.1 b)
+
+  all_joined : (rows : List (List A)) → AllByRecursion (AllByRecursion P) rows
+      → AllByRecursion P (all_of rows)
+  all_joined [] h = tt
+  all_joined (row ∷ rows) h = all_both row (all_of rows) h.0 (all_joined rows h.1)
+
+weighed_good : (v n : ℕ) (soft : List Soft) → v + length soft ≤ n
+    → AllByRecursion (λ (s : Soft). 0 < s.weight) soft
+    → AllByRecursion (IsNormalProduct n) (weighed_bits v soft)
+weighed_good v n [] le h = tt
+weighed_good v n (s ∷ soft) le h = (
+  bit_normal v n (pos s.weight) (omega (arith, le)) (λ e. absurd (omega (arith, ints, e, h.0))),
+  weighed_good (suc v) n soft (omega (arith, le)) h.1,
+)
+
+top_good : (v n : ℕ) (top : Option ℕ) (soft : List Soft)
+    → AllByRecursion (IsNormalProduct n) (weighed_bits v soft)
+    → AllByRecursion (IsGood n) (top_rows v top soft)
+top_good v n None soft h = tt
+top_good v n (Some top) soft h = go (nat_le top (sum_by (λ s. s.weight) soft))
+  where
+    go : (needed : Bool)
+        → AllByRecursion (IsGood n)
+        (if needed
+        then record {
+          products = map negated (weighed_bits v soft);
+          bound = pos 1 -ℤ pos top;
+          exact = false;
+        } ∷ []
+        else [])
+    go true = (all_negated n (weighed_bits v soft) h, tt)
+    go false = tt
+
+-- ---- sizes
+
+pub negated_total : (ts : List Product) → products_total (map negated ts) ≡ products_total ts
+negated_total [] = refl
+negated_total (t ∷ ts) =
+    omega (
+      arith,
+      ints,
+      sum_by-cons (λ (u : Product). unsigned_abs u.coefficient) t ts,
+      sum_by-cons (λ (u : Product). unsigned_abs u.coefficient) (negated t) (map negated ts),
+      negated_total ts,
+    )
+
+part_size : (c : ℤ) → positive_part c ≤ unsigned_abs c
+part_size (pos n) = omega arith
+part_size (negsuc n) = omega arith
+
+positive_size : (ts : List Product) → positive_total ts ≤ products_total ts
+positive_size [] = omega arith
+positive_size (t ∷ ts) =
+    omega (
+      arith,
+      sum_by-cons (λ (u : Product). positive_part u.coefficient) t ts,
+      sum_by-cons (λ (u : Product). unsigned_abs u.coefficient) t ts,
+      part_size t.coefficient,
+      positive_size ts,
+    )
+
+pub least_size : (ts : List Product) → unsigned_abs (least_sum ts) ≤ products_total ts
+least_size ts = omega (arith, ints, positive_size (map negated ts), negated_total ts)
+
+eased_total : (v : ℕ) (ts : List Product) (bound : ℤ)
+    → constraint_total (eased v ts bound) ≤ 2 * (products_total ts + unsigned_abs bound)
+eased_total v ts bound = go (int_le bound (least_sum ts))
+  where
+    c : ℤ
+    c = bound -ℤ least_sum ts
+
+    go : (enough : Bool)
+        → products_total (if enough then ts else ts ++ bit_product v (bound -ℤ least_sum ts) ∷ [])
+        + unsigned_abs bound
+        ≤ 2 * (products_total ts + unsigned_abs bound)
+    go true = omega arith
+    go false =
+        omega (
+          arith,
+          ints,
+          sum_by-append (λ (u : Product). unsigned_abs u.coefficient) ts
+              (bit_product v (bound -ℤ least_sum ts) ∷ []),
+          sum_by-cons (λ (u : Product). unsigned_abs u.coefficient)
+              (bit_product v (bound -ℤ least_sum ts)) [],
+          least_size ts,
+        )
+
+row_total : (v : ℕ) (k : Constraint)
+    → sum_by constraint_total (eased_row v k) ≤ 4 * constraint_total k
+row_total v k = go k.exact
+  where
+    first : Constraint
+    first = eased v k.products k.bound
+
+    second : Constraint
+    second = eased v (map negated k.products) (neg_ℤ k.bound)
+
+    go : (exact : Bool)
+        → sum_by constraint_total
+        (if exact
+        then eased v k.products k.bound ∷ eased v (map negated k.products) (neg_ℤ k.bound) ∷ []
+        else eased v k.products k.bound ∷ [])
+        ≤ 4 * constraint_total k
+    go true =
+        omega (
+          arith,
+          ints,
+          sum_by-cons constraint_total (eased v k.products k.bound) (eased v
+              (map negated k.products) (neg_ℤ k.bound) ∷ []),
+          sum_by-cons constraint_total (eased v (map negated k.products) (neg_ℤ k.bound)) [],
+          eased_total v k.products k.bound,
+          eased_total v (map negated k.products) (neg_ℤ k.bound),
+          negated_total k.products,
+        )
+    go false =
+        omega (
+          arith,
+          sum_by-cons constraint_total (eased v k.products k.bound) [],
+          eased_total v k.products k.bound,
+        )
+
+abbrev row_size : List Constraint → ℕ
+row_size row = sum_by constraint_total row
+
+joined_total : (rows : List (List Constraint))
+    → sum_by constraint_total (all_of rows) ≡ sum_by row_size rows
+joined_total [] = refl
+joined_total (row ∷ rows) =
+    omega (
+      arith,
+      sum_by-append constraint_total row (all_of rows),
+      joined_total rows,
+      sum_by-cons row_size row rows,
+    )
+
+merged_total : (order : List Bool) (xs ys : List (List Constraint))
+    → sum_by row_size (merged order xs ys) ≡ sum_by row_size xs + sum_by row_size ys
+merged_total [] xs ys = sum_by-append row_size xs ys
+merged_total (true ∷ order) xs [] = omega arith
+merged_total (true ∷ order) xs (y ∷ ys) =
+    omega (
+      arith,
+      merged_total order xs ys,
+      sum_by-cons row_size y (merged order xs ys),
+      sum_by-cons row_size y ys,
+    )
+merged_total (false ∷ order) [] ys = omega arith
+merged_total (false ∷ order) (x ∷ xs) ys =
+    omega (
+      arith,
+      merged_total order xs ys,
+      sum_by-cons row_size x (merged order xs ys),
+      sum_by-cons row_size x xs,
+    )
+
+hard_total : (hard : List Constraint)
+    → sum_by row_size (hard_rows hard) ≡ sum_by constraint_total hard
+hard_total [] = refl
+hard_total (k ∷ hard) =
+    omega (
+      arith,
+      sum_by-cons row_size (k ∷ []) (hard_rows hard),
+      sum_by-cons constraint_total k [],
+      sum_by-cons constraint_total k hard,
+      hard_total hard,
+    )
+
+soft_rows_total : (v : ℕ) (soft : List Soft)
+    → sum_by row_size (eased_rows v soft)
+    + 4 * sum_by (λ (s : Soft). s.weight) soft ≤ 4 * sum_by soft_total soft
+soft_rows_total v [] = omega arith
+soft_rows_total v (s ∷ soft) =
+    omega (
+      arith,
+      sum_by-cons row_size (eased_row v s.constraint) (eased_rows (suc v) soft),
+      sum_by-cons (λ (k : Soft). k.weight) s soft,
+      sum_by-cons soft_total s soft,
+      row_total v s.constraint,
+      soft_rows_total (suc v) soft,
+    )
+
+weighed_total : (v : ℕ) (soft : List Soft)
+    → products_total (weighed_bits v soft) ≡ sum_by (λ (s : Soft). s.weight) soft
+weighed_total v [] = refl
+weighed_total v (s ∷ soft) =
+    omega (
+      arith,
+      sum_by-cons (λ (u : Product). unsigned_abs u.coefficient) (bit_product v (pos s.weight))
+          (weighed_bits (suc v) soft),
+      sum_by-cons (λ (k : Soft). k.weight) s soft,
+      weighed_total (suc v) soft,
+    )
+
+top_total : (v : ℕ) (top : Option ℕ) (soft : List Soft)
+    → sum_by constraint_total (top_rows v top soft)
+    ≤ sum_by (λ (s : Soft). s.weight) soft + unwrap_or top 0 + 1
+top_total v None soft = omega arith
+top_total v (Some top) soft = go (nat_le top (sum_by (λ s. s.weight) soft))
+  where
+    row : Constraint
+    row = record {
+      products = map negated (weighed_bits v soft);
+      bound = pos 1 -ℤ pos top;
+      exact = false;
+    }
+
+    go : (needed : Bool)
+        → sum_by constraint_total
+        (if needed
+        then record {
+          products = map negated (weighed_bits v soft);
+          bound = pos 1 -ℤ pos top;
+          exact = false;
+        } ∷ []
+        else [])
+        ≤ sum_by (λ (s : Soft). s.weight) soft + top + 1
+    go true =
+        omega (
+          arith,
+          ints,
+          sum_by-cons constraint_total (record {
+            products = map negated (weighed_bits v soft);
+            bound = pos 1 -ℤ pos top;
+            exact = false;
+          }) [],
+          negated_total (weighed_bits v soft),
+          weighed_total v soft,
+        )
+    go false = omega arith
+
+-- ---- the whole
+
+rewritten_total : (s : WboContent) → problem_total (rewritten s) ≤ 4 * wbo_total s + 1
+rewritten_total s =
+    omega (
+      arith,
+      weighed_total s.variables s.soft,
+      sum_by-append constraint_total
+          (all_of (merged s.order (hard_rows s.hard) (eased_rows s.variables s.soft)))
+          (top_rows s.variables s.top s.soft),
+      joined_total (merged s.order (hard_rows s.hard) (eased_rows s.variables s.soft)),
+      merged_total s.order (hard_rows s.hard) (eased_rows s.variables s.soft),
+      hard_total s.hard,
+      soft_rows_total s.variables s.soft,
+      top_total s.variables s.top s.soft,
+    )
+
+good_wider : (v n : ℕ) → v ≤ n → (k : Constraint) → IsNormalConstraint v k → IsGood n k
+good_wider v n le k h = all_wider v n le k.products (recursion_from_All
+    (IsNormalProduct v) k.products h)
+
+hard_wider : (v n : ℕ) → v ≤ n → (ks : List Constraint) → AllByRecursion (IsNormalConstraint v) ks
+    → AllByRecursion (IsGood n) ks
+hard_wider v n le [] h = tt
+hard_wider v n le (k ∷ ks) h = (good_wider v n le k h.0, hard_wider v n le ks h.1)
+
+soft_wider : (v n : ℕ) → v ≤ n → (ss : List Soft)
+    → AllByRecursion (λ (s : Soft). IsNormalConstraint v s.constraint) ss
+    → AllByRecursion (λ (s : Soft). IsGood n s.constraint) ss
+soft_wider v n le [] h = tt
+soft_wider v n le (s ∷ ss) h = (good_wider v n le s.constraint h.0, soft_wider v n le ss h.1)
+
+to_all : (n : ℕ) (ks : List Constraint) → AllByRecursion (IsGood n) ks
+    → AllByRecursion (λ (k : Constraint). All (IsNormalProduct n) k.products) ks
+to_all n [] h = tt
+to_all n (k ∷ ks) h =
+    (All-from_recursion (IsNormalProduct n) k.products h.0, to_all n ks h.1)
+
+pub rewritten_is_sound : RewrittenIsSound
+rewritten_is_sound s is =
+    let n = s.variables + length s.soft in
+    let le : s.variables ≤ n = omega arith in
+    let bits =
+    weighed_good s.variables n s.soft (omega arith)
+    (recursion_from_All (λ (k : Soft). 0 < k.weight) s.soft is.weighty) in
+    let hard =
+    hard_good n s.hard
+    (hard_wider s.variables n le s.hard (recursion_from_All
+    (IsNormalConstraint s.variables) s.hard is.normal.hard)) in
+    let soft =
+    rows_good s.variables n s.soft (omega arith)
+    (soft_wider s.variables n le s.soft
+    (recursion_from_All (λ (k : Soft). IsNormalConstraint s.variables k.constraint) s.soft
+    is.normal.soft)) in
+    let rows = all_merged (AllByRecursion (IsGood n)) s.order (hard_rows s.hard)
+    (eased_rows s.variables s.soft) hard soft in
+    let all =
+    all_both (IsGood n) (all_of (merged s.order (hard_rows s.hard) (eased_rows s.variables s.soft)))
+    (top_rows s.variables s.top s.soft) (all_joined (IsGood n) _ rows)
+    (top_good s.variables n s.top s.soft bits) in (
+      record {
+        objective = All-from_recursion (IsNormalProduct n) (weighed_bits s.variables s.soft) bits;
+        clauses = All-nil _;
+        constraints =
+            All-from_recursion (λ (k : Constraint). All (IsNormalProduct n) k.products)
+            (rewritten_constraints s) (to_all n (rewritten_constraints s) all);
+      },
+      omega (arith, rewritten_total s, is.small),
+    )

@@ -1,0 +1,138 @@
+-- What is added to a source one after another is the source of the whole.
+use Rattle.std.proofs.Common.{◌≡◌, ℕ, zero, suc, ◌+◌, ◌≤◌, ◌<◌, List, [], ◌∷◌, ◌++◌, fold, flat_map, true, false, Option, Some, None, Result, Ok, Err, refl, sym, ap, ◌∙◌, append-nil, append_assoc, arith}
+use Rattle.std.specs.Prelude.{unwrap_or}
+use Rattle.std.specs.List.{sum_by}
+use Rattle.std.proofs.lemmas.List.Sums.{sum_by-append, sum_by-cons}
+use Rattle.whole_text.specs.declared.faults.TextFault.{TextFault}
+use Rattle.whole_text.specs.Tokens.{Word}
+use Rattle.whole_text.specs.Steps.{◌>>=◌, end_line}
+use Rattle.problem_form.specs.declared.terms.Constraint.{Constraint}
+use Rattle.problem_form.specs.NormalForm.{normal_constraint}
+use Rattle.problem_form.specs.Problems.{constraint_total}
+use Rattle.problem_form.proofs.KeptProducts.{normal_constraint-total}
+use Rattle.opb_reader.specs.Opb.{literals_in, widened}
+use Rattle.opb_reader.proofs.Variables.{widened-append}
+use Rattle.wbo_reader.specs.Wbo.{WboContent, soft_total, wbo_total}
+use Rattle.wbo_reader.specs.Reading.{Weighed, WboText, all_literals, hard_by, hard_of, soft_by, soft_of, order_by, content_of, content_of_words, reading_of_words, head_at, constraints_at}
+use Rattle.wbo_reader.specs.Gathering.{nothing, with_constraint, with_weighed, constraints_read}
+
+-- ---- one after another
+
+all_added : (s : WboContent) (ks : List Weighed)
+    → fold with_weighed s ks
+    ≡ record s {
+      variables = widened s.variables (all_literals ks);
+      hard = s.hard ++ flat_map hard_of ks;
+      soft = s.soft ++ flat_map soft_of ks;
+      order = s.order ++ flat_map (λ k. order_by k.weight) ks;
+    }
+all_added s [] = λ i. record s {
+  hard = sym (append-nil s.hard) i;
+  soft = sym (append-nil s.soft) i;
+  order = sym (append-nil s.order) i;
+}
+all_added s (k ∷ ks) =
+    let rest = flat_map (λ (k : Weighed). order_by k.weight) ks in
+    all_added (with_weighed s k) ks
+    ∙ (λ i. record s {
+      variables = sym (widened-append s.variables (literals_in k.listed.terms) (all_literals ks)) i;
+      hard = append_assoc s.hard (hard_of k) (flat_map hard_of ks) i;
+      soft = append_assoc s.soft (soft_of k) (flat_map soft_of ks) i;
+      order = append_assoc s.order (order_by k.weight) rest i;
+    })
+
+abbrev pub whole : Option ℕ → List Weighed → WboText
+whole top ks = record { top = top; constraints = ks }
+
+pub put_together : (top : Option ℕ) (ks : List Weighed)
+    → fold with_weighed (nothing top) ks ≡ content_of (whole top ks)
+put_together top ks = all_added (nothing top) ks
+
+-- ---- a text
+
+abbrev Source : Type 0
+Source = Result WboContent TextFault
+
+abbrev as_whole : Option ℕ → List Weighed × List Word → Result WboText TextFault
+as_whole top x = Ok (whole top x.0)
+
+abbrev normal : WboText → Source
+normal t = Ok (content_of t)
+
+abbrev rest_of : ℕ → Option ℕ × List Word → Result WboText TextFault
+rest_of end head = constraints_at end head.1 >>= as_whole head.0
+
+-- constraints after a top
+abbrev pub constraints_after : ℕ → Option ℕ × List Word → Source
+constraints_after end x = constraints_read (nothing x.0) end x.1
+
+others_are : (top : Option ℕ) (read : Result (List Weighed × List Word) TextFault)
+    → (read >>= as_whole top) >>= normal
+    ≡ (read >>= λ (x : List Weighed × List Word). Ok (fold with_weighed (nothing top) x.0))
+others_are top (Ok x) = ap (λ (s : WboContent). Ok s) (sym (put_together top x.0))
+others_are top (Err f) = refl
+
+head_is : (end : ℕ) (read : Result (Option ℕ × List Word) TextFault)
+    → (read >>= rest_of end) >>= normal ≡ read >>= constraints_after end
+head_is end (Ok x) = others_are x.0 (constraints_at end x.1)
+head_is end (Err f) = refl
+
+-- the source of words: a top or none, and constraints that are added to no others
+pub content_of_words-put : (ws : List Word)
+    → content_of_words ws ≡ head_at (end_line ws) ws >>= constraints_after (end_line ws)
+unfolding content_of_words reading_of_words
+content_of_words-put ws = head_is (end_line ws) (head_at (end_line ws) ws)
+
+-- ---- one constraint, by its weight
+
+pub added_hard : (s : WboContent) (k : Constraint)
+    → with_constraint s None k
+    ≡ record s { hard = s.hard ++ normal_constraint k ∷ []; order = s.order ++ false ∷ [] }
+added_hard s k = λ i. record s {
+  hard = s.hard ++ normal_constraint k ∷ [];
+  soft = append-nil s.soft i;
+  order = s.order ++ false ∷ [];
+}
+
+pub added_none : (s : WboContent) (k : Constraint) → with_constraint s (Some 0) k ≡ s
+added_none s k = λ i. record s {
+  hard = append-nil s.hard i;
+  soft = append-nil s.soft i;
+  order = append-nil s.order i;
+}
+
+pub added_soft : (s : WboContent) (weight : ℕ) (k : Constraint) → 0 < weight
+    → with_constraint s (Some weight) k
+    ≡ record s {
+      soft = s.soft ++ record { weight = weight; constraint = normal_constraint k } ∷ [];
+      order = s.order ++ true ∷ [];
+    }
+added_soft s zero k some = absurd (omega (arith, some))
+added_soft s (suc n) k some = λ i. record s {
+  hard = append-nil s.hard i;
+  soft = s.soft ++ record { weight = suc n; constraint = normal_constraint k } ∷ [];
+  order = s.order ++ true ∷ [];
+}
+
+-- ---- sizes
+
+hard_by-total : (weight : Option ℕ) (k : Constraint)
+    → sum_by constraint_total (hard_by weight k) + sum_by soft_total (soft_by weight k)
+    ≤ unwrap_or weight 0 + constraint_total k
+hard_by-total None k = omega (arith, sum_by-cons constraint_total k [])
+hard_by-total (Some zero) k = omega arith
+hard_by-total (Some (suc n)) k =
+    omega (arith, sum_by-cons soft_total (record { weight = suc n; constraint = k }) [])
+
+pub with_constraint-total : (s : WboContent) (weight : Option ℕ) (k : Constraint)
+    → wbo_total (with_constraint s weight k)
+    ≤ wbo_total s + unwrap_or weight 0 + constraint_total k
+with_constraint-total s weight k =
+    let normal = normal_constraint k in
+    omega (
+      arith,
+      sum_by-append constraint_total s.hard (hard_by weight normal),
+      sum_by-append soft_total s.soft (soft_by weight normal),
+      hard_by-total weight normal,
+      normal_constraint-total k,
+    )

@@ -1,0 +1,26 @@
+use Rattle.std.proofs.Common.{rules, ◌≡◌, ◌∷◌, [], ◌-ℤ◌, arith, false, int_le, to_z, of_z}
+use Rattle.std.specs.Int.{w128}
+use Rattle.wbo_reader.specs.Rewriting.{least_sum}
+use Rattle.wbo_reader.proofs.Copied.{eased_pushed}
+use Rattle.wbo_reader.proofs.Sound.{least_size}
+use Rattle.wbo_reader.proofs.copying.ease.Goals as goal
+
+pub gap-gap-requires-clause-sum : goal.gap-gap-requires-clause-sum
+gap-gap-requires-clause-sum c =
+    let k = c.args.written.now in
+    let value : to_z w128 (of_z w128 c.least_sum-low.result)
+    ≡ least_sum k.products = search rules in
+    rw value (omega (arith, least_size k.products, c.requires.small))
+
+pub returns : goal.returns
+returns c =
+    let k = c.args.written.now in
+    let literals : c.deref.result.now
+    ≡ record { variable = c.args.variable; negated = false } ∷ [] =
+    search rules in
+    let low : c.least_sum-low.result ≡ least_sum k.products = search rules in
+    let gap : to_z w128 (of_z w128 c.gap-gap.result)
+    ≡ k.bound -ℤ least_sum k.products = search rules in
+    let short : int_le k.bound (least_sum k.products) ≡ false = search rules in
+    eased_pushed c.args.variable k c.push-2.result c.push-2.new.self c.deref.result.now _ short
+    c.requires.inexact literals gap c.push-2.ensures.pushed

@@ -1,0 +1,33 @@
+use Rattle.std.proofs.Common.{rules, ◌≡◌, false, arith, ap, ◌∙◌}
+use Rattle.std.specs.List.{list_any}
+use Rattle.std.proofs.lemmas.Int.{ints}
+use Rattle.problem_form.specs.Problems.{fails}
+use Rattle.wbo_reader.specs.Wbo.{WboContent, paid, reaches_top, wbo_cost}
+use Rattle.wbo_reader.proofs.Paid.{paid-le, cost_whole}
+use Rattle.wbo_reader.proofs.costs.WboCosted.cost.Goals as goal
+
+pub overflow_cast-result : goal.overflow_cast-result
+overflow_cast-result c =
+    let x = c.args.x.now in
+    let soft = c.self.inside.soft in
+    let sum : c.paid-sum.result ≡ paid x soft = search rules in
+    omega (arith, ints, sum, paid-le x soft, c.self.invariant.small)
+
+pub returns : goal.returns
+returns c =
+    let x = c.args.x.now in
+    let i = c.self.inside in
+    let s : WboContent = record {
+      variables = i.variables;
+      hard = i.hard;
+      soft = i.soft;
+      top =
+          i.top;
+      order = i.order;
+    } in
+    let sum : c.paid-sum.result ≡ paid x i.soft = search rules in
+    let hard : list_any (fails x) i.hard ≡ false = search rules in
+    let less : reaches_top i.top c.paid-sum.result ≡ false = search rules in
+    cost_whole s x c.paid-sum.result _ sum hard less
+    (omega (arith, ints, sum, paid-le x i.soft, c.self.invariant.small))
+    ∙ ap (λ (t : WboContent). wbo_cost t x) c.self.view_is

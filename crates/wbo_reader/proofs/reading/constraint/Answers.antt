@@ -1,0 +1,105 @@
+use Rattle.std.proofs.Common.{◌≡◌, ap, ◌∙◌, to_z, of_z, arith, rules}
+use Rattle.std.specs.Int.{w128}
+use Rattle.std.proofs.lemmas.Int.{to_z-of_z}
+use Rattle.std.proofs.lemmas.Result.{err_from_is_err_and}
+use Rattle.whole_text.specs.TokenTexts.{word_of}
+use Rattle.whole_text.specs.Rows.{left}
+use Rattle.problem_form.specs.Problems.{constraint_total}
+use Rattle.opb_reader.specs.Opb.{literals_in, widened}
+use Rattle.opb_reader.specs.Cost.{compared}
+use Rattle.opb_reader.proofs.Constraints.{compared-total}
+use Rattle.wbo_reader.specs.Wbo.{WboContent}
+use Rattle.wbo_reader.specs.Gathering.{with_weighed}
+use Rattle.wbo_reader.proofs.Together.{with_constraint-total}
+use Rattle.wbo_reader.proofs.WeighedSteps.{front_fails, sum_fails, comparison_fails, weighed, weighed_is, added_is}
+use Rattle.wbo_reader.proofs.reading.constraint.Goals as goal
+
+pub returns-in_err-weight-clause-read : goal.returns-in_err-weight-clause-read
+returns-in_err-weight-clause-read c =
+    let p = err_from_is_err_and c.from_residual.result c.from_residual.ensures.1 in
+    rw (p.1, p.2)
+    (front_fails c.in_err-weight.field-0.0 c.args.gathered.now c.args.end (word_of c.args.first)
+    c.args.words.now c.in_err-weight.ensures.read)
+
+pub returns-in_err-next-clause-read : goal.returns-in_err-next-clause-read
+returns-in_err-next-clause-read c =
+    let residual = c.from_residual-in_err-next in
+    let p = err_from_is_err_and residual.result residual.ensures.1 in
+    rw (p.1, p.2)
+    (sum_fails c.in_err-next.field-0.0 c.args.gathered.now c.args.end (word_of c.args.first)
+    c.args.words.now c.in_ok-weight.weight (word_of c.in_ok-weight.first) c.front.new.words
+    c.in_ok-weight.ensures.read c.in_err-next.ensures.read)
+
+pub returns-in_err-operator-clause-read : goal.returns-in_err-operator-clause-read
+returns-in_err-operator-clause-read c =
+    let residual = c.from_residual-in_err-operator in
+    let p = err_from_is_err_and residual.result residual.ensures.1 in
+    rw (p.1, p.2)
+    (comparison_fails c.in_err-operator.field-0.0 c.args.gathered.now c.args.end
+    (word_of c.args.first) c.args.words.now c.in_ok-weight.weight (word_of c.in_ok-weight.first)
+    c.front.new.words (left c.in_ok-next.next c.sum.new.words) c.sum.new.terms
+    c.in_ok-weight.ensures.read c.in_ok-next.ensures.read c.in_err-operator.ensures.read)
+
+pub add-requires : goal.add-requires
+add-requires c =
+    let ts = c.sum.new.terms in
+    let operator = c.in_ok-operator.operator in
+    let z = c.in_ok-operator.bound in
+    let whole : to_z w128 (of_z w128 z) ≡ z = to_z-of_z w128 z (search rules) in
+    let written : c.compare.new.constraint ≡ compared operator ts z =
+    c.compare.ensures ∙ ap (compared operator ts) whole in
+    omega (
+      arith,
+      ap constraint_total written,
+      compared-total operator ts z,
+      c.requires.small,
+      c.in_ok-weight.ensures.small,
+      c.in_ok-next.ensures.small,
+      c.in_ok-operator.ensures.small,
+    )
+
+pub returns-clause-read : goal.returns-clause-read
+returns-clause-read c =
+    let s = c.args.gathered.now in
+    let i = c.gathered.inside in
+    let ts = c.sum.new.terms in
+    let operator = c.in_ok-operator.operator in
+    let z = c.in_ok-operator.bound in
+    let whole : to_z w128 (of_z w128 z) ≡ z = to_z-of_z w128 z (search rules) in
+    let written : c.compare.new.constraint ≡ compared operator ts z =
+    c.compare.ensures ∙ ap (compared operator ts) whole in
+    let state : c.add.new.self ≡ with_weighed s (weighed c.in_ok-weight.weight ts operator z) =
+    added_is s i.variables c.sum.new.variables i.hard i.soft i.top i.order c.add.new.self
+    c.in_ok-weight.weight ts operator z c.compare.new.constraint c.gathered.view_is
+    c.in_ok-next.ensures.counted written c.in_ok-add.ensures in
+    rw state
+    (weighed_is s c.args.end (word_of c.args.first) c.args.words.now c.in_ok-weight.weight
+    (word_of c.in_ok-weight.first) c.front.new.words (left c.in_ok-next.next c.sum.new.words)
+    c.comparison.new.words ts operator z c.in_ok-weight.ensures.read c.in_ok-next.ensures.read
+    c.in_ok-operator.ensures.read)
+
+pub returns-clause-small : goal.returns-clause-small
+returns-clause-small c =
+    let s = c.args.gathered.now in
+    let i = c.gathered.inside in
+    let ts = c.sum.new.terms in
+    let operator = c.in_ok-operator.operator in
+    let z = c.in_ok-operator.bound in
+    let whole : to_z w128 (of_z w128 z) ≡ z = to_z-of_z w128 z (search rules) in
+    let written : c.compare.new.constraint ≡ compared operator ts z =
+    c.compare.ensures ∙ ap (compared operator ts) whole in
+    let state : c.add.new.self ≡ with_weighed s (weighed c.in_ok-weight.weight ts operator z) =
+    added_is s i.variables c.sum.new.variables i.hard i.soft i.top i.order c.add.new.self
+    c.in_ok-weight.weight ts operator z c.compare.new.constraint c.gathered.view_is
+    c.in_ok-next.ensures.counted written c.in_ok-add.ensures in
+    let wide : WboContent = record s { variables = widened s.variables (literals_in ts) } in
+    rw state
+    (omega (
+      arith,
+      with_constraint-total wide c.in_ok-weight.weight (compared operator ts z),
+      compared-total operator ts z,
+      c.in_ok-weight.ensures.small,
+      c.in_ok-next.ensures.small,
+      c.in_ok-operator.ensures.small,
+      c.in_ok-operator.ensures.shorter,
+    ))

@@ -1,0 +1,5 @@
+use Rattle.std.proofs.Common.{[]}
+use Rattle.wbo_reader.proofs.reading.read_wbo.Goals as goal
+
+pub finish-requires : goal.finish-requires
+finish-requires c = (c.args.text.now, c.in_ok-feed.ensures.fed [] c.new-lexer.ensures.empty)

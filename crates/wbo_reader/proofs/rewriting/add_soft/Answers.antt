@@ -1,0 +1,64 @@
+use Rattle.std.proofs.Common.{rules, ◌≡◌, ◌-ℤ◌, neg_ℤ, pos, true, map, subst, sym, ap, arith, to_z, of_z, OnOk}
+use Rattle.std.specs.Int.{w128}
+use Rattle.std.proofs.lemmas.Int.{ints}
+use Rattle.problem_form.specs.Fields.{IsSound}
+use Rattle.problem_form.specs.Problems.{ProblemContent, negated, products_total}
+use Rattle.wbo_reader.proofs.Sound.{negated_total}
+use Rattle.wbo_reader.proofs.Steps.{first_eased, both_eased}
+use Rattle.wbo_reader.proofs.rewriting.add_soft.Goals as goal
+
+pub add_eased-requires-clause-sound : goal.add_eased-requires-clause-sound
+add_eased-requires-clause-sound c =
+    let p = c.args.problem.now in
+    let k = c.args.constraint in
+    let products : c.copy_products.new.list ≡ k.products = search rules in
+    let bound : to_z w128 (of_z w128 c.constraint.inside.bound) ≡ k.bound = search rules in
+    first_eased p c.args.variable k _ _ c.requires.sound products bound
+
+pub add_eased-requires-2-clause-small : goal.add_eased-requires-2-clause-small
+add_eased-requires-2-clause-small c =
+    let k = c.args.constraint in
+    let products : c.negate.new.self ≡ map negated k.products = search rules in
+    let bound : c.constraint.inside.bound ≡ k.bound = search rules in
+    omega (
+      arith,
+      ints,
+      c.requires.small,
+      ap products_total products,
+      negated_total k.products,
+      bound,
+    )
+
+pub add_eased-requires-2-clause-sound : goal.add_eased-requires-2-clause-sound
+add_eased-requires-2-clause-sound c =
+    let p = c.args.problem.now in
+    let k = c.args.constraint in
+    let first : c.copy_products.new.list ≡ k.products = search rules in
+    let products : c.negate.new.self ≡ map negated k.products = search rules in
+    let bound : to_z w128 (of_z w128 c.constraint.inside.bound) ≡ k.bound = search rules in
+    let inside : c.constraint.inside.bound ≡ k.bound = search rules in
+    let other : to_z w128 (of_z w128 (pos 0 -ℤ to_z w128 (of_z w128 c.constraint.inside.bound)))
+    ≡ neg_ℤ k.bound =
+    omega (arith, ints, inside, c.requires.small) in
+    let exact : k.exact ≡ true = search rules in
+    subst IsSound
+    (sym (both_eased p c.add_eased.new.problem c.args.variable k _ _ _ _ exact
+    c.in_ok-add_eased.ensures first bound products other))
+    c.requires.sound
+
+pub returns : goal.returns
+returns c =
+    let p = c.args.problem.now in
+    let k = c.args.constraint in
+    let first : c.copy_products.new.list ≡ k.products = search rules in
+    let products : c.negate.new.self ≡ map negated k.products = search rules in
+    let bound : to_z w128 (of_z w128 c.constraint.inside.bound) ≡ k.bound = search rules in
+    let inside : c.constraint.inside.bound ≡ k.bound = search rules in
+    let other : to_z w128 (of_z w128 (pos 0 -ℤ to_z w128 (of_z w128 c.constraint.inside.bound)))
+    ≡ neg_ℤ k.bound =
+    omega (arith, ints, inside, c.requires.small) in
+    let exact : k.exact ≡ true = search rules in
+    subst (λ (q : ProblemContent). OnOk c.add_eased-2.result (c.add_eased-2.new.problem ≡ q))
+    (both_eased p c.add_eased.new.problem c.args.variable k _ _ _ _ exact
+    c.in_ok-add_eased.ensures first bound products other)
+    c.add_eased-2.ensures

@@ -1,0 +1,20 @@
+use Rattle.std.proofs.Common.{◌≡◌, rules, subst, sym, false, map, pos, ◌-ℤ◌, int_lt, to_z, of_z, List}
+use Rattle.std.specs.Int.{w128}
+use Rattle.problem_form.specs.declared.terms.Constraint.{Constraint}
+use Rattle.problem_form.specs.Fields.{IsSound}
+use Rattle.problem_form.specs.Limits.{upper}
+use Rattle.problem_form.specs.Problems.{negated}
+use Rattle.wbo_reader.specs.Rewriting.{with_rows}
+use Rattle.wbo_reader.proofs.Steps.{top_needed}
+use Rattle.wbo_reader.proofs.rewriting.add_top.Goals as goal
+
+pub put-requires : goal.put-requires
+put-requires c =
+    let p = c.args.problem.now in
+    let reached : int_lt (upper p) (pos c.args.top) ≡ false = search rules in
+    let products : c.negate.new.self ≡ map negated p.objective = search rules in
+    let bound : to_z w128 (of_z w128 (pos 1 -ℤ to_z w128 (of_z w128 c.from-2.result)))
+    ≡ pos 1 -ℤ pos c.args.top =
+    search rules in
+    subst (λ (rows : List Constraint). IsSound (with_rows p rows))
+    (sym (top_needed p c.args.top c.negate.new.self _ reached products bound)) c.requires.sound

@@ -1,0 +1,164 @@
+-- The problem that a source of soft constraints is rewritten to: a bit for each soft constraint,
+-- which costs its weight where it is 1, and where it is 1 the constraint need not hold.
+use Rattle.std.specs.Prelude.{◌≡◌, ℕ, suc, ◌+◌, ℤ, pos, ◌-ℤ◌, neg_ℤ, int_le, int_lt, nat_le, Bool, true, false, List, [], ◌∷◌, ◌++◌, length, map, take, Option, Some, None, if◌then◌else◌}
+use Rattle.std.specs.List.{flat_map, sum_by}
+use Rattle.base.specs.Sums.{positive_part}
+use Rattle.base.specs.Costs.{IsOf}
+use Rattle.form_steps.specs.Relations.{Rewrites}
+use Rattle.problem_form.specs.declared.terms.Product.{Product}
+use Rattle.problem_form.specs.declared.terms.Constraint.{Constraint}
+use Rattle.problem_form.specs.Problems.{ProblemContent, fails, negated, problem_cost, problem_size}
+use Rattle.problem_form.specs.Problems as problems
+use Rattle.problem_form.specs.Limits.{positive_total, upper}
+use Rattle.problem_form.specs.Fields.{IsSound}
+use Rattle.wbo_reader.specs.declared.soft.Soft.{Soft}
+use Rattle.wbo_reader.specs.Wbo.{WboContent, wbo_cost, form_of, IsNormalSource, IsWbo}
+
+-- ---- its bits
+
+-- the product of the variable alone
+abbrev pub bit_product : ℕ → ℤ → Product
+bit_product v c =
+    record { literals = record { variable = v; negated = false } ∷ []; coefficient = c }
+
+-- the weight of each soft constraint, on the bits from v on
+abbrev pub weighed_bits : ℕ → List Soft → List Product
+weighed_bits v [] = []
+weighed_bits v (s ∷ soft) = bit_product v (pos s.weight) ∷ weighed_bits (suc v) soft
+
+-- ---- its constraints
+
+-- a coefficient where it is negative, and 0 elsewhere
+abbrev pub least_part : ℤ → ℤ
+least_part c = neg_ℤ (pos (positive_part (neg_ℤ c)))
+
+-- the least value of a sum: that of its negative coefficients
+abbrev pub least_sum : List Product → ℤ
+least_sum products = neg_ℤ (pos (positive_total (map negated products)))
+
+-- the sum is to be at least the bound, or the bit to be 1; the sum is enough by itself where it
+-- can't be less
+abbrev pub eased : ℕ → List Product → ℤ → Constraint
+eased v products bound = record {
+  products =
+      if int_le bound (least_sum products)
+      then products
+      else products ++ bit_product v (bound -ℤ least_sum products) ∷ [];
+  bound = bound;
+  exact = false;
+}
+
+-- what stands for a constraint with the bit v: two for one that is exact
+abbrev pub eased_row : ℕ → Constraint → List Constraint
+eased_row v k =
+    if k.exact
+    then eased v k.products k.bound ∷ eased v (map negated k.products) (neg_ℤ k.bound) ∷ []
+    else eased v k.products k.bound ∷ []
+
+-- what stands for each soft constraint, with the bits from v on
+abbrev pub eased_rows : ℕ → List Soft → List (List Constraint)
+eased_rows v [] = []
+eased_rows v (s ∷ soft) = eased_row v s.constraint ∷ eased_rows (suc v) soft
+
+-- a hard constraint stands for itself
+abbrev pub hard_rows : List Constraint → List (List Constraint)
+hard_rows hard = map (λ k. k ∷ []) hard
+
+-- two lists put together in an order: true for the next of the second, and at the end of the order
+-- what is left
+abbrev pub merged : {A : Type 0} → List Bool → List A → List A → List A
+merged [] first second = first ++ second
+merged (true ∷ order) first [] = first
+merged (true ∷ order) first (b ∷ second) = b ∷ merged order first second
+merged (false ∷ order) [] second = second
+merged (false ∷ order) (a ∷ first) second = a ∷ merged order first second
+
+-- the elements of lists, one list after another
+abbrev pub all_of : {A : Type 0} → List (List A) → List A
+all_of rows = flat_map (λ row. row) rows
+
+-- the weights of the bits that are 1 sum to less than the top, where this says anything
+abbrev pub top_rows : ℕ → Option ℕ → List Soft → List Constraint
+top_rows v None soft = []
+top_rows v (Some top) soft =
+    if nat_le top (sum_by (λ s. s.weight) soft)
+    then record {
+      products = map negated (weighed_bits v soft);
+      bound = pos 1 -ℤ pos top;
+      exact = false;
+    } ∷ []
+    else []
+
+-- the constraints in the order of the text
+abbrev pub rows_of : WboContent → List Constraint
+rows_of s = all_of (merged s.order (hard_rows s.hard) (eased_rows s.variables s.soft))
+
+-- and that of the top
+abbrev pub rewritten_constraints : WboContent → List Constraint
+rewritten_constraints s = rows_of s ++ top_rows s.variables s.top s.soft
+
+-- the constraint of the top of a problem whose objective has the weights alone: they sum to less
+-- than the top, where this says anything
+abbrev pub top_row : ProblemContent → ℕ → List Constraint
+top_row p top =
+    if int_lt (upper p) (pos top)
+    then []
+    else record {
+      products = map negated p.objective;
+      bound = pos 1 -ℤ pos top;
+      exact = false;
+    } ∷ []
+
+-- a problem with more products in its objective
+abbrev pub with_products : ProblemContent → List Product → ProblemContent
+with_products p ts = record p { objective = p.objective ++ ts }
+
+-- a problem with more constraints
+abbrev pub with_rows : ProblemContent → List Constraint → ProblemContent
+with_rows p ks = record p { constraints = p.constraints ++ ks }
+
+-- the problem with a bit for each soft constraint
+abbrev pub rewritten : WboContent → ProblemContent
+rewritten s = record {
+  variables = s.variables + length s.soft;
+  constant = pos 0;
+  objective = weighed_bits s.variables s.soft;
+  clauses = [];
+  constraints = rewritten_constraints s;
+}
+
+-- the assignment, and which soft constraints fail under it
+abbrev pub extended : WboContent → List Bool → List Bool
+extended s x = x ++ map (λ k. fails x k.constraint) s.soft
+
+-- ---- laws
+
+-- the rewritten problem stands for the source
+abbrev pub RewritesItsSource : Type 0
+RewritesItsSource =
+    (s : WboContent) → IsNormalSource s → Rewrites (form_of s) (problems.form_of (rewritten s))
+
+-- the extension of an assignment begins with it, has a bit for each soft constraint, and costs what
+-- it does, also where that is infinite
+pub record IsCarried (s : WboContent) (x : List Bool) : Type 0 where
+  pub width : IsOf (problems.form_of (rewritten s)) (extended s x)
+  pub begins : take s.variables (extended s x) ≡ x
+  pub costs : problem_cost (rewritten s) (extended s x) ≡ wbo_cost s x
+
+-- every assignment is carried to the rewritten problem
+abbrev pub CarriesAssignments : Type 0
+CarriesAssignments =
+    (s : WboContent) → IsNormalSource s → (x : List Bool) → IsOf (form_of s) x → IsCarried s x
+
+-- the rewritten problem is in normal form, with sizes that a problem may have
+abbrev pub RewrittenIsSound : Type 0
+RewrittenIsSound = (s : WboContent) → IsWbo s → IsSound (rewritten s)
+
+-- the upper bound of the rewritten problem is the sum of the soft weights
+abbrev pub UpperIsSoftWeights : Type 0
+UpperIsSoftWeights =
+    (s : WboContent) → upper (rewritten s) ≡ pos (sum_by (λ k. k.weight) s.soft)
+
+-- its size is that of the rewritten problem
+abbrev pub wbo_size : WboContent → ℕ
+wbo_size s = problem_size (rewritten s)

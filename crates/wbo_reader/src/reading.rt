@@ -1,0 +1,112 @@
+//! A whole text.
+ghost use Rattle.std.specs.Prelude.{◌≡◌, ◌+◌, ◌*◌, ◌<◌, ◌≤◌, ◌^◌, [], length, IfOk, OnOk};
+ghost use Rattle.whole_text.specs.TokenTexts.{word_of, words_of};
+ghost use Rattle.whole_text.specs.Steps.{Gives};
+ghost use Rattle.wbo_reader.specs.Wbo.{wbo_total};
+ghost use Rattle.wbo_reader.specs.Reading.{content_of_words, greatest_index, normal_reading};
+ghost use Rattle.wbo_reader.specs.Gathering.{constraint_read, constraints_read};
+
+use crate::gathered::Gathered;
+use crate::heads::{front, head};
+use crate::wbo::Wbo;
+use literal_lists::Literal;
+use opb_reader::{compare, comparison, sum};
+use problem_form::{Constraint, ProductList};
+use std::alloc::Global;
+use whole_text::{Lexer, Style, TextAnswer, TokenText, WordRef, Words};
+
+/// The greatest index.
+const GREATEST_INDEX: u64 = (1 << 63) - 1;
+
+/// Adds the constraint that begins with this word to those before it. It is written down first, in
+/// place of what was written before.
+fn constraint<'a>(
+    first: WordRef<'a>,
+    gathered: &mut Gathered,
+    written: &mut Constraint,
+    words: &mut Words<'a>,
+    list: &mut Vec<Literal>,
+    end: u64,
+) -> Result<(), TextAnswer>
+    requires emptied { list.old.items ≡ [] }
+    requires small { wbo_total gathered.old + (1 + length words.old) * 2 ^ 64 < 2 ^ 90 }
+    ensures read { Gives (λ _. (gathered.new, words.new)) result
+        (constraint_read gathered.old end (word_of first.entry) words.old) }
+    ensures small { OnOk result (wbo_total gathered.new + length words.new * 2 ^ 64
+        ≤ wbo_total gathered.old + (1 + length words.old) * 2 ^ 64) }
+    ensures emptied { OnOk result (list.new.items ≡ []) }
+    ensures shorter { OnOk result (length words.new ≤ length words.old) }
+{
+    let (weight, first) = front(first, words, end)?;
+    written.products.clear();
+    let mut variables = gathered.variables;
+    let next = sum(
+        first,
+        words,
+        list,
+        &mut written.products,
+        &mut variables,
+        GREATEST_INDEX,
+        end,
+    )?;
+    let (operator, bound) = comparison(next, words, end)?;
+    compare(written, operator, bound);
+    gathered.variables = variables;
+    gathered.add(weight, written)?;
+    Ok(())
+}
+
+/// Adds the constraints up to the end.
+fn constraints(
+    alloc: Global,
+    mut gathered: Gathered,
+    mut words: Words<'_>,
+    end: u64,
+) -> Result<Gathered, TextAnswer>
+    requires { wbo_total gathered + length words * 2 ^ 64 < 2 ^ 90 }
+    ensures read { Gives (λ gathered. gathered) result
+        (constraints_read gathered end words.entry) }
+    ensures small { IfOk result (λ s. wbo_total s < 2 ^ 90) }
+{
+    let mut list = Vec::new(alloc);
+    let mut written = Constraint {
+        products: ProductList::empty(alloc),
+        bound: 0,
+        exact: false,
+    };
+    while let Some(first) = words.next() {
+        constraint(
+            first,
+            &mut gathered,
+            &mut written,
+            &mut words,
+            &mut list,
+            end,
+        )?;
+    }
+    Ok(gathered)
+}
+
+/// The source of a text that was cut into words, in normal form, or the first fault of the text.
+pub fn read_wbo_tokens(alloc: Global, text: &TokenText) -> Result<Wbo, TextAnswer>
+    requires { length text.now.bytes ≤ 2 ^ 24 }
+    ensures { Gives (λ wbo. wbo) result (content_of_words (words_of text.now)) }
+{
+    let mut words = text.words();
+    let end = text.end_line();
+    let top = head(&mut words, end)?;
+    let gathered = Gathered::new(alloc, top);
+    let gathered = constraints(alloc, gathered, words, end)?;
+    Ok(gathered.into_wbo())
+}
+
+/// The source of a text, in normal form, or the first fault of the text.
+#[tactic(auto, unfolding(crate::specs::Reading::normal_reading, crate::specs::Reading::content_of_words, crate::specs::Reading::reading))]
+pub fn read_wbo(alloc: Global, text: &[u8]) -> Result<Wbo, TextAnswer>
+    requires { length text.now ≤ 2 ^ 24 }
+    ensures { Gives (λ wbo. wbo) result (normal_reading text.now) }
+{
+    let mut lexer = Lexer::new(alloc, Style::Wbo);
+    lexer.feed(text)?;
+    read_wbo_tokens(alloc, &lexer.finish()?)
+}

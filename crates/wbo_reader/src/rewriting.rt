@@ -1,0 +1,198 @@
+//! The problem that a source of soft constraints is rewritten to.
+ghost use Rattle.std.specs.Prelude.{◌≡◌, ◌+◌, ◌<◌, ◌^◌, ◌∷◌, [], false, pos, length, IfOk, OnOk};
+ghost use Rattle.problem_form.specs.Problems.{constraint_total};
+ghost use Rattle.problem_form.specs.Fields.{IsSound};
+ghost use Rattle.wbo_reader.specs.Rewriting.{bit_product, eased, eased_row, rewritten, rows_of, top_row, weighed_bits, with_products, with_rows};
+
+use crate::copying::{copy_products, ease, put};
+use crate::soft::SoftList;
+use crate::wbo::Wbo;
+use base::NoMemory;
+use problem_form::{Constraint, ConstraintRef, Literal, Problem, ProductList};
+use std::alloc::Global;
+
+/// Adds a weight on the bit of a variable to the objective.
+fn add_weight(
+    problem: &mut Problem,
+    literals: &mut Vec<Literal>,
+    variable: u64,
+    weight: u64,
+) -> Result<(), NoMemory>
+    requires { IsSound (with_products problem.old (bit_product variable (pos weight) ∷ [])) }
+    ensures { OnOk result (problem.new
+        ≡ with_products problem.old (bit_product variable (pos weight) ∷ [])) }
+{
+    literals.clear();
+    literals.push(Literal {
+        variable,
+        negated: false,
+    })?;
+    problem.add_term(literals, i128::from(weight))
+}
+
+/// Adds the weight of each soft constraint on its bit to the objective.
+fn add_weights(
+    problem: &mut Problem,
+    literals: &mut Vec<Literal>,
+    variables: u64,
+    soft: &SoftList,
+) -> Result<(), NoMemory>
+    requires narrow { variables + length soft.now < 2 ^ 64 }
+    requires sound { IsSound (with_products problem.old (weighed_bits variables soft.now)) }
+    ensures { OnOk result (problem.new
+        ≡ with_products problem.old (weighed_bits variables soft.now)) }
+{
+    for i in 0..soft.len() {
+        add_weight(problem, literals, variables + i as u64, soft.at(i).weight)?;
+    }
+    Ok(())
+}
+
+/// Adds a hard constraint as it is.
+fn add_hard(
+    problem: &mut Problem,
+    written: &mut Constraint,
+    literals: &mut Vec<Literal>,
+    constraint: ConstraintRef<'_>,
+) -> Result<(), NoMemory>
+    requires { IsSound (with_rows problem.old (constraint ∷ [])) }
+    ensures { OnOk result (problem.new ≡ with_rows problem.old (constraint.entry ∷ [])) }
+{
+    let ConstraintRef {
+        products,
+        bound,
+        exact,
+    } = constraint;
+    copy_products(&mut written.products, products, literals)?;
+    written.bound = bound;
+    written.exact = exact;
+    put(problem, written)
+}
+
+/// Adds a sum that is to be at least its bound where the bit of a variable is 0.
+fn add_eased(
+    problem: &mut Problem,
+    written: &mut Constraint,
+    literals: &mut Vec<Literal>,
+    variable: u64,
+) -> Result<(), NoMemory>
+    requires small { constraint_total written.old < 2 ^ 100 }
+    requires inexact { written.old.exact ≡ false }
+    requires sound { IsSound (with_rows problem.old
+        (eased variable written.old.products written.old.bound ∷ [])) }
+    ensures { OnOk result (problem.new ≡ with_rows problem.old
+        (eased variable written.old.products written.old.bound ∷ [])) }
+{
+    ease(written, literals, variable)?;
+    put(problem, written)
+}
+
+/// Adds what stands for a soft constraint with the bit of a variable: two constraints for one that
+/// is exact.
+fn add_soft(
+    problem: &mut Problem,
+    written: &mut Constraint,
+    literals: &mut Vec<Literal>,
+    variable: u64,
+    constraint: ConstraintRef<'_>,
+) -> Result<(), NoMemory>
+    requires small { constraint_total constraint < 2 ^ 100 }
+    requires sound { IsSound (with_rows problem.old (eased_row variable constraint)) }
+    ensures { OnOk result (problem.new
+        ≡ with_rows problem.old (eased_row variable constraint.entry)) }
+{
+    let ConstraintRef {
+        products,
+        bound,
+        exact,
+    } = constraint;
+    let again = products.again();
+    copy_products(&mut written.products, products, literals)?;
+    written.bound = bound;
+    written.exact = false;
+    add_eased(problem, written, literals, variable)?;
+    if !exact {
+        return Ok(());
+    }
+    copy_products(&mut written.products, again, literals)?;
+    written.products.negate();
+    written.bound = -bound;
+    written.exact = false;
+    add_eased(problem, written, literals, variable)
+}
+
+/// Adds the constraint of the top to a problem whose objective has the weights: they are to sum to
+/// less. Where they can't be as many, none is needed.
+fn add_top(
+    problem: &mut Problem,
+    written: &mut Constraint,
+    literals: &mut Vec<Literal>,
+    top: u64,
+) -> Result<(), NoMemory>
+    requires sound { IsSound (with_rows problem.old (top_row problem.old top)) }
+    ensures { OnOk result (problem.new ≡ with_rows problem.old (top_row problem.old top)) }
+{
+    if problem.upper() < i128::from(top) {
+        return Ok(());
+    }
+    copy_products(&mut written.products, problem.objective.iter(), literals)?;
+    written.products.negate();
+    written.bound = 1 - i128::from(top);
+    written.exact = false;
+    put(problem, written)
+}
+
+impl Wbo {
+    /// Adds what stands for each constraint, in the order of the text.
+    fn add_rows(
+        &self,
+        problem: &mut Problem,
+        written: &mut Constraint,
+        literals: &mut Vec<Literal>,
+    ) -> Result<(), NoMemory>
+        requires { IsSound (with_rows problem.old (rows_of self.now)) }
+        ensures { OnOk result (problem.new ≡ with_rows problem.old (rows_of self.now)) }
+    {
+        let mut hard = 0;
+        let mut soft = 0;
+        for is_soft in self.order.as_slice() {
+            if *is_soft {
+                let variable = self.variables + soft as u64;
+                add_soft(
+                    problem,
+                    written,
+                    literals,
+                    variable,
+                    self.soft.at(soft).constraint,
+                )?;
+                soft += 1;
+            } else {
+                add_hard(problem, written, literals, self.hard.at(hard))?;
+                hard += 1;
+            }
+        }
+        Ok(())
+    }
+
+    /// The problem with a bit for each soft constraint, whose constraints stand in the order of the
+    /// text; that of the top stands last, where there is one and the weights reach it.
+    pub fn rewrite(&self, alloc: Global) -> Result<Problem, NoMemory>
+        ensures { IfOk result (λ problem. problem ≡ rewritten self.now) }
+    {
+        let mut problem = Problem::new(alloc);
+        let mut literals = Vec::new(alloc);
+        let mut written = Constraint {
+            products: ProductList::empty(alloc),
+            bound: 0,
+            exact: false,
+        };
+        problem.widen(self.variables + self.soft.len() as u64);
+        add_weights(&mut problem, &mut literals, self.variables, &self.soft)?;
+        self.add_rows(&mut problem, &mut written, &mut literals)?;
+        match self.top {
+            Some(top) => add_top(&mut problem, &mut written, &mut literals, top)?,
+            None => {}
+        }
+        Ok(problem)
+    }
+}
