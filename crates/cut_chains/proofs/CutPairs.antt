@@ -32,6 +32,7 @@ pub record IsAlike (f g : Entry) : Type 0 where
   pub first : f.first ≡ g.first
   pub second : f.second ≡ g.second
 
+-- two lists of the same pairs
 abbrev pub AreAlike : List Entry → List Entry → Type 0
 AreAlike es ds = AllZip IsAlike es ds
 
@@ -165,14 +166,14 @@ cut_apart e kept =
 
 -- ---- sorted lists
 
-as_pairs : (n : ℕ) (es : List Entry) → n ≤ 2 ^ 20 → AllByRecursion (IsCoupler n) es → ArePairs es
-as_pairs n es few all =
-    each (λ f h. let up = h.upward in let below = h.within in record {
-      upward = up;
-      within = omega
-          (arith, below, few);
-    })
-    es all
+-- couplings of the first n qubits are pairs of the first m
+as_pairs : (m n : ℕ) (es : List Entry) → n ≤ m → AllByRecursion (IsCoupler n) es
+    → AllByRecursion (IsPair m) es
+as_pairs m n [] few all = tt
+as_pairs m n (e ∷ es) few all =
+    let up = all.0.upward in
+    let below = all.0.within in
+    (record { upward = up; within = omega (arith, below, few) }, as_pairs m n es few all.1)
 
 -- couplings of different pairs, put in order
 pub in_order_rises : (n : ℕ) (es : List Entry) → n ≤ 2 ^ 20 → AllByRecursion (IsCoupler n) es
@@ -180,7 +181,7 @@ pub in_order_rises : (n : ℕ) (es : List Entry) → n ≤ 2 ^ 20 → AllByRecur
     → ArePairs (in_order es) × Rises (in_order es) × AllByRecursion (IsCoupler n) (in_order es)
 in_order_rises n es few all apart =
     let here = all_in_order (IsCoupler n) es all in
-    (as_pairs n (in_order es) few here, rises_in_order es apart, here)
+    (as_pairs (2 ^ 32) n (in_order es) (omega (arith, few)) here, rises_in_order es apart, here)
 
 -- sorted by their numbers they are in order
 pub sorted_is_in_order : (n : ℕ) (from to : List Entry) → n ≤ 2 ^ 20
@@ -199,7 +200,7 @@ sorted_is_in_order n from to few all apart moved sorted =
     ) in
     let ordered = in_order_rises n from few all apart in
     same_entries to (in_order from)
-    (as_pairs n to few here)
+    (as_pairs (2 ^ 32) n to (omega (arith, few)) here)
     ordered.0
     (rises_from_sorted to sorted once)
     ordered.1
@@ -212,11 +213,6 @@ sorted_is_in_order n from to few all apart moved sorted =
 pub cut_pairs : (e : Embedding) → IsEmbedding e
     → All (IsPair (2 ^ 20)) (placed e.ising.couplings e.places ++ cut_ties e)
 cut_pairs e kept =
-    let es = placed e.ising.couplings e.places ++ cut_ties e in
-    All-from_recursion (IsPair (2 ^ 20)) es
-    (each (λ f h. let up = h.upward in let below = h.within in record {
-      upward = up;
-      within = omega
-          (arith, below, kept.few);
-    })
-    es (cut_couplers e kept))
+    All-from_recursion (IsPair (2 ^ 20)) (placed e.ising.couplings e.places ++ cut_ties e)
+    (as_pairs (2 ^ 20) e.qubits (placed e.ising.couplings e.places ++ cut_ties e) kept.few
+    (cut_couplers e kept))

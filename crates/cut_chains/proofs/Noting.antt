@@ -69,8 +69,8 @@ noted_more before up next chain parents i matched i_in once inside noted stored 
           subst (λ m. m < n) (sym (ap (λ xs. get_or xs k d) stored))
           (elim (cases_eq k at) [
             | inl same ↦
-                subst (λ m. m
-                < n) (sym (ap (λ r. get_or (set up at value) r d) same
+                subst (λ m. m < n)
+                (sym (ap (λ r. get_or (set up at value) r d) same
                 ∙ get_or-set_same up at value d at_in))
                 (all i 0 i_in)
             | inr other ↦

@@ -47,8 +47,9 @@ reached_more first up order p reached listed new = record {
         ∙ reached.after j less
     | inr more ↦
         let last : j ≡ length order = omega (arith, more, in', length-append order (p ∷ [])) in
-        subst (λ k. is_in (first ∷ take k (order ++ p ∷ [])) (up (get_or (order ++ p ∷ []) k 0))
-        ≡ true) (sym last)
+        subst
+        (λ k. is_in (first ∷ take k (order ++ p ∷ [])) (up (get_or (order ++ p ∷ []) k 0)) ≡ true)
+        (sym last)
         (ap (λ qs. is_in (first ∷ qs) (up (get_or (order ++ p ∷ []) (length order) 0)))
         (take-append_seam order (p ∷ []))
         ∙ ap (λ q. is_in (first ∷ order) (up q)) (get_or-append_seam order p [] 0)
@@ -109,8 +110,8 @@ reached_path first up order (p ∷ ps) from q reached climb listed new different
 -- ---- a walk that marks its qubits
 
 -- the walk so far, and where it is
-pub record IsWalking (up : ℕ → ℕ) (before now : List Bool) (from q : ℕ) (path : List ℕ) : Type
-    0 where
+pub record IsWalking (up : ℕ → ℕ) (before now : List Bool) (from q : ℕ) (path : List ℕ)
+    : Type 0 where
   pub sized : length now ≡ length before
   pub bound : q < length before
   pub walk : IsClimb up path from q

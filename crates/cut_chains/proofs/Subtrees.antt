@@ -214,8 +214,9 @@ module _ (first : ℕ) (cs ps order : List ℕ) (root : IsRooted first cs ps)
       let q_in = order_inside i within in
       elim (front_inside i x (omega (arith, within)) in') [
         | inl same ↦
-            subst (λ r. is_below (first ∷ cs) ps r q
-            ≡ is_below (first ∷ cs) ps r (parent_in cs ps q)) (sym same)
+            subst
+            (λ r. is_below (first ∷ cs) ps r q ≡ is_below (first ∷ cs) ps r (parent_in cs ps q))
+            (sym same)
             (is_below_first first cs ps root q (inr q_in)
             ∙ sym (is_below_first first cs ps root (parent_in cs ps q)
             (front_inside i (parent_in cs ps q) (omega (arith, within)) (ordered.after i within))))

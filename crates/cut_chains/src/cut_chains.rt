@@ -1,4 +1,9 @@
 //! The layer of chains with cut-bound ties.
+//!
+//! A tie parts its chain into two sides. Where it is broken, the lighter side can be flipped. Then
+//! fields and couplings give back at most twice the weight of that side, and the tie gives twice
+//! its strength. So a tie stronger than that weight is broken in no least state. Nothing is said of
+//! other states.
 ghost use Rattle.std.specs.Prelude.{◌≡◌, ◌+◌, ◌*◌, ◌≤◌, ◌^◌, IfOk, pos, unsigned_abs, length};
 ghost use Rattle.faithful.specs.AtLeast.{KeepsLeast};
 ghost use Rattle.form_steps.specs.Relations.{Extends};
@@ -18,8 +23,8 @@ use form_steps::Lowered;
 use ising_form::Ising;
 use std::alloc::Global;
 
-/// The layer of chains, where a tie is as strong as the lighter of its sides asks. A least state of
-/// the image has no broken tie.
+/// The layer of chains, where a tie is as strong as the lighter of its sides asks. It is no
+/// `Layer`: the image keeps least states alone, and another state may lie below what it is read as.
 #[derive(Drop)]
 pub struct CutChains;
 

@@ -40,8 +40,8 @@ fn couplings_of(
     let qubits = source.qubits() as usize;
     let mut up = vec![in alloc; 0; qubits]?;
     let mut seen = vec![in alloc; false; qubits]?;
-    let mut order = Vec::with_capacity(alloc, 0)?;
-    let mut path = Vec::with_capacity(alloc, 0)?;
+    let mut order = Vec::new(alloc);
+    let mut path = Vec::new(alloc);
     tie_chains(
         &mut made, source, &mut sums, &mut up, &mut seen, &mut order, &mut path,
     )?;

@@ -12,6 +12,8 @@ mod all_states;
 mod arithmetic;
 mod cut;
 #[cfg(test)]
+mod cut_bounds;
+#[cfg(test)]
 mod dead_parts;
 #[cfg(test)]
 mod drawn;

@@ -95,7 +95,8 @@ fn are_read_by_chains(
     }
 }
 
-fn map_of(alloc: Global, chains: &[&[u64]]) -> Result<ChainMap, NoMemory> {
+/// The map of these chains.
+pub(crate) fn map_of(alloc: Global, chains: &[&[u64]]) -> Result<ChainMap, NoMemory> {
     let mut map = ChainMap::new(alloc);
     for chain in chains {
         map.push(*chain)?;

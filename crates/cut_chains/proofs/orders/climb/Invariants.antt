@@ -7,5 +7,6 @@ use Rattle.cut_chains.proofs.orders.climb.Given as goal
 abbrev pub invariant-loop-seen : goal.invariant-loop-seen
 invariant-loop-seen l = IsWalking (λ q. get_or l.up q 0) l.fn.seen l.seen l.from l.q l.path.items
 
+-- fewer and fewer qubits are not marked
 abbrev pub decreases-loop-seen : goal.decreases-loop-seen
 decreases-loop-seen l = count_by not l.seen

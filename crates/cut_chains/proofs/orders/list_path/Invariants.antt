@@ -7,5 +7,6 @@ abbrev pub invariant-loop-qubit : goal.invariant-loop-qubit
 invariant-loop-qubit l =
     l.order.items ++ reverse l.path.items ≡ l.fn.order.items ++ reverse l.fn.path.items
 
+-- how much of the path is left
 abbrev pub decreases-loop-qubit : goal.decreases-loop-qubit
 decreases-loop-qubit l = length l.path.items

@@ -1,0 +1,289 @@
+//! All states of small forms whose ties are cut-bound: the least ones have no broken chain and are
+//! read as least assignments, and others lie below what they are read as.
+ghost use Rattle.std.specs.Prelude.{◌≡◌, length, IfOk};
+ghost use Rattle.cut_chains.specs.CutLinks.{Fits};
+ghost use Rattle.embedding_tests.specs.SmallForms.{IsSmall};
+
+use crate::arithmetic::{IN_TURN, energy, read, state};
+use crate::drawn::{draw_form, grow_map};
+use crate::forms::{Row, small_form};
+use crate::random::Dice;
+use crate::read_states::map_of;
+use base::NoMemory;
+use chain_map::{ChainMap, CheckAnswer};
+use chimera_graph::Chimera;
+use cut_chains::{CutChains, CutLink};
+use embedding_check::{Embedded, check};
+use form_steps::Lowered;
+use ising_form::Ising;
+use std::alloc::Global;
+use std::test::Fail;
+
+/// What is seen of an embedded form.
+#[derive(Clone, Copy, Debug, PartialEq, Eq)]
+enum Outcome {
+    /// The map is not valid.
+    Refused,
+
+    /// Some state or assignment is not as it should be.
+    Failed,
+
+    /// So many states lie below what they are read as, moved by the offset.
+    Held(u64),
+}
+
+/// How many states a form has. It has at most twelve bits.
+fn states(form: &Ising) -> u64 {
+    1 << form.fields.as_slice().len().min(12)
+}
+
+/// The least energy of a form.
+fn least_energy(alloc: Global, form: &Ising) -> Result<i128, NoMemory> {
+    let width = form.fields.as_slice().len();
+    let mut least = i128::MAX;
+    for number in 0..states(form) {
+        let y = state(alloc, width, &IN_TURN, number)?;
+        least = least.min(energy(form, &y));
+    }
+    Ok(least)
+}
+
+/// Whether an assignment extends to a state without broken chains, which is read as it and has its
+/// energy, moved.
+fn is_reached(
+    alloc: Global,
+    embedded: &Embedded,
+    made: &Lowered<Ising, CutLink>,
+    map: &ChainMap,
+    x: &[bool],
+) -> Result<bool, NoMemory>
+    requires fits { Fits made.now.link embedded.now }
+    requires width { length x.now ≡ length embedded.now.ising.fields }
+{
+    let y = CutChains.extend(alloc, embedded, &made.link, x)?;
+    let again = read(alloc, map, &y)?;
+    let moved = energy(embedded.ising(), x).wrapping_add(made.offset);
+    Ok(again.broken == 0 && again.bits.as_slice() == x && energy(&made.target, &y) == moved)
+}
+
+/// Whether this is so for all assignments.
+fn are_reached(
+    alloc: Global,
+    embedded: &Embedded,
+    made: &Lowered<Ising, CutLink>,
+    map: &ChainMap,
+) -> Result<bool, NoMemory>
+    requires { Fits made.now.link embedded.now }
+{
+    let width = embedded.ising().fields.as_slice().len();
+    for number in 0..states(embedded.ising()) {
+        let x = state(alloc, width, &IN_TURN, number)?;
+        if x.len() != width || !is_reached(alloc, embedded, made, map, &x)? {
+            return Ok(false);
+        }
+    }
+    Ok(true)
+}
+
+/// Whether a state lies below what it is read as, moved. There is no answer where it is not decoded
+/// to what its chains are read as, or has this least energy and a broken chain, or another energy
+/// than that.
+fn is_below(
+    alloc: Global,
+    embedded: &Embedded,
+    made: &Lowered<Ising, CutLink>,
+    map: &ChainMap,
+    least: i128,
+    y: &[bool],
+) -> Result<Option<bool>, NoMemory>
+    requires fits { Fits made.now.link embedded.now }
+    requires width { length y.now ≡ made.now.link.qubits }
+{
+    let wanted = read(alloc, map, y)?;
+    let decoded = CutChains.decode(alloc, &made.link, y)?;
+    let moved = energy(embedded.ising(), &wanted.bits).wrapping_add(made.offset);
+    let found = energy(&made.target, y);
+    let is_least = found == least;
+    if decoded != wanted.bits || is_least && (wanted.broken != 0 || found != moved) {
+        return Ok(None);
+    }
+    Ok(Some(found < moved))
+}
+
+/// What is seen of all states.
+fn seen_of_states(
+    alloc: Global,
+    embedded: &Embedded,
+    made: &Lowered<Ising, CutLink>,
+    map: &ChainMap,
+    least: i128,
+) -> Result<Outcome, NoMemory>
+    requires { Fits made.now.link embedded.now }
+{
+    let width = made.link.qubits as usize;
+    let mut count: u64 = 0;
+    for number in 0..states(&made.target) {
+        let y = state(alloc, width, &IN_TURN, number)?;
+        if y.len() != width {
+            return Ok(Outcome::Failed);
+        }
+        match is_below(alloc, embedded, made, map, least, &y)? {
+            Some(below) => count = count.wrapping_add(below as u64),
+            None => return Ok(Outcome::Failed),
+        }
+    }
+    Ok(Outcome::Held(count))
+}
+
+/// What is seen of a form of this least energy and of its image.
+fn seen_of_image(
+    alloc: Global,
+    embedded: &Embedded,
+    made: &Lowered<Ising, CutLink>,
+    map: &ChainMap,
+    least: i128,
+) -> Result<Outcome, NoMemory>
+    requires { Fits made.now.link embedded.now }
+{
+    let moved = least.wrapping_add(made.offset);
+    if made.scale != 1 || least_energy(alloc, &made.target)? != moved {
+        return Ok(Outcome::Failed);
+    }
+    if !are_reached(alloc, embedded, made, map)? {
+        return Ok(Outcome::Failed);
+    }
+    seen_of_states(alloc, embedded, made, map, moved)
+}
+
+/// What is seen of an embedded form.
+fn seen_of(alloc: Global, embedded: &Embedded, map: &ChainMap) -> Result<Outcome, NoMemory>
+    requires { IsSmall embedded.now.ising }
+{
+    let least = least_energy(alloc, embedded.ising())?;
+    let made = CutChains.lower(alloc, embedded)?;
+    seen_of_image(alloc, embedded, &made, map, least)
+}
+
+/// What is seen of a drawn form on chains that grow.
+fn seen_of_drawn(
+    alloc: Global,
+    graph: &Chimera,
+    dice: &mut Dice,
+    nodes: u32,
+) -> Result<Outcome, NoMemory> {
+    let map = grow_map(alloc, graph, dice, nodes)?;
+    match draw_form(alloc, dice, nodes)? {
+        Some(form) => match check(alloc, graph, form, &map) {
+            Ok(embedded) => seen_of(alloc, &embedded, &map),
+            Err(CheckAnswer::Fault(_)) => Ok(Outcome::Refused),
+            Err(CheckAnswer::NoMemory) => Err(NoMemory),
+        },
+        None => Ok(Outcome::Failed),
+    }
+}
+
+/// How many states of ten forms of one to three nodes lie below what they are read as.
+fn below_in_ten(alloc: Global, shape: (u32, u32, u32), seed: u64) -> Result<Option<u64>, NoMemory> {
+    let Some(graph) = Chimera::new(shape.0, shape.1, shape.2) else {
+        return Ok(None);
+    };
+    let mut dice = Dice { state: seed };
+    let (mut forms, mut count): (u32, u64) = (0, 0);
+    for _ in 0..20_000 {
+        if forms < 10 {
+            match seen_of_drawn(alloc, &graph, &mut dice, 1 + forms % 3)? {
+                Outcome::Held(below) => {
+                    forms += 1;
+                    count = count.wrapping_add(below);
+                }
+                Outcome::Refused => {}
+                Outcome::Failed => return Ok(None),
+            }
+        }
+    }
+    Ok(if forms == 10 { Some(count) } else { None })
+}
+
+#[test]
+fn least_states_have_no_broken_chain(rt: HostRuntime) -> Result<(), Fail> {
+    let rows = [
+        (1, (1, 1, 4)),
+        (2, (1, 2, 2)),
+        (3, (2, 1, 2)),
+        (4, (2, 2, 1)),
+    ];
+    for (seed, shape) in rows {
+        let below = below_in_ten(rt.alloc(), shape, seed)?.ok_or("not as read")?;
+        assert!(rt; below > 0, "{shape:?}");
+    }
+    Ok(())
+}
+
+/// Whether the couplings of a form are these, in their order.
+fn are_couplings(form: &Ising, rows: &[Row]) -> bool {
+    let mut at: usize = 0;
+    for coupling in form.couplings.iter() {
+        let row = (coupling.first, coupling.second, coupling.weight);
+        if rows.get(at).copied() != Some(row) {
+            return false;
+        }
+        at = at.wrapping_add(1);
+    }
+    at == rows.len()
+}
+
+/// Whether the image of an embedded form has its constant and these couplings.
+fn has_image(alloc: Global, embedded: &Embedded, image: &[Row]) -> Result<bool, NoMemory>
+    requires { IsSmall embedded.now.ising }
+{
+    let constant = embedded.ising().constant;
+    let made = CutChains.lower(alloc, embedded)?;
+    Ok(made.target.constant == constant && are_couplings(&made.target, image))
+}
+
+/// Whether the image of a form on chains in one cell has its constant and these couplings.
+fn has_image_on(
+    alloc: Global,
+    form: Ising,
+    chains: &[&[u64]],
+    image: &[Row],
+) -> Result<bool, NoMemory>
+    requires { IsSmall form }
+{
+    let Some(cell) = Chimera::new(1, 1, 4) else {
+        return Ok(false);
+    };
+    let map = map_of(alloc, chains)?;
+    match check(alloc, &cell, form, &map) {
+        Ok(embedded) => has_image(alloc, &embedded, image),
+        Err(CheckAnswer::Fault(_)) => Ok(false),
+        Err(CheckAnswer::NoMemory) => Err(NoMemory),
+    }
+}
+
+#[test]
+fn ties_by_hand(rt: HostRuntime) -> Result<(), Fail> {
+    let rows: [(&[i128], &[Row], &[&[u64]], &[Row]); 3] = [
+        (&[-2], &[], &[&[0, 4]], &[(0, 4, -2)]),
+        (
+            &[1, 1],
+            &[(0, 1, 1)],
+            &[&[0, 4], &[1, 5]],
+            &[(0, 4, -1), (0, 5, 1), (1, 5, -2)],
+        ),
+        (
+            &[10],
+            &[],
+            &[&[0, 1, 5, 6]],
+            &[(0, 5, -6), (0, 6, -3), (1, 5, -4)],
+        ),
+    ];
+    for (fields, couplings, chains, image) in rows {
+        let form = small_form(rt.alloc(), 14, fields, couplings)?.ok_or("no form")?;
+        assert!(rt;
+            has_image_on(rt.alloc(), form, chains, image)?,
+            "{chains:?}"
+        );
+    }
+    Ok(())
+}
