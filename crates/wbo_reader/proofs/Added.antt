@@ -1,19 +1,16 @@
 -- Problems that are sound with more rows or products: the first of these can be added.
-use Rattle.std.proofs.Common.{◌≡◌, ℕ, ◌+◌, ◌<◌, ◌^◌, List, [], ◌∷◌, ◌++◌, All, ◌+ℤ◌, unsigned_abs, sym, subst, arith}
+use Rattle.std.proofs.Common.{◌≡◌, ℕ, ◌+◌, ◌<◌, ◌^◌, List, [], ◌∷◌, ◌++◌, All, unsigned_abs, sym, subst, arith}
 use Rattle.std.specs.List.{AllByRecursion}
-use Rattle.std.proofs.lemmas.Int.{ints}
 use Rattle.std.proofs.lemmas.List.{append_assoc, append-nil}
 use Rattle.std.proofs.lemmas.List.Sums.{sum_by-append, sum_by-cons}
 use Rattle.std.proofs.lemmas.List.Elements.{All-from_recursion, recursion_from_All}
 use Rattle.literal_lists.specs.declared.literal.Literal.{Literal}
 use Rattle.problem_form.specs.declared.terms.Product.{Product}
 use Rattle.problem_form.specs.declared.terms.Constraint.{Constraint}
-use Rattle.problem_form.specs.NormalForm.{with_product, product_constant}
 use Rattle.problem_form.specs.Problems.{ProblemContent, constraint_total, problem_total, IsNormalProduct}
 use Rattle.problem_form.specs.Fields.{IsSound}
 use Rattle.wbo_reader.specs.Wbo.{IsNormalConstraint}
 use Rattle.wbo_reader.specs.Rewriting.{with_products, with_rows}
-use Rattle.wbo_reader.proofs.Copied.{product_itself, no_constant}
 
 -- ---- all of some
 
@@ -84,9 +81,6 @@ pub more_products : (p : ProblemContent) (xs ys : List Product)
     → with_products (with_products p xs) ys ≡ with_products p (xs ++ ys)
 more_products p xs ys = λ i. record p { objective = append_assoc p.objective xs ys i }
 
-pub no_products : (p : ProblemContent) → with_products p [] ≡ p
-no_products p = λ i. record p { objective = append-nil p.objective i }
-
 pub first_products : (p : ProblemContent) (xs ys : List Product)
     → IsSound (with_products p (xs ++ ys)) → IsSound (with_products p xs)
 first_products p xs ys h =
@@ -110,22 +104,6 @@ first_products p xs ys h =
 pub product_normal : (p : ProblemContent) (t : Product) → IsSound (with_products p (t ∷ []))
     → IsNormalProduct p.variables t
 product_normal p t h = All-last (IsNormalProduct p.variables) p.objective t h.0.objective
-
-pub product_small : (p : ProblemContent) (t : Product) → IsSound (with_products p (t ∷ []))
-    → problem_total p + unsigned_abs t.coefficient < 2 ^ 100
-product_small p t h =
-    omega (arith, h.1, sum_by-append size p.objective (t ∷ []), sum_by-cons size t [])
-
-pub product_added : (p : ProblemContent) (t : Product) → IsSound (with_products p (t ∷ []))
-    → with_product p t ≡ with_products p (t ∷ [])
-product_added p t h =
-    let is = product_normal p t h in
-    let constant : p.constant +ℤ product_constant t ≡ p.constant =
-    omega (arith, ints, no_constant p.variables t is) in
-    λ i. record p {
-      constant = constant i;
-      objective = p.objective ++ product_itself p.variables t is i;
-    }
 
 -- ---- literals
 

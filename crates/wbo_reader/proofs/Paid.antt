@@ -14,12 +14,6 @@ pub paid_next : (x : List Bool) (soft : List Soft) (i : ℕ) (s : Soft) → slic
 paid_next x soft i s at =
     omega (arith, ap (paid x) (drop-at soft i s at), sum_by-cons (paid_for x) s (drop (i + 1) soft))
 
-pub paid_where : (x : List Bool) (s : Soft) → fails x s.constraint ≡ true → paid_for x s ≡ s.weight
-paid_where x s e = ap (λ (b : Bool). cond b s.weight 0) e
-
-pub not_paid_where : (x : List Bool) (s : Soft) → fails x s.constraint ≡ false → paid_for x s ≡ 0
-not_paid_where x s e = ap (λ (b : Bool). cond b s.weight 0) e
-
 one_paid : (x : List Bool) (s : Soft) → paid_for x s ≤ soft_total s
 one_paid x s = go (fails x s.constraint)
   where

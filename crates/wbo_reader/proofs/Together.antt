@@ -1,5 +1,5 @@
 -- What is added to a source one after another is the source of the whole.
-use Rattle.std.proofs.Common.{◌≡◌, ℕ, zero, suc, ◌+◌, ◌≤◌, ◌<◌, List, [], ◌∷◌, ◌++◌, fold, flat_map, true, false, Option, Some, None, Result, Ok, Err, refl, sym, ap, ◌∙◌, append-nil, append_assoc, arith}
+use Rattle.std.proofs.Common.{◌≡◌, ℕ, zero, suc, ◌+◌, ◌≤◌, List, [], ◌∷◌, ◌++◌, fold, flat_map, Option, Some, None, Result, Ok, Err, refl, sym, ap, ◌∙◌, append-nil, append_assoc, arith}
 use Rattle.std.specs.Prelude.{unwrap_or}
 use Rattle.std.specs.List.{sum_by}
 use Rattle.std.proofs.lemmas.List.Sums.{sum_by-append, sum_by-cons}
@@ -82,37 +82,6 @@ pub content_of_words-put : (ws : List Word)
     → content_of_words ws ≡ head_at (end_line ws) ws >>= constraints_after (end_line ws)
 unfolding content_of_words reading_of_words
 content_of_words-put ws = head_is (end_line ws) (head_at (end_line ws) ws)
-
--- ---- one constraint, by its weight
-
-pub added_hard : (s : WboContent) (k : Constraint)
-    → with_constraint s None k
-    ≡ record s { hard = s.hard ++ normal_constraint k ∷ []; order = s.order ++ false ∷ [] }
-added_hard s k = λ i. record s {
-  hard = s.hard ++ normal_constraint k ∷ [];
-  soft = append-nil s.soft i;
-  order = s.order ++ false ∷ [];
-}
-
-pub added_none : (s : WboContent) (k : Constraint) → with_constraint s (Some 0) k ≡ s
-added_none s k = λ i. record s {
-  hard = append-nil s.hard i;
-  soft = append-nil s.soft i;
-  order = append-nil s.order i;
-}
-
-pub added_soft : (s : WboContent) (weight : ℕ) (k : Constraint) → 0 < weight
-    → with_constraint s (Some weight) k
-    ≡ record s {
-      soft = s.soft ++ record { weight = weight; constraint = normal_constraint k } ∷ [];
-      order = s.order ++ true ∷ [];
-    }
-added_soft s zero k some = absurd (omega (arith, some))
-added_soft s (suc n) k some = λ i. record s {
-  hard = append-nil s.hard i;
-  soft = s.soft ++ record { weight = suc n; constraint = normal_constraint k } ∷ [];
-  order = s.order ++ true ∷ [];
-}
 
 -- ---- sizes
 
