@@ -2,8 +2,8 @@
 //!
 //! In an order in which each qubit stands after its parent, each gives its sum to its parent, from
 //! the last one on.
-ghost use Rattle.std.specs.Prelude.{◌≡◌, ◌∷◌, ◌<◌, ◌^◌, ℕ, [], true, false, All, OnOk, drop, length, sum_by};
-ghost use Rattle.std.specs.List.{slice_index_or};
+ghost use Rattle.std.specs.Prelude.{◌≡◌, ◌∷◌, ◌+◌, ◌<◌, ◌^◌, ℕ, [], true, false, All, OnOk, drop, length, sum_by};
+ghost use Rattle.std.specs.List.{slice_index_or, slice_set};
 ghost use Rattle.bits_model.specs.Walks.{is_in, first_of};
 ghost use Rattle.cut_chains.specs.Sides.{is_below, side_weight};
 ghost use Rattle.cut_chains.specs.Steps.{Sinkable, held_below};
@@ -11,6 +11,17 @@ ghost use Rattle.cut_chains.specs.laws.Mended.{IsOnceTree};
 
 use crate::orders::{note_parents, reach};
 use base::NoMemory;
+
+/// Adds what one qubit holds to another.
+fn give(sums: &mut [u128], from: u32, to: u32)
+    requires from { from < length sums.old }
+    requires to { to < length sums.old }
+    requires small { slice_index_or sums.old to 0 + slice_index_or sums.old from 0 < 2 ^ 127 }
+    ensures { sums.new ≡ slice_set sums.old to
+        (slice_index_or sums.old to 0 + slice_index_or sums.old from 0) }
+{
+    sums[to as usize] += sums[from as usize];
+}
 
 /// Adds what each qubit of an order holds to its parent, from the last one on.
 pub fn sink(sums: &mut [u128], up: &[u32], order: &[u32])
@@ -25,8 +36,8 @@ pub fn sink(sums: &mut [u128], up: &[u32], order: &[u32])
         → slice_index_or sums.new q 0 ≡ slice_index_or sums.old q 0 }
 {
     for i in (0..order.len()).rev() {
-        let qubit = order[i] as usize;
-        sums[up[qubit] as usize] += sums[qubit];
+        let qubit = order[i];
+        give(sums, qubit, up[qubit as usize]);
     }
 }
 

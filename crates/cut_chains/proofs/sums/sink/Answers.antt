@@ -1,4 +1,4 @@
-use Rattle.std.proofs.Common.{◌≡◌, ◌<◌, ◌+◌, ◌-◌, length, refl, subst, ◌∙◌, arith}
+use Rattle.std.proofs.Common.{◌≡◌, ◌<◌, ◌+◌, ◌-◌, length, get_or, refl, sym, ap, subst, ◌∙◌, arith}
 use Rattle.std.proofs.Math.ListN.{length-set}
 use Rattle.cut_chains.proofs.SinkSteps.{Sinks, starts, giver_below, giver_known, parent_below, step_fits, step_next, step_others, ends_below, ends_all}
 use Rattle.cut_chains.proofs.sums.sink.Goals as goal
@@ -10,28 +10,23 @@ loop-i-init c = record {
   others = λ t q out. refl;
 }
 
-pub bounds-sums-qubit : goal.bounds-sums-qubit
-bounds-sums-qubit c =
-    giver_below c.args.up.now c.args.sums.now c.args.order.now c.loop-i.sums c.requires.able
-    c.loop-i.invariant.sized (c.loop-i.i - 1) (omega (arith, c.loop-i-test.true, c.loop-i.auto.i))
-
 pub bounds-up-qubit : goal.bounds-up-qubit
 bounds-up-qubit c =
     giver_known c.args.up.now c.args.sums.now c.args.order.now c.loop-i.sums c.requires.able
     c.loop-i.invariant.sized (c.loop-i.i - 1) (omega (arith, c.loop-i-test.true, c.loop-i.auto.i))
 
-pub bounds-sums-up : goal.bounds-sums-up
-bounds-sums-up c =
+pub give-requires-clause-from : goal.give-requires-clause-from
+give-requires-clause-from c =
+    giver_below c.args.up.now c.args.sums.now c.args.order.now c.loop-i.sums c.requires.able
+    c.loop-i.invariant.sized (c.loop-i.i - 1) (omega (arith, c.loop-i-test.true, c.loop-i.auto.i))
+
+pub give-requires-clause-to : goal.give-requires-clause-to
+give-requires-clause-to c =
     parent_below c.args.up.now c.args.sums.now c.args.order.now c.loop-i.sums c.requires.able
     c.loop-i.invariant.sized (c.loop-i.i - 1) (omega (arith, c.loop-i-test.true, c.loop-i.auto.i))
 
-pub bounds-sums-up-in-loop-i : goal.bounds-sums-up-in-loop-i
-bounds-sums-up-in-loop-i c =
-    parent_below c.args.up.now c.args.sums.now c.args.order.now c.loop-i.sums c.requires.able
-    c.loop-i.invariant.sized (c.loop-i.i - 1) (omega (arith, c.loop-i-test.true, c.loop-i.auto.i))
-
-pub overflow_add-sums : goal.overflow_add-sums
-overflow_add-sums c =
+pub give-requires-clause-small : goal.give-requires-clause-small
+give-requires-clause-small c =
     let up = c.args.up.now in
     let sums = c.args.sums.now in
     let order = c.args.order.now in
@@ -42,11 +37,7 @@ overflow_add-sums c =
     let sinking =
     subst (Sinks up sums order xs c.requires.able xs) last
     (c.loop-i.invariant.sinking c.requires.able) in
-    omega (
-      arith,
-      step_fits up sums order xs c.requires.able c.loop-i.invariant.sized a within
-          sinking,
-    )
+    step_fits up sums order xs c.requires.able c.loop-i.invariant.sized a within sinking
 
 pub loop-i-preserved : goal.loop-i-preserved
 loop-i-preserved c =
@@ -55,15 +46,18 @@ loop-i-preserved c =
     let order = c.args.order.now in
     let xs = c.loop-i.sums in
     let a = c.loop-i.i - 1 in
+    let given = c.give.ensures in
     let within : a < length order = omega (arith, c.loop-i-test.true, c.loop-i.auto.i) in
     let last : c.loop-i.i ≡ a + 1 = omega (arith, c.loop-i-test.true) in
     record {
-      sized = length-set xs _ _ ∙ c.loop-i.invariant.sized;
+      sized = ap length given ∙ length-set xs _ _ ∙ c.loop-i.invariant.sized;
       sinking = λ t.
-          step_next up sums order xs t c.loop-i.invariant.sized a within
-          (subst (Sinks up sums order xs t xs) last (c.loop-i.invariant.sinking t));
+          subst (λ ys. Sinks up sums order xs t ys a) (sym given)
+          (step_next up sums order xs t c.loop-i.invariant.sized a within
+          (subst (Sinks up sums order xs t xs) last (c.loop-i.invariant.sinking t)));
       others = λ t q out.
-          step_others up sums order xs t c.loop-i.invariant.sized a within q out
+          ap (λ ys. get_or ys q 0) given
+          ∙ step_others up sums order xs t c.loop-i.invariant.sized a within q out
           ∙ c.loop-i.invariant.others t q out;
     }
 
