@@ -1,5 +1,6 @@
 -- The first difference of two forms.
 use Rattle.std.specs.Prelude.{◌≡◌, ◌≢◌, ℤ, pos, List, [], ◌∷◌, Option, Some, None, if◌then◌else◌}
+use Rattle.std.specs.Borrow.{Bor}
 use Rattle.std.specs.Ordering.{int_eq, match_ordering}
 use Rattle.std.specs.declared.cmp.Ordering.TheVariants.{Less}
 use Rattle.literal_lists.specs.declared.literal.Literal.{Literal}
@@ -28,6 +29,10 @@ difference (t ∷ ts) (u ∷ us) =
     (Some (t.1, pos 0))
     (if int_eq t.1 u.1 then difference ts us else Some (t.1, u.1))
     (Some (pos 0, u.1))
+
+-- a term whose literals are lent
+abbrev pub lent_term : Bor (List Literal) × ℤ → Term
+lent_term t = (t.0.now, t.1)
 
 -- a term that was taken of a list, before those that are left; none, where there was none to take
 abbrev pub behind_next : Option Term → List Term → List Term

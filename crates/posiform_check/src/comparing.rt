@@ -1,7 +1,7 @@
 //! The first difference of two forms, in table order.
 ghost use Rattle.std.specs.Prelude.{◌≡◌, ◌≢◌, ◌∷◌, [], List, option_map, pos};
 ghost use Rattle.term_table.specs.Terms.{Term, in_front};
-ghost use Rattle.posiform_check.specs.Differences.{behind_next, difference, found_or};
+ghost use Rattle.posiform_check.specs.Differences.{behind_next, difference, found_or, lent_term};
 
 use literal_lists::Literal;
 use std::cmp::Ordering;
@@ -14,7 +14,7 @@ fn differing(
     next: Option<(&[Literal], i128)>,
 ) -> Option<(i128, i128)>
     ensures { (ts us : List Term) → difference ((set.now, coefficient) ∷ ts)
-        (behind_next (option_map (λ t. (t.0.now, t.1)) next.entry) us)
+        (behind_next (option_map lent_term next.entry) us)
         ≡ found_or result (difference ts us) }
 {
     match next {

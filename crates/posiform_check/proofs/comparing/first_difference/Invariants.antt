@@ -1,11 +1,11 @@
 use Rattle.std.proofs.Common.{◌≡◌, []}
 use Rattle.std.specs.Prelude.{option_map}
 use Rattle.term_table.specs.Terms.{in_front}
-use Rattle.posiform_check.specs.Differences.{behind_next, difference}
+use Rattle.posiform_check.specs.Differences.{behind_next, difference, lent_term}
 use Rattle.posiform_check.proofs.comparing.first_difference.Given as goal
 
 -- the difference is that of what is left of both
 abbrev pub invariant-loop-set : goal.invariant-loop-set
 invariant-loop-set l =
-    difference l.set-iterator (behind_next (option_map (λ t. (t.0.now, t.1)) l.next) l.others)
+    difference l.set-iterator (behind_next (option_map lent_term l.next) l.others)
     ≡ difference (in_front [] l.constant l.form.content.terms) l.other.content.terms
