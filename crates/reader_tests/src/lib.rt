@@ -33,4 +33,6 @@ mod state_lines;
 #[cfg(test)]
 mod tokens_and_numbers;
 #[cfg(test)]
+mod wbo;
+#[cfg(test)]
 mod wcnf_texts;

@@ -34,7 +34,7 @@ fn push_problem(numbers: &mut Vec<i128>, problem: &Problem) -> Result<(), AllocE
 }
 
 /// The same as one list of numbers. No numbers where it says anything else.
-fn numbers_of(alloc: Global, problem: &Problem) -> Result<Vec<i128>, AllocError> {
+pub(crate) fn numbers_of(alloc: Global, problem: &Problem) -> Result<Vec<i128>, AllocError> {
     let mut numbers = Vec::new(alloc);
     if problem.constant == 0 && problem.clauses.len() == 0 {
         push_problem(&mut numbers, problem)?;

@@ -101,10 +101,6 @@ first_products p xs ys h =
       ),
     )
 
-pub product_normal : (p : ProblemContent) (t : Product) → IsSound (with_products p (t ∷ []))
-    → IsNormalProduct p.variables t
-product_normal p t h = All-last (IsNormalProduct p.variables) p.objective t h.0.objective
-
 -- ---- literals
 
 pub row_within : (p : ProblemContent) (k : Constraint) → IsSound (with_rows p (k ∷ []))
