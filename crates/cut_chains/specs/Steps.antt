@@ -32,10 +32,14 @@ pub record Sinkable (up sums order : List ℕ) : Type 0 where
   pub known : AllByRecursion (λ q. q < length up) cs
   pub small : sum_by (λ q. slice_index_or sums q 0) (first ∷ cs) < 2 ^ 127
 
--- what the qubits from which steps lead to q hold together
+-- what the qubits of a chain from which steps lead to q hold together
+abbrev pub sum_below : (sums chain parents : List ℕ) → ℕ → ℕ
+sum_below sums chain parents q =
+    side_weight (λ r. slice_index_or sums r 0) chain (is_below chain parents q)
+
+-- what the qubits of the tree below q hold together
 abbrev pub held_below : {up sums order : List ℕ} → Sinkable up sums order → ℕ → ℕ
-held_below {up} {sums} {order} t q =
-    side_weight (λ r. slice_index_or sums r 0) (t.first ∷ t.cs) (is_below (t.first ∷ t.cs) t.ps q)
+held_below {up} {sums} {order} t q = sum_below sums (t.first ∷ t.cs) t.ps q
 
 -- one more than the lesser of what is held below a qubit, and what the others of the chain hold
 abbrev pub strength_in : List ℕ → ℕ → ℕ → ℕ

@@ -5,8 +5,7 @@
 ghost use Rattle.std.specs.Prelude.{◌≡◌, ◌∷◌, ◌+◌, ◌<◌, ◌^◌, ℕ, [], true, false, All, OnOk, drop, length, sum_by};
 ghost use Rattle.std.specs.List.{slice_index_or, slice_set};
 ghost use Rattle.bits_model.specs.Walks.{is_in, first_of};
-ghost use Rattle.cut_chains.specs.Sides.{is_below, side_weight};
-ghost use Rattle.cut_chains.specs.Steps.{Sinkable, held_below};
+ghost use Rattle.cut_chains.specs.Steps.{Sinkable, held_below, sum_below};
 ghost use Rattle.cut_chains.specs.laws.Mended.{IsOnceTree};
 
 use crate::orders::{note_parents, reach};
@@ -60,8 +59,7 @@ pub fn weigh_chain(
     requires unseen { All (λ q. slice_index_or seen.old q true ≡ false) chain.now }
     requires small { sum_by (λ q. slice_index_or sums.old q 0) chain.now < 2 ^ 127 }
     ensures below { OnOk result ((q : ℕ) → is_in (drop 1 chain.now) q ≡ true
-        → slice_index_or sums.new q 0 ≡ side_weight (λ r. slice_index_or sums.old r 0) chain.now
-        (is_below chain.now parents.now q)) }
+        → slice_index_or sums.new q 0 ≡ sum_below sums.old chain.now parents.now q) }
     ensures all { OnOk result (slice_index_or sums.new (first_of chain.now) 0
         ≡ sum_by (λ r. slice_index_or sums.old r 0) chain.now) }
     ensures sized { OnOk result (length sums.new ≡ length sums.old) }

@@ -169,6 +169,7 @@ mended_flip false true false true n other broken = omega (arith, ints)
 abbrev pub AreKept : (ℕ → Bool) → List ℕ → List ℕ → Type 0
 AreKept side qs ps = AllZip (λ q p. side q ≡ side p) qs ps
 
+-- then the ties cost what they cost before
 pub ties_kept : (side s : ℕ → Bool) (strong : ℕ → ℕ) (qs ps : List ℕ) → AreKept side qs ps
     → total_by (pair_energy (flipped side s)) (ties_of strong qs ps)
     ≡ total_by (pair_energy s) (ties_of strong qs ps)

@@ -58,18 +58,21 @@ pub record IsOnceTree (chain parents : List ℕ) : Type 0 where
   pub once : Once chain
   pub tree : IsTree chain parents
 
+-- the chain of a node is one
 pub once_tree : (e : Embedding) → IsEmbedding e → (i : ℕ) → i < length e.ising.fields
     → IsOnceTree (chain_of e.chains i) (chain_of e.parents i)
 once_tree e kept i within =
     let node = node_at e kept i within in
     record { filled = node.filled; once = chain_once e kept i within; tree = node.tree }
 
+-- steps lead from each of its qubits to the first
 pub rooted_tree : (first : ℕ) (cs ps : List ℕ) → IsOnceTree (first ∷ cs) ps → IsRooted first cs ps
 rooted_tree first cs ps t = record {
   apart = t.once.0;
   leads = λ q in'. t.tree.rooted q (in_rest first q cs in');
 }
 
+-- its parents are those that a look-up gives
 pub parents_of_tree : (first : ℕ) (cs ps : List ℕ) → IsOnceTree (first ∷ cs) ps → AreOwn cs ps cs ps
 parents_of_tree first cs ps t = own_parents cs ps t.once.1 (length_all_zip _ _ _ t.tree.ties)
 
@@ -181,6 +184,7 @@ light_of weight s (first ∷ cs) parents t c c_in broken =
     (λ q in'. in_rest first q cs in') (parents_of_tree first cs parents t) t.tree.ties in
     (light.0, cuts, light.2, t.once.1)
 
+-- each broken tie has such a side
 pub light_side : (e : Embedding) → IsEmbedding e → (s : ℕ → Bool) (i c : ℕ)
     → i < length e.ising.fields → is_in (drop 1 (chain_of e.chains i)) c ≡ true
     → are_same (s c) (s (parent_in (drop 1 (chain_of e.chains i)) (chain_of e.parents i) c)) ≡ false
@@ -279,6 +283,7 @@ all_parts P (e ∷ es) ds all =
     let rest = all_parts P es ds all.1 in
     ((all.0, rest.0), rest.1)
 
+-- placed couplings are couplings of two qubits, and not 0
 pub couplers_placed : (e : Embedding) → IsEmbedding e
     → AllByRecursion (IsCoupler e.qubits) (placed e.ising.couplings e.places)
 couplers_placed e kept =

@@ -38,11 +38,13 @@ parent_outside (c ∷ cs) (p ∷ ps) q out = go (c == q) out (parent_outside cs 
     go true h later = absurd (cc)
     go false h later = later h
 
+-- and steps do not lead it anywhere
 pub climbed_outside : (cs ps : List ℕ) (n q : ℕ) → is_in cs q ≡ false → climbed cs ps n q ≡ q
 climbed_outside cs ps zero q out = refl
 climbed_outside cs ps (suc n) q out =
     ap (climbed cs ps n) (parent_outside cs ps q out) ∙ climbed_outside cs ps n q out
 
+-- some steps, and then more
 pub climbed-plus : (cs ps : List ℕ) (m n q : ℕ)
     → climbed cs ps (m + n) q ≡ climbed cs ps m (climbed cs ps n q)
 climbed-plus cs ps m zero q =
@@ -82,6 +84,7 @@ in_or_out cs q c in' out same =
     let both : true ≡ false = sym in' ∙ ap (is_in cs) same ∙ out in
     cc
 
+-- steps from a qubit after the first do not lead back to it
 pub not_again : (first : ℕ) (cs ps : List ℕ) → IsRooted first cs ps → (m q : ℕ) → is_in cs q ≡ true
     → climbed cs ps (suc m) q ≡ q → ⊥
 not_again first cs ps root m q in' back =

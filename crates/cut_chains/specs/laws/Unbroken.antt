@@ -44,6 +44,7 @@ cut_ties_upward e kept =
     (λ i a l. ties_of_upward (chain_of e.chains i) _ _ (cut_strength e i)
     (node_at e kept i (omega (arith, l))).tree.ties)
 
+-- the energy of a state is that of its spins, and the constant
 pub cut_value : (e : Embedding) → IsEmbedding e → (y : List Bool)
     → ising_value (cut_image e) y ≡ e.ising.constant +ℤ cut_energy e (bit_at y)
 cut_value e kept y =
