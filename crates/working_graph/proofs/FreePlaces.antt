@@ -208,7 +208,8 @@ chains_front w n nodes m low same len =
     let xs = taken_of (fabric_of w) F n in
     let count : length xs ≡ nodes =
     sym (length-map xs F) ∙ sym (ap (λ (cs : List (List ℕ)). length cs) same) ∙ len in
-    same ∙ ap (map F) (taken_front (fabric_of w) F n (clique_places w.graph) nodes xs low refl count)
+    same ∙ ap (map F) (taken_front (fabric_of w) F n
+    (clique_places w.graph) nodes xs low refl count)
 
 -- the chains of all places that are taken, where they are few
 pub chains_all : (w : WorkingGraph) (n nodes : ℕ) (m : List (List ℕ)) → n ≡ clique_places w.graph

@@ -86,5 +86,5 @@ pub record AreTaken (fabric : Fabric) (chain : ℕ → List ℕ) (n : ℕ) (xs :
   pub below : (i : ℕ) → i < length xs → slice_index_or xs i 0 < n
   pub whole : (i : ℕ) → i < length xs → is_whole fabric (chain (slice_index_or xs i 0)) ≡ true
   pub coupled : (i j : ℕ) → i < j → j < length xs
-      → are_coupled fabric.joined (chain (slice_index_or xs j 0)) (chain
-      (slice_index_or xs i 0)) ≡ true
+      → are_coupled fabric.joined (chain (slice_index_or xs j 0))
+      (chain (slice_index_or xs i 0)) ≡ true

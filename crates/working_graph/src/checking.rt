@@ -8,10 +8,10 @@ ghost use Rattle.chimera_graph.specs.Graph.{qubits_of};
 ghost use Rattle.chain_map.specs.Chains.{chain_of};
 ghost use Rattle.chain_map.specs.Faults.{IfFault};
 ghost use Rattle.embedding_check.specs.Checked.{IsChecked};
-ghost use Rattle.embedding_check.specs.Faults.{IsFound, IsFirstAt, number_at};
+ghost use Rattle.embedding_check.specs.Faults.{IsFound};
 ghost use Rattle.working_graph.specs.Fabrics.{IsValidOn};
 ghost use Rattle.working_graph.specs.Working.{exists_in, joined_in, fabric_of};
-ghost use Rattle.working_graph.specs.Faults.{ExistsAt, IsFaultOn};
+ghost use Rattle.working_graph.specs.Faults.{ExistsAt, IsFirstMissing, IsFaultOn};
 
 use crate::working::Working;
 use chain_map::{ChainMap, CheckAnswer, EmbedFault};
@@ -57,9 +57,8 @@ fn check_existing(working: &Working, map: &ChainMap) -> Result<(), CheckAnswer>
     ensures existing { IfOk result (λ _. (u : ℕ) → u < length map.now
         → (j : ℕ) → j < length (chain_of map.now u)
         → ExistsAt (fabric_of working.now) map.now u j) }
-    ensures fault { IfErr result (λ e. IfFault e (λ f. (v : ℕ) × (k : ℕ)
-        × IsFirstAt map.now (ExistsAt (fabric_of working.now) map.now) v k
-        × (f ≡ EmbedFault.NoSuchQubit v (number_at map.now v k)))) }
+    ensures fault { IfErr result (λ e. IfFault e
+        (IsFirstMissing (fabric_of working.now) map.now)) }
 {
     for node in 0..map.len() {
         let chain = map.chain(node);

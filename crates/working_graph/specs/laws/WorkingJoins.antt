@@ -29,8 +29,9 @@ joined_in-comm w a b =
     (λ i. list_any (λ n. n == pair_number (min_comm a b i) (max_comm a b i)) w.cut)
 
 pub joined_in-self : (w : WorkingGraph) (a : ℕ) → joined_in w a a ≡ false
-joined_in-self w a = λ i. are_joined-self
-    (place_of w.graph a) i && exists_in w a && exists_in w a && not (is_cut w a a)
+joined_in-self w a =
+    λ i. are_joined-self (place_of w.graph a) i
+    && exists_in w a && exists_in w a && not (is_cut w a a)
 
 first_true : (j e f c : Bool) → (j && e && f && c) ≡ true → j ≡ true
 first_true true e f c h = λ i. true
@@ -41,12 +42,10 @@ pub joined_in-plain : (w : WorkingGraph) (a b : ℕ) → joined_in w a b ≡ tru
     → are_joined (place_of w.graph a) (place_of w.graph b) ≡ true
 joined_in-plain w a b =
     first_true (are_joined (place_of w.graph a) (place_of w.graph b)) (exists_in w a)
-    (exists_in w b)
-    (not (is_cut w a b))
+    (exists_in w b) (not (is_cut w a b))
 
 pub joined_in-findable : (w : WorkingGraph) (a b : ℕ) → a < qubits_of w.graph
-    → b < qubits_of w.graph
-    → joined_in w a b ≡ true
+    → b < qubits_of w.graph → joined_in w a b ≡ true
     → CanBeJoined (facing_of w.graph a) (before_of w.graph a) (after_of w.graph a) b
 joined_in-findable w a b below_a below_b h =
     joins_findable w.graph a b below_a below_b (joined_in-plain w a b h)

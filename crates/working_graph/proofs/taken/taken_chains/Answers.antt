@@ -85,7 +85,8 @@ loop-place-preserved c =
             ),
           )
       | else-is_free w ↦
-          let same : xs ≡ next = next_barred f chain place xs refl (sym free ∙ w.if-is_free.false) in
+          let same : xs ≡ next = next_barred f chain place xs refl (sym free
+          ∙ w.if-is_free.false) in
           let marks : c.if-is_free.marks.items ≡ seen =
           ap (λ (v : Vec Bool Global). v.items) w.marks-is in (
             w.taken-is ∙ inv.0 ∙ ap (map chain) same,
