@@ -133,19 +133,21 @@ form_of t = record { bits = variables_of t; cost = text_cost t }
 
 -- ---- the source in normal form
 
--- the hard constraint in normal form, or none
+-- the constraint where it has no weight, and else none
 abbrev pub hard_by : Option ℕ → Constraint → List Constraint
 hard_by weight k = if is_none weight then k ∷ [] else []
 
+-- the hard constraint of a text in normal form, or none
 abbrev pub hard_of : Weighed → List Constraint
 hard_of k = hard_by k.weight (normal_constraint (constraint_of k.listed))
 
--- the soft constraint in normal form, or none; one of weight 0 is dropped
+-- the constraint with its weight where it has one, and else none; one of weight 0 is dropped
 abbrev pub soft_by : Option ℕ → Constraint → List Soft
 soft_by None k = []
 soft_by (Some zero) k = []
 soft_by (Some (suc n)) k = record { weight = suc n; constraint = k } ∷ []
 
+-- the soft constraint of a text in normal form, or none
 abbrev pub soft_of : Weighed → List Soft
 soft_of k = soft_by k.weight (normal_constraint (constraint_of k.listed))
 
