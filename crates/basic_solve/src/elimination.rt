@@ -13,7 +13,7 @@ use crate::buckets::Buckets;
 use crate::energies::{base, entries_of_nodes, step_of};
 use crate::passed::{Table, add_table, pass_table};
 use crate::steps::add_for;
-use crate::tables::{chosen_bits, doubled, take_lesser};
+use crate::tables::{choose, doubled};
 use bits_model::{ChainList, Entry, Kind, NoMemory, OutputModel};
 use std::alloc::Global;
 
@@ -93,8 +93,7 @@ pub(crate) fn all_choices(
         let tables: Vec<Table> = waiting.take_last();
         let mut zeros = table_of_bit(alloc, model.kind, node, false, set, &entries, &tables)?;
         let ones = table_of_bit(alloc, model.kind, node, true, set, &entries, &tables)?;
-        choices.push(chosen_bits(alloc, &zeros, &ones)?)?;
-        take_lesser(&mut zeros, &ones);
+        choices.push(choose(alloc, &mut zeros, &ones)?)?;
         pass_table(alloc, &mut waiting, set, zeros)?;
     }
     Ok(choices)

@@ -207,8 +207,8 @@ pass_table-requires c =
     let kind = ap (λ w. w.kind) c.model.view_is in
     let zeros = c.in_ok-zeros.zeros.items in
     let ones = c.in_ok-ones.ones.items in
-    let values = c.take_lesser.new.values in
-    let bits = c.in_ok-chosen_bits.field-0 in
+    let values = c.choose.new.values in
+    let bits = c.in_ok-choose.field-0 in
     let placed = subst (λ w. All (IsPlaced w.nodes) w.entries) c.model.view_is
     c.model.invariant.0.placed in
     let z = moved_table v false ns zeros kind c.deref.ensures.value
@@ -216,14 +216,13 @@ pass_table-requires c =
     c.in_ok-zeros.ensures in
     let o = moved_table v true ns ones kind c.deref-in-loop-step-2.ensures.value
     c.deref-in-loop-step-3.ensures.value c.in_ok-ones.ensures in
-    let bits_long = c.in_ok-chosen_bits.ensures.count
-    ∙ ap length c.deref-in-loop-step-4.ensures.value in
-    let bits_are = moved_bits bits c.deref-in-loop-step-4.ensures.value
-    c.deref-in-loop-step-5.ensures.value c.in_ok-chosen_bits.ensures.bits in
+    let bits_long = c.in_ok-choose.ensures.count ∙ ap length c.deref_mut.ensures.value in
+    let bits_are = moved_bits bits c.deref_mut.ensures.value
+    c.deref-in-loop-step-4.ensures.value c.in_ok-choose.ensures.bits in
     let values_long : length values ≡ length zeros
-    = omega (arith, c.take_lesser.auto.values, ap length c.deref_mut.ensures.value) in
+    = omega (arith, c.choose.auto.values, ap length c.deref_mut.ensures.value) in
     let values_are = moved_lesser values c.deref_mut.ensures.value
-    c.deref-in-loop-step-6.ensures.value c.take_lesser.ensures in
+    c.deref-in-loop-step-4.ensures.value c.in_ok-choose.ensures.lesser in
     all_within m sets c.requires step held waiting choices c.loop-step.invariant front own before
     tables c.take_last-entries.ensures c.take_last-tables.ensures ns c.list-set.ensures.listed v v_is
     placed zeros ones values bits z o bits_long bits_are values_long values_are
@@ -247,8 +246,8 @@ loop-step-preserved c =
     let kind = ap (λ w. w.kind) c.model.view_is in
     let zeros = c.in_ok-zeros.zeros.items in
     let ones = c.in_ok-ones.ones.items in
-    let values = c.take_lesser.new.values in
-    let bits = c.in_ok-chosen_bits.field-0 in
+    let values = c.choose.new.values in
+    let bits = c.in_ok-choose.field-0 in
     let placed = subst (λ w. All (IsPlaced w.nodes) w.entries) c.model.view_is
     c.model.invariant.0.placed in
     let z = moved_table v false ns zeros kind c.deref.ensures.value
@@ -256,14 +255,13 @@ loop-step-preserved c =
     c.in_ok-zeros.ensures in
     let o = moved_table v true ns ones kind c.deref-in-loop-step-2.ensures.value
     c.deref-in-loop-step-3.ensures.value c.in_ok-ones.ensures in
-    let bits_long = c.in_ok-chosen_bits.ensures.count
-    ∙ ap length c.deref-in-loop-step-4.ensures.value in
-    let bits_are = moved_bits bits c.deref-in-loop-step-4.ensures.value
-    c.deref-in-loop-step-5.ensures.value c.in_ok-chosen_bits.ensures.bits in
+    let bits_long = c.in_ok-choose.ensures.count ∙ ap length c.deref_mut.ensures.value in
+    let bits_are = moved_bits bits c.deref_mut.ensures.value
+    c.deref-in-loop-step-4.ensures.value c.in_ok-choose.ensures.bits in
     let values_long : length values ≡ length zeros
-    = omega (arith, c.take_lesser.auto.values, ap length c.deref_mut.ensures.value) in
+    = omega (arith, c.choose.auto.values, ap length c.deref_mut.ensures.value) in
     let values_are = moved_lesser values c.deref_mut.ensures.value
-    c.deref-in-loop-step-6.ensures.value c.take_lesser.ensures in
+    c.deref-in-loop-step-4.ensures.value c.in_ok-choose.ensures.lesser in
     let values_is = written_items c.in_ok-zeros.zeros.len values zeros
     (omega (arith, c.in_ok-zeros.zeros.ok.0)) values_long in
     let handed = subst (λ vs. IsHandedOn (record { nodes = ns; values = vs }) before
