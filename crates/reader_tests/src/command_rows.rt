@@ -59,7 +59,10 @@ fn compile_in(format: Format, target: Target, normal: Normal, unit: UnitChoice) 
 const POSITIONS: &[(&[&str], Result<Ask, usize>)] = &[
     (&["compile", "wcnf", "qubo", "FILE"], Ok(Ask::Model)),
     (&["compile", "wcnf", "qubo", "compile"], Ok(Ask::Model)),
-    (&["decode", "wcnf", "qubo", "FILE", "STATE"], Ok(Ask::Decode(WordAt::Whole(4)))),
+    (
+        &["decode", "wcnf", "qubo", "FILE", "STATE"],
+        Ok(Ask::Decode(WordAt::Whole(4))),
+    ),
     (
         &["extend", "wcnf", "qubo", "FILE", "high=", "unit=one"],
         Ok(Ask::Extend(WordAt::Whole(4))),

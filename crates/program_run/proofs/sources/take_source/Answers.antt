@@ -74,7 +74,8 @@ returns-in-Err-check_limits-clause-refused g c =
     let new = g.F.Files.counts c.take_read.new.files in
     refused_named (name_of words c.args.command) Source (if_named c.args.command Source)
     c.text_at.result.now (Limit Source fault.kind fault.number) old new has.0
-    (c.text_at.ensures ∙ has.1)
-    (refl,
-    limits_refused c.text_at.result.now 1 fault.number fault.kind old new
-    c.in-Err-check_limits.ensures.counted c.in-Ok-take_read.ensures.passed)
+    (c.text_at.ensures ∙ has.1) (
+      refl,
+      limits_refused c.text_at.result.now 1 fault.number fault.kind old new
+          c.in-Err-check_limits.ensures.counted c.in-Ok-take_read.ensures.passed,
+    )
