@@ -1,5 +1,5 @@
 -- A text grows by the rows of an answer.
-use Rattle.std.proofs.Common.{◌≡◌, ℕ, ◌+◌, ◌<◌, ◌≤◌, Bool, List, [], ◌∷◌, ◌++◌, length, drop, get_or, Some, sym, ap, ◌∙◌, arith, append-nil, append_assoc}
+use Rattle.std.proofs.Common.{◌≡◌, ℕ, ℤ, codes, Option, ◌+◌, ◌<◌, ◌≤◌, Bool, List, [], ◌∷◌, ◌++◌, length, drop, get_or, Some, sym, ap, ◌∙◌, arith, append-nil, append_assoc}
 use Rattle.std.specs.Prelude.{slice_get, min}
 use Rattle.std.specs.List.{zip}
 use Rattle.std.proofs.Math.ListN.{get_or-map}
@@ -7,7 +7,10 @@ use Rattle.std.proofs.lemmas.List.{drop_all, drop_more, length-map}
 use Rattle.std.proofs.lemmas.Option.{get_or_from_slice_get, slice_get_within}
 use Rattle.std.proofs.lemmas.Slice.Zip.{get_or-zip, length-zip}
 use Rattle.model_text.specs.Rows.{Row, row_text, rows_text}
-use Rattle.answer_text.specs.Answers.{name_row, named_rows}
+use Rattle.std.specs.Fmt.{signed_decimal}
+use Rattle.std.proofs.lemmas.Grind.{flat_map-append}
+use Rattle.base.specs.declared.costs.Cost.TheVariants.{Whole}
+use Rattle.answer_text.specs.Answers.{assignment_row, name_row, name_rows, named_rows, optimum_rows}
 
 -- the row of a name and its bit
 abbrev pair_row : List ℕ × Bool → Row
@@ -57,3 +60,23 @@ names_done old text names bits i beyond whole =
     let rows = named_rows names bits in
     let none : drop i rows ≡ [] = drop_all i rows (rw (length-named_rows names bits) beyond) in
     sym (append-nil text) ∙ ap (λ (left : List Row). text ++ rows_text left) (sym none) ∙ whole
+
+-- an assignment, its names and the row of its cost are the rows of an optimum
+pub optimum_added : (old first second third : List ℕ) (x : List Bool)
+    (names : Option (List (List ℕ))) (value : ℤ) → first ≡ old ++ row_text (assignment_row x)
+    → second ≡ first ++ rows_text (name_rows names x)
+    → third ≡ second ++ row_text (codes "optimum" ∷ signed_decimal value ∷ [])
+    → third ≡ old ++ rows_text (optimum_rows x names (Whole value))
+optimum_added old first second third x names value one two three =
+    let head = row_text (assignment_row x) in
+    let named = rows_text (name_rows names x) in
+    let cost : Row = codes "optimum" ∷ signed_decimal value ∷ [] in
+    let all : rows_text (name_rows names x ++ (cost ∷ [])) ≡ named ++ row_text cost =
+    flat_map-append row_text (name_rows names x) (cost ∷ [])
+    ∙ ap (λ (l : List ℕ). named ++ l) (append-nil (row_text cost)) in
+    three
+    ∙ ap (λ (l : List ℕ). l ++ row_text cost)
+    (two ∙ ap (λ (l : List ℕ). l ++ named) one ∙ append_assoc old head named)
+    ∙ append_assoc old (head ++ named) (row_text cost)
+    ∙ ap (λ (l : List ℕ). old ++ l)
+    (append_assoc head named (row_text cost) ∙ ap (λ (l : List ℕ). head ++ l) (sym all))

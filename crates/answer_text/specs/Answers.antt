@@ -49,6 +49,14 @@ cost_row Infinite = codes "cost" ∷ codes "infinite" ∷ []
 abbrev pub energy_row : ℤ → Row
 energy_row value = codes "energy" ∷ signed_decimal value ∷ []
 
+-- what a least state tells: where what it decodes to has a whole cost, that assignment, with names
+-- where its variables have any, and its cost, the optimum; else that the source is infeasible
+abbrev pub optimum_rows : List Bool → Option (List (List ℕ)) → Cost → List Row
+optimum_rows x names (Whole value) =
+    assignment_row x ∷ name_rows names x
+    ++ ((codes "optimum" ∷ signed_decimal value ∷ []) ∷ [])
+optimum_rows x names Infinite = (codes "infeasible" ∷ []) ∷ []
+
 -- ---- texts
 
 -- the assignment that a state was taken back to, with names where its variables have any, its cost,
@@ -62,3 +70,8 @@ decoding_text x names cost energy =
 abbrev pub extension_text : List Bool → Cost → ℤ → List ℕ
 extension_text y cost energy =
     rows_text (state_row y ∷ cost_row cost ∷ energy_row energy ∷ [])
+
+-- a least state, its energy, and what it tells of the assignment that it decodes to, of this cost
+abbrev pub solution_text : List Bool → ℤ → List Bool → Option (List (List ℕ)) → Cost → List ℕ
+solution_text y energy x names cost =
+    rows_text (state_row y ∷ energy_row energy ∷ optimum_rows x names cost)

@@ -1,8 +1,8 @@
 //! The two texts of an answer.
 ghost use Rattle.std.specs.Prelude.{◌≡◌, IfOk};
-ghost use Rattle.answer_text.specs.Answers.{decoding_text, extension_text};
+ghost use Rattle.answer_text.specs.Answers.{decoding_text, extension_text, solution_text};
 
-use crate::rows::{push_bits_row, push_cost, push_energy, push_names};
+use crate::rows::{push_bits_row, push_cost, push_energy, push_names, push_optimum};
 use base::{Cost, NoMemory};
 use poly_reader::Names;
 use std::alloc::Global;
@@ -40,5 +40,25 @@ pub fn written_extension(
     push_bits_row(&mut text, b"state", y)?;
     push_cost(&mut text, cost)?;
     push_energy(&mut text, energy)?;
+    Ok(text)
+}
+
+/// A least state, its energy, and the assignment that it stands for, of this cost: the optimum, or
+/// that there is none where it is infinite.
+pub fn written_solution(
+    alloc: Global,
+    y: &[bool],
+    energy: i128,
+    x: &[bool],
+    names: &Option<Names>,
+    cost: Cost,
+) -> Result<Vec<u8>, NoMemory>
+    ensures { IfOk result (λ text. text.items
+        ≡ solution_text y.now energy x.now names.now cost) }
+{
+    let mut text = Vec::new(alloc);
+    push_bits_row(&mut text, b"state", y)?;
+    push_energy(&mut text, energy)?;
+    push_optimum(&mut text, x, names, cost)?;
     Ok(text)
 }

@@ -12,6 +12,9 @@
 //! The text of an extended assignment has the rows `state`, with a digit for each bit, `cost` and
 //! `energy`. Where there are no bits, the row is the word and the space after it.
 //!
+//! The text of a least state has the rows `state` and `energy`, and then `assignment`, names and
+//! `optimum` with the cost of what the state stands for, or `infeasible` where that is infinite.
+//!
 //! For the assignment 111 of the variables x, y and z, of cost -5, and a state of energy -5:
 //!
 //! ```text
@@ -27,4 +30,4 @@
 mod answers;
 mod rows;
 
-pub use answers::{written_decoding, written_extension};
+pub use answers::{written_decoding, written_extension, written_solution};

@@ -1,7 +1,8 @@
 //! The rows of an answer, each appended by a function of its own.
-ghost use Rattle.std.specs.Prelude.{◌≡◌, ◌++◌, ◌∷◌, [], OnOk};
+ghost use Rattle.std.specs.Prelude.{◌≡◌, ◌++◌, ◌∷◌, [], codes, OnOk};
+ghost use Rattle.std.specs.Fmt.{signed_decimal};
 ghost use Rattle.model_text.specs.Rows.{row_text, rows_text};
-ghost use Rattle.answer_text.specs.Answers.{bits_word, cost_row, digit_of, energy_row, name_row, name_rows, named_rows};
+ghost use Rattle.answer_text.specs.Answers.{bits_word, cost_row, digit_of, energy_row, name_row, name_rows, named_rows, optimum_rows};
 
 use base::{Cost, NoMemory};
 use poly_reader::Names;
@@ -76,6 +77,17 @@ pub(crate) fn push_names(
     }
 }
 
+/// The cost of an optimum.
+fn push_value(text: &mut Vec<u8>, value: i128) -> Result<(), NoMemory>
+    ensures { OnOk result (text.new.items
+        ≡ text.old.items ++ row_text (codes "optimum" ∷ signed_decimal value ∷ [])) }
+{
+    text.extend_from_slice(b"optimum ")?;
+    push_number(text, value)?;
+    text.push(b'\n')?;
+    Ok(())
+}
+
 /// A cost.
 pub(crate) fn push_cost(text: &mut Vec<u8>, cost: Cost) -> Result<(), NoMemory>
     ensures { OnOk result (text.new.items ≡ text.old.items ++ row_text (cost_row cost)) }
@@ -87,6 +99,31 @@ pub(crate) fn push_cost(text: &mut Vec<u8>, cost: Cost) -> Result<(), NoMemory>
     }
     text.push(b'\n')?;
     Ok(())
+}
+
+/// An assignment of whole cost as an optimum, with the names of its variables where they have any, or
+/// that there is none.
+pub(crate) fn push_optimum(
+    text: &mut Vec<u8>,
+    x: &[bool],
+    names: &Option<Names>,
+    cost: Cost,
+) -> Result<(), NoMemory>
+    ensures { let rows = optimum_rows x.now names.now cost in
+        OnOk result (text.new.items ≡ text.old.items ++ rows_text rows) }
+{
+    match cost {
+        Cost::Whole(value) => {
+            push_bits_row(text, b"assignment", x)?;
+            push_names(text, names, x)?;
+            push_value(text, value)?;
+            Ok(())
+        }
+        Cost::Infinite => {
+            text.extend_from_slice(b"infeasible\n")?;
+            Ok(())
+        }
+    }
 }
 
 /// An energy.

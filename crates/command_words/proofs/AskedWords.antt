@@ -32,7 +32,7 @@ use Rattle.chimera_graph.specs.declared.chimera.Chimera as graphs
 use Rattle.command_words.specs.declared.keys.Keys.{Keys}
 use Rattle.command_words.specs.declared.words.Verb.{Verb}
 use Rattle.command_words.specs.declared.words.Verb.TheVariants as verbs
-use Rattle.command_words.specs.Asked.{EachJobIsAskedFor, EachDecodingIsAskedFor, EachExtensionIsAskedFor, EachSampleIsAskedFor, EachUnitIsAskedFor, EachGraphIsAskedFor, EachKeyStands, CannotStand, NoKeyStandsTwice, NoGraphKeyElsewhere, NoGraphWithout, NoLargerGraph, IsRefusedAfterAll, NoOtherWordsAsk, Say, format_word, high_key, normal_key, on_fourth_word, board_of, target_word, word_of, unit_key, rows_key, cols_key, shore_key, map_key, clique_key, job_words, compile_words, decode_words, extend_words, sample_words}
+use Rattle.command_words.specs.Asked.{EachJobIsAskedFor, EachDecodingIsAskedFor, EachExtensionIsAskedFor, EachSampleIsAskedFor, EachSolutionIsAskedFor, EachUnitIsAskedFor, EachGraphIsAskedFor, EachKeyStands, CannotStand, NoKeyStandsTwice, NoGraphKeyElsewhere, NoGraphWithout, NoLargerGraph, IsRefusedAfterAll, NoOtherWordsAsk, Say, format_word, high_key, normal_key, on_fourth_word, board_of, target_word, word_of, unit_key, rows_key, cols_key, shore_key, map_key, clique_key, job_words, compile_words, decode_words, extend_words, sample_words, solve_words}
 use Rattle.command_words.specs.Commands.{◌>>=◌, after_verb, chosen_target, clauses_of, command_of, drawn, format_of, job_of, named, on_file, sample_of, target_of, valued, verb_of}
 use Rattle.command_words.specs.Keys.{choices_of, chosen_unit, given, graph_of, keys_from, no_keys, target_by, with_word}
 use Rattle.command_words.specs.Names.{text_at}
@@ -91,6 +91,13 @@ each_job format word file keys =
     (chain (keys_from word no_keys 4 keys)
     (chosen_target (compile_words format word file keys) word)
     (λ given target. fourth_word_job format target given) (λ job. on_file job asks.Model))
+
+pub each_solution : EachSolutionIsAskedFor
+each_solution format word file keys =
+    rw (format_of-format_word format, target_of-target_word word)
+    (chain (keys_from word no_keys 4 keys)
+    (chosen_target (solve_words format word file keys) word)
+    (λ given target. fourth_word_job format target given) (λ job. on_file job asks.Solve))
 
 pub each_decoding : EachDecodingIsAskedFor
 each_decoding format word file state keys =
@@ -273,6 +280,8 @@ no_target_given (Some g) = refl
 refused : (keys : Keys) → target_by Chimera keys ≡ None → IsRefusedAfterAll keys
 refused keys none = record {
   job = λ format file words asked. each_job format Chimera file words ∙ rw (asked, none) refl;
+  solution = λ format file words asked.
+      each_solution format Chimera file words ∙ rw (asked, none) refl;
   decoding = λ format file state words asked.
       each_decoding format Chimera file state words ∙ rw (asked, none) refl;
   extension = λ format file assignment words asked.
@@ -371,12 +380,14 @@ verb_word verbs.Compile = codes "compile"
 verb_word verbs.Decode = codes "decode"
 verb_word verbs.Extend = codes "extend"
 verb_word verbs.Sample = codes "sample"
+verb_word verbs.Solve = codes "solve"
 
 verb_of-word : (word : List ℕ) → IfSome (verb_of word) (λ verb. word ≡ verb_word verb)
 verb_of-word word =
     line verb_word word verbs.Compile _
     (line verb_word word verbs.Decode _
-    (line verb_word word verbs.Extend _ (line verb_word word verbs.Sample None tt)))
+    (line verb_word word verbs.Extend _
+    (line verb_word word verbs.Sample _ (line verb_word word verbs.Solve None tt))))
 
 -- ---- a word at its place
 
@@ -583,6 +594,10 @@ after_verb-words words verbs.Compile first =
     next (job_of words 4) (λ job. Ok (on_file job asks.Model)) (HasJob words) (IsAsked words)
     (job_of-words words 4)
     (λ job stands. (drop 4 words, first ∙ ap (λ rest. codes "compile" ∷ rest) stands))
+after_verb-words words verbs.Solve first =
+    next (job_of words 4) (λ job. Ok (on_file job asks.Solve)) (HasJob words) (IsAsked words)
+    (job_of-words words 4)
+    (λ job stands. (drop 4 words, first ∙ ap (λ rest. codes "solve" ∷ rest) stands))
 after_verb-words words verbs.Decode first =
     with_file-words words (codes "decode") asks.Decode first
     (λ job state stands. (drop 5 words, stands))

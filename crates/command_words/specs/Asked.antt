@@ -66,6 +66,10 @@ abbrev pub extend_words : Format → TargetWord → List ℕ → List ℕ → Li
 extend_words format target file assignment keys =
     codes "extend" ∷ job_words format target file ++ assignment ∷ keys
 
+-- the words that ask for the first least state of the model of a file, with keys
+abbrev pub solve_words : Format → TargetWord → List ℕ → List (List ℕ) → List (List ℕ)
+solve_words format target file keys = codes "solve" ∷ job_words format target file ++ keys
+
 -- the words that ask for the model of a sample, with keys
 abbrev pub sample_words : List ℕ → List ℕ → TargetWord → List (List ℕ) → List (List ℕ)
 sample_words number clauses target keys =
@@ -149,6 +153,15 @@ EachExtensionIsAskedFor =
     ≡ (keys_from word no_keys 5 keys
     >>= λ given. chosen_target (extend_words format word file assignment keys) word given
     >>= λ target. Ok (on_fourth_word format target given (asks.Extend (Whole 4))))
+
+-- with every format, target and file it can be asked for the first least state, with what the keys
+-- after them choose
+abbrev pub EachSolutionIsAskedFor : Type 0
+EachSolutionIsAskedFor = (format : Format) (word : TargetWord) (file : List ℕ) (keys : List (List ℕ))
+    → command_of (solve_words format word file keys)
+    ≡ (keys_from word no_keys 4 keys
+    >>= λ given. chosen_target (solve_words format word file keys) word given
+    >>= λ target. Ok (on_fourth_word format target given asks.Solve))
 
 -- every sample can be asked for, with any words for its numbers, and with what the keys after them
 -- choose
@@ -262,6 +275,10 @@ pub record IsRefusedAfterAll (given : Keys) : Type 0 where
       → keys_from Chimera no_keys 5 keys ≡ Ok given
       → command_of (extend_words format Chimera file assignment keys)
       ≡ Err (length (extend_words format Chimera file assignment keys) + 1)
+  pub solution : (format : Format) (file : List ℕ) (keys : List (List ℕ))
+      → keys_from Chimera no_keys 4 keys ≡ Ok given
+      → command_of (solve_words format Chimera file keys)
+      ≡ Err (length (solve_words format Chimera file keys) + 1)
   pub sample : (number clauses : ℕ) (first second : List ℕ) (keys : List (List ℕ))
       → digits_number first ≡ Some number → clauses_of second ≡ Some clauses
       → keys_from Chimera no_keys 4 keys ≡ Ok given
@@ -295,6 +312,8 @@ pub record SaySample (words : List (List ℕ)) (number clauses : ℕ) (target : 
 abbrev pub SayOf : List (List ℕ) → Origin → Ask → TargetWord → List (List ℕ) → Type 0
 SayOf words (File format at) asks.Model target keys =
     words ≡ compile_words format target (text_at words at) keys
+SayOf words (File format at) asks.Solve target keys =
+    words ≡ solve_words format target (text_at words at) keys
 SayOf words (File format at) (asks.Decode state) target keys =
     words ≡ decode_words format target (text_at words at) (text_at words state) keys
 SayOf words (File format at) (asks.Extend assignment) target keys =

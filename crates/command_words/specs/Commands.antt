@@ -15,7 +15,7 @@ use Rattle.command_words.specs.declared.commands.WordAt.TheVariants.{Whole}
 use Rattle.command_words.specs.declared.commands.Origin.{Origin}
 use Rattle.command_words.specs.declared.commands.Origin.TheVariants.{File, Drawn}
 use Rattle.command_words.specs.declared.commands.Ask.{Ask}
-use Rattle.command_words.specs.declared.commands.Ask.TheVariants.{Model, Summary, Decode, Extend}
+use Rattle.command_words.specs.declared.commands.Ask.TheVariants.{Model, Summary, Solve, Decode, Extend}
 use Rattle.command_words.specs.declared.commands.Command.{Command}
 use Rattle.command_words.specs.declared.words.Job.{Job}
 use Rattle.command_words.specs.declared.words.Sample.{Sample}
@@ -112,7 +112,9 @@ verb_of word =
     then Some verbs.Decode
     else if bytes_eq word (codes "extend")
     then Some verbs.Extend
-    else if bytes_eq word (codes "sample") then Some verbs.Sample else None
+    else if bytes_eq word (codes "sample")
+    then Some verbs.Sample
+    else if bytes_eq word (codes "solve") then Some verbs.Solve else None
 
 -- what is asked of a source in a file
 abbrev pub on_file : Job → Ask → Command
@@ -150,6 +152,9 @@ after_verb verbs.Extend words = do
 after_verb verbs.Sample words = do
   sample ← sample_of words
   Ok (drawn sample)
+after_verb verbs.Solve words = do
+  job ← job_of words 4
+  Ok (on_file job Solve)
 
 -- all words of a command
 abbrev pub command_of : List (List ℕ) → Result Command ℕ

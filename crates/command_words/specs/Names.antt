@@ -11,7 +11,7 @@ use Rattle.command_words.specs.declared.commands.Chaining.TheVariants as chainin
 use Rattle.command_words.specs.declared.commands.Origin.{Origin}
 use Rattle.command_words.specs.declared.commands.Origin.TheVariants.{File, Drawn}
 use Rattle.command_words.specs.declared.commands.Ask.{Ask}
-use Rattle.command_words.specs.declared.commands.Ask.TheVariants.{Model, Summary, Decode, Extend}
+use Rattle.command_words.specs.declared.commands.Ask.TheVariants.{Model, Summary, Solve, Decode, Extend}
 use Rattle.command_words.specs.declared.commands.Command.{Command}
 use Rattle.command_words.specs.declared.names.Which.{Which}
 use Rattle.command_words.specs.declared.names.Which.TheVariants.{Source, Map, State}
@@ -45,6 +45,7 @@ map_of (targets.Chimera board) = map_in board.chains
 abbrev pub state_of : Ask → Option WordAt
 state_of Model = None
 state_of Summary = None
+state_of Solve = None
 state_of (Decode state) = Some state
 state_of (Extend assignment) = Some assignment
 

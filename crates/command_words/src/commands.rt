@@ -72,6 +72,8 @@ pub enum Ask {
     Model,
     /// Its summary.
     Summary,
+    /// Its first least state, and what that tells of the source.
+    Solve,
     /// The assignment of the source that a state of it, in the file of this name, stands for.
     Decode(WordAt),
     /// The state of it that an assignment of the source, in the file of this name, extends to.

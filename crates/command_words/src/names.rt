@@ -68,7 +68,7 @@ fn state_of(ask: Ask) -> Option<WordAt>
 {
     match ask {
         Ask::Decode(at) | Ask::Extend(at) => Some(at),
-        Ask::Model | Ask::Summary => None,
+        Ask::Model | Ask::Summary | Ask::Solve => None,
     }
 }
 

@@ -39,6 +39,7 @@ pub enum Verb {
     Decode,
     Extend,
     Sample,
+    Solve,
 }
 
 fn verb_of(word: &str) -> Option<Verb>
@@ -49,6 +50,7 @@ fn verb_of(word: &str) -> Option<Verb>
         "decode" => Some(Verb::Decode),
         "extend" => Some(Verb::Extend),
         "sample" => Some(Verb::Sample),
+        "solve" => Some(Verb::Solve),
         _ => None,
     }
 }
@@ -251,5 +253,6 @@ pub fn command(words: &[String]) -> Result<Command, usize>
             Ok(on_file(job, Ask::Extend(named(words, 4)?)))
         }
         Verb::Sample => Ok(drawn(read_sample(words)?)),
+        Verb::Solve => Ok(on_file(read_job(words, 4)?, Ask::Solve)),
     }
 }

@@ -5,16 +5,17 @@ use Rattle.edge_io.specs.Held.{NamedFiles}
 use Rattle.base.specs.declared.unit.UnitChoice.{UnitChoice}
 use Rattle.base.specs.Costs.{Form, Source, energy}
 use Rattle.bits_model.specs.Output.{Written, IsWellFormed, form_of, decoding_of}
-use Rattle.faithful.specs.Faithful.{HasChains}
+use Rattle.faithful.specs.Faithful.{Demand, Faithful, HasChains}
+use Rattle.basic_solve.proofs.Told.{least_states_tell}
 use Rattle.problem_form.specs.Problems as problems
 use Rattle.model_text.specs.Rows.{FitsFields, model_text}
 use Rattle.model_text.specs.Told.{IsTextOf}
 use Rattle.model_text.proofs.ModelRows.{texts_tell_models}
-use Rattle.answer_text.specs.Answers.{decoding_text, extension_text}
+use Rattle.answer_text.specs.Answers.{decoding_text, extension_text, solution_text}
 use Rattle.command_words.specs.declared.commands.NodeModel.{NodeModel}
 use Rattle.command_words.specs.declared.commands.NodeModel.TheVariants.{Qubo, Ising}
 use Rattle.command_words.specs.declared.commands.Ask.{Ask}
-use Rattle.command_words.specs.declared.commands.Ask.TheVariants.{Model, Summary, Decode, Extend}
+use Rattle.command_words.specs.declared.commands.Ask.TheVariants.{Model, Summary, Solve, Decode, Extend}
 use Rattle.command_words.specs.declared.commands.Command.{Command}
 use Rattle.source_texts.specs.Sources.{CostsAs, StandsFor, names_of, read_names}
 use Rattle.source_texts.proofs.Standing.{problem_stands, problem_costs}
@@ -122,7 +123,8 @@ extends_alike f g m x y same extends = record {
 }
 
 module _ (plan : Plan) (s : Source) (m : Written) (names : Option (List (List ℕ)))
-    (made : Stands plan m) (costs : CostsAs s plan.read) (named : names ≡ plan.read.names) where
+    (made : Stands plan m) (costs : CostsAs s plan.read) (named : names ≡ plan.read.names)
+    (demand : Demand) (faithful : Faithful s demand m) where
   asked_of : (ask : Ask) (bits : List Bool) (text : List ℕ)
       → IsTold ask plan.read plan.choices m bits text
       → IsAskedOf ask s names plan m bits text
@@ -130,6 +132,20 @@ module _ (plan : Plan) (s : Source) (m : Written) (names : Option (List (List �
       subst (λ t. IsTextOf m t) (sym told)
       (text_is_its m (formed_on plan.base plan m made) (fits_on plan.base plan m made))
   asked_of Summary bits text told = told
+  asked_of Solve bits text told =
+      let x = (decoding_of m).decoded told.state in
+      let value = energy (form_of m) told.state in
+      let tells = least_states_tell s demand m told.state faithful told.first.least in
+      record {
+        state = told.state;
+        first = told.first;
+        optimum = tells.0;
+        infeasible = tells.1;
+        said = told.said
+            ∙ ap (λ (n : Option (List (List ℕ))). solution_text told.state value x n
+            ((problems.form_of plan.read.problem).cost x)) (sym named)
+            ∙ ap (λ c. solution_text told.state value x names c) (costs.same x);
+      }
   asked_of (Decode at) bits text told =
       let x = (decoding_of m).decoded bits in
       let spent = (problems.form_of plan.read.problem).cost x in
@@ -160,6 +176,7 @@ made_answers words held command plan text e made =
     let m = made.model in
     let costs = problem_costs format taken.text plan.read s.0 taken.read s.1 in
     let named : names_of format taken.text ≡ plan.read.names = ap read_names taken.read in
+    let stands = stands_on plan.base plan s.0 m s.2 made.made.stands in
     record {
       source = s.0;
       from = record { text = taken.text; found = taken.found; says = s.1 };
@@ -167,11 +184,11 @@ made_answers words held command plan text e made =
       planned = e;
       model = m;
       by = made.made.by;
-      stands = subst (λ u. IsModelFor plan.base u (nodes_in plan) s.0 m) planned.unit
-          (stands_on plan.base plan s.0 m s.2 made.made.stands);
+      stands = subst (λ u. IsModelFor plan.base u (nodes_in plan) s.0 m) planned.unit stands;
       few = has_few_nodes plan m made.made.can_stand made.made.by made.made.stands;
       bits = made.bits;
       last = made.read;
       said = asked_of plan s.0 m (names_of format taken.text) made.made.stands costs named
-          command.ask made.bits text made.told;
+          (demand_of plan.unit plan.base (nodes_in plan)) stands.faithful command.ask made.bits text
+          made.told;
     }

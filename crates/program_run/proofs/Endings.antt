@@ -7,12 +7,12 @@ use Rattle.edge_io.specs.Held.{NamedFiles}
 use Rattle.command_words.specs.declared.names.Which.{Which}
 use Rattle.command_words.specs.declared.commands.WordAt.{WordAt}
 use Rattle.command_words.specs.declared.commands.Ask.{Ask}
-use Rattle.command_words.specs.declared.commands.Ask.TheVariants.{Model, Summary, Decode, Extend}
+use Rattle.command_words.specs.declared.commands.Ask.TheVariants.{Model, Summary, Solve, Decode, Extend}
 use Rattle.command_words.specs.declared.commands.Command.{Command}
 use Rattle.command_words.specs.Names.{state_of, text_at}
 use Rattle.program_run.specs.declared.plans.Plan.{Plan}
 use Rattle.program_run.specs.declared.status.Status.{Status}
-use Rattle.program_run.specs.declared.status.Status.TheVariants.{Done, Usage, ReadFault, WriteFault, BadText, Limit, NotEmbedded, NoState, NoMemory}
+use Rattle.program_run.specs.declared.status.Status.TheVariants.{Done, Usage, ReadFault, WriteFault, BadText, Limit, NotEmbedded, TooWide, NoState, NoMemory}
 use Rattle.program_run.specs.Statuses.{IsRefusal, IsDoneOrWant}
 use Rattle.program_run.specs.Outcome.{Steps, OfModel, IsEndOf, IsEnd, Ends, Refuses, planning, last_step, stating, IsOutcomeOf, MeetsOutcomeOf}
 use Rattle.program_run.specs.Made.{IsModelled, EndsOf, asked_width}
@@ -34,6 +34,7 @@ unembedded_ends (ReadFault which) plan last is = absurd is
 unembedded_ends (BadText which kind line) plan last is = absurd is
 unembedded_ends (Limit which kind number) plan last is = absurd is
 unembedded_ends (NoState width) plan last is = absurd is
+unembedded_ends (TooWide node width) plan last is = absurd is
 
 -- a status of the taking or reading of a file
 abbrev pub IsReading : Status → Type 0
@@ -52,6 +53,7 @@ refused_reading name files Done a b at = absurd at
 refused_reading name files WriteFault a b at = absurd at
 refused_reading name files (Usage position) a b at = absurd at
 refused_reading name files (NotEmbedded fault) a b at = absurd at
+refused_reading name files (TooWide node width) a b at = absurd at
 
 -- the last step of a command on a state or an assignment
 pub last_is_state : (words : List (List ℕ)) (held : NamedFiles) (ask : Ask) (at : WordAt)
@@ -60,6 +62,7 @@ pub last_is_state : (words : List (List ℕ)) (held : NamedFiles) (ask : Ask) (a
     ≡ stating held (text_at words at) (asked_width ask plan.read.variables m)
 last_is_state words held Model at plan m is = absurd cc
 last_is_state words held Summary at plan m is = absurd cc
+last_is_state words held Solve at plan m is = absurd cc
 last_is_state words held (Decode other) at plan m is =
     let same : other ≡ at = cc in ap (λ a. stating held (text_at words a) m.nodes) same
 last_is_state words held (Extend other) at plan m is =
@@ -80,6 +83,8 @@ last_refuses (BadText which kind line) plan last m made refusal is =
 last_refuses (Limit which kind number) plan last m made refusal is =
     (made.can_stand, (m, made.by, is))
 last_refuses (NoState width) plan last m made refusal is = (made.can_stand, (m, made.by, is))
+last_refuses (TooWide node width) plan last m made refusal is =
+    (made.can_stand, (m, made.by, is))
 
 -- all is done
 pub last_gives : (plan : Plan) (last : Written → Steps (List Bool)) (m : Written)
@@ -101,6 +106,7 @@ plan_refuses (NotEmbedded fault) plans last refusal is = rw is refl
 plan_refuses (BadText which kind line) plans last refusal is = rw is refl
 plan_refuses (Limit which kind number) plans last refusal is = rw is refl
 plan_refuses (NoState width) plans last refusal is = rw is refl
+plan_refuses (TooWide node width) plans last refusal is = rw is refl
 
 -- the plan stands, and its end is that of all
 pub plan_ends : (status : Status) (plans : Steps Plan) (last : Plan → Written → Steps (List Bool))
@@ -115,6 +121,7 @@ plan_ends (NotEmbedded fault) plans last plan e is = rw e is
 plan_ends (BadText which kind line) plans last plan e is = rw e is
 plan_ends (Limit which kind number) plans last plan e is = rw e is
 plan_ends (NoState width) plans last plan e is = rw e is
+plan_ends (TooWide node width) plans last plan e is = rw e is
 
 -- ---- there is one end
 
@@ -150,6 +157,8 @@ plan_done plan last (Limit which kind number) done is =
     absurd (gives_or_refuses plan last (Limit which kind number) done is)
 plan_done plan last (NoState width) done is =
     absurd (gives_or_refuses plan last (NoState width) done is)
+plan_done plan last (TooWide node width) done is =
+    absurd (gives_or_refuses plan last (TooWide node width) done is)
 
 -- where all is done, there is no other end
 pub one_end : (end : Option (Result Plan Status)) (last : Plan → Written → Steps (List Bool))
@@ -177,6 +186,8 @@ done_is_met plans last (Limit which kind number) done is read write =
     let same = one_end plans.end last (Limit which kind number) done is in absurd cc
 done_is_met plans last (NoState width) done is read write =
     let same = one_end plans.end last (NoState width) done is in absurd cc
+done_is_met plans last (TooWide node width) done is read write =
+    let same = one_end plans.end last (TooWide node width) done is in absurd cc
 
 rose_since : (a b n : ℕ) → a ≤ b → Rose b n → Rose a n
 rose_since a b n le rose = omega (arith, le, rose)

@@ -8,6 +8,7 @@ pub mod Placed
 pub mod Planned
 pub mod OneModel
 pub mod Endings
+pub mod Solving
 pub mod Embedded
 pub mod MadeModels
 pub mod StateBits

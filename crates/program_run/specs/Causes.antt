@@ -11,7 +11,7 @@ use Rattle.command_words.specs.declared.names.Which.TheVariants.{State}
 use Rattle.command_words.specs.declared.commands.Command.{Command}
 use Rattle.command_words.specs.Names.{name_of, model_files, last_files}
 use Rattle.program_run.specs.declared.status.Status.{Status}
-use Rattle.program_run.specs.declared.status.Status.TheVariants.{Done, Usage, ReadFault, WriteFault, BadText, Limit, NotEmbedded, NoState, NoMemory}
+use Rattle.program_run.specs.declared.status.Status.TheVariants.{Done, Usage, ReadFault, WriteFault, BadText, Limit, NotEmbedded, TooWide, NoState, NoMemory}
 
 -- ---- one file
 
@@ -86,6 +86,7 @@ abbrev pub AreFilesOf : (Which → List ℕ) → List Which → List Which → S
 AreFilesOf name made last Done old new = AreRead name (made ++ last) old new
 AreFilesOf name made last WriteFault old new = AreRead name (made ++ last) old new
 AreFilesOf name made last (NotEmbedded fault) old new = AreRead name made old new
+AreFilesOf name made last (TooWide node width) old new = AreRead name made old new
 AreFilesOf name made last (Usage position) old new = ⊤
 AreFilesOf name made last status old new = AreRefused name (made ++ last) status old new
 

@@ -17,7 +17,7 @@ use Rattle.command_words.specs.declared.commands.Command.{Command}
 use Rattle.command_words.specs.Commands.{command_of}
 use Rattle.command_words.specs.Names.{name_of}
 use Rattle.program_run.specs.declared.status.Status.{Status}
-use Rattle.program_run.specs.declared.status.Status.TheVariants.{Done, Usage, ReadFault, WriteFault, BadText, Limit, NotEmbedded, NoState, NoMemory}
+use Rattle.program_run.specs.declared.status.Status.TheVariants.{Done, Usage, ReadFault, WriteFault, BadText, Limit, NotEmbedded, TooWide, NoState, NoMemory}
 
 -- the file that a status speaks of
 abbrev pub file_in : Status → Which
@@ -81,6 +81,9 @@ error_pieces (Limit which kind number) name =
 error_pieces (NotEmbedded fault) name = codes "not embedded: " ∷ fault_pieces fault
 error_pieces (NoState length) name =
     name ∷ codes ": no state of " ∷ decimal length ∷ codes " characters\n" ∷ []
+error_pieces (TooWide node width) name =
+    codes "too wide: node " ∷ decimal node ∷ codes " has " ∷ decimal width
+    ∷ codes " neighbours\n" ∷ []
 error_pieces NoMemory name = codes "out of memory\n" ∷ []
 
 -- the line as a whole

@@ -7,10 +7,11 @@ use Rattle.problem_form.specs.Problems.{ProblemContent}
 use Rattle.problem_form.specs.Problems as problems
 use Rattle.model_text.specs.Rows.{model_text}
 use Rattle.model_text.specs.Summary.{summary_text}
-use Rattle.answer_text.specs.Answers.{decoding_text, extension_text}
+use Rattle.answer_text.specs.Answers.{decoding_text, extension_text, solution_text}
+use Rattle.basic_solve.specs.FirstLeast.{IsFirstLeast}
 use Rattle.model_pipeline.specs.Extensions.{extension_of, state_on, Extends}
 use Rattle.command_words.specs.declared.commands.Ask.{Ask}
-use Rattle.command_words.specs.declared.commands.Ask.TheVariants.{Model, Summary, Decode, Extend}
+use Rattle.command_words.specs.declared.commands.Ask.TheVariants.{Model, Summary, Solve, Decode, Extend}
 use Rattle.source_texts.specs.declared.reading.Read.{Read}
 use Rattle.program_run.specs.declared.plans.Plan.{Plan}
 use Rattle.program_run.specs.declared.status.Status.{Status}
@@ -34,10 +35,20 @@ pub record IsExtendedBy (choices : Choices) (problem : ProblemContent) (m : Writ
   pub said : text
       ≡ extension_text state ((problems.form_of problem).cost x) (energy (form_of m) state)
 
+-- the text is the first least state of the model, its energy, and what it decodes to with what that
+-- costs the problem
+pub record IsSolvedBy (read : Read) (m : Written) (text : List ℕ) : Type 0 where
+  pub state : List Bool
+  pub first : IsFirstLeast (form_of m) state
+  pub said : text ≡ solution_text state (energy (form_of m) state)
+      ((decoding_of m).decoded state) read.names
+      ((problems.form_of read.problem).cost ((decoding_of m).decoded state))
+
 -- the text is what is asked of the model
 abbrev pub IsTold : Ask → Read → Choices → Written → List Bool → List ℕ → Type 0
 IsTold Model read choices m bits text = text ≡ model_text m
 IsTold Summary read choices m bits text = text ≡ summary_text m
+IsTold Solve read choices m bits text = IsSolvedBy read m text
 IsTold (Decode at) read choices m bits text =
     text ≡ decoding_text ((decoding_of m).decoded bits) read.names
     ((problems.form_of read.problem).cost ((decoding_of m).decoded bits)) (energy (form_of m) bits)

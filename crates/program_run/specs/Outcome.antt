@@ -1,5 +1,5 @@
 -- The outcome of a run: a line a step, and the first step that refuses ends it.
-use Rattle.std.specs.Prelude.{◌≡◌, ◌⊎◌, ℕ, ◌+◌, Bool, List, [], ◌∷◌, ◌++◌, length, nat_lt, if◌then◌else◌, Ok, Err, Some, None, Result, Contains, ⊤}
+use Rattle.std.specs.Prelude.{◌≡◌, ◌⊎◌, ℕ, zero, suc, ◌+◌, Bool, List, [], ◌∷◌, ◌++◌, length, nat_lt, if◌then◌else◌, Ok, Err, Some, None, Result, Contains, ⊤}
 use Rattle.std.specs.declared.option.Option.{Option}
 use Rattle.std.specs.Option.{option_map_or}
 use Rattle.edge_io.specs.Held.{NamedFiles, find_file}
@@ -19,7 +19,7 @@ use Rattle.command_words.specs.declared.commands.Chaining.TheVariants as chainin
 use Rattle.command_words.specs.declared.commands.Target.{Target}
 use Rattle.command_words.specs.declared.commands.Target.TheVariants as targets
 use Rattle.command_words.specs.declared.commands.Ask.{Ask}
-use Rattle.command_words.specs.declared.commands.Ask.TheVariants.{Model, Summary, Decode, Extend}
+use Rattle.command_words.specs.declared.commands.Ask.TheVariants.{Model, Summary, Solve, Decode, Extend}
 use Rattle.command_words.specs.declared.commands.Command.{Command}
 use Rattle.command_words.specs.Commands.{command_of}
 use Rattle.command_words.specs.Names.{text_at}
@@ -28,6 +28,7 @@ use Rattle.chain_map.specs.Maps as maps
 use Rattle.source_texts.specs.declared.reading.Read.{Read}
 use Rattle.source_texts.specs.Sources.{problem_of}
 use Rattle.state_file.specs.States.{state_of}
+use Rattle.basic_solve.specs.Widths.{width}
 use Rattle.program_run.specs.Statuses.{IsDoneOrWant}
 use Rattle.program_run.specs.declared.placements.Perch.{Perch}
 use Rattle.program_run.specs.declared.placements.Perch.TheVariants as perches
@@ -36,7 +37,7 @@ use Rattle.program_run.specs.declared.placements.Placement.TheVariants as placem
 use Rattle.program_run.specs.declared.plans.Plan.{Plan}
 use Rattle.program_run.specs.Plans.{plan_of, CanStand, IsModelBy, IsFaultIn}
 use Rattle.program_run.specs.declared.status.Status.{Status}
-use Rattle.program_run.specs.declared.status.Status.TheVariants.{Done, Usage, ReadFault, WriteFault, BadText, Limit, NotEmbedded, NoState, NoMemory}
+use Rattle.program_run.specs.declared.status.Status.TheVariants.{Done, Usage, ReadFault, WriteFault, BadText, Limit, NotEmbedded, TooWide, NoState, NoMemory}
 
 -- ---- steps
 
@@ -149,10 +150,22 @@ stating held name width = do
   bytes ← taking held State name
   ends (state_end width (state_of width bytes))
 
--- what is read once the model stands: a state of it, an assignment of the source, or nothing
+-- the first node to be eliminated that is too wide, of the nodes below this one, with its width
+abbrev pub wide_below : Written → ℕ → Option (ℕ × ℕ)
+wide_below m zero = None
+wide_below m (suc v) = if nat_lt 16 (width m v) then Some (v, width m v) else wide_below m v
+
+-- no node is too wide, or the first one that is
+abbrev pub width_end : Option (ℕ × ℕ) → Result (List Bool) Status
+width_end None = Ok []
+width_end (Some node) = Err (TooWide node.0 node.1)
+
+-- what is read once the model stands: a state of it, an assignment of the source, or nothing; a
+-- model to be solved may be too wide
 abbrev pub last_step : List (List ℕ) → NamedFiles → Ask → Plan → Written → Steps (List Bool)
 last_step words held Model plan m = gives []
 last_step words held Summary plan m = gives []
+last_step words held Solve plan m = ends (width_end (wide_below m m.nodes))
 last_step words held (Decode at) plan m = stating held (text_at words at) m.nodes
 last_step words held (Extend at) plan m = stating held (text_at words at) plan.read.variables
 

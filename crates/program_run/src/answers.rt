@@ -9,7 +9,7 @@ ghost use Rattle.program_run.specs.Statuses.{ended, IsRefusal};
 ghost use Rattle.program_run.specs.Answers.{text_of, IsAnswer};
 ghost use Rattle.program_run.specs.Causes.{AreFiles, AreFilesOf, WhereHeld};
 
-use crate::made::{answer_state, model_given};
+use crate::made::{answer_solved, answer_state, model_given};
 use crate::plans::{Plan, take_plan};
 use crate::status::Status;
 use bits_model::OutputModel;
@@ -54,6 +54,10 @@ fn answer_by<F: Files>(
                 Ok(text) => Ok(Answer::Text(text)),
                 Err(_) => Err(Status::NoMemory),
             },
+            Err(status) => Err(status),
+        },
+        Ask::Solve => match answer_solved(alloc, &plan) {
+            Ok(text) => Ok(Answer::Text(text)),
             Err(status) => Err(status),
         },
         Ask::Decode(at) | Ask::Extend(at) => {

@@ -13,7 +13,7 @@ use source_texts::Read;
 use std::alloc::Global;
 
 /// The assignment that a state of a model decodes to.
-fn decoded(alloc: Global, model: &OutputModel, state: &[bool]) -> Result<Vec<bool>, NoMemory>
+pub fn decoded(alloc: Global, model: &OutputModel, state: &[bool]) -> Result<Vec<bool>, NoMemory>
     requires { length state.now ≡ model.now.nodes }
     ensures exact { IfOk result (λ x. x.items ≡ (decoding_of model.now).decoded state.now) }
     ensures width { IfOk result (λ x. length x.items ≡ model.now.variables) }

@@ -125,6 +125,27 @@ fn say_fault<E: Sink>(fault: EmbedFault, err: &mut E)
     }
 }
 
+/// Writes the line for a model that is too wide, or a front of it where the sink fails.
+fn say_wide<E: Sink>(node: u32, width: u32, err: &mut E)
+    ensures { IsSaid (E.bytes err.old) (E.bytes err.new) (E.faults err.old) (E.faults err.new)
+        (concat (codes "too wide: node " ∷ decimal node ∷ codes " has " ∷ decimal width
+        ∷ codes " neighbours\n" ∷ [])) }
+{
+    let mut digits = Buffer::new();
+    let mut others = Buffer::new();
+    let node = digits.format(node).as_bytes();
+    let width = others.format(width).as_bytes();
+    put_six(
+        err,
+        b"too wide: ",
+        b"node ",
+        node,
+        b" has ",
+        width,
+        b" neighbours\n",
+    );
+}
+
 /// Writes the line for a status, of the file's name, or a front of it where the sink fails.
 pub fn say<E: Sink>(status: Status, name: &str, err: &mut E)
     ensures said { IsSaid (E.bytes err.old) (E.bytes err.new) (E.faults err.old) (E.faults err.new)
@@ -154,6 +175,7 @@ pub fn say<E: Sink>(status: Status, name: &str, err: &mut E)
             let length = digits.format(length).as_bytes();
             put(err, name, b": no state of ", length, b" characters\n");
         }
+        Status::TooWide(node, width) => say_wide(node, width, err),
         Status::NoMemory => put(err, b"out of memory\n", b"", b"", b""),
     }
 }

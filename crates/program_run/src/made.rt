@@ -1,25 +1,30 @@
 //! The answer of a command from the plan of its model: the model alone, or a state of it.
 ghost use Rattle.std.specs.Prelude.{◌≡◌, [], None, Some, map, string_bytes, length, IfOk, IfErr};
 ghost use Rattle.problem_form.specs.Limits.{limit_fault};
+ghost use Rattle.bits_model.specs.Output.{form_of};
+ghost use Rattle.basic_solve.specs.FirstLeast.{IsFirstLeast};
 ghost use Rattle.command_words.specs.Names.{name_of, last_files, state_of};
 ghost use Rattle.model_pipeline.specs.Extensions.{IsMadeOf};
 ghost use Rattle.program_run.specs.Plans.{plan_of};
-ghost use Rattle.program_run.specs.Outcome.{last_step};
-ghost use Rattle.program_run.specs.Made.{asked_width, EndsOf, IsMadeText, IsModelled, IsTold};
-ghost use Rattle.program_run.specs.Unembedded.{IsUnembedded};
-ghost use Rattle.program_run.specs.Statuses.{ended, IsRefusal};
+ghost use Rattle.program_run.specs.Outcome.{ends, last_step, wide_below, width_end};
+ghost use Rattle.program_run.specs.Made.{asked_width, EndsOf, IsMadeText, IsModelled, IsSolvedBy, IsTold};
+ghost use Rattle.program_run.specs.Unembedded.{IsUnembedded, unsolved};
+ghost use Rattle.program_run.specs.Statuses.{ended, IsRefusal, IsUnsolved};
 ghost use Rattle.program_run.specs.Causes.{AreFilesOf, WhereHeld};
 
-use crate::decode::decoded_text;
+use crate::decode::{decoded, decoded_text};
 use crate::extend::extended_text;
 use crate::models::model_on;
 use crate::plans::Plan;
 use crate::states::take_state;
 use crate::status::Status;
-use base::NoMemory;
+use answer_text::written_solution;
+use base::{Costed, NoMemory};
+use basic_solve::{SolveAnswer, solve};
 use bits_model::OutputModel;
 use command_words::{Ask, Command, WordAt};
 use edge_io::Files;
+use model_pipeline::energy_of;
 use problem_form::Choices;
 use source_texts::Read;
 use std::alloc::Global;
@@ -90,7 +95,59 @@ fn told(
     match ask {
         Ask::Decode(_) => decoded_text(alloc, read, model, bits),
         Ask::Extend(_) => extended_text(alloc, &read.problem, choices, model, bits),
-        Ask::Model | Ask::Summary => unreachable!(),
+        Ask::Model | Ask::Summary | Ask::Solve => unreachable!(),
+    }
+}
+
+/// What is written for the first least state of a model.
+fn solved_text(
+    alloc: Global,
+    read: &Read,
+    model: &OutputModel,
+    state: &[bool],
+) -> Result<Vec<u8>, NoMemory>
+    requires state { IsFirstLeast (form_of model.now) state.now }
+    requires width { length state.now ≡ model.now.nodes }
+    requires variables { model.now.variables ≡ read.now.variables }
+    requires own { read.now.variables ≡ read.now.problem.variables }
+    ensures { IfOk result (λ text. IsSolvedBy read.now model.now text.items) }
+{
+    let x = decoded(alloc, model, state)?;
+    let cost = read.problem.cost(&x);
+    let energy = energy_of(model.kind, state, &model.entries);
+    written_solution(alloc, state, energy, &x, &read.names, cost)
+}
+
+/// The status where a model isn't solved.
+fn unsolved(answer: SolveAnswer) -> Status
+    ensures { result ≡ unsolved answer }
+{
+    match answer {
+        SolveAnswer::TooWide(node, width) => Status::TooWide(node, width),
+        SolveAnswer::NoMemory => Status::NoMemory,
+    }
+}
+
+/// Solves the model of a plan, and says what its first least state tells.
+pub fn answer_solved(alloc: Global, plan: &Plan) -> Result<Vec<u8>, Status>
+    requires within { limit_fault plan.now.choices.normal plan.now.read.problem ≡ None }
+    requires own { plan.now.read.variables ≡ plan.now.read.problem.variables }
+    ensures step { EndsOf (ended result) plan.now (λ m. ends (width_end (wide_below m m.nodes))) }
+    ensures answer { IfOk result (λ text. IsMadeText Ask.Solve plan.now
+        (λ m. ends (width_end (wide_below m m.nodes))) text.items) }
+    ensures refusal { IfErr result IsUnsolved }
+{
+    let model = match model_lent(alloc, plan) {
+        Ok(model) => model,
+        Err(status) => return Err(status),
+    };
+    let state = match solve(alloc, &model) {
+        Ok(state) => state,
+        Err(answer) => return Err(unsolved(answer)),
+    };
+    match solved_text(alloc, &plan.read, &model, &state) {
+        Ok(text) => Ok(text),
+        Err(_) => Err(Status::NoMemory),
     }
 }
 

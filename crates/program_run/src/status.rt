@@ -17,6 +17,7 @@ pub enum Status {
     Limit(Which, LimitKind, u128),
     NotEmbedded(EmbedFault),
     NoState(usize),
+    TooWide(u32, u32),
     NoMemory,
 }
 
@@ -37,6 +38,7 @@ impl Status {
             Status::NotEmbedded(_) => 7,
             Status::NoState(_) => 8,
             Status::NoMemory => 9,
+            Status::TooWide(..) => 11,
         }
     }
 }

@@ -59,6 +59,8 @@ fn compile_in(format: Format, target: Target, normal: Normal, unit: UnitChoice) 
 const POSITIONS: &[(&[&str], Result<Ask, usize>)] = &[
     (&["compile", "wcnf", "qubo", "FILE"], Ok(Ask::Model)),
     (&["compile", "wcnf", "qubo", "compile"], Ok(Ask::Model)),
+    (&["solve", "wcnf", "qubo", "FILE"], Ok(Ask::Solve)),
+    (&["solve", "wcnf", "qubo", "FILE", "STATE"], Err(5)),
     (
         &["decode", "wcnf", "qubo", "FILE", "STATE"],
         Ok(Ask::Decode(WordAt::Whole(4))),
@@ -79,7 +81,7 @@ const POSITIONS: &[(&[&str], Result<Ask, usize>)] = &[
     (&["compile", "wcnf"], Err(3)),
     (&["compile", "wcnf", "qubo"], Err(4)),
     // a wrong word
-    (&["solve", "wcnf", "qubo", "FILE"], Err(1)),
+    (&["solved", "wcnf", "qubo", "FILE"], Err(1)),
     (&["Compile", "wcnf", "qubo", "FILE"], Err(1)),
     (&["compile", "cnf", "qubo", "FILE"], Err(2)),
     (&["compile", "wcnf", "qub", "FILE"], Err(3)),

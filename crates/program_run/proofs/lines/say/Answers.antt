@@ -15,3 +15,6 @@ returns-in-WriteFault-clause-said g c = rw c.in-WriteFault.is c.put-in-WriteFaul
 
 pub returns-in-NoMemory-clause-said : goal.returns-in-NoMemory-clause-said
 returns-in-NoMemory-clause-said g c = rw c.in-NoMemory.is c.put-in-NoMemory.ensures
+
+pub returns-in-TooWide-clause-said : goal.returns-in-TooWide-clause-said
+returns-in-TooWide-clause-said g c = rw c.in-TooWide.is c.say_wide.ensures

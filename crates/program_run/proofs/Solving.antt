@@ -1,0 +1,62 @@
+-- A model that is solved, or too wide.
+use Rattle.std.proofs.Common.{◌≡◌, ◌<◌, ◌≤◌, ℕ, zero, suc, Bool, true, false, [], Ok, Err, Some, None, refl, ap, subst, arith}
+use Rattle.std.specs.Prelude.{nat_lt}
+use Rattle.std.proofs.lemmas.Bool.{lt-ltb, le-ltb}
+use Rattle.bits_model.specs.Output.{Written}
+use Rattle.basic_solve.specs.Widths.{width, IsWithinWidth, IsFirstWider}
+use Rattle.program_run.specs.declared.status.Status.TheVariants.{TooWide}
+use Rattle.basic_solve.specs.declared.answer.SolveAnswer.{SolveAnswer}
+use Rattle.basic_solve.specs.declared.answer.SolveAnswer.TheVariants as solving
+use Rattle.program_run.specs.declared.plans.Plan.{Plan}
+use Rattle.program_run.specs.Statuses.{IsUnsolved}
+use Rattle.program_run.specs.Made.{IsModelled, EndsOf}
+use Rattle.program_run.specs.Unembedded.{unsolved}
+use Rattle.program_run.specs.Outcome.{ends, wide_below, width_end}
+
+-- no node below this one is too wide
+narrow_below : (m : Written) (n : ℕ) → ((v : ℕ) → v < n → width m v ≤ 16)
+    → wide_below m n ≡ None
+narrow_below m zero narrow = refl
+narrow_below m (suc v) narrow =
+    rw (le-ltb 16 (width m v) (narrow v (omega arith)))
+    (narrow_below m v (λ u less. narrow u (omega (arith, less))))
+
+-- the nodes from one on are not too wide, but for that one
+wider_step : (m : Written) (v w n : ℕ) (b : Bool) → nat_lt v n ≡ b → v < suc n → width m v ≡ w
+    → 16 < w → ((u : ℕ) → v < u → u < suc n → width m u ≤ 16)
+    → (v < n → wide_below m n ≡ Some (v, w)) → wide_below m (suc n) ≡ Some (v, w)
+wider_step m v w n true e less has wide first rest =
+    let below : v < n = grind (arith, e) in
+    rw (le-ltb 16 (width m n) (first n below (omega arith))) (rest below)
+wider_step m v w n false e less has wide first rest =
+    let same : v ≡ n = grind (arith, e, less) in
+    subst (λ k. wide_below m (suc k) ≡ Some (v, w)) same
+    (rw (has, lt-ltb 16 w wide) refl)
+
+wider_below : (m : Written) (v w n : ℕ) → v < n → width m v ≡ w → 16 < w
+    → ((u : ℕ) → v < u → u < n → width m u ≤ 16) → wide_below m n ≡ Some (v, w)
+wider_below m v w zero less has wide first = absurd (omega (arith, less))
+wider_below m v w (suc n) less has wide first =
+    wider_step m v w n (nat_lt v n) refl less has wide first
+    (λ below. wider_below m v w n below has wide (λ u more few. first u more (omega (arith, few))))
+
+pub narrow_ends : (m : Written) → IsWithinWidth 16 m
+    → width_end (wide_below m m.nodes) ≡ Ok []
+narrow_ends m narrow = ap width_end (narrow_below m m.nodes narrow)
+
+pub wide_ends : (m : Written) (v w : ℕ) → IsFirstWider 16 m v w
+    → width_end (wide_below m m.nodes) ≡ Err (TooWide v w)
+wide_ends m v w wide =
+    ap width_end (wider_below m v w m.nodes wide.node wide.has wide.wide wide.first)
+
+-- a model that is not solved ends the plan
+pub unsolved_ends : (plan : Plan) (m : Written) (answer : SolveAnswer) → IsModelled plan m
+    → ((v w : ℕ) → answer ≡ solving.TooWide v w → IsFirstWider 16 m v w)
+    → EndsOf (unsolved answer) plan (λ m. ends (width_end (wide_below m m.nodes)))
+unsolved_ends plan m (solving.TooWide v w) made wide =
+    (made.can_stand, (m, made.by, ap Some (wide_ends m v w (wide v w refl))))
+unsolved_ends plan m solving.NoMemory made wide = tt
+
+pub unsolved_is : (answer : SolveAnswer) → IsUnsolved (unsolved answer)
+unsolved_is (solving.TooWide v w) = tt
+unsolved_is solving.NoMemory = tt

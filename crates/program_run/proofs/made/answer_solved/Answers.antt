@@ -1,0 +1,30 @@
+use Rattle.std.proofs.Common.{[], Err, Some, ap}
+use Rattle.program_run.specs.Outcome.{ends, wide_below, width_end}
+use Rattle.program_run.proofs.Endings.{last_gives}
+use Rattle.program_run.proofs.Solving.{narrow_ends, unsolved_ends, unsolved_is}
+use Rattle.program_run.proofs.made.answer_solved.Goals as goal
+
+pub returns-in-Err-solve-clause-step : goal.returns-in-Err-solve-clause-step
+returns-in-Err-solve-clause-step c =
+    rw c.unsolved.ensures
+    (unsolved_ends c.args.plan.now c.in-Ok.model c.in-Err-solve.answer c.in-Ok.ensures.modelled
+    (λ v w is. c.in-Err-solve.ensures.wide v w (ap Err is)))
+
+pub returns-in-Err-solve-clause-refusal : goal.returns-in-Err-solve-clause-refusal
+returns-in-Err-solve-clause-refusal c = rw c.unsolved.ensures (unsolved_is c.in-Err-solve.answer)
+
+pub returns-in-Ok-solved_text-clause-step : goal.returns-in-Ok-solved_text-clause-step
+returns-in-Ok-solved_text-clause-step c =
+    let m = c.in-Ok.model in
+    last_gives c.args.plan.now (λ m. ends (width_end (wide_below m m.nodes))) m []
+    c.in-Ok.ensures.modelled (ap Some (narrow_ends m c.in-Ok-solve.ensures.narrow))
+
+pub returns-in-Ok-solved_text-clause-answer : goal.returns-in-Ok-solved_text-clause-answer
+returns-in-Ok-solved_text-clause-answer c =
+    let m = c.in-Ok.model in record {
+      model = m;
+      made = c.in-Ok.ensures.modelled;
+      bits = [];
+      read = ap Some (narrow_ends m c.in-Ok-solve.ensures.narrow);
+      told = c.in-Ok-solved_text.ensures;
+    }
