@@ -69,7 +69,7 @@ fn is_refused(
 fn the_position_of_a_wrong_word(rt: HostRuntime) -> Result<(), Fail> {
     let rows: [(&[&str], usize, &[u8]); 6] = [
         (&[], 1, b"usage: word 1\n"),
-        (&["solve", "wcnf", "qubo", "a"], 1, b"usage: word 1\n"),
+        (&["solved", "wcnf", "qubo", "a"], 1, b"usage: word 1\n"),
         (&["compile", "cnf", "qubo", "a"], 2, b"usage: word 2\n"),
         (&["compile", "wcnf", "wcnf"], 3, b"usage: word 3\n"),
         (&["compile", "wcnf", "qubo"], 4, b"usage: word 4\n"),
