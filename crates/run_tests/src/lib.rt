@@ -29,6 +29,8 @@ mod sizes;
 #[cfg(test)]
 mod small_sources;
 #[cfg(test)]
+mod solved;
+#[cfg(test)]
 mod states;
 #[cfg(test)]
 mod steps;

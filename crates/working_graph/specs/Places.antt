@@ -62,11 +62,15 @@ is_cut_at w v u =
     (down_qubit w.graph (v / T) (v % T) (u / T))
     (along_qubit w.graph (u / T) (u % T) (v / T))
 
+-- the first qubit of a cell that lies along its row
+abbrev pub first_along : Chimera → ℕ → ℕ → ℕ
+first_along graph i col = along_qubit graph i 0 col
+
 -- the least number of a coupler across the cell in which a place goes down through a row
 abbrev pub first_across : Chimera → ℕ → ℕ → ℕ
 first_across graph v row =
     let cell = v / graph.shore in
-    pair_number (down_qubit graph cell (v % graph.shore) row) (along_qubit graph row 0 cell)
+    pair_number (down_qubit graph cell (v % graph.shore) row) (first_along graph row cell)
 
 -- dead couplers part a place from an earlier one: in one cell of the diagonal there are two joins
 pub record IsParted (w : WorkingGraph) (v u : ℕ) : Type 0 where
