@@ -12,6 +12,7 @@ use Rattle.program_run.specs.Statuses.{IsUnsolved}
 use Rattle.program_run.specs.Made.{IsModelled, EndsOf}
 use Rattle.program_run.specs.Unembedded.{unsolved}
 use Rattle.program_run.specs.Outcome.{ends, wide_below, width_end}
+use Rattle.program_run.specs.Widths.{TheFirstWideNodeIsNamed}
 
 -- no node below this one is too wide
 narrow_below : (m : Written) (n : ℕ) → ((v : ℕ) → v < n → width m v ≤ 16)
@@ -40,14 +41,19 @@ wider_below m v w (suc n) less has wide first =
     wider_step m v w n (nat_lt v n) refl less has wide first
     (λ below. wider_below m v w n below has wide (λ u more few. first u more (omega (arith, few))))
 
+pub first_wide_node : TheFirstWideNodeIsNamed
+first_wide_node = record {
+  none = λ m narrow. narrow_below m m.nodes narrow;
+  first = λ m v w wide. wider_below m v w m.nodes wide.node wide.has wide.wide wide.first;
+}
+
 pub narrow_ends : (m : Written) → IsWithinWidth 16 m
     → width_end (wide_below m m.nodes) ≡ Ok []
-narrow_ends m narrow = ap width_end (narrow_below m m.nodes narrow)
+narrow_ends m narrow = ap width_end (first_wide_node.none m narrow)
 
 pub wide_ends : (m : Written) (v w : ℕ) → IsFirstWider 16 m v w
     → width_end (wide_below m m.nodes) ≡ Err (TooWide v w)
-wide_ends m v w wide =
-    ap width_end (wider_below m v w m.nodes wide.node wide.has wide.wide wide.first)
+wide_ends m v w wide = ap width_end (first_wide_node.first m v w wide)
 
 -- a model that is not solved ends the plan
 pub unsolved_ends : (plan : Plan) (m : Written) (answer : SolveAnswer) → IsModelled plan m

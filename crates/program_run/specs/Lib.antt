@@ -2,6 +2,7 @@ pub mod Statuses
 pub mod Placements
 pub mod Plans
 pub mod Outcome
+pub mod Widths
 pub mod Unembedded
 pub mod Made
 pub mod Causes

@@ -21,7 +21,7 @@ mod status;
 mod steps;
 
 pub use answers::Answer;
-pub use laws::plans_make_one_model;
+pub use laws::{plans_make_one_model, the_first_wide_node_is_named};
 pub use program::{exit_number, given_words};
 pub use running::run;
 pub use status::Status;
