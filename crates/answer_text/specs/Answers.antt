@@ -75,3 +75,8 @@ extension_text y cost energy =
 abbrev pub solution_text : List Bool → ℤ → List Bool → Option (List (List ℕ)) → Cost → List ℕ
 solution_text y energy x names cost =
     rows_text (state_row y ∷ energy_row energy ∷ optimum_rows x names cost)
+
+-- the energy of a state that is proved to be least, and what it tells of the assignment that it
+-- decodes to, of this cost
+abbrev pub proof_text : ℤ → List Bool → Option (List (List ℕ)) → Cost → List ℕ
+proof_text energy x names cost = rows_text (energy_row energy ∷ optimum_rows x names cost)

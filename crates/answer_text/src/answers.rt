@@ -1,6 +1,6 @@
-//! The two texts of an answer.
+//! The texts of an answer.
 ghost use Rattle.std.specs.Prelude.{◌≡◌, IfOk};
-ghost use Rattle.answer_text.specs.Answers.{decoding_text, extension_text, solution_text};
+ghost use Rattle.answer_text.specs.Answers.{decoding_text, extension_text, proof_text, solution_text};
 
 use crate::rows::{push_bits_row, push_cost, push_energy, push_names, push_optimum};
 use base::{Cost, NoMemory};
@@ -58,6 +58,23 @@ pub fn written_solution(
 {
     let mut text = Vec::new(alloc);
     push_bits_row(&mut text, b"state", y)?;
+    push_energy(&mut text, energy)?;
+    push_optimum(&mut text, x, names, cost)?;
+    Ok(text)
+}
+
+/// The energy of a state that is proved to be least, and the assignment that it stands for, of this
+/// cost: the optimum, or that there is none where it is infinite.
+pub fn written_proof(
+    alloc: Global,
+    energy: i128,
+    x: &[bool],
+    names: &Option<Names>,
+    cost: Cost,
+) -> Result<Vec<u8>, NoMemory>
+    ensures { IfOk result (λ text. text.items ≡ proof_text energy x.now names.now cost) }
+{
+    let mut text = Vec::new(alloc);
     push_energy(&mut text, energy)?;
     push_optimum(&mut text, x, names, cost)?;
     Ok(text)

@@ -1,7 +1,7 @@
 //! The texts that answer for one assignment or one state: its bits, its cost and its energy.
 //!
 //! An assignment has the bits of a source's variables, a state those of a model's nodes or qubits.
-//! Both texts are rows of words with one space between two words, and each row ends in a line feed.
+//! All texts are rows of words with one space between two words, and each row ends in a line feed.
 //! The text of a decoded state has, in this order,
 //!
 //! - `assignment`, and a digit for each bit, `0` or `1`, with nothing between;
@@ -13,7 +13,8 @@
 //! `energy`. Where there are no bits, the row is the word and the space after it.
 //!
 //! The text of a least state has the rows `state` and `energy`, and then `assignment`, names and
-//! `optimum` with the cost of what the state stands for, or `infeasible` where that is infinite.
+//! `optimum` with the cost of what the state stands for, or `infeasible` where that is infinite. The
+//! text of one that is proved to be least has the same rows but `state`.
 //!
 //! For the assignment 111 of the variables x, y and z, of cost -5, and a state of energy -5:
 //!
@@ -30,4 +31,4 @@
 mod answers;
 mod rows;
 
-pub use answers::{written_decoding, written_extension, written_solution};
+pub use answers::{written_decoding, written_extension, written_proof, written_solution};

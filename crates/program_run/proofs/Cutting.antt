@@ -17,7 +17,7 @@ use Rattle.source_texts.specs.declared.reading.Read.{Read}
 use Rattle.source_texts.specs.Sources.{problem_of, problem_of_words, style_of}
 use Rattle.source_texts.proofs.WordTexts.{words_read}
 use Rattle.program_run.specs.declared.status.Status.{Status}
-use Rattle.program_run.specs.declared.status.Status.TheVariants.{Done, Usage, ReadFault, WriteFault, BadText, Limit, NotEmbedded, TooWide, NoState, NoMemory}
+use Rattle.program_run.specs.declared.status.Status.TheVariants.{Done, Usage, ReadFault, WriteFault, BadText, Limit, NotEmbedded, TooWide, NotProved, NoState, NoMemory}
 use Rattle.program_run.specs.Outcome.{Steps, go_on, ◌>>=◌, ends, gives, taking, text_end, Meets, Refuses}
 use Rattle.program_run.specs.Cut.{AreWordsOf, cutting, reading_file}
 use Rattle.program_run.proofs.Stepping.{bound, meets_next}
@@ -172,6 +172,7 @@ refused_alike {A = A} status held name f g given refused =
     go (NotEmbedded fault) m refused = end_on (NotEmbedded fault) m.taken m.end refused
     go (NoState width) m refused = end_on (NoState width) m.taken m.end refused
     go (TooWide node width) m refused = end_on (TooWide node width) m.taken m.end refused
+    go (NotProved fault) m refused = end_on (NotProved fault) m.taken m.end refused
 
 -- a file that could not be taken is refused
 pub read_refused : (told : Option NamedFiles) (name : List ℕ) (format : Format) (style : Style)

@@ -12,8 +12,8 @@ use Rattle.command_words.specs.declared.commands.Command.{Command}
 use Rattle.command_words.specs.Names.{state_of, text_at}
 use Rattle.program_run.specs.declared.plans.Plan.{Plan}
 use Rattle.program_run.specs.declared.status.Status.{Status}
-use Rattle.program_run.specs.declared.status.Status.TheVariants.{Done, Usage, ReadFault, WriteFault, BadText, Limit, NotEmbedded, TooWide, NoState, NoMemory}
-use Rattle.program_run.specs.Statuses.{IsRefusal, IsDoneOrWant}
+use Rattle.program_run.specs.declared.status.Status.TheVariants.{Done, Usage, ReadFault, WriteFault, BadText, Limit, NotEmbedded, TooWide, NotProved, NoState, NoMemory}
+use Rattle.program_run.specs.Statuses.{IsRefusal, IsReading, IsDoneOrWant}
 use Rattle.program_run.specs.Outcome.{Steps, OfModel, IsEndOf, IsEnd, Ends, Refuses, planning, last_step, stating, IsOutcomeOf, MeetsOutcomeOf}
 use Rattle.program_run.specs.Made.{IsModelled, EndsOf, asked_width}
 use Rattle.program_run.specs.Causes.{AreRefused, AreFiles}
@@ -35,11 +35,7 @@ unembedded_ends (BadText which kind line) plan last is = absurd is
 unembedded_ends (Limit which kind number) plan last is = absurd is
 unembedded_ends (NoState width) plan last is = absurd is
 unembedded_ends (TooWide node width) plan last is = absurd is
-
--- a status of the taking or reading of a file
-abbrev pub IsReading : Status → Type 0
-IsReading (NotEmbedded fault) = ⊥
-IsReading status = IsRefusal status
+unembedded_ends (NotProved fault) plan last is = absurd is
 
 -- a file that was refused was taken or read
 pub refused_reading : (name : Which → List ℕ) (files : List Which) (status : Status)
@@ -54,6 +50,7 @@ refused_reading name files WriteFault a b at = absurd at
 refused_reading name files (Usage position) a b at = absurd at
 refused_reading name files (NotEmbedded fault) a b at = absurd at
 refused_reading name files (TooWide node width) a b at = absurd at
+refused_reading name files (NotProved fault) a b at = absurd at
 
 -- the last step of a command on a state or an assignment
 pub last_is_state : (words : List (List ℕ)) (held : NamedFiles) (ask : Ask) (at : WordAt)
@@ -85,6 +82,8 @@ last_refuses (Limit which kind number) plan last m made refusal is =
 last_refuses (NoState width) plan last m made refusal is = (made.can_stand, (m, made.by, is))
 last_refuses (TooWide node width) plan last m made refusal is =
     (made.can_stand, (m, made.by, is))
+last_refuses (NotProved fault) plan last m made refusal is =
+    (made.can_stand, (m, made.by, is))
 
 -- all is done
 pub last_gives : (plan : Plan) (last : Written → Steps (List Bool)) (m : Written)
@@ -107,6 +106,7 @@ plan_refuses (BadText which kind line) plans last refusal is = rw is refl
 plan_refuses (Limit which kind number) plans last refusal is = rw is refl
 plan_refuses (NoState width) plans last refusal is = rw is refl
 plan_refuses (TooWide node width) plans last refusal is = rw is refl
+plan_refuses (NotProved fault) plans last refusal is = rw is refl
 
 -- the plan stands, and its end is that of all
 pub plan_ends : (status : Status) (plans : Steps Plan) (last : Plan → Written → Steps (List Bool))
@@ -122,6 +122,7 @@ plan_ends (BadText which kind line) plans last plan e is = rw e is
 plan_ends (Limit which kind number) plans last plan e is = rw e is
 plan_ends (NoState width) plans last plan e is = rw e is
 plan_ends (TooWide node width) plans last plan e is = rw e is
+plan_ends (NotProved fault) plans last plan e is = rw e is
 
 -- ---- there is one end
 
@@ -159,6 +160,8 @@ plan_done plan last (NoState width) done is =
     absurd (gives_or_refuses plan last (NoState width) done is)
 plan_done plan last (TooWide node width) done is =
     absurd (gives_or_refuses plan last (TooWide node width) done is)
+plan_done plan last (NotProved fault) done is =
+    absurd (gives_or_refuses plan last (NotProved fault) done is)
 
 -- where all is done, there is no other end
 pub one_end : (end : Option (Result Plan Status)) (last : Plan → Written → Steps (List Bool))
@@ -188,6 +191,8 @@ done_is_met plans last (NoState width) done is read write =
     let same = one_end plans.end last (NoState width) done is in absurd cc
 done_is_met plans last (TooWide node width) done is read write =
     let same = one_end plans.end last (TooWide node width) done is in absurd cc
+done_is_met plans last (NotProved fault) done is read write =
+    let same = one_end plans.end last (NotProved fault) done is in absurd cc
 
 rose_since : (a b n : ℕ) → a ≤ b → Rose b n → Rose a n
 rose_since a b n le rose = omega (arith, le, rose)

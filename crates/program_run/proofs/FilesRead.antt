@@ -7,7 +7,7 @@ use Rattle.problem_form.specs.declared.limits.LimitKind.TheVariants.{Bytes, Vari
 use Rattle.command_words.specs.declared.names.Which.{Which}
 use Rattle.command_words.specs.declared.names.Which.TheVariants.{State}
 use Rattle.program_run.specs.declared.status.Status.{Status}
-use Rattle.program_run.specs.declared.status.Status.TheVariants.{Done, Usage, ReadFault, WriteFault, BadText, Limit, NotEmbedded, TooWide, NoState, NoMemory}
+use Rattle.program_run.specs.declared.status.Status.TheVariants.{Done, Usage, ReadFault, WriteFault, BadText, Limit, NotEmbedded, TooWide, NotProved, NoState, NoMemory}
 use Rattle.program_run.specs.Causes.{AreBegun, IsReadTo, IsTooLong, IsCause, IsLimited, last_of, AreRead, IsAt, AreRefused, AreFilesOf, IsRefusedBy}
 
 -- ---- files after others
@@ -148,6 +148,7 @@ refused_then name first files WriteFault a b c some at = absurd at
 refused_then name first files (Usage position) a b c some at = absurd at
 refused_then name first files (NotEmbedded fault) a b c some at = absurd at
 refused_then name first files (TooWide node width) a b c some at = absurd at
+refused_then name first files (NotProved fault) a b c some at = absurd at
 
 -- one was refused, whatever files come after it
 pub refused_first : (name : Which → List ℕ) (files more : List Which) (status : Status)
@@ -166,6 +167,7 @@ refused_first name files more WriteFault a b at = absurd at
 refused_first name files more (Usage position) a b at = absurd at
 refused_first name files more (NotEmbedded fault) a b at = absurd at
 refused_first name files more (TooWide node width) a b at = absurd at
+refused_first name files more (NotProved fault) a b at = absurd at
 
 -- a file alone is refused
 pub refused_alone : (name : Which → List ℕ) (which : Which) (called : List ℕ) (status : Status)
@@ -189,6 +191,7 @@ refused_alone name which called WriteFault a b same by = absurd by
 refused_alone name which called (Usage position) a b same by = absurd by
 refused_alone name which called (NotEmbedded fault) a b same by = absurd by
 refused_alone name which called (TooWide node width) a b same by = absurd by
+refused_alone name which called (NotProved fault) a b same by = absurd by
 
 -- ---- of a command
 
@@ -208,6 +211,7 @@ made_refused name made last WriteFault a b at = absurd at
 made_refused name made last (Usage position) a b at = absurd at
 made_refused name made last (NotEmbedded fault) a b at = absurd at
 made_refused name made last (TooWide node width) a b at = absurd at
+made_refused name made last (NotProved fault) a b at = absurd at
 
 -- those of a model were read, and then come the last ones
 pub made_then : (name : Which → List ℕ) (made last : List Which) (status : Status)
@@ -229,3 +233,5 @@ made_then name made last (NotEmbedded fault) a b c some same =
     subst (λ (n : Counts). AreRead name made a n) (sym same) some
 made_then name made last (TooWide node width) a b c some same =
     subst (λ (n : Counts). AreRead name made a n) (sym same) some
+made_then name made last (NotProved fault) a b c some read =
+    read_then name made last a b c some read

@@ -28,8 +28,8 @@ module _ (words : List (List ℕ)) (held : NamedFiles) (command : Command) where
   unfolding checking
   checked_within r e within =
       next_end (reading words held command.origin)
-      (λ read. ends (limits_end read (limit_fault command.choices.normal read.problem))) r e
-      ∙ ap (λ fault. Some (limits_end r fault)) within
+      (λ read. ends (limits_end Source read (limit_fault command.choices.normal read.problem))) r e
+      ∙ ap (λ fault. Some (limits_end Source r fault)) within
 
   -- or passes one
   pub checked_beyond : (r : Read) (fault : LimitFault)
@@ -39,8 +39,8 @@ module _ (words : List (List ℕ)) (held : NamedFiles) (command : Command) where
   unfolding checking
   checked_beyond r fault e beyond =
       next_end (reading words held command.origin)
-      (λ read. ends (limits_end read (limit_fault command.choices.normal read.problem))) r e
-      ∙ ap (λ fault. Some (limits_end r fault)) beyond
+      (λ read. ends (limits_end Source read (limit_fault command.choices.normal read.problem))) r e
+      ∙ ap (λ fault. Some (limits_end Source r fault)) beyond
 
   -- or cannot be read
   checked_refuses : (status : Status) → Refuses status (reading words held command.origin)
@@ -48,7 +48,7 @@ module _ (words : List (List ℕ)) (held : NamedFiles) (command : Command) where
   unfolding checking
   checked_refuses status refused =
       refuses_on status (reading words held command.origin)
-      (λ read. ends (limits_end read (limit_fault command.choices.normal read.problem))) refused
+      (λ read. ends (limits_end Source read (limit_fault command.choices.normal read.problem))) refused
 
 file_is_read : (words : List (List ℕ)) (held : NamedFiles) (format : Format) (at : WordAt)
     → reading words held (File format at) ≡ reading_file held (text_at words at) format

@@ -5,7 +5,7 @@ use Rattle.std.specs.List.{Contains}
 use Rattle.std.proofs.lemmas.List.Elements.{Contains-append_left, Contains-append_right}
 use Rattle.command_words.specs.declared.names.Which.{Which}
 use Rattle.program_run.specs.declared.status.Status.{Status}
-use Rattle.program_run.specs.declared.status.Status.TheVariants.{Done, Usage, ReadFault, WriteFault, BadText, Limit, NotEmbedded, TooWide, NoState, NoMemory}
+use Rattle.program_run.specs.declared.status.Status.TheVariants.{Done, Usage, ReadFault, WriteFault, BadText, Limit, NotEmbedded, TooWide, NotProved, NoState, NoMemory}
 use Rattle.program_run.specs.Outcome.{Steps, go_on, ◌>>=◌, Meets, Refuses}
 
 bound_on : {A B : Type 0} (taken : List Which) (end : Option (Result A Status)) (f : A → Steps B)
@@ -60,6 +60,7 @@ refuses_on (BadText which kind line) m f refused = refused_end m f (BadText whic
 refuses_on (Limit which kind number) m f refused = refused_end m f (Limit which kind number) refused
 refuses_on (NoState width) m f refused = refused_end m f (NoState width) refused
 refuses_on (TooWide node width) m f refused = refused_end m f (TooWide node width) refused
+refuses_on (NotProved fault) m f refused = refused_end m f (NotProved fault) refused
 
 -- after a value, what refuses next refuses
 pub refuses_next : {A B : Type 0} (status : Status) (m : Steps A) (f : A → Steps B) (a : A)
@@ -74,6 +75,7 @@ refuses_next (BadText which kind line) m f a e refused = rw e refused
 refuses_next (Limit which kind number) m f a e refused = rw e refused
 refuses_next (NoState width) m f a e refused = rw e refused
 refuses_next (TooWide node width) m f a e refused = rw e refused
+refuses_next (NotProved fault) m f a e refused = rw e refused
 
 -- after a value, what meets the next steps meets them all
 pub meets_next : {A B : Type 0} (result : Result B Status) (m : Steps A) (f : A → Steps B) (a : A)

@@ -40,10 +40,10 @@ pub text_is_read : {A : Type 0} (which : Which) (read : Result A TextFault) (x :
 text_is_read which (Ok y) x e = cc
 text_is_read which (Err fault) x e = absurd cc
 
-limits_keep : {A : Type 0} (x y : A) (fault : Option LimitFault) → limits_end x fault ≡ Ok y
+limits_keep : {A : Type 0} (which : Which) (x y : A) (fault : Option LimitFault) → limits_end which x fault ≡ Ok y
     → x ≡ y
-limits_keep x y None e = cc
-limits_keep x y (Some fault) e = absurd cc
+limits_keep which x y None e = cc
+limits_keep which x y (Some fault) e = absurd cc
 
 sourced_is_held : (words : List (List ℕ)) (held : NamedFiles) (origin : Origin) (text : List ℕ)
     → (sourcing words held origin).end ≡ Some (Ok text) → IsTextIn words held origin text
@@ -66,10 +66,10 @@ unfolding checking reading
 source_is_taken words held command read e =
     let origin = command.origin in
     let checked = bound (reading words held origin)
-    (λ r. ends (limits_end r (limit_fault command.choices.normal r.problem))) read e in
-    let within : limits_end checked.0 (limit_fault command.choices.normal checked.0.problem) ≡ Ok read =
+    (λ r. ends (limits_end Source r (limit_fault command.choices.normal r.problem))) read e in
+    let within : limits_end Source checked.0 (limit_fault command.choices.normal checked.0.problem) ≡ Ok read =
     let two = checked.2 in cc in
-    let same = limits_keep checked.0 read (limit_fault command.choices.normal checked.0.problem)
+    let same = limits_keep Source checked.0 read (limit_fault command.choices.normal checked.0.problem)
     within in
     let taken = bound (sourcing words held origin)
     (λ text. ends (text_end Source (problem_of (format_in origin) text))) checked.0 checked.1 in

@@ -10,7 +10,7 @@ use Rattle.form_steps.specs.Relations.{Relaxes}
 use Rattle.bits_model.specs.Output.{Written, form_of, decoding_of}
 use Rattle.faithful.specs.Bounds.{IsBounded}
 use Rattle.faithful.specs.Faithful.{Faithful}
-use Rattle.faithful.specs.Least.{IsFeasible}
+use Rattle.faithful.specs.Least.{IsFeasible, IsLeastState}
 use Rattle.problem_form.specs.Limits.{auxiliary_bits}
 use Rattle.sample_text.specs.Sample.{sample_text}
 use Rattle.model_text.specs.Rows.{FitsFields, model_text}
@@ -25,7 +25,7 @@ use Rattle.command_words.specs.Commands.{command_of}
 use Rattle.command_words.specs.Names.{text_at, files_of}
 use Rattle.command_words.specs.declared.names.Which.{Which}
 use Rattle.source_texts.specs.Sources.{source_of, names_of}
-use Rattle.answer_text.specs.Answers.{decoding_text, extension_text, solution_text}
+use Rattle.answer_text.specs.Answers.{decoding_text, extension_text, proof_text, solution_text}
 use Rattle.basic_solve.specs.FirstLeast.{IsFirstLeast}
 use Rattle.basic_solve.specs.Stated.{TellsOptimum, whole_energy}
 use Rattle.model_pipeline.specs.Extensions.{form_nodes, extension_of, state_on, Extends}
@@ -82,23 +82,37 @@ pub record IsExtended (source : Source) (plan : Plan) (model : Written) (x : Lis
   pub extends : Extends source.form model x state
   pub said : text ≡ extension_text state (source.form.cost x) (energy (form_of model) state)
 
--- the text is the first least state of the model, its energy, and what it decodes to with what that
--- costs the source: where the state is not above the threshold, that is a least assignment, and the
--- cost the least one; else the source is infeasible
-pub record IsSolved (source : Source) (names : Option (List (List ℕ))) (model : Written)
-    (text : List ℕ) : Type 0 where
-  pub state : List Bool
-  pub first : IsFirstLeast (form_of model) state
+-- what a least state of a model tells of the source: where it is not above the threshold, it decodes
+-- to a least assignment, whose cost its energy tells; else the source is infeasible
+pub record TellsSource (source : Source) (model : Written) (state : List Bool) : Type 0 where
   pub optimum : whole_energy model state ≤ℤ model.figures.threshold
       → TellsOptimum source model state
   pub infeasible : model.figures.threshold <ℤ whole_energy model state
       → ¬ (IsFeasible source.form)
+
+-- the text is the first least state of the model, its energy, and what it decodes to with what that
+-- costs the source
+pub record IsSolved (source : Source) (names : Option (List (List ℕ))) (model : Written)
+    (text : List ℕ) : Type 0 where
+  pub state : List Bool
+  pub first : IsFirstLeast (form_of model) state
+  pub tells : TellsSource source model state
   pub said : text ≡ solution_text state (energy (form_of model) state)
       ((decoding_of model).decoded state) names
       (source.form.cost ((decoding_of model).decoded state))
 
+-- the text is the energy of a least state of the model, and what the state decodes to with what that
+-- costs the source
+pub record IsProved (source : Source) (names : Option (List (List ℕ))) (model : Written)
+    (state : List Bool) (text : List ℕ) : Type 0 where
+  pub least : IsLeastState (form_of model) state
+  pub tells : TellsSource source model state
+  pub said : text ≡ proof_text (energy (form_of model) state)
+      ((decoding_of model).decoded state) names
+      (source.form.cost ((decoding_of model).decoded state))
+
 -- the text is what is asked: the model's own, its summary, its first least state, what a state
--- decodes to, or what an assignment extends to
+-- decodes to, what an assignment extends to, or what a state that is proved to be least tells
 abbrev pub IsAskedOf : Ask → Source → Option (List (List ℕ)) → Plan → Written → List Bool → List ℕ
     → Type 0
 IsAskedOf asks.Model source names plan model bits text = IsTextOf model text
@@ -108,6 +122,8 @@ IsAskedOf (asks.Decode at) source names plan model bits text =
     IsDecoded source names model bits text
 IsAskedOf (asks.Extend at) source names plan model bits text =
     IsExtended source plan model bits text
+IsAskedOf (asks.Prove state certificate) source names plan model bits text =
+    IsProved source names model bits text
 
 -- ---- the answer
 

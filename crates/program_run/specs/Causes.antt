@@ -11,7 +11,7 @@ use Rattle.command_words.specs.declared.names.Which.TheVariants.{State}
 use Rattle.command_words.specs.declared.commands.Command.{Command}
 use Rattle.command_words.specs.Names.{name_of, model_files, last_files}
 use Rattle.program_run.specs.declared.status.Status.{Status}
-use Rattle.program_run.specs.declared.status.Status.TheVariants.{Done, Usage, ReadFault, WriteFault, BadText, Limit, NotEmbedded, TooWide, NoState, NoMemory}
+use Rattle.program_run.specs.declared.status.Status.TheVariants.{Done, Usage, ReadFault, WriteFault, BadText, Limit, NotEmbedded, TooWide, NotProved, NoState, NoMemory}
 
 -- ---- one file
 
@@ -81,12 +81,13 @@ AreRefused name files NoMemory old new = ⊤
 AreRefused name files status old new = ⊥
 
 -- what files tell at a status, where these are taken for a model, and those after it: one refused, or
--- those of the model were read where it is not embedded, and else all
+-- those of the model were read where it is not embedded or too wide, and else all
 abbrev pub AreFilesOf : (Which → List ℕ) → List Which → List Which → Status → Counts → Counts → Type 0
 AreFilesOf name made last Done old new = AreRead name (made ++ last) old new
 AreFilesOf name made last WriteFault old new = AreRead name (made ++ last) old new
 AreFilesOf name made last (NotEmbedded fault) old new = AreRead name made old new
 AreFilesOf name made last (TooWide node width) old new = AreRead name made old new
+AreFilesOf name made last (NotProved fault) old new = AreRead name (made ++ last) old new
 AreFilesOf name made last (Usage position) old new = ⊤
 AreFilesOf name made last status old new = AreRefused name (made ++ last) status old new
 

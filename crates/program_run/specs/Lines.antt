@@ -2,6 +2,7 @@
 use Rattle.std.specs.Prelude.{ℕ, List, [], ◌∷◌, codes, decimal, Ok, Err, Result}
 use Rattle.std.specs.declared.option.Option.{Option}
 use Rattle.std.specs.List.{concat}
+use Rattle.std.specs.Fmt.{signed_decimal}
 use Rattle.std.specs.Io.KnownBytes.{Appends}
 use Rattle.edge_io.specs.Counts.{Rose}
 use Rattle.edge_io.specs.Sinks.{AppendsFront}
@@ -14,10 +15,12 @@ use Rattle.problem_form.specs.declared.limits.LimitKind.TheVariants.{Bytes, Vari
 use Rattle.command_words.specs.declared.names.Which.{Which}
 use Rattle.command_words.specs.declared.names.Which.TheVariants.{Source, State}
 use Rattle.command_words.specs.declared.commands.Command.{Command}
+use Rattle.posiform_check.specs.declared.faults.ProofFault.{ProofFault}
+use Rattle.posiform_check.specs.declared.faults.ProofFault.TheVariants.{Negative, Differs, NotZero}
 use Rattle.command_words.specs.Commands.{command_of}
 use Rattle.command_words.specs.Names.{name_of}
 use Rattle.program_run.specs.declared.status.Status.{Status}
-use Rattle.program_run.specs.declared.status.Status.TheVariants.{Done, Usage, ReadFault, WriteFault, BadText, Limit, NotEmbedded, TooWide, NoState, NoMemory}
+use Rattle.program_run.specs.declared.status.Status.TheVariants.{Done, Usage, ReadFault, WriteFault, BadText, Limit, NotEmbedded, TooWide, NotProved, NoState, NoMemory}
 
 -- the file that a status speaks of
 abbrev pub file_in : Status → Which
@@ -69,6 +72,14 @@ fault_pieces (NoCoupler first second) =
 fault_pieces (TooManyNodes nodes places) =
     decimal nodes ∷ codes " nodes for " ∷ decimal places ∷ codes " places\n" ∷ []
 
+-- what the line for a proof says after its first words
+abbrev pub proof_pieces : ProofFault → List (List ℕ)
+proof_pieces (Negative line) = codes "line " ∷ decimal line ∷ codes " is negative\n" ∷ []
+proof_pieces (Differs ours theirs) =
+    codes "coefficients " ∷ signed_decimal ours ∷ codes " and " ∷ signed_decimal theirs
+    ∷ codes "\n" ∷ []
+proof_pieces (NotZero above) = signed_decimal above ∷ codes " above the bound\n" ∷ []
+
 -- the line, piece by piece, of the file's name
 abbrev pub error_pieces : Status → List ℕ → List (List ℕ)
 error_pieces Done name = []
@@ -84,6 +95,7 @@ error_pieces (NoState length) name =
 error_pieces (TooWide node width) name =
     codes "too wide: node " ∷ decimal node ∷ codes " has " ∷ decimal width
     ∷ codes " neighbours\n" ∷ []
+error_pieces (NotProved fault) name = codes "not proved: " ∷ proof_pieces fault
 error_pieces NoMemory name = codes "out of memory\n" ∷ []
 
 -- the line as a whole

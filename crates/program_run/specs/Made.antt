@@ -7,11 +7,11 @@ use Rattle.problem_form.specs.Problems.{ProblemContent}
 use Rattle.problem_form.specs.Problems as problems
 use Rattle.model_text.specs.Rows.{model_text}
 use Rattle.model_text.specs.Summary.{summary_text}
-use Rattle.answer_text.specs.Answers.{decoding_text, extension_text, solution_text}
+use Rattle.answer_text.specs.Answers.{decoding_text, extension_text, proof_text, solution_text}
 use Rattle.basic_solve.specs.FirstLeast.{IsFirstLeast}
 use Rattle.model_pipeline.specs.Extensions.{extension_of, state_on, Extends}
 use Rattle.command_words.specs.declared.commands.Ask.{Ask}
-use Rattle.command_words.specs.declared.commands.Ask.TheVariants.{Model, Summary, Solve, Decode, Extend}
+use Rattle.command_words.specs.declared.commands.Ask.TheVariants.{Model, Summary, Solve, Decode, Extend, Prove}
 use Rattle.source_texts.specs.declared.reading.Read.{Read}
 use Rattle.program_run.specs.declared.plans.Plan.{Plan}
 use Rattle.program_run.specs.declared.status.Status.{Status}
@@ -53,6 +53,9 @@ IsTold (Decode at) read choices m bits text =
     text ≡ decoding_text ((decoding_of m).decoded bits) read.names
     ((problems.form_of read.problem).cost ((decoding_of m).decoded bits)) (energy (form_of m) bits)
 IsTold (Extend at) read choices m bits text = IsExtendedBy choices read.problem m bits text
+IsTold (Prove state certificate) read choices m bits text =
+    text ≡ proof_text (energy (form_of m) bits) ((decoding_of m).decoded bits) read.names
+    ((problems.form_of read.problem).cost ((decoding_of m).decoded bits))
 
 -- the text is what is asked of the plan's model, with the bits that are read last
 pub record IsMadeText (ask : Ask) (plan : Plan) (last : Written → Steps (List Bool))
@@ -73,4 +76,5 @@ EndsOf status plan last = IsEndOf plan last status
 -- how many bits are read of a state or of an assignment
 abbrev pub asked_width : Ask → ℕ → Written → ℕ
 asked_width (Decode at) variables m = m.nodes
+asked_width (Prove state certificate) variables m = m.nodes
 asked_width ask variables m = variables

@@ -9,7 +9,7 @@ use Rattle.problem_form.specs.declared.limits.LimitFault.{LimitFault}
 use Rattle.problem_form.specs.declared.limits.LimitKind.TheVariants.{Bytes}
 use Rattle.problem_form.specs.Limits.{limit_fault, most_bytes}
 use Rattle.command_words.specs.declared.names.Which.{Which}
-use Rattle.command_words.specs.declared.names.Which.TheVariants.{Source, Map, State}
+use Rattle.command_words.specs.declared.names.Which.TheVariants.{Source, Map, State, Certificate}
 use Rattle.command_words.specs.declared.commands.Format.{Format}
 use Rattle.command_words.specs.declared.commands.Format.TheVariants.{Wcnf}
 use Rattle.command_words.specs.declared.commands.Origin.{Origin}
@@ -19,7 +19,8 @@ use Rattle.command_words.specs.declared.commands.Chaining.TheVariants as chainin
 use Rattle.command_words.specs.declared.commands.Target.{Target}
 use Rattle.command_words.specs.declared.commands.Target.TheVariants as targets
 use Rattle.command_words.specs.declared.commands.Ask.{Ask}
-use Rattle.command_words.specs.declared.commands.Ask.TheVariants.{Model, Summary, Solve, Decode, Extend}
+use Rattle.command_words.specs.declared.commands.Ask.TheVariants.{Model, Summary, Solve, Decode, Extend, Prove}
+use Rattle.command_words.specs.declared.commands.WordAt.{WordAt}
 use Rattle.command_words.specs.declared.commands.Command.{Command}
 use Rattle.command_words.specs.Commands.{command_of}
 use Rattle.command_words.specs.Names.{text_at}
@@ -29,6 +30,10 @@ use Rattle.source_texts.specs.declared.reading.Read.{Read}
 use Rattle.source_texts.specs.Sources.{problem_of}
 use Rattle.state_file.specs.States.{state_of}
 use Rattle.basic_solve.specs.Widths.{width}
+use Rattle.posiform_check.specs.declared.faults.ProofFault.{ProofFault}
+use Rattle.posiform_check.specs.BitForms.{CertificateContent}
+use Rattle.posiform_check.specs.Certificates.{certificate_fault, proof_fault}
+use Rattle.posiform_check.specs.Texts as certificates
 use Rattle.program_run.specs.Statuses.{IsDoneOrWant}
 use Rattle.program_run.specs.declared.placements.Perch.{Perch}
 use Rattle.program_run.specs.declared.placements.Perch.TheVariants as perches
@@ -37,7 +42,7 @@ use Rattle.program_run.specs.declared.placements.Placement.TheVariants as placem
 use Rattle.program_run.specs.declared.plans.Plan.{Plan}
 use Rattle.program_run.specs.Plans.{plan_of, CanStand, IsModelBy, IsFaultIn}
 use Rattle.program_run.specs.declared.status.Status.{Status}
-use Rattle.program_run.specs.declared.status.Status.TheVariants.{Done, Usage, ReadFault, WriteFault, BadText, Limit, NotEmbedded, TooWide, NoState, NoMemory}
+use Rattle.program_run.specs.declared.status.Status.TheVariants.{Done, Usage, ReadFault, WriteFault, BadText, Limit, NotEmbedded, TooWide, NotProved, NoState, NoMemory}
 
 -- ---- steps
 
@@ -84,9 +89,9 @@ text_end which (Ok x) = Ok x
 text_end which (Err fault) = Err (BadText which fault.kind fault.line)
 
 -- what is within the limits, or the one that it passes
-abbrev pub limits_end : {A : Type 0} → A → Option LimitFault → Result A Status
-limits_end x None = Ok x
-limits_end x (Some fault) = Err (Limit Source fault.kind fault.number)
+abbrev pub limits_end : {A : Type 0} → Which → A → Option LimitFault → Result A Status
+limits_end which x None = Ok x
+limits_end which x (Some fault) = Err (Limit which fault.kind fault.number)
 
 -- so many bits, or that a text has no such state
 abbrev pub state_end : ℕ → Option (List Bool) → Result (List Bool) Status
@@ -115,7 +120,7 @@ reading words held origin = do
 unfoldable pub checking : List (List ℕ) → NamedFiles → Command → Steps Read
 checking words held command = do
   read ← reading words held command.origin
-  ends (limits_end read (limit_fault command.choices.normal read.problem))
+  ends (limits_end Source read (limit_fault command.choices.normal read.problem))
 
 -- the chains of a map, read from the file of this name
 unfoldable pub mapping : NamedFiles → List ℕ → Steps (List (List ℕ))
@@ -160,14 +165,39 @@ abbrev pub width_end : Option (ℕ × ℕ) → Result (List Bool) Status
 width_end None = Ok []
 width_end (Some node) = Err (TooWide node.0 node.1)
 
+-- a certificate within its limits, for a model of so many nodes, read from the file of this name
+unfoldable pub certifying : NamedFiles → List ℕ → ℕ → Steps CertificateContent
+certifying held name nodes = do
+  bytes ← taking held Certificate name
+  certificate ← ends (text_end Certificate (certificates.reading nodes bytes))
+  ends (limits_end Certificate certificate (certificate_fault certificate))
+
+-- the bits that are proved, or the first fault of the proof
+abbrev pub proof_end : List Bool → Option ProofFault → Result (List Bool) Status
+proof_end bits None = Ok bits
+proof_end bits (Some fault) = Err (NotProved fault)
+
+-- a state of a model, where the certificate in the file of this name proves it
+unfoldable pub certified : NamedFiles → List ℕ → Written → List Bool → Steps (List Bool)
+certified held name m bits = do
+  certificate ← certifying held name m.nodes
+  ends (proof_end bits (proof_fault m certificate bits))
+
+-- a state of a model, read from a file, and then the certificate that has to prove it
+unfoldable pub proving : List (List ℕ) → NamedFiles → WordAt → WordAt → Written → Steps (List Bool)
+proving words held state certificate m = do
+  bits ← stating held (text_at words state) m.nodes
+  certified held (text_at words certificate) m bits
+
 -- what is read once the model stands: a state of it, an assignment of the source, or nothing; a
--- model to be solved may be too wide
+-- model to be solved may be too wide, and a state that is to be proved may not be
 abbrev pub last_step : List (List ℕ) → NamedFiles → Ask → Plan → Written → Steps (List Bool)
 last_step words held Model plan m = gives []
 last_step words held Summary plan m = gives []
 last_step words held Solve plan m = ends (width_end (wide_below m m.nodes))
 last_step words held (Decode at) plan m = stating held (text_at words at) m.nodes
 last_step words held (Extend at) plan m = stating held (text_at words at) plan.read.variables
+last_step words held (Prove state certificate) plan m = proving words held state certificate m
 
 -- ---- the outcome
 

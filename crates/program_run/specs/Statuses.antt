@@ -3,7 +3,7 @@ use Rattle.std.specs.Prelude.{◌≡◌, ℕ, Ok, Err, Result, ⊤}
 use Rattle.command_words.specs.declared.commands.Command.{Command}
 use Rattle.command_words.specs.declared.names.Which.{Which}
 use Rattle.program_run.specs.declared.status.Status.{Status}
-use Rattle.program_run.specs.declared.status.Status.TheVariants.{Done, Usage, ReadFault, WriteFault, BadText, Limit, NotEmbedded, TooWide, NoState, NoMemory}
+use Rattle.program_run.specs.declared.status.Status.TheVariants.{Done, Usage, ReadFault, WriteFault, BadText, Limit, NotEmbedded, TooWide, NotProved, NoState, NoMemory}
 
 -- `Usage` comes exactly where the words are no command, and has the position
 abbrev pub IsUsageOf : Status → Result Command ℕ → Type 0
@@ -63,6 +63,7 @@ exit_number (Limit which kind number) = 6
 exit_number (NotEmbedded fault) = 7
 exit_number (NoState length) = 8
 exit_number NoMemory = 9
+exit_number (NotProved fault) = 10
 exit_number (TooWide node width) = 11
 
 -- a number that the program may exit with: that of some status
@@ -82,6 +83,17 @@ IsUnsolved (NotEmbedded fault) = ⊤
 IsUnsolved (TooWide node width) = ⊤
 IsUnsolved NoMemory = ⊤
 IsUnsolved status = ⊥
+
+-- a status of the taking or reading of files, or of what is read
+abbrev pub IsReading : Status → Type 0
+IsReading (NotEmbedded fault) = ⊥
+IsReading status = IsRefusal status
+
+-- a status of a state that is not proved: the proof has a fault, or memory was wanting
+abbrev pub IsUnproved : Status → Type 0
+IsUnproved (NotProved fault) = ⊤
+IsUnproved NoMemory = ⊤
+IsUnproved status = ⊥
 
 -- a status of the text of a file: it is bad, or memory was wanting
 abbrev pub IsTextRefusal : Which → Status → Type 0

@@ -8,7 +8,7 @@ use Rattle.basic_solve.specs.declared.answer.SolveAnswer.TheVariants as solving
 use Rattle.program_run.specs.declared.plans.Plan.{Plan}
 use Rattle.program_run.specs.Plans.{CanStand, IsFaultIn}
 use Rattle.program_run.specs.declared.status.Status.{Status}
-use Rattle.program_run.specs.declared.status.Status.TheVariants.{NotEmbedded, TooWide, NoMemory}
+use Rattle.program_run.specs.declared.status.Status.TheVariants.{NotEmbedded, TooWide, NotProved, NoMemory}
 
 -- the status where a check refuses
 abbrev pub unembedded : CheckAnswer → Status

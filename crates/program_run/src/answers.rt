@@ -60,7 +60,7 @@ fn answer_by<F: Files>(
             Ok(text) => Ok(Answer::Text(text)),
             Err(status) => Err(status),
         },
-        Ask::Decode(at) | Ask::Extend(at) => {
+        Ask::Decode(at) | Ask::Extend(at) | Ask::Prove(at, _) => {
             match answer_state(alloc, words, command, at, &plan, files) {
                 Ok(text) => Ok(Answer::Text(text)),
                 Err(status) => Err(status),

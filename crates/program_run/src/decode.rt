@@ -1,11 +1,12 @@
-//! What is written for a state of a model: the assignment that it stands for.
+//! What is written for a state of a model: the assignment that it stands for, and whether that is the
+//! optimum where the state is proved to be least.
 ghost use Rattle.std.specs.Prelude.{◌≡◌, ◌<◌, ◌^◌, length, IfOk};
 ghost use Rattle.base.specs.Costs.{energy};
 ghost use Rattle.bits_model.specs.Output.{form_of, decoding_of};
 ghost use Rattle.problem_form.specs.Problems as problems;
-ghost use Rattle.answer_text.specs.Answers.{decoding_text};
+ghost use Rattle.answer_text.specs.Answers.{decoding_text, proof_text};
 
-use answer_text::written_decoding;
+use answer_text::{written_decoding, written_proof};
 use base::{Costed, NoMemory};
 use bits_model::OutputModel;
 use model_pipeline::energy_of;
@@ -44,4 +45,25 @@ pub fn decoded_text(
     let cost = read.problem.cost(&x);
     let energy = energy_of(model.kind, state, &model.entries);
     written_decoding(alloc, &x, &read.names, cost, energy)
+}
+
+/// What is written for a state that is proved to be least.
+pub fn proved_text(
+    alloc: Global,
+    read: &Read,
+    model: &OutputModel,
+    state: &[bool],
+) -> Result<Vec<u8>, NoMemory>
+    requires state { length state.now ≡ model.now.nodes }
+    requires variables { model.now.variables ≡ read.now.variables }
+    requires own { read.now.variables ≡ read.now.problem.variables }
+    ensures { IfOk result (λ text. text.items
+        ≡ proof_text (energy (form_of model.now) state.now)
+        ((decoding_of model.now).decoded state.now) read.now.names
+        ((problems.form_of read.now.problem).cost ((decoding_of model.now).decoded state.now))) }
+{
+    let x = decoded(alloc, model, state)?;
+    let cost = read.problem.cost(&x);
+    let energy = energy_of(model.kind, state, &model.entries);
+    written_proof(alloc, energy, &x, &read.names, cost)
 }

@@ -3,10 +3,12 @@
 #![tactic(auto)]
 
 mod answers;
+mod certificates;
 mod cut;
 mod decode;
 mod delivery;
 mod extend;
+mod last;
 mod laws;
 mod lines;
 mod made;

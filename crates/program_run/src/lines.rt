@@ -1,12 +1,13 @@
 //! The line for a status, written in pieces that take no memory.
 ghost use Rattle.std.specs.Prelude.{◌≡◌, [], ◌∷◌, codes, decimal};
 ghost use Rattle.std.specs.List.{concat};
-ghost use Rattle.program_run.specs.Lines.{error_line, fault_pieces, kind_end, limit_words, IsSaid};
+ghost use Rattle.program_run.specs.Lines.{error_line, fault_pieces, kind_end, limit_words, proof_pieces, IsSaid};
 
 use crate::status::Status;
 use chain_map::EmbedFault;
 use edge_io::{Sink, write_pieces};
 use itoa::Buffer;
+use posiform_check::ProofFault;
 use problem_form::LimitKind;
 use whole_text::TextKind;
 
@@ -146,6 +147,38 @@ fn say_wide<E: Sink>(node: u32, width: u32, err: &mut E)
     );
 }
 
+/// Writes two coefficients that differ, or a front of their line where the sink fails.
+fn say_difference<E: Sink>(ours: i128, theirs: i128, err: &mut E)
+    ensures { IsSaid (E.bytes err.old) (E.bytes err.new) (E.faults err.old) (E.faults err.new)
+        (concat (codes "not proved: " ∷ proof_pieces (ProofFault.Differs ours theirs))) }
+{
+    let mut digits = Buffer::new();
+    let mut others = Buffer::new();
+    let ours = digits.format(ours).as_bytes();
+    let theirs = others.format(theirs).as_bytes();
+    let opening = b"not proved: ";
+    put_six(err, opening, b"coefficients ", ours, b" and ", theirs, b"\n");
+}
+
+/// Writes the line for a state that is not proved, or a front of it where the sink fails.
+fn say_unproved<E: Sink>(fault: ProofFault, err: &mut E)
+    ensures { IsSaid (E.bytes err.old) (E.bytes err.new) (E.faults err.old) (E.faults err.new)
+        (concat (codes "not proved: " ∷ proof_pieces fault)) }
+{
+    let mut digits = Buffer::new();
+    match fault {
+        ProofFault::Negative(line) => {
+            let line = digits.format(line).as_bytes();
+            put(err, b"not proved: ", b"line ", line, b" is negative\n");
+        }
+        ProofFault::Differs(ours, theirs) => say_difference(ours, theirs, err),
+        ProofFault::NotZero(above) => {
+            let above = digits.format(above).as_bytes();
+            put(err, b"not proved: ", above, b" above the bound\n", b"");
+        }
+    }
+}
+
 /// Writes the line for a status, of the file's name, or a front of it where the sink fails.
 pub fn say<E: Sink>(status: Status, name: &str, err: &mut E)
     ensures said { IsSaid (E.bytes err.old) (E.bytes err.new) (E.faults err.old) (E.faults err.new)
@@ -176,6 +209,7 @@ pub fn say<E: Sink>(status: Status, name: &str, err: &mut E)
             put(err, name, b": no state of ", length, b" characters\n");
         }
         Status::TooWide(node, width) => say_wide(node, width, err),
+        Status::NotProved(fault) => say_unproved(fault, err),
         Status::NoMemory => put(err, b"out of memory\n", b"", b"", b""),
     }
 }

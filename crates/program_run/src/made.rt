@@ -12,11 +12,11 @@ ghost use Rattle.program_run.specs.Unembedded.{IsUnembedded, unsolved};
 ghost use Rattle.program_run.specs.Statuses.{ended, IsRefusal, IsUnsolved};
 ghost use Rattle.program_run.specs.Causes.{AreFilesOf, WhereHeld};
 
-use crate::decode::{decoded, decoded_text};
+use crate::decode::{decoded, decoded_text, proved_text};
 use crate::extend::extended_text;
+use crate::last::take_last;
 use crate::models::model_on;
 use crate::plans::Plan;
-use crate::states::take_state;
 use crate::status::Status;
 use answer_text::written_solution;
 use base::{Costed, NoMemory};
@@ -64,16 +64,6 @@ fn model_lent(alloc: Global, plan: &Plan) -> Result<OutputModel, Status>
     )
 }
 
-/// How many bits are asked for: those of a state of the model, or of an assignment.
-fn width_of(ask: Ask, read: &Read, model: &OutputModel) -> usize
-    ensures { result ≡ asked_width ask read.now.variables model.now }
-{
-    match ask {
-        Ask::Decode(_) => model.nodes as usize,
-        _ => read.variables as usize,
-    }
-}
-
 /// What is written for a state of a model, or for an assignment of its source.
 fn told(
     alloc: Global,
@@ -95,6 +85,7 @@ fn told(
     match ask {
         Ask::Decode(_) => decoded_text(alloc, read, model, bits),
         Ask::Extend(_) => extended_text(alloc, &read.problem, choices, model, bits),
+        Ask::Prove(..) => proved_text(alloc, read, model, bits),
         Ask::Model | Ask::Summary | Ask::Solve => unreachable!(),
     }
 }
@@ -178,8 +169,7 @@ pub fn answer_state<F: Files>(
         Ok(model) => model,
         Err(status) => return Err(status),
     };
-    let width = width_of(command.ask, &plan.read, &model);
-    let bits = match take_state(alloc, words, command, at, width, files) {
+    let bits = match take_last(alloc, words, command, at, plan, &model, files) {
         Ok(bits) => bits,
         Err(status) => return Err(status),
     };

@@ -1,9 +1,9 @@
 //! A state of a model or an assignment of a source, read from a file.
 ghost use Rattle.std.specs.Prelude.{◌≡◌, None, Some, Bool, List, Option, length, map, string_bytes, IfOk, OnOk, IfErr, IsErrOf};
 ghost use Rattle.edge_io.specs.Held.{WhereTold};
-ghost use Rattle.command_words.specs.Names.{name_of, last_files, state_of, text_at};
+ghost use Rattle.command_words.specs.Names.{name_of, if_named, state_of, text_at};
 ghost use Rattle.program_run.specs.Outcome.{Meets, ends, state_end, stating};
-ghost use Rattle.program_run.specs.Statuses.{IsRefusal, IsStateRefusal};
+ghost use Rattle.program_run.specs.Statuses.{IsReading, IsStateRefusal};
 ghost use Rattle.program_run.specs.Causes.{AreRead, AreRefused, IsReadTo, IsRefusedBy, WhereHeld};
 
 use crate::status::Status;
@@ -60,16 +60,17 @@ pub fn take_state<F: Files>(
     files: &mut F,
 ) -> Result<Vec<bool>, Status>
     requires { state_of command.ask ≡ Some at }
-    ensures step { WhereHeld (F.held files.old) (last_files command) (λ held.
+    ensures step { WhereHeld (F.held files.old) (if_named command Which.State) (λ held.
         Meets (λ bits. bits.items) result
         (stating held (text_at (map string_bytes words.now) at) width)) }
+    ensures held { F.held files.new ≡ F.held files.old }
     ensures width { IfOk result (λ bits. length bits.items ≡ width) }
     ensures passed { OnOk result (AreRead (name_of (map string_bytes words.now) command)
-        (last_files command) (F.counts files.old) (F.counts files.new)) }
+        (if_named command Which.State) (F.counts files.old) (F.counts files.new)) }
     ensures refused { IfErr result (λ status. AreRefused
-        (name_of (map string_bytes words.now) command) (last_files command) status
+        (name_of (map string_bytes words.now) command) (if_named command Which.State) status
         (F.counts files.old) (F.counts files.new)) }
-    ensures refusal { IfErr result IsRefusal }
+    ensures refusal { IfErr result IsReading }
 {
     match take_bits(alloc, text_at(words, at), width, files) {
         Ok(bits) => Ok(bits),

@@ -3,6 +3,7 @@ ghost use Rattle.std.specs.Prelude.{◌≡◌};
 
 use chain_map::EmbedFault;
 use command_words::Which;
+use posiform_check::ProofFault;
 use problem_form::LimitKind;
 use whole_text::TextKind;
 
@@ -18,6 +19,7 @@ pub enum Status {
     NotEmbedded(EmbedFault),
     NoState(usize),
     TooWide(u32, u32),
+    NotProved(ProofFault),
     NoMemory,
 }
 
@@ -38,6 +40,7 @@ impl Status {
             Status::NotEmbedded(_) => 7,
             Status::NoState(_) => 8,
             Status::NoMemory => 9,
+            Status::NotProved(_) => 10,
             Status::TooWide(..) => 11,
         }
     }
