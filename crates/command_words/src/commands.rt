@@ -7,6 +7,7 @@ use problem_form::Choices;
 #[derive(Clone, Copy, Debug, PartialEq, Eq)]
 pub enum Format {
     Wcnf,
+    Wbo,
     Opb,
     Poly,
     Ising,
@@ -28,11 +29,22 @@ pub enum Chaining {
     Map(WordAt),
 }
 
-/// The qubits of a graph, and how the nodes of a form get chains of them.
+/// How strongly the qubits of a chain are tied: by the simple bound of Choi, which is one for the
+/// whole chain, or by what a broken tie cuts off.
+#[derive(Clone, Copy, Debug, PartialEq, Eq)]
+pub enum Ties {
+    Choi,
+    Cut,
+}
+
+/// The qubits of a graph, without those in a file of dead ones where there is one, and how the
+/// nodes of a form get chains of them and these are tied.
 #[derive(Clone, Copy, Debug, PartialEq, Eq)]
 pub struct Board {
     pub graph: Chimera,
+    pub dead: Option<WordAt>,
     pub chains: Chaining,
+    pub ties: Ties,
 }
 
 /// What a model stands on: the nodes of a form, or the qubits of a graph.
@@ -78,6 +90,9 @@ pub enum Ask {
     Decode(WordAt),
     /// The state of it that an assignment of the source, in the file of this name, extends to.
     Extend(WordAt),
+    /// Whether a state of it, in the file of the first name, is a least one, by the certificate in
+    /// the file of the second.
+    Prove(WordAt, WordAt),
 }
 
 /// What a run does: a source, how it becomes a model, and what is asked of that model.
