@@ -1,5 +1,6 @@
 -- What is answered once the model of a plan is made, in terms of the problem that was read.
 use Rattle.std.specs.Prelude.{◌≡◌, ℕ, Bool, List, Ok, Some, Contains, ⊤}
+use Rattle.base.specs.declared.costs.Cost.{Cost}
 use Rattle.base.specs.Costs.{energy}
 use Rattle.bits_model.specs.Output.{Written, form_of, decoding_of}
 use Rattle.problem_form.specs.declared.limits.Choices.{Choices}
@@ -13,6 +14,7 @@ use Rattle.model_pipeline.specs.Extensions.{extension_of, state_on, Extends}
 use Rattle.command_words.specs.declared.commands.Ask.{Ask}
 use Rattle.command_words.specs.declared.commands.Ask.TheVariants.{Model, Summary, Solve, Decode, Extend, Prove}
 use Rattle.source_texts.specs.declared.reading.Read.{Read}
+use Rattle.source_texts.specs.Sources.{carried}
 use Rattle.program_run.specs.declared.plans.Plan.{Plan}
 use Rattle.program_run.specs.declared.status.Status.{Status}
 use Rattle.program_run.specs.declared.status.Status.TheVariants.{Done, ReadFault, WriteFault, NoMemory}
@@ -25,15 +27,21 @@ pub record IsModelled (plan : Plan) (m : Written) : Type 0 where
   pub by : IsModelBy plan m
   pub stands : Stands plan m
 
--- the text is a state of the model that extends an assignment of the problem, with the cost of the
+-- what an assignment of the source costs, in terms of the problem that it was read into
+abbrev pub read_cost : Read → List Bool → Cost
+read_cost read x = (problems.form_of read.problem).cost (carried read.soft x)
+
+-- the text is a state of the model that extends an assignment of the source, with the cost of the
 -- assignment and the energy of the state
-pub record IsExtendedBy (choices : Choices) (problem : ProblemContent) (m : Written) (x : List Bool)
+pub record IsExtendedBy (choices : Choices) (read : Read) (m : Written) (x : List Bool)
     (text : List ℕ) : Type 0 where
   pub state : List Bool
-  pub exact : state ≡ state_on m (extension_of choices problem x)
-  pub extends : Extends (problems.form_of problem) m x state
-  pub said : text
-      ≡ extension_text state ((problems.form_of problem).cost x) (energy (form_of m) state)
+  pub exact : state ≡ state_on m (extension_of choices read.problem (carried read.soft x))
+  pub extends : ExtendsTo read.problem.variables (problems.form_of read.problem) m
+      (carried read.soft x) state
+  pub least : IsMadeOf Choi m.variables choices read.problem m
+      → IsLeastTo read.problem.variables m (carried read.soft x) state
+  pub said : text ≡ extension_text state (read_cost read x) (energy (form_of m) state)
 
 -- the text is the first least state of the model, its energy, and what it decodes to with what that
 -- costs the problem
@@ -42,7 +50,7 @@ pub record IsSolvedBy (read : Read) (m : Written) (text : List ℕ) : Type 0 whe
   pub first : IsFirstLeast (form_of m) state
   pub said : text ≡ solution_text state (energy (form_of m) state)
       ((decoding_of m).decoded state) read.names
-      ((problems.form_of read.problem).cost ((decoding_of m).decoded state))
+      (read_cost read ((decoding_of m).decoded state))
 
 -- the text is what is asked of the model
 abbrev pub IsTold : Ask → Read → Choices → Written → List Bool → List ℕ → Type 0
@@ -51,11 +59,11 @@ IsTold Summary read choices m bits text = text ≡ summary_text m
 IsTold Solve read choices m bits text = IsSolvedBy read m text
 IsTold (Decode at) read choices m bits text =
     text ≡ decoding_text ((decoding_of m).decoded bits) read.names
-    ((problems.form_of read.problem).cost ((decoding_of m).decoded bits)) (energy (form_of m) bits)
-IsTold (Extend at) read choices m bits text = IsExtendedBy choices read.problem m bits text
+    (read_cost read ((decoding_of m).decoded bits)) (energy (form_of m) bits)
+IsTold (Extend at) read choices m bits text = IsExtendedBy choices read m bits text
 IsTold (Prove state certificate) read choices m bits text =
     text ≡ proof_text (energy (form_of m) bits) ((decoding_of m).decoded bits) read.names
-    ((problems.form_of read.problem).cost ((decoding_of m).decoded bits))
+    (read_cost read ((decoding_of m).decoded bits))
 
 -- the text is what is asked of the plan's model, with the bits that are read last
 pub record IsMadeText (ask : Ask) (plan : Plan) (last : Written → Steps (List Bool))

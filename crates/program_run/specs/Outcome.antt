@@ -32,7 +32,8 @@ use Rattle.state_file.specs.States.{state_of}
 use Rattle.basic_solve.specs.Widths.{width}
 use Rattle.posiform_check.specs.declared.faults.ProofFault.{ProofFault}
 use Rattle.posiform_check.specs.BitForms.{CertificateContent}
-use Rattle.posiform_check.specs.Certificates.{certificate_fault, proof_fault}
+use Rattle.posiform_check.specs.Certificates.{certificate_fault}
+use Rattle.posiform_check.specs.FirstFaults.{proof_fault}
 use Rattle.posiform_check.specs.Texts as certificates
 use Rattle.program_run.specs.Statuses.{IsDoneOrWant}
 use Rattle.program_run.specs.declared.placements.Perch.{Perch}

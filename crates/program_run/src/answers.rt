@@ -3,6 +3,7 @@ ghost use Rattle.std.specs.Prelude.{◌≡◌, [], None, map, string_bytes, IfOk
 ghost use Rattle.problem_form.specs.Limits.{limit_fault};
 ghost use Rattle.command_words.specs.Commands.{HasFewClauses};
 ghost use Rattle.command_words.specs.Names.{name_of, files_of, last_files};
+ghost use Rattle.source_texts.specs.Sources.{KeepsSoft};
 ghost use Rattle.program_run.specs.Outcome.{Ends, last_step, planning};
 ghost use Rattle.program_run.specs.Made.{EndsOf, IsMadeText};
 ghost use Rattle.program_run.specs.Statuses.{ended, IsRefusal};
@@ -34,7 +35,7 @@ fn answer_by<F: Files>(
     files: &mut F,
 ) -> Result<Answer, Status>
     requires within { limit_fault plan.choices.normal plan.read.problem ≡ None }
-    requires own { plan.read.variables ≡ plan.read.problem.variables }
+    requires kept { KeepsSoft plan.read }
     ensures step { WhereHeld (F.held files.old) (last_files command) (λ held.
         EndsOf (ended result) plan (last_step (map string_bytes words.now) held command.ask plan)) }
     ensures files { AreFilesOf (name_of (map string_bytes words.now) command) [] (last_files command)

@@ -3,14 +3,15 @@
 ghost use Rattle.std.specs.Prelude.{◌≡◌, ◌<◌, ◌^◌, length, IfOk};
 ghost use Rattle.base.specs.Costs.{energy};
 ghost use Rattle.bits_model.specs.Output.{form_of, decoding_of};
-ghost use Rattle.problem_form.specs.Problems as problems;
+ghost use Rattle.source_texts.specs.Sources.{KeepsSoft};
+ghost use Rattle.program_run.specs.Made.{read_cost};
 ghost use Rattle.answer_text.specs.Answers.{decoding_text, proof_text};
 
 use answer_text::{written_decoding, written_proof};
-use base::{Costed, NoMemory};
+use base::NoMemory;
 use bits_model::OutputModel;
 use model_pipeline::energy_of;
-use source_texts::Read;
+use source_texts::{Read, cost_of};
 use std::alloc::Global;
 
 /// The assignment that a state of a model decodes to.
@@ -35,14 +36,14 @@ pub fn decoded_text(
 ) -> Result<Vec<u8>, NoMemory>
     requires state { length state.now ≡ model.now.nodes }
     requires variables { model.now.variables ≡ read.now.variables }
-    requires own { read.now.variables ≡ read.now.problem.variables }
+    requires kept { KeepsSoft read.now }
     ensures { IfOk result (λ text. text.items
         ≡ decoding_text ((decoding_of model.now).decoded state.now) read.now.names
-        ((problems.form_of read.now.problem).cost ((decoding_of model.now).decoded state.now))
+        (read_cost read.now ((decoding_of model.now).decoded state.now))
         (energy (form_of model.now) state.now)) }
 {
     let x = decoded(alloc, model, state)?;
-    let cost = read.problem.cost(&x);
+    let cost = cost_of(read, &x);
     let energy = energy_of(model.kind, state, &model.entries);
     written_decoding(alloc, &x, &read.names, cost, energy)
 }
@@ -56,14 +57,14 @@ pub fn proved_text(
 ) -> Result<Vec<u8>, NoMemory>
     requires state { length state.now ≡ model.now.nodes }
     requires variables { model.now.variables ≡ read.now.variables }
-    requires own { read.now.variables ≡ read.now.problem.variables }
+    requires kept { KeepsSoft read.now }
     ensures { IfOk result (λ text. text.items
         ≡ proof_text (energy (form_of model.now) state.now)
         ((decoding_of model.now).decoded state.now) read.now.names
-        ((problems.form_of read.now.problem).cost ((decoding_of model.now).decoded state.now))) }
+        (read_cost read.now ((decoding_of model.now).decoded state.now))) }
 {
     let x = decoded(alloc, model, state)?;
-    let cost = read.problem.cost(&x);
+    let cost = cost_of(read, &x);
     let energy = energy_of(model.kind, state, &model.entries);
     written_proof(alloc, energy, &x, &read.names, cost)
 }

@@ -5,6 +5,7 @@ ghost use Rattle.bits_model.specs.Output.{form_of};
 ghost use Rattle.basic_solve.specs.FirstLeast.{IsFirstLeast};
 ghost use Rattle.command_words.specs.Names.{name_of, last_files, state_of};
 ghost use Rattle.model_pipeline.specs.Extensions.{IsMadeOf};
+ghost use Rattle.source_texts.specs.Sources.{KeepsSoft};
 ghost use Rattle.program_run.specs.Plans.{plan_of};
 ghost use Rattle.program_run.specs.Outcome.{ends, last_step, wide_below, width_end};
 ghost use Rattle.program_run.specs.Made.{asked_width, EndsOf, IsMadeText, IsModelled, IsSolvedBy, IsTold};
@@ -19,20 +20,20 @@ use crate::models::model_on;
 use crate::plans::Plan;
 use crate::status::Status;
 use answer_text::written_solution;
-use base::{Costed, NoMemory};
+use base::NoMemory;
 use basic_solve::{SolveAnswer, solve};
 use bits_model::OutputModel;
 use command_words::{Ask, Command, WordAt};
 use edge_io::Files;
 use model_pipeline::energy_of;
 use problem_form::Choices;
-use source_texts::Read;
+use source_texts::{Read, cost_of};
 use std::alloc::Global;
 
 /// The model of a plan, which is let go. Its problem is, as soon as a form stands in its place.
 pub fn model_given(alloc: Global, plan: Plan) -> Result<OutputModel, Status>
     requires within { limit_fault plan.choices.normal plan.read.problem ≡ None }
-    requires own { plan.read.variables ≡ plan.read.problem.variables }
+    requires kept { KeepsSoft plan.read }
     ensures modelled { IfOk result (IsModelled plan) }
     ensures refused { IfErr result (IsUnembedded plan) }
 {
@@ -42,13 +43,21 @@ pub fn model_given(alloc: Global, plan: Plan) -> Result<OutputModel, Status>
         unit,
         base,
     } = plan;
-    model_on(alloc, read.problem, read.variables, &choices, unit, &base)
+    let Read {
+        problem,
+        variables,
+        names,
+        soft,
+    } = read;
+    drop(names);
+    drop(soft);
+    model_on(alloc, problem, variables, &choices, unit, &base)
 }
 
 /// The model of a plan, which stays.
 fn model_lent(alloc: Global, plan: &Plan) -> Result<OutputModel, Status>
     requires within { limit_fault plan.now.choices.normal plan.now.read.problem ≡ None }
-    requires own { plan.now.read.variables ≡ plan.now.read.problem.variables }
+    requires kept { KeepsSoft plan.now.read }
     ensures modelled { IfOk result (IsModelled plan.now) }
     ensures made { IfOk result (IsMadeOf plan.now.choices plan.now.read.problem) }
     ensures refused { IfErr result (IsUnembedded plan.now) }
@@ -75,7 +84,7 @@ fn told(
 ) -> Result<Vec<u8>, NoMemory>
     requires asked { state_of ask ≡ None → ⊥ }
     requires within { limit_fault choices.now.normal read.now.problem ≡ None }
-    requires own { read.now.variables ≡ read.now.problem.variables }
+    requires kept { KeepsSoft read.now }
     requires variables { model.now.variables ≡ read.now.variables }
     requires made { IsMadeOf choices.now read.now.problem model.now }
     requires width { length bits.now ≡ asked_width ask read.now.variables model.now }
@@ -84,7 +93,7 @@ fn told(
 {
     match ask {
         Ask::Decode(_) => decoded_text(alloc, read, model, bits),
-        Ask::Extend(_) => extended_text(alloc, &read.problem, choices, model, bits),
+        Ask::Extend(_) => extended_text(alloc, read, choices, model, bits),
         Ask::Prove(..) => proved_text(alloc, read, model, bits),
         Ask::Model | Ask::Summary | Ask::Solve => unreachable!(),
     }
@@ -100,11 +109,11 @@ fn solved_text(
     requires state { IsFirstLeast (form_of model.now) state.now }
     requires width { length state.now ≡ model.now.nodes }
     requires variables { model.now.variables ≡ read.now.variables }
-    requires own { read.now.variables ≡ read.now.problem.variables }
+    requires kept { KeepsSoft read.now }
     ensures { IfOk result (λ text. IsSolvedBy read.now model.now text.items) }
 {
     let x = decoded(alloc, model, state)?;
-    let cost = read.problem.cost(&x);
+    let cost = cost_of(read, &x);
     let energy = energy_of(model.kind, state, &model.entries);
     written_solution(alloc, state, energy, &x, &read.names, cost)
 }
@@ -122,7 +131,7 @@ fn unsolved(answer: SolveAnswer) -> Status
 /// Solves the model of a plan, and says what its first least state tells.
 pub fn answer_solved(alloc: Global, plan: &Plan) -> Result<Vec<u8>, Status>
     requires within { limit_fault plan.now.choices.normal plan.now.read.problem ≡ None }
-    requires own { plan.now.read.variables ≡ plan.now.read.problem.variables }
+    requires kept { KeepsSoft plan.now.read }
     ensures step { EndsOf (ended result) plan.now (λ m. ends (width_end (wide_below m m.nodes))) }
     ensures answer { IfOk result (λ text. IsMadeText Ask.Solve plan.now
         (λ m. ends (width_end (wide_below m m.nodes))) text.items) }
@@ -154,7 +163,7 @@ pub fn answer_state<F: Files>(
 ) -> Result<Vec<u8>, Status>
     requires asked { state_of command.ask ≡ Some at }
     requires within { limit_fault plan.now.choices.normal plan.now.read.problem ≡ None }
-    requires own { plan.now.read.variables ≡ plan.now.read.problem.variables }
+    requires kept { KeepsSoft plan.now.read }
     ensures step { WhereHeld (F.held files.old) (last_files command) (λ held.
         EndsOf (ended result) plan.now
         (last_step (map string_bytes words.now) held command.ask plan.now)) }

@@ -3,6 +3,7 @@ ghost use Rattle.std.specs.Prelude.{◌≡◌, None, map, string_bytes, IfOk, On
 ghost use Rattle.problem_form.specs.Limits.{limit_fault};
 ghost use Rattle.command_words.specs.Commands.{HasFewClauses};
 ghost use Rattle.command_words.specs.Names.{name_of, model_files};
+ghost use Rattle.source_texts.specs.Sources.{KeepsSoft};
 ghost use Rattle.program_run.specs.Outcome.{Meets, planning};
 ghost use Rattle.program_run.specs.Statuses.{IsRefusal};
 ghost use Rattle.program_run.specs.Causes.{AreRead, AreRefused, WhereHeld};
@@ -40,7 +41,7 @@ pub fn take_plan<F: Files>(
     ensures held { F.held files.new ≡ F.held files.old }
     ensures within { IfOk result (λ plan.
         limit_fault plan.choices.normal plan.read.problem ≡ None) }
-    ensures own { IfOk result (λ plan. plan.read.variables ≡ plan.read.problem.variables) }
+    ensures kept { IfOk result (λ plan. KeepsSoft plan.read) }
     ensures passed { OnOk result (AreRead (name_of (map string_bytes words.now) command)
         (model_files command) (F.counts files.old) (F.counts files.new)) }
     ensures refused { IfErr result (λ status. AreRefused

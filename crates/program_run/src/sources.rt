@@ -4,6 +4,7 @@ ghost use Rattle.problem_form.specs.declared.limits.Normal.{Normal};
 ghost use Rattle.problem_form.specs.Limits.{limit_fault};
 ghost use Rattle.command_words.specs.Commands.{HasFewClauses};
 ghost use Rattle.command_words.specs.Names.{name_of, if_named};
+ghost use Rattle.source_texts.specs.Sources.{KeepsSoft};
 ghost use Rattle.program_run.specs.Outcome.{Meets, checking};
 ghost use Rattle.program_run.specs.Statuses.{IsRefusal};
 ghost use Rattle.program_run.specs.Causes.{AreRead, AreRefused, WhereHeld};
@@ -26,7 +27,7 @@ fn read_drawn(alloc: Global, number: u64, clauses: u64) -> Result<Read, NoMemory
     requires { clauses ≤ 100000 }
     ensures read { IfOk result (λ read. (normal : Normal)
         → IsDrawnInto number clauses normal read) }
-    ensures own { IfOk result (λ read. read.variables ≡ read.problem.variables) }
+    ensures kept { IfOk result KeepsSoft }
 {
     let text = sample_text(alloc, number, clauses)?;
     match read_source(alloc, Format::Wcnf, &text) {
@@ -50,7 +51,7 @@ pub fn take_source<F: Files>(
     ensures held { F.held files.new ≡ F.held files.old }
     ensures within { IfOk result (λ read.
         limit_fault command.choices.normal read.problem ≡ None) }
-    ensures own { IfOk result (λ read. read.variables ≡ read.problem.variables) }
+    ensures kept { IfOk result KeepsSoft }
     ensures passed { OnOk result (AreRead (name_of (map string_bytes words.now) command)
         (if_named command Which.Source) (F.counts files.old) (F.counts files.new)) }
     ensures refused { IfErr result (λ status. AreRefused

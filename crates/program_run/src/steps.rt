@@ -5,6 +5,7 @@ ghost use Rattle.whole_text.specs.declared.faults.TextFault.{TextFault};
 ghost use Rattle.whole_text.specs.TokenTexts.{words_of};
 ghost use Rattle.whole_text.specs.Steps.{Gives};
 ghost use Rattle.source_texts.specs.declared.reading.Read.{Read};
+ghost use Rattle.source_texts.specs.Sources.{KeepsSoft};
 ghost use Rattle.program_run.specs.Outcome.{Meets, ends, text_end, taking};
 ghost use Rattle.program_run.specs.Statuses.{IsTextRefusal};
 ghost use Rattle.program_run.specs.Cut.{cutting, reading_file};
@@ -99,7 +100,7 @@ pub fn take_read<F: Files>(
     ensures step { WhereTold (F.held files.old) (λ held. Meets (λ read. read) result
         (reading_file held name.now format)) }
     ensures held { F.held files.new ≡ F.held files.old }
-    ensures own { IfOk result (λ read. read.variables ≡ read.problem.variables) }
+    ensures kept { IfOk result KeepsSoft }
     ensures passed { OnOk result (IsReadTo name.now 1 (F.counts files.old) (F.counts files.new)) }
     ensures refused { IfErr result (λ status. IsRefusedBy Which.Source name.now status
         (F.counts files.old) (F.counts files.new)) }

@@ -18,3 +18,6 @@ returns-in-NoMemory-clause-said g c = rw c.in-NoMemory.is c.put-in-NoMemory.ensu
 
 pub returns-in-TooWide-clause-said : goal.returns-in-TooWide-clause-said
 returns-in-TooWide-clause-said g c = rw c.in-TooWide.is c.say_wide.ensures
+
+pub returns-in-NotProved-clause-said : goal.returns-in-NotProved-clause-said
+returns-in-NotProved-clause-said g c = rw c.in-NotProved.is c.say_unproved.ensures
