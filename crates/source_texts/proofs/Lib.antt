@@ -4,5 +4,6 @@ pub mod OpbTexts
 pub mod PolyTexts
 pub mod IsingTexts
 pub mod QuboTexts
+pub mod WboTexts
 pub mod Standing
 pub mod WordTexts
