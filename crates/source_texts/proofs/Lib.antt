@@ -1,9 +1,9 @@
 pub mod Readings
 pub mod WcnfTexts
 pub mod OpbTexts
+pub mod WboTexts
 pub mod PolyTexts
 pub mod IsingTexts
 pub mod QuboTexts
-pub mod WboTexts
 pub mod Standing
 pub mod WordTexts

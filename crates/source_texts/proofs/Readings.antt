@@ -22,7 +22,7 @@ same_costs_rewrite f f' same = record {
       let all : take f.bits x ≡ x = take_all f.bits x (omega (arith, w, same.width)) in (
         v,
         ap f.cost all ∙ sym (same.costs x) ∙ whole,
-        grind ints,
+        grind (arith, ints),
       );
   reached = λ x w v whole.
       (x, w ∙ sym same.width, take_all f.bits x (omega (arith, w)), same.costs x ∙ whole);

@@ -11,7 +11,7 @@ use Rattle.whole_text.specs.Steps.{◌>>=◌}
 use Rattle.problem_form.specs.Problems.{ProblemContent, form_of}
 use Rattle.problem_form.specs.Limits.{upper}
 use Rattle.command_words.specs.declared.commands.Format.{Format}
-use Rattle.command_words.specs.declared.commands.Format.TheVariants.{Wcnf, Opb, Poly, Ising, Qubo, Wbo}
+use Rattle.command_words.specs.declared.commands.Format.TheVariants.{Wcnf, Opb, Wbo, Poly, Ising, Qubo}
 use Rattle.wcnf_reader.specs.Wcnf as wcnf
 use Rattle.wcnf_reader.specs.Cost as wcnf_cost
 use Rattle.opb_reader.specs.Opb as opb
@@ -33,10 +33,10 @@ use Rattle.source_texts.specs.declared.reading.Read.{Read}
 abbrev pub source_of : Format → List ℕ → Result Source TextFault
 source_of Wcnf text = wcnf.reading text >>= λ s. Ok (wcnf_cost.source_of s)
 source_of Opb text = opb.reading text >>= λ s. Ok (opb_cost.source_of s)
+source_of Wbo text = wbo.reading text >>= λ s. Ok (wbo.source_of s)
 source_of Poly text = poly.reading text >>= λ s. Ok (poly_cost.source_of s)
 source_of Ising text = entries.reading layouts.Ising text >>= λ s. Ok (ising_cost.source_of s)
 source_of Qubo text = entries.reading layouts.Qubo text >>= λ s. Ok (qubo_cost.source_of s)
-source_of Wbo text = wbo.reading text >>= λ s. Ok (wbo.source_of s)
 
 -- a problem whose variables are all the source's own
 abbrev pub own : ProblemContent → Read
@@ -59,10 +59,10 @@ eased w = record { problem = rewritten w; variables = w.variables; names = None;
 abbrev pub problem_of : Format → List ℕ → Result Read TextFault
 problem_of Wcnf text = wcnf_cost.normal_reading text >>= λ p. Ok (own p)
 problem_of Opb text = opb_cost.normal_reading text >>= λ p. Ok (own p)
+problem_of Wbo text = wbo.normal_reading text >>= λ w. Ok (eased w)
 problem_of Poly text = poly_cost.normal_reading text >>= λ q. Ok (named q)
 problem_of Ising text = entry_problems.normal_reading layouts.Ising text >>= λ p. Ok (own p)
 problem_of Qubo text = entry_problems.normal_reading layouts.Qubo text >>= λ p. Ok (own p)
-problem_of Wbo text = wbo.normal_reading text >>= λ w. Ok (eased w)
 
 -- the names of what was read
 abbrev pub read_names : Result Read TextFault → Option (List (List ℕ))
@@ -79,20 +79,20 @@ names_of format text = read_names (problem_of format text)
 abbrev pub style_of : Format → Style
 style_of Wcnf = styles.Plain
 style_of Opb = styles.Opb
+style_of Wbo = styles.Wbo
 style_of Poly = styles.Plain
 style_of Ising = styles.Plain
 style_of Qubo = styles.Plain
-style_of Wbo = styles.Wbo
 
 -- the problem in normal form, from the words of a text
 abbrev pub problem_of_words : Format → List Word → Result Read TextFault
 problem_of_words Wcnf words = wcnf_cost.problem_of_words words >>= λ p. Ok (own p)
 problem_of_words Opb words = opb_cost.problem_of_words words >>= λ p. Ok (own p)
+problem_of_words Wbo words = wbo.content_of_words words >>= λ w. Ok (eased w)
 problem_of_words Poly words = poly_cost.polynomial_of_words words >>= λ q. Ok (named q)
 problem_of_words Ising words =
     entry_problems.problem_of_words layouts.Ising words >>= λ p. Ok (own p)
 problem_of_words Qubo words = entry_problems.problem_of_words layouts.Qubo words >>= λ p. Ok (own p)
-problem_of_words Wbo words = wbo.content_of_words words >>= λ w. Ok (eased w)
 
 -- the words of a text say what the text says
 abbrev pub WordsAreReadAsTexts : Type 0

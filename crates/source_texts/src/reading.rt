@@ -95,10 +95,10 @@ pub fn read_source(alloc: Global, format: Format, text: &[u8]) -> Result<Read, T
     match format {
         Format::Wcnf => Ok(own(read_wcnf(alloc, text)?)),
         Format::Opb => Ok(own(read_opb(alloc, text)?)),
+        Format::Wbo => Ok(eased(alloc, read_wbo(alloc, text)?)?),
         Format::Poly => Ok(named(read_poly(alloc, text)?)),
         Format::Ising => Ok(own(read_ising(alloc, text)?)),
         Format::Qubo => Ok(own(read_qubo(alloc, text)?)),
-        Format::Wbo => Ok(eased(alloc, read_wbo(alloc, text)?)?),
     }
 }
 
@@ -116,9 +116,9 @@ pub fn read_source_words(
     match format {
         Format::Wcnf => Ok(own(read_wcnf_tokens(alloc, text)?)),
         Format::Opb => Ok(own(read_opb_tokens(alloc, text)?)),
+        Format::Wbo => Ok(eased(alloc, read_wbo_tokens(alloc, text)?)?),
         Format::Poly => Ok(named(read_poly_tokens(alloc, text)?)),
         Format::Ising => Ok(own(read_ising_tokens(alloc, text)?)),
         Format::Qubo => Ok(own(read_qubo_tokens(alloc, text)?)),
-        Format::Wbo => Ok(eased(alloc, read_wbo_tokens(alloc, text)?)?),
     }
 }
