@@ -1,6 +1,7 @@
 pub mod Readings
 pub mod WcnfTexts
 pub mod OpbTexts
+pub mod WboTexts
 pub mod PolyTexts
 pub mod IsingTexts
 pub mod QuboTexts

@@ -19,8 +19,8 @@ normal_problem s = normal_form (problem_of s)
 
 normal_form_stands : (s : Opb) → StandsFor (source_of s) (own (normal_problem s))
 normal_form_stands s =
-    same_costs_stand (source_of s) (normal_problem s)
-    (record { width = refl; costs = reading_keeps_costs s }) refl
+    same_costs_stand (source_of s) (own (normal_problem s))
+    (record { width = refl; costs = reading_keeps_costs s }) refl refl
 
 pub opb_stands : (text : List ℕ) (r : Read)
     → (normal_reading text >>= λ p. Ok (own p)) ≡ Ok r
@@ -31,7 +31,7 @@ opb_stands text r e = read_stands source_of normal_problem own normal_form_stand
 normal_form_costs : (s : Opb) → CostsAs (source_of s) (own (normal_problem s))
 normal_form_costs s =
     same_costs (source_of s) (own (normal_problem s))
-    (record { width = refl; costs = reading_keeps_costs s })
+    (record { width = refl; costs = reading_keeps_costs s }) refl refl
 
 pub opb_costs : (text : List ℕ) (r : Read) (s : Source)
     → (normal_reading text >>= λ p. Ok (own p)) ≡ Ok r

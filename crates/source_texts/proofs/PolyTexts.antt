@@ -4,25 +4,17 @@ use Rattle.base.specs.Costs.{Source}
 use Rattle.whole_text.specs.Steps.{◌>>=◌}
 use Rattle.whole_text.specs.Tokens.{tokens_of}
 use Rattle.whole_text.specs.declared.token.Style.TheVariants.{Plain}
-use Rattle.problem_form.specs.NormalForm.{normal_form}
 use Rattle.poly_reader.specs.Poly.{Listed, reading}
-use Rattle.poly_reader.specs.Cost.{problem_of, polynomial_of, normal_reading, polynomial_of_words, source_of}
+use Rattle.poly_reader.specs.Cost.{polynomial_of, normal_reading, polynomial_of_words, source_of}
 use Rattle.poly_reader.proofs.ReadCosts.{reading_keeps_costs}
 use Rattle.source_texts.specs.declared.reading.Read.{Read}
 use Rattle.source_texts.specs.Sources.{named, StandsFor, CostsAs}
 use Rattle.source_texts.proofs.Readings.{same_costs_stand, read_stands, same_costs, read_costs}
 
--- names do not count where a problem stands for a source
 polynomial_stands : (ts : List Listed) → StandsFor (source_of ts) (named (polynomial_of ts))
 polynomial_stands ts =
-    let stands = same_costs_stand (source_of ts) (normal_form (problem_of ts))
-    (record { width = refl; costs = reading_keeps_costs ts }) refl in
-    record {
-      variables = stands.variables;
-      own = stands.own;
-      upper = stands.upper;
-      relaxed = stands.relaxed;
-    }
+    same_costs_stand (source_of ts) (named (polynomial_of ts))
+    (record { width = refl; costs = reading_keeps_costs ts }) refl refl
 
 pub poly_stands : (text : List ℕ) (r : Read)
     → (normal_reading text >>= λ q. Ok (named q)) ≡ Ok r
@@ -33,7 +25,7 @@ poly_stands text r e = read_stands source_of polynomial_of named polynomial_stan
 polynomial_costs : (ts : List Listed) → CostsAs (source_of ts) (named (polynomial_of ts))
 polynomial_costs ts =
     same_costs (source_of ts) (named (polynomial_of ts))
-    (record { width = refl; costs = reading_keeps_costs ts })
+    (record { width = refl; costs = reading_keeps_costs ts }) refl refl
 
 pub poly_costs : (text : List ℕ) (r : Read) (s : Source)
     → (normal_reading text >>= λ q. Ok (named q)) ≡ Ok r

@@ -21,8 +21,8 @@ normal_problem s = normal_form (problem_of Qubo s)
 
 normal_form_stands : (s : Listing) → StandsFor (source_of s) (own (normal_problem s))
 normal_form_stands s =
-    same_costs_stand (source_of s) (normal_problem s)
-    (record { width = refl; costs = reading_keeps_costs s }) refl
+    same_costs_stand (source_of s) (own (normal_problem s))
+    (record { width = refl; costs = reading_keeps_costs s }) refl refl
 
 pub qubo_stands : (text : List ℕ) (r : Read)
     → (normal_reading Qubo text >>= λ p. Ok (own p)) ≡ Ok r
@@ -34,7 +34,7 @@ qubo_stands text r e =
 normal_form_costs : (s : Listing) → CostsAs (source_of s) (own (normal_problem s))
 normal_form_costs s =
     same_costs (source_of s) (own (normal_problem s))
-    (record { width = refl; costs = reading_keeps_costs s })
+    (record { width = refl; costs = reading_keeps_costs s }) refl refl
 
 pub qubo_costs : (text : List ℕ) (r : Read) (s : Source)
     → (normal_reading Qubo text >>= λ p. Ok (own p)) ≡ Ok r

@@ -1,41 +1,64 @@
 -- A problem with the costs of a source stands for the source, and texts that are read into such a
 -- problem.
-use Rattle.std.proofs.Common.{◌≡◌, ℤ, Ok, Err, Result, refl, subst, arith}
-use Rattle.std.proofs.lemmas.List.{take_all}
-use Rattle.base.specs.declared.costs.Figures.{Figures}
+use Rattle.std.proofs.Common.{◌≡◌, Bool, false, List, None, length, take, replicate, Ok, Err, Result, refl, ap, sym, ◌∙◌, subst, arith}
+use Rattle.std.proofs.lemmas.Int.{ints}
+use Rattle.std.proofs.lemmas.List.{take_all, length-replicate}
 use Rattle.base.specs.Costs.{Form, Source}
-use Rattle.form_steps.specs.Relations.{Decoding, Relaxes, first_decoded}
-use Rattle.form_steps.specs.Stated.{HasSameCosts, DecodesAlike}
-use Rattle.form_steps.proofs.Alike.{relaxes_alike}
+use Rattle.form_steps.specs.Relations.{Rewrites}
+use Rattle.form_steps.specs.Stated.{HasSameCosts}
+use Rattle.form_steps.proofs.Rewritten.{rewritten_relaxes}
 use Rattle.whole_text.specs.declared.faults.TextFault.{TextFault}
 use Rattle.whole_text.specs.Steps.{◌>>=◌}
-use Rattle.problem_form.specs.Problems.{ProblemContent, form_of}
+use Rattle.problem_form.specs.Problems.{form_of}
 use Rattle.problem_form.specs.Limits.{upper}
 use Rattle.source_texts.specs.declared.reading.Read.{Read}
-use Rattle.source_texts.specs.Sources.{own, StandsFor, CostsAs}
+use Rattle.source_texts.specs.Sources.{carried, CostsAs, PlainOwnsAll, RelaxesStoodFor, StandsFor}
 
--- all bits of what a state is decoded to are its first ones
-all_bits_first : (f g : Form) (d : Decoding) (u : ℤ) (n : Figures) → Relaxes f g d u n
-    → DecodesAlike g d (first_decoded f.bits d)
-all_bits_first f g d u n p y w =
-    take_all f.bits (d.decoded y) (omega (arith, p.width y w))
-
--- a problem with the costs of a source, and its upper bound, stands for it
-pub same_costs_stand : (s : Source) (p : ProblemContent) → HasSameCosts (form_of p) s.form
-    → upper p ≡ s.upper → StandsFor s (own p)
-same_costs_stand s p same bound = record {
-  variables = same.width;
-  own = omega arith;
-  upper = bound;
-  relaxed = λ g d u n r.
-      subst (λ bits. Relaxes s.form g (first_decoded bits d) u n) same.width
-      (relaxes_alike (form_of p) s.form g d (first_decoded (form_of p).bits d) u n same
-      (all_bits_first (form_of p) g d u n r) r);
+-- forms with as many bits and the same costs rewrite each other
+pub same_costs_rewrite : (f f' : Form) → HasSameCosts f' f → Rewrites f f'
+same_costs_rewrite f f' same = record {
+  more = omega (arith, same.width);
+  bound = λ x w v whole.
+      let all : take f.bits x ≡ x = take_all f.bits x (omega (arith, w, same.width)) in (
+        v,
+        ap f.cost all ∙ sym (same.costs x) ∙ whole,
+        grind (arith, ints),
+      );
+  reached = λ x w v whole.
+      (x, w ∙ sym same.width, take_all f.bits x (omega (arith, w)), same.costs x ∙ whole);
 }
 
--- a problem with the costs of a source costs what it does
-pub same_costs : (s : Source) (r : Read) → HasSameCosts (form_of r.problem) s.form → CostsAs s r
-same_costs s r same = record { own = same.width; same = same.costs }
+-- a problem with the costs of a source, and its upper bound, stands for it
+pub same_costs_stand : (s : Source) (r : Read) → HasSameCosts (form_of r.problem) s.form
+    → r.variables ≡ r.problem.variables → upper r.problem ≡ s.upper → StandsFor s r
+same_costs_stand s r same all bound = record {
+  variables = all ∙ same.width;
+  own = omega (arith, all);
+  upper = bound;
+  rewrites = same_costs_rewrite s.form (form_of r.problem) same;
+}
+
+pub relaxes_stood_for : RelaxesStoodFor
+relaxes_stood_for s r stands g d u n relaxes = rewritten_relaxes stands.rewrites relaxes
+
+-- a problem with the costs of a source costs what it does, where nothing is carried
+pub same_costs : (s : Source) (r : Read) → HasSameCosts (form_of r.problem) s.form
+    → r.variables ≡ r.problem.variables → r.soft ≡ None → CostsAs s r
+same_costs s r same all none =
+    let itself : (x : List Bool) → carried r.soft x ≡ x = λ x. ap (λ soft. carried soft x) none in
+    record {
+      own = all ∙ same.width;
+      width = λ x w. ap length (itself x) ∙ w ∙ sym same.width;
+      begins = λ x w. ap (take s.form.bits) (itself x) ∙ take_all s.form.bits x (omega (arith, w));
+      same = λ x w. ap (form_of r.problem).cost (itself x) ∙ same.costs x;
+    }
+
+-- the assignment of zeros has as many bits as the source, and is carried to itself
+pub plain_owns_all : PlainOwnsAll
+plain_owns_all s r costs none =
+    let zeros : List Bool = replicate s.form.bits false in
+    let long : length zeros ≡ s.form.bits = length-replicate s.form.bits false in
+    sym (costs.width zeros long) ∙ ap (λ soft. length (carried soft zeros)) none ∙ long
 
 -- ---- texts of which each says a source, and is read into its problem
 

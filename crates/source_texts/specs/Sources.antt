@@ -1,8 +1,8 @@
 -- What a text says in a format, and the problem that it is read into: a line a format.
-use Rattle.std.specs.Prelude.{◌≡◌, ℕ, ℤ, ◌≤◌, Bool, List, Ok, Err, Option, Some, None, Result}
+use Rattle.std.specs.Prelude.{◌≡◌, ℕ, ℤ, ◌≤◌, Bool, List, length, take, Ok, Err, Option, Some, None, Result}
 use Rattle.base.specs.declared.costs.Figures.{Figures}
-use Rattle.base.specs.Costs.{Form, Source}
-use Rattle.form_steps.specs.Relations.{Decoding, Relaxes, first_decoded}
+use Rattle.base.specs.Costs.{Form, IsOf, Source}
+use Rattle.form_steps.specs.Relations.{Decoding, Relaxes, Rewrites, first_decoded}
 use Rattle.whole_text.specs.declared.faults.TextFault.{TextFault}
 use Rattle.whole_text.specs.declared.token.Style.{Style}
 use Rattle.whole_text.specs.declared.token.Style.TheVariants as styles
@@ -11,7 +11,7 @@ use Rattle.whole_text.specs.Steps.{◌>>=◌}
 use Rattle.problem_form.specs.Problems.{ProblemContent, form_of}
 use Rattle.problem_form.specs.Limits.{upper}
 use Rattle.command_words.specs.declared.commands.Format.{Format}
-use Rattle.command_words.specs.declared.commands.Format.TheVariants.{Wcnf, Opb, Poly, Ising, Qubo}
+use Rattle.command_words.specs.declared.commands.Format.TheVariants.{Wcnf, Opb, Wbo, Poly, Ising, Qubo}
 use Rattle.wcnf_reader.specs.Wcnf as wcnf
 use Rattle.wcnf_reader.specs.Cost as wcnf_cost
 use Rattle.opb_reader.specs.Opb as opb
@@ -24,28 +24,42 @@ use Rattle.entry_reader.specs.Entries as entries
 use Rattle.entry_reader.specs.Problems as entry_problems
 use Rattle.ising_file.specs.Cost as ising_cost
 use Rattle.qubo_file.specs.Cost as qubo_cost
+use Rattle.wbo_reader.specs.Wbo.{WboContent}
+use Rattle.wbo_reader.specs.Rewriting.{rewritten, extended}
+use Rattle.wbo_reader.specs.Reading as wbo
 use Rattle.source_texts.specs.declared.reading.Read.{Read}
 
 -- the source that a text says, as it is written, or the first fault of the text
 abbrev pub source_of : Format → List ℕ → Result Source TextFault
 source_of Wcnf text = wcnf.reading text >>= λ s. Ok (wcnf_cost.source_of s)
 source_of Opb text = opb.reading text >>= λ s. Ok (opb_cost.source_of s)
+source_of Wbo text = wbo.reading text >>= λ s. Ok (wbo.source_of s)
 source_of Poly text = poly.reading text >>= λ s. Ok (poly_cost.source_of s)
 source_of Ising text = entries.reading layouts.Ising text >>= λ s. Ok (ising_cost.source_of s)
 source_of Qubo text = entries.reading layouts.Qubo text >>= λ s. Ok (qubo_cost.source_of s)
 
 -- a problem whose variables are all the source's own
 abbrev pub own : ProblemContent → Read
-own p = record { problem = p; variables = p.variables; names = None }
+own p = record { problem = p; variables = p.variables; names = None; soft = None }
 
 -- a problem whose variables have names
 abbrev pub named : Polynomial → Read
-named q = record { problem = q.problem; variables = q.problem.variables; names = Some q.names }
+named q = record {
+  problem = q.problem;
+  variables = q.problem.variables;
+  names = Some q.names;
+  soft = None;
+}
+
+-- the problem that a source of soft constraints is rewritten to, which has its variables first
+abbrev pub eased : WboContent → Read
+eased w = record { problem = rewritten w; variables = w.variables; names = None; soft = Some w }
 
 -- its problem in normal form, or the first fault of the text
 abbrev pub problem_of : Format → List ℕ → Result Read TextFault
 problem_of Wcnf text = wcnf_cost.normal_reading text >>= λ p. Ok (own p)
 problem_of Opb text = opb_cost.normal_reading text >>= λ p. Ok (own p)
+problem_of Wbo text = wbo.normal_reading text >>= λ w. Ok (eased w)
 problem_of Poly text = poly_cost.normal_reading text >>= λ q. Ok (named q)
 problem_of Ising text = entry_problems.normal_reading layouts.Ising text >>= λ p. Ok (own p)
 problem_of Qubo text = entry_problems.normal_reading layouts.Qubo text >>= λ p. Ok (own p)
@@ -65,6 +79,7 @@ names_of format text = read_names (problem_of format text)
 abbrev pub style_of : Format → Style
 style_of Wcnf = styles.Plain
 style_of Opb = styles.Opb
+style_of Wbo = styles.Wbo
 style_of Poly = styles.Plain
 style_of Ising = styles.Plain
 style_of Qubo = styles.Plain
@@ -73,6 +88,7 @@ style_of Qubo = styles.Plain
 abbrev pub problem_of_words : Format → List Word → Result Read TextFault
 problem_of_words Wcnf words = wcnf_cost.problem_of_words words >>= λ p. Ok (own p)
 problem_of_words Opb words = opb_cost.problem_of_words words >>= λ p. Ok (own p)
+problem_of_words Wbo words = wbo.content_of_words words >>= λ w. Ok (eased w)
 problem_of_words Poly words = poly_cost.polynomial_of_words words >>= λ q. Ok (named q)
 problem_of_words Ising words =
     entry_problems.problem_of_words layouts.Ising words >>= λ p. Ok (own p)
@@ -83,30 +99,62 @@ abbrev pub WordsAreReadAsTexts : Type 0
 WordsAreReadAsTexts = (format : Format) (text : List ℕ)
     → problem_of format text ≡ problem_of_words format (tokens_of (style_of format) text)
 
+-- ---- soft constraints
+
+-- the assignment of the problem that stands for one of the source: it has a bit more for each soft
+-- constraint, which is 1 where the constraint fails
+abbrev pub carried : Option WboContent → List Bool → List Bool
+carried None x = x
+carried (Some w) x = extended w x
+
+-- the problem has no variables but the source's, or it is what these soft constraints are rewritten
+-- to, and theirs are the source's
+abbrev pub IsRewrittenFrom : Option WboContent → Read → Type 0
+IsRewrittenFrom None r = r.variables ≡ r.problem.variables
+IsRewrittenFrom (Some w) r = (w.variables ≡ r.variables) × (r.problem ≡ rewritten w)
+
+-- the soft constraints of the source are kept beside the problem that they are rewritten to
+abbrev pub KeepsSoft : Read → Type 0
+KeepsSoft r = IsRewrittenFrom r.soft r
+
 -- ---- what a problem stands for
 
--- the problem has the source's variables first and its upper bound, and what relaxes the problem
--- relaxes the source, decoded to these variables
+-- the problem has the source's variables first and its upper bound, and its costs stand for those
+-- of the source
 pub record StandsFor (s : Source) (r : Read) : Type 0 where
   pub variables : r.variables ≡ s.form.bits
   pub own : r.variables ≤ r.problem.variables
   pub upper : upper r.problem ≡ s.upper
-  pub relaxed : (g : Form) (d : Decoding) (u : ℤ) (n : Figures) → Relaxes (form_of r.problem) g d u n
-      → Relaxes s.form g (first_decoded s.form.bits d) u n
+  pub rewrites : Rewrites s.form (form_of r.problem)
 
 -- where a text is read into a problem, it says a source, for which the problem stands
 abbrev pub ProblemsStandForSources : Type 0
 ProblemsStandForSources = (format : Format) (text : List ℕ) (r : Read) → problem_of format text ≡ Ok r
     → (s : Source) × (source_of format text ≡ Ok s) × StandsFor s r
 
+-- what relaxes a problem relaxes the source that it stands for, decoded to the source's variables
+abbrev pub RelaxesStoodFor : Type 0
+RelaxesStoodFor =
+    (s : Source) (r : Read) → StandsFor s r
+    → (g : Form) (d : Decoding) (u : ℤ) (n : Figures) → Relaxes (form_of r.problem) g d u n
+    → Relaxes s.form g (first_decoded s.form.bits d) u n
+
 -- ---- what a problem costs
 
--- the problem's variables are the source's, and each assignment costs what it costs in the source
+-- each assignment is carried to one of the problem that begins with it, and costs there what it
+-- costs in the source
 pub record CostsAs (s : Source) (r : Read) : Type 0 where
-  pub own : r.problem.variables ≡ s.form.bits
-  pub same : (x : List Bool) → (form_of r.problem).cost x ≡ s.form.cost x
+  pub own : r.variables ≡ s.form.bits
+  pub width : (x : List Bool) → IsOf s.form x → length (carried r.soft x) ≡ r.problem.variables
+  pub begins : (x : List Bool) → IsOf s.form x → take s.form.bits (carried r.soft x) ≡ x
+  pub same : (x : List Bool) → IsOf s.form x
+      → (form_of r.problem).cost (carried r.soft x) ≡ s.form.cost x
 
 -- a problem that a text is read into costs what the source costs that the text says
 abbrev pub ProblemsCostAsSources : Type 0
 ProblemsCostAsSources = (format : Format) (text : List ℕ) (r : Read) (s : Source)
     → problem_of format text ≡ Ok r → source_of format text ≡ Ok s → CostsAs s r
+
+-- without soft constraints the problem has the source's variables alone
+abbrev pub PlainOwnsAll : Type 0
+PlainOwnsAll = (s : Source) (r : Read) → CostsAs s r → r.soft ≡ None → r.problem.variables ≡ s.form.bits

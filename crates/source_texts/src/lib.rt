@@ -1,8 +1,13 @@
 //! Source texts in every format: what each says, and the problem that it is read into.
+//!
+//! The soft constraints of a source are kept beside the problem that they are rewritten to:
+//! `cost_of` and `carried` take an assignment of the source by them.
 #![tactic(auto)]
 
+mod carrying;
 mod laws;
 mod reading;
 
+pub use carrying::{carried, cost_of};
 pub use laws::{problems_cost_as_sources, problems_stand_for_sources, words_are_read_as_texts};
 pub use reading::{Read, read_source, read_source_words, style_of};

@@ -2,8 +2,17 @@
 ghost use Rattle.std.specs.Prelude.{◌≡◌, ◌≤◌, ◌^◌, length, IfOk};
 ghost use Rattle.whole_text.specs.Steps.{Gives};
 ghost use Rattle.whole_text.specs.TokenTexts.{words_of};
-ghost use Rattle.source_texts.specs.Sources.{named, own, problem_of, problem_of_words, style_of};
+ghost use Rattle.source_texts.specs.Sources.{
+  eased,
+  KeepsSoft,
+  named,
+  own,
+  problem_of,
+  problem_of_words,
+  style_of,
+};
 
+use base::NoMemory;
 use command_words::Format;
 use ising_file::{read_ising, read_ising_tokens};
 use opb_reader::{read_opb, read_opb_tokens};
@@ -11,16 +20,19 @@ use poly_reader::{Names, Polynomial, read_poly, read_poly_tokens};
 use problem_form::Problem;
 use qubo_file::{read_qubo, read_qubo_tokens};
 use std::alloc::Global;
+use wbo_reader::{Wbo, read_wbo, read_wbo_tokens};
 use wcnf_reader::{read_wcnf, read_wcnf_tokens};
 use whole_text::{Style, TextAnswer, TokenText};
 
 /// What a text is read into: its problem, how many of the problem's first variables are the source's
-/// own, and their names, where the text has names for them.
+/// own, and their names, where the text has names for them. Soft constraints are kept, where the
+/// problem is what they are rewritten to: then its further variables are their bits.
 #[derive(Drop)]
 pub struct Read {
     pub problem: Problem,
     pub variables: u64,
     pub names: Option<Names>,
+    pub soft: Option<Wbo>,
 }
 
 /// How the texts of a format are cut into words.
@@ -30,6 +42,7 @@ pub fn style_of(format: Format) -> Style
     match format {
         Format::Wcnf | Format::Poly | Format::Ising | Format::Qubo => Style::Plain,
         Format::Opb => Style::Opb,
+        Format::Wbo => Style::Wbo,
     }
 }
 
@@ -42,6 +55,7 @@ fn own(problem: Problem) -> Read
         problem,
         variables,
         names: None,
+        soft: None,
     }
 }
 
@@ -54,7 +68,21 @@ fn named(polynomial: Polynomial) -> Read
         variables: problem.variables,
         problem,
         names: Some(names),
+        soft: None,
     }
+}
+
+/// The problem that soft constraints are rewritten to, and these.
+fn eased(alloc: Global, wbo: Wbo) -> Result<Read, NoMemory>
+    ensures { IfOk result (λ read. read ≡ eased wbo) }
+{
+    let problem = wbo.rewrite(alloc)?;
+    Ok(Read {
+        problem,
+        variables: wbo.variables,
+        names: None,
+        soft: Some(wbo),
+    })
 }
 
 /// The problem of a text, in normal form, or the first fault of the text.
@@ -62,10 +90,12 @@ pub fn read_source(alloc: Global, format: Format, text: &[u8]) -> Result<Read, T
     requires { length text.now ≤ 2 ^ 24 }
     ensures read { Gives (λ read. read) result (problem_of format text.now) }
     ensures own { IfOk result (λ read. read.variables ≤ read.problem.variables) }
+    ensures kept { IfOk result KeepsSoft }
 {
     match format {
         Format::Wcnf => Ok(own(read_wcnf(alloc, text)?)),
         Format::Opb => Ok(own(read_opb(alloc, text)?)),
+        Format::Wbo => Ok(eased(alloc, read_wbo(alloc, text)?)?),
         Format::Poly => Ok(named(read_poly(alloc, text)?)),
         Format::Ising => Ok(own(read_ising(alloc, text)?)),
         Format::Qubo => Ok(own(read_qubo(alloc, text)?)),
@@ -81,10 +111,12 @@ pub fn read_source_words(
     requires { length text.now.bytes ≤ 2 ^ 24 }
     ensures read { Gives (λ read. read) result (problem_of_words format (words_of text.now)) }
     ensures own { IfOk result (λ read. read.variables ≤ read.problem.variables) }
+    ensures kept { IfOk result KeepsSoft }
 {
     match format {
         Format::Wcnf => Ok(own(read_wcnf_tokens(alloc, text)?)),
         Format::Opb => Ok(own(read_opb_tokens(alloc, text)?)),
+        Format::Wbo => Ok(eased(alloc, read_wbo_tokens(alloc, text)?)?),
         Format::Poly => Ok(named(read_poly_tokens(alloc, text)?)),
         Format::Ising => Ok(own(read_ising_tokens(alloc, text)?)),
         Format::Qubo => Ok(own(read_qubo_tokens(alloc, text)?)),

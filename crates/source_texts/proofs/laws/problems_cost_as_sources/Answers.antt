@@ -1,5 +1,9 @@
+use Rattle.source_texts.proofs.Readings.{plain_owns_all}
 use Rattle.source_texts.proofs.Standing.{problem_costs}
 use Rattle.source_texts.proofs.laws.problems_cost_as_sources.Goals as goal
 
-pub returns : goal.returns
-returns c = problem_costs
+pub returns-clause-costs : goal.returns-clause-costs
+returns-clause-costs c = problem_costs
+
+pub returns-clause-plain : goal.returns-clause-plain
+returns-clause-plain c = plain_owns_all
