@@ -8,4 +8,6 @@ pub mod FreePlaces
 pub mod FaultsOn
 pub mod LineRows
 pub mod PartRows
+pub mod RisingNumbers
 pub mod LeftParts
+pub mod NamedParts

@@ -1,6 +1,6 @@
 -- The text of a dead list: each line with words names a dead qubit or a dead coupler.
-use Rattle.std.specs.Prelude.{◌≡◌, ℕ, ◌<◌, ◌==◌, Bool, false, ◌&&◌, ◌||◌, List, [], ◌∷◌, Result, Ok, Err, nat_lt, min, max, if◌then◌else◌}
-use Rattle.std.specs.List.{list_any}
+use Rattle.std.specs.Prelude.{◌≡◌, ℕ, ◌<◌, ◌==◌, Bool, false, ◌&&◌, ◌||◌, List, [], ◌∷◌, map, Result, Ok, Err, nat_lt, min, max, if◌then◌else◌}
+use Rattle.std.specs.List.{list_any, flat_map, range_with_len}
 use Rattle.whole_text.specs.declared.faults.TextKind.TheVariants as kinds
 use Rattle.whole_text.specs.declared.faults.TextFault.{TextFault}
 use Rattle.whole_text.specs.declared.token.Style.TheVariants.{Plain}
@@ -13,6 +13,7 @@ use Rattle.chimera_graph.specs.Places.{are_joined}
 use Rattle.working_graph.specs.declared.parts.DeadPart.{DeadPart}
 use Rattle.working_graph.specs.declared.parts.DeadPart.TheVariants.{Qubit, Coupler}
 use Rattle.working_graph.specs.Working.{WorkingGraph, pair_number, is_dead, is_cut}
+use Rattle.working_graph.specs.Numbers.{rising}
 
 -- ---- the reading
 
@@ -74,10 +75,27 @@ pub record IsWithout (graph : Chimera) (parts : List DeadPart) (w : WorkingGraph
   pub couplers : (p q : ℕ) → p < qubits_of graph → q < qubits_of graph
       → is_cut w p q ≡ list_any (is_coupler p q) parts
 
--- it is the dead coupler with this number
-abbrev pub is_numbered : ℕ → DeadPart → Bool
-is_numbered n (Qubit a) = false
-is_numbered n (Coupler a b) = pair_number (min a b) (max a b) == n
+-- the number of a part, where it is a coupler
+abbrev pub coupler_number : DeadPart → List ℕ
+coupler_number (Qubit a) = []
+coupler_number (Coupler a b) = pair_number (min a b) (max a b) ∷ []
+
+-- the numbers of the couplers among these parts, in the order of the parts
+abbrev pub numbers_of : List DeadPart → List ℕ
+numbers_of parts = flat_map coupler_number parts
+
+-- what is left of a graph without these parts: a mark for each of its qubits, and the numbers of
+-- the dead couplers in order
+abbrev pub left_of : Chimera → List DeadPart → WorkingGraph
+left_of graph parts = record {
+  graph = graph;
+  dead = map (λ q. list_any (is_qubit q) parts) (range_with_len 0 (qubits_of graph));
+  cut = rising (numbers_of parts);
+}
+
+-- the working graph that a text leaves, or the text's first fault
+abbrev pub working_of : Chimera → List ℕ → Result WorkingGraph TextFault
+working_of graph text = dead_parts graph text >>= λ parts. Ok (left_of graph parts)
 
 -- what is left of a graph without the parts that a text names
 abbrev pub IsLeftBy : Chimera → List ℕ → WorkingGraph → Type 0

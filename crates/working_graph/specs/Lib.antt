@@ -5,3 +5,4 @@ pub mod laws
 pub mod Places
 pub mod Faults
 pub mod DeadLists
+pub mod Stated

@@ -43,9 +43,8 @@ pub(crate) fn pair_number(low: u32, high: u32) -> u64
 
 impl Working {
     ghost use Rattle.std.specs.Prelude.{◌<◌, ◌≤◌, IfOk};
-    ghost use Rattle.std.specs.List.Sorted.{IsPermutation};
     ghost use Rattle.chimera_graph.specs.Graph.{qubits_of};
-    ghost use Rattle.working_graph.specs.Numbers.{AreRising};
+    ghost use Rattle.working_graph.specs.Numbers.{AreRising, rising};
     ghost use Rattle.working_graph.specs.Working.{exists_in, is_cut, whole_graph};
     /// The whole graph: nothing of it is dead.
     pub fn whole(alloc: Global, graph: Chimera) -> Working
@@ -65,9 +64,11 @@ impl Working {
         dead: Vec<bool>,
         cut: Vec<u64>,
     ) -> Result<Working, NoMemory>
-        ensures graph { IfOk result (λ w. w.graph ≡ graph) }
-        ensures dead { IfOk result (λ w. w.dead ≡ dead.items) }
-        ensures cut { IfOk result (λ w. IsPermutation cut.items w.cut) }
+        ensures { IfOk result (λ w. w ≡ record {
+          graph = graph;
+          dead = dead.items;
+          cut = rising cut.items;
+        }) }
     {
         let cut = sorted_keys(alloc, cut, 0, 0)?;
         Ok(Working { graph, dead, cut })
