@@ -7,3 +7,4 @@ pub mod Compared
 pub mod ReadValues
 pub mod ReadSteps
 pub mod KeptLines
+pub mod FirstFaults

@@ -20,7 +20,7 @@ mod reading;
 
 pub use certificate::Certificate;
 pub use faults::{ProofAnswer, ProofFault};
-pub use laws::{laws_of_certificates, laws_of_readings};
+pub use laws::{laws_of_certificates, laws_of_first_faults, laws_of_readings};
 pub use limits::check_certificate;
 pub use lines::{Line, LineList, LineRef, Lines};
 pub use proving::prove;

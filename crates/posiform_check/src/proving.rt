@@ -5,6 +5,7 @@ ghost use Rattle.bits_model.specs.Output.{form_of, weight_total};
 ghost use Rattle.posiform_check.specs.BitForms.{certificate_list, model_list};
 ghost use Rattle.posiform_check.specs.Certificates.{certificate_fault, first_negative, AreOfNodes, IsRefusal};
 ghost use Rattle.posiform_check.specs.Differences.{difference};
+ghost use Rattle.posiform_check.specs.FirstFaults.{proof_fault, IsFirstFault};
 ghost use Rattle.posiform_check.specs.Proved.{Proves};
 
 use crate::certificate::Certificate;
@@ -73,6 +74,8 @@ pub fn prove(
     ensures energy { IfOk result (λ e. e ≡ energy (form_of model.now) y.now) }
     ensures proved { IfOk result (λ _. Proves model.now certificate.now y.now) }
     ensures refused { IfErr result (IsRefusal model.now certificate.now y.now) }
+    ensures faultless { IfOk result (λ _. proof_fault model.now certificate.now y.now ≡ None) }
+    ensures first { IfErr result (IsFirstFault model.now certificate.now y.now) }
 {
     if let Some(line) = first_negative(&certificate.lines) {
         return Err(ProofAnswer::Fault(ProofFault::Negative(line)));
