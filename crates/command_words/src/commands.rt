@@ -28,6 +28,14 @@ pub enum Chaining {
     Map(WordAt),
 }
 
+/// How strongly the qubits of a chain are tied: by the simple bound of Choi, which is one for the
+/// whole chain, or by what a broken tie cuts off.
+#[derive(Clone, Copy, Debug, PartialEq, Eq)]
+pub enum Ties {
+    Choi,
+    Cut,
+}
+
 /// The qubits of a graph, and how the nodes of a form get chains of them.
 #[derive(Clone, Copy, Debug, PartialEq, Eq)]
 pub struct Board {
