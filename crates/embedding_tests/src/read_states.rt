@@ -8,9 +8,10 @@ use base::{Figures, NoMemory, UnitChoice};
 use bits_model::{ChainList, Kind, OutputModel};
 use chain_map::{ChainMap, CheckAnswer};
 use chimera_graph::Chimera;
+use command_words::Ties;
 use ising_form::Ising;
+use model_pipeline::{Perch, Qubits, Site, form_on_qubits};
 use quad_form::Quad;
-use qubit_models::model_on_qubits;
 use std::alloc::Global;
 use std::test::Fail;
 
@@ -68,28 +69,17 @@ fn are_read(
 /// Whether the states of a form on the chains of a map are read by the majority of each.
 fn are_read_by_chains(
     alloc: Global,
-    shape: (u32, u32, u32),
     form: Ising,
+    site: &Site,
     map: &ChainMap,
     variables: u32,
 ) -> Result<bool, NoMemory>
     requires { IsSmall form }
 {
-    let Some(graph) = Chimera::new(shape.0, shape.1, shape.2) else {
-        return Ok(false);
-    };
     if variables as usize > form.fields.as_slice().len() {
         return Ok(false);
     }
-    match model_on_qubits(
-        alloc,
-        form,
-        variables,
-        FIGURES,
-        UnitChoice::One,
-        &graph,
-        map,
-    ) {
+    match form_on_qubits(alloc, form, variables, FIGURES, UnitChoice::One, site) {
         Ok(model) => are_read(alloc, &model, Some(map), variables),
         Err(_) => Ok(false),
     }
@@ -108,35 +98,66 @@ const FIELDS: [i128; 3] = [3, -2, 0];
 
 const COUPLINGS: [Row; 2] = [(0, 1, -1), (1, 2, 4)];
 
+/// These chains on a graph, tied in one way.
+fn site_of(
+    alloc: Global,
+    shape: (u32, u32, u32),
+    chains: &[&[u64]],
+    ties: Ties,
+) -> Result<Option<Site>, NoMemory> {
+    let Some(graph) = Chimera::new(shape.0, shape.1, shape.2) else {
+        return Ok(None);
+    };
+    Ok(Some(Site {
+        qubits: Qubits::All(graph),
+        perch: Perch::Map(map_of(alloc, chains)?),
+        ties,
+    }))
+}
+
 /// Whether all states of three nodes on these chains are read by the majority of each.
 fn are_read_on(
     alloc: Global,
     shape: (u32, u32, u32),
     chains: &[&[u64]],
+    ties: Ties,
     variables: u32,
 ) -> Result<bool, NoMemory> {
     let map = map_of(alloc, chains)?;
+    let Some(site) = site_of(alloc, shape, chains, ties)? else {
+        return Ok(false);
+    };
     match small_form(alloc, 2, &FIELDS, &COUPLINGS)? {
-        Some(form) => are_read_by_chains(alloc, shape, form, &map, variables),
+        Some(form) => are_read_by_chains(alloc, form, &site, &map, variables),
         None => Ok(false),
     }
 }
 
+/// The three nodes on chains of a graph.
+const ROWS: [((u32, u32, u32), &[&[u64]]); 4] = [
+    ((1, 1, 3), &[&[3, 0], &[1, 4], &[5, 2]]),
+    ((1, 1, 4), &[&[1], &[4, 0, 5], &[7, 2, 6, 3]]),
+    ((1, 1, 4), &[&[0, 4], &[5, 1], &[2, 6]]),
+    ((2, 2, 1), &[&[6], &[7, 5], &[3, 1, 0, 4]]),
+];
+
 #[test]
 fn broken_and_tied_chains_are_read(rt: HostRuntime) -> Result<(), Fail> {
-    let rows: [((u32, u32, u32), &[&[u64]]); 4] = [
-        ((1, 1, 3), &[&[3, 0], &[1, 4], &[5, 2]]),
-        ((1, 1, 4), &[&[1], &[4, 0, 5], &[7, 2, 6, 3]]),
-        ((1, 1, 4), &[&[0, 4], &[5, 1], &[2, 6]]),
-        ((2, 2, 1), &[&[6], &[7, 5], &[3, 1, 0, 4]]),
-    ];
-    for (shape, chains) in rows {
+    for (shape, chains) in ROWS {
         for variables in 0..4 {
             assert!(rt;
-                are_read_on(rt.alloc(), shape, chains, variables)?,
+                are_read_on(rt.alloc(), shape, chains, Ties::Choi, variables)?,
                 "{chains:?}"
             );
         }
+    }
+    Ok(())
+}
+
+#[test]
+fn chains_tied_by_their_lighter_sides_are_read(rt: HostRuntime) -> Result<(), Fail> {
+    for (shape, chains) in ROWS {
+        assert!(rt; are_read_on(rt.alloc(), shape, chains, Ties::Cut, 3)?, "{chains:?}");
     }
     Ok(())
 }

@@ -11,11 +11,12 @@ use Rattle.bits_model.specs.Walks.{IsConnected}
 use Rattle.bits_model.specs.Output.{Written, IsWellFormed, is_coupler, form_of, decoding_of}
 use Rattle.bits_model.specs.Units.{IsReduced}
 
--- what a command asks of a model: how its unit is chosen and, on the qubits of a graph, the chains
--- and which two qubits are joined
+-- what a command asks of a model: how its unit is chosen and, on the qubits of a graph, the chains,
+-- which qubits there are and which two of them are joined
 pub record Demand : Type 0 where
   pub unit : UnitChoice
   pub chains : List (List ℕ)
+  pub exists : ℕ → Bool
   pub joined : ℕ → ℕ → Bool
 
 -- ---- the stated figures
@@ -31,11 +32,12 @@ abbrev pub HasUnit : UnitChoice → Written → Type 0
 HasUnit One m = m.unit ≡ pos 1
 HasUnit Reduce m = IsReduced m
 
--- the chains are those that were asked for, none of them empty, each connected by joins inside it
--- and no qubit twice, and couplers stand on joined qubits
+-- the chains are those that were asked for, none of them empty, of qubits that there are, each
+-- connected by joins inside it and no qubit twice, and couplers stand on joined qubits
 pub record IsEmbedded (demand : Demand) (m : Written) : Type 0 where
   pub chains : m.chains ≡ demand.chains
   pub filled : All (λ chain. chain ≢ []) m.chains
+  pub alive : All (λ chain. All (λ q. demand.exists q ≡ true) chain) m.chains
   pub connected : All (IsConnected demand.joined) m.chains
   pub apart : (q : ℕ) → count_by (λ p. p == q) (concat m.chains) ≤ 1
   pub joined : All (λ e. is_coupler e ≡ true → demand.joined e.first e.second ≡ true) m.entries

@@ -8,6 +8,7 @@ use Rattle.problem_form.specs.declared.limits.Choices.{Choices}
 use Rattle.problem_form.specs.Problems.{ProblemContent}
 use Rattle.command_words.specs.declared.commands.NodeModel.{NodeModel}
 use Rattle.command_words.specs.declared.commands.NodeModel.TheVariants.{Qubo, Ising}
+use Rattle.command_words.specs.declared.commands.Ties.{Ties}
 use Rattle.penalty_layer.specs.Penalty.{figures}
 use Rattle.quad_form.specs.Units.{counted_in, quad_unit}
 use Rattle.ising_form.specs.Isings.{IsingContent}
@@ -15,14 +16,14 @@ use Rattle.ising_form.specs.Spins.{coupled}
 use Rattle.ising_form.specs.Reduction.{ising_unit}
 use Rattle.ising_form.specs.laws.Spun.{length-fields}
 use Rattle.chimera_graph.specs.declared.chimera.Chimera.{Chimera}
-use Rattle.chimera_graph.specs.Graph.{qubits_of}
-use Rattle.chain_map.specs.Valid.{IsValid}
 use Rattle.embedding_check.specs.Embeddings.{Embedding}
 use Rattle.embedding_check.specs.Checked.{IsChecked}
-use Rattle.qubit_models.specs.QubitModels.{joins_of, kind_of, qubit_model}
+use Rattle.working_graph.specs.Fabrics.{Fabric, IsValidOn}
+use Rattle.model_pipeline.specs.Sites.{fabric_in, graph_in}
+use Rattle.model_pipeline.specs.QubitModels.{kind_of, qubit_model}
 use Rattle.model_pipeline.specs.Models.{ising_figures, model, quad_of}
 use Rattle.model_pipeline.specs.GraphModels.{ising_of}
-use Rattle.model_pipeline.specs.Extensions.{form_nodes, IsMadeOf}
+use Rattle.model_pipeline.specs.Extensions.{form_nodes, IsMade}
 
 module _ (choices : Choices) (p : ProblemContent) where
   abbrev ising : IsingContent
@@ -32,25 +33,30 @@ module _ (choices : Choices) (p : ProblemContent) where
   same_width : length ising.fields ≡ length (quad_of choices p).diagonal
   same_width = length-fields (coupled (quad_of choices p).couplers) 0 (quad_of choices p).diagonal
 
-  on_nodes : (target : NodeModel) (unit : UnitChoice)
-      → form_nodes (model choices target unit p.variables p) ≡ length (quad_of choices p).diagonal
-  on_nodes Qubo One = refl
-  on_nodes Qubo Reduce =
+  on_nodes : (target : NodeModel) (unit : UnitChoice) (own : ℕ)
+      → form_nodes (model choices target unit own p) ≡ length (quad_of choices p).diagonal
+  on_nodes Qubo One own = refl
+  on_nodes Qubo Reduce own =
       let q = quad_of choices p in length-map q.diagonal (counted_in (quad_unit q))
-  on_nodes Ising One = same_width
-  on_nodes Ising Reduce = length-map ising.fields (counted_in (ising_unit ising)) ∙ same_width
+  on_nodes Ising One own = same_width
+  on_nodes Ising Reduce own =
+      length-map ising.fields (counted_in (ising_unit ising)) ∙ same_width
 
   -- a valid map has a chain for each node of the Ising form
-  on_chains : (graph : Chimera) (map : List (List ℕ)) (e : Embedding) (unit : UnitChoice)
-      → IsValid (joins_of graph) (qubits_of graph) ising map
-      → IsChecked (joins_of graph) (qubits_of graph) ising map e
-      → form_nodes (qubit_model unit e p.variables (ising_figures (figures p)) (kind_of graph))
+  on_chains : (ties : Ties) (graph : Chimera) (fabric : Fabric) (map : List (List ℕ))
+      (e : Embedding) (unit : UnitChoice) (own : ℕ) → IsValidOn fabric ising map
+      → IsChecked fabric.joined fabric.qubits ising map e
+      → form_nodes (qubit_model unit ties e own (ising_figures (figures p)) (kind_of graph))
       ≡ length (quad_of choices p).diagonal
-  on_chains graph map e One valid checked = ap length checked.chains ∙ valid.counted ∙ same_width
-  on_chains graph map e Reduce valid checked = ap length checked.chains ∙ valid.counted ∙ same_width
+  on_chains ties graph fabric map e One own valid checked =
+      ap length checked.chains ∙ valid.0.counted ∙ same_width
+  on_chains ties graph fabric map e Reduce own valid checked =
+      ap length checked.chains ∙ valid.0.counted ∙ same_width
 
-  pub made_nodes : (m : Written) → IsMadeOf choices p m
+  pub made_nodes : (m : Written) → IsMade choices p m
       → form_nodes m ≡ length (quad_of choices p).diagonal
-  made_nodes m (inl (target, unit, same)) = ap form_nodes same ∙ on_nodes target unit
-  made_nodes m (inr (unit, graph, map, valid, (e, checked, same))) =
-      ap form_nodes same ∙ on_chains graph map e unit valid checked
+  made_nodes m (ties, own, (few, inl (target, unit, same))) =
+      ap form_nodes same ∙ on_nodes target unit own
+  made_nodes m (ties, own, (few, inr (unit, qubits, map, valid, (e, checked, same)))) =
+      ap form_nodes same
+      ∙ on_chains ties (graph_in qubits) (fabric_in qubits) map e unit own valid checked

@@ -1,24 +1,33 @@
 -- The model of a problem on the qubits of a graph: what it promises of the problem.
-use Rattle.std.proofs.Common.{◌≡◌, ℕ, ℤ, ◌*ℤ◌, List, refl, ap, sym, subst, ◌∙◌, arith}
+use Rattle.std.proofs.Common.{◌≡◌, ◌≤◌, inr, ℕ, ℤ, ◌*ℤ◌, List, length, refl, ap, sym, subst, ◌∙◌, arith}
+use Rattle.std.specs.Prelude.{IfOk, Result, Ok, Err}
 use Rattle.std.proofs.lemmas.Int.{ints}
 use Rattle.base.specs.declared.costs.Figures.{Figures}
 use Rattle.base.specs.declared.unit.UnitChoice.{UnitChoice}
 use Rattle.bits_model.specs.Output.{Written}
 use Rattle.faithful.specs.Faithful.{scale_of}
+use Rattle.problem_form.specs.declared.limits.Choices.{Choices}
 use Rattle.problem_form.specs.Problems.{ProblemContent, form_of}
 use Rattle.problem_form.specs.Limits.{upper}
 use Rattle.penalty_layer.specs.Penalty.{figures}
 use Rattle.quad_form.specs.Quads.{QuadContent, IsQuad}
-use Rattle.ising_form.specs.Isings.{IsingContent}
+use Rattle.ising_form.specs.Isings.{IsingContent, IsIsing}
 use Rattle.ising_form.specs.Spins.{coupled}
 use Rattle.ising_form.specs.Spins as spins
 use Rattle.ising_form.specs.laws.Spun.{length-fields}
 use Rattle.ising_form.proofs.Images.{image_is_ising, total-image, size-image}
 use Rattle.chimera_graph.specs.declared.chimera.Chimera.{Chimera}
-use Rattle.qubit_models.specs.Standing.{AreSmall, IsQubitModelOf}
+use Rattle.command_words.specs.declared.commands.Ties.{Ties}
+use Rattle.working_graph.specs.Fabrics.{Fabric}
+use Rattle.model_pipeline.specs.declared.site.Site.{Site}
+use Rattle.model_pipeline.specs.Sites.{chains_of, fabric_in, graph_in, CanStandBy}
+use Rattle.model_pipeline.specs.QubitModels.{IsModelByCheck}
+use Rattle.model_pipeline.specs.QubitStanding.{AreSmall, IsQubitModelOf}
 use Rattle.model_pipeline.specs.Models.{ising_figures}
 use Rattle.model_pipeline.specs.Formed.{IsFormed, IsSpun}
-use Rattle.model_pipeline.specs.GraphModels.{IsGraphModelOf}
+use Rattle.model_pipeline.specs.GraphModels.{ising_of, site_chains, IsGraphModelOf, IsModelAt, IsOnQubits}
+use Rattle.model_pipeline.specs.Extensions.{IsMadeOf}
+use Rattle.model_pipeline.proofs.Sites.{site_valid}
 use Rattle.model_pipeline.proofs.Standing.{ising_figures_are_stated, spins_stand}
 
 -- ---- the Ising form
@@ -51,8 +60,8 @@ spun_as p q n f m kept made form figured =
 
 -- ---- its model on the qubits of a graph
 
-module _ (p : ProblemContent) (own : ℕ) (choice : UnitChoice) (graph : Chimera)
-    (map : List (List ℕ)) (m : Written) (f : IsingContent) where
+module _ (p : ProblemContent) (own : ℕ) (choice : UnitChoice) (ties : Ties) (graph : Chimera)
+    (fabric : Fabric) (map : List (List ℕ)) (m : Written) (f : IsingContent) where
   -- the figures are small
   small : IsSpun p f (ising_figures (figures p)) → AreSmall (ising_figures (figures p))
   small spun = record {
@@ -62,8 +71,8 @@ module _ (p : ProblemContent) (own : ℕ) (choice : UnitChoice) (graph : Chimera
   }
 
   graph_stands : IsSpun p f (ising_figures (figures p))
-      → IsQubitModelOf f (ising_figures (figures p)) own choice graph map m
-      → IsGraphModelOf p own choice graph map m
+      → IsQubitModelOf f (ising_figures (figures p)) own choice ties graph fabric map m
+      → IsGraphModelOf p own choice ties graph fabric map m
   graph_stands spun of =
       let stands = spun.stands.1 in record {
         kind = of.kind;
@@ -75,14 +84,66 @@ module _ (p : ProblemContent) (own : ℕ) (choice : UnitChoice) (graph : Chimera
         threshold = omega (arith, ints, of.threshold, ap (λ (a : ℤ). a *ℤ upper p) of.scale);
         unit = of.unit;
         embedded = of.embedded;
-        relaxes =
-            of.relaxes (form_of p) spun.stands.0 p.variables spun.enough stands.decodes refl
+        stands =
+            of.stands (form_of p) spun.stands.0 p.variables spun.enough stands.decodes refl
             stands.relaxes;
       }
 
   -- with the figures of the Ising form
-  pub graph_model : (n : Figures) → IsSpun p f n → IsQubitModelOf f n own choice graph map m
-      → IsGraphModelOf p own choice graph map m
+  pub graph_model : (n : Figures) → IsSpun p f n → IsQubitModelOf f n own choice ties graph fabric map m
+      → IsGraphModelOf p own choice ties graph fabric map m
   graph_model n spun of =
       graph_stands (subst (λ r. IsSpun p f r) spun.figures spun)
-      (subst (λ r. IsQubitModelOf f r own choice graph map m) spun.figures of)
+      (subst (λ r. IsQubitModelOf f r own choice ties graph fabric map m) spun.figures of)
+
+-- ---- a model at a site
+
+-- what is true of a result's value by two facts
+pub if_ok-by_two : {T E : Type 0} (r : Result T E) {P Q R : T → Type 0} → IfOk r P → IfOk r Q
+    → ((y : T) → P y → Q y → R y) → IfOk r R
+if_ok-by_two (Ok y) p q f = f y p q
+if_ok-by_two (Err e) p q f = tt
+
+-- a model of the form, on the chains that a site has for it
+abbrev IsFormAt : Site → UnitChoice → ℕ → Written → IsingContent → Figures → Type 0
+IsFormAt site unit own m f n =
+    IsModelByCheck unit site.ties (graph_in site.qubits) (fabric_in site.qubits) f
+    (chains_of site.qubits site.perch (length f.fields)) own n m
+
+-- it stands for what the form relaxes
+abbrev FormStandsAt : Site → UnitChoice → ℕ → Written → IsingContent → Figures → Type 0
+FormStandsAt site unit own m f n =
+    IsQubitModelOf f n own unit site.ties (graph_in site.qubits) (fabric_in site.qubits)
+    (chains_of site.qubits site.perch (length f.fields)) m
+
+module _ (site : Site) (choices : Choices) (unit : UnitChoice) (own : ℕ) (p : ProblemContent) where
+  -- of the problem's form it is the problem's
+  pub form_at_site : (m : Written) (f : IsingContent) (n : Figures) → f ≡ ising_of choices p
+      → IsSpun p f n → IsFormAt site unit own m f n → FormStandsAt site unit own m f n
+      → IsOnQubits site choices unit own p m
+  form_at_site m f n form spun by stands =
+      let at = IsFormAt site unit own m in
+      let graph = graph_in site.qubits in
+      let fabric = fabric_in site.qubits in
+      let chains = λ (g : IsingContent). chains_of site.qubits site.perch (length g.fields) in
+      record {
+        by = subst (λ g. at g (ising_figures (figures p))) form
+            (subst (λ r. at f r) spun.figures by);
+        stands =
+            subst (λ g. IsGraphModelOf p own unit site.ties graph fabric (chains g) m) form
+            (graph_model p own unit site.ties graph fabric (chains f) m f n spun stands);
+      }
+
+  pub made_at_site : (m : Written) → IsIsing (ising_of choices p) → own ≤ p.variables
+      → CanStandBy site (ising_of choices p) → IsModelAt site choices unit own p m
+      → IsMadeOf site.ties own choices p m
+  made_at_site m ising few can by = (
+    few,
+    inr (
+      unit,
+      site.qubits,
+      site_chains site choices p,
+      site_valid site.qubits site.perch (ising_of choices p) ising can,
+      by,
+    ),
+  )

@@ -11,3 +11,7 @@ pub mod WrittenExtensions
 pub mod FormNodes
 pub mod Decoders
 pub mod RowEnergies
+pub mod Sites
+pub mod Tied
+pub mod OnChains
+pub mod QubitModels

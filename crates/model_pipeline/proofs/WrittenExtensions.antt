@@ -19,6 +19,8 @@ use Rattle.problem_form.specs.Problems.{ProblemContent}
 use Rattle.problem_form.specs.Problems as problems
 use Rattle.command_words.specs.declared.commands.NodeModel.{NodeModel}
 use Rattle.command_words.specs.declared.commands.NodeModel.TheVariants.{Qubo, Ising}
+use Rattle.command_words.specs.declared.commands.Ties.{Ties}
+use Rattle.command_words.specs.declared.commands.Ties.TheVariants.{Choi}
 use Rattle.penalty_layer.specs.Penalty.{figures}
 use Rattle.quad_form.specs.Flat.{same_bits}
 use Rattle.quad_form.specs.Units.{counted_in}
@@ -32,22 +34,25 @@ use Rattle.ising_form.proofs.Images.{image_is_ising}
 use Rattle.chimera_graph.specs.declared.chimera.Chimera.{Chimera}
 use Rattle.chimera_graph.specs.Graph.{qubits_of}
 use Rattle.chain_map.specs.Chains.{chain_of}
-use Rattle.chain_map.specs.Valid.{IsValid}
 use Rattle.embedding_check.specs.Embeddings.{Embedding, IsEmbedding}
 use Rattle.embedding_check.specs.Checked.{IsChecked}
 use Rattle.embedding_check.proofs.Checked.{checked_embeds}
-use Rattle.chain_layer.specs.declared.link.ChainLink.{ChainLink}
 use Rattle.chain_layer.specs.Image as chains
 use Rattle.chain_layer.specs.laws.Kept.{chains_keep, chains_reach}
-use Rattle.chain_layer.proofs.Written.{image_fits_output, read_off_the_chains}
-use Rattle.qubit_models.specs.QubitModels.{chained_figures, joins_of, kind_of, qubit_model}
-use Rattle.qubit_models.proofs.OnChains.{reduced_fits}
+use Rattle.chain_layer.proofs.Written.{read_off_the_chains}
+use Rattle.working_graph.specs.Fabrics.{IsValidOn}
+use Rattle.model_pipeline.specs.declared.site.Qubits.{Qubits}
+use Rattle.model_pipeline.specs.Sites.{fabric_in, graph_in}
+use Rattle.model_pipeline.specs.QubitModels.{chained_figures, image_by, kind_of, offset_by, qubit_model}
 use Rattle.model_pipeline.specs.Models.{ising_figures, model, quad_of}
 use Rattle.model_pipeline.specs.Formed.{HasRoom}
 use Rattle.model_pipeline.specs.GraphModels.{ising_of}
-use Rattle.model_pipeline.specs.Extensions.{Extends, FitsState, IsLeastExtension, IsMadeOf, link_by, state_on}
+use Rattle.model_pipeline.specs.Extensions.{ExtendsTo, FitsState, IsLeastExtension, IsLeastTo, IsMade, IsMadeOf, link_by, state_on}
+use Rattle.model_pipeline.proofs.OnChains.{reduced_fits}
+use Rattle.model_pipeline.proofs.Sites.{few_in, sized_in}
 use Rattle.model_pipeline.proofs.Standing.{spins_fit, spins_link, steps_enough}
-use Rattle.model_pipeline.proofs.WrittenStates.{extends_written, ising_counts, qubo_counts, reduced_counts}
+use Rattle.model_pipeline.proofs.Tied.{link_fits, link_of, tied_fits_output, tied_reach, tied_width}
+use Rattle.model_pipeline.proofs.WrittenStates.{Counts, Follows, extends_written, follows_on, ising_counts, least_follows, least_written, qubo_counts, reduced_counts}
 
 module _ (choices : Choices) (p : ProblemContent) (room : HasRoom (quad_of choices p)) where
   -- ---- the forms
@@ -86,152 +91,205 @@ module _ (choices : Choices) (p : ProblemContent) (room : HasRoom (quad_of choic
 
   -- ---- on the nodes of a form
 
-  on_nodes : (target : NodeModel) (unit : UnitChoice) (x y : List Bool)
-      → IsLeastExtension choices p x y
-      → Extends source (model choices target unit p.variables p) x
-      (state_on (model choices target unit p.variables p) y)
-  on_nodes Qubo One x y least =
-      extends_written source _ first (figures p) _ x y
-      (qubo_counts One (quad_of choices p) p.variables (figures p) first (λ z. refl)) least
-  on_nodes Qubo Reduce x y least =
-      extends_written source _ first (figures p) _ x y
-      (qubo_counts Reduce (quad_of choices p) p.variables (figures p) first (λ z. refl)) least
-  on_nodes Ising One x y least =
-      extends_written source _ after_spins spun_figures _ x y
-      (ising_counts ising p.variables spun_figures kinds.Ising [] after_spins (λ z. refl)
-      (refl, omega (arith, same_width, enough)))
-      (spun_least x y least)
-  on_nodes Ising Reduce x y least =
-      extends_written source _ after_spins spun_figures _ x y
-      (reduced_counts ising p.variables spun_figures kinds.Ising [] after_spins (λ z. refl)
-      (refl, omega (arith, length-map ising.fields (counted_in (ising_unit ising)), same_width, enough)))
-      (spun_least x y least)
+  -- the state extends the assignment, and no state that does has a lesser energy
+  abbrev ExtendsBest : Written → List Bool → List Bool → Type 0
+  ExtendsBest m x y = ExtendsTo p.variables source m x y × IsLeastTo p.variables m x y
 
-  -- ---- on chains
+  best : (g : Form) (d : Decoding) (n : Figures) (m : Written) (x y : List Bool)
+      → Counts p.variables g n d m → ExtendsLeast source g d n x y → ExtendsBest m x y
+  best g d n m x y counts least = (
+    extends_written p.variables source g d n m counts x y (least_follows source g d n x y least),
+    least_written p.variables source g d n m counts x y least,
+  )
 
-  module _ (graph : Chimera) (e : Embedding) (kept : IsEmbedding e) (same : e.ising ≡ ising)
-      (sized : e.qubits ≡ qubits_of graph) (x y : List Bool)
-      (least : IsLeastExtension choices p x y) where
-    abbrev link : ChainLink
-    link = record { chains = e.chains; qubits = e.qubits }
+  module _ (own : ℕ) (few : own ≤ p.variables) where
+    on_nodes : (target : NodeModel) (unit : UnitChoice) (x y : List Bool)
+        → IsLeastExtension choices p x y
+        → ExtendsBest (model choices target unit own p) x
+        (state_on (model choices target unit own p) y)
+    on_nodes Qubo One x y least =
+        best _ first (figures p) _ x y
+        (qubo_counts One (quad_of choices p) own p.variables (figures p) first (λ z. refl)) least
+    on_nodes Qubo Reduce x y least =
+        best _ first (figures p) _ x y
+        (qubo_counts Reduce (quad_of choices p) own p.variables (figures p) first (λ z. refl)) least
+    on_nodes Ising One x y least =
+        best _ after_spins spun_figures _ x y
+        (ising_counts ising own p.variables spun_figures kinds.Ising [] after_spins (λ z. refl)
+        (refl, omega (arith, same_width, enough, few)))
+        (spun_least x y least)
+    on_nodes Ising Reduce x y least =
+        best _ after_spins spun_figures _ x y
+        (reduced_counts ising own p.variables spun_figures kinds.Ising [] after_spins (λ z. refl) (
+          refl,
+          omega (
+            arith,
+            length-map ising.fields (counted_in (ising_unit ising)),
+            same_width,
+            enough,
+            few,
+          ),
+        ))
+        (spun_least x y least)
 
-    links : chains.Fits link e
-    links = record { chains = refl; qubits = refl; kept = kept }
+    -- ---- on chains
 
-    abbrev after_chains : Decoding
-    after_chains = decoding_after after_spins (chains.decoding link)
+    module _ (ties : Ties) (graph : Chimera) (e : Embedding) (kept : IsEmbedding e)
+        (same : e.ising ≡ ising) (sized : e.qubits ≡ qubits_of graph) (x y : List Bool)
+        (least : IsLeastExtension choices p x y) where
+      abbrev after_chains : Decoding
+      after_chains = decoding_after after_spins (chains.decoding (link_of e))
 
-    abbrev tied_figures : Figures
-    tied_figures = chained_figures e spun_figures
+      abbrev tied_figures : Figures
+      tied_figures = chained_figures ties e spun_figures
 
-    abbrev z : List Bool
-    z = chains.extension e y
+      abbrev z : List Bool
+      z = chains.extension e y
 
-    wide : length y ≡ length e.ising.fields
-    wide = least.width ∙ sym same_width ∙ sym (ap (λ (f : IsingContent). length f.fields) same)
+      wide : length y ≡ length e.ising.fields
+      wide = least.width ∙ sym same_width ∙ sym (ap (λ (f : IsingContent). length f.fields) same)
 
-    chained_least :
-        ExtendsLeast source (isings.form_of (chains.image e)) after_chains tied_figures x z
-    chained_least =
-        least-trans (chains_keep link e links)
-        (subst (λ f. ExtendsLeast source (isings.form_of f) after_spins spun_figures x y) (sym same)
-        (spun_least x y least))
-        (chains_reach link e y links wide)
+      -- the embedded form has the state y
+      embedded_least :
+          ExtendsLeast source (isings.form_of e.ising) after_spins spun_figures x y
+      embedded_least =
+          subst (λ f. ExtendsLeast source (isings.form_of f) after_spins spun_figures x y) (sym same)
+          (spun_least x y least)
 
-    on_graph : FitsOutput (kind_of graph) e.chains p.variables (chains.image e)
-    on_graph =
-        image_fits_output e graph.rows graph.cols graph.shore p.variables kept sized
-        (omega (arith, kept.counted, wide, least.width, enough))
+      chained_follows :
+          Follows source (isings.form_of (image_by ties e)) after_chains tied_figures x z
+      chained_follows =
+          follows_on source (isings.form_of e.ising) (isings.form_of (image_by ties e)) after_spins
+          (chains.decoding (link_of e)) spun_figures (offset_by ties e) x y z
+          (least_follows source (isings.form_of e.ising) after_spins spun_figures x y embedded_least)
+          (tied_reach ties e y kept wide)
 
-    reads : (w : List Bool)
-        → after_chains.decoded w ≡ read_off (kind_of graph) p.variables e.chains w
-    reads w = sym (read_off_the_chains link graph.rows graph.cols graph.shore p.variables w)
+      on_graph : FitsOutput (kind_of graph) e.chains own (image_by ties e)
+      on_graph =
+          tied_fits_output e kept ties graph.rows graph.cols graph.shore own sized
+          (omega (arith, kept.counted, wide, least.width, enough, few))
 
-    chained_extends : (unit : UnitChoice)
-        → Extends source (qubit_model unit e p.variables spun_figures (kind_of graph)) x z
-    chained_extends One =
-        extends_written source _ after_chains tied_figures _ x z
-        (ising_counts (chains.image e) p.variables tied_figures (kind_of graph) e.chains after_chains
-        reads on_graph)
-        chained_least
-    chained_extends Reduce =
-        extends_written source _ after_chains tied_figures _ x z
-        (reduced_counts (chains.image e) p.variables tied_figures (kind_of graph) e.chains after_chains
-        reads
-        (reduced_fits graph.rows graph.cols graph.shore p.variables e.chains (chains.image e) on_graph))
-        chained_least
+      reads : (w : List Bool)
+          → after_chains.decoded w ≡ read_off (kind_of graph) p.variables e.chains w
+      reads w = sym (read_off_the_chains (link_of e) graph.rows graph.cols graph.shore p.variables w)
 
-    -- the state on the qubits is the extension
-    abbrev bits_of : ℕ → ℕ → List Bool
-    bits_of nodes qubits =
-        map
-        (λ q. list_any (λ node. bit_at y node && is_in (chain_of e.chains node) q) (range_with_len 0 nodes))
-        (range_with_len 0 qubits)
+      counts : (unit : UnitChoice)
+          → Counts p.variables (isings.form_of (image_by ties e)) tied_figures after_chains
+          (qubit_model unit ties e own spun_figures (kind_of graph))
+      counts One =
+          ising_counts (image_by ties e) own p.variables tied_figures (kind_of graph) e.chains
+          after_chains reads on_graph
+      counts Reduce =
+          reduced_counts (image_by ties e) own p.variables tied_figures (kind_of graph) e.chains
+          after_chains reads
+          (reduced_fits graph.rows graph.cols graph.shore own e.chains (image_by ties e) on_graph)
 
-    image_width : length (chains.image e).fields ≡ e.qubits
-    image_width = length-map-range_with_len (chains.field_at (chains.all_shares e)) 0 e.qubits
+      -- the state on the qubits is the extension
+      abbrev bits_of : ℕ → ℕ → List Bool
+      bits_of nodes qubits =
+          map
+          (λ q. list_any (λ node. bit_at y node && is_in (chain_of e.chains node) q)
+          (range_with_len 0 nodes))
+          (range_with_len 0 qubits)
 
-    model_width : (unit : UnitChoice)
-        → (qubit_model unit e p.variables spun_figures (kind_of graph)).nodes ≡ e.qubits
-    model_width One = image_width
-    model_width Reduce =
-        length-map (chains.image e).fields (counted_in (ising_unit (chains.image e))) ∙ image_width
+      model_width : (unit : UnitChoice)
+          → (qubit_model unit ties e own spun_figures (kind_of graph)).nodes ≡ e.qubits
+      model_width One = tied_width ties e
+      model_width Reduce =
+          length-map (image_by ties e).fields (counted_in (ising_unit (image_by ties e)))
+          ∙ tied_width ties e
 
-    state_is : (unit : UnitChoice)
-        → state_on (qubit_model unit e p.variables spun_figures (kind_of graph)) y ≡ z
-    state_is One = λ i. bits_of (kept.counted i) (model_width One i)
-    state_is Reduce = λ i. bits_of (kept.counted i) (model_width Reduce i)
+      state_is : (unit : UnitChoice)
+          → state_on (qubit_model unit ties e own spun_figures (kind_of graph)) y ≡ z
+      state_is One = λ i. bits_of (kept.counted i) (model_width One i)
+      state_is Reduce = λ i. bits_of (kept.counted i) (model_width Reduce i)
 
-    on_chains : (unit : UnitChoice)
-        → Extends source (qubit_model unit e p.variables spun_figures (kind_of graph)) x
-        (state_on (qubit_model unit e p.variables spun_figures (kind_of graph)) y)
-    on_chains unit =
-        subst (Extends source (qubit_model unit e p.variables spun_figures (kind_of graph)) x)
-        (sym (state_is unit)) (chained_extends unit)
+      on_chains : (unit : UnitChoice)
+          → ExtendsTo p.variables source (qubit_model unit ties e own spun_figures (kind_of graph))
+          x (state_on (qubit_model unit ties e own spun_figures (kind_of graph)) y)
+      on_chains unit =
+          let m = qubit_model unit ties e own spun_figures (kind_of graph) in
+          subst (ExtendsTo p.variables source m x) (sym (state_is unit))
+          (extends_written p.variables source (isings.form_of (image_by ties e)) after_chains
+          tied_figures m (counts unit) x z chained_follows)
 
-    fits_chains : (unit : UnitChoice)
-        → FitsState (qubit_model unit e p.variables spun_figures (kind_of graph)) y
-    fits_chains One = (
-      wide ∙ sym kept.counted,
-      subst (λ n. All (λ chain. All (λ q. q < n) chain) e.chains) (sym (model_width One)) kept.within,
-    )
-    fits_chains Reduce = (
-      wide ∙ sym kept.counted,
-      subst (λ n. All (λ chain. All (λ q. q < n) chain) e.chains) (sym (model_width Reduce))
-          kept.within,
-    )
+      fits_chains : (unit : UnitChoice)
+          → FitsState (qubit_model unit ties e own spun_figures (kind_of graph)) y
+      fits_chains One = (
+        wide ∙ sym kept.counted,
+        subst (λ n. All (λ chain. All (λ q. q < n) chain) e.chains) (sym (model_width One))
+            kept.within,
+      )
+      fits_chains Reduce = (
+        wide ∙ sym kept.counted,
+        subst (λ n. All (λ chain. All (λ q. q < n) chain) e.chains) (sym (model_width Reduce))
+            kept.within,
+      )
+
+    -- chains that no state should break keep every state
+    module _ (graph : Chimera) (e : Embedding) (kept : IsEmbedding e) (same : e.ising ≡ ising)
+        (sized : e.qubits ≡ qubits_of graph) (x y : List Bool)
+        (least : IsLeastExtension choices p x y) where
+      least_on_chains : (unit : UnitChoice)
+          → IsLeastTo p.variables (qubit_model unit Choi e own spun_figures (kind_of graph)) x
+          (state_on (qubit_model unit Choi e own spun_figures (kind_of graph)) y)
+      least_on_chains unit =
+          let m = qubit_model unit Choi e own spun_figures (kind_of graph) in
+          let link = link_of e in
+          let links = link_fits e kept in
+          let chained = least-trans (chains_keep link e links)
+          (embedded_least Choi graph e kept same sized x y least)
+          (chains_reach link e y links (wide Choi graph e kept same sized x y least)) in
+          subst (IsLeastTo p.variables m x)
+          (sym (state_is Choi graph e kept same sized x y least unit))
+          (least_written p.variables source (isings.form_of (chains.image e))
+          (after_chains Choi graph e kept same sized x y least)
+          (tied_figures Choi graph e kept same sized x y least) m
+          (counts Choi graph e kept same sized x y least unit) x (chains.extension e y) chained)
 
   -- ---- each model of the problem
 
-  fits_nodes : (target : NodeModel) (unit : UnitChoice) (y : List Bool)
-      → FitsState (model choices target unit p.variables p) y
-  fits_nodes Qubo One y = tt
-  fits_nodes Qubo Reduce y = tt
-  fits_nodes Ising One y = tt
-  fits_nodes Ising Reduce y = tt
+  fits_nodes : (target : NodeModel) (unit : UnitChoice) (own : ℕ) (y : List Bool)
+      → FitsState (model choices target unit own p) y
+  fits_nodes Qubo One own y = tt
+  fits_nodes Qubo Reduce own y = tt
+  fits_nodes Ising One own y = tt
+  fits_nodes Ising Reduce own y = tt
 
   -- what a check gives of a valid map is an embedding
-  embeds : (graph : Chimera) (map : List (List ℕ)) (e : Embedding)
-      → IsValid (joins_of graph) (qubits_of graph) ising map
-      → IsChecked (joins_of graph) (qubits_of graph) ising map e → IsEmbedding e
-  embeds graph map e valid checked =
-      let few : qubits_of graph ≤ 2 ^ 20 = omega (arith, graph.shape.few) in
-      checked_embeds (joins_of graph) (qubits_of graph) ising map e few
-      (image_is_ising (quad_of choices p) room.quad room.total) valid checked
+  embeds : (qubits : Qubits) (map : List (List ℕ)) (e : Embedding)
+      → IsValidOn (fabric_in qubits) ising map
+      → IsChecked (fabric_in qubits).joined (fabric_in qubits).qubits ising map e
+      → IsEmbedding e
+  embeds qubits map e valid checked =
+      checked_embeds (fabric_in qubits).joined (fabric_in qubits).qubits ising map e (few_in qubits)
+      (image_is_ising (quad_of choices p) room.quad room.total) valid.0 checked
 
-  pub made_extends : (m : Written) (x y : List Bool) → IsMadeOf choices p m
-      → IsLeastExtension choices p x y → Extends source m x (state_on m y)
-  made_extends m x y (inl (target, unit, same)) least =
-      subst (λ w. Extends source w x (state_on w y)) (sym same) (on_nodes target unit x y least)
-  made_extends m x y (inr (unit, graph, all, valid, (e, checked, same))) least =
-      subst (λ w. Extends source w x (state_on w y)) (sym same)
-      (on_chains graph e (embeds graph all e valid checked) checked.ising checked.qubits x y least unit)
+  pub made_extends : (m : Written) (x y : List Bool) → IsMade choices p m
+      → IsLeastExtension choices p x y → ExtendsTo p.variables source m x (state_on m y)
+  made_extends m x y (ties, own, (few, inl (target, unit, same))) least =
+      subst (λ w. ExtendsTo p.variables source w x (state_on w y)) (sym same)
+      ((on_nodes own few target unit x y least).0)
+  made_extends m x y (ties, own, (few, inr (unit, qubits, all, valid, (e, checked, same)))) least =
+      subst (λ w. ExtendsTo p.variables source w x (state_on w y)) (sym same)
+      (on_chains own few ties (graph_in qubits) e (embeds qubits all e valid checked) checked.ising
+      (checked.qubits ∙ sized_in qubits) x y least unit)
 
-  pub made_fits : (m : Written) (x y : List Bool) → IsMadeOf choices p m
+  pub made_least : (m : Written) (x y : List Bool) (own : ℕ) → IsMadeOf Choi own choices p m
+      → IsLeastExtension choices p x y → IsLeastTo p.variables m x (state_on m y)
+  made_least m x y own (few, inl (target, unit, same)) least =
+      subst (λ w. IsLeastTo p.variables w x (state_on w y)) (sym same)
+      ((on_nodes own few target unit x y least).1)
+  made_least m x y own (few, inr (unit, qubits, all, valid, (e, checked, same))) least =
+      subst (λ w. IsLeastTo p.variables w x (state_on w y)) (sym same)
+      (least_on_chains own few (graph_in qubits) e (embeds qubits all e valid checked) checked.ising
+      (checked.qubits ∙ sized_in qubits) x y least unit)
+
+  pub made_fits : (m : Written) (x y : List Bool) → IsMade choices p m
       → IsLeastExtension choices p x y → FitsState m y
-  made_fits m x y (inl (target, unit, same)) least =
-      subst (λ w. FitsState w y) (sym same) (fits_nodes target unit y)
-  made_fits m x y (inr (unit, graph, all, valid, (e, checked, same))) least =
+  made_fits m x y (ties, own, (few, inl (target, unit, same))) least =
+      subst (λ w. FitsState w y) (sym same) (fits_nodes target unit own y)
+  made_fits m x y (ties, own, (few, inr (unit, qubits, all, valid, (e, checked, same)))) least =
       subst (λ w. FitsState w y) (sym same)
-      (fits_chains graph e (embeds graph all e valid checked) checked.ising checked.qubits x y least
-      unit)
+      (fits_chains own few ties (graph_in qubits) e (embeds qubits all e valid checked)
+      checked.ising (checked.qubits ∙ sized_in qubits) x y least unit)

@@ -1,6 +1,6 @@
 -- The extension of an assignment: the bits of all nodes that the steps add to a problem, and the
 -- state of a written model.
-use Rattle.std.specs.Prelude.{◌≡◌, ◌⊎◌, ⊤, ℕ, ◌<◌, ℤ, ◌+ℤ◌, ◌*ℤ◌, ◌≤ℤ◌, Bool, ◌&&◌, List, length, map, All}
+use Rattle.std.specs.Prelude.{◌≡◌, ◌⊎◌, ⊤, ℕ, ◌<◌, ◌≤◌, ℤ, ◌+ℤ◌, ◌*ℤ◌, ◌≤ℤ◌, Bool, ◌&&◌, List, length, map, take, All}
 use Rattle.std.specs.List.{list_any, range_with_len}
 use Rattle.base.specs.declared.costs.Cost.TheVariants.{Whole}
 use Rattle.form_steps.specs.declared.layer.BitsLink.{BitsLink}
@@ -19,17 +19,18 @@ use Rattle.problem_form.specs.declared.limits.High.TheVariants.{Monomial, Rosenb
 use Rattle.problem_form.specs.Problems.{ProblemContent}
 use Rattle.problem_form.specs.Problems as problems
 use Rattle.command_words.specs.declared.commands.NodeModel.{NodeModel}
+use Rattle.command_words.specs.declared.commands.Ties.{Ties}
 use Rattle.term_table.specs.Tables.{TableContent}
 use Rattle.penalty_layer.specs.Penalty as penalty
 use Rattle.monomial_layer.specs.Monomials as monomials
 use Rattle.rosenberg_layer.specs.Rosenberg as rosenberg
 use Rattle.quad_form.specs.Quads as quads
-use Rattle.chimera_graph.specs.declared.chimera.Chimera as graphs
-use Rattle.chimera_graph.specs.Graph.{qubits_of}
 use Rattle.chain_map.specs.Chains.{chain_of}
-use Rattle.chain_map.specs.Valid.{IsValid}
-use Rattle.qubit_models.specs.QubitModels.{joins_of, IsModelByCheck}
-use Rattle.model_pipeline.specs.Models.{terms_of, quad_by, ising_figures, model}
+use Rattle.working_graph.specs.Fabrics.{IsValidOn}
+use Rattle.model_pipeline.specs.declared.site.Qubits.{Qubits}
+use Rattle.model_pipeline.specs.Models.{terms_of, quad_by, ising_figures, model, decoding_to}
+use Rattle.model_pipeline.specs.Sites.{fabric_in, graph_in}
+use Rattle.model_pipeline.specs.QubitModels.{IsModelByCheck}
 use Rattle.model_pipeline.specs.GraphModels.{ising_of}
 
 -- ---- the bits
@@ -110,24 +111,46 @@ form_nodes m = form_nodes_by m.kind m
 
 -- ---- which models are meant
 
--- the model of a problem on the nodes of its form, for some target and in some unit
-abbrev pub IsMadeOnNodes : Choices → ProblemContent → Written → Type 0
-IsMadeOnNodes choices p m =
-    (target : NodeModel) × (unit : UnitChoice) × (m ≡ model choices target unit p.variables p)
+-- the model of a problem, with so many variables, on the nodes of its form, for some target and in
+-- some unit
+abbrev pub IsMadeOnNodes : ℕ → Choices → ProblemContent → Written → Type 0
+IsMadeOnNodes own choices p m =
+    (target : NodeModel) × (unit : UnitChoice) × (m ≡ model choices target unit own p)
 
--- the model of a problem on the chains of a valid map, on some graph and in some unit
-abbrev pub IsMadeOnChains : Choices → ProblemContent → Written → Type 0
-IsMadeOnChains choices p m =
-    (unit : UnitChoice) × (graph : graphs.Chimera) × (map : List (List ℕ))
-    × IsValid (joins_of graph) (qubits_of graph) (ising_of choices p) map
-    × IsModelByCheck unit graph (ising_of choices p) map p.variables
+-- the model of a problem, with so many variables, on the chains of a valid map that are tied so, on
+-- some qubits and in some unit
+abbrev pub IsMadeOnChains : Ties → ℕ → Choices → ProblemContent → Written → Type 0
+IsMadeOnChains ties own choices p m =
+    (unit : UnitChoice) × (qubits : Qubits) × (map : List (List ℕ))
+    × IsValidOn (fabric_in qubits) (ising_of choices p) map
+    × IsModelByCheck unit ties (graph_in qubits) (fabric_in qubits) (ising_of choices p) map own
     (ising_figures (penalty.figures p)) m
 
--- the model of a problem, with the problem's variables
-abbrev pub IsMadeOf : Choices → ProblemContent → Written → Type 0
-IsMadeOf choices p m = IsMadeOnNodes choices p m ⊎ IsMadeOnChains choices p m
+-- the model of a problem, with so many of the problem's variables; where it stands on chains, they
+-- are tied so
+abbrev pub IsMadeOf : Ties → ℕ → Choices → ProblemContent → Written → Type 0
+IsMadeOf ties own choices p m =
+    (own ≤ p.variables) × (IsMadeOnNodes own choices p m ⊎ IsMadeOnChains ties own choices p m)
+
+-- the model of a problem, with some of its variables, tied in some way
+abbrev pub IsMade : Choices → ProblemContent → Written → Type 0
+IsMade choices p m = (ties : Ties) × (own : ℕ) × IsMadeOf ties own choices p m
 
 -- ---- what is promised of it
+
+-- the state decodes to the assignment of so many variables, and where its cost is whole, unit times
+-- the energy is scale times that cost, and offset
+pub record ExtendsTo (variables : ℕ) (f : Form) (m : Written) (x y : List Bool) : Type 0 where
+  pub width : length y ≡ m.nodes
+  pub decodes : (decoding_to variables m).decoded y ≡ x
+  pub scaled : (v : ℤ) → f.cost x ≡ Whole v
+      → m.unit *ℤ energy (form_of m) y ≡ m.figures.scale *ℤ v +ℤ m.figures.offset
+
+-- no state that decodes to the assignment of so many variables has a lesser energy
+abbrev pub IsLeastTo : ℕ → Written → List Bool → List Bool → Type 0
+IsLeastTo variables m x y =
+    (y' : List Bool) → length y' ≡ m.nodes → (decoding_to variables m).decoded y' ≡ x
+    → energy (form_of m) y ≤ℤ energy (form_of m) y'
 
 -- the state decodes to the assignment, no state that does has a lesser energy, and where the
 -- assignment's cost is whole, unit times the energy is scale times that cost, and offset
@@ -138,3 +161,16 @@ pub record Extends (f : Form) (m : Written) (x y : List Bool) : Type 0 where
       → m.unit *ℤ energy (form_of m) y ≡ m.figures.scale *ℤ v +ℤ m.figures.offset
   pub least : (y' : List Bool) → length y' ≡ m.nodes → (decoding_of m).decoded y' ≡ x
       → energy (form_of m) y ≤ℤ energy (form_of m) y'
+
+-- ---- the laws
+
+-- what a model decodes a state to are the first bits of what it decodes the state to with more
+-- variables
+abbrev pub FirstAreDecoded : Type 0
+FirstAreDecoded = (m : Written) (variables : ℕ) (y : List Bool) → m.variables ≤ variables
+    → (decoding_of m).decoded y ≡ take m.variables ((decoding_to variables m).decoded y)
+
+-- a least state that extends an assignment of all variables of the model extends it for the model
+abbrev pub LeastExtends : Type 0
+LeastExtends = (f : Form) (m : Written) (variables : ℕ) (x y : List Bool) → m.variables ≡ variables
+    → ExtendsTo variables f m x y → IsLeastTo variables m x y → Extends f m x y

@@ -1,8 +1,7 @@
 -- The model of a problem on the qubits of a graph: what it is built of, and what it promises of the
 -- problem.
-use Rattle.std.specs.Prelude.{◌≡◌, ℕ, ◌+ℤ◌, ◌*ℤ◌, List}
+use Rattle.std.specs.Prelude.{◌≡◌, ℕ, ◌+ℤ◌, ◌*ℤ◌, List, length}
 use Rattle.base.specs.declared.unit.UnitChoice.{UnitChoice}
-use Rattle.form_steps.specs.Relations.{Relaxes}
 use Rattle.bits_model.specs.Output.{Written, IsWellFormed, form_of}
 use Rattle.faithful.specs.Bounds.{IsBounded}
 use Rattle.faithful.specs.Faithful.{HasUnit, IsEmbedded, scale_of}
@@ -11,12 +10,17 @@ use Rattle.problem_form.specs.declared.limits.Choices.{Choices}
 use Rattle.problem_form.specs.Problems.{ProblemContent}
 use Rattle.problem_form.specs.Problems as problems
 use Rattle.problem_form.specs.Limits.{upper}
+use Rattle.command_words.specs.declared.commands.Ties.{Ties}
+use Rattle.penalty_layer.specs.Penalty as penalty
 use Rattle.ising_form.specs.Isings.{IsingContent}
 use Rattle.ising_form.specs.Spins as spins
 use Rattle.chimera_graph.specs.declared.chimera.Chimera.{Chimera}
-use Rattle.qubit_models.specs.QubitModels.{kind_of}
-use Rattle.qubit_models.specs.Standing.{demand_of}
-use Rattle.model_pipeline.specs.Models.{quad_of, decoding_to}
+use Rattle.working_graph.specs.Fabrics.{Fabric}
+use Rattle.model_pipeline.specs.declared.site.Site.{Site}
+use Rattle.model_pipeline.specs.Models.{quad_of, decoding_to, ising_figures}
+use Rattle.model_pipeline.specs.Sites.{chains_of, fabric_in, graph_in}
+use Rattle.model_pipeline.specs.QubitModels.{kind_of, IsModelByCheck}
+use Rattle.model_pipeline.specs.QubitStanding.{demand_of, StandsBy}
 
 -- the Ising form of a problem, as a command chooses its steps
 abbrev pub ising_of : Choices → ProblemContent → IsingContent
@@ -24,9 +28,9 @@ ising_of choices p = spins.image (quad_of choices p)
 
 -- a well-formed model on this graph whose numbers fit their fields, all of them below 2 ^ 124 and its
 -- energies below 2 ^ 121 in size, with so many variables, the stated figures, the unit that was
--- chosen and the chains of the map, which relaxes the problem in this unit
-pub record IsGraphModelOf (p : ProblemContent) (own : ℕ) (choice : UnitChoice) (graph : Chimera)
-    (map : List (List ℕ)) (m : Written) : Type 0 where
+-- chosen and the chains of the map, which stands for the problem in this unit as its ties allow
+pub record IsGraphModelOf (p : ProblemContent) (own : ℕ) (choice : UnitChoice) (ties : Ties)
+    (graph : Chimera) (fabric : Fabric) (map : List (List ℕ)) (m : Written) : Type 0 where
   pub kind : m.kind ≡ kind_of graph
   pub fits : FitsFields m
   pub bounded : IsBounded m
@@ -35,5 +39,28 @@ pub record IsGraphModelOf (p : ProblemContent) (own : ℕ) (choice : UnitChoice)
   pub scale : m.figures.scale ≡ scale_of m.kind
   pub threshold : m.figures.threshold ≡ m.figures.scale *ℤ upper p +ℤ m.figures.offset
   pub unit : HasUnit choice m
-  pub embedded : IsEmbedded (demand_of choice graph map) m
-  pub relaxes : Relaxes (problems.form_of p) (form_of m) (decoding_to p.variables m) m.unit m.figures
+  pub embedded : IsEmbedded (demand_of choice fabric map) m
+  pub stands : StandsBy ties (problems.form_of p) (form_of m) (decoding_to p.variables m) m.unit
+      m.figures
+
+-- the chains that a site has for the Ising form of a problem
+abbrev pub site_chains : Site → Choices → ProblemContent → List (List ℕ)
+site_chains site choices p = chains_of site.qubits site.perch (length (ising_of choices p).fields)
+
+-- the model of the Ising form of a problem at a site, as a check puts it on the site's chains
+abbrev pub IsModelAt : Site → Choices → UnitChoice → ℕ → ProblemContent → Written → Type 0
+IsModelAt site choices unit variables p m =
+    IsModelByCheck unit site.ties (graph_in site.qubits) (fabric_in site.qubits) (ising_of choices p)
+    (site_chains site choices p) variables (ising_figures (penalty.figures p)) m
+
+-- a model at a site that stands for the problem
+abbrev pub StandsAt : Site → Choices → UnitChoice → ℕ → ProblemContent → Written → Type 0
+StandsAt site choices unit variables p m =
+    IsGraphModelOf p variables unit site.ties (graph_in site.qubits) (fabric_in site.qubits)
+    (site_chains site choices p) m
+
+-- the model of a problem at a site, which stands for the problem
+pub record IsOnQubits (site : Site) (choices : Choices) (unit : UnitChoice) (variables : ℕ)
+    (p : ProblemContent) (m : Written) : Type 0 where
+  pub by : IsModelAt site choices unit variables p m
+  pub stands : StandsAt site choices unit variables p m

@@ -1,5 +1,8 @@
 pub mod Models
 pub mod Formed
+pub mod Sites
+pub mod QubitModels
+pub mod QubitStanding
 pub mod GraphModels
 pub mod Sizes
 pub mod Extensions

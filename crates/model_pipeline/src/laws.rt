@@ -1,4 +1,4 @@
-//! Laws of how states are taken back, as functions without code.
+//! Laws of how states are taken back and of how assignments are extended, as functions without code.
 ghost use Rattle.std.specs.Prelude.{◌≡◌};
 ghost use Rattle.form_steps.specs.declared.layer.BitsLink.{BitsLink};
 ghost use Rattle.form_steps.specs.Links.{first_bits};
@@ -6,6 +6,7 @@ ghost use Rattle.quad_form.specs.Flat.{same_bits};
 ghost use Rattle.chain_layer.specs.declared.link.ChainLink.{ChainLink};
 ghost use Rattle.chain_layer.specs.Image.{decoding};
 ghost use Rattle.model_pipeline.specs.Decoders.{ReadOffIsDecoded};
+ghost use Rattle.model_pipeline.specs.Extensions.{FirstAreDecoded, LeastExtends};
 
 use chain_layer::Chains;
 use form_steps::{Guard, Layer};
@@ -30,4 +31,11 @@ pub fn decoders_of_steps()
 /// What is read off a state of a model is what these give, one after another.
 pub fn laws_of_decoding()
     ensures { ReadOffIsDecoded }
+{}
+
+/// What is read off a state of a model with fewer variables than its problem, and what a least
+/// state of a model with all of them extends.
+pub fn laws_of_extensions()
+    ensures first { FirstAreDecoded }
+    ensures least { LeastExtends }
 {}

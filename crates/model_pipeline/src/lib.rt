@@ -1,8 +1,11 @@
 //! From a problem to its model: the steps that a command chooses, one after another.
 //!
-//! On the qubits of a graph the model stands on the chains of a map, or on those of a clique.
+//! On the qubits of a graph, or on those of it that work, the model stands on the chains of a map, or
+//! on those of a clique, and each chain is tied.
 #![tactic(auto)]
 
+mod chained;
+mod embedding;
 mod energy;
 mod extending;
 mod forms;
@@ -10,7 +13,8 @@ mod held;
 mod laws;
 mod model;
 mod new_nodes;
-mod on_graph;
+mod on_qubits;
+mod site;
 mod size_laws;
 mod spins;
 mod states;
@@ -21,9 +25,10 @@ pub use energy::energy_of;
 pub use extending::extended;
 pub use forms::{FiguredQuad, formed};
 pub use held::Held;
-pub use laws::{decoders_of_steps, laws_of_decoding};
+pub use laws::{decoders_of_steps, laws_of_decoding, laws_of_extensions};
 pub use model::model_of;
-pub use on_graph::{clique_model_of, mapped_model_of};
+pub use on_qubits::{form_on_qubits, model_on_qubits};
+pub use site::{Perch, Qubits, Site};
 pub use size_laws::laws_of_sizes;
 pub use states::extended_state;
 pub use steps::{Quadratic, quadratic_of};

@@ -9,10 +9,13 @@ ghost use Rattle.model_pipeline.specs.Extensions.{
   extension_of,
   form_nodes,
   state_on,
-  Extends,
+  ExtendsTo,
   FitsState,
+  IsLeastTo,
+  IsMade,
   IsMadeOf,
 };
+ghost use Rattle.command_words.specs.declared.commands.Ties.TheVariants.{Choi};
 
 use crate::extending::extended;
 use base::NoMemory;
@@ -85,7 +88,8 @@ fn form_nodes(model: &OutputModel) -> usize
 }
 
 /// The state of a problem's model that an assignment extends to. It decodes to the assignment, and
-/// no state that does has a lesser energy.
+/// unless chains are tied only as strongly as least states need, no state that does has a lesser
+/// energy.
 pub fn extended_state(
     alloc: Global,
     problem: &Problem,
@@ -95,11 +99,14 @@ pub fn extended_state(
 ) -> Result<Vec<bool>, NoMemory>
     requires within { limit_fault choices.now.normal problem.now ≡ None }
     requires width { length x.now ≡ problem.now.variables }
-    requires made { IsMadeOf choices.now problem.now model.now }
+    requires made { IsMade choices.now problem.now model.now }
     ensures exact { IfOk result (λ y.
         y.items ≡ state_on model.now (extension_of choices.now problem.now x.now)) }
-    ensures extends { IfOk result (λ y.
-        Extends (problems.form_of problem.now) model.now x.now y.items) }
+    ensures extends { IfOk result (λ y. ExtendsTo problem.now.variables
+        (problems.form_of problem.now) model.now x.now y.items) }
+    ensures least { IfOk result (λ y. (own : ℕ)
+        → IsMadeOf Choi own choices.now problem.now model.now
+        → IsLeastTo problem.now.variables model.now x.now y.items) }
 {
     let x = extended(alloc, problem, choices, form_nodes(model), x)?;
     state_of(alloc, model, x)

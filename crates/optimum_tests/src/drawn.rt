@@ -5,9 +5,9 @@ ghost use Rattle.problem_form.specs.Problems.{problem_total};
 use base::{NoMemory, UnitChoice};
 use bits_model::OutputModel;
 use chimera_graph::Chimera;
-use command_words::NodeModel;
+use command_words::{NodeModel, Ties};
 use literal_lists::Literal;
-use model_pipeline::{clique_model_of, model_of};
+use model_pipeline::{Perch, Qubits, Site, model_of, model_on_qubits};
 use problem_form::{Choices, High, Normal, Problem, check_limits};
 use std::alloc::Global;
 
@@ -137,8 +137,20 @@ pub fn model_for(alloc: Global, problem: &Problem, target: Target) -> Option<Out
             model_of(alloc, problem, variables, &CHOICES, target, UnitChoice::One).ok()
         }
         Target::Chimera(rows, cols, shore) => {
-            let graph = Chimera::new(rows, cols, shore)?;
-            clique_model_of(alloc, problem, variables, &CHOICES, UnitChoice::One, &graph).ok()
+            let site = Site {
+                qubits: Qubits::All(Chimera::new(rows, cols, shore)?),
+                perch: Perch::Clique,
+                ties: Ties::Choi,
+            };
+            model_on_qubits(
+                alloc,
+                problem,
+                variables,
+                &CHOICES,
+                UnitChoice::One,
+                &site,
+            )
+            .ok()
         }
     }
 }

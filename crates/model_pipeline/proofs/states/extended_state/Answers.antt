@@ -1,9 +1,9 @@
 use Rattle.std.proofs.Common.{ap, sym, subst, ◌∙◌}
 use Rattle.std.proofs.lemmas.Result.{IfOk-weaker}
 use Rattle.problem_form.specs.Problems as problems
-use Rattle.model_pipeline.specs.Extensions.{Extends, state_on}
+use Rattle.model_pipeline.specs.Extensions.{ExtendsTo, IsLeastTo, state_on}
 use Rattle.model_pipeline.proofs.FormNodes.{made_nodes}
-use Rattle.model_pipeline.proofs.WrittenExtensions.{made_extends, made_fits}
+use Rattle.model_pipeline.proofs.WrittenExtensions.{made_extends, made_fits, made_least}
 use Rattle.model_pipeline.proofs.states.extended_state.Goals as goal
 
 pub extended-requires-clause-nodes : goal.extended-requires-clause-nodes
@@ -31,6 +31,17 @@ returns-clause-extends c =
     let m = c.args.model.now in
     let x = c.args.x.now in
     IfOk-weaker c.state_of.result _ _
-    (λ y same. subst (Extends (problems.form_of p) m x) (sym same)
+    (λ y same. subst (ExtendsTo p.variables (problems.form_of p) m x) (sym same)
     (made_extends c.args.choices.now p extended.room m x _ c.requires.made extended.least))
+    c.state_of.ensures
+
+pub returns-clause-least : goal.returns-clause-least
+returns-clause-least c =
+    let extended = c.in_ok-x.ensures in
+    let p = c.args.problem.now in
+    let m = c.args.model.now in
+    let x = c.args.x.now in
+    IfOk-weaker c.state_of.result _ _
+    (λ y same own made. subst (IsLeastTo p.variables m x) (sym same)
+    (made_least c.args.choices.now p extended.room m x _ own made extended.least))
     c.state_of.ensures

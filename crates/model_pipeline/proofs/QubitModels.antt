@@ -1,5 +1,5 @@
 -- The model of an embedded Ising form on the qubits of a graph: what it promises of the form.
-use Rattle.std.proofs.Common.{◌≡◌, ◌≤◌, ◌<◌, ◌⊎◌, inl, inr, ℕ, ◌+◌, ◌*◌, ◌^◌, ℤ, pos, ◌+ℤ◌, ◌*ℤ◌, ◌≤ℤ◌, List, length, All, refl, sym, ap, ◌∙◌, subst, arith}
+use Rattle.std.proofs.Common.{◌≡◌, ◌≤◌, ◌<◌, ℕ, ◌+◌, ◌*◌, ◌^◌, ℤ, pos, ◌+ℤ◌, ◌*ℤ◌, ◌≤ℤ◌, Bool, List, length, All, refl, sym, ap, ◌∙◌, subst, arith}
 use Rattle.std.specs.Prelude.{FitsSigned, unsigned_abs, neg_ℤ, ◌-ℤ◌}
 use Rattle.std.specs.Int.{w128}
 use Rattle.std.proofs.Math.Nat.{mul-le-mul_left, mul-le-mul_right}
@@ -9,13 +9,12 @@ use Rattle.base.specs.declared.costs.Figures.{Figures}
 use Rattle.bits_model.specs.declared.output.Entry.{Entry}
 use Rattle.base.specs.declared.unit.UnitChoice.{UnitChoice}
 use Rattle.base.specs.declared.unit.UnitChoice.TheVariants.{One, Reduce}
-use Rattle.base.specs.Costs.{Form}
 use Rattle.form_steps.specs.Relations.{Decoding, Relaxes, decoding_after}
 use Rattle.base.specs.Figures.{figures_moved}
+use Rattle.bits_model.specs.Output.{read_off}
 use Rattle.bits_model.specs.Walks.{IsConnected}
 use Rattle.faithful.specs.Bounds.{AreBounded}
 use Rattle.faithful.specs.Faithful.{HasUnit}
-use Rattle.form_steps.specs.laws.Composed.{keeps_after_relaxes, reduces_after_relaxes}
 use Rattle.model_text.specs.Rows.{FitsFigures, FitsGraph}
 use Rattle.quad_form.specs.Quads.{node_entries}
 use Rattle.quad_form.specs.Units.{weights_of}
@@ -24,23 +23,21 @@ use Rattle.ising_form.specs.Isings.{IsingContent, IsIsing, ising_total}
 use Rattle.ising_form.specs.Isings as isings
 use Rattle.ising_form.specs.Outputs.{FitsOutput, written_of}
 use Rattle.ising_form.specs.Reduction.{ising_unit, reduced}
-use Rattle.ising_form.proofs.ReducedForms.{reduced_is_ising, made_reduces, made_total, one_le_ising_unit}
-use Rattle.ising_form.proofs.WrittenModels.{written_is_well_formed, written_relaxes, written_total, made_is_reduced}
+use Rattle.ising_form.proofs.ReducedForms.{reduced_is_ising, made_total, one_le_ising_unit}
+use Rattle.ising_form.proofs.WrittenModels.{written_is_well_formed, written_total, made_is_reduced}
 use Rattle.chimera_graph.specs.declared.chimera.Chimera.{Chimera}
-use Rattle.chimera_graph.specs.Graph.{qubits_of, place_of}
-use Rattle.chimera_graph.specs.laws.Joins.{are_joined-comm}
-use Rattle.chain_map.specs.Valid.{IsValid}
+use Rattle.chimera_graph.specs.Graph.{qubits_of}
+use Rattle.command_words.specs.declared.commands.Ties.{Ties}
 use Rattle.embedding_check.specs.Embeddings.{Embedding, IsEmbedding}
 use Rattle.embedding_check.specs.Checked.{IsChecked}
-use Rattle.chain_layer.specs.declared.link.ChainLink.{ChainLink}
-use Rattle.chain_layer.specs.Image.{image, offset, decoding, Fits}
-use Rattle.chain_layer.specs.laws.Kept.{chains_keep}
-use Rattle.chain_layer.proofs.Ordered.{image_is_ising}
-use Rattle.chain_layer.proofs.Sizes.{offset_small, total_grows}
-use Rattle.chain_layer.proofs.Written.{image_fits_output, image_is_joined, read_off_the_chains}
-use Rattle.qubit_models.specs.QubitModels.{joins_of, kind_of, chained_figures, qubit_model}
-use Rattle.qubit_models.specs.Standing.{HasRoom, IsQubitModelOf}
-use Rattle.qubit_models.proofs.OnChains.{AreEndsJoined, reduced_fits, reduced_joined, written_joined, unit_low}
+use Rattle.chain_layer.specs.Image as chains
+use Rattle.chain_layer.proofs.Written.{read_off_the_chains}
+use Rattle.working_graph.specs.Fabrics.{Fabric, AllExist, IsValidOn}
+use Rattle.model_pipeline.specs.QubitModels.{kind_of, chained_figures, image_by, offset_by, qubit_model}
+use Rattle.model_pipeline.specs.QubitStanding.{HasChainRoom, IsQubitModelOf, StandsForWhat}
+use Rattle.model_pipeline.proofs.OnChains.{AreEndsJoined, reduced_fits, reduced_joined, written_joined, unit_low}
+use Rattle.model_pipeline.proofs.Tied.{link_of, tied_fits_output, tied_is_ising, tied_is_joined, tied_offset, tied_stands, tied_total}
+use Rattle.model_pipeline.proofs.WrittenStates.{Counts, ising_counts, reduced_counts, stands_written}
 
 -- ---- figures
 
@@ -79,9 +76,10 @@ moved_within n r most more h are = record {
 }
 
 -- what the ties of a form with room for the layer cost
-offset_within : (e : Embedding) → IsEmbedding e → (ising_total e.ising + 1) * 2 ^ 21 ≤ 2 ^ 124
-    → unsigned_abs (offset e) ≤ 2 ^ 123
-offset_within e kept small = omega (arith, offset_small e kept, small)
+offset_within : (ties : Ties) (e : Embedding) → IsEmbedding e
+    → (ising_total e.ising + 1) * 2 ^ 21 ≤ 2 ^ 124
+    → unsigned_abs (offset_by ties e) ≤ 2 ^ 123
+offset_within ties e kept small = omega (arith, tied_offset e kept ties, small)
 
 -- a figure, moved by it
 tied_low : (z b : ℤ) → unsigned_abs z < 2 ^ 122 → unsigned_abs b ≤ 2 ^ 123
@@ -90,26 +88,27 @@ tied_low z b h k =
     let once : pos 1 *ℤ z +ℤ b ≡ z +ℤ b = omega (arith, ints) in
     omega (arith, ap unsigned_abs once, sum_low z b (2 ^ 122) (2 ^ 123) (omega (arith, h)) k)
 
-pub tied_fits : (e : Embedding) (z a b : ℤ) → IsEmbedding e
-    → (ising_total e.ising + 1) * 2 ^ 21 ≤ 2 ^ 124 → unsigned_abs z < 2 ^ 122 → a ≡ pos 1
-    → b ≡ offset e → FitsSigned w128 (a *ℤ z +ℤ b)
-tied_fits e z a b kept small low one tied =
-    rw (one, tied)
-    (fits_signed_from_abs w128 (pos 1 *ℤ z +ℤ offset e)
-    (omega (arith, tied_low z (offset e) low (offset_within e kept small))))
+pub tied_fits : (ties : Ties) (e : Embedding) (z b : ℤ) → IsEmbedding e
+    → (ising_total e.ising + 1) * 2 ^ 21 ≤ 2 ^ 124 → unsigned_abs z < 2 ^ 122
+    → b ≡ offset_by ties e → FitsSigned w128 (pos 1 *ℤ z +ℤ b)
+tied_fits ties e z b kept small low tied =
+    rw tied
+    (fits_signed_from_abs w128 (pos 1 *ℤ z +ℤ offset_by ties e)
+    (omega (arith, tied_low z (offset_by ties e) low (offset_within ties e kept small))))
 
 -- the figures on chains
-pub moved_by_ties : (n : Figures) (e : Embedding) → IsEmbedding e
+pub moved_by_ties : (ties : Ties) (n : Figures) (e : Embedding) → IsEmbedding e
     → (ising_total e.ising + 1) * 2 ^ 21 ≤ 2 ^ 124
     → unsigned_abs n.offset < 2 ^ 122 → unsigned_abs n.threshold < 2 ^ 122
-    → AreMoved n (chained_figures e n) (2 ^ 124)
-moved_by_ties n e kept small offset_low threshold_low =
-    let tied = offset_within e kept small in
+    → AreMoved n (chained_figures ties e n) (2 ^ 124)
+moved_by_ties ties n e kept small offset_low threshold_low =
+    let tied = offset_within ties e kept small in
+    let b = offset_by ties e in
     record {
       scale = omega (arith, ints);
       threshold = omega (arith, ints);
-      offset_low = omega (arith, tied_low n.offset (offset e) offset_low tied);
-      threshold_low = omega (arith, tied_low n.threshold (offset e) threshold_low tied);
+      offset_low = omega (arith, tied_low n.offset b offset_low tied);
+      threshold_low = omega (arith, tied_low n.threshold b threshold_low tied);
     }
 
 -- a number that is moved by nothing
@@ -154,28 +153,16 @@ graph_fits graph =
 
 -- ---- the model
 
-module _ (f : IsingContent) (n : Figures) (own : ℕ) (graph : Chimera) (map : List (List ℕ))
-    (e : Embedding) (kept : IsEmbedding e)
-    (checked : IsChecked (joins_of graph) (qubits_of graph) f map e)
-    (valid : IsValid (joins_of graph) (qubits_of graph) f map)
+module _ (f : IsingContent) (n : Figures) (own : ℕ) (ties : Ties) (graph : Chimera)
+    (fabric : Fabric) (map : List (List ℕ)) (e : Embedding) (kept : IsEmbedding e)
+    (sized : fabric.qubits ≡ qubits_of graph)
+    (both_ways : (a b : ℕ) → fabric.joined a b ≡ fabric.joined b a)
+    (checked : IsChecked fabric.joined fabric.qubits f map e) (valid : IsValidOn fabric f map)
     (few : own ≤ length f.fields) (low : unsigned_abs n.scale ≤ 2 ^ 127)
     (positive : pos 1 ≤ℤ n.scale) where
-  -- the chains of the embedding, as the layer links them
-  abbrev link : ChainLink
-  link = record { chains = e.chains; qubits = e.qubits }
-
-  links : Fits link e
-  links = record { chains = refl; qubits = refl; kept = kept }
-
   -- there are as many chains as nodes
   counted : length e.chains ≡ length f.fields
   counted = kept.counted ∙ ap (λ (g : IsingContent). length g.fields) checked.ising
-
-  -- whatever the Ising form relaxes, this form relaxes in a unit, with these figures
-  abbrev RelaxesToo : IsingContent → ℤ → Figures → Type 0
-  RelaxesToo g u r =
-      (source : Form) (d : Decoding) → Relaxes source (isings.form_of f) d (pos 1) n
-      → Relaxes source (isings.form_of g) (decoding_after d (decoding link)) u r
 
   -- the total, the unit and the moved figures are small
   record HasBounds (g : IsingContent) (u : ℤ) (r : Figures) : Type 0 where
@@ -186,14 +173,15 @@ module _ (f : IsingContent) (n : Figures) (own : ℕ) (graph : Chimera) (map : L
   -- ---- in any unit
 
   stands_in : (choice : UnitChoice) (g : IsingContent) (u : ℤ) (r : Figures) → IsIsing g
-      → ((variables : ℕ) → variables ≤ length f.fields
-      → FitsOutput (kind_of graph) e.chains variables g)
-      → All (AreEndsJoined (joins_of graph)) g.couplings
-      → (u ≡ pos 1) ⊎ (g.constant ≡ pos 0) → pos 1 ≤ℤ u → unsigned_abs u ≤ 2 ^ 125
-      → AreMoved n r (2 ^ 125) → RelaxesToo g u r → (HasRoom f n → HasBounds g u r)
+      → FitsOutput (kind_of graph) e.chains own g
+      → All (AreEndsJoined fabric.joined) g.couplings
+      → pos 1 ≤ℤ u → unsigned_abs u ≤ 2 ^ 125 → AreMoved n r (2 ^ 125)
+      → StandsForWhat ties f n (written_of g own r u (kind_of graph) e.chains)
+      → (HasChainRoom f n → HasBounds g u r)
       → HasUnit choice (written_of g own r u (kind_of graph) e.chains)
-      → IsQubitModelOf f n own choice graph map (written_of g own r u (kind_of graph) e.chains)
-  stands_in choice g u r ising on_chains joined once one small are relaxes bounds unit =
+      → IsQubitModelOf f n own choice ties graph fabric map
+      (written_of g own r u (kind_of graph) e.chains)
+  stands_in choice g u r ising on_chains joined one small are stands bounds unit =
       let light = ising.small in
       let narrow = kept.ising.narrow in
       let width = ap (λ (g : IsingContent). length g.fields) checked.ising in
@@ -210,7 +198,7 @@ module _ (f : IsingContent) (n : Figures) (own : ℕ) (graph : Chimera) (map : L
           qubits = λ i d h j c k. omega (arith, kept.within i d h j c k, kept.few);
         };
         well_formed =
-            written_is_well_formed g own r u (kind_of graph) e.chains ising (on_chains own few)
+            written_is_well_formed g own r u (kind_of graph) e.chains ising on_chains
             (subst (λ z. pos 1 ≤ℤ z) (sym are.scale) positive)
             one;
         variables = refl;
@@ -220,20 +208,15 @@ module _ (f : IsingContent) (n : Figures) (own : ℕ) (graph : Chimera) (map : L
         embedded = record {
           chains = checked.chains;
           filled = kept.filled;
+          alive = subst (λ cs. AllExist fabric cs) (sym checked.chains) valid.1;
           connected =
-              subst (λ cs. All (IsConnected (joins_of graph)) cs) (sym checked.chains)
-              valid.connected;
+              subst (λ cs. All (IsConnected fabric.joined) cs) (sym checked.chains)
+              valid.0.connected;
           apart = kept.once;
           joined =
-              written_joined (joins_of graph) graph.rows graph.cols graph.shore e.chains g joined;
+              written_joined fabric.joined graph.rows graph.cols graph.shore e.chains g joined;
         };
-        relaxes = λ source d k enough reads same relaxed.
-            written_relaxes source g (decoding_after d (decoding link)) k r u (kind_of graph) e.chains
-            (on_chains k enough)
-            once
-            (λ y. reads ((decoding link).decoded y)
-            ∙ sym (read_off_the_chains link graph.rows graph.cols graph.shore k y))
-            (relaxes source d relaxed);
+        stands = stands;
         bounded = λ room.
             let has = bounds room in record {
               weights = omega (arith, has.total, written_total g (kind_of graph) e.chains);
@@ -244,43 +227,38 @@ module _ (f : IsingContent) (n : Figures) (own : ℕ) (graph : Chimera) (map : L
 
   -- ---- the image
 
-  image_on_chains : (variables : ℕ) → variables ≤ length f.fields
-      → FitsOutput (kind_of graph) e.chains variables (image e)
-  image_on_chains variables enough =
-      image_fits_output e graph.rows graph.cols graph.shore variables kept checked.qubits
-      (omega (arith, counted, enough))
+  abbrev tied : IsingContent
+  tied = image_by ties e
 
-  image_joined : All (AreEndsJoined (joins_of graph)) (image e).couplings
-  image_joined =
-      image_is_joined (joins_of graph) (qubits_of graph) f map e
-      (λ a b. are_joined-comm (place_of graph a) (place_of graph b)) checked
+  tied_on_chains : FitsOutput (kind_of graph) e.chains own tied
+  tied_on_chains =
+      tied_fits_output e kept ties graph.rows graph.cols graph.shore own (checked.qubits ∙ sized)
+      (omega (arith, counted, few))
 
-  image_relaxes : RelaxesToo (image e) (pos 1) (chained_figures e n)
-  image_relaxes source d relaxed =
-      keeps_after_relaxes
-      (subst (λ g. Relaxes source (isings.form_of g) d (pos 1) n) (sym checked.ising) relaxed)
-      (chains_keep link e links)
+  tied_joined : All (AreEndsJoined fabric.joined) tied.couplings
+  tied_joined = tied_is_joined ties fabric.joined fabric.qubits f map e both_ways checked
 
-  image_low : HasRoom f n → ising_total (image e) < 2 ^ 121
-  image_low room = omega (arith, total_grows e kept, ap ising_total checked.ising, room.total)
+  image_low : HasChainRoom f n → ising_total tied < 2 ^ 121
+  image_low room =
+      omega (arith, tied_total e kept ties, ap ising_total checked.ising, room.total)
 
   -- a figure on chains, without the constant
-  figure_low : HasRoom f n → (z : ℤ) → unsigned_abs z < 2 ^ 122
-      → unsigned_abs (pos 1 *ℤ z +ℤ offset e +ℤ neg_ℤ (image e).constant) < 2 ^ 124
+  figure_low : HasChainRoom f n → (z : ℤ) → unsigned_abs z < 2 ^ 122
+      → unsigned_abs (pos 1 *ℤ z +ℤ offset_by ties e +ℤ neg_ℤ tied.constant) < 2 ^ 124
   figure_low room z low =
       let light = image_low room in
-      let once : pos 1 *ℤ z +ℤ offset e ≡ z +ℤ offset e = omega (arith, ints) in
-      let ties : unsigned_abs (offset e) ≤ 2 ^ 120 =
-      omega (arith, offset_small e kept, ap ising_total checked.ising, room.total) in
-      let tied = sum_low z (offset e) (2 ^ 122) (2 ^ 120) (omega (arith, low)) ties in
-      let constant = minus_low (image e).constant (2 ^ 121) (omega (arith, light)) in
-      let both = sum_low (pos 1 *ℤ z +ℤ offset e) (neg_ℤ (image e).constant) (2 ^ 122 + 2 ^ 120)
-      (2 ^ 121)
-      (omega (arith, ap unsigned_abs once, tied))
+      let b = offset_by ties e in
+      let once : pos 1 *ℤ z +ℤ b ≡ z +ℤ b = omega (arith, ints) in
+      let small : unsigned_abs b ≤ 2 ^ 120 =
+      omega (arith, tied_offset e kept ties, ap ising_total checked.ising, room.total) in
+      let moved = sum_low z b (2 ^ 122) (2 ^ 120) (omega (arith, low)) small in
+      let constant = minus_low tied.constant (2 ^ 121) (omega (arith, light)) in
+      let both = sum_low (pos 1 *ℤ z +ℤ b) (neg_ℤ tied.constant) (2 ^ 122 + 2 ^ 120) (2 ^ 121)
+      (omega (arith, ap unsigned_abs once, moved))
       constant in
       omega (arith, both)
 
-  image_bounds : HasRoom f n → HasBounds (image e) (pos 1) (chained_figures e n)
+  image_bounds : HasChainRoom f n → HasBounds tied (pos 1) (chained_figures ties e n)
   image_bounds room =
       let same : n.scale *ℤ pos 1 ≡ n.scale = omega (arith, ints) in record {
         total = image_low room;
@@ -292,21 +270,20 @@ module _ (f : IsingContent) (n : Figures) (own : ℕ) (graph : Chimera) (map : L
         };
       }
 
-  reduced_bounds : HasRoom f n
-      → HasBounds (reduced (image e)) (ising_unit (image e))
-      (figures_moved (chained_figures e n) (neg_ℤ (image e).constant))
+  reduced_bounds : HasChainRoom f n
+      → HasBounds (reduced tied) (ising_unit tied)
+      (figures_moved (chained_figures ties e n) (neg_ℤ tied.constant))
   reduced_bounds room =
-      let g = image e in
-      let u = ising_unit g in
+      let u = ising_unit tied in
       let whole = image_bounds room in
       let light = image_low room in
-      let sizes = sizes_of_weights g.fields g.couplings in
+      let sizes = sizes_of_weights tied.fields tied.couplings in
       let size = λ (e : Entry). unsigned_abs e.weight in
-      let all = sum_by-append size (node_entries 0 g.fields) g.couplings in
-      let unit = unit_low (weights_of g.fields g.couplings) in
-      let moved = figures_moved (chained_figures e n) (neg_ℤ g.constant) in
-      let less = once_low u (ising_total (reduced g)) (ising_total g) (one_le_ising_unit g)
-      (made_total g (reduced g) u refl refl) in
+      let all = sum_by-append size (node_entries 0 tied.fields) tied.couplings in
+      let unit = unit_low (weights_of tied.fields tied.couplings) in
+      let moved = figures_moved (chained_figures ties e n) (neg_ℤ tied.constant) in
+      let less = once_low u (ising_total (reduced tied)) (ising_total tied) (one_le_ising_unit tied)
+      (made_total tied (reduced tied) u refl refl) in
       record {
         total = omega (arith, less, light);
         unit = omega (arith, unit, sizes, all, light);
@@ -317,45 +294,67 @@ module _ (f : IsingContent) (n : Figures) (own : ℕ) (graph : Chimera) (map : L
         };
       }
 
+  -- ---- what it stands for
+
+  -- the model counts what the tied form does
+  counts : (choice : UnitChoice) (variables : ℕ) (d : Decoding)
+      → ((y : List Bool) → d.decoded y ≡ read_off (kind_of graph) variables e.chains y)
+      → Counts variables (isings.form_of tied) (chained_figures ties e n) d
+      (qubit_model choice ties e own n (kind_of graph))
+  counts One variables d reads =
+      ising_counts tied own variables (chained_figures ties e n) (kind_of graph) e.chains d reads
+      tied_on_chains
+  counts Reduce variables d reads =
+      reduced_counts tied own variables (chained_figures ties e n) (kind_of graph) e.chains d reads
+      (reduced_fits graph.rows graph.cols graph.shore own e.chains tied tied_on_chains)
+
+  stands_for : (choice : UnitChoice)
+      → StandsForWhat ties f n (qubit_model choice ties e own n (kind_of graph))
+  stands_for choice source d variables enough reads same relaxed =
+      let decoding = chains.decoding (link_of e) in
+      let to = decoding_after d decoding in
+      let of = subst (λ g. Relaxes source (isings.form_of g) d (pos 1) n) (sym checked.ising)
+      relaxed in
+      stands_written ties variables source (isings.form_of tied) to (chained_figures ties e n)
+      (qubit_model choice ties e own n (kind_of graph))
+      (counts choice variables to
+      (λ y. reads (decoding.decoded y)
+      ∙ sym (read_off_the_chains (link_of e) graph.rows graph.cols graph.shore variables y)))
+      (tied_stands ties e kept source d n of)
+
   -- ---- in the unit that is chosen
 
   pub model_stands : (choice : UnitChoice) → (ising_total e.ising + 1) * 2 ^ 21 ≤ 2 ^ 124
-      → AreMoved n (chained_figures e n) (2 ^ 124)
-      → IsQubitModelOf f n own choice graph map (qubit_model choice e own n (kind_of graph))
+      → AreMoved n (chained_figures ties e n) (2 ^ 124)
+      → IsQubitModelOf f n own choice ties graph fabric map
+      (qubit_model choice ties e own n (kind_of graph))
   model_stands One small are =
-      stands_in One (image e) (pos 1) (chained_figures e n) (image_is_ising e kept small)
-      image_on_chains
-      image_joined
-      (inl refl)
+      stands_in One tied (pos 1) (chained_figures ties e n) (tied_is_ising e kept ties small)
+      tied_on_chains
+      tied_joined
       (omega (arith, ints))
       (omega (arith, ints))
       (moved_within n _ _ _ (omega arith) are)
-      image_relaxes
+      (stands_for One)
       image_bounds
       refl
   model_stands Reduce small are =
-      let g = image e in
-      let u = ising_unit g in
-      let c = neg_ℤ g.constant in
-      let r = figures_moved (chained_figures e n) c in
-      let ising = image_is_ising e kept small in
+      let u = ising_unit tied in
+      let c = neg_ℤ tied.constant in
+      let r = figures_moved (chained_figures ties e n) c in
+      let ising = tied_is_ising e kept ties small in
       let light = ising.small in
-      let sizes = sizes_of_weights g.fields g.couplings in
+      let sizes = sizes_of_weights tied.fields tied.couplings in
       let size = λ (e : Entry). unsigned_abs e.weight in
-      let whole = sum_by-append size (node_entries 0 g.fields) g.couplings in
-      let unit = unit_low (weights_of g.fields g.couplings) in
-      let fits = λ (variables : ℕ) (enough : variables ≤ length f.fields).
-      reduced_fits graph.rows graph.cols graph.shore variables e.chains g
-      (image_on_chains variables enough) in
-      stands_in Reduce (reduced g) u r (reduced_is_ising g ising)
+      let whole = sum_by-append size (node_entries 0 tied.fields) tied.couplings in
+      let unit = unit_low (weights_of tied.fields tied.couplings) in
+      let fits = reduced_fits graph.rows graph.cols graph.shore own e.chains tied tied_on_chains in
+      stands_in Reduce (reduced tied) u r (reduced_is_ising tied ising)
       fits
-      (reduced_joined (joins_of graph) g image_joined)
-      (inr refl)
-      (one_le_ising_unit g)
+      (reduced_joined fabric.joined tied tied_joined)
+      (one_le_ising_unit tied)
       (omega (arith, unit, sizes, whole, light))
-      (moved_once n _ _ _ c are (minus_low g.constant (2 ^ 124) (omega (arith, light))))
-      (λ source d relaxed.
-      reduces_after_relaxes (image_relaxes source d relaxed)
-      (made_reduces g (reduced g) u c refl refl refl))
+      (moved_once n _ _ _ c are (minus_low tied.constant (2 ^ 124) (omega (arith, light))))
+      (stands_for Reduce)
       reduced_bounds
-      (made_is_reduced g (reduced g) u refl refl own r (kind_of graph) e.chains (fits own few))
+      (made_is_reduced tied (reduced tied) u refl refl own r (kind_of graph) e.chains fits)

@@ -4,12 +4,20 @@ ghost use Rattle.ising_form.specs.Isings.{ising_size, ising_total};
 ghost use Rattle.ising_form.specs.Outputs.{FitsOutput};
 ghost use Rattle.chimera_graph.specs.Graph.{qubits_of};
 ghost use Rattle.embedding_check.specs.Embeddings.{IsEmbedding};
-ghost use Rattle.qubit_models.specs.QubitModels.{chained_model, kind_of, qubit_model};
+ghost use Rattle.model_pipeline.specs.QubitModels.{
+  chained_model,
+  image_by,
+  kind_of,
+  offset_by,
+  qubit_model,
+};
 
 use base::{Figures, NoMemory, UnitChoice};
 use bits_model::{ChainList, Kind, OutputModel};
 use chain_layer::Chains;
 use chimera_graph::Chimera;
+use command_words::Ties;
+use cut_chains::CutChains;
 use embedding_check::Embedded;
 use form_steps::Layer;
 use ising_form::Ising;
@@ -56,6 +64,46 @@ fn chained_model(
     }
 }
 
+/// A form on the qubits of chains, and how much lower its energies are than those of the form that
+/// was embedded.
+#[derive(Drop)]
+struct TiedForm {
+    form: Ising,
+    chains: ChainList,
+    offset: i128,
+}
+
+/// An embedded form on its qubits, each chain tied.
+fn tied(alloc: Global, embedded: &Embedded, ties: Ties) -> Result<TiedForm, NoMemory>
+    requires total { (ising_total embedded.now.ising + 1) * 2 ^ 21 ≤ 2 ^ 124 }
+    requires size { (ising_size embedded.now.ising + 4 * embedded.now.qubits) * 2 ^ 1 ≤ 2 ^ 32 }
+    ensures form { IfOk result (λ made. made.form ≡ image_by ties embedded.now) }
+    ensures chains { IfOk result (λ made. made.chains ≡ embedded.now.chains) }
+    ensures offset { IfOk result (λ made. made.offset ≡ offset_by ties embedded.now) }
+
+    // What the laws of the model rest on.
+    ensures kept { IfOk result (λ _. IsEmbedding embedded.now) }
+{
+    match ties {
+        Ties::Choi => {
+            let made = Chains.lower(alloc, embedded)?;
+            Ok(TiedForm {
+                form: made.target,
+                chains: made.link.chains,
+                offset: made.offset,
+            })
+        }
+        Ties::Cut => {
+            let made = CutChains.lower(alloc, embedded)?;
+            Ok(TiedForm {
+                form: made.target,
+                chains: made.link.chains,
+                offset: made.offset,
+            })
+        }
+    }
+}
+
 /// The model of an embedded form on the qubits of its graph. The model has the chains of the link,
 /// and the embedding is let go before it is written.
 pub fn embedded_model(
@@ -64,6 +112,7 @@ pub fn embedded_model(
     own: u32,
     figures: Figures,
     unit: UnitChoice,
+    ties: Ties,
     graph: &Chimera,
 ) -> Result<OutputModel, NoMemory>
     requires qubits { embedded.qubits ≡ qubits_of graph.now }
@@ -74,21 +123,13 @@ pub fn embedded_model(
     requires offset { unsigned_abs figures.offset < 2 ^ 122 }
     requires threshold { unsigned_abs figures.threshold < 2 ^ 122 }
     ensures model { IfOk result (λ m.
-        m ≡ qubit_model unit embedded own figures (kind_of graph.now)) }
+        m ≡ qubit_model unit ties embedded own figures (kind_of graph.now)) }
 
     // What the laws of the model rest on.
-    ensures kept { IsEmbedding embedded }
+    ensures kept { IfOk result (λ _. IsEmbedding embedded) }
 {
-    let made = Chains.lower(alloc, &embedded)?;
+    let made = tied(alloc, &embedded, ties)?;
     drop(embedded);
-    let figures = figures.after(made.scale, made.offset);
-    chained_model(
-        alloc,
-        made.target,
-        own,
-        figures,
-        unit,
-        graph,
-        made.link.chains,
-    )
+    let figures = figures.after(1, made.offset);
+    chained_model(alloc, made.form, own, figures, unit, graph, made.chains)
 }

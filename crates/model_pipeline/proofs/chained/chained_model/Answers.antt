@@ -6,8 +6,8 @@ use Rattle.base.proofs.Totals.{size-plus}
 use Rattle.base.specs.Figures.{figures_moved}
 use Rattle.form_steps.proofs.Growth.{fits_below}
 use Rattle.ising_form.specs.Outputs.{written_of}
-use Rattle.qubit_models.proofs.OnChains.{reduced_fits}
-use Rattle.qubit_models.proofs.written.chained_model.Goals as goal
+use Rattle.model_pipeline.proofs.OnChains.{reduced_fits}
+use Rattle.model_pipeline.proofs.chained.chained_model.Goals as goal
 
 pub moved-figures-requires-clause-offset : goal.moved-figures-requires-clause-offset
 moved-figures-requires-clause-offset c =

@@ -1,0 +1,157 @@
+-- What is known of an embedded form on its qubits, however its chains are tied.
+use Rattle.std.proofs.Common.{◌≡◌, ◌≤◌, ℕ, ◌+◌, ◌*◌, ◌^◌, true, ℤ, pos, Bool, List, length, All, refl, sym, ap, ◌∙◌, subst}
+use Rattle.std.specs.Prelude.{unsigned_abs}
+use Rattle.std.proofs.lemmas.List.FromFn.{length-map-range_with_len}
+use Rattle.base.specs.declared.costs.Figures.{Figures}
+use Rattle.base.specs.Costs.{Form, IsOf}
+use Rattle.base.specs.Figures.{figures_moved}
+use Rattle.bits_model.specs.declared.output.Kind.TheVariants.{Chimera}
+use Rattle.form_steps.specs.Relations.{Decoding, Extends, Reduces, Relaxes, decoding_after}
+use Rattle.form_steps.specs.laws.Composed.{keeps_after_relaxes, reduces_after_relaxes}
+use Rattle.faithful.specs.AtLeast.{StandsAtLeast}
+use Rattle.faithful.specs.Least.{IsLeast}
+use Rattle.faithful.proofs.LeastStates.{relaxed_stands}
+use Rattle.faithful.proofs.LeastSteps.{kept_stands, reduced_stands}
+use Rattle.command_words.specs.declared.commands.Ties.{Ties}
+use Rattle.command_words.specs.declared.commands.Ties.TheVariants.{Choi, Cut}
+use Rattle.ising_form.specs.Isings.{IsingContent, IsIsing, ising_total}
+use Rattle.ising_form.specs.Isings as isings
+use Rattle.ising_form.specs.Outputs.{FitsOutput}
+use Rattle.chain_map.specs.Chains.{Joins}
+use Rattle.embedding_check.specs.Embeddings.{Embedding, IsEmbedding}
+use Rattle.embedding_check.specs.Checked.{IsChecked}
+use Rattle.chain_layer.specs.declared.link.ChainLink.{ChainLink}
+use Rattle.chain_layer.specs.Image as chains
+use Rattle.chain_layer.specs.laws.Kept.{chains_keep, chains_reach}
+use Rattle.chain_layer.proofs.Ordered as choi
+use Rattle.chain_layer.proofs.Sizes as choi_sizes
+use Rattle.chain_layer.proofs.Written as choi_written
+use Rattle.cut_chains.specs.declared.link.CutLink.{CutLink}
+use Rattle.cut_chains.specs.laws.LeastStates.{cut_keeps, cut_reaches}
+use Rattle.cut_chains.proofs.CutSizes.{cut_is_ising, cut_offset_small, cut_total_grows}
+use Rattle.cut_chains.proofs.Joined.{cut_fits_output, cut_is_joined}
+use Rattle.model_pipeline.specs.QubitModels.{chained_figures, image_by, offset_by}
+use Rattle.model_pipeline.specs.QubitStanding.{StandsBy}
+
+-- ---- the form on the qubits
+
+module _ (e : Embedding) (kept : IsEmbedding e) where
+  pub tied_is_ising : (ties : Ties) → (ising_total e.ising + 1) * 2 ^ 21 ≤ 2 ^ 124
+      → IsIsing (image_by ties e)
+  tied_is_ising Choi small = choi.image_is_ising e kept small
+  tied_is_ising Cut small = cut_is_ising e kept small
+
+  pub tied_total : (ties : Ties)
+      → ising_total (image_by ties e) + 1 ≤ (ising_total e.ising + 1) * 2 ^ 21
+  tied_total Choi = choi_sizes.total_grows e kept
+  tied_total Cut = cut_total_grows e kept
+
+  pub tied_offset : (ties : Ties)
+      → unsigned_abs (offset_by ties e) ≤ (ising_total e.ising + 1) * 2 ^ 20
+  tied_offset Choi = choi_sizes.offset_small e kept
+  tied_offset Cut = cut_offset_small e kept
+
+  -- a model of it can be written on its chains
+  pub tied_fits_output : (ties : Ties) (rows cols shore variables : ℕ)
+      → e.qubits ≡ 2 * rows * cols * shore → variables ≤ length e.chains
+      → FitsOutput (Chimera rows cols shore) e.chains variables (image_by ties e)
+  tied_fits_output Choi rows cols shore variables same enough =
+      choi_written.image_fits_output e rows cols shore variables kept same enough
+  tied_fits_output Cut rows cols shore variables same enough =
+      cut_fits_output e rows cols shore variables kept same enough
+
+-- its couplings are on joined qubits
+pub tied_is_joined : (ties : Ties) (joined : Joins) (n : ℕ) (f : IsingContent)
+    (map : List (List ℕ)) (e : Embedding) → ((a b : ℕ) → joined a b ≡ joined b a)
+    → IsChecked joined n f map e
+    → All (λ c. joined c.first c.second ≡ true) (image_by ties e).couplings
+tied_is_joined Choi joined n f map e both_ways checked =
+    choi_written.image_is_joined joined n f map e both_ways checked
+tied_is_joined Cut joined n f map e both_ways checked =
+    cut_is_joined joined n f map e both_ways checked
+
+-- it has a field for each qubit
+pub tied_width : (ties : Ties) (e : Embedding) → length (image_by ties e).fields ≡ e.qubits
+tied_width Choi e = length-map-range_with_len (chains.field_at (chains.all_shares e)) 0 e.qubits
+tied_width Cut e = length-map-range_with_len (chains.field_at (chains.all_shares e)) 0 e.qubits
+
+-- ---- what it stands for
+
+-- the chains of an embedding, as the layers link them
+abbrev pub link_of : Embedding → ChainLink
+link_of e = record { chains = e.chains; qubits = e.qubits }
+
+abbrev cut_link_of : Embedding → CutLink
+cut_link_of e = record { chains = e.chains; qubits = e.qubits }
+
+pub link_fits : (e : Embedding) → IsEmbedding e → chains.Fits (link_of e) e
+link_fits e kept = record { chains = refl; qubits = refl; kept = kept }
+
+-- whatever the embedded form relaxes, it stands for
+pub tied_stands : (ties : Ties) (e : Embedding) → IsEmbedding e → (source : Form) (d : Decoding)
+    (n : Figures) → Relaxes source (isings.form_of e.ising) d (pos 1) n
+    → StandsBy ties source (isings.form_of (image_by ties e))
+    (decoding_after d (chains.decoding (link_of e))) (pos 1) (chained_figures ties e n)
+tied_stands Choi e kept source d n relaxed =
+    keeps_after_relaxes relaxed (chains_keep (link_of e) e (link_fits e kept))
+tied_stands Cut e kept source d n relaxed =
+    kept_stands (relaxed_stands source (isings.form_of e.ising) d (pos 1) n relaxed)
+    (cut_keeps (cut_link_of e) e (link_fits e kept))
+
+-- the state on all qubits reaches an assignment of the nodes
+pub tied_reach : (ties : Ties) (e : Embedding) (x : List Bool) → IsEmbedding e
+    → length x ≡ length e.ising.fields
+    → Extends (isings.form_of e.ising) (isings.form_of (image_by ties e))
+    (chains.decoding (link_of e)) (pos 1) (offset_by ties e) x (chains.extension e x)
+tied_reach Choi e x kept width = chains_reach (link_of e) e x (link_fits e kept) width
+tied_reach Cut e x kept width = cut_reaches (cut_link_of e) e x (link_fits e kept) width
+
+-- ---- other steps
+
+-- counted in a unit it stands for the same
+pub stands_reduced : (ties : Ties) (f g h : Form) (d : Decoding) (n : Figures) (u b : ℤ)
+    → StandsBy ties f g d (pos 1) n → Reduces g h u b
+    → StandsBy ties f h d u (figures_moved n b)
+stands_reduced Choi f g h d n u b stands reduces = reduces_after_relaxes stands reduces
+stands_reduced Cut f g h d n u b stands reduces = reduced_stands f g h d n u b stands reduces
+
+relaxes_alike : (f g : Form) (d d' : Decoding) (u : ℤ) (n : Figures)
+    → ((y : List Bool) → d.decoded y ≡ d'.decoded y) → Relaxes f g d u n → Relaxes f g d' u n
+relaxes_alike f g d d' u n same p = record {
+  unit = p.unit;
+  positive = p.positive;
+  width = λ y w. subst (IsOf f) (same y) (p.width y w);
+  bound = λ y w v whole. p.bound y w v (ap f.cost (same y) ∙ whole);
+  above = λ y w infinite. p.above y w (ap f.cost (same y) ∙ infinite);
+  reached = λ x w v whole.
+      let y = p.reached x w v whole in (
+        y.0,
+        record {
+          width = y.1.width;
+          decodes = sym (same y.0) ∙ y.1.decodes;
+          energy = y.1.energy;
+        },
+      );
+  below = p.below;
+  onto = λ x w. let y = p.onto x w in (y.0, y.1, sym (same y.0) ∙ y.2);
+}
+
+least_alike : (f g : Form) (d d' : Decoding) (u : ℤ) (n : Figures)
+    → ((y : List Bool) → d.decoded y ≡ d'.decoded y) → StandsAtLeast f g d u n
+    → StandsAtLeast f g d' u n
+least_alike f g d d' u n same p = record {
+  exact = λ feasible x. (
+    λ least. let y = (p.exact feasible x).0 least in (y.0, y.1, sym (same y.0) ∙ y.2),
+    λ s. (p.exact feasible x).1 (s.0, s.1, same s.0 ∙ s.2),
+  );
+  decodes = λ feasible y least. subst (IsLeast f) (same y) (p.decodes feasible y least);
+  least_energy = p.least_energy;
+  infeasible = p.infeasible;
+}
+
+-- only what states decode to matters
+pub stands_alike : (ties : Ties) (f g : Form) (d d' : Decoding) (u : ℤ) (n : Figures)
+    → ((y : List Bool) → d.decoded y ≡ d'.decoded y) → StandsBy ties f g d u n
+    → StandsBy ties f g d' u n
+stands_alike Choi f g d d' u n same stands = relaxes_alike f g d d' u n same stands
+stands_alike Cut f g d d' u n same stands = least_alike f g d d' u n same stands

@@ -1,0 +1,96 @@
+//! The embedding of an Ising form on the qubits that there are, on chains of a clique or of a map.
+//!
+//! On all qubits of a graph the places of a clique are known at once. Where some do not work, the
+//! chains of a clique are checked as those of a map are.
+ghost use Rattle.std.specs.Prelude.{◌≡◌, ◌≤◌, ◌<◌, length, IfOk, IfErr};
+ghost use Rattle.chain_map.specs.Faults.{IfFault};
+ghost use Rattle.embedding_check.specs.Checked.{IsChecked};
+ghost use Rattle.working_graph.specs.Fabrics.{IsValidOn};
+ghost use Rattle.working_graph.specs.Faults.{IsFaultOn};
+ghost use Rattle.working_graph.specs.Places.{taken_places, working_clique};
+ghost use Rattle.working_graph.specs.Working.{fabric_of};
+ghost use Rattle.model_pipeline.specs.Sites.{
+  chains_of,
+  clique_in,
+  fabric_in,
+  places_in,
+  CanStandAt,
+  IsFaultAt,
+};
+
+use crate::site::{Perch, Qubits};
+use chain_map::{ChainMap, CheckAnswer};
+use clique_embedding::clique_embedded;
+use embedding_check::{Embedded, check};
+use ising_form::Ising;
+use std::alloc::Global;
+use working_graph::{Working, check_working, clique_working};
+
+/// An Ising form on the chains of a clique, of the qubits of a graph that work.
+fn clique_on_working(alloc: Global, working: &Working, form: Ising) -> Result<Embedded, CheckAnswer>
+    ensures checked { IfOk result (IsChecked (fabric_of working.now).joined
+        (fabric_of working.now).qubits form
+        (working_clique working.now (length form.fields))) }
+    ensures fits { IfOk result (λ _. length form.fields ≤ length (taken_places working.now)) }
+    ensures refused { IfErr result (λ e. IfFault e
+        (IsFaultAt (Qubits.Working working.now) Perch.Clique form)) }
+{
+    let map = clique_working(alloc, working, form.fields.as_slice().len())?;
+    check_working(alloc, working, form, &map)
+}
+
+/// An Ising form on the chains of a clique. It is refused exactly where there are more nodes than
+/// places.
+fn on_clique(alloc: Global, qubits: &Qubits, form: Ising) -> Result<Embedded, CheckAnswer>
+    ensures checked { IfOk result (IsChecked (fabric_in qubits.now).joined
+        (fabric_in qubits.now).qubits form (clique_in qubits.now (length form.fields))) }
+    ensures fits { IfOk result (λ _. length form.fields ≤ places_in qubits.now) }
+    ensures refused { IfErr result (λ e. IfFault e
+        (IsFaultAt qubits.now Perch.Clique form)) }
+{
+    match qubits {
+        Qubits::All(graph) => clique_embedded(alloc, graph, form),
+        Qubits::Working(working) => clique_on_working(alloc, working, form),
+    }
+}
+
+/// An Ising form on the chains of a map, or the first fault of the map. It is refused exactly where
+/// the map is not valid.
+fn on_map(
+    alloc: Global,
+    qubits: &Qubits,
+    form: Ising,
+    map: &ChainMap,
+) -> Result<Embedded, CheckAnswer>
+    ensures checked { IfOk result (IsChecked (fabric_in qubits.now).joined
+        (fabric_in qubits.now).qubits form map.now) }
+    ensures valid { IfOk result (λ _. IsValidOn (fabric_in qubits.now) form map.now) }
+    ensures fault { IfErr result (λ e. IfFault e
+        (IsFaultOn (fabric_in qubits.now) form map.now)) }
+{
+    match qubits {
+        Qubits::All(graph) => check(alloc, graph, form, map),
+        Qubits::Working(working) => check_working(alloc, working, form, map),
+    }
+}
+
+/// An Ising form on chains of the qubits that there are, or why it has no place on them.
+pub fn embedded_on(
+    alloc: Global,
+    qubits: &Qubits,
+    perch: &Perch,
+    form: Ising,
+) -> Result<Embedded, CheckAnswer>
+    ensures checked { IfOk result (IsChecked (fabric_in qubits.now).joined
+        (fabric_in qubits.now).qubits form
+        (chains_of qubits.now perch.now (length form.fields))) }
+    ensures can_stand { IfOk result (λ _. CanStandAt qubits.now perch.now form) }
+    ensures fault { IfErr result (λ e. IfFault e (IsFaultAt qubits.now perch.now form)) }
+    ensures refused { IfErr result (λ e. IfFault e (λ _.
+        CanStandAt qubits.now perch.now form → ⊥)) }
+{
+    match perch {
+        Perch::Clique => on_clique(alloc, qubits, form),
+        Perch::Map(map) => on_map(alloc, qubits, form, map),
+    }
+}

@@ -1,0 +1,40 @@
+//! Where chains stand, and how they are tied.
+ghost use Rattle.std.specs.Prelude.{◌≡◌};
+ghost use Rattle.model_pipeline.specs.Sites.{graph_in};
+
+use chain_map::ChainMap;
+use chimera_graph::Chimera;
+use command_words::Ties;
+use working_graph::Working;
+
+/// The qubits that chains may stand on: all those of a graph, or those of it that work.
+#[derive(Drop)]
+pub enum Qubits {
+    All(Chimera),
+    Working(Working),
+}
+
+/// Where chains come from: they are those of a clique, or of a map.
+#[derive(Drop)]
+pub enum Perch {
+    Clique,
+    Map(ChainMap),
+}
+
+/// The qubits and the chains that a form is put on, and how strongly these are tied.
+#[derive(Drop)]
+pub struct Site {
+    pub qubits: Qubits,
+    pub perch: Perch,
+    pub ties: Ties,
+}
+
+/// The graph of the qubits.
+pub(crate) fn graph_in(qubits: &Qubits) -> Chimera
+    ensures { result ≡ graph_in qubits.now }
+{
+    match qubits {
+        Qubits::All(graph) => *graph,
+        Qubits::Working(working) => working.graph(),
+    }
+}

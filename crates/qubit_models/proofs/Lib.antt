@@ -1,2 +1,0 @@
-pub mod OnChains
-pub mod QubitModels

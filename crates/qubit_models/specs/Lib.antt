@@ -1,2 +1,0 @@
-pub mod QubitModels
-pub mod Standing
