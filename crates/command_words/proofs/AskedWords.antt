@@ -34,7 +34,7 @@ use Rattle.chimera_graph.specs.declared.chimera.Chimera as graphs
 use Rattle.command_words.specs.declared.keys.Keys.{Keys}
 use Rattle.command_words.specs.declared.words.Verb.{Verb}
 use Rattle.command_words.specs.declared.words.Verb.TheVariants as verbs
-use Rattle.command_words.specs.Asked.{EachJobIsAskedFor, EachDecodingIsAskedFor, EachExtensionIsAskedFor, EachSampleIsAskedFor, EachSolutionIsAskedFor, EachProofIsAskedFor, EachUnitIsAskedFor, EachGraphIsAskedFor, EachKeyStands, CannotStand, NoKeyStandsTwice, NoGraphKeyElsewhere, NoGraphWithout, NoLargerGraph, IsRefusedAfterAll, NoOtherWordsAsk, Say, format_word, high_key, normal_key, on_fourth_word, board_of, board_with, dead_at, target_word, word_of, unit_key, rows_key, cols_key, shore_key, map_key, clique_key, dead_key, dead_keys, chain_key, job_words, compile_words, decode_words, extend_words, prove_words, sample_words, solve_words}
+use Rattle.command_words.specs.Asked.{EachJobIsAskedFor, EachDecodingIsAskedFor, EachExtensionIsAskedFor, EachSampleIsAskedFor, EachSolutionIsAskedFor, EachProofIsAskedFor, EachUnitIsAskedFor, EachGraphIsAskedFor, EachKeyStands, CannotStand, NoKeyStandsTwice, NoGraphKeyElsewhere, NoGraphWithout, NoLargerGraph, IsRefusedAfterAll, NoOtherWordsAsk, Say, format_word, high_key, normal_key, on_fourth_word, board_of, board_with, dead_at, target_word, word_of, unit_key, rows_key, cols_key, shore_key, map_key, clique_key, dead_keys, chain_key, job_words, compile_words, decode_words, extend_words, prove_words, sample_words, solve_words}
 use Rattle.command_words.specs.Commands.{◌>>=◌, after_verb, chosen_target, clauses_of, command_of, drawn, format_of, job_of, named, on_file, sample_of, target_of, valued, verb_of}
 use Rattle.command_words.specs.Keys.{choices_of, chosen_ties, chosen_unit, given, graph_of, keys_from, no_keys, target_by, with_word}
 use Rattle.command_words.specs.Names.{text_at}
