@@ -1,0 +1,6 @@
+use Rattle.std.proofs.Common.{ap, sym}
+use Rattle.source_texts.specs.Sources.{style_of}
+use Rattle.source_texts.proofs.reading.style_of.Goals as goal
+
+pub returns-in-Wbo : goal.returns-in-Wbo
+returns-in-Wbo c = ap style_of (sym c.in-Wbo.is)
