@@ -18,7 +18,7 @@ use Rattle.faithful.specs.Faithful.{Demand, Faithful}
 use Rattle.basic_solve.specs.Stated.{whole_energy, TellsOptimum, LeastStatesTell}
 
 -- a state decodes to as many bits as the model has variables
-length-read_off : (m : Written) (y : List Bool) → (k : Kind) → FitsKind k m → length y ≡ m.nodes
+pub length-read_off : (m : Written) (y : List Bool) → (k : Kind) → FitsKind k m → length y ≡ m.nodes
     → length (read_off k m.variables m.chains y) ≡ m.variables
 length-read_off m y Qubo f w = length-take-le m.variables y (omega (arith, f.enough))
 length-read_off m y Ising f w = length-take-le m.variables y (omega (arith, f.enough))

@@ -1,38 +1,51 @@
 -- What is asked of the model of a command's plan answers the command.
-use Rattle.std.proofs.Common.{◌≡◌, ℕ, Bool, List, Ok, Some, refl, sym, ap, ◌∙◌, subst}
+use Rattle.std.proofs.Common.{◌≡◌, ℕ, ℤ, pos, ◌*ℤ◌, ◌≤ℤ◌, Bool, List, length, take, Ok, Some, None, refl, sym, ap, ◌∙◌, subst, arith}
+use Rattle.std.proofs.lemmas.Int.{ints, by_lt_z}
 use Rattle.std.specs.declared.option.Option.{Option}
 use Rattle.edge_io.specs.Held.{NamedFiles}
 use Rattle.base.specs.declared.unit.UnitChoice.{UnitChoice}
-use Rattle.base.specs.Costs.{Form, Source, energy}
+use Rattle.base.specs.Costs.{IsOf, Source, energy}
+use Rattle.base.proofs.Products.{times-lt}
+use Rattle.form_steps.specs.Relations.{Relaxes}
 use Rattle.bits_model.specs.Output.{Written, IsWellFormed, form_of, decoding_of}
 use Rattle.faithful.specs.Faithful.{Demand, Faithful, HasChains}
-use Rattle.basic_solve.proofs.Told.{least_states_tell}
+use Rattle.faithful.specs.Least.{IsLeastState}
+use Rattle.basic_solve.proofs.Told.{least_states_tell, length-read_off}
+use Rattle.problem_form.specs.declared.limits.Choices.{Choices}
+use Rattle.problem_form.specs.Problems.{ProblemContent}
+use Rattle.wbo_reader.specs.Wbo.{WboContent}
 use Rattle.problem_form.specs.Problems as problems
 use Rattle.model_text.specs.Rows.{FitsFields, model_text}
 use Rattle.model_text.specs.Told.{IsTextOf}
 use Rattle.model_text.proofs.ModelRows.{texts_tell_models}
-use Rattle.answer_text.specs.Answers.{decoding_text, extension_text, solution_text}
+use Rattle.answer_text.specs.Answers.{decoding_text, extension_text, proof_text, solution_text}
 use Rattle.command_words.specs.declared.commands.NodeModel.{NodeModel}
 use Rattle.command_words.specs.declared.commands.NodeModel.TheVariants.{Qubo, Ising}
 use Rattle.command_words.specs.declared.commands.Ask.{Ask}
-use Rattle.command_words.specs.declared.commands.Ask.TheVariants.{Model, Summary, Solve, Decode, Extend}
+use Rattle.command_words.specs.declared.commands.Ask.TheVariants.{Model, Summary, Solve, Decode, Extend, Prove}
+use Rattle.command_words.specs.declared.commands.Ties.{Ties}
+use Rattle.command_words.specs.declared.commands.Ties.TheVariants.{Choi, Cut}
+use Rattle.command_words.specs.Names.{text_at}
 use Rattle.command_words.specs.declared.commands.Command.{Command}
-use Rattle.source_texts.specs.Sources.{CostsAs, StandsFor, names_of, read_names}
+use Rattle.source_texts.specs.declared.reading.Read.{Read}
+use Rattle.source_texts.specs.Sources.{CostsAs, StandsFor, carried, names_of, read_names}
 use Rattle.source_texts.proofs.Standing.{problem_stands, problem_costs}
 use Rattle.model_pipeline.specs.Models as models
-use Rattle.model_pipeline.specs.Extensions.{Extends}
+use Rattle.model_pipeline.specs.GraphModels.{ising_of}
+use Rattle.model_pipeline.specs.Extensions.{ExtendsTo, IsLeastTo, IsMadeOf}
 use Rattle.program_run.specs.declared.placements.Placement.{Placement}
 use Rattle.program_run.specs.declared.placements.Placement.TheVariants.{Nodes, Qubits}
 use Rattle.program_run.specs.declared.plans.Plan.{Plan}
-use Rattle.program_run.specs.Placements.{demand_of}
-use Rattle.program_run.specs.Plans.{plan_of, nodes_in, StandsOn, Stands}
+use Rattle.program_run.specs.Placements.{ties_of, demand_of}
+use Rattle.program_run.specs.Plans.{plan_of, nodes_in, StandsOn}
 use Rattle.program_run.specs.Outcome.{◌>>=◌, gives, checking, placing, planning, last_step, format_in}
-use Rattle.program_run.specs.Made.{IsTold, IsMadeText}
-use Rattle.program_run.specs.Answers.{IsModelFor, IsAskedOf, IsAnswer}
+use Rattle.program_run.specs.Made.{read_cost, IsExtendedBy, IsModelled, IsSolvedBy, IsTold, IsMadeText}
+use Rattle.program_run.specs.Answers.{EveryStateStands, Extends, IsAnswer, IsAskedOf, IsDecoded, IsExtended, IsLeastAsked, IsLeastExtension, IsLeastWhereWhole, IsModelFor, IsProved, IsSolved, TellsSource}
 use Rattle.program_run.proofs.Stepping.{bound}
 use Rattle.program_run.proofs.Taken.{source_is_taken}
 use Rattle.program_run.proofs.Widths.{has_few_nodes}
-use Rattle.program_run.proofs.Stood.{model_stands}
+use Rattle.program_run.proofs.Asked.{IsProvedState, stated_width, proved_is, proved_least}
+use Rattle.program_run.proofs.Stood.{alike, model_stands}
 
 -- ---- what a plan is of
 
@@ -68,10 +81,12 @@ no_chains Qubo unit nodes m kind =
 no_chains Ising unit nodes m kind =
     subst (λ k. HasChains k (demand_of unit (Nodes Ising) nodes) m) (sym kind) tt
 
-stands_on : (base : Placement) (plan : Plan) (s : Source) (m : Written) → StandsFor s plan.read
-    → StandsOn base plan m → IsModelFor base plan.unit (nodes_in plan) s m
-stands_on (Nodes target) plan s m stands made =
-    model_stands plan.unit s plan.read m stands (record {
+stands_on : (base : Placement) (choices : Choices) (unit : UnitChoice) (s : Source) (r : Read)
+    (m : Written) → StandsFor s r → StandsOn base choices unit r.variables r.problem m
+    → IsModelFor base unit (length (ising_of choices r.problem).fields) s m
+stands_on (Nodes target) choices unit s r m stands made =
+    let nodes = length (ising_of choices r.problem).fields in
+    model_stands unit s r m stands (Nodes target) nodes (record {
       fits = made.fits;
       bounded = made.bounded;
       well_formed = made.well_formed;
@@ -79,11 +94,11 @@ stands_on (Nodes target) plan s m stands made =
       scale = made.scale;
       threshold = made.threshold;
       unit = made.unit;
-      relaxes = made.relaxes;
-    }) (Nodes target) (nodes_in plan) made.kind refl
-    (no_chains target plan.unit (nodes_in plan) m made.kind)
-stands_on (Qubits graph perch) plan s m stands made =
-    model_stands plan.unit s plan.read m stands (record {
+      stands = made.relaxes;
+    }) made.kind refl (no_chains target unit nodes m made.kind)
+stands_on (Qubits site) choices unit s r m stands made =
+    let nodes = length (ising_of choices r.problem).fields in
+    model_stands unit s r m stands (Qubits site) nodes (record {
       fits = made.fits;
       bounded = made.bounded;
       well_formed = made.well_formed;
@@ -91,18 +106,15 @@ stands_on (Qubits graph perch) plan s m stands made =
       scale = made.scale;
       threshold = made.threshold;
       unit = made.unit;
-      relaxes = made.relaxes;
-    }) (Qubits graph perch) (nodes_in plan) made.kind refl
-    (subst (λ k. HasChains k (demand_of plan.unit (Qubits graph perch) (nodes_in plan)) m)
-    (sym made.kind) made.embedded)
+      stands = made.stands;
+    }) made.kind refl
+    (subst (λ k. HasChains k (demand_of unit (Qubits site) nodes) m) (sym made.kind) made.embedded)
 
-formed_on : (base : Placement) (plan : Plan) (m : Written) → StandsOn base plan m → IsWellFormed m
-formed_on (Nodes target) plan m made = made.well_formed
-formed_on (Qubits graph perch) plan m made = made.well_formed
-
-fits_on : (base : Placement) (plan : Plan) (m : Written) → StandsOn base plan m → FitsFields m
-fits_on (Nodes target) plan m made = made.fits
-fits_on (Qubits graph perch) plan m made = made.fits
+formed_on : (base : Placement) (choices : Choices) (unit : UnitChoice) (own : ℕ)
+    (p : ProblemContent) (m : Written) → StandsOn base choices unit own p m
+    → IsWellFormed m × FitsFields m
+formed_on (Nodes target) choices unit own p m made = (made.well_formed, made.fits)
+formed_on (Qubits site) choices unit own p m made = (made.well_formed, made.fits)
 
 -- ---- what is told of it
 
@@ -112,55 +124,162 @@ text_is_its m formed fits = record {
   only = λ n other fit same. texts_tell_models n m other formed fit fits same;
 }
 
--- what extends an assignment of a form extends it of one that costs the same
-extends_alike : (f g : Form) (m : Written) (x y : List Bool) → f.cost x ≡ g.cost x
-    → Extends f m x y → Extends g m x y
-extends_alike f g m x y same extends = record {
-  width = extends.width;
-  decodes = extends.decodes;
-  scaled = λ v whole. extends.scaled v (same ∙ whole);
-  least = extends.least;
-}
+tells_source : (s : Source) (demand : Demand) (m : Written) (state : List Bool)
+    → Faithful s demand m → IsLeastState (form_of m) state → TellsSource s m state
+tells_source s demand m state faithful least =
+    let tells = least_states_tell s demand m state faithful least in
+    record { optimum = tells.0; infeasible = tells.1 }
+
+unscaled-le : (a v w : ℤ) → pos 1 ≤ℤ a → (a *ℤ v) ≤ℤ (a *ℤ w) → v ≤ℤ w
+unscaled-le a v w p h =
+    by_lt_z w v (λ lt. absurd (omega (arith, ints, times-lt a w v p lt, h))) (λ le. le)
+
+-- where every state stands for the source, one whose energy is the whole cost is a least one
+least_where_whole : (s : Source) (m : Written) (x state : List Bool)
+    → Relaxes s.form (form_of m) (decoding_of m) m.unit m.figures → Extends s m x state
+    → IsLeastWhereWhole s m x state
+least_where_whole s m x state relaxes extends v whole other w decodes =
+    let lies = relaxes.bound other w v (ap s.form.cost decodes ∙ whole) in
+    unscaled-le m.unit (energy (form_of m) state) (energy (form_of m) other) relaxes.unit
+    (subst (λ e. e ≤ℤ (m.unit *ℤ energy (form_of m) other)) (sym (extends.scaled v whole)) lies)
 
 module _ (plan : Plan) (s : Source) (m : Written) (names : Option (List (List ℕ)))
-    (made : Stands plan m) (costs : CostsAs s plan.read) (named : names ≡ plan.read.names)
-    (demand : Demand) (faithful : Faithful s demand m) where
-  asked_of : (ask : Ask) (bits : List Bool) (text : List ℕ)
-      → IsTold ask plan.read plan.choices m bits text
-      → IsAskedOf ask s names plan m bits text
-  asked_of Model bits text told =
-      subst (λ t. IsTextOf m t) (sym told)
-      (text_is_its m (formed_on plan.base plan m made) (fits_on plan.base plan m made))
-  asked_of Summary bits text told = told
-  asked_of Solve bits text told =
+    (made : IsModelled plan m) (stands : StandsFor s plan.read) (costs : CostsAs s plan.read)
+    (named : names ≡ plan.read.names)
+    (its : IsModelFor plan.base plan.unit (nodes_in plan) s m) where
+  own : m.variables ≡ s.form.bits
+  own = its.faithful.stated.variables
+
+  -- what a state decodes to has the width of the source
+  decoded_width : (y : List Bool) → length y ≡ m.nodes
+      → IsOf s.form ((decoding_of m).decoded y)
+  decoded_width y w = length-read_off m y m.kind its.faithful.well_formed.kind w ∙ own
+
+  -- and costs what the source says
+  decoded_cost : (y : List Bool) → length y ≡ m.nodes
+      → read_cost plan.read ((decoding_of m).decoded y)
+      ≡ s.form.cost ((decoding_of m).decoded y)
+  decoded_cost y w = costs.same ((decoding_of m).decoded y) (decoded_width y w)
+
+  solved : (text : List ℕ) → IsSolvedBy plan.read m text → IsSolved s names m text
+  solved text told =
       let x = (decoding_of m).decoded told.state in
       let value = energy (form_of m) told.state in
-      let tells = least_states_tell s demand m told.state faithful told.first.least in
+      let demand = demand_of plan.unit plan.base (nodes_in plan) in
       record {
         state = told.state;
         first = told.first;
-        optimum = tells.0;
-        infeasible = tells.1;
+        tells = tells_source s demand m told.state its.faithful told.first.least;
         said = told.said
             ∙ ap (λ (n : Option (List (List ℕ))). solution_text told.state value x n
-            ((problems.form_of plan.read.problem).cost x)) (sym named)
-            ∙ ap (λ c. solution_text told.state value x names c) (costs.same x);
+            (read_cost plan.read x)) (sym named)
+            ∙ ap (λ c. solution_text told.state value x names c)
+            (decoded_cost told.state told.first.least.width);
       }
-  asked_of (Decode at) bits text told =
+
+  proved : (bits : List Bool) (text : List ℕ) → IsProvedState m bits
+      → text ≡ proof_text (energy (form_of m) bits) ((decoding_of m).decoded bits)
+      plan.read.names (read_cost plan.read ((decoding_of m).decoded bits))
+      → IsProved s names m bits text
+  proved bits text is told =
       let x = (decoding_of m).decoded bits in
-      let spent = (problems.form_of plan.read.problem).cost x in
+      let value = energy (form_of m) bits in
+      let demand = demand_of plan.unit plan.base (nodes_in plan) in
+      let least = proved_least m bits is in
+      record {
+        least = least;
+        tells = tells_source s demand m bits its.faithful least;
+        said = told
+            ∙ ap (λ (n : Option (List (List ℕ))). proof_text value x n (read_cost plan.read x))
+            (sym named)
+            ∙ ap (λ c. proof_text value x names c) (decoded_cost bits is.width);
+      }
+
+  decoded : (bits : List Bool) (text : List ℕ) → length bits ≡ m.nodes
+      → text ≡ decoding_text ((decoding_of m).decoded bits) plan.read.names
+      (read_cost plan.read ((decoding_of m).decoded bits)) (energy (form_of m) bits)
+      → IsDecoded s names m bits text
+  decoded bits text w told =
+      let x = (decoding_of m).decoded bits in
       told
-      ∙ ap (λ (n : Option (List (List ℕ))). decoding_text x n spent (energy (form_of m) bits))
-      (sym named)
-      ∙ ap (λ c. decoding_text x names c (energy (form_of m) bits)) (costs.same x)
-  asked_of (Extend at) bits text told = record {
-    state = told.state;
-    exact = told.exact;
-    extends = extends_alike (problems.form_of plan.read.problem) s.form m bits told.state
-        (costs.same bits) told.extends;
-    said = told.said
-        ∙ ap (λ c. extension_text told.state c (energy (form_of m) told.state)) (costs.same bits);
+      ∙ ap (λ (n : Option (List (List ℕ))). decoding_text x n (read_cost plan.read x)
+      (energy (form_of m) bits)) (sym named)
+      ∙ ap (λ c. decoding_text x names c (energy (form_of m) bits)) (decoded_cost bits w)
+
+  -- ---- an assignment
+
+  -- the first bits of what a state decodes to with all variables of the problem
+  first_bits : (y : List Bool) → length y ≡ m.nodes
+      → (decoding_of m).decoded y
+      ≡ take s.form.bits ((models.decoding_to plan.read.problem.variables m).decoded y)
+  first_bits y w = alike plan.unit s plan.read m stands (own ∙ sym stands.variables) y w
+
+  source_extends : (x state : List Bool) → IsOf s.form x
+      → ExtendsTo plan.read.problem.variables (problems.form_of plan.read.problem) m
+      (carried plan.read.soft x) state
+      → Extends s m x state
+  source_extends x state w extends = record {
+    width = extends.width;
+    decodes = first_bits state extends.width ∙ ap (take s.form.bits) extends.decodes
+        ∙ costs.begins x w;
+    scaled = λ v whole. extends.scaled v (costs.same x w ∙ whole);
   }
+
+  -- without soft constraints the problem has the source's variables
+  plain_least : (x state : List Bool) → IsOf s.form x → plan.read.soft ≡ None
+      → IsLeastTo plan.read.problem.variables m (carried plan.read.soft x) state
+      → IsLeastExtension m x state
+  plain_least x state w none least other wide decodes =
+      let itself : carried plan.read.soft x ≡ x = ap (λ soft. carried soft x) none in
+      let all : plan.read.problem.variables ≡ m.variables =
+      sym (costs.width x w) ∙ ap length itself ∙ w ∙ sym own in
+      least other wide
+      (ap (λ n. (models.decoding_to n m).decoded other) all ∙ decodes ∙ sym itself)
+
+  least_by : (ties : Ties) (soft : Option WboContent) (x state : List Bool) → IsOf s.form x
+      → plan.read.soft ≡ soft → EveryStateStands ties s m → Extends s m x state
+      → (ties ≡ Choi → IsLeastTo plan.read.problem.variables m (carried plan.read.soft x) state)
+      → IsLeastAsked ties soft s m x state
+  least_by Choi None x state w is every extends least = plain_least x state w is (least refl)
+  least_by Choi (Some soft) x state w is every extends least =
+      least_where_whole s m x state every extends
+  least_by Cut None x state w is every extends least = tt
+  least_by Cut (Some soft) x state w is every extends least = tt
+
+  extended : (x : List Bool) (text : List ℕ) → IsOf s.form x
+      → IsExtendedBy plan.choices plan.read m x text → IsExtended s plan m x text
+  extended x text w told =
+      let extends = source_extends x told.state w told.extends in
+      record {
+        state = told.state;
+        exact = told.exact;
+        extends = extends;
+        least = least_by (ties_of plan.base) plan.read.soft x told.state w refl its.every extends
+            (λ choi. told.least plan.read.variables
+            (subst (λ ties. IsMadeOf ties plan.read.variables plan.choices plan.read.problem m) choi
+            made.made));
+        said = told.said
+            ∙ ap (λ c. extension_text told.state c (energy (form_of m) told.state))
+            (costs.same x w);
+      }
+
+  asked_of : (words : List (List ℕ)) (held : NamedFiles) (ask : Ask) (bits : List Bool)
+      (text : List ℕ) → (last_step words held ask plan m).end ≡ Some (Ok bits)
+      → IsTold ask plan.read plan.choices m bits text
+      → IsAskedOf ask s names plan m bits text
+  asked_of words held Model bits text e told =
+      let formed = formed_on plan.base plan.choices plan.unit plan.read.variables
+      plan.read.problem m made.stands in
+      subst (λ t. IsTextOf m t) (sym told) (text_is_its m formed.0 formed.1)
+  asked_of words held Summary bits text e told = told
+  asked_of words held Solve bits text e told = solved text told
+  asked_of words held (Decode at) bits text e told =
+      decoded bits text (stated_width held (text_at words at) m.nodes bits e) told
+  asked_of words held (Extend at) bits text e told =
+      extended bits text
+      (stated_width held (text_at words at) plan.read.variables bits e ∙ stands.variables) told
+  asked_of words held (Prove state certificate) bits text e told =
+      proved bits text (proved_is words held state certificate m bits e) told
 
 -- ---- the answer
 
@@ -176,7 +295,7 @@ made_answers words held command plan text e made =
     let m = made.model in
     let costs = problem_costs format taken.text plan.read s.0 taken.read s.1 in
     let named : names_of format taken.text ≡ plan.read.names = ap read_names taken.read in
-    let stands = stands_on plan.base plan s.0 m s.2 made.made.stands in
+    let stands = stands_on plan.base plan.choices plan.unit s.0 plan.read m s.2 made.made.stands in
     record {
       source = s.0;
       from = record { text = taken.text; found = taken.found; says = s.1 };
@@ -188,7 +307,6 @@ made_answers words held command plan text e made =
       few = has_few_nodes plan m made.made.can_stand made.made.by made.made.stands;
       bits = made.bits;
       last = made.read;
-      said = asked_of plan s.0 m (names_of format taken.text) made.made.stands costs named
-          (demand_of plan.unit plan.base (nodes_in plan)) stands.faithful command.ask made.bits text
-          made.told;
+      said = asked_of plan s.0 m (names_of format taken.text) made.made s.2 costs named stands
+          words held command.ask made.bits text made.read made.told;
     }

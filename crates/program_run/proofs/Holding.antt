@@ -4,7 +4,7 @@ use Rattle.std.specs.declared.option.Option.{Option}
 use Rattle.edge_io.specs.Held.{NamedFiles, WhereTold}
 use Rattle.edge_io.specs.Counts.{Counts}
 use Rattle.command_words.specs.declared.names.Which.{Which}
-use Rattle.command_words.specs.declared.names.Which.TheVariants.{Source, Map, State}
+use Rattle.command_words.specs.declared.names.Which.TheVariants.{Source, Dead, Map, State, Certificate}
 use Rattle.command_words.specs.declared.commands.Format.{Format}
 use Rattle.command_words.specs.declared.commands.WordAt.{WordAt}
 use Rattle.command_words.specs.declared.commands.Board.{Board}
@@ -12,7 +12,7 @@ use Rattle.command_words.specs.declared.commands.Origin.TheVariants.{File}
 use Rattle.command_words.specs.declared.commands.Target.TheVariants.{Chimera}
 use Rattle.command_words.specs.declared.commands.Chaining.TheVariants as chainings
 use Rattle.command_words.specs.declared.commands.Command.{Command}
-use Rattle.command_words.specs.Names.{text_at, name_of, state_of, if_named, last_files}
+use Rattle.command_words.specs.Names.{text_at, name_of, state_of, certificate_of, if_named}
 use Rattle.program_run.specs.declared.status.Status.{Status}
 use Rattle.program_run.specs.Causes.{MayHold, WhereHeld, AreRefused, IsRefusedBy}
 use Rattle.program_run.proofs.FilesRead.{refused_alone}
@@ -49,6 +49,11 @@ pub has_source : (words : List (List ℕ)) (command : Command) (format : Format)
     → (if_named command Source ≡ Source ∷ []) × (text_at words at ≡ name_of words command Source)
 has_source words command format at is = (rw is refl, rw is refl)
 
+pub has_dead : (words : List (List ℕ)) (command : Command) (board : Board) (at : WordAt)
+    → command.target ≡ Chimera board → board.dead ≡ Some at
+    → (if_named command Dead ≡ Dead ∷ []) × (text_at words at ≡ name_of words command Dead)
+has_dead words command board at is dead = (rw (is, dead) refl, rw (is, dead) refl)
+
 pub has_map : (words : List (List ℕ)) (command : Command) (board : Board) (at : WordAt)
     → command.target ≡ Chimera board → board.chains ≡ chainings.Map at
     → (if_named command Map ≡ Map ∷ []) × (text_at words at ≡ name_of words command Map)
@@ -56,8 +61,14 @@ has_map words command board at is chains = (rw (is, chains) refl, rw (is, chains
 
 pub has_state : (words : List (List ℕ)) (command : Command) (at : WordAt)
     → state_of command.ask ≡ Some at
-    → (last_files command ≡ State ∷ []) × (text_at words at ≡ name_of words command State)
+    → (if_named command State ≡ State ∷ []) × (text_at words at ≡ name_of words command State)
 has_state words command at is = (rw is refl, rw is refl)
+
+pub has_certificate : (words : List (List ℕ)) (command : Command) (at : WordAt)
+    → certificate_of command.ask ≡ Some at
+    → (if_named command Certificate ≡ Certificate ∷ [])
+    × (text_at words at ≡ name_of words command Certificate)
+has_certificate words command at is = (rw is refl, rw is refl)
 
 -- what is told of a file alone that a command takes
 pub of_named : (told : Option NamedFiles) (which : Which) (files : List Which)

@@ -16,6 +16,7 @@ pub mod Widths
 pub mod Stood
 pub mod Answered
 pub mod Cutting
-pub mod Owned
+pub mod Asked
+pub mod Certified
 pub mod Sampled
 pub mod Said

@@ -1,26 +1,34 @@
 -- A model of the problem that a source is read into stands for the source.
-use Rattle.std.proofs.Common.{◌≡◌, ◌≤◌, ℕ, ◌+ℤ◌, ◌*ℤ◌, Bool, List, map, take, refl, sym, ap, ◌∙◌, subst, arith}
+use Rattle.std.proofs.Common.{◌≡◌, ◌≤◌, ℕ, ℤ, ◌+ℤ◌, ◌*ℤ◌, Bool, List, map, take, refl, sym, ap, ◌∙◌, subst, arith}
 use Rattle.std.proofs.lemmas.List.{take-take, take-map}
 use Rattle.bits_model.specs.declared.output.Kind.{Kind}
 use Rattle.bits_model.specs.declared.output.Kind.TheVariants as kinds
-use Rattle.base.specs.Costs.{Source}
-use Rattle.form_steps.specs.Relations.{Relaxes, first_decoded}
+use Rattle.base.specs.Costs.{Form, Source}
+use Rattle.base.specs.declared.costs.Figures.{Figures}
+use Rattle.form_steps.specs.Relations.{Decoding, Relaxes, first_decoded}
+use Rattle.form_steps.proofs.Rewritten.{rewritten_relaxes}
 use Rattle.bits_model.specs.Output.{Written, IsWellFormed, form_of, decoding_of, read_off, majority}
 use Rattle.faithful.specs.Bounds.{IsBounded}
 use Rattle.faithful.specs.Faithful.{Demand, HasUnit, IsStated, HasChains, scale_of}
 use Rattle.form_steps.specs.Stated.{DecodesAlike}
 use Rattle.form_steps.proofs.Alike.{relaxes_alike}
-use Rattle.faithful.proofs.LeastStates.{relaxed_is_faithful}
+use Rattle.faithful.specs.AtLeast.{StandsAtLeast}
+use Rattle.faithful.specs.Least.{IsLeast, IsLeastState}
+use Rattle.faithful.proofs.LeastStates.{relaxed_stands, standing_is_faithful}
+use Rattle.faithful.proofs.LongerSources.{rewritten_stands}
 use Rattle.base.specs.declared.unit.UnitChoice.{UnitChoice}
 use Rattle.model_text.specs.Rows.{FitsFields}
 use Rattle.problem_form.specs.Problems as problems
 use Rattle.problem_form.specs.Limits.{upper}
 use Rattle.source_texts.specs.declared.reading.Read.{Read}
 use Rattle.source_texts.specs.Sources.{StandsFor}
+use Rattle.command_words.specs.declared.commands.Ties.{Ties}
+use Rattle.command_words.specs.declared.commands.Ties.TheVariants.{Choi, Cut}
 use Rattle.model_pipeline.specs.Models.{decoding_to}
+use Rattle.model_pipeline.specs.QubitStanding.{StandsBy}
 use Rattle.program_run.specs.declared.placements.Placement.{Placement}
-use Rattle.program_run.specs.Placements.{kind_of, demand_of}
-use Rattle.program_run.specs.Answers.{IsModelFor}
+use Rattle.program_run.specs.Placements.{kind_of, ties_of, demand_of}
+use Rattle.program_run.specs.Answers.{EveryStateStands, IsModelFor}
 
 -- the first variables of what a state is read as are what it is read as for them
 take-read_off : (kind : Kind) (a b : ℕ) (chains : List (List ℕ)) (y : List Bool) → a ≤ b
@@ -30,8 +38,23 @@ take-read_off kinds.Ising a b chains y few = take-take a b y few
 take-read_off (kinds.Chimera rows cols shore) a b chains y few =
     take-map (majority y) a (take b chains) ∙ ap (map (majority y)) (take-take a b chains few)
 
+-- what stands at least does so by any decoding that agrees on the states
+stands_alike : (f g : Form) (d d' : Decoding) (u : ℤ) (n : Figures) → DecodesAlike g d d'
+    → StandsAtLeast f g d u n → StandsAtLeast f g d' u n
+stands_alike f g d d' u n alike p = record {
+  exact = λ feasible x. (
+    λ least.
+        let y = (p.exact feasible x).0 least in (y.0, y.1, alike y.0 y.1.width ∙ y.2),
+    λ e. (p.exact feasible x).1 (e.0, e.1, sym (alike e.0 e.1.width) ∙ e.2),
+  );
+  decodes = λ feasible y l.
+      subst (IsLeast f) (sym (alike y l.width)) (p.decodes feasible y l);
+  least_energy = p.least_energy;
+  infeasible = p.infeasible;
+}
+
 -- what a model of a problem has, wherever it stands
-pub record IsMade (r : Read) (choice : UnitChoice) (m : Written) : Type 0 where
+pub record IsMade (r : Read) (choice : UnitChoice) (ties : Ties) (m : Written) : Type 0 where
   pub fits : FitsFields m
   pub bounded : IsBounded m
   pub well_formed : IsWellFormed m
@@ -39,47 +62,72 @@ pub record IsMade (r : Read) (choice : UnitChoice) (m : Written) : Type 0 where
   pub scale : m.figures.scale ≡ scale_of m.kind
   pub threshold : m.figures.threshold ≡ m.figures.scale *ℤ upper r.problem +ℤ m.figures.offset
   pub unit : HasUnit choice m
-  pub relaxes : Relaxes (problems.form_of r.problem) (form_of m)
+  pub stands : StandsBy ties (problems.form_of r.problem) (form_of m)
       (decoding_to r.problem.variables m) m.unit m.figures
 
 module _ (unit : UnitChoice) (s : Source) (r : Read) (m : Written) (stands : StandsFor s r)
-    (made : IsMade r unit m) where
+    (variables : m.variables ≡ r.variables) where
   bits : m.variables ≡ s.form.bits
-  bits = made.variables ∙ stands.variables
+  bits = variables ∙ stands.variables
 
-  alike : DecodesAlike (form_of m) (first_decoded s.form.bits (decoding_to r.problem.variables m))
+  pub alike : DecodesAlike (form_of m) (first_decoded s.form.bits (decoding_to r.problem.variables m))
       (decoding_of m)
   alike y w =
       ap (λ n. read_off m.kind n m.chains y) bits
       ∙ sym (take-read_off m.kind s.form.bits r.problem.variables m.chains y
       (omega (arith, stands.own, stands.variables)))
 
-  source_relaxed : Relaxes s.form (form_of m) (decoding_of m) m.unit m.figures
-  source_relaxed =
+  source_relaxed : Relaxes (problems.form_of r.problem) (form_of m)
+      (decoding_to r.problem.variables m) m.unit m.figures
+      → Relaxes s.form (form_of m) (decoding_of m) m.unit m.figures
+  source_relaxed relaxes =
       relaxes_alike s.form s.form (form_of m)
       (first_decoded s.form.bits (decoding_to r.problem.variables m)) (decoding_of m)
       m.unit m.figures (record { width = refl; costs = λ x. refl }) alike
-      (stands.relaxed (form_of m) (decoding_to r.problem.variables m) m.unit m.figures made.relaxes)
+      (rewritten_relaxes stands.rewrites relaxes)
 
-  stated : (demand : Demand) → demand.unit ≡ unit → HasChains m.kind demand m → IsStated s demand m
-  stated demand same chains = record {
-    variables = bits;
+  source_stands : StandsAtLeast (problems.form_of r.problem) (form_of m)
+      (decoding_to r.problem.variables m) m.unit m.figures
+      → StandsAtLeast s.form (form_of m) (decoding_of m) m.unit m.figures
+  source_stands at_least =
+      stands_alike s.form (form_of m)
+      (first_decoded s.form.bits (decoding_to r.problem.variables m)) (decoding_of m)
+      m.unit m.figures alike
+      (rewritten_stands s.form (problems.form_of r.problem) (form_of m)
+      (decoding_to r.problem.variables m) m.unit m.figures stands.rewrites at_least)
+
+  -- as its ties allow
+  every : (ties : Ties)
+      → StandsBy ties (problems.form_of r.problem) (form_of m) (decoding_to r.problem.variables m)
+      m.unit m.figures
+      → EveryStateStands ties s m
+  every Choi relaxes = source_relaxed relaxes
+  every Cut at_least = tt
+
+  at_least : (ties : Ties)
+      → StandsBy ties (problems.form_of r.problem) (form_of m) (decoding_to r.problem.variables m)
+      m.unit m.figures
+      → StandsAtLeast s.form (form_of m) (decoding_of m) m.unit m.figures
+  at_least Choi relaxes =
+      relaxed_stands s.form (form_of m) (decoding_of m) m.unit m.figures (source_relaxed relaxes)
+  at_least Cut standing = source_stands standing
+
+-- what is made stands for the source, where it has the chains that are asked for
+pub model_stands : (unit : UnitChoice) (s : Source) (r : Read) (m : Written) → StandsFor s r
+    → (base : Placement) (nodes : ℕ) → IsMade r unit (ties_of base) m → m.kind ≡ kind_of base
+    → (demand_of unit base nodes).unit ≡ unit → HasChains m.kind (demand_of unit base nodes) m
+    → IsModelFor base unit nodes s m
+model_stands unit s r m stands base nodes made kind same chains = record {
+  kind = kind;
+  fits = made.fits;
+  bounded = made.bounded;
+  every = every unit s r m stands made.variables (ties_of base) made.stands;
+  faithful = standing_is_faithful s (demand_of unit base nodes) m made.well_formed (record {
+    variables = bits unit s r m stands made.variables;
     scale = made.scale;
     threshold = made.threshold
         ∙ ap (λ upper. m.figures.scale *ℤ upper +ℤ m.figures.offset) stands.upper;
     unit = subst (λ u. HasUnit u m) (sym same) made.unit;
     chains = chains;
-  }
-
-  -- what is made stands for the source, where it has the chains that are asked for
-  pub model_stands : (base : Placement) (nodes : ℕ) → m.kind ≡ kind_of base
-      → (demand_of unit base nodes).unit ≡ unit → HasChains m.kind (demand_of unit base nodes) m
-      → IsModelFor base unit nodes s m
-  model_stands base nodes kind same chains = record {
-    kind = kind;
-    fits = made.fits;
-    bounded = made.bounded;
-    relaxes = source_relaxed;
-    faithful = relaxed_is_faithful s (demand_of unit base nodes) m made.well_formed
-        (stated (demand_of unit base nodes) same chains) source_relaxed;
-  }
+  }) (at_least unit s r m stands made.variables (ties_of base) made.stands);
+}

@@ -1,21 +1,25 @@
 -- What a command answers of the held files, and how the answer is delivered.
-use Rattle.std.specs.Prelude.{◌≡◌, ℕ, ◌+◌, ◌≤◌, ◌≤ℤ◌, ◌<ℤ◌, Bool, List, [], Ok, Err, Some, Result, ⊤}
+use Rattle.std.specs.Prelude.{◌≡◌, ℕ, ◌+◌, ◌≤◌, ℤ, ◌+ℤ◌, ◌*ℤ◌, ◌≤ℤ◌, ◌<ℤ◌, Bool, List, [], length, Ok, Err, Some, None, Result, ⊤}
 use Rattle.std.specs.declared.option.Option.{Option}
 use Rattle.std.specs.Io.KnownBytes.{Appends}
 use Rattle.edge_io.specs.Held.{NamedFiles, find_file}
 use Rattle.edge_io.specs.Sinks.{AppendsFront}
 use Rattle.base.specs.declared.unit.UnitChoice.{UnitChoice}
 use Rattle.base.specs.Costs.{Source, energy}
+use Rattle.base.specs.declared.costs.Cost.TheVariants.{Whole}
 use Rattle.form_steps.specs.Relations.{Relaxes}
 use Rattle.bits_model.specs.Output.{Written, form_of, decoding_of}
 use Rattle.faithful.specs.Bounds.{IsBounded}
 use Rattle.faithful.specs.Faithful.{Faithful}
 use Rattle.faithful.specs.Least.{IsFeasible, IsLeastState}
 use Rattle.problem_form.specs.Limits.{auxiliary_bits}
+use Rattle.wbo_reader.specs.Wbo.{WboContent}
 use Rattle.sample_text.specs.Sample.{sample_text}
 use Rattle.model_text.specs.Rows.{FitsFields, model_text}
 use Rattle.model_text.specs.Summary.{summary_text}
 use Rattle.model_text.specs.Told.{IsTextOf}
+use Rattle.command_words.specs.declared.commands.Ties.{Ties}
+use Rattle.command_words.specs.declared.commands.Ties.TheVariants.{Choi, Cut}
 use Rattle.command_words.specs.declared.commands.Origin.{Origin}
 use Rattle.command_words.specs.declared.commands.Origin.TheVariants.{File, Drawn}
 use Rattle.command_words.specs.declared.commands.Ask.{Ask}
@@ -24,14 +28,14 @@ use Rattle.command_words.specs.declared.commands.Command.{Command}
 use Rattle.command_words.specs.Commands.{command_of}
 use Rattle.command_words.specs.Names.{text_at, files_of}
 use Rattle.command_words.specs.declared.names.Which.{Which}
-use Rattle.source_texts.specs.Sources.{source_of, names_of}
+use Rattle.source_texts.specs.Sources.{source_of, names_of, carried}
 use Rattle.answer_text.specs.Answers.{decoding_text, extension_text, proof_text, solution_text}
 use Rattle.basic_solve.specs.FirstLeast.{IsFirstLeast}
 use Rattle.basic_solve.specs.Stated.{TellsOptimum, whole_energy}
-use Rattle.model_pipeline.specs.Extensions.{form_nodes, extension_of, state_on, Extends}
+use Rattle.model_pipeline.specs.Extensions.{form_nodes, extension_of, state_on}
 use Rattle.program_run.specs.declared.placements.Placement.{Placement}
 use Rattle.program_run.specs.declared.plans.Plan.{Plan}
-use Rattle.program_run.specs.Placements.{kind_of, demand_of}
+use Rattle.program_run.specs.Placements.{kind_of, ties_of, demand_of}
 use Rattle.program_run.specs.Plans.{nodes_in, IsModelBy}
 use Rattle.program_run.specs.Outcome.{format_in, planning, last_step}
 use Rattle.program_run.specs.declared.answers.Answer.{Answer}
@@ -53,15 +57,22 @@ pub record IsSaidBy (words : List (List ℕ)) (held : NamedFiles) (origin : Orig
   pub found : IsTextIn words held origin text
   pub says : source_of (format_in origin) text ≡ Ok source
 
--- a model that stands there with so many nodes, every state of which stands for the source, and
--- whose least states are the least assignments of the source; its energies are below 2 ^ 121 in
--- size, and all numbers that are written below 2 ^ 124
+-- every state of a model stands for the source, unless its ties are only as strong as least states
+-- ask
+abbrev pub EveryStateStands : Ties → Source → Written → Type 0
+EveryStateStands Choi source model =
+    Relaxes source.form (form_of model) (decoding_of model) model.unit model.figures
+EveryStateStands Cut source model = ⊤
+
+-- a model that stands there with so many nodes, every state of which stands for the source as its
+-- ties allow, and whose least states are the least assignments of the source; its energies are below
+-- 2 ^ 121 in size, and all numbers that are written below 2 ^ 124
 pub record IsModelFor (base : Placement) (unit : UnitChoice) (nodes : ℕ) (source : Source)
     (model : Written) : Type 0 where
   pub kind : model.kind ≡ kind_of base
   pub fits : FitsFields model
   pub bounded : IsBounded model
-  pub relaxes : Relaxes source.form (form_of model) (decoding_of model) model.unit model.figures
+  pub every : EveryStateStands (ties_of base) source model
   pub faithful : Faithful source (demand_of unit base nodes) model
 
 -- ---- what is said of it
@@ -73,13 +84,42 @@ IsDecoded source names model state text =
     text ≡ decoding_text ((decoding_of model).decoded state) names
     (source.form.cost ((decoding_of model).decoded state)) (energy (form_of model) state)
 
+-- the state decodes to the assignment, and where the cost of this is whole, unit times the energy is
+-- scale times the cost, and offset
+pub record Extends (source : Source) (model : Written) (x state : List Bool) : Type 0 where
+  pub width : length state ≡ model.nodes
+  pub decodes : (decoding_of model).decoded state ≡ x
+  pub scaled : (v : ℤ) → source.form.cost x ≡ Whole v
+      → whole_energy model state ≡ model.figures.scale *ℤ v +ℤ model.figures.offset
+
+-- no state that decodes to the assignment has a lesser energy
+abbrev pub IsLeastExtension : Written → List Bool → List Bool → Type 0
+IsLeastExtension model x state =
+    (other : List Bool) → length other ≡ model.nodes → (decoding_of model).decoded other ≡ x
+    → energy (form_of model) state ≤ℤ energy (form_of model) other
+
+-- the same, where the cost of the assignment is whole
+abbrev pub IsLeastWhereWhole : Source → Written → List Bool → List Bool → Type 0
+IsLeastWhereWhole source model x state =
+    (v : ℤ) → source.form.cost x ≡ Whole v → IsLeastExtension model x state
+
+-- the state is a least one that decodes to the assignment: always, with soft constraints where the
+-- cost is whole, and not promised where ties are only as strong as least states ask
+abbrev pub IsLeastAsked : Ties → Option WboContent → Source → Written → List Bool → List Bool
+    → Type 0
+IsLeastAsked Choi None source model x state = IsLeastExtension model x state
+IsLeastAsked Choi (Some soft) source model x state = IsLeastWhereWhole source model x state
+IsLeastAsked Cut soft source model x state = ⊤
+
 -- the text is the state of the model that extends an assignment of the source, with what the
 -- assignment costs the source, and the energy of the state
 pub record IsExtended (source : Source) (plan : Plan) (model : Written) (x : List Bool)
     (text : List ℕ) : Type 0 where
   pub state : List Bool
-  pub exact : state ≡ state_on model (extension_of plan.choices plan.read.problem x)
-  pub extends : Extends source.form model x state
+  pub exact : state
+      ≡ state_on model (extension_of plan.choices plan.read.problem (carried plan.read.soft x))
+  pub extends : Extends source model x state
+  pub least : IsLeastAsked (ties_of plan.base) plan.read.soft source model x state
   pub said : text ≡ extension_text state (source.form.cost x) (energy (form_of model) state)
 
 -- what a least state of a model tells of the source: where it is not above the threshold, it decodes

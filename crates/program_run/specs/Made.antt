@@ -4,13 +4,13 @@ use Rattle.base.specs.declared.costs.Cost.{Cost}
 use Rattle.base.specs.Costs.{energy}
 use Rattle.bits_model.specs.Output.{Written, form_of, decoding_of}
 use Rattle.problem_form.specs.declared.limits.Choices.{Choices}
-use Rattle.problem_form.specs.Problems.{ProblemContent}
 use Rattle.problem_form.specs.Problems as problems
 use Rattle.model_text.specs.Rows.{model_text}
 use Rattle.model_text.specs.Summary.{summary_text}
 use Rattle.answer_text.specs.Answers.{decoding_text, extension_text, proof_text, solution_text}
 use Rattle.basic_solve.specs.FirstLeast.{IsFirstLeast}
-use Rattle.model_pipeline.specs.Extensions.{extension_of, state_on, Extends}
+use Rattle.model_pipeline.specs.Extensions.{extension_of, state_on, ExtendsTo, IsLeastTo, IsMadeOf}
+use Rattle.command_words.specs.declared.commands.Ties.TheVariants.{Choi}
 use Rattle.command_words.specs.declared.commands.Ask.{Ask}
 use Rattle.command_words.specs.declared.commands.Ask.TheVariants.{Model, Summary, Solve, Decode, Extend, Prove}
 use Rattle.source_texts.specs.declared.reading.Read.{Read}
@@ -18,14 +18,16 @@ use Rattle.source_texts.specs.Sources.{carried}
 use Rattle.program_run.specs.declared.plans.Plan.{Plan}
 use Rattle.program_run.specs.declared.status.Status.{Status}
 use Rattle.program_run.specs.declared.status.Status.TheVariants.{Done, ReadFault, WriteFault, NoMemory}
+use Rattle.program_run.specs.Placements.{ties_of}
 use Rattle.program_run.specs.Plans.{CanStand, IsModelBy, Stands}
 use Rattle.program_run.specs.Outcome.{Steps, OfModel, IsEndOf}
 
--- the model is that of the plan, which can stand, and stands for its problem
+-- the model is that of the plan, which can stand, and stands for its problem, of which it was made
 pub record IsModelled (plan : Plan) (m : Written) : Type 0 where
   pub can_stand : CanStand plan
   pub by : IsModelBy plan m
   pub stands : Stands plan m
+  pub made : IsMadeOf (ties_of plan.base) plan.read.variables plan.choices plan.read.problem m
 
 -- what an assignment of the source costs, in terms of the problem that it was read into
 abbrev pub read_cost : Read → List Bool → Cost
@@ -39,7 +41,7 @@ pub record IsExtendedBy (choices : Choices) (read : Read) (m : Written) (x : Lis
   pub exact : state ≡ state_on m (extension_of choices read.problem (carried read.soft x))
   pub extends : ExtendsTo read.problem.variables (problems.form_of read.problem) m
       (carried read.soft x) state
-  pub least : IsMadeOf Choi m.variables choices read.problem m
+  pub least : (own : ℕ) → IsMadeOf Choi own choices read.problem m
       → IsLeastTo read.problem.variables m (carried read.soft x) state
   pub said : text ≡ extension_text state (read_cost read x) (energy (form_of m) state)
 

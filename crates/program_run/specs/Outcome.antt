@@ -9,11 +9,12 @@ use Rattle.problem_form.specs.declared.limits.LimitFault.{LimitFault}
 use Rattle.problem_form.specs.declared.limits.LimitKind.TheVariants.{Bytes}
 use Rattle.problem_form.specs.Limits.{limit_fault, most_bytes}
 use Rattle.command_words.specs.declared.names.Which.{Which}
-use Rattle.command_words.specs.declared.names.Which.TheVariants.{Source, Map, State, Certificate}
+use Rattle.command_words.specs.declared.names.Which.TheVariants.{Source, Dead, Map, State, Certificate}
 use Rattle.command_words.specs.declared.commands.Format.{Format}
 use Rattle.command_words.specs.declared.commands.Format.TheVariants.{Wcnf}
 use Rattle.command_words.specs.declared.commands.Origin.{Origin}
 use Rattle.command_words.specs.declared.commands.Origin.TheVariants.{File, Drawn}
+use Rattle.command_words.specs.declared.commands.Board.{Board}
 use Rattle.command_words.specs.declared.commands.Chaining.{Chaining}
 use Rattle.command_words.specs.declared.commands.Chaining.TheVariants as chainings
 use Rattle.command_words.specs.declared.commands.Target.{Target}
@@ -25,7 +26,10 @@ use Rattle.command_words.specs.declared.commands.Command.{Command}
 use Rattle.command_words.specs.Commands.{command_of}
 use Rattle.command_words.specs.Names.{text_at}
 use Rattle.sample_text.specs.Sample.{sample_text}
+use Rattle.chimera_graph.specs.declared.chimera.Chimera.{Chimera}
 use Rattle.chain_map.specs.Maps as maps
+use Rattle.working_graph.specs.Working.{WorkingGraph}
+use Rattle.working_graph.specs.DeadLists.{working_of}
 use Rattle.source_texts.specs.declared.reading.Read.{Read}
 use Rattle.source_texts.specs.Sources.{problem_of}
 use Rattle.state_file.specs.States.{state_of}
@@ -36,8 +40,11 @@ use Rattle.posiform_check.specs.Certificates.{certificate_fault}
 use Rattle.posiform_check.specs.FirstFaults.{proof_fault}
 use Rattle.posiform_check.specs.Texts as certificates
 use Rattle.program_run.specs.Statuses.{IsDoneOrWant}
-use Rattle.program_run.specs.declared.placements.Perch.{Perch}
-use Rattle.program_run.specs.declared.placements.Perch.TheVariants as perches
+use Rattle.model_pipeline.specs.declared.site.Qubits.{Qubits}
+use Rattle.model_pipeline.specs.declared.site.Qubits.TheVariants as which
+use Rattle.model_pipeline.specs.declared.site.Perch.{Perch}
+use Rattle.model_pipeline.specs.declared.site.Perch.TheVariants as perches
+use Rattle.model_pipeline.specs.declared.site.Site.{Site}
 use Rattle.program_run.specs.declared.placements.Placement.{Placement}
 use Rattle.program_run.specs.declared.placements.Placement.TheVariants as placements
 use Rattle.program_run.specs.declared.plans.Plan.{Plan}
@@ -123,6 +130,19 @@ checking words held command = do
   read ← reading words held command.origin
   ends (limits_end Source read (limit_fault command.choices.normal read.problem))
 
+-- what a dead list leaves of a graph, read from the file of this name
+unfoldable pub working : NamedFiles → List ℕ → Chimera → Steps WorkingGraph
+working held name graph = do
+  bytes ← taking held Dead name
+  ends (text_end Dead (working_of graph bytes))
+
+-- the qubits that chains may stand on: all, or those that the dead list leaves that is named
+unfoldable pub surveying : List (List ℕ) → NamedFiles → Chimera → Option WordAt → Steps Qubits
+surveying words held graph None = gives (which.All graph)
+surveying words held graph (Some at) = do
+  w ← working held (text_at words at) graph
+  gives (which.Working w)
+
 -- the chains of a map, read from the file of this name
 unfoldable pub mapping : NamedFiles → List ℕ → Steps (List (List ℕ))
 mapping held name = do
@@ -136,12 +156,19 @@ perching words held (chainings.Map at) = do
   map ← mapping held (text_at words at)
   gives (perches.Map map)
 
+-- where chains stand, and how they are tied
+unfoldable pub siting : List (List ℕ) → NamedFiles → Board → Steps Site
+siting words held board = do
+  qubits ← surveying words held board.graph board.dead
+  perch ← perching words held board.chains
+  gives (record { qubits = qubits; perch = perch; ties = board.ties })
+
 -- what the model stands on
 unfoldable pub placing : List (List ℕ) → NamedFiles → Target → Steps Placement
 placing words held (targets.Nodes target) = gives (placements.Nodes target)
 placing words held (targets.Chimera board) = do
-  perch ← perching words held board.chains
-  gives (placements.Qubits board.graph perch)
+  site ← siting words held board
+  gives (placements.Qubits site)
 
 -- what the model of a command is made of
 unfoldable pub planning : List (List ℕ) → NamedFiles → Command → Steps Plan

@@ -6,7 +6,9 @@ use Rattle.chain_map.specs.declared.faults.CheckAnswer.TheVariants as checks
 use Rattle.basic_solve.specs.declared.answer.SolveAnswer.{SolveAnswer}
 use Rattle.basic_solve.specs.declared.answer.SolveAnswer.TheVariants as solving
 use Rattle.program_run.specs.declared.plans.Plan.{Plan}
-use Rattle.program_run.specs.Plans.{CanStand, IsFaultIn}
+use Rattle.ising_form.specs.Isings.{IsingContent}
+use Rattle.program_run.specs.declared.placements.Placement.{Placement}
+use Rattle.program_run.specs.Plans.{form_in, CanStandOn, IsFaultOn}
 use Rattle.program_run.specs.declared.status.Status.{Status}
 use Rattle.program_run.specs.declared.status.Status.TheVariants.{NotEmbedded, TooWide, NotProved, NoMemory}
 
@@ -20,8 +22,12 @@ abbrev pub unsolved : SolveAnswer → Status
 unsolved (solving.TooWide node width) = TooWide node width
 unsolved solving.NoMemory = NoMemory
 
--- the plan has no model: it cannot be embedded for this fault, or memory was wanting
+-- there is no model of a form: it cannot be embedded for this fault, or memory was wanting
+abbrev pub IsUnembeddedOn : Placement → IsingContent → Status → Type 0
+IsUnembeddedOn base form (NotEmbedded fault) = IsFaultOn base form fault × ¬ (CanStandOn base form)
+IsUnembeddedOn base form NoMemory = ⊤
+IsUnembeddedOn base form status = ⊥
+
+-- the plan has no model
 abbrev pub IsUnembedded : Plan → Status → Type 0
-IsUnembedded plan (NotEmbedded fault) = IsFaultIn plan fault × ¬ (CanStand plan)
-IsUnembedded plan NoMemory = ⊤
-IsUnembedded plan status = ⊥
+IsUnembedded plan status = IsUnembeddedOn plan.base (form_in plan) status

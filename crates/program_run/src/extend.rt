@@ -1,7 +1,7 @@
 //! What is written for an assignment: the state of a model that it extends to.
 ghost use Rattle.std.specs.Prelude.{◌≡◌, ◌<◌, ◌^◌, Bool, List, None, length, IfOk};
 ghost use Rattle.problem_form.specs.Limits.{limit_fault};
-ghost use Rattle.model_pipeline.specs.Extensions.{IsMadeOf};
+ghost use Rattle.model_pipeline.specs.Extensions.{IsMade};
 ghost use Rattle.source_texts.specs.Sources.{carried, KeepsSoft};
 ghost use Rattle.program_run.specs.Made.{read_cost, IsExtendedBy};
 
@@ -24,7 +24,7 @@ fn carried_text(
 ) -> Result<Vec<u8>, NoMemory>
     requires within { limit_fault choices.now.normal read.now.problem ≡ None }
     requires width { length x.now ≡ read.now.problem.variables }
-    requires made { IsMadeOf choices.now read.now.problem model.now }
+    requires made { IsMade choices.now read.now.problem model.now }
     ensures { (y : List Bool) → x.now ≡ carried read.now.soft y → cost ≡ read_cost read.now y
         → IfOk result (λ text. IsExtendedBy choices.now read.now model.now y text.items) }
 {
@@ -45,7 +45,7 @@ pub fn extended_text(
     requires kept { KeepsSoft read.now }
     requires width { length x.now ≡ read.now.variables }
     requires narrow { length x.now < 2 ^ 32 }
-    requires made { IsMadeOf choices.now read.now.problem model.now }
+    requires made { IsMade choices.now read.now.problem model.now }
     ensures { IfOk result (λ text.
         IsExtendedBy choices.now read.now model.now x.now text.items) }
 {

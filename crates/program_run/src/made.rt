@@ -4,8 +4,9 @@ ghost use Rattle.problem_form.specs.Limits.{limit_fault};
 ghost use Rattle.bits_model.specs.Output.{form_of};
 ghost use Rattle.basic_solve.specs.FirstLeast.{IsFirstLeast};
 ghost use Rattle.command_words.specs.Names.{name_of, last_files, state_of};
-ghost use Rattle.model_pipeline.specs.Extensions.{IsMadeOf};
+ghost use Rattle.model_pipeline.specs.Extensions.{IsMade, IsMadeOf};
 ghost use Rattle.source_texts.specs.Sources.{KeepsSoft};
+ghost use Rattle.program_run.specs.Placements.{ties_of};
 ghost use Rattle.program_run.specs.Plans.{plan_of};
 ghost use Rattle.program_run.specs.Outcome.{ends, last_step, wide_below, width_end};
 ghost use Rattle.program_run.specs.Made.{asked_width, EndsOf, IsMadeText, IsModelled, IsSolvedBy, IsTold};
@@ -59,7 +60,8 @@ fn model_lent(alloc: Global, plan: &Plan) -> Result<OutputModel, Status>
     requires within { limit_fault plan.now.choices.normal plan.now.read.problem ≡ None }
     requires kept { KeepsSoft plan.now.read }
     ensures modelled { IfOk result (IsModelled plan.now) }
-    ensures made { IfOk result (IsMadeOf plan.now.choices plan.now.read.problem) }
+    ensures made { IfOk result (IsMadeOf (ties_of plan.now.base) plan.now.read.variables
+        plan.now.choices plan.now.read.problem) }
     ensures refused { IfErr result (IsUnembedded plan.now) }
 {
     let read = &plan.read;
@@ -86,7 +88,7 @@ fn told(
     requires within { limit_fault choices.now.normal read.now.problem ≡ None }
     requires kept { KeepsSoft read.now }
     requires variables { model.now.variables ≡ read.now.variables }
-    requires made { IsMadeOf choices.now read.now.problem model.now }
+    requires made { IsMade choices.now read.now.problem model.now }
     requires width { length bits.now ≡ asked_width ask read.now.variables model.now }
     ensures { IfOk result (λ text.
         IsTold ask read.now choices.now model.now bits.now text.items) }

@@ -1,0 +1,76 @@
+-- How many bits are read last, and that those of a proof are of a least state.
+use Rattle.std.proofs.Common.{◌≡◌, ℕ, Bool, List, length, Ok, Err, Some, None, refl, sym, ap, ◌∙◌, subst}
+use Rattle.std.specs.declared.option.Option.{Option}
+use Rattle.edge_io.specs.Held.{NamedFiles}
+use Rattle.bits_model.specs.Output.{Written, form_of}
+use Rattle.faithful.specs.Least.{IsLeastState}
+use Rattle.posiform_check.specs.BitForms.{CertificateContent}
+use Rattle.posiform_check.specs.FirstFaults.{proof_fault}
+use Rattle.posiform_check.specs.declared.faults.ProofFault.{ProofFault}
+use Rattle.posiform_check.proofs.FirstFaults.{first_faults_tell}
+use Rattle.posiform_check.proofs.LeastStates.{proved_is_least}
+use Rattle.command_words.specs.declared.commands.Ask.{Ask}
+use Rattle.command_words.specs.declared.commands.Ask.TheVariants.{Model, Summary, Solve, Decode, Extend, Prove}
+use Rattle.command_words.specs.declared.commands.WordAt.{WordAt}
+use Rattle.command_words.specs.Names.{text_at}
+use Rattle.program_run.specs.declared.plans.Plan.{Plan}
+use Rattle.program_run.specs.Outcome.{◌>>=◌, ends, stating, certifying, certified, proving, proof_end, last_step}
+use Rattle.program_run.proofs.Stepping.{bound}
+use Rattle.program_run.proofs.StateBits.{state_is_taken, state_has_width}
+
+-- so many bits were read
+pub stated_width : (held : NamedFiles) (name : List ℕ) (width : ℕ) (bits : List Bool)
+    → (stating held name width).end ≡ Some (Ok bits) → length bits ≡ width
+stated_width held name width bits e =
+    let taken = state_is_taken held name width bits e in state_has_width width taken.0 bits taken.2
+
+proof_keeps : (bits : List Bool) (fault : Option ProofFault) (kept : List Bool)
+    → proof_end bits fault ≡ Ok kept → (bits ≡ kept) × (fault ≡ None)
+proof_keeps bits None kept e = (cc, refl)
+proof_keeps bits (Some fault) kept e = absurd cc
+
+-- bits that a certificate proves are those of a state of the model, which has no fault
+pub record IsCertified (m : Written) (bits : List Bool) : Type 0 where
+  pub certificate : CertificateContent
+  pub none : proof_fault m certificate bits ≡ None
+
+certified_is : (held : NamedFiles) (name : List ℕ) (m : Written) (given bits : List Bool)
+    → (certified held name m given).end ≡ Some (Ok bits) → (given ≡ bits) × IsCertified m bits
+unfolding certified
+certified_is held name m given bits e =
+    let read = bound (certifying held name m.nodes)
+    (λ c. ends (proof_end given (proof_fault m c given))) bits e in
+    let end : proof_end given (proof_fault m read.0 given) ≡ Ok bits = let two = read.2 in cc in
+    let kept = proof_keeps given (proof_fault m read.0 given) bits end in (
+      kept.0,
+      record {
+        certificate = read.0;
+        none = subst (λ b. proof_fault m read.0 b ≡ None) kept.0 kept.1;
+      },
+    )
+
+-- a state that was read and then proved
+pub record IsProvedState (m : Written) (bits : List Bool) : Type 0 where
+  pub width : length bits ≡ m.nodes
+  pub certified : IsCertified m bits
+
+pub proved_is : (words : List (List ℕ)) (held : NamedFiles) (state certificate : WordAt)
+    (m : Written) (bits : List Bool)
+    → (proving words held state certificate m).end ≡ Some (Ok bits) → IsProvedState m bits
+unfolding proving
+proved_is words held state certificate m bits e =
+    let read = bound (stating held (text_at words state) m.nodes)
+    (λ given. certified held (text_at words certificate) m given) bits e in
+    let proof = certified_is held (text_at words certificate) m read.0 bits read.2 in
+    record {
+      width = subst (λ b. length b ≡ m.nodes) proof.0
+          (stated_width held (text_at words state) m.nodes read.0 read.1);
+      certified = proof.1;
+    }
+
+-- no state has a lesser energy
+pub proved_least : (m : Written) (bits : List Bool) → IsProvedState m bits
+    → IsLeastState (form_of m) bits
+proved_least m bits is =
+    proved_is_least m is.certified.certificate bits is.width
+    ((first_faults_tell m is.certified.certificate bits).none.0 is.certified.none)
