@@ -20,6 +20,8 @@ use Rattle.command_words.specs.declared.commands.TargetWord.{TargetWord}
 use Rattle.command_words.specs.declared.commands.TargetWord.TheVariants.{Nodes, Chimera}
 use Rattle.command_words.specs.declared.commands.Chaining.{Chaining}
 use Rattle.command_words.specs.declared.commands.Chaining.TheVariants.{Clique, Map}
+use Rattle.command_words.specs.declared.commands.Ties.{Ties}
+use Rattle.command_words.specs.declared.commands.Ties.TheVariants.{Choi, Cut}
 use Rattle.command_words.specs.declared.commands.WordAt.{WordAt}
 use Rattle.command_words.specs.declared.commands.WordAt.TheVariants.{Whole, Value}
 use Rattle.command_words.specs.declared.commands.Ask.{Ask}
@@ -32,11 +34,11 @@ use Rattle.chimera_graph.specs.declared.chimera.Chimera as graphs
 use Rattle.command_words.specs.declared.keys.Keys.{Keys}
 use Rattle.command_words.specs.declared.words.Verb.{Verb}
 use Rattle.command_words.specs.declared.words.Verb.TheVariants as verbs
-use Rattle.command_words.specs.Asked.{EachJobIsAskedFor, EachDecodingIsAskedFor, EachExtensionIsAskedFor, EachSampleIsAskedFor, EachSolutionIsAskedFor, EachUnitIsAskedFor, EachGraphIsAskedFor, EachKeyStands, CannotStand, NoKeyStandsTwice, NoGraphKeyElsewhere, NoGraphWithout, NoLargerGraph, IsRefusedAfterAll, NoOtherWordsAsk, Say, format_word, high_key, normal_key, on_fourth_word, board_of, target_word, word_of, unit_key, rows_key, cols_key, shore_key, map_key, clique_key, job_words, compile_words, decode_words, extend_words, sample_words, solve_words}
+use Rattle.command_words.specs.Asked.{EachJobIsAskedFor, EachDecodingIsAskedFor, EachExtensionIsAskedFor, EachSampleIsAskedFor, EachSolutionIsAskedFor, EachProofIsAskedFor, EachUnitIsAskedFor, EachGraphIsAskedFor, EachKeyStands, CannotStand, NoKeyStandsTwice, NoGraphKeyElsewhere, NoGraphWithout, NoLargerGraph, IsRefusedAfterAll, NoOtherWordsAsk, Say, format_word, high_key, normal_key, on_fourth_word, board_of, board_with, dead_at, target_word, word_of, unit_key, rows_key, cols_key, shore_key, map_key, clique_key, dead_keys, chain_key, job_words, compile_words, decode_words, extend_words, prove_words, sample_words, solve_words}
 use Rattle.command_words.specs.Commands.{◌>>=◌, after_verb, chosen_target, clauses_of, command_of, drawn, format_of, job_of, named, on_file, sample_of, target_of, valued, verb_of}
-use Rattle.command_words.specs.Keys.{choices_of, chosen_unit, given, graph_of, keys_from, no_keys, target_by, with_word}
+use Rattle.command_words.specs.Keys.{choices_of, chosen_ties, chosen_unit, given, graph_of, keys_from, no_keys, target_by, with_word}
 use Rattle.command_words.specs.Names.{text_at}
-use Rattle.command_words.proofs.CutWords.{cut_rows, cut_cols, cut_shore, cut_map}
+use Rattle.command_words.proofs.CutWords.{cut_rows, cut_cols, cut_shore, cut_map, cut_dead}
 use Rattle.command_words.proofs.Sides.{few_cols, few_rows, few_shore, side_of-digits}
 use Rattle.command_words.proofs.Graphs.{graph_with-its, graph_with-larger}
 
@@ -44,6 +46,7 @@ use Rattle.command_words.proofs.Graphs.{graph_with-its, graph_with-larger}
 
 format_of-format_word : (format : Format) → format_of (format_word format) ≡ Some format
 format_of-format_word formats.Wcnf = refl
+format_of-format_word formats.Wbo = refl
 format_of-format_word formats.Opb = refl
 format_of-format_word formats.Poly = refl
 format_of-format_word formats.Ising = refl
@@ -113,6 +116,14 @@ each_extension format word file assignment keys =
     (chosen_target (extend_words format word file assignment keys) word)
     (λ given target. fourth_word_job format target given) (λ job. on_file job (asks.Extend (Whole 4))))
 
+pub each_proof : EachProofIsAskedFor
+each_proof format word file state certificate keys =
+    rw (format_of-format_word format, target_of-target_word word)
+    (chain (keys_from word no_keys 6 keys)
+    (chosen_target (prove_words format word file state certificate keys) word)
+    (λ given target. fourth_word_job format target given)
+    (λ job. on_file job (asks.Prove (Whole 4) (Whole 5))))
+
 pub each_sample : EachSampleIsAskedFor
 each_sample number clauses first second word keys one two =
     rw (one, two, target_of-target_word word)
@@ -144,7 +155,14 @@ each_key = record {
       rw (cut_shore value, free, side_of-digits value side said some few) refl;
   clique = λ keys at free. rw free refl;
   map = λ keys at name free. rw (cut_map name, free) refl;
+  dead = λ keys at name free. rw (cut_dead name, free) refl;
+  ties = ties;
 } where
+  ties : (keys : Keys) (at : ℕ) (value : Ties) → keys.ties ≡ None
+      → with_word Chimera keys at (chain_key value) ≡ Some (record keys { ties = Some value })
+  ties keys at Choi free = rw free refl
+  ties keys at Cut free = rw free refl
+
   normal : (target : TargetWord) (keys : Keys) (at : ℕ) (value : Normal) → keys.normal ≡ None
       → with_word target keys at (normal_key value) ≡ Some (record keys { normal = Some value })
   normal target keys at Literal free = rw free refl
@@ -169,16 +187,17 @@ graph_given rows cols shore chains = record no_keys {
   chains = Some chains;
 }
 
--- the keys of a graph in a row
-graph_keys : (first second third fourth : List ℕ) (graph : graphs.Chimera) (chains : Chaining)
+-- the keys of a graph in a row, and others after them
+graph_keys : (first second third fourth : List ℕ) (others : List (List ℕ)) (graph : graphs.Chimera)
+    (chains : Chaining)
     → digits_number first ≡ Some graph.rows → digits_number second ≡ Some graph.cols
     → digits_number third ≡ Some graph.shore
     → ((keys : Keys) → keys.chains ≡ None
     → with_word Chimera keys 7 fourth ≡ Some (record keys { chains = Some chains }))
     → keys_from Chimera no_keys 4
-    (rows_key first ∷ cols_key second ∷ shore_key third ∷ fourth ∷ [])
-    ≡ Ok (graph_given graph.rows graph.cols graph.shore chains)
-graph_keys first second third fourth graph chains r c s last =
+    (rows_key first ∷ cols_key second ∷ shore_key third ∷ fourth ∷ others)
+    ≡ keys_from Chimera (graph_given graph.rows graph.cols graph.shore chains) 8 others
+graph_keys first second third fourth others graph chains r c s last =
     let shape = graph.shape in
     let rows = graph.rows in
     let cols = graph.cols in
@@ -205,7 +224,43 @@ graph_asked format file first second third fourth graph chains r c s last =
     each_job format Chimera file
     (rows_key first ∷ cols_key second ∷ shore_key third ∷ fourth ∷ [])
     ∙ rw (
-      graph_keys first second third fourth graph chains r c s last,
+      graph_keys first second third fourth [] graph chains r c s last,
+      graph_with-its graph,
+    ) refl
+
+-- the keys of a list of dead qubits and of ties, after those of a graph
+tied_keys : (rows cols shore : ℕ) (chains : Chaining) (dead : Option (List ℕ)) (ties : Ties)
+    → keys_from Chimera (graph_given rows cols shore chains) 8
+    (dead_keys dead ++ chain_key ties ∷ [])
+    ≡ Ok (record (graph_given rows cols shore chains) { dead = dead_at 8 dead; ties = Some ties })
+tied_keys rows cols shore chains None ties =
+    rw (each_key.ties (graph_given rows cols shore chains) 8 ties refl) refl
+tied_keys rows cols shore chains (Some name) ties =
+    let given = graph_given rows cols shore chains in
+    rw (
+      each_key.dead given 8 name refl,
+      each_key.ties (record given { dead = Some (Value 8) }) 9 ties refl,
+    ) refl
+
+-- what is asked of a graph with chains of either kind, with or without a list of dead qubits, and
+-- with either tie
+tied_asked : (format : Format) (file first second third fourth : List ℕ) (dead : Option (List ℕ))
+    (ties : Ties) (graph : graphs.Chimera) (chains : Chaining)
+    → digits_number first ≡ Some graph.rows → digits_number second ≡ Some graph.cols
+    → digits_number third ≡ Some graph.shore
+    → ((keys : Keys) → keys.chains ≡ None
+    → with_word Chimera keys 7 fourth ≡ Some (record keys { chains = Some chains }))
+    → command_of (compile_words format Chimera file
+    (rows_key first ∷ cols_key second ∷ shore_key third ∷ fourth
+    ∷ dead_keys dead ++ chain_key ties ∷ []))
+    ≡ Ok (on_fourth_word format (board_with graph (dead_at 8 dead) chains ties) no_keys asks.Model)
+tied_asked format file first second third fourth dead ties graph chains r c s last =
+    let others = dead_keys dead ++ chain_key ties ∷ [] in
+    each_job format Chimera file
+    (rows_key first ∷ cols_key second ∷ shore_key third ∷ fourth ∷ others)
+    ∙ rw (
+      graph_keys first second third fourth others graph chains r c s last,
+      tied_keys graph.rows graph.cols graph.shore chains dead ties,
       graph_with-its graph,
     ) refl
 
@@ -216,6 +271,12 @@ each_graph = record {
       (λ keys free. each_key.clique keys 7 free);
   map = λ format file first second third name graph r c s.
       graph_asked format file first second third (map_key name) graph (Map (Value 7)) r c s
+      (λ keys free. each_key.map keys 7 name free);
+  tied_clique = λ format file first second third dead ties graph r c s.
+      tied_asked format file first second third clique_key dead ties graph Clique r c s
+      (λ keys free. each_key.clique keys 7 free);
+  tied_map = λ format file first second third name dead ties graph r c s.
+      tied_asked format file first second third (map_key name) dead ties graph (Map (Value 7)) r c s
       (λ keys free. each_key.map keys 7 name free);
 }
 
@@ -229,6 +290,8 @@ no_key_twice = record {
   shore = shore;
   embed = embed;
   map = map;
+  dead = dead;
+  ties = ties;
 } where
   rows : (target : TargetWord) (keys : Keys) (at first : ℕ)
       → keys.rows ≡ Some first → CannotStand target keys at (codes "rows")
@@ -255,6 +318,16 @@ no_key_twice = record {
   map (Nodes model) keys at first given word value named = rw named refl
   map Chimera keys at first given word value named = rw (named, given) refl
 
+  dead : (target : TargetWord) (keys : Keys) (at : ℕ) (first : WordAt)
+      → keys.dead ≡ Some first → CannotStand target keys at (codes "dead")
+  dead (Nodes model) keys at first given word value named = rw named refl
+  dead Chimera keys at first given word value named = rw (named, given) refl
+
+  ties : (target : TargetWord) (keys : Keys) (at : ℕ) (first : Ties)
+      → keys.ties ≡ Some first → CannotStand target keys at (codes "chain")
+  ties (Nodes model) keys at first given word value named = rw named refl
+  ties Chimera keys at first given word value named = rw (named, given) refl
+
 pub no_graph_key_elsewhere : NoGraphKeyElsewhere
 no_graph_key_elsewhere = record {
   rows = λ model keys at word value named. rw named refl;
@@ -262,6 +335,8 @@ no_graph_key_elsewhere = record {
   shore = λ model keys at word value named. rw named refl;
   embed = λ model keys at word value named. rw named refl;
   map = λ model keys at word value named. rw named refl;
+  dead = λ model keys at word value named. rw named refl;
+  ties = λ model keys at word value named. rw named refl;
 }
 
 -- nothing
@@ -286,6 +361,8 @@ refused keys none = record {
       each_decoding format Chimera file state words ∙ rw (asked, none) refl;
   extension = λ format file assignment words asked.
       each_extension format Chimera file assignment words ∙ rw (asked, none) refl;
+  proof = λ format file state certificate words asked.
+      each_proof format Chimera file state certificate words ∙ rw (asked, none) refl;
   sample = λ number clauses first second words one two asked.
       each_sample number clauses first second Chimera words one two ∙ rw (asked, none) refl;
 }
@@ -305,7 +382,8 @@ no_graph_without = record {
     where
       go : (value : Option ℕ)
           → given (given value (λ rows. no_graph))
-          (λ graph. given keys.chains (λ chains. Some (board_of graph chains))) ≡ None
+          (λ graph. given keys.chains (λ chains.
+          Some (board_with graph keys.dead chains (chosen_ties keys)))) ≡ None
       go None = refl
       go (Some rows) = refl
 
@@ -314,7 +392,8 @@ no_graph_without = record {
     where
       go : (first second : Option ℕ)
           → given (given first (λ rows. given second (λ cols. no_graph)))
-          (λ graph. given keys.chains (λ chains. Some (board_of graph chains))) ≡ None
+          (λ graph. given keys.chains (λ chains.
+          Some (board_with graph keys.dead chains (chosen_ties keys)))) ≡ None
       go None second = refl
       go (Some rows) None = refl
       go (Some rows) (Some cols) = refl
@@ -353,9 +432,10 @@ line {A} word_of word x below others = go (bytes_eq word (word_of x)) refl
 format_of-word : (word : List ℕ) → IfSome (format_of word) (λ format. word ≡ format_word format)
 format_of-word word =
     line format_word word formats.Wcnf _
+    (line format_word word formats.Wbo _
     (line format_word word formats.Opb _
     (line format_word word formats.Poly _
-    (line format_word word formats.Ising _ (line format_word word formats.Qubo None tt))))
+    (line format_word word formats.Ising _ (line format_word word formats.Qubo None tt)))))
 
 target_of-word : (word : List ℕ) → IfSome (target_of word) (λ target. word ≡ target_word target)
 target_of-word word =
@@ -369,7 +449,8 @@ chosen_has_word words (Nodes model) keys = refl
 chosen_has_word words Chimera keys = go (graph_of keys) keys.chains
   where
     go : (graph : Option graphs.Chimera) (chains : Option Chaining)
-        → IfOk (ok_or (given graph (λ g. given chains (λ c. Some (board_of g c)))) (length words + 1))
+        → IfOk (ok_or (given graph (λ g. given chains (λ c.
+        Some (board_with g keys.dead c (chosen_ties keys))))) (length words + 1))
         (λ target. word_of target ≡ Chimera)
     go None chains = tt
     go (Some s) None = tt
@@ -381,13 +462,15 @@ verb_word verbs.Decode = codes "decode"
 verb_word verbs.Extend = codes "extend"
 verb_word verbs.Sample = codes "sample"
 verb_word verbs.Solve = codes "solve"
+verb_word verbs.Prove = codes "prove"
 
 verb_of-word : (word : List ℕ) → IfSome (verb_of word) (λ verb. word ≡ verb_word verb)
 verb_of-word word =
     line verb_word word verbs.Compile _
     (line verb_word word verbs.Decode _
     (line verb_word word verbs.Extend _
-    (line verb_word word verbs.Sample _ (line verb_word word verbs.Solve None tt))))
+    (line verb_word word verbs.Sample _
+    (line verb_word word verbs.Solve _ (line verb_word word verbs.Prove None tt)))))
 
 -- ---- a word at its place
 
@@ -588,6 +671,37 @@ with_file-words words first make begins asked =
     ∙ ap (λ rest.
     first ∷ job_words job.format (word_of job.target) (text_at words job.file) ++ rest) fifth)))
 
+-- what is asked with a state and a certificate
+module _ (words : List (List ℕ)) where
+  -- the steps of a proof after its job, each with those after it
+  abbrev with_certificate : Job → WordAt → WordAt → Result Command ℕ
+  with_certificate job state certificate = Ok (on_file job (asks.Prove state certificate))
+
+  abbrev with_state : Job → WordAt → Result Command ℕ
+  with_state job state = named words 5 >>= with_certificate job state
+
+  abbrev with_job : Job → Result Command ℕ
+  with_job job = named words 4 >>= with_state job
+
+  proof-words : words ≡ codes "prove" ∷ drop 1 words
+      → IfOk (job_of words 6 >>= with_job) (IsAsked words)
+  proof-words begins =
+      next (job_of words 6) with_job (HasJob words) (IsAsked words) (job_of-words words 6)
+      (λ job stands.
+      let said = job_words job.format (word_of job.target) (text_at words job.file) in
+      next (named words 4) (with_state job) (λ at. StandsAt words 4 (text_at words at))
+      (IsAsked words) (named-word words 4)
+      (λ state fifth.
+      next (named words 5) (with_certificate job state) (λ at. StandsAt words 5 (text_at words at))
+      (IsAsked words) (named-word words 5)
+      (λ certificate sixth. (
+        drop 6 words,
+        begins
+            ∙ ap (λ rest. codes "prove" ∷ rest) stands
+            ∙ ap (λ rest. codes "prove" ∷ said ++ rest)
+            (fifth ∙ ap (λ rest. text_at words state ∷ rest) sixth),
+      ))))
+
 after_verb-words : (words : List (List ℕ)) (verb : Verb) → words ≡ verb_word verb ∷ drop 1 words
     → IfOk (after_verb verb words) (IsAsked words)
 after_verb-words words verbs.Compile first =
@@ -604,6 +718,7 @@ after_verb-words words verbs.Decode first =
 after_verb-words words verbs.Extend first =
     with_file-words words (codes "extend") asks.Extend first
     (λ job assignment stands. (drop 5 words, stands))
+after_verb-words words verbs.Prove first = proof-words words first
 after_verb-words words verbs.Sample first =
     next (sample_of words) (λ sample. Ok (drawn sample)) (HasSample words) (IsAsked words)
     (sample_of-words words)

@@ -2,7 +2,7 @@
 use Rattle.std.proofs.Common.{◌≡◌, ℕ, suc, List, length, Some, refl, arith}
 use Rattle.std.specs.Prelude.{codes}
 use Rattle.std.proofs.lemmas.Bool.{lt-ltb}
-use Rattle.command_words.specs.Asked.{rows_key, cols_key, shore_key, map_key}
+use Rattle.command_words.specs.Asked.{rows_key, cols_key, shore_key, map_key, dead_key}
 use Rattle.command_words.specs.Keys.{cut}
 
 pub cut_rows : (value : List ℕ) → cut (rows_key value) ≡ Some (codes "rows", value)
@@ -17,3 +17,6 @@ cut_shore value =
 
 pub cut_map : (name : List ℕ) → cut (map_key name) ≡ Some (codes "map", name)
 cut_map name = rw (lt-ltb 3 (suc (suc (suc (suc (length name))))) (omega arith)) refl
+
+pub cut_dead : (name : List ℕ) → cut (dead_key name) ≡ Some (codes "dead", name)
+cut_dead name = rw (lt-ltb 4 (suc (suc (suc (suc (suc (length name)))))) (omega arith)) refl

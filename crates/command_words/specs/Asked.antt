@@ -1,5 +1,5 @@
 -- Which lists of words ask for a command.
-use Rattle.std.specs.Prelude.{◌≡◌, ◌<◌, ◌≤◌, ◌+◌, ◌*◌, ◌^◌, List, [], ◌∷◌, ◌++◌, ℕ, codes, length, IfOk, Ok, Err, Some, None}
+use Rattle.std.specs.Prelude.{◌≡◌, ◌<◌, ◌≤◌, ◌+◌, ◌*◌, ◌^◌, List, [], ◌∷◌, ◌++◌, ℕ, codes, length, IfOk, Ok, Err, Option, Some, None}
 use Rattle.base.specs.declared.unit.UnitChoice.{UnitChoice}
 use Rattle.base.specs.declared.unit.UnitChoice.TheVariants.{One, Reduce}
 use Rattle.problem_form.specs.declared.limits.Normal.{Normal}
@@ -19,6 +19,9 @@ use Rattle.command_words.specs.declared.commands.TargetWord.{TargetWord}
 use Rattle.command_words.specs.declared.commands.TargetWord.TheVariants.{Nodes, Chimera}
 use Rattle.command_words.specs.declared.commands.Chaining.{Chaining}
 use Rattle.command_words.specs.declared.commands.Chaining.TheVariants.{Clique, Map}
+use Rattle.command_words.specs.declared.commands.Ties.{Ties}
+use Rattle.command_words.specs.declared.commands.Ties.TheVariants.{Choi, Cut}
+use Rattle.command_words.specs.declared.commands.WordAt.{WordAt}
 use Rattle.command_words.specs.declared.commands.WordAt.TheVariants.{Whole, Value}
 use Rattle.command_words.specs.declared.commands.Origin.{Origin}
 use Rattle.command_words.specs.declared.commands.Origin.TheVariants.{File, Drawn}
@@ -32,6 +35,7 @@ use Rattle.command_words.specs.Names.{text_at}
 -- the word of a format
 abbrev pub format_word : Format → List ℕ
 format_word formats.Wcnf = codes "wcnf"
+format_word formats.Wbo = codes "wbo"
 format_word formats.Opb = codes "opb"
 format_word formats.Poly = codes "poly"
 format_word formats.Ising = codes "ising"
@@ -69,6 +73,12 @@ extend_words format target file assignment keys =
 -- the words that ask for the first least state of the model of a file, with keys
 abbrev pub solve_words : Format → TargetWord → List ℕ → List (List ℕ) → List (List ℕ)
 solve_words format target file keys = codes "solve" ∷ job_words format target file ++ keys
+
+-- the words that ask whether a certificate proves a state least, with keys
+abbrev pub prove_words : Format → TargetWord → List ℕ → List ℕ → List ℕ → List (List ℕ)
+    → List (List ℕ)
+prove_words format target file state certificate keys =
+    codes "prove" ∷ job_words format target file ++ state ∷ certificate ∷ keys
 
 -- the words that ask for the model of a sample, with keys
 abbrev pub sample_words : List ℕ → List ℕ → TargetWord → List (List ℕ) → List (List ℕ)
@@ -110,7 +120,8 @@ abbrev pub unit_key : UnitChoice → List ℕ
 unit_key One = codes "unit=one"
 unit_key Reduce = codes "unit=reduce"
 
--- the key that gives a number of a graph, the map of chains, or the chains of a clique
+-- the key that gives a number of a graph, the map of chains, the chains of a clique, the list of
+-- dead qubits, or how chains are tied
 abbrev pub rows_key : List ℕ → List ℕ
 rows_key value = codes "rows=" ++ value
 
@@ -125,6 +136,13 @@ map_key name = codes "map=" ++ name
 
 abbrev pub clique_key : List ℕ
 clique_key = codes "embed=clique"
+
+abbrev pub dead_key : List ℕ → List ℕ
+dead_key name = codes "dead=" ++ name
+
+abbrev pub chain_key : Ties → List ℕ
+chain_key Choi = codes "chain=choi"
+chain_key Cut = codes "chain=cut"
 
 -- every format, target and file can be asked for, with what the keys after them choose
 abbrev pub EachJobIsAskedFor : Type 0
@@ -163,6 +181,16 @@ EachSolutionIsAskedFor = (format : Format) (word : TargetWord) (file : List ℕ)
     >>= λ given. chosen_target (solve_words format word file keys) word given
     >>= λ target. Ok (on_fourth_word format target given asks.Solve))
 
+-- with every format, target, file, state and certificate it can be asked whether the certificate
+-- proves the state, with what the keys after them choose
+abbrev pub EachProofIsAskedFor : Type 0
+EachProofIsAskedFor =
+    (format : Format) (word : TargetWord) (file state certificate : List ℕ) (keys : List (List ℕ))
+    → command_of (prove_words format word file state certificate keys)
+    ≡ (keys_from word no_keys 6 keys
+    >>= λ given. chosen_target (prove_words format word file state certificate keys) word given
+    >>= λ target. Ok (on_fourth_word format target given (asks.Prove (Whole 4) (Whole 5))))
+
 -- every sample can be asked for, with any words for its numbers, and with what the keys after them
 -- choose
 abbrev pub EachSampleIsAskedFor : Type 0
@@ -180,12 +208,27 @@ EachUnitIsAskedFor = (format : Format) (model : NodeModel) (file : List ℕ) (un
     ≡ Ok (on_fourth_word format (targets.Nodes model) (record no_keys { unit = Some unit })
     asks.Model)
 
--- a graph, and how the nodes get chains of its qubits
+-- a graph, where the list of its dead qubits is named, and how the nodes get chains of its qubits
+-- and these are tied
+abbrev pub board_with : graphs.Chimera → Option WordAt → Chaining → Ties → Target
+board_with graph dead chains ties =
+    targets.Chimera (record { graph = graph; dead = dead; chains = chains; ties = ties })
+
+-- a graph without dead qubits, with chains that are tied as usual
 abbrev pub board_of : graphs.Chimera → Chaining → Target
-board_of graph chains = targets.Chimera (record { graph = graph; chains = chains })
+board_of graph chains = board_with graph None chains Choi
+
+-- the key of a list of dead qubits, where there is one, and the place of its name at an index
+abbrev pub dead_keys : Option (List ℕ) → List (List ℕ)
+dead_keys None = []
+dead_keys (Some name) = dead_key name ∷ []
+
+abbrev pub dead_at : ℕ → Option (List ℕ) → Option WordAt
+dead_at i None = None
+dead_at i (Some name) = Some (Value i)
 
 -- each graph can be asked for, with every format and file, any words for its numbers, and the chains
--- of a clique or of any map
+-- of a clique or of any map; besides with or without any list of dead qubits, and with both ties
 pub record EachGraphIsAskedFor : Type 0 where
   pub clique : (format : Format) (file first second third : List ℕ) (graph : graphs.Chimera)
       → digits_number first ≡ Some graph.rows → digits_number second ≡ Some graph.cols
@@ -199,6 +242,24 @@ pub record EachGraphIsAskedFor : Type 0 where
       → command_of (compile_words format Chimera file
       (rows_key first ∷ cols_key second ∷ shore_key third ∷ map_key name ∷ []))
       ≡ Ok (on_fourth_word format (board_of graph (Map (Value 7))) no_keys asks.Model)
+  pub tied_clique : (format : Format) (file first second third : List ℕ) (dead : Option (List ℕ))
+      (ties : Ties) (graph : graphs.Chimera)
+      → digits_number first ≡ Some graph.rows → digits_number second ≡ Some graph.cols
+      → digits_number third ≡ Some graph.shore
+      → command_of (compile_words format Chimera file
+      (rows_key first ∷ cols_key second ∷ shore_key third ∷ clique_key
+      ∷ dead_keys dead ++ chain_key ties ∷ []))
+      ≡ Ok (on_fourth_word format (board_with graph (dead_at 8 dead) Clique ties) no_keys
+      asks.Model)
+  pub tied_map : (format : Format) (file first second third name : List ℕ) (dead : Option (List ℕ))
+      (ties : Ties) (graph : graphs.Chimera)
+      → digits_number first ≡ Some graph.rows → digits_number second ≡ Some graph.cols
+      → digits_number third ≡ Some graph.shore
+      → command_of (compile_words format Chimera file
+      (rows_key first ∷ cols_key second ∷ shore_key third ∷ map_key name
+      ∷ dead_keys dead ++ chain_key ties ∷ []))
+      ≡ Ok (on_fourth_word format (board_with graph (dead_at 8 dead) (Map (Value 7)) ties) no_keys
+      asks.Model)
 
 -- each value of a key can stand where that key is not given yet, whatever others are
 pub record EachKeyStands : Type 0 where
@@ -223,6 +284,10 @@ pub record EachKeyStands : Type 0 where
   pub map : (keys : Keys) (at : ℕ) (name : List ℕ) → keys.chains ≡ None
       → with_word Chimera keys at (map_key name)
       ≡ Some (record keys { chains = Some (Map (Value at)) })
+  pub dead : (keys : Keys) (at : ℕ) (name : List ℕ) → keys.dead ≡ None
+      → with_word Chimera keys at (dead_key name) ≡ Some (record keys { dead = Some (Value at) })
+  pub ties : (keys : Keys) (at : ℕ) (ties : Ties) → keys.ties ≡ None
+      → with_word Chimera keys at (chain_key ties) ≡ Some (record keys { ties = Some ties })
 
 -- no word of this name can stand
 abbrev pub CannotStand : TargetWord → Keys → ℕ → List ℕ → Type 0
@@ -247,6 +312,10 @@ pub record NoKeyStandsTwice : Type 0 where
       → keys.chains ≡ Some first → CannotStand target keys at (codes "embed")
   pub map : (target : TargetWord) (keys : Keys) (at : ℕ) (first : Chaining)
       → keys.chains ≡ Some first → CannotStand target keys at (codes "map")
+  pub dead : (target : TargetWord) (keys : Keys) (at : ℕ) (first : WordAt)
+      → keys.dead ≡ Some first → CannotStand target keys at (codes "dead")
+  pub ties : (target : TargetWord) (keys : Keys) (at : ℕ) (first : Ties)
+      → keys.ties ≡ Some first → CannotStand target keys at (codes "chain")
 
 -- no key of a graph stands with a model on nodes
 pub record NoGraphKeyElsewhere : Type 0 where
@@ -260,6 +329,10 @@ pub record NoGraphKeyElsewhere : Type 0 where
       → CannotStand (Nodes model) keys at (codes "embed")
   pub map : (model : NodeModel) (keys : Keys) (at : ℕ)
       → CannotStand (Nodes model) keys at (codes "map")
+  pub dead : (model : NodeModel) (keys : Keys) (at : ℕ)
+      → CannotStand (Nodes model) keys at (codes "dead")
+  pub ties : (model : NodeModel) (keys : Keys) (at : ℕ)
+      → CannotStand (Nodes model) keys at (codes "chain")
 
 -- with these keys the words of a graph's model are refused, at the number of words and one
 pub record IsRefusedAfterAll (given : Keys) : Type 0 where
@@ -279,6 +352,10 @@ pub record IsRefusedAfterAll (given : Keys) : Type 0 where
       → keys_from Chimera no_keys 4 keys ≡ Ok given
       → command_of (solve_words format Chimera file keys)
       ≡ Err (length (solve_words format Chimera file keys) + 1)
+  pub proof : (format : Format) (file state certificate : List ℕ) (keys : List (List ℕ))
+      → keys_from Chimera no_keys 6 keys ≡ Ok given
+      → command_of (prove_words format Chimera file state certificate keys)
+      ≡ Err (length (prove_words format Chimera file state certificate keys) + 1)
   pub sample : (number clauses : ℕ) (first second : List ℕ) (keys : List (List ℕ))
       → digits_number first ≡ Some number → clauses_of second ≡ Some clauses
       → keys_from Chimera no_keys 4 keys ≡ Ok given
@@ -318,6 +395,10 @@ SayOf words (File format at) (asks.Decode state) target keys =
     words ≡ decode_words format target (text_at words at) (text_at words state) keys
 SayOf words (File format at) (asks.Extend assignment) target keys =
     words ≡ extend_words format target (text_at words at) (text_at words assignment) keys
+SayOf words (File format at) (asks.Prove state certificate) target keys =
+    words
+    ≡ prove_words format target (text_at words at) (text_at words state)
+    (text_at words certificate) keys
 SayOf words (Drawn number clauses) asks.Summary target keys =
     SaySample words number clauses target keys
 SayOf words origin ask target keys = ⊥

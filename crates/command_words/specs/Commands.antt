@@ -15,7 +15,7 @@ use Rattle.command_words.specs.declared.commands.WordAt.TheVariants.{Whole}
 use Rattle.command_words.specs.declared.commands.Origin.{Origin}
 use Rattle.command_words.specs.declared.commands.Origin.TheVariants.{File, Drawn}
 use Rattle.command_words.specs.declared.commands.Ask.{Ask}
-use Rattle.command_words.specs.declared.commands.Ask.TheVariants.{Model, Summary, Solve, Decode, Extend}
+use Rattle.command_words.specs.declared.commands.Ask.TheVariants.{Model, Summary, Solve, Decode, Extend, Prove}
 use Rattle.command_words.specs.declared.commands.Command.{Command}
 use Rattle.command_words.specs.declared.words.Job.{Job}
 use Rattle.command_words.specs.declared.words.Sample.{Sample}
@@ -44,6 +44,8 @@ abbrev pub format_of : List ℕ → Option Format
 format_of word =
     if bytes_eq word (codes "wcnf")
     then Some formats.Wcnf
+    else if bytes_eq word (codes "wbo")
+    then Some formats.Wbo
     else if bytes_eq word (codes "opb")
     then Some formats.Opb
     else if bytes_eq word (codes "poly")
@@ -114,7 +116,9 @@ verb_of word =
     then Some verbs.Extend
     else if bytes_eq word (codes "sample")
     then Some verbs.Sample
-    else if bytes_eq word (codes "solve") then Some verbs.Solve else None
+    else if bytes_eq word (codes "solve")
+    then Some verbs.Solve
+    else if bytes_eq word (codes "prove") then Some verbs.Prove else None
 
 -- what is asked of a source in a file
 abbrev pub on_file : Job → Ask → Command
@@ -155,6 +159,11 @@ after_verb verbs.Sample words = do
 after_verb verbs.Solve words = do
   job ← job_of words 4
   Ok (on_file job Solve)
+after_verb verbs.Prove words = do
+  job ← job_of words 6
+  state ← named words 4
+  certificate ← named words 5
+  Ok (on_file job (Prove state certificate))
 
 -- all words of a command
 abbrev pub command_of : List (List ℕ) → Result Command ℕ

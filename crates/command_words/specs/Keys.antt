@@ -15,6 +15,8 @@ use Rattle.chimera_graph.specs.declared.chimera.Chimera as graphs
 use Rattle.chimera_graph.specs.Shape.{IsShape}
 use Rattle.command_words.specs.declared.commands.Chaining.{Chaining}
 use Rattle.command_words.specs.declared.commands.Chaining.TheVariants.{Clique, Map}
+use Rattle.command_words.specs.declared.commands.Ties.{Ties}
+use Rattle.command_words.specs.declared.commands.Ties.TheVariants.{Choi, Cut}
 use Rattle.command_words.specs.declared.commands.TargetWord.{TargetWord}
 use Rattle.command_words.specs.declared.commands.TargetWord.TheVariants.{Nodes, Chimera}
 use Rattle.command_words.specs.declared.commands.Target.{Target}
@@ -31,7 +33,9 @@ no_keys = record {
   rows = None;
   cols = None;
   shore = None;
+  dead = None;
   chains = None;
+  ties = None;
 }
 
 -- what keys choose, and the usual choice for each that was not given
@@ -44,6 +48,10 @@ choices_of keys = record {
 -- how keys choose the unit, which is usually 1
 abbrev pub chosen_unit : Keys → UnitChoice
 chosen_unit keys = option_map_or (λ value. value) keys.unit One
+
+-- how keys choose the ties of chains, which is usually by the simple bound
+abbrev pub chosen_ties : Keys → Ties
+chosen_ties keys = option_map_or (λ value. value) keys.ties Choi
 
 -- the graph of these numbers, where a graph may have them
 abbrev pub graph_if : (rows cols shore : ℕ) (fits : Bool) → (fits ≡ true → IsShape rows cols shore)
@@ -73,7 +81,12 @@ target_by (Nodes model) keys = Some (targets.Nodes model)
 target_by Chimera keys =
     given (graph_of keys) (λ graph.
     given keys.chains (λ chains.
-    Some (targets.Chimera (record { graph = graph; chains = chains }))))
+    Some (targets.Chimera (record {
+      graph = graph;
+      dead = keys.dead;
+      chains = chains;
+      ties = chosen_ties keys;
+    }))))
 
 -- the byte `=`
 abbrev pub is_equals : ℕ → Bool
@@ -119,6 +132,13 @@ side_of value =
 abbrev pub embed_of : List ℕ → Option Chaining
 embed_of value = if bytes_eq value (codes "clique") then Some Clique else None
 
+-- the words of the ties of chains
+abbrev pub ties_of : List ℕ → Option Ties
+ties_of value =
+    if bytes_eq value (codes "choi")
+    then Some Choi
+    else if bytes_eq value (codes "cut") then Some Cut else None
+
 -- the keys of a graph: the keys with one more, whose word stands at an index, or none where it
 -- cannot stand
 abbrev pub with_graph_pair : Keys → ℕ → List ℕ → List ℕ → Option Keys
@@ -134,6 +154,10 @@ with_graph_pair keys at name value =
     else if bytes_eq name (codes "map")
     then option_map (λ chains. record keys { chains = Some chains })
     (once keys.chains (Some (Map (Value at))))
+    else if bytes_eq name (codes "dead")
+    then option_map (λ dead. record keys { dead = Some dead }) (once keys.dead (Some (Value at)))
+    else if bytes_eq name (codes "chain")
+    then option_map (λ ties. record keys { ties = Some ties }) (once keys.ties (ties_of value))
     else None
 
 -- the keys that a target has of its own

@@ -11,10 +11,10 @@ use Rattle.command_words.specs.declared.commands.Chaining.TheVariants as chainin
 use Rattle.command_words.specs.declared.commands.Origin.{Origin}
 use Rattle.command_words.specs.declared.commands.Origin.TheVariants.{File, Drawn}
 use Rattle.command_words.specs.declared.commands.Ask.{Ask}
-use Rattle.command_words.specs.declared.commands.Ask.TheVariants.{Model, Summary, Solve, Decode, Extend}
+use Rattle.command_words.specs.declared.commands.Ask.TheVariants.{Model, Summary, Solve, Decode, Extend, Prove}
 use Rattle.command_words.specs.declared.commands.Command.{Command}
 use Rattle.command_words.specs.declared.names.Which.{Which}
-use Rattle.command_words.specs.declared.names.Which.TheVariants.{Source, Map, State}
+use Rattle.command_words.specs.declared.names.Which.TheVariants.{Source, Dead, Map, State, Certificate}
 use Rattle.command_words.specs.Keys.{cut}
 
 -- what stands after the first `=` of a word
@@ -30,6 +30,11 @@ text_at words (Value i) = option_map_or value_of (slice_get words i) []
 abbrev pub file_of : Origin → Option WordAt
 file_of (File format at) = Some at
 file_of (Drawn number clauses) = None
+
+-- the place of the name of the list of dead qubits and couplers that a target has
+abbrev pub dead_of : Target → Option WordAt
+dead_of (targets.Nodes model) = None
+dead_of (targets.Chimera board) = board.dead
 
 -- the place of the name of a map of chains
 abbrev pub map_in : Chaining → Option WordAt
@@ -48,12 +53,24 @@ state_of Summary = None
 state_of Solve = None
 state_of (Decode state) = Some state
 state_of (Extend assignment) = Some assignment
+state_of (Prove state certificate) = Some state
+
+-- the place of the name of a certificate
+abbrev pub certificate_of : Ask → Option WordAt
+certificate_of Model = None
+certificate_of Summary = None
+certificate_of Solve = None
+certificate_of (Decode state) = None
+certificate_of (Extend assignment) = None
+certificate_of (Prove state certificate) = Some certificate
 
 -- the place of the name of a file, where a command has such a file
 abbrev pub place_of : Command → Which → Option WordAt
 place_of command Source = file_of command.origin
+place_of command Dead = dead_of command.target
 place_of command Map = map_of command.target
 place_of command State = state_of command.ask
+place_of command Certificate = certificate_of command.ask
 
 -- the name of a file of a command, empty where the command has no such file
 abbrev pub name_of : List (List ℕ) → Command → Which → List ℕ
@@ -65,11 +82,12 @@ if_named command which = option_map_or (λ place. which ∷ []) (place_of comman
 
 -- the files that the model of a command is made of, in the order in which they are taken
 abbrev pub model_files : Command → List Which
-model_files command = if_named command Source ++ if_named command Map
+model_files command =
+    if_named command Source ++ if_named command Dead ++ if_named command Map
 
 -- the files that are taken once the model stands
 abbrev pub last_files : Command → List Which
-last_files command = if_named command State
+last_files command = if_named command State ++ if_named command Certificate
 
 -- the files that a command takes, in the order in which it takes them
 abbrev pub files_of : Command → List Which

@@ -7,6 +7,7 @@ use problem_form::Choices;
 #[derive(Clone, Copy, Debug, PartialEq, Eq)]
 pub enum Format {
     Wcnf,
+    Wbo,
     Opb,
     Poly,
     Ising,
@@ -36,11 +37,14 @@ pub enum Ties {
     Cut,
 }
 
-/// The qubits of a graph, and how the nodes of a form get chains of them.
+/// The qubits of a graph, without those in a file of dead ones where there is one, and how the
+/// nodes of a form get chains of them and these are tied.
 #[derive(Clone, Copy, Debug, PartialEq, Eq)]
 pub struct Board {
     pub graph: Chimera,
+    pub dead: Option<WordAt>,
     pub chains: Chaining,
+    pub ties: Ties,
 }
 
 /// What a model stands on: the nodes of a form, or the qubits of a graph.
@@ -86,6 +90,9 @@ pub enum Ask {
     Decode(WordAt),
     /// The state of it that an assignment of the source, in the file of this name, extends to.
     Extend(WordAt),
+    /// Whether a state of it, in the file of the first name, is a least one, by the certificate in
+    /// the file of the second.
+    Prove(WordAt, WordAt),
 }
 
 /// What a run does: a source, how it becomes a model, and what is asked of that model.

@@ -1,8 +1,8 @@
 //! The keys of a command, in any order, each at most once: words of the form `NAME=VALUE`.
 ghost use Rattle.std.specs.Prelude.{◌≡◌, ◌+◌, ◌<◌, ◌^◌, length, map, string_bytes, Some, None, MatchOption};
-ghost use Rattle.command_words.specs.Keys.{chosen_unit, choices_of, cut, embed_of, graph_of, high_of, keys_from, no_keys, normal_of, once, side_of, target_by, unit_of, with_graph_pair, with_pair, with_word};
+ghost use Rattle.command_words.specs.Keys.{chosen_ties, chosen_unit, choices_of, cut, embed_of, graph_of, high_of, keys_from, no_keys, normal_of, once, side_of, target_by, ties_of, unit_of, with_graph_pair, with_pair, with_word};
 
-use crate::commands::{Board, Chaining, Target, TargetWord, WordAt};
+use crate::commands::{Board, Chaining, Target, TargetWord, Ties, WordAt};
 use base::UnitChoice;
 use chimera_graph::Chimera;
 use problem_form::{Choices, High, Normal};
@@ -20,7 +20,9 @@ pub struct Keys {
     pub rows: Option<u32>,
     pub cols: Option<u32>,
     pub shore: Option<u32>,
+    pub dead: Option<WordAt>,
     pub chains: Option<Chaining>,
+    pub ties: Option<Ties>,
 }
 
 /// No key is given.
@@ -34,7 +36,9 @@ pub(crate) fn no_keys() -> Keys
         rows: None,
         cols: None,
         shore: None,
+        dead: None,
         chains: None,
+        ties: None,
     }
 }
 
@@ -53,6 +57,13 @@ pub(crate) fn chosen_unit(keys: Keys) -> UnitChoice
     ensures { result ≡ chosen_unit keys }
 {
     keys.unit.unwrap_or(UnitChoice::One)
+}
+
+/// How the qubits of a chain are tied, which is usually by the simple bound.
+fn chosen_ties(keys: Keys) -> Ties
+    ensures { result ≡ chosen_ties keys }
+{
+    keys.ties.unwrap_or(Ties::Choi)
 }
 
 /// The graph that the keys choose, or none where a number is missing or it were too large.
@@ -75,7 +86,12 @@ pub(crate) fn target_by(target: TargetWord, keys: Keys) -> Option<Target>
         TargetWord::Chimera => {
             let graph = graph_of(keys)?;
             let chains = keys.chains?;
-            Some(Target::Chimera(Board { graph, chains }))
+            Some(Target::Chimera(Board {
+                graph,
+                dead: keys.dead,
+                chains,
+                ties: chosen_ties(keys),
+            }))
         }
     }
 }
@@ -150,6 +166,16 @@ fn embed_of(value: &str) -> Option<Chaining>
     }
 }
 
+fn ties_of(value: &str) -> Option<Ties>
+    ensures { result ≡ ties_of value.now }
+{
+    match value {
+        "choi" => Some(Ties::Choi),
+        "cut" => Some(Ties::Cut),
+        _ => None,
+    }
+}
+
 /// The keys of a graph: the keys with one more, whose word stands at the index `at`, or none where
 /// it cannot stand.
 fn with_graph_pair(keys: Keys, at: usize, name: &str, value: &str) -> Option<Keys>
@@ -175,6 +201,14 @@ fn with_graph_pair(keys: Keys, at: usize, name: &str, value: &str) -> Option<Key
         "map" => {
             let chains = Some(once(keys.chains, Some(Chaining::Map(WordAt::Value(at))))?);
             Some(Keys { chains, ..keys })
+        }
+        "dead" => {
+            let dead = Some(once(keys.dead, Some(WordAt::Value(at)))?);
+            Some(Keys { dead, ..keys })
+        }
+        "chain" => {
+            let ties = Some(once(keys.ties, ties_of(value))?);
+            Some(Keys { ties, ..keys })
         }
         _ => None,
     }

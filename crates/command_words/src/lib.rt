@@ -7,7 +7,9 @@ mod laws;
 mod names;
 mod words;
 
-pub use commands::{Ask, Board, Chaining, Command, Format, NodeModel, Origin, Target, Ties, WordAt};
+pub use commands::{
+    Ask, Board, Chaining, Command, Format, NodeModel, Origin, Target, Ties, WordAt,
+};
 pub use laws::laws_of_words;
 pub use names::{Which, name_of, text_at};
 pub use words::command;

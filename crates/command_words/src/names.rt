@@ -1,16 +1,19 @@
 //! The files that a command names.
 ghost use Rattle.std.specs.Prelude.{◌≡◌, map, string_bytes};
-ghost use Rattle.command_words.specs.Names.{file_of, map_of, name_of, place_of, state_of, text_at, value_of};
+ghost use Rattle.command_words.specs.Names.{certificate_of, dead_of, file_of, map_of, name_of, place_of, state_of, text_at, value_of};
 
 use crate::commands::{Ask, Chaining, Command, Origin, Target, WordAt};
 use crate::keys::cut;
 
-/// A file that a command names: the source, the map of chains, or the state or assignment.
+/// A file that a command names: the source, the list of dead qubits and couplers, the map of
+/// chains, the state or assignment, or the certificate.
 #[derive(Clone, Copy, Debug, PartialEq, Eq)]
 pub enum Which {
     Source,
+    Dead,
     Map,
     State,
+    Certificate,
 }
 
 /// What stands after the first `=` of a word.
@@ -49,6 +52,16 @@ fn file_of(origin: Origin) -> Option<WordAt>
     }
 }
 
+/// The place of the name of the list of dead qubits and couplers.
+fn dead_of(target: Target) -> Option<WordAt>
+    ensures { result ≡ dead_of target }
+{
+    match target {
+        Target::Nodes(_) => None,
+        Target::Chimera(board) => board.dead,
+    }
+}
+
 /// The place of the name of the map of chains.
 fn map_of(target: Target) -> Option<WordAt>
     ensures { result ≡ map_of target }
@@ -67,8 +80,18 @@ fn state_of(ask: Ask) -> Option<WordAt>
     ensures { result ≡ state_of ask }
 {
     match ask {
-        Ask::Decode(at) | Ask::Extend(at) => Some(at),
+        Ask::Decode(at) | Ask::Extend(at) | Ask::Prove(at, _) => Some(at),
         Ask::Model | Ask::Summary | Ask::Solve => None,
+    }
+}
+
+/// The place of the name of a certificate.
+fn certificate_of(ask: Ask) -> Option<WordAt>
+    ensures { result ≡ certificate_of ask }
+{
+    match ask {
+        Ask::Prove(_, at) => Some(at),
+        Ask::Model | Ask::Summary | Ask::Solve | Ask::Decode(_) | Ask::Extend(_) => None,
     }
 }
 
@@ -78,8 +101,10 @@ fn place_of(command: Command, which: Which) -> Option<WordAt>
 {
     match which {
         Which::Source => file_of(command.origin),
+        Which::Dead => dead_of(command.target),
         Which::Map => map_of(command.target),
         Which::State => state_of(command.ask),
+        Which::Certificate => certificate_of(command.ask),
     }
 }
 

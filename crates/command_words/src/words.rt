@@ -40,6 +40,7 @@ pub enum Verb {
     Extend,
     Sample,
     Solve,
+    Prove,
 }
 
 fn verb_of(word: &str) -> Option<Verb>
@@ -51,6 +52,7 @@ fn verb_of(word: &str) -> Option<Verb>
         "extend" => Some(Verb::Extend),
         "sample" => Some(Verb::Sample),
         "solve" => Some(Verb::Solve),
+        "prove" => Some(Verb::Prove),
         _ => None,
     }
 }
@@ -60,6 +62,7 @@ fn format_of(word: &str) -> Option<Format>
 {
     match word {
         "wcnf" => Some(Format::Wcnf),
+        "wbo" => Some(Format::Wbo),
         "opb" => Some(Format::Opb),
         "poly" => Some(Format::Poly),
         "ising" => Some(Format::Ising),
@@ -254,5 +257,10 @@ pub fn command(words: &[String]) -> Result<Command, usize>
         }
         Verb::Sample => Ok(drawn(read_sample(words)?)),
         Verb::Solve => Ok(on_file(read_job(words, 4)?, Ask::Solve)),
+        Verb::Prove => {
+            let job = read_job(words, 6)?;
+            let state = named(words, 4)?;
+            Ok(on_file(job, Ask::Prove(state, named(words, 5)?)))
+        }
     }
 }

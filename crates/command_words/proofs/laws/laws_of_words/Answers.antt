@@ -1,4 +1,4 @@
-use Rattle.command_words.proofs.AskedWords.{each_job, each_decoding, each_extension, each_solution, each_unit, each_graph, each_key, no_key_twice, no_graph_key_elsewhere, no_graph_without, no_larger_graph, no_others}
+use Rattle.command_words.proofs.AskedWords.{each_job, each_decoding, each_extension, each_solution, each_proof, each_unit, each_graph, each_key, no_key_twice, no_graph_key_elsewhere, no_graph_without, no_larger_graph, no_others}
 use Rattle.command_words.proofs.laws.laws_of_words.Goals as goal
 
 pub returns-clause-each_job : goal.returns-clause-each_job
@@ -12,6 +12,9 @@ returns-clause-each_extension c = each_extension
 
 pub returns-clause-each_solution : goal.returns-clause-each_solution
 returns-clause-each_solution c = each_solution
+
+pub returns-clause-each_proof : goal.returns-clause-each_proof
+returns-clause-each_proof c = each_proof
 
 pub returns-clause-each_unit : goal.returns-clause-each_unit
 returns-clause-each_unit c = each_unit
