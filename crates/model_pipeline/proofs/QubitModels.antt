@@ -88,13 +88,19 @@ tied_low z b h k =
     let once : pos 1 *ℤ z +ℤ b ≡ z +ℤ b = omega (arith, ints) in
     omega (arith, ap unsigned_abs once, sum_low z b (2 ^ 122) (2 ^ 123) (omega (arith, h)) k)
 
+-- the same with what the ties of an embedded form give
+pub tied_figure : (ties : Ties) (e : Embedding) (z b : ℤ) → IsEmbedding e
+    → (ising_total e.ising + 1) * 2 ^ 21 ≤ 2 ^ 124 → unsigned_abs z < 2 ^ 122
+    → b ≡ offset_by ties e → unsigned_abs (pos 1 *ℤ z +ℤ b) < 2 ^ 124
+tied_figure ties e z b kept small low tied =
+    rw tied (tied_low z (offset_by ties e) low (offset_within ties e kept small))
+
 pub tied_fits : (ties : Ties) (e : Embedding) (z b : ℤ) → IsEmbedding e
     → (ising_total e.ising + 1) * 2 ^ 21 ≤ 2 ^ 124 → unsigned_abs z < 2 ^ 122
     → b ≡ offset_by ties e → FitsSigned w128 (pos 1 *ℤ z +ℤ b)
 tied_fits ties e z b kept small low tied =
-    rw tied
-    (fits_signed_from_abs w128 (pos 1 *ℤ z +ℤ offset_by ties e)
-    (omega (arith, tied_low z (offset_by ties e) low (offset_within ties e kept small))))
+    fits_signed_from_abs w128 (pos 1 *ℤ z +ℤ b)
+    (omega (arith, tied_figure ties e z b kept small low tied))
 
 -- the figures on chains
 pub moved_by_ties : (ties : Ties) (n : Figures) (e : Embedding) → IsEmbedding e

@@ -11,7 +11,7 @@ use Rattle.chain_map.specs.declared.faults.EmbedFault.TheVariants.{ChainCount, E
 use Rattle.chain_map.specs.Valid.{IsValid}
 use Rattle.chain_map.proofs.CliqueChains.{clique_valid}
 use Rattle.embedding_check.specs.Faults.{Exists, IsFault, IsFirstAt}
-use Rattle.working_graph.specs.Fabrics.{Fabric, AllExist, IsValidOn}
+use Rattle.working_graph.specs.Fabrics.{AllExist, IsValidOn}
 use Rattle.working_graph.specs.Faults.{ExistsAt, IsFaultOn}
 use Rattle.working_graph.specs.laws.WorkingJoins.{joined_in-comm}
 use Rattle.working_graph.proofs.FaultsOn.{fault_on_invalid}

@@ -31,7 +31,7 @@ use Rattle.cut_chains.specs.laws.LeastStates.{cut_keeps, cut_reaches}
 use Rattle.cut_chains.proofs.CutSizes.{cut_is_ising, cut_offset_small, cut_total_grows}
 use Rattle.cut_chains.proofs.Joined.{cut_fits_output, cut_is_joined}
 use Rattle.model_pipeline.specs.QubitModels.{chained_figures, image_by, offset_by}
-use Rattle.model_pipeline.specs.QubitStanding.{StandsBy}
+use Rattle.model_pipeline.specs.QubitStanding.{LeastStandBy, StandsBy}
 
 -- ---- the form on the qubits
 
@@ -105,6 +105,11 @@ pub tied_reach : (ties : Ties) (e : Embedding) (x : List Bool) → IsEmbedding e
     (chains.decoding (link_of e)) (pos 1) (offset_by ties e) x (chains.extension e x)
 tied_reach Choi e x kept width = chains_reach (link_of e) e x (link_fits e kept) width
 tied_reach Cut e x kept width = cut_reaches (cut_link_of e) e x (link_fits e kept) width
+
+-- its least states stand for the least assignments
+pub least_stand_by : LeastStandBy
+least_stand_by Choi f g d u n stands = relaxed_stands f g d u n stands
+least_stand_by Cut f g d u n stands = stands
 
 -- ---- other steps
 

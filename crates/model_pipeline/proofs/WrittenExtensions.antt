@@ -1,9 +1,8 @@
 -- The state of a written model that an assignment extends to: it decodes to the assignment, and is
 -- least among those that do.
-use Rattle.std.proofs.Common.{◌≡◌, ◌≤◌, ◌<◌, inl, inr, ℕ, ◌&&◌, ◌^◌, Bool, List, [], length, map, All, refl, sym, ap, subst, ◌∙◌, arith}
+use Rattle.std.proofs.Common.{◌≡◌, ◌≤◌, ◌<◌, inl, inr, ℕ, ◌&&◌, Bool, List, [], length, map, All, refl, sym, ap, subst, ◌∙◌, arith}
 use Rattle.std.specs.List.{list_any, range_with_len}
 use Rattle.std.proofs.lemmas.List.{length-map}
-use Rattle.std.proofs.lemmas.List.FromFn.{length-map-range_with_len}
 use Rattle.base.specs.declared.costs.Figures.{Figures}
 use Rattle.bits_model.specs.declared.output.Kind.TheVariants as kinds
 use Rattle.base.specs.declared.unit.UnitChoice.{UnitChoice}

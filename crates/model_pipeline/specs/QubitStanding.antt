@@ -36,6 +36,11 @@ abbrev pub StandsBy : Ties → Form → Form → Decoding → ℤ → Figures �
 StandsBy Choi f g d u n = Relaxes f g d u n
 StandsBy Cut f g d u n = StandsAtLeast f g d u n
 
+-- however the ties are, the least states stand for the least assignments
+abbrev pub LeastStandBy : Type 0
+LeastStandBy = (ties : Ties) (f g : Form) (d : Decoding) (u : ℤ) (n : Figures)
+    → StandsBy ties f g d u n → StandsAtLeast f g d u n
+
 -- whatever source the Ising form relaxes, with these figures and by its first bits, the model stands
 -- for too, in its own unit, with its own figures and by its chains
 abbrev pub StandsForWhat : Ties → IsingContent → Figures → Written → Type 0

@@ -1,4 +1,5 @@
-//! Laws of how states are taken back and of how assignments are extended, as functions without code.
+//! Laws of what states stand for, how they are taken back and what they extend, as functions without
+//! code.
 ghost use Rattle.std.specs.Prelude.{◌≡◌};
 ghost use Rattle.form_steps.specs.declared.layer.BitsLink.{BitsLink};
 ghost use Rattle.form_steps.specs.Links.{first_bits};
@@ -7,6 +8,7 @@ ghost use Rattle.chain_layer.specs.declared.link.ChainLink.{ChainLink};
 ghost use Rattle.chain_layer.specs.Image.{decoding};
 ghost use Rattle.model_pipeline.specs.Decoders.{ReadOffIsDecoded};
 ghost use Rattle.model_pipeline.specs.Extensions.{FirstAreDecoded, LeastExtends};
+ghost use Rattle.model_pipeline.specs.QubitStanding.{LeastStandBy};
 
 use chain_layer::Chains;
 use form_steps::{Guard, Layer};
@@ -38,4 +40,9 @@ pub fn laws_of_decoding()
 pub fn laws_of_extensions()
     ensures first { FirstAreDecoded }
     ensures least { LeastExtends }
+{}
+
+/// The least states of a model on qubits stand for the least assignments of its problem.
+pub fn laws_of_ties()
+    ensures { LeastStandBy }
 {}

@@ -25,7 +25,7 @@ pub use energy::energy_of;
 pub use extending::extended;
 pub use forms::{FiguredQuad, formed};
 pub use held::Held;
-pub use laws::{decoders_of_steps, laws_of_decoding, laws_of_extensions};
+pub use laws::{decoders_of_steps, laws_of_decoding, laws_of_extensions, laws_of_ties};
 pub use model::model_of;
 pub use on_qubits::{form_on_qubits, model_on_qubits};
 pub use site::{Perch, Qubits, Site};

@@ -1,0 +1,11 @@
+use Rattle.std.proofs.lemmas.Result.{IfErr-weaker}
+use Rattle.embedding_check.proofs.Faulty.{if_fault}
+use Rattle.model_pipeline.proofs.Sites.{whole_fault}
+use Rattle.model_pipeline.proofs.embedding.on_map.Goals as goal
+
+pub returns-in-All-clause-fault : goal.returns-in-All-clause-fault
+returns-in-All-clause-fault c =
+    rw c.in-All.is
+    (IfErr-weaker c.check.result _ _
+    (λ e h. if_fault e _ _ (whole_fault c.in-All.graph c.args.form c.args.map.now) h)
+    c.check.ensures.fault)
