@@ -1,5 +1,5 @@
 -- What the model of a command stands on, where the files of its board are read or refused.
-use Rattle.std.proofs.Common.{◌≡◌, ℕ, List, Ok, Some, refl, subst, sym, ◌∙◌}
+use Rattle.std.proofs.Common.{◌≡◌, ℕ, List, Ok, Some, None, refl, subst, sym, ◌∙◌}
 use Rattle.std.specs.declared.option.Option.{Option}
 use Rattle.edge_io.specs.Held.{NamedFiles}
 use Rattle.chimera_graph.specs.declared.chimera.Chimera.{Chimera}
@@ -8,7 +8,7 @@ use Rattle.command_words.specs.declared.commands.NodeModel.{NodeModel}
 use Rattle.command_words.specs.declared.commands.WordAt.{WordAt}
 use Rattle.command_words.specs.declared.commands.Board.{Board}
 use Rattle.command_words.specs.declared.commands.Chaining.{Chaining}
-use Rattle.command_words.specs.declared.commands.Chaining.TheVariants.{Map}
+use Rattle.command_words.specs.declared.commands.Chaining.TheVariants.{Clique, Map}
 use Rattle.command_words.specs.declared.commands.Target.{Target}
 use Rattle.command_words.specs.declared.commands.Target.TheVariants as targets
 use Rattle.command_words.specs.Names.{text_at}
@@ -23,6 +23,13 @@ use Rattle.program_run.specs.Outcome.{Steps, ◌>>=◌, gives, mapping, perching
 use Rattle.program_run.proofs.Stepping.{next_end, refuses_on, refuses_next}
 
 -- ---- the qubits
+
+-- none is dead
+pub all_surveyed : (words : List (List ℕ)) (held : NamedFiles) (graph : Chimera)
+    (dead : Option WordAt) → dead ≡ None
+    → (surveying words held graph dead).end ≡ Some (Ok (which.All graph))
+unfolding surveying
+all_surveyed words held graph dead is = rw is refl
 
 -- a dead list that is named
 module _ (words : List (List ℕ)) (held : NamedFiles) (graph : Chimera) (dead : Option WordAt)
@@ -44,6 +51,12 @@ module _ (words : List (List ℕ)) (held : NamedFiles) (graph : Chimera) (dead :
       (subst (λ n. Refuses status (working held n graph)) named refused))
 
 -- ---- the chains
+
+-- those of a clique
+pub clique_perched : (words : List (List ℕ)) (held : NamedFiles) (chains : Chaining)
+    → chains ≡ Clique → (perching words held chains).end ≡ Some (Ok perches.Clique)
+unfolding perching
+clique_perched words held chains is = rw is refl
 
 -- a map that is named
 module _ (words : List (List ℕ)) (held : NamedFiles) (chains : Chaining) (at : WordAt)
