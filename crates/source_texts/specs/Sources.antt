@@ -129,7 +129,8 @@ pub record StandsFor (s : Source) (r : Read) : Type 0 where
 
 -- where a text is read into a problem, it says a source, for which the problem stands
 abbrev pub ProblemsStandForSources : Type 0
-ProblemsStandForSources = (format : Format) (text : List ℕ) (r : Read) → problem_of format text ≡ Ok r
+ProblemsStandForSources =
+    (format : Format) (text : List ℕ) (r : Read) → problem_of format text ≡ Ok r
     → (s : Source) × (source_of format text ≡ Ok s) × StandsFor s r
 
 -- what relaxes a problem relaxes the source that it stands for, decoded to the source's variables
@@ -157,4 +158,5 @@ ProblemsCostAsSources = (format : Format) (text : List ℕ) (r : Read) (s : Sour
 
 -- without soft constraints the problem has the source's variables alone
 abbrev pub PlainOwnsAll : Type 0
-PlainOwnsAll = (s : Source) (r : Read) → CostsAs s r → r.soft ≡ None → r.problem.variables ≡ s.form.bits
+PlainOwnsAll =
+    (s : Source) (r : Read) → CostsAs s r → r.soft ≡ None → r.problem.variables ≡ s.form.bits

@@ -24,9 +24,9 @@ use wbo_reader::{Wbo, read_wbo, read_wbo_tokens};
 use wcnf_reader::{read_wcnf, read_wcnf_tokens};
 use whole_text::{Style, TextAnswer, TokenText};
 
-/// What a text is read into: its problem, how many of the problem's first variables are the source's
-/// own, and their names, where the text has names for them. Soft constraints are kept, where the
-/// problem is what they are rewritten to: then its further variables are their bits.
+/// What a text is read into: its problem, how many of the problem's first variables are the
+/// source's own, and their names, where the text has names for them. Soft constraints are kept,
+/// where the problem is what they are rewritten to: then its further variables are their bits.
 #[derive(Drop)]
 pub struct Read {
     pub problem: Problem,
