@@ -1,5 +1,5 @@
 -- A form that cannot be embedded has no model.
-use Rattle.std.proofs.Common.{◌≡◌}
+use Rattle.std.proofs.Common.{◌≡◌, sym, subst}
 use Rattle.ising_form.specs.Isings.{IsingContent}
 use Rattle.chain_map.specs.declared.faults.CheckAnswer.{CheckAnswer}
 use Rattle.chain_map.specs.declared.faults.CheckAnswer.TheVariants.{Fault, NoMemory}
@@ -15,5 +15,11 @@ pub fault_unembedded : (site : Site) (base : Placement) (form : IsingContent) (a
     → base ≡ Qubits site → IfFault answer (IsFaultBy site form)
     → IfFault answer (λ f. ¬ (CanStandBy site form))
     → IsUnembeddedOn base form (unembedded answer)
-fault_unembedded site base form (Fault fault) is why cannot = rw is (why, cannot)
-fault_unembedded site base form NoMemory is why cannot = rw is tt
+fault_unembedded site base form answer is why cannot =
+    subst (λ b. IsUnembeddedOn b form (unembedded answer)) (sym is) (go answer why cannot)
+  where
+    go : (a : CheckAnswer) → IfFault a (IsFaultBy site form)
+        → IfFault a (λ f. ¬ (CanStandBy site form))
+        → IsUnembeddedOn (Qubits site) form (unembedded a)
+    go (Fault fault) why cannot = (why, cannot)
+    go NoMemory why cannot = tt

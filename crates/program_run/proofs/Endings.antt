@@ -5,17 +5,13 @@ use Rattle.bits_model.specs.Output.{Written}
 use Rattle.edge_io.specs.Counts.{Counts, Rose}
 use Rattle.edge_io.specs.Held.{NamedFiles}
 use Rattle.command_words.specs.declared.names.Which.{Which}
-use Rattle.command_words.specs.declared.commands.WordAt.{WordAt}
-use Rattle.command_words.specs.declared.commands.Ask.{Ask}
-use Rattle.command_words.specs.declared.commands.Ask.TheVariants.{Model, Summary, Solve, Decode, Extend}
 use Rattle.command_words.specs.declared.commands.Command.{Command}
-use Rattle.command_words.specs.Names.{state_of, text_at}
 use Rattle.program_run.specs.declared.plans.Plan.{Plan}
 use Rattle.program_run.specs.declared.status.Status.{Status}
 use Rattle.program_run.specs.declared.status.Status.TheVariants.{Done, Usage, ReadFault, WriteFault, BadText, Limit, NotEmbedded, TooWide, NotProved, NoState, NoMemory}
 use Rattle.program_run.specs.Statuses.{IsRefusal, IsReading, IsDoneOrWant}
-use Rattle.program_run.specs.Outcome.{Steps, OfModel, IsEndOf, IsEnd, Ends, Refuses, planning, last_step, stating, IsOutcomeOf, MeetsOutcomeOf}
-use Rattle.program_run.specs.Made.{IsModelled, EndsOf, asked_width}
+use Rattle.program_run.specs.Outcome.{Steps, OfModel, IsEndOf, IsEnd, Ends, Refuses, planning, last_step, IsOutcomeOf, MeetsOutcomeOf}
+use Rattle.program_run.specs.Made.{IsModelled, EndsOf}
 use Rattle.program_run.specs.Causes.{AreRefused, AreFiles}
 use Rattle.program_run.specs.Unembedded.{IsUnembedded}
 use Rattle.program_run.proofs.OneModel.{one_model}
@@ -52,19 +48,6 @@ refused_reading name files (NotEmbedded fault) a b at = absurd at
 refused_reading name files (TooWide node width) a b at = absurd at
 refused_reading name files (NotProved fault) a b at = absurd at
 
--- the last step of a command on a state or an assignment
-pub last_is_state : (words : List (List ℕ)) (held : NamedFiles) (ask : Ask) (at : WordAt)
-    (plan : Plan) (m : Written) → state_of ask ≡ Some at
-    → last_step words held ask plan m
-    ≡ stating held (text_at words at) (asked_width ask plan.read.variables m)
-last_is_state words held Model at plan m is = absurd cc
-last_is_state words held Summary at plan m is = absurd cc
-last_is_state words held Solve at plan m is = absurd cc
-last_is_state words held (Decode other) at plan m is =
-    let same : other ≡ at = cc in ap (λ a. stating held (text_at words a) m.nodes) same
-last_is_state words held (Extend other) at plan m is =
-    let same : other ≡ at = cc in ap (λ a. stating held (text_at words a) plan.read.variables) same
-
 -- its last step refuses
 pub last_refuses : (status : Status) (plan : Plan) (last : Written → Steps (List Bool))
     (m : Written) → IsModelled plan m → IsReading status → Refuses status (last m)
@@ -80,8 +63,7 @@ last_refuses (BadText which kind line) plan last m made refusal is =
 last_refuses (Limit which kind number) plan last m made refusal is =
     (made.can_stand, (m, made.by, is))
 last_refuses (NoState width) plan last m made refusal is = (made.can_stand, (m, made.by, is))
-last_refuses (TooWide node width) plan last m made refusal is =
-    (made.can_stand, (m, made.by, is))
+last_refuses (TooWide node width) plan last m made refusal is = absurd refusal
 last_refuses (NotProved fault) plan last m made refusal is =
     (made.can_stand, (m, made.by, is))
 

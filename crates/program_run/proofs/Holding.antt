@@ -1,5 +1,5 @@
 -- Which files a store may hold.
-use Rattle.std.proofs.Common.{◌≡◌, ℕ, List, [], ◌∷◌, ◌++◌, Some, None, refl, sym, subst}
+use Rattle.std.proofs.Common.{◌≡◌, ℕ, List, [], ◌∷◌, ◌++◌, append_assoc, Some, None, refl, sym, subst}
 use Rattle.std.specs.declared.option.Option.{Option}
 use Rattle.edge_io.specs.Held.{NamedFiles, WhereTold}
 use Rattle.edge_io.specs.Counts.{Counts}
@@ -12,7 +12,7 @@ use Rattle.command_words.specs.declared.commands.Origin.TheVariants.{File}
 use Rattle.command_words.specs.declared.commands.Target.TheVariants.{Chimera}
 use Rattle.command_words.specs.declared.commands.Chaining.TheVariants as chainings
 use Rattle.command_words.specs.declared.commands.Command.{Command}
-use Rattle.command_words.specs.Names.{text_at, name_of, state_of, certificate_of, if_named}
+use Rattle.command_words.specs.Names.{text_at, name_of, state_of, certificate_of, if_named, model_files}
 use Rattle.program_run.specs.declared.status.Status.{Status}
 use Rattle.program_run.specs.Causes.{MayHold, WhereHeld, AreRefused, IsRefusedBy}
 use Rattle.program_run.proofs.FilesRead.{refused_alone}
@@ -35,6 +35,35 @@ may_next told later first files held same may =
     go (Some t) first may = may
     go None [] may = may
     go None (file ∷ first) may = absurd may
+
+-- ---- the files of a model: the source, and those of the board
+
+abbrev pub board_files : Command → List Which
+board_files command = if_named command Dead ++ if_named command Map
+
+grouped : (command : Command) → model_files command ≡ if_named command Source ++ board_files command
+grouped command =
+    append_assoc (if_named command Source) (if_named command Dead) (if_named command Map)
+
+-- what holds of the source's file and then the board's holds of the model's
+pub of_model_files : (command : Command) (P : List Which → Type 0)
+    → P (if_named command Source ++ board_files command) → P (model_files command)
+of_model_files command P is = subst P (sym (grouped command)) is
+
+pub may_source : (told : Option NamedFiles) (command : Command) (held : NamedFiles)
+    → MayHold told (model_files command) held → MayHold told (if_named command Source) held
+may_source told command held may =
+    may_first told (if_named command Source) (board_files command) held
+    (subst (λ l. MayHold told l held) (grouped command) may)
+
+pub may_board : (told later : Option NamedFiles) (command : Command) (held : NamedFiles)
+    → later ≡ told → MayHold told (model_files command) held
+    → MayHold later (board_files command) held
+may_board told later command held same may =
+    may_next told later (if_named command Source) (board_files command) held same
+    (subst (λ l. MayHold told l held) (grouped command) may)
+
+-- ---- a file alone
 
 -- what is told holds of what may be held, where a file is taken
 pub of_told : (told : Option NamedFiles) (which : Which) (P : NamedFiles → Type 0)

@@ -1,14 +1,18 @@
 -- A model that is solved, or too wide.
-use Rattle.std.proofs.Common.{◌≡◌, ◌<◌, ◌≤◌, ℕ, zero, suc, Bool, true, false, [], Ok, Err, Some, None, refl, ap, subst, arith}
+use Rattle.std.proofs.Common.{◌≡◌, ◌<◌, ◌≤◌, ℕ, zero, suc, Bool, true, false, List, [], Ok, Err, Some, None, refl, ap, subst, arith}
 use Rattle.std.specs.Prelude.{nat_lt}
 use Rattle.std.proofs.lemmas.Bool.{lt-ltb, le-ltb}
 use Rattle.bits_model.specs.Output.{Written}
 use Rattle.basic_solve.specs.Widths.{width, IsWithinWidth, IsFirstWider}
-use Rattle.program_run.specs.declared.status.Status.TheVariants.{TooWide}
+use Rattle.edge_io.specs.Counts.{Counts}
+use Rattle.command_words.specs.declared.names.Which.{Which}
+use Rattle.program_run.specs.declared.status.Status.{Status}
+use Rattle.program_run.specs.declared.status.Status.TheVariants.{Done, Usage, ReadFault, WriteFault, BadText, Limit, NotEmbedded, TooWide, NotProved, NoState, NoMemory}
+use Rattle.program_run.specs.Causes.{AreFilesOf}
 use Rattle.basic_solve.specs.declared.answer.SolveAnswer.{SolveAnswer}
 use Rattle.basic_solve.specs.declared.answer.SolveAnswer.TheVariants as solving
 use Rattle.program_run.specs.declared.plans.Plan.{Plan}
-use Rattle.program_run.specs.Statuses.{IsUnsolved}
+use Rattle.program_run.specs.Statuses.{IsRefusal, IsUnsolved}
 use Rattle.program_run.specs.Made.{IsModelled, EndsOf}
 use Rattle.program_run.specs.Unembedded.{unsolved}
 use Rattle.program_run.specs.Outcome.{ends, wide_below, width_end}
@@ -66,3 +70,23 @@ unsolved_ends plan m solving.NoMemory made wide = tt
 pub unsolved_is : (answer : SolveAnswer) → IsUnsolved (unsolved answer)
 unsolved_is (solving.TooWide v w) = tt
 unsolved_is solving.NoMemory = tt
+
+-- it takes no file, and writes nothing
+pub record IsUntold (name : Which → List ℕ) (taken : List Which) (status : Status) (a : Counts)
+    : Type 0 where
+  pub files : AreFilesOf name [] taken status a a
+  pub refusal : IsRefusal status
+
+pub unsolved_untold : (name : Which → List ℕ) (files : List Which) (status : Status) (a : Counts)
+    → IsUnsolved status → IsUntold name files status a
+unsolved_untold name files (NotEmbedded fault) a is = record { files = refl; refusal = tt }
+unsolved_untold name files (TooWide node width) a is = record { files = refl; refusal = tt }
+unsolved_untold name files NoMemory a is = record { files = tt; refusal = tt }
+unsolved_untold name files Done a is = absurd is
+unsolved_untold name files WriteFault a is = absurd is
+unsolved_untold name files (Usage position) a is = absurd is
+unsolved_untold name files (ReadFault which) a is = absurd is
+unsolved_untold name files (BadText which kind line) a is = absurd is
+unsolved_untold name files (Limit which kind number) a is = absurd is
+unsolved_untold name files (NoState width) a is = absurd is
+unsolved_untold name files (NotProved fault) a is = absurd is

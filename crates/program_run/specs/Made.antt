@@ -4,6 +4,7 @@ use Rattle.base.specs.declared.costs.Cost.{Cost}
 use Rattle.base.specs.Costs.{energy}
 use Rattle.bits_model.specs.Output.{Written, form_of, decoding_of}
 use Rattle.problem_form.specs.declared.limits.Choices.{Choices}
+use Rattle.problem_form.specs.Problems.{ProblemContent}
 use Rattle.problem_form.specs.Problems as problems
 use Rattle.model_text.specs.Rows.{model_text}
 use Rattle.model_text.specs.Summary.{summary_text}
@@ -33,17 +34,20 @@ pub record IsModelled (plan : Plan) (m : Written) : Type 0 where
 abbrev pub read_cost : Read → List Bool → Cost
 read_cost read x = (problems.form_of read.problem).cost (carried read.soft x)
 
--- the text is a state of the model that extends an assignment of the source, with the cost of the
--- assignment and the energy of the state
-pub record IsExtendedBy (choices : Choices) (read : Read) (m : Written) (x : List Bool)
-    (text : List ℕ) : Type 0 where
+-- the text is a state of the model that extends an assignment of the problem, with this cost, and the
+-- energy of the state; where ties are those that no state should break, it is a least such state
+pub record IsStateText (choices : Choices) (p : ProblemContent) (m : Written) (x : List Bool)
+    (cost : Cost) (text : List ℕ) : Type 0 where
   pub state : List Bool
-  pub exact : state ≡ state_on m (extension_of choices read.problem (carried read.soft x))
-  pub extends : ExtendsTo read.problem.variables (problems.form_of read.problem) m
-      (carried read.soft x) state
-  pub least : (own : ℕ) → IsMadeOf Choi own choices read.problem m
-      → IsLeastTo read.problem.variables m (carried read.soft x) state
-  pub said : text ≡ extension_text state (read_cost read x) (energy (form_of m) state)
+  pub exact : state ≡ state_on m (extension_of choices p x)
+  pub extends : ExtendsTo p.variables (problems.form_of p) m x state
+  pub least : (own : ℕ) → IsMadeOf Choi own choices p m → IsLeastTo p.variables m x state
+  pub said : text ≡ extension_text state cost (energy (form_of m) state)
+
+-- the text is a state of the model that extends an assignment of the source, with its cost
+abbrev pub IsExtendedBy : Choices → Read → Written → List Bool → List ℕ → Type 0
+IsExtendedBy choices read m x text =
+    IsStateText choices read.problem m (carried read.soft x) (read_cost read x) text
 
 -- the text is the first least state of the model, its energy, and what it decodes to with what that
 -- costs the problem

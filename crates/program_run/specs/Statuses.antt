@@ -87,6 +87,7 @@ IsUnsolved status = ⊥
 -- a status of the taking or reading of files, or of what is read
 abbrev pub IsReading : Status → Type 0
 IsReading (NotEmbedded fault) = ⊥
+IsReading (TooWide node width) = ⊥
 IsReading status = IsRefusal status
 
 -- a status of a state that is not proved: the proof has a fault, or memory was wanting

@@ -1,6 +1,6 @@
 use Rattle.std.proofs.Common.{◌∙◌, map, string_bytes}
 use Rattle.command_words.specs.declared.names.Which.TheVariants.{State}
-use Rattle.command_words.specs.Names.{name_of, last_files}
+use Rattle.command_words.specs.Names.{name_of, if_named}
 use Rattle.program_run.proofs.Holding.{has_state, refused_named}
 use Rattle.program_run.proofs.states.take_state.Goals as goal
 
@@ -8,7 +8,7 @@ pub returns-in-Err-clause-refused : goal.returns-in-Err-clause-refused
 returns-in-Err-clause-refused g c =
     let words = map string_bytes c.args.words.now in
     let has = has_state words c.args.command c.args.at c.requires in
-    refused_named (name_of words c.args.command) State (last_files c.args.command)
+    refused_named (name_of words c.args.command) State (if_named c.args.command State)
     c.text_at.result.now c.in-Err.status (g.F.Files.counts c.args.files.now)
     (g.F.Files.counts c.take_bits.new.files) has.0 (c.text_at.ensures ∙ has.1)
     c.in-Err.ensures.refused

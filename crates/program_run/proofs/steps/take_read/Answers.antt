@@ -1,12 +1,10 @@
 use Rattle.std.proofs.lemmas.Result.{IfOk-weaker}
-use Rattle.std.proofs.Common.{subst, Result}
+use Rattle.std.proofs.Common.{subst, Result, IfOk}
 use Rattle.whole_text.specs.TokenTexts.{words_of}
 use Rattle.whole_text.specs.declared.faults.TextAnswer.{TextAnswer}
-use Rattle.whole_text.specs.Steps.{Gives}
 use Rattle.source_texts.specs.declared.reading.Read.{Read}
-use Rattle.source_texts.specs.Sources.{problem_of_words}
+use Rattle.source_texts.specs.Sources.{problem_of_words, KeepsSoft}
 use Rattle.program_run.proofs.Cutting.{read_from_words, read_refused}
-use Rattle.program_run.proofs.Owned.{words_own_all}
 use Rattle.program_run.proofs.steps.take_read.Goals as goal
 
 pub returns-clause-step : goal.returns-clause-step
@@ -22,13 +20,9 @@ returns-in-Err-clause-step g c =
     read_refused (g.F.Files.held c.args.files.now) c.args.name.now c.args.format
     c.style_of-style.result c.in-Err.status c.in-Err.ensures.step
 
--- the words of the source are read into it
-pub returns-clause-own : goal.returns-clause-own
-returns-clause-own g c =
-    let format = c.args.format in
-    let cut = words_of c.in-Ok.text in
+pub returns-clause-kept : goal.returns-clause-kept
+returns-clause-kept g c =
     IfOk-weaker c.judged.result _ _
-    (λ r is. words_own_all format cut r
-    (subst (λ (read : Result Read TextAnswer). Gives (λ r. r) read (problem_of_words format cut)) is
-    c.read_source_words-read.ensures.read))
+    (λ r is. subst (λ (read : Result Read TextAnswer). IfOk read KeepsSoft) is
+    c.read_source_words-read.ensures.kept)
     c.judged.ensures.good
