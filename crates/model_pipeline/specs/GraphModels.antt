@@ -26,8 +26,8 @@ use Rattle.model_pipeline.specs.QubitStanding.{demand_of, StandsBy}
 abbrev pub ising_of : Choices → ProblemContent → IsingContent
 ising_of choices p = spins.image (quad_of choices p)
 
--- a well-formed model on this graph whose numbers fit their fields, all of them below 2 ^ 124 and its
--- energies below 2 ^ 121 in size, with so many variables, the stated figures, the unit that was
+-- a well-formed model on this graph whose numbers fit their fields, all of them below 2 ^ 124 and
+-- its energies below 2 ^ 121 in size, with so many variables, the stated figures, the unit that was
 -- chosen and the chains of the map, which stands for the problem in this unit as its ties allow
 pub record IsGraphModelOf (p : ProblemContent) (own : ℕ) (choice : UnitChoice) (ties : Ties)
     (graph : Chimera) (fabric : Fabric) (map : List (List ℕ)) (m : Written) : Type 0 where
@@ -50,8 +50,9 @@ site_chains site choices p = chains_of site.qubits site.perch (length (ising_of 
 -- the model of the Ising form of a problem at a site, as a check puts it on the site's chains
 abbrev pub IsModelAt : Site → Choices → UnitChoice → ℕ → ProblemContent → Written → Type 0
 IsModelAt site choices unit variables p m =
-    IsModelByCheck unit site.ties (graph_in site.qubits) (fabric_in site.qubits) (ising_of choices p)
-    (site_chains site choices p) variables (ising_figures (penalty.figures p)) m
+    IsModelByCheck unit site.ties (graph_in site.qubits) (fabric_in site.qubits)
+    (ising_of choices p) (site_chains site choices p) variables
+    (ising_figures (penalty.figures p)) m
 
 -- a model at a site that stands for the problem
 abbrev pub StandsAt : Site → Choices → UnitChoice → ℕ → ProblemContent → Written → Type 0

@@ -25,8 +25,8 @@ kind_of graph = kinds.Chimera graph.rows graph.cols graph.shore
 
 -- ---- the ties
 
--- an embedded form on the qubits: each chain is tied as strongly as no state should break it, or each
--- tie as strongly as its lighter side asks
+-- an embedded form on the qubits: each chain is tied so strongly that no broken tie pays, or each
+-- tie is as strong as its lighter side asks
 abbrev pub image_by : Ties → Embedding → IsingContent
 image_by Choi e = chains.image e
 image_by Cut e = cut_image e
@@ -38,8 +38,8 @@ offset_by Cut e = cut_offset e
 
 -- ---- a model
 
--- how the energies on chains stand for costs: as those of the embedded form do, but lower by what the
--- ties give
+-- how the energies on chains stand for costs: as those of the embedded form do, but lower by what
+-- the ties give
 abbrev pub chained_figures : Ties → Embedding → Figures → Figures
 chained_figures ties e figures = figures_after figures (pos 1) (offset_by ties e)
 

@@ -18,8 +18,8 @@ use Rattle.working_graph.specs.Fabrics.{Fabric}
 use Rattle.model_pipeline.specs.Models.{decoding_to}
 use Rattle.model_pipeline.specs.QubitModels.{kind_of}
 
--- what is asked of a model on a graph: its unit, its chains, which qubits there are and which of them
--- are joined
+-- what is asked of a model on a graph: its unit, its chains, which qubits there are and which of
+-- them are joined
 abbrev pub demand_of : UnitChoice → Fabric → List (List ℕ) → Demand
 demand_of choice fabric map = record {
   unit = choice;
@@ -30,8 +30,8 @@ demand_of choice fabric map = record {
 
 -- ---- how a model stands for a source
 
--- every state stands for what it is read as; where ties are as strong as their lighter sides ask, the
--- least states do
+-- every state stands for what it is read as; where ties are as strong as their lighter sides ask,
+-- the least states do
 abbrev pub StandsBy : Ties → Form → Form → Decoding → ℤ → Figures → Type 0
 StandsBy Choi f g d u n = Relaxes f g d u n
 StandsBy Cut f g d u n = StandsAtLeast f g d u n
@@ -41,8 +41,8 @@ abbrev pub LeastStandBy : Type 0
 LeastStandBy = (ties : Ties) (f g : Form) (d : Decoding) (u : ℤ) (n : Figures)
     → StandsBy ties f g d u n → StandsAtLeast f g d u n
 
--- whatever source the Ising form relaxes, with these figures and by its first bits, the model stands
--- for too, in its own unit, with its own figures and by its chains
+-- whatever source the Ising form relaxes, with these figures and by its first bits, the model
+-- stands for too, in its own unit, with its own figures and by its chains
 abbrev pub StandsForWhat : Ties → IsingContent → Figures → Written → Type 0
 StandsForWhat ties f n m =
     (source : Form) (d : Decoding) (variables : ℕ) → variables ≤ length f.fields
@@ -65,10 +65,10 @@ pub record HasChainRoom (f : IsingContent) (n : Figures) : Type 0 where
 
 -- ---- the promise
 
--- a well-formed model on this graph whose numbers fit their fields, with so many variables, figures of
--- the form's scale whose threshold lies as far above their offset as the form's, the unit that was
--- chosen and the chains of the map, which stands for what the form relaxes, and is bounded where the
--- form has room
+-- a well-formed model on this graph whose numbers fit their fields, with so many variables, figures
+-- of the form's scale whose threshold lies as far above their offset as the form's, the unit that
+-- was chosen and the chains of the map, which stands for what the form relaxes, and is bounded where
+-- the form has room
 pub record IsQubitModelOf (f : IsingContent) (n : Figures) (own : ℕ) (choice : UnitChoice)
     (ties : Ties) (graph : Chimera) (fabric : Fabric) (map : List (List ℕ)) (m : Written)
     : Type 0 where

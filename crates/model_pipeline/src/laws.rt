@@ -1,5 +1,5 @@
-//! Laws of what states stand for, how they are taken back and what they extend, as functions without
-//! code.
+//! Laws of what states stand for, how they are taken back and what they extend, as functions
+//! without code.
 ghost use Rattle.std.specs.Prelude.{◌≡◌};
 ghost use Rattle.form_steps.specs.declared.layer.BitsLink.{BitsLink};
 ghost use Rattle.form_steps.specs.Links.{first_bits};

@@ -1,7 +1,7 @@
 //! From a problem to its model: the steps that a command chooses, one after another.
 //!
-//! On the qubits of a graph, or on those of it that work, the model stands on the chains of a map, or
-//! on those of a clique, and each chain is tied.
+//! On the qubits of a graph, or on those of it that work, the model stands on the chains of a map,
+//! or on those of a clique, and each chain is tied.
 #![tactic(auto)]
 
 mod chained;

@@ -60,8 +60,8 @@ pub fn form_on_qubits(
 }
 
 /// The model of a problem within the limits, of which so many variables are the source's own, at a
-/// site, or why its Ising form has no place there. It is refused exactly where the form cannot stand
-/// there.
+/// site, or why its Ising form has no place there. It is refused exactly where the form cannot
+/// stand there.
 pub fn model_on_qubits<P: Held>(
     alloc: Global,
     problem: P,
