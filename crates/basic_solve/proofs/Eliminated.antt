@@ -1,5 +1,5 @@
 -- Elimination of the nodes of a model, one after another.
-use Rattle.std.proofs.Common.{◌≡◌, ◌≢◌, ℕ, zero, suc, ◌+◌, ◌-◌, ◌*◌, ◌^◌, ◌<◌, ◌≤◌, ◌==◌, ◌&&◌, ℤ, pos, int_lt, unsigned_abs, max, Bool, true, false, cond, List, [], ◌∷◌, ◌++◌, length, get_or, set, replicate, refl, sym, arith, ap, ◌∙◌, subst, eq-eqb, lt-ltb, ltb}
+use Rattle.std.proofs.Common.{◌≡◌, ◌≢◌, ℕ, zero, suc, ◌+◌, ◌-◌, ◌*◌, ◌<◌, ◌≤◌, ◌==◌, ◌&&◌, ℤ, pos, int_lt, unsigned_abs, max, Bool, true, false, cond, List, [], ◌∷◌, ◌++◌, length, get_or, set, replicate, refl, sym, arith, ap, ◌∙◌, subst, eq-eqb, lt-ltb, ltb}
 use Rattle.std.specs.Int.{int_min}
 use Rattle.std.specs.List.{All, AllByRecursion, sum_by}
 use Rattle.std.specs.List.Sorted.{IsStrictlyIncreasing}
@@ -8,7 +8,6 @@ use Rattle.std.proofs.lemmas.List.{length-append, get_or_append_left, get_or_pas
 use Rattle.std.proofs.lemmas.List.Elements.{All-append}
 use Rattle.std.proofs.Math.Seq.{get_or-append_seam}
 use Rattle.bits_model.specs.declared.output.Entry.{Entry}
-use Rattle.bits_model.specs.declared.output.Kind.{Kind}
 use Rattle.base.specs.Costs.{energy}
 use Rattle.bits_model.specs.Output.{Written, IsPlaced, form_of, is_coupler, weight_total}
 use Rattle.bits_model.specs.Walks.{is_in}

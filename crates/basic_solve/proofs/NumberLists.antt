@@ -1,5 +1,5 @@
 -- Tables of numbers that are seen as their values.
-use Rattle.std.proofs.Common.{◌≡◌, ℕ, zero, suc, ◌+◌, ◌-◌, ◌<◌, ◌≤◌, ◌^◌, ℤ, pos, ◌+ℤ◌, List, [], ◌∷◌, ◌++◌, length, map, take, get_or, set, refl, sym, arith, ap, ◌∙◌}
+use Rattle.std.proofs.Common.{◌≡◌, ℕ, ◌+◌, ◌-◌, ◌<◌, ◌≤◌, ◌^◌, ℤ, pos, ◌+ℤ◌, List, [], ◌∷◌, ◌++◌, length, map, take, get_or, set, refl, sym, arith, ap, ◌∙◌}
 use Rattle.std.proofs.lemmas.List.{length-map, get_or-map, map-set, take_more, take_all}
 use Rattle.std.specs.List.{sum_by}
 use Rattle.basic_solve.specs.Tables.{doubled}

@@ -1,8 +1,8 @@
-use Rattle.std.proofs.Common.{◌≡◌, ◌+◌, ◌-◌, ◌*◌, ◌≤◌, ◌^◌, ◌∙◌, ◌∷◌, ◌++◌, [], suc, length, map, replicate, All, ap, sym, arith, subst}
+use Rattle.std.proofs.Common.{◌≡◌, ◌+◌, ◌-◌, ◌∙◌, ◌∷◌, ◌++◌, [], suc, map, replicate, All, ap, sym, arith, subst}
 use Rattle.std.proofs.lemmas.List.{map-append}
 use Rattle.bits_model.specs.Output.{IsPlaced, weight_total}
 use Rattle.basic_solve.specs.Bits.{all_bits}
-use Rattle.basic_solve.specs.Tables.{AreEntriesOf, AreOf, IsHandedOn, IsPassedTo, IsSettled, LeadTo, own_size}
+use Rattle.basic_solve.specs.Tables.{AreEntriesOf, AreOf, IsPassedTo, IsSettled, LeadTo, own_size}
 use Rattle.basic_solve.proofs.Eliminated.{Eliminated, eliminated_at_first, settled_one, settled_within, own_of, own_leads, own_passed, own_few, own_small}
 use Rattle.basic_solve.proofs.elimination.all_choices.Goals as goal
 

@@ -1,4 +1,4 @@
-use Rattle.std.proofs.Common.{◌≡◌, ◌+ℤ◌, ◌∙◌, ◌++◌, ◌∷◌, ◌*◌, ◌^◌, [], refl, ap, sym, subst, arith, length, map, to_z, of_z, unsigned_abs}
+use Rattle.std.proofs.Common.{◌≡◌, ◌+ℤ◌, ◌∙◌, ◌++◌, ◌∷◌, ◌^◌, [], refl, ap, sym, subst, arith, length, map, to_z, of_z, unsigned_abs}
 use Rattle.std.specs.Int.{w128}
 use Rattle.std.specs.List.{sum_by}
 use Rattle.std.proofs.lemmas.Int.{ints}

@@ -1,5 +1,4 @@
-use Rattle.std.proofs.Common.{◌≡◌, ℕ, ◌-◌, ◌+ℤ◌, ◌∷◌, [], ◌∙◌, ap, arith, pos, ℤ, map, take, get_or, length, unsigned_abs}
-use Rattle.std.specs.List.{sum_by}
+use Rattle.std.proofs.Common.{◌≡◌, ◌-◌, ◌+ℤ◌, ◌∷◌, [], ◌∙◌, ap, arith, pos, ℤ, map, take, length, unsigned_abs}
 use Rattle.std.proofs.lemmas.List.{map-append}
 use Rattle.basic_solve.specs.Tables.{most}
 use Rattle.basic_solve.proofs.TableSizes.{most-doubled}

@@ -1,4 +1,4 @@
-use Rattle.std.proofs.Common.{◌≡◌, ℕ, ◌+◌, ◌-◌, ◌∷◌, [], ◌∙◌, ap, arith, take, get_or, length}
+use Rattle.std.proofs.Common.{◌+◌, ◌-◌, ◌∷◌, [], ap, arith, take, get_or, length}
 use Rattle.basic_solve.proofs.NumberLists.{begun_places, doubled_joined, sum-last}
 use Rattle.basic_solve.proofs.PlaceSizes.{doubled-room}
 use Rattle.basic_solve.proofs.tables.+write_places.Goals as goal

@@ -1,4 +1,4 @@
-use Rattle.std.proofs.Common.{◌≡◌, ℕ, ◌<◌, ◌∙◌, ap, arith, pos, map, get_or, length}
+use Rattle.std.proofs.Common.{◌<◌, ◌∙◌, arith, pos, map, get_or, length}
 use Rattle.std.specs.Int.{int_min}
 use Rattle.basic_solve.proofs.NumberLists.{value-at, value_more}
 use Rattle.basic_solve.proofs.tables.take_lesser.Goals as goal

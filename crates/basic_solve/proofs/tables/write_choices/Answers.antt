@@ -1,4 +1,4 @@
-use Rattle.std.proofs.Common.{◌≡◌, ◌+◌, ◌∷◌, [], ◌∙◌, ℕ, Bool, int_lt, pos, map, get_or, length, ap, arith}
+use Rattle.std.proofs.Common.{◌+◌, ◌∙◌, ℕ, Bool, int_lt, pos, map, get_or, length, ap}
 use Rattle.std.proofs.lemmas.List.{length-append}
 use Rattle.basic_solve.specs.Bits.{bit_of}
 use Rattle.basic_solve.proofs.BitPlaces.{bytes_more}

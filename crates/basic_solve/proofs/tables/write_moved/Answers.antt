@@ -1,4 +1,4 @@
-use Rattle.std.proofs.Common.{◌≡◌, ℕ, ℤ, ◌<◌, ◌+ℤ◌, ◌∙◌, ap, sym, arith, pos, map, get_or, length, unsigned_abs}
+use Rattle.std.proofs.Common.{◌≡◌, ℤ, ◌<◌, ◌+ℤ◌, ◌∙◌, ap, sym, arith, pos, map, get_or, length, unsigned_abs}
 use Rattle.std.proofs.lemmas.List.{ext_get_or, get_or-map, length-map}
 use Rattle.basic_solve.proofs.TableSizes.{most-at}
 use Rattle.basic_solve.proofs.NumberLists.{value-at, value_more}
