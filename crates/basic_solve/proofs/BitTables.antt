@@ -21,7 +21,8 @@ abbrev pub no_entry : Entry
 no_entry = record { first = 0; second = 0; weight = pos 0 }
 
 -- a slice of a whole list that was written
-pub written_items : (len : ℕ) (news olds : List ℤ) → len ≡ length olds → length news ≡ length olds
+pub written_items : {A : Type 0} (len : ℕ) (news olds : List A) → len ≡ length olds
+    → length news ≡ length olds
     → take len (news ++ drop (length news) olds) ≡ news
 written_items len news olds l m = take_at news (drop (length news) olds) len (m ∙ sym l)
 

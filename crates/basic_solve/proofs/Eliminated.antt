@@ -1,5 +1,5 @@
 -- Elimination of the nodes of a model, one after another.
-use Rattle.std.proofs.Common.{◌≡◌, ◌≢◌, ℕ, zero, suc, ◌+◌, ◌-◌, ◌*◌, ◌^◌, ◌<◌, ◌≤◌, ◌==◌, ◌&&◌, ℤ, pos, int_lt, unsigned_abs, max, Bool, true, false, cond, List, [], ◌∷◌, ◌++◌, length, get_or, set, replicate, refl, sym, arith, ap, ◌∙◌, subst, eq-eqb, lt-ltb, ltb}
+use Rattle.std.proofs.Common.{◌≡◌, ◌≢◌, ℕ, zero, suc, ◌+◌, ◌-◌, ◌*◌, ◌<◌, ◌≤◌, ◌==◌, ◌&&◌, ℤ, pos, int_lt, unsigned_abs, max, Bool, true, false, cond, List, [], ◌∷◌, ◌++◌, length, get_or, set, replicate, refl, sym, arith, ap, ◌∙◌, subst, eq-eqb, lt-ltb, ltb}
 use Rattle.std.specs.Int.{int_min}
 use Rattle.std.specs.List.{All, AllByRecursion, sum_by}
 use Rattle.std.specs.List.Sorted.{IsStrictlyIncreasing}
@@ -8,12 +8,11 @@ use Rattle.std.proofs.lemmas.List.{length-append, get_or_append_left, get_or_pas
 use Rattle.std.proofs.lemmas.List.Elements.{All-append}
 use Rattle.std.proofs.Math.Seq.{get_or-append_seam}
 use Rattle.bits_model.specs.declared.output.Entry.{Entry}
-use Rattle.bits_model.specs.declared.output.Kind.{Kind}
 use Rattle.base.specs.Costs.{energy}
 use Rattle.bits_model.specs.Output.{Written, IsPlaced, form_of, is_coupler, weight_total}
 use Rattle.bits_model.specs.Walks.{is_in}
 use Rattle.basic_solve.specs.Widths.{coupled, names_both, is_neighbour, AreNeighbourhoods}
-use Rattle.basic_solve.specs.Tables.{TableOver, AllBelow, AreOf, AreHeld, AreEntriesOf, IsChoiceOf, IsHandedOn, IsPassedTo, IsTableOfBit, LeadTo, is_part, most, own_size}
+use Rattle.basic_solve.specs.Tables.{TableOver, AllBelow, AreOf, AreHeld, AreEntriesOf, IsChoiceOf, IsHandedOn, IsPassedTo, IsSettled, IsTableOfBit, LeadTo, is_part, most, own_size}
 use Rattle.basic_solve.proofs.Ascending.{Ascends, ascends_from, in_cons, in_head, in_tail, no_true, or_left}
 use Rattle.basic_solve.proofs.Graphs.{graph-after, neighbour_left}
 use Rattle.basic_solve.proofs.Passing.{split_last, member_at, in_append_left, in_append_right, first_graph, named_within}
@@ -41,7 +40,8 @@ pub record Eliminated (m : Written) (sets : List (List ℕ)) (step : ℕ) (held 
   pub lead : (w : ℕ) → w < length held → LeadTo (set_of m sets w) (get_or held w [])
   pub passed : (w : ℕ) → w < length held → All (IsPassedTo w (set_of m sets w))
       (get_or waiting w [])
-  pub size : 3 * sum_by weight_total held + sum_by (sum_by table_size) waiting ≤ 3 * 2 ^ 124
+  pub size : 3 * sum_by weight_total held + sum_by (sum_by table_size) waiting
+      ≤ 3 * weight_total m.entries
 
 -- ---- at first
 
@@ -108,9 +108,8 @@ get_or-none (suc n) zero = refl
 get_or-none (suc n) (suc w) = get_or-none n w
 
 pub eliminated_at_first : (m : Written) (sets : List (List ℕ)) (held : List (List Entry))
-    → AreNeighbourhoods 16 m sets → AreEntriesOf m.nodes m.entries held
-    → weight_total m.entries ≤ 2 ^ 124 → Eliminated m sets 0 held (replicate m.nodes []) []
-eliminated_at_first m sets held near a small = record {
+    → AreNeighbourhoods 16 m sets → AreEntriesOf m.nodes m.entries held → Eliminated m sets 0 held (replicate m.nodes []) []
+eliminated_at_first m sets held near a = record {
   left = left_at_first m held a;
   count = refl;
   each = λ s h. absurd (omega arith);
@@ -118,7 +117,7 @@ eliminated_at_first m sets held near a small = record {
   passed = λ w h.
       subst (All (IsPassedTo w (set_of m sets w))) (sym (get_or-none m.nodes w))
       (λ k d l. absurd (omega arith));
-  size = omega (arith, a.sums (λ e. unsigned_abs e.weight), sums-none table_size m.nodes, small);
+  size = omega (arith, a.sums (λ e. unsigned_abs e.weight), sums-none table_size m.nodes);
 }
 
 -- ---- nodes of a table
@@ -250,7 +249,7 @@ module _ (m : Written) (sets : List (List ℕ)) (near : AreNeighbourhoods 16 m s
   waiting_sum = ap (sum_by (sum_by table_size)) waiting_is
       ∙ sum-push (sum_by table_size) before tables
 
-  pub own_small : own_size own tables ≤ 3 * 2 ^ 124
+  pub own_small : own_size own tables ≤ 3 * weight_total m.entries
   own_small = let le = e.size in omega (arith, held_sum, waiting_sum, le)
 
   -- its neighbours are below it
@@ -267,7 +266,7 @@ module _ (m : Written) (sets : List (List ℕ)) (near : AreNeighbourhoods 16 m s
   module _ (placed : All (IsPlaced m.nodes) m.entries) (zeros ones values : List ℤ)
       (bits : List Bool)
       (z : IsTableOfBit m.kind v false ns own tables zeros)
-      (o : IsTableOfBit m.kind v true ns own tables ones) (bits_long : length bits ≡ length zeros)
+      (o : IsTableOfBit m.kind v true ns own tables ones) (bits_long : length zeros ≤ length bits)
       (bits_are : (x : ℕ) → x < length zeros
       → get_or bits x false ≡ int_lt (get_or ones x (pos 0)) (get_or zeros x (pos 0)))
       (values_long : length values ≡ length zeros)
@@ -480,6 +479,19 @@ module _ (m : Written) (sets : List (List ℕ)) (near : AreNeighbourhoods 16 m s
         subst (λ ws. Eliminated m sets (step + 1) front ws (choices ++ bits ∷ []))
         (sym (h.last rest q parts)) (eliminated_next rest q parts))
 
+  -- the same, of what a node has settled
+  module _ (placed : All (IsPlaced m.nodes) m.entries) (values : List ℤ) (bits : List Bool)
+      (s : IsSettled m.kind v ns own tables values bits) where
+    pub settled_within : All (λ u. u < length before) ns
+    settled_within = all_within placed s.zeros s.ones values bits s.zero s.one s.bit_count s.bit
+        s.count s.lesser
+
+    pub settled_one : (passed : List (List TableOver))
+        → IsHandedOn (record { nodes = ns; values = values }) before passed
+        → Eliminated m sets (step + 1) front passed (choices ++ bits ∷ [])
+    settled_one = eliminated_one placed s.zeros s.ones values bits s.zero s.one s.bit_count s.bit
+        s.count s.lesser
+
 -- ---- all nodes
 
 -- each list of neighbours is short, and there is none past the last
@@ -497,30 +509,3 @@ narrow_all m sets near step = go (ltb step m.nodes) refl
         let le : m.nodes ≤ step = ltb-false step m.nodes e in
         let past = get_or_past sets step [] (let c = near.count in omega arith) in
         omega (arith, ap length past)
-
--- ---- the same under other names
-
-pub moved_table : {kind kind' : Kind} {own own' : List Entry} {tables tables' : List TableOver}
-    (v : ℕ) (bit : Bool) (ns : List ℕ) (values : List ℤ) → kind ≡ kind' → own ≡ own'
-    → tables ≡ tables' → IsTableOfBit kind v bit ns own tables values
-    → IsTableOfBit kind' v bit ns own' tables' values
-moved_table v bit ns values k o t z =
-    subst (λ e. e) (λ i. IsTableOfBit (k i) v bit ns (o i) (t i) values) z
-
-pub moved_bits : {zs zs' os os' : List ℤ} (bits : List Bool) → zs ≡ zs' → os ≡ os'
-    → ((x : ℕ) → x < length zs
-    → get_or bits x false ≡ int_lt (get_or os x (pos 0)) (get_or zs x (pos 0)))
-    → (x : ℕ) → x < length zs'
-    → get_or bits x false ≡ int_lt (get_or os' x (pos 0)) (get_or zs' x (pos 0))
-moved_bits bits z o h x l =
-    h x (omega (arith, ap length z))
-    ∙ (λ i. int_lt (get_or (o i) x (pos 0)) (get_or (z i) x (pos 0)))
-
-pub moved_lesser : {zs zs' os os' : List ℤ} (vs : List ℤ) → zs ≡ zs' → os ≡ os'
-    → ((x : ℕ) → x < length zs
-    → get_or vs x (pos 0) ≡ int_min (get_or zs x (pos 0)) (get_or os x (pos 0)))
-    → (x : ℕ) → x < length zs'
-    → get_or vs x (pos 0) ≡ int_min (get_or zs' x (pos 0)) (get_or os' x (pos 0))
-moved_lesser vs z o h x l =
-    h x (omega (arith, ap length z))
-    ∙ (λ i. int_min (get_or (z i) x (pos 0)) (get_or (o i) x (pos 0)))

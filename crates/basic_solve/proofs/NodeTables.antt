@@ -1,5 +1,5 @@
 -- The table of a node, and what it makes of the least energies that are left.
-use Rattle.std.proofs.Common.{◌≡◌, ℕ, suc, ◌+◌, ◌*◌, ◌^◌, ◌<◌, ℤ, pos, ◌+ℤ◌, int_lt, Bool, true, false, cond, List, [], ◌∷◌, ◌++◌, length, get_or, refl, sym, arith, ap, ◌∙◌, subst}
+use Rattle.std.proofs.Common.{◌≡◌, ℕ, suc, ◌+◌, ◌*◌, ◌^◌, ◌<◌, ◌≤◌, ℤ, pos, ◌+ℤ◌, int_lt, Bool, true, false, cond, List, [], ◌∷◌, ◌++◌, length, get_or, refl, sym, arith, ap, ◌∙◌, subst}
 use Rattle.std.specs.Int.{int_min}
 use Rattle.std.proofs.lemmas.Int.{ints}
 use Rattle.base.specs.Sums.{total_by}
@@ -108,12 +108,12 @@ module _ (kind : Kind) (n step : ℕ) (g : List Bool → ℤ) (held : List (List
   within y = let e = z.count in let lt = index_of-lt y nodes in omega arith
 
   -- the bits that are chosen are a choice of the node
-  pub choice_of : (bits : List Bool) → length bits ≡ length zeros
+  pub choice_of : (bits : List Bool) → length zeros ≤ length bits
       → ((x : ℕ) → x < length zeros
       → get_or bits x false ≡ int_lt (get_or ones x (pos 0)) (get_or zeros x (pos 0)))
       → length front + suc step ≡ n → IsChoiceOf n step g nodes bits
   choice_of bits long b at = record {
-    count = long ∙ z.count;
+    count = let l = z.count in omega (arith, l, long);
     each = λ y w.
         let same : length y ≡ length front = omega arith in
         chosen-is kind n step g held waiting front own before passed h held_is waiting_is y same

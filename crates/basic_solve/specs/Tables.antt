@@ -1,5 +1,6 @@
 -- Tables of least energies: a number for each choice of the bits of some nodes.
-use Rattle.std.specs.Prelude.{◌≡◌, ℕ, suc, ◌+◌, ◌*◌, ◌^◌, ◌<◌, ◌≤◌, ℤ, pos, ◌+ℤ◌, ◌*ℤ◌, neg_ℤ, unsigned_abs, max, ◌&&◌, ◌==◌, Bool, true, false, cond, List, [], ◌∷◌, ◌++◌, length, map, set}
+use Rattle.std.specs.Prelude.{◌≡◌, ℕ, suc, ◌+◌, ◌*◌, ◌^◌, ◌<◌, ◌≤◌, ℤ, pos, ◌+ℤ◌, ◌*ℤ◌, neg_ℤ, int_lt, unsigned_abs, max, ◌&&◌, ◌==◌, Bool, true, false, cond, List, [], ◌∷◌, ◌++◌, length, map, set}
+use Rattle.std.specs.Int.{int_min}
 use Rattle.basic_solve.specs.FirstLeast.{chosen}
 use Rattle.std.specs.List.{slice_index_or, All, AllByRecursion, sum_by}
 use Rattle.base.specs.Sums.{if_so, total_by}
@@ -110,10 +111,10 @@ pub record AreEntriesOf (n : ℕ) (entries : List Entry) (held : List (List Entr
 
 -- ---- choices
 
--- the bits that a node chooses, one for each choice of its neighbours' bits
+-- the bits that a node chooses, one for each choice of its neighbours' bits, and maybe more
 pub record IsChoiceOf (n step : ℕ) (g : List Bool → ℤ) (nodes : List ℕ) (bits : List Bool)
     : Type 0 where
-  pub count : length bits ≡ 2 ^ length nodes
+  pub count : 2 ^ length nodes ≤ length bits
   pub each : (y : List Bool) → length y + suc step ≡ n
       → chosen step g y ≡ slice_index_or bits (index_of y nodes) false
 
@@ -174,3 +175,20 @@ pub record IsTableOfBit (kind : Kind) (v : ℕ) (bit : Bool) (nodes : List ℕ) 
   pub holds : (y : List Bool) → length y ≡ v
       → value_at nodes values y ≡ own_energy kind entries tables y bit
   pub small : most values ≤ own_size entries tables
+
+-- the lesser numbers that the node v adds, one for each choice of its neighbours' bits, and the bits
+-- with which it adds them
+pub record IsSettled (kind : Kind) (v : ℕ) (nodes : List ℕ) (entries : List Entry)
+    (tables : List TableOver) (values : List ℤ) (bits : List Bool) : Type 0 where
+  pub zeros : List ℤ
+  pub ones : List ℤ
+  pub zero : IsTableOfBit kind v false nodes entries tables zeros
+  pub one : IsTableOfBit kind v true nodes entries tables ones
+  pub bit_count : length zeros ≤ length bits
+  pub bit : (x : ℕ) → x < length zeros
+      → slice_index_or bits x false
+      ≡ int_lt (slice_index_or ones x (pos 0)) (slice_index_or zeros x (pos 0))
+  pub count : length values ≡ length zeros
+  pub lesser : (x : ℕ) → x < length zeros
+      → slice_index_or values x (pos 0)
+      ≡ int_min (slice_index_or zeros x (pos 0)) (slice_index_or ones x (pos 0))

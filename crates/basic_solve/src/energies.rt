@@ -1,5 +1,5 @@
 //! What the entries of a node add to the energy, for each of its bits.
-ghost use Rattle.std.specs.Prelude.{◌≡◌, ◌≤◌, ◌^◌, ℕ, All, IfOk, unsigned_abs};
+ghost use Rattle.std.specs.Prelude.{◌≡◌, ◌<◌, ◌≤◌, ◌^◌, ℕ, true, All, IfOk, unsigned_abs};
 ghost use Rattle.base.specs.Sums.{total_by};
 ghost use Rattle.bits_model.specs.Output.{IsPlaced, weight_total};
 ghost use Rattle.basic_solve.specs.Tables.{base_of, step_of, AreEntriesOf};
@@ -65,4 +65,16 @@ pub(crate) fn entries_of_nodes(
         held.push(entry.second as usize, entry)?;
     }
     Ok(held)
+}
+
+/// Whether the sizes of all weights are below 2^60 together.
+pub(crate) fn is_small(entries: &EntryList) -> bool
+    requires { weight_total entries.now ≤ 2 ^ 124 }
+    ensures { result ≡ true → weight_total entries.now < 2 ^ 60 }
+{
+    let mut sum: u128 = 0;
+    for entry in entries.iter() {
+        sum += entry.weight.unsigned_abs();
+    }
+    sum < 1 << 60
 }

@@ -6,7 +6,13 @@ ghost use Rattle.bits_model.specs.Output.{bit_at};
 ghost use Rattle.bits_model.specs.Walks.{is_in};
 ghost use Rattle.basic_solve.specs.Tables.{sum_where};
 
-use crate::tables::plus;
+/// The sum of two numbers.
+fn plus(first: &i128, second: &i128) -> i128
+    requires { unsigned_abs first.now + unsigned_abs second.now ≤ 2 ^ 126 }
+    ensures { result ≡ first.now +ℤ second.now }
+{
+    *first + *second
+}
 
 /// Adds a number to the step of a node.
 pub(crate) fn add_for(nodes: &[u32], steps: &mut [i128], node: u32, number: &i128)

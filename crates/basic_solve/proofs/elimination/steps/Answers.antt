@@ -60,15 +60,15 @@ loop-entry-preserved c =
           let number : to_z w128 (of_z w128 w.step_of.result) ≡ step_of kind bit e
           = omega (arith, ints, w.step_of.ensures, size, one, c.requires.small) in
           let olds = w.deref_mut.ensures.value in
-          let long : length w.add_for.new.steps ≡ length c.loop-entry.steps.items
+          let long : length w.add_for.new.steps ≡ length c.loop-entry.into.items
           = omega (arith, w.add_for.auto.steps, ap length olds) in
-          let items : c.if-entry.steps.items ≡ w.add_for.new.steps
-          = ap (λ v. v.items) w.steps-is
-          ∙ written_items c.loop-entry.steps.len w.add_for.new.steps c.loop-entry.steps.items
-          (omega (arith, c.loop-entry.steps.ok.0)) long in (
+          let items : c.if-entry.into.items ≡ w.add_for.new.steps
+          = ap (λ v. v.items) w.into-is
+          ∙ written_items c.loop-entry.into.len w.add_for.new.steps c.loop-entry.into.items
+          (omega (arith, c.loop-entry.into.ok.0)) long in (
             ap length items ∙ long ∙ so_far.0,
-            step_added kind bit entries at no_entry within nodes c.loop-entry.steps.items
-                c.if-entry.steps.items so_far.1 (to_z w128 (of_z w128 w.step_of.result))
+            step_added kind bit entries at no_entry within nodes c.loop-entry.into.items
+                c.if-entry.into.items so_far.1 (to_z w128 (of_z w128 w.step_of.result))
                 (not_node e w.if-entry.true) number
                 (λ y.
                 ap (sum_where y nodes) items
@@ -87,11 +87,11 @@ loop-entry-preserved c =
             ),
           )
       | else-entry w ↦
-          let items : c.if-entry.steps.items ≡ c.loop-entry.steps.items
-          = ap (λ v. v.items) w.steps-is in (
+          let items : c.if-entry.into.items ≡ c.loop-entry.into.items
+          = ap (λ v. v.items) w.into-is in (
             ap length items ∙ so_far.0,
-            step_kept kind bit entries at no_entry within nodes c.loop-entry.steps.items
-                c.if-entry.steps.items so_far.1 (eq-eqb e.first e.second w.if-entry.false) items,
+            step_kept kind bit entries at no_entry within nodes c.loop-entry.into.items
+                c.if-entry.into.items so_far.1 (eq-eqb e.first e.second w.if-entry.false) items,
             omega (arith, ap (sum_by unsigned_abs) items, left, so_far.2),
           )
     ]

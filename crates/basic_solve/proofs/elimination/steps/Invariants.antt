@@ -7,15 +7,15 @@ use Rattle.basic_solve.proofs.elimination.steps.Given as goal
 
 -- there is a step of 0 for each node so far
 abbrev pub invariant-loop : goal.invariant-loop
-invariant-loop l = l.steps.items ≡ replicate l.index (pos 0)
+invariant-loop l = l.into.items ≡ replicate l.index (pos 0)
 
 -- the steps so far, and the entries that are left
 abbrev pub invariant-loop-entry : goal.invariant-loop-entry
 invariant-loop-entry l =
-    (length l.steps.items ≡ length l.nodes)
+    (length l.into.items ≡ length l.nodes)
     × ((y : List Bool)
-    → sum_where y l.nodes l.steps.items +ℤ total_by (step_at l.kind l.bit y)
+    → sum_where y l.nodes l.into.items +ℤ total_by (step_at l.kind l.bit y)
     (drop l.entry-index l.entries)
     ≡ total_by (step_at l.kind l.bit y) l.entries)
-    × (sum_by unsigned_abs l.steps.items + 2 * weight_total (drop l.entry-index l.entries)
+    × (sum_by unsigned_abs l.into.items + 2 * weight_total (drop l.entry-index l.entries)
     ≤ 2 * weight_total l.entries)

@@ -4,7 +4,7 @@ use Rattle.basic_solve.proofs.Passing.{last_at}
 use Rattle.basic_solve.proofs.passed.pass_table.Goals as goal
 
 pub returns-in_ok-passed-in-len1-up : goal.returns-in_ok-passed-in-len1-up
-returns-in_ok-passed-in-len1-up c =
+returns-in_ok-passed-in-len1-up g c =
     let ns = c.args.nodes.now in
     let lists = c.args.waiting.now in
     let made = c.in_ok-passed-in-len1-up.ensures in

@@ -1,32 +1,34 @@
-use Rattle.std.proofs.Common.{◌≡◌, ◌+ℤ◌, ◌∙◌, ◌++◌, ◌∷◌, [], ap, sym, subst, arith, length, to_z, of_z, unsigned_abs}
+use Rattle.std.proofs.Common.{◌≡◌, ◌+ℤ◌, ◌∙◌, ◌++◌, ◌∷◌, ◌^◌, [], refl, ap, sym, subst, arith, length, map, to_z, of_z, unsigned_abs}
 use Rattle.std.specs.Int.{w128}
 use Rattle.std.specs.List.{sum_by}
 use Rattle.std.proofs.lemmas.Int.{ints}
-use Rattle.std.proofs.lemmas.List.{drop_all}
+use Rattle.std.proofs.lemmas.List.{drop_all, length-map}
 use Rattle.base.specs.Sums.{total_by}
 use Rattle.basic_solve.specs.Tables.{IsPassedTo, base_of, most, sum_where, table_energy, value_at}
 use Rattle.basic_solve.proofs.ListSums.{sum_left, total_left}
 use Rattle.basic_solve.proofs.BitTables.{written_items, base-small, begun-length, begun_holds, begun-small}
-use Rattle.basic_solve.proofs.elimination.table_of_bit.Goals as goal
+use Rattle.basic_solve.proofs.PassedTables.{pow-few}
+use Rattle.basic_solve.proofs.elimination.write_table.Goals as goal
 
-pub base-requires : goal.base-requires
-base-requires c = omega (arith, c.requires.small)
-
-pub steps-requires-clause-small : goal.steps-requires-clause-small
-steps-requires-clause-small c = omega (arith, c.requires.small)
-
-pub doubled-requires : goal.doubled-requires
-doubled-requires c =
-    let entries = c.args.entries.now in
-    let small = base-small c.args.kind c.args.bit entries in
-    let b = to_z w128 (of_z w128 c.base.result) in
-    let base : b ≡ total_by (base_of c.args.kind c.args.bit) entries
-    = omega (arith, ints, c.base.ensures, small, c.requires.small) in
-    let first_is : c.push.new.self.items ≡ b ∷ []
-    = c.in_ok-push.ensures.items ∙ ap (λ l. l ++ b ∷ []) c.in_ok-first.ensures.items in
+pub write_doubled-requires-clause-count : goal.write_doubled-requires-clause-count
+write_doubled-requires-clause-count g c =
     omega (
       arith,
-      ap most first_is,
+      ap length c.deref_mut.ensures.value,
+      c.in_ok-resize.ensures,
+      pow-few (length c.args.nodes.now) c.requires.few,
+      ap (λ l. 2 ^ length l) c.deref.ensures.value,
+      ap (λ n. 2 ^ n) c.in_ok-steps.ensures.count,
+    )
+
+pub write_doubled-requires-clause-small : goal.write_doubled-requires-clause-small
+write_doubled-requires-clause-small g c =
+    let b = to_z w128 (of_z w128 c.base.result) in
+    let small = base-small c.args.kind c.args.bit c.args.entries.now in
+    let base : b ≡ total_by (base_of c.args.kind c.args.bit) c.args.entries.now
+    = omega (arith, ints, c.base.ensures, small, c.requires.light) in
+    omega (
+      arith,
       ap unsigned_abs base,
       small,
       ap (sum_by unsigned_abs) c.deref.ensures.value,
@@ -35,45 +37,55 @@ doubled-requires c =
     )
 
 pub loop-table-init : goal.loop-table-init
-loop-table-init c =
+loop-table-init g c =
+    let value = g.T.Number.value in
     let kind = c.args.kind in
     let v = c.args.node in
     let bit = c.args.bit in
     let nodes = c.args.nodes.now in
     let tables = c.args.tables.now in
     let entries = c.args.entries.now in
-    let small = base-small c.args.kind c.args.bit entries in
     let b = to_z w128 (of_z w128 c.base.result) in
-    let base : b ≡ total_by (base_of c.args.kind c.args.bit) entries
-    = omega (arith, ints, c.base.ensures, small, c.requires.small) in
-    let first_is : c.push.new.self.items ≡ b ∷ []
-    = c.in_ok-push.ensures.items ∙ ap (λ l. l ++ b ∷ []) c.in_ok-first.ensures.items in
+    let small = base-small c.args.kind c.args.bit c.args.entries.now in
+    let base : b ≡ total_by (base_of c.args.kind c.args.bit) c.args.entries.now
+    = omega (arith, ints, c.base.ensures, small, c.requires.light) in
     let steps = c.deref.result.now in
     let same = c.deref.ensures.value in
+    let news = c.write_doubled.new.values in
+    let made = map value news in
+    let olds = c.resize.new.values in
+    let sized : length news ≡ length olds.items
+    = omega (arith, c.write_doubled.auto.values, ap length c.deref_mut.ensures.value) in
+    let all = ap (map value)
+    (written_items olds.len news olds.items (omega (arith, olds.ok.0)) sized) in
     let long : length steps ≡ length nodes = ap length same ∙ c.in_ok-steps.ensures.count in
-    let le = begun-small kind v bit nodes entries c.push.new.self.items steps
-    c.in_ok-values.values.items b long first_is base c.in_ok-values.ensures
+    let le = begun-small kind v bit nodes entries (b ∷ []) steps made b long refl base
+    c.write_doubled.ensures
     (omega (arith, ap (sum_by unsigned_abs) same, c.in_ok-steps.ensures.size)) in (
-      begun-length kind v bit nodes entries c.push.new.self.items steps c.in_ok-values.values.items
-          b
-          long first_is base c.in_ok-values.ensures,
+      ap length all
+          ∙ begun-length kind v bit nodes entries (b ∷ []) steps made b long refl base
+          c.write_doubled.ensures,
       λ y w.
-          ap (λ s. s +ℤ total_by (table_energy (y ++ bit ∷ [])) tables)
-          (begun_holds kind v bit nodes entries c.push.new.self.items steps
-          c.in_ok-values.values.items b long first_is base c.in_ok-values.ensures c.requires.own
+          let more = total_by (table_energy (y ++ bit ∷ [])) tables in
+          ap (λ vs. value_at nodes vs y +ℤ more) all
+          ∙ ap (λ s. s +ℤ more)
+          (begun_holds kind v bit nodes entries (b ∷ []) steps made b long refl base
+          c.write_doubled.ensures c.requires.own
           (λ z. ap (sum_where z nodes) same ∙ c.in_ok-steps.ensures.sums z) y w),
-      omega (arith, le),
+      omega (arith, ap most all, le),
     )
 
 pub add_table-requires-clause-count : goal.add_table-requires-clause-count
-add_table-requires-clause-count c = ap length c.deref_mut.ensures.value ∙ c.loop-table.invariant.0
+add_table-requires-clause-count g c =
+    ap length c.deref_mut-in-loop-table.ensures.value
+    ∙ sym (length-map c.loop-table.values.items g.T.Number.value) ∙ c.loop-table.invariant.0
 
 pub add_table-requires-clause-small : goal.add_table-requires-clause-small
-add_table-requires-clause-small c =
+add_table-requires-clause-small g c =
     let t = c.table-item.result in
     omega (
       arith,
-      ap most c.deref_mut.ensures.value,
+      ap (λ l. most (map g.T.Number.value l)) c.deref_mut-in-loop-table.ensures.value,
       sum_left (λ t. most t.values) c.args.tables.now c.loop-table.table-index t
           c.loop-table-test.true,
       ap (λ t. most t.values) c.table-item.is,
@@ -82,22 +94,24 @@ add_table-requires-clause-small c =
     )
 
 pub loop-table-preserved : goal.loop-table-preserved
-loop-table-preserved c =
+loop-table-preserved g c =
+    let value = g.T.Number.value in
     let nodes = c.args.nodes.now in
     let tables = c.args.tables.now in
     let at = c.loop-table.table-index in
     let t = c.table-item.result in
     let within = c.loop-table-test.true in
     let so_far = c.loop-table.invariant in
-    let olds = c.deref_mut.ensures.value in
+    let before = c.loop-table.values.items in
+    let is = c.deref_mut-in-loop-table.ensures.value in
+    let olds = ap (map value) is in
     let news = c.add_table.new.values in
     let passed = subst (IsPassedTo c.args.node nodes) (sym c.table-item.is)
     (c.requires.passed at t within) in
-    let long : length news ≡ length c.loop-table.values.items
-    = omega (arith, c.add_table.auto.values, ap length olds) in
-    let items = written_items c.loop-table.values.len news c.loop-table.values.items
-    (omega (arith, c.loop-table.values.ok.0)) long in (
-      ap length items ∙ long ∙ so_far.0,
+    let long : length news ≡ length before = omega (arith, c.add_table.auto.values, ap length is) in
+    let items = ap (map value) (written_items c.loop-table.values.len news before
+    (omega (arith, c.loop-table.values.ok.0)) long) in (
+      ap length items ∙ length-map news value ∙ long ∙ sym (length-map before value) ∙ so_far.0,
       λ y w.
           let f = table_energy (y ++ c.args.bit ∷ []) in
           omega (
@@ -122,7 +136,7 @@ loop-table-preserved c =
     )
 
 pub returns : goal.returns
-returns c =
+returns g c =
     let none = drop_all c.loop-table.table-index c.args.tables.now
     (omega (arith, c.loop-table-test.false)) in
     let so_far = c.loop-table.invariant in
