@@ -13,6 +13,7 @@ mod laws;
 mod lines;
 mod made;
 mod models;
+mod one_write;
 mod placements;
 mod plans;
 mod program;

@@ -1,11 +1,12 @@
-//! The line for a status, written in pieces that take no memory.
+//! The line for a status, of pieces that take no memory, in one write.
 ghost use Rattle.std.specs.Prelude.{◌≡◌, [], ◌∷◌, codes, decimal};
 ghost use Rattle.std.specs.List.{concat};
 ghost use Rattle.program_run.specs.Lines.{error_line, fault_pieces, kind_end, limit_words, proof_pieces, IsSaid};
 
+use crate::one_write::write_line;
 use crate::status::Status;
 use chain_map::EmbedFault;
-use edge_io::{Sink, write_pieces};
+use edge_io::Sink;
 use itoa::Buffer;
 use posiform_check::ProofFault;
 use problem_form::LimitKind;
@@ -41,7 +42,7 @@ fn put<E: Sink>(err: &mut E, first: &[u8], second: &[u8], third: &[u8], last: &[
     ensures { IsSaid (E.bytes err.old) (E.bytes err.new) (E.faults err.old) (E.faults err.new)
         (concat (first.now ∷ second.now ∷ third.now ∷ last.now ∷ [])) }
 {
-    let _ = write_pieces(err, &[first, second, third, last]);
+    let _ = write_line(err, &[first, second, third, last]);
 }
 
 /// Writes six pieces, or a front of them where the sink fails.
@@ -57,7 +58,7 @@ fn put_six<E: Sink>(
     ensures { IsSaid (E.bytes err.old) (E.bytes err.new) (E.faults err.old) (E.faults err.new)
         (concat (first.now ∷ second.now ∷ third.now ∷ fourth.now ∷ fifth.now ∷ last.now ∷ [])) }
 {
-    let _ = write_pieces(err, &[first, second, third, fourth, fifth, last]);
+    let _ = write_line(err, &[first, second, third, fourth, fifth, last]);
 }
 
 /// Writes what is wrong with an embedding in words round a number, or a front of them where the

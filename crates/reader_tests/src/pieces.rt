@@ -72,11 +72,39 @@ const PLAIN: &[(&[u8], u64)] = &[
     (b"0", 6),
 ];
 
+/// The words of a clause that must hold against one of weight 3, below a comment.
+const CLASH: &[(&[u8], u64)] = &[
+    (b"p", 2),
+    (b"wcnf", 2),
+    (b"1", 2),
+    (b"2", 2),
+    (b"10", 2),
+    (b"10", 3),
+    (b"1", 3),
+    (b"0", 3),
+    (b"3", 4),
+    (b"-1", 4),
+    (b"0", 4),
+];
+
 #[test]
 fn a_text_may_be_cut_anywhere(rt: HostRuntime) {
-    let text = b" c 1 x\np wcnf 1\t2 10\r\n\nc\n10 -1\n0";
-    let bytes = b"pwcnf121010-10";
-    assert!(rt; is_cut_anywhere(rt.alloc(), Style::Plain, text, PLAIN, bytes) == Ok(true));
+    let table: [(&[u8], &[(&[u8], u64)], &[u8]); 2] = [
+        (
+            b" c 1 x\np wcnf 1\t2 10\r\n\nc\n10 -1\n0",
+            PLAIN,
+            b"pwcnf121010-10",
+        ),
+        (
+            b"c a comment\np wcnf 1 2 10\n10 1 0\n3 -1 0\n",
+            CLASH,
+            b"pwcnf121010103-10",
+        ),
+    ];
+    for (text, words, bytes) in table {
+        let cut = is_cut_anywhere(rt.alloc(), Style::Plain, text, words, bytes) == Ok(true);
+        assert!(rt; cut, "{text:?}");
+    }
 }
 
 const OPB: &[(&[u8], u64)] = &[

@@ -21,6 +21,8 @@ mod poly_texts;
 #[cfg(test)]
 mod read_back;
 #[cfg(test)]
+mod refusals;
+#[cfg(test)]
 mod runs;
 #[cfg(test)]
 mod samples;

@@ -50,7 +50,7 @@ pub(crate) fn sink(
 }
 
 /// The file `a` of this text, of which one call fails.
-fn file_a(alloc: Global, text: &str, failing: u64) -> Result<MemoryFiles, Fail> {
+pub(crate) fn file_a(alloc: Global, text: &str, failing: u64) -> Result<MemoryFiles, Fail> {
     let mut files = Vec::new(alloc);
     let bytes = text.as_bytes().to_vec(alloc)?;
     files.push((String::from_str(alloc, "a")?, bytes))?;
