@@ -1,4 +1,6 @@
-use Rattle.std.proofs.Common.{◌≡◌, decimal}
+use Rattle.std.proofs.Common.{◌≡◌, rules, decimal, ap, ◌∙◌, of_z, to_z}
+use Rattle.std.specs.Int.{w128}
+use Rattle.std.proofs.lemmas.Int.{to_z-of_z}
 use Rattle.std.specs.Fmt.{signed_decimal}
 use Rattle.program_run.proofs.lines.say_unproved.Goals as goal
 
@@ -8,9 +10,14 @@ returns-in-Negative g c =
     rw (c.in-Negative.is, ← printed) c.put.ensures
 
 pub returns-in-Differs : goal.returns-in-Differs
-returns-in-Differs g c = rw c.in-Differs.is c.say_difference.ensures
+returns-in-Differs g c =
+    let ours = to_z-of_z w128 c.in-Differs.ours (search rules) in
+    let theirs = to_z-of_z w128 c.in-Differs.theirs (search rules) in
+    rw (c.in-Differs.is, ← ours, ← theirs) c.say_difference.ensures
 
 pub returns-in-NotZero : goal.returns-in-NotZero
 returns-in-NotZero g c =
-    let printed : c.as_bytes-above.result.now ≡ signed_decimal c.in-NotZero.above = cc in
-    rw (c.in-NotZero.is, ← printed) c.put-in-NotZero.ensures
+    let printed : c.as_bytes-above.result.now
+    ≡ signed_decimal (to_z w128 (of_z w128 c.in-NotZero.above)) = cc in
+    let above = printed ∙ ap signed_decimal (to_z-of_z w128 c.in-NotZero.above (search rules)) in
+    rw (c.in-NotZero.is, ← above) c.put-in-NotZero.ensures
