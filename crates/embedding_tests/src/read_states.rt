@@ -157,7 +157,10 @@ fn broken_and_tied_chains_are_read(rt: HostRuntime) -> Result<(), Fail> {
 #[test]
 fn chains_tied_by_their_lighter_sides_are_read(rt: HostRuntime) -> Result<(), Fail> {
     for (shape, chains) in ROWS {
-        assert!(rt; are_read_on(rt.alloc(), shape, chains, Ties::Cut, 3)?, "{chains:?}");
+        assert!(rt;
+            are_read_on(rt.alloc(), shape, chains, Ties::Cut, 3)?,
+            "{chains:?}"
+        );
     }
     Ok(())
 }

@@ -142,15 +142,7 @@ pub fn model_for(alloc: Global, problem: &Problem, target: Target) -> Option<Out
                 perch: Perch::Clique,
                 ties: Ties::Choi,
             };
-            model_on_qubits(
-                alloc,
-                problem,
-                variables,
-                &CHOICES,
-                UnitChoice::One,
-                &site,
-            )
-            .ok()
+            model_on_qubits(alloc, problem, variables, &CHOICES, UnitChoice::One, &site).ok()
         }
     }
 }

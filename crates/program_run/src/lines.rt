@@ -158,7 +158,15 @@ fn say_difference<E: Sink>(ours: i128, theirs: i128, err: &mut E)
     let ours = digits.format(ours).as_bytes();
     let theirs = others.format(theirs).as_bytes();
     let opening = b"not proved: ";
-    put_six(err, opening, b"coefficients ", ours, b" and ", theirs, b"\n");
+    put_six(
+        err,
+        opening,
+        b"coefficients ",
+        ours,
+        b" and ",
+        theirs,
+        b"\n",
+    );
 }
 
 /// Writes the line for a state that is not proved, or a front of it where the sink fails.

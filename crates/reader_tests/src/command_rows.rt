@@ -2,7 +2,7 @@
 use base::UnitChoice;
 use chimera_graph::Chimera;
 use command_words::{
-    Ask, Board, Chaining, Command, Format, NodeModel, Origin, Target, Which, WordAt, command,
+    Ask, Board, Chaining, Command, Format, NodeModel, Origin, Target, Ties, Which, WordAt, command,
     name_of,
 };
 use problem_form::{Choices, High, Normal};
@@ -69,7 +69,14 @@ const POSITIONS: &[(&[&str], Result<Ask, usize>)] = &[
         &["extend", "wcnf", "qubo", "FILE", "high=", "unit=one"],
         Ok(Ask::Extend(WordAt::Whole(4))),
     ),
+    (
+        &[
+            "prove", "wcnf", "qubo", "FILE", "STATE", "PROOF", "unit=one",
+        ],
+        Ok(Ask::Prove(WordAt::Whole(4), WordAt::Whole(5))),
+    ),
     // a missing word
+    (&["prove", "wcnf", "qubo", "FILE", "STATE"], Err(6)),
     (&["decode", "wcnf", "qubo", "FILE"], Err(5)),
     (&["extend", "wcnf", "chimera", "FILE", "STATE"], Err(6)),
     (
@@ -88,7 +95,8 @@ const POSITIONS: &[(&[&str], Result<Ask, usize>)] = &[
     // the first of several, and before what is missing
     (&["", "", ""], Err(1)),
     (&["compile", "opb", "wcnf"], Err(3)),
-    (&["compile", "wbo", "wcnf"], Err(2)),
+    (&["compile", "wbo", "wcnf"], Err(3)),
+    (&["compile", "pbo", "wcnf"], Err(2)),
     (&["compile", "wcnf", "wcnf"], Err(3)),
     // a key, and a further word that is none
     (
@@ -176,13 +184,34 @@ const FORMATS: &[(&[&str], Format, NodeModel, UnitChoice)] = &[
     ),
 ];
 
-const GRAPHS: &[(&[&str], Format, Chaining, UnitChoice)] = &[
+const GRAPHS: &[(&[&str], Format, Option<WordAt>, Chaining, Ties, UnitChoice)] = &[
     (
         &[
             "compile", "poly", "chimera", "FILE", "rows=2", "map=a=b", "cols=3", "shore=4",
         ],
         Format::Poly,
+        None,
         Chaining::Map(WordAt::Value(5)),
+        Ties::Choi,
+        UnitChoice::One,
+    ),
+    (
+        &[
+            "compile",
+            "wbo",
+            "chimera",
+            "FILE",
+            "dead=",
+            "rows=2",
+            "cols=3",
+            "chain=cut",
+            "shore=4",
+            "map=",
+        ],
+        Format::Wbo,
+        Some(WordAt::Value(4)),
+        Chaining::Map(WordAt::Value(9)),
+        Ties::Cut,
         UnitChoice::One,
     ),
     (
@@ -196,9 +225,12 @@ const GRAPHS: &[(&[&str], Format, Chaining, UnitChoice)] = &[
             "cols=3",
             "unit=reduce",
             "rows=02",
+            "chain=choi",
         ],
         Format::Opb,
+        None,
         Chaining::Clique,
+        Ties::Choi,
         UnitChoice::Reduce,
     ),
 ];
@@ -208,20 +240,27 @@ fn are_compiled_on(
     alloc: Global,
     words: &[&str],
     format: Format,
+    dead: Option<WordAt>,
     chains: Chaining,
+    ties: Ties,
     unit: UnitChoice,
 ) -> Result<bool, AllocError> {
     let Some(graph) = Chimera::new(2, 3, 4) else {
         return Ok(false);
     };
-    let target = Target::Chimera(Board { graph, chains });
+    let target = Target::Chimera(Board {
+        graph,
+        dead,
+        chains,
+        ties,
+    });
     are_compiled(alloc, words, format, target, Normal::Literal, unit)
 }
 
 #[test]
 fn each_way_to_get_chains_on_a_graph(rt: HostRuntime) {
-    for (words, format, chains, unit) in GRAPHS {
-        let found = are_compiled_on(rt.alloc(), words, *format, *chains, *unit);
+    for (words, format, dead, chains, ties, unit) in GRAPHS {
+        let found = are_compiled_on(rt.alloc(), words, *format, *dead, *chains, *ties, *unit);
         assert!(rt; found == Ok(true), "{words:?}");
     }
 }
@@ -309,6 +348,8 @@ const KEYS: &[(&[&str], usize)] = &[
     (&["unit=one", "unit=one"], 6),
     (&["unit=reduce", "unit=one"], 6),
     (&["unit=reduce", "FILE"], 6),
+    (&["dead=list"], 5),
+    (&["chain=cut"], 5),
 ];
 
 #[test]
@@ -373,6 +414,8 @@ const NAMES: &[(&[&str], Which, &str)] = &[
     (&["compile", "wcnf", "qubo", ""], Which::Source, ""),
     (&["compile", "wcnf", "qubo", "FILE"], Which::Map, ""),
     (&["compile", "wcnf", "qubo", "FILE"], Which::State, ""),
+    (&["compile", "wcnf", "qubo", "FILE"], Which::Dead, ""),
+    (&["compile", "wcnf", "qubo", "FILE"], Which::Certificate, ""),
 ];
 
 #[test]
