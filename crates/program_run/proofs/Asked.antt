@@ -1,5 +1,5 @@
 -- How many bits are read last, and that those of a proof are of a least state.
-use Rattle.std.proofs.Common.{◌≡◌, ℕ, Bool, List, length, Ok, Err, Some, None, refl, sym, ap, ◌∙◌, subst}
+use Rattle.std.proofs.Common.{◌≡◌, ℕ, Bool, List, length, Ok, Some, None, refl, subst}
 use Rattle.std.specs.declared.option.Option.{Option}
 use Rattle.edge_io.specs.Held.{NamedFiles}
 use Rattle.bits_model.specs.Output.{Written, form_of}
@@ -9,12 +9,9 @@ use Rattle.posiform_check.specs.FirstFaults.{proof_fault}
 use Rattle.posiform_check.specs.declared.faults.ProofFault.{ProofFault}
 use Rattle.posiform_check.proofs.FirstFaults.{first_faults_tell}
 use Rattle.posiform_check.proofs.LeastStates.{proved_is_least}
-use Rattle.command_words.specs.declared.commands.Ask.{Ask}
-use Rattle.command_words.specs.declared.commands.Ask.TheVariants.{Model, Summary, Solve, Decode, Extend, Prove}
 use Rattle.command_words.specs.declared.commands.WordAt.{WordAt}
 use Rattle.command_words.specs.Names.{text_at}
-use Rattle.program_run.specs.declared.plans.Plan.{Plan}
-use Rattle.program_run.specs.Outcome.{◌>>=◌, ends, stating, certifying, certified, proving, proof_end, last_step}
+use Rattle.program_run.specs.Outcome.{ends, stating, certifying, certified, proving, proof_end}
 use Rattle.program_run.proofs.Stepping.{bound}
 use Rattle.program_run.proofs.StateBits.{state_is_taken, state_has_width}
 

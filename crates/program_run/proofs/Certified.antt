@@ -1,5 +1,5 @@
 -- A certificate that is read, and a state that it proves or does not; the last step of a command.
-use Rattle.std.proofs.Common.{◌≡◌, ℕ, Bool, List, [], ◌++◌, Ok, Err, Some, Result, refl, sym, ap, ◌∙◌, subst}
+use Rattle.std.proofs.Common.{◌≡◌, ℕ, Bool, List, [], ◌++◌, Ok, Some, Result, sym, ap, ◌∙◌, subst}
 use Rattle.edge_io.specs.Held.{NamedFiles}
 use Rattle.edge_io.specs.Counts.{Counts}
 use Rattle.bits_model.specs.Output.{Written}
@@ -15,7 +15,7 @@ use Rattle.program_run.specs.declared.status.Status.{Status}
 use Rattle.program_run.specs.declared.status.Status.TheVariants.{Done, Usage, ReadFault, WriteFault, BadText, Limit, NotEmbedded, TooWide, NotProved, NoState, NoMemory}
 use Rattle.program_run.specs.Made.{asked_width}
 use Rattle.program_run.specs.Statuses.{IsReading}
-use Rattle.program_run.specs.Outcome.{Steps, ◌>>=◌, ends, stating, certifying, certified, proving, proof_end, last_step, Refuses}
+use Rattle.program_run.specs.Outcome.{Steps, ends, stating, certifying, certified, proving, proof_end, last_step, Refuses}
 use Rattle.program_run.specs.Causes.{AreRead, AreRefused, AreFilesOf}
 use Rattle.program_run.proofs.FilesRead.{read_then, refused_then}
 use Rattle.program_run.proofs.Stepping.{next_end, refuses_on, refuses_next}

@@ -9,11 +9,11 @@ use Rattle.form_steps.specs.Relations.{Decoding, Relaxes, first_decoded}
 use Rattle.form_steps.proofs.Rewritten.{rewritten_relaxes}
 use Rattle.bits_model.specs.Output.{Written, IsWellFormed, form_of, decoding_of, read_off, majority}
 use Rattle.faithful.specs.Bounds.{IsBounded}
-use Rattle.faithful.specs.Faithful.{Demand, HasUnit, IsStated, HasChains, scale_of}
+use Rattle.faithful.specs.Faithful.{HasUnit, HasChains, scale_of}
 use Rattle.form_steps.specs.Stated.{DecodesAlike}
 use Rattle.form_steps.proofs.Alike.{relaxes_alike}
 use Rattle.faithful.specs.AtLeast.{StandsAtLeast}
-use Rattle.faithful.specs.Least.{IsLeast, IsLeastState}
+use Rattle.faithful.specs.Least.{IsLeast}
 use Rattle.faithful.proofs.LeastStates.{relaxed_stands, standing_is_faithful}
 use Rattle.faithful.proofs.LongerSources.{rewritten_stands}
 use Rattle.base.specs.declared.unit.UnitChoice.{UnitChoice}

@@ -32,7 +32,7 @@ use Rattle.model_pipeline.specs.GraphModels.{ising_of}
 use Rattle.program_run.specs.declared.placements.Placement.{Placement}
 use Rattle.program_run.specs.declared.placements.Placement.TheVariants as placements
 use Rattle.program_run.specs.declared.plans.Plan.{Plan}
-use Rattle.program_run.specs.Plans.{nodes_in, CanStandOn, CanStand, IsModelOn, IsModelBy, StandsOn, Stands}
+use Rattle.program_run.specs.Plans.{CanStandOn, CanStand, IsModelOn, IsModelBy, StandsOn, Stands}
 
 model_nodes : (target : NodeModel) (unit : UnitChoice) (q : QuadContent) (variables : ℕ)
     (figures : Figures)

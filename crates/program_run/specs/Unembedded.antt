@@ -10,7 +10,7 @@ use Rattle.ising_form.specs.Isings.{IsingContent}
 use Rattle.program_run.specs.declared.placements.Placement.{Placement}
 use Rattle.program_run.specs.Plans.{form_in, CanStandOn, IsFaultOn}
 use Rattle.program_run.specs.declared.status.Status.{Status}
-use Rattle.program_run.specs.declared.status.Status.TheVariants.{NotEmbedded, TooWide, NotProved, NoMemory}
+use Rattle.program_run.specs.declared.status.Status.TheVariants.{NotEmbedded, TooWide, NoMemory}
 
 -- the status where a check refuses
 abbrev pub unembedded : CheckAnswer → Status

@@ -51,6 +51,7 @@ same_costs s r same all none =
       width = λ x w. ap length (itself x) ∙ w ∙ sym same.width;
       begins = λ x w. ap (take s.form.bits) (itself x) ∙ take_all s.form.bits x (omega (arith, w));
       same = λ x w. ap (form_of r.problem).cost (itself x) ∙ same.costs x;
+      plain = λ none x. same.costs x;
     }
 
 -- the assignment of zeros has as many bits as the source, and is carried to itself

@@ -31,6 +31,7 @@ rewritten_costs t =
       width = λ x w. (carries x w).width;
       begins = λ x w. (carries x w).begins;
       same = λ x w. (carries x w).costs ∙ reading_keeps_costs_of_text t x;
+      plain = λ none x. absurd cc;
     }
 
 pub wbo_costs : (text : List ℕ) (r : Read) (s : Source)

@@ -143,13 +143,14 @@ RelaxesStoodFor =
 -- ---- what a problem costs
 
 -- each assignment is carried to one of the problem that begins with it, and costs there what it
--- costs in the source
+-- costs in the source; without soft constraints each list of bits costs the same in both
 pub record CostsAs (s : Source) (r : Read) : Type 0 where
   pub own : r.variables ≡ s.form.bits
   pub width : (x : List Bool) → IsOf s.form x → length (carried r.soft x) ≡ r.problem.variables
   pub begins : (x : List Bool) → IsOf s.form x → take s.form.bits (carried r.soft x) ≡ x
   pub same : (x : List Bool) → IsOf s.form x
       → (form_of r.problem).cost (carried r.soft x) ≡ s.form.cost x
+  pub plain : r.soft ≡ None → (x : List Bool) → (form_of r.problem).cost x ≡ s.form.cost x
 
 -- a problem that a text is read into costs what the source costs that the text says
 abbrev pub ProblemsCostAsSources : Type 0

@@ -1,7 +1,7 @@
-use Rattle.std.proofs.Common.{◌≡◌, ℕ, Bool, List, Ok, Some, map, string_bytes, subst}
+use Rattle.std.proofs.Common.{◌≡◌, ℕ, Ok, Some, map, string_bytes, subst}
 use Rattle.command_words.specs.declared.names.Which.TheVariants.{State, Certificate}
 use Rattle.command_words.specs.Names.{name_of, if_named, text_at}
-use Rattle.program_run.specs.Outcome.{stating, certified, Refuses}
+use Rattle.program_run.specs.Outcome.{stating, Refuses}
 use Rattle.program_run.proofs.Certified.{bits_refuse, proof_gives, proof_refused, then_last}
 use Rattle.program_run.proofs.Holding.{may_first, may_next}
 use Rattle.program_run.proofs.last.take_last.Goals as goal

@@ -1,4 +1,4 @@
-use Rattle.std.proofs.Common.{◌≡◌, ◌∙◌, Ok, Some, refl, map, string_bytes, subst, sym}
+use Rattle.std.proofs.Common.{◌≡◌, ◌∙◌, Ok, Some, map, string_bytes}
 use Rattle.command_words.specs.declared.names.Which.TheVariants.{Dead}
 use Rattle.command_words.specs.Names.{name_of, if_named}
 use Rattle.program_run.specs.Outcome.{working, Refuses}
