@@ -1,12 +1,13 @@
 #!/usr/bin/env python3
 """Draws a model on the qubits of a Chimera graph, as SVG.
 
-    draw_chimera.py [MODEL] [--state STATE] [--dead LIST] >picture.svg
+    draw_chimera.py [MODEL] [--state STATE] [--dead LIST] [--strengths] >picture.svg
 
 Without MODEL the standard input is drawn. Each chain has a colour. Thick lines are the ties of a
 chain, black ones the couplings between chains, and thin grey ones the joins of the graph that the
 model leaves alone. With a state the qubits of bit 0 are hollow, and a broken chain is named so;
-with a list of dead parts these are crossed out.
+with a list of dead parts these are crossed out. With --strengths each tie is as thick as it is
+strong, and its strength stands on it.
 
 The qubit `at` of a side of a cell has the number ((row * cols + col) * 2 + side) * shore + at. Side
 0 lies across its cell here, and is joined to the cells above and below; side 1 stands in it, and is
@@ -62,11 +63,19 @@ def dot(at, fill, edge, ink, text):
             f'text-anchor="middle">{text}</text>')
 
 
-class Picture:
-    """A model, whose chain each qubit is in, a state or none, and what is dead."""
+def label(at, text):
+    """A number on a white patch."""
+    return (f'<rect x="{at[0] - 9:.1f}" y="{at[1] - 8:.1f}" width="18" height="16" rx="3" '
+            f'fill="white"/><text x="{at[0]:.1f}" y="{at[1] + 4:.1f}" '
+            f'text-anchor="middle">{text}</text>')
 
-    def __init__(self, model, state, dead):
-        self.model, self.state, self.dead = model, state, dead
+
+class Picture:
+    """A model, whose chain each qubit is in, a state or none, what is dead, and whether the
+    strengths of ties are told."""
+
+    def __init__(self, model, state, dead, strengths):
+        self.model, self.state, self.dead, self.strengths = model, state, dead, strengths
         self.rows, self.cols, self.shore = model.shape
         self.broken = set(model.broken(state)) if state else set()
         self.owner = {q: node for node, chain in enumerate(model.chains) for q in chain}
@@ -87,9 +96,19 @@ class Picture:
             if (a, b) not in weights:
                 yield line(*ends, '#ccc', 1)
             elif self.owner[a] == self.owner[b]:
-                yield line(*ends, self.colour(a), 7)
+                yield line(*ends, self.colour(a), self.thickness(-weights[a, b]))
             else:
                 yield line(*ends, 'black', 2.5)
+
+    def thickness(self, strength):
+        """How thick a tie is drawn."""
+        return 7 if not self.strengths else round(2 + 10 * strength / self.model.greatest(), 1)
+
+    def told(self):
+        """The strength of each tie, beside its middle."""
+        for (a, b), weight in self.model.weights.items() if self.strengths else ():
+            if a != b and self.owner[a] == self.owner[b]:
+                yield label([(4 * x + 5 * y) / 9 for x, y in zip(self.at(a), self.at(b))], -weight)
 
     def qubits(self):
         """All qubits."""
@@ -129,7 +148,8 @@ class Picture:
         yield (f'<svg xmlns="http://www.w3.org/2000/svg" width="{width}" height="{height}" '
                f'viewBox="0 0 {width} {height}" font-family="sans-serif" font-size="12">')
         yield f'<rect width="{width}" height="{height}" fill="white"/>'
-        for part in self.joins(), self.qubits(), self.crosses(), self.legend(top, across):
+        for part in (self.joins(), self.told(), self.qubits(), self.crosses(),
+                     self.legend(top, across)):
             yield from part
         yield '</svg>'
 
@@ -147,13 +167,13 @@ def dead_parts(name, qubits):
 
 def main():
     """Prints the picture."""
-    words = arguments(__doc__, 'MODEL?', state='', dead='')
+    words = arguments(__doc__, 'MODEL?', state='', dead='', strengths=False)
     model = load(words.MODEL)
     if model.shape is None:
         raise ValueError(f'{called(words.MODEL)}: this is no model on a Chimera graph')
     state = read_state(words.state, model.nodes) if words.state else None
     dead = dead_parts(words.dead, model.nodes) if words.dead else []
-    for text in Picture(model, state, dead).lines():
+    for text in Picture(model, state, dead, words.strengths).lines():
         print(text)
 
 

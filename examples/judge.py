@@ -103,6 +103,8 @@ def judge_assignment(source, model, state):
     over = model.unit * model.energy(state) - model.scale * cost - model.offset
     if over > 0:
         print(f'the state is {over} above the least of its assignment: `extend` gives that one')
+    if over < 0:
+        print(f'the state is {-over} below what its assignment reaches: broken chains of chain=cut')
     return True
 
 

@@ -237,7 +237,10 @@ def arguments(doc, *names, **options):
         name, optional = name.rstrip('?'), name.endswith('?')
         parser.add_argument(name, nargs='?' if optional else None, default='-')
     for option, default in options.items():
-        parser.add_argument('--' + option, default=default, type=type(default))
+        if default is False:
+            parser.add_argument('--' + option, action='store_true')
+        else:
+            parser.add_argument('--' + option, default=default, type=type(default))
     return parser.parse_args()
 
 
