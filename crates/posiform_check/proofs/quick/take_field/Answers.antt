@@ -17,7 +17,8 @@ returns c =
     let sum : c.in_ok-sum.field-0
     ≡ to_z w128 (of_z w128 c.in_ok-less.less) +ℤ to_z w128 (of_z w128 c.in_ok-less.less) =
     c.in_ok-sum.ensures in
+    let node : c.from.result ≡ c.args.node = search rules in
     let two = take_back c.add_constant.new.self c.add_node.new.self (node_set c.args.node)
     (pos 2 *ℤ f) (to_z w128 (of_z w128 c.in_ok-sum.field-0))
-    (omega (arith, ints, sum_own, sum, whole, less, own)) c.in_ok-add_node.ensures in
+    (omega (arith, ints, sum_own, sum, whole, less, own)) (rw node at c.in_ok-add_node.ensures) in
     λ set. omega (arith, ints, one set, two set)

@@ -12,10 +12,10 @@ returns-in_ok-add_pair-in-true-true c =
     let less : to_z w128 (of_z w128 c.in_ok-less.less) ≡ neg_ℤ k =
     whole ∙ c.in_ok-less.ensures ∙ ap neg_ℤ own in
     let back : neg_ℤ (neg_ℤ k) ≡ k = omega (arith, ints) in
-    let m0 = c.in_ok-add_constant-in-true-true.ensures in
+    let m0 = rw own at c.in_ok-add_constant-in-true-true.ensures in
     let m1 = rw less at c.in_ok-add_node-in-true-true.ensures in
     let m2 = rw less at c.in_ok-add_node-in-true-true-2.ensures in
-    let m3 = c.in_ok-add_pair-in-true-true.ensures in
+    let m3 = rw own at c.in_ok-add_pair-in-true-true.ensures in
     rw (c.in-true-true.is-0, c.in-true-true.is-1, back) (four_more _ _ _ _ _ _ _ _ _ m0 m1 m2 m3)
 
 pub returns-in_ok-add_pair-in-true-false : goal.returns-in_ok-add_pair-in-true-false
@@ -25,7 +25,7 @@ returns-in_ok-add_pair-in-true-false c =
     let whole : to_z w128 (of_z w128 c.in_ok-less.less) ≡ c.in_ok-less.less = search rules in
     let less : to_z w128 (of_z w128 c.in_ok-less.less) ≡ neg_ℤ k =
     whole ∙ c.in_ok-less.ensures ∙ ap neg_ℤ own in
-    let m0 = c.in_ok-add_node-in-true-false.ensures in
+    let m0 = rw own at c.in_ok-add_node-in-true-false.ensures in
     let m1 = rw less at c.in_ok-add_pair-in-true-false.ensures in
     rw (c.in-true-false.is-0, c.in-true-false.is-1) (two_more _ _ _ _ _ m0 m1)
 
@@ -36,6 +36,6 @@ returns-in_ok-add_pair-in-false-true c =
     let whole : to_z w128 (of_z w128 c.in_ok-less.less) ≡ c.in_ok-less.less = search rules in
     let less : to_z w128 (of_z w128 c.in_ok-less.less) ≡ neg_ℤ k =
     whole ∙ c.in_ok-less.ensures ∙ ap neg_ℤ own in
-    let m0 = c.in_ok-add_node-in-false-true.ensures in
+    let m0 = rw own at c.in_ok-add_node-in-false-true.ensures in
     let m1 = rw less at c.in_ok-add_pair-in-false-true.ensures in
     rw (c.in-false-true.is-0, c.in-false-true.is-1) (two_more _ _ _ _ _ m0 m1)
