@@ -1,0 +1,15 @@
+use Rattle.std.proofs.Common.{rules, ◌≡◌, ◌≢◌, ℕ, ◌+◌, ◌<◌, ◌≤◌, ◌^◌, Bool, true, false, List, [], ◌∷◌, ◌++◌, map, length, get_or, take, drop, ℤ, pos, neg_ℤ, ◌+ℤ◌, ◌*ℤ◌, None, Some, refl, sym, ap, subst, ◌∙◌, arith, All, to_z, of_z}
+use Rattle.std.specs.Int.{w128, w64}
+use Rattle.std.proofs.lemmas.Int.{ints}
+use Rattle.posiform_check.proofs.Sums.{pairs-step, pairs-end}
+use Rattle.posiform_check.proofs.set_sums.pairs_cancel.Goals as goal
+
+pub loop-pair-preserved : goal.loop-pair-preserved
+loop-pair-preserved c =
+    pairs-step c.args.pairs.now c.loop-pair.pair-index _ c.loop-pair.sum c.in-Some.next
+    c.loop-pair-test.true c.loop-pair.invariant c.in-Some.ensures
+
+pub returns : goal.returns
+returns c = λ t.
+    pairs-end c.args.pairs.now c.loop-pair.pair-index c.loop-pair.sum c.loop-pair-test.false
+    (c.is_settled.ensures t) c.loop-pair.invariant
