@@ -9,3 +9,4 @@ pub mod ReadSteps
 pub mod KeptLines
 pub mod FirstFaults
 pub mod Sums
+pub mod SumLines

@@ -67,7 +67,8 @@ fn above(energy: i128, bound: i128) -> i128
 /// The energy of a state of a model, where the certificate proves the state; else the first fault:
 /// a negative line, a set whose coefficients differ, or an energy above the bound.
 ///
-/// Both forms are made into tables, each by one sort, and compared from the least set on.
+/// The forms are one where all sums of what the one has more cancel. Where that does not show, both
+/// are made into tables, each by one sort, and compared from the least set on.
 pub fn prove(
     alloc: Global,
     model: &OutputModel,

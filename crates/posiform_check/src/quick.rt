@@ -63,7 +63,11 @@ fn take_coupling(sums: &mut SetSums, entry: Entry) -> Result<(), Unsettled>
     sums.add_constant(less)?;
     sums.add_node(u64::from(first), twice)?;
     sums.add_node(u64::from(second), twice)?;
-    sums.add_pair(u64::from(first), u64::from(second), sum(twice_less, twice_less)?)?;
+    sums.add_pair(
+        u64::from(first),
+        u64::from(second),
+        sum(twice_less, twice_less)?,
+    )?;
     Ok(())
 }
 
@@ -114,6 +118,18 @@ fn add_table(sums: &mut SetSums, table: &Table) -> Result<(), Unsettled>
     Ok(())
 }
 
+/// Adds a line, multiplied out, where it has at most two literals.
+fn add_short(sums: &mut SetSums, line: &[Literal], coefficient: i128) -> Result<(), Unsettled>
+    ensures { OnOk result (HasMore sums.old (plain_terms line.now coefficient) sums.new) }
+{
+    match line {
+        [] => sums.add_constant(coefficient),
+        [only] => sums.add_one(*only, coefficient),
+        [first, second] => sums.add_two(*first, *second, coefficient),
+        _ => Err(Unsettled::NoPlace),
+    }
+}
+
 /// Adds a line, multiplied out: to the sums, where it has at most two literals, and else to the
 /// gathered terms. The list is empty before and after.
 fn add_line(
@@ -132,14 +148,12 @@ fn add_line(
         → AreAdditions (with_more long.new rest)) }
     ensures list { OnOk result (list.new.items ≡ []) }
 {
-    match line {
-        [only] => sums.add_one(*only, coefficient),
-        [first, second] => sums.add_two(*first, *second, coefficient),
-        _ => {
-            add_plain_terms(long, list, line, &coefficient)?;
-            Ok(())
-        }
+    if line.len() <= 2 {
+        add_short(sums, line, coefficient)?;
+    } else {
+        add_plain_terms(long, list, line, &coefficient)?;
     }
+    Ok(())
 }
 
 /// Adds all lines, multiplied out. Those of more than two literals are summed in a table first, for
@@ -165,7 +179,8 @@ fn add_lines(
         literals.copy_into(&mut line)?;
         add_line(sums, &mut long, &mut list, &line, coefficient)?;
     }
-    add_table(sums, &long.into_table())
+    add_table(sums, &long.into_table())?;
+    Ok(())
 }
 
 /// Ends well only where the model and the certificate have one form.
@@ -184,5 +199,9 @@ pub(crate) fn find_same(
     sums.add_constant(certificate.bound)?;
     add_lines(alloc, &mut sums, nodes, certificate)?;
     take_entries(&mut sums, model.kind, &model.entries)?;
-    if sums.cancel() { Ok(()) } else { Err(Unsettled::NoPlace) }
+    if sums.cancel() {
+        Ok(())
+    } else {
+        Err(Unsettled::NoPlace)
+    }
 }

@@ -117,7 +117,11 @@ impl SetSums {
         ensures { OnOk result
             (HasMore self.old ((pair_set first second, coefficient) ∷ []) self.new) }
     {
-        match (u32::try_from(first), u32::try_from(second), i64::try_from(coefficient)) {
+        match (
+            u32::try_from(first),
+            u32::try_from(second),
+            i64::try_from(coefficient),
+        ) {
             (Ok(first), Ok(second), Ok(coefficient)) => {
                 let pair = PairTerm {
                     first,
@@ -137,10 +141,12 @@ impl SetSums {
     {
         match set {
             [] => self.add_constant(coefficient),
-            [Literal {
-                variable,
-                negated: false,
-            }] => self.add_node(*variable, coefficient),
+            [
+                Literal {
+                    variable,
+                    negated: false,
+                },
+            ] => self.add_node(*variable, coefficient),
             [
                 Literal {
                     variable: first,

@@ -1,5 +1,5 @@
-use Rattle.std.proofs.Common.{rules, ◌≡◌, ◌≢◌, ℕ, ◌+◌, ◌<◌, ◌≤◌, ◌^◌, Bool, true, false, List, [], ◌∷◌, ◌++◌, map, length, get_or, take, drop, ℤ, pos, neg_ℤ, ◌+ℤ◌, ◌*ℤ◌, None, Some, refl, sym, ap, subst, ◌∙◌, arith, All, to_z, of_z}
-use Rattle.std.specs.Int.{w128, w64}
+use Rattle.std.proofs.Common.{rules, ◌≡◌, ap, arith, to_z, of_z}
+use Rattle.std.specs.Int.{w128}
 use Rattle.std.proofs.lemmas.Int.{ints}
 use Rattle.std.proofs.lemmas.Map.Iter.{rest_more}
 use Rattle.term_table.specs.Terms.{coefficient_of}

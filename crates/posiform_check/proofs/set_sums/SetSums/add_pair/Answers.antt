@@ -1,9 +1,7 @@
-use Rattle.std.proofs.Common.{rules, ◌≡◌, ◌≢◌, ℕ, ◌+◌, ◌<◌, ◌≤◌, ◌^◌, Bool, true, false, List, [], ◌∷◌, ◌++◌, map, length, get_or, take, drop, ℤ, pos, neg_ℤ, ◌+ℤ◌, ◌*ℤ◌, None, Some, refl, sym, ap, subst, ◌∙◌, arith, All, to_z, of_z}
-use Rattle.std.specs.Int.{w128, w64}
-use Rattle.std.proofs.lemmas.Int.{ints}
+use Rattle.std.proofs.Common.{rules, to_z, of_z}
+use Rattle.std.specs.Int.{w64}
 use Rattle.posiform_check.specs.declared.set_sums.PairTerm.{PairTerm}
 use Rattle.posiform_check.specs.BitForms.{pair_set}
-use Rattle.posiform_check.specs.Sums.{pair_term}
 use Rattle.posiform_check.proofs.Sums.{sums_pair}
 use Rattle.posiform_check.proofs.set_sums.SetSums.add_pair.Goals as goal
 
