@@ -199,7 +199,7 @@ pub(crate) fn find_same(
     sums.add_constant(certificate.bound)?;
     add_lines(alloc, &mut sums, nodes, certificate)?;
     take_entries(&mut sums, model.kind, &model.entries)?;
-    if sums.cancel() {
+    if sums.cancel()? {
         Ok(())
     } else {
         Err(Unsettled::NoPlace)

@@ -206,16 +206,17 @@ impl SetSums {
     }
 
     /// Whether all coefficients are 0.
-    pub(crate) fn cancel(self) -> bool
-        ensures { IsTrue result → HasNone self }
+    pub(crate) fn cancel(self) -> Result<bool, NoMemory>
+        ensures { IfOk result (λ yes. IsTrue yes → HasNone self) }
     {
         if self.constant != 0 {
-            return false;
+            return Ok(false);
         }
         if !are_zeros(&self.nodes) {
-            return false;
+            return Ok(false);
         }
-        pairs_cancel(&by_pair(self.pairs))
+        let pairs = by_pair(self.pairs)?;
+        Ok(pairs_cancel(&pairs))
     }
 }
 
@@ -234,12 +235,12 @@ fn are_zeros(numbers: &[i128]) -> bool
     numbers.iter().all(|number| *number == 0)
 }
 
-/// The same in the order of their pairs.
-fn by_pair(mut pairs: Vec<PairTerm>) -> Vec<PairTerm>
-    ensures { IsPermutation pairs.items result.items }
+/// The same in the order of their pairs. Runs that are in order already, as a model's, are merged.
+fn by_pair(mut pairs: Vec<PairTerm>) -> Result<Vec<PairTerm>, NoMemory>
+    ensures { IfOk result (λ v. IsPermutation pairs.items v.items) }
 {
-    pairs.sort_unstable_by_key(|pair| (u64::from(pair.first) << 32) + u64::from(pair.second));
-    pairs
+    pairs.sort_by_key(|pair| (u64::from(pair.first) << 32) + u64::from(pair.second))?;
+    Ok(pairs)
 }
 
 /// The sum of a pair's terms.

@@ -10,7 +10,7 @@ returns c = λ t.
     let parts = c.self.inside in
     let nothing : parts.constant ≡ pos 0 = search rules in
     let tested : list_all (λ w. int_eq w (pos 0)) parts.nodes.items ≡ true = search rules in
-    let none : HasNone (map pair_term c.by_pair.result.items) =
+    let none : HasNone (map pair_term c.in_ok-pairs.pairs.items) =
     subst (λ xs. HasNone (map pair_term xs)) c.deref-2.ensures.value (c.pairs_cancel.ensures t) in
-    sums_cancel parts.constant parts.nodes.items parts.pairs.items c.by_pair.result.items c.args.self
-    nothing tested c.by_pair.ensures none c.self.view_is
+    sums_cancel parts.constant parts.nodes.items parts.pairs.items c.in_ok-pairs.pairs.items c.args.self
+    nothing tested c.in_ok-pairs.ensures none c.self.view_is
