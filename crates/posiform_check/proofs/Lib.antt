@@ -8,3 +8,5 @@ pub mod ReadValues
 pub mod ReadSteps
 pub mod KeptLines
 pub mod FirstFaults
+pub mod Sums
+pub mod SumLines

@@ -6,3 +6,4 @@ pub mod Certificates
 pub mod FirstFaults
 pub mod Texts
 pub mod ReadingSteps
+pub mod Sums

@@ -16,7 +16,9 @@ mod limits;
 mod lines;
 mod listed;
 mod proving;
+mod quick;
 mod reading;
+mod set_sums;
 
 pub use certificate::Certificate;
 pub use faults::{ProofAnswer, ProofFault};

@@ -13,6 +13,8 @@ use crate::comparing::first_difference;
 use crate::faults::{ProofAnswer, ProofFault};
 use crate::forms::{certificate_table, model_constant, model_table};
 use crate::lines::LineList;
+use crate::quick::find_same;
+use crate::set_sums::Unsettled;
 use base::NoMemory;
 use bits_model::{OutputModel, total_energy};
 use std::alloc::Global;
@@ -41,6 +43,11 @@ fn difference(
     ensures { IfOk result (λ found. found
         ≡ difference (model_list model.now) (certificate_list certificate.now)) }
 {
+    match find_same(alloc, model, certificate) {
+        Ok(()) => return Ok(None),
+        Err(Unsettled::NoMemory) => return Err(NoMemory),
+        Err(Unsettled::NoPlace) => {}
+    }
     let nodes = model.nodes as usize;
     let constant = model_constant(model.kind, &model.entries);
     let form = model_table(alloc, nodes, model.kind, &model.entries)?;
@@ -60,7 +67,8 @@ fn above(energy: i128, bound: i128) -> i128
 /// The energy of a state of a model, where the certificate proves the state; else the first fault:
 /// a negative line, a set whose coefficients differ, or an energy above the bound.
 ///
-/// Both forms are made into tables, each by one sort, and compared from the least set on.
+/// The forms are one where all sums of what the one has more cancel. Where that does not show, both
+/// are made into tables, each by one sort, and compared from the least set on.
 pub fn prove(
     alloc: Global,
     model: &OutputModel,

@@ -1,0 +1,129 @@
+-- Lines that are added to sums, or to gathered terms beside them.
+use Rattle.std.proofs.Common.{◌≡◌, ℕ, List, [], ◌∷◌, ◌++◌, ℤ, Option, Some, None, refl, ap, subst, ◌∙◌, arith}
+use Rattle.std.specs.List.{AllByRecursion, flat_map}
+use Rattle.std.proofs.lemmas.Int.{ints}
+use Rattle.std.proofs.lemmas.List.Elements.{All-from_recursion, recursion_from_All}
+use Rattle.literal_lists.specs.declared.literal.Literal.{Literal}
+use Rattle.term_table.specs.Terms.{Term, coefficient_of, IsTermSet}
+use Rattle.term_table.specs.Tables.{TableContent, AreAdditions, with_more}
+use Rattle.term_table.proofs.Additions.{terms_total-append}
+use Rattle.term_table.proofs.KeptTerms.{OfSet}
+use Rattle.normal_form.specs.Behind.{behind}
+use Rattle.normal_form.proofs.PlainSteps.{behind-nothing, additions_first}
+use Rattle.bits_model.specs.Output.{Written}
+use Rattle.posiform_check.specs.declared.lines.Line.{Line}
+use Rattle.posiform_check.specs.BitForms.{CertificateContent, line_terms, certificate_terms, certificate_list, model_terms, model_list, AreSameForms}
+use Rattle.posiform_check.specs.Certificates.{IsCertificate, AreOfNodes, certificate_fault}
+use Rattle.posiform_check.specs.Differences.{difference}
+use Rattle.posiform_check.specs.Sums.{HasMore, HasNone}
+use Rattle.posiform_check.proofs.Compared.{comparison_says}
+use Rattle.posiform_check.proofs.Gathering.{certificate_fits}
+use Rattle.posiform_check.proofs.Sums.{coefficients-append}
+
+-- ---- one line
+
+-- more beside terms that stay
+pub more_before : (a b ts us : List Term) → HasMore a ts b → HasMore (a ++ us) ts (b ++ us)
+more_before a b ts us more set =
+    omega (
+      arith,
+      ints,
+      more set,
+      coefficients-append set a us,
+      coefficients-append set b us,
+    )
+
+pub more_behind : (a b ts us : List Term) → b ≡ a ++ ts → HasMore (us ++ a) ts (us ++ b)
+more_behind a b ts us made set =
+    omega (
+      arith,
+      ints,
+      ap (coefficient_of set) made,
+      coefficients-append set a ts,
+      coefficients-append set us a,
+      coefficients-append set us b,
+    )
+
+both_ends : (P : Term → Type 0) (ts us vs : List Term) → AllByRecursion P (ts ++ (us ++ vs))
+    → AllByRecursion P (ts ++ vs)
+both_ends P [] [] vs h = h
+both_ends P [] (u ∷ us) vs h = both_ends P [] us vs h.1
+both_ends P (t ∷ ts) us vs h = (h.0, both_ends P ts us vs h.1)
+
+-- additions are additions without some of them
+pub additions_without : (t : TableContent) (us vs : List Term)
+    → AreAdditions (with_more t (us ++ vs)) → AreAdditions (with_more t vs)
+additions_without t us vs h = record {
+  sets =
+      let P = OfSet (IsTermSet t.width) in
+      All-from_recursion P (t.terms ++ vs)
+      (both_ends P t.terms us vs (recursion_from_All P (t.terms ++ (us ++ vs)) h.sets));
+  small =
+      omega (
+        arith,
+        h.small,
+        terms_total-append t.terms (us ++ vs),
+        terms_total-append us vs,
+        terms_total-append t.terms vs,
+      );
+}
+
+-- terms behind an empty list are the terms
+pub behind_empty : (list : List Literal) (ts : List Term) → list ≡ [] → behind list ts ≡ ts
+behind_empty list ts empty = ap (λ ls. behind ls ts) empty ∙ behind-nothing ts
+
+-- ---- all lines
+
+-- the lines of a certificate make a table
+pub lines_fit : (n : ℕ) (c : CertificateContent) → IsCertificate c → certificate_fault c ≡ None
+    → AreOfNodes n c
+    → AreAdditions (with_more (record { width = n; terms = [] }) (flat_map line_terms c.lines))
+lines_fit n c is few within =
+    additions_without (record { width = n; terms = [] }) (([], c.bound) ∷ [])
+    (flat_map line_terms c.lines) (certificate_fits n c is few within)
+
+-- those of the next line fit
+pub next_line_fits : (now : TableContent) (l : Line) (left rest : List Line) → left ≡ l ∷ rest
+    → AreAdditions (with_more now (flat_map line_terms left))
+    → AreAdditions (with_more now (line_terms l))
+next_line_fits now l left rest steps fits =
+    additions_first now (line_terms l) (flat_map line_terms rest) (flat_map line_terms left)
+    (ap (flat_map line_terms) steps) fits
+
+-- and after it the others
+pub split_lines : (now : TableContent) (l : Line) (left rest : List Line) → left ≡ l ∷ rest
+    → AreAdditions (with_more now (flat_map line_terms left))
+    → AreAdditions (with_more now (line_terms l ++ flat_map line_terms rest))
+split_lines now l left rest steps fits =
+    subst (λ (ls : List Line). AreAdditions (with_more now (flat_map line_terms ls))) steps fits
+
+-- ---- both forms
+
+-- where nothing is left of the certificate's terms less the model's, the forms are one
+pub same_forms : (m : Written) (c : CertificateContent) (none one all left : List Term)
+    → HasNone none → HasMore none (([], c.bound) ∷ []) one
+    → HasMore one (flat_map line_terms c.lines) all → HasMore left (model_terms m) all
+    → HasNone left → AreSameForms (model_terms m) (certificate_terms c)
+same_forms m c none one all left blank bound lines taken cancel set =
+    omega (
+      arith,
+      ints,
+      blank set,
+      bound set,
+      lines set,
+      taken set,
+      cancel set,
+      coefficients-append set (([], c.bound) ∷ []) (flat_map line_terms c.lines),
+    )
+
+-- and no set differs
+pub none_differs : (m : Written) (c : CertificateContent)
+    → AreSameForms (model_terms m) (certificate_terms c)
+    → None ≡ difference (model_list m) (certificate_list c)
+none_differs m c same = go (difference (model_list m) (certificate_list c)) refl
+  where
+    go : (d : Option (ℤ × ℤ)) → d ≡ difference (model_list m) (certificate_list c)
+        → None ≡ difference (model_list m) (certificate_list c)
+    go None e = e
+    go (Some found) e =
+        let says = comparison_says m c (Some found) e in absurd (says.1.differs (same says.0))

@@ -1,0 +1,16 @@
+use Rattle.std.proofs.Common.{rules, ◌≡◌, true, map, pos, subst}
+use Rattle.std.specs.List.{list_all}
+use Rattle.std.specs.Ordering.{int_eq}
+use Rattle.posiform_check.specs.Sums.{pair_term, HasNone}
+use Rattle.posiform_check.proofs.Sums.{sums_cancel}
+use Rattle.posiform_check.proofs.set_sums.SetSums.cancel.Goals as goal
+
+pub returns : goal.returns
+returns c = λ t.
+    let parts = c.self.inside in
+    let nothing : parts.constant ≡ pos 0 = search rules in
+    let tested : list_all (λ w. int_eq w (pos 0)) parts.nodes.items ≡ true = search rules in
+    let none : HasNone (map pair_term c.in_ok-pairs.pairs.items) =
+    subst (λ xs. HasNone (map pair_term xs)) c.deref-2.ensures.value (c.pairs_cancel.ensures t) in
+    sums_cancel parts.constant parts.nodes.items parts.pairs.items c.in_ok-pairs.pairs.items c.args.self
+    nothing tested c.in_ok-pairs.ensures none c.self.view_is
