@@ -7,9 +7,9 @@ use std::alloc::Global;
 use std::test::Fail;
 use whole_text::TextKind;
 
-/// Whether a run with these words over the files `a` and `m` has this status, and writes this text
-/// and this line.
-fn answers(
+/// Whether a run with these words over files of these names and texts has this status, and writes
+/// this text and this line.
+pub(crate) fn answers(
     alloc: Global,
     words: &[&str],
     texts: &[(&str, &str)],

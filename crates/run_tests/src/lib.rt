@@ -15,6 +15,8 @@ mod faults;
 #[cfg(test)]
 mod opb_texts;
 #[cfg(test)]
+mod orders;
+#[cfg(test)]
 mod pieces;
 #[cfg(test)]
 mod poly_texts;
