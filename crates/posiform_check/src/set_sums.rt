@@ -1,8 +1,8 @@
 //! Sums of coefficients, set by set, for sets of at most two nodes.
 //!
 //! A term is added to the constant or to its node at once. Those of pairs are listed, and summed in
-//! the end, when one sort has brought the terms of each pair together. What has no place here, a set
-//! of three nodes or a number that is too large, leaves the sums unsettled.
+//! the end, when one sort has brought the terms of each pair together. What has no place here, a
+//! set of three nodes or a number that is too large, leaves the sums unsettled.
 ghost use Rattle.std.specs.Prelude.{◌≡◌, ◌∷◌, ◌++◌, [], map, pos, neg_ℤ, ◌+ℤ◌, IfOk, OnOk, IfSome, IsTrue};
 ghost use Rattle.std.specs.List.{list_all};
 ghost use Rattle.std.specs.List.Sorted.{IsPermutation};
@@ -251,7 +251,7 @@ struct PairSum {
     sum: i128,
 }
 
-/// The sum with the next term, or that of the next pair; none, where a sum is not 0 or does not fit.
+/// The sum with the next term, or the next pair's; none, where a sum is not 0 or does not fit.
 fn after(sum: PairSum, next: PairTerm) -> Option<PairSum>
     ensures { IfSome result (λ s. HasMore (sum_term sum ∷ []) (pair_term next ∷ [])
         (sum_term s ∷ [])) }

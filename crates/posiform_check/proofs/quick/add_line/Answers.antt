@@ -44,4 +44,5 @@ returns-in_ok-add_plain_terms-clause-left c =
     let long = c.args.long.now in
     let made = rw own at c.in_ok-add_plain_terms.ensures.added in
     let all = made ∙ ap (with_more long) (behind_empty c.args.list.now.items ts c.requires.list) in
-    λ rest fits. additions_second long c.add_plain_terms.new.terms ts rest (ts ++ rest) refl all fits
+    λ rest fits.
+    additions_second long c.add_plain_terms.new.terms ts rest (ts ++ rest) refl all fits

@@ -29,5 +29,5 @@ returns c =
       c.index.ensures,
       same_default ws i c.index.result.now (pos 0) within,
     ) in
-    sums_node parts.constant ws parts.pairs.items i c.args.coefficient _ c.args.self.now within value
-    c.self.view_is
+    sums_node parts.constant ws parts.pairs.items i c.args.coefficient _ c.args.self.now within
+    value c.self.view_is
