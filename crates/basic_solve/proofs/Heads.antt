@@ -6,7 +6,8 @@ use Rattle.basic_solve.specs.Heads.{lists_at, AreHeads, IsTaken}
 
 -- what is seen at each place
 at-head : {A : Type 0} (heads : List ℕ) (lists : List (List A)) (i : ℕ)
-    → get_or lists 0 [] ≡ [] → get_or (lists_at heads lists) i [] ≡ get_or lists (get_or heads i 0) []
+    → get_or lists 0 [] ≡ []
+    → get_or (lists_at heads lists) i [] ≡ get_or lists (get_or heads i 0) []
 at-head [] lists i none = sym none
 at-head (head ∷ heads) lists zero none = refl
 at-head (head ∷ heads) lists (suc i) none = at-head heads lists i none
@@ -46,7 +47,8 @@ seen_set {A} heads lists node head list are lt some is =
     within = omega (arith, are.within node, is)
 
     each : (i : ℕ) → (i ≡ node) ⊎ (i ≡ node → ⊥)
-        → get_or (set lists head list) (get_or heads i 0) [] ≡ get_or (set (lists_at heads lists) node list) i []
+        → get_or (set lists head list) (get_or heads i 0) []
+        ≡ get_or (set (lists_at heads lists) node list) i []
     each i (inl e) =
         ap (λ h. get_or (set lists head list) h []) (ap (λ k. get_or heads k 0) e ∙ is)
         ∙ get_or-set_same lists head list [] within
@@ -206,40 +208,44 @@ seen_none {A = A} (suc count) = ap (λ ls. nil A ∷ ls) (seen_none {A = A} coun
 
 -- items are appended to the list of a node
 pub pushed_seen : {A X : Type 0} (items : X → List A) (heads : List ℕ) (lists : List X)
-    (old_heads : List ℕ) (old : List (List A)) (seen : List (List A)) (node place : ℕ) (had has : X)
+    (olds : List ℕ) (old : List (List A)) (seen : List (List A)) (node place : ℕ) (had has : X)
     (more : List A)
     → AreHeads heads (map items lists)
-    → lists_at heads (map items lists) ≡ lists_at old_heads old
-    → length heads ≡ length old_heads
-    → lists_at old_heads old ≡ seen → node < length seen
+    → lists_at heads (map items lists) ≡ lists_at olds old
+    → length heads ≡ length olds
+    → lists_at olds old ≡ seen → node < length seen
     → 0 < place → get_or heads node 0 ≡ place
     → had ≡ get_or lists place had → items has ≡ items had ++ more
     → lists_at heads (map items (set lists place has)) ≡ set seen node (get_or seen node [] ++ more)
-pushed_seen items heads lists old_heads old seen node place had has more are same count is lt some own read grew =
+pushed_seen items heads lists olds old seen node place had has more a e count is lt pos own read h =
     let within : place < length lists =
-    omega (arith, are.within node, own, length-map lists items) in
+    omega (arith, a.within node, own, length-map lists items) in
     let inside : node < length heads =
-    omega (arith, lt, ap length is, count, length-map old_heads (λ h. get_or old h [])) in
+    omega (arith, lt, ap length is, count, length-map olds (λ p. get_or old p [])) in
     let old_list : items had ≡ get_or seen node [] =
     ap items read
     ∙ sym (get_or-map items lists place had [] within)
-    ∙ ap (λ h. get_or (map items lists) h []) (sym own)
-    ∙ sym (at-head heads (map items lists) node are.none)
-    ∙ ap (λ ls. get_or ls node []) (same ∙ is) in
+    ∙ ap (λ p. get_or (map items lists) p []) (sym own)
+    ∙ sym (at-head heads (map items lists) node a.none)
+    ∙ ap (λ ls. get_or ls node []) (e ∙ is) in
     ap (lists_at heads) (map-set items lists place has)
-    ∙ seen_set heads (map items lists) node place (items has) are inside some own
-    ∙ (λ i. set ((same ∙ is) i) node ((grew ∙ ap (λ l. l ++ more) old_list) i))
+    ∙ seen_set heads (map items lists) node place (items has) a inside pos own
+    ∙ (λ i. set ((e ∙ is) i) node ((h ∙ ap (λ l. l ++ more) old_list) i))
 
 -- a list is taken out by an empty one
 pub taken_by_set : {A X : Type 0} (items : X → List A) (lists : List X) (place : ℕ) (none : X)
     → items none ≡ [] → place < length lists
     → IsTaken place (map items lists) (map items (set lists place none))
 taken_by_set {A} items lists place none is lt =
-    subst (IsTaken place (map items lists)) (sym (map-set items lists place none ∙ ap (set (map items lists) place) is))
+    subst (IsTaken place (map items lists))
+    (sym (map-set items lists place none ∙ ap (set (map items lists) place) is))
     (record {
       some = omega (arith, inside, length-set (map items lists) place []);
       gone = get_or-set_same (map items lists) place [] [] inside;
-      kept = λ k n l. (omega (arith, l, length-set (map items lists) place []), get_or-set_other (map items lists) place k [] [] n);
+      kept = λ k n l. (
+        omega (arith, l, length-set (map items lists) place []),
+        get_or-set_other (map items lists) place k [] [] n,
+      );
     })
   where
     inside : place < length (map items lists)

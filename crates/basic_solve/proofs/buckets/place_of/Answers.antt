@@ -15,7 +15,8 @@ returns-clause-same g c =
           let now : c.if-index-eq0.heads.items ≡ set heads c.args.node head = search rules in
           let pushed : c.if-index-eq0.lists.items ≡ vecs ++ w.new.result ∷ [] = search rules in
           let none : w.new.result.items ≡ [] = search rules in
-          let more = ap (map (λ list. list.items)) pushed ∙ map_push (λ list. list.items) vecs w.new.result
+          let more = ap (map (λ list. list.items)) pushed
+          ∙ map_push (λ list. list.items) vecs w.new.result
           ∙ ap (λ l. map (λ list. list.items) vecs ++ l ∷ []) none in
           let was : get_or heads c.args.node 0 ≡ 0 = search rules in
           (λ i. lists_at (now i) (more i))
