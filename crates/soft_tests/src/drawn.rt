@@ -1,5 +1,7 @@
 //! Drawn files of hard and soft constraints: their texts, and what their assignments cost by plain
 //! arithmetic on what was drawn.
+ghost use Rattle.std.specs.Prelude.{◌<◌};
+
 use crate::models::bit;
 use std::alloc::{AllocError, Global};
 
