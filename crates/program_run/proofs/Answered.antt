@@ -33,15 +33,15 @@ use Rattle.source_texts.proofs.Standing.{problem_stands, problem_costs}
 use Rattle.model_pipeline.specs.Models as models
 use Rattle.model_pipeline.specs.GraphModels.{ising_of}
 use Rattle.model_pipeline.specs.Extensions.{ExtendsTo, IsLeastTo, IsMadeOf}
-use Rattle.program_run.specs.declared.placements.Placement.{Placement}
-use Rattle.program_run.specs.declared.placements.Placement.TheVariants.{Nodes, Qubits}
-use Rattle.program_run.specs.declared.plans.Plan.{Plan}
-use Rattle.program_run.specs.Placements.{ties_of, demand_of}
-use Rattle.program_run.specs.Plans.{plan_of, nodes_in, StandsOn}
-use Rattle.program_run.specs.Outcome.{◌>>=◌, gives, checking, placing, planning, last_step, format_in}
+use Rattle.run_steps.specs.declared.placements.Placement.{Placement}
+use Rattle.run_steps.specs.declared.placements.Placement.TheVariants.{Nodes, Qubits}
+use Rattle.run_steps.specs.declared.plans.Plan.{Plan}
+use Rattle.run_steps.specs.Placements.{ties_of, demand_of}
+use Rattle.run_steps.specs.Plans.{plan_of, nodes_in, StandsOn}
+use Rattle.run_steps.specs.Steps.{◌>>=◌, gives, checking, placing, planning, last_step, format_in}
 use Rattle.program_run.specs.Made.{read_cost, IsExtendedBy, IsModelled, IsSolvedBy, IsTold, IsMadeText}
 use Rattle.program_run.specs.Answers.{EveryStateStands, Extends, IsAnswer, IsAskedOf, IsDecoded, IsExtended, IsLeastAsked, IsLeastExtension, IsLeastWhereWhole, IsModelFor, IsProved, IsSolved, TellsSource}
-use Rattle.program_run.proofs.Stepping.{bound}
+use Rattle.run_steps.proofs.Stepping.{bound}
 use Rattle.program_run.proofs.Taken.{source_is_taken}
 use Rattle.program_run.proofs.Widths.{has_few_nodes}
 use Rattle.program_run.proofs.Asked.{IsProvedState, stated_width, proved_is, proved_least}

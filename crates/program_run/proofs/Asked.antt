@@ -11,9 +11,9 @@ use Rattle.posiform_check.proofs.FirstFaults.{first_faults_tell}
 use Rattle.posiform_check.proofs.LeastStates.{proved_is_least}
 use Rattle.command_words.specs.declared.commands.WordAt.{WordAt}
 use Rattle.command_words.specs.Names.{text_at}
-use Rattle.program_run.specs.Outcome.{ends, stating, certifying, certified, proving, proof_end}
-use Rattle.program_run.proofs.Stepping.{bound}
-use Rattle.program_run.proofs.StateBits.{state_is_taken, state_has_width}
+use Rattle.run_steps.specs.Steps.{ends, stating, certifying, certified, proving, proof_end}
+use Rattle.run_steps.proofs.Stepping.{bound}
+use Rattle.run_steps.proofs.StateBits.{state_is_taken, state_has_width}
 
 -- so many bits were read
 pub stated_width : (held : NamedFiles) (name : List ℕ) (width : ℕ) (bits : List Bool)

@@ -6,8 +6,8 @@ use Rattle.chain_map.specs.declared.faults.CheckAnswer.TheVariants.{Fault, NoMem
 use Rattle.chain_map.specs.Faults.{IfFault}
 use Rattle.model_pipeline.specs.declared.site.Site.{Site}
 use Rattle.model_pipeline.specs.Sites.{CanStandBy, IsFaultBy}
-use Rattle.program_run.specs.declared.placements.Placement.{Placement}
-use Rattle.program_run.specs.declared.placements.Placement.TheVariants.{Qubits}
+use Rattle.run_steps.specs.declared.placements.Placement.{Placement}
+use Rattle.run_steps.specs.declared.placements.Placement.TheVariants.{Qubits}
 use Rattle.program_run.specs.Unembedded.{IsUnembeddedOn, unembedded}
 
 -- a fault of a check, where the form has no place

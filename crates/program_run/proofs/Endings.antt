@@ -6,13 +6,14 @@ use Rattle.edge_io.specs.Counts.{Counts, Rose}
 use Rattle.edge_io.specs.Held.{NamedFiles}
 use Rattle.command_words.specs.declared.names.Which.{Which}
 use Rattle.command_words.specs.declared.commands.Command.{Command}
-use Rattle.program_run.specs.declared.plans.Plan.{Plan}
-use Rattle.program_run.specs.declared.status.Status.{Status}
-use Rattle.program_run.specs.declared.status.Status.TheVariants.{Done, Usage, ReadFault, WriteFault, BadText, Limit, NotEmbedded, TooWide, NotProved, NoState, NoMemory}
-use Rattle.program_run.specs.Statuses.{IsRefusal, IsReading, IsDoneOrWant}
-use Rattle.program_run.specs.Outcome.{Steps, OfModel, IsEndOf, IsEnd, Ends, Refuses, planning, last_step, IsOutcomeOf, MeetsOutcomeOf}
+use Rattle.run_steps.specs.declared.plans.Plan.{Plan}
+use Rattle.run_steps.specs.declared.status.Status.{Status}
+use Rattle.run_steps.specs.declared.status.Status.TheVariants.{Done, Usage, ReadFault, WriteFault, BadText, Limit, NotEmbedded, TooWide, NotProved, NoState, NoMemory}
+use Rattle.run_steps.specs.Statuses.{IsRefusal, IsReading, IsDoneOrWant}
+use Rattle.run_steps.specs.Steps.{Steps, Refuses, planning, last_step}
+use Rattle.program_run.specs.Outcome.{OfModel, IsEndOf, IsEnd, Ends, IsOutcomeOf, MeetsOutcomeOf}
 use Rattle.program_run.specs.Made.{IsModelled, EndsOf}
-use Rattle.program_run.specs.Causes.{AreRefused, AreFiles}
+use Rattle.run_steps.specs.Causes.{AreRefused, AreFiles}
 use Rattle.program_run.specs.Unembedded.{IsUnembedded}
 use Rattle.program_run.proofs.OneModel.{one_model}
 

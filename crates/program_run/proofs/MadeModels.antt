@@ -5,13 +5,13 @@ use Rattle.bits_model.specs.Output.{Written, weight_total}
 use Rattle.faithful.specs.Bounds.{IsBounded}
 use Rattle.problem_form.specs.declared.limits.Choices.{Choices}
 use Rattle.problem_form.specs.Problems.{ProblemContent}
-use Rattle.program_run.specs.declared.placements.Placement.{Placement}
-use Rattle.program_run.specs.declared.placements.Placement.TheVariants.{Nodes, Qubits}
-use Rattle.program_run.specs.declared.plans.Plan.{Plan}
-use Rattle.program_run.specs.declared.status.Status.{Status}
+use Rattle.run_steps.specs.declared.placements.Placement.{Placement}
+use Rattle.run_steps.specs.declared.placements.Placement.TheVariants.{Nodes, Qubits}
+use Rattle.run_steps.specs.declared.plans.Plan.{Plan}
+use Rattle.run_steps.specs.declared.status.Status.{Status}
 use Rattle.model_pipeline.specs.Extensions.{IsMadeOf}
-use Rattle.program_run.specs.Placements.{ties_of}
-use Rattle.program_run.specs.Plans.{CanStand, IsModelBy, Stands, StandsOn}
+use Rattle.run_steps.specs.Placements.{ties_of}
+use Rattle.run_steps.specs.Plans.{CanStand, IsModelBy, Stands, StandsOn}
 use Rattle.program_run.specs.Made.{IsModelled}
 
 pub modelled_by : (plan : Plan) (result : Result Written Status) → IfOk result (IsModelBy plan)

@@ -11,9 +11,9 @@ use Rattle.model_pipeline.specs.Models.{ising_figures}
 use Rattle.model_pipeline.specs.GraphModels.{ising_of, site_chains}
 use Rattle.model_pipeline.specs.QubitModels.{kind_of, qubit_model}
 use Rattle.model_pipeline.specs.Sites.{graph_in, fabric_in}
-use Rattle.program_run.specs.declared.placements.Placement.{Placement}
-use Rattle.program_run.specs.declared.placements.Placement.TheVariants.{Nodes, Qubits}
-use Rattle.program_run.specs.Plans.{IsModelOn, PlansMakeOneModel}
+use Rattle.run_steps.specs.declared.placements.Placement.{Placement}
+use Rattle.run_steps.specs.declared.placements.Placement.TheVariants.{Nodes, Qubits}
+use Rattle.run_steps.specs.Plans.{IsModelOn, PlansMakeOneModel}
 
 one_model_on : (base : Placement) (choices : Choices) (unit : UnitChoice) (own : ℕ)
     (p : ProblemContent) (m n : Written) → IsModelOn base choices unit own p m

@@ -6,16 +6,16 @@ use Rattle.bits_model.specs.Output.{Written}
 use Rattle.basic_solve.specs.Widths.{width, IsWithinWidth, IsFirstWider}
 use Rattle.edge_io.specs.Counts.{Counts}
 use Rattle.command_words.specs.declared.names.Which.{Which}
-use Rattle.program_run.specs.declared.status.Status.{Status}
-use Rattle.program_run.specs.declared.status.Status.TheVariants.{Done, Usage, ReadFault, WriteFault, BadText, Limit, NotEmbedded, TooWide, NotProved, NoState, NoMemory}
-use Rattle.program_run.specs.Causes.{AreFilesOf}
+use Rattle.run_steps.specs.declared.status.Status.{Status}
+use Rattle.run_steps.specs.declared.status.Status.TheVariants.{Done, Usage, ReadFault, WriteFault, BadText, Limit, NotEmbedded, TooWide, NotProved, NoState, NoMemory}
+use Rattle.run_steps.specs.Causes.{AreFilesOf}
 use Rattle.basic_solve.specs.declared.answer.SolveAnswer.{SolveAnswer}
 use Rattle.basic_solve.specs.declared.answer.SolveAnswer.TheVariants as solving
-use Rattle.program_run.specs.declared.plans.Plan.{Plan}
-use Rattle.program_run.specs.Statuses.{IsRefusal, IsUnsolved}
+use Rattle.run_steps.specs.declared.plans.Plan.{Plan}
+use Rattle.run_steps.specs.Statuses.{IsRefusal, IsUnsolved}
 use Rattle.program_run.specs.Made.{IsModelled, EndsOf}
 use Rattle.program_run.specs.Unembedded.{unsolved}
-use Rattle.program_run.specs.Outcome.{ends, wide_below, width_end}
+use Rattle.run_steps.specs.Steps.{ends, wide_below, width_end}
 use Rattle.program_run.specs.Widths.{TheFirstWideNodeIsNamed}
 
 -- no node below this one is too wide

@@ -26,8 +26,8 @@ use Rattle.command_words.specs.declared.commands.Ties.{Ties}
 use Rattle.command_words.specs.declared.commands.Ties.TheVariants.{Choi, Cut}
 use Rattle.model_pipeline.specs.Models.{decoding_to}
 use Rattle.model_pipeline.specs.QubitStanding.{StandsBy}
-use Rattle.program_run.specs.declared.placements.Placement.{Placement}
-use Rattle.program_run.specs.Placements.{kind_of, ties_of, demand_of}
+use Rattle.run_steps.specs.declared.placements.Placement.{Placement}
+use Rattle.run_steps.specs.Placements.{kind_of, ties_of, demand_of}
 use Rattle.program_run.specs.Answers.{EveryStateStands, IsModelFor}
 
 -- the first variables of what a state is read as are what it is read as for them

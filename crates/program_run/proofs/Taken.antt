@@ -14,26 +14,11 @@ use Rattle.command_words.specs.declared.commands.Command.{Command}
 use Rattle.command_words.specs.Names.{text_at}
 use Rattle.source_texts.specs.declared.reading.Read.{Read}
 use Rattle.source_texts.specs.Sources.{problem_of}
-use Rattle.program_run.specs.declared.status.Status.{Status}
-use Rattle.program_run.specs.Outcome.{ends, not_too_long, taking, text_end, limits_end, format_in, sourcing, reading, checking}
+use Rattle.run_steps.specs.declared.status.Status.{Status}
+use Rattle.run_steps.specs.Steps.{ends, not_too_long, taking, text_end, limits_end, format_in, sourcing, reading, checking}
 use Rattle.program_run.specs.Answers.{IsTextIn}
-use Rattle.program_run.proofs.Stepping.{bound}
-
-kept : (long : Bool) (status : Status) (b bytes : List ℕ)
-    → Some (if long then Err status else Ok b) ≡ Some (Ok bytes) → b ≡ bytes
-kept true status b bytes e = absurd cc
-kept false status b bytes e = cc
-
-found_is_held : (which : Which) (bytes : List ℕ) (found : Option (List ℕ))
-    → option_map_or (λ b. Some (not_too_long which b)) found None ≡ Some (Ok bytes)
-    → found ≡ Some bytes
-found_is_held which bytes None e = absurd cc
-found_is_held which bytes (Some b) e = ap Some (kept (nat_lt most_bytes (length b)) _ b bytes e)
-
--- the bytes that a step took are those of the held file
-pub taken_is_held : (held : NamedFiles) (which : Which) (name bytes : List ℕ)
-    → (taking held which name).end ≡ Some (Ok bytes) → find_file held name ≡ Some bytes
-taken_is_held held which name bytes e = found_is_held which bytes (find_file held name) e
+use Rattle.run_steps.proofs.Stepping.{bound}
+use Rattle.run_steps.proofs.TakenBytes.{taken_is_held}
 
 pub text_is_read : {A : Type 0} (which : Which) (read : Result A TextFault) (x : A)
     → text_end which read ≡ Ok x → read ≡ Ok x

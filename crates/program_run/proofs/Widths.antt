@@ -29,10 +29,10 @@ use Rattle.model_pipeline.specs.declared.site.Perch.{Perch}
 use Rattle.model_pipeline.specs.declared.site.Perch.TheVariants.{Clique, Map}
 use Rattle.model_pipeline.specs.Sites.{chains_of, CanStandAt}
 use Rattle.model_pipeline.specs.GraphModels.{ising_of}
-use Rattle.program_run.specs.declared.placements.Placement.{Placement}
-use Rattle.program_run.specs.declared.placements.Placement.TheVariants as placements
-use Rattle.program_run.specs.declared.plans.Plan.{Plan}
-use Rattle.program_run.specs.Plans.{CanStandOn, CanStand, IsModelOn, IsModelBy, StandsOn, Stands}
+use Rattle.run_steps.specs.declared.placements.Placement.{Placement}
+use Rattle.run_steps.specs.declared.placements.Placement.TheVariants as placements
+use Rattle.run_steps.specs.declared.plans.Plan.{Plan}
+use Rattle.run_steps.specs.Plans.{CanStandOn, CanStand, IsModelOn, IsModelBy, StandsOn, Stands}
 
 model_nodes : (target : NodeModel) (unit : UnitChoice) (q : QuadContent) (variables : ℕ)
     (figures : Figures)

@@ -33,15 +33,15 @@ use Rattle.answer_text.specs.Answers.{decoding_text, extension_text, proof_text,
 use Rattle.basic_solve.specs.FirstLeast.{IsFirstLeast}
 use Rattle.basic_solve.specs.Stated.{TellsOptimum, whole_energy}
 use Rattle.model_pipeline.specs.Extensions.{form_nodes, extension_of, state_on}
-use Rattle.program_run.specs.declared.placements.Placement.{Placement}
-use Rattle.program_run.specs.declared.plans.Plan.{Plan}
-use Rattle.program_run.specs.Placements.{kind_of, ties_of, demand_of}
-use Rattle.program_run.specs.Plans.{nodes_in, IsModelBy}
-use Rattle.program_run.specs.Outcome.{format_in, planning, last_step}
+use Rattle.run_steps.specs.declared.placements.Placement.{Placement}
+use Rattle.run_steps.specs.declared.plans.Plan.{Plan}
+use Rattle.run_steps.specs.Placements.{kind_of, ties_of, demand_of}
+use Rattle.run_steps.specs.Plans.{nodes_in, IsModelBy}
+use Rattle.run_steps.specs.Steps.{format_in, planning, last_step}
 use Rattle.program_run.specs.declared.answers.Answer.{Answer}
 use Rattle.program_run.specs.declared.answers.Answer.TheVariants.{Model, Text}
-use Rattle.program_run.specs.declared.status.Status.{Status}
-use Rattle.program_run.specs.declared.status.Status.TheVariants.{Done, WriteFault, NoMemory}
+use Rattle.run_steps.specs.declared.status.Status.{Status}
+use Rattle.run_steps.specs.declared.status.Status.TheVariants.{Done, WriteFault, NoMemory}
 
 -- ---- a source and its model
 

@@ -1,12 +1,6 @@
-pub mod Statuses
-pub mod Placements
-pub mod Plans
 pub mod Outcome
 pub mod Widths
 pub mod Unembedded
 pub mod Made
-pub mod Causes
 pub mod Answers
 pub mod Lines
-pub mod Cut
-pub mod Drawn

@@ -19,8 +19,8 @@ use Rattle.posiform_check.specs.declared.faults.ProofFault.{ProofFault}
 use Rattle.posiform_check.specs.declared.faults.ProofFault.TheVariants.{Negative, Differs, NotZero}
 use Rattle.command_words.specs.Commands.{command_of}
 use Rattle.command_words.specs.Names.{name_of}
-use Rattle.program_run.specs.declared.status.Status.{Status}
-use Rattle.program_run.specs.declared.status.Status.TheVariants.{Done, Usage, ReadFault, WriteFault, BadText, Limit, NotEmbedded, TooWide, NotProved, NoState, NoMemory}
+use Rattle.run_steps.specs.declared.status.Status.{Status}
+use Rattle.run_steps.specs.declared.status.Status.TheVariants.{Done, Usage, ReadFault, WriteFault, BadText, Limit, NotEmbedded, TooWide, NotProved, NoState, NoMemory}
 
 -- the file that a status speaks of
 abbrev pub file_in : Status → Which

@@ -16,12 +16,13 @@ use Rattle.command_words.specs.declared.commands.Ask.{Ask}
 use Rattle.command_words.specs.declared.commands.Ask.TheVariants.{Model, Summary, Solve, Decode, Extend, Prove}
 use Rattle.source_texts.specs.declared.reading.Read.{Read}
 use Rattle.source_texts.specs.Sources.{carried}
-use Rattle.program_run.specs.declared.plans.Plan.{Plan}
-use Rattle.program_run.specs.declared.status.Status.{Status}
-use Rattle.program_run.specs.declared.status.Status.TheVariants.{Done, ReadFault, WriteFault, NoMemory}
-use Rattle.program_run.specs.Placements.{ties_of}
-use Rattle.program_run.specs.Plans.{CanStand, IsModelBy, Stands}
-use Rattle.program_run.specs.Outcome.{Steps, OfModel, IsEndOf}
+use Rattle.run_steps.specs.declared.plans.Plan.{Plan}
+use Rattle.run_steps.specs.declared.status.Status.{Status}
+use Rattle.run_steps.specs.declared.status.Status.TheVariants.{Done, ReadFault, WriteFault, NoMemory}
+use Rattle.run_steps.specs.Placements.{ties_of}
+use Rattle.run_steps.specs.Plans.{CanStand, IsModelBy, Stands}
+use Rattle.run_steps.specs.Steps.{Steps}
+use Rattle.program_run.specs.Outcome.{OfModel, IsEndOf}
 
 -- the model is that of the plan, which can stand, and stands for its problem, of which it was made
 pub record IsModelled (plan : Plan) (m : Written) : Type 0 where
@@ -86,9 +87,3 @@ EndsOf (ReadFault which) plan last = OfModel plan (λ m. Contains (last m).taken
 EndsOf NoMemory plan last = ⊤
 EndsOf WriteFault plan last = IsEndOf plan last Done
 EndsOf status plan last = IsEndOf plan last status
-
--- how many bits are read of a state or of an assignment
-abbrev pub asked_width : Ask → ℕ → Written → ℕ
-asked_width (Decode at) variables m = m.nodes
-asked_width (Prove state certificate) variables m = m.nodes
-asked_width ask variables m = variables

@@ -5,12 +5,12 @@ use Rattle.chain_map.specs.declared.faults.CheckAnswer.TheVariants.{Fault}
 use Rattle.chain_map.specs.declared.faults.CheckAnswer.TheVariants as checks
 use Rattle.basic_solve.specs.declared.answer.SolveAnswer.{SolveAnswer}
 use Rattle.basic_solve.specs.declared.answer.SolveAnswer.TheVariants as solving
-use Rattle.program_run.specs.declared.plans.Plan.{Plan}
+use Rattle.run_steps.specs.declared.plans.Plan.{Plan}
 use Rattle.ising_form.specs.Isings.{IsingContent}
-use Rattle.program_run.specs.declared.placements.Placement.{Placement}
-use Rattle.program_run.specs.Plans.{form_in, CanStandOn, IsFaultOn}
-use Rattle.program_run.specs.declared.status.Status.{Status}
-use Rattle.program_run.specs.declared.status.Status.TheVariants.{NotEmbedded, TooWide, NoMemory}
+use Rattle.run_steps.specs.declared.placements.Placement.{Placement}
+use Rattle.run_steps.specs.Plans.{form_in, CanStandOn, IsFaultOn}
+use Rattle.run_steps.specs.declared.status.Status.{Status}
+use Rattle.run_steps.specs.declared.status.Status.TheVariants.{NotEmbedded, TooWide, NoMemory}
 
 -- the status where a check refuses
 abbrev pub unembedded : CheckAnswer → Status

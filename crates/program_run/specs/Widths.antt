@@ -2,7 +2,7 @@
 use Rattle.std.specs.Prelude.{◌≡◌, ℕ, Some, None}
 use Rattle.bits_model.specs.Output.{Written}
 use Rattle.basic_solve.specs.Widths.{IsWithinWidth, IsFirstWider}
-use Rattle.program_run.specs.Outcome.{wide_below}
+use Rattle.run_steps.specs.Steps.{wide_below}
 
 -- none is where no node has more than 16 neighbours when it is eliminated, and else it is the first
 -- one that has, with its width

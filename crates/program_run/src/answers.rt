@@ -4,19 +4,19 @@ ghost use Rattle.problem_form.specs.Limits.{limit_fault};
 ghost use Rattle.command_words.specs.Commands.{HasFewClauses};
 ghost use Rattle.command_words.specs.Names.{name_of, files_of, last_files};
 ghost use Rattle.source_texts.specs.Sources.{KeepsSoft};
-ghost use Rattle.program_run.specs.Outcome.{Ends, last_step, planning};
+ghost use Rattle.run_steps.specs.Steps.{last_step, planning};
+ghost use Rattle.program_run.specs.Outcome.{Ends};
 ghost use Rattle.program_run.specs.Made.{EndsOf, IsMadeText};
-ghost use Rattle.program_run.specs.Statuses.{ended, IsRefusal};
+ghost use Rattle.run_steps.specs.Statuses.{ended, IsRefusal};
 ghost use Rattle.program_run.specs.Answers.{text_of, IsAnswer};
-ghost use Rattle.program_run.specs.Causes.{AreFiles, AreFilesOf, WhereHeld};
+ghost use Rattle.run_steps.specs.Causes.{AreFiles, AreFilesOf, WhereHeld};
 
 use crate::made::{answer_solved, answer_state, model_given};
-use crate::plans::{Plan, take_plan};
-use crate::status::Status;
 use bits_model::OutputModel;
 use command_words::{Ask, Command};
 use edge_io::Files;
 use model_text::written_summary;
+use run_steps::{Plan, Status, take_plan};
 use std::alloc::Global;
 
 /// What is written for a command: a model, whose text is written row by row, or a text.

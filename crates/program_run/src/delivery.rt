@@ -5,10 +5,10 @@ ghost use Rattle.model_text.specs.Rows.{model_text};
 ghost use Rattle.program_run.specs.Answers.{text_of, IsDelivered};
 
 use crate::answers::Answer;
-use crate::status::Status;
 use bits_model::OutputModel;
 use edge_io::{LineBuffer, Sink, write_pieces};
 use model_text::write_text;
+use run_steps::Status;
 use std::alloc::Global;
 
 /// Writes the text of a model row by row, through a buffer.

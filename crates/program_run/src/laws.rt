@@ -1,5 +1,5 @@
 //! Laws, as functions without code: each contract is a statement of `specs/`.
-ghost use Rattle.program_run.specs.Plans.{PlansMakeOneModel};
+ghost use Rattle.run_steps.specs.Plans.{PlansMakeOneModel};
 ghost use Rattle.program_run.specs.Widths.{TheFirstWideNodeIsNamed};
 
 /// A plan makes one model, on a graph too, where parents and places are the least. So `decode` and

@@ -3,28 +3,19 @@
 #![tactic(auto)]
 
 mod answers;
-mod certificates;
-mod cut;
 mod decode;
 mod delivery;
 mod extend;
-mod last;
 mod laws;
 mod lines;
 mod made;
 mod models;
 mod one_write;
-mod placements;
-mod plans;
 mod program;
 mod running;
-mod sources;
-mod states;
-mod status;
-mod steps;
 
 pub use answers::Answer;
 pub use laws::{plans_make_one_model, the_first_wide_node_is_named};
 pub use program::{exit_number, given_words};
+pub use run_steps::Status;
 pub use running::run;
-pub use status::Status;

@@ -4,12 +4,12 @@ ghost use Rattle.std.specs.List.{concat};
 ghost use Rattle.program_run.specs.Lines.{error_line, fault_pieces, kind_end, limit_words, proof_pieces, IsSaid};
 
 use crate::one_write::write_line;
-use crate::status::Status;
 use chain_map::EmbedFault;
 use edge_io::Sink;
 use itoa::Buffer;
 use posiform_check::ProofFault;
 use problem_form::LimitKind;
+use run_steps::Status;
 use whole_text::TextKind;
 
 fn kind_end(kind: TextKind) -> &'static [u8]

@@ -3,17 +3,16 @@ ghost use Rattle.std.specs.Prelude.{◌≡◌, ◌≤◌, None, IfOk, IfErr};
 ghost use Rattle.problem_form.specs.Limits.{limit_fault};
 ghost use Rattle.model_pipeline.specs.GraphModels.{ising_of};
 ghost use Rattle.model_pipeline.specs.Extensions.{IsMadeOf};
-ghost use Rattle.program_run.specs.Placements.{ties_of};
-ghost use Rattle.program_run.specs.Plans.{CanStandOn, IsModelOn, StandsOn};
+ghost use Rattle.run_steps.specs.Placements.{ties_of};
+ghost use Rattle.run_steps.specs.Plans.{CanStandOn, IsModelOn, StandsOn};
 ghost use Rattle.program_run.specs.Unembedded.{IsUnembeddedOn, unembedded};
 
-use crate::placements::Placement;
-use crate::status::Status;
 use base::UnitChoice;
 use bits_model::OutputModel;
 use chain_map::CheckAnswer;
 use model_pipeline::{Held, model_of, model_on_qubits};
 use problem_form::Choices;
+use run_steps::{Placement, Status};
 use std::alloc::Global;
 
 /// The status where a model isn't made on a graph.

@@ -1,10 +1,10 @@
 //! The program, over the real words and files.
 ghost use Rattle.std.specs.Prelude.{IfErr};
-ghost use Rattle.program_run.specs.Statuses.{IsUntaken, IsExitNumber};
+ghost use Rattle.run_steps.specs.Statuses.{IsUntaken, IsExitNumber};
 
 use crate::running::run;
-use crate::status::Status;
 use edge_io::{RealFiles, Sink};
+use run_steps::Status;
 use std::alloc::{AllocError, Global};
 use std::env;
 use std::io::ErrorKind;

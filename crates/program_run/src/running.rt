@@ -2,18 +2,18 @@
 ghost use Rattle.std.specs.Prelude.{◌≡◌, List, ℕ, map, string_bytes, IfOk};
 ghost use Rattle.edge_io.specs.Counts.{Rose};
 ghost use Rattle.command_words.specs.Commands.{asked, HasFewClauses};
-ghost use Rattle.program_run.specs.Statuses.{IsUsageOf, OnUsage, OnWriting, OnDone, OnRefusal};
+ghost use Rattle.run_steps.specs.Statuses.{IsUsageOf, OnUsage, OnWriting, OnDone, OnRefusal};
 ghost use Rattle.program_run.specs.Outcome.{MeetsOutcome, IsComplete};
-ghost use Rattle.program_run.specs.Causes.{AreFiles, WhereHeld};
+ghost use Rattle.run_steps.specs.Causes.{AreFiles, WhereHeld};
 ghost use Rattle.program_run.specs.Answers.{files_in, IsAnswered, IsDelivered};
 ghost use Rattle.program_run.specs.Lines.{error_line, name_in, name_said, file_in, IsSaid};
 
 use crate::answers::answer_to;
 use crate::delivery::deliver;
 use crate::lines::say;
-use crate::status::Status;
 use command_words::{Command, Which, command, name_of};
 use edge_io::{Files, Sink};
+use run_steps::Status;
 use std::alloc::Global;
 
 /// The file that a status speaks of.

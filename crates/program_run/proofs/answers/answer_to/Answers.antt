@@ -1,10 +1,10 @@
 use Rattle.std.proofs.Common.{map, string_bytes}
 use Rattle.command_words.specs.Names.{name_of, model_files, last_files}
-use Rattle.program_run.specs.declared.status.Status.TheVariants.{Done}
-use Rattle.program_run.specs.Outcome.{planning, last_step}
+use Rattle.run_steps.specs.declared.status.Status.TheVariants.{Done}
+use Rattle.run_steps.specs.Steps.{planning, last_step}
 use Rattle.program_run.specs.Answers.{text_of}
-use Rattle.program_run.proofs.FilesRead.{made_refused, made_then}
-use Rattle.program_run.proofs.Holding.{may_first, may_next}
+use Rattle.run_steps.proofs.FilesRead.{made_refused, made_then}
+use Rattle.run_steps.proofs.Holding.{may_first, may_next}
 use Rattle.program_run.proofs.Endings.{plan_ends}
 use Rattle.program_run.proofs.Answered.{made_answers}
 use Rattle.program_run.proofs.answers.answer_to.Goals as goal

@@ -1,5 +1,5 @@
 use Rattle.std.proofs.Common.{[], Err, Some, ap}
-use Rattle.program_run.specs.Outcome.{ends, wide_below, width_end}
+use Rattle.run_steps.specs.Steps.{ends, wide_below, width_end}
 use Rattle.program_run.proofs.Endings.{last_gives}
 use Rattle.program_run.proofs.Solving.{narrow_ends, unsolved_ends, unsolved_is}
 use Rattle.program_run.proofs.made.answer_solved.Goals as goal

@@ -1,5 +1,5 @@
 use Rattle.std.proofs.Common.{map, string_bytes}
-use Rattle.program_run.specs.Outcome.{last_step}
+use Rattle.run_steps.specs.Steps.{last_step}
 use Rattle.program_run.proofs.Endings.{last_gives, last_refuses}
 use Rattle.program_run.proofs.MadeModels.{small_weights}
 use Rattle.program_run.proofs.made.answer_state.Goals as goal

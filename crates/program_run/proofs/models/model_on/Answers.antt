@@ -1,8 +1,8 @@
 use Rattle.std.proofs.Common.{sym, subst}
 use Rattle.model_pipeline.specs.GraphModels.{ising_of}
 use Rattle.model_pipeline.specs.Extensions.{IsMadeOf}
-use Rattle.program_run.specs.declared.placements.Placement.{Placement}
-use Rattle.program_run.specs.Placements.{ties_of}
+use Rattle.run_steps.specs.declared.placements.Placement.{Placement}
+use Rattle.run_steps.specs.Placements.{ties_of}
 use Rattle.program_run.proofs.Embedded.{fault_unembedded}
 use Rattle.program_run.proofs.models.model_on.Goals as goal
 

@@ -1,7 +1,7 @@
 use Rattle.std.proofs.Common.{ℕ, IfOk, Result, map, string_bytes, subst}
 use Rattle.command_words.specs.declared.commands.Command.{Command}
 use Rattle.command_words.specs.Commands.{command_of}
-use Rattle.program_run.specs.Causes.{AreFiles}
+use Rattle.run_steps.specs.Causes.{AreFiles}
 use Rattle.program_run.proofs.Endings.{done_is_complete}
 use Rattle.program_run.proofs.running.run.Goals as goal
 

@@ -1,0 +1,186 @@
+-- A file that is cut into words as it comes.
+use Rattle.std.proofs.Common.{◌≡◌, ℕ, ◌+◌, ◌<◌, ◌≤◌, List, [], ◌++◌, length, take, Some, None, Ok, Err, Result, refl, sym, ap, ◌∙◌, subst, append_assoc, arith}
+use Rattle.std.proofs.lemmas.List.{append-nil, length-append, length-take, take-append-le}
+use Rattle.std.specs.Io.KnownBytes.{Consumes, IsAtEnd}
+use Rattle.std.specs.Prelude.{IsSomeAnd}
+use Rattle.std.specs.List.{Contains}
+use Rattle.std.proofs.lemmas.List.Elements.{Contains-append_left}
+use Rattle.std.specs.declared.option.Option.{Option}
+use Rattle.edge_io.specs.Held.{NamedFiles, find_file, IsFront, IsLonger, WhereTold}
+use Rattle.whole_text.specs.declared.token.Style.{Style}
+use Rattle.whole_text.specs.Tokens.{Word, tokens_of}
+use Rattle.whole_text.specs.Lexing.{LexerState, StandsFor}
+use Rattle.command_words.specs.declared.names.Which.{Which}
+use Rattle.command_words.specs.declared.commands.Format.{Format}
+use Rattle.command_words.specs.declared.names.Which.TheVariants.{Source}
+use Rattle.source_texts.specs.declared.reading.Read.{Read}
+use Rattle.source_texts.specs.Sources.{problem_of, problem_of_words, style_of}
+use Rattle.source_texts.proofs.WordTexts.{words_read}
+use Rattle.run_steps.specs.declared.status.Status.{Status}
+use Rattle.run_steps.specs.declared.status.Status.TheVariants.{Done, Usage, ReadFault, WriteFault, BadText, Limit, NotEmbedded, TooWide, NotProved, NoState, NoMemory}
+use Rattle.run_steps.specs.Steps.{Steps, go_on, ◌>>=◌, ends, gives, taking, text_end, Meets, Refuses}
+use Rattle.run_steps.specs.Cut.{AreWordsOf, cutting, reading_file}
+use Rattle.run_steps.proofs.Stepping.{bound, meets_next}
+
+-- the lexer of this style stands for the bytes that were taken of the file, of which the rest is left
+pub record IsCut (held : Option NamedFiles) (name : List ℕ) (style : Style) (taken : ℕ)
+    (rest : Option (List ℕ)) (lexer : LexerState) : Type 0 where
+  pub text : List ℕ
+  pub stands : StandsFor lexer text
+  pub styled : lexer.style ≡ style
+  pub counted : length text ≡ taken
+  pub front : IsFront held name text rest
+
+-- the front of a file, with the piece that was taken next
+front_more : (held : Option NamedFiles) (name front piece : List ℕ) (rest left : Option (List ℕ))
+    → IsFront held name front rest → Consumes rest left piece
+    → IsFront held name (front ++ piece) left
+front_more None name front piece rest left is taken = tt
+front_more (Some files) name front piece None left is taken = absurd (let no = is.2 in cc)
+front_more (Some files) name front piece (Some xs) None is taken = absurd taken
+front_more (Some files) name front piece (Some xs) (Some ys) is taken =
+    let same : xs ≡ is.0 = let e = is.2 in cc in
+    let cut : front ++ is.0 ≡ (front ++ piece) ++ ys =
+    ap (λ l. front ++ l) (sym same ∙ taken) ∙ sym (append_assoc front piece ys) in
+    (ys, is.1 ∙ ap Some cut, refl)
+
+-- one piece more, which came in the first bytes of a buffer
+pub cut_more : (held : Option NamedFiles) (name : List ℕ) (style : Style) (taken count : ℕ)
+    (bytes behind : List ℕ) (rest left : Option (List ℕ)) (old new : LexerState)
+    → IsCut held name style taken rest old
+    → count ≤ length bytes → Consumes rest left (take count bytes)
+    → ((text : List ℕ) → StandsFor old text → StandsFor new (text ++ take count (bytes ++ behind)))
+    → new.style ≡ old.style → IsCut held name style (taken + count) left new
+cut_more held name style taken count bytes behind rest left old new cut within consumed fed same =
+    let piece = take count bytes in
+    record {
+      text = cut.text ++ piece;
+      stands = subst (λ l. StandsFor new (cut.text ++ l)) (take-append-le count bytes behind within)
+          (fed cut.text cut.stands);
+      styled = same ∙ cut.styled;
+      counted = omega (arith, length-append cut.text piece, length-take count bytes, cut.counted);
+      front = front_more held name cut.text piece rest left cut.front consumed;
+    }
+
+whole_words : (held : Option NamedFiles) (name text : List ℕ) (limit : ℕ) (style : Style)
+    (rest : Option (List ℕ)) (words : List Word) → IsFront held name text rest → IsAtEnd rest
+    → length text ≤ limit → words ≡ tokens_of style text
+    → WhereTold held (λ h. AreWordsOf (find_file h name) limit style words)
+whole_words None name text limit style rest words is end within cut = tt
+whole_words (Some files) name text limit style None words is end within cut =
+    absurd (let no = is.2 in cc)
+whole_words (Some files) name text limit style (Some xs) words is end within cut =
+    let none : is.0 ≡ [] = let e = is.2 in cc in
+    let found : find_file files name ≡ Some text =
+    is.1 ∙ ap Some (ap (λ l. text ++ l) none ∙ append-nil text) in
+    subst (λ file. AreWordsOf file limit style words) (sym found) (within, cut)
+
+-- the words of the whole file
+pub cut_words : (held : Option NamedFiles) (name : List ℕ) (style : Style) (taken limit : ℕ)
+    (rest : Option (List ℕ)) (lexer : LexerState) (words : List Word)
+    → IsCut held name style taken rest lexer → taken ≤ limit → IsAtEnd rest
+    → ((text : List ℕ) → StandsFor lexer text → words ≡ tokens_of lexer.style text)
+    → WhereTold held (λ h. AreWordsOf (find_file h name) limit style words)
+cut_words held name style taken limit rest lexer words cut within end given =
+    whole_words held name cut.text limit style rest words cut.front end
+    (omega (arith, cut.counted, within))
+    (given cut.text cut.stands ∙ ap (λ (s : Style). tokens_of s cut.text) cut.styled)
+
+longer : (held : Option NamedFiles) (name front : List ℕ) (limit : ℕ) (rest : Option (List ℕ))
+    → IsFront held name front rest → limit < length front
+    → WhereTold held (λ h. IsLonger h name limit)
+longer None name front limit rest is more = tt
+longer (Some files) name front limit rest is more =
+    subst (λ file. IsSomeAnd file (λ bytes. limit < length bytes)) (sym is.1)
+    (omega (arith, length-append front is.0, more))
+
+-- the file is longer than was accepted
+pub cut_longer : (held : Option NamedFiles) (name : List ℕ) (style : Style) (taken count limit : ℕ)
+    (bytes : List ℕ) (rest left : Option (List ℕ)) (lexer : LexerState)
+    → IsCut held name style taken rest lexer
+    → count ≤ length bytes → Consumes rest left (take count bytes) → limit < taken + count
+    → WhereTold held (λ h. IsLonger h name limit)
+cut_longer held name style taken count limit bytes rest left lexer cut within consumed more =
+    let piece = take count bytes in
+    longer held name (cut.text ++ piece) limit left
+    (front_more held name cut.text piece rest left cut.front consumed)
+    (omega (arith, length-append cut.text piece, length-take count bytes, cut.counted, more))
+
+-- ---- reading what was cut
+
+read_once : (held : NamedFiles) (name : List ℕ) (format : Format) (style : Style)
+    (cut : List Word) (result : Result Read Status) → style ≡ style_of format
+    → (cutting held Source name style).end ≡ Some (Ok cut)
+    → Meets (λ r. r) result (ends (text_end Source (problem_of_words format cut)))
+    → Meets (λ r. r) result (reading_file held name format)
+unfolding cutting reading_file
+read_once held name format style cut result its_own e meets =
+    let taken = bound (taking held Source name) (λ bytes. gives (tokens_of style bytes)) cut e in
+    let same : tokens_of style taken.0 ≡ cut = let two = taken.2 in cc in
+    let read : problem_of_words format cut ≡ problem_of format taken.0 =
+    sym (words_read format taken.0
+    ∙ ap (problem_of_words format) (ap (λ s. tokens_of s taken.0) (sym its_own) ∙ same)) in
+    meets_next result (taking held Source name)
+    (λ bytes. ends (text_end Source (problem_of format bytes))) taken.0 taken.1
+    (subst (λ said. Meets (λ r. r) result (ends (text_end Source said))) read meets)
+
+-- what the words of a file are read into is what the file is read into
+pub read_from_words : (told : Option NamedFiles) (name : List ℕ) (format : Format) (style : Style)
+    (cut : List Word) (result : Result Read Status) → style ≡ style_of format
+    → WhereTold told (λ held. (cutting held Source name style).end ≡ Some (Ok cut))
+    → Meets (λ r. r) result (ends (text_end Source (problem_of_words format cut)))
+    → WhereTold told (λ held. Meets (λ r. r) result (reading_file held name format))
+read_from_words None name format style cut result its_own e meets = tt
+read_from_words (Some held) name format style cut result its_own e meets =
+    read_once held name format style cut result its_own e meets
+
+-- taking a file refuses alike whatever is done with its bytes
+refused_alike : {A B : Type 0} (status : Status) (held : NamedFiles) (name : List ℕ)
+    (f : List ℕ → Steps A) (g : List ℕ → Steps B)
+    → ((bytes : List ℕ) → (a : A) × (f bytes ≡ gives a))
+    → Refuses status (taking held Source name >>= f) → Refuses status (taking held Source name >>= g)
+refused_alike {A = A} status held name f g given refused =
+    go status (taking held Source name) refused
+  where
+    taken_on : (which : Which) (taken : List Which) (end : Option (Result (List ℕ) Status))
+        → Contains (go_on taken end f).taken which → Contains (go_on taken end g).taken which
+    taken_on which taken None is = is
+    taken_on which taken (Some (Err s)) is = is
+    taken_on which taken (Some (Ok bytes)) is =
+        let none = ap (λ (m : Steps A). m.taken) (given bytes).1 in
+        Contains-append_left taken (g bytes).taken which
+        (subst (λ l. Contains l which) (append-nil taken)
+        (subst (λ l. Contains (taken ++ l) which) none is))
+
+    end_on : (s : Status) (taken : List Which) (end : Option (Result (List ℕ) Status))
+        → (go_on taken end f).end ≡ Some (Err s) → (go_on taken end g).end ≡ Some (Err s)
+    end_on s taken None e = absurd cc
+    end_on s taken (Some (Err other)) e =
+        let same : other ≡ s = cc in ap (λ s. Some (Err s)) same
+    end_on s taken (Some (Ok bytes)) e =
+        let same = ap (λ (m : Steps A). m.end) (given bytes).1 in absurd cc
+
+    go : (status : Status) (m : Steps (List ℕ)) → Refuses status (m >>= f)
+        → Refuses status (m >>= g)
+    go (ReadFault which) m refused = taken_on which m.taken m.end refused
+    go NoMemory m refused = tt
+    go Done m refused = end_on Done m.taken m.end refused
+    go WriteFault m refused = end_on WriteFault m.taken m.end refused
+    go (Usage position) m refused = end_on (Usage position) m.taken m.end refused
+    go (BadText which kind line) m refused = end_on (BadText which kind line) m.taken m.end refused
+    go (Limit which kind number) m refused = end_on (Limit which kind number) m.taken m.end refused
+    go (NotEmbedded fault) m refused = end_on (NotEmbedded fault) m.taken m.end refused
+    go (NoState width) m refused = end_on (NoState width) m.taken m.end refused
+    go (TooWide node width) m refused = end_on (TooWide node width) m.taken m.end refused
+    go (NotProved fault) m refused = end_on (NotProved fault) m.taken m.end refused
+
+-- a file that could not be taken is refused
+pub read_refused : (told : Option NamedFiles) (name : List ℕ) (format : Format) (style : Style)
+    (status : Status) → WhereTold told (λ held. Refuses status (cutting held Source name style))
+    → WhereTold told (λ held. Refuses status (reading_file held name format))
+unfolding cutting reading_file
+read_refused None name format style status refused = tt
+read_refused (Some held) name format style status refused =
+    refused_alike status held name (λ bytes. gives (tokens_of style bytes))
+    (λ bytes. ends (text_end Source (problem_of format bytes)))
+    (λ bytes. (tokens_of style bytes, refl)) refused

@@ -1,0 +1,237 @@
+-- What the store of files counts where files are taken, and then others.
+use Rattle.std.proofs.Common.{◌≡◌, ◌≤◌, ℕ, zero, suc, ◌+◌, List, [], ◌∷◌, ◌++◌, length, refl, sym, ap, ◌∙◌, subst, append_assoc, arith}
+use Rattle.std.proofs.lemmas.List.{append-nil, length-append}
+use Rattle.edge_io.specs.Counts.{Counts}
+use Rattle.problem_form.specs.declared.limits.LimitKind.{LimitKind}
+use Rattle.problem_form.specs.declared.limits.LimitKind.TheVariants.{Bytes, Variables, Degree, Negations, Pairs, Weight}
+use Rattle.command_words.specs.declared.names.Which.{Which}
+use Rattle.command_words.specs.declared.names.Which.TheVariants.{State}
+use Rattle.run_steps.specs.declared.status.Status.{Status}
+use Rattle.run_steps.specs.declared.status.Status.TheVariants.{Done, Usage, ReadFault, WriteFault, BadText, Limit, NotEmbedded, TooWide, NotProved, NoState, NoMemory}
+use Rattle.run_steps.specs.Causes.{AreBegun, IsReadTo, IsTooLong, IsCause, IsLimited, last_of, AreRead, IsAt, AreRefused, AreFilesOf, IsRefusedBy}
+
+-- ---- files after others
+
+-- so many files were begun, and the count of faults did not fall
+record IsMoved (count : ℕ) (old new : Counts) : Type 0 where
+  begun : AreBegun count old new
+  later : old.faults ≤ new.faults
+
+moved : (name : Which → List ℕ) (files : List Which) (a b : Counts) → AreRead name files a b
+    → IsMoved (length files) a b
+moved name [] a b same = record {
+  begun = ap (λ (n : Counts). n.begun) same;
+  later = omega (arith, ap (λ (n : Counts). n.faults) same);
+}
+moved name (file ∷ files) a b read = record { begun = read.begun; later = read.later }
+
+begun_more : (n k : ℕ) (a b c : Counts) → AreBegun n a b → AreBegun (suc k) b c
+    → AreBegun (n + suc k) a c
+begun_more zero k a b c first next =
+    let all : AreBegun (suc k) a c = omega (arith, first, next) in
+    let same : suc k ≡ zero + suc k = omega arith in
+    subst (λ m. AreBegun m a c) same all
+begun_more (suc n) k a b c first next =
+    let all : AreBegun (suc (n + suc k)) a c = omega (arith, first, next) in
+    let same : suc (n + suc k) ≡ suc n + suc k = omega arith in
+    subst (λ m. AreBegun m a c) same all
+
+module _ (n k : ℕ) (a b c : Counts) (some : IsMoved n a b) where
+  read_more : (name : List ℕ) → IsReadTo name (suc k) b c → IsReadTo name (n + suc k) a c
+  read_more name read = record {
+    begun = begun_more n k a b c some.begun read.begun;
+    named = read.named;
+    ended = read.ended;
+    later = omega (arith, some.later, read.later);
+  }
+
+  long_more : (name : List ℕ) → IsTooLong name (suc k) b c → IsTooLong name (n + suc k) a c
+  long_more name long = record {
+    begun = begun_more n k a b c some.begun long.begun;
+    named = long.named;
+    taken = long.taken;
+    filled = long.filled;
+  }
+
+  cause_more : (name : List ℕ) → IsCause name (suc k) b c → IsCause name (n + suc k) a c
+  cause_more name cause = record {
+    rose = cause.rose;
+    later = omega (arith, some.later, cause.later);
+    named = cause.named;
+    begun = begun_more n k a b c some.begun cause.begun;
+  }
+
+  limited_more : (kind : LimitKind) (number : ℕ) (name : List ℕ)
+      → IsLimited kind number name (suc k) b c → IsLimited kind number name (n + suc k) a c
+  limited_more Bytes number name is = (is.0, long_more name is.1)
+  limited_more Variables number name is = read_more name is
+  limited_more Degree number name is = read_more name is
+  limited_more Negations number name is = read_more name is
+  limited_more Pairs number name is = read_more name is
+  limited_more Weight number name is = read_more name is
+
+at_seam : (first before : List Which)
+    → length first + suc (length before) ≡ suc (length (first ++ before))
+at_seam first before = omega (arith, length-append first before)
+
+-- a file at a number stands later behind others
+at_more : (first files : List Which) (which : Which) (P Q : ℕ → Type 0)
+    → ((k : ℕ) → P (suc k) → Q (length first + suc k)) → IsAt files which P
+    → IsAt (first ++ files) which Q
+at_more first files which P Q more at =
+    let before = at.0 in
+    let after = at.1 in (
+      first ++ before,
+      after,
+      ap (λ l. first ++ l) at.2 ∙ sym (append_assoc first before (which ∷ after)),
+      subst Q (at_seam first before) (more (length before) at.3),
+    )
+
+-- and at the same number before others
+at_first : (files more : List Which) (which : Which) (P : ℕ → Type 0) → IsAt files which P
+    → IsAt (files ++ more) which P
+at_first files more which P at = (
+  at.0,
+  at.1 ++ more,
+  ap (λ l. l ++ more) at.2 ∙ append_assoc at.0 (which ∷ at.1) more,
+  at.3,
+)
+
+last-append : (file next : Which) (files more : List Which)
+    → last_of file (files ++ next ∷ more) ≡ last_of next more
+last-append file next [] more = refl
+last-append file next (other ∷ files) more = last-append other next files more
+
+-- ---- all are read
+
+count_seam : (first : List Which) (next : Which) (files : List Which)
+    → suc (length first) + suc (length files) ≡ suc (length (first ++ next ∷ files))
+count_seam first next files = omega (arith, length-append first (next ∷ files))
+
+-- files were read, and then others
+pub read_then : (name : Which → List ℕ) (first files : List Which) (a b c : Counts)
+    → AreRead name first a b → AreRead name files b c → AreRead name (first ++ files) a c
+read_then name [] files a b c same read = subst (λ (n : Counts). AreRead name files n c) same read
+read_then name (file ∷ first) [] a b c read same =
+    subst (λ l. AreRead name (file ∷ l) a c) (sym (append-nil first))
+    (subst (λ (n : Counts). AreRead name (file ∷ first) a n) (sym same) read)
+read_then name (file ∷ first) (next ∷ files) a b c some read =
+    subst (λ w. IsReadTo (name w) (suc (length (first ++ next ∷ files))) a c)
+    (sym (last-append file next first files))
+    (subst (λ n. IsReadTo (name (last_of next files)) n a c) (count_seam first next files)
+    (read_more (suc (length first)) (length files) a b c
+    (moved name (file ∷ first) a b some) (name (last_of next files)) read))
+
+-- ---- one is refused
+
+-- files were read, and then one was refused
+pub refused_then : (name : Which → List ℕ) (first files : List Which) (status : Status)
+    (a b c : Counts) → AreRead name first a b → AreRefused name files status b c
+    → AreRefused name (first ++ files) status a c
+refused_then name first files (ReadFault which) a b c some at =
+    at_more first files which (λ n. IsCause (name which) n b c) (λ n. IsCause (name which) n a c)
+    (λ k. cause_more (length first) k a b c (moved name first a b some) (name which)) at
+refused_then name first files (Limit which kind number) a b c some at =
+    at_more first files which (λ n. IsLimited kind number (name which) n b c)
+    (λ n. IsLimited kind number (name which) n a c)
+    (λ k. limited_more (length first) k a b c (moved name first a b some) kind number (name which))
+    at
+refused_then name first files (BadText which kind line) a b c some at =
+    at_more first files which (λ n. IsReadTo (name which) n b c) (λ n. IsReadTo (name which) n a c)
+    (λ k. read_more (length first) k a b c (moved name first a b some) (name which)) at
+refused_then name first files (NoState width) a b c some at =
+    at_more first files State (λ n. IsReadTo (name State) n b c) (λ n. IsReadTo (name State) n a c)
+    (λ k. read_more (length first) k a b c (moved name first a b some) (name State)) at
+refused_then name first files NoMemory a b c some at = tt
+refused_then name first files Done a b c some at = absurd at
+refused_then name first files WriteFault a b c some at = absurd at
+refused_then name first files (Usage position) a b c some at = absurd at
+refused_then name first files (NotEmbedded fault) a b c some at = absurd at
+refused_then name first files (TooWide node width) a b c some at = absurd at
+refused_then name first files (NotProved fault) a b c some at = absurd at
+
+-- one was refused, whatever files come after it
+pub refused_first : (name : Which → List ℕ) (files more : List Which) (status : Status)
+    (a b : Counts) → AreRefused name files status a b → AreRefused name (files ++ more) status a b
+refused_first name files more (ReadFault which) a b at =
+    at_first files more which (λ n. IsCause (name which) n a b) at
+refused_first name files more (Limit which kind number) a b at =
+    at_first files more which (λ n. IsLimited kind number (name which) n a b) at
+refused_first name files more (BadText which kind line) a b at =
+    at_first files more which (λ n. IsReadTo (name which) n a b) at
+refused_first name files more (NoState width) a b at =
+    at_first files more State (λ n. IsReadTo (name State) n a b) at
+refused_first name files more NoMemory a b at = tt
+refused_first name files more Done a b at = absurd at
+refused_first name files more WriteFault a b at = absurd at
+refused_first name files more (Usage position) a b at = absurd at
+refused_first name files more (NotEmbedded fault) a b at = absurd at
+refused_first name files more (TooWide node width) a b at = absurd at
+refused_first name files more (NotProved fault) a b at = absurd at
+
+-- a file alone is refused
+pub refused_alone : (name : Which → List ℕ) (which : Which) (called : List ℕ) (status : Status)
+    (a b : Counts) → called ≡ name which → IsRefusedBy which called status a b
+    → AreRefused name (which ∷ []) status a b
+refused_alone name which called (ReadFault other) a b same by =
+    let P : Which → Type 0 = λ w. IsAt (which ∷ []) w (λ n. IsCause (name w) n a b) in
+    subst P (sym by.0) ([], [], refl, subst (λ l. IsCause l 1 a b) same by.1)
+refused_alone name which called (Limit other kind number) a b same by =
+    let P : Which → Type 0 = λ w. IsAt (which ∷ []) w (λ n. IsLimited kind number (name w) n a b) in
+    subst P (sym by.0) ([], [], refl, subst (λ l. IsLimited kind number l 1 a b) same by.1)
+refused_alone name which called (BadText other kind line) a b same by =
+    let P : Which → Type 0 = λ w. IsAt (which ∷ []) w (λ n. IsReadTo (name w) n a b) in
+    subst P (sym by.0) ([], [], refl, subst (λ l. IsReadTo l 1 a b) same by.1)
+refused_alone name which called (NoState width) a b same by =
+    let P : Which → Type 0 = λ w. IsAt (which ∷ []) w (λ n. IsReadTo (name w) n a b) in
+    subst P by.0 ([], [], refl, subst (λ l. IsReadTo l 1 a b) same by.1)
+refused_alone name which called NoMemory a b same by = tt
+refused_alone name which called Done a b same by = absurd by
+refused_alone name which called WriteFault a b same by = absurd by
+refused_alone name which called (Usage position) a b same by = absurd by
+refused_alone name which called (NotEmbedded fault) a b same by = absurd by
+refused_alone name which called (TooWide node width) a b same by = absurd by
+refused_alone name which called (NotProved fault) a b same by = absurd by
+
+-- ---- of a command
+
+-- one of the files of a model is refused
+pub made_refused : (name : Which → List ℕ) (made last : List Which) (status : Status)
+    (a b : Counts) → AreRefused name made status a b → AreFilesOf name made last status a b
+made_refused name made last (ReadFault which) a b at = refused_first name made last (ReadFault which) a b at
+made_refused name made last (Limit which kind number) a b at =
+    refused_first name made last (Limit which kind number) a b at
+made_refused name made last (BadText which kind line) a b at =
+    refused_first name made last (BadText which kind line) a b at
+made_refused name made last (NoState width) a b at =
+    refused_first name made last (NoState width) a b at
+made_refused name made last NoMemory a b at = tt
+made_refused name made last Done a b at = absurd at
+made_refused name made last WriteFault a b at = absurd at
+made_refused name made last (Usage position) a b at = absurd at
+made_refused name made last (NotEmbedded fault) a b at = absurd at
+made_refused name made last (TooWide node width) a b at = absurd at
+made_refused name made last (NotProved fault) a b at = absurd at
+
+-- those of a model were read, and then come the last ones
+pub made_then : (name : Which → List ℕ) (made last : List Which) (status : Status)
+    (a b c : Counts) → AreRead name made a b → AreFilesOf name [] last status b c
+    → AreFilesOf name made last status a c
+made_then name made last (ReadFault which) a b c some at =
+    refused_then name made last (ReadFault which) a b c some at
+made_then name made last (Limit which kind number) a b c some at =
+    refused_then name made last (Limit which kind number) a b c some at
+made_then name made last (BadText which kind line) a b c some at =
+    refused_then name made last (BadText which kind line) a b c some at
+made_then name made last (NoState width) a b c some at =
+    refused_then name made last (NoState width) a b c some at
+made_then name made last NoMemory a b c some at = tt
+made_then name made last Done a b c some read = read_then name made last a b c some read
+made_then name made last WriteFault a b c some read = read_then name made last a b c some read
+made_then name made last (Usage position) a b c some at = tt
+made_then name made last (NotEmbedded fault) a b c some same =
+    subst (λ (n : Counts). AreRead name made a n) (sym same) some
+made_then name made last (TooWide node width) a b c some same =
+    subst (λ (n : Counts). AreRead name made a n) (sym same) some
+made_then name made last (NotProved fault) a b c some read =
+    read_then name made last a b c some read

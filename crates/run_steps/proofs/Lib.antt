@@ -1,0 +1,12 @@
+pub mod Stepping
+pub mod Refusals
+pub mod FilesRead
+pub mod Holding
+pub mod Sourced
+pub mod Placed
+pub mod Planned
+pub mod Cutting
+pub mod Certified
+pub mod Sampled
+pub mod TakenBytes
+pub mod StateBits

@@ -1,0 +1,40 @@
+-- The text of a sample is read, and passes no limit.
+use Rattle.std.proofs.Common.{◌≡◌, ℕ, ◌≤◌, Ok, Err, Result, sym, ap, ◌∙◌, subst}
+use Rattle.whole_text.specs.declared.faults.TextFault.{TextFault}
+use Rattle.whole_text.specs.Steps.{◌>>=◌}
+use Rattle.problem_form.specs.Problems.{ProblemContent}
+use Rattle.command_words.specs.declared.commands.Format.TheVariants.{Wcnf}
+use Rattle.problem_form.specs.declared.limits.Normal.{Normal}
+use Rattle.problem_form.specs.declared.limits.Normal.TheVariants.{Literal}
+use Rattle.sample_text.specs.Sample.{sample_text}
+use Rattle.sample_text.proofs.EachRead.{each_sample_is_read}
+use Rattle.source_texts.specs.declared.reading.Read.{Read}
+use Rattle.source_texts.specs.Sources.{own, problem_of}
+use Rattle.run_steps.specs.Drawn.{IsDrawnInto}
+
+-- there is something that it is read into
+read_into : (number clauses : ℕ) (normal : Normal) → clauses ≤ 100000
+    → (read : Read) × IsDrawnInto number clauses normal read
+read_into number clauses normal few =
+    let law = each_sample_is_read number clauses normal few in (
+      own law.0,
+      record {
+        from = ap (λ (r : Result ProblemContent TextFault). r >>= λ p. Ok (own p)) law.1;
+        within = law.2;
+      },
+    )
+
+pub drawn_is_read : (number clauses : ℕ) (read : Read) → clauses ≤ 100000
+    → problem_of Wcnf (sample_text number clauses) ≡ Ok read
+    → (normal : Normal) → IsDrawnInto number clauses normal read
+drawn_is_read number clauses read few e normal =
+    let other = read_into number clauses normal few in
+    let same : other.0 ≡ read = let both = sym other.1.from ∙ e in cc in
+    subst (λ r. IsDrawnInto number clauses normal r) same other.1
+
+pub drawn_has_no_fault : (number clauses : ℕ) (fault : TextFault) → clauses ≤ 100000
+    → problem_of Wcnf (sample_text number clauses) ≡ Err fault → ⊥
+drawn_has_no_fault number clauses fault few e =
+    let other = read_into number clauses Literal few in
+    let both = sym other.1.from ∙ e in
+    absurd cc

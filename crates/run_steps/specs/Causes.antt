@@ -1,0 +1,121 @@
+-- Which files were begun, how far the last of them was read, and why one could not be read: by what
+-- the store of files counted before and after.
+use Rattle.std.specs.Prelude.{◌≡◌, ◌≤◌, ℕ, zero, suc, List, [], ◌∷◌, ◌++◌, length, None, Some, ⊤}
+use Rattle.std.specs.declared.option.Option.{Option}
+use Rattle.edge_io.specs.Counts.{Counts, Rose, count_after}
+use Rattle.edge_io.specs.Held.{NamedFiles}
+use Rattle.problem_form.specs.declared.limits.LimitKind.{LimitKind}
+use Rattle.problem_form.specs.declared.limits.LimitKind.TheVariants.{Bytes}
+use Rattle.command_words.specs.declared.names.Which.{Which}
+use Rattle.command_words.specs.declared.names.Which.TheVariants.{State}
+use Rattle.command_words.specs.declared.commands.Command.{Command}
+use Rattle.command_words.specs.Names.{name_of, model_files, last_files}
+use Rattle.run_steps.specs.declared.status.Status.{Status}
+use Rattle.run_steps.specs.declared.status.Status.TheVariants.{Done, Usage, ReadFault, WriteFault, BadText, Limit, NotEmbedded, TooWide, NotProved, NoState, NoMemory}
+
+-- ---- one file
+
+-- so many files were begun
+abbrev pub AreBegun : ℕ → Counts → Counts → Type 0
+AreBegun zero old new = new.begun ≡ old.begun
+AreBegun (suc n) old new = new.begun ≡ count_after old.begun (suc n)
+
+-- so many files were begun, the last of them, of this name, was read to its end and no further (one
+-- read gave nothing), and the count of faults did not fall
+pub record IsReadTo (name : List ℕ) (count : ℕ) (old new : Counts) : Type 0 where
+  pub begun : AreBegun count old new
+  pub named : new.name ≡ name
+  pub ended : new.empty_reads ≡ 1
+  pub later : old.faults ≤ new.faults
+
+-- so many files were begun, and of the last of them, of this name, one byte more than is accepted was
+-- taken and nothing else
+pub record IsTooLong (name : List ℕ) (count : ℕ) (old new : Counts) : Type 0 where
+  pub begun : AreBegun count old new
+  pub named : new.name ≡ name
+  pub taken : new.taken ≡ 16777217
+  pub filled : new.empty_reads ≡ 0
+
+-- so many files were begun, the last of them by this name, and the count of faults rose since; the
+-- count at that `begin` is at least the one before
+pub record IsCause (name : List ℕ) (count : ℕ) (old new : Counts) : Type 0 where
+  pub rose : Rose new.faults_at_begin new.faults
+  pub later : old.faults ≤ new.faults_at_begin
+  pub named : new.name ≡ name
+  pub begun : AreBegun count old new
+
+-- a file passes a limit: it is too long, as the number says, or what was read passes another
+abbrev pub IsLimited : LimitKind → ℕ → List ℕ → ℕ → Counts → Counts → Type 0
+IsLimited Bytes number name count old new = (number ≡ 16777217) × IsTooLong name count old new
+IsLimited kind number name count old new = IsReadTo name count old new
+
+-- ---- files in a row
+
+-- the last of files
+abbrev pub last_of : Which → List Which → Which
+last_of file [] = file
+last_of file (next ∷ files) = last_of next files
+
+-- the files of this list were begun and read to their ends, one after another, and no other
+abbrev pub AreRead : (Which → List ℕ) → List Which → Counts → Counts → Type 0
+AreRead name [] old new = new ≡ old
+AreRead name (file ∷ files) old new =
+    IsReadTo (name (last_of file files)) (suc (length files)) old new
+
+-- the file stands in the list, and of its number there, counted from 1, this holds
+abbrev pub IsAt : List Which → Which → (ℕ → Type 0) → Type 0
+IsAt files which P =
+    (before after : List Which) × (files ≡ before ++ which ∷ after) × P (suc (length before))
+
+-- one of these files was the last that was begun, and refused with this status
+abbrev pub AreRefused : (Which → List ℕ) → List Which → Status → Counts → Counts → Type 0
+AreRefused name files (ReadFault which) old new =
+    IsAt files which (λ count. IsCause (name which) count old new)
+AreRefused name files (Limit which kind number) old new =
+    IsAt files which (λ count. IsLimited kind number (name which) count old new)
+AreRefused name files (BadText which kind line) old new =
+    IsAt files which (λ count. IsReadTo (name which) count old new)
+AreRefused name files (NoState width) old new =
+    IsAt files State (λ count. IsReadTo (name State) count old new)
+AreRefused name files NoMemory old new = ⊤
+AreRefused name files status old new = ⊥
+
+-- what files tell at a status, where these are taken for a model, and those after it: one refused, or
+-- those of the model were read where it is not embedded or too wide, and else all
+abbrev pub AreFilesOf : (Which → List ℕ) → List Which → List Which → Status → Counts → Counts → Type 0
+AreFilesOf name made last Done old new = AreRead name (made ++ last) old new
+AreFilesOf name made last WriteFault old new = AreRead name (made ++ last) old new
+AreFilesOf name made last (NotEmbedded fault) old new = AreRead name made old new
+AreFilesOf name made last (TooWide node width) old new = AreRead name made old new
+AreFilesOf name made last (NotProved fault) old new = AreRead name (made ++ last) old new
+AreFilesOf name made last (Usage position) old new = ⊤
+AreFilesOf name made last status old new = AreRefused name (made ++ last) status old new
+
+-- what files tell at a status of a command
+abbrev pub AreFiles : List (List ℕ) → Command → Status → Counts → Counts → Type 0
+AreFiles words command status old new =
+    AreFilesOf (name_of words command) (model_files command) (last_files command) status old new
+
+-- ---- what they hold
+
+-- these files are held where a store tells them; where it tells nothing and none of them is taken,
+-- whatever files may be held
+abbrev pub MayHold : Option NamedFiles → List Which → NamedFiles → Type 0
+MayHold (Some told) files held = told ≡ held
+MayHold None [] held = ⊤
+MayHold None (file ∷ files) held = ⊥
+
+-- where these files are taken, P holds of what may be held
+abbrev pub WhereHeld : Option NamedFiles → List Which → (NamedFiles → Type 0) → Type 0
+WhereHeld told files P = (held : NamedFiles) → MayHold told files held → P held
+
+-- what a step leaves that takes a file of this name alone, and then refuses
+abbrev pub IsRefusedBy : Which → List ℕ → Status → Counts → Counts → Type 0
+IsRefusedBy which name (ReadFault other) old new = (other ≡ which) × IsCause name 1 old new
+IsRefusedBy which name (Limit other kind number) old new =
+    (other ≡ which) × IsLimited kind number name 1 old new
+IsRefusedBy which name (BadText other kind line) old new =
+    (other ≡ which) × IsReadTo name 1 old new
+IsRefusedBy which name (NoState width) old new = (which ≡ State) × IsReadTo name 1 old new
+IsRefusedBy which name NoMemory old new = ⊤
+IsRefusedBy which name status old new = ⊥

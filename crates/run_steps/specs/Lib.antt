@@ -1,0 +1,7 @@
+pub mod Statuses
+pub mod Placements
+pub mod Plans
+pub mod Steps
+pub mod Causes
+pub mod Cut
+pub mod Drawn

@@ -1,0 +1,32 @@
+-- What a model stands on, and what is asked of it there.
+use Rattle.std.specs.Prelude.{ℕ, [], false}
+use Rattle.bits_model.specs.declared.output.Kind.{Kind}
+use Rattle.base.specs.declared.unit.UnitChoice.{UnitChoice}
+use Rattle.faithful.specs.Faithful.{Demand}
+use Rattle.command_words.specs.declared.commands.Ties.{Ties}
+use Rattle.command_words.specs.declared.commands.Ties.TheVariants.{Choi}
+use Rattle.model_pipeline.specs.Models as models
+use Rattle.model_pipeline.specs.Sites.{graph_in, fabric_in, chains_of}
+use Rattle.model_pipeline.specs.QubitModels as qubits
+use Rattle.model_pipeline.specs.QubitStanding as qubits_asked
+use Rattle.run_steps.specs.declared.placements.Placement.{Placement}
+use Rattle.run_steps.specs.declared.placements.Placement.TheVariants.{Nodes, Qubits}
+
+-- the kind of the models that stand there
+abbrev pub kind_of : Placement → Kind
+kind_of (Nodes target) = models.kind_of target
+kind_of (Qubits site) = qubits.kind_of (graph_in site.qubits)
+
+-- how chains are tied there; without chains every state stands for what it is read as, as with ties
+-- that no state should break
+abbrev pub ties_of : Placement → Ties
+ties_of (Nodes target) = Choi
+ties_of (Qubits site) = site.ties
+
+-- what is asked of the model of a form with so many nodes: its unit and, on a graph, its chains,
+-- which qubits there are and which of them are joined
+abbrev pub demand_of : UnitChoice → Placement → ℕ → Demand
+demand_of unit (Nodes target) nodes =
+    record { unit = unit; chains = []; exists = λ q. false; joined = λ p q. false }
+demand_of unit (Qubits site) nodes =
+    qubits_asked.demand_of unit (fabric_in site.qubits) (chains_of site.qubits site.perch nodes)

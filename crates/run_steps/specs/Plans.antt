@@ -1,0 +1,72 @@
+-- What a model is made of, which model that is, and whether it can be made.
+use Rattle.std.specs.Prelude.{◌≡◌, ℕ, length, ⊤}
+use Rattle.base.specs.declared.unit.UnitChoice.{UnitChoice}
+use Rattle.bits_model.specs.Output.{Written}
+use Rattle.problem_form.specs.declared.limits.Choices.{Choices}
+use Rattle.problem_form.specs.Problems.{ProblemContent}
+use Rattle.ising_form.specs.Isings.{IsingContent}
+use Rattle.chain_map.specs.declared.faults.EmbedFault.{EmbedFault}
+use Rattle.source_texts.specs.declared.reading.Read.{Read}
+use Rattle.model_pipeline.specs.Models.{model, IsModelOf}
+use Rattle.model_pipeline.specs.GraphModels.{ising_of, IsModelAt, StandsAt}
+use Rattle.model_pipeline.specs.Sites.{CanStandBy, IsFaultBy}
+use Rattle.run_steps.specs.declared.placements.Placement.{Placement}
+use Rattle.run_steps.specs.declared.placements.Placement.TheVariants.{Nodes, Qubits}
+use Rattle.run_steps.specs.declared.plans.Plan.{Plan}
+
+-- the plan of what is read and chosen
+abbrev pub plan_of : Read → Choices → UnitChoice → Placement → Plan
+plan_of read choices unit base =
+    record { read = read; choices = choices; unit = unit; base = base }
+
+-- the Ising form that is put on chains
+abbrev pub form_in : Plan → IsingContent
+form_in plan = ising_of plan.choices plan.read.problem
+
+-- how many nodes it has
+abbrev pub nodes_in : Plan → ℕ
+nodes_in plan = length (form_in plan).fields
+
+-- ---- which model it makes
+
+-- the model of a problem with so many variables of its own: that of the problem or, on a graph, of
+-- its Ising form on the chains, as a check puts it there
+abbrev pub IsModelOn : Placement → Choices → UnitChoice → ℕ → ProblemContent → Written → Type 0
+IsModelOn (Nodes target) choices unit variables p m = m ≡ model choices target unit variables p
+IsModelOn (Qubits site) choices unit variables p m = IsModelAt site choices unit variables p m
+
+-- the model of a plan
+abbrev pub IsModelBy : Plan → Written → Type 0
+IsModelBy plan m =
+    IsModelOn plan.base plan.choices plan.unit plan.read.variables plan.read.problem m
+
+-- a plan makes one model
+abbrev pub PlansMakeOneModel : Type 0
+PlansMakeOneModel = (plan : Plan) (m n : Written) → IsModelBy plan m → IsModelBy plan n → m ≡ n
+
+-- the model stands for the problem
+abbrev pub StandsOn : Placement → Choices → UnitChoice → ℕ → ProblemContent → Written → Type 0
+StandsOn (Nodes target) choices unit variables p m = IsModelOf p variables target unit m
+StandsOn (Qubits site) choices unit variables p m = StandsAt site choices unit variables p m
+
+-- the model stands for the problem of the plan
+abbrev pub Stands : Plan → Written → Type 0
+Stands plan m = StandsOn plan.base plan.choices plan.unit plan.read.variables plan.read.problem m
+
+-- ---- whether it can be made
+
+-- on a graph the form has a place
+abbrev pub CanStandOn : Placement → IsingContent → Type 0
+CanStandOn (Nodes target) form = ⊤
+CanStandOn (Qubits site) form = CanStandBy site form
+
+abbrev pub CanStand : Plan → Type 0
+CanStand plan = CanStandOn plan.base (form_in plan)
+
+-- why it has none
+abbrev pub IsFaultOn : Placement → IsingContent → EmbedFault → Type 0
+IsFaultOn (Nodes target) form fault = ⊥
+IsFaultOn (Qubits site) form fault = IsFaultBy site form fault
+
+abbrev pub IsFaultIn : Plan → EmbedFault → Type 0
+IsFaultIn plan fault = IsFaultOn plan.base (form_in plan) fault

@@ -1,0 +1,245 @@
+-- The steps of a command: a line each, and the first one that refuses ends them.
+use Rattle.std.specs.Prelude.{◌≡◌, ℕ, zero, suc, ◌+◌, Bool, List, [], ◌∷◌, ◌++◌, length, nat_lt, if◌then◌else◌, Ok, Err, Some, None, Result, Contains, ⊤}
+use Rattle.std.specs.declared.option.Option.{Option}
+use Rattle.std.specs.Option.{option_map_or}
+use Rattle.edge_io.specs.Held.{NamedFiles, find_file}
+use Rattle.bits_model.specs.Output.{Written}
+use Rattle.whole_text.specs.declared.faults.TextFault.{TextFault}
+use Rattle.problem_form.specs.declared.limits.LimitFault.{LimitFault}
+use Rattle.problem_form.specs.declared.limits.LimitKind.TheVariants.{Bytes}
+use Rattle.problem_form.specs.Limits.{limit_fault, most_bytes}
+use Rattle.command_words.specs.declared.names.Which.{Which}
+use Rattle.command_words.specs.declared.names.Which.TheVariants.{Source, Dead, Map, State, Certificate}
+use Rattle.command_words.specs.declared.commands.Format.{Format}
+use Rattle.command_words.specs.declared.commands.Format.TheVariants.{Wcnf}
+use Rattle.command_words.specs.declared.commands.Origin.{Origin}
+use Rattle.command_words.specs.declared.commands.Origin.TheVariants.{File, Drawn}
+use Rattle.command_words.specs.declared.commands.Board.{Board}
+use Rattle.command_words.specs.declared.commands.Chaining.{Chaining}
+use Rattle.command_words.specs.declared.commands.Chaining.TheVariants as chainings
+use Rattle.command_words.specs.declared.commands.Target.{Target}
+use Rattle.command_words.specs.declared.commands.Target.TheVariants as targets
+use Rattle.command_words.specs.declared.commands.Ask.{Ask}
+use Rattle.command_words.specs.declared.commands.Ask.TheVariants.{Model, Summary, Solve, Decode, Extend, Prove}
+use Rattle.command_words.specs.declared.commands.WordAt.{WordAt}
+use Rattle.command_words.specs.declared.commands.Command.{Command}
+use Rattle.command_words.specs.Names.{text_at}
+use Rattle.sample_text.specs.Sample.{sample_text}
+use Rattle.chimera_graph.specs.declared.chimera.Chimera.{Chimera}
+use Rattle.chain_map.specs.Maps as maps
+use Rattle.working_graph.specs.Working.{WorkingGraph}
+use Rattle.working_graph.specs.DeadLists.{working_of}
+use Rattle.source_texts.specs.declared.reading.Read.{Read}
+use Rattle.source_texts.specs.Sources.{problem_of}
+use Rattle.state_file.specs.States.{state_of}
+use Rattle.basic_solve.specs.Widths.{width}
+use Rattle.posiform_check.specs.declared.faults.ProofFault.{ProofFault}
+use Rattle.posiform_check.specs.BitForms.{CertificateContent}
+use Rattle.posiform_check.specs.Certificates.{certificate_fault}
+use Rattle.posiform_check.specs.FirstFaults.{proof_fault}
+use Rattle.posiform_check.specs.Texts as certificates
+use Rattle.model_pipeline.specs.declared.site.Qubits.{Qubits}
+use Rattle.model_pipeline.specs.declared.site.Qubits.TheVariants as which
+use Rattle.model_pipeline.specs.declared.site.Perch.{Perch}
+use Rattle.model_pipeline.specs.declared.site.Perch.TheVariants as perches
+use Rattle.model_pipeline.specs.declared.site.Site.{Site}
+use Rattle.run_steps.specs.declared.placements.Placement.{Placement}
+use Rattle.run_steps.specs.declared.placements.Placement.TheVariants as placements
+use Rattle.run_steps.specs.declared.plans.Plan.{Plan}
+use Rattle.run_steps.specs.Plans.{plan_of}
+use Rattle.run_steps.specs.declared.status.Status.{Status}
+use Rattle.run_steps.specs.declared.status.Status.TheVariants.{ReadFault, BadText, Limit, TooWide, NotProved, NoState, NoMemory}
+
+-- ---- steps
+
+-- the files that steps took, one after another, and how they end: with a value, with the status that
+-- refuses, or not at all where the last of those files isn't held
+pub record Steps (A : Type 0) : Type 0 where
+  pub taken : List Which
+  pub end : Option (Result A Status)
+
+-- no file is taken
+abbrev pub ends : {A : Type 0} → Result A Status → Steps A
+ends result = record { taken = []; end = Some result }
+
+abbrev pub gives : {A : Type 0} → A → Steps A
+gives x = ends (Ok x)
+
+-- steps, and the next ones with their value
+abbrev pub go_on : {A B : Type 0} → List Which → Option (Result A Status) → (A → Steps B) → Steps B
+go_on taken None f = record { taken = taken; end = None }
+go_on taken (Some (Ok x)) f = record { taken = taken ++ (f x).taken; end = (f x).end }
+go_on taken (Some (Err status)) f = record { taken = taken; end = Some (Err status) }
+
+infixl 10 ◌>>=◌
+abbrev pub ◌>>=◌ : {A B : Type 0} → Steps A → (A → Steps B) → Steps B
+m >>= f = go_on m.taken m.end f
+
+-- the bytes of a file, unless it is too long
+abbrev pub not_too_long : Which → List ℕ → Result (List ℕ) Status
+not_too_long which bytes =
+    if nat_lt most_bytes (length bytes)
+    then Err (Limit which Bytes (most_bytes + 1))
+    else Ok bytes
+
+-- taking the bytes of a file of this name
+abbrev pub taking : NamedFiles → Which → List ℕ → Steps (List ℕ)
+taking held which name = record {
+  taken = which ∷ [];
+  end = option_map_or (λ bytes. Some (not_too_long which bytes)) (find_file held name) None;
+}
+
+-- what a text is read into, or its fault
+abbrev pub text_end : {A : Type 0} → Which → Result A TextFault → Result A Status
+text_end which (Ok x) = Ok x
+text_end which (Err fault) = Err (BadText which fault.kind fault.line)
+
+-- what is within the limits, or the one that it passes
+abbrev pub limits_end : {A : Type 0} → Which → A → Option LimitFault → Result A Status
+limits_end which x None = Ok x
+limits_end which x (Some fault) = Err (Limit which fault.kind fault.number)
+
+-- so many bits, or that a text has no such state
+abbrev pub state_end : ℕ → Option (List Bool) → Result (List Bool) Status
+state_end width (Some bits) = Ok bits
+state_end width None = Err (NoState width)
+
+-- ---- of a command
+
+-- the format of a source
+abbrev pub format_in : Origin → Format
+format_in (File format at) = format
+format_in (Drawn number clauses) = Wcnf
+
+-- taking the text of a source: that of a file, or the one that is drawn
+unfoldable pub sourcing : List (List ℕ) → NamedFiles → Origin → Steps (List ℕ)
+sourcing words held (File format at) = taking held Source (text_at words at)
+sourcing words held (Drawn number clauses) = gives (sample_text number clauses)
+
+-- and then reading it
+unfoldable pub reading : List (List ℕ) → NamedFiles → Origin → Steps Read
+reading words held origin = do
+  text ← sourcing words held origin
+  ends (text_end Source (problem_of (format_in origin) text))
+
+-- and then checking its limits
+unfoldable pub checking : List (List ℕ) → NamedFiles → Command → Steps Read
+checking words held command = do
+  read ← reading words held command.origin
+  ends (limits_end Source read (limit_fault command.choices.normal read.problem))
+
+-- what a dead list leaves of a graph, read from the file of this name
+unfoldable pub working : NamedFiles → List ℕ → Chimera → Steps WorkingGraph
+working held name graph = do
+  bytes ← taking held Dead name
+  ends (text_end Dead (working_of graph bytes))
+
+-- the qubits that chains may stand on: all, or those that the dead list leaves that is named
+unfoldable pub surveying : List (List ℕ) → NamedFiles → Chimera → Option WordAt → Steps Qubits
+surveying words held graph None = gives (which.All graph)
+surveying words held graph (Some at) = do
+  w ← working held (text_at words at) graph
+  gives (which.Working w)
+
+-- the chains of a map, read from the file of this name
+unfoldable pub mapping : NamedFiles → List ℕ → Steps (List (List ℕ))
+mapping held name = do
+  bytes ← taking held Map name
+  ends (text_end Map (maps.reading bytes))
+
+-- where the chains come from, with the map that is named
+unfoldable pub perching : List (List ℕ) → NamedFiles → Chaining → Steps Perch
+perching words held chainings.Clique = gives perches.Clique
+perching words held (chainings.Map at) = do
+  map ← mapping held (text_at words at)
+  gives (perches.Map map)
+
+-- where chains stand, and how they are tied
+unfoldable pub siting : List (List ℕ) → NamedFiles → Board → Steps Site
+siting words held board = do
+  qubits ← surveying words held board.graph board.dead
+  perch ← perching words held board.chains
+  gives (record { qubits = qubits; perch = perch; ties = board.ties })
+
+-- what the model stands on
+unfoldable pub placing : List (List ℕ) → NamedFiles → Target → Steps Placement
+placing words held (targets.Nodes target) = gives (placements.Nodes target)
+placing words held (targets.Chimera board) = do
+  site ← siting words held board
+  gives (placements.Qubits site)
+
+-- what the model of a command is made of
+unfoldable pub planning : List (List ℕ) → NamedFiles → Command → Steps Plan
+planning words held command = do
+  read ← checking words held command
+  base ← placing words held command.target
+  gives (plan_of read command.choices command.unit base)
+
+-- so many bits, read from the file of this name
+unfoldable pub stating : NamedFiles → List ℕ → ℕ → Steps (List Bool)
+stating held name width = do
+  bytes ← taking held State name
+  ends (state_end width (state_of width bytes))
+
+-- the first node to be eliminated that is too wide, of the nodes below this one, with its width
+abbrev pub wide_below : Written → ℕ → Option (ℕ × ℕ)
+wide_below m zero = None
+wide_below m (suc v) = if nat_lt 16 (width m v) then Some (v, width m v) else wide_below m v
+
+-- no node is too wide, or the first one that is
+abbrev pub width_end : Option (ℕ × ℕ) → Result (List Bool) Status
+width_end None = Ok []
+width_end (Some node) = Err (TooWide node.0 node.1)
+
+-- a certificate within its limits, for a model of so many nodes, read from the file of this name
+unfoldable pub certifying : NamedFiles → List ℕ → ℕ → Steps CertificateContent
+certifying held name nodes = do
+  bytes ← taking held Certificate name
+  certificate ← ends (text_end Certificate (certificates.reading nodes bytes))
+  ends (limits_end Certificate certificate (certificate_fault certificate))
+
+-- the bits that are proved, or the first fault of the proof
+abbrev pub proof_end : List Bool → Option ProofFault → Result (List Bool) Status
+proof_end bits None = Ok bits
+proof_end bits (Some fault) = Err (NotProved fault)
+
+-- a state of a model, where the certificate in the file of this name proves it
+unfoldable pub certified : NamedFiles → List ℕ → Written → List Bool → Steps (List Bool)
+certified held name m bits = do
+  certificate ← certifying held name m.nodes
+  ends (proof_end bits (proof_fault m certificate bits))
+
+-- a state of a model, read from a file, and then the certificate that has to prove it
+unfoldable pub proving : List (List ℕ) → NamedFiles → WordAt → WordAt → Written → Steps (List Bool)
+proving words held state certificate m = do
+  bits ← stating held (text_at words state) m.nodes
+  certified held (text_at words certificate) m bits
+
+-- what is read once the model stands: a state of it, an assignment of the source, or nothing; a
+-- model to be solved may be too wide, and a state that is to be proved may not be
+abbrev pub last_step : List (List ℕ) → NamedFiles → Ask → Plan → Written → Steps (List Bool)
+last_step words held Model plan m = gives []
+last_step words held Summary plan m = gives []
+last_step words held Solve plan m = ends (width_end (wide_below m m.nodes))
+last_step words held (Decode at) plan m = stating held (text_at words at) m.nodes
+last_step words held (Extend at) plan m = stating held (text_at words at) plan.read.variables
+last_step words held (Prove state certificate) plan m = proving words held state certificate m
+
+-- how many bits are read of a state or of an assignment
+abbrev pub asked_width : Ask → ℕ → Written → ℕ
+asked_width (Decode at) variables m = m.nodes
+asked_width (Prove state certificate) variables m = m.nodes
+asked_width ask variables m = variables
+
+-- ---- what functions return of it
+
+-- steps refuse as a status says: a file that cannot be read was taken by them
+abbrev pub Refuses : {A : Type 0} → Status → Steps A → Type 0
+Refuses (ReadFault which) steps = Contains steps.taken which
+Refuses NoMemory steps = ⊤
+Refuses status steps = steps.end ≡ Some (Err status)
+
+-- what a function returned, seen by view, is what the steps give
+abbrev pub Meets : {X A : Type 0} → (X → A) → Result X Status → Steps A → Type 0
+Meets view (Ok x) steps = steps.end ≡ Some (Ok (view x))
+Meets view (Err status) steps = Refuses status steps

@@ -1,0 +1,78 @@
+//! A file that is cut into words as it comes, so that its text isn't held.
+ghost use Rattle.std.specs.Prelude.{◌≡◌, ◌+◌, ◌^◌, ◌<◌, ◌≤◌, ◌↔◌, length, IfOk, OnOk, IsErrOf, string_bytes};
+ghost use Rattle.edge_io.specs.Counts.{count_after, Rose};
+ghost use Rattle.edge_io.specs.Held.{WhereTold, IsLonger, find_file};
+ghost use Rattle.whole_text.specs.TokenTexts.{words_of};
+ghost use Rattle.run_steps.specs.Cut.{AreWordsOf};
+
+use edge_io::{Files, ReadAnswer, take_piece};
+use std::alloc::Global;
+use whole_text::{Lexer, Style, TokenText};
+
+/// How many bytes are taken at once, at most; they stand on the stack.
+const PIECE: usize = 65_536;
+
+/// The words of the named file, which has at most `limit` bytes, cut in a style. They take no more
+/// bytes than the file.
+pub fn read_words<F: Files>(
+    alloc: Global,
+    files: &mut F,
+    name: String,
+    limit: usize,
+    style: Style,
+) -> Result<TokenText, ReadAnswer>
+    requires { limit < 2 ^ 32 }
+    ensures words { IfOk result (λ text. WhereTold (F.held files.old) (λ held.
+        AreWordsOf (find_file held (string_bytes name)) limit style (words_of text))) }
+    ensures short { IfOk result (λ text. length text.bytes ≤ limit) }
+
+    // One read gives nothing, and then no more is read.
+    ensures to_end { OnOk result ((F.counts files.new).empty_reads ≡ 1) }
+    ensures no_end { IsErrOf result ReadAnswer.TooLong → (F.counts files.new).empty_reads ≡ 0 }
+
+    // The file was begun once, under this name and before any read, whatever the answer.
+    ensures begun { (F.counts files.new).begun ≡ count_after (F.counts files.old).begun 1 }
+    ensures marked { (F.counts files.new).faults_at_begin ≡ (F.counts files.old).faults }
+    ensures named { (F.counts files.new).name ≡ string_bytes name }
+    ensures held { F.held files.new ≡ F.held files.old }
+
+    ensures no_fall { (F.counts files.old).faults ≤ (F.counts files.new).faults }
+    ensures fault { IsErrOf result ReadAnswer.ReadFault →
+        Rose (F.counts files.old).faults (F.counts files.new).faults }
+    ensures unheld { WhereTold (F.held files.old) (λ held.
+        find_file held (string_bytes name) ≡ None → IsErrOf result ReadAnswer.ReadFault) }
+
+    // One byte beyond the limit tells that a file is too long, and no more is taken.
+    ensures at_most { (F.counts files.new).taken ≤ limit + 1 }
+    ensures too_long { IsErrOf result ReadAnswer.TooLong
+        ↔ ((F.counts files.new).taken ≡ limit + 1) }
+    ensures longer { IsErrOf result ReadAnswer.TooLong →
+        WhereTold (F.held files.old) (λ held. IsLonger held (string_bytes name) limit) }
+{
+    if files.begin(name).is_err() {
+        return Err(ReadAnswer::ReadFault);
+    }
+    let mut lexer = Lexer::new(alloc, style);
+    let mut piece = [0u8; PIECE];
+    let mut taken = 0;
+    loop {
+        let room = PIECE.min(limit + 1 - taken);
+        let Ok(count) = take_piece(files, &mut piece[..room]) else {
+            return Err(ReadAnswer::ReadFault);
+        };
+        if count == 0 {
+            return match lexer.finish() {
+                Ok(text) => Ok(text),
+                Err(_) => Err(ReadAnswer::NoMemory),
+            };
+        }
+        // The length is known before memory is asked for, so `TooLong` does not depend on memory.
+        if taken + count > limit {
+            return Err(ReadAnswer::TooLong);
+        }
+        match lexer.feed(&piece[..count]) {
+            Ok(()) => taken += count,
+            Err(_) => return Err(ReadAnswer::NoMemory),
+        }
+    }
+}

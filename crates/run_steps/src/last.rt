@@ -1,0 +1,63 @@
+//! What is read once a model stands: a state of it, which a certificate may have to prove, or an
+//! assignment of its source.
+ghost use Rattle.std.specs.Prelude.{◌≡◌, ◌≤◌, ◌^◌, [], Some, length, map, string_bytes, IfOk, IfErr};
+ghost use Rattle.bits_model.specs.Output.{weight_total};
+ghost use Rattle.command_words.specs.Names.{name_of, last_files, state_of};
+ghost use Rattle.run_steps.specs.Steps.{Meets, last_step, asked_width};
+ghost use Rattle.run_steps.specs.Statuses.{ended, IsReading};
+ghost use Rattle.run_steps.specs.Causes.{AreFilesOf, WhereHeld};
+
+use crate::certificates::take_proof;
+use crate::plans::Plan;
+use crate::states::take_state;
+use crate::status::Status;
+use bits_model::OutputModel;
+use command_words::{Ask, Command, WordAt};
+use edge_io::Files;
+use source_texts::Read;
+use std::alloc::Global;
+
+/// How many bits are asked for: those of a state of the model, or of an assignment.
+fn width_of(ask: Ask, read: &Read, model: &OutputModel) -> usize
+    ensures { result ≡ asked_width ask read.now.variables model.now }
+{
+    match ask {
+        Ask::Decode(_) | Ask::Prove(..) => model.nodes as usize,
+        _ => read.variables as usize,
+    }
+}
+
+/// Takes the files that come after a model, and reads the bits that a command asks for.
+pub fn take_last<F: Files>(
+    alloc: Global,
+    words: &[String],
+    command: Command,
+    at: WordAt,
+    plan: &Plan,
+    model: &OutputModel,
+    files: &mut F,
+) -> Result<Vec<bool>, Status>
+    requires asked { state_of command.ask ≡ Some at }
+    requires small { weight_total model.now.entries ≤ 2 ^ 121 }
+    ensures step { WhereHeld (F.held files.old) (last_files command) (λ held.
+        Meets (λ bits. bits.items) result
+        (last_step (map string_bytes words.now) held command.ask plan.now model.now)) }
+    ensures width { IfOk result (λ bits.
+        length bits.items ≡ asked_width command.ask plan.now.read.variables model.now) }
+    ensures files { AreFilesOf (name_of (map string_bytes words.now) command) [] (last_files command)
+        (ended result) (F.counts files.old) (F.counts files.new) }
+    ensures refusal { IfErr result IsReading }
+{
+    let width = width_of(command.ask, &plan.read, model);
+    let bits = match take_state(alloc, words, command, at, width, files) {
+        Ok(bits) => bits,
+        Err(status) => return Err(status),
+    };
+    match command.ask {
+        Ask::Prove(_, at) => match take_proof(alloc, words, command, at, model, bits, files) {
+            Ok(bits) => Ok(bits),
+            Err(status) => Err(status),
+        },
+        _ => Ok(bits),
+    }
+}

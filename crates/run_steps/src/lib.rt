@@ -1,0 +1,17 @@
+//! The steps of a run that take files: each gives a value, or the status that refuses.
+#![tactic(auto)]
+
+mod certificates;
+mod cut;
+mod last;
+mod placements;
+mod plans;
+mod sources;
+mod states;
+mod status;
+mod steps;
+
+pub use last::take_last;
+pub use placements::Placement;
+pub use plans::{Plan, take_plan};
+pub use status::Status;

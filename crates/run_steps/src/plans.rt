@@ -1,0 +1,65 @@
+//! What the model of a command is made of.
+ghost use Rattle.std.specs.Prelude.{◌≡◌, None, map, string_bytes, IfOk, OnOk, IfErr};
+ghost use Rattle.problem_form.specs.Limits.{limit_fault};
+ghost use Rattle.command_words.specs.Commands.{HasFewClauses};
+ghost use Rattle.command_words.specs.Names.{name_of, model_files};
+ghost use Rattle.source_texts.specs.Sources.{KeepsSoft};
+ghost use Rattle.run_steps.specs.Steps.{Meets, planning};
+ghost use Rattle.run_steps.specs.Statuses.{IsRefusal};
+ghost use Rattle.run_steps.specs.Causes.{AreRead, AreRefused, WhereHeld};
+
+use crate::placements::{Placement, take_placement};
+use crate::sources::take_source;
+use crate::status::Status;
+use base::UnitChoice;
+use command_words::Command;
+use edge_io::Files;
+use problem_form::Choices;
+use source_texts::Read;
+use std::alloc::Global;
+
+/// What a model is made of: what its source is read into, how that becomes a model, and what the
+/// model stands on.
+#[derive(Drop)]
+pub struct Plan {
+    pub read: Read,
+    pub choices: Choices,
+    pub unit: UnitChoice,
+    pub base: Placement,
+}
+
+/// Takes the files that the model of a command is made of, and reads them.
+pub fn take_plan<F: Files>(
+    alloc: Global,
+    words: &[String],
+    command: Command,
+    files: &mut F,
+) -> Result<Plan, Status>
+    requires { HasFewClauses command.origin }
+    ensures step { WhereHeld (F.held files.old) (model_files command) (λ held.
+        Meets (λ plan. plan) result (planning (map string_bytes words.now) held command)) }
+    ensures held { F.held files.new ≡ F.held files.old }
+    ensures within { IfOk result (λ plan.
+        limit_fault plan.choices.normal plan.read.problem ≡ None) }
+    ensures kept { IfOk result (λ plan. KeepsSoft plan.read) }
+    ensures passed { OnOk result (AreRead (name_of (map string_bytes words.now) command)
+        (model_files command) (F.counts files.old) (F.counts files.new)) }
+    ensures refused { IfErr result (λ status. AreRefused
+        (name_of (map string_bytes words.now) command) (model_files command) status
+        (F.counts files.old) (F.counts files.new)) }
+    ensures refusal { IfErr result IsRefusal }
+{
+    let read = match take_source(alloc, words, command, files) {
+        Ok(read) => read,
+        Err(status) => return Err(status),
+    };
+    match take_placement(alloc, words, command, files) {
+        Ok(base) => Ok(Plan {
+            read,
+            choices: command.choices,
+            unit: command.unit,
+            base,
+        }),
+        Err(status) => Err(status),
+    }
+}

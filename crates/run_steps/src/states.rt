@@ -1,0 +1,79 @@
+//! A state of a model or an assignment of a source, read from a file.
+ghost use Rattle.std.specs.Prelude.{◌≡◌, None, Some, Bool, List, Option, length, map, string_bytes, IfOk, OnOk, IfErr, IsErrOf};
+ghost use Rattle.edge_io.specs.Held.{WhereTold};
+ghost use Rattle.command_words.specs.Names.{name_of, if_named, state_of, text_at};
+ghost use Rattle.run_steps.specs.Steps.{Meets, ends, state_end, stating};
+ghost use Rattle.run_steps.specs.Statuses.{IsReading, IsStateRefusal};
+ghost use Rattle.run_steps.specs.Causes.{AreRead, AreRefused, IsReadTo, IsRefusedBy, WhereHeld};
+
+use crate::status::Status;
+use crate::steps::take_bytes;
+use command_words::{Command, Which, WordAt, text_at};
+use edge_io::Files;
+use state_file::{StateAnswer, read_state};
+use std::alloc::Global;
+
+/// The bits that a text is read into, or the status where it has none of this length.
+fn judged_state(read: Result<Vec<bool>, StateAnswer>, width: usize) -> Result<Vec<bool>, Status>
+    ensures step { (said : Option (List Bool)) → IfOk read (λ bits. said ≡ Some bits.items)
+        → (IsErrOf read StateAnswer.NoState → said ≡ None)
+        → Meets (λ bits. bits.items) result (ends (state_end width said)) }
+    ensures good { IfOk result (λ bits. read ≡ Ok bits) }
+    ensures bad { IfErr result IsStateRefusal }
+{
+    match read {
+        Ok(bits) => Ok(bits),
+        Err(StateAnswer::NoState) => Err(Status::NoState(width)),
+        Err(StateAnswer::NoMemory) => Err(Status::NoMemory),
+    }
+}
+
+/// Takes a file of this name, and reads so many bits from it.
+#[tactic(auto, unfolding(crate::specs::Steps::stating), using(crate::proofs::StateBits::state_has_width))]
+fn take_bits<F: Files>(
+    alloc: Global,
+    name: &str,
+    width: usize,
+    files: &mut F,
+) -> Result<Vec<bool>, Status>
+    ensures step { WhereTold (F.held files.old) (λ held. Meets (λ bits. bits.items) result
+        (stating held name.now width)) }
+    ensures width { IfOk result (λ bits. length bits.items ≡ width) }
+    ensures held { F.held files.new ≡ F.held files.old }
+    ensures passed { OnOk result (IsReadTo name.now 1 (F.counts files.old) (F.counts files.new)) }
+    ensures refused { IfErr result (λ status. IsRefusedBy Which.State name.now status
+        (F.counts files.old) (F.counts files.new)) }
+{
+    let text = take_bytes(alloc, name, Which::State, files)?;
+    let read = read_state(alloc, &text, width);
+    drop(text);
+    judged_state(read, width)
+}
+
+/// Takes the file of a command's state or assignment, and reads so many bits from it.
+pub fn take_state<F: Files>(
+    alloc: Global,
+    words: &[String],
+    command: Command,
+    at: WordAt,
+    width: usize,
+    files: &mut F,
+) -> Result<Vec<bool>, Status>
+    requires { state_of command.ask ≡ Some at }
+    ensures step { WhereHeld (F.held files.old) (if_named command Which.State) (λ held.
+        Meets (λ bits. bits.items) result
+        (stating held (text_at (map string_bytes words.now) at) width)) }
+    ensures held { F.held files.new ≡ F.held files.old }
+    ensures width { IfOk result (λ bits. length bits.items ≡ width) }
+    ensures passed { OnOk result (AreRead (name_of (map string_bytes words.now) command)
+        (if_named command Which.State) (F.counts files.old) (F.counts files.new)) }
+    ensures refused { IfErr result (λ status. AreRefused
+        (name_of (map string_bytes words.now) command) (if_named command Which.State) status
+        (F.counts files.old) (F.counts files.new)) }
+    ensures refusal { IfErr result IsReading }
+{
+    match take_bits(alloc, text_at(words, at), width, files) {
+        Ok(bits) => Ok(bits),
+        Err(status) => Err(status),
+    }
+}
