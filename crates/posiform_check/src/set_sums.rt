@@ -8,6 +8,7 @@ ghost use Rattle.std.specs.List.{list_all};
 ghost use Rattle.std.specs.List.Sorted.{IsPermutation};
 ghost use Rattle.std.specs.Ordering.{int_eq};
 ghost use Rattle.term_table.specs.MultipliedOut.{plain_terms};
+ghost use Rattle.posiform_check.specs.declared.set_sums.Unsettled.TheVariants as reasons;
 ghost use Rattle.posiform_check.specs.BitForms.{node_set, pair_set};
 ghost use Rattle.posiform_check.specs.Sums.{pair_term, sum_term, HasMore, HasNone};
 
@@ -24,6 +25,8 @@ pub(crate) enum Unsettled {
 }
 
 impl From<NoMemory> for Unsettled {
+    ghost from_gives = { λ _ reason. reason ≡ reasons.NoMemory };
+
     fn from(_: NoMemory) -> Unsettled {
         Unsettled::NoMemory
     }

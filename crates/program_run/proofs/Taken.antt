@@ -1,11 +1,10 @@
 -- What the steps that take a file have found where they succeed.
-use Rattle.std.proofs.Common.{◌≡◌, ℕ, List, length, Ok, Err, Some, None, Result, ap, subst, Bool, true, false, if◌then◌else◌, nat_lt}
+use Rattle.std.proofs.Common.{◌≡◌, ℕ, List, Ok, Err, Some, None, Result, subst}
 use Rattle.std.specs.declared.option.Option.{Option}
-use Rattle.std.specs.Option.{option_map_or}
-use Rattle.edge_io.specs.Held.{NamedFiles, find_file}
+use Rattle.edge_io.specs.Held.{NamedFiles}
 use Rattle.whole_text.specs.declared.faults.TextFault.{TextFault}
 use Rattle.problem_form.specs.declared.limits.LimitFault.{LimitFault}
-use Rattle.problem_form.specs.Limits.{limit_fault, most_bytes}
+use Rattle.problem_form.specs.Limits.{limit_fault}
 use Rattle.command_words.specs.declared.names.Which.{Which}
 use Rattle.command_words.specs.declared.names.Which.TheVariants.{Source}
 use Rattle.command_words.specs.declared.commands.Origin.{Origin}
@@ -14,8 +13,7 @@ use Rattle.command_words.specs.declared.commands.Command.{Command}
 use Rattle.command_words.specs.Names.{text_at}
 use Rattle.source_texts.specs.declared.reading.Read.{Read}
 use Rattle.source_texts.specs.Sources.{problem_of}
-use Rattle.run_steps.specs.declared.status.Status.{Status}
-use Rattle.run_steps.specs.Steps.{ends, not_too_long, taking, text_end, limits_end, format_in, sourcing, reading, checking}
+use Rattle.run_steps.specs.Steps.{ends, text_end, limits_end, format_in, sourcing, reading, checking}
 use Rattle.program_run.specs.Answers.{IsTextIn}
 use Rattle.run_steps.proofs.Stepping.{bound}
 use Rattle.run_steps.proofs.TakenBytes.{taken_is_held}

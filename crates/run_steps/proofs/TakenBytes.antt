@@ -1,5 +1,5 @@
 -- The bytes that a step takes are those of the held file.
-use Rattle.std.proofs.Common.{◌≡◌, ℕ, List, length, Ok, Err, Some, None, Result, ap, Bool, true, false, if◌then◌else◌, nat_lt}
+use Rattle.std.proofs.Common.{◌≡◌, ℕ, List, length, Ok, Err, Some, None, ap, Bool, true, false, if◌then◌else◌, nat_lt}
 use Rattle.std.specs.declared.option.Option.{Option}
 use Rattle.std.specs.Option.{option_map_or}
 use Rattle.edge_io.specs.Held.{NamedFiles, find_file}
