@@ -8,6 +8,8 @@ pub mod FreePlaces
 pub mod FaultsOn
 pub mod LineRows
 pub mod PartRows
+pub mod LineParts
 pub mod RisingNumbers
 pub mod LeftParts
 pub mod NamedParts
+pub mod NotedLists

@@ -1,16 +1,14 @@
 -- The parts that rows name, one row after another, and one line after another.
-use Rattle.std.proofs.Common.{◌≡◌, ℕ, ◌+◌, ◌-◌, ◌≤◌, ◌++◌, List, [], ◌∷◌, length, get_or, take, drop, All, Ok, Err, refl, sym, ap, subst, ◌∙◌, arith}
+use Rattle.std.proofs.Common.{◌≡◌, ℕ, ◌+◌, ◌++◌, List, [], ◌∷◌, Ok, Err, refl, sym, ap, ◌∙◌}
 use Rattle.std.specs.Prelude.{Result}
-use Rattle.std.proofs.lemmas.List.{append_assoc, append-nil, take_all}
+use Rattle.std.proofs.lemmas.List.{append_assoc, append-nil}
 use Rattle.whole_text.specs.declared.faults.TextFault.{TextFault}
 use Rattle.whole_text.specs.declared.faults.TextAnswer.{TextAnswer}
 use Rattle.whole_text.specs.declared.faults.TextAnswer.TheVariants.{Bad, NoMemory}
 use Rattle.whole_text.specs.declared.token.Style.TheVariants.{Plain}
-use Rattle.whole_text.specs.declared.token.Token.{Token}
-use Rattle.whole_text.specs.Tokens.{Word, word_at, words_at, tokens_of_line, tokens_from, IsWithin, AreInOrder}
+use Rattle.whole_text.specs.Tokens.{Word, tokens_of_line, tokens_from}
 use Rattle.whole_text.specs.Rows.{by_line, each}
 use Rattle.whole_text.specs.Steps.{◌>>=◌, Fails}
-use Rattle.whole_text.proofs.Order.{order_wider, order_within}
 use Rattle.whole_text.proofs.Rows.{row_of}
 use Rattle.chimera_graph.specs.declared.chimera.Chimera.{Chimera}
 use Rattle.chain_map.specs.Maps.{after_front}
@@ -73,62 +71,19 @@ each_fails read front (x ∷ xs) ys f fails =
 -- ---- one line
 
 -- a line without words
-pub parts_none : (graph : Chimera) (front : List DeadPart) (ws : List Word) → ws ≡ []
-    → after_front front (parts_of_words graph ws) ≡ Ok front
+pub parts_none : (graph : Chimera) (ws : List Word) → ws ≡ [] → parts_of_words graph ws ≡ Ok []
 unfolding parts_of_words each by_line
-parts_none graph front ws none = rw none (ap Ok (append-nil front))
+parts_none graph ws none = rw none refl
 
 -- a line that names a part, or is bad
-one_said : (front : List DeadPart) (said : Result DeadPart TextFault)
-    → after_front front (said >>= λ part. Ok (part ∷ []))
-    ≡ said >>= λ part. Ok (front ++ part ∷ [])
-one_said front (Ok part) = refl
-one_said front (Err f) = refl
-
-pub line_says : (graph : Chimera) (front : List DeadPart) (n : ℕ) (line : List ℕ) (w : Word)
-    (ws : List Word) → tokens_of_line Plain n line ≡ w ∷ ws
-    → after_front front (parts_of_words graph (tokens_of_line Plain n line))
-    ≡ part_at graph (row_of w ws) >>= λ part. Ok (front ++ part ∷ [])
+pub line_says : (graph : Chimera) (n : ℕ) (line : List ℕ) (w : Word) (ws : List Word)
+    → tokens_of_line Plain n line ≡ w ∷ ws
+    → parts_of_words graph (tokens_of_line Plain n line)
+    ≡ part_at graph (row_of w ws) >>= λ part. Ok (part ∷ [])
 unfolding parts_of_words each
-line_says graph front n line w ws said =
-    ap (λ vs. after_front front (each (part_at graph) (by_line vs))) said
-    ∙ ap (λ rows. after_front front (each (part_at graph) rows)) (one_row Plain n line w ws said)
-    ∙ one_said front (part_at graph (row_of w ws))
-
--- the tokens of a line, in a list that was emptied before
-pub tokens_within : (text : List ℕ) (old new seen : List Token) (start end : ℕ) → old ≡ []
-    → (AreInOrder 0 old start → AreInOrder 0 new end) → end ≤ length text → seen ≡ new
-    → All (IsWithin text) seen
-tokens_within text old new seen start end none ordered low same =
-    let before = subst (λ (ts : List Token). AreInOrder 0 ts start) (sym none) (omega arith) in
-    subst (λ (ts : List Token). All (IsWithin text) ts) (sym same)
-    (order_within text new (order_wider 0 new end (length text) (ordered before) low))
-
-pub tokens_said : (text : List ℕ) (old new seen : List Token) (ws : List Word) → old ≡ []
-    → words_at text new ≡ words_at text old ++ ws → seen ≡ new → words_at text seen ≡ ws
-tokens_said text old new seen ws none cut same =
-    ap (words_at text) same ∙ cut ∙ ap (λ (ts : List Token). words_at text ts ++ ws) none
-
-pub nothing_said : (text : List ℕ) (ts : List Token) (ws : List Word) → length ts ≤ 0
-    → words_at text ts ≡ ws → ws ≡ []
-nothing_said text [] ws low said = sym said
-nothing_said text (t ∷ ts) ws low said = absurd (omega (arith, low))
-
-rest_is : (t : Token) (ts : List Token) → take (length (t ∷ ts) - 1) (drop 1 (t ∷ ts)) ≡ ts
-rest_is t ts = take_all (length (t ∷ ts) - 1) ts (omega arith)
-
--- what they say, the first one and the others
-pub tokens_say : (graph : Chimera) (front : List DeadPart) (n : ℕ) (line text : List ℕ)
-    (ts : List Token) (d : Token) → 1 ≤ length ts → words_at text ts ≡ tokens_of_line Plain n line
-    → after_front front (parts_of_words graph (tokens_of_line Plain n line))
-    ≡ part_at graph
-    (row_of (word_at text (get_or ts 0 d)) (words_at text (take (length ts - 1) (drop 1 ts))))
-    >>= λ part. Ok (front ++ part ∷ [])
-tokens_say graph front n line text [] d some said = absurd (omega (arith, some))
-tokens_say graph front n line text (t ∷ ts) d some said =
-    line_says graph front n line (word_at text t) (words_at text ts) (sym said)
-    ∙ ap (λ (us : List Token). part_at graph (row_of (word_at text t) (words_at text us))
-    >>= λ part. Ok (front ++ part ∷ [])) (sym (rest_is t ts))
+line_says graph n line w ws said =
+    ap (λ vs. each (part_at graph) (by_line vs)) said
+    ∙ ap (each (part_at graph)) (one_row Plain n line w ws said)
 
 -- ---- one line after another
 
@@ -172,4 +127,6 @@ line_fails graph front n line before after (Bad f) cut fails =
 pub lines_end : (graph : Chimera) (front : List DeadPart) (n : ℕ)
     → after_front front (parts_from graph n []) ≡ Ok front
 unfolding tokens_from
-lines_end graph front n = parts_none graph front (tokens_from Plain n []) refl
+lines_end graph front n =
+    ap (after_front front) (parts_none graph (tokens_from Plain n []) refl)
+    ∙ ap Ok (append-nil front)

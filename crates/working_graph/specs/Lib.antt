@@ -5,4 +5,5 @@ pub mod laws
 pub mod Places
 pub mod Faults
 pub mod DeadLists
+pub mod NotedParts
 pub mod Stated

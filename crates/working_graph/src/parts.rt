@@ -1,12 +1,17 @@
 //! Dead parts of a graph, and the lines that name them: the number of a qubit, or those of two that
-//! the graph joins.
-ghost use Rattle.std.specs.Prelude.{◌≡◌, ◌<◌, All, IfOk};
+//! the graph joins. The words of a line are read where they stand.
+ghost use Rattle.std.specs.Prelude.{◌≡◌, ◌<◌, ◌≤◌, length, map, take, slice_range, IfOk, IfSome};
+ghost use Rattle.std.specs.List.{position_or_len};
+ghost use Rattle.std.specs.Option.{option_to_list};
 ghost use Rattle.chimera_graph.specs.Graph.{qubits_of};
-ghost use Rattle.whole_text.specs.Tokens.{IsWithin, words_at, word_at};
-ghost use Rattle.working_graph.specs.DeadLists.{qubit_at, joined_at, rest_at, part_at, IsPartOf};
+ghost use Rattle.whole_text.specs.declared.token.Style.TheVariants.{Plain};
+ghost use Rattle.whole_text.specs.Tokens.{is_blank, word, words, tokens_of_line};
+ghost use Rattle.whole_text.specs.Steps.{GivesAlways};
+ghost use Rattle.working_graph.specs.DeadLists.{qubit_at, joined_at, rest_at, parts_of_words, IsPartOf};
 
+use crate::digits::first_number;
 use chimera_graph::{Chimera, Hardware};
-use whole_text::{TextFault, TextKind, Token, fault, natural};
+use whole_text::{TextFault, TextKind, blank_len, fault};
 
 /// A dead qubit, or a dead coupler by its two qubits.
 #[derive(Clone, Copy, Debug, PartialEq, Eq)]
@@ -15,75 +20,96 @@ pub enum DeadPart {
     Coupler(u32, u32),
 }
 
-/// The qubit of the graph that a token is the number of.
+/// The qubit of the graph that the first word is the number of, and the length of the word.
 #[tactic(auto, unfolding(crate::specs::DeadLists::qubit_at))]
 #[inline(always)]
-fn qubit_at(graph: &Chimera, text: &[u8], token: Token) -> Result<u32, TextFault>
-    requires { IsWithin text.now token }
-    ensures read { result ≡ qubit_at graph.now (word_at text.now token) }
-    ensures below { IfOk result (λ q. q < qubits_of graph.now) }
+fn first_qubit(graph: &Chimera, bytes: &[u8], line: u64) -> Result<(u32, usize), TextFault>
+    ensures value { GivesAlways (λ x. x.0) result
+        (qubit_at graph.now (word line (take (position_or_len is_blank bytes.now) bytes.now))) }
+    ensures len { IfOk result (λ x. x.1 ≡ position_or_len is_blank bytes.now) }
+    ensures below { IfOk result (λ x. x.0 < qubits_of graph.now) }
 {
-    let number = natural(text, token, 0)?;
+    let (number, len) = first_number(bytes, line)?;
     if number < u64::from(graph.qubits()) {
-        Ok(number as u32)
+        Ok((number as u32, len))
     } else {
-        Err(fault(TextKind::Range, token.line))
+        Err(fault(TextKind::Range, line))
     }
 }
 
-/// The qubit of the graph that a token is the number of, which is joined to another one.
+/// The same for a qubit that is joined to another one.
 #[tactic(auto, unfolding(crate::specs::DeadLists::joined_at))]
-fn joined_at(graph: &Chimera, from: u32, text: &[u8], token: Token) -> Result<u32, TextFault>
-    requires within { IsWithin text.now token }
-    requires qubit { from < qubits_of graph.now }
-    ensures read { result ≡ joined_at graph.now from (word_at text.now token) }
-    ensures below { IfOk result (λ q. q < qubits_of graph.now) }
+fn first_joined(
+    graph: &Chimera,
+    from: u32,
+    bytes: &[u8],
+    line: u64,
+) -> Result<(u32, usize), TextFault>
+    requires { from < qubits_of graph.now }
+    ensures value { GivesAlways (λ x. x.0) result (joined_at graph.now from
+        (word line (take (position_or_len is_blank bytes.now) bytes.now))) }
+    ensures len { IfOk result (λ x. x.1 ≡ position_or_len is_blank bytes.now) }
+    ensures below { IfOk result (λ x. x.0 < qubits_of graph.now) }
 {
-    let qubit = qubit_at(graph, text, token)?;
+    let (qubit, len) = first_qubit(graph, bytes, line)?;
     if graph.joined(from, qubit) {
-        Ok(qubit)
+        Ok((qubit, len))
     } else {
-        Err(fault(TextKind::Range, token.line))
+        Err(fault(TextKind::Range, line))
     }
 }
 
-/// The part whose first qubit is this one, by the tokens that follow on the line.
-#[tactic(auto, unfolding(crate::specs::DeadLists::rest_at))]
-fn rest_at(graph: &Chimera, from: u32, text: &[u8], others: &[Token]) -> Result<DeadPart, TextFault>
+/// The part whose first qubit is this one, by the words that stand from `start` to `end`, all of
+/// them on this line.
+#[inline(always)]
+fn rest_of_line(
+    graph: &Chimera,
+    from: u32,
+    text: &[u8],
+    start: usize,
+    end: usize,
+    line: u64,
+) -> Result<DeadPart, TextFault>
     requires qubit { from < qubits_of graph.now }
-    requires within { All (IsWithin text.now) others.now }
-    ensures read { result ≡ rest_at graph.now from (words_at text.now others.now) }
+    requires ordered { start ≤ end }
+    requires within { end ≤ length text.now }
+    ensures read { result ≡ rest_at graph.now from
+        (map (word line) (words (slice_range text.now start end))) }
     ensures kept { IfOk result (IsPartOf graph.now) }
 {
-    match others {
-        [] => Ok(DeadPart::Qubit(from)),
-        [other, rest @ ..] => {
-            let to = joined_at(graph, from, text, *other)?;
-            match rest {
-                [] => Ok(DeadPart::Coupler(from, to)),
-                [more, ..] => Err(fault(TextKind::Extra, more.line)),
-            }
-        }
+    let at = start + blank_len(&text[start..end]);
+    if at == end {
+        return Ok(DeadPart::Qubit(from));
+    }
+    let (to, len) = first_joined(graph, from, &text[at..end], line)?;
+    let after = at + len;
+    let last = after + blank_len(&text[after..end]);
+    if last == end {
+        Ok(DeadPart::Coupler(from, to))
+    } else {
+        Err(fault(TextKind::Extra, line))
     }
 }
 
-/// The part that a line names, by its first token and the others.
-#[tactic(auto, unfolding(crate::specs::DeadLists::part_at))]
+/// The part that a line names, if it has words and is no comment.
 #[inline(always)]
-pub(crate) fn part_at(
+pub(crate) fn part_of_line(
     graph: &Chimera,
     text: &[u8],
-    first: Token,
-    others: &[Token],
-) -> Result<DeadPart, TextFault>
-    requires first { IsWithin text.now first }
-    requires others { All (IsWithin text.now) others.now }
-    ensures read { result ≡ part_at graph.now (record {
-      first = word_at text.now first;
-      others = words_at text.now others.now;
-    }) }
-    ensures kept { IfOk result (IsPartOf graph.now) }
+    start: usize,
+    end: usize,
+    line: u64,
+) -> Result<Option<DeadPart>, TextFault>
+    requires ordered { start ≤ end }
+    requires within { end ≤ length text.now }
+    ensures read { GivesAlways option_to_list result
+        (parts_of_words graph.now (tokens_of_line Plain line (slice_range text.now start end))) }
+    ensures kept { IfOk result (λ part. IfSome part (IsPartOf graph.now)) }
 {
-    let from = qubit_at(graph, text, first)?;
-    rest_at(graph, from, text, others)
+    let at = start + blank_len(&text[start..end]);
+    if at == end || text[at] == b'c' {
+        return Ok(None);
+    }
+    let (qubit, len) = first_qubit(graph, &text[at..end], line)?;
+    Ok(Some(rest_of_line(graph, qubit, text, at + len, end, line)?))
 }

@@ -20,7 +20,7 @@ pub(crate) fn qubit_at(graph: &Chimera, row: u32, col: u32, side: u32, at: u32) 
 }
 
 /// How many cells the diagonal has.
-fn diagonal_of(graph: &Chimera) -> u32
+pub(crate) fn diagonal_of(graph: &Chimera) -> u32
     ensures { result ≡ diagonal_of graph.now }
 {
     min(graph.rows, graph.cols)
@@ -34,7 +34,7 @@ pub(crate) fn clique_places(graph: &Chimera) -> u32
 }
 
 /// The qubit of a place after so many steps on its way.
-fn chain_qubit(graph: &Chimera, place: u32, steps: u32) -> u32
+pub(crate) fn chain_qubit(graph: &Chimera, place: u32, steps: u32) -> u32
     requires place { place < clique_places graph.now }
     requires steps { steps < diagonal_of graph.now + 1 }
     ensures { result ≡ slice_index_or (clique_chain graph.now place) steps 0 }

@@ -1,64 +1,69 @@
-//! The dead parts that a text names, line by line. The tokens of a line go into one list, which is
-//! used again for the next line.
-ghost use Rattle.std.specs.Prelude.{◌≡◌, ◌≤◌, All, length, slice_range, IfOk, OnOk};
+//! The text of a dead list, line by line, and what is left of a graph without the parts that it
+//! names.
+ghost use Rattle.std.specs.Prelude.{◌≡◌, ◌≤◌, length, List, slice_range, IfOk, IfErr};
+ghost use Rattle.chimera_graph.specs.Graph.{qubits_of};
 ghost use Rattle.whole_text.specs.declared.token.Style.TheVariants.{Plain};
 ghost use Rattle.whole_text.specs.Tokens.{tokens_of_line};
-ghost use Rattle.whole_text.specs.Steps.{Gives};
+ghost use Rattle.whole_text.specs.Steps.{Fails, Gives};
 ghost use Rattle.chain_map.specs.Maps.{after_front};
-ghost use Rattle.working_graph.specs.DeadLists.{parts_of_words, dead_parts, IsPartOf};
+ghost use Rattle.working_graph.specs.declared.parts.DeadPart.{DeadPart};
+ghost use Rattle.working_graph.specs.DeadLists.{parts_of_words, dead_parts, working_of, IsLeftBy};
+ghost use Rattle.working_graph.specs.NotedParts.{AreNoted, Notes};
 
-use crate::parts::{DeadPart, part_at};
-use chimera_graph::Chimera;
+use crate::noted::Noted;
+use crate::parts::part_of_line;
+use crate::working::Working;
+use chimera_graph::{Chimera, Hardware};
 use std::alloc::Global;
-use whole_text::{Style, TextAnswer, Token, line_len, push_line};
+use whole_text::{TextAnswer, line_len};
 
-/// Adds the part that a line names, if it has words and is no comment.
+/// Notes the part that a line names, if it has words and is no comment.
 #[inline(always)]
-fn push_part(
+fn note_line(
     graph: &Chimera,
     text: &[u8],
     start: usize,
     end: usize,
     line: u64,
-    tokens: &mut Vec<Token>,
-    parts: &mut Vec<DeadPart>,
+    noted: &mut Noted,
 ) -> Result<(), TextAnswer>
     requires ordered { start ≤ end }
     requires within { end ≤ length text.now }
-    ensures read { Gives (λ _. parts.new.items) result (after_front parts.old.items
+    requires marks { length noted.old.dead.items ≡ qubits_of graph.now }
+    ensures { (parts : List DeadPart) → AreNoted graph.now parts noted.old
+        → Notes graph.now (λ _. noted.new) result (after_front parts
         (parts_of_words graph.now (tokens_of_line Plain line (slice_range text.now start end)))) }
-    ensures kept { All (IsPartOf graph.now) parts.old.items
-        → OnOk result (All (IsPartOf graph.now) parts.new.items) }
 {
-    tokens.clear();
-    push_line(tokens, text, start, end, line, Style::Plain)?;
-    match tokens.as_slice() {
-        [] => {}
-        [first, others @ ..] => parts.push(part_at(graph, text, *first, others)?)?,
+    match part_of_line(graph, text, start, end, line)? {
+        Some(part) => Ok(noted.add(part)?),
+        None => Ok(()),
     }
-    Ok(())
 }
 
 /// The dead parts that a text names, or the first fault of the text.
-pub(crate) fn read_parts(
-    alloc: Global,
-    text: &[u8],
-    graph: &Chimera,
-) -> Result<Vec<DeadPart>, TextAnswer>
-    ensures read { Gives (λ parts. parts.items) result (dead_parts graph.now text.now) }
-    ensures kept { IfOk result (λ parts. All (IsPartOf graph.now) parts.items) }
+fn read_parts(alloc: Global, text: &[u8], graph: &Chimera) -> Result<Noted, TextAnswer>
+    ensures { Notes graph.now (λ noted. noted) result (dead_parts graph.now text.now) }
 {
-    let mut tokens = Vec::new(alloc);
-    let mut parts = Vec::new(alloc);
+    let mut noted = Noted::none(alloc, graph.qubits())?;
     let mut start = 0;
     let mut line = 1;
     loop {
         let end = start + line_len(&text[start..]);
-        push_part(graph, text, start, end, line, &mut tokens, &mut parts)?;
+        note_line(graph, text, start, end, line, &mut noted)?;
         if end == text.len() {
-            return Ok(parts);
+            return Ok(noted);
         }
         start = end + 1;
         line += 1;
     }
+}
+
+/// What is left of a graph without the dead parts that a text names, or the text's first fault.
+pub fn read_dead(alloc: Global, text: &[u8], chimera: Chimera) -> Result<Working, TextAnswer>
+    ensures read { IfOk result (IsLeftBy chimera text.now) }
+    ensures fault { IfErr result (λ e. Fails e (dead_parts chimera text.now)) }
+    ensures exact { Gives (λ w. w) result (working_of chimera text.now) }
+{
+    let Noted { dead, cut } = read_parts(alloc, text, &chimera)?;
+    Ok(Working::of(alloc, chimera, dead, cut)?)
 }

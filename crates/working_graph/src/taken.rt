@@ -15,21 +15,21 @@ ghost use Rattle.working_graph.specs.Places.{
 };
 
 use crate::parting::is_parted;
-use crate::path::{clique_places, fill_chain};
+use crate::path::{chain_qubit, clique_places, diagonal_of, fill_chain};
 use crate::working::Working;
 use base::NoMemory;
 use chain_map::ChainMap;
 use chimera_graph::Hardware;
 use std::alloc::Global;
 
-/// Whether all qubits of a chain work.
-fn all_exist(working: &Working, chain: &[u64]) -> bool
-    requires { (j : ℕ) → j < length chain.now
-        → slice_index_or chain.now j 0 < qubits_of working.now.graph }
-    ensures { result ≡ list_all (exists_in working.now) chain.now }
+/// Whether all qubits of a place work. They are looked at on the way, without a list of them.
+fn all_exist(working: &Working, place: u32) -> bool
+    requires { place < clique_places working.now.graph }
+    ensures { result ≡ list_all (exists_in working.now) (clique_chain working.now.graph place) }
 {
-    for k in 0..chain.len() {
-        if !working.exists(chain[k] as u32) {
+    let graph = working.graph();
+    for steps in 0..diagonal_of(&graph) + 1 {
+        if !working.exists(chain_qubit(&graph, place, steps)) {
             return false;
         }
     }
@@ -50,32 +50,45 @@ fn are_linked(working: &Working, chain: &[u64]) -> bool
     true
 }
 
-/// Whether all qubits of a chain work, and each next two are joined.
-fn is_whole(working: &Working, chain: &[u64]) -> bool
-    requires { (j : ℕ) → j < length chain.now
-        → slice_index_or chain.now j 0 < qubits_of working.now.graph }
-    ensures { result ≡ is_whole (fabric_of working.now) chain.now }
+/// Whether all qubits of a place work, and each next two are joined. Its chain is then in the list,
+/// in place of what the list had.
+fn is_whole(working: &Working, place: u32, chain: &mut Vec<u64>) -> Result<bool, NoMemory>
+    requires { place < clique_places working.now.graph }
+    ensures whole { IfOk result (λ whole. whole
+        ≡ is_whole (fabric_of working.now) (clique_chain working.now.graph place)) }
+    ensures filled { IfOk result (λ whole. whole ≡ true
+        → chain.new.items ≡ clique_chain working.now.graph place) }
 {
-    if !all_exist(working, chain) {
-        return false;
+    if !all_exist(working, place) {
+        return Ok(false);
     }
-    are_linked(working, chain)
+    let graph = working.graph();
+    fill_chain(&graph, place, chain)?;
+    Ok(are_linked(working, chain))
 }
 
-/// Whether a place may be taken after the marked ones.
-fn is_free(working: &Working, chain: &[u64], marks: &[bool], place: u32) -> bool
-    requires chain { chain.now ≡ clique_chain working.now.graph place }
+/// Whether a place may be taken after the marked ones. Its chain is then in the list, in place of
+/// what the list had.
+fn is_free(
+    working: &Working,
+    marks: &[bool],
+    place: u32,
+    chain: &mut Vec<u64>,
+) -> Result<bool, NoMemory>
     requires place { place < clique_places working.now.graph }
     requires len { length marks.now ≡ clique_places working.now.graph }
     requires earlier { (u : ℕ) → is_marked marks.now u ≡ true → u < place }
-    ensures { (xs : List ℕ) → AreMarked marks.now xs
+    ensures free { IfOk result (λ free. (xs : List ℕ) → AreMarked marks.now xs
         → AreTaken (fabric_of working.now) (clique_chain working.now.graph) place xs
-        → result ≡ is_free (fabric_of working.now) (clique_chain working.now.graph) xs place }
+        → free ≡ is_free (fabric_of working.now) (clique_chain working.now.graph) xs place) }
+    ensures filled { IfOk result (λ free. free ≡ true
+        → chain.new.items ≡ clique_chain working.now.graph place) }
 {
-    if !is_whole(working, chain) {
-        return false;
+    let whole = is_whole(working, place, chain)?;
+    if !whole {
+        return Ok(false);
     }
-    !is_parted(working, marks, place)
+    Ok(!is_parted(working, marks, place))
 }
 
 /// The chains of the places that are taken, from 0 upwards; no more of them than are asked for.
@@ -95,8 +108,8 @@ pub(crate) fn taken_chains(
         if taken.len() == nodes {
             return Ok(taken);
         }
-        fill_chain(&graph, place, &mut chain)?;
-        if is_free(working, &chain, &marks, place) {
+        let free = is_free(working, &marks, place, &mut chain)?;
+        if free {
             marks[place as usize] = true;
             taken.push(&chain)?;
         }

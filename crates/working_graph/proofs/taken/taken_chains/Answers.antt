@@ -1,14 +1,13 @@
 use Rattle.std.proofs.Common.{◌≡◌, ℕ, ◌+◌, ◌<◌, List, [], ◌∷◌, Bool, true, length, map, set, Vec, Global, refl, sym, ap, subst, ◌∙◌, arith}
 use Rattle.std.proofs.lemmas.List.{length-append, length-set}
 use Rattle.bits_model.specs.Walks.{is_in}
-use Rattle.chimera_graph.specs.declared.chimera.Chimera.{Chimera}
 use Rattle.chain_map.specs.Cliques.{clique_places, clique_chain}
 use Rattle.embedding_check.proofs.Sorting.{at_of_in}
 use Rattle.working_graph.specs.Working.{fabric_of}
 use Rattle.working_graph.specs.Places.{AreMarked, is_marked, taken_of}
 use Rattle.working_graph.proofs.TakenPlaces.{are_taken}
 use Rattle.working_graph.proofs.FreePlaces.{next_free, next_barred, mark_more, more_chains, chains_front, chains_all}
-use Rattle.working_graph.proofs.taken.taken_chains.Goals.{then-is_free+in_ok-push, else-is_free}
+use Rattle.working_graph.proofs.taken.taken_chains.Goals.{then-free+in_ok-push, else-free}
 use Rattle.working_graph.proofs.taken.taken_chains.Goals as goal
 
 pub returns-then-len-nodes : goal.returns-then-len-nodes
@@ -28,12 +27,6 @@ returns c =
     chains_all w c.loop-place.place c.args.nodes c.loop-place.taken last c.loop-place.invariant.0
     c.loop-place.invariant.3
 
-pub is_free-requires-clause-chain : goal.is_free-requires-clause-chain
-is_free-requires-clause-chain c =
-    c.deref.ensures.value
-    ∙ c.in_ok-fill_chain.ensures
-    ∙ ap (λ (h : Chimera). clique_chain h c.loop-place.place) c.graph-graph.ensures
-
 pub is_free-requires-clause-earlier : goal.is_free-requires-clause-earlier
 is_free-requires-clause-earlier c = λ u marked.
     let f = fabric_of c.args.working.now in
@@ -41,7 +34,7 @@ is_free-requires-clause-earlier c = λ u marked.
     let place = c.loop-place.place in
     let taken = are_taken f chain place in
     let here : is_marked c.loop-place.marks.items u ≡ true =
-    subst (λ (ms : List Bool). is_marked ms u ≡ true) c.deref-in-loop-place.ensures.value marked in
+    subst (λ (ms : List Bool). is_marked ms u ≡ true) c.deref.ensures.value marked in
     let at = at_of_in (taken_of f chain place) u (sym (c.loop-place.invariant.1 u) ∙ here) in
     subst (λ n. n < place) at.2 (taken.below at.0 at.1)
 
@@ -55,23 +48,21 @@ loop-place-preserved c =
     let seen = c.loop-place.marks.items in
     let old = c.loop-place.taken in
     let inv = c.loop-place.invariant in
-    let marked : AreMarked c.deref-in-loop-place.result.now xs =
-    subst (λ (ms : List Bool). AreMarked ms xs) (sym c.deref-in-loop-place.ensures.value) inv.1 in
-    let free = c.is_free.ensures xs marked (are_taken f chain place) in
+    let marked : AreMarked c.deref.result.now xs =
+    subst (λ (ms : List Bool). AreMarked ms xs) (sym c.deref.ensures.value) inv.1 in
+    let free = c.in_ok-free.ensures.free xs marked (are_taken f chain place) in
     let places = c.clique_places-places.ensures ∙ ap clique_places c.graph-graph.ensures in
     let below : place < length seen = omega (arith, c.loop-place-test.true, places, inv.2) in
     let room : length old < c.args.nodes =
     omega (arith, inv.3, c.len.ensures, c.if-len-nodes.false) in
-    elim c.if-is_free.branch [
-      | then-is_free+in_ok-push w ↦
-          let more = next_free f chain place xs refl (sym free ∙ w.if-is_free.true) in
-          let marks : c.if-is_free.marks.items ≡ set seen place true =
+    elim c.if-free.branch [
+      | then-free+in_ok-push w ↦
+          let more = next_free f chain place xs refl (sym free ∙ w.if-free.true) in
+          let marks : c.if-free.marks.items ≡ set seen place true =
           ap (λ (v : Vec Bool Global). v.items) w.marks-is in (
             w.taken-is ∙ w.in_ok-push.ensures.pushed
                 ∙ more_chains chain xs next place old _ inv.0
-                (w.deref-then-is_free.ensures.value
-                ∙ c.in_ok-fill_chain.ensures
-                ∙ ap (λ (h : Chimera). clique_chain h place) c.graph-graph.ensures) more,
+                (w.deref-then-free.ensures.value ∙ c.in_ok-free.ensures.filled w.if-free.true) more,
             λ u.
                 ap (λ (ms : List Bool). is_marked ms u) marks
                 ∙ mark_more seen xs place below inv.1 u
@@ -80,14 +71,14 @@ loop-place-preserved c =
             omega (
               arith,
               room,
-              length-append old (w.deref-then-is_free.result.now ∷ []),
+              length-append old (w.deref-then-free.result.now ∷ []),
               ap (λ (m : List (List ℕ)). length m) (w.taken-is ∙ w.in_ok-push.ensures.pushed),
             ),
           )
-      | else-is_free w ↦
+      | else-free w ↦
           let same : xs ≡ next = next_barred f chain place xs refl (sym free
-          ∙ w.if-is_free.false) in
-          let marks : c.if-is_free.marks.items ≡ seen =
+          ∙ w.if-free.false) in
+          let marks : c.if-free.marks.items ≡ seen =
           ap (λ (v : Vec Bool Global). v.items) w.marks-is in (
             w.taken-is ∙ inv.0 ∙ ap (map chain) same,
             λ u.

@@ -1,0 +1,43 @@
+use Rattle.std.proofs.Common.{◌≡◌, ◌+◌, ◌-◌, true, get_or, sym, ◌∙◌, arith}
+use Rattle.std.specs.Char.{is_ascii_digit}
+use Rattle.whole_text.proofs.DigitLoop.{more_value, more_digits, pow_more, pow_few, digit_small}
+use Rattle.working_graph.proofs.digits.front_digits.Goals as goal
+
+pub overflow_mul-value : goal.overflow_mul-value
+overflow_mul-value c =
+    let i = c.loop-len.len in
+    omega (arith, c.loop-len.invariant.small, pow_more i c.loop-len.value 0 c.loop-len.invariant.small (omega arith), pow_few (i + 1) (omega arith))
+
+pub overflow_add-value : goal.overflow_add-value
+overflow_add-value c =
+    let i = c.loop-len.len in
+    let digit : is_ascii_digit (get_or c.args.bytes.now i 0) ≡ true =
+    sym c.is_ascii_digit.ensures.value ∙ c.if-is_ascii_digit.true in
+    omega (
+      arith,
+      c.from.ensures,
+      pow_more i c.loop-len.value (get_or c.args.bytes.now i 0 - 48) c.loop-len.invariant.small
+          (digit_small (get_or c.args.bytes.now i 0) digit),
+      pow_few (i + 1) (omega arith),
+    )
+
+pub loop-len-preserved : goal.loop-len-preserved
+loop-len-preserved c =
+    let bytes = c.args.bytes.now in
+    let i = c.loop-len.len in
+    let byte = get_or bytes i 0 in
+    let below = c.loop-len-test.true in
+    let digit : is_ascii_digit byte ≡ true =
+    sym c.is_ascii_digit.ensures.value ∙ c.if-is_ascii_digit.true in
+    let e = more_value bytes i c.loop-len.value below digit c.loop-len.invariant.value in
+    record {
+      within = omega arith;
+      few = omega arith;
+      digits = more_digits bytes i below digit c.loop-len.invariant.digits;
+      small = omega (
+        arith,
+        c.from.ensures,
+        pow_more i c.loop-len.value (byte - 48) c.loop-len.invariant.small (digit_small byte digit),
+      );
+      value = omega (arith, e, c.from.ensures);
+    }
