@@ -93,6 +93,8 @@ pub fn check_working(
         Some(node) => return Err(CheckAnswer::Fault(EmbedFault::EmptyChain(node))),
         None => {}
     }
-    check_existing(working, map)?;
-    check(alloc, working, ising, map)
+    match check_existing(working, map) {
+        Ok(()) => check(alloc, working, ising, map),
+        Err(answer) => Err(answer),
+    }
 }
