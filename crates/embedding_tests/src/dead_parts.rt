@@ -148,7 +148,7 @@ fn text_answer(alloc: Global, graph: Chimera, text: &[u8], map: &[u8]) -> Answer
 #[test]
 fn maps_on_what_is_left(rt: HostRuntime) -> Result<(), Fail> {
     let graph = Chimera::new(1, 2, 4).ok_or("refused")?;
-    let rows: [(&[u8], &[u8], Answered); 8] = [
+    let rows: [(&[u8], &[u8], Answered); 11] = [
         (b"", b"0 0\n1 4\n", Answered::Taken),
         (
             b"4\n",
@@ -159,6 +159,21 @@ fn maps_on_what_is_left(rt: HostRuntime) -> Result<(), Fail> {
             b"4\n",
             b"0 0\n1 0 4\n",
             Answered::Refused(EmbedFault::NoSuchQubit(1, 4)),
+        ),
+        (
+            b"4\n",
+            b"0 0 0\n1 4\n",
+            Answered::Refused(EmbedFault::NoSuchQubit(1, 4)),
+        ),
+        (
+            b"4\n",
+            b"0 0 0\n1 5 4 5\n",
+            Answered::Refused(EmbedFault::NoSuchQubit(1, 4)),
+        ),
+        (
+            b"4\n",
+            b"0 0 0\n1 5\n",
+            Answered::Refused(EmbedFault::Repeated(0)),
         ),
         (
             b"4\n",
