@@ -1,5 +1,4 @@
-//! Certificates: each fault of a text, rows by hand, and models of three nodes with a certificate
-//! that is made of all their states.
+//! Models of three nodes with a certificate that is made of all their states.
 ghost use Rattle.std.specs.Prelude.{◌≡◌, ◌≤◌, ◌^◌, IfSome, length};
 ghost use Rattle.bits_model.specs.Output.{weight_total};
 ghost use Rattle.posiform_check.specs.Certificates.{AreOfNodes};
@@ -12,10 +11,9 @@ use poly_reader::read_poly;
 use posiform_check::{
     Certificate, ProofAnswer, ProofFault, check_certificate, prove, read_certificate,
 };
-use problem_form::{Choices, High, LimitKind, Normal, check_limits};
+use problem_form::{Choices, High, Normal, check_limits};
 use std::alloc::{AllocError, Global};
 use std::test::Fail;
-use whole_text::{TextAnswer, TextKind};
 
 /// The greatest length of a text.
 const MOST_BYTES: usize = 1 << 24;
@@ -30,10 +28,8 @@ const CHOICES: Choices = Choices {
 enum Verdict {
     Proved(i128),
     Fault(ProofFault),
-    Passed(LimitKind, u128),
-    Bad(TextKind, u64),
 
-    /// The model has another number of nodes, or there is no memory.
+    /// There is no such model or certificate, or no memory.
     Nothing,
 }
 
@@ -43,8 +39,8 @@ fn judged(alloc: Global, model: &OutputModel, certificate: &Certificate, y: &[bo
     requires nodes { AreOfNodes model.now.nodes certificate.now }
     requires width { length y.now ≡ model.now.nodes }
 {
-    if let Err(fault) = check_certificate(certificate) {
-        return Verdict::Passed(fault.kind, fault.number);
+    if check_certificate(certificate).is_err() {
+        return Verdict::Nothing;
     }
     match prove(alloc, model, certificate, y) {
         Ok(energy) => Verdict::Proved(energy),
@@ -62,8 +58,7 @@ fn judged_text(alloc: Global, model: &OutputModel, text: &str, y: &[bool]) -> Ve
     }
     match read_certificate(alloc, text.as_bytes(), model.nodes) {
         Ok(certificate) => judged(alloc, model, &certificate, y),
-        Err(TextAnswer::Bad(fault)) => Verdict::Bad(fault.kind, fault.line),
-        Err(TextAnswer::NoMemory) => Verdict::Nothing,
+        Err(_) => Verdict::Nothing,
     }
 }
 
@@ -94,188 +89,9 @@ fn judged_source(
     }
 }
 
-// ---- rows by hand
-
 fn differs(ours: i128, theirs: i128) -> Verdict {
     Verdict::Fault(ProofFault::Differs(ours, theirs))
 }
-
-const NINE: &str = "0 a b c d e f g h i";
-
-/// A polynomial, a state of its QUBO, a certificate, and what is said.
-const ROWS: &[(&str, &[bool], &str, Verdict)] = &[
-    ("-1 x", &[true], "-1\n1 ~0\n", Verdict::Proved(-1)),
-    ("0 x", &[false], "", Verdict::Proved(0)),
-    (
-        "-1 x",
-        &[false],
-        "-1\n1 ~0\n",
-        Verdict::Fault(ProofFault::NotZero(1)),
-    ),
-    (
-        "-1 x",
-        &[true],
-        "-1",
-        Verdict::Fault(ProofFault::Differs(0, -1)),
-    ),
-    (
-        "-1 x",
-        &[true],
-        "-1\n-1 0",
-        Verdict::Fault(ProofFault::Negative(2)),
-    ),
-    ("-1 x", &[true], "1 1", Verdict::Bad(TextKind::Range, 1)),
-    // what is counted once, twice and not at all
-    ("1 x", &[false], "1 0 0 0", Verdict::Proved(0)),
-    ("1 x", &[false], "-3\n3\n1 0", Verdict::Proved(0)),
-    ("1 x", &[false], "5 0 ~0\n1 0", Verdict::Proved(0)),
-    ("1 x", &[false], "-5 ~0 0\n1 0", Verdict::Proved(0)),
-    (
-        "1 x\n0 y",
-        &[false, true],
-        "0 0 1\n1 1 0\n1 0 ~1",
-        Verdict::Proved(0),
-    ),
-    // a negative line comes first, and no sum of lines makes up for it
-    (
-        "1 x",
-        &[false],
-        "-1 0\n2 0",
-        Verdict::Fault(ProofFault::Negative(1)),
-    ),
-    (
-        "1 x",
-        &[true],
-        "7\nc note\n\n1 0\n-1 0",
-        Verdict::Fault(ProofFault::Negative(5)),
-    ),
-    // sets in table order: none, 0, 0 with 1, 1
-    (
-        "1 x y\n1 y",
-        &[false, false],
-        "1",
-        Verdict::Fault(ProofFault::Differs(0, 1)),
-    ),
-    (
-        "1 x y\n1 y",
-        &[false, false],
-        "2 0",
-        Verdict::Fault(ProofFault::Differs(0, 2)),
-    ),
-    (
-        "3 x y\n2 y",
-        &[false, false],
-        "",
-        Verdict::Fault(ProofFault::Differs(3, 0)),
-    ),
-    (
-        "3 x y\n2 y",
-        &[false, false],
-        "3 0 1",
-        Verdict::Fault(ProofFault::Differs(2, 0)),
-    ),
-    (
-        "3 x y\n2 y",
-        &[true, false],
-        "3 0 1\n2 1",
-        Verdict::Proved(0),
-    ),
-    (
-        "3 x y\n2 y",
-        &[true, true],
-        "3 0 1\n2 1",
-        Verdict::Fault(ProofFault::NotZero(5)),
-    ),
-    // sets of the certificate alone
-    (
-        "1 x\n0 y",
-        &[false, false],
-        "1 0\n4 1",
-        Verdict::Fault(ProofFault::Differs(0, 4)),
-    ),
-    (
-        "1 x\n0 y",
-        &[false, false],
-        "1 0\n4 0 1",
-        Verdict::Fault(ProofFault::Differs(0, 4)),
-    ),
-    // eight literals, and one more
-    (NINE, &[false; 9], "0 0 1 2 3 4 5 6 7", Verdict::Proved(0)),
-    (
-        NINE,
-        &[false; 9],
-        "0 0 1 2 3 4 5 6 7 8",
-        Verdict::Passed(LimitKind::Degree, 9),
-    ),
-];
-
-#[test]
-fn worked_rows(rt: HostRuntime) {
-    for (source, y, text, expected) in ROWS {
-        let found = judged_source(rt.alloc(), source, NodeModel::Qubo, text, y);
-        assert!(rt; found == *expected, "{source}, {text}: {found:?}");
-    }
-}
-
-/// Texts for a model of two nodes, and the kind and the line of their first fault.
-const FAULTS: &[(&str, TextKind, u64)] = &[
-    ("x", TextKind::Number, 1),
-    ("~0", TextKind::Number, 1),
-    ("1\n\n1 0\n0.5 1", TextKind::Number, 4),
-    ("1 0\n18446744073709551616 1", TextKind::Number, 2),
-    ("1 -0", TextKind::Word, 1),
-    ("1 0\nc note\n1 +1", TextKind::Word, 3),
-    ("1 0 x", TextKind::Word, 1),
-    ("1 0\n1 x0", TextKind::Word, 2),
-    ("1 ~", TextKind::Word, 1),
-    ("1 ~~0", TextKind::Word, 1),
-    ("1 0.", TextKind::Word, 1),
-    ("1 2", TextKind::Range, 1),
-    ("1 0\n1 1 ~2", TextKind::Range, 2),
-    ("1 18446744073709551616", TextKind::Range, 1),
-    // the tokens of a dropped line are judged, and the first fault counts
-    ("1 0 ~0 x", TextKind::Word, 1),
-    ("1 0 ~0\n1 0 ~0 2", TextKind::Range, 2),
-    ("1 2 x\nx", TextKind::Range, 1),
-];
-
-#[test]
-fn each_fault_has_its_kind_and_its_line(rt: HostRuntime) {
-    for (text, kind, line) in FAULTS {
-        let found = judged_source(rt.alloc(), "1 a b", NodeModel::Qubo, text, &[false, false]);
-        assert!(rt; found == Verdict::Bad(*kind, *line), "{text}: {found:?}");
-    }
-}
-
-/// Lines of eight complements, which are multiplied out to 2^24 products, and a line that makes it
-/// one more.
-fn many_products(alloc: Global) -> Result<String, AllocError> {
-    let mut text = String::new(alloc);
-    for _ in 0..65_536 {
-        text.push_str("0 ~0 ~1 ~2 ~3 ~4 ~5 ~6 ~7\n")?;
-    }
-    text.push_str("0 0\n")?;
-    Ok(text)
-}
-
-/// The limit that the certificate of a text for eight nodes passes first.
-fn passed(alloc: Global, text: &str) -> Option<(LimitKind, u128)> {
-    if text.len() > MOST_BYTES {
-        return None;
-    }
-    let certificate = read_certificate(alloc, text.as_bytes(), 8).ok()?;
-    let fault = check_certificate(&certificate).err()?;
-    Some((fault.kind, fault.number))
-}
-
-#[test]
-fn one_product_too_many(rt: HostRuntime) -> Result<(), Fail> {
-    let text = many_products(rt.alloc())?;
-    assert!(rt; passed(rt.alloc(), &text) == Some((LimitKind::Pairs, 16_777_217)));
-    Ok(())
-}
-
-// ---- models of three nodes
 
 /// The weights of three bits, and of their three pairs.
 type Weights = [i64; 6];

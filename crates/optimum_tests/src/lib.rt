@@ -1,5 +1,4 @@
-//! Tests of what finds optima: over all states of small models, and on large ones whose first least
-//! state is known.
+//! Tests of what finds optima, over all states of small models.
 //!
 //! The crate is a library without items. It stands above what it tests, so that no library is proved
 //! once more with its tests.
@@ -9,7 +8,5 @@
 mod certificates;
 #[cfg(test)]
 mod drawn;
-#[cfg(test)]
-mod shapes;
 #[cfg(test)]
 mod solving;

@@ -1,15 +1,12 @@
-//! First least states: of small models against all states, and of large ones where they are known.
-ghost use Rattle.std.specs.Prelude.{◌<◌, ◌≤◌, ◌^◌, length};
+//! First least states of small models, against all states.
+ghost use Rattle.std.specs.Prelude.{◌≤◌};
 
 use crate::drawn::{Dice, Target, drawn_problem, model_for};
-use crate::shapes::{Shape, shape_problem};
 use base::NoMemory;
 use basic_solve::{SolveAnswer, solve};
 use bits_model::{OutputModel, total_energy};
 use command_words::NodeModel;
 use std::alloc::Global;
-
-// ---- small models
 
 /// A state of up to 16 nodes.
 type State = [bool; 16];
@@ -98,57 +95,4 @@ fn sixty_drawn_models_against_all_states(rt: HostRuntime) {
         }
     }
     assert!(rt; ties > 10, "{ties}");
-}
-
-// ---- large models
-
-fn shape_model(alloc: Global, shape: Shape, nodes: u32) -> Result<Option<OutputModel>, NoMemory> {
-    let problem = shape_problem(alloc, shape, nodes)?;
-    Ok(model_for(alloc, &problem, Target::Nodes(NodeModel::Qubo)))
-}
-
-/// Whether the nodes that are 1 are those that are chosen.
-fn are_chosen(shape: Shape, y: &[bool]) -> bool
-    requires { length y.now < 2 ^ 32 }
-{
-    for node in 0..y.len() {
-        if y[node] != shape.is_chosen(y.len() as u32, node as u32) {
-            return false;
-        }
-    }
-    true
-}
-
-/// Whether the nodes that are chosen are found, or the node and its width if one is too wide.
-fn found(alloc: Global, shape: Shape, nodes: u32) -> Result<bool, SolveAnswer> {
-    match shape_model(alloc, shape, nodes)? {
-        Some(model) => {
-            let y = solve(alloc, &model)?;
-            Ok(y.len() == nodes as usize && are_chosen(shape, &y))
-        }
-        None => Ok(false),
-    }
-}
-
-const SHAPES: &[(Shape, u32, Result<bool, SolveAnswer>)] = &[
-    (Shape::Band(1), 300, Ok(true)),
-    (Shape::Band(1), 301, Ok(true)),
-    (Shape::Band(7), 300, Ok(true)),
-    (Shape::Band(7), 301, Ok(true)),
-    (Shape::Band(16), 17, Ok(true)),
-    (Shape::Band(17), 18, Err(SolveAnswer::TooWide(17, 17))),
-    (Shape::Band(17), 300, Err(SolveAnswer::TooWide(299, 17))),
-    (Shape::Tree, 255, Ok(true)),
-    (Shape::Star(0), 300, Ok(true)),
-    (Shape::Star(299), 300, Err(SolveAnswer::TooWide(299, 299))),
-    // two neighbours of its own, and fifteen that node 18 passes to it
-    (Shape::Fan, 19, Err(SolveAnswer::TooWide(17, 17))),
-];
-
-#[test]
-fn bands_trees_and_stars(rt: HostRuntime) {
-    for (shape, nodes, answer) in SHAPES {
-        let found = found(rt.alloc(), *shape, *nodes);
-        assert!(rt; found == *answer, "{shape:?} of {nodes}: {found:?}");
-    }
 }
