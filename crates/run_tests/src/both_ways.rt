@@ -1,134 +1,124 @@
 //! Every state decoded and every assignment extended, through whole runs, for fifty small sources:
-//! what is written is compared with plain arithmetic on the source and on the text of its model.
-use crate::runs::{push_file, run_given};
-use crate::small_sources::{NAMES, SOURCES, Small};
-use crate::states::{bit, numbers};
+//! what is written is compared with plain arithmetic on the text of the model.
+use crate::models::{INFINITE, Model, Source, Target, bit, model_in, numbers};
+use crate::runs::{Named, SOUND, owned, push_file, push_words, run_over};
+use crate::small_sources::{FORMATS, NAMES};
+use edge_io::MemorySink;
 use program_run::Status;
 use std::alloc::{AllocError, Global};
 use std::test::Fail;
 
-/// The text of a model, as these tests read it.
-#[derive(Drop)]
-struct Model {
-    scale: i64,
-    offset: i64,
-    unit: i64,
-    variables: u32,
+/// A source, and its place among those of its format, which chooses what is asked of it.
+#[derive(Clone, Copy)]
+struct Asked {
+    format: &'static str,
+    text: &'static str,
+    index: usize,
+
+    /// How many nodes its Ising model has, and so how many qubits are on each side of the cell.
     nodes: u32,
-    on_spins: bool,
-    chains: Vec<Vec<i64>>,
-    entries: Vec<(i64, i64, i64)>,
 }
 
-fn first(numbers: &[i64]) -> i64 {
-    numbers.first().copied().unwrap_or(0)
-}
-
-fn count(number: i64) -> u32 {
-    u32::try_from(number).unwrap_or(0)
-}
-
-/// Takes what one line of a model's text says.
-fn take_line(alloc: Global, model: &mut Model, line: &str) -> Result<(), AllocError> {
-    let found = numbers(alloc, line.as_bytes())?;
-    if line.starts_with("c scale") {
-        model.scale = first(&found);
-    } else if line.starts_with("c offset") {
-        model.offset = first(&found);
-    } else if line.starts_with("c unit") {
-        model.unit = first(&found);
-    } else if line.starts_with("c variables") {
-        model.variables = count(first(&found));
-    } else if line.starts_with("c chain ") {
-        if let [_, chain @ ..] = found.as_slice() {
-            model.chains.push(chain.to_vec(alloc)?)?;
-        }
-    } else if line.starts_with("p ising") {
-        model.on_spins = true;
-        model.nodes = count(first(&found));
-    } else if line.starts_with("p qubo") {
-        model.nodes = count(found.get(1).copied().unwrap_or(0));
-    } else if let [one, other, weight] = found.as_slice() {
-        if !line.starts_with("c") {
-            model.entries.push((*one, *other, *weight))?;
+impl Asked {
+    fn target(&self) -> Target {
+        match self.index % 3 {
+            0 => Target::Qubo,
+            1 => Target::Ising,
+            _ => Target::Cell,
         }
     }
+
+    /// The key that says where the chains of a cell come from.
+    fn chains(&self) -> &'static str {
+        match self.index % 2 {
+            1 => "map=m",
+            _ => "embed=clique",
+        }
+    }
+
+    /// The keys that every target has.
+    fn choices(&self) -> [&'static str; 3] {
+        [
+            match self.index % 4 {
+                1 => "normal=multilinear",
+                _ => "normal=literal",
+            },
+            match self.index % 5 {
+                2 => "high=rosenberg",
+                _ => "high=monomial",
+            },
+            match self.index % 2 {
+                1 => "unit=reduce",
+                _ => "unit=one",
+            },
+        ]
+    }
+}
+
+/// Appends the keys of a cell, with the chains of a clique or those of a map.
+fn push_cell(alloc: Global, words: &mut Vec<String>, asked: &Asked) -> Result<(), AllocError> {
+    push_words(alloc, words, &["rows=1", "cols=1"])?;
+    words.push(format!(in alloc; "shore={}", asked.nodes)?)?;
+    words.push(String::from_str(alloc, asked.chains())?)?;
     Ok(())
 }
 
-fn model_of(alloc: Global, text: &str) -> Result<Model, AllocError> {
-    let mut model = Model {
-        scale: 0,
-        offset: 0,
-        unit: 0,
-        variables: 0,
-        nodes: 0,
-        on_spins: false,
-        chains: Vec::new(alloc),
-        entries: Vec::new(alloc),
-    };
-    for line in text.split('\n') {
-        take_line(alloc, &mut model, line)?;
+/// The words of a run of this verb.
+fn words_of(
+    alloc: Global,
+    verb: &'static str,
+    target: Target,
+    asked: &Asked,
+) -> Result<Vec<String>, AllocError> {
+    let mut words = owned(alloc, &[verb, asked.format, target.word(), "a"])?;
+    if verb != "compile" {
+        push_words(alloc, &mut words, &["s"])?;
     }
-    Ok(model)
+    if target == Target::Cell {
+        push_cell(alloc, &mut words, asked)?;
+    }
+    push_words(alloc, &mut words, &asked.choices())?;
+    Ok(words)
 }
 
-impl Model {
-    /// The energy of a state.
-    fn energy(&self, state: u64) -> i64 {
-        let mut energy: i64 = 0;
-        for (one, other, weight) in self.entries.iter() {
-            let first = bit(state, *one);
-            let second = bit(state, *other);
-            if !self.on_spins {
-                if first && second {
-                    energy = energy.saturating_add(*weight);
-                }
-            } else if one == other && !first || one != other && first != second {
-                energy = energy.saturating_sub(*weight);
-            } else {
-                energy = energy.saturating_add(*weight);
-            }
-        }
-        energy
+/// A map whose chains begin on the other side of the cell than those of a clique.
+fn map_text(alloc: Global, nodes: u32) -> Result<String, Fail> {
+    let mut map = String::new(alloc);
+    for node in 0..nodes {
+        writeln!(map, "{node} {} {node}", node.saturating_add(nodes))?;
     }
+    Ok(map)
+}
 
-    /// The bit of a variable: its node's, or that of most qubits of its chain, and on a tie that of
-    /// the first of them.
-    fn decoded_bit(&self, state: u64, variable: u32) -> bool {
-        match self.chains.get(variable as usize) {
-            None => bit(state, i64::from(variable)),
-            Some(chain) => {
-                let ones = chain.iter().filter(|qubit| bit(state, **qubit)).count();
-                let zeros = chain.len().saturating_sub(ones);
-                if ones == zeros {
-                    bit(state, first(chain))
-                } else {
-                    ones > zeros
-                }
-            }
-        }
-    }
+/// The source, the map, and the state or the assignment.
+fn files_of(alloc: Global, asked: &Asked, bits: &str) -> Result<Named, Fail> {
+    let mut files = Vec::new(alloc);
+    push_file(alloc, &mut files, "a", String::from_str(alloc, asked.text)?)?;
+    push_file(alloc, &mut files, "m", map_text(alloc, asked.nodes)?)?;
+    push_file(alloc, &mut files, "s", String::from_str(alloc, bits)?)?;
+    Ok(files)
+}
 
-    fn decoded(&self, state: u64) -> u64 {
-        let mut assignment: u64 = 0;
-        for variable in 0..self.variables {
-            if self.decoded_bit(state, variable) {
-                assignment |= 1_u64.wrapping_shl(variable);
-            }
-        }
-        assignment
-    }
+/// The status of a run of this verb, and what it writes.
+fn written(
+    alloc: Global,
+    verb: &'static str,
+    target: Target,
+    asked: &Asked,
+    bits: &str,
+) -> Result<(Status, MemorySink), Fail> {
+    let files = files_of(alloc, asked, bits)?;
+    let words = words_of(alloc, verb, target, asked)?;
+    let (status, out, _) = run_over(alloc, &words, files, SOUND)?;
+    Ok((status, out))
+}
 
-    /// The least energy of the states that decode to an assignment.
-    fn least(&self, assignment: u64) -> i64 {
-        let mut least = i64::MAX;
-        for state in 0..1_u64.wrapping_shl(self.nodes) {
-            if self.decoded(state) == assignment {
-                least = least.min(self.energy(state));
-            }
-        }
-        least
+/// The numbers of the source's model for a target; none where there is no model.
+fn compiled_for(alloc: Global, target: Target, asked: &Asked) -> Result<Vec<i64>, Fail> {
+    let (status, out) = written(alloc, "compile", target, asked, "")?;
+    match status {
+        Status::Done => Ok(numbers(alloc, out.bytes())?),
+        _ => Ok(Vec::new(alloc)),
     }
 }
 
@@ -136,229 +126,180 @@ impl Model {
 fn digits(alloc: Global, bits: u64, count: u32) -> Result<String, AllocError> {
     let mut text = String::new(alloc);
     for place in 0..count {
-        text.push_str(if bit(bits, i64::from(place)) {
-            "1"
-        } else {
-            "0"
+        text.push_str(match bit(bits, i64::from(place)) {
+            true => "1",
+            false => "0",
         })?;
     }
     Ok(text)
 }
 
-/// The words of a run on a source, and the text of the map that it names.
-#[derive(Drop)]
-struct Asked {
-    target: &'static str,
-    keys: Vec<String>,
-    map: String,
-}
-
-/// What is asked of the source at an index, whose Ising form has so many nodes: a QUBO, an Ising
-/// model, or one on a cell with as many qubits on each side, by the clique or by a map whose chains
-/// begin on the other side.
-fn words_for(alloc: Global, index: usize, nodes: u32) -> Result<Asked, AllocError> {
-    let mut keys = Vec::new(alloc);
-    let mut map = String::new(alloc);
-    if index % 3 == 2 {
-        keys.push(format!(in alloc; "rows=1")?)?;
-        keys.push(format!(in alloc; "cols=1")?)?;
-        keys.push(format!(in alloc; "shore={nodes}")?)?;
-        if index % 2 == 0 {
-            keys.push(format!(in alloc; "embed=clique")?)?;
-        } else {
-            keys.push(format!(in alloc; "map=m")?)?;
-            for node in 0..nodes {
-                let other = node.saturating_add(nodes);
-                map.push_str(&format!(in alloc; "{node} {other} {node}\n")?)?;
-            }
-        }
-    }
-    push_choices(alloc, &mut keys, index)?;
-    let target = ["qubo", "ising", "chimera"].get(index % 3).copied();
-    Ok(Asked {
-        target: target.unwrap_or("qubo"),
-        keys,
-        map,
-    })
-}
-
-/// Appends the keys that every target has, as an index chooses them.
-fn push_choices(alloc: Global, keys: &mut Vec<String>, index: usize) -> Result<(), AllocError> {
-    if index % 4 == 1 {
-        keys.push(format!(in alloc; "normal=multilinear")?)?;
-    }
-    if index % 5 == 2 {
-        keys.push(format!(in alloc; "high=rosenberg")?)?;
-    }
-    if index % 2 == 1 {
-        keys.push(format!(in alloc; "unit=reduce")?)?;
-    }
-    Ok(())
-}
-
-/// The words of a run of this verb.
-fn words_of(
-    alloc: Global,
-    verb: &str,
-    source: &Small,
-    asked: &Asked,
-) -> Result<Vec<String>, AllocError> {
-    let mut words = Vec::new(alloc);
-    words.push(String::from_str(alloc, verb)?)?;
-    words.push(String::from_str(alloc, source.format())?)?;
-    words.push(String::from_str(alloc, asked.target)?)?;
-    words.push(String::from_str(alloc, "a")?)?;
-    if verb != "compile" {
-        words.push(String::from_str(alloc, "s")?)?;
-    }
-    for key in asked.keys.iter() {
-        words.push(String::from_str(alloc, key.as_str())?)?;
-    }
-    Ok(words)
-}
-
-/// What a run of this verb writes on a source, and on this state or assignment.
-fn written(
-    alloc: Global,
-    verb: &str,
-    source: &Small,
-    asked: &Asked,
-    bits: &str,
-) -> Result<Option<String>, Fail> {
-    let words = words_of(alloc, verb, source, asked)?;
-    let text = source.text(alloc)?;
-    let mut files = Vec::new(alloc);
-    push_file(alloc, &mut files, "a", text.as_str())?;
-    push_file(alloc, &mut files, "m", asked.map.as_str())?;
-    push_file(alloc, &mut files, "s", bits)?;
-    let (status, out, _) = run_given(alloc, &words, files)?;
-    match std::str::from_utf8(out.bytes()) {
-        Ok(written) if status == Status::Done => Ok(Some(String::from_str(alloc, written)?)),
-        _ => Ok(None),
-    }
-}
-
-/// The lines of a cost and an energy.
-fn last_lines(alloc: Global, cost: Option<i64>, energy: i64) -> Result<String, AllocError> {
-    match cost {
-        Some(cost) => format!(in alloc; "cost {cost}\nenergy {energy}\n"),
-        None => format!(in alloc; "cost infinite\nenergy {energy}\n"),
-    }
-}
-
-/// What a state is to decode to.
-fn decoding(
-    alloc: Global,
-    source: &Small,
-    model: &Model,
-    state: u64,
-) -> Result<String, AllocError> {
-    let assignment = model.decoded(state);
-    let bits = digits(alloc, assignment, model.variables)?;
-    let mut text = format!(in alloc; "assignment {bits}\n")?;
-    if source.format() == "poly" {
-        for (variable, name) in [0, 1, 2].iter().zip(NAMES.iter()) {
-            let bit = i32::from(bit(assignment, *variable));
-            text.push_str(&format!(in alloc; "name {name} {bit}\n")?)?;
-        }
-    }
-    let last = last_lines(alloc, source.cost(assignment), model.energy(state))?;
-    text.push_str(&last)?;
-    Ok(text)
-}
-
-/// The number of the state in a line of digits.
-fn state_in(line: &str) -> u64 {
+/// The number of the state on the first line of a text.
+fn state_in(text: &[u8]) -> u64 {
+    let text = std::str::from_utf8(text).unwrap_or("");
+    let line = text
+        .lines()
+        .next()
+        .and_then(|line| line.strip_prefix("state "));
     let mut state: u64 = 0;
-    for digit in line.bytes().rev() {
+    for digit in line.unwrap_or("").bytes().rev() {
         state = state.wrapping_shl(1) | u64::from(digit == b'1');
     }
     state
 }
 
-/// Whether what is written for an assignment is a state that decodes to it, with the least energy
-/// of those that do, which stands for its cost.
+/// Appends a row for each name of a variable.
+fn push_names(text: &mut String, assignment: u64) -> Result<(), Fail> {
+    for (name, place) in NAMES {
+        let bit = i32::from(bit(assignment, place));
+        writeln!(text, "name {name} {bit}")?;
+    }
+    Ok(())
+}
+
+/// Appends the rows of a cost and an energy.
+fn push_last(text: &mut String, cost: i64, energy: i64) -> Result<(), Fail> {
+    if cost == INFINITE {
+        text.push_str("cost infinite\n")?;
+    } else {
+        writeln!(text, "cost {cost}")?;
+    }
+    writeln!(text, "energy {energy}")?;
+    Ok(())
+}
+
+fn cost_of(costs: &[i64], assignment: u64) -> i64 {
+    costs.get(assignment as usize).copied().unwrap_or(INFINITE)
+}
+
+/// What is to be written for a state that is decoded.
+fn decoding(
+    alloc: Global,
+    asked: &Asked,
+    costs: &[i64],
+    model: Model,
+    state: u64,
+) -> Result<String, Fail> {
+    let assignment = model.decoded(state);
+    let mut text = String::from_str(alloc, "assignment ")?;
+    text.push_str(&digits(alloc, assignment, model.variables)?)?;
+    text.push_str("\n")?;
+    if asked.format == "poly" {
+        push_names(&mut text, assignment)?;
+    }
+    push_last(&mut text, cost_of(costs, assignment), model.energy(state))?;
+    Ok(text)
+}
+
+/// Whether a state is decoded as plain arithmetic does.
+fn decodes(
+    alloc: Global,
+    asked: &Asked,
+    costs: &[i64],
+    model: Model,
+    state: u64,
+) -> Result<bool, Fail> {
+    let bits = digits(alloc, state, model.nodes)?;
+    let (status, out) = written(alloc, "decode", asked.target(), asked, &bits)?;
+    let wanted = decoding(alloc, asked, costs, model, state)?;
+    Ok(status == Status::Done && out.bytes() == wanted.as_bytes())
+}
+
+/// What is to be written for an assignment of this cost that is extended to a state.
+fn extension(alloc: Global, cost: i64, model: Model, state: u64) -> Result<String, Fail> {
+    let mut text = String::from_str(alloc, "state ")?;
+    text.push_str(&digits(alloc, state, model.nodes)?)?;
+    text.push_str("\n")?;
+    push_last(&mut text, cost, model.energy(state))?;
+    Ok(text)
+}
+
+/// Whether an assignment is extended to a state that decodes to it, with the least energy of those
+/// that do, which stands for its cost.
 fn extends(
     alloc: Global,
-    source: &Small,
-    model: &Model,
+    asked: &Asked,
+    costs: &[i64],
+    model: Model,
     assignment: u64,
-    text: &str,
-) -> Result<bool, AllocError> {
-    let Some((line, last)) = text.split_once('\n') else {
-        return Ok(false);
-    };
-    let Some(line) = line.strip_prefix("state ") else {
-        return Ok(false);
-    };
-    let state = state_in(line);
-    let energy = model.energy(state);
-    let cost = source.cost(assignment);
-    let stands = match cost {
-        None => true,
-        Some(cost) => {
-            model.unit.saturating_mul(energy)
-                == model
-                    .scale
-                    .saturating_mul(cost)
-                    .saturating_add(model.offset)
-        }
-    };
+) -> Result<bool, Fail> {
+    let bits = digits(alloc, assignment, model.variables)?;
+    let (status, out) = written(alloc, "extend", asked.target(), asked, &bits)?;
+    let state = state_in(out.bytes());
+    let least = model.least(assignment);
+    let cost = cost_of(costs, assignment);
+    let wanted = extension(alloc, cost, model, state)?;
     Ok(
-        line.len() == model.nodes as usize
+        status == Status::Done
+            && out.bytes() == wanted.as_bytes()
             && model.decoded(state) == assignment
-            && energy == model.least(assignment)
-            && stands
-            && last == last_lines(alloc, cost, energy)?.as_str(),
+            && model.energy(state) == least
+            && model.stands_for(least, cost),
     )
 }
 
-/// How many nodes the Ising model of a source has, by the choices of an index.
-fn nodes_of(alloc: Global, index: usize, source: &Small) -> Result<u32, Fail> {
-    let mut keys = Vec::new(alloc);
-    push_choices(alloc, &mut keys, index)?;
-    let asked = Asked {
-        target: "ising",
-        keys,
-        map: String::new(alloc),
-    };
-    let text = written(alloc, "compile", source, &asked, "")?.ok_or("a model")?;
-    Ok(model_of(alloc, &text)?.nodes)
+fn all_decode(alloc: Global, asked: &Asked, costs: &[i64], model: Model) -> Result<bool, Fail> {
+    for state in 0..1_u64.wrapping_shl(model.nodes) {
+        if !decodes(alloc, asked, costs, model, state)? {
+            return Ok(false);
+        }
+    }
+    Ok(true)
 }
 
-/// How many states of a source's model are decoded as plain arithmetic does, and how many
-/// assignments extended; none where one is not.
-fn round(alloc: Global, index: usize, source: &Small) -> Result<Option<(u64, u64)>, Fail> {
-    let asked = words_for(alloc, index, nodes_of(alloc, index, source)?)?;
-    let text = written(alloc, "compile", source, &asked, "")?.ok_or("a model")?;
-    let model = model_of(alloc, &text)?;
-    let states = 1_u64.wrapping_shl(model.nodes);
-    for state in 0..states {
-        let bits = digits(alloc, state, model.nodes)?;
-        let text = written(alloc, "decode", source, &asked, &bits)?;
-        if text != Some(decoding(alloc, source, &model, state)?) {
-            return Ok(None);
+fn all_extend(alloc: Global, asked: &Asked, costs: &[i64], model: Model) -> Result<bool, Fail> {
+    for assignment in 0..costs.len() {
+        if !extends(alloc, asked, costs, model, assignment as u64)? {
+            return Ok(false);
         }
     }
-    let assignments = 1_u64.wrapping_shl(model.variables);
-    for assignment in 0..assignments {
-        let bits = digits(alloc, assignment, model.variables)?;
-        let text = written(alloc, "extend", source, &asked, &bits)?.ok_or("a state")?;
-        if !extends(alloc, source, &model, assignment, &text)? {
-            return Ok(None);
+    Ok(true)
+}
+
+/// Whether all states of a source's model are decoded, and all assignments of the source extended,
+/// as plain arithmetic does.
+fn goes_both_ways(alloc: Global, asked: &Asked, costs: &[i64]) -> Result<bool, Fail> {
+    let numbers = compiled_for(alloc, asked.target(), asked)?;
+    match model_in(asked.target(), &numbers) {
+        Some(model) if costs.len() as u64 == 1_u64.wrapping_shl(model.variables) => {
+            Ok(all_decode(alloc, asked, costs, model)? && all_extend(alloc, asked, costs, model)?)
+        }
+        _ => Ok(false),
+    }
+}
+
+/// How many nodes the Ising model of a source has.
+fn nodes_of(alloc: Global, asked: &Asked) -> Result<u32, Fail> {
+    let numbers = compiled_for(alloc, Target::Ising, asked)?;
+    Ok(model_in(Target::Ising, &numbers).map_or(0, |model| model.nodes))
+}
+
+/// The first source of a format for which this does not hold.
+fn first_other(
+    alloc: Global,
+    format: &'static str,
+    sources: &[Source],
+) -> Result<Option<&'static str>, Fail> {
+    for (index, (text, costs)) in sources.iter().enumerate() {
+        let mut asked = Asked {
+            format,
+            text: *text,
+            index,
+            nodes: 0,
+        };
+        asked.nodes = nodes_of(alloc, &asked)?;
+        if !goes_both_ways(alloc, &asked, costs)? {
+            return Ok(Some(*text));
         }
     }
-    Ok(Some((states, assignments)))
+    Ok(None)
 }
 
 #[test]
 fn each_state_is_decoded_and_each_assignment_extended(rt: HostRuntime) -> Result<(), Fail> {
-    for (index, source) in SOURCES.iter().enumerate() {
-        let round = round(rt.alloc(), index, source)?;
-        assert!(rt;
-            round.is_some_and(|(states, assignments)| assignments == 8 && states >= 8),
-            "{index}"
-        );
+    for (format, sources) in FORMATS {
+        let other = first_other(rt.alloc(), format, sources)?;
+        assert!(rt; other.is_none(), "{format} {other:?}");
     }
     Ok(())
 }

@@ -1,17 +1,21 @@
-//! A file without an end, of which no call fails.
+//! A run over a file without an end, of which no call fails.
 ghost use Rattle.std.specs.Prelude.{[], None, string_bytes};
 ghost use Rattle.std.specs.Option.{option_map_or};
 ghost use Rattle.edge_io.specs.Held.{after_first};
 ghost use Rattle.edge_io.specs.laws.Begun.{after_first-none};
 
+use crate::runs::{owned, sink};
 use edge_io::{Failed, Files};
+use program_run::run;
+use std::alloc::Global;
+use std::test::Fail;
 
 #[derive(Drop)]
-pub(crate) struct Endless {
+struct Endless {
     name: Option<String>,
-    pub taken: u64,
-    pub empty_reads: u64,
-    pub begun: u64,
+    taken: u64,
+    empty_reads: u64,
+    begun: u64,
 }
 
 impl Files for Endless {
@@ -47,11 +51,24 @@ impl Files for Endless {
     }
 }
 
-pub(crate) fn unbegun() -> Endless {
-    Endless {
+/// Whether a run over it ends at one byte more than is accepted, and says so.
+fn is_too_long(alloc: Global) -> Result<bool, Fail> {
+    let given = owned(alloc, &["compile", "wcnf", "qubo", "a"])?;
+    let mut out = sink(alloc, 1, 1, 0)?;
+    let mut err = sink(alloc, 1000, 1000, 0)?;
+    let mut files = Endless {
         name: None,
         taken: 0,
         empty_reads: 0,
         begun: 0,
-    }
+    };
+    let status = run(alloc, &given, &mut files, &mut out, &mut err);
+    let said = status.number() == 6 && err.bytes() == b"a: limit bytes 16777217\n".as_slice();
+    Ok(said && files.begun == 1 && files.taken == 16_777_217 && files.empty_reads == 0)
+}
+
+#[test]
+fn a_file_without_end_is_too_long(rt: HostRuntime) -> Result<(), Fail> {
+    assert!(rt; is_too_long(rt.alloc())?);
+    Ok(())
 }

@@ -1,25 +1,19 @@
-//! What no clause says of whole runs: the texts that are written, on values from outside.
+//! What no clause says of whole runs: all states of their models, and ends of which a call fails.
 //!
 //! The tests stand apart from the crates that they call, so that these are proved once and not
-//! again with their tests.
+//! again with their tests. Runs of fixed words and files are the cases of worked_examples.
 #![tactic(auto)]
 
 #[cfg(test)]
 mod both_ways;
 #[cfg(test)]
-mod chimera;
-#[cfg(test)]
 mod endless;
 #[cfg(test)]
-mod faults;
-#[cfg(test)]
-mod opb_texts;
-#[cfg(test)]
-mod orders;
+mod models;
 #[cfg(test)]
 mod pieces;
 #[cfg(test)]
-mod poly_texts;
+mod polynomials;
 #[cfg(test)]
 mod read_back;
 #[cfg(test)]
@@ -27,18 +21,11 @@ mod refusals;
 #[cfg(test)]
 mod runs;
 #[cfg(test)]
-mod samples;
-#[cfg(test)]
-mod sizes;
-#[cfg(test)]
 mod small_sources;
 #[cfg(test)]
-mod solved;
+mod soft_sources;
 #[cfg(test)]
 mod states;
 #[cfg(test)]
 mod steps;
-#[cfg(test)]
-mod texts;
-#[cfg(test)]
 mod worked;

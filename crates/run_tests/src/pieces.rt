@@ -4,8 +4,8 @@ ghost use Rattle.std.specs.Option.{option_map_or};
 ghost use Rattle.edge_io.specs.Held.{after_first};
 ghost use Rattle.edge_io.specs.laws.Begun.{after_first-none};
 
-use crate::runs::{Ends, SOUND, owned, run_on, sink};
-use edge_io::{Failed, Files, Sink};
+use crate::runs::{Ends, SOUND, owned, run_words, sink};
+use edge_io::{Failed, Files, MemorySink, Sink};
 use program_run::{Status, run};
 use std::alloc::Global;
 use std::test::Fail;
@@ -14,6 +14,8 @@ use std::test::Fail;
 const LONGEST_READ: usize = 65_536;
 
 const LONGEST_WRITE: usize = 4096;
+
+const COMPILE: &[&str] = &["compile", "wcnf", "qubo", "a"];
 
 /// One text under every name, of which no long piece is given.
 #[derive(Drop)]
@@ -108,45 +110,16 @@ fn long_source(alloc: Global) -> Result<String, Fail> {
     Ok(text)
 }
 
-/// Each weight of the model's first sixty nodes, and of the 29 that stand for pairs of them.
-fn push_nodes(text: &mut String) -> Result<(), Fail> {
-    for node in 0..89i64 {
-        let of_new = node
-            .saturating_sub(59)
-            .saturating_mul(4)
-            .saturating_sub(121);
-        let weight = if node < 60 { -59 } else { of_new };
-        write!(text, "{node} {node} {weight}\n")?;
-    }
-    Ok(())
-}
-
-/// Each coupler of one of the first sixty nodes with a later node.
-fn push_couplers(text: &mut String, first: u64) -> Result<(), Fail> {
-    for second in first.saturating_add(1)..89 {
-        let weight = if second < 60 { 1 } else { 2 };
-        write!(text, "{first} {second} {weight}\n")?;
-    }
-    Ok(())
-}
-
-/// The text of the model of the clause.
-fn worked_text(alloc: Global) -> Result<String, Fail> {
-    let mut text = String::new(alloc);
-    text.push_str("c scale 1\nc offset -1770\nc threshold -1769\nc unit 1\n")?;
-    text.push_str("c variables 60\np qubo 0 89 89 3510\n")?;
-    push_nodes(&mut text)?;
-    for first in 0..60 {
-        push_couplers(&mut text, first)?;
-    }
-    Ok(text)
-}
-
-/// Whether a run over the short ends writes this text.
-fn writes_in_pieces(alloc: Global, text: &str) -> Result<bool, Fail> {
-    let given = owned(alloc, &["compile", "wcnf", "qubo", "a"])?;
+/// Whether a run over the short ends writes the same as one over others.
+fn writes_in_pieces(alloc: Global, source: String, text: &[u8]) -> Result<bool, Fail> {
+    let given = owned(alloc, COMPILE)?;
+    let mut err = sink(alloc, 1000, 1000, 0)?;
+    let mut out = ShortSink {
+        bytes: Vec::new(alloc),
+        faults: 0,
+    };
     let mut files = ShortFiles {
-        text: long_source(alloc)?,
+        text: source,
         at: 0,
         name: None,
         faults: 0,
@@ -155,29 +128,38 @@ fn writes_in_pieces(alloc: Global, text: &str) -> Result<bool, Fail> {
         empty_reads: 0,
         begun: 0,
     };
-    let mut out = ShortSink {
-        bytes: Vec::new(alloc),
-        faults: 0,
-    };
-    let mut err = sink(alloc, 1000, 1000, 0)?;
     let status = run(alloc, &given, &mut files, &mut out, &mut err);
-    Ok(status == Status::Done && out.bytes.as_slice() == text.as_bytes())
+    Ok(status == Status::Done && out.bytes.as_slice() == text)
+}
+
+/// Whether a sink of one byte a call gets the same as another one.
+fn writes_in_bytes(alloc: Global, source: &str, text: &[u8]) -> Result<bool, Fail> {
+    let ends = Ends { most: 1, ..SOUND };
+    let (status, out, _) = run_words(alloc, COMPILE, source, ends)?;
+    Ok(status == Status::Done && out.bytes() == text)
+}
+
+/// What a run writes for the source, of which no end takes or gives small pieces alone.
+fn whole_text(alloc: Global) -> Result<MemorySink, Fail> {
+    let source = long_source(alloc)?;
+    let (_, out, _) = run_words(alloc, COMPILE, &source, SOUND)?;
+    Ok(out)
 }
 
 #[test]
 fn no_piece_is_long(rt: HostRuntime) -> Result<(), Fail> {
-    let text = worked_text(rt.alloc())?;
-    let written = writes_in_pieces(rt.alloc(), text.as_str())?;
-    assert!(rt; written);
+    let text = whole_text(rt.alloc())?;
+    let source = long_source(rt.alloc())?;
+    let alike = writes_in_pieces(rt.alloc(), source, text.bytes())?;
+    assert!(rt; alike && text.bytes().len() > 2 * LONGEST_WRITE);
     Ok(())
 }
 
 #[test]
 fn a_sink_of_one_byte_a_call_gets_the_same(rt: HostRuntime) -> Result<(), Fail> {
+    let text = whole_text(rt.alloc())?;
     let source = long_source(rt.alloc())?;
-    let ends = Ends { most: 1, ..SOUND };
-    let (status, out, _) = run_on(rt.alloc(), "a", source.as_str(), ends)?;
-    let text = worked_text(rt.alloc())?;
-    assert!(rt; status == Status::Done && out.bytes() == text.as_bytes());
+    let alike = writes_in_bytes(rt.alloc(), &source, text.bytes())?;
+    assert!(rt; alike);
     Ok(())
 }

@@ -1,10 +1,9 @@
 //! What a run writes, read back by the reader of its kind: it costs what its rows give.
 ghost use Rattle.std.specs.Prelude.{◌≡◌, ◌≤◌};
 
+use crate::models::{Model, Target, model_in, numbers};
 use crate::runs::{SOUND, run_words};
-use crate::states::{bit, energy, numbers};
 use base::{Cost, Costed};
-use command_words::NodeModel;
 use ising_file::read_ising;
 use problem_form::Problem;
 use program_run::Status;
@@ -15,25 +14,6 @@ use std::test::Fail;
 /// The most nodes of a model here.
 const MOST: usize = 6;
 
-/// The energy of spins: bit 1 is the spin +1, and bit 0 the spin -1.
-fn spin_energy(entries: &[i64], state: u64) -> i64 {
-    let mut energy: i64 = 0;
-    for entry in entries.chunks_exact(3) {
-        if let [first, second, weight] = entry {
-            let plus = if first == second {
-                bit(state, *first)
-            } else {
-                bit(state, *first) == bit(state, *second)
-            };
-            energy = match plus {
-                true => energy.saturating_add(*weight),
-                false => energy.saturating_sub(*weight),
-            };
-        }
-    }
-    energy
-}
-
 /// The lowest bits of a number.
 fn bits(state: u64) -> [bool; MOST] {
     let mut bits = [false; MOST];
@@ -43,75 +23,52 @@ fn bits(state: u64) -> [bool; MOST] {
     bits
 }
 
-/// A written text: its number of nodes, and its entries, each two nodes and a weight.
-#[derive(Clone, Copy)]
-struct Rows<'a> {
-    nodes: usize,
-    entries: &'a [i64],
-}
-
-/// The rows among the numbers of a text, which has five figures before its header.
-fn rows_in(target: NodeModel, numbers: &[i64]) -> Option<Rows> {
-    let (nodes, entries) = match (target, numbers) {
-        (NodeModel::Qubo, [_, _, _, _, _, 0, nodes, _, _, entries @ ..]) => (nodes, entries),
-        (NodeModel::Ising, [_, _, _, _, _, nodes, _, _, entries @ ..]) => (nodes, entries),
-        _ => return None,
-    };
-    Some(Rows {
-        nodes: usize::try_from(*nodes).ok()?,
-        entries,
-    })
-}
-
-fn energy_of(target: NodeModel, rows: Rows, state: u64) -> Cost {
-    Cost::Whole(i128::from(match target {
-        NodeModel::Qubo => energy(rows.entries, state),
-        NodeModel::Ising => spin_energy(rows.entries, state),
-    }))
-}
-
-/// How many states a problem of these nodes has that costs what the rows give under each of them;
+/// How many states a problem has, where it costs under each of them what the model's rows give;
 /// none where one costs something else.
-fn alike(problem: &Problem, target: NodeModel, rows: Rows) -> Option<u64> {
-    if rows.nodes > MOST || problem.variables != rows.nodes as u64 {
+fn alike(problem: &Problem, model: Model) -> Option<u64> {
+    let nodes = model.nodes as usize;
+    if nodes > MOST || problem.variables != nodes as u64 {
         return None;
     }
-    let mut count: u64 = 0;
-    for state in 0..1_u64.wrapping_shl(rows.nodes as u32) {
-        if problem.cost(&bits(state)[..rows.nodes]) != energy_of(target, rows, state) {
+    for state in 0..1_u64.wrapping_shl(model.nodes) {
+        let energy = Cost::Whole(i128::from(model.energy(state)));
+        if problem.cost(&bits(state)[..nodes]) != energy {
             return None;
         }
-        count = count.saturating_add(1);
     }
-    Some(count)
+    Some(1_u64.wrapping_shl(model.nodes))
 }
 
 /// The problem of a text of this kind.
-fn read_back(alloc: Global, target: NodeModel, text: &[u8]) -> Option<Problem> {
+fn read_back(alloc: Global, target: Target, text: &[u8]) -> Option<Problem> {
     if text.len() > 1 << 24 {
         return None;
     }
     match target {
-        NodeModel::Qubo => read_qubo(alloc, text).ok(),
-        NodeModel::Ising => read_ising(alloc, text).ok(),
+        Target::Qubo => read_qubo(alloc, text).ok(),
+        _ => read_ising(alloc, text).ok(),
     }
 }
 
-/// How many states cost alike in the text that a run with these words writes and in its problem.
+/// How many states cost alike in a text and in its problem.
+fn alike_in(alloc: Global, target: Target, text: &[u8]) -> Result<Option<u64>, Fail> {
+    let numbers = numbers(alloc, text)?;
+    match (model_in(target, &numbers), read_back(alloc, target, text)) {
+        (Some(model), Some(problem)) => Ok(alike(&problem, model)),
+        _ => Ok(None),
+    }
+}
+
+/// The same of the text that a run with these words writes.
 fn alike_of(
     alloc: Global,
-    target: NodeModel,
+    target: Target,
     words: &[&str],
     text: &str,
 ) -> Result<Option<u64>, Fail> {
     let (status, out, _) = run_words(alloc, words, text, SOUND)?;
-    let numbers = numbers(alloc, out.bytes())?;
-    match (
-        status,
-        rows_in(target, &numbers),
-        read_back(alloc, target, out.bytes()),
-    ) {
-        (Status::Done, Some(rows), Some(problem)) => Ok(alike(&problem, target, rows)),
+    match status {
+        Status::Done => alike_in(alloc, target, out.bytes()),
         _ => Ok(None),
     }
 }
@@ -139,14 +96,12 @@ const SOURCES: [(&str, &str, u32); 10] = [
     ),
 ];
 
-const TARGETS: [(NodeModel, &str); 2] = [(NodeModel::Qubo, "qubo"), (NodeModel::Ising, "ising")];
-
 #[test]
 fn what_is_written_is_read_back_and_costs_what_its_rows_give(rt: HostRuntime) -> Result<(), Fail> {
     for (format, text, nodes) in SOURCES {
-        for (target, word) in TARGETS {
+        for target in [Target::Qubo, Target::Ising] {
             for unit in ["unit=one", "unit=reduce"] {
-                let words = ["compile", format, word, "a", unit];
+                let words = ["compile", format, target.word(), "a", unit];
                 let count = alike_of(rt.alloc(), target, &words, text)?;
                 assert!(rt;
                     count == Some(1_u64.wrapping_shl(nodes)),

@@ -22,7 +22,7 @@ use std::io::Read;
 use std::process::ExitCode;
 
 /// The most bytes that a run can write here.
-const ROOM: usize = 20_000_000;
+const ROOM: usize = 40_000_000;
 
 /// Files, each with its name and its bytes.
 type Named = Vec<(String, Vec<u8>)>;
@@ -83,7 +83,7 @@ fn print_lines<O: Sink>(out: &mut O, lines: &str, text: &[u8]) {
 
 /// A sink of which no call fails.
 fn sink(alloc: Global) -> Result<MemorySink, NoMemory>
-    ensures { IfOk result (λ sink. sink ≡ empty_sink 20000000 20000000 []) }
+    ensures { IfOk result (λ sink. sink ≡ empty_sink 40000000 40000000 []) }
 {
     let none = CallList::new(Vec::new(alloc));
     MemorySink::new(alloc, ROOM, ROOM, none)
