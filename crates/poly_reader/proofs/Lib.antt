@@ -2,6 +2,7 @@ pub mod NameForms
 pub mod NameNumbers
 pub mod NumberedNames
 pub mod NameLists
+pub mod ProductSets
 pub mod Literals
 pub mod Products
 pub mod Additions

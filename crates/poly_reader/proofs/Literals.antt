@@ -5,11 +5,13 @@ use Rattle.whole_text.specs.Tokens.{Word}
 use Rattle.whole_text.specs.Steps.{◌>>=◌}
 use Rattle.whole_text.specs.Rows.{each, on_line, past_line}
 use Rattle.literal_lists.specs.declared.literal.Literal.{Literal}
+use Rattle.literal_lists.specs.Literals.{literal_set}
 use Rattle.poly_reader.specs.Poly.{Named, literal_at}
 use Rattle.poly_reader.specs.Numbering.{with_name, names_after}
 use Rattle.poly_reader.specs.Cost.{literal_of}
 use Rattle.poly_reader.specs.Views.{numbered, literals_read}
 use Rattle.poly_reader.proofs.NameNumbers.{names_after-longer, has-with_name, literal_of-longer}
+use Rattle.poly_reader.proofs.ProductSets.{literal_set-before}
 
 abbrev LiteralsRead : Type 0
 LiteralsRead = Result (List Literal × List (List ℕ) × List Word) TextFault
@@ -21,7 +23,7 @@ with_first l read = read >>= λ ls. Ok (l ∷ ls)
 -- literals by their numbers, behind others
 abbrev put_behind : List (List ℕ) → List Literal → List Word → Result (List Named) TextFault → LiteralsRead
 put_behind names front rest read =
-    read >>= λ ls. Ok (front ++ numbered names ls, names_after names ls, rest)
+    read >>= λ ls. Ok (literal_set (front ++ numbered names ls), names_after names ls, rest)
 
 put_one : (l : Named) (names : List (List ℕ)) (front : List Literal) (rest : List Word)
     (read : Result (List Named) TextFault)
@@ -34,7 +36,7 @@ put_one l names front rest (Ok ls) =
     let same = literal_of-longer next all l (names_after-longer next ls) (has-with_name names l.name) in
     let lists = append_assoc front (literal_of next l ∷ []) (numbered next ls)
     ∙ ap (λ (k : Literal). front ++ k ∷ numbered next ls) (sym same) in
-    ap (λ (ks : List Literal). Ok (ks, all, rest)) lists
+    ap (λ (ks : List Literal). Ok (literal_set ks, all, rest)) lists
 
 pub literal_goes_on : (line : ℕ) (names : List (List ℕ)) (front : List Literal) (w : Word)
     (ws : List Word) (l : Named) → (w.line == line) ≡ true → literal_at w ≡ Ok l
@@ -52,13 +54,29 @@ literal_fails line names front w ws f here read = rw (here, read) refl
 
 pub literals_stop : (line : ℕ) (names : List (List ℕ)) (front : List Literal) (w : Word)
     (ws : List Word) → (w.line == line) ≡ false
-    → literals_read line names front (w ∷ ws) ≡ Ok (front, names, w ∷ ws)
+    → literals_read line names front (w ∷ ws) ≡ Ok (literal_set front, names, w ∷ ws)
 unfolding each
 literals_stop line names front w ws past =
-    rw past (ap (λ (ks : List Literal). Ok (ks, names, w ∷ ws)) (append-nil front))
+    rw past (ap (λ (ks : List Literal). Ok (literal_set ks, names, w ∷ ws)) (append-nil front))
 
 pub literals_end : (line : ℕ) (names : List (List ℕ)) (front : List Literal) (ws : List Word)
-    → ws ≡ [] → literals_read line names front ws ≡ Ok (front, names, [])
+    → ws ≡ [] → literals_read line names front ws ≡ Ok (literal_set front, names, [])
 unfolding each
 literals_end line names front ws none =
-    rw none (ap (λ (ks : List Literal). Ok (ks, names, [])) (append-nil front))
+    rw none (ap (λ (ks : List Literal). Ok (literal_set ks, names, [])) (append-nil front))
+
+-- ---- other literals in front with the same set
+
+behind_alike : (names : List (List ℕ)) (front front' : List Literal) (rest : List Word)
+    (read : Result (List Named) TextFault) → literal_set front' ≡ literal_set front
+    → put_behind names front' rest read ≡ put_behind names front rest read
+behind_alike names front front' rest (Err e) same = refl
+behind_alike names front front' rest (Ok ls) same =
+    ap (λ (ks : List Literal). Ok (ks, names_after names ls, rest))
+    (literal_set-before front' front (numbered names ls) same)
+
+pub literals_settled : (line : ℕ) (names : List (List ℕ)) (front front' : List Literal)
+    (ws : List Word) → literal_set front' ≡ literal_set front
+    → literals_read line names front' ws ≡ literals_read line names front ws
+literals_settled line names front front' ws same =
+    behind_alike names front front' (past_line line ws) (each literal_at (on_line line ws)) same

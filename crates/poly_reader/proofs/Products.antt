@@ -8,12 +8,15 @@ use Rattle.whole_text.specs.Steps.{◌>>=◌, Fails, integer_at}
 use Rattle.whole_text.specs.Rows.{each, by_line, on_line, past_line}
 use Rattle.whole_text.proofs.Rows.{row_of, by_line-first}
 use Rattle.literal_lists.specs.declared.literal.Literal.{Literal}
+use Rattle.literal_lists.specs.Literals.{literal_set}
 use Rattle.problem_form.specs.declared.terms.Product.{Product}
 use Rattle.problem_form.specs.Problems.{ProblemContent}
 use Rattle.problem_form.specs.NormalForm.{with_variables, with_product}
 use Rattle.poly_reader.specs.Poly.{Named, Listed, literal_at, product_at, reading_of_words}
 use Rattle.poly_reader.specs.Numbering.{names_after}
+use Rattle.poly_reader.specs.Cost.{product_of}
 use Rattle.poly_reader.specs.Views.{numbered, product_read, with_listed, products_put}
+use Rattle.poly_reader.proofs.ProductSets.{with_product-set}
 
 -- a problem and the names of its variables
 abbrev State : Type 0
@@ -34,7 +37,7 @@ abbrev listed : ℤ → List Named → Result Listed TextFault
 listed c ls = Ok (record { coefficient = c; literals = ls })
 
 abbrev put_literals : List (List ℕ) → List Word → List Named → Result (List Literal × List (List ℕ) × List Word) TextFault
-put_literals names rest ls = Ok (numbered names ls, names_after names ls, rest)
+put_literals names rest ls = Ok (literal_set (numbered names ls), names_after names ls, rest)
 
 abbrev put_product : ℤ → List Literal × List (List ℕ) × List Word → Result Part TextFault
 put_product c x = Ok (record { literals = x.0; coefficient = c }, x.1, x.2)
@@ -63,8 +66,11 @@ one_goes_on p names names' rest rest' t (Err f) read others h = absurd cc
 one_goes_on p names names' rest rest' t (Ok c) (Err f) others h = absurd cc
 one_goes_on p names names' rest rest' t (Ok c) (Ok ls) others h =
     let last = names_after names ls in
-    let same = three_parts (record { literals = numbered names ls; coefficient = c }, last, rest) (t, names', rest') h in
-    put_one (p, names) (record { coefficient = c; literals = ls }) (others rest)
+    let same = three_parts (record { literals = literal_set (numbered names ls); coefficient = c }, last, rest) (t, names', rest') h in
+    let own : Listed = record { coefficient = c; literals = ls } in
+    put_one (p, names) own (others rest)
+    ∙ ap (λ (q : ProblemContent). put_all (q, last) (others rest))
+    (sym (with_product-set (with_variables p (length last)) (product_of last own)))
     ∙ (λ i. put_all (with_product (with_variables p (length (same.1 i))) (same.0 i), same.1 i) (others (same.2 i)))
 
 one_fails : (e : TextAnswer) (s : State) (names : List (List ℕ)) (rest : List Word)

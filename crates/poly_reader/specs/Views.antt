@@ -6,6 +6,7 @@ use Rattle.whole_text.specs.Tokens.{Word}
 use Rattle.whole_text.specs.Steps.{◌>>=◌, integer_at}
 use Rattle.whole_text.specs.Rows.{each, on_line, past_line}
 use Rattle.literal_lists.specs.declared.literal.Literal.{Literal}
+use Rattle.literal_lists.specs.Literals.{literal_set}
 use Rattle.problem_form.specs.declared.terms.Product.{Product}
 use Rattle.problem_form.specs.Problems.{ProblemContent}
 use Rattle.problem_form.specs.NormalForm.{blank, with_variables, with_product}
@@ -26,14 +27,19 @@ named_of l = record { name = l.name.now; negated = l.negated }
 abbrev pub numbered : List (List ℕ) → List Named → List Literal
 numbered names ls = map (literal_of (names_after names ls)) ls
 
--- the literals up to the end of this line put behind others, all names so far, and what is left
+-- the set of others and of the literals up to the end of this line, all names so far, and what is
+-- left
 abbrev pub literals_read : ℕ → List (List ℕ) → List Literal → List Word
     → Result (List Literal × List (List ℕ) × List Word) TextFault
 literals_read line names front ws =
     each literal_at (on_line line ws)
-    >>= λ ls. Ok (front ++ numbered names ls, names_after names ls, past_line line ws)
+    >>= λ ls. Ok (
+      literal_set (front ++ numbered names ls),
+      names_after names ls,
+      past_line line ws,
+    )
 
--- the product with this first word, all names so far, and what is left
+-- the product with this first word, of the set of its literals, all names so far, and what is left
 abbrev pub product_read : List (List ℕ) → Word → List Word
     → Result (Product × List (List ℕ) × List Word) TextFault
 product_read names w ws =

@@ -2,8 +2,9 @@
 //!
 //! A text goes in as bytes or as words, and out come its problem in normal form and the names of
 //! its variables, or its first fault. Each product is put into the problem as soon as it is read,
-//! and the literals of all products go through one list. While the text is read, a name is what
-//! stands in it; each name is copied once, after the last product.
+//! and the literals of all products go through one list, where those of a long product are put in
+//! order, each once, as they come. While the text is read, a name is what stands in it; each name
+//! is copied once, after the last product.
 #![tactic(auto)]
 
 mod laws;

@@ -1,16 +1,20 @@
 //! A product of a text: a number, and the literals that follow on its line.
-ghost use Rattle.std.specs.Prelude.{◌≡◌, ◌<◌, ◌≤◌, ◌^◌, ◌∷◌, [], true, length, nat_abs, All, OnOk, IfOk};
+ghost use Rattle.std.specs.Prelude.{◌≡◌, ◌<◌, ◌≤◌, ◌^◌, ◌∷◌, [], true, ℕ, length, nat_abs, All, OnOk, IfOk};
 ghost use Rattle.std.specs.List.{list_all};
 ghost use Rattle.whole_text.specs.TokenTexts.{word_of};
 ghost use Rattle.whole_text.specs.Steps.{Gives, GivesAlways};
 ghost use Rattle.whole_text.specs.Rows.{left};
+ghost use Rattle.literal_lists.specs.Literals.{literal_set};
 ghost use Rattle.poly_reader.specs.Poly.{is_name, begins_name, is_name_byte, named_at, literal_at};
 ghost use Rattle.poly_reader.specs.Views.{named_of, literals_read, product_read};
 
 use crate::name_table::NameTable;
 use crate::names::as_text;
-use literal_lists::Literal;
+use literal_lists::{Literal, make_set};
 use whole_text::{TextAnswer, TextFault, TextKind, WordRef, Words, fault, integer_word};
+
+/// So many literals of a product are kept as they come.
+const MANY: usize = 1 << 12;
 
 /// A literal as it is written: a name, and whether there is a `~` before it.
 #[derive(Clone, Copy)]
@@ -77,8 +81,23 @@ fn literal(word: WordRef<'_>) -> Result<NamedRef<'_>, TextFault>
     }
 }
 
-/// Puts the literals that follow on this line into a list that is empty. The word after them is
-/// taken, and is the answer.
+/// Puts the literals in order, each once, where they are more than so many, and says how many they
+/// may then become. So a product takes no more memory than twice its literals that differ.
+#[inline(always)]
+fn settle(list: &mut Vec<Literal>, most: usize) -> usize
+    ensures same { literal_set list.new.items ≡ literal_set list.old.items }
+    ensures within { (v : ℕ) → All (λ l. l.variable < v) list.old.items
+        → All (λ l. l.variable < v) list.new.items }
+{
+    if list.len() <= most {
+        return most;
+    }
+    make_set(list);
+    MANY.max(list.len().saturating_mul(2))
+}
+
+/// Puts the literals that follow on this line into a list that is empty, and maybe in order, each
+/// once. The word after them is taken, and is the answer.
 #[inline(always)]
 fn literals<'a>(
     line: u64,
@@ -87,12 +106,13 @@ fn literals<'a>(
     list: &mut Vec<Literal>,
 ) -> Result<Option<WordRef<'a>>, TextAnswer>
     requires { list.old.items ≡ [] }
-    ensures read { Gives (λ next. (list.new.items, names.new, left next words.new)) result
-        (literals_read line names.old [] words.old) }
+    ensures read { Gives (λ next. (literal_set list.new.items, names.new, left next words.new))
+        result (literals_read line names.old [] words.old) }
     ensures within { OnOk result (All (λ l. l.variable < length names.new) list.new.items) }
     ensures wider { OnOk result (length names.old ≤ length names.new) }
     ensures shorter { IfOk result (λ next. length (left next words.new) ≤ length words.old) }
 {
+    let mut most = MANY;
     while let Some(word) = words.next() {
         if word.line != line {
             return Ok(Some(word));
@@ -103,12 +123,13 @@ fn literals<'a>(
             variable: number as u64,
             negated: literal.negated,
         })?;
+        most = settle(list, most);
     }
     Ok(None)
 }
 
-/// The product that begins with this word: its literals go into a list that is empty, and its number
-/// is the answer, with the word after the product, which is taken.
+/// The product that begins with this word: its literals go into a list that is empty, maybe in
+/// order, each once, and its number is the answer, with the word after the product, which is taken.
 #[inline(always)]
 pub(crate) fn product<'a>(
     first: WordRef<'a>,
@@ -118,7 +139,7 @@ pub(crate) fn product<'a>(
 ) -> Result<(i128, Option<WordRef<'a>>), TextAnswer>
     requires { list.old.items ≡ [] }
     ensures read { Gives (λ x. (
-      record { literals = list.new.items; coefficient = x.0 },
+      record { literals = literal_set list.new.items; coefficient = x.0 },
       names.new,
       left x.1 words.new,
     )) result (product_read names.old (word_of first.entry) words.old) }

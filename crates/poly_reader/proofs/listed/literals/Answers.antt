@@ -6,7 +6,7 @@ use Rattle.poly_reader.specs.Poly.{Named}
 use Rattle.poly_reader.specs.Numbering.{with_name, number_of}
 use Rattle.poly_reader.specs.Cost.{literal_of}
 use Rattle.poly_reader.specs.Views.{named_of, literals_read}
-use Rattle.poly_reader.proofs.Literals.{literal_goes_on, literal_fails, literals_stop, literals_end}
+use Rattle.poly_reader.proofs.Literals.{literal_goes_on, literal_fails, literals_stop, literals_end, literals_settled}
 use Rattle.poly_reader.proofs.NameNumbers.{with_name-le}
 use Rattle.poly_reader.proofs.NameLists.{within_pushed}
 use Rattle.poly_reader.proofs.listed.literals.Goals as goal
@@ -45,11 +45,12 @@ loop-word-preserved c =
     let wider : length names ≤ length c.number.new.self =
     subst (λ ns. length names ≤ length ns) (sym added) (with_name-le names l.name) in
     record {
-      read = (λ i. literals_read c.args.line (added i) ((pushed ∙ ap (λ n. list ++ n ∷ []) number) i) c.next.new.self)
+      read = literals_settled c.args.line c.number.new.self c.push.new.self.items c.settle-most.new.list.items c.next.new.self c.settle-most.ensures.same
+          ∙ (λ i. literals_read c.args.line (added i) ((pushed ∙ ap (λ n. list ++ n ∷ []) number) i) c.next.new.self)
           ∙ literal_goes_on c.args.line names list w c.next.new.self l here c.in_ok-literal.ensures.read
           ∙ before;
-      within = rw pushed
-          (within_pushed (length names) (length c.number.new.self) list k wider c.loop-word.invariant.within c.in_ok-number.ensures.within);
+      within = c.settle-most.ensures.within (length c.number.new.self)
+          (rw pushed (within_pushed (length names) (length c.number.new.self) list k wider c.loop-word.invariant.within c.in_ok-number.ensures.within));
       wider = omega (arith, c.loop-word.invariant.wider, wider);
       shorter = omega (arith, ap length c.in-Some.ensures, c.loop-word.invariant.shorter);
     }

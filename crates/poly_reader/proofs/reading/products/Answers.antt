@@ -8,6 +8,9 @@ use Rattle.whole_text.specs.Rows.{left}
 use Rattle.problem_form.specs.declared.terms.Product.{Product}
 use Rattle.problem_form.specs.NormalForm.{with_variables, with_product}
 use Rattle.problem_form.proofs.KeptProducts.{with_product-total}
+use Rattle.problem_form.specs.Problems.{ProblemContent}
+use Rattle.poly_reader.specs.Views.{products_put}
+use Rattle.poly_reader.proofs.ProductSets.{set_product, with_product-set}
 use Rattle.poly_reader.proofs.Products.{product_goes_on, product_fails, products_end}
 use Rattle.poly_reader.proofs.reading.products.Goals as goal
 
@@ -39,7 +42,9 @@ loop-next-preserved c =
     ∙ (λ i. with_product (wide i) (record { literals = t.literals; coefficient = whole i })) in
     record {
       read = rw state
-          (sym (product_goes_on p c.loop-next.names names w c.loop-next.words rest t c.in_ok-coefficient.ensures.read)
+          (ap (λ (q : ProblemContent). products_put (q, names) rest)
+          (sym (with_product-set (with_variables p (length names)) t))
+          ∙ sym (product_goes_on p c.loop-next.names names w c.loop-next.words rest (set_product t) c.in_ok-coefficient.ensures.read)
           ∙ before);
       small = rw state
           (omega (
