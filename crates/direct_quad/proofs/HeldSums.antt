@@ -76,7 +76,7 @@ additions-held h held =
     let w = length h.weights in
     record {
       sets = All-map (λ (u : Term). IsTermSet w u.0) product_term h.long held.sets;
-      small = omega (arith, terms_total-map product_term h.long, held.long_total, held.total);
+      small = omega (arith, terms_total-map product_term h.long, held.pairs_total, held.total);
     }
 
 -- so their table is as small
@@ -87,7 +87,7 @@ total-held h held =
       arith,
       terms_total-with_additions (map product_term h.long),
       terms_total-map product_term h.long,
-      held.long_total,
+      held.pairs_total,
     )
 
 pub couplers-fit : (h : HeldContent) → IsHeld h
@@ -241,7 +241,7 @@ module _ (t : TableContent) (h : HeldContent) (additions : AreAdditions t) (held
       )
 
   -- what short terms give to each node
-  short-at : (i : ℕ) → get_or h.weights i (pos 0) ≡ share_at i (flat_map short_shares shorts)
+  pub short-at : (i : ℕ) → get_or h.weights i (pos 0) ≡ share_at i (flat_map short_shares shorts)
   short-at i =
       elim (cases_lt i (length h.weights)) [
         | inl here ↦ held.weights i here

@@ -179,8 +179,16 @@ fits-short h k ls c held low set total constant gain pairs long =
     record {
       narrow = omega (arith, gain.width, held.narrow);
       total = omega (arith, total, low);
-      constant = omega (arith, ints, constant, total, held.constant, short_constant-size (ls, c));
-      weights = omega (arith, gain.small, held.weights, total);
+      constant = omega (
+        arith,
+        ints,
+        constant,
+        total,
+        held.constant,
+        short_constant-size (ls, c),
+        ap products_total long,
+      );
+      weights = omega (arith, gain.small, held.weights, total, ap products_total long);
       pairs = subst (λ m. All (IsPair m) k.pairs) (sym gain.width) (subst (All (IsPair n)) (sym pairs) both);
       pairs_total = omega (
         arith,
@@ -189,11 +197,11 @@ fits-short h k ls c held low set total constant gain pairs long =
         short_couplers-size (ls, c),
         held.pairs_total,
         total,
+        ap products_total long,
       );
       long = subst (All (λ (p : Product). 3 ≤ length p.literals)) (sym long) held.long;
       sets = subst (λ m. All (λ (p : Product). IsTermSet m p.literals) k.long) (sym gain.width)
           (subst (All (λ (p : Product). IsTermSet n p.literals)) (sym long) held.sets);
-      long_total = omega (arith, ap products_total long, held.long_total, total);
     }
 
 pub fits-long : (h k : HeldContent) (ls : List Literal) (c : ℤ) → IsHeld h
@@ -205,26 +213,25 @@ fits-long h k ls c held low set high total constant weights pairs long =
     let n = length h.weights in
     let p : Product = record { literals = ls; coefficient = c } in
     let width = ap length weights in
+    let more : products_total k.long ≡ products_total h.long + unsigned_abs c =
+    omega (
+      arith,
+      ap products_total long,
+      sum_by-append (λ (q : Product). unsigned_abs q.coefficient) h.long (p ∷ []),
+      sum_by-cons (λ (q : Product). unsigned_abs q.coefficient) p [],
+    ) in
     record {
       narrow = omega (arith, width, held.narrow);
       total = omega (arith, total, low);
-      constant = omega (arith, ap unsigned_abs constant, total, held.constant);
-      weights = omega (arith, ap size_of weights, held.weights, total);
+      constant = omega (arith, ap unsigned_abs constant, total, held.constant, more);
+      weights = omega (arith, ap size_of weights, held.weights, total, more);
       pairs = subst (λ m. All (IsPair m) k.pairs) (sym width) (subst (All (IsPair n)) (sym pairs) held.pairs);
-      pairs_total = omega (arith, ap weight_total pairs, held.pairs_total, total);
+      pairs_total = omega (arith, ap weight_total pairs, held.pairs_total, total, more);
       long = subst (All (λ (q : Product). 3 ≤ length q.literals)) (sym long)
           (All-push (λ (q : Product). 3 ≤ length q.literals) h.long p held.long (omega (arith, high)));
       sets = subst (λ m. All (λ (q : Product). IsTermSet m q.literals) k.long) (sym width)
           (subst (All (λ (q : Product). IsTermSet n q.literals)) (sym long)
           (All-push (λ (q : Product). IsTermSet n q.literals) h.long p held.sets set));
-      long_total = omega (
-        arith,
-        ap products_total long,
-        sum_by-append (λ (q : Product). unsigned_abs q.coefficient) h.long (p ∷ []),
-        sum_by-cons (λ (q : Product). unsigned_abs q.coefficient) p [],
-        held.long_total,
-        total,
-      );
     }
 
 -- ---- how many pairs there are

@@ -25,3 +25,5 @@ pub mod KeptPlaces
 pub mod PairRows
 pub mod PairSums
 pub mod FlatTables
+pub mod RoomForSums
+pub mod HeldParts

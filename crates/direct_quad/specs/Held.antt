@@ -7,8 +7,9 @@ use Rattle.bits_model.specs.declared.output.Entry.{Entry}
 use Rattle.bits_model.specs.Output.{weight_total}
 use Rattle.problem_form.specs.declared.terms.Product.{Product}
 use Rattle.problem_form.specs.Problems.{products_total}
-use Rattle.term_table.specs.Terms.{terms_total, IsTermSet}
+use Rattle.term_table.specs.Terms.{Term, terms_total, IsTermSet}
 use Rattle.term_table.specs.Tables.{TableContent}
+use Rattle.penalty_layer.specs.Gathered.{squares}
 use Rattle.quad_form.specs.Pairs.{IsPair}
 use Rattle.direct_quad.specs.Parts.{short_terms, long_additions}
 use Rattle.direct_quad.specs.Places.{Share, share_at, short_couplers, short_shares, short_constant}
@@ -34,17 +35,22 @@ pub record AreHeld (t : TableContent) (h : HeldContent) : Type 0 where
   pub pairs : h.pairs ≡ flat_map short_couplers (short_terms t.terms)
   pub long : map product_term h.long ≡ long_additions t.terms
 
+-- these terms can be added, one after another
+pub record HasPlaces (h : HeldContent) (ts : List Term) : Type 0 where
+  pub sets : All (λ u. IsTermSet (length h.weights) u.0) ts
+  pub total : h.total + terms_total ts ≤ 2 ^ 97
+  pub few : 4 * length h.pairs + squares ts ≤ 2 ^ 33
+
 -- the numbers fit their fields, and all is over the variables
 pub record IsHeld (h : HeldContent) : Type 0 where
   pub narrow : length h.weights < 2 ^ 32
   pub total : h.total ≤ 2 ^ 97
-  pub constant : unsigned_abs h.constant ≤ h.total
-  pub weights : size_of h.weights ≤ 2 * h.total
+  pub constant : unsigned_abs h.constant + products_total h.long ≤ h.total
+  pub weights : size_of h.weights + 2 * products_total h.long ≤ 2 * h.total
   pub pairs : All (IsPair (length h.weights)) h.pairs
-  pub pairs_total : weight_total h.pairs ≤ h.total
+  pub pairs_total : weight_total h.pairs + products_total h.long ≤ h.total
   pub long : All (λ p. 3 ≤ length p.literals) h.long
   pub sets : All (λ p. IsTermSet (length h.weights) p.literals) h.long
-  pub long_total : products_total h.long ≤ h.total
 
 -- the weights of so many nodes, of which those after the last one weigh 0
 abbrev pub widened : ℕ → List ℤ → List ℤ

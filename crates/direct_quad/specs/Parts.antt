@@ -41,6 +41,10 @@ short_terms ts = filter is_low ts
 abbrev pub long_additions : List Term → List Term
 long_additions ts = filter is_long ts
 
+-- the additions of at most two literals alone
+abbrev pub short_part : TableContent → TableContent
+short_part t = record t { terms = short_terms t.terms }
+
 -- the sums of the additions of three literals or more, in the order of a table
 abbrev pub long_terms : List Term → List Term
 long_terms ts = with_additions [] (long_additions ts)

@@ -1,10 +1,11 @@
 //! Additions that are gathered, and become a quadratic form at once.
 ghost use Rattle.std.specs.Prelude.{◌≡◌, ◌+◌, ◌*◌, ◌≤◌, ◌<◌, ◌^◌, [], IfOk, OnOk, OnErr, length, unsigned_abs};
+ghost use Rattle.problem_form.specs.Problems.{products_total};
 ghost use Rattle.term_table.specs.Terms.{IsTermSet};
 ghost use Rattle.term_table.specs.Tables.{TableContent, AreAdditions, with_appended};
-ghost use Rattle.direct_quad.specs.Parts.{image, table_of};
+ghost use Rattle.direct_quad.specs.Parts.{image, short_part, table_of};
 ghost use Rattle.direct_quad.specs.Long.{terms_of, node_count};
-ghost use Rattle.direct_quad.specs.Held.{AreHeld};
+ghost use Rattle.direct_quad.specs.Held.{AreHeld, HasPlaces};
 ghost use Rattle.direct_quad.specs.Gathered.{IsSumOf};
 ghost use Rattle.direct_quad.specs.Stated.{IsWithin};
 
@@ -13,6 +14,7 @@ use crate::long_table::LongTable;
 use crate::rows::couplers_of;
 use crate::shares::with_long;
 use crate::short::{add_short_shares, constant_of, push_short};
+use crate::weights::widened;
 use base::NoMemory;
 use bits_model::CouplerList;
 use literal_lists::Literal;
@@ -61,6 +63,18 @@ impl Model for DirectTerms {
       pairs = a.pairs;
       long = a.long;
     }) };
+}
+
+/// The sum of the sizes of the coefficients.
+fn products_total(products: &ProductList) -> u128
+    requires { products_total products.now ≤ 2 ^ 97 }
+    ensures { result ≡ products_total products.now }
+{
+    let mut total = 0;
+    for product in products.iter() {
+        total += product.coefficient.unsigned_abs();
+    }
+    total
 }
 
 impl DirectTerms {
@@ -141,6 +155,63 @@ impl DirectTerms {
         }
     }
 
+    /// How many nodes there are.
+    pub fn width(&self) -> usize
+        ensures { result ≡ length self.now.weights }
+    {
+        self.weights.len()
+    }
+
+    /// The additions of at most two literals, and the longer ones by themselves.
+    pub fn apart(self, alloc: Global) -> (DirectTerms, ProductList)
+        ensures short { (t : TableContent) → AreHeld t self → AreHeld (short_part t) result.0 }
+        ensures long { result.1 ≡ self.long }
+        ensures width { length result.0.weights ≡ length self.weights }
+        ensures pairs { result.0.pairs ≡ self.pairs }
+    {
+        let DirectTerms {
+            total,
+            constant,
+            weights,
+            pairs,
+            long,
+        } = self;
+        let short = DirectTerms {
+            total: total - products_total(&long),
+            constant,
+            weights,
+            pairs,
+            long: ProductList::empty(alloc),
+        };
+        (short, long)
+    }
+
+    /// The same additions, over more nodes.
+    pub fn widened(self, alloc: Global, nodes: usize) -> Result<DirectTerms, NoMemory>
+        requires wider { length self.weights ≤ nodes }
+        requires narrow { nodes < 2 ^ 32 }
+        ensures held { (t : TableContent) → AreAdditions t → AreHeld t self
+            → IfOk result (AreHeld (record t { width = nodes })) }
+        ensures width { IfOk result (λ terms. length terms.weights ≡ nodes) }
+        ensures total { IfOk result (λ terms. terms.total ≡ self.total) }
+        ensures pairs { IfOk result (λ terms. terms.pairs ≡ self.pairs) }
+    {
+        let DirectTerms {
+            total,
+            constant,
+            weights,
+            pairs,
+            long,
+        } = self;
+        Ok(DirectTerms {
+            total,
+            constant,
+            weights: widened(weights, nodes)?,
+            pairs: pairs.widened(alloc, nodes),
+            long,
+        })
+    }
+
     /// The sums of what all additions give, with new nodes for long terms. Each list is let go as
     /// soon as it is used.
     pub(crate) fn into_sums(self, alloc: Global) -> Result<Sums, NoMemory>
@@ -191,11 +262,7 @@ impl DirectTerms {
 }
 
 impl Gather for DirectTerms {
-    ghost width = { λ terms. length terms.weights };
-
-    ghost total = { λ terms. terms.total };
-
-    ghost pairs = { λ terms. 4 * length terms.pairs };
+    ghost takes = { λ terms ts. HasPlaces terms ts };
 
     ghost holds = { λ terms t. AreHeld t terms };
 

@@ -90,6 +90,21 @@ impl GatheredPairs {
         push_late(&mut self.others, first, second, weight)
     }
 
+    /// The same couplers, of more nodes. Where all came in order, later ones begin packed anew.
+    pub fn widened(self, alloc: Global, nodes: usize) -> GatheredPairs
+        ensures { result ≡ self }
+    {
+        if self.others.len() > 0 {
+            return self;
+        }
+        let GatheredPairs { ordered, last, .. } = self;
+        GatheredPairs {
+            ordered,
+            last,
+            others: Pairs::empty(alloc, nodes),
+        }
+    }
+
     /// The same couplers in the order of their pairs.
     pub fn sorted(self) -> Result<Pairs, NoMemory>
         ensures same { IfOk result (IsPermutation self) }

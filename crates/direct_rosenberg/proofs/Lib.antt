@@ -1,3 +1,6 @@
 pub mod Appended
 pub mod Sizes
 pub mod Formed
+pub mod LongRuns
+pub mod HeldRuns
+pub mod ProblemTerms

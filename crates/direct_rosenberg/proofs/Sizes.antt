@@ -9,7 +9,7 @@ use Rattle.std.proofs.lemmas.List.Sums.{sum_by-cons}
 use Rattle.literal_lists.specs.declared.literal.Literal.{Literal}
 use Rattle.term_table.specs.Terms.{Term, set_size, terms_size, terms_total}
 use Rattle.term_table.specs.Tables.{TableContent, table_size}
-use Rattle.term_table.proofs.Additions.{terms_size-cons, terms_total-append}
+use Rattle.term_table.proofs.Additions.{terms_size-cons}
 use Rattle.penalty_layer.specs.Gathered.{squares}
 use Rattle.penalty_layer.proofs.Gathering.{squares-append}
 use Rattle.rosenberg_layer.specs.Rosenberg.{excess, is_long, node, run, tie_terms, Pair}
@@ -18,9 +18,7 @@ use Rattle.rosenberg_layer.specs.Parts.{ties_of, weights, AreParts, NoneLong}
 use Rattle.rosenberg_layer.specs.laws.Sets.{IsSound}
 use Rattle.rosenberg_layer.proofs.GoBack.{all-left, all-right}
 use Rattle.rosenberg_layer.proofs.Growth.{square_is, total-weights, weights-table}
-use Rattle.direct_quad.specs.Held.{HeldContent}
 use Rattle.direct_quad.proofs.FlatTables.{squares-le}
-use Rattle.direct_rosenberg.specs.ByPairs.{Appends}
 
 -- ---- pairs
 
@@ -116,6 +114,29 @@ few-all t low n pairs ms short few_low few_pairs size =
       twice-excess t.terms,
     )
 
+-- .. and of what it adds to the short terms, with others
+pub few-moved : (t : TableContent) (low : List Term) (n more : ℕ) (pairs : List Pair) (ms : List ℕ)
+    → NoneLong (filter is_short t.terms ++ (low ++ ties_of n pairs ms))
+    → length low ≤ length t.terms → length pairs ≤ excess t.terms → table_size t * 2 ^ 2 ≤ 2 ^ 31
+    → more ≤ 2 ^ 31 → more + squares (low ++ ties_of n pairs ms) ≤ 2 ^ 33
+few-moved t low n more pairs ms short few_low few_pairs size few_more =
+    let base = filter is_short t.terms in
+    let ties = ties_of n pairs ms in
+    let is_none : Term → Type 0 = λ u. is_long u ≡ false in
+    let low_short = all-left is_none low ties (all-right is_none base (low ++ ties) short) in
+    omega (
+      arith,
+      few_low,
+      few_pairs,
+      few_more,
+      size,
+      squares-append low ties,
+      few-low low low_short,
+      few-ties n pairs ms,
+      count-size t.terms,
+      twice-excess t.terms,
+    )
+
 -- the total of all that a run adds
 pub total-all : (t : TableContent) (adds long : List Term) (k : ℕ) → IsSound t
     → AreParts (run k t) adds long (weights t.terms) → (terms_total t.terms + 1) * 2 ^ 15 ≤ 2 ^ 97
@@ -123,46 +144,3 @@ pub total-all : (t : TableContent) (adds long : List Term) (k : ℕ) → IsSound
 total-all t adds long k sound parts small =
     let old = parts.small in
     omega (arith, old, small, total-weights adds, weights-table t sound)
-
--- ---- one list after another
-
--- the first of three lists fits where all do
-pub first-total : (ts us vs : List Term) (n most : ℕ) → n + terms_total (ts ++ (us ++ vs)) ≤ most
-    → n + terms_total ts ≤ most
-first-total ts us vs n most small = omega (arith, small, terms_total-append ts (us ++ vs))
-
--- .. and the second after it
-pub second-total : (old new : HeldContent) (ts us vs : List Term) (most : ℕ) → Appends old new ts
-    → old.total + terms_total (ts ++ (us ++ vs)) ≤ most → new.total + terms_total us ≤ most
-second-total old new ts us vs most added small =
-    let after : new.total ≡ old.total + terms_total ts = added.counted in
-    omega (arith, small, after, terms_total-append ts (us ++ vs), terms_total-append us vs)
-
--- .. and the third
-pub third-total : (old now new : HeldContent) (ts us vs : List Term) (most : ℕ) → Appends old now ts
-    → Appends now new us → old.total + terms_total (ts ++ (us ++ vs)) ≤ most
-    → new.total + terms_total vs ≤ most
-third-total old now new ts us vs most one two small =
-    let first : now.total ≡ old.total + terms_total ts = one.counted in
-    let second : new.total ≡ now.total + terms_total us = two.counted in
-    omega (arith, small, first, second, terms_total-append ts (us ++ vs), terms_total-append us vs)
-
--- the pairs of the first are few where those of all are
-pub first-few : (ts us vs : List Term) (n most : ℕ) → n + squares (ts ++ (us ++ vs)) ≤ most
-    → n + squares ts ≤ most
-first-few ts us vs n most few = omega (arith, few, squares-append ts (us ++ vs))
-
-pub second-few : (old new : HeldContent) (ts us vs : List Term) (most : ℕ) → Appends old new ts
-    → 4 * length old.pairs + squares (ts ++ (us ++ vs)) ≤ most
-    → 4 * length new.pairs + squares us ≤ most
-second-few old new ts us vs most added few =
-    let after : 4 * length new.pairs ≤ 4 * length old.pairs + squares ts = added.few in
-    omega (arith, few, after, squares-append ts (us ++ vs), squares-append us vs)
-
-pub third-few : (old now new : HeldContent) (ts us vs : List Term) (most : ℕ) → Appends old now ts
-    → Appends now new us → 4 * length old.pairs + squares (ts ++ (us ++ vs)) ≤ most
-    → 4 * length new.pairs + squares vs ≤ most
-third-few old now new ts us vs most one two few =
-    let first : 4 * length now.pairs ≤ 4 * length old.pairs + squares ts = one.few in
-    let second : 4 * length new.pairs ≤ 4 * length now.pairs + squares us = two.few in
-    omega (arith, few, first, second, squares-append ts (us ++ vs), squares-append us vs)

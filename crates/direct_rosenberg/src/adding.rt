@@ -6,7 +6,7 @@ ghost use Rattle.penalty_layer.specs.Gathered.{squares};
 ghost use Rattle.rosenberg_layer.specs.Rosenberg.{tie_terms};
 ghost use Rattle.rosenberg_layer.specs.Steps.{is_short};
 ghost use Rattle.rosenberg_layer.specs.Parts.{ties_of};
-ghost use Rattle.direct_rosenberg.specs.ByPairs.{Appends};
+ghost use Rattle.direct_rosenberg.specs.ByPairs.{moved_of, Appends};
 
 use base::NoMemory;
 use direct_quad::DirectTerms;
@@ -105,6 +105,21 @@ fn add_ties(
     Ok(())
 }
 
+/// Adds all that a run of substitutions added, whose new nodes are numbered from a number on.
+pub fn add_moved(terms: &mut DirectTerms, made: &Run, start: usize) -> Result<(), NoMemory>
+    requires each { length made.now.weights.items ≡ length made.now.pairs.items }
+    requires narrow { start + length made.now.pairs.items < 2 ^ 64 }
+    requires sets { AllByRecursion (λ t. IsTermSet (length terms.old.weights) t.0)
+        (moved_of start made.now) }
+    requires small { terms.old.total + terms_total (moved_of start made.now) ≤ 2 ^ 97 }
+    requires few { 4 * length terms.old.pairs + squares (moved_of start made.now) ≤ 2 ^ 33 }
+    ensures { OnOk result (Appends terms.old terms.new (moved_of start made.now)) }
+{
+    add_all(terms, &made.low)?;
+    add_ties(terms, &made.pairs, &made.weights, start)?;
+    Ok(())
+}
+
 /// Adds the terms of degree 2 or less of a table, and all that a run of substitutions added.
 pub fn add_run(
     terms: &mut DirectTerms,
@@ -116,18 +131,15 @@ pub fn add_run(
     requires each { length made.now.weights.items ≡ length made.now.pairs.items }
     requires narrow { start + length made.now.pairs.items < 2 ^ 64 }
     requires sets { AllByRecursion (λ t. IsTermSet (length terms.old.weights) t.0)
-        (made.now.low.items ++ ties_of start made.now.pairs.items made.now.weights.items) }
+        (moved_of start made.now) }
     requires small { terms.old.total + terms_total (filter is_short table.now.content.terms
-        ++ (made.now.low.items ++ ties_of start made.now.pairs.items made.now.weights.items))
-        ≤ 2 ^ 97 }
+        ++ moved_of start made.now) ≤ 2 ^ 97 }
     requires few { 4 * length terms.old.pairs + squares (filter is_short table.now.content.terms
-        ++ (made.now.low.items ++ ties_of start made.now.pairs.items made.now.weights.items))
-        ≤ 2 ^ 33 }
+        ++ moved_of start made.now) ≤ 2 ^ 33 }
     ensures { OnOk result (Appends terms.old terms.new (filter is_short table.now.content.terms
-        ++ (made.now.low.items ++ ties_of start made.now.pairs.items made.now.weights.items))) }
+        ++ moved_of start made.now)) }
 {
     add_low(terms, table)?;
-    add_all(terms, &made.low)?;
-    add_ties(terms, &made.pairs, &made.weights, start)?;
+    add_moved(terms, made, start)?;
     Ok(())
 }

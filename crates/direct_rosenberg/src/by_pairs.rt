@@ -1,10 +1,13 @@
-//! The quadratic form of a table whose pairs of literals are replaced one after another.
-ghost use Rattle.std.specs.Prelude.{◌≡◌, ◌+◌, ◌*◌, ◌≤◌, ◌^◌, IfOk};
+//! The quadratic form of terms whose pairs of literals are replaced one after another.
+ghost use Rattle.std.specs.Prelude.{◌≡◌, ◌+◌, ◌*◌, ◌≤◌, ◌^◌, IfOk, length};
 ghost use Rattle.term_table.specs.Terms.{terms_total};
-ghost use Rattle.term_table.specs.Tables.{IsTable, table_size};
-ghost use Rattle.direct_rosenberg.specs.ByPairs.{image};
+ghost use Rattle.term_table.specs.Tables.{IsTable, TableContent, table_size};
+ghost use Rattle.direct_quad.specs.Parts.{table_of};
+ghost use Rattle.direct_quad.specs.Held.{AreHeld};
+ghost use Rattle.direct_rosenberg.specs.ByPairs.{image, HasRoom};
 
-use crate::adding::add_run;
+use crate::adding::{add_moved, add_run};
+use crate::long_run::long_run;
 use base::{Costed, NoMemory};
 use direct_quad::DirectTerms;
 use quad_form::Quad;
@@ -29,5 +32,22 @@ pub fn quad_by_pairs(alloc: Global, table: Table) -> Result<Quad, NoMemory>
     add_run(&mut terms, &table, &made, width)?;
     drop(made);
     drop(table);
+    terms.into_quad(alloc)
+}
+
+/// The quadratic form of additions, summed and pairs of literals replaced one after another. Only
+/// the long ones are summed before that. Each list is let go as soon as it is used.
+pub fn quad_by_pairs_of(alloc: Global, terms: DirectTerms) -> Result<Quad, NoMemory>
+    requires held { (t : TableContent) × HasRoom t × AreHeld t terms }
+    requires few { 4 * length terms.pairs ≤ 2 ^ 31 }
+    ensures { (t : TableContent) → HasRoom t → AreHeld t terms
+        → IfOk result (λ quad. quad ≡ image (table_of t)) }
+{
+    let width = terms.width();
+    let (short, long) = terms.apart(alloc);
+    let made = long_run(alloc, width, long)?;
+    let mut terms = short.widened(alloc, width + made.pairs.len())?;
+    add_moved(&mut terms, &made, width)?;
+    drop(made);
     terms.into_quad(alloc)
 }

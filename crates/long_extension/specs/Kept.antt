@@ -6,6 +6,5 @@ use Rattle.direct_quad.specs.Long.{product_term}
 use Rattle.long_extension.specs.declared.gathered.LongTerms.{LongTerms}
 
 -- the additions of three literals or more, in the order in which they came
-pub record AreKept (t : TableContent) (h : LongTerms) : Type 0 where
-  pub width : h.width ≡ t.width
-  pub long : map product_term h.long ≡ long_additions t.terms
+abbrev pub AreKept : TableContent → LongTerms → Type 0
+AreKept t h = map product_term h.long ≡ long_additions t.terms

@@ -1,5 +1,5 @@
 //! The long terms of a problem: those of three literals or more.
-ghost use Rattle.std.specs.Prelude.{◌≡◌, [], IfOk, map};
+ghost use Rattle.std.specs.Prelude.{◌≡◌, [], ⊤, IfOk, map};
 ghost use Rattle.penalty_layer.specs.Penalty.{contributions, Admits};
 ghost use Rattle.direct_quad.specs.Parts.{long_additions};
 ghost use Rattle.direct_quad.specs.Long.{product_term};
@@ -7,24 +7,18 @@ ghost use Rattle.long_extension.specs.Kept.{AreKept};
 
 use base::NoMemory;
 use literal_lists::Literal;
-use penalty_layer::{Gather, add_contributions, node_count};
+use penalty_layer::{Gather, add_contributions};
 use problem_form::{Problem, ProductList};
 use std::alloc::Global;
 
 /// Additions of which those of three literals or more are kept, in the order in which they came.
 #[derive(Drop)]
 pub struct LongTerms {
-    pub(crate) width: usize,
-    pub(crate) total: u128,
     pub(crate) long: ProductList,
 }
 
 impl Gather for LongTerms {
-    ghost width = { λ terms. terms.width };
-
-    ghost total = { λ terms. terms.total };
-
-    ghost pairs = { λ _. 0 };
+    ghost takes = { λ _ _. ⊤ };
 
     ghost holds = { λ terms t. AreKept t terms };
 
@@ -32,20 +26,17 @@ impl Gather for LongTerms {
         if literals.len() > 2 {
             self.long.push(literals, coefficient)?;
         }
-        self.total += coefficient.unsigned_abs();
         Ok(())
     }
 }
 
 /// The long terms that a problem adds, in the order in which they came.
-pub(crate) fn long_additions(alloc: Global, problem: &Problem) -> Result<ProductList, NoMemory>
+pub fn long_additions(alloc: Global, problem: &Problem) -> Result<ProductList, NoMemory>
     requires { Admits problem.now }
     ensures { IfOk result (λ long.
         map product_term long ≡ long_additions (contributions problem.now)) }
 {
     let mut terms = LongTerms {
-        width: node_count(problem),
-        total: 0,
         long: ProductList::empty(alloc),
     };
     add_contributions(alloc, &mut terms, problem)?;

@@ -8,3 +8,4 @@ mod extending;
 mod gathered;
 
 pub use extending::extended;
+pub use gathered::long_additions;

@@ -15,3 +15,4 @@ pub mod Sites
 pub mod Tied
 pub mod OnChains
 pub mod QubitModels
+mod PlainForms

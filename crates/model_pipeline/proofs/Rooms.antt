@@ -5,6 +5,9 @@ use Rattle.problem_form.specs.Problems.{ProblemContent}
 use Rattle.term_table.specs.Terms.{terms_total}
 use Rattle.term_table.specs.Tables.{TableContent, IsTable, table_size}
 use Rattle.penalty_layer.specs.Penalty.{Admits}
+use Rattle.penalty_layer.specs.Penalty as penalty
+use Rattle.penalty_layer.proofs.Admitted.{image_size}
+use Rattle.penalty_layer.proofs.Sums.{image-total}
 use Rattle.monomial_layer.specs.Monomials as monomials
 use Rattle.monomial_layer.proofs.Sets.{IsLow-image}
 use Rattle.monomial_layer.proofs.Sizes.{all_nodes-le, total-image_terms}
@@ -16,7 +19,9 @@ use Rattle.quad_form.proofs.FlatForms.{quad_total-image}
 use Rattle.quad_form.proofs.UniqueForms.{IsQuad-image}
 use Rattle.direct_quad.specs.Direct as direct
 use Rattle.direct_quad.specs.FlatMonomials as flat_monomials
+use Rattle.direct_quad.specs.laws.Between.{IsTable-table_of}
 use Rattle.direct_quad.specs.laws.FlatKept.{fits_second}
+use Rattle.direct_quad.specs.laws.Relaxing.{AreAdditions-of}
 use Rattle.direct_quad.proofs.AtOnce.{image-quad}
 use Rattle.direct_quad.proofs.Guarded.{IsWithin-of, made_total}
 use Rattle.model_pipeline.specs.Formed.{HasRoom}
@@ -58,6 +63,14 @@ pair_room t is size total =
           (omega (arith, total-image t is.terms, total));
       total = omega (arith, pair_total t is, total);
     }
+
+-- .. of a problem's terms
+pub literal_room : (p : ProblemContent) → Admits p
+    → HasRoom (flat.image (rosenberg.image (penalty.image p)))
+literal_room p admitted =
+    pair_room (penalty.image p)
+    (IsTable-table_of (direct.additions_of p) (AreAdditions-of p admitted))
+    (omega (arith, image_size p admitted)) (omega (arith, image-total p admitted.within))
 
 -- .. and where no table is made
 pub direct_room : (p : ProblemContent) → Admits p → HasRoom (direct.image p)

@@ -19,11 +19,12 @@ use Rattle.problem_form.specs.Problems.{ProblemContent, form_of}
 use Rattle.problem_form.specs.Limits.{upper, limit_fault}
 use Rattle.command_words.specs.declared.commands.NodeModel.{NodeModel}
 use Rattle.command_words.specs.declared.commands.NodeModel.TheVariants.{Qubo, Ising}
-use Rattle.penalty_layer.specs.Penalty.{figures, node_count}
+use Rattle.penalty_layer.specs.Penalty.{figures, node_count, Admits}
 use Rattle.penalty_layer.specs.Penalty as penalty
 use Rattle.penalty_layer.specs.laws.Relaxing.{penalty_relaxes}
-use Rattle.penalty_layer.proofs.Admitted.{threshold_within}
-use Rattle.term_table.specs.Tables.{TableContent}
+use Rattle.penalty_layer.proofs.Admitted.{image_size, threshold_within}
+use Rattle.penalty_layer.proofs.Sums.{image-total}
+use Rattle.term_table.specs.Tables.{TableContent, IsTable}
 use Rattle.term_table.specs.Tables as tables
 use Rattle.normal_form.specs.laws.Relaxing.{multilinear_relaxes}
 use Rattle.monomial_layer.specs.Monomials as monomials
@@ -35,8 +36,10 @@ use Rattle.quad_form.specs.Quads as quads
 use Rattle.quad_form.specs.Flat.{same_bits}
 use Rattle.quad_form.specs.Flat as flat
 use Rattle.quad_form.specs.laws.Flattened.{length-image, flat_keeps}
+use Rattle.direct_quad.specs.Direct.{additions_of}
 use Rattle.direct_quad.specs.Direct as direct
-use Rattle.direct_quad.specs.laws.Relaxing.{direct_relaxes, figures-still}
+use Rattle.direct_quad.specs.laws.Between.{IsTable-table_of}
+use Rattle.direct_quad.specs.laws.Relaxing.{AreAdditions-of, direct_relaxes, figures-still}
 use Rattle.ising_form.specs.Isings as isings
 use Rattle.ising_form.specs.Spins.{coupled}
 use Rattle.ising_form.specs.Spins as spins
@@ -45,6 +48,7 @@ use Rattle.ising_form.proofs.Images.{image_is_ising, total-image}
 use Rattle.model_pipeline.specs.Models.{IsModelOf, form_model, ising_figures, low_terms_of, quad_by, terms_of}
 use Rattle.model_pipeline.specs.Formed.{IsFormed, Stands}
 use Rattle.model_pipeline.specs.Decoders.{LowFits}
+use Rattle.model_pipeline.proofs.PairForms.{flat_link, pair_link, pair_size, pair_total}
 use Rattle.model_pipeline.proofs.FormModels.{HasFigures, figures_within, qubo_stands, ising_stands}
 
 -- the same form, with the same figures
@@ -146,6 +150,24 @@ module _ (normal : Normal) (high : High) (p : ProblemContent) where
           },
         );
       }
+
+-- ---- over literals, pairs replaced one after another, at once
+
+-- the links of the steps need not be made
+pub formed_by_pairs : (p : ProblemContent) → Admits p
+    → IsFormed p (quad_by Literal Rosenberg p) (figures p)
+formed_by_pairs p admitted =
+    let t = penalty.image p in
+    let none = admitted.within in
+    let kept : IsTable t = IsTable-table_of (additions_of p) (AreAdditions-of p admitted) in
+    let first : BitsLink = record { source_width = p.variables; target_width = node_count p } in
+    let fits : penalty.Fits first p = record { source = refl; target = refl; normal = admitted.normal } in
+    let pair = pair_link t kept in
+    let low = flat_link t kept (omega (arith, image-total p none)) in
+    formed_by_steps Literal Rosenberg p first pair.0 low.0 (threshold_within p (upper p) none refl) fits pair.1
+    low.1
+    (omega (arith, pair_total t kept, image-total p none))
+    (omega (arith, pair_size t kept, image_size p admitted))
 
 -- ---- its model
 

@@ -3,6 +3,7 @@ ghost use Rattle.std.specs.Prelude.{◌≡◌, ◌<◌, ◌≤◌, ◌+◌, ◌^
 ghost use Rattle.problem_form.specs.Limits.{limit_fault};
 ghost use Rattle.form_steps.specs.declared.layer.BitsLink.{BitsLink};
 ghost use Rattle.penalty_layer.specs.Penalty.{Admits};
+ghost use Rattle.penalty_layer.specs.Penalty as penalty;
 ghost use Rattle.direct_quad.specs.Direct as direct;
 ghost use Rattle.direct_quad.specs.FlatMonomials.{extension, image, Fits};
 ghost use Rattle.rosenberg_layer.specs.Rosenberg as rosenberg;
@@ -14,9 +15,10 @@ ghost use Rattle.model_pipeline.specs.Extensions.{extension_of, IsLeastExtension
 use crate::new_nodes::monomial_link;
 use base::{Costed, NoMemory};
 use direct_quad::FlatMonomials;
+use direct_rosenberg::with_pair_bits;
 use form_steps::{BitsLink, Guard, Layer};
 use normal_form::MultilinearForm;
-use penalty_layer::Penalty;
+use penalty_layer::{Penalty, node_count};
 use problem_form::{Choices, High, Normal, Problem};
 use rosenberg_layer::Rosenberg;
 use std::alloc::Global;
@@ -117,6 +119,26 @@ fn by_long_terms(
     long_extension::extended(alloc, problem, nodes, x)
 }
 
+/// The state that an assignment extends to over literals, where pairs are replaced one after another:
+/// of the terms only long ones are gathered.
+fn by_long_pairs(alloc: Global, problem: &Problem, x: &[bool]) -> Result<Vec<bool>, NoMemory>
+    requires admits { Admits problem.now }
+    requires width { length x.now ≡ problem.now.variables }
+    ensures extension { IfOk result (λ y. y.items
+        ≡ rosenberg.extension (penalty.extension problem.now x.now) (penalty.image problem.now)) }
+
+    // What the steps to a model rest on.
+    ensures room { IfOk result (λ _.
+        HasRoom (flat.image (rosenberg.image (penalty.image problem.now)))) }
+{
+    let link = BitsLink {
+        source_width: problem.variables as usize,
+        target_width: node_count(problem),
+    };
+    let y = Penalty.extend(alloc, problem, &link, x)?;
+    with_pair_bits(alloc, problem, y)
+}
+
 /// The state of the quadratic form that an assignment of a problem within the limits extends to. No
 /// state that decodes to the assignment has a lesser energy. The form has so many nodes.
 pub fn extended(
@@ -141,7 +163,7 @@ pub fn extended(
     match choices.normal {
         Normal::Literal => match choices.high {
             High::Monomial => by_long_terms(alloc, problem, nodes, x),
-            High::Rosenberg => by_pairs(alloc, &Penalty, problem, x),
+            High::Rosenberg => by_long_pairs(alloc, problem, x),
         },
         Normal::Multilinear => match choices.high {
             High::Monomial => by_monomials(alloc, &MultilinearForm, problem, x),

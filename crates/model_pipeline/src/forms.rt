@@ -3,17 +3,21 @@ ghost use Rattle.std.specs.Prelude.{◌≡◌, None, IfOk};
 ghost use Rattle.problem_form.specs.declared.limits.Normal.TheVariants as normals;
 ghost use Rattle.problem_form.specs.declared.limits.High.TheVariants as highs;
 ghost use Rattle.problem_form.specs.Limits.{limit_fault};
+ghost use Rattle.normal_form.specs.Multilinear as multilinear;
+ghost use Rattle.direct_quad.specs.Direct.{additions_of};
+ghost use Rattle.direct_quad.specs.Held.{AreHeld};
 ghost use Rattle.model_pipeline.specs.Models.{quad_by, quad_of};
 ghost use Rattle.model_pipeline.specs.Formed.{IsFormed};
 
 use crate::held::Held;
 use crate::steps::quadratic_of;
 use base::{Figures, NoMemory};
-use direct_quad::{DirectQuad, FlatMonomials};
-use form_steps::{Guard, Layer};
-use normal_form::MultilinearForm;
-use penalty_layer::Penalty;
-use problem_form::{Choices, High, Normal};
+use direct_quad::{DirectQuad, DirectTerms};
+use direct_rosenberg::{problem_terms, quad_by_pairs_of};
+use form_steps::Guard;
+use normal_form::{MultilinearForm, PlainTerms};
+use penalty_layer::{add_contributions, node_count};
+use problem_form::{Choices, High, Normal, Problem};
 use quad_form::Quad;
 use std::alloc::Global;
 
@@ -39,37 +43,55 @@ fn literal_monomial<P: Held>(alloc: Global, problem: P) -> Result<FiguredQuad, N
     })
 }
 
-/// Over literals, pairs replaced one after another: without the table of quadratic terms.
+/// Over literals, pairs replaced one after another: at once, without the tables between. The problem
+/// is let go as soon as its terms are gathered.
 fn literal_rosenberg<P: Held>(alloc: Global, problem: P) -> Result<FiguredQuad, NoMemory>
     requires { limit_fault normals.Literal (P.problem problem) ≡ None }
     ensures image { IfOk result (λ made.
         made.quad ≡ quad_by normals.Literal highs.Rosenberg (P.problem problem)) }
     ensures stands { IfOk result (λ made. IsFormed (P.problem problem) made.quad made.figures) }
 {
-    // a problem that is read is in normal form
-    let _problem = problem.problem();
-    let made = quadratic_of(alloc, &Penalty, problem)?;
-    Ok(FiguredQuad {
-        quad: made.quad,
-        figures: made.figures,
-    })
+    let terms = problem_terms(alloc, problem.problem())?;
+    let figures = Figures {
+        scale: 1,
+        offset: 0,
+        threshold: problem.problem().upper(),
+    };
+    drop(problem);
+    let quad = quad_by_pairs_of(alloc, terms)?;
+    Ok(FiguredQuad { quad, figures })
 }
 
-/// Over variables alone, each term replaced by itself: without the table of quadratic terms. The
-/// table is let go as soon as the form stands.
+/// What a problem within the limits contributes, multiplied out as it comes.
+fn multilinear_terms(alloc: Global, problem: &Problem) -> Result<DirectTerms, NoMemory>
+    requires { multilinear.Admits problem.now }
+    ensures { IfOk result (AreHeld (multilinear.multiplied (additions_of problem.now))) }
+{
+    let sums = DirectTerms::new(alloc, node_count(problem))?;
+    let mut terms = PlainTerms::new(alloc, sums);
+    add_contributions(alloc, &mut terms, problem)?;
+    Ok(terms.into_terms())
+}
+
+/// Over variables alone, each term replaced by itself: at once, without the tables between. The
+/// problem is let go as soon as the sums stand.
 fn multilinear_monomial<P: Held>(alloc: Global, problem: P) -> Result<FiguredQuad, NoMemory>
     requires { limit_fault normals.Multilinear (P.problem problem) ≡ None }
     ensures image { IfOk result (λ made.
         made.quad ≡ quad_by normals.Multilinear highs.Monomial (P.problem problem)) }
     ensures stands { IfOk result (λ made. IsFormed (P.problem problem) made.quad made.figures) }
 {
-    let made = MultilinearForm.guard(alloc, problem.problem())?;
+    let source = problem.problem();
+    let terms = multilinear_terms(alloc, source)?;
+    let figures = Figures {
+        scale: 1,
+        offset: 0,
+        threshold: source.upper(),
+    };
     drop(problem);
-    let lowered = FlatMonomials.lower(alloc, &made.target)?;
-    drop(made.target);
     Ok(FiguredQuad {
-        quad: lowered.target,
-        figures: made.figures,
+        quad: terms.into_quad(alloc)?,
+        figures,
     })
 }
 

@@ -10,12 +10,8 @@ use Rattle.term_table.proofs.Loops.{with_more-append}
 use Rattle.term_table.proofs.PlainSums.{contributions-grow}
 use Rattle.term_table.proofs.PlainSets.{contributions-sets, contributions-plain}
 use Rattle.normal_form.specs.Behind.{behind}
-use Rattle.normal_form.specs.Multilinear.{expanded, IsMultilinear}
+use Rattle.normal_form.specs.Multilinear.{multiplied, expanded, IsMultilinear}
 use Rattle.normal_form.proofs.PlainSteps.{behind-nothing, additions_first}
-
--- what a table is multiplied out to
-abbrev pub multiplied : TableContent → TableContent
-multiplied t = record t { terms = contributions t.terms }
 
 pub AreAdditions-multiplied : (t : TableContent) → IsTable t
     → All (λ (u : Term). complements u.0 ≤ 8) t.terms

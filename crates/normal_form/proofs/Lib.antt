@@ -4,3 +4,5 @@ pub mod Limits
 pub mod Complements
 pub mod Sizes
 pub mod Admitted
+pub mod Gathered
+pub mod MultipliedOut

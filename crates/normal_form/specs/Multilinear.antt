@@ -2,16 +2,24 @@
 --
 -- Each complement is replaced by 1 - x and everything is multiplied out. Every function of bits has
 -- one such form.
-use Rattle.std.specs.Prelude.{◌≡◌, All, None, []}
+use Rattle.std.specs.Prelude.{◌≡◌, ◌≤◌, ◌^◌, unsigned_abs, All, None, []}
 use Rattle.problem_form.specs.declared.limits.Normal.TheVariants as normals
 use Rattle.problem_form.specs.Problems.{ProblemContent, IsNormal}
 use Rattle.problem_form.specs.Limits.{limit_fault}
-use Rattle.term_table.specs.Terms.{with_additions}
+use Rattle.term_table.specs.Terms.{Term, with_additions}
 use Rattle.term_table.specs.Tables.{TableContent}
 use Rattle.term_table.specs.MultipliedOut.{contributions, ArePlain}
 use Rattle.penalty_layer.specs.Penalty as penalty
 
 -- ---- a table, multiplied out
+
+-- what additions are multiplied out to, one after another
+abbrev pub multiplied : TableContent → TableContent
+multiplied t = record t { terms = contributions t.terms }
+
+-- the coefficient can be turned
+abbrev pub IsSmall : Term → Type 0
+IsSmall u = unsigned_abs u.1 ≤ 2 ^ 124
 
 -- the sums of what its terms are multiplied out to
 abbrev pub expanded : TableContent → TableContent

@@ -9,13 +9,14 @@ ghost use Rattle.term_table.specs.MultipliedOut.{complements, plain, plain_terms
 ghost use Rattle.normal_form.specs.Behind.{behind};
 ghost use Rattle.normal_form.specs.Multilinear.{expanded, IsMultilinear};
 
+use crate::plain::gather_plain_terms;
 use base::NoMemory;
 use literal_lists::Literal;
 use std::alloc::Global;
 use term_table::{GatheredTerms, Table};
 
 /// The variable of a literal, as a literal.
-fn plain(literal: &Literal) -> Literal
+pub(crate) fn plain(literal: &Literal) -> Literal
     ensures { result ≡ plain literal.now }
 {
     Literal {
@@ -24,7 +25,7 @@ fn plain(literal: &Literal) -> Literal
     }
 }
 
-fn negated(coefficient: &i128) -> i128
+pub(crate) fn negated(coefficient: &i128) -> i128
     requires { unsigned_abs coefficient.now ≤ 2 ^ 124 }
     ensures { result ≡ neg_ℤ coefficient.now }
 {
@@ -32,7 +33,7 @@ fn negated(coefficient: &i128) -> i128
 }
 
 /// How many literals stand before the first complement.
-fn first_complement(literals: &[Literal]) -> usize
+pub(crate) fn first_complement(literals: &[Literal]) -> usize
     ensures before { ArePlain (take result literals.now) }
     ensures at { (l : Literal) → result < length literals.now
         → (get_or literals.now result l).negated ≡ true }
@@ -60,19 +61,7 @@ pub fn add_plain_terms(
         (behind list.old.items (plain_terms literals.now coefficient.now))) }
     ensures kept { OnOk result (list.new.items ≡ list.old.items) }
 {
-    let length = list.len();
-    let place = first_complement(literals);
-    list.extend_from_slice(&literals[..place])?;
-    if place == literals.len() {
-        terms.add(list, *coefficient)?;
-    } else {
-        let rest = &literals[place + 1..];
-        add_plain_terms(terms, list, rest, coefficient)?;
-        list.push(plain(&literals[place]))?;
-        add_plain_terms(terms, list, rest, &negated(coefficient))?;
-    }
-    list.truncate(length);
-    Ok(())
+    gather_plain_terms(terms, list, literals, coefficient)
 }
 
 /// The table without complements that costs the same: each is replaced by 1 less its variable, and

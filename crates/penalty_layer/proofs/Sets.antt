@@ -3,6 +3,8 @@ use Rattle.std.proofs.Common.{ℕ, suc, ◌+◌, ◌*◌, ◌≤◌, List, [], �
 use Rattle.std.specs.List.{AllByRecursion, flat_map, sum_by}
 use Rattle.std.proofs.lemmas.List.Elements.{All-from_recursion, recursion_from_All, All-cons, All-append, All-map, All-nil}
 use Rattle.std.proofs.lemmas.List.Sums.{sum_by-cons}
+use Rattle.literal_lists.specs.declared.literal.Literal.{Literal}
+use Rattle.literal_lists.specs.Literals.{IsLiteralSet}
 use Rattle.problem_form.specs.declared.terms.Product.{Product}
 use Rattle.problem_form.specs.declared.terms.Constraint.{Constraint}
 use Rattle.problem_form.specs.Problems.{ProblemContent}
@@ -12,12 +14,18 @@ use Rattle.term_table.specs.Products.{scaled, products_with, IsFactor}
 use Rattle.term_table.proofs.KeptTerms.{OfSet}
 use Rattle.term_table.proofs.SmallSets.{IsTermSet-none, IsTermSet-one, IsTermSet-wider}
 use Rattle.term_table.proofs.TermProducts.{AreFactors, factor_set, products_with-sets}
+use Rattle.penalty_layer.specs.Rooms.{IsSet}
 use Rattle.penalty_layer.specs.Penalty.{opposite, clause_term, plain_terms, contributions, node_count, Admits}
 use Rattle.penalty_layer.specs.Slack.{slack_weights}
 use Rattle.penalty_layer.specs.Squares.{product_term, square_terms, node, slack_terms, slack_form, constraint_terms}
 use Rattle.penalty_layer.specs.laws.SlackValues.{length-slack_weights}
 use Rattle.penalty_layer.proofs.Bounds.{within_limits, degrees_within, most_of}
 use Rattle.penalty_layer.proofs.OppositeSets.{opposites_set, opposites_length}
+
+-- ---- sets of whatever width
+
+pub is_set : (width : ℕ) (ls : List Literal) → IsLiteralSet width ls → IsSet ls
+is_set width ls set = record { ordered = set.ordered; apart = set.apart }
 
 -- ---- products and clauses
 
@@ -78,6 +86,11 @@ constraint_sets p width admitted wide k d h k' d' h' =
       short = omega (arith, here, most);
     }
 
+pub problem_sets : (p : ProblemContent) → Admits p → All (λ k. All (λ t. IsSet t.literals) k.products) p.constraints
+problem_sets p admitted k d h k' d' h' =
+    is_set p.variables (get_or (get_or p.constraints k d).products k' d').literals
+    (admitted.normal.constraints k d h k' d' h').set
+
 -- ---- what is squared
 
 slack_terms-factors : (width first : ℕ) (ws : List ℕ) → first + length ws ≤ width
@@ -100,6 +113,23 @@ slack_form-factors width first k products h =
     (All-map P product_term k.products products)
     (All-cons P ([], neg_ℤ k.bound) (slack_terms first ws) bound
     (slack_terms-factors width first ws (omega (arith, h, length-slack_weights (slack_range k)))))
+
+-- they are sets, of whatever width
+pub slack_form-sets : (first : ℕ) (k : Constraint) → All (λ t. IsSet t.literals) k.products
+    → All (λ t. IsSet t.0) (slack_form first k)
+slack_form-sets first k products =
+    let P : Term → Type 0 = λ t. IsSet t.0 in
+    All-append P (map product_term k.products) (([], neg_ℤ k.bound) ∷ slack_terms first (slack_weights (slack_range k)))
+    (All-map P product_term k.products products)
+    (All-cons P ([], neg_ℤ k.bound) (slack_terms first (slack_weights (slack_range k))) (is_set 0 [] (IsTermSet-none 0).set)
+    (slack first (slack_weights (slack_range k))))
+  where
+    slack : (n : ℕ) (ws : List ℕ) → All (λ (t : Term). IsSet t.0) (slack_terms n ws)
+    slack n [] = All-nil (λ (t : Term). IsSet t.0)
+    slack n (w ∷ ws) =
+        All-cons (λ (t : Term). IsSet t.0) (node n ∷ [], neg_ℤ (pos w)) (slack_terms (suc n) ws)
+        (is_set (suc n) (node n ∷ []) (IsTermSet-one (suc n) (node n) (omega arith)).set)
+        (slack (suc n) ws)
 
 square_terms-sets : (width n : ℕ) (ts : List Term) → AreFactors width ts
     → All (OfSet (IsTermSet width)) (square_terms n ts)

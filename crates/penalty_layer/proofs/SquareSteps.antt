@@ -9,17 +9,18 @@ use Rattle.literal_lists.specs.Literals.{literal_set}
 use Rattle.literal_lists.proofs.LiteralSets.{literal_set-ascending}
 use Rattle.literal_lists.proofs.LentParts.{drop-at}
 use Rattle.term_table.specs.Terms.{Term, terms_total}
-use Rattle.term_table.specs.Products.{scaled, union_terms, product_terms, products_with, IsFactor}
+use Rattle.term_table.specs.Products.{scaled, union_terms, product_terms, products_with}
 use Rattle.term_table.proofs.Additions.{terms_total-cons}
 use Rattle.term_table.proofs.PairUnions.{union_apart}
+use Rattle.penalty_layer.specs.Rooms.{IsSet}
 use Rattle.penalty_layer.specs.Squares.{square_terms}
 use Rattle.penalty_layer.proofs.Sums.{square_is}
 
 -- the part at a place has a set as all have
-pub part_at : (width : ℕ) (us : List Term) (i : ℕ) (u : Term) → slice_get us i ≡ Some u
-    → All (λ t. IsFactor width t.0) us → IsFactor width u.0
-part_at width us i u at sets =
-    subst (λ (t : Term). IsFactor width t.0) (get_or_from_slice_get us i u u at)
+pub part_at : (us : List Term) (i : ℕ) (u : Term) → slice_get us i ≡ Some u
+    → All (λ t. IsSet t.0) us → IsSet u.0
+part_at us i u at sets =
+    subst (λ (t : Term). IsSet t.0) (get_or_from_slice_get us i u u at)
     (sets i u (slice_get_within us i u at))
 
 -- what is left has the part at its place, and those after it
@@ -29,15 +30,12 @@ total_left us i u at = ap terms_total (drop-at us i u at) ∙ terms_total-cons u
 
 -- ---- unions with the empty set
 
-pub union_empty-right : (width : ℕ) (ls : List Literal) (c : ℤ) → IsFactor width ls
-    → union_terms ls [] c ≡ (ls, c) ∷ []
-union_empty-right width ls c p =
-    union_apart ls [] ls c (ap literal_set (append-nil ls) ∙ literal_set-ascending ls p.set.ordered) p.set.apart
+pub union_empty-right : (ls : List Literal) (c : ℤ) → IsSet ls → union_terms ls [] c ≡ (ls, c) ∷ []
+union_empty-right ls c set =
+    union_apart ls [] ls c (ap literal_set (append-nil ls) ∙ literal_set-ascending ls set.ordered) set.apart
 
-pub union_empty-left : (width : ℕ) (ks : List Literal) (c : ℤ) → IsFactor width ks
-    → union_terms [] ks c ≡ (ks, c) ∷ []
-union_empty-left width ks c p =
-    union_apart [] ks ks c (literal_set-ascending ks p.set.ordered) p.set.apart
+pub union_empty-left : (ks : List Literal) (c : ℤ) → IsSet ks → union_terms [] ks c ≡ (ks, c) ∷ []
+union_empty-left ks c set = union_apart [] ks ks c (literal_set-ascending ks set.ordered) set.apart
 
 -- ---- a row
 
@@ -45,10 +43,10 @@ pub row_step : (t : Term) (us : List Term) (j : ℕ) (u : Term) → slice_get us
     → products_with t (drop j us) ≡ product_terms t u ++ products_with t (drop (j + 1) us)
 row_step t us j u at = ap (products_with t) (drop-at us j u at)
 
-pub row_small : (a : ℕ) (us : List Term) (j : ℕ) (u : Term) (total most : ℕ) → slice_get us j ≡ Some u
-    → total + a * terms_total (drop j us) ≤ most
-    → total + a * unsigned_abs u.1 + a * terms_total (drop (j + 1) us) ≤ most
-row_small a us j u total most at small = omega (arith, small, ap (λ m. a * m) (total_left us j u at))
+pub row_small : (a : ℕ) (us : List Term) (j : ℕ) (u : Term) (most : ℕ) → slice_get us j ≡ Some u
+    → a * terms_total (drop j us) ≤ most
+    → a * unsigned_abs u.1 + a * terms_total (drop (j + 1) us) ≤ most
+row_small a us j u most at small = omega (arith, small, ap (λ m. a * m) (total_left us j u at))
 
 -- ---- a square
 
@@ -59,13 +57,13 @@ pub square_step : (n : ℕ) (us : List Term) (i : ℕ) (u : Term) → slice_get 
 square_step n us i u at = ap (square_terms n) (drop-at us i u at)
 
 -- its own square, its products with the parts after it, and their square fit
-pub square_small : (n : ℕ) (us : List Term) (i : ℕ) (u : Term) (total most : ℕ) → slice_get us i ≡ Some u
-    → total + n * terms_total (drop i us) ^ 2 ≤ most
-    → total + n * (unsigned_abs u.1 * unsigned_abs u.1)
+pub square_small : (n : ℕ) (us : List Term) (i : ℕ) (u : Term) (most : ℕ) → slice_get us i ≡ Some u
+    → n * terms_total (drop i us) ^ 2 ≤ most
+    → n * (unsigned_abs u.1 * unsigned_abs u.1)
     + 2 * n * unsigned_abs u.1 * terms_total (drop (i + 1) us)
     + n * terms_total (drop (i + 1) us) ^ 2
     ≤ most
-square_small n us i u total most at small =
+square_small n us i u most at small =
     omega (
       arith,
       small,

@@ -4,4 +4,5 @@ pub mod Stated
 pub mod Penalty
 pub mod Weights
 pub mod Gathered
+pub mod Rooms
 pub mod laws

@@ -1,8 +1,6 @@
 //! What each part of a problem contributes to the sums.
-ghost use Rattle.std.specs.Prelude.{◌≡◌, ◌+◌, ◌≤◌, ◌^◌, [], pos, map, All, OnOk, unwrap_or};
-ghost use Rattle.problem_form.specs.Problems.{products_total};
-ghost use Rattle.term_table.specs.Terms.{IsTermSet};
-ghost use Rattle.penalty_layer.specs.Gathered.{Gathers, squares};
+ghost use Rattle.std.specs.Prelude.{◌≡◌, ◌≤◌, ◌^◌, [], pos, map, OnOk, unwrap_or};
+ghost use Rattle.penalty_layer.specs.Rooms.{Fills, HasRoom};
 ghost use Rattle.penalty_layer.specs.Penalty.{
   opposite,
   clause_term,
@@ -11,7 +9,6 @@ ghost use Rattle.penalty_layer.specs.Penalty.{
   Admits,
 };
 ghost use Rattle.penalty_layer.specs.Squares.{product_term};
-ghost use Rattle.penalty_layer.specs.Weights.{clause_weights};
 
 use crate::constraints::add_constraints;
 use crate::gather::Gather;
@@ -26,10 +23,8 @@ fn add_products<T: Gather>(
     terms: &mut T,
     products: &ProductList,
 ) -> Result<(), NoMemory>
-    requires sets { All (λ t. IsTermSet (T.width terms.old) t.literals) products.now }
-    requires small { T.total terms.old + products_total products.now ≤ 2 ^ 97 }
-    requires few { T.pairs terms.old + squares (map product_term products.now) ≤ 2 ^ 25 }
-    ensures { OnOk result (Gathers T.holds T.width T.total T.pairs terms.old terms.new
+    requires { HasRoom T.takes terms.old (map product_term products.now) }
+    ensures { OnOk result (Fills T.takes T.holds terms.old terms.new
         (map product_term products.now)) }
 {
     let mut set = Vec::new(alloc);
@@ -83,11 +78,9 @@ fn add_clauses<T: Gather>(
     clauses: &ClauseList,
     penalty: u128,
 ) -> Result<(), NoMemory>
-    requires sets { All (λ c. IsTermSet (T.width terms.old) (map opposite c.literals)) clauses.now }
-    requires small { T.total terms.old + clause_weights penalty clauses.now ≤ 2 ^ 97 }
-    requires few { T.pairs terms.old + squares (map (clause_term penalty) clauses.now) ≤ 2 ^ 25 }
+    requires room { HasRoom T.takes terms.old (map (clause_term penalty) clauses.now) }
     requires penalty { penalty ≤ 2 ^ 100 }
-    ensures { OnOk result (Gathers T.holds T.width T.total T.pairs terms.old terms.new
+    ensures { OnOk result (Fills T.takes T.holds terms.old terms.new
         (map (clause_term penalty) clauses.now)) }
 {
     let mut opposites = Vec::new(alloc);
@@ -107,10 +100,8 @@ pub fn add_contributions<T: Gather>(
     problem: &Problem,
 ) -> Result<(), NoMemory>
     requires admits { Admits problem.now }
+    requires room { HasRoom T.takes terms.old (contributions problem.now) }
     requires empty { T.holds terms.old (record { width = node_count problem.now; terms = [] }) }
-    requires width { T.width terms.old ≡ node_count problem.now }
-    requires total { T.total terms.old ≡ 0 }
-    requires pairs { T.pairs terms.old ≡ 0 }
     ensures { OnOk result (T.holds terms.new
         (record { width = node_count problem.now; terms = contributions problem.now })) }
 {

@@ -3,8 +3,7 @@ ghost use Rattle.std.specs.Prelude.{◌≡◌, ◌+◌, ◌*◌, ◌<◌, ◌≤
 ghost use Rattle.std.specs.List.{sum_by};
 ghost use Rattle.problem_form.specs.Problems.{constraint_total};
 ghost use Rattle.problem_form.specs.Limits.{reach, slack_bits};
-ghost use Rattle.term_table.specs.Products.{IsFactor};
-ghost use Rattle.penalty_layer.specs.Gathered.{Gathers, squares};
+ghost use Rattle.penalty_layer.specs.Rooms.{Fills, HasRoom, IsSet};
 ghost use Rattle.penalty_layer.specs.Penalty.{node_count, Admits};
 ghost use Rattle.penalty_layer.specs.Squares.{constraint_terms};
 
@@ -38,17 +37,13 @@ pub(crate) fn add_constraints<T: Gather>(
     first: usize,
     constraints: &ConstraintList,
 ) -> Result<(), NoMemory>
-    requires sets { All (λ k. All (λ t. IsFactor (T.width terms.old) t.literals) k.products)
-        constraints.now }
-    requires within { first + sum_by slack_bits constraints.now ≤ T.width terms.old }
-    requires narrow { T.width terms.old ≤ 2 ^ 26 }
+    requires sets { All (λ k. All (λ t. IsSet t.literals) k.products) constraints.now }
+    requires narrow { first + sum_by slack_bits constraints.now ≤ 2 ^ 26 }
     requires totals { sum_by constraint_total constraints.now < 2 ^ 100 }
     requires factor { factor ≤ 2 ^ 100 }
-    requires small { T.total terms.old + sum_by (λ k. factor * reach k ^ 2) constraints.now
-        ≤ 2 ^ 97 }
-    requires few { T.pairs terms.old + squares (constraint_terms factor first constraints.now)
-        ≤ 2 ^ 25 }
-    ensures { OnOk result (Gathers T.holds T.width T.total T.pairs terms.old terms.new
+    requires small { sum_by (λ k. factor * reach k ^ 2) constraints.now ≤ 2 ^ 97 }
+    requires room { HasRoom T.takes terms.old (constraint_terms factor first constraints.now) }
+    ensures { OnOk result (Fills T.takes T.holds terms.old terms.new
         (constraint_terms factor first constraints.now)) }
 {
     let mut parts = Parts::empty(alloc);

@@ -1,46 +1,32 @@
 //! Where the parts of a problem are added, whatever is made of them in the end.
-ghost use Rattle.std.specs.Prelude.{◌≡◌, ℕ, ◌+◌, ◌≤◌, ◌^◌, length, unsigned_abs, OnOk, OnErr};
-ghost use Rattle.term_table.specs.Terms.{terms_total, IsTermSet};
-ghost use Rattle.term_table.specs.Tables.{TableContent, with_appended};
+ghost use Rattle.std.specs.Prelude.{◌≡◌, ◌∷◌, List, OnOk};
+ghost use Rattle.term_table.specs.Terms.{Term};
+ghost use Rattle.term_table.specs.Tables.{TableContent, with_appended, with_more, AreAdditions};
 
 use base::NoMemory;
 use literal_lists::Literal;
 use term_table::GatheredTerms;
 
 /// What gathers sets with coefficients, in the order in which they come. It need not keep each of
-/// them.
+/// them. Where memory is refused, it may have gathered a part of what a set gives.
 pub trait Gather {
-    /// The variables of the sets lie below it.
-    ghost width: { Self → ℕ };
-
-    /// The sum of the sizes of the coefficients so far.
-    ghost total: { Self → ℕ };
-
-    /// How many pairs of literals it keeps, at most the squares of the degrees so far.
-    ghost pairs: { Self → ℕ };
+    /// It has room for these terms, one after another.
+    ghost takes: { Self → List Term → Type 0 };
 
     /// It holds what these additions give.
     ghost holds: { Self → TableContent → Type 0 };
 
     /// Appends an addition to the coefficient of a set.
     fn gather(&mut self, literals: &[Literal], coefficient: i128) -> Result<(), NoMemory>
-        requires set { IsTermSet (width self.old) literals.now }
-        requires small { total self.old + unsigned_abs coefficient ≤ 2 ^ 97 }
-        requires few { pairs self.old + length literals.now ^ 2 ≤ 2 ^ 25 }
+        requires { (more : List Term) × takes self.old ((literals.now, coefficient) ∷ more) }
         ensures added { (t : TableContent) → holds self.old t
             → OnOk result (holds self.new (with_appended t literals.now coefficient)) }
-        ensures width { OnOk result (width self.new ≡ width self.old) }
-        ensures total { OnOk result (total self.new ≡ total self.old + unsigned_abs coefficient) }
-        ensures pairs { OnOk result (pairs self.new ≤ pairs self.old + length literals.now ^ 2) }
-        ensures unchanged { OnErr result (self.new ≡ self.old) };
+        ensures takes { (more : List Term) → takes self.old ((literals.now, coefficient) ∷ more)
+            → OnOk result (takes self.new more) };
 }
 
 impl Gather for GatheredTerms {
-    ghost width = { λ terms. terms.width };
-
-    ghost total = { λ terms. terms_total terms.terms };
-
-    ghost pairs = { λ _. 0 };
+    ghost takes = { λ terms ts. AreAdditions (with_more terms ts) };
 
     ghost holds = { λ terms t. terms ≡ t };
 

@@ -1,8 +1,8 @@
 //! The terms of a square.
-ghost use Rattle.std.specs.Prelude.{◌≡◌, ◌+◌, ◌*◌, ◌<◌, ◌≤◌, ◌^◌, ◌*ℤ◌, ◌∷◌, [], All, drop, length, pos, unsigned_abs, OnOk};
+ghost use Rattle.std.specs.Prelude.{◌≡◌, ◌*◌, ◌≤◌, ◌^◌, ◌*ℤ◌, ◌∷◌, [], All, drop, length, pos, unsigned_abs, OnOk};
 ghost use Rattle.term_table.specs.Terms.{terms_total};
-ghost use Rattle.term_table.specs.Products.{products_with, union_terms, IsFactor};
-ghost use Rattle.penalty_layer.specs.Gathered.{Gathers, squares};
+ghost use Rattle.term_table.specs.Products.{products_with, union_terms};
+ghost use Rattle.penalty_layer.specs.Rooms.{Fills, HasRoom, IsSet};
 ghost use Rattle.penalty_layer.specs.Squares.{square_terms};
 
 use crate::gather::Gather;
@@ -45,12 +45,8 @@ fn add_pair<T: Gather>(
     k: Literal,
     coefficient: i128,
 ) -> Result<(), NoMemory>
-    requires left { l.variable < T.width terms.old }
-    requires right { k.variable < T.width terms.old }
-    requires small { T.total terms.old + unsigned_abs coefficient ≤ 2 ^ 97 }
-    requires few { T.pairs terms.old + squares (union_terms (l ∷ []) (k ∷ []) coefficient)
-        ≤ 2 ^ 25 }
-    ensures { OnOk result (Gathers T.holds T.width T.total T.pairs terms.old terms.new
+    requires { HasRoom T.takes terms.old (union_terms (l ∷ []) (k ∷ []) coefficient) }
+    ensures { OnOk result (Fills T.takes T.holds terms.old terms.new
         (union_terms (l ∷ []) (k ∷ []) coefficient)) }
 {
     if l.variable < k.variable {
@@ -73,11 +69,10 @@ fn add_union<T: Gather>(
     ks: &[Literal],
     coefficient: i128,
 ) -> Result<(), NoMemory>
-    requires left { IsFactor (T.width terms.old) ls.now }
-    requires right { IsFactor (T.width terms.old) ks.now }
-    requires small { T.total terms.old + unsigned_abs coefficient ≤ 2 ^ 97 }
-    requires few { T.pairs terms.old + squares (union_terms ls.now ks.now coefficient) ≤ 2 ^ 25 }
-    ensures { OnOk result (Gathers T.holds T.width T.total T.pairs terms.old terms.new
+    requires left { IsSet ls.now }
+    requires right { IsSet ks.now }
+    requires room { HasRoom T.takes terms.old (union_terms ls.now ks.now coefficient) }
+    ensures { OnOk result (Fills T.takes T.holds terms.old terms.new
         (union_terms ls.now ks.now coefficient)) }
 {
     if let ([l], [k]) = (ls, ks) {
@@ -105,14 +100,13 @@ fn add_row<T: Gather>(
     parts: &Parts,
     start: usize,
 ) -> Result<(), NoMemory>
-    requires left { IsFactor (T.width terms.old) ls.now }
-    requires parts { All (λ t. IsFactor (T.width terms.old) t.0) parts.now }
+    requires left { IsSet ls.now }
+    requires parts { All (λ t. IsSet t.0) parts.now }
     requires start { start ≤ length parts.now }
-    requires small { T.total terms.old
-        + unsigned_abs coefficient.now * terms_total (drop start parts.now) ≤ 2 ^ 97 }
-    requires few { T.pairs terms.old
-        + squares (products_with (ls.now, coefficient.now) (drop start parts.now)) ≤ 2 ^ 25 }
-    ensures { OnOk result (Gathers T.holds T.width T.total T.pairs terms.old terms.new
+    requires small { unsigned_abs coefficient.now * terms_total (drop start parts.now) ≤ 2 ^ 97 }
+    requires room { HasRoom T.takes terms.old
+        (products_with (ls.now, coefficient.now) (drop start parts.now)) }
+    ensures { OnOk result (Fills T.takes T.holds terms.old terms.new
         (products_with (ls.now, coefficient.now) (drop start parts.now))) }
 {
     for j in start..parts.len() {
@@ -129,11 +123,11 @@ pub(crate) fn add_square<T: Gather>(
     factor: u128,
     parts: &Parts,
 ) -> Result<(), NoMemory>
-    requires parts { All (λ t. IsFactor (T.width terms.old) t.0) parts.now }
+    requires parts { All (λ t. IsSet t.0) parts.now }
     requires factor { factor ≤ 2 ^ 100 }
-    requires small { T.total terms.old + factor * terms_total parts.now ^ 2 ≤ 2 ^ 97 }
-    requires few { T.pairs terms.old + squares (square_terms factor parts.now) ≤ 2 ^ 25 }
-    ensures { OnOk result (Gathers T.holds T.width T.total T.pairs terms.old terms.new
+    requires small { factor * terms_total parts.now ^ 2 ≤ 2 ^ 97 }
+    requires room { HasRoom T.takes terms.old (square_terms factor parts.now) }
+    ensures { OnOk result (Fills T.takes T.holds terms.old terms.new
         (square_terms factor parts.now)) }
 {
     for i in 0..parts.len() {

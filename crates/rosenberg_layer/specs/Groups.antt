@@ -6,7 +6,7 @@ use Rattle.std.specs.List.Sorted.{IsPermutation}
 use Rattle.std.specs.Ordering.{is_lt}
 use Rattle.std.specs.Global.{Vec}
 use Rattle.term_table.specs.Terms.{Term, Ascends}
-use Rattle.rosenberg_layer.specs.declared.long_terms.LongTerms.{LongTerms}
+use Rattle.rosenberg_layer.specs.declared.grouped_terms.GroupedTerms.{GroupedTerms}
 use Rattle.rosenberg_layer.specs.Rosenberg.{Pair, is_literal}
 use Rattle.rosenberg_layer.specs.Steps.{first_begins, pair_cmp, pair_of, Begin}
 use Rattle.rosenberg_layer.specs.Parts.{AllLong}
@@ -21,7 +21,7 @@ grouped [] = []
 grouped (g ∷ gs) = g.1.items ++ grouped gs
 
 -- all terms, the untouched ones first
-abbrev pub all_terms : LongTerms → List Term
+abbrev pub all_terms : GroupedTerms → List Term
 all_terms long = reverse long.front.items ++ grouped long.groups.entries
 
 -- a group has terms, and all of them begin with its pair
@@ -29,7 +29,7 @@ abbrev pub IsGroup : Group → Type 0
 IsGroup g = Begin g.0 g.1.items × (g.1.items ≢ [])
 
 -- the untouched terms are in order, and the others in groups
-pub record AreGrouped (long : LongTerms) : Type 0 where
+pub record AreGrouped (long : GroupedTerms) : Type 0 where
   pub ordered : Ascends (reverse long.front.items)
   pub high : AllLong (all_terms long)
   pub each : AllByRecursion IsGroup long.groups.entries

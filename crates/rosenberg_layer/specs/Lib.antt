@@ -4,3 +4,6 @@ pub mod Steps
 pub mod Parts
 pub mod Stated
 pub mod Groups
+pub mod Rings
+pub mod Buckets
+pub mod Waiting

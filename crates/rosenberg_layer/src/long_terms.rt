@@ -1,203 +1,237 @@
-//! The terms of degree 3 or more.
+//! Terms of degree 3 or more, in little room.
 //!
-//! Those that no substitution touched stand in a list, the first one last. The others lie in groups,
-//! by their first two literals: a substitution takes a whole group, so its terms need no order.
-ghost use Rattle.std.specs.Prelude.{
-  ◌≡◌,
-  ◌∷◌,
-  [],
-  true,
-  false,
-  reverse,
-  IfOk,
-  OnOk,
-  IfSome,
-  IfNone,
-  Some,
-};
-ghost use Rattle.std.specs.List.{filter};
-ghost use Rattle.std.specs.List.Sorted.{IsStrictlySortedBy};
-ghost use Rattle.std.specs.Map.{keys_of};
-ghost use Rattle.term_table.specs.Tables.{IsTable};
-ghost use Rattle.rosenberg_layer.specs.Rosenberg.{is_long};
-ghost use Rattle.rosenberg_layer.specs.Steps.{begins, first_begins, pair_cmp, IsTaken};
-ghost use Rattle.rosenberg_layer.specs.Parts.{AllLong};
-ghost use Rattle.rosenberg_layer.specs.Groups.{
-  all_terms,
-  first_is,
-  first_key,
-  group_of,
-  is_pair,
-  lesser,
-  next_of,
-  other_groups,
-  AreGrouped,
-  IsFrontTaken,
-};
+//! The literals of all terms stand in one list, as codes of 32 bits. A replacing drops two literals of a
+//! term and appends a node, which is put where a dropped literal was, so no literal is moved.
+ghost use Rattle.std.specs.Prelude.{◌≡◌, ◌+◌, ◌<◌, ◌≤◌, ◌^◌, ◌++◌, ◌∷◌, [], All, OnOk, length, map, set, take};
+ghost use Rattle.std.specs.List.{slice_index};
+ghost use Rattle.literal_lists.specs.Codes.{code_of, literal_of};
+ghost use Rattle.rosenberg_layer.specs.Rosenberg.{node};
+ghost use Rattle.rosenberg_layer.specs.Steps.{front_term, pair_of};
+ghost use Rattle.rosenberg_layer.specs.Rings.{code_at, term_at};
 
-use crate::long_set::LongSet;
+use crate::rings::Rings;
 use base::NoMemory;
-use literal_lists::Literal;
+use literal_lists::{Literal, Literals};
 use std::alloc::Global;
-use std::collections::BTreeMap;
-use term_table::Table;
+use std::marker::Model;
 
-/// The terms that were not touched, the first one last, and the groups of the others.
-#[derive(Drop)]
-pub struct LongTerms {
-    pub front: Vec<(LongSet, i128)>,
-    pub groups: BTreeMap<(Literal, Literal), Vec<(LongSet, i128)>>,
-}
-
-/// The terms of degree 3 or more of a table.
-pub fn long_terms(alloc: Global, table: &Table) -> Result<LongTerms, NoMemory>
-    ensures long { IfOk result
-        (λ long. reverse long.front.items ≡ filter is_long table.now.content.terms) }
-    ensures none { IfOk result (λ long. long.groups.entries ≡ []) }
-    ensures kept { IsTable table.now.content }
+/// The literal of a code: twice its variable, and one more where it is negated.
+fn literal_of(code: u32) -> Literal
+    ensures { result ≡ literal_of code }
 {
-    let mut front = Vec::new(alloc);
-    for (literals, coefficient) in table.terms() {
-        if literals.len() >= 3 {
-            front.push((LongSet::from_slice(alloc, literals)?, coefficient))?;
-        }
-    }
-    front.reverse();
-    Ok(LongTerms {
-        front,
-        groups: BTreeMap::new(alloc),
-    })
-}
-
-/// The pair of the first group.
-fn first_key(
-    groups: &BTreeMap<(Literal, Literal), Vec<(LongSet, i128)>>,
-) -> Option<(Literal, Literal)>
-    ensures first { result ≡ first_key groups.now.entries }
-    ensures ascends { IsStrictlySortedBy pair_cmp (keys_of groups.now.entries) }
-{
-    if groups.len() == 0 {
-        return None;
-    }
-    let (pair, _) = groups.first_key_value()?;
-    Some(*pair)
-}
-
-fn same_pair(pair: (Literal, Literal), other: (Literal, Literal)) -> bool
-    ensures { result ≡ is_pair pair other }
-{
-    pair.0 == other.0 && pair.1 == other.1
-}
-
-/// The pair that stands first, of two.
-fn lesser(pair: (Literal, Literal), other: Option<(Literal, Literal)>) -> (Literal, Literal)
-    ensures { result ≡ lesser pair other }
-{
-    match other {
-        Some(key) if key.cmp(&pair).is_lt() => key,
-        _ => pair,
+    Literal {
+        variable: u64::from(code / 2),
+        negated: code % 2 == 1,
     }
 }
 
-/// The first two literals of the first term.
-pub fn next_pair(long: &LongTerms) -> Option<(Literal, Literal)>
-    requires { AllLong (reverse long.now.front.items) }
-    ensures { result ≡ next_of (reverse long.now.front.items) long.now.groups.entries }
+/// What stands at a place, where a list is gone round once.
+fn at_place(ring: &[u32], place: usize, turns: usize) -> u32
+    requires place { place < length ring.now + turns }
+    requires once { turns ≤ length ring.now }
+    ensures { result ≡ slice_index (ring.now ++ take turns ring.now) place }
 {
-    let key = first_key(&long.groups);
-    match long.front.last() {
-        Some((set, _)) => Some(lesser(set.pair(), key)),
-        None => key,
-    }
-}
-
-/// Whether the last term begins with the pair.
-fn last_begins(front: &[(LongSet, i128)], pair: (Literal, Literal)) -> bool
-    requires { AllLong (reverse front.now) }
-    ensures { result ≡ first_begins pair (reverse front.now) }
-{
-    match front.last() {
-        Some((set, _)) => same_pair(pair, set.pair()),
-        None => false,
-    }
-}
-
-/// Takes the last term off, where it begins with the pair.
-fn pop_front(front: &mut Vec<(LongSet, i128)>, pair: (Literal, Literal)) -> Option<(LongSet, i128)>
-    requires { AllLong (reverse front.old.items) }
-    ensures taken { IfSome result (λ t. reverse front.old.items ≡ t ∷ reverse front.new.items) }
-    ensures begins { IfSome result (λ t. begins pair t.0 ≡ true) }
-    ensures unchanged { IfNone result (front.new.items ≡ front.old.items) }
-    ensures other { IfNone result (first_begins pair (reverse front.old.items) ≡ false) }
-{
-    if last_begins(front, pair) {
-        front.pop()
+    let degree = ring.len();
+    if place < degree {
+        ring[place]
     } else {
-        None
+        ring[place - degree]
     }
 }
 
-/// Takes all terms off that begin with the pair, and appends them to others.
-fn take_front(
-    front: &mut Vec<(LongSet, i128)>,
-    touched: &mut Vec<(LongSet, i128)>,
-    pair: (Literal, Literal),
+/// Appends the parts of a term that no replacing touched.
+fn append(
+    rings: &mut Rings,
+    turns: &mut Vec<u16>,
+    coefficients: &mut Vec<i128>,
+    literals: &[Literal],
+    coefficient: i128,
 ) -> Result<(), NoMemory>
-    requires { AllLong (reverse front.old.items) }
-    ensures { OnOk result (IsFrontTaken pair touched.old.items (reverse front.old.items)
-        touched.new.items (reverse front.new.items)) }
+    requires { All (λ l. l.variable < 2 ^ 31) literals.now }
+    ensures rings { OnOk result (rings.new ≡ rings.old ++ map code_of literals.now ∷ []) }
+    ensures turns { OnOk result (turns.new.items ≡ turns.old.items ++ 0 ∷ []) }
+    ensures coefficients { OnOk result
+        (coefficients.new.items ≡ coefficients.old.items ++ coefficient ∷ []) }
 {
-    while let Some(term) = pop_front(front, pair) {
-        touched.push(term)?;
-    }
+    rings.push(literals)?;
+    turns.push(0)?;
+    coefficients.push(coefficient)?;
     Ok(())
 }
 
-/// Whether the first group is that of the pair.
-fn first_is(
-    groups: &BTreeMap<(Literal, Literal), Vec<(LongSet, i128)>>,
-    pair: (Literal, Literal),
-) -> bool
-    ensures first { result ≡ first_is pair groups.now.entries }
-    ensures ascends { IsStrictlySortedBy pair_cmp (keys_of groups.now.entries) }
+/// The same of literals that are lent.
+fn append_lent(
+    rings: &mut Rings,
+    turns: &mut Vec<u16>,
+    coefficients: &mut Vec<i128>,
+    literals: Literals<'_>,
+    coefficient: i128,
+) -> Result<(), NoMemory>
+    requires { All (λ l. l.variable < 2 ^ 31) literals }
+    ensures rings { OnOk result (rings.new ≡ rings.old ++ map code_of literals.entry ∷ []) }
+    ensures turns { OnOk result (turns.new.items ≡ turns.old.items ++ 0 ∷ []) }
+    ensures coefficients { OnOk result
+        (coefficients.new.items ≡ coefficients.old.items ++ coefficient ∷ []) }
 {
-    match first_key(groups) {
-        Some(key) => same_pair(pair, key),
-        None => false,
-    }
+    rings.push_lent(literals)?;
+    turns.push(0)?;
+    coefficients.push(coefficient)?;
+    Ok(())
 }
 
-/// Takes the group of the pair, where it is the first one.
-fn take_group(
-    alloc: Global,
-    groups: &mut BTreeMap<(Literal, Literal), Vec<(LongSet, i128)>>,
-    pair: (Literal, Literal),
-) -> Vec<(LongSet, i128)>
-    ensures taken { result.items ≡ group_of pair groups.old.entries }
-    ensures others { groups.new.entries ≡ other_groups pair groups.old.entries }
-    ensures ascends { IsStrictlySortedBy pair_cmp (keys_of groups.old.entries) }
-{
-    if first_is(groups, pair) {
-        if let Some((_, group)) = groups.pop_first() {
-            return group;
+/// Terms of degree 3 or more before any replacing, which contracts see as a list of terms.
+#[derive(Drop)]
+pub struct LongTerms {
+    rings: Rings,
+    turns: Vec<u16>,
+    coefficients: Vec<i128>,
+}
+
+impl Model for LongTerms {
+    ghost use Rattle.std.specs.Prelude.{◌≡◌, List, length};
+    ghost use Rattle.std.specs.List.{AllZip};
+    ghost use Rattle.term_table.specs.Terms.{Term};
+    ghost use Rattle.rosenberg_layer.specs.Rings.{terms_in, HasTwo};
+
+    ghost Value = { List Term };
+
+    ghost view = { λ a. terms_in a.rings a.turns.items a.coefficients.items };
+
+    ghost invariant = { λ a. AllZip HasTwo a.rings a.turns.items
+        × (length a.coefficients.items ≡ length a.turns.items) };
+}
+
+impl LongTerms {
+    /// No terms. It takes no memory.
+    pub fn empty(alloc: Global) -> LongTerms
+        ensures { result ≡ [] }
+    {
+        LongTerms {
+            rings: Rings::empty(alloc),
+            turns: Vec::new(alloc),
+            coefficients: Vec::new(alloc),
         }
     }
-    Vec::new(alloc)
-}
 
-/// Takes all terms off that begin with the first pair.
-pub fn take(
-    alloc: Global,
-    long: &mut LongTerms,
-    pair: (Literal, Literal),
-) -> Result<Vec<(LongSet, i128)>, NoMemory>
-    requires kept { AreGrouped long.old }
-    requires first { next_of (reverse long.old.front.items) long.old.groups.entries ≡ Some pair }
-    ensures taken { IfOk result
-        (λ touched. IsTaken pair touched.items (all_terms long.new) (all_terms long.old)) }
-    ensures kept { OnOk result (AreGrouped long.new) }
-{
-    let mut touched = take_group(alloc, &mut long.groups, pair);
-    take_front(&mut long.front, &mut touched, pair)?;
-    Ok(touched)
+    /// How many terms there are.
+    pub fn len(&self) -> usize
+        ensures { result ≡ length self.now }
+    {
+        self.turns.len()
+    }
+
+    /// Appends a term. Where memory is refused no term is left.
+    pub fn push(&mut self, literals: &[Literal], coefficient: i128) -> Result<(), NoMemory>
+        requires long { 3 ≤ length literals.now }
+        requires short { length literals.now < 2 ^ 16 }
+        requires narrow { All (λ l. l.variable < 2 ^ 31) literals.now }
+        ensures { OnOk result (self.new ≡ self.old ++ (literals.now, coefficient) ∷ []) }
+    {
+        match append(
+            &mut self.rings,
+            &mut self.turns,
+            &mut self.coefficients,
+            literals,
+            coefficient,
+        ) {
+            Ok(()) => Ok(()),
+            Err(_) => {
+                self.rings.clear();
+                self.turns.clear();
+                self.coefficients.clear();
+                Err(NoMemory)
+            }
+        }
+    }
+
+    /// The same of literals that are lent.
+    pub fn push_literals(
+        &mut self,
+        literals: Literals<'_>,
+        coefficient: i128,
+    ) -> Result<(), NoMemory>
+        requires long { 3 ≤ length literals }
+        requires short { length literals < 2 ^ 16 }
+        requires narrow { All (λ l. l.variable < 2 ^ 31) literals }
+        ensures { OnOk result (self.new ≡ self.old ++ (literals.entry, coefficient) ∷ []) }
+    {
+        match append_lent(
+            &mut self.rings,
+            &mut self.turns,
+            &mut self.coefficients,
+            literals,
+            coefficient,
+        ) {
+            Ok(()) => Ok(()),
+            Err(_) => {
+                self.rings.clear();
+                self.turns.clear();
+                self.coefficients.clear();
+                Err(NoMemory)
+            }
+        }
+    }
+
+    /// How many literals a term has.
+    pub(crate) fn degree(&self, i: usize) -> usize
+        requires { i < length self.now }
+        ensures degree { result ≡ length (term_at self.now i).0 }
+        ensures two { 2 ≤ result }
+    {
+        self.rings.ring(i).len() - self.turns[i] as usize
+    }
+
+    /// One of the first two literals, as its code.
+    fn code(&self, i: usize, place: usize) -> u32
+        requires within { i < length self.now }
+        requires place { place < 2 }
+        ensures { result ≡ code_at (term_at self.now i) place }
+    {
+        let turns = self.turns[i] as usize;
+        at_place(self.rings.ring(i), 2 * turns + place, turns)
+    }
+
+    /// The code of the first literal.
+    pub(crate) fn first(&self, i: usize) -> u32
+        requires { i < length self.now }
+        ensures { result ≡ code_at (term_at self.now i) 0 }
+    {
+        self.code(i, 0)
+    }
+
+    /// The code of the second literal.
+    pub(crate) fn second(&self, i: usize) -> u32
+        requires { i < length self.now }
+        ensures { result ≡ code_at (term_at self.now i) 1 }
+    {
+        self.code(i, 1)
+    }
+
+    /// The first two literals.
+    pub(crate) fn pair(&self, i: usize) -> (Literal, Literal)
+        requires within { i < length self.now }
+        requires two { 2 ≤ length (term_at self.now i).0 }
+        ensures { result ≡ pair_of (term_at self.now i).0 }
+    {
+        (literal_of(self.first(i)), literal_of(self.second(i)))
+    }
+
+    pub(crate) fn coefficient(&self, i: usize) -> i128
+        requires { i < length self.now }
+        ensures { result ≡ (term_at self.now i).1 }
+    {
+        self.coefficients[i]
+    }
+
+    /// Drops the first two literals, and appends a node.
+    pub(crate) fn replace(&mut self, i: usize, number: u32)
+        requires within { i < length self.old }
+        requires long { 3 ≤ length (term_at self.old i).0 }
+        requires narrow { number < 2 ^ 31 }
+        ensures { self.new ≡ set self.old i (front_term (node number) (term_at self.old i)) }
+    {
+        let turns = self.turns[i];
+        self.rings.put(i, turns as usize, 2 * number);
+        self.turns[i] = turns + 1;
+    }
 }

@@ -44,7 +44,7 @@ fn reduced(alloc: Global, table: &Table) -> Result<Table, NoMemory>
 }
 
 /// Appends the product of each pair, one after another.
-fn push_products(bits: &mut Vec<bool>, pairs: &[(Literal, Literal)]) -> Result<(), NoMemory>
+pub fn push_products(bits: &mut Vec<bool>, pairs: &[(Literal, Literal)]) -> Result<(), NoMemory>
     ensures { OnOk result (bits.new.items ≡ fold with_product bits.old.items pairs.now) }
 {
     for (first, second) in pairs {

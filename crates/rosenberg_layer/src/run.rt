@@ -6,30 +6,42 @@
 ghost use Rattle.std.specs.Prelude.{
   ◌≡◌,
   ◌+◌,
+  ◌*◌,
   ◌≤◌,
   ◌<◌,
   ◌^◌,
   ◌++◌,
+  ◌∷◌,
+  [],
+  All,
   IfOk,
   OnOk,
   length,
-  reverse,
+  true,
 };
-ghost use Rattle.std.specs.List.{filter};
-ghost use Rattle.term_table.specs.Terms.{terms_size, terms_total};
-ghost use Rattle.term_table.specs.Tables.{IsTable};
+ghost use Rattle.std.specs.List.{filter, AllByRecursion};
+ghost use Rattle.term_table.specs.Terms.{terms_size, terms_total, IsTermSet};
+ghost use Rattle.term_table.specs.Tables.{IsTable, TableContent};
 ghost use Rattle.rosenberg_layer.specs.Rosenberg.{excess, is_long, pairs_of, run};
 ghost use Rattle.rosenberg_layer.specs.Steps.{is_short};
-ghost use Rattle.rosenberg_layer.specs.Groups.{all_terms, next_of, AreGrouped};
 ghost use Rattle.rosenberg_layer.specs.Parts.{ties_of, weights, AreParts, IsTurn};
+ghost use Rattle.rosenberg_layer.specs.Waiting.{Wait};
 
-use crate::long_terms::{LongTerms, long_terms, next_pair};
+use crate::long_terms::LongTerms;
 use crate::low_set::LowSet;
-use crate::substitute::substitute;
+use crate::replacing::substitute;
+use crate::waiting::Waiting;
+use crate::wide::wide_run;
 use base::NoMemory;
 use literal_lists::Literal;
 use std::alloc::Global;
 use term_table::Table;
+
+/// How many nodes have codes of 32 bits.
+const NODES: usize = 1 << 31;
+
+/// How many terms have numbers of 32 bits.
+const TERMS: usize = (1 << 32) - 1;
 
 /// The touched terms of lower degree, the pairs that the new nodes stand for, and the weights of
 /// the terms that tie each node to its pair.
@@ -52,24 +64,124 @@ pub fn excess(table: &Table) -> usize
     sum
 }
 
-/// Replaces the next pair, if there is one.
-fn turn(alloc: Global, long: &mut LongTerms, made: &mut Run, width: usize) -> Result<(), NoMemory>
-    requires narrow { width + length made.old.pairs.items < 2 ^ 64 }
-    requires kept { AreGrouped long.old }
-    requires small { terms_total (all_terms long.old) ≤ 2 ^ 124 }
-    ensures kept { OnOk result (AreGrouped long.new) }
-    ensures turn { OnOk result
-        (IsTurn (next_of (reverse long.old.front.items) long.old.groups.entries)
+/// Replaces the pair that comes first, if there is one, and gives it.
+fn turn(
+    long: &mut LongTerms,
+    waiting: &mut Waiting,
+    made: &mut Run,
+    width: usize,
+) -> Result<Option<(Literal, Literal)>, NoMemory>
+    requires wait { Wait long.old waiting.old }
+    requires lists { length waiting.old.buckets.lists ≡ 2 * (width + length made.old.pairs.items) }
+    requires narrow { width + length made.old.pairs.items < 2 ^ 31 }
+    requires few { length long.old < 2 ^ 32 }
+    requires sets { AllByRecursion (λ t. IsTermSet (width + length made.old.pairs.items) t.0)
+        (filter is_long long.old) }
+    requires small { terms_total (filter is_long long.old) ≤ 2 ^ 124 }
+    ensures wait { OnOk result (Wait long.new waiting.new) }
+    ensures lists { OnOk result
+        (length waiting.new.buckets.lists ≡ 2 * (width + length made.new.pairs.items)) }
+    ensures few { OnOk result (length long.new ≡ length long.old) }
+    ensures turn { IfOk result (λ pair. IsTurn pair
         (width + length made.old.pairs.items)
-        (all_terms long.old) made.old.low.items made.old.pairs.items made.old.weights.items
-        (all_terms long.new) made.new.low.items made.new.pairs.items made.new.weights.items) }
+        (filter is_long long.old) made.old.low.items made.old.pairs.items made.old.weights.items
+        (filter is_long long.new) made.new.low.items made.new.pairs.items made.new.weights.items) }
 {
-    if let Some(pair) = next_pair(long) {
-        let weight = substitute(alloc, long, &mut made.low, pair, width + made.pairs.len())?;
-        made.pairs.push(pair)?;
-        made.weights.push(weight)?;
+    match waiting.next_pair(long)? {
+        None => Ok(None),
+        Some(pair) => {
+            let number = width + made.pairs.len();
+            let weight = substitute(long, waiting, &mut made.low, number)?;
+            made.pairs.push(pair)?;
+            made.weights.push(weight)?;
+            Ok(Some(pair))
+        }
+    }
+}
+
+/// Makes so many turns.
+fn turns_of(
+    alloc: Global,
+    long: &mut LongTerms,
+    width: usize,
+    turns: usize,
+) -> Result<Run, NoMemory>
+    requires table { IsTable (record { width = width; terms = long.old }) }
+    requires long { All (λ t. is_long t ≡ true) long.old }
+    requires few { length long.old < 2 ^ 32 }
+    requires narrow { width + turns ≤ 2 ^ 31 }
+    ensures parts { (t : TableContent) → IsTable t → t.width ≡ width → filter is_long t.terms ≡ long.old
+        → IfOk result (λ made. AreParts (run turns t)
+        (filter is_short t.terms
+        ++ (made.low.items ++ ties_of width made.pairs.items made.weights.items))
+        (filter is_long (run turns t).terms) (weights t.terms)) }
+    ensures pairs { (t : TableContent) → IsTable t → t.width ≡ width → filter is_long t.terms ≡ long.old
+        → IfOk result (λ made. made.pairs.items ≡ pairs_of turns t) }
+    ensures each { IfOk result (λ made. length made.weights.items ≡ length made.pairs.items) }
+    ensures few { IfOk result (λ made. length made.low.items ≤ length long.old) }
+{
+    let mut waiting = Waiting::new(alloc, long, 2 * width)?;
+    let mut made = Run {
+        low: Vec::new(alloc),
+        pairs: Vec::new(alloc),
+        weights: Vec::new(alloc),
+    };
+    for _done in 0..turns {
+        turn(long, &mut waiting, &mut made, width)?;
+    }
+    Ok(made)
+}
+
+/// What so many substitutions leave of lower degree, and their pairs, from the terms of degree 3 or
+/// more alone.
+pub fn run_of_long(
+    alloc: Global,
+    long: LongTerms,
+    width: usize,
+    turns: usize,
+) -> Result<Run, NoMemory>
+    requires table { IsTable (record { width = width; terms = long }) }
+    requires long { All (λ t. is_long t ≡ true) long }
+    requires few { length long < 2 ^ 32 }
+    requires narrow { width + turns ≤ 2 ^ 31 }
+    ensures parts { (t : TableContent) → IsTable t → t.width ≡ width → filter is_long t.terms ≡ long
+        → IfOk result (λ made. AreParts (run turns t)
+        (filter is_short t.terms
+        ++ (made.low.items ++ ties_of width made.pairs.items made.weights.items))
+        (filter is_long (run turns t).terms) (weights t.terms)) }
+    ensures pairs { (t : TableContent) → IsTable t → t.width ≡ width → filter is_long t.terms ≡ long
+        → IfOk result (λ made. made.pairs.items ≡ pairs_of turns t) }
+    ensures each { IfOk result (λ made. length made.weights.items ≡ length made.pairs.items) }
+    ensures few { IfOk result (λ made. length made.low.items ≤ length long) }
+{
+    let mut terms = long;
+    turns_of(alloc, &mut terms, width, turns)
+}
+
+/// Appends a term of degree 3 or more, and no other.
+fn add_long(long: &mut LongTerms, literals: &[Literal], coefficient: i128) -> Result<(), NoMemory>
+    requires short { length literals.now < 2 ^ 16 }
+    requires narrow { All (λ l. l.variable < 2 ^ 31) literals.now }
+    ensures { OnOk result
+        (long.new ≡ long.old ++ filter is_long ((literals.now, coefficient) ∷ [])) }
+{
+    if literals.len() >= 3 {
+        long.push(literals, coefficient)?;
     }
     Ok(())
+}
+
+/// The terms of degree 3 or more of a table.
+fn long_terms(alloc: Global, table: &Table) -> Result<LongTerms, NoMemory>
+    requires { table.now.content.width ≤ 2 ^ 31 }
+    ensures long { IfOk result (λ long. long ≡ filter is_long table.now.content.terms) }
+    ensures kept { IsTable table.now.content }
+{
+    let mut long = LongTerms::empty(alloc);
+    for (literals, coefficient) in table.terms() {
+        add_long(&mut long, literals, coefficient)?;
+    }
+    Ok(long)
 }
 
 /// What so many substitutions leave of lower degree, and their pairs.
@@ -85,14 +197,11 @@ pub fn run_of(alloc: Global, table: &Table, width: usize, turns: usize) -> Resul
     ensures few { IfOk result (λ made. length made.low.items ≤ length table.now.content.terms) }
     ensures kept { IsTable table.now.content }
 {
-    let mut long = long_terms(alloc, table)?;
-    let mut made = Run {
-        low: Vec::new(alloc),
-        pairs: Vec::new(alloc),
-        weights: Vec::new(alloc),
-    };
-    for _done in 0..turns {
-        turn(alloc, &mut long, &mut made, width)?;
+    if turns <= NODES && width <= NODES - turns {
+        let long = long_terms(alloc, table)?;
+        if long.len() <= TERMS {
+            return run_of_long(alloc, long, width, turns);
+        }
     }
-    Ok(made)
+    wide_run(alloc, table, width, turns)
 }

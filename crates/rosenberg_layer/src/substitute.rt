@@ -19,8 +19,8 @@ ghost use Rattle.rosenberg_layer.specs.Rosenberg.{is_long, node};
 ghost use Rattle.rosenberg_layer.specs.Steps.{front_term, is_short, IsStep};
 ghost use Rattle.rosenberg_layer.specs.Groups.{all_terms, next_of, AreGrouped, ArePut};
 
+use crate::grouped_terms::{GroupedTerms, take};
 use crate::long_set::LongSet;
-use crate::long_terms::{LongTerms, take};
 use crate::low_set::LowSet;
 use base::NoMemory;
 use literal_lists::Literal;
@@ -123,7 +123,7 @@ fn total_of(terms: &[(LongSet, i128)]) -> u128
 /// Replaces a pair by the node of the next number, and gives the weight of the terms that tie it.
 pub fn substitute(
     alloc: Global,
-    long: &mut LongTerms,
+    long: &mut GroupedTerms,
     low: &mut Vec<(LowSet, i128)>,
     pair: (Literal, Literal),
     next: usize,

@@ -5,7 +5,7 @@ use Rattle.problem_form.specs.Problems.{IsNormal}
 use Rattle.problem_form.specs.Limits.{limit_fault}
 use Rattle.penalty_layer.specs.Penalty.{Admits}
 use Rattle.model_pipeline.specs.Models.{quad_by}
-use Rattle.model_pipeline.proofs.LeastStates.{if_ok-by_three, if_ok-by_four, least_at_once, least_by_monomials, least_by_pairs}
+use Rattle.model_pipeline.proofs.LeastStates.{if_ok-by_three, if_ok-by_four, least_at_once, least_by_literal_pairs, least_by_monomials, least_by_pairs}
 use Rattle.model_pipeline.proofs.extending.extended.Goals as goal
 
 pub by_long_terms-requires-clause-admits : goal.by_long_terms-requires-clause-admits
@@ -19,8 +19,8 @@ by_long_terms-requires-clause-nodes c =
     c.requires.nodes
     ∙ (λ i. length (quad_by (c.in-Literal.is i) (c.in-Monomial.is i) c.args.problem.now).diagonal)
 
-pub by_pairs-requires-clause-admits : goal.by_pairs-requires-clause-admits
-by_pairs-requires-clause-admits c = record {
+pub by_long_pairs-requires-clause-admits : goal.by_long_pairs-requires-clause-admits
+by_long_pairs-requires-clause-admits c = record {
   normal = subst IsNormal c.problem.view_is c.problem.invariant.0;
   within = ap (λ n. limit_fault n c.args.problem.now) (sym c.in-Literal.is) ∙ c.requires.within;
 }
@@ -31,9 +31,8 @@ by_monomials-requires-clause-admits c = record {
   within = ap (λ n. limit_fault n c.args.problem.now) (sym c.in-Multilinear.is) ∙ c.requires.within;
 }
 
-pub by_pairs-requires-in-Rosenberg-high-clause-admits :
-    goal.by_pairs-requires-in-Rosenberg-high-clause-admits
-by_pairs-requires-in-Rosenberg-high-clause-admits c = record {
+pub by_pairs-requires-clause-admits : goal.by_pairs-requires-clause-admits
+by_pairs-requires-clause-admits c = record {
   normal = subst IsNormal c.problem.view_is c.problem.invariant.0;
   within = ap (λ n. limit_fault n c.args.problem.now) (sym c.in-Multilinear.is) ∙ c.requires.within;
 }
@@ -52,10 +51,15 @@ returns-in-Monomial-clause-least c =
 
 pub returns-in-Rosenberg-clause-least : goal.returns-in-Rosenberg-clause-least
 returns-in-Rosenberg-clause-least c =
-    let made = c.by_pairs.ensures in
-    if_ok-by_four c.by_pairs.result made.extension made.first made.second made.third
-    (λ y same first second third. least_by_pairs Literal c.args.choices.now c.args.problem.now
-    c.args.x.now y.items c.in-Literal.is c.in-Rosenberg.is c.requires.width same first second third)
+    let p = c.args.problem.now in
+    let admitted : Admits p = record {
+      normal = subst IsNormal c.problem.view_is c.problem.invariant.0;
+      within = ap (λ n. limit_fault n p) (sym c.in-Literal.is) ∙ c.requires.within;
+    } in
+    IfOk-weaker c.by_long_pairs.result _ _
+    (λ y same. least_by_literal_pairs c.args.choices.now p c.args.x.now y.items c.in-Literal.is
+    c.in-Rosenberg.is admitted c.requires.width same)
+    c.by_long_pairs.ensures.extension
 
 pub returns-in-Monomial-high-clause-least : goal.returns-in-Monomial-high-clause-least
 returns-in-Monomial-high-clause-least c =
@@ -66,7 +70,7 @@ returns-in-Monomial-high-clause-least c =
 
 pub returns-in-Rosenberg-high-clause-least : goal.returns-in-Rosenberg-high-clause-least
 returns-in-Rosenberg-high-clause-least c =
-    let made = c.by_pairs-in-Rosenberg-high.ensures in
-    if_ok-by_four c.by_pairs-in-Rosenberg-high.result made.extension made.first made.second made.third
+    let made = c.by_pairs.ensures in
+    if_ok-by_four c.by_pairs.result made.extension made.first made.second made.third
     (λ y same first second third. least_by_pairs Multilinear c.args.choices.now c.args.problem.now
     c.args.x.now y.items c.in-Multilinear.is c.in-Rosenberg-high.is c.requires.width same first second third)

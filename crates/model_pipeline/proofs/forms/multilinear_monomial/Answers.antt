@@ -1,52 +1,57 @@
-use Rattle.std.proofs.Common.{◌≤◌, ◌^◌, ◌∙◌, ap, subst, arith}
-use Rattle.std.specs.Prelude.{unsigned_abs}
+use Rattle.std.proofs.Common.{rules, ◌≡◌, pos, ap, subst, sym, ◌∙◌, to_z, of_z}
+use Rattle.std.specs.Int.{w128}
+use Rattle.std.proofs.lemmas.Int.{to_z-of_z}
 use Rattle.base.specs.declared.costs.Figures.{Figures}
 use Rattle.problem_form.specs.declared.limits.Normal.TheVariants.{Multilinear}
 use Rattle.problem_form.specs.declared.limits.High.TheVariants.{Monomial}
-use Rattle.problem_form.specs.Limits.{upper}
-use Rattle.problem_form.specs.Problems.{ProblemContent}
-use Rattle.term_table.specs.Tables.{KeptTable}
-use Rattle.normal_form.specs.Multilinear as multilinear
-use Rattle.term_table.specs.Terms.{terms_total}
-use Rattle.quad_form.specs.Quads.{quad_size}
-use Rattle.direct_quad.specs.FlatMonomials as flat_monomials
-use Rattle.direct_quad.specs.laws.FlatKept.{first, second, fits_first, fits_second}
+use Rattle.problem_form.specs.Limits.{limit_fault, upper}
+use Rattle.problem_form.specs.Problems.{ProblemContent, IsNormal}
+use Rattle.normal_form.specs.Multilinear.{Admits}
 use Rattle.model_pipeline.specs.Models.{quad_by}
 use Rattle.model_pipeline.specs.Formed.{IsFormed}
-use Rattle.model_pipeline.proofs.Rooms.{monomial_total}
-use Rattle.model_pipeline.proofs.Standing.{formed_as, formed_by_steps}
+use Rattle.model_pipeline.proofs.PlainForms.{IsWithin-plain, formed-plain, image-plain, plain_additions}
+use Rattle.model_pipeline.proofs.Standing.{formed_as}
 use Rattle.model_pipeline.proofs.forms.multilinear_monomial.Goals as goal
+
+pub multilinear_terms-requires : goal.multilinear_terms-requires
+multilinear_terms-requires g c = record {
+  normal = subst IsNormal (sym c.problem-source.ensures.same) c.problem-source.ensures.normal;
+  within = ap (limit_fault Multilinear) c.problem-source.ensures.same ∙ c.requires;
+}
+
+pub into_quad-requires : goal.into_quad-requires
+into_quad-requires g c =
+    let p = c.problem-source.result.now in
+    let admitted : Admits p = record {
+      normal = subst IsNormal (sym c.problem-source.ensures.same) c.problem-source.ensures.normal;
+      within = ap (limit_fault Multilinear) c.problem-source.ensures.same ∙ c.requires;
+    } in
+    record { held = (plain_additions p, IsWithin-plain p admitted, c.in_ok-terms.ensures) }
 
 pub returns-clause-image : goal.returns-clause-image
 returns-clause-image g c =
-    c.in_ok-lowered.ensures.image
-    ∙ ap (λ (u : KeptTable). flat_monomials.image u.content) c.in_ok-made.ensures.image
-    ∙ ap (quad_by Multilinear Monomial) c.problem.ensures.same
+    let p = c.problem-source.result.now in
+    let admitted : Admits p = record {
+      normal = subst IsNormal (sym c.problem-source.ensures.same) c.problem-source.ensures.normal;
+      within = ap (limit_fault Multilinear) c.problem-source.ensures.same ∙ c.requires;
+    } in
+    c.in_ok-into_quad.ensures (plain_additions p) (IsWithin-plain p admitted) c.in_ok-terms.ensures
+    ∙ image-plain p admitted
+    ∙ ap (quad_by Multilinear Monomial) c.problem-source.ensures.same
 
 pub returns-clause-stands : goal.returns-clause-stands
 returns-clause-stands g c =
-    let p = c.problem.result.now in
-    let t = multilinear.image p in
-    let made = c.in_ok-made.ensures in
-    let lowered = c.in_ok-lowered.ensures in
-    let link = c.in_ok-lowered.lowered.link in
-    let quad = c.in_ok-lowered.lowered.target in
-    let image = lowered.image ∙ ap (λ (u : KeptTable). flat_monomials.image u.content) made.image in
-    let fits : flat_monomials.Fits link t =
-    subst (λ (u : KeptTable). flat_monomials.Fits link u.content) made.image lowered.fits in
-    let threshold : unsigned_abs (upper p) ≤ 2 ^ 64 =
-    omega (arith, ap (λ (n : Figures). unsigned_abs n.threshold) made.figures, made.threshold_high) in
-    subst (λ (r : ProblemContent). IsFormed r quad c.in_ok-made.made.figures) c.problem.ensures.same
-    (formed_as p _ (quad_by Multilinear Monomial p) _ image made.figures
-    (formed_by_steps Multilinear Monomial p c.in_ok-made.made.link (first link t) (second link t)
-    threshold
-    made.fits
-    (fits_first link t fits)
-    (fits_second link t fits)
-    (omega (
-      arith,
-      monomial_total t fits.table,
-      ap (λ (u : KeptTable). terms_total u.content.terms) made.image,
-      made.total,
-    ))
-    (omega (arith, ap quad_size image, lowered.size, made.size))))
+    let p = c.problem-source.result.now in
+    let admitted : Admits p = record {
+      normal = subst IsNormal (sym c.problem-source.ensures.same) c.problem-source.ensures.normal;
+      within = ap (limit_fault Multilinear) c.problem-source.ensures.same ∙ c.requires;
+    } in
+    let image =
+    c.in_ok-into_quad.ensures (plain_additions p) (IsWithin-plain p admitted) c.in_ok-terms.ensures
+    ∙ image-plain p admitted in
+    let z = to_z w128 (of_z w128 c.upper.result) in
+    let threshold : z ≡ upper p = to_z-of_z w128 c.upper.result (search rules) ∙ c.upper.ensures in
+    let figures : Figures = record { scale = pos 1; offset = pos 0; threshold = z } in
+    subst (λ (r : ProblemContent). IsFormed r c.in_ok-into_quad.field-0 figures) c.problem-source.ensures.same
+    (formed_as p _ (quad_by Multilinear Monomial p) figures image
+    (λ i. record { scale = pos 1; offset = pos 0; threshold = threshold i }) (formed-plain p admitted))

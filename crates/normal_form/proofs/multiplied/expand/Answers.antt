@@ -5,9 +5,9 @@ use Rattle.std.proofs.lemmas.Map.Iter.{rest_more}
 use Rattle.term_table.specs.Terms.{terms_cost}
 use Rattle.term_table.specs.Tables.{KeptTable, kept_at_once, with_more}
 use Rattle.term_table.specs.MultipliedOut.{contributions}
-use Rattle.normal_form.specs.Multilinear.{expanded, IsMultilinear}
+use Rattle.normal_form.specs.Multilinear.{expanded, multiplied, IsMultilinear}
 use Rattle.normal_form.specs.laws.Relaxing.{cost_expanded}
-use Rattle.normal_form.proofs.Expanded.{multiplied, AreAdditions-multiplied, multilinear-expanded, next_additions, next_whole}
+use Rattle.normal_form.proofs.Expanded.{AreAdditions-multiplied, multilinear-expanded, next_additions, next_whole}
 use Rattle.normal_form.proofs.multiplied.expand.Goals as goal
 
 pub add_plain_terms-requires : goal.add_plain_terms-requires

@@ -1,4 +1,4 @@
-use Rattle.std.proofs.Common.{◌≡◌, ◌+◌, ◌*◌, ◌≤◌, ◌^◌, ◌∙◌, ◌++◌, ap, subst, sym, arith, ℕ, List, All}
+use Rattle.std.proofs.Common.{◌≡◌, ◌+◌, ◌*◌, ◌^◌, ◌∙◌, ◌++◌, ap, subst, sym, arith, ℕ, List, All}
 use Rattle.std.specs.List.{sum_by}
 use Rattle.std.proofs.lemmas.List.Elements.{All-head, All-tail}
 use Rattle.std.proofs.lemmas.List.Sums.{sum_by-cons}
@@ -6,34 +6,22 @@ use Rattle.problem_form.specs.declared.terms.Constraint.{Constraint}
 use Rattle.problem_form.specs.Problems.{constraint_total}
 use Rattle.problem_form.specs.Limits.{reach, slack_bits}
 use Rattle.term_table.specs.Terms.{Term, terms_total}
-use Rattle.term_table.specs.Products.{IsFactor}
+use Rattle.penalty_layer.specs.Rooms.{IsSet}
 use Rattle.penalty_layer.specs.Squares.{square_terms, slack_form, constraint_terms}
-use Rattle.penalty_layer.specs.Gathered.{squares}
-use Rattle.penalty_layer.proofs.Gathering.{next_few, gathers_same, rest_more}
-use Rattle.penalty_layer.proofs.Sets.{slack_form-factors}
-use Rattle.penalty_layer.proofs.Sums.{slack_form-total, constraint-total}
+use Rattle.penalty_layer.proofs.Filling.{fills_same, rest_more, rest_room, room_same}
+use Rattle.penalty_layer.proofs.Sets.{slack_form-sets}
+use Rattle.penalty_layer.proofs.Sums.{slack_form-total}
 use Rattle.penalty_layer.proofs.constraints.add_constraints.Goals as goal
 
 pub add_square-requires-clause-parts : goal.add_square-requires-clause-parts
 add_square-requires-clause-parts g c =
     let k = c.in-Some.constraint in
-    let rest = c.next.new.self in
-    let step = c.in-Some.ensures.steps in
-    let next = c.loop-constraint.next in
-    let width = g.T.Gather.width c.args.terms.now in
-    let P : Constraint → Type 0 = λ j. All (λ t. IsFactor width t.literals) j.products in
-    let products = All-head P k rest (subst (λ (ks : List Constraint). All P ks) step c.loop-constraint.invariant.sets) in
-    let inside : next + slack_bits k ≤ width =
-    omega (
-      arith,
-      c.requires.within,
-      c.loop-constraint.invariant.place,
-      ap (sum_by slack_bits) step,
-      sum_by-cons slack_bits k rest,
-    ) in
-    subst (λ (n : ℕ). All (λ (t : Term). IsFactor n t.0) c.fill.new.self) (sym c.loop-constraint.invariant.rest.gathered.wide)
-    (subst (λ (ts : List Term). All (λ (t : Term). IsFactor width t.0) ts) (sym c.in_ok-fill.ensures)
-    (slack_form-factors width next k products inside))
+    let P : Constraint → Type 0 = λ j. All (λ t. IsSet t.literals) j.products in
+    let products =
+    All-head P k c.next.new.self
+    (subst (λ (ks : List Constraint). All P ks) c.in-Some.ensures.steps c.loop-constraint.invariant.sets) in
+    subst (λ (ts : List Term). All (λ (t : Term). IsSet t.0) ts) (sym c.in_ok-fill.ensures)
+    (slack_form-sets c.loop-constraint.next k products)
 
 pub add_square-requires-clause-small : goal.add_square-requires-clause-small
 add_square-requires-clause-small g c =
@@ -49,28 +37,22 @@ add_square-requires-clause-small g c =
       sum_by-cons size k c.next.new.self,
     )
 
-pub add_square-requires-clause-few : goal.add_square-requires-clause-few
-add_square-requires-clause-few g c =
+pub add_square-requires-clause-room : goal.add_square-requires-clause-room
+add_square-requires-clause-room g c =
     let n = c.args.factor in
     let k = c.in-Some.constraint in
     let next = c.loop-constraint.next in
-    let left = c.loop-constraint.constraint-iterator in
-    let rest = c.next.new.self in
-    omega (
-      arith,
-      ap (λ (ts : List Term). squares (square_terms n ts)) c.in_ok-fill.ensures,
-      next_few g.T.Gather.holds g.T.Gather.width g.T.Gather.total g.T.Gather.pairs c.args.terms.now
-          c.loop-constraint.terms (constraint_terms n next left) (constraint_terms n (next + slack_bits k) rest)
-          (constraint_terms n c.args.first c.args.constraints.now) (square_terms n (slack_form next k)) (2 ^ 25)
-          (ap (constraint_terms n next) c.in-Some.ensures.steps) c.loop-constraint.invariant.rest c.requires.few,
-    )
+    room_same g.T.Gather.takes c.loop-constraint.terms _ _ (ap (square_terms n) (sym c.in_ok-fill.ensures))
+    (rest_room g.T.Gather.takes g.T.Gather.holds c.args.terms.now c.loop-constraint.terms
+    (constraint_terms n next c.loop-constraint.constraint-iterator)
+    (constraint_terms n (next + slack_bits k) c.next.new.self)
+    (constraint_terms n c.args.first c.args.constraints.now) (square_terms n (slack_form next k))
+    (ap (constraint_terms n next) c.in-Some.ensures.steps) c.loop-constraint.invariant.rest c.requires.room)
 
 pub loop-constraint-preserved : goal.loop-constraint-preserved
 loop-constraint-preserved g c =
+    let Takes = g.T.Gather.takes in
     let Holds = g.T.Gather.holds in
-    let Width = g.T.Gather.width in
-    let Total = g.T.Gather.total in
-    let Pairs = g.T.Gather.pairs in
     let n = c.args.factor in
     let k = c.in-Some.constraint in
     let left = c.loop-constraint.constraint-iterator in
@@ -81,24 +63,22 @@ loop-constraint-preserved g c =
     let new = c.add_square.new.terms in
     let count = c.slack_bits_of-next.ensures in
     let one =
-    gathers_same Holds Width Total Pairs now new _ (square_terms n (slack_form next k))
+    fills_same Takes Holds now new _ (square_terms n (slack_form next k))
     (ap (square_terms n) c.in_ok-fill.ensures) c.in_ok-add_square.ensures in
     let terms : constraint_terms n next left
     ≡ square_terms n (slack_form next k) ++ constraint_terms n (next + c.slack_bits_of-next.result) rest =
     ap (constraint_terms n next) step
     ∙ ap (λ m. square_terms n (slack_form next k) ++ constraint_terms n (next + m) rest) (sym count) in
     let size : Constraint → ℕ = λ j. n * reach j ^ 2 in
-    let P : Constraint → Type 0 = λ j. All (λ t. IsFactor (Width c.args.terms.now) t.literals) j.products in
+    let P : Constraint → Type 0 = λ j. All (λ t. IsSet t.literals) j.products in
     record {
       rest =
-          rest_more Holds Width Total Pairs c.args.terms.now now new (constraint_terms n next left)
+          rest_more Takes Holds c.args.terms.now now new (constraint_terms n next left)
           (constraint_terms n (next + c.slack_bits_of-next.result) rest)
           (constraint_terms n c.args.first c.args.constraints.now) _ terms one c.loop-constraint.invariant.rest;
       small =
           omega (
             arith,
-            one.counted,
-            constraint-total n next k,
             c.loop-constraint.invariant.small,
             ap (sum_by size) step,
             sum_by-cons size k rest,

@@ -2,19 +2,19 @@ use Rattle.std.proofs.Common.{◌≡◌, ◌+◌, ◌*◌, ◌≤◌, ◌<◌, �
 use Rattle.std.specs.List.{sum_by}
 use Rattle.problem_form.specs.Problems.{constraint_total}
 use Rattle.problem_form.specs.Limits.{reach, slack_bits}
-use Rattle.term_table.specs.Products.{IsFactor}
+use Rattle.penalty_layer.specs.Rooms.{IsSet}
 use Rattle.penalty_layer.specs.Squares.{constraint_terms}
-use Rattle.penalty_layer.proofs.Gathering.{Rest}
+use Rattle.penalty_layer.proofs.Filling.{Rest}
 use Rattle.penalty_layer.proofs.constraints.add_constraints.Given as goal
 
--- the squares so far were added, and those of the constraints that are left fit
+-- the squares so far were added, and those of the constraints that are left are small
 abbrev pub invariant-loop-constraint : goal.invariant-loop-constraint
 invariant-loop-constraint g l = record {
-  rest : Rest g.T.Gather.holds g.T.Gather.width g.T.Gather.total g.T.Gather.pairs l.fn.terms l.terms
+  rest : Rest g.T.Gather.takes g.T.Gather.holds l.fn.terms l.terms
       (constraint_terms l.factor l.next l.constraint-iterator)
       (constraint_terms l.factor l.first l.constraints);
-  small : g.T.Gather.total l.terms + sum_by (λ k. l.factor * reach k ^ 2) l.constraint-iterator ≤ 2 ^ 97;
+  small : sum_by (λ k. l.factor * reach k ^ 2) l.constraint-iterator ≤ 2 ^ 97;
   place : l.next + sum_by slack_bits l.constraint-iterator ≡ l.first + sum_by slack_bits l.constraints;
-  sets : All (λ k. All (λ t. IsFactor (g.T.Gather.width l.fn.terms) t.literals) k.products) l.constraint-iterator;
+  sets : All (λ k. All (λ t. IsSet t.literals) k.products) l.constraint-iterator;
   totals : sum_by constraint_total l.constraint-iterator < 2 ^ 100;
 }

@@ -1,14 +1,14 @@
-use Rattle.std.proofs.Common.{◌+◌, ◌*◌, ◌≤◌, ◌^◌, unsigned_abs, drop}
+use Rattle.std.proofs.Common.{◌*◌, ◌≤◌, ◌^◌, unsigned_abs, drop}
 use Rattle.term_table.specs.Terms.{terms_total}
 use Rattle.term_table.specs.Products.{products_with}
-use Rattle.penalty_layer.proofs.Gathering.{Rest}
+use Rattle.penalty_layer.proofs.Filling.{Rest}
 use Rattle.penalty_layer.proofs.squares.add_row.Given as goal
 
--- the products so far were added, and those that are left fit
+-- the products so far were added, and those that are left are small
 abbrev pub invariant-loop-j : goal.invariant-loop-j
 invariant-loop-j g l = record {
-  rest : Rest g.T.Gather.holds g.T.Gather.width g.T.Gather.total g.T.Gather.pairs l.fn.terms l.terms
+  rest : Rest g.T.Gather.takes g.T.Gather.holds l.fn.terms l.terms
       (products_with (l.ls, l.coefficient) (drop l.j l.parts))
       (products_with (l.ls, l.coefficient) (drop l.fn.start l.parts));
-  small : g.T.Gather.total l.terms + unsigned_abs l.coefficient * terms_total (drop l.j l.parts) ≤ 2 ^ 97;
+  small : unsigned_abs l.coefficient * terms_total (drop l.j l.parts) ≤ 2 ^ 97;
 }

@@ -1,13 +1,13 @@
-use Rattle.std.proofs.Common.{◌+◌, ◌*◌, ◌≤◌, ◌^◌, drop}
+use Rattle.std.proofs.Common.{◌*◌, ◌≤◌, ◌^◌, drop}
 use Rattle.term_table.specs.Terms.{terms_total}
 use Rattle.penalty_layer.specs.Squares.{square_terms}
-use Rattle.penalty_layer.proofs.Gathering.{Rest}
+use Rattle.penalty_layer.proofs.Filling.{Rest}
 use Rattle.penalty_layer.proofs.squares.add_square.Given as goal
 
--- the terms so far were added, and the square of the parts that are left fits
+-- the terms so far were added, and the square of the parts that are left is small
 abbrev pub invariant-loop-i : goal.invariant-loop-i
 invariant-loop-i g l = record {
-  rest : Rest g.T.Gather.holds g.T.Gather.width g.T.Gather.total g.T.Gather.pairs l.fn.terms l.terms
-      (square_terms l.factor (drop l.i l.parts)) (square_terms l.factor l.parts);
-  small : g.T.Gather.total l.terms + l.factor * terms_total (drop l.i l.parts) ^ 2 ≤ 2 ^ 97;
+  rest : Rest g.T.Gather.takes g.T.Gather.holds l.fn.terms l.terms (square_terms l.factor (drop l.i l.parts))
+      (square_terms l.factor l.parts);
+  small : l.factor * terms_total (drop l.i l.parts) ^ 2 ≤ 2 ^ 97;
 }

@@ -9,7 +9,14 @@ use Rattle.direct_quad.specs.Gathered.{IsSumOf}
 use Rattle.direct_quad.specs.Direct.{additions_of}
 use Rattle.direct_quad.specs.laws.Relaxing.{AreAdditions-of}
 use Rattle.direct_quad.proofs.Guarded.{IsWithin-of, nodes-held, made_sums, made_image, made_quad, made_fits, made_relaxes, made_total, quad_size_within}
+use Rattle.direct_quad.proofs.RoomForSums.{room-contributions}
 use Rattle.direct_quad.proofs.direct.DirectQuadGuard.guard.Goals as goal
+
+pub add_contributions-requires-clause-room : goal.add_contributions-requires-clause-room
+add_contributions-requires-clause-room c =
+    let made = c.in_ok-terms.ensures in
+    room-contributions c.args.source.now c.in_ok-terms.terms c.requires (made.width ∙ c.node_count-width.ensures.value)
+    made.total made.pairs
 
 pub into_sums-requires : goal.into_sums-requires
 into_sums-requires c = record {

@@ -1,4 +1,4 @@
-use Rattle.std.proofs.Common.{◌≡◌, rules, ap, ◌∙◌}
+use Rattle.std.proofs.Common.{◌≡◌, [], rules, ap, ◌∙◌}
 use Rattle.std.specs.Int.{w128}
 use Rattle.std.proofs.lemmas.Int.{to_z-of_z}
 use Rattle.form_steps.specs.declared.layer.BitsLink.{BitsLink}
@@ -6,7 +6,13 @@ use Rattle.problem_form.specs.Problems.{ProblemContent}
 use Rattle.term_table.specs.Tables.{kept_at_once}
 use Rattle.penalty_layer.specs.Penalty.{image, Fits}
 use Rattle.penalty_layer.proofs.Admitted.{made_image, made_total, made_size, made_relaxes, threshold_within}
+use Rattle.penalty_layer.proofs.RoomForTerms.{room-contributions}
 use Rattle.penalty_layer.proofs.penalty.PenaltyGuard.guard.Goals as goal
+
+pub add_contributions-requires-clause-room : goal.add_contributions-requires-clause-room
+add_contributions-requires-clause-room c =
+    room-contributions c.args.source.now c.new-terms.result c.requires
+    (c.new-terms.ensures ∙ ap (λ n. record { width = n; terms = [] }) c.node_count-width.ensures.value)
 
 pub returns-clause-relaxes : goal.returns-clause-relaxes
 returns-clause-relaxes c =

@@ -1,0 +1,152 @@
+-- The form of what a problem contributes, multiplied out as it comes, is that of its multilinear
+-- table.
+use Rattle.std.proofs.Common.{◌≡◌, ◌++◌, ◌≤◌, ◌^◌, List, [], length, All, refl, sym, ap, ◌∙◌, subst, arith}
+use Rattle.std.proofs.lemmas.List.{append-nil}
+use Rattle.std.proofs.lemmas.List.Elements.{recursion_from_All}
+use Rattle.form_steps.specs.declared.layer.BitsLink.{BitsLink}
+use Rattle.problem_form.specs.declared.limits.Normal.TheVariants.{Multilinear}
+use Rattle.problem_form.specs.declared.limits.High.TheVariants.{Monomial}
+use Rattle.problem_form.specs.Problems.{ProblemContent}
+use Rattle.problem_form.specs.Limits.{upper}
+use Rattle.term_table.specs.Terms.{Term, IsTermSet, terms_total, with_additions}
+use Rattle.term_table.specs.Tables.{TableContent, IsTable, table_size}
+use Rattle.term_table.specs.MultipliedOut.{contributions}
+use Rattle.term_table.proofs.Additions.{coefficient_of-with_additions, terms_total-with_additions}
+use Rattle.term_table.proofs.KeptTerms.{OfSet, All-with_additions, AreTerms-with_additions}
+use Rattle.term_table.proofs.PlainSets.{contributions-sets}
+use Rattle.term_table.proofs.UniqueTerms.{same_tables}
+use Rattle.penalty_layer.specs.Penalty as penalty
+use Rattle.penalty_layer.proofs.Admitted.{threshold_within}
+use Rattle.penalty_layer.proofs.Sets.{contribution_sets}
+use Rattle.normal_form.specs.Multilinear.{multiplied, Admits, IsSmall}
+use Rattle.normal_form.specs.Multilinear as multilinear
+use Rattle.normal_form.proofs.Limits.{penalty_admits}
+use Rattle.normal_form.proofs.MultipliedOut.{AreAdditions-multiplied_out, small-additions, total-multiplied}
+use Rattle.normal_form.proofs.Sizes.{size_within, squares-multiplied}
+use Rattle.monomial_layer.specs.Monomials as monomials
+use Rattle.monomial_layer.proofs.Sizes.{all_nodes-le}
+use Rattle.quad_form.specs.Quads.{quad_size, quad_total}
+use Rattle.quad_form.specs.Flat as flat
+use Rattle.direct_quad.specs.Parts.{table_of}
+use Rattle.direct_quad.specs.Parts as parts
+use Rattle.direct_quad.specs.Direct.{additions_of}
+use Rattle.direct_quad.specs.FlatMonomials as flat_monomials
+use Rattle.direct_quad.specs.Held.{HeldContent, HasPlaces}
+use Rattle.direct_quad.specs.Stated.{IsWithin}
+use Rattle.direct_quad.specs.laws.Between.{IsTable-table_of}
+use Rattle.direct_quad.specs.laws.FlatKept.{first, second, fits_first, fits_second}
+use Rattle.direct_quad.proofs.Additive.{sum_for-with_additions}
+use Rattle.direct_quad.proofs.AtOnce.{size-grows, total-grows}
+use Rattle.direct_quad.proofs.RoomForSums.{places_at_first}
+use Rattle.direct_quad.proofs.Split.{nodes-table}
+use Rattle.model_pipeline.specs.Formed.{IsFormed}
+use Rattle.model_pipeline.specs.Models.{quad_by}
+use Rattle.model_pipeline.proofs.Standing.{formed_by_steps}
+
+-- what a problem adds, multiplied out
+abbrev pub plain_additions : ProblemContent → TableContent
+plain_additions p = multiplied (additions_of p)
+
+-- ---- summed before or after it is multiplied out
+
+pub table_of-plain : (p : ProblemContent) → Admits p → table_of (plain_additions p) ≡ multilinear.image p
+table_of-plain p admitted =
+    let width = penalty.node_count p in
+    let ts = penalty.contributions p in
+    let P = OfSet (IsTermSet width) in
+    let sets = contribution_sets p (penalty_admits p admitted) in
+    let additions = AreAdditions-multiplied_out p admitted in
+    let summed = contributions-sets width (with_additions [] ts) (recursion_from_All P (with_additions [] ts) (All-with_additions (IsTermSet width) ts sets)) in
+    let same : with_additions [] (contributions ts) ≡ with_additions [] (contributions (with_additions [] ts)) =
+    same_tables width (with_additions [] (contributions ts)) (with_additions [] (contributions (with_additions [] ts)))
+    (AreTerms-with_additions width (contributions ts) additions.sets)
+    (AreTerms-with_additions width (contributions (with_additions [] ts)) summed)
+    (λ ls.
+    coefficient_of-with_additions ls (contributions ts)
+    ∙ sym (sum_for-with_additions ls ts)
+    ∙ sym (coefficient_of-with_additions ls (contributions (with_additions [] ts)))) in
+    λ i. record { width = width; terms = same i }
+
+pub image-plain : (p : ProblemContent) → Admits p
+    → parts.image (plain_additions p) ≡ quad_by Multilinear Monomial p
+image-plain p admitted = ap (λ t. flat.image (monomials.image t)) (table_of-plain p admitted)
+
+-- ---- its numbers fit their fields
+
+pub IsWithin-plain : (p : ProblemContent) → Admits p → IsWithin (plain_additions p)
+IsWithin-plain p admitted =
+    let t = plain_additions p in
+    record {
+      additions = AreAdditions-multiplied_out p admitted;
+      narrow =
+          omega (
+            arith,
+            size_within p admitted.within,
+            ap table_size (table_of-plain p admitted),
+            nodes-table t,
+            all_nodes-le (table_of t).terms,
+          );
+      total = omega (arith, total-multiplied p admitted);
+    }
+
+-- there is room for it where nothing is held
+pub room-plain : (p : ProblemContent) (h : HeldContent) → Admits p → length h.weights ≡ penalty.node_count p
+    → h.total ≡ 0 → length h.pairs ≡ 0
+    → (more : List Term)
+    × (HasPlaces h (contributions (penalty.contributions p ++ more)) × All IsSmall (penalty.contributions p ++ more))
+room-plain p h admitted wide total pairs =
+    let ts = penalty.contributions p in
+    let additions = AreAdditions-multiplied_out p admitted in
+    let places =
+    places_at_first h (contributions ts) (penalty.node_count p) wide total pairs additions.sets
+    (omega (arith, total-multiplied p admitted)) (omega (arith, squares-multiplied p admitted.within)) in
+    ([], subst (λ us. HasPlaces h (contributions us) × All IsSmall us) (sym (append-nil ts)) (places, small-additions p admitted))
+
+-- ---- the form stands for the problem
+
+abbrev plain_link : ProblemContent → BitsLink
+plain_link p = record {
+  source_width = (multilinear.image p).width;
+  target_width = length (flat_monomials.image (multilinear.image p)).diagonal;
+}
+
+plain_fits : (p : ProblemContent) → Admits p → flat_monomials.Fits (plain_link p) (multilinear.image p)
+plain_fits p admitted =
+    let t = plain_additions p in
+    record {
+      source = refl;
+      target = refl;
+      table = subst IsTable (table_of-plain p admitted) (IsTable-table_of t (AreAdditions-multiplied_out p admitted));
+      small =
+          omega (
+            arith,
+            total-multiplied p admitted,
+            terms_total-with_additions t.terms,
+            ap (λ (u : TableContent). terms_total u.terms) (table_of-plain p admitted),
+          );
+    }
+
+pub formed-plain : (p : ProblemContent) → Admits p → IsFormed p (quad_by Multilinear Monomial p) (penalty.figures p)
+formed-plain p admitted =
+    let t = plain_additions p in
+    let link = plain_link p in
+    let table = multilinear.image p in
+    let fits = plain_fits p admitted in
+    let nodes : BitsLink = record { source_width = p.variables; target_width = penalty.node_count p } in
+    let standing : penalty.Fits nodes p = record { source = refl; target = refl; normal = admitted.normal } in
+    formed_by_steps Multilinear Monomial p nodes (first link table) (second link table)
+    (threshold_within p (upper p) (penalty_admits p admitted).within refl) standing (fits_first link table fits)
+    (fits_second link table fits)
+    (omega (
+      arith,
+      total-multiplied p admitted,
+      total-grows t (AreAdditions-multiplied_out p admitted),
+      ap quad_total (image-plain p admitted),
+    ))
+    (omega (
+      arith,
+      size_within p admitted.within,
+      size-grows t,
+      ap quad_size (image-plain p admitted),
+      ap table_size (table_of-plain p admitted),
+    ))

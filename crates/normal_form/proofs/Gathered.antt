@@ -1,0 +1,67 @@
+-- Terms that are multiplied out as they come.
+use Rattle.std.proofs.Common.{◌≡◌, ℕ, ◌≤◌, ℤ, List, [], ◌∷◌, ◌++◌, length, take, refl, subst, sym, ap, ◌∙◌}
+use Rattle.std.proofs.lemmas.List.{append-nil, take_all}
+use Rattle.std.proofs.lemmas.List.Concat.{flat_map-append}
+use Rattle.literal_lists.specs.declared.literal.Literal.{Literal}
+use Rattle.term_table.specs.Terms.{Term}
+use Rattle.term_table.specs.Tables.{TableContent, with_appended, with_more}
+use Rattle.term_table.specs.MultipliedOut.{ArePlain, plain_terms, contributions}
+use Rattle.penalty_layer.specs.Rooms.{HasRoom, Fills}
+use Rattle.normal_form.specs.Behind.{behind}
+use Rattle.normal_form.specs.Multilinear.{multiplied}
+use Rattle.normal_form.proofs.PlainSteps.{behind-nothing, last_terms}
+
+behind-empty : (list : List Literal) (ts : List Term) → list ≡ [] → behind list ts ≡ ts
+behind-empty list ts empty = ap (λ fs. behind fs ts) empty ∙ behind-nothing ts
+
+-- a term without complements is multiplied out already
+plain_alone : (ls : List Literal) (n : ℕ) (c : ℤ) → length ls ≤ n → ArePlain (take n ls)
+    → plain_terms ls c ≡ (ls, c) ∷ []
+plain_alone ls n c short none =
+    sym (behind-nothing (plain_terms ls c)) ∙ last_terms [] ls n c short none
+    ∙ ap (λ ks. (ks, c) ∷ []) (take_all n ls short)
+
+-- where there is room for what terms are multiplied out to, there is for the first
+pub room-multiplied : {S : Type 0} (takes : S → List Term → Type 0) (s : S) (list ls : List Literal) (c : ℤ) (more : List Term)
+    → list ≡ [] → takes s (contributions ((ls, c) ∷ more)) → HasRoom takes s (behind list (plain_terms ls c))
+room-multiplied takes s list ls c more empty room =
+    (contributions more, subst (λ ts. takes s (ts ++ contributions more)) (sym (behind-empty list (plain_terms ls c) empty)) room)
+
+-- what is multiplied out, and one more
+pub multiplied-appended : (t : TableContent) (list ls : List Literal) (c : ℤ) → list ≡ []
+    → with_more (multiplied t) (behind list (plain_terms ls c)) ≡ multiplied (with_appended t ls c)
+multiplied-appended t list ls c empty =
+    ap (λ us. record t { terms = contributions t.terms ++ us }) (behind-empty list (plain_terms ls c) empty ∙ sym (append-nil (plain_terms ls c)))
+    ∙ ap (λ us. record t { terms = us }) (sym (flat_map-append (λ (u : Term). plain_terms u.0 u.1) t.terms ((ls, c) ∷ [])))
+
+-- what was gathered elsewhere is the term, multiplied out
+module _ {S : Type 0} (takes : S → List Term → Type 0) (holds : S → TableContent → Type 0) (old new : S)
+    (list ls : List Literal) (c : ℤ) (empty : list ≡ []) (fills : Fills takes holds old new (behind list (plain_terms ls c))) where
+  pub held-multiplied : (t : TableContent) → holds old (multiplied t) → holds new (multiplied (with_appended t ls c))
+  held-multiplied t held = subst (holds new) (multiplied-appended t list ls c empty) (fills.held (multiplied t) held)
+
+  pub takes-multiplied : (more : List Term) → takes old (contributions ((ls, c) ∷ more)) → takes new (contributions more)
+  takes-multiplied more room =
+      fills.room (contributions more)
+      (subst (λ ts. takes old (ts ++ contributions more)) (sym (behind-empty list (plain_terms ls c) empty)) room)
+
+-- a term without complements was gathered elsewhere
+module _ {S : Type 0} (takes : S → List Term → Type 0) (holds : S → TableContent → Type 0)
+    (ls : List Literal) (n : ℕ) (c : ℤ) (short : length ls ≤ n) (none : ArePlain (take n ls)) where
+  pub room-alone : (s : S) (more : List Term) → takes s (contributions ((ls, c) ∷ more)) → HasRoom takes s ((ls, c) ∷ [])
+  room-alone s more room =
+      (contributions more, subst (λ ts. takes s (ts ++ contributions more)) (plain_alone ls n c short none) room)
+
+  pub held-alone : (old new : S) → ((t : TableContent) → holds old t → holds new (with_appended t ls c))
+      → (t : TableContent) → holds old (multiplied t) → holds new (multiplied (with_appended t ls c))
+  held-alone old new held t before =
+      subst (holds new)
+      (ap (with_more (multiplied t)) (sym (plain_alone ls n c short none) ∙ sym (behind-nothing (plain_terms ls c)))
+      ∙ multiplied-appended t [] ls c refl)
+      (held (multiplied t) before)
+
+  pub takes-alone : (old new : S) → ((more : List Term) → takes old ((ls, c) ∷ more) → takes new more)
+      → (more : List Term) → takes old (contributions ((ls, c) ∷ more)) → takes new (contributions more)
+  takes-alone old new takes_more more room =
+      takes_more (contributions more)
+      (subst (λ ts. takes old (ts ++ contributions more)) (plain_alone ls n c short none) room)

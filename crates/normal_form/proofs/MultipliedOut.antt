@@ -1,0 +1,53 @@
+-- What a problem contributes, multiplied out as it comes, is small.
+use Rattle.std.proofs.Common.{◌+◌, ◌≤◌, ◌^◌, ℕ, List, [], ◌∷◌, arith, All}
+use Rattle.std.proofs.lemmas.List.Elements.{All-cons, All-nil, recursion_from_All}
+use Rattle.problem_form.specs.Problems.{ProblemContent}
+use Rattle.term_table.specs.Terms.{Term, terms_total, IsTermSet}
+use Rattle.term_table.specs.Tables.{TableContent, AreAdditions}
+use Rattle.term_table.specs.MultipliedOut.{contributions}
+use Rattle.term_table.proofs.Additions.{terms_total-cons}
+use Rattle.term_table.proofs.KeptTerms.{OfSet}
+use Rattle.term_table.proofs.PlainSets.{contributions-sets}
+use Rattle.term_table.proofs.PlainSums.{AreFew, contributions-grow}
+use Rattle.penalty_layer.specs.Penalty as penalty
+use Rattle.penalty_layer.proofs.Sets.{contribution_sets}
+use Rattle.penalty_layer.proofs.Sums.{contributions-total}
+use Rattle.normal_form.specs.Multilinear.{multiplied, Admits, IsSmall}
+use Rattle.normal_form.proofs.Complements.{few-contributions}
+use Rattle.normal_form.proofs.Limits.{within_limits, penalty_admits}
+
+few-additions : (p : ProblemContent) → Admits p → AreFew 8 (penalty.contributions p)
+few-additions p admitted = few-contributions p (within_limits p admitted.within).negations
+
+pub total-multiplied : (p : ProblemContent) → Admits p
+    → terms_total (contributions (penalty.contributions p)) + 1 ≤ 2 ^ 72
+total-multiplied p admitted =
+    omega (
+      arith,
+      contributions-total p,
+      (within_limits p admitted.within).weight,
+      contributions-grow 8 (penalty.contributions p) (few-additions p admitted),
+    )
+
+pub AreAdditions-multiplied_out : (p : ProblemContent) → Admits p →
+    AreAdditions (multiplied (record { width = penalty.node_count p; terms = penalty.contributions p }))
+AreAdditions-multiplied_out p admitted =
+    let sets = contribution_sets p (penalty_admits p admitted) in
+    record {
+      sets =
+          contributions-sets (penalty.node_count p) (penalty.contributions p)
+          (recursion_from_All (OfSet (IsTermSet (penalty.node_count p))) (penalty.contributions p) sets);
+      small = omega (arith, total-multiplied p admitted);
+    }
+
+-- a coefficient is no greater than all of them
+small-all : (most : ℕ) (ts : List Term) → terms_total ts ≤ most → most ≤ 2 ^ 124 → All IsSmall ts
+small-all most [] total high = All-nil IsSmall
+small-all most (t ∷ ts) total high =
+    All-cons IsSmall t ts (omega (arith, total, high, terms_total-cons t ts))
+    (small-all most ts (omega (arith, total, terms_total-cons t ts)) high)
+
+pub small-additions : (p : ProblemContent) → Admits p → All IsSmall (penalty.contributions p)
+small-additions p admitted =
+    small-all (2 ^ 64) (penalty.contributions p)
+    (omega (arith, contributions-total p, (within_limits p admitted.within).weight)) (omega arith)

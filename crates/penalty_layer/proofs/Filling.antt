@@ -1,0 +1,97 @@
+-- Taking in one list of terms after another, and loops that do so.
+use Rattle.std.proofs.Common.{◌≡◌, ℤ, List, [], ◌∷◌, ◌++◌, refl, subst, sym, ap, ◌∙◌, append_assoc, append-nil}
+use Rattle.literal_lists.specs.declared.literal.Literal.{Literal}
+use Rattle.term_table.specs.Terms.{Term}
+use Rattle.term_table.specs.Tables.{TableContent, with_appended}
+use Rattle.penalty_layer.specs.Rooms.{Fills, HasRoom}
+
+-- what was taken in, with what is left, is all
+pub record Rest {S : Type 0} (takes : S → List Term → Type 0) (holds : S → TableContent → Type 0) (start now : S) (left all : List Term) : Type 0 where
+  pub done : List Term
+  pub filled : Fills takes holds start now done
+  pub whole : done ++ left ≡ all
+
+-- where there is room for two lists of terms, there is for the first
+pub room_first : {S : Type 0} (takes : S → List Term → Type 0) (s : S) (all ts us : List Term)
+    → all ≡ ts ++ us → HasRoom takes s all → HasRoom takes s ts
+room_first takes s all ts us same room =
+    (us ++ room.0, subst (takes s) (ap (λ vs. vs ++ room.0) same ∙ append_assoc ts us room.0) room.1)
+
+-- the same terms, in other words
+pub room_same : {S : Type 0} (takes : S → List Term → Type 0) (s : S) (ts us : List Term) → ts ≡ us
+    → HasRoom takes s ts → HasRoom takes s us
+room_same takes s ts us same room = subst (HasRoom takes s) same room
+
+-- and of one term, whose literals and coefficient the code has in other words
+pub room_as : {S : Type 0} (takes : S → List Term → Type 0) (s : S) (ls ks : List Literal) (c d : ℤ)
+    → ks ≡ ls → d ≡ c → HasRoom takes s ((ls, c) ∷ []) → HasRoom takes s ((ks, d) ∷ [])
+room_as takes s ls ks c d set coefficient room =
+    subst (λ (t : Term). HasRoom takes s (t ∷ [])) (λ i. (sym set i, sym coefficient i)) room
+
+module _ {S : Type 0} (takes : S → List Term → Type 0) (holds : S → TableContent → Type 0) where
+  pub fills_none : (s : S) → Fills takes holds s s []
+  fills_none s = record {
+    held = λ t held. subst (λ (ts : List Term). holds s (record t { terms = ts })) (sym (append-nil t.terms)) held;
+    room = λ more room. room;
+  }
+
+  -- one term, whose literals and coefficient the code has in other words
+  pub fills_as : (now new : S) (ls ks : List Literal) (c d : ℤ) → ks ≡ ls → d ≡ c
+      → ((t : TableContent) → holds now t → holds new (with_appended t ks d))
+      → ((more : List Term) → takes now ((ks, d) ∷ more) → takes new more)
+      → Fills takes holds now new ((ls, c) ∷ [])
+  fills_as now new ls ks c d set coefficient held room =
+      subst (λ (t : Term). Fills takes holds now new (t ∷ [])) (λ i. (set i, coefficient i))
+      (record { held = held; room = room })
+
+  pub fills_more : (first second third : S) (ts us : List Term)
+      → Fills takes holds first second ts → Fills takes holds second third us
+      → Fills takes holds first third (ts ++ us)
+  fills_more first second third ts us p q = record {
+    held = λ t held.
+        subst (λ (vs : List Term). holds third (record t { terms = vs })) (append_assoc t.terms ts us)
+        (q.held (record t { terms = t.terms ++ ts }) (p.held t held));
+    room = λ more room. q.room more (p.room (us ++ more) (subst (takes first) (append_assoc ts us more) room));
+  }
+
+  -- the same terms, in other words
+  pub fills_same : (old new : S) (ts us : List Term) → ts ≡ us
+      → Fills takes holds old new ts → Fills takes holds old new us
+  fills_same old new ts us same p = subst (Fills takes holds old new) same p
+
+  -- after the first terms there is room for those after them
+  pub room_next : (now new : S) (all ts us : List Term) → all ≡ ts ++ us
+      → Fills takes holds now new ts → HasRoom takes now all → HasRoom takes new us
+  room_next now new all ts us same p room =
+      (room.0, p.room (us ++ room.0) (subst (takes now) (ap (λ vs. vs ++ room.0) same ∙ append_assoc ts us room.0) room.1))
+
+  -- ---- loops
+
+  pub rest_none : (start : S) (all : List Term) → Rest takes holds start start all all
+  rest_none start all = record { done = []; filled = fills_none start; whole = refl }
+
+  pub rest_more : (start now new : S) (left later all ts : List Term) → left ≡ ts ++ later
+      → Fills takes holds now new ts → Rest takes holds start now left all
+      → Rest takes holds start new later all
+  rest_more start now new left later all ts step one before = record {
+    done = before.done ++ ts;
+    filled = fills_more start now new before.done ts before.filled one;
+    whole =
+        append_assoc before.done ts later
+        ∙ ap (λ us. before.done ++ us) (sym step)
+        ∙ before.whole;
+  }
+
+  pub rest_all : (start now : S) (left all : List Term) → left ≡ []
+      → Rest takes holds start now left all → Fills takes holds start now all
+  rest_all start now left all none before =
+      fills_same start now before.done all
+      (sym (append-nil before.done) ∙ ap (λ ts. before.done ++ ts) (sym none) ∙ before.whole)
+      before.filled
+
+  -- where there is room for all, there is for what comes next
+  pub rest_room : (start now : S) (left later all ts : List Term) → left ≡ ts ++ later
+      → Rest takes holds start now left all → HasRoom takes start all → HasRoom takes now ts
+  rest_room start now left later all ts step before room =
+      room_first takes now left ts later step
+      (room_next start now all before.done left (sym before.whole) before.filled room)

@@ -1,0 +1,111 @@
+-- Runs on the terms of degree 3 or more alone: they are the same for each table with these terms.
+use Rattle.std.proofs.Common.{◌≡◌, ◌≢◌, ℕ, pos, zero, suc, ◌+◌, ◌≤◌, ◌<◌, ◌^◌, Bool, true, false, cond, arith, refl, sym, ap, ◌∙◌, subst, List, [], ◌∷◌, ◌++◌, length, drop, unsigned_abs}
+use Rattle.std.specs.Prelude.{All, Some, None, Option, IfOk, Result, Ok, Err}
+use Rattle.std.specs.List.{AllByRecursion, filter}
+use Rattle.std.proofs.lemmas.List.{append-nil, append_assoc, length-append}
+use Rattle.std.proofs.lemmas.List.Filters.{length-filter_both}
+use Rattle.std.proofs.lemmas.List.Elements.{All-filter, All-from_recursion, All-weaker, filter-append, recursion_from_All}
+use Rattle.literal_lists.specs.declared.literal.Literal.{Literal}
+use Rattle.term_table.specs.Terms.{Term, terms_total, IsTermSet}
+use Rattle.term_table.specs.Tables.{IsTable, TableContent}
+use Rattle.term_table.proofs.KeptTerms.{OfSet}
+use Rattle.rosenberg_layer.specs.Rosenberg.{is_long, Pair, next_before, pairs_of, run, substituted, with_next}
+use Rattle.rosenberg_layer.specs.Steps.{is_short}
+use Rattle.rosenberg_layer.specs.Parts.{weights, IsTurn}
+use Rattle.rosenberg_layer.specs.Waiting.{first_pair}
+use Rattle.rosenberg_layer.proofs.Bags.{held-start, AreHeld}
+use Rattle.rosenberg_layer.proofs.Parts.{filter-all, filter-ascends, filter-yes}
+use Rattle.rosenberg_layer.proofs.PartlyTerms.{sum-filter_le}
+use Rattle.rosenberg_layer.proofs.Turns.{run-start, width-pairs, IsRun}
+
+-- the terms of degree 3 or more alone are a table
+pub alone : (width : ℕ) (long : List Term) → All (λ t. is_long t ≡ true) long
+    → filter is_long long ≡ long
+alone width long all = filter-all is_long long (recursion_from_All (λ t. is_long t ≡ true) long all)
+
+pub held_bag : (t : TableContent) (bag : List Term) → IsTable t → bag ≡ filter is_long t.terms
+    → AreHeld t (filter is_short t.terms) bag (weights t.terms)
+held_bag t bag table e =
+    subst (λ us. AreHeld t (filter is_short t.terms) us (weights t.terms)) (append-nil bag)
+    (held-start t bag [] (weights t.terms) table (omega arith) e refl)
+
+pub run_begins : (t : TableContent) (width : ℕ) (bag low : List Term) (pairs : List Pair) (ms : List ℕ)
+    → IsTable t → bag ≡ filter is_long t.terms → low ≡ [] → pairs ≡ [] → ms ≡ []
+    → IsRun t 0 width (filter is_short t.terms) low bag pairs ms (weights t.terms)
+run_begins t width bag low pairs ms table e no_low no_pairs no_ms =
+    run-start t width (filter is_short t.terms) low pairs bag ms (weights t.terms)
+    (held_bag t bag table e) no_low no_pairs no_ms
+
+-- the number of the next node
+pub run_width : (t : TableContent) (k width : ℕ) (base low long : List Term) (pairs : List Pair)
+    (ms : List ℕ) (bound : ℕ) → IsRun t k width base low long pairs ms bound → t.width ≡ width
+    → width + length pairs ≡ (run k t).width
+run_width t k width base low long pairs ms bound so_far same =
+    omega (arith, width-pairs k t, ap length so_far.pairs_are, same)
+
+-- with the next one added, the others make up the rest
+pub long_added : (now next : List Term) (t : Term) (left rest whole : List Term) → left ≡ t ∷ rest
+    → next ≡ now ++ filter is_long (t ∷ []) → now ++ filter is_long left ≡ whole
+    → next ++ filter is_long rest ≡ whole
+long_added now next t left rest whole e added so_far =
+    ap (λ ts. ts ++ filter is_long rest) added
+    ∙ append_assoc now (filter is_long (t ∷ [])) (filter is_long rest)
+    ∙ sym (ap (λ ts. now ++ ts) (ap (filter is_long) e ∙ filter-append is_long (t ∷ []) rest))
+    ∙ so_far
+
+-- the literals of a set fit
+pub set_narrow : (width : ℕ) (ls : List Literal) → IsTermSet width ls → width ≤ 2 ^ 31
+    → All (λ l. l.variable < 2 ^ 31) ls
+set_narrow width ls set narrow =
+    All-weaker (λ l. l.variable < width) (λ l. l.variable < 2 ^ 31)
+    (λ l below. omega (arith, below, narrow)) ls set.set.within
+
+-- the terms of degree 3 or more of a table are a table
+pub table_long : (t : TableContent) (width : ℕ) (long : List Term) → IsTable t → width ≡ t.width
+    → long ≡ filter is_long t.terms → IsTable (record { width = width; terms = long })
+table_long t width long table same e =
+    subst (λ (u : TableContent). IsTable u)
+    (λ i. record { width = sym same i; terms = sym e i })
+    (record {
+      terms = record {
+        ordered = filter-ascends is_long t.terms table.terms.ordered;
+        sets = All-filter is_long (OfSet (IsTermSet t.width)) t.terms table.terms.sets;
+        nonzero = All-filter is_long (λ (u : Term). u.1 ≢ pos 0) t.terms table.terms.nonzero;
+      };
+      small =
+          let small = table.small in
+          omega (arith, small, sum-filter_le is_long (λ u. unsigned_abs u.1) t.terms);
+    })
+
+-- .. all of them
+pub all_long : (ts long : List Term) → long ≡ filter is_long ts → All (λ t. is_long t ≡ true) long
+all_long ts long e =
+    subst (All (λ t. is_long t ≡ true)) (sym e)
+    (All-from_recursion (λ t. is_long t ≡ true) (filter is_long ts) (filter-yes is_long ts))
+
+-- a turn adds one pair at most
+pub turn_made : (o : Option Pair) (n : ℕ) (long low : List Term) (pairs : List Pair) (ms : List ℕ)
+    (long' low' : List Term) (pairs' : List Pair) (ms' : List ℕ)
+    → IsTurn o n long low pairs ms long' low' pairs' ms' → length pairs' ≤ length pairs + 1
+turn_made None n long low pairs ms long' low' pairs' ms' turned = omega (arith, ap length turned.3)
+turn_made (Some pair) n long low pairs ms long' low' pairs' ms' turned =
+    omega (arith, ap length turned.2, length-append pairs (pair ∷ []))
+
+-- where there is a pair, there is a key
+pub some_left : (ts : List Term) (keys : List ℕ) (at : ℕ) (pair : Pair)
+    → first_pair ts (drop at keys) ≡ Some pair → at < length keys
+some_left ts [] zero pair e = absurd cc
+some_left ts [] (suc at) pair e = absurd cc
+some_left ts (k ∷ keys) zero pair e = omega arith
+some_left ts (k ∷ keys) (suc at) pair e = omega (arith, some_left ts keys at pair e)
+
+-- a bound on the terms of degree 3 or more is one on all
+pub fewer : (ts long : List Term) (n : ℕ) → long ≡ filter is_long ts → n ≤ length long
+    → n ≤ length ts
+fewer ts long n e few =
+    omega (arith, few, ap length e, length-filter_both is_long is_short (λ t. refl) ts)
+
+pub if_ok_weaker : {T E : Type 0} (P Q : T → Type 0) → ((x : T) → P x → Q x) → (r : Result T E)
+    → IfOk r P → IfOk r Q
+if_ok_weaker P Q more (Ok x) p = more x p
+if_ok_weaker P Q more (Err e) p = tt

@@ -1,0 +1,13 @@
+use Rattle.std.proofs.Common.{◌≡◌, ◌++◌, ◌<◌, ◌^◌, map}
+use Rattle.std.specs.Prelude.{All}
+use Rattle.literal_lists.specs.declared.literal.Literal.{Literal}
+use Rattle.literal_lists.specs.Codes.{code_of}
+use Rattle.rosenberg_layer.proofs.rings.append_lent.Given as goal
+
+-- the codes so far and those that are left stand behind those that were there
+abbrev pub invariant-loop-literal : goal.invariant-loop-literal
+invariant-loop-literal l = record {
+  all : l.codes.items ++ map code_of l.literal-iterator
+      ≡ l.initial.codes.items ++ map code_of l.fn.literals;
+  narrow : All (λ (k : Literal). k.variable < 2 ^ 31) l.literal-iterator;
+}

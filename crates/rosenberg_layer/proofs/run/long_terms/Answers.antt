@@ -1,0 +1,42 @@
+use Rattle.std.proofs.Common.{◌≡◌, ◌<◌, ◌≤◌, ◌^◌, arith, rules, sym}
+use Rattle.std.specs.Int.{w128}
+use Rattle.std.proofs.lemmas.Int.{to_z-of_z}
+use Rattle.std.proofs.lemmas.Map.Iter.{rest_more}
+use Rattle.std.proofs.lemmas.List.Elements.{All-head, All-rest, All-same}
+use Rattle.term_table.specs.Terms.{Term, IsTermSet}
+use Rattle.rosenberg_layer.proofs.LongRuns.{long_added, set_narrow}
+use Rattle.rosenberg_layer.proofs.run.long_terms.Goals as goal
+
+pub add_long-requires-clause-short : goal.add_long-requires-clause-short
+add_long-requires-clause-short c =
+    let P : Term → Type 0 = λ (u : Term). IsTermSet c.args.table.now.content.width u.0 in
+    let left =
+    rest_more _ c.loop-literals.literals-iterator c.next.new.self c.next.result
+    (c.in-Some.literals, c.in-Some.coefficient) c.in-Some.is c.next.ensures.steps in
+    let set = All-head P _ _ (All-same P _ _ (sym left) c.loop-literals.invariant.sets) in
+    let short = set.short in
+    omega (arith, short)
+
+pub add_long-requires-clause-narrow : goal.add_long-requires-clause-narrow
+add_long-requires-clause-narrow c =
+    let P : Term → Type 0 = λ (u : Term). IsTermSet c.args.table.now.content.width u.0 in
+    let left =
+    rest_more _ c.loop-literals.literals-iterator c.next.new.self c.next.result
+    (c.in-Some.literals, c.in-Some.coefficient) c.in-Some.is c.next.ensures.steps in
+    let set = All-head P _ _ (All-same P _ _ (sym left) c.loop-literals.invariant.sets) in
+    set_narrow c.args.table.now.content.width c.in-Some.literals.now set c.requires
+
+pub loop-literals-preserved : goal.loop-literals-preserved
+loop-literals-preserved c =
+    let t : Term = (c.in-Some.literals.now, c.in-Some.coefficient) in
+    let left =
+    rest_more _ c.loop-literals.literals-iterator c.next.new.self c.next.result
+    (c.in-Some.literals, c.in-Some.coefficient) c.in-Some.is c.next.ensures.steps in
+    let back = to_z-of_z w128 c.in-Some.coefficient (search rules) in
+    let added = rw back at c.in_ok-add_long.ensures in
+    record {
+      whole = long_added c.loop-literals.long c.add_long.new.long t _ _ _ left added c.loop-literals.invariant.whole;
+      sets =
+          All-rest (λ (u : Term). IsTermSet c.args.table.now.content.width u.0) _ _ _ left
+          c.loop-literals.invariant.sets;
+    }

@@ -1,0 +1,23 @@
+use Rattle.std.proofs.Common.{◌≡◌, ◌+◌, ◌*◌, ◌≤◌, length}
+use Rattle.std.specs.List.{filter}
+use Rattle.term_table.specs.Tables.{IsTable, TableContent}
+use Rattle.rosenberg_layer.specs.Rosenberg.{is_long}
+use Rattle.rosenberg_layer.specs.Steps.{is_short}
+use Rattle.rosenberg_layer.specs.Parts.{weights}
+use Rattle.rosenberg_layer.specs.Waiting.{Wait}
+use Rattle.rosenberg_layer.proofs.Turns.{IsRun}
+use Rattle.rosenberg_layer.proofs.run.turns_of.Given as goal
+
+-- the parts of each table with these terms after the turns so far, and their pairs; no turn adds to the
+-- terms that it moves
+abbrev pub invariant-loop-done : goal.invariant-loop-done
+invariant-loop-done l = record {
+  runs : (t : TableContent) → IsTable t → t.width ≡ l.width → filter is_long t.terms ≡ l.fn.long
+      → IsRun t l._done l.width (filter is_short t.terms) l.made.low.items (filter is_long l.long)
+      l.made.pairs.items l.made.weights.items (weights t.terms);
+  wait : Wait l.long l.waiting;
+  lists : length l.waiting.buckets.lists ≡ 2 * (l.width + length l.made.pairs.items);
+  few : length l.made.low.items + length (filter is_long l.long) ≤ length l.fn.long;
+  count : length l.long ≡ length l.fn.long;
+  made : length l.made.pairs.items ≤ l._done;
+}

@@ -1,0 +1,11 @@
+use Rattle.std.proofs.Common.{◌≡◌, [], length}
+use Rattle.rosenberg_layer.specs.Waiting.{AreWaiting}
+use Rattle.rosenberg_layer.proofs.waiting.Waiting.new.Given as goal
+
+-- the terms so far wait
+abbrev pub invariant-loop-term : goal.invariant-loop-term
+invariant-loop-term l = record {
+  wait : AreWaiting l.terms l.term l.buckets.lists 0 [];
+  room : l.buckets.room ≡ length l.terms;
+  count : length l.buckets.lists ≡ l.lists;
+}
