@@ -125,21 +125,27 @@ unit_key Reduce = codes "unit=reduce"
 abbrev pub rows_key : List ℕ → List ℕ
 rows_key value = codes "rows=" ++ value
 
+-- the key that gives how many columns of cells the graph has
 abbrev pub cols_key : List ℕ → List ℕ
 cols_key value = codes "cols=" ++ value
 
+-- the key that gives how many qubits a side of a cell has
 abbrev pub shore_key : List ℕ → List ℕ
 shore_key value = codes "shore=" ++ value
 
+-- the key that names the map of chains
 abbrev pub map_key : List ℕ → List ℕ
 map_key name = codes "map=" ++ name
 
+-- the key that takes the chains of a clique
 abbrev pub clique_key : List ℕ
 clique_key = codes "embed=clique"
 
+-- the key that names the list of dead qubits
 abbrev pub dead_key : List ℕ → List ℕ
 dead_key name = codes "dead=" ++ name
 
+-- the key that chooses how chains are tied
 abbrev pub chain_key : Ties → List ℕ
 chain_key Choi = codes "chain=choi"
 chain_key Cut = codes "chain=cut"
@@ -223,6 +229,7 @@ abbrev pub dead_keys : Option (List ℕ) → List (List ℕ)
 dead_keys None = []
 dead_keys (Some name) = dead_key name ∷ []
 
+-- where the list of dead qubits is named, its name is the value of the key at this index
 abbrev pub dead_at : ℕ → Option (List ℕ) → Option WordAt
 dead_at i None = None
 dead_at i (Some name) = Some (Value i)

@@ -94,6 +94,7 @@ head_part h =
     then node_coupler h.literal h.coefficient h.first_node ∷ []
     else node_couplers h.literal h.degree h.coefficient h.first_node (nodes_for h.degree)
 
+-- the couplers of a place with new nodes
 abbrev pub node_part : Place → List Entry
 node_part p = head_part (head_of p)
 

@@ -21,12 +21,15 @@ image t = flat.image (rosenberg.image t)
 
 -- ---- what is held of a form
 
+-- what is held is what these additions give
 abbrev pub holds : HeldContent → TableContent → Type 0
 holds h t = AreHeld t h
 
+-- how many nodes the held form is over
 abbrev pub width_of : HeldContent → ℕ
 width_of h = length h.weights
 
+-- the sum of the sizes of all coefficients that were added
 abbrev pub total_of : HeldContent → ℕ
 total_of h = h.total
 

@@ -16,6 +16,7 @@ abbrev pub IsFound : ℕ → (ℕ → Type 0) → Option ℕ → Type 0
 IsFound n Good None = (k : ℕ) → k < n → Good k
 IsFound n Good (Some k) = IsFirstBad n Good k
 
+-- the number at a place of a node's chain
 abbrev pub number_at : List (List ℕ) → ℕ → ℕ → ℕ
 number_at map v k = slice_index_or (chain_of map v) k 0
 
@@ -26,6 +27,7 @@ pub record IsFirstAt (map : List (List ℕ)) (Good : ℕ → ℕ → Type 0) (v 
 
 -- ---- what each pass asks of a place
 
+-- the number at the place is a qubit of the graph
 abbrev pub Exists : ℕ → List (List ℕ) → ℕ → ℕ → Type 0
 Exists qubits map u j = number_at map u j < qubits
 
@@ -33,32 +35,39 @@ Exists qubits map u j = number_at map u j < qubits
 abbrev pub listed_before : ℕ → List (List ℕ) → ℕ → ℕ → ℕ
 listed_before q map u j = occurrences q (take u map) + count_by (λ p. p == q) (take j (chain_of map u))
 
+-- the number at the place is not listed before it
 abbrev pub IsNew : List (List ℕ) → ℕ → ℕ → Type 0
 IsNew map u j = listed_before (number_at map u j) map u j ≡ 0
 
+-- some walk inside the chain leads from its first qubit to the one at the place
 abbrev pub IsReachedAt : Joins → List (List ℕ) → ℕ → ℕ → Type 0
 IsReachedAt joined map u j = IsReached joined (chain_of map u) (number_at map u j)
 
 -- ---- the passes before each
 
+-- there are as many chains as nodes
 pub record IsCounted (f : IsingContent) (map : List (List ℕ)) : Type 0 where
   pub counted : length map ≡ length f.fields
 
+-- there are as many chains as nodes, and none is empty
 pub record IsFilled (f : IsingContent) (map : List (List ℕ)) : Type 0 where
   pub counted : length map ≡ length f.fields
   pub filled : All (λ chain. chain ≢ []) map
 
+-- there are as many chains as nodes, none is empty, and all their qubits exist
 pub record IsInside (qubits : ℕ) (f : IsingContent) (map : List (List ℕ)) : Type 0 where
   pub counted : length map ≡ length f.fields
   pub filled : All (λ chain. chain ≢ []) map
   pub within : All (λ chain. All (λ q. q < qubits) chain) map
 
+-- each node has a chain that is not empty, of qubits that exist, and no qubit is listed twice
 pub record IsApart (qubits : ℕ) (f : IsingContent) (map : List (List ℕ)) : Type 0 where
   pub counted : length map ≡ length f.fields
   pub filled : All (λ chain. chain ≢ []) map
   pub within : All (λ chain. All (λ q. q < qubits) chain) map
   pub once : (q : ℕ) → occurrences q map ≤ 1
 
+-- each node has a connected chain that is not empty, of qubits that exist, none listed twice
 pub record IsLinked (joined : Joins) (qubits : ℕ) (f : IsingContent) (map : List (List ℕ)) : Type 0 where
   pub counted : length map ≡ length f.fields
   pub filled : All (λ chain. chain ≢ []) map
@@ -76,6 +85,7 @@ pub record IsUncoupled (joined : Joins) (couplings : List Entry) (map : List (Li
   pub first : (d : Entry) → (slice_index_or couplings k d).first ≡ u
   pub second : (d : Entry) → (slice_index_or couplings k d).second ≡ v
 
+-- the map breaks what the fault names, first at its place, and keeps all that is asked before that
 abbrev pub IsFault : Joins → ℕ → IsingContent → List (List ℕ) → EmbedFault → Type 0
 IsFault joined qubits f map (ChainCount n) = (n ≡ length map) × (length map ≢ length f.fields)
 IsFault joined qubits f map (EmptyChain v) =

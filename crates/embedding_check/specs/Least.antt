@@ -28,6 +28,7 @@ pub record IsFacedAhead (joined : Joins) (a : ℕ) (chain : List ℕ) (span : Sp
   pub ahead : IsAhead joined a chain b
   pub faced : IsFaced span b
 
+-- a qubit of the chain above a that is joined to a and has the given number
 pub record IsNumberedAhead (joined : Joins) (a : ℕ) (chain : List ℕ) (number : Option ℕ) (b : ℕ) : Type 0 where
   pub ahead : IsAhead joined a chain b
   pub is : number ≡ Some b

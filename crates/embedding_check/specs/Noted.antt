@@ -45,6 +45,7 @@ abbrev pub IsSpanJoin : Joins → List ℕ → ℕ → ℕ → Span → ℕ → 
 IsSpanJoin joined owners node a span v p =
     (b : ℕ) × IsFaced span b × IsJoin joined owners node a b v p
 
+-- the join of a to the qubit of a given number
 abbrev pub IsNumberJoin : Joins → List ℕ → ℕ → ℕ → Option ℕ → ℕ → ℕ × ℕ → Type 0
 IsNumberJoin joined owners node a number v p =
     (b : ℕ) × (number ≡ Some b) × IsJoin joined owners node a b v p

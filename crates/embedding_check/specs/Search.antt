@@ -14,12 +14,15 @@ pub record Found : Type 0 where
   pub parents : List ℕ
   pub next : List ℕ
 
+-- a position waits for a qubit that reaches it
 abbrev pub waits_at : Found → ℕ → Bool
 waits_at s i = slice_index_or s.waits i false
 
+-- the parent of the qubit at a position
 abbrev pub parent_at : Found → ℕ → ℕ
 parent_at s i = slice_index_or s.parents i 0
 
+-- the qubit at a position
 abbrev pub qubit_at : List ℕ → ℕ → ℕ
 qubit_at qs i = slice_index_or qs i 0
 
@@ -99,11 +102,13 @@ pub record IsFirst (joined : Joins) (qs level : List ℕ) (n : ℕ) (t : Found) 
   pub linked : joined (qubit_at qs (qubit_at level m)) (qubit_at qs i) ≡ true
   pub before : NoneJoined joined qs level m i
 
+-- it waited, and is reached from the first one of the level that is joined to it
 pub record IsReachedFrom (joined : Joins) (qs level : List ℕ) (n : ℕ) (s t : Found) (i : ℕ) : Type 0 where
   pub waited : waits_at s i ≡ true
   pub reached : waits_at t i ≡ false
   pub from : (m : ℕ) × IsFirst joined qs level n t i m
 
+-- it is as it was, and where it waits none of the first n of the level is joined to it
 pub record Rests (joined : Joins) (qs level : List ℕ) (n : ℕ) (s t : Found) (i : ℕ) : Type 0 where
   pub stays : Stays s t i
   pub alone : waits_at t i ≡ true → NoneJoined joined qs level n i

@@ -50,6 +50,7 @@ compared AtMost terms bound =
     record { products = map negated terms; bound = neg_ℤ bound; exact = false }
 compared Equal terms bound = record { products = terms; bound = bound; exact = true }
 
+-- a constraint of the text as a problem says it
 abbrev pub constraint_of : Listed → Constraint
 constraint_of k = compared k.operator k.terms k.bound
 

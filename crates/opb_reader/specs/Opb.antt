@@ -59,6 +59,7 @@ abbrev pub is_operator : List ℕ → Bool
 is_operator bytes =
     bytes_eq bytes (codes ">=") || (bytes_eq bytes (codes "<=") || bytes_eq bytes (codes "="))
 
+-- `;`, which ends the objective and each constraint
 abbrev pub is_semicolon : List ℕ → Bool
 is_semicolon bytes = bytes_eq bytes (codes ";")
 

@@ -45,6 +45,7 @@ form_of ts = record { bits = length (names_of ts); cost = poly_cost ts }
 abbrev pub literal_of : List (List ℕ) → Named → Literal
 literal_of names l = record { variable = number_of names l.name; negated = l.negated }
 
+-- a product of the text, with numbers for the names of its variables
 abbrev pub product_of : List (List ℕ) → Listed → Product
 product_of names t =
     record { literals = map (literal_of names) t.literals; coefficient = t.coefficient }

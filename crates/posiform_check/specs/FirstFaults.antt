@@ -35,5 +35,6 @@ pub record FaultsOf (m : Written) (c : CertificateContent) (y : List Bool) : Typ
   pub none : proof_fault m c y ≡ None ↔ Proves m c y
   pub some : (f : ProofFault) → proof_fault m c y ≡ Some f → IsRefusal m c y (Fault f)
 
+-- for every model, certificate and state the first fault says whether it is proved, and why not
 abbrev pub FirstFaultsTell : Type 0
 FirstFaultsTell = (m : Written) (c : CertificateContent) (y : List Bool) → FaultsOf m c y

@@ -200,6 +200,7 @@ abbrev pub files_asked : Result Command ℕ → List Which
 files_asked (Ok command) = files_of command
 files_asked (Err position) = []
 
+-- the files that the command of the words takes, or none where they ask for no command
 abbrev pub files_in : List (List ℕ) → List Which
 files_in words = files_asked (command_of words)
 

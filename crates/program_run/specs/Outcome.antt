@@ -67,6 +67,7 @@ MeetsOutcomeOf words held (Err position) status = status ≡ Usage position
 MeetsOutcomeOf words held (Ok command) status =
     Ends status (planning words held command) (last_step words held command.ask)
 
+-- the status of the words is their outcome, but for faults and want of memory
 abbrev pub MeetsOutcome : List (List ℕ) → NamedFiles → Status → Type 0
 MeetsOutcome words held status = MeetsOutcomeOf words held (command_of words) status
 

@@ -60,6 +60,7 @@ abbrev pub CanStandOn : Placement → IsingContent → Type 0
 CanStandOn (Nodes target) form = ⊤
 CanStandOn (Qubits site) form = CanStandBy site form
 
+-- the form of the plan has a place where it is put
 abbrev pub CanStand : Plan → Type 0
 CanStand plan = CanStandOn plan.base (form_in plan)
 
@@ -68,5 +69,6 @@ abbrev pub IsFaultOn : Placement → IsingContent → EmbedFault → Type 0
 IsFaultOn (Nodes target) form fault = ⊥
 IsFaultOn (Qubits site) form fault = IsFaultBy site form fault
 
+-- why the form of the plan has no place where it is put
 abbrev pub IsFaultIn : Plan → EmbedFault → Type 0
 IsFaultIn plan fault = IsFaultOn plan.base (form_in plan) fault

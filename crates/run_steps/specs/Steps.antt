@@ -62,6 +62,7 @@ pub record Steps (A : Type 0) : Type 0 where
 abbrev pub ends : {A : Type 0} → Result A Status → Steps A
 ends result = record { taken = []; end = Some result }
 
+-- a value, and no file is taken
 abbrev pub gives : {A : Type 0} → A → Steps A
 gives x = ends (Ok x)
 
@@ -71,6 +72,7 @@ go_on taken None f = record { taken = taken; end = None }
 go_on taken (Some (Ok x)) f = record { taken = taken ++ (f x).taken; end = (f x).end }
 go_on taken (Some (Err status)) f = record { taken = taken; end = Some (Err status) }
 
+-- a step, and the next one with its value; a status that refuses ends them
 infixl 10 ◌>>=◌
 abbrev pub ◌>>=◌ : {A B : Type 0} → Steps A → (A → Steps B) → Steps B
 m >>= f = go_on m.taken m.end f

@@ -32,6 +32,7 @@ pub record IsNode (e : Embedding) (i : ℕ) : Type 0 where
   pub filled : chain_of e.chains i ≢ []
   pub tree : IsTree (chain_of e.chains i) (chain_of e.parents i)
 
+-- each node of an embedding has a chain that is not empty, and a tree on it
 pub node_at : (e : Embedding) → IsEmbedding e → (i : ℕ) → i < length e.ising.fields → IsNode e i
 node_at e kept i within =
     let listed : i < length e.chains = omega (arith, within, kept.counted) in
@@ -56,6 +57,7 @@ node_energy e s i =
     +ℤ total_by (pair_energy s)
     (ties (drop 1 (chain_of e.chains i)) (chain_of e.parents i) (strength e i))
 
+-- by so much the ties of a node's chain lower the energy where none of them is broken
 abbrev pub node_cost : Embedding → ℕ → ℕ
 node_cost e i = strength e i * (length (chain_of e.chains i) - 1)
 
@@ -71,6 +73,7 @@ same_cost : (e : Embedding) (i : ℕ)
     → strength e i * length (drop 1 (chain_of e.chains i)) ≡ node_cost e i
 same_cost e i = ap (λ n. strength e i * n) (length-drop 1 (chain_of e.chains i))
 
+-- a chain with no broken tie costs what the field costs at its bit, less the strength of its ties
 pub node_equal : (e : Embedding) (s : ℕ → Bool) (i : ℕ) (b : Bool) → IsNode e i
     → whole_at e s i ≡ true → HasBit s (chain_of e.chains i) b
     → node_energy e s i ≡ times_spin b (field_of e i) +ℤ neg_ℤ (pos (node_cost e i))
@@ -87,6 +90,8 @@ size-times_spin : (b : Bool) (w : ℤ) → times_spin b w ≤ℤ pos (unsigned_a
 size-times_spin true w = omega (arith, ints)
 size-times_spin false w = omega (arith, ints)
 
+-- the energy of a node's chain is at least what the field costs at the bit that is read, less the
+-- strength of its ties, and the charge
 pub node_low : (e : Embedding) (s : ℕ → Bool) (i : ℕ) (b : Bool) → IsNode e i
     → (whole_at e s i ≡ true → HasBit s (chain_of e.chains i) b)
     → (times_spin b (field_of e i) +ℤ (neg_ℤ (pos (node_cost e i)) +ℤ charge e s i)) ≤ℤ node_energy e s i
@@ -194,6 +199,7 @@ placed_low e s x reads (c ∷ cs) (p ∷ ps) couplers between =
       placed_low e s x reads cs ps couplers.1 between.1,
     )
 
+-- where each chain has the bit of its node, the placed couplings cost what the couplings do
 pub placed_equal : (e : Embedding) (s x : ℕ → Bool)
     → ((i : ℕ) → i < length e.ising.fields → HasBit s (chain_of e.chains i) (x i))
     → (cs : List Entry) (ps : List (ℕ × ℕ))
@@ -217,9 +223,11 @@ placed_equal e s x has (c ∷ cs) (p ∷ ps) couplers between =
 
 -- ---- all nodes and couplings
 
+-- each coupling of an embedded form is one of two different nodes of it, and is not 0
 pub couplers_of : (e : Embedding) → IsEmbedding e → AllByRecursion (IsCoupler (length e.ising.fields)) e.ising.couplings
 couplers_of e kept = recursion_from_All _ _ kept.ising.couplings
 
+-- negated numbers sum up to the negation of their sum
 pub costs_add_up : (f : ℕ → ℕ) (is : List ℕ)
     → total_by (λ i. neg_ℤ (pos (f i))) is ≡ neg_ℤ (pos (sum_by f is))
 costs_add_up f [] = refl
@@ -236,6 +244,8 @@ chains_energy e s =
     total_by (node_energy e s) (nodes_of e)
     +ℤ total_by (pair_energy s) (placed e.ising.couplings e.places)
 
+-- the energy of all chains and placed couplings is at least that of the form at the bits that are
+-- read, and the offset
 pub chains_low : (e : Embedding) → IsEmbedding e → (s x : ℕ → Bool) → Reads e s x
     → (read_energy e x +ℤ offset e) ≤ℤ chains_energy e s
 chains_low e kept s x reads =
@@ -256,6 +266,8 @@ chains_low e kept s x reads =
       placed_low e s x reads e.ising.couplings e.places (couplers_of e kept) kept.placed,
     )
 
+-- where no tie is broken, the energy of all chains and placed couplings is that of the form at the
+-- bits of the chains, and the offset
 pub chains_equal : (e : Embedding) → IsEmbedding e → (s x : ℕ → Bool)
     → ((i : ℕ) → i < length e.ising.fields → whole_at e s i ≡ true)
     → ((i : ℕ) → i < length e.ising.fields → HasBit s (chain_of e.chains i) (x i))

@@ -40,11 +40,13 @@ each_of_range P f a (suc n) h =
     all_append P (f a) (flat_map f (range_with_len (a + 1) n)) (h a (omega arith) (omega arith))
     (each_of_range P f (a + 1) n (λ i l u. h i (omega (arith, l)) (omega (arith, u))))
 
+-- the qubits of a node's chain are qubits of the graph
 pub chain_within : (e : Embedding) → IsEmbedding e → (i : ℕ) → i < length e.ising.fields
     → AllByRecursion (λ q. q < e.qubits) (chain_of e.chains i)
 chain_within e kept i within =
     recursion_from_All _ _ (kept.within i [] (omega (arith, within, kept.counted)))
 
+-- each share of a field is on a qubit of the graph
 pub shares_within : (e : Embedding) → IsEmbedding e
     → AllByRecursion (λ s. s.first < e.qubits) (all_shares e)
 shares_within e kept =
@@ -52,6 +54,7 @@ shares_within e kept =
     (length e.ising.fields)
     (λ i a l. shares_of (λ q. q < e.qubits) (chain_of e.chains i) _ (chain_within e kept i (omega (arith, l))))
 
+-- each tie of any chain is of two different qubits, the lesser one first
 pub all_ties_upward : (e : Embedding) → IsEmbedding e → AllByRecursion IsUpward (all_ties e)
 all_ties_upward e kept =
     each_of_range IsUpward
@@ -60,6 +63,7 @@ all_ties_upward e kept =
     (length e.ising.fields)
     (λ i a l. ties_upward (chain_of e.chains i) _ _ (strength e i) (node_at e kept i (omega (arith, l))).tree.ties)
 
+-- each placed coupling is of two different qubits, the lesser one first
 pub placed_upward : (chains : List (List ℕ)) (cs : List Entry) (ps : List (ℕ × ℕ))
     → AllZip (λ c place. IsBetween (chain_of chains c.first) (chain_of chains c.second) place) cs ps
     → AllByRecursion IsUpward (placed cs ps)
@@ -67,11 +71,13 @@ placed_upward chains [] ps h = tt
 placed_upward chains (c ∷ cs) [] h = tt
 placed_upward chains (c ∷ cs) (p ∷ ps) h = (h.0.upward, placed_upward chains cs ps h.1)
 
+-- each coupler of a form is of two different nodes, the lesser one first
 pub couplings_upward : (n : ℕ) (cs : List Entry) → AllByRecursion (IsCoupler n) cs
     → AllByRecursion IsUpward cs
 couplings_upward n [] h = tt
 couplings_upward n (c ∷ cs) h = (h.0.upward, couplings_upward n cs h.1)
 
+-- the value of a form is its constant, and the energy of its nodes and couplings
 pub form_value : (e : Embedding) → IsEmbedding e → (x : List Bool)
     → ising_value e.ising x ≡ e.ising.constant +ℤ read_energy e (bit_at x)
 form_value e kept x =
@@ -111,6 +117,7 @@ image_value e kept y =
 
 -- ---- every state
 
+-- among the majorities of all chains, bit i is that of chain i
 pub bit_of_chain : (y : List Bool) (chains : List (List ℕ)) (i : ℕ) → i < length chains
     → bit_at (map (majority y) chains) i ≡ majority y (chain_of chains i)
 bit_of_chain y [] i h = absurd (omega arith)
@@ -127,6 +134,7 @@ majority_reads e kept y i within whole q in' =
     ∙ sym (majority_of y (chain_of e.chains i) _ node.filled has)
     ∙ sym (bit_of_chain y e.chains i (omega (arith, within, kept.counted)))
 
+-- the image's value is at least that of the form at the majorities of the chains, and the offset
 pub image_low : (e : Embedding) → IsEmbedding e → (y : List Bool)
     → (ising_value e.ising (map (majority y) e.chains) +ℤ offset e) ≤ℤ ising_value (image e) y
 image_low e kept y =
@@ -141,6 +149,7 @@ image_low e kept y =
 
 -- ---- the extension
 
+-- where a number of a range passes a test, some number of the range does
 pub any_of_range : (p : ℕ → Bool) (i a n : ℕ) → a ≤ i → i < a + n → p i ≡ true
     → list_any p (range_with_len a n) ≡ true
 any_of_range p i a zero low high h = absurd (omega arith)
@@ -162,6 +171,7 @@ none_of_range p a zero h = refl
 none_of_range p a (suc n) h =
     or_from (p a) _ (h a (omega arith)) (none_of_range p (a + 1) n (λ i l. h i (omega (arith, l))))
 
+-- a qubit that is in a chain is listed there at least once
 pub counted_in : (chain : List ℕ) (q : ℕ) → is_in chain q ≡ true → 1 ≤ count_by (λ p. p == q) chain
 counted_in [] q h = absurd cc
 counted_in (p ∷ ps) q h =
@@ -221,6 +231,7 @@ extended_bit e kept x i within q in' = elim (cases_Bool (bit_at x i)) [
       ∙ sym none
 ]
 
+-- what is true of all qubits of a list is true of any qubit that is in it
 pub each_at : (P : ℕ → Type 0) (qs : List ℕ) (q : ℕ) → AllByRecursion P qs → is_in qs q ≡ true → P q
 each_at P [] q h in' = absurd cc
 each_at P (p ∷ ps) q h in' = go (p == q) (λ e. eqb-true p q e) in' (each_at P ps q h.1)
@@ -229,6 +240,7 @@ each_at P (p ∷ ps) q h in' = go (p == q) (λ e. eqb-true p q e) in' (each_at P
     go true same in' later = subst P (same refl) h.0
     go false same in' later = later in'
 
+-- in the extension all qubits of a node's chain have the bit of the node
 pub extension_bits : (e : Embedding) → IsEmbedding e → (x : List Bool) (i : ℕ)
     → i < length e.ising.fields → HasBit (bit_at (extension e x)) (chain_of e.chains i) (bit_at x i)
 extension_bits e kept x i within q in' =
@@ -252,10 +264,12 @@ whole_of_bit s chain b (q ∷ qs) (p ∷ ps) has ins h =
     equal false true e = e
     equal false false e = refl
 
+-- the qubits of a chain behind its first one are in the chain
 pub rest_in : (chain : List ℕ) → AllByRecursion (λ q. is_in chain q ≡ true) (drop 1 chain)
 rest_in [] = tt
 rest_in (q ∷ qs) = each_in (λ p. is_in (q ∷ qs) p ≡ true) qs (λ p in'. in_rest q p qs in')
 
+-- in the extension no tie of a node's chain is broken
 pub extension_whole : (e : Embedding) → IsEmbedding e → (x : List Bool) (i : ℕ)
     → i < length e.ising.fields → whole_at e (bit_at (extension e x)) i ≡ true
 extension_whole e kept x i within =
@@ -264,6 +278,7 @@ extension_whole e kept x i within =
     (rest_in (chain_of e.chains i))
     (node_at e kept i within).tree.ties
 
+-- the value of the image at an extension is that of the form at its assignment, and the offset
 pub extension_value : (e : Embedding) → IsEmbedding e → (x : List Bool)
     → ising_value (image e) (extension e x) ≡ ising_value e.ising x +ℤ offset e
 extension_value e kept x =
@@ -284,6 +299,7 @@ same_bits (x ∷ xs) [] e h = absurd (omega (arith, e))
 same_bits (x ∷ xs) (y ∷ ys) e h =
     λ k. h 0 (omega arith) k ∷ same_bits xs ys (omega (arith, e)) (λ i l. h (suc i) (omega (arith, l))) k
 
+-- the majorities of the chains in an extension are its assignment
 pub extension_decodes : (e : Embedding) → IsEmbedding e → (x : List Bool)
     → length x ≡ length e.ising.fields → map (majority (extension e x)) e.chains ≡ x
 extension_decodes e kept x width =
@@ -297,6 +313,7 @@ extension_decodes e kept x width =
 
 -- ---- the layer's laws
 
+-- where a link fits, none of its chains is empty, and all their qubits exist
 pub chains_sound : (link : ChainLink) (e : Embedding) → Fits link e → IsSound link
 chains_sound link e fits = record {
   filled = subst (λ cs. All (λ chain. chain ≢ []) cs) (sym fits.chains) fits.kept.filled;
@@ -305,6 +322,7 @@ chains_sound link e fits = record {
       (subst (λ cs. All (λ chain. All (λ q. q < e.qubits) chain) cs) (sym fits.chains) fits.kept.within);
 }
 
+-- a link that fits has the widths of the form and of its image
 pub chains_join : (link : ChainLink) (e : Embedding) → Fits link e
     → Joins (form_of e) (isings.form_of (image e)) (decoding link)
 chains_join link e fits = record {

@@ -23,6 +23,7 @@ use Rattle.chain_layer.specs.laws.Whole.{are_same, is_whole, HasBit, each_in}
 
 -- ---- ties
 
+-- a coupling of two qubits costs its weight times both spins, whichever qubit is the lesser one
 pub coupling_energy : (s : ℕ → Bool) (q p : ℕ) (w : ℤ)
     → pair_energy s (coupling_entry q p w) ≡ times_spin (s q) (times_spin (s p) w)
 coupling_energy s q p w = go (nat_lt q p)
@@ -33,6 +34,7 @@ coupling_energy s q p w = go (nat_lt q p)
     go true = refl
     go false = times_spin-comm (s p) (s q) w
 
+-- a coupling of two different qubits has the lesser one first
 pub coupling_upward : (q p : ℕ) (w : ℤ) → (q ≢ p) → IsUpward (coupling_entry q p w)
 coupling_upward q p w apart = go (nat_lt q p) (λ e. ltb-true q p e) (λ e. ltb-false q p e)
   where
@@ -41,6 +43,7 @@ coupling_upward q p w apart = go (nat_lt q p) (λ e. ltb-true q p e) (λ e. ltb-
     go true lt ge = lt refl
     go false lt ge = let h = ge refl in grind arith
 
+-- each tie of a qubit to its parent is of two different qubits, the lesser one first
 pub ties_upward : (chain qs ps : List ℕ) (strong : ℕ) → AllZip (IsTie chain) qs ps
     → AllByRecursion IsUpward (ties qs ps strong)
 ties_upward chain [] ps strong h = tt
@@ -56,6 +59,7 @@ tie_energy true false n = omega (arith, ints)
 tie_energy false true n = omega (arith, ints)
 tie_energy false false n = omega (arith, ints)
 
+-- where no tie is broken, each one lowers the energy by its strength
 pub ties_whole : (s : ℕ → Bool) (qs ps : List ℕ) (n : ℕ) → length qs ≡ length ps
     → is_whole s qs ps ≡ true
     → total_by (pair_energy s) (ties qs ps n) ≡ neg_ℤ (pos (n * length qs))
@@ -112,6 +116,7 @@ equal_of : (P : ℕ → Type 0) (qs : List ℕ) (share : ℤ) → AllByRecursion
 equal_of P [] share h = tt
 equal_of P (q ∷ qs) share h = (h.0, equal_of P qs share h.1)
 
+-- what is true of each qubit of a chain is true of the qubit of each share
 pub shares_of : (P : ℕ → Type 0) (chain : List ℕ) (h : ℤ) → AllByRecursion P chain
     → AllByRecursion (λ e. P e.first) (shares chain h)
 shares_of P chain h all =
@@ -147,6 +152,7 @@ one_spin s b (e ∷ es) h =
       times_spin-plus b e.weight (total_by (λ e. e.weight) es),
     )
 
+-- a chain that is not empty has a qubit or more
 pub filled_length : (chain : List ℕ) → (chain ≢ []) → 0 < length chain
 filled_length [] h = absurd (h refl)
 filled_length (q ∷ qs) h = omega arith
@@ -181,12 +187,14 @@ shares_total chain h filled =
     sum_of : (f b r n : ℕ) → f ≡ r → b + r ≡ n → f + b ≡ n
     sum_of f b r n p q = omega (arith, p, q)
 
+-- on a chain of one bit the shares cost what the field costs at that bit
 pub shares_whole : (s : ℕ → Bool) (chain : List ℕ) (h : ℤ) (b : Bool) → (chain ≢ [])
     → HasBit s chain b → total_by (spin_energy s) (shares chain h) ≡ times_spin b h
 shares_whole s chain h b filled has =
     one_spin s b (shares chain h) (shares_of (λ q. s q ≡ b) chain h (each_in _ chain has))
     ∙ ap (times_spin b) (shares_total chain h filled)
 
+-- the sizes of equal shares sum up to the size of one, times the number of qubits
 pub weights_of_equal : (qubits : List ℕ) (share : ℤ)
     → weight_total (equal_shares qubits share) ≡ length qubits * unsigned_abs share
 weights_of_equal [] share = omega arith

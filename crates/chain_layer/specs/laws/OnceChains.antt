@@ -30,6 +30,7 @@ once_of (q ∷ qs) h = (
   once_of qs (λ p. omega (arith, h p, sum_by-cons (λ r. cond (r == p) 1 0) q qs)),
 )
 
+-- the qubits of a node's chain are different
 pub chain_once : (e : Embedding) → IsEmbedding e → (i : ℕ) → i < length e.ising.fields
     → Once (chain_of e.chains i)
 chain_once e kept i within =
@@ -40,11 +41,13 @@ chain_once e kept i within =
 abbrev pub AreOwn : List ℕ → List ℕ → List ℕ → List ℕ → Type 0
 AreOwn cs ds qs ps = AllZip (λ q p. parent_in cs ds q ≡ p) qs ps
 
+-- a qubit that is in a list is another one than a qubit that is not
 pub apart_qubits : (q c : ℕ) (cs : List ℕ) → is_in cs c ≡ false → is_in cs q ≡ true → (c ≢ q)
 apart_qubits q c cs out in' same =
     let both : true ≡ false = sym in' ∙ sym (ap (is_in cs) same) ∙ out in
     cc
 
+-- where the qubits of a list are different, a look-up gives each of them the parent at its place
 pub own_parents : (cs ds : List ℕ) → Once cs → length cs ≡ length ds → AreOwn cs ds cs ds
 own_parents [] [] once same = tt
 own_parents [] (d ∷ ds) once same = absurd (omega (arith, same))

@@ -25,9 +25,11 @@ HasBit s chain b = (q : ℕ) → is_in chain q ≡ true → s q ≡ b
 
 -- ---- the qubits of a chain
 
+-- the first qubit of a list is in it
 pub in_first : (q : ℕ) (qs : List ℕ) → is_in (q ∷ qs) q ≡ true
 in_first q qs = or_left (q == q) (is_in qs q) (eq-eqb q q refl)
 
+-- what is in a list is still in it behind one qubit more
 pub in_rest : (q p : ℕ) (qs : List ℕ) → is_in qs p ≡ true → is_in (q ∷ qs) p ≡ true
 in_rest q p qs h = or_right (q == p) (is_in qs p) h
 
@@ -87,6 +89,7 @@ ones_of y (q ∷ qs) b h =
     more true e = omega (arith, e)
     more false e = omega (arith, e)
 
+-- the majority of a chain that is not empty is the bit that all of its qubits have
 pub majority_of : (y : List Bool) (chain : List ℕ) (b : Bool) → (chain ≢ []) → HasBit (bit_at y) chain b
     → majority y chain ≡ b
 majority_of y [] b filled h = absurd (filled refl)

@@ -146,6 +146,7 @@ after_at graph p q b number row col (inr h) =
     let same = same_index graph q (place_at p p.row (p.col + 1)) (sym h.row) (sym h.col) (h.from ∙ sym h.to) (sym h.at) in
     else_some _ _ _ _ _ (is_above p.side 0 h.from) (not_last p.col q.col graph.cols h.col col) (same ∙ number)
 
+-- each qubit that a is joined to is one that a faces, or the one before a or after it
 pub joins_findable : (graph : Chimera) (a b : ℕ) → a < qubits_of graph → b < qubits_of graph
     → are_joined (place_of graph a) (place_of graph b) ≡ true
     → CanBeJoined (facing_of graph a) (before_of graph a) (after_of graph a) b

@@ -24,6 +24,8 @@ IsTable-table_of t additions = record {
   small = omega (arith, additions.small, terms_total-with_additions t.terms);
 }
 
+-- with one more on both sides, the sizes of the quadratic terms sum up to at most 2^24 times what
+-- those of the additions do
 pub total-low_of : (t : TableContent) → AreAdditions t
     → terms_total (low_of t).terms + 1 ≤ (terms_total t.terms + 1) * 2 ^ 24
 total-low_of t additions =

@@ -25,6 +25,7 @@ use Rattle.direct_quad.specs.laws.Between.{IsTable-low_of}
 
 -- ---- a table as additions
 
+-- the terms of a table are additions of which a table can be made
 pub AreAdditions-table : (t : TableContent) → IsTable t → AreAdditions t
 AreAdditions-table t table = record { sets = table.terms.sets; small = table.small }
 
@@ -46,15 +47,19 @@ IsTable-quadratic t table small =
 
 -- ---- the links of the steps
 
+-- the link between a table and that of its quadratic terms
 abbrev pub first : BitsLink → TableContent → BitsLink
 first link t = record { source_width = link.source_width; target_width = (monomials.image t).width }
 
+-- the link between the table of quadratic terms and the quadratic form
 abbrev pub second : BitsLink → TableContent → BitsLink
 second link t = record { source_width = (monomials.image t).width; target_width = link.target_width }
 
+-- where a link fits a table, the first step has a link that fits it
 pub fits_first : (link : BitsLink) (t : TableContent) → Fits link t → monomials.Fits (first link t) t
 fits_first link t fits = record { source = fits.source; target = refl; table = fits.table }
 
+-- where a link fits a table, the second step has a link that fits the quadratic terms
 pub fits_second : (link : BitsLink) (t : TableContent) → Fits link t
     → flat.Fits (second link t) (monomials.image t)
 fits_second link t fits = record {

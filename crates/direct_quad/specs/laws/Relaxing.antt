@@ -36,11 +36,13 @@ use Rattle.direct_quad.specs.laws.Between.{low_of, IsTable-table_of, IsTable-low
 
 -- ---- what an admitted problem adds
 
+-- within the limits, the sizes of all contributions sum up to less than 2^64
 pub total-additions : (p : ProblemContent) → limit_fault normals.Literal p ≡ None
     → terms_total (contributions p) + 1 ≤ 2 ^ 64
 total-additions p none =
     omega (arith, contributions-total p, (within_limits p none).weight)
 
+-- the contributions of an admitted problem are additions of which a table can be made
 pub AreAdditions-of : (p : ProblemContent) → Admits p → AreAdditions (additions_of p)
 AreAdditions-of p admitted = record {
   sets = contribution_sets p admitted;
@@ -49,12 +51,15 @@ AreAdditions-of p admitted = record {
 
 -- ---- the links of the steps
 
+-- the link between a problem and the table of its contributions
 abbrev first : ProblemContent → BitsLink
 first p = record { source_width = p.variables; target_width = node_count p }
 
+-- the link between the table of contributions and that of its quadratic terms
 abbrev second : ProblemContent → BitsLink
 second p = record { source_width = node_count p; target_width = (low_of (additions_of p)).width }
 
+-- the link between the quadratic terms and their form, which have the same nodes
 abbrev third : ProblemContent → BitsLink
 third p = record {
   source_width = (low_of (additions_of p)).width;

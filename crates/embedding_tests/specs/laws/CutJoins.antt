@@ -11,11 +11,13 @@ use Rattle.chimera_graph.specs.Places.{are_joined}
 use Rattle.embedding_tests.specs.declared.cut.Cut.{Cut}
 use Rattle.embedding_tests.specs.Cuts.{cut_joined}
 
+-- a join that is left goes both ways
 pub cut_joined-comm : (cut : Cut) (a b : ℕ) → cut_joined cut a b ≡ cut_joined cut b a
 cut_joined-comm cut a b =
     λ i. are_joined-comm (place_of cut.graph a) (place_of cut.graph b) i
     && not (mul_comm (a + 1) (b + 1) i % 5 == cut.class)
 
+-- no qubit is joined to itself
 pub cut_joined-self : (cut : Cut) (a : ℕ) → cut_joined cut a a ≡ false
 cut_joined-self cut a =
     ap (λ b. b && not ((a + 1) * (a + 1) % 5 == cut.class)) (are_joined-self (place_of cut.graph a))
@@ -24,6 +26,7 @@ first_true : (a b : Bool) → (a && b) ≡ true → a ≡ true
 first_true true b h = refl
 first_true false b h = h
 
+-- each qubit that a is still joined to is one that a faces, or the one before a or after it
 pub cut_joins_findable : (cut : Cut) (a b : ℕ) → a < qubits_of cut.graph → b < qubits_of cut.graph
     → cut_joined cut a b ≡ true
     → CanBeJoined (facing_of cut.graph a) (before_of cut.graph a) (after_of cut.graph a) b

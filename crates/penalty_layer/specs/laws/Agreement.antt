@@ -22,17 +22,21 @@ Agrees n x y = (i : ℕ) → i < n → get_or x i false ≡ get_or y i false
 abbrev pub Within : ℕ → List Literal → Type 0
 Within n ls = AllByRecursion (λ l. l.variable < n) ls
 
+-- the variables of the products lie below n
 abbrev pub ProductsWithin : ℕ → List Product → Type 0
 ProductsWithin n ts = AllByRecursion (λ t. Within n t.literals) ts
 
+-- the variables of the clauses lie below n
 abbrev pub ClausesWithin : ℕ → List Clause → Type 0
 ClausesWithin n cs = AllByRecursion (λ c. Within n c.literals) cs
 
+-- the variables of the constraints lie below n
 abbrev pub ConstraintsWithin : ℕ → List Constraint → Type 0
 ConstraintsWithin n ks = AllByRecursion (λ k. ProductsWithin n k.products) ks
 
 -- ---- of a problem in normal form
 
+-- products in normal form over n variables have all of theirs below n
 pub products-within : (n : ℕ) (ts : List Product) → All (IsNormalProduct n) ts → ProductsWithin n ts
 products-within n ts normal = go ts (recursion_from_All _ ts normal)
   where
@@ -40,6 +44,7 @@ products-within n ts normal = go ts (recursion_from_All _ ts normal)
     go [] h = tt
     go (u ∷ us) h = (recursion_from_All _ u.literals h.0.set.within, go us h.1)
 
+-- clauses in normal form over n variables have all of theirs below n
 pub clauses-within : (n : ℕ) (cs : List Clause) → All (IsNormalClause n) cs → ClausesWithin n cs
 clauses-within n cs normal = go cs (recursion_from_All _ cs normal)
   where
@@ -47,6 +52,7 @@ clauses-within n cs normal = go cs (recursion_from_All _ cs normal)
     go [] h = tt
     go (d ∷ ds) h = (recursion_from_All _ d.literals h.0.set.within, go ds h.1)
 
+-- constraints in normal form over n variables have all of theirs below n
 pub constraints-within : (n : ℕ) (ks : List Constraint)
     → All (λ k. All (IsNormalProduct n) k.products) ks → ConstraintsWithin n ks
 constraints-within n ks normal = go ks (recursion_from_All _ ks normal)
@@ -69,12 +75,14 @@ all_hold-agrees n x y [] same below = refl
 all_hold-agrees n x y (l ∷ ls) same below =
     λ i. holds-agrees n x y l same below.0 i && all_hold-agrees n x y ls same below.1 i
 
+-- some literal of the first n variables is true under both states, or none is
 pub some_holds-agrees : (n : ℕ) (x y : List Bool) (ls : List Literal) → Agrees n x y → Within n ls
     → some_holds x ls ≡ some_holds y ls
 some_holds-agrees n x y [] same below = refl
 some_holds-agrees n x y (l ∷ ls) same below =
     λ i. holds-agrees n x y l same below.0 i || some_holds-agrees n x y ls same below.1 i
 
+-- products of the first n variables have the same sum under both states
 pub sum_of-agrees : (n : ℕ) (x y : List Bool) (ts : List Product) → Agrees n x y
     → ProductsWithin n ts → sum_of x ts ≡ sum_of y ts
 sum_of-agrees n x y [] same below = refl
@@ -107,6 +115,7 @@ fails-agrees n x y (k ∷ ks) same below =
 
 -- ---- the whole
 
+-- the cost of a problem in normal form is the same under states that agree on its variables
 pub problem_cost-agrees : (x y : List Bool) (p : ProblemContent) → IsNormal p → Agrees p.variables x y
     → problem_cost p x ≡ problem_cost p y
 problem_cost-agrees x y p normal same =

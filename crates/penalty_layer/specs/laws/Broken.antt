@@ -29,6 +29,7 @@ squares_cost y n first [] = pos 0
 squares_cost y n first (k ∷ ks) =
     pos n *ℤ (excess y first k *ℤ excess y first k) +ℤ squares_cost y n (first + slack_bits k) ks
 
+-- the terms of all constraints cost what their squares do
 pub constraint_terms-cost : (y : List Bool) (n first : ℕ) (ks : List Constraint)
     → terms_cost y (constraint_terms n first ks) ≡ squares_cost y n first ks
 constraint_terms-cost y n first [] = refl
@@ -38,6 +39,7 @@ constraint_terms-cost y n first (k ∷ ks) =
     ∙ (λ i. constraint-cost y n first k i
     +ℤ constraint_terms-cost y n (first + slack_bits k) ks i)
 
+-- the squares never cost less than 0
 pub squares_not_negative : (y : List Bool) (n first : ℕ) (ks : List Constraint)
     → pos 0 ≤ℤ squares_cost y n first ks
 squares_not_negative y n first [] = omega (arith, ints)
@@ -86,6 +88,7 @@ excess_not_zero y first k broken =
     go false off within = λ zero.
         absurd (omega (arith, ints, zero, less_from (sum_of y k.products) k.bound off))
 
+-- where a constraint is broken, the squares cost at least n
 pub squares_at_least : (y : List Bool) (n first : ℕ) (ks : List Constraint)
     → list_any (fails y) ks ≡ true → pos n ≤ℤ squares_cost y n first ks
 squares_at_least y n first [] h = cc
@@ -211,6 +214,7 @@ squares_least x y z n m first (k ∷ ks) same_y same_z within right =
 
 -- ---- the extension has them
 
+-- an assignment's slack bits give each slack the clamped value, whatever bits stand before them
 pub extension_clamped : (x xs : List Bool) (ks : List Constraint)
     → AreClamped x (xs ++ flat_map (slack_state x) ks) (length xs) ks
 extension_clamped x xs [] = tt

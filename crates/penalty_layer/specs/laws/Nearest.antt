@@ -7,6 +7,7 @@ use Rattle.std.proofs.lemmas.Nat.{mul-le}
 use Rattle.base.proofs.Products.{multiply_out, integers, times-le}
 use Rattle.penalty_layer.specs.Slack.{clamped}
 
+-- no square is below 0
 pub square-not_negative : (a : ℤ) → pos 0 ≤ℤ (a *ℤ a)
 square-not_negative (pos a) = omega (arith, ints)
 square-not_negative (negsuc a) = omega (arith, ints)
@@ -41,6 +42,7 @@ clamped-least r (pos n) v h = go (cases_lt r n)
         let any = square-not_negative (pos n -ℤ pos v) in
         rw none (omega (arith, ints))
 
+-- a clamped value is at most r
 pub clamped-le : (r : ℕ) (s : ℤ) → clamped r s ≤ r
 clamped-le r (pos n) = omega arith
 clamped-le r (negsuc n) = omega arith
@@ -57,10 +59,12 @@ nonzero_square (pos zero) h = absurd (h refl)
 nonzero_square (pos (suc n)) h = omega (arith, ints)
 nonzero_square (negsuc n) h = omega (arith, ints)
 
+-- n times the square of what is not 0 is at least n
 pub square_at_least : (n : ℕ) (v : ℤ) → v ≢ pos 0 → pos n ≤ℤ (pos n *ℤ (v *ℤ v))
 square_at_least n v h =
     omega (arith, ints, times-le (pos n) (pos 1) (v *ℤ v) (omega (arith, ints)) (nonzero_square v h))
 
+-- n times a square is not below 0
 pub square_not_below : (n : ℕ) (v : ℤ) → pos 0 ≤ℤ (pos n *ℤ (v *ℤ v))
 square_not_below n v =
     omega (arith, ints, times-le (pos n) (pos 0) (v *ℤ v) (omega (arith, ints)) (square-not_negative v))

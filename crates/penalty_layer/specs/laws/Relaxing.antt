@@ -258,6 +258,7 @@ extension_least link p x z fit width same =
           (clamped_extension x p width),
     )
 
+-- an assignment is extended by its slack bits, and nothing decoded to it lies lower
 pub penalty_extends : (link : BitsLink) (p : ProblemContent) (x : List Bool) → Fits link p
     → length x ≡ p.variables
     → ExtendsLeast (problems.form_of p) (tables.form_of (image p)) (first_bits link) (figures p) x

@@ -42,6 +42,7 @@ doubled-le y first b (suc m) last =
     go true h = omega (arith, h, ap (λ x. b * x) (power_next m))
     go false h = omega (arith, h, ap (λ x. b * x) (power_next m))
 
+-- no state gives the slack a value above r
 pub slack_value-le : (y : List Bool) (first r : ℕ) → slack_value y first (slack_weights r) ≤ r
 slack_value-le y first r = go (binary_digits r) (HasDigits-binary_digits r)
   where
@@ -56,15 +57,18 @@ abbrev pub HasBits : List Bool → ℕ → List Bool → Type 0
 HasBits y first [] = Unit {0}
 HasBits y first (b ∷ bs) = (get_or y first false ≡ b) × HasBits y (suc first) bs
 
+-- behind one bit more, bits stand one place later
 pub HasBits-after : (a : Bool) (y : List Bool) (first : ℕ) (bs : List Bool) → HasBits y first bs
     → HasBits (a ∷ y) (suc first) bs
 HasBits-after a y first [] h = tt
 HasBits-after a y first (b ∷ bs) h = (h.0, HasBits-after a y (suc first) bs h.1)
 
+-- a state that begins with these bits has them from place 0 on
 pub HasBits-front : (bs rest : List Bool) → HasBits (bs ++ rest) 0 bs
 HasBits-front [] rest = tt
 HasBits-front (b ∷ bs) rest = (refl, HasBits-after b (bs ++ rest) 0 bs (HasBits-front bs rest))
 
+-- a state has the bits that stand behind others from the length of these on
 pub HasBits-middle : (xs bs rest : List Bool) → HasBits (xs ++ (bs ++ rest)) (length xs) bs
 HasBits-middle [] bs rest = HasBits-front bs rest
 HasBits-middle (x ∷ xs) bs rest =
@@ -101,6 +105,7 @@ doubled-reach y first b (suc m) v last t small bits =
       first_digit b v,
     )
 
+-- the slack bits of a value up to r give the slack this value
 pub slack_reaches : (y : List Bool) (first r v : ℕ) → v ≤ r → HasBits y first (value_bits r v)
     → slack_value y first (slack_weights r) ≡ v
 slack_reaches y first r v within = go (binary_digits r) (HasDigits-binary_digits r)
@@ -134,6 +139,7 @@ length-doubled : (b m last : ℕ) → length (doubled b m last) ≡ suc m
 length-doubled b zero last = refl
 length-doubled b (suc m) last = ap suc (length-doubled (2 * b) m last)
 
+-- there are as many slack weights as r has binary digits
 pub length-slack_weights : (r : ℕ) → length (slack_weights r) ≡ binary_digits r
 length-slack_weights r = go (binary_digits r)
   where
@@ -145,6 +151,7 @@ length-digit_bits : (m v : ℕ) (t : Bool) → length (digit_bits m v t) ≡ suc
 length-digit_bits zero v t = refl
 length-digit_bits (suc m) v t = ap suc (length-digit_bits m (v / 2) t)
 
+-- a value up to r has as many slack bits as r has binary digits
 pub length-value_bits : (r v : ℕ) → length (value_bits r v) ≡ binary_digits r
 length-value_bits r v = go (binary_digits r)
   where

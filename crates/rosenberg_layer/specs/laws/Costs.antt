@@ -24,6 +24,7 @@ from_is_eq Less h = cc
 from_is_eq Equal h = refl
 from_is_eq Greater h = cc
 
+-- literals that compare as equal are one literal
 pub literal_same : (l k : Literal) → is_literal l k ≡ true → l ≡ k
 literal_same l k h =
     let one = same_set (l ∷ []) (k ∷ [])
@@ -121,6 +122,7 @@ and_group true false r = refl
 and_group false true r = refl
 and_group false false r = refl
 
+-- where three bits are all 1, so are the last two
 pub three_true : (a b c : Bool) → (a && (b && c)) ≡ true → (b ≡ true) × (c ≡ true)
 three_true true true c h = (refl, h)
 three_true true false c h = cc
@@ -166,6 +168,7 @@ term-same y pair w t n s = go (has_pair pair t) (hold-pair y pair t n)
 
 -- ---- all terms
 
+-- one term more adds the size of its coefficient where it has the pair, and else nothing
 pub pair_total-cons : (pair : Pair) (t : Term) (ts : List Term)
     → pair_total pair (t ∷ ts) ≡ cond (has_pair pair t) (unsigned_abs t.1) 0 + pair_total pair ts
 pair_total-cons pair t ts = go (has_pair pair t)

@@ -166,6 +166,7 @@ take-products y n (pair ∷ pairs) inside =
     take-products (with_product y pair) n pairs (omega (arith, length_push y (product y pair)))
     ∙ take-append-le n y (product y pair ∷ []) inside
 
+-- a table after so many substitutions is at least as wide as before
 pub width-run-le : (k : ℕ) (t : TableContent) → t.width ≤ (run k t).width
 width-run-le zero t = omega arith
 width-run-le (suc k) t = go (next_pair t.terms) (width-run-le k)

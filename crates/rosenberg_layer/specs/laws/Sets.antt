@@ -53,6 +53,7 @@ rises ls up = λ i d h.
     subst (λ n. (get_or ls i d).variable < (get_or ls n d).variable) place
     (rises_at ls up i d (omega arith))
 
+-- literals whose variables rise and lie below the width are a literal set
 pub IsLiteralSet-from_ascend : (width : ℕ) (ls : List Literal) → Ascend ls → Within width ls
     → IsLiteralSet width ls
 IsLiteralSet-from_ascend width ls up within = record {
@@ -109,6 +110,7 @@ Within-push n (l ∷ ls) within =
 
 -- ---- how much shorter a set gets
 
+-- taking a literal out of a set does not make it longer
 pub without-le : (l : Literal) (ls : List Literal) → length (without l ls) ≤ length ls
 without-le l [] = omega arith
 without-le l (k ∷ ks) = go (is_literal l k) (without-le l ks)
@@ -118,6 +120,7 @@ without-le l (k ∷ ks) = go (is_literal l k) (without-le l ks)
     go true h = omega arith
     go false h = omega arith
 
+-- taking out a literal that a set has makes it shorter by one at least
 pub without-shorter : (l : Literal) (ls : List Literal) → has_literal l ls ≡ true
     → length (without l ls) + 1 ≤ length ls
 without-shorter l [] h = absurd cc
@@ -175,6 +178,7 @@ pub record IsFound (width : ℕ) (pair : Pair) (ts : List Term) : Type 0 where
   pub is_pair : IsPair width pair
   pub some : list_any (has_pair pair) ts ≡ true
 
+-- the first two literals of a set are a pair of its width
 pub pair_of_set : (width : ℕ) (p q : Literal) (ls ks : List Literal) → ks ≡ p ∷ q ∷ ls
     → IsTermSet width ks → IsPair width (p, q)
 pair_of_set width p q ls ks same set =
@@ -248,6 +252,7 @@ IsTermSet-new width pair t differ has set =
       short = omega (arith, length-append (rest_of pair t.0) (node width ∷ []));
     }
 
+-- with the node in the place of the pair a term has a literal set of one more variable
 pub new_term-set : (width : ℕ) (pair : Pair) (t : Term) → Differ pair → IsTermSet width t.0
     → IsTermSet (width + 1) (new_term pair (node width) t).0
 new_term-set width pair t differ set =
@@ -259,6 +264,7 @@ new_term-set width pair t differ set =
     go true f = f refl
     go false f = IsTermSet-wider width (width + 1) t.0 (omega arith) set
 
+-- with the node in the place of the pair all terms have literal sets of one more variable
 pub new_terms-sets : (width : ℕ) (pair : Pair) (ts : List Term) → Differ pair
     → AllByRecursion (OfSet (IsTermSet width)) ts
     → AllByRecursion (OfSet (IsTermSet (width + 1))) (map (new_term pair (node width)) ts)
@@ -266,6 +272,7 @@ new_terms-sets width pair [] differ sets = tt
 new_terms-sets width pair (t ∷ ts) differ sets =
     (new_term-set width pair t differ sets.0, new_terms-sets width pair ts differ sets.1)
 
+-- the terms of a tie have literal sets of one more variable
 pub tie_terms-sets : (width : ℕ) (pair : Pair) (m : ℕ) → IsPair width pair
     → AllByRecursion (OfSet (IsTermSet (width + 1))) (tie_terms pair (node width) m)
 tie_terms-sets width pair m ok =
@@ -300,16 +307,19 @@ replaced-sets width pair ts ok sets =
 abbrev pub IsSound : TableContent → Type 0
 IsSound t = AreTerms t.width t.terms
 
+-- a table with a new node for a pair has its terms in order, of sets of its width
 pub IsSound-with_pair : (t : TableContent) (pair : Pair) → IsPair t.width pair → IsSound t
     → IsSound (with_pair pair t)
 IsSound-with_pair t pair ok sound =
     AreTerms-with_additions (t.width + 1) (replaced pair (node t.width) t.terms)
     (replaced-sets t.width pair t.terms ok sound.sets)
 
+-- the next pair is two literals of the table's width that a term of degree 3 or more has
 pub found_in : (t : TableContent) (pair : Pair) → IsSound t → next_pair t.terms ≡ Some pair
     → IsFound t.width pair t.terms
 found_in t pair sound e = found t.width t.terms pair (recursion_from_All _ _ sound.sets) e
 
+-- one substitution leaves terms in order, of sets of the table's width
 pub IsSound-substituted : (t : TableContent) → IsSound t → IsSound (substituted t)
 IsSound-substituted t sound = go (next_pair t.terms) refl
   where
@@ -317,6 +327,7 @@ IsSound-substituted t sound = go (next_pair t.terms) refl
     go None e = sound
     go (Some pair) e = IsSound-with_pair t pair (found_in t pair sound e).is_pair sound
 
+-- so many substitutions leave terms in order, of sets of the table's width
 pub IsSound-run : (k : ℕ) (t : TableContent) → IsSound t → IsSound (run k t)
 IsSound-run zero t sound = sound
 IsSound-run (suc k) t sound = IsSound-run k (substituted t) (IsSound-substituted t sound)

@@ -12,12 +12,14 @@ tie m p q w =
     +ℤ if_so (q && w) (neg_ℤ (pos (2 * m)))
     +ℤ if_so w (pos (3 * m))
 
+-- a tie costs nothing where the node is the product of the two
 pub tie-zero : (m : ℕ) (p q : Bool) → tie m p q (p && q) ≡ pos 0
 tie-zero m true true = omega (arith, ints)
 tie-zero m true false = refl
 tie-zero m false true = refl
 tie-zero m false false = refl
 
+-- a tie costs at least its weight where the node is not the product of the two
 pub tie-apart : (m : ℕ) (p q w : Bool) → w ≢ (p && q) → pos m ≤ℤ tie m p q w
 tie-apart m true true true n = absurd (n refl)
 tie-apart m true true false n = omega (arith, ints)
@@ -28,6 +30,7 @@ tie-apart m false true false n = absurd (n refl)
 tie-apart m false false true n = omega (arith, ints)
 tie-apart m false false false n = absurd (n refl)
 
+-- two bits are equal, or they differ
 pub same_or_not : (a b : Bool) → (a ≡ b) ⊎ (a ≢ b)
 same_or_not true true = inl refl
 same_or_not true false = inr (λ e. cc)

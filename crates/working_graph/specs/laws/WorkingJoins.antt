@@ -22,12 +22,14 @@ swapped false e f c = λ i. false
 turned : (j k e f c d : Bool) → j ≡ k → c ≡ d → (j && e && f && not c) ≡ (k && f && e && not d)
 turned j k e f c d same other = swapped j e f (not c) ∙ (λ i. same i && f && e && not (other i))
 
+-- a join of the working graph goes both ways
 pub joined_in-comm : (w : WorkingGraph) (a b : ℕ) → joined_in w a b ≡ joined_in w b a
 joined_in-comm w a b =
     turned _ _ (exists_in w a) (exists_in w b) _ _
     (are_joined-comm (place_of w.graph a) (place_of w.graph b))
     (λ i. list_any (λ n. n == pair_number (min_comm a b i) (max_comm a b i)) w.cut)
 
+-- no qubit of the working graph is joined to itself
 pub joined_in-self : (w : WorkingGraph) (a : ℕ) → joined_in w a a ≡ false
 joined_in-self w a =
     λ i. are_joined-self (place_of w.graph a) i
@@ -44,6 +46,7 @@ joined_in-plain w a b =
     first_true (are_joined (place_of w.graph a) (place_of w.graph b)) (exists_in w a)
     (exists_in w b) (not (is_cut w a b))
 
+-- each qubit that the working graph joins to a is one that a faces, or the one before or after it
 pub joined_in-findable : (w : WorkingGraph) (a b : ℕ) → a < qubits_of w.graph
     → b < qubits_of w.graph → joined_in w a b ≡ true
     → CanBeJoined (facing_of w.graph a) (before_of w.graph a) (after_of w.graph a) b
