@@ -106,7 +106,8 @@ impl ConstraintList {
     /// was.
     pub fn push_normal(&mut self, constraint: &Constraint) -> Result<(), NoMemory>
         requires { constraint_total constraint.now < 2 ^ 100 }
-        ensures pushed { OnOk result (self.new ≡ self.old ++ normal_constraint constraint.now ∷ []) }
+        ensures pushed { OnOk result
+            (self.new ≡ self.old ++ normal_constraint constraint.now ∷ []) }
         ensures unchanged { OnErr result (self.new ≡ self.old) }
     {
         let start = self.products.len();

@@ -38,8 +38,8 @@ fn answer_by<F: Files>(
     requires kept { KeepsSoft plan.read }
     ensures step { WhereHeld (F.held files.old) (last_files command) (λ held.
         EndsOf (ended result) plan (last_step (map string_bytes words.now) held command.ask plan)) }
-    ensures files { AreFilesOf (name_of (map string_bytes words.now) command) [] (last_files command)
-        (ended result) (F.counts files.old) (F.counts files.new) }
+    ensures files { AreFilesOf (name_of (map string_bytes words.now) command) []
+        (last_files command) (ended result) (F.counts files.old) (F.counts files.new) }
     ensures answer { IfOk result (λ answer. WhereHeld (F.held files.old) (last_files command)
         (λ held. IsMadeText command.ask plan
         (last_step (map string_bytes words.now) held command.ask plan) (text_of answer))) }

@@ -167,8 +167,8 @@ pub fn answer_state<F: Files>(
     ensures step { WhereHeld (F.held files.old) (last_files command) (λ held.
         EndsOf (ended result) plan.now
         (last_step (map string_bytes words.now) held command.ask plan.now)) }
-    ensures files { AreFilesOf (name_of (map string_bytes words.now) command) [] (last_files command)
-        (ended result) (F.counts files.old) (F.counts files.new) }
+    ensures files { AreFilesOf (name_of (map string_bytes words.now) command) []
+        (last_files command) (ended result) (F.counts files.old) (F.counts files.new) }
     ensures answer { IfOk result (λ text. WhereHeld (F.held files.old) (last_files command) (λ held.
         IsMadeText command.ask plan.now
         (last_step (map string_bytes words.now) held command.ask plan.now) text.items)) }

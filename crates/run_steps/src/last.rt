@@ -44,8 +44,8 @@ pub fn take_last<F: Files>(
         (last_step (map string_bytes words.now) held command.ask plan.now model.now)) }
     ensures width { IfOk result (λ bits.
         length bits.items ≡ asked_width command.ask plan.now.read.variables model.now) }
-    ensures files { AreFilesOf (name_of (map string_bytes words.now) command) [] (last_files command)
-        (ended result) (F.counts files.old) (F.counts files.new) }
+    ensures files { AreFilesOf (name_of (map string_bytes words.now) command) []
+        (last_files command) (ended result) (F.counts files.old) (F.counts files.new) }
     ensures refusal { IfErr result IsReading }
 {
     let width = width_of(command.ask, &plan.read, model);
