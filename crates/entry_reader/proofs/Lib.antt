@@ -3,3 +3,5 @@ pub mod Puttings
 pub mod RowsAgain
 pub mod EntriesAgain
 pub mod TextsAgain
+pub mod ReadCosts
+pub mod Energies

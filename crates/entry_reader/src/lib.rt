@@ -12,6 +12,6 @@ mod laws;
 mod layout;
 mod reading;
 
-pub use laws::texts_are_read_again;
+pub use laws::{laws_of_readings, laws_of_texts, texts_are_read_again};
 pub use layout::{Counts, Layout, Listed};
 pub use reading::{read_entries, read_entries_tokens};

@@ -5,10 +5,8 @@
 //! row to a sink.
 #![tactic(auto)]
 
-mod laws;
 mod reading;
 mod writing;
 
-pub use laws::{laws_of_readings, laws_of_texts};
 pub use reading::{read_ising, read_ising_tokens};
 pub use writing::{ising_text, write_ising};

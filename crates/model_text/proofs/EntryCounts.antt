@@ -1,8 +1,7 @@
--- Entries that are counted, and rows that are written, one after another.
-use Rattle.std.proofs.Common.{◌≡◌, ℕ, ◌+◌, ◌≤◌, Bool, true, false, cond, pos, ◌<◌, List, [], ◌∷◌, ◌++◌, length, map, count_by, take, All, get_or, sym, ap, ◌∙◌, append_assoc, append-nil, arith}
+-- Entries that are counted, one after another.
+use Rattle.std.proofs.Common.{◌≡◌, ℕ, ◌+◌, ◌≤◌, Bool, true, false, cond, pos, ◌<◌, List, [], ◌∷◌, length, count_by, take, All, get_or, sym, ap, ◌∙◌, arith}
 use Rattle.std.proofs.lemmas.List.Sums.{sum_by-cons, count_by_more_yes, count_by_more_no}
 use Rattle.bits_model.specs.declared.output.Entry.{Entry}
-use Rattle.model_text.specs.Rows.{row_text, rows_text, entry_row}
 
 -- the count of what is left, of which one is taken
 pub count_left : (p : Entry → Bool) (es rest : List Entry) (e : Entry) → es ≡ e ∷ rest
@@ -54,20 +53,3 @@ pub counted_more : (p : Entry → Bool) (left rest : List Entry) (e : Entry) (co
     → count + count_by p left ≡ whole → added ≡ cond (p e) 1 0 → count + added + count_by p rest ≡ whole
 counted_more p left rest e count added whole is so_far adds =
     omega (arith, count_left p left rest e is, so_far, adds)
-
--- the rows of what is left, of which one is written
-pub row_left : (out more old : List ℕ) (es left rest : List Entry) (e : Entry) → left ≡ e ∷ rest
-    → out ++ rows_text (map entry_row left) ≡ old ++ rows_text (map entry_row es)
-    → more ≡ out ++ row_text (entry_row e)
-    → more ++ rows_text (map entry_row rest) ≡ old ++ rows_text (map entry_row es)
-row_left out more old es left rest e is whole added =
-    ap (λ (t : List ℕ). t ++ rows_text (map entry_row rest)) added
-    ∙ append_assoc out (row_text (entry_row e)) (rows_text (map entry_row rest))
-    ∙ ap (λ (ds : List Entry). out ++ rows_text (map entry_row ds)) (sym is)
-    ∙ whole
-
-pub rows_done : (out old : List ℕ) (es left : List Entry) → left ≡ []
-    → out ++ rows_text (map entry_row left) ≡ old ++ rows_text (map entry_row es)
-    → out ≡ old ++ rows_text (map entry_row es)
-rows_done out old es left none whole =
-    sym (append-nil out) ∙ ap (λ (ds : List Entry). out ++ rows_text (map entry_row ds)) (sym none) ∙ whole

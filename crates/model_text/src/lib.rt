@@ -9,7 +9,6 @@
 mod counts;
 mod laws;
 mod lines;
-mod rows;
 mod summary;
 mod writing;
 

@@ -1,15 +1,14 @@
 //! The rows of a text, each put to a sink through a buffer by a function of its own. None takes
 //! memory, and after a fault nothing is pending.
 ghost use Rattle.std.specs.Prelude.{◌≡◌, ◌+◌, ◌<◌, ◌≤◌, ◌++◌, [], ◌∷◌, OnOk, OnErr, length, map, drop};
-ghost use Rattle.std.specs.List.{slice_index_or};
+ghost use Rattle.std.specs.List.{join_with_byte, slice_index_or};
 ghost use Rattle.std.specs.Fmt.{decimal, signed_decimal};
 ghost use Rattle.edge_io.specs.Counts.{HasCause};
 ghost use Rattle.edge_io.specs.Sinks.{AppendsFront, Passes, joined_bytes};
-ghost use Rattle.model_text.specs.Rows.{row_text, rows_text, figure_rows, chimera_row, chain_row, chain_rows, graph_rows, header_row, entry_row};
+ghost use Rattle.model_text.specs.Rows.{row_text, rows_text, figure_rows, chimera_row, chain_row, chain_rows, graph_rows, kind_words, header_row, entry_row, FitsFigures, FitsGraph};
 ghost use Rattle.model_text.specs.Lines.{spaced_numbers};
 
 use crate::counts::counts_of;
-use crate::rows::words_of;
 use base::Figures;
 use bits_model::{ChainList, CouplerList, Entry, EntryList, Kind, NodeWeights, Row};
 use edge_io::{LineBuffer, Sink, WriteFault};
@@ -55,6 +54,7 @@ pub fn put_figures<S: Sink>(
         (buffer.old ++ rows_text rows)) }
     ensures lost { OnErr result (buffer.new ≡ []) }
     ensures cause { HasCause (S.faults sink.old) (S.faults sink.new) result }
+    ensures fits { FitsFigures figures }
 {
     let mut scale = Buffer::new();
     let mut offset = Buffer::new();
@@ -195,12 +195,23 @@ pub fn put_graph<S: Sink>(
         (buffer.old ++ rows_text rows)) }
     ensures lost { OnErr result (buffer.new ≡ []) }
     ensures cause { HasCause (S.faults sink.old) (S.faults sink.new) result }
+    ensures fits { FitsGraph kind }
 {
     if let Kind::Chimera { rows, cols, shore } = kind {
         put_chimera(buffer, sink, rows, cols, shore)?;
         put_chains(buffer, sink, chains)?;
     }
     Ok(())
+}
+
+/// The words that name the kind.
+fn words_of(kind: Kind) -> &'static [u8]
+    ensures { result.now ≡ join_with_byte 32 (kind_words kind) }
+{
+    match kind {
+        Kind::Qubo => b"p qubo 0",
+        Kind::Ising | Kind::Chimera { .. } => b"p ising",
+    }
 }
 
 /// The kind, how many nodes there are, and how many entries of nodes and of couplers.

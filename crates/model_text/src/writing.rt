@@ -1,5 +1,5 @@
 //! The text of a model as a whole.
-ghost use Rattle.std.specs.Prelude.{◌≡◌, ◌++◌, [], IfOk, OnOk, OnErr};
+ghost use Rattle.std.specs.Prelude.{◌≡◌, ◌++◌, [], Some, IfOk, OnOk, OnErr};
 ghost use Rattle.std.specs.Io.KnownBytes.{Appends};
 ghost use Rattle.edge_io.specs.Counts.{HasCause};
 ghost use Rattle.edge_io.specs.Sinks.{AppendsFront, Passes};
@@ -7,24 +7,47 @@ ghost use Rattle.model_text.specs.Rows.{model_text};
 ghost use Rattle.model_text.specs.Told.{TellsModel};
 
 use crate::lines::{put_entries, put_figures, put_graph, put_header};
-use crate::rows::{push_entries, push_figures, push_graph, push_header};
 use base::NoMemory;
 use bits_model::OutputModel;
-use edge_io::{LineBuffer, Sink, WriteFault};
+use edge_io::{Failed, LineBuffer, Sink, WriteFault};
 use std::alloc::Global;
+
+/// A sink in memory, which grows with what is written to it. A write fails where memory is refused.
+#[derive(Drop)]
+struct GrowingSink {
+    bytes: Vec<u8>,
+    faults: u64,
+}
+
+impl Sink for GrowingSink {
+    ghost bytes = { λ s. Some s.bytes.items };
+
+    ghost faults = { λ s. s.faults };
+
+    fn write(&mut self, piece: &[u8]) -> Result<usize, Failed> {
+        if self.bytes.extend_from_slice(piece).is_err() {
+            self.faults = self.faults.saturating_add(1);
+            return Err(Failed);
+        }
+        Ok(piece.len())
+    }
+}
 
 /// The text of a model, which no other model has.
 pub fn written_text(alloc: Global, model: &OutputModel) -> Result<Vec<u8>, NoMemory>
     ensures text { IfOk result (λ text. text.items ≡ model_text model.now) }
     ensures one { IfOk result (λ text. TellsModel text.items model.now) }
 {
-    let entries = &model.entries;
-    let mut text = Vec::with_capacity(alloc, entries.couplers.len().saturating_mul(16))?;
-    push_figures(&mut text, model.figures, model.unit, model.variables)?;
-    push_graph(&mut text, model.kind, &model.chains)?;
-    push_header(&mut text, model.kind, model.nodes, entries)?;
-    push_entries(&mut text, entries)?;
-    Ok(text)
+    let mut buffer = LineBuffer::new(alloc)?;
+    let room = model.entries.couplers.len().saturating_mul(16);
+    let mut sink = GrowingSink {
+        bytes: Vec::with_capacity(alloc, room)?,
+        faults: 0,
+    };
+    match write_text(model, &mut buffer, &mut sink) {
+        Ok(()) => Ok(sink.bytes),
+        Err(WriteFault) => Err(NoMemory),
+    }
 }
 
 /// Puts each row of a model.
@@ -35,6 +58,7 @@ fn put_text<S: Sink>(
 ) -> Result<(), WriteFault>
     ensures passed { OnOk result (Passes (S.bytes sink.old) (S.bytes sink.new)
         buffer.old buffer.new (model_text model.now)) }
+    ensures one { OnOk result (TellsModel (model_text model.now) model.now) }
     ensures front { OnErr result (AppendsFront (S.bytes sink.old) (S.bytes sink.new)
         (buffer.old ++ model_text model.now)) }
     ensures lost { OnErr result (buffer.new ≡ []) }
@@ -47,8 +71,8 @@ fn put_text<S: Sink>(
     put_entries(buffer, sink, entries)
 }
 
-/// Writes the text of a model row by row, or a front of it where the sink fails. It takes no memory,
-/// and nothing is pending after it.
+/// Writes the text of a model row by row, or a front of it where the sink fails. No other model has
+/// that text. It takes no memory, and nothing is pending after it.
 pub fn write_text<S: Sink>(
     model: &OutputModel,
     buffer: &mut LineBuffer,
@@ -57,6 +81,7 @@ pub fn write_text<S: Sink>(
     requires { buffer.old ≡ [] }
     ensures whole { OnOk result
         (Appends (S.bytes sink.old) (S.bytes sink.new) (model_text model.now)) }
+    ensures one { OnOk result (TellsModel (model_text model.now) model.now) }
     ensures front { OnErr result
         (AppendsFront (S.bytes sink.old) (S.bytes sink.new) (model_text model.now)) }
     ensures empty { buffer.new ≡ [] }

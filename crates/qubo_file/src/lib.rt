@@ -5,10 +5,8 @@
 //! sink.
 #![tactic(auto)]
 
-mod laws;
 mod reading;
 mod writing;
 
-pub use laws::{laws_of_readings, laws_of_texts};
 pub use reading::{read_qubo, read_qubo_tokens};
 pub use writing::{qubo_text, write_qubo};

@@ -15,7 +15,7 @@ use Rattle.command_words.specs.declared.commands.Format.{Format}
 use Rattle.command_words.specs.declared.names.Which.TheVariants.{Source}
 use Rattle.source_texts.specs.declared.reading.Read.{Read}
 use Rattle.source_texts.specs.Sources.{problem_of, problem_of_words, style_of}
-use Rattle.source_texts.proofs.WordTexts.{words_read}
+use Rattle.source_texts.proofs.Standing.{words_read}
 use Rattle.run_steps.specs.declared.status.Status.{Status}
 use Rattle.run_steps.specs.declared.status.Status.TheVariants.{Done, Usage, ReadFault, WriteFault, BadText, Limit, NotEmbedded, TooWide, NotProved, NoState, NoMemory}
 use Rattle.run_steps.specs.Steps.{Steps, go_on, ◌>>=◌, ends, gives, taking, text_end, Meets, Refuses}

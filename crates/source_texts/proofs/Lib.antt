@@ -3,7 +3,5 @@ pub mod WcnfTexts
 pub mod OpbTexts
 pub mod WboTexts
 pub mod PolyTexts
-pub mod IsingTexts
-pub mod QuboTexts
+pub mod EntryTexts
 pub mod Standing
-pub mod WordTexts

@@ -64,23 +64,28 @@ plain_owns_all s r costs none =
 -- ---- texts of which each says a source, and is read into its problem
 
 module _ {S P : Type 0} (source : S → Source) (problem : S → P) (kept : P → Read) where
-  -- where the text is read into a problem, and each problem stands for its source
-  pub read_stands : ((s : S) → StandsFor (source s) (kept (problem s)))
-      → (said : Result S TextFault) (r : Read)
-      → ((said >>= λ s. Ok (problem s)) >>= λ p. Ok (kept p)) ≡ Ok r
-      → (s : Source) × ((said >>= λ t. Ok (source t)) ≡ Ok s) × StandsFor s r
-  read_stands each (Err fault) r e = absurd cc
-  read_stands each (Ok s) r e =
-      let same : kept (problem s) ≡ r = cc in
-      (source s, refl, subst (λ q. StandsFor (source s) q) same (each s))
+  -- a text that says this is read into a problem, as its words are; each problem stands for its source,
+  -- and costs what it does
+  pub record IsRead (said : Result S TextFault) (whole cut : Result Read TextFault) : Type 0 where
+    pub read : whole ≡ ((said >>= λ s. Ok (problem s)) >>= λ p. Ok (kept p))
+    pub words : whole ≡ cut
+    pub stands : (s : S) → StandsFor (source s) (kept (problem s))
+    pub costs : (s : S) → CostsAs (source s) (kept (problem s))
 
-  -- where each problem costs what its source does
-  pub read_costs : ((s : S) → CostsAs (source s) (kept (problem s)))
-      → (said : Result S TextFault) (r : Read) (t : Source)
-      → ((said >>= λ s. Ok (problem s)) >>= λ p. Ok (kept p)) ≡ Ok r
-      → (said >>= λ s. Ok (source s)) ≡ Ok t → CostsAs t r
-  read_costs each (Err fault) r t e said_so = absurd cc
-  read_costs each (Ok s) r t e said_so =
+  pub read_stands : (said : Result S TextFault) (whole cut : Result Read TextFault) (r : Read)
+      → IsRead said whole cut → whole ≡ Ok r
+      → (s : Source) × ((said >>= λ t. Ok (source t)) ≡ Ok s) × StandsFor s r
+  read_stands (Err fault) whole cut r h e = let both = sym h.read ∙ e in absurd cc
+  read_stands (Ok s) whole cut r h e =
+      let both = sym h.read ∙ e in
+      let same : kept (problem s) ≡ r = cc in
+      (source s, refl, subst (λ q. StandsFor (source s) q) same (h.stands s))
+
+  pub read_costs : (said : Result S TextFault) (whole cut : Result Read TextFault) (r : Read) (t : Source)
+      → IsRead said whole cut → whole ≡ Ok r → (said >>= λ s. Ok (source s)) ≡ Ok t → CostsAs t r
+  read_costs (Err fault) whole cut r t h e says = absurd cc
+  read_costs (Ok s) whole cut r t h e says =
+      let both = sym h.read ∙ e in
       let same : kept (problem s) ≡ r = cc in
       let this : source s ≡ t = cc in
-      subst (λ q. CostsAs t q) same (subst (λ q. CostsAs q (kept (problem s))) this (each s))
+      subst (λ q. CostsAs t q) same (subst (λ q. CostsAs q (kept (problem s))) this (h.costs s))

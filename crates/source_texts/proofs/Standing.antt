@@ -1,32 +1,43 @@
 -- The problem that a text is read into stands for the source that the text says, and costs what it
--- does: a line a format.
+-- does, and the words of a text are read as the text is: a line a format.
 use Rattle.std.proofs.Common.{◌≡◌, ℕ, List, Ok}
 use Rattle.base.specs.Costs.{Source}
 use Rattle.command_words.specs.declared.commands.Format.{Format}
 use Rattle.command_words.specs.declared.commands.Format.TheVariants.{Wcnf, Opb, Wbo, Poly, Ising, Qubo}
+use Rattle.entry_reader.specs.declared.layout.Layout.TheVariants as layouts
 use Rattle.source_texts.specs.declared.reading.Read.{Read}
-use Rattle.source_texts.specs.Sources.{source_of, problem_of, StandsFor, CostsAs}
-use Rattle.source_texts.proofs.WcnfTexts.{wcnf_stands, wcnf_costs}
-use Rattle.source_texts.proofs.OpbTexts.{opb_stands, opb_costs}
-use Rattle.source_texts.proofs.WboTexts.{wbo_stands, wbo_costs}
-use Rattle.source_texts.proofs.PolyTexts.{poly_stands, poly_costs}
-use Rattle.source_texts.proofs.IsingTexts.{ising_stands, ising_costs}
-use Rattle.source_texts.proofs.QuboTexts.{qubo_stands, qubo_costs}
+use Rattle.source_texts.specs.Sources.{source_of, problem_of, StandsFor, CostsAs, WordsAreReadAsTexts}
+use Rattle.source_texts.proofs.Readings.{read_stands, read_costs}
+use Rattle.source_texts.proofs.WcnfTexts.{wcnf_read}
+use Rattle.source_texts.proofs.OpbTexts.{opb_read}
+use Rattle.source_texts.proofs.WboTexts.{wbo_read}
+use Rattle.source_texts.proofs.PolyTexts.{poly_read}
+use Rattle.source_texts.proofs.EntryTexts.{entries_read}
 
 pub problem_stands : (format : Format) (text : List ℕ) (r : Read) → problem_of format text ≡ Ok r
     → (s : Source) × (source_of format text ≡ Ok s) × StandsFor s r
-problem_stands Wcnf text r e = wcnf_stands text r e
-problem_stands Opb text r e = opb_stands text r e
-problem_stands Wbo text r e = wbo_stands text r e
-problem_stands Poly text r e = poly_stands text r e
-problem_stands Ising text r e = ising_stands text r e
-problem_stands Qubo text r e = qubo_stands text r e
+problem_stands Wcnf text r e = read_stands _ _ _ _ _ _ r (wcnf_read text) e
+problem_stands Opb text r e = read_stands _ _ _ _ _ _ r (opb_read text) e
+problem_stands Wbo text r e = read_stands _ _ _ _ _ _ r (wbo_read text) e
+problem_stands Poly text r e = read_stands _ _ _ _ _ _ r (poly_read text) e
+problem_stands Ising text r e = read_stands _ _ _ _ _ _ r (entries_read layouts.Ising text) e
+problem_stands Qubo text r e = read_stands _ _ _ _ _ _ r (entries_read layouts.Qubo text) e
 
 pub problem_costs : (format : Format) (text : List ℕ) (r : Read) (s : Source)
     → problem_of format text ≡ Ok r → source_of format text ≡ Ok s → CostsAs s r
-problem_costs Wcnf text r s e said = wcnf_costs text r s e said
-problem_costs Opb text r s e said = opb_costs text r s e said
-problem_costs Wbo text r s e said = wbo_costs text r s e said
-problem_costs Poly text r s e said = poly_costs text r s e said
-problem_costs Ising text r s e said = ising_costs text r s e said
-problem_costs Qubo text r s e said = qubo_costs text r s e said
+problem_costs Wcnf text r s e said = read_costs _ _ _ _ _ _ r s (wcnf_read text) e said
+problem_costs Opb text r s e said = read_costs _ _ _ _ _ _ r s (opb_read text) e said
+problem_costs Wbo text r s e said = read_costs _ _ _ _ _ _ r s (wbo_read text) e said
+problem_costs Poly text r s e said = read_costs _ _ _ _ _ _ r s (poly_read text) e said
+problem_costs Ising text r s e said =
+    read_costs _ _ _ _ _ _ r s (entries_read layouts.Ising text) e said
+problem_costs Qubo text r s e said =
+    read_costs _ _ _ _ _ _ r s (entries_read layouts.Qubo text) e said
+
+pub words_read : WordsAreReadAsTexts
+words_read Wcnf text = (wcnf_read text).words
+words_read Opb text = (opb_read text).words
+words_read Wbo text = (wbo_read text).words
+words_read Poly text = (poly_read text).words
+words_read Ising text = (entries_read layouts.Ising text).words
+words_read Qubo text = (entries_read layouts.Qubo text).words

@@ -22,8 +22,7 @@ use Rattle.poly_reader.specs.Cost as poly_cost
 use Rattle.entry_reader.specs.declared.layout.Layout.TheVariants as layouts
 use Rattle.entry_reader.specs.Entries as entries
 use Rattle.entry_reader.specs.Problems as entry_problems
-use Rattle.ising_file.specs.Cost as ising_cost
-use Rattle.qubo_file.specs.Cost as qubo_cost
+use Rattle.entry_reader.specs.Cost as entry_cost
 use Rattle.wbo_reader.specs.Wbo.{WboContent}
 use Rattle.wbo_reader.specs.Rewriting.{rewritten, extended}
 use Rattle.wbo_reader.specs.Reading as wbo
@@ -35,8 +34,10 @@ source_of Wcnf text = wcnf.reading text >>= λ s. Ok (wcnf_cost.source_of s)
 source_of Opb text = opb.reading text >>= λ s. Ok (opb_cost.source_of s)
 source_of Wbo text = wbo.reading text >>= λ s. Ok (wbo.source_of s)
 source_of Poly text = poly.reading text >>= λ s. Ok (poly_cost.source_of s)
-source_of Ising text = entries.reading layouts.Ising text >>= λ s. Ok (ising_cost.source_of s)
-source_of Qubo text = entries.reading layouts.Qubo text >>= λ s. Ok (qubo_cost.source_of s)
+source_of Ising text =
+    entries.reading layouts.Ising text >>= λ s. Ok (entry_cost.source_of layouts.Ising s)
+source_of Qubo text =
+    entries.reading layouts.Qubo text >>= λ s. Ok (entry_cost.source_of layouts.Qubo s)
 
 -- a problem whose variables are all the source's own
 abbrev pub own : ProblemContent → Read

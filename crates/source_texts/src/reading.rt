@@ -14,15 +14,15 @@ ghost use Rattle.source_texts.specs.Sources.{
 
 use base::NoMemory;
 use command_words::Format;
-use ising_file::{read_ising, read_ising_tokens};
-use opb_reader::{read_opb, read_opb_tokens};
-use poly_reader::{Names, Polynomial, read_poly, read_poly_tokens};
+use ising_file::read_ising_tokens;
+use opb_reader::read_opb_tokens;
+use poly_reader::{Names, Polynomial, read_poly_tokens};
 use problem_form::Problem;
-use qubo_file::{read_qubo, read_qubo_tokens};
+use qubo_file::read_qubo_tokens;
 use std::alloc::Global;
-use wbo_reader::{Wbo, read_wbo, read_wbo_tokens};
-use wcnf_reader::{read_wcnf, read_wcnf_tokens};
-use whole_text::{Style, TextAnswer, TokenText};
+use wbo_reader::{Wbo, read_wbo_tokens};
+use wcnf_reader::read_wcnf_tokens;
+use whole_text::{Lexer, Style, TextAnswer, TokenText};
 
 /// What a text is read into: its problem, how many of the problem's first variables are the
 /// source's own, and their names, where the text has names for them. Soft constraints are kept,
@@ -85,23 +85,6 @@ fn eased(alloc: Global, wbo: Wbo) -> Result<Read, NoMemory>
     })
 }
 
-/// The problem of a text, in normal form, or the first fault of the text.
-pub fn read_source(alloc: Global, format: Format, text: &[u8]) -> Result<Read, TextAnswer>
-    requires { length text.now ≤ 2 ^ 24 }
-    ensures read { Gives (λ read. read) result (problem_of format text.now) }
-    ensures own { IfOk result (λ read. read.variables ≤ read.problem.variables) }
-    ensures kept { IfOk result KeepsSoft }
-{
-    match format {
-        Format::Wcnf => Ok(own(read_wcnf(alloc, text)?)),
-        Format::Opb => Ok(own(read_opb(alloc, text)?)),
-        Format::Wbo => Ok(eased(alloc, read_wbo(alloc, text)?)?),
-        Format::Poly => Ok(named(read_poly(alloc, text)?)),
-        Format::Ising => Ok(own(read_ising(alloc, text)?)),
-        Format::Qubo => Ok(own(read_qubo(alloc, text)?)),
-    }
-}
-
 /// The problem of a text that was cut into words, in normal form, or the first fault of the text.
 pub fn read_source_words(
     alloc: Global,
@@ -121,4 +104,16 @@ pub fn read_source_words(
         Format::Ising => Ok(own(read_ising_tokens(alloc, text)?)),
         Format::Qubo => Ok(own(read_qubo_tokens(alloc, text)?)),
     }
+}
+
+/// The problem of a text, in normal form, or the first fault of the text.
+pub fn read_source(alloc: Global, format: Format, text: &[u8]) -> Result<Read, TextAnswer>
+    requires { length text.now ≤ 2 ^ 24 }
+    ensures read { Gives (λ read. read) result (problem_of format text.now) }
+    ensures own { IfOk result (λ read. read.variables ≤ read.problem.variables) }
+    ensures kept { IfOk result KeepsSoft }
+{
+    let mut lexer = Lexer::new(alloc, style_of(format));
+    lexer.feed(text)?;
+    read_source_words(alloc, format, &lexer.finish()?)
 }

@@ -1,5 +1,6 @@
 use Rattle.std.proofs.Common.{◌≡◌, pos, rules}
 use Rattle.std.specs.Fmt.{signed_decimal}
+use Rattle.model_text.proofs.Numerals.{size_fits}
 use Rattle.model_text.proofs.Puts.{same_front, same_passed}
 use Rattle.model_text.proofs.RowPieces.{figures_pieces}
 use Rattle.model_text.proofs.lines.put_figures.Goals as goal
@@ -25,3 +26,11 @@ returns-clause-front g c =
     let number : c.as_bytes-number.result.now ≡ signed_decimal (pos c.args.variables) = search rules in
     let rows = figures_pieces f c.args.unit c.args.variables _ _ _ _ _ scale offset threshold unit number in
     same_front c.put_pieces.result _ _ c.args.buffer.now _ _ rows c.put_pieces.ensures.front
+
+pub returns-clause-fits : goal.returns-clause-fits
+returns-clause-fits g c =
+    let f = c.args.figures in record {
+      scale = size_fits f.scale (search rules);
+      offset = size_fits f.offset (search rules);
+      threshold = size_fits f.threshold (search rules);
+    }

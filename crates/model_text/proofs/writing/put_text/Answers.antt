@@ -1,10 +1,14 @@
-use Rattle.std.proofs.Common.{[], ◌++◌, refl, sym, ap, ◌∙◌, append-nil, rules, subst, ℤ}
+use Rattle.std.proofs.Common.{[], ◌++◌, ◌<◌, ◌^◌, refl, sym, ap, ◌∙◌, append-nil, rules, subst, ℤ}
 use Rattle.std.specs.Int.{w128}
 use Rattle.std.proofs.lemmas.Int.{to_z-of_z}
 use Rattle.bits_model.specs.declared.output.OutputModel.TheInside.{Inside}
 use Rattle.bits_model.specs.Output.{Written}
 use Rattle.edge_io.specs.Sinks.{AppendsFront, Passes}
-use Rattle.model_text.specs.Rows.{rows_text, figure_rows, model_text}
+use Rattle.model_text.specs.Rows.{rows_text, figure_rows, model_text, FitsFields}
+use Rattle.model_text.specs.Told.{TellsModel}
+use Rattle.model_text.proofs.Numerals.{size_fits}
+use Rattle.model_text.proofs.ModelRows.{texts_tell_models}
+use Rattle.model_text.proofs.QubitNumbers.{qubits_fit}
 use Rattle.model_text.proofs.Puts.{put_none, put_more, put_fault, put_all, at_error, then_ok, then_error}
 use Rattle.model_text.proofs.RowPieces.{text_parts}
 use Rattle.model_text.proofs.writing.put_text.Goals as goal
@@ -81,3 +85,22 @@ returns-clause-front g c =
     then_error c.put_entries.result
     (λ fault. put_fault _ _ _ c.args.buffer.now c.put_header.new.buffer _ _ _ [] (sym (append-nil _)) headed fault)
     c.put_entries.ensures.front
+
+pub returns-clause-one : goal.returns-clause-one
+returns-clause-one g c =
+    let m = written c.model.inside in
+    let formed = c.model.invariant.0 in
+    let narrow : m.nodes < 2 ^ 32 = search rules in
+    let fits : FitsFields m = record {
+      graph = c.put_graph.ensures.fits;
+      variables = search rules;
+      figures = c.put_figures.ensures.fits;
+      unit = size_fits m.unit (search rules);
+      nodes = narrow;
+      weights = c.model.invariant.1;
+      qubits = qubits_fit m formed narrow;
+    } in
+    let told : TellsModel (model_text m) m =
+    λ n others_formed others_fit e. sym (texts_tell_models m n formed others_formed fits others_fit (sym e)) in
+    then_ok c.put_entries.result (λ weighed. subst (λ m. TellsModel (model_text m) m) c.model.view_is told)
+    c.put_entries.ensures.passed

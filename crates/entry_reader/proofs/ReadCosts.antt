@@ -1,4 +1,4 @@
--- What the problem of an Ising text costs: what the text costs, entry by entry.
+-- What the problem of a text of entries costs: what the text costs, entry by entry.
 use Rattle.std.proofs.Common.{◌≡◌, eqb, Bool, true, false, cond, ◌&&◌, arith, refl, ap, ◌∙◌, List, [], ◌∷◌, ℤ, pos, negsuc, ◌+ℤ◌, ◌*ℤ◌, neg_ℤ}
 use Rattle.std.specs.List.{flat_map}
 use Rattle.std.proofs.lemmas.Int.{ints}
@@ -8,13 +8,19 @@ use Rattle.base.specs.Sums.{total_by, if_so}
 use Rattle.base.proofs.Totals.{total_by-append}
 use Rattle.problem_form.specs.Problems.{product_value, sum_of, problem_cost}
 use Rattle.problem_form.proofs.NormalForms.{normal_form-cost}
+use Rattle.entry_reader.specs.declared.layout.Layout.{Layout}
+use Rattle.entry_reader.specs.declared.layout.Layout.TheVariants.{Qubo, Ising}
 use Rattle.entry_reader.specs.declared.layout.Listed.{Listed}
-use Rattle.entry_reader.specs.declared.layout.Layout.TheVariants.{Ising}
 use Rattle.entry_reader.specs.Entries.{Listing}
 use Rattle.entry_reader.specs.Problems.{field_products, coupling_products, products_of, problem_of}
-use Rattle.ising_file.specs.Cost.{entry_cost, ising_cost, ReadingKeepsCosts}
+use Rattle.entry_reader.specs.Cost.{entry_cost, listing_cost, ReadingKeepsCosts}
 
--- ---- spins, by the bits
+-- ---- bits and spins
+
+bits_value : (a b : Bool) (w : ℤ) → if_so (a && (b && true)) w +ℤ pos 0 ≡ if_so (a && b) w
+bits_value true true w = omega (arith, ints)
+bits_value true false w = refl
+bits_value false b w = refl
 
 field_value : (a : Bool) (field : ℤ)
     → neg_ℤ field +ℤ (if_so (a && true) (pos 2 *ℤ field) +ℤ pos 0) ≡ times_spin a field
@@ -33,8 +39,10 @@ coupling_value false false coupling = omega (arith, ints)
 
 -- ---- the products of an entry count what the entry costs
 
-sum_of-entry : (x : List Bool) (e : Listed) → sum_of x (products_of Ising e) ≡ entry_cost x e
-sum_of-entry x e = go (eqb e.first e.second)
+sum_of-entry : (layout : Layout) (x : List Bool) (e : Listed)
+    → sum_of x (products_of layout e) ≡ entry_cost layout x e
+sum_of-entry Qubo x e = bits_value (bit_at x e.first) (bit_at x e.second) e.weight
+sum_of-entry Ising x e = go (eqb e.first e.second)
   where
     go : (same : Bool)
         → sum_of x
@@ -44,21 +52,22 @@ sum_of-entry x e = go (eqb e.first e.second)
     go true = field_value (bit_at x e.first) e.weight
     go false = coupling_value (bit_at x e.first) (bit_at x e.second) e.weight
 
-sum_of-entries : (x : List Bool) (es : List Listed)
-    → sum_of x (flat_map (products_of Ising) es) ≡ total_by (entry_cost x) es
-sum_of-entries x [] = refl
-sum_of-entries x (e ∷ es) =
-    total_by-append (product_value x) (products_of Ising e) (flat_map (products_of Ising) es)
-    ∙ (λ i. sum_of-entry x e i +ℤ sum_of-entries x es i)
+sum_of-entries : (layout : Layout) (x : List Bool) (es : List Listed)
+    → sum_of x (flat_map (products_of layout) es) ≡ total_by (entry_cost layout x) es
+sum_of-entries layout x [] = refl
+sum_of-entries layout x (e ∷ es) =
+    total_by-append (product_value x) (products_of layout e) (flat_map (products_of layout) es)
+    ∙ (λ i. sum_of-entry layout x e i +ℤ sum_of-entries layout x es i)
 
-problem_of-cost : (s : Listing) (x : List Bool)
-    → problem_cost (problem_of Ising s) x ≡ ising_cost s x
-problem_of-cost s x =
+problem_of-cost : (layout : Layout) (s : Listing) (x : List Bool)
+    → problem_cost (problem_of layout s) x ≡ listing_cost layout s x
+problem_of-cost layout s x =
     let whole :
-    pos 0 +ℤ sum_of x (flat_map (products_of Ising) s.entries) +ℤ pos 0
-    ≡ total_by (entry_cost x) s.entries =
-    omega (arith, ints, sum_of-entries x s.entries) in
+    pos 0 +ℤ sum_of x (flat_map (products_of layout) s.entries) +ℤ pos 0
+    ≡ total_by (entry_cost layout x) s.entries =
+    omega (arith, ints, sum_of-entries layout x s.entries) in
     ap Whole whole
 
 pub reading_keeps_costs : ReadingKeepsCosts
-reading_keeps_costs s x = normal_form-cost (problem_of Ising s) x ∙ problem_of-cost s x
+reading_keeps_costs layout s x =
+    normal_form-cost (problem_of layout s) x ∙ problem_of-cost layout s x

@@ -1,5 +1,0 @@
-use Rattle.ising_file.proofs.ReadCosts.{reading_keeps_costs}
-use Rattle.ising_file.proofs.laws.laws_of_readings.Goals as goal
-
-pub returns : goal.returns
-returns c = reading_keeps_costs

@@ -1,2 +1,0 @@
-pub mod ReadCosts
-pub mod TextsAgain
