@@ -14,6 +14,7 @@ mod reading;
 mod spot;
 
 pub use clique::clique_map;
+pub use digits::first_number;
 pub use faults::{CheckAnswer, EmbedFault};
 pub use map::ChainMap;
 pub use reading::read_map;
