@@ -8,6 +8,7 @@ use Rattle.chimera_graph.specs.declared.chimera.Chimera.{Chimera}
 use Rattle.chimera_graph.specs.Graph.{qubits_of, index_of, place_of}
 use Rattle.chimera_graph.specs.Places.{are_joined}
 use Rattle.ising_form.specs.Isings.{IsingContent, IsIsing}
+use Rattle.chain_map.specs.declared.spot.Spot.{Spot}
 use Rattle.chain_map.specs.Valid.{IsValid}
 
 -- how many cells the diagonal has
@@ -17,6 +18,10 @@ diagonal_of graph = min graph.rows graph.cols
 -- how many nodes there are places for
 abbrev pub clique_places : Chimera → ℕ
 clique_places graph = graph.shore * diagonal_of graph
+
+-- the cell of the diagonal of a node, and where on a side its qubits are
+abbrev pub spot_of : Chimera → ℕ → Spot
+spot_of graph node = record { cell = node / graph.shore; at = node % graph.shore }
 
 -- the qubit on side 0 in the column of the i-th cell of the diagonal
 abbrev pub down_qubit : Chimera → ℕ → ℕ → ℕ → ℕ

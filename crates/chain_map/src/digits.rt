@@ -39,7 +39,7 @@ fn any_number(bytes: &[u8], line: u64) -> Result<(u64, usize), TextFault>
 
 /// The number of the first word, which is at least 0, and the length of the word.
 #[inline(always)]
-pub(crate) fn first_number(bytes: &[u8], line: u64) -> Result<(u64, usize), TextFault>
+pub fn first_number(bytes: &[u8], line: u64) -> Result<(u64, usize), TextFault>
     ensures value { GivesAlways (λ x. x.0) result
         (natural_at 0 (word line (take (position_or_len is_blank bytes.now) bytes.now))) }
     ensures len { IfOk result (λ x. x.1 ≡ position_or_len is_blank bytes.now) }

@@ -11,8 +11,11 @@ mod digits;
 mod faults;
 mod map;
 mod reading;
+mod spot;
 
 pub use clique::clique_map;
+pub use digits::first_number;
 pub use faults::{CheckAnswer, EmbedFault};
 pub use map::ChainMap;
 pub use reading::read_map;
+pub use spot::{Spot, clique_places, diagonal_of, fill_chain, path_qubit, spot_of};

@@ -53,4 +53,25 @@ impl ChainMap {
     {
         self.chains.push(chain)
     }
+
+    /// Adds the chain of the next node, which is in 32 bits. It is widened in a list that is used
+    /// again for the next one.
+    pub fn push_qubits(&mut self, chain: &[u32], wide: &mut Vec<u64>) -> Result<(), NoMemory>
+        ensures pushed { OnOk result (self.new ≡ self.old ++ chain.now ∷ []) }
+        ensures unchanged { OnErr result (self.new ≡ self.old) }
+    {
+        widen(wide, chain)?;
+        self.chains.push(wide)
+    }
+}
+
+/// Makes a list these numbers.
+fn widen(wide: &mut Vec<u64>, numbers: &[u32]) -> Result<(), NoMemory>
+    ensures { OnOk result (wide.new.items ≡ numbers.now) }
+{
+    wide.clear();
+    for number in numbers {
+        wide.push(u64::from(*number))?;
+    }
+    Ok(())
 }

@@ -11,13 +11,13 @@ use Rattle.ising_form.specs.Isings.{IsingContent, IsIsing}
 use Rattle.chimera_graph.specs.declared.chimera.Chimera.{Chimera}
 use Rattle.chimera_graph.specs.Graph.{qubits_of}
 use Rattle.chain_map.specs.Chains.{chain_of}
-use Rattle.chain_map.specs.Cliques.{clique_places, down_qubit, along_qubit, path_of, clique_chain, clique_of}
+use Rattle.chain_map.specs.Cliques.{clique_places, spot_of, down_qubit, along_qubit, path_of, clique_chain, clique_of}
 use Rattle.chain_map.proofs.CliqueChains.{path_len, cell_of, cells_rise, chain_at_node, clique_valid}
 use Rattle.embedding_check.specs.Distances.{AreParents}
 use Rattle.embedding_check.specs.Embeddings.{Embedding, IsEmbedding}
 use Rattle.embedding_check.specs.Checked.{IsPlace, IsPlaceOf, IsChecked}
 use Rattle.embedding_check.proofs.Checked.{checked_embeds}
-use Rattle.clique_embedding.specs.Placing.{but_last, spot_of, place_of_spots, clique_place}
+use Rattle.clique_embedding.specs.Placing.{but_last, place_of_spots, clique_place}
 use Rattle.clique_embedding.proofs.PathParents.{path_parents}
 use Rattle.clique_embedding.proofs.CliquePaths.{clique_path}
 use Rattle.clique_embedding.proofs.LeastMeetings.{joined_on, same_cell, other_cell}

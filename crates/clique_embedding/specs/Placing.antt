@@ -2,19 +2,15 @@
 --
 -- A chain is a path from its first qubit on. The chains of two nodes meet where the later one goes
 -- down its column through the row of the earlier one. In one cell of the diagonal they meet twice.
-use Rattle.std.specs.Prelude.{ℕ, ◌/◌, ◌%◌, ◌-◌, ◌==◌, List, length, take, if◌then◌else◌}
+use Rattle.std.specs.Prelude.{ℕ, ◌-◌, ◌==◌, List, length, take, if◌then◌else◌}
 use Rattle.chimera_graph.specs.declared.chimera.Chimera.{Chimera}
 use Rattle.bits_model.specs.declared.output.Entry.{Entry}
-use Rattle.chain_map.specs.Cliques.{down_qubit, along_qubit}
-use Rattle.clique_embedding.specs.declared.spot.Spot.{Spot}
+use Rattle.chain_map.specs.declared.spot.Spot.{Spot}
+use Rattle.chain_map.specs.Cliques.{down_qubit, along_qubit, spot_of}
 
 -- the parents on a path: all qubits but the last
 abbrev pub but_last : List ℕ → List ℕ
 but_last chain = take (length chain - 1) chain
-
--- the cell of the diagonal of a node, and where on a side its qubits are
-abbrev pub spot_of : Chimera → ℕ → Spot
-spot_of graph node = record { cell = node / graph.shore; at = node % graph.shore }
 
 -- the least joined pair of the chains of an earlier and a later node
 abbrev pub place_of_spots : Chimera → Spot → Spot → ℕ × ℕ

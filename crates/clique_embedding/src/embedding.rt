@@ -8,8 +8,7 @@ ghost use Rattle.embedding_check.specs.Checked.{IsChecked};
 
 use crate::chains::{clique_chains, path_parents};
 use crate::places::all_places;
-use crate::spot::node_places;
-use chain_map::{CheckAnswer, EmbedFault};
+use chain_map::{CheckAnswer, EmbedFault, clique_places};
 use chimera_graph::{Chimera, Hardware};
 use embedding_check::Embedded;
 use ising_form::Ising;
@@ -30,7 +29,7 @@ pub fn clique_embedded(
         (clique_places graph.now < length ising.fields)
         × (f ≡ EmbedFault.TooManyNodes (length ising.fields) (clique_places graph.now)))) }
 {
-    let room = node_places(graph);
+    let room = clique_places(graph);
     let nodes = ising.fields.as_slice().len();
     if nodes > room as usize {
         return Err(CheckAnswer::Fault(EmbedFault::TooManyNodes(nodes, room as usize)));

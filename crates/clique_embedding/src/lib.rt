@@ -8,6 +8,5 @@
 mod chains;
 mod embedding;
 mod places;
-mod spot;
 
 pub use embedding::clique_embedded;

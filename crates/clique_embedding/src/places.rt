@@ -4,9 +4,9 @@ ghost use Rattle.quad_form.specs.Quads.{IsCoupler};
 ghost use Rattle.chain_map.specs.Cliques.{diagonal_of, clique_places};
 ghost use Rattle.clique_embedding.specs.Placing.{place_of_spots, clique_place};
 
-use crate::spot::{Spot, spot_of};
 use base::{Items, NoMemory};
 use bits_model::{CouplerList, Row};
+use chain_map::{Spot, spot_of};
 use chimera_graph::{Chimera, Place};
 use embedding_check::PairList;
 use std::alloc::Global;

@@ -12,18 +12,17 @@ use Rattle.bits_model.specs.declared.output.Kind.TheVariants.{Qubo, Ising, Chime
 use Rattle.base.specs.Costs.{Form}
 use Rattle.form_steps.specs.Relations.{Decoding, Relaxes}
 use Rattle.bits_model.specs.Units.{IsMultiple}
-use Rattle.bits_model.specs.Output.{IsWellFormed, IsPlaced, is_chained, entry_energy, spins_energy, read_off, weight_total}
+use Rattle.bits_model.specs.Output.{IsWellFormed, IsPlaced, is_chained, decoding_of, entry_energy, spins_energy, read_off, weight_total}
 use Rattle.quad_form.specs.Quads.{node_entries}
-use Rattle.quad_form.specs.Units.{entry_in}
 use Rattle.quad_form.specs.Stated.{RelaxesAsWritten}
 use Rattle.quad_form.proofs.NodeEntries.{nodes_ordered, couplers_up, all_placed, has_each_node, all_nonzero}
-use Rattle.quad_form.proofs.WrittenModels.{counted_once, moved_bound, moved_above, moved_reach, moved_below}
-use Rattle.quad_form.proofs.UnitEntries.{quotients_coprime, unit_of_zeros}
+use Rattle.quad_form.proofs.WrittenModels.{moved_relaxes}
+use Rattle.quad_form.proofs.ReducedForms.{counted_coprime}
 use Rattle.ising_form.specs.Isings.{IsingContent, IsIsing, entries_of, form_of}
 use Rattle.ising_form.specs.Outputs.{FitsOutput, AreNodes, is_on_chain, written_nodes, written_entries, written_of}
 use Rattle.ising_form.specs.Reduction.{ising_unit, reduced, IsReducedAsWritten}
 use Rattle.ising_form.proofs.ChainedNodes.{AreUnchained, AllRec-filter, sorted-filter, chained_listed, chained_energy, all_from_chained, chained_total}
-use Rattle.ising_form.proofs.ReducedForms.{counted_form, unit_number, unit_is, entries_counted}
+use Rattle.ising_form.proofs.ReducedForms.{weights}
 
 -- ---- well formed
 
@@ -104,42 +103,11 @@ pub written_relaxes : (source : Form) (f : IsingContent) (d : Decoding) (variabl
     → ((y : List Bool) → d.decoded y ≡ read_off kind variables chains y)
     → Relaxes source (form_of f) d unit figures
     → RelaxesAsWritten source (written_of f variables figures unit kind chains)
-written_relaxes source f d variables n unit kind chains fits counted same p = record {
-  unit = p.unit;
-  positive = p.positive;
-  width = λ y w. rw (← same y) (p.width y w);
-  bound = λ y w v whole.
-      let cost = ap source.cost (same y) ∙ whole in
-      rw (energy_is y)
-      (moved_bound n.scale v n.offset f.constant unit (sum y) (once y) (p.bound y w v cost));
-  above = λ y w infinite.
-      let cost = ap source.cost (same y) ∙ infinite in
-      rw (energy_is y)
-      (moved_above n.threshold f.constant unit (sum y) (once y) (p.above y w cost));
-  reached = λ x w v whole.
-      let y = p.reached x w v whole in
-      let e = moved_reach n.scale v n.offset f.constant unit (sum y.0) (once y.0) y.1.energy in (
-        y.0,
-        record {
-          width = y.1.width;
-          decodes = sym (same y.0) ∙ y.1.decodes;
-          energy = ap (λ z. unit *ℤ z) (energy_is y.0) ∙ e;
-        },
-      );
-  below = λ x w v whole.
-      moved_below n.scale v n.offset f.constant n.threshold (p.below x w v whole);
-  onto = λ x w. let y = p.onto x w in (y.0, y.1, sym (same y.0) ∙ y.2);
-}
-  where
-    sum : List Bool → ℤ
-    sum y = total_by (spins_energy y) (entries_of f)
-
-    once : (y : List Bool) → unit *ℤ (f.constant +ℤ sum y) ≡ f.constant +ℤ unit *ℤ sum y
-    once y = counted_once unit f.constant (sum y) counted
-
-    energy_is : (y : List Bool)
-        → total_by (entry_energy kind y) (written_entries kind chains f) ≡ sum y
-    energy_is y = written_energy f variables kind chains fits y
+written_relaxes source f d variables n unit kind chains fits counted same p =
+    let m = written_of f variables n unit kind chains in
+    moved_relaxes source (length f.fields) (λ y. total_by (spins_energy y) (entries_of f))
+    (λ y. total_by (entry_energy kind y) m.entries) f.constant d (decoding_of m) n unit counted same
+    (written_energy f variables kind chains fits) p
 
 -- ---- its unit
 
@@ -169,25 +137,15 @@ zero_multiple : (d : ℕ) → IsMultiple d (pos 0)
 zero_multiple d = (pos 0, omega (arith, ints))
 
 reduced_is_reduced : (f : IsingContent) → IsReducedAsWritten (reduced f) (ising_unit f)
-reduced_is_reduced f =
-    subst (λ u. IsReducedAsWritten (counted_form u f) u) (unit_is f) counted
-  where
-    u : ℕ
-    u = unit_number f
-
-    same : entries_of (counted_form (pos u) f) ≡ map (entry_in (pos u)) (entries_of f)
-    same = entries_counted (pos u) f
-
-    counted : IsReducedAsWritten (counted_form (pos u) f) (pos u)
-    counted variables figures kind chains fits = record {
-      coprime = λ d more all.
-          let whole = all_counted (IsMultiple d) (counted_form (pos u) f) variables kind chains (zero_multiple d) fits all in
-          let none = quotients_coprime (entries_of f) d more (rw same at whole) in
-          all_written (λ z. z ≡ pos 0) (counted_form (pos u) f) kind chains (rw same none);
-      zero = λ all.
-          let whole = all_counted (λ z. z ≡ pos 0) (counted_form (pos u) f) variables kind chains refl fits all in
-          unit_of_zeros (entries_of f) (rw same at whole);
-    }
+reduced_is_reduced f variables figures kind chains fits = record {
+  coprime = λ d more all.
+      all_written (λ z. z ≡ pos 0) (reduced f) kind chains
+      ((counted_coprime (weights f)).coprime d more
+      (all_counted (IsMultiple d) (reduced f) variables kind chains (zero_multiple d) fits all));
+  zero = λ all.
+      (counted_coprime (weights f)).zero
+      (all_counted (λ z. z ≡ pos 0) (reduced f) variables kind chains refl fits all);
+}
 
 pub made_is_reduced : (f g : IsingContent) (unit : ℤ) → g ≡ reduced f → unit ≡ ising_unit f
     → IsReducedAsWritten g unit

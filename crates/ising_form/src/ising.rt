@@ -4,7 +4,7 @@ ghost use Rattle.std.specs.Prelude.{◌≡◌, ◌≤◌, ◌^◌, IfOk};
 use base::NoMemory;
 use bits_model::CouplerList;
 use form_steps::Reduced;
-use quad_form::{NumberList, counted_couplers, counted_numbers, greatest_unit};
+use quad_form::{NumberList, counted_weights};
 use std::marker::Model;
 
 /// An Ising form over spins: a constant, a field for each node, and couplings in order, whose weights
@@ -58,14 +58,14 @@ impl Ising {
             fields,
             couplings,
         } = self;
-        let unit = greatest_unit(fields.as_slice(), &couplings);
+        let counted = counted_weights(fields, couplings);
         Ok(Reduced {
             target: Ising {
                 constant: 0,
-                fields: NumberList::new(counted_numbers(fields.into_vec(), unit)),
-                couplings: counted_couplers(couplings, unit),
+                fields: counted.nodes,
+                couplings: counted.couplers,
             },
-            unit,
+            unit: counted.unit,
             offset: -constant,
         })
     }

@@ -1,15 +1,21 @@
--- Quadratic forms whose weights are counted in their greatest unit.
-use Rattle.std.proofs.Common.{◌≡◌, ℕ, ◌+◌, ◌*◌, ◌≤◌, Bool, true, false, ℤ, pos, neg_ℤ, ◌+ℤ◌, ◌*ℤ◌, ◌≤ℤ◌, unsigned_abs, List, length, map, All, sym, ap, ◌∙◌, subst, arith}
+-- Forms whose weights are counted in their greatest unit.
+--
+-- What the weights keep is the same for bits and for spins, whose energies are both linear in the
+-- weights.
+use Rattle.std.proofs.Common.{◌≡◌, ℕ, ◌+◌, ◌*◌, ◌<◌, ◌≤◌, Bool, true, false, ℤ, pos, neg_ℤ, ◌+ℤ◌, ◌*ℤ◌, ◌≤ℤ◌, unsigned_abs, ◌&&◌, List, ◌++◌, length, map, All, refl, sym, ap, ◌∙◌, subst, arith}
 use Rattle.std.specs.Int.{◌∣◌}
 use Rattle.std.proofs.Math.Nat.{mul-le-mul_right}
 use Rattle.std.proofs.lemmas.Int.{ints}
 use Rattle.std.proofs.lemmas.List.{length-map}
+use Rattle.base.specs.Costs.{Form}
 use Rattle.base.specs.Sums.{total_by, if_so}
+use Rattle.base.specs.declared.costs.Cost.TheVariants.{Whole}
 use Rattle.bits_model.specs.declared.output.Entry.{Entry}
 use Rattle.form_steps.specs.Relations.{Reduces}
-use Rattle.bits_model.specs.Output.{bits_energy, weight_total}
+use Rattle.bits_model.specs.Units.{IsMultiple}
+use Rattle.bits_model.specs.Output.{bit_at, bits_energy, weight_total}
 use Rattle.quad_form.specs.Quads.{QuadContent, IsQuad, IsCoupler, entries_of, node_entries, quad_total, form_of}
-use Rattle.quad_form.specs.Units.{unit_of, counted_in, entry_in, quad_unit, reduced, IsReducedAsWritten}
+use Rattle.quad_form.specs.Units.{unit_of, weights_of, counted_in, entry_in, quad_unit, reduced, IsReducedAsWritten}
 use Rattle.quad_form.proofs.Divisors.{exact}
 use Rattle.quad_form.proofs.UnitEntries.{DividesEach, unit_in, unit_divides, one_le_unit, weights-entries, entries-in, total-in, energy-in, ordered-in, couplers-in, quotients_coprime, unit_of_zeros, each_of_rest}
 
@@ -82,61 +88,104 @@ reduced_is_quad q quad =
 
 -- ---- its energies
 
-energy_each : (y : List Bool) (u : ℕ) (e : Entry) → u ∣ unsigned_abs e.weight
-    → pos u *ℤ bits_energy y (entry_in (pos u) e) ≡ bits_energy y e
-energy_each y u e h = go _
+-- an energy of entries is a multiple of the weight
+abbrev pub IsLinear : (Entry → ℤ) → Type 0
+IsLinear f = (u : ℤ) (e : Entry) → u *ℤ f e ≡ f (record e { weight = u *ℤ e.weight })
+
+-- the form of these weights, under an energy of entries for each state
+abbrev pub form_by : (List Bool → Entry → ℤ) → QuadContent → Form
+form_by f q = record {
+  bits = length q.diagonal;
+  cost = λ y. Whole (q.constant +ℤ total_by (f y) (entries_of q));
+}
+
+pub bits_linear : (y : List Bool) → IsLinear (bits_energy y)
+bits_linear y u e = go (bit_at y e.first && bit_at y e.second)
   where
-    go : (b : Bool) → pos u *ℤ if_so b (counted_in (pos u) e.weight) ≡ if_so b e.weight
-    go true = exact u e.weight h
+    go : (b : Bool) → u *ℤ if_so b e.weight ≡ if_so b (u *ℤ e.weight)
+    go true = refl
     go false = omega (arith, ints)
 
-pub reduced_reduces : (q : QuadContent)
-    → Reduces (form_of q) (form_of (reduced q)) (quad_unit q) (neg_ℤ q.constant)
-reduced_reduces q =
-    subst (λ u. Reduces (form_of q) (form_of (counted_form u q)) u (neg_ℤ q.constant))
+energy_each : (f : Entry → ℤ) → IsLinear f → (u : ℕ) (e : Entry) → u ∣ unsigned_abs e.weight
+    → pos u *ℤ f (entry_in (pos u) e) ≡ f e
+energy_each f linear u e h =
+    linear (pos u) (entry_in (pos u) e)
+    ∙ ap (λ w. f (record e { weight = w })) (exact u e.weight h)
+
+forms_reduce : (f : List Bool → Entry → ℤ) → ((y : List Bool) → IsLinear (f y))
+    → (q : QuadContent)
+    → Reduces (form_by f q) (form_by f (reduced q)) (quad_unit q) (neg_ℤ q.constant)
+forms_reduce f linear q =
+    subst (λ u. Reduces (form_by f q) (form_by f (counted_form u q)) u (neg_ℤ q.constant))
     (unit_is q) counted
   where
     u : ℕ
     u = unit_number q
 
-    counted : Reduces (form_of q) (form_of (counted_form (pos u) q)) (pos u) (neg_ℤ q.constant)
+    counted : Reduces (form_by f q) (form_by f (counted_form (pos u) q)) (pos u) (neg_ℤ q.constant)
     counted = record {
       positive = omega (arith, ints, one_le_unit (entries_of q));
       width = length-map q.diagonal (counted_in (pos u));
       energy = λ y w.
-          let sum = total_by (bits_energy y) (entries_of q) in
+          let sum = total_by (f y) (entries_of q) in
           let none : (z : ℤ) → pos 0 +ℤ z ≡ z = λ z. omega (arith, ints) in
           let taken : sum ≡ (q.constant +ℤ sum) +ℤ neg_ℤ q.constant = omega (arith, ints) in
-          ap (λ z. pos u *ℤ z) (none (total_by (bits_energy y) (entries_of (counted_form (pos u) q)))
-          ∙ ap (total_by (bits_energy y)) (entries_counted (pos u) q))
-          ∙ energy-in (bits_energy y) u (entries_of q) (unit_divides (entries_of q)) (energy_each y u)
+          ap (λ z. pos u *ℤ z) (none (total_by (f y) (entries_of (counted_form (pos u) q)))
+          ∙ ap (total_by (f y)) (entries_counted (pos u) q))
+          ∙ energy-in (f y) u (entries_of q) (unit_divides (entries_of q))
+          (energy_each (f y) (linear y) u)
           ∙ taken;
     }
 
+pub reduced_reduces : (q : QuadContent)
+    → Reduces (form_of q) (form_of (reduced q)) (quad_unit q) (neg_ℤ q.constant)
+reduced_reduces q = forms_reduce bits_energy bits_linear q
+
 -- ---- its unit is the greatest
 
-pub reduced_is_reduced : (q : QuadContent) → IsReducedAsWritten (reduced q) (quad_unit q)
-reduced_is_reduced q =
-    subst (λ u. IsReducedAsWritten (counted_form u q) u) (unit_is q) counted
+-- no whole number above 1 divides all entries unless all are 0, and then the unit is 1
+pub record IsCoprime (es : List Entry) (unit : ℤ) : Type 0 where
+  pub coprime : (d : ℕ) → 1 < d → All (λ e. IsMultiple d e.weight) es
+      → All (λ e. e.weight ≡ pos 0) es
+  pub zero : All (λ e. e.weight ≡ pos 0) es → unit ≡ pos 1
+
+pub counted_coprime : (q : QuadContent) → IsCoprime (entries_of (reduced q)) (quad_unit q)
+counted_coprime q =
+    subst (λ u. IsCoprime (entries_of (counted_form u q)) u) (unit_is q)
+    (subst (λ es. IsCoprime es (pos (unit_number q)))
+    (sym (entries_counted (pos (unit_number q)) q)) counted)
   where
-    u : ℕ
-    u = unit_number q
-
-    same : entries_of (counted_form (pos u) q) ≡ map (entry_in (pos u)) (entries_of q)
-    same = entries_counted (pos u) q
-
-    counted : IsReducedAsWritten (counted_form (pos u) q) (pos u)
-    counted variables figures = record {
-      coprime = λ d more all.
-          rw same (quotients_coprime (entries_of q) d more (rw same at all));
-      zero = λ all. unit_of_zeros (entries_of q) (rw same at all);
+    counted : IsCoprime (map (entry_in (pos (unit_number q))) (entries_of q)) (pos (unit_number q))
+    counted = record {
+      coprime = λ d more all. quotients_coprime (entries_of q) d more all;
+      zero = λ all. unit_of_zeros (entries_of q) all;
     }
+
+pub reduced_is_reduced : (q : QuadContent) → IsReducedAsWritten (reduced q) (quad_unit q)
+reduced_is_reduced q variables figures = record {
+  coprime = (counted_coprime q).coprime;
+  zero = (counted_coprime q).zero;
+}
 
 -- ---- of what was made
 
-pub made_reduces : (q r : QuadContent) (unit offset : ℤ) → r ≡ reduced q → unit ≡ quad_unit q
-    → offset ≡ neg_ℤ q.constant → Reduces (form_of q) (form_of r) unit offset
-made_reduces q r unit offset is same moved = rw (is, same, moved) (reduced_reduces q)
+-- what is made of weights that are counted in their greatest unit
+pub made_of_weights : (constant : ℤ) (ws : List ℤ) (cs : List Entry) (nodes : List ℤ)
+    (couplers : List Entry) → nodes ≡ map (counted_in (unit_of (weights_of ws cs))) ws
+    → couplers ≡ map (entry_in (unit_of (weights_of ws cs))) cs
+    → record { constant = pos 0; diagonal = nodes; couplers = couplers }
+    ≡ reduced (record { constant = constant; diagonal = ws; couplers = cs })
+made_of_weights constant ws cs nodes couplers of_nodes of_couplers = λ i. record {
+  constant = pos 0;
+  diagonal = of_nodes i;
+  couplers = of_couplers i;
+}
+
+pub made_reduces : (f : List Bool → Entry → ℤ) → ((y : List Bool) → IsLinear (f y))
+    → (q r : QuadContent) (unit offset : ℤ) → r ≡ reduced q → unit ≡ quad_unit q
+    → offset ≡ neg_ℤ q.constant → Reduces (form_by f q) (form_by f r) unit offset
+made_reduces f linear q r unit offset is same moved =
+    rw (is, same, moved) (forms_reduce f linear q)
 
 pub made_total : (q r : QuadContent) (unit : ℤ) → r ≡ reduced q → unit ≡ quad_unit q
     → unsigned_abs unit * quad_total r ≤ quad_total q

@@ -5,9 +5,11 @@ use Rattle.std.proofs.lemmas.Int.{ints}
 use Rattle.std.proofs.lemmas.List.Elements.{recursion_from_All}
 use Rattle.base.specs.Sums.{total_by}
 use Rattle.base.specs.declared.costs.Figures.{Figures}
+use Rattle.base.specs.declared.costs.Cost.TheVariants.{Whole}
 use Rattle.base.specs.Costs.{Form}
+use Rattle.base.specs.Figures.{figures_moved}
 use Rattle.form_steps.specs.Relations.{Decoding, Relaxes}
-use Rattle.bits_model.specs.Output.{IsWellFormed, bits_energy}
+use Rattle.bits_model.specs.Output.{IsWellFormed, bits_energy, decoding_of}
 use Rattle.quad_form.specs.Quads.{QuadContent, IsQuad, form_of, written_of, entries_of}
 use Rattle.quad_form.specs.Stated.{RelaxesAsWritten}
 use Rattle.quad_form.proofs.NodeEntries.{nodes_ordered, couplers_up, all_placed, has_each_node, all_nonzero}
@@ -31,60 +33,70 @@ written_is_well_formed q variables figures unit quad enough scale one = record {
 }
 
 -- in a unit that is 1, or without a constant, the constant is counted once
-pub counted_once : (u c e : ℤ) → (u ≡ pos 1) ⊎ (c ≡ pos 0) → u *ℤ (c +ℤ e) ≡ c +ℤ u *ℤ e
+counted_once : (u c e : ℤ) → (u ≡ pos 1) ⊎ (c ≡ pos 0) → u *ℤ (c +ℤ e) ≡ c +ℤ u *ℤ e
 counted_once u c e (inl one) = rw one (omega (arith, ints))
 counted_once u c e (inr none) =
     let sum : pos 0 +ℤ e ≡ e = omega (arith, ints) in
     rw none (ap (λ z. u *ℤ z) sum ∙ omega (arith, ints))
 
 -- the constant c is moved from the energies, which count u each, to the figures
-pub moved_bound : (s v b c u e : ℤ) → u *ℤ (c +ℤ e) ≡ c +ℤ u *ℤ e
+moved_bound : (s v b c u e : ℤ) → u *ℤ (c +ℤ e) ≡ c +ℤ u *ℤ e
     → (s *ℤ v +ℤ b) ≤ℤ (u *ℤ (c +ℤ e)) → (s *ℤ v +ℤ (b +ℤ neg_ℤ c)) ≤ℤ (u *ℤ e)
 moved_bound s v b c u e once h = omega (arith, ints)
 
-pub moved_above : (t c u e : ℤ) → u *ℤ (c +ℤ e) ≡ c +ℤ u *ℤ e
+moved_above : (t c u e : ℤ) → u *ℤ (c +ℤ e) ≡ c +ℤ u *ℤ e
     → t <ℤ (u *ℤ (c +ℤ e)) → (t +ℤ neg_ℤ c) <ℤ (u *ℤ e)
 moved_above t c u e once h = omega (arith, ints)
 
-pub moved_reach : (s v b c u e : ℤ) → u *ℤ (c +ℤ e) ≡ c +ℤ u *ℤ e
+moved_reach : (s v b c u e : ℤ) → u *ℤ (c +ℤ e) ≡ c +ℤ u *ℤ e
     → u *ℤ (c +ℤ e) ≡ s *ℤ v +ℤ b → u *ℤ e ≡ s *ℤ v +ℤ (b +ℤ neg_ℤ c)
 moved_reach s v b c u e once h = omega (arith, ints)
 
-pub moved_below : (s v b c t : ℤ) → (s *ℤ v +ℤ b) ≤ℤ t
+moved_below : (s v b c t : ℤ) → (s *ℤ v +ℤ b) ≤ℤ t
     → (s *ℤ v +ℤ (b +ℤ neg_ℤ c)) ≤ℤ (t +ℤ neg_ℤ c)
 moved_below s v b c t h = omega (arith, ints)
+
+-- where a form relaxes a source, the energies without its constant do, which is taken off the
+-- figures
+pub moved_relaxes : (source : Form) (bits : ℕ) (sum energy : List Bool → ℤ) (c : ℤ)
+    (d e : Decoding) (n : Figures) (unit : ℤ) → (unit ≡ pos 1) ⊎ (c ≡ pos 0)
+    → ((y : List Bool) → d.decoded y ≡ e.decoded y) → ((y : List Bool) → energy y ≡ sum y)
+    → Relaxes source (record { bits = bits; cost = λ y. Whole (c +ℤ sum y) }) d unit n
+    → Relaxes source (record { bits = bits; cost = λ y. Whole (energy y) }) e unit
+    (figures_moved n (neg_ℤ c))
+moved_relaxes source bits sum energy c d e n unit counted same is p = record {
+  unit = p.unit;
+  positive = p.positive;
+  width = λ y w. rw (← same y) (p.width y w);
+  bound = λ y w v whole.
+      let cost = ap source.cost (same y) ∙ whole in
+      rw (is y) (moved_bound n.scale v n.offset c unit (sum y) (once y) (p.bound y w v cost));
+  above = λ y w infinite.
+      let cost = ap source.cost (same y) ∙ infinite in
+      rw (is y) (moved_above n.threshold c unit (sum y) (once y) (p.above y w cost));
+  reached = λ x w v whole.
+      let y = p.reached x w v whole in
+      let reach = moved_reach n.scale v n.offset c unit (sum y.0) (once y.0) y.1.energy in (
+        y.0,
+        record {
+          width = y.1.width;
+          decodes = sym (same y.0) ∙ y.1.decodes;
+          energy = ap (λ z. unit *ℤ z) (is y.0) ∙ reach;
+        },
+      );
+  below = λ x w v whole. moved_below n.scale v n.offset c n.threshold (p.below x w v whole);
+  onto = λ x w. let y = p.onto x w in (y.0, y.1, sym (same y.0) ∙ y.2);
+}
+  where
+    once : (y : List Bool) → unit *ℤ (c +ℤ sum y) ≡ c +ℤ unit *ℤ sum y
+    once y = counted_once unit c (sum y) counted
 
 pub written_relaxes : (source : Form) (q : QuadContent) (d : Decoding) (variables : ℕ)
     (figures : Figures) (unit : ℤ) → (unit ≡ pos 1) ⊎ (q.constant ≡ pos 0)
     → ((y : List Bool) → d.decoded y ≡ take variables y)
     → Relaxes source (form_of q) d unit figures
     → RelaxesAsWritten source (written_of q variables figures unit)
-written_relaxes source q d variables n unit counted same p = record {
-  unit = p.unit;
-  positive = p.positive;
-  width = λ y w. rw (← same y) (p.width y w);
-  bound = λ y w v whole.
-      let cost = ap source.cost (same y) ∙ whole in
-      moved_bound n.scale v n.offset q.constant unit (sum y) (once y) (p.bound y w v cost);
-  above = λ y w infinite.
-      let cost = ap source.cost (same y) ∙ infinite in
-      moved_above n.threshold q.constant unit (sum y) (once y) (p.above y w cost);
-  reached = λ x w v whole.
-      let y = p.reached x w v whole in (
-        y.0,
-        record {
-          width = y.1.width;
-          decodes = sym (same y.0) ∙ y.1.decodes;
-          energy = moved_reach n.scale v n.offset q.constant unit (sum y.0) (once y.0) y.1.energy;
-        },
-      );
-  below = λ x w v whole.
-      moved_below n.scale v n.offset q.constant n.threshold (p.below x w v whole);
-  onto = λ x w. let y = p.onto x w in (y.0, y.1, sym (same y.0) ∙ y.2);
-}
-  where
-    sum : List Bool → ℤ
-    sum y = total_by (bits_energy y) (entries_of q)
-
-    once : (y : List Bool) → unit *ℤ (q.constant +ℤ sum y) ≡ q.constant +ℤ unit *ℤ sum y
-    once y = counted_once unit q.constant (sum y) counted
+written_relaxes source q d variables n unit counted same p =
+    let sum : List Bool → ℤ = λ y. total_by (bits_energy y) (entries_of q) in
+    moved_relaxes source (length q.diagonal) sum sum q.constant d
+    (decoding_of (written_of q variables n unit)) n unit counted same (λ y. refl) p

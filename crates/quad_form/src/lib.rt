@@ -13,4 +13,4 @@ mod units;
 pub use flatten::Flatten;
 pub use laws::written_stands_for_its_form;
 pub use quad::{NumberList, Quad};
-pub use units::{counted_couplers, counted_numbers, greatest_unit};
+pub use units::{CountedWeights, counted_weights};

@@ -4,8 +4,8 @@ ghost use Rattle.form_steps.specs.Relations.{Reduces};
 ghost use Rattle.quad_form.specs.Quads.{form_of, quad_total};
 ghost use Rattle.quad_form.specs.Units.{quad_unit, reduced, IsReducedAsWritten};
 
-use crate::quad::{NumberList, Quad};
-use crate::units::{counted_couplers, counted_numbers, greatest_unit};
+use crate::quad::Quad;
+use crate::units::counted_weights;
 use base::NoMemory;
 use form_steps::Reduced;
 
@@ -28,14 +28,14 @@ impl Quad {
             diagonal,
             couplers,
         } = self;
-        let unit = greatest_unit(diagonal.as_slice(), &couplers);
+        let counted = counted_weights(diagonal, couplers);
         Ok(Reduced {
             target: Quad {
                 constant: 0,
-                diagonal: NumberList::new(counted_numbers(diagonal.into_vec(), unit)),
-                couplers: counted_couplers(couplers, unit),
+                diagonal: counted.nodes,
+                couplers: counted.couplers,
             },
-            unit,
+            unit: counted.unit,
             offset: -constant,
         })
     }

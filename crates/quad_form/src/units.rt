@@ -10,6 +10,7 @@ ghost use Rattle.bits_model.specs.Output.{weight_total};
 ghost use Rattle.quad_form.specs.Quads.{node_entries};
 ghost use Rattle.quad_form.specs.Units.{IsCommonDivisor, weight_of, unit_of, weights_of, counted_in, entry_in};
 
+use crate::quad::NumberList;
 use bits_model::{CouplerList, divide_weights};
 
 /// The greatest common divisor.
@@ -76,7 +77,7 @@ fn divisor_with(start: u128, couplers: &CouplerList) -> u128
 }
 
 /// The greatest whole number that divides all weights, and 1 where all are 0.
-pub fn greatest_unit(nodes: &[i128], couplers: &CouplerList) -> i128
+fn greatest_unit(nodes: &[i128], couplers: &CouplerList) -> i128
     requires { weight_total (node_entries 0 nodes.now) + weight_total couplers.now ≤ 2 ^ 124 }
     ensures { result ≡ unit_of (weights_of nodes.now couplers.now) }
 {
@@ -85,7 +86,7 @@ pub fn greatest_unit(nodes: &[i128], couplers: &CouplerList) -> i128
 }
 
 /// Numbers, counted in a unit in their own memory.
-pub fn counted_numbers(numbers: Vec<i128>, unit: i128) -> Vec<i128>
+fn counted_numbers(numbers: Vec<i128>, unit: i128) -> Vec<i128>
     requires { pos 1 ≤ℤ unit }
     ensures { result.items ≡ map (counted_in unit) numbers.items }
 {
@@ -97,7 +98,7 @@ pub fn counted_numbers(numbers: Vec<i128>, unit: i128) -> Vec<i128>
 }
 
 /// Couplers whose weights are counted in a unit, in their own memory.
-pub fn counted_couplers(couplers: CouplerList, unit: i128) -> CouplerList
+fn counted_couplers(couplers: CouplerList, unit: i128) -> CouplerList
     requires { pos 1 ≤ℤ unit }
     ensures { result ≡ map (entry_in unit) couplers }
 {
@@ -105,5 +106,30 @@ pub fn counted_couplers(couplers: CouplerList, unit: i128) -> CouplerList
         couplers
     } else {
         couplers.divide(unit)
+    }
+}
+
+/// The weights of nodes and of couplers, counted in a unit.
+#[derive(Drop)]
+pub struct CountedWeights {
+    pub nodes: NumberList,
+    pub couplers: CouplerList,
+    pub unit: i128,
+}
+
+/// Weights, counted in their greatest unit. They are divided in place, or stay as they are in the
+/// unit 1.
+pub fn counted_weights(nodes: NumberList, couplers: CouplerList) -> CountedWeights
+    requires { weight_total (node_entries 0 nodes) + weight_total couplers ≤ 2 ^ 124 }
+    ensures unit { result.unit ≡ unit_of (weights_of nodes couplers) }
+    ensures nodes { result.nodes ≡ map (counted_in (unit_of (weights_of nodes couplers))) nodes }
+    ensures couplers { result.couplers
+        ≡ map (entry_in (unit_of (weights_of nodes couplers))) couplers }
+{
+    let unit = greatest_unit(nodes.as_slice(), &couplers);
+    CountedWeights {
+        nodes: NumberList::new(counted_numbers(nodes.into_vec(), unit)),
+        couplers: counted_couplers(couplers, unit),
+        unit,
     }
 }

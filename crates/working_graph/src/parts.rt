@@ -9,7 +9,7 @@ ghost use Rattle.whole_text.specs.Tokens.{is_blank, word, words, tokens_of_line}
 ghost use Rattle.whole_text.specs.Steps.{GivesAlways};
 ghost use Rattle.working_graph.specs.DeadLists.{qubit_at, joined_at, rest_at, parts_of_words, IsPartOf};
 
-use crate::digits::first_number;
+use chain_map::first_number;
 use chimera_graph::{Chimera, Hardware};
 use whole_text::{TextFault, TextKind, blank_len, fault};
 

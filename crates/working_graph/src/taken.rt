@@ -15,10 +15,9 @@ ghost use Rattle.working_graph.specs.Places.{
 };
 
 use crate::parting::is_parted;
-use crate::path::{chain_qubit, clique_places, diagonal_of, fill_chain};
 use crate::working::Working;
 use base::NoMemory;
-use chain_map::ChainMap;
+use chain_map::{ChainMap, clique_places, diagonal_of, fill_chain, path_qubit, spot_of};
 use chimera_graph::Hardware;
 use std::alloc::Global;
 
@@ -28,8 +27,9 @@ fn all_exist(working: &Working, place: u32) -> bool
     ensures { result ≡ list_all (exists_in working.now) (clique_chain working.now.graph place) }
 {
     let graph = working.graph();
+    let spot = spot_of(&graph, place);
     for steps in 0..diagonal_of(&graph) + 1 {
-        if !working.exists(chain_qubit(&graph, place, steps)) {
+        if !working.exists(path_qubit(&graph, spot, steps)) {
             return false;
         }
     }
@@ -37,13 +37,13 @@ fn all_exist(working: &Working, place: u32) -> bool
 }
 
 /// Whether each next two qubits of a chain are joined.
-fn are_linked(working: &Working, chain: &[u64]) -> bool
+fn are_linked(working: &Working, chain: &[u32]) -> bool
     requires { (j : ℕ) → j < length chain.now
         → slice_index_or chain.now j 0 < qubits_of working.now.graph }
     ensures { result ≡ are_linked (joined_in working.now) chain.now }
 {
     for k in 1..chain.len() {
-        if !working.joined(chain[k - 1] as u32, chain[k] as u32) {
+        if !working.joined(chain[k - 1], chain[k]) {
             return false;
         }
     }
@@ -52,7 +52,7 @@ fn are_linked(working: &Working, chain: &[u64]) -> bool
 
 /// Whether all qubits of a place work, and each next two are joined. Its chain is then in the list,
 /// in place of what the list had.
-fn is_whole(working: &Working, place: u32, chain: &mut Vec<u64>) -> Result<bool, NoMemory>
+fn is_whole(working: &Working, place: u32, chain: &mut Vec<u32>) -> Result<bool, NoMemory>
     requires { place < clique_places working.now.graph }
     ensures whole { IfOk result (λ whole. whole
         ≡ is_whole (fabric_of working.now) (clique_chain working.now.graph place)) }
@@ -73,7 +73,7 @@ fn is_free(
     working: &Working,
     marks: &[bool],
     place: u32,
-    chain: &mut Vec<u64>,
+    chain: &mut Vec<u32>,
 ) -> Result<bool, NoMemory>
     requires place { place < clique_places working.now.graph }
     requires len { length marks.now ≡ clique_places working.now.graph }
@@ -103,6 +103,7 @@ pub(crate) fn taken_chains(
     let places = clique_places(&graph);
     let mut marks = vec![in alloc; false; places as usize]?;
     let mut chain = Vec::new(alloc);
+    let mut wide = Vec::new(alloc);
     let mut taken = ChainMap::new(alloc);
     for place in 0..places {
         if taken.len() == nodes {
@@ -111,7 +112,7 @@ pub(crate) fn taken_chains(
         let free = is_free(working, &marks, place, &mut chain)?;
         if free {
             marks[place as usize] = true;
-            taken.push(&chain)?;
+            taken.push_qubits(&chain, &mut wide)?;
         }
     }
     Ok(taken)

@@ -8,6 +8,6 @@ loop-node-preserved c =
     let graph = c.args.graph.now in
     let node = c.loop-node.node in
     let chain : c.deref.result.now ≡ clique_chain graph node = c.deref.ensures.value ∙ c.in_ok-fill_chain.ensures in
-    c.in_ok-push.ensures.pushed
+    c.in_ok-push_qubits.ensures.pushed
     ∙ (λ i. c.loop-node.invariant i ++ chain i ∷ [])
     ∙ sym (map-range_with_len_more (clique_chain graph) 0 node node (omega arith))

@@ -21,7 +21,7 @@ of-requires c =
     c.in_ok-places.ensures
     ∙ ap (λ (x : IsingContent). map (clique_place graph) x.couplings) c.ising.view_is in
     let fits : length f.fields ≤ clique_places graph =
-    omega (arith, nodes, c.if-nodes-room.false, c.node_places-room.ensures) in
+    omega (arith, nodes, c.if-nodes-room.false, c.clique_places-room.ensures) in
     made_embeds graph f _ kept fits
     (made_of_parts graph f _ _ _ _ _ nodes c.in_ok-chains.ensures c.qubits.ensures
     c.in_ok-parents.ensures places)
@@ -38,7 +38,7 @@ returns-clause-checked c =
     c.in_ok-places.ensures
     ∙ ap (λ (x : IsingContent). map (clique_place graph) x.couplings) c.ising.view_is in
     let fits : length f.fields ≤ clique_places graph =
-    omega (arith, nodes, c.if-nodes-room.false, c.node_places-room.ensures) in
+    omega (arith, nodes, c.if-nodes-room.false, c.clique_places-room.ensures) in
     subst
     (λ (e : Embedding).
     IsChecked (joined_on graph) (qubits_of graph) f (clique_of graph (length f.fields)) e)

@@ -2,9 +2,9 @@ use Rattle.std.proofs.Common.{◌≡◌, ◌<◌, ◌++◌, [], ◌∷◌, pos, 
 use Rattle.std.proofs.lemmas.List.{append_assoc, map-append, take_more}
 use Rattle.bits_model.specs.declared.output.Entry.{Entry}
 use Rattle.quad_form.specs.Quads.{IsCoupler}
-use Rattle.chain_map.specs.Cliques.{clique_places}
-use Rattle.clique_embedding.specs.declared.spot.Spot.{Spot}
-use Rattle.clique_embedding.specs.Placing.{spot_of, place_of_spots, clique_place}
+use Rattle.chain_map.specs.declared.spot.Spot.{Spot}
+use Rattle.chain_map.specs.Cliques.{clique_places, spot_of}
+use Rattle.clique_embedding.specs.Placing.{place_of_spots, clique_place}
 use Rattle.chain_map.proofs.CliqueChains.{cells_rise}
 use Rattle.clique_embedding.proofs.places.push_places.Goals as goal
 

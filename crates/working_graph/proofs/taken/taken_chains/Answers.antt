@@ -7,7 +7,7 @@ use Rattle.working_graph.specs.Working.{fabric_of}
 use Rattle.working_graph.specs.Places.{AreMarked, is_marked, taken_of}
 use Rattle.working_graph.proofs.TakenPlaces.{are_taken}
 use Rattle.working_graph.proofs.FreePlaces.{next_free, next_barred, mark_more, more_chains, chains_front, chains_all}
-use Rattle.working_graph.proofs.taken.taken_chains.Goals.{then-free+in_ok-push, else-free}
+use Rattle.working_graph.proofs.taken.taken_chains.Goals.{then-free+in_ok-push_qubits, else-free}
 use Rattle.working_graph.proofs.taken.taken_chains.Goals as goal
 
 pub returns-then-len-nodes : goal.returns-then-len-nodes
@@ -56,11 +56,11 @@ loop-place-preserved c =
     let room : length old < c.args.nodes =
     omega (arith, inv.3, c.len.ensures, c.if-len-nodes.false) in
     elim c.if-free.branch [
-      | then-free+in_ok-push w ↦
+      | then-free+in_ok-push_qubits w ↦
           let more = next_free f chain place xs refl (sym free ∙ w.if-free.true) in
           let marks : c.if-free.marks.items ≡ set seen place true =
           ap (λ (v : Vec Bool Global). v.items) w.marks-is in (
-            w.taken-is ∙ w.in_ok-push.ensures.pushed
+            w.taken-is ∙ w.in_ok-push_qubits.ensures.pushed
                 ∙ more_chains chain xs next place old _ inv.0
                 (w.deref-then-free.ensures.value ∙ c.in_ok-free.ensures.filled w.if-free.true) more,
             λ u.
@@ -72,7 +72,7 @@ loop-place-preserved c =
               arith,
               room,
               length-append old (w.deref-then-free.result.now ∷ []),
-              ap (λ (m : List (List ℕ)). length m) (w.taken-is ∙ w.in_ok-push.ensures.pushed),
+              ap (λ (m : List (List ℕ)). length m) (w.taken-is ∙ w.in_ok-push_qubits.ensures.pushed),
             ),
           )
       | else-free w ↦

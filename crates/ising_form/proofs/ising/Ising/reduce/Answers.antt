@@ -1,71 +1,42 @@
-use Rattle.std.proofs.Common.{◌≡◌, ℤ, List, pos, neg_ℤ, ◌-ℤ◌, ◌≤ℤ◌, map, FitsSigned, to_z, of_z, sym, ap, ◌∙◌, subst, arith, rules}
+use Rattle.std.proofs.Common.{◌≡◌, pos, neg_ℤ, ◌-ℤ◌, to_z, of_z, sym, ap, ◌∙◌, subst, arith, rules}
 use Rattle.std.specs.Int.{w128}
 use Rattle.std.proofs.lemmas.Int.{ints, to_z-of_z}
 use Rattle.ising_form.specs.Isings.{IsingContent, IsIsing}
-use Rattle.quad_form.specs.Units.{unit_of, weights_of, counted_in, entry_in}
 use Rattle.ising_form.specs.Reduction.{ising_unit, reduced}
-use Rattle.ising_form.proofs.ReducedForms.{one_le_ising_unit, reduced_is_ising, made_reduces, made_total}
+use Rattle.ising_form.proofs.ReducedForms.{reduced_is_ising, made_of_weights, made_reduces, made_total}
 use Rattle.ising_form.proofs.WrittenModels.{made_is_reduced}
 use Rattle.ising_form.proofs.ising.Ising.reduce.Goals as goal
 
--- the unit that the code finds
-unit_found : (q : IsingContent) (unit : ℤ) (nodes : List ℤ) → FitsSigned w128 unit
-    → unit ≡ unit_of (weights_of nodes q.couplings) → nodes ≡ q.fields
-    → to_z w128 (of_z w128 unit) ≡ ising_unit q
-unit_found q unit nodes fits is same =
-    to_z-of_z w128 unit fits ∙ is ∙ (λ i. unit_of (weights_of (same i) q.couplings))
-
-pub counted_numbers-requires : goal.counted_numbers-requires
-counted_numbers-requires c =
-    let inside = c.self.inside in
-    let q : IsingContent = record { constant = inside.constant; fields = inside.fields; couplings = inside.couplings } in
-    let unit = unit_found q _ _ (search rules) c.greatest_unit-unit.ensures c.as_slice.ensures in
-    subst (λ u. pos 1 ≤ℤ u) (sym unit) (one_le_ising_unit q)
-
-pub counted_couplers-requires : goal.counted_couplers-requires
-counted_couplers-requires c =
-    let inside = c.self.inside in
-    let q : IsingContent = record { constant = inside.constant; fields = inside.fields; couplings = inside.couplings } in
-    let unit = unit_found q _ _ (search rules) c.greatest_unit-unit.ensures c.as_slice.ensures in
-    subst (λ u. pos 1 ≤ℤ u) (sym unit) (one_le_ising_unit q)
-
--- the form that the code makes
-made_is : (c : goal.After-counted_couplers) (q : IsingContent)
-    → q ≡ record { constant = c.self.inside.constant; fields = c.self.inside.fields; couplings = c.self.inside.couplings }
-    → record { constant = pos 0; fields = c.new.result; couplings = c.counted_couplers.result } ≡ reduced q
-made_is c q same =
-    let inside = c.self.inside in
-    let p : IsingContent = record { constant = inside.constant; fields = inside.fields; couplings = inside.couplings } in
-    let unit = unit_found p _ _ (search rules) c.greatest_unit-unit.ensures c.as_slice.ensures in
-    let fields = c.new.ensures ∙ c.counted_numbers.ensures ∙ (λ i. map (counted_in (unit i)) (c.into_vec.ensures i)) in
-    let couplings = c.counted_couplers.ensures ∙ (λ i. map (entry_in (unit i)) inside.couplings) in
-    let made : record { constant = pos 0; fields = c.new.result; couplings = c.counted_couplers.result } ≡ reduced p = λ i. record { constant = pos 0; fields = fields i; couplings = couplings i } in
-    made ∙ ap reduced (sym same)
-
 pub invariant_of-result : goal.invariant_of-result
 invariant_of-result c =
-    let inside = c.self.inside in
-    let p : IsingContent = record { constant = inside.constant; fields = inside.fields; couplings = inside.couplings } in
-    subst IsIsing (sym (made_is c p (λ i. p))) (reduced_is_ising p c.self.invariant)
+    subst IsIsing
+    (sym (made_of_weights c.self.inside.constant _ _ _ _ c.counted_weights-counted.ensures.nodes
+    c.counted_weights-counted.ensures.couplers))
+    (reduced_is_ising _ c.self.invariant)
 
 pub returns-clause-target : goal.returns-clause-target
-returns-clause-target c = made_is c c.args.self (sym c.self.view_is)
+returns-clause-target c =
+    made_of_weights c.self.inside.constant _ _ _ _ c.counted_weights-counted.ensures.nodes
+    c.counted_weights-counted.ensures.couplers
+    ∙ ap reduced c.self.view_is
 
 pub returns-clause-unit : goal.returns-clause-unit
 returns-clause-unit c =
-    let inside = c.self.inside in
-    let q : IsingContent = record { constant = inside.constant; fields = inside.fields; couplings = inside.couplings } in
-    unit_found q _ _ (search rules) c.greatest_unit-unit.ensures c.as_slice.ensures
+    to_z-of_z w128 _ (search rules)
+    ∙ c.counted_weights-counted.ensures.unit
     ∙ ap ising_unit c.self.view_is
 
 pub returns-clause-reduces : goal.returns-clause-reduces
 returns-clause-reduces c =
-    let less : to_z w128 (of_z w128 (pos 0 -ℤ to_z w128 (of_z w128 c.self.inside.constant))) ≡ neg_ℤ c.self.inside.constant = omega (arith, ints, c.self.invariant.small) in
+    let less : to_z w128 (of_z w128 (pos 0 -ℤ to_z w128 (of_z w128 c.self.inside.constant)))
+    ≡ neg_ℤ c.self.inside.constant = omega (arith, ints, c.self.invariant.small) in
     let offset = less ∙ ap (λ (f : IsingContent). neg_ℤ f.constant) c.self.view_is in
     made_reduces c.args.self _ _ _ (returns-clause-target c) (returns-clause-unit c) offset
 
 pub returns-clause-total : goal.returns-clause-total
-returns-clause-total c = made_total c.args.self _ _ (returns-clause-target c) (returns-clause-unit c)
+returns-clause-total c =
+    made_total c.args.self _ _ (returns-clause-target c) (returns-clause-unit c)
 
 pub returns-clause-greatest : goal.returns-clause-greatest
-returns-clause-greatest c = made_is_reduced c.args.self _ _ (returns-clause-target c) (returns-clause-unit c)
+returns-clause-greatest c =
+    made_is_reduced c.args.self _ _ (returns-clause-target c) (returns-clause-unit c)

@@ -1,0 +1,7 @@
+use Rattle.std.proofs.Common.{◌≡◌, take}
+use Rattle.chain_map.specs.Cliques.{path_of}
+use Rattle.chain_map.proofs.spot.fill_chain.Given as goal
+
+-- the qubits so far
+abbrev pub invariant-loop-steps : goal.invariant-loop-steps
+invariant-loop-steps l = l.chain.items ≡ take l.steps (path_of l.graph l.spot.cell l.spot.at)
