@@ -1,7 +1,8 @@
 -- Couplers in the order of their pairs, packed ones, equal neighbours as one, and couplers that came
 -- in order.
-use Rattle.std.proofs.Common.{◌≡◌, ◌≢◌, ℕ, ◌+◌, ◌*◌, ◌/◌, ◌%◌, ◌<◌, ◌≤◌, ◌^◌, unsigned_abs, arith, sym, ap, ◌∙◌, refl, subst, List, [], ◌∷◌, ◌++◌, append_assoc, append-nil, pos, length, length-append, map, get_or, drop, Some, slice_get}
-use Rattle.std.specs.Prelude.{All}
+use Rattle.std.proofs.Common.{◌≡◌, ◌≢◌, ℕ, ◌+◌, ◌*◌, ◌/◌, ◌%◌, ◌<◌, ◌≤◌, ◌^◌, unsigned_abs, arith, sym, ap, ◌∙◌, refl, subst, List, [], ◌∷◌, ◌++◌, append_assoc, append-nil, pos, length, length-append, map, ℤ, drop, Option, None, Some, slice_get, ◌+ℤ◌, ◌-ℤ◌, OnErr, Result, Ok, Err}
+use Rattle.std.specs.Prelude.{All, IfSome}
+use Rattle.std.proofs.lemmas.Int.{ints}
 use Rattle.std.specs.List.Sorted.{IsPermutation, IsNonDecreasingBy}
 use Rattle.std.proofs.lemmas.List.{drop_more, get_or-map, length-map, map-append}
 use Rattle.std.proofs.lemmas.Option.{slice_get_within, get_or_from_slice_get}
@@ -12,10 +13,10 @@ use Rattle.bits_model.specs.declared.output.Entry.{Entry}
 use Rattle.bits_model.specs.PairNumbers.{pair_number}
 use Rattle.pair_sums.specs.Pairs.{IsPair, IsNonzero, weight_for, entry_in_front, sums_from, AreSummed}
 use Rattle.pair_sums.proofs.PairOrder.{Rises, ordered_from_rising}
-use Rattle.pair_sums.specs.declared.pairs.NarrowPair.{NarrowPair}
-use Rattle.pair_sums.specs.declared.pairs.Shape.{Shape}
-use Rattle.pair_sums.specs.declared.pairs.Shape.TheVariants.{Few, Many}
-use Rattle.pair_sums.specs.PairLists.{entry_of, narrow_of, unpacked, AreAscending, AreGathered}
+use Rattle.pair_sums.specs.declared.shape.Shape.{Shape}
+use Rattle.pair_sums.specs.declared.shape.Shape.TheVariants.{Few, Many, Most}
+use Rattle.pair_sums.specs.Codes.{numbers_of, unpacked, coupler_of, listed, low_of, AreListed, IsFound, KeepsWeights}
+use Rattle.pair_sums.specs.PairLists.{AreAscending, AreGathered}
 use Rattle.pair_sums.proofs.SummedPairs.{sums_from-other}
 
 -- ---- the order of their pairs
@@ -33,37 +34,75 @@ ordered-map entry n xs x up = λ i j d le in'.
     )
 
 -- a greater code has no lesser pair
-pub codes-ordered : (shape : Shape) (c d : ℕ) → c ≤ d
-    → pair_number (unpacked shape c) ≤ pair_number (unpacked shape d)
-codes-ordered Few c d le =
+pub codes-ordered : (shape : Shape) (c d : ℕ) (w v : ℤ) → c ≤ d
+    → pair_number (coupler_of shape c w) ≤ pair_number (coupler_of shape d v)
+codes-ordered Few c d w v le =
     let number : c / 2 ^ 28 ≤ d / 2 ^ 28 = omega arith in
     go (c / 2 ^ 28) (d / 2 ^ 28) number
   where
     go : (n m : ℕ) → n ≤ m → n / 2 ^ 18 * 2 ^ 32 + n % 2 ^ 18 ≤ m / 2 ^ 18 * 2 ^ 32 + m % 2 ^ 18
     go n m le = omega arith
-codes-ordered Many c d le =
+codes-ordered Many c d w v le =
     let number : c / 2 ^ 24 ≤ d / 2 ^ 24 = omega arith in
     go (c / 2 ^ 24) (d / 2 ^ 24) number
   where
     go : (n m : ℕ) → n ≤ m → n / 2 ^ 20 * 2 ^ 32 + n % 2 ^ 20 ≤ m / 2 ^ 20 * 2 ^ 32 + m % 2 ^ 20
     go n m le = omega arith
+codes-ordered Most c d w v le =
+    let number : c / 2 ^ 22 ≤ d / 2 ^ 22 = omega arith in
+    go (c / 2 ^ 22) (d / 2 ^ 22) number
+  where
+    go : (n m : ℕ) → n ≤ m → n / 2 ^ 21 * 2 ^ 32 + n % 2 ^ 21 ≤ m / 2 ^ 21 * 2 ^ 32 + m % 2 ^ 21
+    go n m le = omega arith
 
--- ---- codes
+-- the code of a weight counted from the least one on
+pub packed-code : (shape : Shape) (r : Option ℕ) (number : ℕ) (e : Entry)
+    → IfSome r (λ c. coupler_of shape c e.weight ≡ e) → IfSome r (λ c. low_of shape c ≡ number)
+    → pos number ≡ e.weight +ℤ pos (numbers_of shape / 2) → IfSome r (λ c. unpacked shape c ≡ e)
+packed-code shape None number e nodes low is = tt
+packed-code shape (Some c) number e nodes low is =
+    let weight : pos (low_of shape c) -ℤ pos (numbers_of shape / 2) ≡ e.weight =
+    omega (arith, ints, is, low) in
+    ap (coupler_of shape c) weight ∙ nodes
 
--- their entries, once they are narrow couplers
-pub entries-narrow : (shape : Shape) (codes : List ℕ)
-    → map entry_of (map (narrow_of shape) codes) ≡ map (unpacked shape) codes
-entries-narrow shape [] = refl
-entries-narrow shape (c ∷ cs) = ap (λ es. unpacked shape c ∷ es) (entries-narrow shape cs)
+-- ---- codes beside a list of weights
 
--- and one more
-pub entries-longer : (shape : Shape) (codes : List ℕ) (narrow longer : List NarrowPair)
-    (p : NarrowPair) → narrow ≡ map (narrow_of shape) codes → longer ≡ narrow ++ p ∷ []
-    → map entry_of longer ≡ map (unpacked shape) codes ++ entry_of p ∷ []
-entries-longer shape codes narrow longer p is pushed =
-    ap (map entry_of) pushed
-    ∙ map-append entry_of narrow (p ∷ [])
-    ∙ ap (λ es. es ++ entry_of p ∷ []) (ap (map entry_of) is ∙ entries-narrow shape codes)
+-- more weights change no coupler
+pub listed-kept : (shape : Shape) (ws vs : List ℤ) (codes : List ℕ) → KeepsWeights ws vs
+    → AreListed shape ws codes → map (listed shape vs) codes ≡ map (listed shape ws) codes
+listed-kept shape ws vs [] kept all = refl
+listed-kept shape ws vs (c ∷ cs) kept all =
+    let here : low_of shape c < length ws = all 0 c (omega arith) in
+    let one = kept.same (low_of shape c) here in
+    let rest = listed-kept shape ws vs cs kept (All-tail (λ d. low_of shape d < length ws) c cs all) in
+    λ k. coupler_of shape c (one k) ∷ rest k
+
+pub AreListed-kept : (shape : Shape) (ws vs : List ℤ) (codes : List ℕ) → KeepsWeights ws vs
+    → AreListed shape ws codes → AreListed shape vs codes
+AreListed-kept shape ws vs codes kept all =
+    All-weaker (λ c. low_of shape c < length ws) (λ c. low_of shape c < length vs)
+    (λ c less. omega (arith, less, kept.within)) codes all
+
+pub on_err : {T E P : Type 0} (r : Result T E) → P → OnErr r P
+on_err (Ok x) p = tt
+on_err (Err e) p = p
+
+-- one more code, and perhaps its weight
+pub AreListed-push : (shape : Shape) (ws vs : List ℤ) (codes : List ℕ) (c : ℕ) (e : Entry)
+    → KeepsWeights ws vs → AreListed shape ws codes → IsFound vs e.weight (low_of shape c)
+    → AreListed shape vs (codes ++ c ∷ [])
+AreListed-push shape ws vs codes c e kept all found =
+    All-push (λ d. low_of shape d < length vs) codes c (AreListed-kept shape ws vs codes kept all)
+    found.within
+
+pub listed-push : (shape : Shape) (ws vs : List ℤ) (codes : List ℕ) (c : ℕ) (e : Entry)
+    → KeepsWeights ws vs → AreListed shape ws codes → IsFound vs e.weight (low_of shape c)
+    → coupler_of shape c e.weight ≡ e
+    → map (listed shape vs) (codes ++ c ∷ []) ≡ map (listed shape ws) codes ++ e ∷ []
+listed-push shape ws vs codes c e kept all found nodes =
+    let one : listed shape vs c ≡ e = ap (coupler_of shape c) found.is ∙ nodes in
+    let rest = listed-kept shape ws vs codes kept all in
+    map-append (listed shape vs) codes (c ∷ []) ∙ (λ k. rest k ++ one k ∷ [])
 
 -- ---- neighbours of one pair
 

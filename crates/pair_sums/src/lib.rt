@@ -5,7 +5,9 @@ mod appending;
 mod couplers;
 mod gathered;
 mod gathered_pairs;
+mod listed;
 mod pairs;
+mod shape;
 mod sorting;
 
 pub use appending::push_some;

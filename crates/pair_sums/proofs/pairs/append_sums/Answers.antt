@@ -4,7 +4,7 @@ use Rattle.bits_model.specs.declared.output.Entry.{Entry}
 use Rattle.bits_model.specs.Output.{weight_total}
 use Rattle.pair_sums.specs.Pairs.{sums_from}
 use Rattle.pair_sums.proofs.PairSums.{drop-one}
-use Rattle.pair_sums.proofs.pairs.sums_of.Goals as goal
+use Rattle.pair_sums.proofs.pairs.append_sums.Goals as goal
 
 pub add_pending-requires : goal.add_pending-requires
 add_pending-requires c =
