@@ -17,9 +17,9 @@ use Rattle.std.proofs.lemmas.List.Sums.{sum_by-cons}
 use Rattle.bits_model.specs.declared.output.Entry.{Entry}
 use Rattle.quad_form.specs.Quads.{IsCoupler}
 use Rattle.bits_model.specs.PairNumbers.{pair_number}
-use Rattle.quad_form.specs.Pairs.{IsPair, weight_for, weight_at}
-use Rattle.quad_form.proofs.PairOrder.{ArePairs, Before, Rises, same_pair, ordered_from_rising, rising_from_ordered}
-use Rattle.quad_form.proofs.UniqueForms.{Before-further, same_entries}
+use Rattle.pair_sums.specs.Pairs.{IsPair, weight_for, weight_at}
+use Rattle.pair_sums.proofs.PairOrder.{ArePairs, Before, Rises, same_pair, ordered_from_rising, rising_from_ordered}
+use Rattle.pair_sums.proofs.UniqueSums.{Before-further, same_entries}
 use Rattle.chain_layer.specs.laws.SpinSums.{all_append, total_by-in_order}
 use Rattle.ising_form.specs.Isings.{IsIsing, ising_total}
 use Rattle.bits_model.specs.Walks.{is_in, first_of}

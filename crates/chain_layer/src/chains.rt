@@ -11,13 +11,13 @@ use crate::decoding::decoded;
 use crate::extending::extended;
 use crate::link::ChainLink;
 use crate::shares::shared_fields;
-use crate::sorting::in_order;
 use crate::strengths::strengths;
 use crate::ties::{couplings_of, ties_cost};
 use base::NoMemory;
 use embedding_check::Embedded;
 use form_steps::{Layer, Lowered};
 use ising_form::Ising;
+use pair_sums::in_order;
 use quad_form::NumberList;
 use std::alloc::Global;
 

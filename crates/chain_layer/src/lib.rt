@@ -8,20 +8,16 @@
 mod chains;
 mod decoding;
 mod extending;
-mod gathered;
 mod laws;
 mod link;
 mod shares;
-mod sorting;
 mod strengths;
 mod ties;
 
 pub use chains::Chains;
 pub use decoding::decoded;
 pub use extending::extended;
-pub use gathered::Gathered;
 pub use laws::laws_of_images;
 pub use link::ChainLink;
 pub use shares::shared_fields;
-pub use sorting::in_order;
 pub use ties::{coupling, placed};

@@ -11,10 +11,10 @@ ghost use Rattle.chain_layer.specs.Image.{
   ties_cost,
 };
 
-use crate::gathered::Gathered;
 use base::NoMemory;
 use bits_model::{CouplerList, Entry};
 use embedding_check::Embedded;
+use pair_sums::Gathered;
 use std::alloc::Global;
 
 /// A coupling of two qubits, the lesser one first.

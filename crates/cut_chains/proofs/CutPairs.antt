@@ -12,9 +12,9 @@ use Rattle.base.proofs.Totals.{total_by-IsPermutation}
 use Rattle.bits_model.specs.declared.output.Entry.{Entry}
 use Rattle.quad_form.specs.Quads.{IsCoupler}
 use Rattle.bits_model.specs.PairNumbers.{pair_number}
-use Rattle.quad_form.specs.Pairs.{IsPair, weight_for}
-use Rattle.quad_form.proofs.PairOrder.{ArePairs, Rises}
-use Rattle.quad_form.proofs.UniqueForms.{same_entries}
+use Rattle.pair_sums.specs.Pairs.{IsPair, weight_for}
+use Rattle.pair_sums.proofs.PairOrder.{ArePairs, Rises}
+use Rattle.pair_sums.proofs.UniqueSums.{same_entries}
 use Rattle.embedding_check.specs.Embeddings.{Embedding, IsEmbedding}
 use Rattle.chain_map.specs.Chains.{chain_of}
 use Rattle.chain_layer.specs.Image.{nodes_of, strength, coupling_entry, ties, all_ties, placed, in_order}

@@ -9,9 +9,10 @@ ghost use Rattle.cut_chains.specs.CutImage.{cut_cost, cut_image, cut_ties};
 use crate::ties::{cost_from, tie_chains};
 use crate::weights::weights_of;
 use base::NoMemory;
-use chain_layer::{Gathered, in_order, placed, shared_fields};
+use chain_layer::{placed, shared_fields};
 use embedding_check::Embedded;
 use ising_form::Ising;
+use pair_sums::{Gathered, in_order};
 use quad_form::NumberList;
 use std::alloc::Global;
 

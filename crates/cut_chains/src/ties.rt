@@ -11,8 +11,9 @@ ghost use Rattle.cut_chains.specs.Steps.{strength_in};
 
 use crate::sums::weigh_chain;
 use base::NoMemory;
-use chain_layer::{Gathered, coupling};
+use chain_layer::coupling;
 use embedding_check::Embedded;
+use pair_sums::Gathered;
 
 /// One more than the lesser of the weights of the two sides of a tie.
 fn strength(sums: &[u128], all: u128, qubit: u32) -> u128

@@ -8,8 +8,8 @@ ghost use Rattle.embedding_check.specs.Embeddings.{IsEmbedding};
 ghost use Rattle.cut_chains.specs.Sides.{weight_of};
 
 use base::NoMemory;
-use chain_layer::Gathered;
 use embedding_check::Embedded;
+use pair_sums::Gathered;
 use std::alloc::Global;
 
 /// The size of each field.

@@ -12,7 +12,7 @@ use Rattle.term_table.specs.Terms.{Term}
 use Rattle.term_table.specs.Tables.{TableContent}
 use Rattle.monomial_layer.specs.Monomials.{node, new_nodes, new_terms, all_new_terms}
 use Rattle.quad_form.specs.Quads.{QuadContent, IsCoupler}
-use Rattle.quad_form.specs.Pairs.{weight_for, weight_at}
+use Rattle.pair_sums.specs.Pairs.{weight_for, weight_at}
 use Rattle.direct_quad.specs.Parts.{image, short_terms, long_terms, parts, sum_for}
 use Rattle.direct_quad.specs.Places.{place_couplers, term_places, all_places, short_couplers, Share, share_at, term_shares, all_shares, short_shares, long_constant, short_constant}
 use Rattle.direct_quad.specs.Gathered.{constant_of, shares_of, couplers_of, IsSumOf}

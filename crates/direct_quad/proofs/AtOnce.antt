@@ -22,11 +22,12 @@ use Rattle.monomial_layer.proofs.Sets.{IsLow-image}
 use Rattle.monomial_layer.proofs.Sizes.{size-image}
 use Rattle.quad_form.specs.Quads.{QuadContent, quad_total, quad_size, IsCoupler, IsQuad}
 use Rattle.quad_form.specs.Flat.{zero_quad}
-use Rattle.quad_form.specs.Pairs.{weight_at}
+use Rattle.pair_sums.specs.Pairs.{weight_at}
 use Rattle.quad_form.specs.laws.Flattened.{flat_sets, length-image}
 use Rattle.quad_form.proofs.FlatForms.{quad_total-image, quad_size-image}
-use Rattle.quad_form.proofs.PairOrder.{rising_from_ordered}
-use Rattle.quad_form.proofs.UniqueForms.{same_entries, couplers_are_pairs, nonzero_couplers, constant-fold, node-fold, pair-fold, IsQuad-image}
+use Rattle.pair_sums.proofs.PairOrder.{rising_from_ordered}
+use Rattle.quad_form.proofs.UniqueForms.{couplers_are_pairs, nonzero_couplers, constant-fold, node-fold, pair-fold, IsQuad-image}
+use Rattle.pair_sums.proofs.UniqueSums.{same_entries}
 use Rattle.direct_quad.specs.Parts.{table_of, image, all_nodes, parts, sum_for, GivesSums}
 use Rattle.direct_quad.specs.Stated.{IsWithin}
 use Rattle.direct_quad.proofs.Additive.{sum_for-with_additions}

@@ -14,7 +14,7 @@ use Rattle.term_table.specs.Tables.{TableContent, AreAdditions}
 use Rattle.term_table.proofs.SmallSets.{IsTermSet-wider}
 use Rattle.term_table.proofs.Steps.{terms_total-map}
 use Rattle.monomial_layer.specs.Monomials.{is_low}
-use Rattle.quad_form.specs.Pairs.{IsPair}
+use Rattle.pair_sums.specs.Pairs.{IsPair}
 use Rattle.direct_quad.specs.Parts.{is_long, long_additions, short_part, short_terms}
 use Rattle.direct_quad.specs.Places.{share_at, short_constant, short_couplers, short_shares}
 use Rattle.direct_quad.specs.Long.{product_term}

@@ -19,7 +19,7 @@ use Rattle.term_table.specs.Tables.{TableContent, AreAdditions}
 use Rattle.term_table.proofs.Additions.{terms_total-with_additions}
 use Rattle.term_table.proofs.Steps.{terms_total-map}
 use Rattle.monomial_layer.specs.Monomials.{new_nodes}
-use Rattle.quad_form.specs.Pairs.{IsPair, weight_for, weight_at}
+use Rattle.pair_sums.specs.Pairs.{IsPair, weight_for, weight_at}
 use Rattle.direct_quad.specs.Parts.{table_of, short_terms, long_terms, all_nodes}
 use Rattle.direct_quad.specs.Places.{Place, Share, share_at, short_couplers, short_shares, place_couplers, places_in, term_places, all_places, all_shares, long_constant}
 use Rattle.direct_quad.specs.Long.{product_term, terms_of, node_count, AreLong}

@@ -20,7 +20,7 @@ use Rattle.term_table.specs.Tables.{TableContent, with_appended}
 use Rattle.term_table.proofs.Additions.{terms_total-cons}
 use Rattle.term_table.proofs.Loops.{total-with_more}
 use Rattle.term_table.proofs.SmallSets.{IsLiteralSet-ascends}
-use Rattle.quad_form.specs.Pairs.{IsPair}
+use Rattle.pair_sums.specs.Pairs.{IsPair}
 use Rattle.direct_quad.specs.Parts.{short_terms}
 use Rattle.direct_quad.specs.Places.{Share, share_at, short_couplers, short_shares, short_constant}
 use Rattle.direct_quad.specs.Long.{product_term}

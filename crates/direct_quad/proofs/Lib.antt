@@ -23,7 +23,6 @@ pub mod GainedShares
 pub mod HeldSums
 pub mod KeptPlaces
 pub mod PairRows
-pub mod PairSums
 pub mod FlatTables
 pub mod RoomForSums
 pub mod HeldParts

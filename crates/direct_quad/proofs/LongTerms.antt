@@ -16,7 +16,7 @@ use Rattle.term_table.specs.Terms.{Term}
 use Rattle.term_table.proofs.Additions.{if_so-plus}
 use Rattle.monomial_layer.specs.Monomials.{node, with_each, each_with, pair_terms, factor, node_term, node_terms, nodes_for, positive_terms, negative_terms, new_terms}
 use Rattle.monomial_layer.specs.laws.Positive.{pairs, pairs_is, factor_cases}
-use Rattle.quad_form.specs.Pairs.{weight_for, weight_at}
+use Rattle.pair_sums.specs.Pairs.{weight_for, weight_at}
 use Rattle.direct_quad.specs.Parts.{sum_for}
 use Rattle.direct_quad.specs.Places.{signed, complements, pairs_among, pair_coupler, node_coupler, node_couplers, Place, place_couplers, places_in, term_places, Share, share_at, literal_share, node_share, node_shares, term_shares, long_constant}
 use Rattle.direct_quad.proofs.Additive.{Amount, given, share_of, sum_for-given}

@@ -1,19 +1,18 @@
 -- Couplers in the order of their first nodes, row by row.
-use Rattle.std.proofs.Common.{◌≡◌, ◌≢◌, ℕ, suc, ◌+◌, ◌<◌, ◌≤◌, Bool, true, false, cond, eqb, arith, sym, ap, ◌∙◌, refl, subst, List, [], ◌∷◌, ℤ, map, length, get_or, drop, Some, slice_get}
+use Rattle.std.proofs.Common.{◌≡◌, ◌≢◌, ℕ, suc, ◌+◌, ◌<◌, ◌≤◌, Bool, true, false, cond, eqb, arith, sym, ap, ◌∙◌, refl, subst, ◌*◌, ◌^◌, ◌++◌, append-nil, List, [], ◌∷◌, ℤ, map, length, get_or}
 use Rattle.std.specs.Prelude.{All}
 use Rattle.std.specs.List.{AllByRecursion}
 use Rattle.std.specs.List.Sorted.{IsNonDecreasingBy}
 use Rattle.std.specs.Bool.{Decides}
 use Rattle.std.proofs.lemmas.Bool.{eq-eqb}
 use Rattle.std.proofs.lemmas.Bool.Decides.{Decides-eqb}
-use Rattle.std.proofs.lemmas.List.{drop_more}
-use Rattle.std.proofs.lemmas.List.Elements.{recursion_from_All}
-use Rattle.std.proofs.lemmas.Option.{slice_get_within, get_or_from_slice_get}
+use Rattle.std.proofs.lemmas.List.{map-id}
+use Rattle.std.proofs.lemmas.List.Elements.{All-weaker, recursion_from_All}
 use Rattle.bits_model.specs.declared.output.Entry.{Entry}
 use Rattle.bits_model.specs.Output.{weight_total}
-use Rattle.quad_form.specs.Pairs.{IsPair}
-use Rattle.direct_quad.specs.Rows.{row_of}
-use Rattle.direct_quad.specs.PairLists.{AreFromRow}
+use Rattle.bits_model.specs.PairNumbers.{pair_number}
+use Rattle.pair_sums.specs.Pairs.{IsPair, AreSummed, weight_at}
+use Rattle.direct_quad.specs.Rows.{AreFromRow, AreRows, row_of}
 use Rattle.direct_quad.specs.RowSums.{with_entries, size_of}
 use Rattle.direct_quad.proofs.KeyPlaces.{size-with_entries}
 
@@ -29,12 +28,6 @@ row-other i e es other =
     go : (same : Bool) → Decides same (i ≡ e.first) → same ≡ false
     go true d = absurd (other (sym (d.0 refl)))
     go false d = refl
-
-pub drop-one : (es : List Entry) (n : ℕ) (e : Entry) → slice_get es n ≡ Some e
-    → drop n es ≡ e ∷ drop (n + 1) es
-drop-one es n e at =
-    drop_more es n e (slice_get_within es n e at)
-    ∙ ap (λ d. d ∷ drop (n + 1) es) (get_or_from_slice_get es n e e at)
 
 -- a row of pairs has second nodes below a number
 row-within : (i w : ℕ) (es : List Entry) → AllByRecursion (IsPair w) es
@@ -81,3 +74,36 @@ from_ordered entry i (x ∷ xs) up from = (
   from_ordered entry (entry x).first xs (λ j k d le in'. up (suc j) (suc k) d (omega arith) (omega arith))
       (λ k d in'. up 0 (suc k) d (omega arith) (omega arith)),
 )
+
+-- the first nodes do not descend then
+pub from_numbers : (es : List Entry) → All (IsPair (2 ^ 32)) es → IsNonDecreasingBy pair_number es
+    → AreFromRow 0 es
+from_numbers es pairs up =
+    subst (AreFromRow 0) (map-id es) (from_ordered (λ (e : Entry). e) 0 es firsts (λ k d in'. omega arith))
+  where
+    firsts : IsNonDecreasingBy (λ (e : Entry). e.first) es
+    firsts i j d le in' =
+        let one : IsPair (2 ^ 32) (get_or es i d) = pairs i d (omega (arith, le, in')) in
+        let two : IsPair (2 ^ 32) (get_or es j d) = pairs j d in' in
+        omega (arith, one.within, two.within, up i j d le in')
+
+-- ---- the rows of couplers alone
+
+pub rows-summed : (w n : ℕ) (ps others es : List Entry) → others ≡ [] → w ≤ n → All (IsPair w) ps
+    → AreSummed ps es → AreRows n w (ps ++ others) es
+rows-summed w n ps others es none le pairs summed =
+    let inside = summed.pairs w pairs in
+    let whole : ps ++ others ≡ ps = ap (λ fs. ps ++ fs) none ∙ append-nil ps in
+    record {
+      first = All-weaker (IsPair w) (λ (e : Entry). e.first < w)
+          (λ (e : Entry) p. omega (arith, p.upward, p.within)) es inside;
+      ordered = summed.ordered;
+      couplers = λ i d in'.
+          let pair : IsPair w (get_or es i d) = inside i d in' in
+          record {
+            upward = pair.upward;
+            within = omega (arith, pair.within, le);
+            nonzero = summed.nonzero i d in';
+          };
+      sums = λ i j less. summed.sums i j ∙ ap (weight_at i j) (sym whole);
+    }

@@ -19,8 +19,8 @@ use Rattle.term_table.specs.Tables.{TableContent}
 use Rattle.term_table.proofs.SmallSets.{IsBelow, IsLiteralSet-ascends}
 use Rattle.monomial_layer.specs.Monomials.{new_nodes, nodes_for, factor}
 use Rattle.quad_form.specs.Quads.{IsCoupler}
-use Rattle.quad_form.specs.Pairs.{IsPair, IsNonzero, weight_for, weight_at}
-use Rattle.quad_form.proofs.PairOrder.{Before, Rises, ordered_from_rising}
+use Rattle.pair_sums.specs.Pairs.{IsPair, IsNonzero, weight_for, weight_at}
+use Rattle.pair_sums.proofs.PairOrder.{Before, Rises, ordered_from_rising}
 use Rattle.quad_form.proofs.UniqueForms.{couplers_are_pairs}
 use Rattle.direct_quad.specs.Places.{Place, signed, pair_coupler, node_coupler, node_couplers, place_couplers, term_places, all_places}
 use Rattle.direct_quad.specs.Rows.{row_of, is_at, places_of, IsRow}

@@ -13,7 +13,7 @@ use Rattle.term_table.specs.Tables.{TableContent}
 use Rattle.term_table.proofs.SmallSets.{IsLiteralSet-ascends}
 use Rattle.monomial_layer.specs.Monomials.{new_nodes}
 use Rattle.quad_form.specs.Quads.{IsCoupler}
-use Rattle.quad_form.proofs.PairOrder.{ordered_from_rising}
+use Rattle.pair_sums.proofs.PairOrder.{ordered_from_rising}
 use Rattle.direct_quad.specs.Places.{Place, signed, pair_coupler, term_places, all_places}
 use Rattle.direct_quad.specs.Rows.{row_of, is_at, places_of, AreRows}
 use Rattle.direct_quad.specs.Long.{node_at}

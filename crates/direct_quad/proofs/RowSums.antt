@@ -14,8 +14,8 @@ use Rattle.bits_model.specs.declared.output.Entry.{Entry}
 use Rattle.literal_lists.specs.declared.literal.Literal.{Literal}
 use Rattle.monomial_layer.specs.Monomials.{factor, nodes_for}
 use Rattle.quad_form.specs.Quads.{IsCoupler}
-use Rattle.quad_form.specs.Pairs.{weight_for, weight_at}
-use Rattle.quad_form.proofs.PairOrder.{Before, Rises, ordered_from_rising, rising_from_ordered}
+use Rattle.pair_sums.specs.Pairs.{weight_for, weight_at}
+use Rattle.pair_sums.proofs.PairOrder.{Before, Rises, ordered_from_rising, rising_from_ordered}
 use Rattle.quad_form.proofs.UniqueForms.{couplers_are_pairs}
 use Rattle.direct_quad.specs.Places.{pair_coupler, node_coupler, node_couplers, Place, place_couplers}
 use Rattle.direct_quad.specs.Rows.{is_at, row_of, places_of, IsRow, AreRows}

@@ -15,7 +15,7 @@ use Rattle.literal_lists.specs.Literals.{literal_cmp}
 use Rattle.term_table.specs.Terms.{Term, set_cmp, IsTermSet}
 use Rattle.term_table.proofs.SummedTerms.{is_below}
 use Rattle.term_table.proofs.SetOrder.{set_total}
-use Rattle.quad_form.proofs.PairOrder.{compared}
+use Rattle.pair_sums.proofs.PairOrder.{compared}
 use Rattle.direct_quad.specs.declared.additions.Keyed.{Keyed}
 use Rattle.direct_quad.specs.Long.{code_of, key_for, product_term, addition_at, additions_at}
 

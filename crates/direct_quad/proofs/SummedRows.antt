@@ -15,7 +15,7 @@ use Rattle.std.proofs.lemmas.List.Sorted.{All-permutation, Contains-permutation}
 use Rattle.base.specs.Sums.{if_so}
 use Rattle.base.proofs.Totals.{size-plus}
 use Rattle.bits_model.specs.declared.output.Entry.{Entry}
-use Rattle.quad_form.specs.Pairs.{weight_for, weight_at, IsNonzero, entry_in_front}
+use Rattle.pair_sums.specs.Pairs.{weight_for, weight_at, IsNonzero, entry_in_front}
 use Rattle.direct_quad.specs.RowSums.{with_weight, with_entries, size_of, AreTouched, AreFrom, AreSums, taken, emptied}
 
 -- ---- weights added

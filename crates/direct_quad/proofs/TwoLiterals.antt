@@ -8,7 +8,7 @@ use Rattle.literal_lists.specs.Literals.{literal_cmp}
 use Rattle.term_table.specs.Terms.{Term, set_cmp, coefficient_of}
 use Rattle.term_table.specs.MultipliedOut.{plain}
 use Rattle.monomial_layer.specs.Monomials.{node}
-use Rattle.quad_form.specs.Pairs.{weight_for, weight_at}
+use Rattle.pair_sums.specs.Pairs.{weight_for, weight_at}
 use Rattle.quad_form.specs.laws.Flattened.{one_out, two_out}
 use Rattle.quad_form.proofs.UniqueForms.{then_less, then_greater, one_is, two_are}
 use Rattle.direct_quad.specs.Places.{signed, pair_coupler, Share, share_at, short_couplers, short_shares, short_constant}

@@ -10,7 +10,7 @@ use Rattle.problem_form.specs.Problems.{products_total}
 use Rattle.term_table.specs.Terms.{Term, terms_total, IsTermSet}
 use Rattle.term_table.specs.Tables.{TableContent}
 use Rattle.penalty_layer.specs.Gathered.{squares}
-use Rattle.quad_form.specs.Pairs.{IsPair}
+use Rattle.pair_sums.specs.Pairs.{IsPair}
 use Rattle.direct_quad.specs.Parts.{short_terms, long_additions}
 use Rattle.direct_quad.specs.Places.{Share, share_at, short_couplers, short_shares, short_constant}
 use Rattle.direct_quad.specs.Long.{product_term}

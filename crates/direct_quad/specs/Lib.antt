@@ -7,7 +7,6 @@ pub mod Direct
 pub mod FlatMonomials
 pub mod laws
 pub mod Long
-pub mod PairLists
 pub mod RowSums
 pub mod Occurrences
 pub mod Held

@@ -15,7 +15,7 @@ use Rattle.monomial_layer.specs.Monomials.{node, is_low, new_nodes, all_new_term
 use Rattle.monomial_layer.specs.Monomials as monomials
 use Rattle.quad_form.specs.Quads.{QuadContent, IsCoupler}
 use Rattle.quad_form.specs.Flat as flat
-use Rattle.quad_form.specs.Pairs.{weight_at}
+use Rattle.pair_sums.specs.Pairs.{weight_at}
 
 -- ---- three steps in a row
 

@@ -5,7 +5,7 @@
 use Rattle.std.specs.Prelude.{◌≡◌, ◌≢◌, ℕ, suc, ◌≤◌, ◌<◌, ◌^◌, ◌+◌, ℤ, pos, ◌+ℤ◌, unsigned_abs, int_lt, List, [], ◌∷◌, ◌++◌, map, length, fold, slice_set, All, Contains, ⊤, if◌then◌else◌}
 use Rattle.std.specs.List.{slice_index_or, sum_by}
 use Rattle.bits_model.specs.declared.output.Entry.{Entry}
-use Rattle.quad_form.specs.Pairs.{weight_at, IsNonzero, entry_in_front}
+use Rattle.pair_sums.specs.Pairs.{weight_at, IsNonzero, entry_in_front}
 use Rattle.monomial_layer.specs.Monomials.{nodes_for}
 use Rattle.direct_quad.specs.declared.heads.Head.{Head}
 use Rattle.direct_quad.specs.Places.{Place, pair_coupler, node_coupler, node_couplers}

@@ -2,13 +2,13 @@
 --
 -- Each row is summed by itself, and the rows follow one another. See Gustavson, Two fast algorithms
 -- for sparse matrices: multiplication and permuted transposition (1978).
-use Rattle.std.specs.Prelude.{◌≡◌, ℕ, ◌<◌, ◌==◌, Bool, List, All}
+use Rattle.std.specs.Prelude.{◌≡◌, ℕ, ◌+◌, ◌≤◌, ◌<◌, ◌==◌, Bool, List, [], ◌∷◌, All, ⊤}
 use Rattle.std.specs.List.{filter}
 use Rattle.std.specs.List.Sorted.{IsStrictlySortedBy}
 use Rattle.bits_model.specs.declared.output.Entry.{Entry}
 use Rattle.bits_model.specs.Output.{entry_cmp}
 use Rattle.quad_form.specs.Quads.{IsCoupler}
-use Rattle.quad_form.specs.Pairs.{weight_at}
+use Rattle.pair_sums.specs.Pairs.{weight_at}
 use Rattle.direct_quad.specs.Places.{Place}
 
 -- the first node of the entry is i
@@ -41,3 +41,15 @@ pub record AreRows (nodes rows : ℕ) (all made : List Entry) : Type 0 where
   pub ordered : IsStrictlySortedBy entry_cmp made
   pub couplers : All (IsCoupler nodes) made
   pub sums : (i j : ℕ) → i < rows → weight_at i j made ≡ weight_at i j all
+
+-- ---- couplers that follow row by row
+
+-- the first nodes do not descend, from i on
+abbrev pub AreFromRow : ℕ → List Entry → Type 0
+AreFromRow i [] = ⊤
+AreFromRow i (e ∷ es) = (i ≤ e.first) × AreFromRow e.first es
+
+-- such entries without those of row i
+pub record AreAfterRow (i : ℕ) (es later : List Entry) : Type 0 where
+  pub from : AreFromRow (i + 1) later
+  pub same : (j : ℕ) → i < j → row_of j later ≡ row_of j es

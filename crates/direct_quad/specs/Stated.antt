@@ -7,7 +7,7 @@ use Rattle.term_table.specs.Terms.{Term, terms_total}
 use Rattle.term_table.specs.Tables.{TableContent, AreAdditions, table_size}
 use Rattle.monomial_layer.specs.Monomials.{node, new_terms}
 use Rattle.quad_form.specs.Quads.{QuadContent, quad_total, quad_size, IsQuad}
-use Rattle.quad_form.specs.Pairs.{weight_at}
+use Rattle.pair_sums.specs.Pairs.{weight_at}
 use Rattle.direct_quad.specs.Parts.{table_of, image, all_nodes, parts, sum_for, GivesSums}
 use Rattle.direct_quad.specs.Places.{Place, term_places, place_couplers, share_at, term_shares, long_constant}
 use Rattle.direct_quad.specs.Gathered.{IsSumOf}

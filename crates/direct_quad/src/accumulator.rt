@@ -5,11 +5,11 @@
 //! (1978).
 ghost use Rattle.std.specs.Prelude.{◌≡◌, ◌≢◌, ℕ, ◌+◌, ◌++◌, [], ◌≤◌, ◌<◌, ◌^◌, All, IfOk, OnOk, length, pos, replicate, unsigned_abs};
 ghost use Rattle.std.specs.List.{slice_index_or};
-ghost use Rattle.quad_form.specs.Pairs.{entry_in_front};
 ghost use Rattle.direct_quad.specs.RowSums.{with_weight, size_of, taken, emptied, Appends};
 
 use base::NoMemory;
 use bits_model::CouplerList;
+use pair_sums::push_some;
 use std::alloc::Global;
 use std::marker::Model;
 
@@ -29,22 +29,6 @@ impl Model for Accumulator {
     ghost view = { λ a. a.sums.items };
 
     ghost invariant = { λ a. AreTouched a.sums.items a.touched.items };
-}
-
-/// Appends a coupler, unless its weight is 0.
-pub(crate) fn push_some(
-    couplers: &mut CouplerList,
-    first: u32,
-    second: u32,
-    weight: i128,
-) -> Result<(), NoMemory>
-    ensures { OnOk result (couplers.new ≡ couplers.old
-        ++ entry_in_front (record { first = first; second = second; weight = weight }) []) }
-{
-    if weight == 0 {
-        return Ok(());
-    }
-    couplers.push(first, second, weight)
 }
 
 /// Appends the entries of the sums at these indices, and makes each sum 0 once its entry stands.

@@ -9,7 +9,6 @@ ghost use Rattle.direct_quad.specs.Held.{AreHeld, HasPlaces};
 ghost use Rattle.direct_quad.specs.Gathered.{IsSumOf};
 ghost use Rattle.direct_quad.specs.Stated.{IsWithin};
 
-use crate::gathered_pairs::GatheredPairs;
 use crate::long_table::LongTable;
 use crate::rows::couplers_of;
 use crate::shares::with_long;
@@ -18,6 +17,7 @@ use crate::weights::widened;
 use base::NoMemory;
 use bits_model::CouplerList;
 use literal_lists::Literal;
+use pair_sums::GatheredPairs;
 use penalty_layer::Gather;
 use problem_form::ProductList;
 use quad_form::{NumberList, Quad};

@@ -5,11 +5,11 @@ ghost use Rattle.direct_quad.specs.Places.{moved_share, signed, short_constant, 
 ghost use Rattle.direct_quad.specs.Held.{Gain};
 ghost use Rattle.direct_quad.specs.RowSums.{size_of};
 
-use crate::gathered_pairs::GatheredPairs;
 use crate::new_nodes::signed;
 use crate::weights::add_weight;
 use base::NoMemory;
 use literal_lists::Literal;
+use pair_sums::GatheredPairs;
 
 /// Adds the share of a literal that is a term by itself.
 #[inline(always)]

@@ -8,9 +8,9 @@ use Rattle.std.proofs.lemmas.List.Sums.{sum_by-append, sum_by-cons, sum_by-le}
 use Rattle.bits_model.specs.declared.output.Entry.{Entry}
 use Rattle.bits_model.specs.Output.{weight_total, entry_size, is_node}
 use Rattle.bits_model.specs.PairNumbers.{pair_number}
-use Rattle.quad_form.specs.Pairs.{IsPair}
+use Rattle.pair_sums.specs.Pairs.{IsPair}
 use Rattle.quad_form.specs.Quads.{node_entries, IsCoupler}
-use Rattle.quad_form.proofs.PairOrder.{Rises, ordered_from_rising}
+use Rattle.pair_sums.proofs.PairOrder.{Rises, ordered_from_rising}
 use Rattle.ising_form.specs.Isings.{IsIsing}
 use Rattle.embedding_tests.specs.SmallForms.{AreSmallCouplings, IsSmall}
 

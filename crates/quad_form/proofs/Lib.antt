@@ -5,8 +5,6 @@ pub mod FlatSets
 pub mod FlatSums
 pub mod FlatForms
 pub mod FlatParts
-pub mod PairOrder
-pub mod SummedPairs
 pub mod UniqueForms
 pub mod Divisors
 pub mod UnitEntries

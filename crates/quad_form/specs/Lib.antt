@@ -1,6 +1,5 @@
 pub mod Quads
 pub mod Flat
 pub mod laws
-pub mod Pairs
 pub mod Units
 pub mod Stated

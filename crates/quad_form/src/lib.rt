@@ -1,7 +1,6 @@
 //! Quadratic forms over bits: the last form before a QUBO is written.
 #![tactic(auto)]
 
-mod couplers;
 mod energy;
 mod flatten;
 mod laws;

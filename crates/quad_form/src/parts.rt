@@ -2,13 +2,14 @@
 ghost use Rattle.std.specs.Prelude.{◌≡◌, ◌+◌, ◌<◌, ◌≤◌, ◌^◌, All, IfOk, OnOk, length, unsigned_abs};
 ghost use Rattle.quad_form.specs.Quads.{quad_total, IsQuad};
 ghost use Rattle.quad_form.specs.Flat.{with_term, zero_quad, IsFlat};
-ghost use Rattle.quad_form.specs.Pairs.{IsPair, IsSettled};
+ghost use Rattle.pair_sums.specs.Pairs.{IsPair};
+ghost use Rattle.quad_form.specs.Quads.{IsSettled};
 
-use crate::couplers::sorted_sums;
 use crate::quad::{NumberList, Quad};
 use base::NoMemory;
 use bits_model::{CouplerList, Entry};
 use literal_lists::Literal;
+use pair_sums::sorted_sums;
 use std::alloc::Global;
 use std::marker::Model;
 

@@ -1,7 +1,7 @@
 use Rattle.std.proofs.Common.{◌≡◌, ◌^◌, All, to_z, of_z, subst, sym, ap, ◌∙◌, rules}
 use Rattle.std.specs.Int.{w128}
 use Rattle.std.proofs.lemmas.Int.{to_z-of_z}
-use Rattle.quad_form.specs.Pairs.{IsPair}
+use Rattle.pair_sums.specs.Pairs.{IsPair}
 use Rattle.ising_form.specs.Isings.{IsingContent, IsIsing}
 use Rattle.chain_layer.specs.Image.{image}
 use Rattle.chain_layer.proofs.Ordered.{all_pairs, sorted_is_image, image_is_ising}

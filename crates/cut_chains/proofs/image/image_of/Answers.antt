@@ -2,7 +2,7 @@ use Rattle.std.proofs.Common.{◌≡◌, ◌^◌, ◌++◌, All, to_z, of_z, sub
 use Rattle.std.specs.Int.{w128}
 use Rattle.std.specs.List.Sorted.{IsPermutation}
 use Rattle.std.proofs.lemmas.Int.{to_z-of_z}
-use Rattle.quad_form.specs.Pairs.{IsPair}
+use Rattle.pair_sums.specs.Pairs.{IsPair}
 use Rattle.ising_form.specs.Isings.{IsingContent, IsIsing}
 use Rattle.chain_layer.specs.Image.{placed}
 use Rattle.cut_chains.specs.CutImage.{cut_image, cut_ties}

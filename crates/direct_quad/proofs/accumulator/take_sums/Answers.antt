@@ -2,7 +2,7 @@ use Rattle.std.proofs.Common.{◌≡◌, ◌+◌, ◌++◌, pos, [], ◌∷◌, 
 use Rattle.std.specs.Int.{w128}
 use Rattle.std.proofs.lemmas.Int.{to_z-of_z}
 use Rattle.std.proofs.lemmas.List.{drop_more, drop_all}
-use Rattle.quad_form.specs.Pairs.{entry_in_front}
+use Rattle.pair_sums.specs.Pairs.{entry_in_front}
 use Rattle.direct_quad.specs.RowSums.{taken, emptied}
 use Rattle.direct_quad.proofs.SummedRows.{entry_at, kept-emptied_one, taken_next}
 use Rattle.direct_quad.proofs.accumulator.take_sums.Goals as goal

@@ -6,11 +6,12 @@ use Rattle.std.proofs.lemmas.Option.{get_or_from_slice_get, slice_get_within}
 use Rattle.bits_model.specs.declared.output.Entry.{Entry}
 use Rattle.bits_model.specs.Output.{weight_total}
 use Rattle.direct_quad.specs.Rows.{row_of}
-use Rattle.direct_quad.specs.PairLists.{AreFromRow}
+use Rattle.direct_quad.specs.Rows.{AreFromRow}
 use Rattle.direct_quad.specs.RowSums.{with_weight, with_entries, size_of}
 use Rattle.direct_quad.proofs.SummedRows.{length-with_weight}
 use Rattle.direct_quad.proofs.KeyLists.{added_size, first_size}
-use Rattle.direct_quad.proofs.PairRows.{row-own, row-other, drop-one, ends-row, row-ended}
+use Rattle.direct_quad.proofs.PairRows.{row-own, row-other, ends-row, row-ended}
+use Rattle.pair_sums.proofs.PairSums.{drop-one}
 use Rattle.direct_quad.proofs.rows.add_pairs.Goals as goal
 
 pub loop-i-init : goal.loop-i-init

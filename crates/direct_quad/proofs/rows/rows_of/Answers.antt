@@ -5,7 +5,7 @@ use Rattle.std.proofs.lemmas.List.{length-replicate}
 use Rattle.std.proofs.lemmas.List.Elements.{All-weaker}
 use Rattle.bits_model.specs.declared.output.Entry.{Entry}
 use Rattle.bits_model.specs.Output.{weight_total}
-use Rattle.quad_form.specs.Pairs.{IsPair}
+use Rattle.pair_sums.specs.Pairs.{IsPair}
 use Rattle.direct_quad.specs.Places.{place_couplers, all_places}
 use Rattle.direct_quad.specs.Rows.{row_of, places_of, AreRows}
 use Rattle.direct_quad.specs.Long.{node_count}

@@ -5,7 +5,7 @@ use Rattle.std.specs.Prelude.{All}
 use Rattle.base.specs.Sums.{total_by}
 use Rattle.term_table.specs.Terms.{terms_total}
 use Rattle.term_table.specs.Tables.{TableContent, AreAdditions}
-use Rattle.quad_form.specs.Pairs.{IsPair}
+use Rattle.pair_sums.specs.Pairs.{IsPair}
 use Rattle.direct_quad.specs.Parts.{table_of}
 use Rattle.direct_quad.specs.Places.{long_constant}
 use Rattle.direct_quad.specs.Long.{terms_of, node_count}

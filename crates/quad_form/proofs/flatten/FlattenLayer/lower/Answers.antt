@@ -4,7 +4,7 @@ use Rattle.term_table.specs.MultipliedOut.{contributions}
 use Rattle.quad_form.specs.Quads.{QuadContent, quad_total, quad_size}
 use Rattle.quad_form.specs.Flat.{Fits}
 use Rattle.quad_form.specs.laws.Flattened.{flat_keeps}
-use Rattle.quad_form.specs.Pairs.{IsPair}
+use Rattle.pair_sums.specs.Pairs.{IsPair}
 use Rattle.quad_form.proofs.FlatForms.{width_of, quad_total-image, quad_size-image}
 use Rattle.quad_form.proofs.FlatParts.{pairs_placed, total_placed}
 use Rattle.quad_form.proofs.UniqueForms.{settled_is_image}

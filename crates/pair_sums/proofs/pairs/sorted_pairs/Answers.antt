@@ -1,0 +1,20 @@
+use Rattle.std.proofs.Common.{List, map, ap, sym, subst}
+use Rattle.std.specs.List.Sorted.{IsPermutation}
+use Rattle.std.proofs.lemmas.List.Sorted.{IsPermutation-map}
+use Rattle.bits_model.specs.declared.output.Entry.{Entry}
+use Rattle.bits_model.specs.PairNumbers.{pair_number}
+use Rattle.pair_sums.specs.Codes.{unpacked}
+use Rattle.pair_sums.specs.PairLists.{held_pairs}
+use Rattle.pair_sums.proofs.PairSums.{codes-ordered, ordered-map}
+use Rattle.pair_sums.proofs.pairs.sorted_pairs.Goals as goal
+
+pub returns-in-Packed-clause-same : goal.returns-in-Packed-clause-same
+returns-in-Packed-clause-same c =
+    subst (λ (es : List Entry). IsPermutation es (map (unpacked c.in-Packed.shape) c.ascending.result.items)) (ap held_pairs (sym c.in-Packed.is))
+    (IsPermutation-map (unpacked c.in-Packed.shape) _ _ c.ascending.ensures.same)
+
+pub returns-in-Packed-clause-ordered : goal.returns-in-Packed-clause-ordered
+returns-in-Packed-clause-ordered c =
+    let shape = c.in-Packed.shape in
+    ordered-map (unpacked shape) pair_number c.ascending.result.items 0
+    (λ i j d le in'. codes-ordered shape _ _ _ _ (c.ascending.ensures.ordered i j d le in'))

@@ -1,0 +1,4 @@
+pub mod Pairs
+pub mod Codes
+pub mod PairLists
+pub mod Keys

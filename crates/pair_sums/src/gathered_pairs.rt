@@ -1,0 +1,137 @@
+//! Couplers as they are gathered, in order as long as they come in order.
+//!
+//! Those of one long constraint, or of a list of products in order, are the rows of the form as they
+//! come. All from the first one on that does not come in order are sorted in the end.
+ghost use Rattle.std.specs.Prelude.{◌≡◌, ◌+◌, ◌++◌, ◌∷◌, [], ◌<◌, ◌≤◌, ◌^◌, All, IfOk, OnOk, OnErr, length};
+ghost use Rattle.std.specs.List.Sorted.{IsPermutation, IsNonDecreasingBy};
+ghost use Rattle.bits_model.specs.Output.{weight_total};
+ghost use Rattle.bits_model.specs.PairNumbers.{pair_number};
+ghost use Rattle.pair_sums.specs.Pairs.{IsPair, AreSummed};
+
+use crate::pairs::Pairs;
+use base::NoMemory;
+use bits_model::{CouplerList, Entry, pair_number};
+use std::alloc::Global;
+use std::marker::Model;
+
+/// Couplers, which contracts see as a list of entries: first those that came in order, the last one
+/// with this number of its pair, and then all others.
+#[derive(Drop)]
+pub struct GatheredPairs {
+    ordered: CouplerList,
+    last: u64,
+    others: Pairs,
+}
+
+impl Model for GatheredPairs {
+    ghost use Rattle.std.specs.Prelude.{◌<◌, ◌^◌, ◌++◌, List, length};
+    ghost use Rattle.bits_model.specs.declared.output.Entry.{Entry};
+    ghost use Rattle.pair_sums.specs.PairLists.{AreGathered};
+
+    ghost Value = { List Entry };
+
+    ghost view = { λ a. a.ordered ++ a.others };
+
+    ghost invariant = { λ a. AreGathered a.ordered a.last a.others };
+}
+
+/// The couplers of both lists.
+fn joined(mut pairs: Pairs, couplers: CouplerList) -> Result<Pairs, NoMemory>
+    requires few { length pairs + length couplers < 2 ^ 32 }
+    ensures { IfOk result (λ all. all ≡ pairs ++ couplers) }
+{
+    for entry in couplers.iter() {
+        pairs.push(entry.first, entry.second, entry.weight)?;
+    }
+    Ok(pairs)
+}
+
+/// Appends a coupler that does not come in order. Where memory is refused the list stays as it was.
+#[inline(never)]
+fn push_late(others: &mut Pairs, first: u32, second: u32, weight: i128) -> Result<(), NoMemory>
+    requires few { length others.old + 1 < 2 ^ 32 }
+    ensures pushed { OnOk result (others.new
+        ≡ others.old ++ record { first = first; second = second; weight = weight } ∷ []) }
+    ensures unchanged { OnErr result (others.new ≡ others.old) }
+{
+    others.push(first, second, weight)
+}
+
+impl GatheredPairs {
+    /// No couplers yet. They begin packed where there are few enough nodes. Takes no memory.
+    pub fn empty(alloc: Global, nodes: usize) -> GatheredPairs
+        ensures { result ≡ [] }
+    {
+        GatheredPairs {
+            ordered: CouplerList::empty(alloc),
+            last: 0,
+            others: Pairs::empty(alloc, nodes),
+        }
+    }
+
+    /// Appends a coupler. Where memory is refused the list stays as it was.
+    #[inline(always)]
+    pub fn push(&mut self, first: u32, second: u32, weight: i128) -> Result<(), NoMemory>
+        requires few { length self.old + 1 < 2 ^ 32 }
+        ensures pushed { OnOk result (self.new
+            ≡ self.old ++ record { first = first; second = second; weight = weight } ∷ []) }
+        ensures unchanged { OnErr result (self.new ≡ self.old) }
+    {
+        let number = pair_number(&Entry {
+            first,
+            second,
+            weight,
+        });
+        if self.others.len() == 0 && self.last < number && weight != 0 {
+            self.ordered.push(first, second, weight)?;
+            self.last = number;
+            return Ok(());
+        }
+        push_late(&mut self.others, first, second, weight)
+    }
+
+    /// The same couplers, of more nodes. Where all came in order, later ones begin packed anew.
+    pub fn widened(self, alloc: Global, nodes: usize) -> GatheredPairs
+        ensures { result ≡ self }
+    {
+        if self.others.len() > 0 {
+            return self;
+        }
+        let GatheredPairs { ordered, last, .. } = self;
+        GatheredPairs {
+            ordered,
+            last,
+            others: Pairs::empty(alloc, nodes),
+        }
+    }
+
+    /// The same couplers in the order of their pairs.
+    pub fn sorted(self) -> Result<Pairs, NoMemory>
+        ensures same { IfOk result (IsPermutation self) }
+        ensures ordered { IfOk result (IsNonDecreasingBy pair_number) }
+    {
+        let GatheredPairs {
+            ordered,
+            others,
+            ..
+        } = self;
+        Ok(joined(others, ordered)?.sorted())
+    }
+
+    /// The couplers in order, one for each pair whose sum is not 0.
+    pub fn summed(self) -> Result<CouplerList, NoMemory>
+        requires pairs { All (IsPair (2 ^ 32)) self }
+        requires small { weight_total self ≤ 2 ^ 126 }
+        ensures { IfOk result (AreSummed self) }
+    {
+        let GatheredPairs {
+            ordered,
+            others,
+            ..
+        } = self;
+        if others.len() == 0 {
+            return Ok(ordered);
+        }
+        joined(others, ordered)?.summed()
+    }
+}

@@ -1,0 +1,271 @@
+//! Couplers that are gathered one by one, more than one for some pairs.
+ghost use Rattle.std.specs.Prelude.{◌≡◌, ◌+◌, ◌++◌, ◌∷◌, [], ◌<◌, ◌≤◌, ◌^◌, All, IfOk, IfSome, List, OnOk, OnErr, length, map, slice_get, Some, unsigned_abs};
+ghost use Rattle.std.specs.List.Sorted.{IsPermutation, IsNonDecreasingBy};
+ghost use Rattle.bits_model.specs.declared.output.Entry.{Entry};
+ghost use Rattle.bits_model.specs.Output.{weight_total};
+ghost use Rattle.bits_model.specs.PairNumbers.{pair_number};
+ghost use Rattle.pair_sums.specs.Pairs.{sums_from, sums_of, IsPair, AreSummed};
+ghost use Rattle.pair_sums.specs.Codes.{unpacked};
+ghost use Rattle.pair_sums.specs.PairLists.{held_pairs};
+
+use crate::appending::push_some;
+use crate::listed::ListedPairs;
+use crate::shape::{FEW_NODES, MANY_NODES, Shape, ascending, packed, unpacked};
+use base::NoMemory;
+use bits_model::{CouplerList, Entry, pair_number};
+use std::alloc::Global;
+use std::marker::Model;
+
+/// How couplers are held: as codes with their weights, as codes beside a list of weights, or each in
+/// 32 bytes.
+#[derive(Drop)]
+pub enum HeldPairs {
+    Packed(Shape, Vec<u64>),
+    Listed(ListedPairs),
+    Wide(Vec<Entry>),
+}
+
+/// Couplers, which contracts see as a list of entries: 8 bytes each as long as all can be packed, 8
+/// and the weights that differ as long as their indices can be, and else 32. There are fewer than
+/// 2^32 of them.
+///
+/// The library's sort in place is fastest for elements of at most 8 bytes.
+#[derive(Drop)]
+pub struct Pairs {
+    alloc: Global,
+    held: HeldPairs,
+}
+
+impl Model for Pairs {
+    ghost use Rattle.std.specs.Prelude.{◌<◌, ◌^◌, List, length};
+    ghost use Rattle.bits_model.specs.declared.output.Entry.{Entry};
+    ghost use Rattle.pair_sums.specs.PairLists.{held_pairs};
+
+    ghost Value = { List Entry };
+
+    ghost view = { λ a. held_pairs a.held };
+
+    ghost invariant = { λ a. length (held_pairs a.held) < 2 ^ 32 };
+}
+
+/// Packed couplers beside a list of their weights, unless one of them needs more bits there.
+fn listed_of(alloc: Global, shape: Shape, codes: &[u64]) -> Result<Option<ListedPairs>, NoMemory>
+    ensures { IfOk result (λ all. IfSome all (λ pairs.
+        pairs ≡ map (unpacked shape) codes.now)) }
+{
+    let mut listed = ListedPairs::empty(alloc, shape)?;
+    for code in codes {
+        if !listed.push(unpacked(shape, *code))? {
+            return Ok(None);
+        }
+    }
+    Ok(Some(listed))
+}
+
+/// Packed couplers as entries.
+fn widened(alloc: Global, shape: Shape, codes: &[u64]) -> Result<Vec<Entry>, NoMemory>
+    ensures { IfOk result (λ wide. wide.items ≡ map (unpacked shape) codes.now) }
+{
+    let wide = codes
+        .iter()
+        .map(|code| unpacked(shape, *code))
+        .collect(alloc)?;
+    Ok(wide)
+}
+
+/// Listed couplers as entries, and one more.
+fn with_wide(alloc: Global, pairs: &ListedPairs, entry: Entry) -> Result<Vec<Entry>, NoMemory>
+    ensures { IfOk result (λ wide. wide.items ≡ pairs.now ++ entry ∷ []) }
+{
+    let mut wide = Vec::with_capacity(alloc, pairs.len().saturating_add(1))?;
+    for i in 0..pairs.len() {
+        wide.push(pairs.at(i))?;
+    }
+    wide.push(entry)?;
+    Ok(wide)
+}
+
+/// The same couplers, and one more that cannot be packed.
+fn with_longer(
+    alloc: Global,
+    shape: Shape,
+    codes: &[u64],
+    entry: Entry,
+) -> Result<HeldPairs, NoMemory>
+    ensures { IfOk result (λ held.
+        held_pairs held ≡ map (unpacked shape) codes.now ++ entry ∷ []) }
+{
+    if let Some(mut listed) = listed_of(alloc, shape, codes)? {
+        if listed.push(entry)? {
+            return Ok(HeldPairs::Listed(listed));
+        }
+    }
+    let mut wide = widened(alloc, shape, codes)?;
+    wide.push(entry)?;
+    Ok(HeldPairs::Wide(wide))
+}
+
+/// Entries in the order of their pairs.
+fn sorted_wide(mut pairs: Vec<Entry>) -> Vec<Entry>
+    ensures same { IsPermutation pairs.items result.items }
+    ensures ordered { IsNonDecreasingBy pair_number result.items }
+{
+    pairs.sort_unstable_by_key(|pair| pair_number(pair));
+    pairs
+}
+
+/// The same couplers in the order of their pairs. That of codes is theirs.
+fn sorted_pairs(held: HeldPairs) -> HeldPairs
+    ensures same { IsPermutation (held_pairs held) (held_pairs result) }
+    ensures ordered { IsNonDecreasingBy pair_number (held_pairs result) }
+{
+    match held {
+        HeldPairs::Packed(shape, codes) => HeldPairs::Packed(shape, ascending(codes)),
+        HeldPairs::Listed(pairs) => HeldPairs::Listed(pairs.sorted()),
+        HeldPairs::Wide(pairs) => HeldPairs::Wide(sorted_wide(pairs)),
+    }
+}
+
+/// Adds an entry to a pending one of its pair. Where that is of another pair it is appended, and the
+/// entry is pending in its place.
+fn add_pending(
+    couplers: &mut CouplerList,
+    pending: &mut Entry,
+    entry: Entry,
+) -> Result<(), NoMemory>
+    requires small { unsigned_abs pending.old.weight + unsigned_abs entry.weight ≤ 2 ^ 126 }
+    ensures sums { (later : List Entry) → OnOk result (couplers.new ++ sums_from pending.new later
+        ≡ couplers.old ++ sums_from pending.old (entry ∷ later)) }
+    ensures small { OnOk result (unsigned_abs pending.new.weight
+        ≤ unsigned_abs pending.old.weight + unsigned_abs entry.weight) }
+{
+    if pair_number(pending) == pair_number(&entry) {
+        pending.weight += entry.weight;
+        return Ok(());
+    }
+    push_some(couplers, pending.first, pending.second, pending.weight)?;
+    *pending = entry;
+    Ok(())
+}
+
+/// Appends couplers in order, neighbours of one pair as one, and none of weight 0.
+fn append_sums(couplers: &mut CouplerList, pairs: &Pairs) -> Result<(), NoMemory>
+    requires { weight_total pairs.now ≤ 2 ^ 126 }
+    ensures { OnOk result (couplers.new ≡ couplers.old ++ sums_of pairs.now) }
+{
+    if pairs.len() == 0 {
+        return Ok(());
+    }
+    let mut pending = pairs.at(0);
+    for i in 1..pairs.len() {
+        add_pending(couplers, &mut pending, pairs.at(i))?;
+    }
+    push_some(couplers, pending.first, pending.second, pending.weight)
+}
+
+/// Couplers with neighbours of one pair as one, and none of weight 0.
+fn sums_of(alloc: Global, pairs: &Pairs) -> Result<CouplerList, NoMemory>
+    requires { weight_total pairs.now ≤ 2 ^ 126 }
+    ensures { IfOk result (λ couplers. couplers ≡ sums_of pairs.now) }
+{
+    let mut couplers = CouplerList::with_room(alloc, pairs.len())?;
+    append_sums(&mut couplers, pairs)?;
+    Ok(couplers)
+}
+
+impl Pairs {
+    /// No couplers yet. They begin packed. Takes no memory.
+    pub fn empty(alloc: Global, nodes: usize) -> Pairs
+        ensures { result ≡ [] }
+    {
+        let shape = if nodes as u64 <= FEW_NODES {
+            Shape::Few
+        } else if nodes as u64 <= MANY_NODES {
+            Shape::Many
+        } else {
+            Shape::Most
+        };
+        Pairs {
+            alloc,
+            held: HeldPairs::Packed(shape, Vec::new(alloc)),
+        }
+    }
+
+    /// How many there are.
+    pub fn len(&self) -> usize
+        ensures count { result ≡ length self.now }
+        ensures narrow { result < 2 ^ 32 }
+    {
+        match &self.held {
+            HeldPairs::Packed(_, codes) => codes.len(),
+            HeldPairs::Listed(pairs) => pairs.len(),
+            HeldPairs::Wide(pairs) => pairs.len(),
+        }
+    }
+
+    /// The coupler at an index.
+    pub fn at(&self, index: usize) -> Entry
+        requires { index < length self.now }
+        ensures { slice_get self.now index ≡ Some result }
+    {
+        match &self.held {
+            HeldPairs::Packed(shape, codes) => unpacked(*shape, codes[index]),
+            HeldPairs::Listed(pairs) => pairs.at(index),
+            HeldPairs::Wide(pairs) => pairs[index],
+        }
+    }
+
+    /// The same couplers in the order of their pairs, in the same memory.
+    pub fn sorted(self) -> Pairs
+        ensures same { IsPermutation self result }
+        ensures ordered { IsNonDecreasingBy pair_number result }
+    {
+        let Pairs { alloc, held } = self;
+        Pairs {
+            alloc,
+            held: sorted_pairs(held),
+        }
+    }
+
+    /// The couplers in order, one for each pair whose sum is not 0.
+    pub fn summed(self) -> Result<CouplerList, NoMemory>
+        requires pairs { All (IsPair (2 ^ 32)) self }
+        requires small { weight_total self ≤ 2 ^ 126 }
+        ensures { IfOk result (AreSummed self) }
+    {
+        let alloc = self.alloc;
+        sums_of(alloc, &self.sorted())
+    }
+
+    /// Appends a coupler. Where memory is refused the list stays as it was.
+    #[inline(always)]
+    pub fn push(&mut self, first: u32, second: u32, weight: i128) -> Result<(), NoMemory>
+        requires few { length self.old + 1 < 2 ^ 32 }
+        ensures pushed { OnOk result (self.new
+            ≡ self.old ++ record { first = first; second = second; weight = weight } ∷ []) }
+        ensures unchanged { OnErr result (self.new ≡ self.old) }
+    {
+        let entry = Entry {
+            first,
+            second,
+            weight,
+        };
+        match &mut self.held {
+            HeldPairs::Packed(shape, codes) => match packed(*shape, first, second, weight) {
+                Some(code) => codes.push(code)?,
+                None => {
+                    let longer = with_longer(self.alloc, *shape, codes, entry)?;
+                    self.held = longer;
+                }
+            },
+            HeldPairs::Listed(pairs) => {
+                if !pairs.push(entry)? {
+                    let wide = with_wide(self.alloc, pairs, entry)?;
+                    self.held = HeldPairs::Wide(wide);
+                }
+            }
+            HeldPairs::Wide(pairs) => pairs.push(entry)?,
+        }
+        Ok(())
+    }
+}
