@@ -18,6 +18,7 @@ use Rattle.term_table.specs.Tables as tables
 use Rattle.penalty_layer.specs.Penalty.{figures, node_count, Admits}
 use Rattle.penalty_layer.specs.Penalty as penalty
 use Rattle.penalty_layer.specs.laws.Relaxing.{penalty_extends}
+use Rattle.penalty_layer.proofs.Admitted.{image_size}
 use Rattle.penalty_layer.proofs.Sums.{image-total}
 use Rattle.normal_form.specs.laws.Relaxing.{multilinear_extends}
 use Rattle.monomial_layer.specs.laws.Kept.{mono_reaches}
@@ -141,7 +142,8 @@ least_by_literal_pairs choices p x y normal_is high_is admitted width same =
     let kept : IsTable t = IsTable-table_of (additions_of p) (AreAdditions-of p admitted) in
     let link : BitsLink = record { source_width = p.variables; target_width = node_count p } in
     let fits : penalty.Fits link p = record { source = refl; target = refl; normal = admitted.normal } in
-    least_by_pairs Literal choices p x y normal_is high_is width same (link, fits) (pair_link t kept)
+    least_by_pairs Literal choices p x y normal_is high_is width same (link, fits)
+    (pair_link t kept (omega (arith, image_size p admitted)))
     (flat_link t kept (omega (arith, image-total p admitted.within)))
 
 -- what is true of every value is true of a result's

@@ -23,10 +23,11 @@ low_is_table t is small = record {
 }
 
 -- the links of the two steps
-pub pair_link : (t : TableContent) → IsTable t → (link : BitsLink) × rosenberg.Fits link t
-pair_link t is = (
+pub pair_link : (t : TableContent) → IsTable t → table_size t * 2 ^ 2 ≤ 2 ^ 32
+    → (link : BitsLink) × rosenberg.Fits link t
+pair_link t is size = (
   record { source_width = t.width; target_width = (rosenberg.image t).width },
-  record { source = refl; target = refl; table = is },
+  record { source = refl; target = refl; table = is; size = size },
 )
 
 pub flat_link : (t : TableContent) → IsTable t → (terms_total t.terms + 1) * 2 ^ 15 ≤ 2 ^ 124

@@ -162,7 +162,7 @@ formed_by_pairs p admitted =
     let kept : IsTable t = IsTable-table_of (additions_of p) (AreAdditions-of p admitted) in
     let first : BitsLink = record { source_width = p.variables; target_width = node_count p } in
     let fits : penalty.Fits first p = record { source = refl; target = refl; normal = admitted.normal } in
-    let pair = pair_link t kept in
+    let pair = pair_link t kept (omega (arith, image_size p admitted)) in
     let low = flat_link t kept (omega (arith, image-total p none)) in
     formed_by_steps Literal Rosenberg p first pair.0 low.0 (threshold_within p (upper p) none refl) fits pair.1
     low.1

@@ -26,11 +26,10 @@ use Rattle.rosenberg_layer.specs.Rosenberg.{node, Pair, is_long, new_term, tie_t
 use Rattle.rosenberg_layer.specs.laws.Sets.{has_own_pair, found_in, pair_differs, new_terms-sets}
 use Rattle.rosenberg_layer.specs.Steps.{begins, first_begins, front_term, is_short, pair_cmp, pair_of, Begin, Follow, IsStep, IsTaken}
 use Rattle.rosenberg_layer.specs.Parts.{weights, weight_of, AllLong, AreParts, NoneLong}
-use Rattle.rosenberg_layer.specs.Groups.{Group, grouped, ArePut}
 use Rattle.rosenberg_layer.proofs.PairTerms.{begins-is, new_terms-split, AsBegins, NoneBegin}
 use Rattle.rosenberg_layer.proofs.GoBack.{all-append, all-left, all-right, back_left, can_go_back, filter-first, high-long, CanGoBack}
 use Rattle.rosenberg_layer.proofs.Parts.{all-filtered, filter-all, filter-none, filter-yes, long-is, long-sets, parts-start, parts-step, short-none_long, wider-all, IsSortedStep}
-use Rattle.rosenberg_layer.proofs.Taking.{all-follow, pair-begins, pair_itself}
+use Rattle.rosenberg_layer.proofs.PairOrder.{all-follow, pair-begins, pair_itself}
 
 -- ---- lists with the same terms
 
@@ -564,40 +563,6 @@ held-step t a adds adds' low bag low' bag' m bound held long step moved = (
 
 -- ---- what a step asks of the terms that are taken and put back
 
-pub touched-high : (a : Pair) (touched rest bag : List Term) → IsTaken a touched rest bag
-    → AllLong bag → AllByRecursion (λ (t : Term). 3 ≤ length t.0) touched
-touched-high a touched rest bag taken long =
-    high-long touched
-    (all-left (λ u. is_long u ≡ true) touched rest
-    (moved-all (λ u. is_long u ≡ true) bag (touched ++ rest) taken.whole long))
-
-pub touched-small : (a : Pair) (touched rest bag : List Term) (bound : ℕ) → IsTaken a touched rest bag
-    → terms_total bag ≤ bound → terms_total touched ≤ bound
-touched-small a touched rest bag bound taken small =
-    omega (
-      arith,
-      small,
-      same-moved bag (touched ++ rest) taken.whole (λ u. unsigned_abs u.1),
-      sum_by-append (λ (u : Term). unsigned_abs u.1) touched rest,
-    )
-
-pub put-high : (ts front : List Term) (groups groups' : List Group)
-    → ArePut (filter is_long ts) groups groups' → AllLong (front ++ grouped groups)
-    → AllLong (front ++ grouped groups')
-put-high ts front groups groups' put long =
-    all-append (λ u. is_long u ≡ true) front (grouped groups')
-    (all-left (λ u. is_long u ≡ true) front (grouped groups) long)
-    (moved-all (λ u. is_long u ≡ true) (grouped groups ++ filter is_long ts) (grouped groups') put.whole
-    (all-append (λ u. is_long u ≡ true) (grouped groups) (filter is_long ts)
-    (all-right (λ u. is_long u ≡ true) front (grouped groups) long) (filter-yes is_long ts)))
-
-pub put-behind : (ts front : List Term) (groups groups' : List Group) → ArePut ts groups groups'
-    → IsPermutation ((front ++ grouped groups) ++ ts) (front ++ grouped groups')
-put-behind ts front groups groups' put =
-    subst (λ us. IsPermutation us (front ++ grouped groups'))
-    (sym (append_assoc front (grouped groups) ts))
-    (IsPermutation-append_right front (grouped groups ++ ts) (grouped groups') put.whole)
-
 -- ---- the start of a run
 
 empty-same : (ts : List Term) → SameTerms ts [] → ts ≡ []
@@ -616,23 +581,13 @@ pub held-small : (t : TableContent) (adds bag : List Term) (bound : ℕ) → Are
 held-small t adds bag bound held =
     let small = held.parts.total in omega (arith, small, held.same (λ u. unsigned_abs u.1))
 
-pub held-start : (t : TableContent) (front : List Term) (groups : List Group) (bound : ℕ) → IsTable t
-    → weights t.terms ≤ bound → front ≡ filter is_long t.terms → groups ≡ []
-    → AreHeld t (filter is_short t.terms) (front ++ grouped groups) bound
-held-start t front groups bound table small e none = record {
-  parts = parts-start t bound table.terms small table.small;
-  same = λ f. ap (sum_by f) (sym whole);
+pub held-start : (t : TableContent) (bag : List Term) → IsTable t → bag ≡ filter is_long t.terms
+    → AreHeld t (filter is_short t.terms) bag (weights t.terms)
+held-start t bag table e = record {
+  parts = parts-start t (weights t.terms) table.terms (omega arith) table.small;
+  same = λ f. ap (sum_by f) (sym e);
   sets =
-      subst (AllByRecursion (OfSet (IsTermSet t.width))) (sym whole)
+      subst (AllByRecursion (OfSet (IsTermSet t.width))) (sym e)
       (all-filtered (OfSet (IsTermSet t.width)) is_long t.terms
       (recursion_from_All (OfSet (IsTermSet t.width)) t.terms table.terms.sets));
 }
-  where
-    whole : front ++ grouped groups ≡ filter is_long t.terms
-    whole = (λ i. e i ++ grouped (none i)) ∙ append-nil (filter is_long t.terms)
-
-pub high-start : (t : TableContent) (front : List Term) (groups : List Group)
-    → front ≡ filter is_long t.terms → groups ≡ [] → AllLong (front ++ grouped groups)
-high-start t front groups e none =
-    let whole = (λ i. e i ++ grouped (none i)) ∙ append-nil (filter is_long t.terms) in
-    subst AllLong (sym whole) (filter-yes is_long t.terms)

@@ -33,42 +33,11 @@ pub record CanGoBack (w : Literal) (long touched : List Term) : Type 0 where
   pub apart : AreApart touched
   pub fresh : AllByRecursion (IsFresh w long) touched
 
--- ---- one term
-
-drop-plus : {X : Type 0} (n m : ℕ) (xs : List X) → drop (n + m) xs ≡ drop m (drop n xs)
-drop-plus zero m xs = let e : 0 + m ≡ m = omega arith in ap (λ k. drop k xs) e
-drop-plus (suc n) m [] = drop-nil (suc n + m) ∙ sym (drop-nil m)
-drop-plus (suc n) m (x ∷ xs) =
-    let e : suc n + m ≡ suc (n + m) = omega arith in
-    ap (λ k. drop k (x ∷ xs)) e ∙ drop-plus n m xs
-
--- two literals more are dropped at the front, whatever is left of those before them, and the node
--- stands at the end
-pub drop-pushed : (n m : ℕ) (ls room ks : List Literal) (w : Literal) → drop n ls ≡ ks → m ≤ length room
-    → drop m room ≡ drop (n + 2) ls → drop m (room ++ w ∷ []) ≡ drop 2 ks ++ w ∷ []
-drop-pushed n m ls room ks w e inside same =
-    drop-append-le m room (w ∷ []) inside
-    ∙ ap (λ ms. ms ++ w ∷ []) (same ∙ drop-plus n 2 ls ∙ ap (drop 2) e)
-
 -- ---- all terms
 
 pub filter-first : (test : Term → Bool) (t : Term) (ts : List Term)
     → filter test (t ∷ ts) ≡ filter test (t ∷ []) ++ filter test ts
 filter-first test t ts = filter-append test (t ∷ []) ts
-
--- the short ones that are left
-pub short_left : (w : Literal) (now after : List Term) (t : Term) (left rest : List Term)
-    (whole : List Term) → left ≡ t ∷ rest
-    → after ≡ now ++ filter is_short (front_term w t ∷ [])
-    → now ++ filter is_short (map (front_term w) left) ≡ whole
-    → after ++ filter is_short (map (front_term w) rest) ≡ whole
-short_left w now after t left rest whole e new so_far =
-    let others = filter is_short (map (front_term w) rest) in
-    ap (λ ts. ts ++ others) new
-    ∙ append_assoc now (filter is_short (front_term w t ∷ [])) others
-    ∙ sym (ap (λ ts. now ++ ts) (filter-first is_short (front_term w t) (map (front_term w) rest)))
-    ∙ sym (ap (λ ts. now ++ filter is_short (map (front_term w) ts)) e)
-    ∙ so_far
 
 -- ---- the others can still go back
 

@@ -26,7 +26,7 @@ use Rattle.rosenberg_layer.specs.Buckets.{list_at}
 use Rattle.rosenberg_layer.specs.Waiting.{first_pair, is_touched, key_of, turned, AreWaiting, ArePartly, IsFound}
 use Rattle.rosenberg_layer.proofs.Parts.{filter-yes}
 use Rattle.rosenberg_layer.proofs.RingTerms.{literal_of-code_of}
-use Rattle.rosenberg_layer.proofs.Taking.{begins-pair, pair-begins, two-long, From}
+use Rattle.rosenberg_layer.proofs.PairOrder.{begins-pair, pair-begins, two-long, From}
 use Rattle.rosenberg_layer.proofs.WaitingTerms.{in-cons, keyed_first, keys_after}
 
 -- ---- codes are in the order of literals

@@ -15,7 +15,7 @@ use Rattle.rosenberg_layer.specs.Buckets.{list_at}
 use Rattle.rosenberg_layer.specs.Waiting.{is_touched, key_of, lists_with, AreWaiting, ArePartly, IsBeyond, IsFound}
 use Rattle.rosenberg_layer.proofs.PartlyTerms.{code-later, code-same, least, long_at, pair-first, pair-second, partly_at, partly_skip, partly_start, partly_touch, whole_step}
 use Rattle.rosenberg_layer.proofs.PutBack.{three-long}
-use Rattle.rosenberg_layer.proofs.Taking.{begins-pair, pair-begins, two-long}
+use Rattle.rosenberg_layer.proofs.PairOrder.{begins-pair, pair-begins, two-long}
 use Rattle.rosenberg_layer.proofs.WaitingTerms.{in-cons, in-first, keyed_first, keys_after, key-term, wait_less, wait_put, IsFirst}
 
 -- the pair of the term of a key

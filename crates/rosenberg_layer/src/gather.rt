@@ -16,17 +16,26 @@ ghost use Rattle.std.specs.Prelude.{
 ghost use Rattle.std.specs.List.{filter, AllByRecursion};
 ghost use Rattle.term_table.specs.Terms.{with_additions, terms_total, IsTermSet};
 ghost use Rattle.term_table.specs.Tables.{kept_at_once, with_more};
-ghost use Rattle.rosenberg_layer.specs.Rosenberg.{tie_terms};
+ghost use Rattle.rosenberg_layer.specs.Rosenberg.{node, tie_terms};
 ghost use Rattle.rosenberg_layer.specs.Steps.{is_short};
 ghost use Rattle.rosenberg_layer.specs.Parts.{ties_of};
 
 use crate::low_set::LowSet;
 use crate::run::Run;
-use crate::substitute::node;
 use base::NoMemory;
 use literal_lists::Literal;
 use std::alloc::Global;
 use term_table::{GatheredTerms, Table};
+
+/// The node of a number, as a literal.
+pub fn node(number: usize) -> Literal
+    ensures { result ≡ node number }
+{
+    Literal {
+        variable: number as u64,
+        negated: false,
+    }
+}
 
 /// Adds a term of degree 2 or less, and no other.
 fn add_short(

@@ -4,22 +4,18 @@
 
 mod buckets;
 mod gather;
-mod grouped_terms;
 mod laws;
-mod long_set;
 mod long_terms;
 mod low_set;
 mod replacing;
 mod rings;
 mod rosenberg;
 mod run;
-mod substitute;
 mod waiting;
-mod wide;
 
+pub use gather::node;
 pub use laws::laws_of_substitutions;
 pub use long_terms::LongTerms;
 pub use low_set::LowSet;
 pub use rosenberg::{Rosenberg, push_products};
 pub use run::{Run, excess, run_of, run_of_long};
-pub use substitute::node;

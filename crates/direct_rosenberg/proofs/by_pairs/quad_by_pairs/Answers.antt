@@ -14,16 +14,11 @@ use Rattle.direct_rosenberg.proofs.Formed.{added_of, form-all, narrow-all, sets-
 use Rattle.direct_rosenberg.proofs.Sizes.{few-all, total-all}
 use Rattle.direct_rosenberg.proofs.by_pairs.quad_by_pairs.Goals as goal
 
-pub run_of-requires-clause-narrow : goal.run_of-requires-clause-narrow
-run_of-requires-clause-narrow c =
-    let t = c.args.table.content in
-    omega (
-      arith,
-      width-le c.excess.result t,
-      c.excess.ensures,
-      excess-size t.terms,
-      c.requires.size,
-    )
+pub run_of-requires-clause-turns : goal.run_of-requires-clause-turns
+run_of-requires-clause-turns c = omega (arith, c.excess.ensures)
+
+pub run_of-requires-clause-size : goal.run_of-requires-clause-size
+run_of-requires-clause-size c = omega (arith, c.requires.size)
 
 pub new-requires : goal.new-requires
 new-requires c =

@@ -27,9 +27,11 @@ returns-clause-image g c =
 pub returns-clause-second : goal.returns-clause-second
 returns-clause-second g c =
     let is : IsTable c.in_ok-guarded.guarded.target.content = c.in_ok-quad.ensures.kept in
+    let size = grown_within _ g.G.Guard.SIZE_BITS 2 32 c.in_ok-guarded.ensures.size
+    (omega (arith, c.requires.size)) in
     subst (λ (t : KeptTable). (link : BitsLink) × rosenberg.Fits link t.content)
     (c.in_ok-guarded.ensures.image ∙ ap g.G.Guard.image c.problem.ensures.same)
-    (pair_link c.in_ok-guarded.guarded.target.content is)
+    (pair_link c.in_ok-guarded.guarded.target.content is size)
 
 pub returns-clause-third : goal.returns-clause-third
 returns-clause-third g c =
