@@ -1,5 +1,5 @@
 //! Elimination of nodes, one after another.
-ghost use Rattle.std.specs.Prelude.{◌≡◌, ◌≤◌, ◌^◌, ◌*◌, ◌+◌, ◌+ℤ◌, ℕ, List, Bool, true, false, All, IfOk, OnOk, length, map, unsigned_abs};
+ghost use Rattle.std.specs.Prelude.{◌≡◌, ◌≤◌, ◌^◌, ◌*◌, ◌+◌, ◌+ℤ◌, ℕ, List, Bool, true, false, All, IfOk, OnOk, length, map, pos, replicate, unsigned_abs};
 ghost use Rattle.std.specs.List.{sum_by};
 ghost use Rattle.base.specs.Sums.{total_by, if_so};
 ghost use Rattle.base.specs.Costs.{energy};
@@ -19,6 +19,15 @@ use base::Lists;
 use bits_model::{ChainList, Entry, Kind, NoMemory, OutputModel};
 use std::alloc::Global;
 
+/// Makes so many steps of 0.
+fn begin_steps(into: &mut Vec<i128>, count: usize) -> Result<(), NoMemory>
+    ensures { OnOk result (into.new.items ≡ replicate count (pos 0)) }
+{
+    into.clear();
+    into.resize(count, 0)?;
+    Ok(())
+}
+
 /// What each neighbour adds where its bit is 1, and the node has this bit.
 fn steps(
     into: &mut Vec<i128>,
@@ -35,10 +44,7 @@ fn steps(
     ensures size { OnOk result
         (sum_by unsigned_abs into.new.items ≤ 2 * weight_total entries.now) }
 {
-    into.clear();
-    for _ in nodes {
-        into.push(0)?;
-    }
+    begin_steps(into, nodes.len())?;
     for entry in entries {
         if entry.first != entry.second {
             add_for(nodes, into, entry.first, &step_of(kind, bit, entry));

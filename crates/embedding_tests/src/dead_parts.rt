@@ -145,63 +145,66 @@ fn text_answer(alloc: Global, graph: Chimera, text: &[u8], map: &[u8]) -> Answer
     }
 }
 
+/// Dead lists of two cells, maps of two nodes with a coupling, and what they are answered. A dead
+/// qubit is named before a repeated one, and behind an empty chain or a wrong count.
+const MAPS: [(&[u8], &[u8], Answered); 11] = [
+    (b"", b"0 0\n1 4\n", Answered::Taken),
+    (
+        b"4\n",
+        b"0 0\n1 4\n",
+        Answered::Refused(EmbedFault::NoSuchQubit(1, 4)),
+    ),
+    (
+        b"4\n",
+        b"0 0\n1 0 4\n",
+        Answered::Refused(EmbedFault::NoSuchQubit(1, 4)),
+    ),
+    (
+        b"4\n",
+        b"0 0 0\n1 4\n",
+        Answered::Refused(EmbedFault::NoSuchQubit(1, 4)),
+    ),
+    (
+        b"4\n",
+        b"0 0 0\n1 5 4 5\n",
+        Answered::Refused(EmbedFault::NoSuchQubit(1, 4)),
+    ),
+    (
+        b"4\n",
+        b"0 0 0\n1 5\n",
+        Answered::Refused(EmbedFault::Repeated(0)),
+    ),
+    (
+        b"4\n",
+        b"0 16\n1 4\n",
+        Answered::Refused(EmbedFault::NoSuchQubit(0, 16)),
+    ),
+    (
+        b"4\n",
+        b"0 4\n1\n",
+        Answered::Refused(EmbedFault::EmptyChain(1)),
+    ),
+    (
+        b"4\n",
+        b"0 4\n",
+        Answered::Refused(EmbedFault::ChainCount(1)),
+    ),
+    (
+        b"4 0\n",
+        b"0 0\n1 4\n",
+        Answered::Refused(EmbedFault::NoCoupler(0, 1)),
+    ),
+    (
+        b"0 4\n",
+        b"0 0 4\n1 5\n",
+        Answered::Refused(EmbedFault::Disconnected(0, 4)),
+    ),
+];
+
 #[test]
 fn maps_on_what_is_left(rt: HostRuntime) -> Result<(), Fail> {
     let graph = Chimera::new(1, 2, 4).ok_or("refused")?;
-    let rows: [(&[u8], &[u8], Answered); 11] = [
-        (b"", b"0 0\n1 4\n", Answered::Taken),
-        (
-            b"4\n",
-            b"0 0\n1 4\n",
-            Answered::Refused(EmbedFault::NoSuchQubit(1, 4)),
-        ),
-        (
-            b"4\n",
-            b"0 0\n1 0 4\n",
-            Answered::Refused(EmbedFault::NoSuchQubit(1, 4)),
-        ),
-        (
-            b"4\n",
-            b"0 0 0\n1 4\n",
-            Answered::Refused(EmbedFault::NoSuchQubit(1, 4)),
-        ),
-        (
-            b"4\n",
-            b"0 0 0\n1 5 4 5\n",
-            Answered::Refused(EmbedFault::NoSuchQubit(1, 4)),
-        ),
-        (
-            b"4\n",
-            b"0 0 0\n1 5\n",
-            Answered::Refused(EmbedFault::Repeated(0)),
-        ),
-        (
-            b"4\n",
-            b"0 16\n1 4\n",
-            Answered::Refused(EmbedFault::NoSuchQubit(0, 16)),
-        ),
-        (
-            b"4\n",
-            b"0 4\n1\n",
-            Answered::Refused(EmbedFault::EmptyChain(1)),
-        ),
-        (
-            b"4\n",
-            b"0 4\n",
-            Answered::Refused(EmbedFault::ChainCount(1)),
-        ),
-        (
-            b"4 0\n",
-            b"0 0\n1 4\n",
-            Answered::Refused(EmbedFault::NoCoupler(0, 1)),
-        ),
-        (
-            b"0 4\n",
-            b"0 0 4\n1 5\n",
-            Answered::Refused(EmbedFault::Disconnected(0, 4)),
-        ),
-    ];
-    for (text, map, answer) in rows {
+    for (text, map, answer) in MAPS {
         assert!(rt; text_answer(rt.alloc(), graph, text, map) == answer);
     }
     Ok(())
@@ -267,12 +270,19 @@ fn put(text: &mut Vec<u8>, number: u32, end: u8) -> Result<(), NoMemory> {
     Ok(())
 }
 
+/// Adds a line for each coupler.
+fn put_couplers(text: &mut Vec<u8>, parts: &Parts) -> Result<(), NoMemory> {
+    for coupler in parts.couplers.iter() {
+        put(text, coupler.0, b' ')?;
+        put(text, coupler.1, b'\n')?;
+    }
+    Ok(())
+}
+
+/// The dead list that names these parts, the couplers first.
 fn text_of(alloc: Global, parts: &Parts) -> Result<Vec<u8>, NoMemory> {
     let mut text = Vec::new(alloc);
-    for coupler in parts.couplers.iter() {
-        put(&mut text, coupler.0, b' ')?;
-        put(&mut text, coupler.1, b'\n')?;
-    }
+    put_couplers(&mut text, parts)?;
     for qubit in 0..64 {
         if parts.names(qubit) {
             put(&mut text, qubit, b'\n')?;
@@ -320,14 +330,20 @@ fn number_of(graph: &Chimera, row: u32, col: u32, side: u32, at: u32) -> u64 {
     u64::from(side.wrapping_mul(graph.shore).wrapping_add(at))
 }
 
-/// The chain of a place: down its column to the diagonal, and on along its row.
-fn chain_of(alloc: Global, graph: &Chimera, cell: u32, at: u32) -> Result<Vec<u64>, NoMemory> {
-    let mut chain = Vec::new(alloc);
+/// Adds the qubits of a place down its column, up to the diagonal.
+fn push_column(chain: &mut Vec<u64>, graph: &Chimera, cell: u32, at: u32) -> Result<(), NoMemory> {
     for row in 0..graph.rows.min(graph.cols) {
         if row <= cell {
             chain.push(number_of(graph, row, cell, 0, at))?;
         }
     }
+    Ok(())
+}
+
+/// The chain of a place: down its column to the diagonal, and on along its row.
+fn chain_of(alloc: Global, graph: &Chimera, cell: u32, at: u32) -> Result<Vec<u64>, NoMemory> {
+    let mut chain = Vec::new(alloc);
+    push_column(&mut chain, graph, cell, at)?;
     for col in cell..graph.rows.min(graph.cols) {
         chain.push(number_of(graph, cell, col, 1, at))?;
     }
@@ -372,16 +388,28 @@ fn meets_all(graph: &Chimera, parts: &Parts, chain: &[u64], map: &ChainMap) -> b
     true
 }
 
-/// The chains of the places that are taken, by trying each with all before it.
+/// Adds the chains of the places of a cell that are taken, by trying each with all before it.
+fn push_places(
+    alloc: Global,
+    map: &mut ChainMap,
+    graph: &Chimera,
+    parts: &Parts,
+    cell: u32,
+) -> Result<(), NoMemory> {
+    for at in 0..graph.shore {
+        let chain = chain_of(alloc, graph, cell, at)?;
+        if is_path(graph, parts, &chain) && meets_all(graph, parts, &chain, map) {
+            map.push(&chain)?;
+        }
+    }
+    Ok(())
+}
+
+/// The chains of the places that are taken, cell after cell.
 fn plain_clique(alloc: Global, graph: &Chimera, parts: &Parts) -> Result<ChainMap, NoMemory> {
     let mut map = ChainMap::new(alloc);
     for cell in 0..graph.rows.min(graph.cols) {
-        for at in 0..graph.shore {
-            let chain = chain_of(alloc, graph, cell, at)?;
-            if is_path(graph, parts, &chain) && meets_all(graph, parts, &chain, &map) {
-                map.push(&chain)?;
-            }
-        }
+        push_places(alloc, &mut map, graph, parts, cell)?;
     }
     Ok(map)
 }
@@ -437,13 +465,21 @@ fn draw_map(alloc: Global, dice: &mut Dice, qubits: u32) -> Result<ChainMap, NoM
     Ok(map)
 }
 
+/// The first number of a chain that is none of a qubit that is left.
+fn dead_in(parts: &Parts, qubits: u32, chain: &[u64]) -> Option<u64> {
+    for number in chain {
+        if *number >= u64::from(qubits) || parts.names(*number as u32) {
+            return Some(*number);
+        }
+    }
+    None
+}
+
 /// The first number that is none of a qubit that is left.
 fn first_dead(parts: &Parts, qubits: u32, map: &ChainMap) -> Option<EmbedFault> {
     for node in 0..map.len() {
-        for number in map.chain(node) {
-            if *number >= u64::from(qubits) || parts.names(*number as u32) {
-                return Some(EmbedFault::NoSuchQubit(node, *number));
-            }
+        if let Some(number) = dead_in(parts, qubits, map.chain(node)) {
+            return Some(EmbedFault::NoSuchQubit(node, number));
         }
     }
     None

@@ -114,12 +114,33 @@ fn first_empty(map: &ChainMap) -> Option<EmbedFault> {
     None
 }
 
+/// The first number of a chain that is none of a qubit.
+fn unknown_in(chain: &[u64], qubits: u32) -> Option<u64> {
+    for number in chain {
+        if *number >= qubits as u64 {
+            return Some(*number);
+        }
+    }
+    None
+}
+
 fn first_unknown(map: &ChainMap, qubits: u32) -> Option<EmbedFault> {
     for node in 0..map.len() {
-        for number in map.chain(node) {
-            if *number >= qubits as u64 {
-                return Some(EmbedFault::NoSuchQubit(node, *number));
+        if let Some(number) = unknown_in(map.chain(node), qubits) {
+            return Some(EmbedFault::NoSuchQubit(node, number));
+        }
+    }
+    None
+}
+
+/// The first number of a chain below 64 that was seen before. Those before it are seen from then on.
+fn repeated_in(chain: &[u64], seen: &mut u64) -> Option<u64> {
+    for number in chain {
+        if *number < 64 {
+            if (*seen >> *number) % 2 == 1 {
+                return Some(*number);
             }
+            *seen |= 1 << *number;
         }
     }
     None
@@ -128,13 +149,18 @@ fn first_unknown(map: &ChainMap, qubits: u32) -> Option<EmbedFault> {
 fn first_repeated(map: &ChainMap) -> Option<EmbedFault> {
     let mut seen: u64 = 0;
     for node in 0..map.len() {
-        for number in map.chain(node) {
-            if *number < 64 {
-                if (seen >> *number) % 2 == 1 {
-                    return Some(EmbedFault::Repeated(*number));
-                }
-                seen |= 1 << *number;
-            }
+        if let Some(number) = repeated_in(map.chain(node), &mut seen) {
+            return Some(EmbedFault::Repeated(number));
+        }
+    }
+    None
+}
+
+/// The first number of a chain to which no walk inside it leads.
+fn unreached_in<H: Hardware>(hardware: &H, chain: &[u64]) -> Option<u64> {
+    for (at, number) in chain.iter().enumerate() {
+        if distance(hardware, chain, at).is_none() {
+            return Some(*number);
         }
     }
     None
@@ -142,11 +168,8 @@ fn first_repeated(map: &ChainMap) -> Option<EmbedFault> {
 
 fn first_unreached<H: Hardware>(hardware: &H, map: &ChainMap) -> Option<EmbedFault> {
     for node in 0..map.len() {
-        let chain = map.chain(node);
-        for (at, number) in chain.iter().enumerate() {
-            if distance(hardware, chain, at).is_none() {
-                return Some(EmbedFault::Disconnected(node, *number));
-            }
+        if let Some(number) = unreached_in(hardware, map.chain(node)) {
+            return Some(EmbedFault::Disconnected(node, number));
         }
     }
     None

@@ -9,51 +9,61 @@ use problem_form::{Choices, High, LimitKind, Normal, Problem, check_limits};
 use std::alloc::Global;
 use term_table::{Table, Terms, is_set};
 
+/// Variable 0.
 pub const A: Literal = Literal {
     variable: 0,
     negated: false,
 };
 
+/// The complement of variable 0.
 pub const NOT_A: Literal = Literal {
     variable: 0,
     negated: true,
 };
 
+/// Variable 1.
 pub const B: Literal = Literal {
     variable: 1,
     negated: false,
 };
 
+/// The complement of variable 1.
 pub const NOT_B: Literal = Literal {
     variable: 1,
     negated: true,
 };
 
+/// Variable 2.
 pub const C: Literal = Literal {
     variable: 2,
     negated: false,
 };
 
+/// The complement of variable 2.
 pub const NOT_C: Literal = Literal {
     variable: 2,
     negated: true,
 };
 
+/// Variable 3.
 pub const D: Literal = Literal {
     variable: 3,
     negated: false,
 };
 
+/// Variable 4.
 pub const E: Literal = Literal {
     variable: 4,
     negated: false,
 };
 
+/// Variable 5.
 pub const F: Literal = Literal {
     variable: 5,
     negated: false,
 };
 
+/// Variable 6.
 pub const G: Literal = Literal {
     variable: 6,
     negated: false,

@@ -1,15 +1,26 @@
 //! The joins of two small graphs, against lists made by hand, and the sizes that are taken.
+ghost use Rattle.std.specs.Prelude.{◌<◌};
+
 use chimera_graph::{Chimera, Hardware, Place};
 
-/// The first pair of qubits at which the graph and the list differ. The list has each join once.
+/// The first qubit at whose join with a the graph and the list differ. The list has each join once.
+fn difference_at<H: Hardware>(graph: &H, joins: &[(u32, u32)], a: u32) -> Option<u32>
+    requires { a < H.qubits graph.now }
+{
+    for b in 0..graph.qubits() {
+        let wanted = joins.contains(&(a, b)) || joins.contains(&(b, a));
+        if graph.joined(a, b) != wanted {
+            return Some(b);
+        }
+    }
+    None
+}
+
+/// The first pair of qubits at which the graph and the list differ.
 fn first_difference<H: Hardware>(graph: &H, joins: &[(u32, u32)]) -> Option<(u32, u32)> {
-    let qubits = graph.qubits();
-    for a in 0..qubits {
-        for b in 0..qubits {
-            let wanted = joins.contains(&(a, b)) || joins.contains(&(b, a));
-            if graph.joined(a, b) != wanted {
-                return Some((a, b));
-            }
+    for a in 0..graph.qubits() {
+        if let Some(b) = difference_at(graph, joins, a) {
+            return Some((a, b));
         }
     }
     None

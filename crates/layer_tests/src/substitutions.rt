@@ -160,6 +160,23 @@ fn is_reached(
     Ok(made.target.cost(&y) == source.cost(&x))
 }
 
+/// Whether each assignment is reached by its extension.
+fn are_reached(
+    alloc: Global,
+    source: &Table,
+    made: &Lowered<LowTable, BitsLink>,
+) -> Result<bool, NoMemory>
+    requires narrow { source.now.content.width ≡ 6 }
+    requires fits { Fits made.now.link source.now.content }
+    requires image { made.now.target ≡ kept_at_once (image source.now.content) }
+{
+    let mut kept = true;
+    for number in 0..64 {
+        kept = is_reached(alloc, source, made, number)? && kept;
+    }
+    Ok(kept)
+}
+
 /// Whether no state costs less than the assignment of its first bits, and each assignment is reached
 /// by its extension.
 fn keeps_costs(alloc: Global, source: &Table) -> Result<bool, NoMemory>
@@ -168,10 +185,7 @@ fn keeps_costs(alloc: Global, source: &Table) -> Result<bool, NoMemory>
     requires size { terms_size source.now.content.terms ≤ 108 }
 {
     let made = Rosenberg.lower(alloc, source)?;
-    let mut kept = made.link.target_width <= 15;
-    for number in 0..64 {
-        kept = is_reached(alloc, source, &made, number)? && kept;
-    }
+    let mut kept = made.link.target_width <= 15 && are_reached(alloc, source, &made)?;
     for number in 0..1 << made.link.target_width.min(15) {
         kept = is_no_less(alloc, source, &made, number)? && kept;
     }

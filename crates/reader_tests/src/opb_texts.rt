@@ -2,9 +2,18 @@
 use crate::changed_texts::{Readers, counted};
 use crate::plain_opb::plain_opb;
 use opb_reader::read_opb;
-use problem_form::{Problem, Products};
+use problem_form::{Literals, Problem, Products};
 use std::alloc::{AllocError, Global};
 use whole_text::{TextAnswer, TextFault, TextKind};
+
+/// The codes of literals, whose indices count from 1.
+fn push_literals(numbers: &mut Vec<i128>, literals: Literals<'_>) -> Result<(), AllocError> {
+    for literal in literals {
+        let index = i128::from(literal.variable) + 1;
+        numbers.push(2 * index + i128::from(literal.negated))?;
+    }
+    Ok(())
+}
 
 /// The terms of a sum as numbers: for each its coefficient, how many literals it has, and their
 /// codes; and a 0.
@@ -12,10 +21,7 @@ fn push_terms(numbers: &mut Vec<i128>, terms: Products<'_>) -> Result<(), AllocE
     for term in terms {
         numbers.push(term.coefficient)?;
         numbers.push(term.literals.len() as i128)?;
-        for literal in term.literals {
-            let index = i128::from(literal.variable) + 1;
-            numbers.push(2 * index + i128::from(literal.negated))?;
-        }
+        push_literals(numbers, term.literals)?;
     }
     numbers.push(0)?;
     Ok(())

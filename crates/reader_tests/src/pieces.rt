@@ -40,6 +40,27 @@ fn has_words(text: &TokenText, wanted: &[(&[u8], u64)], bytes: &[u8]) -> bool {
     words.next().is_none() && text.bytes.as_slice() == bytes
 }
 
+/// Whether each first cut with this second one gives these words.
+fn is_cut_before(
+    alloc: Global,
+    style: Style,
+    text: &[u8],
+    second: usize,
+    words: &[(&[u8], u64)],
+    bytes: &[u8],
+) -> Result<bool, NoMemory>
+    requires within { second ≤ length text.now }
+    requires small { length text.now ≤ 2 ^ 16 }
+{
+    for first in 0..second + 1 {
+        let cut = cut_text(alloc, style, text, first, second)?;
+        if !has_words(&cut, words, bytes) {
+            return Ok(false);
+        }
+    }
+    Ok(true)
+}
+
 /// Whether each pair of cuts gives these words.
 fn is_cut_anywhere(
     alloc: Global,
@@ -51,11 +72,8 @@ fn is_cut_anywhere(
     requires { length text.now ≤ 2 ^ 16 }
 {
     for second in 0..text.len() + 1 {
-        for first in 0..second + 1 {
-            let cut = cut_text(alloc, style, text, first, second)?;
-            if !has_words(&cut, words, bytes) {
-                return Ok(false);
-            }
+        if !is_cut_before(alloc, style, text, second, words, bytes)? {
+            return Ok(false);
         }
     }
     Ok(true)
@@ -158,6 +176,25 @@ fn said(read: Result<Read, TextAnswer>) -> Option<Result<Cost, TextAnswer>> {
     }
 }
 
+/// Whether each first cut with this second one gives this.
+fn is_read_before(
+    alloc: Global,
+    format: Format,
+    text: &[u8],
+    second: usize,
+    wanted: Result<Cost, TextAnswer>,
+) -> bool
+    requires within { second ≤ length text.now }
+    requires small { length text.now ≤ 2 ^ 16 }
+{
+    for first in 0..second + 1 {
+        if said(read_cut(alloc, format, text, first, second)) != Some(wanted) {
+            return false;
+        }
+    }
+    true
+}
+
 /// Whether each pair of cuts gives this.
 fn is_read_anywhere(
     alloc: Global,
@@ -168,10 +205,8 @@ fn is_read_anywhere(
     requires { length text.now ≤ 2 ^ 16 }
 {
     for second in 0..text.len() + 1 {
-        for first in 0..second + 1 {
-            if said(read_cut(alloc, format, text, first, second)) != Some(wanted) {
-                return false;
-            }
+        if !is_read_before(alloc, format, text, second, wanted) {
+            return false;
         }
     }
     true

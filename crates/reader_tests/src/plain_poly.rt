@@ -114,12 +114,18 @@ impl<'a> PlainPoly<'a> {
     }
 }
 
+/// A name as numbers: how many bytes it has, and its bytes.
+fn push_name(numbers: &mut Vec<i128>, name: &[u8]) -> Result<(), AllocError> {
+    numbers.push(name.len() as i128)?;
+    for byte in name {
+        numbers.push(i128::from(*byte))?;
+    }
+    Ok(())
+}
+
 fn push_names(numbers: &mut Vec<i128>, names: &[&[u8]]) -> Result<(), AllocError> {
     for name in names {
-        numbers.push(name.len() as i128)?;
-        for byte in *name {
-            numbers.push(i128::from(*byte))?;
-        }
+        push_name(numbers, *name)?;
     }
     Ok(())
 }

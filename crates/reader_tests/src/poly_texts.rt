@@ -2,17 +2,31 @@
 use crate::changed_texts::{Readers, counted};
 use crate::plain_poly::plain_poly;
 use poly_reader::{Names, Polynomial, read_poly};
+use problem_form::Literals;
 use std::alloc::{AllocError, Global};
 use whole_text::{TextAnswer, TextFault, TextKind};
 
-/// The names as numbers: for each how many bytes it has, and its bytes.
+/// A name as numbers: how many bytes it has, and its bytes.
+fn push_name(numbers: &mut Vec<i128>, name: &str) -> Result<(), AllocError> {
+    numbers.push(name.len() as i128)?;
+    for byte in name.as_bytes() {
+        numbers.push(i128::from(*byte))?;
+    }
+    Ok(())
+}
+
+/// All names, one after another.
 fn push_names(numbers: &mut Vec<i128>, names: &Names) -> Result<(), AllocError> {
     for variable in 0..names.len() {
-        let name = names.name(variable);
-        numbers.push(name.len() as i128)?;
-        for byte in name.as_bytes() {
-            numbers.push(i128::from(*byte))?;
-        }
+        push_name(numbers, names.name(variable))?;
+    }
+    Ok(())
+}
+
+/// The codes of literals, whose variables count from 0.
+fn push_literals(numbers: &mut Vec<i128>, literals: Literals<'_>) -> Result<(), AllocError> {
+    for literal in literals {
+        numbers.push(2 * i128::from(literal.variable) + i128::from(literal.negated))?;
     }
     Ok(())
 }
@@ -22,9 +36,7 @@ fn push_polynomial(numbers: &mut Vec<i128>, polynomial: &Polynomial) -> Result<(
     for product in polynomial.problem.objective.iter() {
         numbers.push(product.coefficient)?;
         numbers.push(product.literals.len() as i128)?;
-        for literal in product.literals {
-            numbers.push(2 * i128::from(literal.variable) + i128::from(literal.negated))?;
-        }
+        push_literals(numbers, product.literals)?;
     }
     numbers.push(0)?;
     numbers.push(polynomial.problem.constant)?;

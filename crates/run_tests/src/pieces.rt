@@ -96,12 +96,18 @@ impl Sink for ShortSink {
     }
 }
 
-/// One clause of sixty variables, after comments that are longer than a piece.
-fn long_source(alloc: Global) -> Result<String, Fail> {
-    let mut text = String::new(alloc);
+/// Adds comments that are longer than a piece.
+fn push_comments(text: &mut String) -> Result<(), Fail> {
     for _ in 0..4000u64 {
         text.push_str("c a comment of a line that holds no word\n")?;
     }
+    Ok(())
+}
+
+/// One clause of sixty variables, after comments that are longer than a piece.
+fn long_source(alloc: Global) -> Result<String, Fail> {
+    let mut text = String::new(alloc);
+    push_comments(&mut text)?;
     text.push_str("p wcnf 60 1\n1")?;
     for variable in 0..60u64 {
         write!(text, " {}", variable.saturating_add(1))?;

@@ -13,15 +13,16 @@ use Rattle.basic_solve.proofs.elimination.steps.Goals.{then-entry, else-entry}
 
 pub loop-entry-init : goal.loop-entry-init
 loop-entry-init c =
-    let made = c.loop.invariant in (
-      ap length made ∙ length-replicate c.loop.index (pos 0) ∙ omega arith,
+    let made = c.in_ok-begin_steps.ensures in
+    let count = length c.args.nodes.now in (
+      ap length made ∙ length-replicate count (pos 0),
       λ y. omega (
         arith,
         ints,
         ap (sum_where y c.args.nodes.now) made,
-        none-sum y c.args.nodes.now c.loop.index,
+        none-sum y c.args.nodes.now count,
       ),
-      omega (arith, ap (sum_by unsigned_abs) made, none-size c.loop.index),
+      omega (arith, ap (sum_by unsigned_abs) made, none-size count),
     )
 
 pub add_for-requires-clause-small : goal.add_for-requires-clause-small

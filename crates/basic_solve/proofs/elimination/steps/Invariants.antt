@@ -1,13 +1,9 @@
-use Rattle.std.proofs.Common.{◌≡◌, ◌+◌, ◌*◌, ◌≤◌, pos, ◌+ℤ◌, unsigned_abs, List, Bool, length, drop, replicate}
+use Rattle.std.proofs.Common.{◌≡◌, ◌+◌, ◌*◌, ◌≤◌, ◌+ℤ◌, unsigned_abs, List, Bool, length, drop}
 use Rattle.std.specs.List.{sum_by}
 use Rattle.base.specs.Sums.{total_by}
 use Rattle.bits_model.specs.Output.{weight_total}
 use Rattle.basic_solve.specs.Tables.{sum_where, step_at}
 use Rattle.basic_solve.proofs.elimination.steps.Given as goal
-
--- there is a step of 0 for each node so far
-abbrev pub invariant-loop : goal.invariant-loop
-invariant-loop l = l.into.items ≡ replicate l.index (pos 0)
 
 -- the steps so far, and the entries that are left
 abbrev pub invariant-loop-entry : goal.invariant-loop-entry
