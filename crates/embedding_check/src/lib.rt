@@ -22,3 +22,4 @@ pub use chain_map::{ChainMap, CheckAnswer, EmbedFault, clique_map, read_map};
 pub use checking::check;
 pub use embedded::{Embedded, PairList};
 pub use laws::checks_give_one_embedding;
+pub use passes::first_empty;

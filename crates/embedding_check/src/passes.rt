@@ -24,7 +24,7 @@ use chimera_graph::Hardware;
 use std::alloc::Global;
 
 /// The least node with an empty chain.
-pub(crate) fn first_empty(map: &ChainMap) -> Option<usize>
+pub fn first_empty(map: &ChainMap) -> Option<usize>
     ensures { IsFound (length map.now) (λ u. chain_of map.now u ≢ []) result }
 {
     for node in 0..map.len() {

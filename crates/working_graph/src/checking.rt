@@ -2,7 +2,7 @@
 //!
 //! The passes that ask for no join are made here, since a dead qubit is to be found before a
 //! repeated one. The others are those of the check on any hardware.
-ghost use Rattle.std.specs.Prelude.{◌≡◌, ◌≢◌, ◌<◌, ℕ, true, [], length, IfOk, IfErr};
+ghost use Rattle.std.specs.Prelude.{◌≡◌, ◌<◌, ℕ, true, length, IfOk, IfErr};
 ghost use Rattle.std.specs.List.{slice_index_or};
 ghost use Rattle.chimera_graph.specs.Graph.{qubits_of};
 ghost use Rattle.chain_map.specs.Chains.{chain_of};
@@ -16,21 +16,9 @@ ghost use Rattle.working_graph.specs.Faults.{ExistsAt, IsFirstMissing, IsFaultOn
 use crate::working::Working;
 use chain_map::{ChainMap, CheckAnswer, EmbedFault};
 use chimera_graph::Hardware;
-use embedding_check::{Embedded, check};
+use embedding_check::{Embedded, check, first_empty};
 use ising_form::Ising;
 use std::alloc::Global;
-
-/// The least node with an empty chain.
-fn first_empty(map: &ChainMap) -> Option<usize>
-    ensures { IsFound (length map.now) (λ u. chain_of map.now u ≢ []) result }
-{
-    for node in 0..map.len() {
-        if map.chain(node).is_empty() {
-            return Some(node);
-        }
-    }
-    None
-}
 
 /// Whether a number is one of a qubit that works.
 fn is_qubit(working: &Working, number: u64) -> bool
