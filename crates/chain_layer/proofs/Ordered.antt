@@ -517,15 +517,6 @@ image_is_ising e kept small =
 
 -- ---- what sorting makes of the couplings
 
--- they are pairs of qubits
-pub all_pairs : (e : Embedding) → IsEmbedding e
-    → All (IsPair (2 ^ 20)) (placed e.ising.couplings e.places ++ all_ties e)
-all_pairs e kept =
-    All-from_recursion (IsPair (2 ^ 20)) (placed e.ising.couplings e.places ++ all_ties e)
-    (each (λ f h. let up = h.upward in let below = h.within in record { upward = up; within = omega (arith, below, kept.few) })
-    (placed e.ising.couplings e.places ++ all_ties e)
-    (all_couplers e kept))
-
 -- how many entries have this number
 abbrev pub numbered : ℕ → List Entry → ℕ
 numbered n es = count_by (λ e. pair_number e == n) es

@@ -14,7 +14,7 @@ ghost use Rattle.chain_layer.specs.Image.{
 use base::NoMemory;
 use bits_model::{CouplerList, Entry};
 use embedding_check::Embedded;
-use pair_sums::Gathered;
+use pair_sums::Pairs;
 use std::alloc::Global;
 
 /// A coupling of two qubits, the lesser one first.
@@ -36,17 +36,18 @@ pub fn coupling(p: u32, q: u32, weight: i128) -> Entry
     }
 }
 
-/// Each coupling on its pair of qubits, with room for so many ties.
+/// Each coupling on its pair of qubits, of so many qubits, with room for a tie of each.
 pub fn placed(
     alloc: Global,
     couplings: &CouplerList,
     places: &[(u32, u32)],
-    ties: u32,
-) -> Result<Gathered, NoMemory>
+    qubits: u32,
+) -> Result<Pairs, NoMemory>
     requires { length places.now ≡ length couplings.now }
     ensures { IfOk result (λ v. v ≡ placed couplings.now places.now) }
 {
-    let mut made = Gathered::with_room(alloc, places.len().saturating_add(ties as usize))?;
+    let qubits = qubits as usize;
+    let mut made = Pairs::with_room(alloc, qubits, places.len().saturating_add(qubits))?;
     let mut at = 0;
     for coupling in couplings.iter() {
         let (first, second) = places[at];
@@ -62,7 +63,7 @@ pub fn placed(
 
 /// Appends the ties of a chain.
 fn push_ties(
-    couplings: &mut Gathered,
+    couplings: &mut Pairs,
     chain: &[u32],
     parents: &[u32],
     strength: u128,
@@ -79,11 +80,7 @@ fn push_ties(
 }
 
 /// The placed couplings, and the ties of all chains.
-pub fn couplings_of(
-    alloc: Global,
-    source: &Embedded,
-    strengths: &[u128],
-) -> Result<Gathered, NoMemory>
+pub fn couplings_of(alloc: Global, source: &Embedded, strengths: &[u128]) -> Result<Pairs, NoMemory>
     requires kept { IsEmbedding source.now }
     requires strengths { strengths.now ≡ map (strength source.now) (nodes_of source.now) }
     ensures { IfOk result (λ v. v

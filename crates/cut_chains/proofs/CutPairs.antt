@@ -208,11 +208,3 @@ sorted_is_in_order n from to few all apart moved sorted =
     (each (λ (f : Entry) (h : IsCoupler n f). h.nonzero) (in_order from) ordered.2)
     (λ i j. total_by-IsPermutation (weight_for i j) from to moved
     ∙ sym (total_by-in_order (weight_for i j) from))
-
--- they are pairs of qubits
-pub cut_pairs : (e : Embedding) → IsEmbedding e
-    → All (IsPair (2 ^ 20)) (placed e.ising.couplings e.places ++ cut_ties e)
-cut_pairs e kept =
-    All-from_recursion (IsPair (2 ^ 20)) (placed e.ising.couplings e.places ++ cut_ties e)
-    (as_pairs (2 ^ 20) e.qubits (placed e.ising.couplings e.places ++ cut_ties e) kept.few
-    (cut_couplers e kept))

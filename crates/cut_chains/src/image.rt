@@ -12,7 +12,7 @@ use base::NoMemory;
 use chain_layer::{placed, shared_fields};
 use embedding_check::Embedded;
 use ising_form::Ising;
-use pair_sums::{Gathered, in_order};
+use pair_sums::{Pairs, in_order};
 use quad_form::NumberList;
 use std::alloc::Global;
 
@@ -21,7 +21,7 @@ fn couplings_of(
     alloc: Global,
     source: &Embedded,
     fields: &[i128],
-) -> Result<(Gathered, usize), NoMemory>
+) -> Result<(Pairs, usize), NoMemory>
     requires kept { IsEmbedding source.now }
     requires fields { fields.now
         ≡ map (field_at (all_shares source.now)) (range_with_len 0 source.now.qubits) }

@@ -13,7 +13,7 @@ use crate::sums::weigh_chain;
 use base::NoMemory;
 use chain_layer::coupling;
 use embedding_check::Embedded;
-use pair_sums::Gathered;
+use pair_sums::Pairs;
 
 /// One more than the lesser of the weights of the two sides of a tie.
 fn strength(sums: &[u128], all: u128, qubit: u32) -> u128
@@ -29,7 +29,7 @@ fn strength(sums: &[u128], all: u128, qubit: u32) -> u128
 
 /// Appends the ties of a chain.
 pub fn push_ties(
-    couplings: &mut Gathered,
+    couplings: &mut Pairs,
     sums: &[u128],
     chain: &[u32],
     parents: &[u32],
@@ -52,7 +52,7 @@ pub fn push_ties(
 
 /// Appends the ties of all chains, where the sums begin as the weights of the qubits.
 pub fn tie_chains(
-    made: &mut Gathered,
+    made: &mut Pairs,
     source: &Embedded,
     sums: &mut [u128],
     up: &mut [u32],
@@ -83,14 +83,14 @@ pub fn tie_chains(
 }
 
 /// What the couplings from one on weigh.
-pub fn cost_from(couplings: &Gathered, start: usize) -> u128
+pub fn cost_from(couplings: &Pairs, start: usize) -> u128
     requires start { start ≤ length couplings.now }
     requires small { weight_total (drop start couplings.now) < 2 ^ 127 }
     ensures { result ≡ weight_total (drop start couplings.now) }
 {
     let mut cost = 0;
     for k in start..couplings.len() {
-        cost += couplings.get(k).weight.unsigned_abs();
+        cost += couplings.at(k).weight.unsigned_abs();
     }
     cost
 }

@@ -9,7 +9,7 @@ ghost use Rattle.cut_chains.specs.Sides.{weight_of};
 
 use base::NoMemory;
 use embedding_check::Embedded;
-use pair_sums::Gathered;
+use pair_sums::Pairs;
 use std::alloc::Global;
 
 /// The size of each field.
@@ -34,7 +34,7 @@ fn raise(weights: &mut [u128], qubit: u32, size: u128)
 }
 
 /// Adds the size of each coupling to both of its qubits.
-fn add_couplings(weights: &mut [u128], couplings: &Gathered)
+fn add_couplings(weights: &mut [u128], couplings: &Pairs)
     requires within { All (IsCoupler (length weights.old)) couplings.now }
     requires small { (i : ℕ)
         → slice_index_or weights.old i 0 + weight_total couplings.now < 2 ^ 127 }
@@ -43,7 +43,7 @@ fn add_couplings(weights: &mut [u128], couplings: &Gathered)
         ≡ slice_index_or weights.old i 0 + couplings_at i couplings.now }
 {
     for k in 0..couplings.len() {
-        let coupling = couplings.get(k);
+        let coupling = couplings.at(k);
         let size = coupling.weight.unsigned_abs();
         raise(weights, coupling.first, size);
         raise(weights, coupling.second, size);
@@ -55,7 +55,7 @@ pub fn weights_of(
     alloc: Global,
     source: &Embedded,
     fields: &[i128],
-    couplings: &Gathered,
+    couplings: &Pairs,
 ) -> Result<Vec<u128>, NoMemory>
     requires kept { IsEmbedding source.now }
     requires fields { fields.now

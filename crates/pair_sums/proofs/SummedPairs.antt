@@ -1,6 +1,6 @@
 -- Entries in the order of their pairs, with equal neighbours as one: the pairs rise, and each has
 -- the sum of its weights.
-use Rattle.std.proofs.Common.{◌≡◌, ◌≢◌, ℕ, suc, ◌+◌, ◌<◌, ◌≤◌, ◌^◌, Bool, true, false, ◌&&◌, eqb, ℤ, pos, ◌+ℤ◌, unsigned_abs, List, [], ◌∷◌, ◌++◌, length, get_or, take, drop, All, refl, sym, ap, ◌∙◌, arith, if◌then◌else◌, append_assoc}
+use Rattle.std.proofs.Common.{◌≡◌, ◌≢◌, ℕ, suc, ◌+◌, ◌<◌, ◌≤◌, ◌^◌, Bool, true, false, ◌&&◌, eqb, ℤ, pos, ◌+ℤ◌, unsigned_abs, List, [], ◌∷◌, ◌++◌, All, refl, ◌∙◌, arith, if◌then◌else◌}
 use Rattle.std.specs.Prelude.{⊤}
 use Rattle.std.specs.List.{AllByRecursion}
 use Rattle.std.specs.List.Sorted.{IsPermutation, IsNonDecreasingBy}
@@ -8,10 +8,9 @@ use Rattle.std.specs.Ordering.{int_eq}
 use Rattle.std.specs.Bool.{Decides}
 use Rattle.std.proofs.lemmas.Int.{ints}
 use Rattle.std.proofs.lemmas.Bool.{eq-eqb}
-use Rattle.std.proofs.lemmas.List.{at_drop_more}
 use Rattle.std.proofs.lemmas.Bool.Decides.{Decides-eqb, Decides-int_eq}
 use Rattle.std.proofs.lemmas.List.Elements.{All-from_recursion, recursion_from_All}
-use Rattle.std.proofs.lemmas.List.Sums.{sum_by-cons, sum_by-drop_more}
+use Rattle.std.proofs.lemmas.List.Sums.{sum_by-cons}
 use Rattle.std.proofs.lemmas.List.Sorted.{All-permutation, sum_by-IsPermutation}
 use Rattle.base.specs.Sums.{if_so}
 use Rattle.base.proofs.Totals.{size-plus, total_by-IsPermutation}
@@ -270,36 +269,3 @@ sums_from-other p e es other =
         ≡ entry_in_front p [] ++ sums_from e es
     go true d = absurd (other (d.0 refl))
     go false d = front-append p (sums_from e es)
-
-pub joined_more : (xs whole : List Entry) (kept i : ℕ) (p d : Entry) → i < length xs
-    → pair_number p ≡ pair_number (get_or xs i d)
-    → take kept xs ++ sums_from p (drop i xs) ≡ whole
-    → take kept xs ++ sums_from (heavier p (get_or xs i d).weight) (drop (i + 1) xs) ≡ whole
-joined_more xs whole kept i p d in' same h =
-    sym (ap (λ (es : List Entry). take kept xs ++ es)
-    (at_drop_more (sums_from p) xs i d in' ∙ sums_from-same p (get_or xs i d) (drop (i + 1) xs) same))
-    ∙ h
-
-pub stored_more : (xs ys whole : List Entry) (kept next i : ℕ) (p d : Entry) → i < length xs
-    → pair_number p ≢ pair_number (get_or xs i d)
-    → take next ys ≡ take kept xs ++ entry_in_front p [] → drop (i + 1) ys ≡ drop (i + 1) xs
-    → take kept xs ++ sums_from p (drop i xs) ≡ whole
-    → take next ys ++ sums_from (get_or xs i d) (drop (i + 1) ys) ≡ whole
-stored_more xs ys whole kept next i p d in' other front rest h =
-    let e = get_or xs i d in
-    (λ k. front k ++ sums_from e (rest k))
-    ∙ append_assoc (take kept xs) (entry_in_front p []) (sums_from e (drop (i + 1) xs))
-    ∙ sym (ap (λ (es : List Entry). take kept xs ++ es)
-    (at_drop_more (sums_from p) xs i d in' ∙ sums_from-other p e (drop (i + 1) xs) other))
-    ∙ h
-
-pub small_more : (xs : List Entry) (i : ℕ) (w : ℤ) (d : Entry) (n : ℕ) → i < length xs
-    → unsigned_abs w + weight_total (drop i xs) ≤ n
-    → unsigned_abs (w +ℤ (get_or xs i d).weight) + weight_total (drop (i + 1) xs) ≤ n
-small_more xs i w d n in' h =
-    omega (arith, size-plus w (get_or xs i d).weight, sum_by-drop_more size xs i d in')
-
-pub small_next : (xs : List Entry) (i : ℕ) (w : ℤ) (d : Entry) (n : ℕ) → i < length xs
-    → unsigned_abs w + weight_total (drop i xs) ≤ n
-    → unsigned_abs (get_or xs i d).weight + weight_total (drop (i + 1) xs) ≤ n
-small_next xs i w d n in' h = omega (arith, sum_by-drop_more size xs i d in')

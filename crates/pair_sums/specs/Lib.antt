@@ -1,4 +1,3 @@
 pub mod Pairs
 pub mod Codes
 pub mod PairLists
-pub mod Keys

@@ -1,5 +1,6 @@
 -- Couplers that were gathered in any order, and the couplers of a form that stand for them.
 use Rattle.std.specs.Prelude.{◌≡◌, ◌≢◌, ℕ, ◌<◌, ◌≤◌, ◌==◌, ℤ, pos, ◌+ℤ◌, ◌&&◌, List, [], ◌∷◌, All, if◌then◌else◌}
+use Rattle.std.specs.List.{slice_index_or}
 use Rattle.std.specs.List.Sorted.{IsStrictlySortedBy}
 use Rattle.std.specs.Ordering.{int_eq}
 use Rattle.base.specs.Sums.{total_by, if_so}
@@ -11,6 +12,10 @@ use Rattle.bits_model.specs.PairNumbers.{pair_number}
 pub record IsPair (n : ℕ) (e : Entry) : Type 0 where
   pub upward : e.first < e.second
   pub within : e.second < n
+
+-- an entry of a list
+abbrev pub entry_at : List Entry → ℕ → Entry
+entry_at es i = slice_index_or es i (record { first = 0; second = 0; weight = pos 0 })
 
 -- the weight is not 0
 abbrev pub IsNonzero : Entry → Type 0

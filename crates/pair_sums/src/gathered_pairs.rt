@@ -9,6 +9,7 @@ ghost use Rattle.bits_model.specs.PairNumbers.{pair_number};
 ghost use Rattle.pair_sums.specs.Pairs.{IsPair, AreSummed};
 
 use crate::pairs::Pairs;
+use crate::shape::Arrival;
 use base::NoMemory;
 use bits_model::{CouplerList, Entry, pair_number};
 use std::alloc::Global;
@@ -37,24 +38,21 @@ impl Model for GatheredPairs {
 
 /// The couplers of both lists.
 fn joined(mut pairs: Pairs, couplers: CouplerList) -> Result<Pairs, NoMemory>
-    requires few { length pairs + length couplers < 2 ^ 32 }
     ensures { IfOk result (λ all. all ≡ pairs ++ couplers) }
 {
     for entry in couplers.iter() {
-        pairs.push(entry.first, entry.second, entry.weight)?;
+        pairs.push(entry)?;
     }
     Ok(pairs)
 }
 
 /// Appends a coupler that does not come in order. Where memory is refused the list stays as it was.
 #[inline(never)]
-fn push_late(others: &mut Pairs, first: u32, second: u32, weight: i128) -> Result<(), NoMemory>
-    requires few { length others.old + 1 < 2 ^ 32 }
-    ensures pushed { OnOk result (others.new
-        ≡ others.old ++ record { first = first; second = second; weight = weight } ∷ []) }
+fn push_late(others: &mut Pairs, entry: Entry) -> Result<(), NoMemory>
+    ensures pushed { OnOk result (others.new ≡ others.old ++ entry ∷ []) }
     ensures unchanged { OnErr result (others.new ≡ others.old) }
 {
-    others.push(first, second, weight)
+    others.push(entry)
 }
 
 impl GatheredPairs {
@@ -77,17 +75,18 @@ impl GatheredPairs {
             ≡ self.old ++ record { first = first; second = second; weight = weight } ∷ []) }
         ensures unchanged { OnErr result (self.new ≡ self.old) }
     {
-        let number = pair_number(&Entry {
+        let entry = Entry {
             first,
             second,
             weight,
-        });
+        };
+        let number = pair_number(&entry);
         if self.others.len() == 0 && self.last < number && weight != 0 {
             self.ordered.push(first, second, weight)?;
             self.last = number;
             return Ok(());
         }
-        push_late(&mut self.others, first, second, weight)
+        push_late(&mut self.others, entry)
     }
 
     /// The same couplers, of more nodes. Where all came in order, later ones begin packed anew.
@@ -115,7 +114,7 @@ impl GatheredPairs {
             others,
             ..
         } = self;
-        Ok(joined(others, ordered)?.sorted())
+        joined(others, ordered)?.sorted(Arrival::Mixed)
     }
 
     /// The couplers in order, one for each pair whose sum is not 0.

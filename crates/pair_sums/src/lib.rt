@@ -2,8 +2,6 @@
 #![tactic(auto)]
 
 mod appending;
-mod couplers;
-mod gathered;
 mod gathered_pairs;
 mod listed;
 mod pairs;
@@ -11,8 +9,6 @@ mod shape;
 mod sorting;
 
 pub use appending::push_some;
-pub use couplers::sorted_sums;
-pub use gathered::Gathered;
 pub use gathered_pairs::GatheredPairs;
 pub use pairs::Pairs;
 pub use sorting::in_order;

@@ -9,7 +9,7 @@ ghost use Rattle.std.specs.List.Sorted.{IsPermutation, IsNonDecreasingBy};
 ghost use Rattle.bits_model.specs.PairNumbers.{pair_number};
 ghost use Rattle.pair_sums.specs.Codes.{IsFound, KeepsWeights};
 
-use crate::shape::{Shape, ascending, coded, coupler_of, low_of};
+use crate::shape::{Arrival, Shape, ascending, coded, coupler_of, low_of};
 use base::NoMemory;
 use bits_model::{Entry, WeightList};
 use std::alloc::Global;
@@ -162,10 +162,10 @@ impl ListedPairs {
         }
     }
 
-    /// The same couplers in the order of their pairs, in the same memory.
-    pub fn sorted(self) -> ListedPairs
-        ensures same { IsPermutation self result }
-        ensures ordered { IsNonDecreasingBy pair_number result }
+    /// The same couplers in the order of their pairs.
+    pub fn sorted(self, alloc: Global, arrival: Arrival) -> Result<ListedPairs, NoMemory>
+        ensures same { IfOk result (IsPermutation self) }
+        ensures ordered { IfOk result (IsNonDecreasingBy pair_number) }
     {
         let ListedPairs {
             shape,
@@ -173,11 +173,12 @@ impl ListedPairs {
             weights,
             recent,
         } = self;
-        ListedPairs {
+        let codes = ascending(alloc, shape, codes, arrival)?;
+        Ok(ListedPairs {
             shape,
-            codes: ascending(codes),
+            codes,
             weights,
             recent,
-        }
+        })
     }
 }

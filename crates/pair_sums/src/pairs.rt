@@ -4,13 +4,13 @@ ghost use Rattle.std.specs.List.Sorted.{IsPermutation, IsNonDecreasingBy};
 ghost use Rattle.bits_model.specs.declared.output.Entry.{Entry};
 ghost use Rattle.bits_model.specs.Output.{weight_total};
 ghost use Rattle.bits_model.specs.PairNumbers.{pair_number};
-ghost use Rattle.pair_sums.specs.Pairs.{sums_from, sums_of, IsPair, AreSummed};
+ghost use Rattle.pair_sums.specs.Pairs.{entry_at, sums_from, sums_of, IsPair, AreSummed};
 ghost use Rattle.pair_sums.specs.Codes.{unpacked};
 ghost use Rattle.pair_sums.specs.PairLists.{held_pairs};
 
 use crate::appending::push_some;
 use crate::listed::ListedPairs;
-use crate::shape::{FEW_NODES, MANY_NODES, Shape, ascending, packed, unpacked};
+use crate::shape::{Arrival, FEW_NODES, MANY_NODES, Shape, ascending, packed, unpacked};
 use base::NoMemory;
 use bits_model::{CouplerList, Entry, pair_number};
 use std::alloc::Global;
@@ -26,8 +26,7 @@ pub enum HeldPairs {
 }
 
 /// Couplers, which contracts see as a list of entries: 8 bytes each as long as all can be packed, 8
-/// and the weights that differ as long as their indices can be, and else 32. There are fewer than
-/// 2^32 of them.
+/// and the weights that differ as long as their indices can be, and else 32.
 ///
 /// The library's sort in place is fastest for elements of at most 8 bytes.
 #[derive(Drop)]
@@ -37,15 +36,13 @@ pub struct Pairs {
 }
 
 impl Model for Pairs {
-    ghost use Rattle.std.specs.Prelude.{◌<◌, ◌^◌, List, length};
+    ghost use Rattle.std.specs.Prelude.{List};
     ghost use Rattle.bits_model.specs.declared.output.Entry.{Entry};
     ghost use Rattle.pair_sums.specs.PairLists.{held_pairs};
 
     ghost Value = { List Entry };
 
     ghost view = { λ a. held_pairs a.held };
-
-    ghost invariant = { λ a. length (held_pairs a.held) < 2 ^ 32 };
 }
 
 /// Packed couplers beside a list of their weights, unless one of them needs more bits there.
@@ -115,14 +112,41 @@ fn sorted_wide(mut pairs: Vec<Entry>) -> Vec<Entry>
 }
 
 /// The same couplers in the order of their pairs. That of codes is theirs.
-fn sorted_pairs(held: HeldPairs) -> HeldPairs
-    ensures same { IsPermutation (held_pairs held) (held_pairs result) }
-    ensures ordered { IsNonDecreasingBy pair_number (held_pairs result) }
+fn sorted_pairs(alloc: Global, held: HeldPairs, arrival: Arrival) -> Result<HeldPairs, NoMemory>
+    ensures same { IfOk result (λ sorted. IsPermutation (held_pairs held) (held_pairs sorted)) }
+    ensures ordered { IfOk result (λ sorted. IsNonDecreasingBy pair_number (held_pairs sorted)) }
 {
     match held {
-        HeldPairs::Packed(shape, codes) => HeldPairs::Packed(shape, ascending(codes)),
-        HeldPairs::Listed(pairs) => HeldPairs::Listed(pairs.sorted()),
-        HeldPairs::Wide(pairs) => HeldPairs::Wide(sorted_wide(pairs)),
+        HeldPairs::Packed(shape, codes) => {
+            let codes = ascending(alloc, shape, codes, arrival)?;
+            Ok(HeldPairs::Packed(shape, codes))
+        }
+        HeldPairs::Listed(pairs) => Ok(HeldPairs::Listed(pairs.sorted(alloc, arrival)?)),
+        HeldPairs::Wide(pairs) => Ok(HeldPairs::Wide(sorted_wide(pairs))),
+    }
+}
+
+/// The coupler at an index.
+#[inline(always)]
+fn coupler_at(held: &HeldPairs, index: usize) -> Entry
+    requires { index < length (held_pairs held.now) }
+    ensures { slice_get (held_pairs held.now) index ≡ Some result }
+{
+    match held {
+        HeldPairs::Packed(shape, codes) => unpacked(*shape, codes[index]),
+        HeldPairs::Listed(pairs) => pairs.at(index),
+        HeldPairs::Wide(pairs) => pairs[index],
+    }
+}
+
+/// The packing of couplers of so many nodes.
+fn shape_for(nodes: usize) -> Shape {
+    if nodes as u64 <= FEW_NODES {
+        Shape::Few
+    } else if nodes as u64 <= MANY_NODES {
+        Shape::Many
+    } else {
+        Shape::Most
     }
 }
 
@@ -178,23 +202,25 @@ impl Pairs {
     pub fn empty(alloc: Global, nodes: usize) -> Pairs
         ensures { result ≡ [] }
     {
-        let shape = if nodes as u64 <= FEW_NODES {
-            Shape::Few
-        } else if nodes as u64 <= MANY_NODES {
-            Shape::Many
-        } else {
-            Shape::Most
-        };
         Pairs {
             alloc,
-            held: HeldPairs::Packed(shape, Vec::new(alloc)),
+            held: HeldPairs::Packed(shape_for(nodes), Vec::new(alloc)),
         }
+    }
+
+    /// No couplers yet, with room for so many.
+    pub fn with_room(alloc: Global, nodes: usize, count: usize) -> Result<Pairs, NoMemory>
+        ensures { IfOk result (λ pairs. pairs ≡ []) }
+    {
+        Ok(Pairs {
+            alloc,
+            held: HeldPairs::Packed(shape_for(nodes), Vec::with_capacity(alloc, count)?),
+        })
     }
 
     /// How many there are.
     pub fn len(&self) -> usize
-        ensures count { result ≡ length self.now }
-        ensures narrow { result < 2 ^ 32 }
+        ensures { result ≡ length self.now }
     {
         match &self.held {
             HeldPairs::Packed(_, codes) => codes.len(),
@@ -204,27 +230,23 @@ impl Pairs {
     }
 
     /// The coupler at an index.
+    #[inline(always)]
     pub fn at(&self, index: usize) -> Entry
         requires { index < length self.now }
-        ensures { slice_get self.now index ≡ Some result }
+        ensures there { slice_get self.now index ≡ Some result }
+        ensures value { result ≡ entry_at self.now index }
     {
-        match &self.held {
-            HeldPairs::Packed(shape, codes) => unpacked(*shape, codes[index]),
-            HeldPairs::Listed(pairs) => pairs.at(index),
-            HeldPairs::Wide(pairs) => pairs[index],
-        }
+        coupler_at(&self.held, index)
     }
 
-    /// The same couplers in the order of their pairs, in the same memory.
-    pub fn sorted(self) -> Pairs
-        ensures same { IsPermutation self result }
-        ensures ordered { IsNonDecreasingBy pair_number result }
+    /// The same couplers in the order of their pairs.
+    pub fn sorted(self, arrival: Arrival) -> Result<Pairs, NoMemory>
+        ensures same { IfOk result (IsPermutation self) }
+        ensures ordered { IfOk result (IsNonDecreasingBy pair_number) }
     {
         let Pairs { alloc, held } = self;
-        Pairs {
-            alloc,
-            held: sorted_pairs(held),
-        }
+        let held = sorted_pairs(alloc, held, arrival)?;
+        Ok(Pairs { alloc, held })
     }
 
     /// The couplers in order, one for each pair whose sum is not 0.
@@ -234,30 +256,26 @@ impl Pairs {
         ensures { IfOk result (AreSummed self) }
     {
         let alloc = self.alloc;
-        sums_of(alloc, &self.sorted())
+        let sorted = self.sorted(Arrival::Mixed)?;
+        sums_of(alloc, &sorted)
     }
 
     /// Appends a coupler. Where memory is refused the list stays as it was.
     #[inline(always)]
-    pub fn push(&mut self, first: u32, second: u32, weight: i128) -> Result<(), NoMemory>
-        requires few { length self.old + 1 < 2 ^ 32 }
-        ensures pushed { OnOk result (self.new
-            ≡ self.old ++ record { first = first; second = second; weight = weight } ∷ []) }
+    pub fn push(&mut self, entry: Entry) -> Result<(), NoMemory>
+        ensures pushed { OnOk result (self.new ≡ self.old ++ entry ∷ []) }
         ensures unchanged { OnErr result (self.new ≡ self.old) }
     {
-        let entry = Entry {
-            first,
-            second,
-            weight,
-        };
         match &mut self.held {
-            HeldPairs::Packed(shape, codes) => match packed(*shape, first, second, weight) {
-                Some(code) => codes.push(code)?,
-                None => {
-                    let longer = with_longer(self.alloc, *shape, codes, entry)?;
-                    self.held = longer;
+            HeldPairs::Packed(shape, codes) => {
+                match packed(*shape, entry.first, entry.second, entry.weight) {
+                    Some(code) => codes.push(code)?,
+                    None => {
+                        let longer = with_longer(self.alloc, *shape, codes, entry)?;
+                        self.held = longer;
+                    }
                 }
-            },
+            }
             HeldPairs::Listed(pairs) => {
                 if !pairs.push(entry)? {
                     let wide = with_wide(self.alloc, pairs, entry)?;

@@ -1,9 +1,12 @@
 //! Codes of 64 bits: the two nodes of a coupler, the first one highest, and a number below them.
-ghost use Rattle.std.specs.Prelude.{◌≡◌, ◌+◌, ◌/◌, ◌<◌, ◌≤◌, ◌^◌, ◌+ℤ◌, ℤ, pos, IfSome};
+ghost use Rattle.std.specs.Prelude.{◌≡◌, ◌+◌, ◌/◌, ◌<◌, ◌≤◌, ◌^◌, ◌+ℤ◌, ℤ, pos, IfOk, IfSome};
 ghost use Rattle.std.specs.List.Sorted.{IsPermutation, IsNonDecreasingBy};
 ghost use Rattle.pair_sums.specs.Codes.{coupler_of, low_of, numbers_of, unpacked};
 
+use base::NoMemory;
 use bits_model::Entry;
+use radix_sort::sorted_keys;
+use std::alloc::Global;
 
 /// How the bits of a code are shared out: 18 to each node and 28 to the number where there are few
 /// nodes, 20 and 24 where there are many, and else 21 and 22.
@@ -129,11 +132,49 @@ pub fn unpacked(shape: Shape, code: u64) -> Entry
     coupler_of(shape, code, i128::from(low_of(shape, code)) - least)
 }
 
-/// Codes in ascending order.
-pub fn ascending(mut codes: Vec<u64>) -> Vec<u64>
-    ensures same { IsPermutation codes.items result.items }
-    ensures ordered { IsNonDecreasingBy (λ code. code) result.items }
+/// How couplers came.
+#[derive(Clone, Copy)]
+pub enum Arrival {
+    /// In any order.
+    Mixed,
+    /// So that, among those of one first node, the second ones nearly ascend.
+    Nearly,
+}
+
+/// How many bits of a code its number has.
+fn number_bits(shape: Shape) -> u32 {
+    match shape {
+        Shape::Few => 28,
+        Shape::Many => 24,
+        Shape::Most => 22,
+    }
+}
+
+/// How many bits of a code each node has.
+fn node_bits(shape: Shape) -> u32 {
+    match shape {
+        Shape::Few => 18,
+        Shape::Many => 20,
+        Shape::Most => 21,
+    }
+}
+
+/// Codes in ascending order. Those that nearly ascend are sorted by their first nodes and then moved;
+/// others by the library, in place.
+pub fn ascending(
+    alloc: Global,
+    shape: Shape,
+    mut codes: Vec<u64>,
+    arrival: Arrival,
+) -> Result<Vec<u64>, NoMemory>
+    ensures same { IfOk result (λ sorted. IsPermutation codes.items sorted.items) }
+    ensures ordered { IfOk result (λ sorted. IsNonDecreasingBy (λ code. code) sorted.items) }
 {
-    codes.sort_unstable();
-    codes
+    match arrival {
+        Arrival::Mixed => {
+            codes.sort_unstable();
+            Ok(codes)
+        }
+        Arrival::Nearly => sorted_keys(alloc, codes, number_bits(shape), node_bits(shape)),
+    }
 }

@@ -1,6 +1,6 @@
 -- A quadratic form is told by its constant, its weights of nodes and the sum that it has for each
 -- pair, and for terms over variables these are the sums of the coefficients of a set.
-use Rattle.std.proofs.Common.{◌≡◌, inl, inr, ℕ, ◌*◌, ◌<◌, ◌≤◌, ◌^◌, Bool, true, false, ◌&&◌, eqb, ℤ, pos, ◌+ℤ◌, List, [], ◌∷◌, length, get_or, fold, refl, sym, ap, subst, ◌∙◌, arith}
+use Rattle.std.proofs.Common.{◌≡◌, ℕ, ◌*◌, ◌<◌, ◌≤◌, ◌^◌, Bool, true, false, ◌&&◌, eqb, ℤ, pos, ◌+ℤ◌, List, [], ◌∷◌, length, get_or, fold, refl, sym, ap, subst, ◌∙◌, arith}
 use Rattle.std.specs.Prelude.{slice_set}
 use Rattle.std.specs.List.{AllByRecursion, slice_index_or}
 use Rattle.std.specs.Ordering.{nat_cmp, ordering_then, is_eq}
@@ -24,14 +24,13 @@ use Rattle.term_table.proofs.KeptTerms.{OfSet, AreTerms-with_additions}
 use Rattle.quad_form.specs.Quads.{QuadContent, IsCoupler, IsQuad}
 use Rattle.quad_form.specs.Flat.{pair_entry, with_term, zero_quad, quad_of, image, IsFlat}
 use Rattle.quad_form.specs.laws.Flattened.{length-with_term, flat_sets, flat_contributions}
-use Rattle.bits_model.specs.PairNumbers.{pair_number}
 use Rattle.pair_sums.specs.Pairs.{IsNonzero, weight_for, weight_at}
 use Rattle.quad_form.specs.Quads.{IsSettled}
 use Rattle.quad_form.proofs.FlatForms.{width_of, IsQuad-of}
 use Rattle.quad_form.proofs.FlatSets.{IsTermSet-flat}
 use Rattle.quad_form.proofs.FlatSums.{terms_total-contributions}
 use Rattle.pair_sums.proofs.UniqueSums.{same_entries}
-use Rattle.pair_sums.proofs.PairOrder.{compared, ArePairs, Before, Rises, same_pair, rising_from_ordered}
+use Rattle.pair_sums.proofs.PairOrder.{ArePairs, rising_from_ordered}
 
 -- ---- the sets of a constant, a node and a pair
 

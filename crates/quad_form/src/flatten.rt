@@ -183,7 +183,7 @@ impl Layer for Flatten {
         let width = source.width();
         let parts = parts_of(alloc, source)?;
         Ok(Lowered {
-            target: parts.into_quad(alloc)?,
+            target: parts.into_quad()?,
             link: BitsLink {
                 source_width: width,
                 target_width: width,

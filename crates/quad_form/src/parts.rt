@@ -7,9 +7,9 @@ ghost use Rattle.quad_form.specs.Quads.{IsSettled};
 
 use crate::quad::{NumberList, Quad};
 use base::NoMemory;
-use bits_model::{CouplerList, Entry};
+use bits_model::Entry;
 use literal_lists::Literal;
-use pair_sums::sorted_sums;
+use pair_sums::Pairs;
 use std::alloc::Global;
 use std::marker::Model;
 
@@ -18,7 +18,7 @@ use std::marker::Model;
 pub struct Parts {
     constant: i128,
     diagonal: Vec<i128>,
-    couplers: Vec<Entry>,
+    couplers: Pairs,
 }
 
 impl Model for Parts {
@@ -29,7 +29,7 @@ impl Model for Parts {
     ghost view = { λ p. record {
       constant = p.constant;
       diagonal = p.diagonal.items;
-      couplers = p.couplers.items;
+      couplers = p.couplers;
     } };
 }
 
@@ -41,7 +41,7 @@ impl Parts {
         Ok(Parts {
             constant: 0,
             diagonal: vec![in alloc; 0; width]?,
-            couplers: Vec::new(alloc),
+            couplers: Pairs::empty(alloc, width),
         })
     }
 
@@ -65,7 +65,7 @@ impl Parts {
     }
 
     /// The form of these parts, in which each pair has one coupler.
-    pub fn into_quad(self, alloc: Global) -> Result<Quad, NoMemory>
+    pub fn into_quad(self) -> Result<Quad, NoMemory>
         requires narrow { length self.diagonal < 2 ^ 32 }
         requires pairs { All (IsPair (length self.diagonal)) self.couplers }
         requires small { quad_total self ≤ 2 ^ 124 }
@@ -77,8 +77,7 @@ impl Parts {
             diagonal,
             couplers,
         } = self;
-        let summed = sorted_sums(couplers);
-        let couplers = CouplerList::of(alloc, &summed)?;
+        let couplers = couplers.summed()?;
         Ok(Quad {
             constant,
             diagonal: NumberList::new(diagonal),

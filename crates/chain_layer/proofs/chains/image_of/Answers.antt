@@ -1,15 +1,10 @@
-use Rattle.std.proofs.Common.{◌≡◌, ◌^◌, All, to_z, of_z, subst, sym, ap, ◌∙◌, rules}
+use Rattle.std.proofs.Common.{◌≡◌, to_z, of_z, subst, sym, ap, ◌∙◌, rules}
 use Rattle.std.specs.Int.{w128}
 use Rattle.std.proofs.lemmas.Int.{to_z-of_z}
-use Rattle.pair_sums.specs.Pairs.{IsPair}
 use Rattle.ising_form.specs.Isings.{IsingContent, IsIsing}
 use Rattle.chain_layer.specs.Image.{image}
-use Rattle.chain_layer.proofs.Ordered.{all_pairs, sorted_is_image, image_is_ising}
+use Rattle.chain_layer.proofs.Ordered.{sorted_is_image, image_is_ising}
 use Rattle.chain_layer.proofs.chains.image_of.Goals as goal
-
-pub in_order-requires : goal.in_order-requires
-in_order-requires c =
-    subst (All (IsPair (2 ^ 20))) (sym c.in_ok-gathered.ensures) (all_pairs c.args.source.now c.requires.kept)
 
 pub invariant_of-result : goal.invariant_of-result
 invariant_of-result c =

@@ -13,12 +13,12 @@ raise-requires-clause-small c =
     let all = c.args.couplings.now in
     let k = c.loop-k.k in
     let rest = drop (k + 1) all in
-    let e : Entry = c.get-coupling.result in
+    let e : Entry = c.at-coupling.result in
     let so_far = c.loop-k.invariant in
     let within : k < length all = omega (arith, c.loop-k-test.true, c.len-k-end.ensures) in
     let steps : drop k all ≡ e ∷ rest =
     drop_more all k (record { first = 0; second = 0; weight = pos 0 }) within
-    ∙ ap (λ d. d ∷ rest) (sym c.get-coupling.ensures) in
+    ∙ ap (λ d. d ∷ rest) (sym c.at-coupling.ensures.value) in
     let small = next_small n xs (drop k all) e rest steps so_far.within so_far.small in
     let same : m ≡ unsigned_abs e.weight =
     omega (arith, ints, c.unsigned_abs-size.ensures.value, small) in
@@ -34,12 +34,12 @@ raise-requires-in-loop-k-clause-small c =
     let all = c.args.couplings.now in
     let k = c.loop-k.k in
     let rest = drop (k + 1) all in
-    let e : Entry = c.get-coupling.result in
+    let e : Entry = c.at-coupling.result in
     let so_far = c.loop-k.invariant in
     let within : k < length all = omega (arith, c.loop-k-test.true, c.len-k-end.ensures) in
     let steps : drop k all ≡ e ∷ rest =
     drop_more all k (record { first = 0; second = 0; weight = pos 0 }) within
-    ∙ ap (λ d. d ∷ rest) (sym c.get-coupling.ensures) in
+    ∙ ap (λ d. d ∷ rest) (sym c.at-coupling.ensures.value) in
     let small = next_small n xs (drop k all) e rest steps so_far.within so_far.small in
     let same : m ≡ unsigned_abs e.weight =
     omega (arith, ints, c.unsigned_abs-size.ensures.value, small) in
@@ -55,12 +55,12 @@ loop-k-preserved c =
     let all = c.args.couplings.now in
     let k = c.loop-k.k in
     let rest = drop (k + 1) all in
-    let e : Entry = c.get-coupling.result in
+    let e : Entry = c.at-coupling.result in
     let so_far = c.loop-k.invariant in
     let within : k < length all = omega (arith, c.loop-k-test.true, c.len-k-end.ensures) in
     let steps : drop k all ≡ e ∷ rest =
     drop_more all k (record { first = 0; second = 0; weight = pos 0 }) within
-    ∙ ap (λ d. d ∷ rest) (sym c.get-coupling.ensures) in
+    ∙ ap (λ d. d ∷ rest) (sym c.at-coupling.ensures.value) in
     let small = next_small n xs (drop k all) e rest steps so_far.within so_far.small in
     let same : m ≡ unsigned_abs e.weight =
     omega (arith, ints, c.unsigned_abs-size.ensures.value, small) in

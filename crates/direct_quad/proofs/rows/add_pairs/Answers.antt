@@ -28,8 +28,8 @@ add-requires-clause-within c =
     let pairs = c.args.pairs.now in
     let e = c.at-pair.result in
     let P : Entry → Type 0 = λ d. d.second < length c.args.sums.now in
-    let in' = slice_get_within pairs c.loop-i.i e c.at-pair.ensures in
-    let here : P e = subst P (get_or_from_slice_get pairs c.loop-i.i e e c.at-pair.ensures) (All-get_or P pairs c.loop-i.i e in' c.requires.seconds) in
+    let in' = slice_get_within pairs c.loop-i.i e c.at-pair.ensures.there in
+    let here : P e = subst P (get_or_from_slice_get pairs c.loop-i.i e e c.at-pair.ensures.there) (All-get_or P pairs c.loop-i.i e in' c.requires.seconds) in
     omega (arith, here, c.loop-i.invariant.width)
 
 pub add-requires-clause-small : goal.add-requires-clause-small
@@ -39,7 +39,7 @@ add-requires-clause-small c =
     let rest = drop (c.loop-i.i + 1) c.args.pairs.now in
     let own : e.first ≡ v = sym c.from.ensures ∙ c.if-from-variable.false in
     let left : row_of v (drop c.loop-i.i c.args.pairs.now) ≡ e ∷ row_of v rest =
-    ap (row_of v) (drop-one c.args.pairs.now c.loop-i.i e c.at-pair.ensures) ∙ row-own v e rest own in
+    ap (row_of v) (drop-one c.args.pairs.now c.loop-i.i e c.at-pair.ensures.there) ∙ row-own v e rest own in
     let back = to_z-of_z w128 e.weight (search rules) in
     rw back
     (first_size (size_of c.loop-i.sums) e (row_of v rest) _
@@ -52,15 +52,15 @@ loop-i-preserved c =
     let sums = c.loop-i.sums in
     let pairs = c.args.pairs.now in
     let rest = drop (c.loop-i.i + 1) pairs in
-    let more = drop-one pairs c.loop-i.i e c.at-pair.ensures in
+    let more = drop-one pairs c.loop-i.i e c.at-pair.ensures.there in
     let own : e.first ≡ v = sym c.from.ensures ∙ c.if-from-variable.false in
     let left : row_of v (drop c.loop-i.i pairs) ≡ e ∷ row_of v rest = ap (row_of v) more ∙ row-own v e rest own in
     let from : AreFromRow v (e ∷ rest) = subst (AreFromRow v) more c.loop-i.invariant.from in
     let back = to_z-of_z w128 e.weight (search rules) in
     let made : c.add.new.self ≡ with_weight sums e.second e.weight = c.in_ok-add.ensures ∙ ap (with_weight sums e.second) back in
     let P : Entry → Type 0 = λ d. d.second < length c.args.sums.now in
-    let in' = slice_get_within pairs c.loop-i.i e c.at-pair.ensures in
-    let here : P e = subst P (get_or_from_slice_get pairs c.loop-i.i e e c.at-pair.ensures) (All-get_or P pairs c.loop-i.i e in' c.requires.seconds) in
+    let in' = slice_get_within pairs c.loop-i.i e c.at-pair.ensures.there in
+    let here : P e = subst P (get_or_from_slice_get pairs c.loop-i.i e e c.at-pair.ensures.there) (All-get_or P pairs c.loop-i.i e in' c.requires.seconds) in
     record {
       whole = ap (λ ss. with_entries ss (row_of v rest)) made ∙ ap (with_entries sums) (sym left) ∙ c.loop-i.invariant.whole;
       width = ap length made ∙ length-with_weight sums e.second e.weight ∙ c.loop-i.invariant.width;
@@ -76,7 +76,7 @@ loop-i-preserved c =
 pub returns-then-from-variable-clause-sums : goal.returns-then-from-variable-clause-sums
 returns-then-from-variable-clause-sums c =
     let e = c.at-pair.result in
-    let more = drop-one c.args.pairs.now c.loop-i.i e c.at-pair.ensures in
+    let more = drop-one c.args.pairs.now c.loop-i.i e c.at-pair.ensures.there in
     let from = subst (AreFromRow c.args.variable) more c.loop-i.invariant.from in
     let past : AreFromRow (c.args.variable + 1) (drop c.loop-i.i c.args.pairs.now) =
     subst (AreFromRow (c.args.variable + 1)) (sym more) (ends-row c.args.variable e _ from (λ is. c.if-from-variable.true (c.from.ensures ∙ is))) in
@@ -85,7 +85,7 @@ returns-then-from-variable-clause-sums c =
 pub returns-then-from-variable-clause-later : goal.returns-then-from-variable-clause-later
 returns-then-from-variable-clause-later c =
     let e = c.at-pair.result in
-    let more = drop-one c.args.pairs.now c.loop-i.i e c.at-pair.ensures in
+    let more = drop-one c.args.pairs.now c.loop-i.i e c.at-pair.ensures.there in
     let from = subst (AreFromRow c.args.variable) more c.loop-i.invariant.from in
     let past : AreFromRow (c.args.variable + 1) (drop c.loop-i.i c.args.pairs.now) =
     subst (AreFromRow (c.args.variable + 1)) (sym more) (ends-row c.args.variable e _ from (λ is. c.if-from-variable.true (c.from.ensures ∙ is))) in

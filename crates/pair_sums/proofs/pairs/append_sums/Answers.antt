@@ -16,7 +16,7 @@ add_pending-requires c =
           omega (
             arith,
             c.loop-i.invariant.small,
-            ap weight_total (drop-one pairs i e c.at.ensures),
+            ap weight_total (drop-one pairs i e c.at.ensures.there),
             sum_by-cons (λ (d : Entry). unsigned_abs d.weight) e (drop (i + 1) pairs),
           );
     }
@@ -27,7 +27,7 @@ loop-i-preserved c =
     let i = c.loop-i.i in
     let e = c.at.result in
     let rest = drop (i + 1) pairs in
-    let more = drop-one pairs i e c.at.ensures in
+    let more = drop-one pairs i e c.at.ensures.there in
     record {
       whole =
           c.in_ok-add_pending.ensures.sums rest

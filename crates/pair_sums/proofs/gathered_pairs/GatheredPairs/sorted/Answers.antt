@@ -1,4 +1,8 @@
+use Rattle.std.proofs.Common.{List}
+use Rattle.std.specs.List.Sorted.{IsPermutation}
 use Rattle.std.proofs.lemmas.List.Sorted.{IsPermutation-trans}
+use Rattle.std.proofs.lemmas.Result.{IfOk-weaker}
+use Rattle.bits_model.specs.declared.output.Entry.{Entry}
 use Rattle.pair_sums.proofs.PairSums.{joined-permuted}
 use Rattle.pair_sums.proofs.gathered_pairs.GatheredPairs.sorted.Goals as goal
 
@@ -6,4 +10,5 @@ pub returns-clause-same : goal.returns-clause-same
 returns-clause-same c =
     let fields = c.self.inside in
     let moved = joined-permuted fields.ordered fields.others _ _ c.self.view_is c.in_ok-joined.ensures in
-    IsPermutation-trans _ _ _ moved c.sorted.ensures.same
+    IfOk-weaker c.sorted.result (IsPermutation c.in_ok-joined.field-0) (IsPermutation c.args.self)
+    (λ (es : List Entry) same. IsPermutation-trans _ _ _ moved same) c.sorted.ensures.same

@@ -11,7 +11,7 @@ use Rattle.pair_sums.proofs.gathered_pairs.GatheredPairs.summed.Goals as goal
 pub returns-then-len-eq0 : goal.returns-then-len-eq0
 returns-then-len-eq0 c =
     let fields = c.self.inside in
-    let empty : length fields.others ≡ 0 = omega (arith, c.len.ensures.count, c.if-len-eq0.true) in
+    let empty : length fields.others ≡ 0 = omega (arith, c.len.ensures, c.if-len-eq0.true) in
     let pairs = subst (λ (es : List Entry). All (IsPair (2 ^ 32)) es) (sym c.self.view_is) c.requires.pairs in
     subst (λ (es : List Entry). AreSummed es fields.ordered) c.self.view_is
     (summed-ordered fields.ordered fields.last fields.others c.self.invariant (nil_from_length fields.others empty) pairs)

@@ -8,7 +8,7 @@ use Rattle.pair_sums.proofs.pairs.Pairs.summed.Goals as goal
 pub returns : goal.returns
 returns c =
     let ps = c.args.self in
-    let ordered = c.sorted.result in
-    let summed = are_summed ps ordered c.requires.pairs c.sorted.ensures.same c.sorted.ensures.ordered in
-    IfOk-weaker c.sums_of-2.result (λ (made : List Entry). made ≡ sums_of ordered) (AreSummed ps)
-    (λ made is. subst (AreSummed ps) (sym is) summed) c.sums_of-2.ensures
+    let ordered = c.in_ok-sorted.sorted in
+    let summed = are_summed ps ordered c.requires.pairs c.in_ok-sorted.ensures.same c.in_ok-sorted.ensures.ordered in
+    IfOk-weaker c.sums_of.result (λ (made : List Entry). made ≡ sums_of ordered) (AreSummed ps)
+    (λ made is. subst (AreSummed ps) (sym is) summed) c.sums_of.ensures

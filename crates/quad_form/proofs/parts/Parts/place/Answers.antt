@@ -11,7 +11,7 @@ use Rattle.quad_form.proofs.parts.Parts.place.Goals as goal
 pub overflow_add-index_mut : goal.overflow_add-index_mut
 overflow_add-index_mut c =
     let ls = c.args.literals.now in
-    let q : QuadContent = record { constant = c.self.inside.constant; diagonal = c.self.inside.diagonal.items; couplers = c.self.inside.couplers.items } in
+    let q : QuadContent = record { constant = c.self.inside.constant; diagonal = c.self.inside.diagonal.items; couplers = c.self.inside.couplers } in
     let i = (get_or ls 0 (record { variable = 0; negated = false })).variable in
     let P : QuadContent → Type 0 = λ p. IsFlat (length p.diagonal) ls in
     let in' : i < length q.diagonal = one_at _ ls _ (subst P (sym c.self.view_is) c.requires.flat) c.in-len1.len_at_least c.in-len1.len_below in
@@ -24,7 +24,7 @@ overflow_add-index_mut c =
 pub returns-in-len1 : goal.returns-in-len1
 returns-in-len1 c =
     let ls = c.args.literals.now in
-    let q : QuadContent = record { constant = c.self.inside.constant; diagonal = c.self.inside.diagonal.items; couplers = c.self.inside.couplers.items } in
+    let q : QuadContent = record { constant = c.self.inside.constant; diagonal = c.self.inside.diagonal.items; couplers = c.self.inside.couplers } in
     let i = (get_or ls 0 (record { variable = 0; negated = false })).variable in
     let P : QuadContent → Type 0 = λ p. IsFlat (length p.diagonal) ls in
     let in' : i < length q.diagonal = one_at _ ls _ (subst P (sym c.self.view_is) c.requires.flat) c.in-len1.len_at_least c.in-len1.len_below in
