@@ -32,7 +32,7 @@ use Rattle.direct_quad.specs.laws.Between.{IsTable-table_of}
 use Rattle.direct_quad.specs.laws.FlatKept.{table_of-table}
 use Rattle.direct_quad.proofs.SortedAdditions.{long_of}
 use Rattle.direct_quad.proofs.Split.{nodes-table}
-use Rattle.direct_rosenberg.specs.ByPairs.{image, moved_of, HasRoom, IsRunOf}
+use Rattle.direct_rosenberg.specs.ByPairs.{image, moved_of, FitsByPairs, IsRunOf}
 use Rattle.direct_rosenberg.proofs.Formed.{added_of, all_nodes-short, form-all, narrow-all, sets-all}
 use Rattle.direct_rosenberg.proofs.LongRuns.{long-table, same-sums, size-long}
 use Rattle.direct_rosenberg.proofs.Sizes.{few-moved}
@@ -59,7 +59,7 @@ sums-again t additions =
     ap (λ (v : TableContent). v.terms)
     (table_of-table u (IsTable-table_of (short_part t) (short-additions t additions)))
 
-module _ (t : TableContent) (h : HeldContent) (room : HasRoom t) (held : AreHeld t h) where
+module _ (t : TableContent) (h : HeldContent) (room : FitsByPairs t) (held : AreHeld t h) where
   pub kept : IsTable (table_of t)
   kept = IsTable-table_of t room.additions
 

@@ -41,7 +41,7 @@ Appends old new ts = Gathers holds width_of total_of pairs_of old new ts
 -- ---- additions whose long terms are replaced
 
 -- the numbers of the form of additions fit their fields
-pub record HasRoom (t : TableContent) : Type 0 where
+pub record FitsByPairs (t : TableContent) : Type 0 where
   pub additions : AreAdditions t
   pub total : (terms_total t.terms + 1) * 2 ^ 16 ≤ 2 ^ 97
   pub size : table_size (table_of t) * 2 ^ 2 ≤ 2 ^ 31

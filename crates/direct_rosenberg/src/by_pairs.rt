@@ -4,7 +4,7 @@ ghost use Rattle.term_table.specs.Terms.{terms_total};
 ghost use Rattle.term_table.specs.Tables.{IsTable, TableContent, table_size};
 ghost use Rattle.direct_quad.specs.Parts.{table_of};
 ghost use Rattle.direct_quad.specs.Held.{AreHeld};
-ghost use Rattle.direct_rosenberg.specs.ByPairs.{image, HasRoom};
+ghost use Rattle.direct_rosenberg.specs.ByPairs.{image, FitsByPairs};
 
 use crate::adding::{add_moved, add_run};
 use crate::long_run::long_run;
@@ -38,9 +38,9 @@ pub fn quad_by_pairs(alloc: Global, table: Table) -> Result<Quad, NoMemory>
 /// The quadratic form of additions, summed and pairs of literals replaced one after another. Only
 /// the long ones are summed before that. Each list is let go as soon as it is used.
 pub fn quad_by_pairs_of(alloc: Global, terms: DirectTerms) -> Result<Quad, NoMemory>
-    requires held { (t : TableContent) × HasRoom t × AreHeld t terms }
+    requires held { (t : TableContent) × FitsByPairs t × AreHeld t terms }
     requires few { 4 * length terms.pairs ≤ 2 ^ 31 }
-    ensures { (t : TableContent) → HasRoom t → AreHeld t terms
+    ensures { (t : TableContent) → FitsByPairs t → AreHeld t terms
         → IfOk result (λ quad. quad ≡ image (table_of t)) }
 {
     let width = terms.width();

@@ -9,5 +9,5 @@ mod long_run;
 mod of_problem;
 
 pub use by_pairs::{quad_by_pairs, quad_by_pairs_of};
-pub use extending::with_pair_bits;
+pub use extending::{with_pair_bits, with_pair_bits_of};
 pub use of_problem::problem_terms;

@@ -7,7 +7,7 @@ use Rattle.term_table.specs.Tables.{TableContent, AreAdditions, table_size}
 use Rattle.direct_quad.specs.Parts.{short_part, table_of}
 use Rattle.direct_quad.specs.Long.{product_term, terms_of}
 use Rattle.direct_quad.specs.Held.{HeldContent, AreHeld}
-use Rattle.direct_rosenberg.specs.ByPairs.{HasRoom, IsRunOf}
+use Rattle.direct_rosenberg.specs.ByPairs.{FitsByPairs, IsRunOf}
 use Rattle.direct_rosenberg.proofs.HeldRuns as runs
 use Rattle.direct_rosenberg.proofs.by_pairs.quad_by_pairs_of.Goals as goal
 
@@ -39,7 +39,7 @@ pub widened-requires-clause-narrow : goal.widened-requires-clause-narrow
 widened-requires-clause-narrow c =
     let t : TableContent = c.requires.held.0 in
     let h : HeldContent = c.args.terms in
-    let room : HasRoom t = c.requires.held.1 in
+    let room : FitsByPairs t = c.requires.held.1 in
     let held : AreHeld t h = c.requires.held.2 in
     let made = c.in_ok-made.made in
     let number : c.len.result ≡ length made.pairs.items = omega (arith, c.len.ensures) in
@@ -52,7 +52,7 @@ pub add_moved-requires-clause-each : goal.add_moved-requires-clause-each
 add_moved-requires-clause-each c =
     let t : TableContent = c.requires.held.0 in
     let h : HeldContent = c.args.terms in
-    let room : HasRoom t = c.requires.held.1 in
+    let room : FitsByPairs t = c.requires.held.1 in
     let held : AreHeld t h = c.requires.held.2 in
     let made = c.in_ok-made.made in
     let number : c.len.result ≡ length made.pairs.items = omega (arith, c.len.ensures) in
@@ -65,7 +65,7 @@ pub add_moved-requires-clause-narrow : goal.add_moved-requires-clause-narrow
 add_moved-requires-clause-narrow c =
     let t : TableContent = c.requires.held.0 in
     let h : HeldContent = c.args.terms in
-    let room : HasRoom t = c.requires.held.1 in
+    let room : FitsByPairs t = c.requires.held.1 in
     let held : AreHeld t h = c.requires.held.2 in
     let made = c.in_ok-made.made in
     let number : c.len.result ≡ length made.pairs.items = omega (arith, c.len.ensures) in
@@ -78,7 +78,7 @@ pub add_moved-requires-clause-sets : goal.add_moved-requires-clause-sets
 add_moved-requires-clause-sets c =
     let t : TableContent = c.requires.held.0 in
     let h : HeldContent = c.args.terms in
-    let room : HasRoom t = c.requires.held.1 in
+    let room : FitsByPairs t = c.requires.held.1 in
     let held : AreHeld t h = c.requires.held.2 in
     let made = c.in_ok-made.made in
     let number : c.len.result ≡ length made.pairs.items = omega (arith, c.len.ensures) in
@@ -92,7 +92,7 @@ pub add_moved-requires-clause-small : goal.add_moved-requires-clause-small
 add_moved-requires-clause-small c =
     let t : TableContent = c.requires.held.0 in
     let h : HeldContent = c.args.terms in
-    let room : HasRoom t = c.requires.held.1 in
+    let room : FitsByPairs t = c.requires.held.1 in
     let held : AreHeld t h = c.requires.held.2 in
     let made = c.in_ok-made.made in
     let number : c.len.result ≡ length made.pairs.items = omega (arith, c.len.ensures) in
@@ -107,7 +107,7 @@ pub add_moved-requires-clause-few : goal.add_moved-requires-clause-few
 add_moved-requires-clause-few c =
     let t : TableContent = c.requires.held.0 in
     let h : HeldContent = c.args.terms in
-    let room : HasRoom t = c.requires.held.1 in
+    let room : FitsByPairs t = c.requires.held.1 in
     let held : AreHeld t h = c.requires.held.2 in
     let made = c.in_ok-made.made in
     let number : c.len.result ≡ length made.pairs.items = omega (arith, c.len.ensures) in
@@ -122,7 +122,7 @@ pub into_quad-requires : goal.into_quad-requires
 into_quad-requires c =
     let t : TableContent = c.requires.held.0 in
     let h : HeldContent = c.args.terms in
-    let room : HasRoom t = c.requires.held.1 in
+    let room : FitsByPairs t = c.requires.held.1 in
     let held : AreHeld t h = c.requires.held.2 in
     let made = c.in_ok-made.made in
     let number : c.len.result ≡ length made.pairs.items = omega (arith, c.len.ensures) in
