@@ -1,4 +1,4 @@
-use Rattle.std.proofs.Common.{◌≡◌, ◌*◌, ◌≤◌, ◌^◌, ◌∙◌, [], List, Bool, ap, fold, length, map, subst, sym}
+use Rattle.std.proofs.Common.{◌*◌, ◌≤◌, ◌^◌, ◌∙◌, [], List, Bool, ap, fold, length, map, subst, sym}
 use Rattle.std.specs.Prelude.{All}
 use Rattle.problem_form.specs.declared.terms.Product.{Product}
 use Rattle.term_table.specs.Terms.{with_additions}
