@@ -11,7 +11,7 @@ use Rattle.problem_form.specs.Limits.{penalty}
 use Rattle.term_table.specs.Terms.{Term, terms_total, IsTermSet}
 use Rattle.term_table.proofs.Additions.{terms_total-cons}
 use Rattle.penalty_layer.specs.Gathered.{squares}
-use Rattle.penalty_layer.specs.Rooms.{HasRoom}
+use Rattle.term_table.specs.Rooms.{HasRoomFor}
 use Rattle.penalty_layer.specs.Penalty.{clause_term, contributions, node_count, Admits}
 use Rattle.penalty_layer.specs.Squares.{product_term, constraint_terms}
 use Rattle.penalty_layer.proofs.Bounds.{within_limits}
@@ -71,7 +71,7 @@ places_at_first h ts width wide total pairs sets small few = record {
 
 -- there is room for what a problem contributes
 pub room-contributions : (p : ProblemContent) (h : HeldContent) → Admits p → length h.weights ≡ node_count p
-    → h.total ≡ 0 → length h.pairs ≡ 0 → HasRoom HasPlaces h (contributions p)
+    → h.total ≡ 0 → length h.pairs ≡ 0 → HasRoomFor HasPlaces h (contributions p)
 room-contributions p h admitted wide total pairs =
     let products = map product_term p.objective in
     let clauses = map (clause_term (penalty p)) p.clauses in

@@ -18,11 +18,11 @@ use base::NoMemory;
 use bits_model::CouplerList;
 use literal_lists::Literal;
 use pair_sums::GatheredPairs;
-use penalty_layer::Gather;
 use problem_form::ProductList;
 use quad_form::{NumberList, Quad};
 use std::alloc::Global;
 use std::marker::Model;
+use term_table::Gather;
 
 /// What a quadratic form is made of: its constant, the weights of its nodes, and its couplers.
 #[derive(Drop)]

@@ -9,7 +9,7 @@ use Rattle.term_table.specs.Terms.{Term, terms_total, with_additions, IsTermSet}
 use Rattle.term_table.specs.Tables.{TableContent, IsLow, IsTable, AreAdditions, table_size}
 use Rattle.monomial_layer.specs.Monomials.{all_new_terms, is_low, negative_terms, new_nodes, new_terms, nodes_for, positive_terms}
 use Rattle.monomial_layer.specs.Monomials as monomials
-use Rattle.rosenberg_layer.specs.Rosenberg.{excess, is_long, pairs_of, run}
+use Rattle.rosenberg_layer.specs.Rosenberg.{excess, pairs_of, run}
 use Rattle.rosenberg_layer.specs.Rosenberg as rosenberg
 use Rattle.rosenberg_layer.specs.Parts.{weights, AreParts, NoneLong}
 use Rattle.rosenberg_layer.specs.laws.Sets.{IsSound}
@@ -21,7 +21,6 @@ use Rattle.quad_form.specs.Quads.{QuadContent}
 use Rattle.quad_form.specs.Flat as flat
 use Rattle.direct_quad.specs.Parts.{all_nodes, long_additions, table_of}
 use Rattle.direct_quad.specs.Parts as direct
-use Rattle.direct_quad.specs.Stated.{IsWithin}
 use Rattle.direct_quad.specs.laws.Between.{IsTable-table_of}
 use Rattle.direct_quad.specs.laws.FlatKept.{table_of-table}
 use Rattle.direct_rosenberg.specs.ByPairs.{image}
@@ -104,23 +103,12 @@ module _ (t : TableContent) (adds long : List Term) (width count k : ℕ) (sound
   pub narrow-all : table_size t * 2 ^ 2 ≤ 2 ^ 31 → width + count < 2 ^ 32
   narrow-all size = omega (arith, wide, width-le k t, number, excess-size t.terms, size)
 
-  pub additions-all : (terms_total t.terms + 1) * 2 ^ 15 ≤ 2 ^ 97 → AreAdditions (added_of (width + count) adds)
+  additions-all : (terms_total t.terms + 1) * 2 ^ 15 ≤ 2 ^ 97 → AreAdditions (added_of (width + count) adds)
   additions-all small =
       let old = parts.small in
       record {
         sets = All-from_recursion (λ (u : Term). IsTermSet (width + count) u.0) adds sets-all;
         small = omega (arith, old, small, total-weights adds, weights-table t sound);
-      }
-
-  -- they fit the fields of a form
-  pub within-all : (terms_total t.terms + 1) * 2 ^ 15 ≤ 2 ^ 97 → table_size t * 2 ^ 2 ≤ 2 ^ 31
-      → IsWithin (added_of (width + count) adds)
-  within-all small size =
-      let old = parts.small in
-      record {
-        additions = additions-all small;
-        narrow = omega (arith, all_nodes-short (added_of (width + count) adds) parts.low, narrow-all size);
-        total = omega (arith, old, small, total-weights adds, weights-table t sound);
       }
 
   -- and their form is that of the image

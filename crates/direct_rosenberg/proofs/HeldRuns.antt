@@ -7,10 +7,11 @@ use Rattle.std.proofs.lemmas.List.Elements.{All-append, All-filter, All-from_rec
 use Rattle.std.proofs.lemmas.List.Filters.{sum_by-filter_both}
 use Rattle.problem_form.specs.declared.terms.Product.{Product}
 use Rattle.term_table.specs.Terms.{Term, IsTermSet, terms_size, terms_total, with_additions}
+use Rattle.term_table.specs.Rooms.{HasRoomFor}
 use Rattle.term_table.specs.Tables.{TableContent, AreAdditions, IsTable, table_size, with_more}
 use Rattle.term_table.proofs.Additions.{terms_total-append, terms_total-with_additions}
+use Rattle.term_table.proofs.Filling.{room_own}
 use Rattle.term_table.proofs.SmallSets.{IsTermSet-wider}
-use Rattle.penalty_layer.specs.Gathered.{squares}
 use Rattle.monomial_layer.specs.Monomials.{is_low, new_nodes}
 use Rattle.monomial_layer.specs.Monomials as monomials
 use Rattle.rosenberg_layer.specs.declared.run.Run.{Run}
@@ -26,13 +27,14 @@ use Rattle.quad_form.specs.Flat as flat
 use Rattle.direct_quad.specs.Parts.{all_nodes, long_additions, short_part, short_terms, table_of}
 use Rattle.direct_quad.specs.Parts as direct
 use Rattle.direct_quad.specs.Long.{product_term, terms_of}
-use Rattle.direct_quad.specs.Held.{HeldContent, AreHeld}
+use Rattle.direct_quad.specs.Held.{HeldContent, AreHeld, HasPlaces}
 use Rattle.direct_quad.specs.Stated.{IsWithin}
 use Rattle.direct_quad.specs.laws.Between.{IsTable-table_of}
 use Rattle.direct_quad.specs.laws.FlatKept.{table_of-table}
 use Rattle.direct_quad.proofs.SortedAdditions.{long_of}
 use Rattle.direct_quad.proofs.Split.{nodes-table}
-use Rattle.direct_rosenberg.specs.ByPairs.{image, moved_of, HasRoom, IsRunOf}
+use Rattle.rosenberg_layer.specs.Added.{moved_of}
+use Rattle.direct_rosenberg.specs.ByPairs.{image, FitsByPairs, IsRunOf}
 use Rattle.direct_rosenberg.proofs.Formed.{added_of, all_nodes-short, form-all, narrow-all, sets-all}
 use Rattle.direct_rosenberg.proofs.LongRuns.{long-table, same-sums, size-long}
 use Rattle.direct_rosenberg.proofs.Sizes.{few-moved}
@@ -59,7 +61,7 @@ sums-again t additions =
     ap (λ (v : TableContent). v.terms)
     (table_of-table u (IsTable-table_of (short_part t) (short-additions t additions)))
 
-module _ (t : TableContent) (h : HeldContent) (room : HasRoom t) (held : AreHeld t h) where
+module _ (t : TableContent) (h : HeldContent) (room : FitsByPairs t) (held : AreHeld t h) where
   pub kept : IsTable (table_of t)
   kept = IsTable-table_of t room.additions
 
@@ -155,22 +157,26 @@ module _ (t : TableContent) (h : HeldContent) (room : HasRoom t) (held : AreHeld
     pub next-narrow : width + length made.pairs.items < 2 ^ 64
     next-narrow = omega (arith, narrow, number)
 
-    -- over so many nodes the sets of what is added fit
-    pub sets-moved : (n : ℕ) → n ≡ width + count → AllByRecursion (λ (u : Term). IsTermSet n u.0) moved
-    sets-moved n is = subst (λ m. AllByRecursion (λ (u : Term). IsTermSet m u.0) moved) (sym is) sets
+    -- what is added is small
+    pub small-moved : terms_total moved ≤ 2 ^ 124
+    small-moved = omega (arith, total)
 
-    -- so does its total
-    pub total-moved : (k : HeldContent) (n : ℕ) → AreHeld (record (short_part t) { width = n }) k
-        → k.total + terms_total moved ≤ 2 ^ 97
-    total-moved k n short = omega (arith, total, short.total)
-
-    -- and its pairs are few
-    pub pairs-moved : (more : ℕ) → more ≤ 2 ^ 31 → more + squares moved ≤ 2 ^ 33
-    pairs-moved more few =
+    -- and there is room for it among what is held of the short additions, over so many nodes
+    pub room-moved : (k : HeldContent) (n : ℕ) → n ≡ width + count → length k.weights ≡ n
+        → AreHeld (record (short_part t) { width = n }) k → 4 * length k.pairs ≤ 2 ^ 31
+        → HasRoomFor HasPlaces k moved
+    room-moved k n is over short few =
+        let S : ℕ → Term → Type 0 = λ m u. IsTermSet m u.0 in
         let few_pairs : length made.pairs.items ≤ excess full.terms =
         omega (arith, width-pairs turns full, width-le turns full, pairs, number) in
-        few-moved full made.low.items width more made.pairs.items made.weights.items parts.low left.few
-        few_pairs room.size few
+        room_own HasPlaces k moved
+        (record {
+          sets = subst (λ m. All (S m) moved) (sym (over ∙ is)) (All-from_recursion (S (width + count)) moved sets);
+          total = omega (arith, total, short.total);
+          few =
+              few-moved full made.low.items width (4 * length k.pairs) made.pairs.items made.weights.items
+              parts.low left.few few_pairs room.size few;
+        })
 
     -- ---- all additions
 

@@ -1,4 +1,3 @@
-pub mod Appended
 pub mod Sizes
 pub mod Formed
 pub mod LongRuns

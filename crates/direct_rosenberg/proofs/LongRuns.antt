@@ -1,5 +1,5 @@
 -- The long terms of a table are the sums of the long additions, and its run goes by them alone.
-use Rattle.std.proofs.Common.{◌≡◌, ℕ, pos, ◌+◌, ◌-◌, ◌≤◌, Bool, true, false, not, leb, cond, arith, refl, sym, ap, ◌∙◌, subst, List, [], ◌∷◌, ◌++◌, length, map}
+use Rattle.std.proofs.Common.{◌≡◌, ℕ, pos, ◌-◌, ◌≤◌, Bool, true, false, not, leb, cond, arith, refl, sym, ap, ◌∙◌, subst, List, [], ◌∷◌, ◌++◌, length, map}
 use Rattle.std.specs.Prelude.{All, IfOk, Result, Ok, Err, Some, slice_get}
 use Rattle.std.specs.List.{filter, AllByRecursion}
 use Rattle.std.specs.Ordering.{is_eq}
@@ -12,7 +12,7 @@ use Rattle.base.specs.Sums.{if_so}
 use Rattle.literal_lists.specs.declared.literal.Literal.{Literal}
 use Rattle.problem_form.specs.declared.terms.Product.{Product}
 use Rattle.term_table.specs.Terms.{Term, set_cmp, set_size, terms_size, with_additions, IsTermSet}
-use Rattle.term_table.specs.Tables.{TableContent}
+use Rattle.term_table.specs.Tables.{AreAdditions, TableContent}
 use Rattle.term_table.proofs.Additions.{if_so-plus}
 use Rattle.term_table.proofs.KeptTerms.{IsNonzero, Ascends-with_additions, nonzero-with_additions}
 use Rattle.term_table.proofs.Steps.{with_additions-append}
@@ -24,10 +24,12 @@ use Rattle.rosenberg_layer.specs.Parts.{weights, AreParts}
 use Rattle.rosenberg_layer.proofs.Parts.{filter-ascends}
 use Rattle.direct_quad.specs.Parts.{long_additions, short_terms}
 use Rattle.direct_quad.specs.Parts as direct
-use Rattle.direct_quad.specs.Long.{product_term, AreLong}
+use Rattle.direct_quad.specs.Long.{product_term, terms_of}
 use Rattle.direct_quad.proofs.Additive.{Amount, IsAdditive, additive-only, given-filter, given-with_additions, only}
+use Rattle.direct_quad.proofs.LongPlaces.{term_from_product}
 use Rattle.direct_quad.proofs.Split.{filter-with_additions, is_short_set}
-use Rattle.direct_rosenberg.specs.ByPairs.{moved_of, IsRunOf}
+use Rattle.rosenberg_layer.specs.Added.{moved_of}
+use Rattle.direct_rosenberg.specs.ByPairs.{IsRunOf}
 
 -- ---- long and short terms
 
@@ -156,23 +158,24 @@ size-long ts =
 pub count-long : (ts : List Term) → length (filter is_long ts) ≤ length ts
 count-long ts = omega (arith, length-filter_both is_long is_short (λ t. refl) ts)
 
--- ---- a term of a table of long ones
-
-at-holds : (P : Term → Type 0) (ts : List Term) (i : ℕ) (t : Term) → All P ts
-    → slice_get ts i ≡ Some t → P t
-at-holds P ts i t all e =
-    subst P (get_or_from_slice_get ts i t ([], pos 0) e)
-    (All-get_or P ts i ([], pos 0) (slice_get_within ts i t e) all)
+-- ---- one of the additions
 
 -- its literals are a set
-pub set-at : (table : TableContent) (i : ℕ) (t : Term) → AreLong table
-    → slice_get table.terms i ≡ Some t → IsTermSet table.width t.0
-set-at table i t kept e = at-holds (λ u. IsTermSet table.width u.0) table.terms i t kept.terms.sets e
+pub addition-set : (ps : List Product) (i : ℕ) (p : Product) (width : ℕ) → AreAdditions (terms_of width ps)
+    → slice_get ps i ≡ Some p → IsTermSet width p.literals
+addition-set ps i p width additions at =
+    let P : Term → Type 0 = λ u. IsTermSet width u.0 in
+    let ts = map product_term ps in
+    let here = term_from_product ps i p at in
+    subst P (get_or_from_slice_get ts i (product_term p) ([], pos 0) here)
+    (All-get_or P ts i ([], pos 0) (slice_get_within ts i (product_term p) here) additions.sets)
 
 -- and three or more
-pub long-at : (table : TableContent) (i : ℕ) (t : Term) → AreLong table
-    → slice_get table.terms i ≡ Some t → 3 ≤ length t.0
-long-at table i t kept e = at-holds (λ u. 3 ≤ length u.0) table.terms i t kept.long e
+pub addition-long : (ps : List Product) (i : ℕ) (p : Product) → All (λ (q : Product). 3 ≤ length q.literals) ps
+    → slice_get ps i ≡ Some p → 3 ≤ length p.literals
+addition-long ps i p long at =
+    let L : Product → Type 0 = λ q. 3 ≤ length q.literals in
+    subst L (get_or_from_slice_get ps i p p at) (All-get_or L ps i p (slice_get_within ps i p at) long)
 
 -- ---- the run
 

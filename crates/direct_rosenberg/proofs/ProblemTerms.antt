@@ -25,7 +25,7 @@ use Rattle.direct_quad.specs.Held.{HeldContent, AreHeld}
 use Rattle.direct_quad.specs.laws.Between.{IsTable-table_of}
 use Rattle.direct_quad.specs.laws.Relaxing.{AreAdditions-of, total-additions}
 use Rattle.direct_quad.proofs.HeldTerms.{more-pairs}
-use Rattle.direct_rosenberg.specs.ByPairs.{HasRoom, IsRunOf}
+use Rattle.direct_rosenberg.specs.ByPairs.{FitsByPairs, IsRunOf}
 use Rattle.direct_rosenberg.proofs.LongRuns.{long-table, size-long}
 
 -- a coupler of a term counts as the square of its degree
@@ -66,7 +66,7 @@ squares-few p admitted =
       squares-append products clauses,
     )
 
-pub room-of : (p : ProblemContent) → Admits p → HasRoom (additions_of p)
+pub room-of : (p : ProblemContent) → Admits p → FitsByPairs (additions_of p)
 room-of p admitted = record {
   additions = AreAdditions-of p admitted;
   total = omega (arith, total-additions p admitted.within);

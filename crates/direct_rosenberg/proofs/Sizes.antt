@@ -4,31 +4,20 @@ use Rattle.std.proofs.Common.{◌≡◌, false, ℕ, zero, suc, ◌+◌, ◌-◌
 use Rattle.std.specs.List.{filter}
 use Rattle.std.proofs.Math.Nat.{mul-le-mul_left}
 use Rattle.std.proofs.lemmas.Bool.Decides.{nat_tests}
-use Rattle.std.proofs.lemmas.List.Filters.{sum_by-filter_both}
 use Rattle.std.proofs.lemmas.List.Sums.{sum_by-cons}
 use Rattle.literal_lists.specs.declared.literal.Literal.{Literal}
-use Rattle.term_table.specs.Terms.{Term, set_size, terms_size, terms_total}
+use Rattle.term_table.specs.Terms.{Term, set_size, terms_size}
 use Rattle.term_table.specs.Tables.{TableContent, table_size}
 use Rattle.term_table.proofs.Additions.{terms_size-cons}
 use Rattle.penalty_layer.specs.Gathered.{squares}
 use Rattle.penalty_layer.proofs.Gathering.{squares-append}
-use Rattle.rosenberg_layer.specs.Rosenberg.{excess, is_long, node, run, tie_terms, Pair}
+use Rattle.rosenberg_layer.specs.Rosenberg.{excess, is_long, node, tie_terms, Pair}
 use Rattle.rosenberg_layer.specs.Steps.{is_short}
-use Rattle.rosenberg_layer.specs.Parts.{ties_of, weights, AreParts, NoneLong}
-use Rattle.rosenberg_layer.specs.laws.Sets.{IsSound}
+use Rattle.rosenberg_layer.specs.Parts.{ties_of, NoneLong}
 use Rattle.rosenberg_layer.proofs.GoBack.{all-left, all-right}
-use Rattle.rosenberg_layer.proofs.Growth.{square_is, total-weights, weights-table}
-use Rattle.direct_quad.proofs.FlatTables.{squares-le}
+use Rattle.rosenberg_layer.proofs.Growth.{square_is}
 
 -- ---- pairs
-
-few-base : (ts : List Term) → squares (filter is_short ts) ≤ terms_size ts
-few-base ts =
-    omega (
-      arith,
-      sum_by-filter_both is_long is_short (λ t. refl) (λ (t : Term). length t.0 ^ 2) ts,
-      squares-le ts,
-    )
 
 square-two : (n : ℕ) → n ≤ 2 → n ^ 2 ≤ 4
 square-two zero le = omega arith
@@ -67,7 +56,7 @@ size-one (l ∷ ls) =
     let some : 1 ≤ n = omega arith in
     omega (arith, square_is n, mul-le-mul_left n some)
 
-count-size : (ts : List Term) → length ts ≤ terms_size ts
+pub count-size : (ts : List Term) → length ts ≤ terms_size ts
 count-size [] = omega arith
 count-size (t ∷ ts) = omega (arith, size-one t.0, count-size ts, terms_size-cons t ts)
 
@@ -90,31 +79,7 @@ twice-excess (t ∷ ts) =
       sum_by-cons (λ (u : Term). length u.0 - 2) t ts,
     )
 
--- the pairs of all that a run adds
-pub few-all : (t : TableContent) (low : List Term) (n : ℕ) (pairs : List Pair) (ms : List ℕ)
-    → NoneLong (filter is_short t.terms ++ (low ++ ties_of n pairs ms))
-    → length low ≤ length t.terms → length pairs ≤ excess t.terms → table_size t * 2 ^ 2 ≤ 2 ^ 31
-    → squares (filter is_short t.terms ++ (low ++ ties_of n pairs ms)) ≤ 2 ^ 33
-few-all t low n pairs ms short few_low few_pairs size =
-    let base = filter is_short t.terms in
-    let ties = ties_of n pairs ms in
-    let is_none : Term → Type 0 = λ u. is_long u ≡ false in
-    let low_short = all-left is_none low ties (all-right is_none base (low ++ ties) short) in
-    omega (
-      arith,
-      few_low,
-      few_pairs,
-      size,
-      squares-append base (low ++ ties),
-      squares-append low ties,
-      few-base t.terms,
-      few-low low low_short,
-      few-ties n pairs ms,
-      count-size t.terms,
-      twice-excess t.terms,
-    )
-
--- .. and of what it adds to the short terms, with others
+-- the pairs of what a run adds to the short terms, with others
 pub few-moved : (t : TableContent) (low : List Term) (n more : ℕ) (pairs : List Pair) (ms : List ℕ)
     → NoneLong (filter is_short t.terms ++ (low ++ ties_of n pairs ms))
     → length low ≤ length t.terms → length pairs ≤ excess t.terms → table_size t * 2 ^ 2 ≤ 2 ^ 31
@@ -136,11 +101,3 @@ few-moved t low n more pairs ms short few_low few_pairs size few_more =
       count-size t.terms,
       twice-excess t.terms,
     )
-
--- the total of all that a run adds
-pub total-all : (t : TableContent) (adds long : List Term) (k : ℕ) → IsSound t
-    → AreParts (run k t) adds long (weights t.terms) → (terms_total t.terms + 1) * 2 ^ 15 ≤ 2 ^ 97
-    → terms_total adds + 1 ≤ 2 ^ 97
-total-all t adds long k sound parts small =
-    let old = parts.small in
-    omega (arith, old, small, total-weights adds, weights-table t sound)

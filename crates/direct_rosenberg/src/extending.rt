@@ -1,10 +1,15 @@
 //! The bits of the new nodes of a problem's quadratic form, where pairs of literals are replaced.
 ghost use Rattle.std.specs.Prelude.{◌≡◌, IfOk};
+ghost use Rattle.term_table.specs.Tables.{TableContent};
 ghost use Rattle.penalty_layer.specs.Penalty.{image, Admits};
 ghost use Rattle.rosenberg_layer.specs.Rosenberg.{extension};
+ghost use Rattle.direct_quad.specs.Parts.{table_of};
+ghost use Rattle.direct_quad.specs.Held.{AreHeld};
+ghost use Rattle.direct_rosenberg.specs.ByPairs.{FitsByPairs};
 
 use crate::long_run::long_run;
 use base::NoMemory;
+use direct_quad::DirectTerms;
 use long_extension::long_additions;
 use penalty_layer::node_count;
 use problem_form::Problem;
@@ -23,6 +28,24 @@ pub fn with_pair_bits(
 {
     let long = long_additions(alloc, problem)?;
     let made = long_run(alloc, node_count(problem), long)?;
+    push_products(&mut bits, &made.pairs)?;
+    Ok(bits)
+}
+
+/// The same of what is held of additions.
+pub fn with_pair_bits_of(
+    alloc: Global,
+    terms: DirectTerms,
+    mut bits: Vec<bool>,
+) -> Result<Vec<bool>, NoMemory>
+    requires { (t : TableContent) × FitsByPairs t × AreHeld t terms }
+    ensures { (t : TableContent) → FitsByPairs t → AreHeld t terms
+        → IfOk result (λ y. y.items ≡ extension bits.items (table_of t)) }
+{
+    let width = terms.width();
+    let (short, long) = terms.apart(alloc);
+    drop(short);
+    let made = long_run(alloc, width, long)?;
     push_products(&mut bits, &made.pairs)?;
     Ok(bits)
 }

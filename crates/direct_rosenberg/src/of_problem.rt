@@ -3,7 +3,7 @@ ghost use Rattle.std.specs.Prelude.{◌*◌, ◌≤◌, ◌^◌, IfOk, length};
 ghost use Rattle.penalty_layer.specs.Penalty.{Admits};
 ghost use Rattle.direct_quad.specs.Direct.{additions_of};
 ghost use Rattle.direct_quad.specs.Held.{AreHeld};
-ghost use Rattle.direct_rosenberg.specs.ByPairs.{HasRoom};
+ghost use Rattle.direct_rosenberg.specs.ByPairs.{FitsByPairs};
 
 use base::NoMemory;
 use direct_quad::DirectTerms;
@@ -17,7 +17,7 @@ pub fn problem_terms(alloc: Global, problem: &Problem) -> Result<DirectTerms, No
     ensures held { IfOk result (AreHeld (additions_of problem.now)) }
 
     // What their quadratic form rests on.
-    ensures room { IfOk result (λ _. HasRoom (additions_of problem.now)) }
+    ensures room { IfOk result (λ _. FitsByPairs (additions_of problem.now)) }
     ensures few { IfOk result (λ terms. 4 * length terms.pairs ≤ 2 ^ 31) }
 {
     let mut terms = DirectTerms::new(alloc, node_count(problem))?;

@@ -7,9 +7,10 @@ ghost use Rattle.long_extension.specs.Kept.{AreKept};
 
 use base::NoMemory;
 use literal_lists::Literal;
-use penalty_layer::{Gather, add_contributions};
+use penalty_layer::add_contributions;
 use problem_form::{Problem, ProductList};
 use std::alloc::Global;
+use term_table::Gather;
 
 /// Additions of which those of three literals or more are kept, in the order in which they came.
 #[derive(Drop)]

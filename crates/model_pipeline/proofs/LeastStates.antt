@@ -20,6 +20,7 @@ use Rattle.penalty_layer.specs.Penalty as penalty
 use Rattle.penalty_layer.specs.laws.Relaxing.{penalty_extends}
 use Rattle.penalty_layer.proofs.Admitted.{image_size}
 use Rattle.penalty_layer.proofs.Sums.{image-total}
+use Rattle.normal_form.specs.Multilinear as multilinear
 use Rattle.normal_form.specs.laws.Relaxing.{multilinear_extends}
 use Rattle.monomial_layer.specs.laws.Kept.{mono_reaches}
 use Rattle.rosenberg_layer.specs.Rosenberg as rosenberg
@@ -37,6 +38,7 @@ use Rattle.model_pipeline.specs.Models.{low_terms_of, quad_by, terms_of}
 use Rattle.model_pipeline.specs.Extensions.{low_extension, extension_by, link_by, ExtendsLeastBy, IsLeastExtension}
 use Rattle.model_pipeline.specs.Decoders.{LowFits}
 use Rattle.model_pipeline.proofs.PairForms.{flat_link, pair_link}
+use Rattle.model_pipeline.proofs.PlainForms.{plain_flat, plain_nodes, plain_pair}
 use Rattle.model_pipeline.proofs.Standing.{low_keeps, low_source, steps, terms_width}
 
 -- slack bits extend an assignment with the least cost
@@ -146,6 +148,15 @@ least_by_literal_pairs choices p x y normal_is high_is admitted width same =
     (pair_link t kept (omega (arith, image_size p admitted)))
     (flat_link t kept (omega (arith, image-total p admitted.within)))
 
+-- .. and over variables alone
+pub least_by_plain_pairs : (choices : Choices) (p : ProblemContent) (x y : List Bool)
+    → choices.normal ≡ Multilinear → choices.high ≡ Rosenberg → multilinear.Admits p
+    → length x ≡ p.variables → y ≡ extension_by Multilinear Rosenberg p x
+    → IsLeastExtension choices p x y
+least_by_plain_pairs choices p x y normal_is high_is admitted width same =
+    least_by_pairs Multilinear choices p x y normal_is high_is width same (plain_nodes p admitted)
+    (plain_pair p admitted) (plain_flat p admitted)
+
 -- what is true of every value is true of a result's
 pub if_ok-always : {T E : Type 0} (r : Result T E) {P : T → Type 0} → ((y : T) → P y) → IfOk r P
 if_ok-always (Ok y) f = f y
@@ -156,9 +167,3 @@ pub if_ok-by_three : {T E : Type 0} (r : Result T E) {P Q R S : T → Type 0} �
     → IfOk r R → ((y : T) → P y → Q y → R y → S y) → IfOk r S
 if_ok-by_three (Ok y) p q r f = f y p q r
 if_ok-by_three (Err e) p q r f = tt
-
--- .. and from four
-pub if_ok-by_four : {T E : Type 0} (r : Result T E) {P Q R S U : T → Type 0} → IfOk r P → IfOk r Q
-    → IfOk r R → IfOk r S → ((y : T) → P y → Q y → R y → S y → U y) → IfOk r U
-if_ok-by_four (Ok y) p q r s f = f y p q r s
-if_ok-by_four (Err e) p q r s f = tt

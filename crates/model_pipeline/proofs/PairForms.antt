@@ -1,24 +1,20 @@
 -- The quadratic form of a table whose pairs are replaced: its links, and how far it grows.
-use Rattle.std.proofs.Common.{◌≤◌, ◌+◌, ◌*◌, ◌^◌, ℕ, zero, suc, refl, arith}
+use Rattle.std.proofs.Common.{◌≤◌, ◌+◌, ◌*◌, ◌^◌, refl, arith}
 use Rattle.form_steps.specs.declared.layer.BitsLink.{BitsLink}
 use Rattle.term_table.specs.Terms.{terms_total}
 use Rattle.term_table.specs.Tables.{TableContent, IsTable, table_size}
 use Rattle.rosenberg_layer.specs.Rosenberg as rosenberg
-use Rattle.rosenberg_layer.specs.laws.Sets.{IsSound, IsSound-substituted}
+use Rattle.rosenberg_layer.specs.laws.Sets.{IsSound-run}
 use Rattle.rosenberg_layer.proofs.Ends.{IsLow-image}
 use Rattle.rosenberg_layer.proofs.Growth.{total-image, size-image}
 use Rattle.quad_form.specs.Quads.{quad_size, quad_total}
 use Rattle.quad_form.specs.Flat as flat
 use Rattle.quad_form.proofs.FlatForms.{quad_total-image, quad_size-image}
 
-run_is_sound : (k : ℕ) (t : TableContent) → IsSound t → IsSound (rosenberg.run k t)
-run_is_sound zero t sound = sound
-run_is_sound (suc k) t sound = run_is_sound k (rosenberg.substituted t) (IsSound-substituted t sound)
-
 low_is_table : (t : TableContent) → IsTable t → (terms_total t.terms + 1) * 2 ^ 15 ≤ 2 ^ 124
     → IsTable (rosenberg.image t)
 low_is_table t is small = record {
-  terms = run_is_sound (rosenberg.excess t.terms) t is.terms;
+  terms = IsSound-run (rosenberg.excess t.terms) t is.terms;
   small = omega (arith, total-image t is.terms, small);
 }
 

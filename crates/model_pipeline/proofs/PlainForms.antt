@@ -1,11 +1,11 @@
 -- The form of what a problem contributes, multiplied out as it comes, is that of its multilinear
 -- table.
-use Rattle.std.proofs.Common.{◌≡◌, ◌++◌, ◌≤◌, ◌^◌, List, [], length, All, refl, sym, ap, ◌∙◌, subst, arith}
+use Rattle.std.proofs.Common.{◌≡◌, ◌+◌, ◌*◌, ◌++◌, ◌≤◌, ◌^◌, List, [], length, All, refl, sym, ap, ◌∙◌, subst, arith}
 use Rattle.std.proofs.lemmas.List.{append-nil}
 use Rattle.std.proofs.lemmas.List.Elements.{recursion_from_All}
 use Rattle.form_steps.specs.declared.layer.BitsLink.{BitsLink}
 use Rattle.problem_form.specs.declared.limits.Normal.TheVariants.{Multilinear}
-use Rattle.problem_form.specs.declared.limits.High.TheVariants.{Monomial}
+use Rattle.problem_form.specs.declared.limits.High.TheVariants.{Monomial, Rosenberg}
 use Rattle.problem_form.specs.Problems.{ProblemContent}
 use Rattle.problem_form.specs.Limits.{upper}
 use Rattle.term_table.specs.Terms.{Term, IsTermSet, terms_total, with_additions}
@@ -25,13 +25,14 @@ use Rattle.normal_form.proofs.MultipliedOut.{AreAdditions-multiplied_out, small-
 use Rattle.normal_form.proofs.Sizes.{size_within, squares-multiplied}
 use Rattle.monomial_layer.specs.Monomials as monomials
 use Rattle.monomial_layer.proofs.Sizes.{all_nodes-le}
+use Rattle.rosenberg_layer.specs.Rosenberg as rosenberg
 use Rattle.quad_form.specs.Quads.{quad_size, quad_total}
 use Rattle.quad_form.specs.Flat as flat
 use Rattle.direct_quad.specs.Parts.{table_of}
 use Rattle.direct_quad.specs.Parts as parts
 use Rattle.direct_quad.specs.Direct.{additions_of}
 use Rattle.direct_quad.specs.FlatMonomials as flat_monomials
-use Rattle.direct_quad.specs.Held.{HeldContent, HasPlaces}
+use Rattle.direct_quad.specs.Held.{HeldContent, AreHeld, HasPlaces}
 use Rattle.direct_quad.specs.Stated.{IsWithin}
 use Rattle.direct_quad.specs.laws.Between.{IsTable-table_of}
 use Rattle.direct_quad.specs.laws.FlatKept.{first, second, fits_first, fits_second}
@@ -39,8 +40,12 @@ use Rattle.direct_quad.proofs.Additive.{sum_for-with_additions}
 use Rattle.direct_quad.proofs.AtOnce.{size-grows, total-grows}
 use Rattle.direct_quad.proofs.RoomForSums.{places_at_first}
 use Rattle.direct_quad.proofs.Split.{nodes-table}
-use Rattle.model_pipeline.specs.Formed.{IsFormed}
+use Rattle.direct_rosenberg.specs.ByPairs.{FitsByPairs}
+use Rattle.direct_rosenberg.proofs.ProblemTerms.{pairs-few}
+use Rattle.model_pipeline.specs.Formed.{HasRoom, IsFormed}
 use Rattle.model_pipeline.specs.Models.{quad_by}
+use Rattle.model_pipeline.proofs.PairForms.{flat_link, pair_link, pair_size, pair_total}
+use Rattle.model_pipeline.proofs.Rooms.{pair_room}
 use Rattle.model_pipeline.proofs.Standing.{formed_by_steps}
 
 -- what a problem adds, multiplied out
@@ -150,3 +155,78 @@ formed-plain p admitted =
       ap quad_size (image-plain p admitted),
       ap table_size (table_of-plain p admitted),
     ))
+
+-- ---- pairs replaced one after another
+
+pub FitsByPairs-plain : (p : ProblemContent) → Admits p → FitsByPairs (plain_additions p)
+FitsByPairs-plain p admitted = record {
+  additions = AreAdditions-multiplied_out p admitted;
+  total = omega (arith, total-multiplied p admitted);
+  size =
+      omega (
+        arith,
+        size_within p admitted.within,
+        ap table_size (table_of-plain p admitted),
+      );
+}
+
+-- its pairs are few
+pub few-plain : (p : ProblemContent) (h : HeldContent) → Admits p → AreHeld (plain_additions p) h
+    → 4 * length h.pairs ≤ 2 ^ 31
+few-plain p h admitted held =
+    pairs-few (plain_additions p) h (2 ^ 31) held
+    (omega (arith, squares-multiplied p admitted.within))
+
+pub IsTable-plain : (p : ProblemContent) → Admits p → IsTable (multilinear.image p)
+IsTable-plain p admitted =
+    subst IsTable (table_of-plain p admitted)
+    (IsTable-table_of (plain_additions p) (AreAdditions-multiplied_out p admitted))
+
+pub total-plain : (p : ProblemContent) → Admits p
+    → terms_total (multilinear.image p).terms + 1 ≤ 2 ^ 72
+total-plain p admitted =
+    omega (
+      arith,
+      total-multiplied p admitted,
+      terms_total-with_additions (plain_additions p).terms,
+      ap (λ (u : TableContent). terms_total u.terms) (table_of-plain p admitted),
+    )
+
+-- the links of the two steps
+pub plain_pair : (p : ProblemContent) → Admits p
+    → (link : BitsLink) × rosenberg.Fits link (multilinear.image p)
+plain_pair p admitted =
+    pair_link (multilinear.image p) (IsTable-plain p admitted)
+    (omega (arith, size_within p admitted.within))
+
+pub plain_flat : (p : ProblemContent) → Admits p
+    → (link : BitsLink) × flat.Fits link (rosenberg.image (multilinear.image p))
+plain_flat p admitted =
+    flat_link (multilinear.image p) (IsTable-plain p admitted) (omega (arith, total-plain p admitted))
+
+-- the slack bits' own link
+pub plain_nodes : (p : ProblemContent) → Admits p → (link : BitsLink) × penalty.Fits link p
+plain_nodes p admitted = (
+  record { source_width = p.variables; target_width = penalty.node_count p },
+  record { source = refl; target = refl; normal = admitted.normal },
+)
+
+pub formed-plain_pairs : (p : ProblemContent) → Admits p
+    → IsFormed p (quad_by Multilinear Rosenberg p) (penalty.figures p)
+formed-plain_pairs p admitted =
+    let table = multilinear.image p in
+    let kept = IsTable-plain p admitted in
+    let nodes = plain_nodes p admitted in
+    let pair = plain_pair p admitted in
+    let low = plain_flat p admitted in
+    formed_by_steps Multilinear Rosenberg p nodes.0 pair.0 low.0
+    (threshold_within p (upper p) (penalty_admits p admitted).within refl) nodes.1 pair.1 low.1
+    (omega (arith, pair_total table kept, total-plain p admitted))
+    (omega (arith, pair_size table kept, size_within p admitted.within))
+
+-- the form has room for its Ising form
+pub plain_room : (p : ProblemContent) → Admits p
+    → HasRoom (flat.image (rosenberg.image (multilinear.image p)))
+plain_room p admitted =
+    pair_room (multilinear.image p) (IsTable-plain p admitted)
+    (omega (arith, size_within p admitted.within)) (omega (arith, total-plain p admitted))

@@ -4,6 +4,7 @@ ghost use Rattle.problem_form.specs.Limits.{limit_fault};
 ghost use Rattle.form_steps.specs.declared.layer.BitsLink.{BitsLink};
 ghost use Rattle.penalty_layer.specs.Penalty.{Admits};
 ghost use Rattle.penalty_layer.specs.Penalty as penalty;
+ghost use Rattle.normal_form.specs.Multilinear as multilinear;
 ghost use Rattle.direct_quad.specs.Direct as direct;
 ghost use Rattle.direct_quad.specs.FlatMonomials.{extension, image, Fits};
 ghost use Rattle.rosenberg_layer.specs.Rosenberg as rosenberg;
@@ -12,17 +13,17 @@ ghost use Rattle.model_pipeline.specs.Models.{quad_of};
 ghost use Rattle.model_pipeline.specs.Formed.{HasRoom};
 ghost use Rattle.model_pipeline.specs.Extensions.{extension_of, IsLeastExtension};
 
+use crate::forms::multilinear_terms;
 use crate::new_nodes::monomial_link;
-use base::{Costed, NoMemory};
+use base::NoMemory;
 use direct_quad::FlatMonomials;
-use direct_rosenberg::with_pair_bits;
+use direct_rosenberg::{with_pair_bits, with_pair_bits_of};
 use form_steps::{BitsLink, Guard, Layer};
 use normal_form::MultilinearForm;
 use penalty_layer::{Penalty, node_count};
 use problem_form::{Choices, High, Normal, Problem};
-use rosenberg_layer::Rosenberg;
 use std::alloc::Global;
-use term_table::{LowTable, Table};
+use term_table::Table;
 
 /// The state that an assignment extends to by a guard, where each term is replaced by itself.
 fn by_monomials<G>(
@@ -50,54 +51,6 @@ where
     let y = guard.extend(alloc, problem, &guarded.link, x)?;
     let link = monomial_link(&guarded.target);
     FlatMonomials.extend(alloc, &guarded.target, &link, &y)
-}
-
-/// The link of a table of low terms and its quadratic form, which is not made.
-fn flat_link(table: &LowTable) -> BitsLink
-    requires { table.now.content.width < 2 ^ 32 }
-    ensures { flat.Fits result table.now.content }
-{
-    let _terms = table.terms();
-    let width = table.width();
-    BitsLink {
-        source_width: width,
-        target_width: width,
-    }
-}
-
-/// The state that an assignment extends to by a guard, where pairs are replaced one after another.
-/// The quadratic terms are made for their link alone.
-fn by_pairs<G>(
-    alloc: Global,
-    guard: &G,
-    problem: &Problem,
-    x: &[bool],
-) -> Result<Vec<bool>, NoMemory>
-where
-    G: Guard<Source = Problem, Target = Table>,
-    requires admits { G.admits problem.now }
-    requires total { G.TOTAL_BITS + 19 ≤ 124 }
-    requires size { G.SIZE_BITS + 2 ≤ 31 }
-    requires width { length x.now ≡ problem.now.variables }
-    ensures extension { IfOk result (λ y.
-        y.items ≡ rosenberg.extension (G.extension problem.now x.now)
-        (G.image problem.now).content) }
-    ensures first { IfOk result (λ _. (link : G.Link) × G.fits link problem.now) }
-    ensures second { IfOk result (λ _.
-        (link : BitsLink) × rosenberg.Fits link (G.image problem.now).content) }
-    ensures third { IfOk result (λ _.
-        (link : BitsLink) × flat.Fits link (rosenberg.image (G.image problem.now).content)) }
-
-    // What the steps to a model rest on.
-    ensures room { IfOk result (λ _.
-        HasRoom (flat.image (rosenberg.image (G.image problem.now).content))) }
-{
-    let guarded = guard.guard(alloc, problem)?;
-    let y = guard.extend(alloc, problem, &guarded.link, x)?;
-    let low = Rosenberg.lower(alloc, &guarded.target)?;
-    let _link = flat_link(&low.target);
-    drop(low.target);
-    Rosenberg.extend(alloc, &guarded.target, &low.link, &y)
 }
 
 /// The state that an assignment extends to over literals, where each term is replaced by itself: of
@@ -139,6 +92,27 @@ fn by_long_pairs(alloc: Global, problem: &Problem, x: &[bool]) -> Result<Vec<boo
     with_pair_bits(alloc, problem, y)
 }
 
+/// The same over variables alone: what the terms are multiplied out to is gathered, and no table is
+/// made.
+fn by_plain_pairs(alloc: Global, problem: &Problem, x: &[bool]) -> Result<Vec<bool>, NoMemory>
+    requires admits { multilinear.Admits problem.now }
+    requires width { length x.now ≡ problem.now.variables }
+    ensures extension { IfOk result (λ y. y.items
+        ≡ rosenberg.extension (penalty.extension problem.now x.now) (multilinear.image problem.now)) }
+
+    // What the steps to a model rest on.
+    ensures room { IfOk result (λ _.
+        HasRoom (flat.image (rosenberg.image (multilinear.image problem.now)))) }
+{
+    let link = BitsLink {
+        source_width: problem.variables as usize,
+        target_width: node_count(problem),
+    };
+    let y = Penalty.extend(alloc, problem, &link, x)?;
+    let terms = multilinear_terms(alloc, problem)?;
+    with_pair_bits_of(alloc, terms, y)
+}
+
 /// The state of the quadratic form that an assignment of a problem within the limits extends to. No
 /// state that decodes to the assignment has a lesser energy. The form has so many nodes.
 pub fn extended(
@@ -167,7 +141,7 @@ pub fn extended(
         },
         Normal::Multilinear => match choices.high {
             High::Monomial => by_monomials(alloc, &MultilinearForm, problem, x),
-            High::Rosenberg => by_pairs(alloc, &MultilinearForm, problem, x),
+            High::Rosenberg => by_plain_pairs(alloc, problem, x),
         },
     }
 }

@@ -10,12 +10,11 @@ ghost use Rattle.model_pipeline.specs.Models.{quad_by, quad_of};
 ghost use Rattle.model_pipeline.specs.Formed.{IsFormed};
 
 use crate::held::Held;
-use crate::steps::quadratic_of;
 use base::{Figures, NoMemory};
 use direct_quad::{DirectQuad, DirectTerms};
 use direct_rosenberg::{problem_terms, quad_by_pairs_of};
 use form_steps::Guard;
-use normal_form::{MultilinearForm, PlainTerms};
+use normal_form::PlainTerms;
 use penalty_layer::{add_contributions, node_count};
 use problem_form::{Choices, High, Normal, Problem};
 use quad_form::Quad;
@@ -63,7 +62,7 @@ fn literal_rosenberg<P: Held>(alloc: Global, problem: P) -> Result<FiguredQuad, 
 }
 
 /// What a problem within the limits contributes, multiplied out as it comes.
-fn multilinear_terms(alloc: Global, problem: &Problem) -> Result<DirectTerms, NoMemory>
+pub(crate) fn multilinear_terms(alloc: Global, problem: &Problem) -> Result<DirectTerms, NoMemory>
     requires { multilinear.Admits problem.now }
     ensures { IfOk result (AreHeld (multilinear.multiplied (additions_of problem.now))) }
 {
@@ -95,19 +94,25 @@ fn multilinear_monomial<P: Held>(alloc: Global, problem: P) -> Result<FiguredQua
     })
 }
 
-/// Over variables alone, pairs replaced one after another: without the table of quadratic terms.
+/// Over variables alone, pairs replaced one after another: at once, without the tables between. The
+/// problem is let go as soon as its terms are gathered.
 fn multilinear_rosenberg<P: Held>(alloc: Global, problem: P) -> Result<FiguredQuad, NoMemory>
     requires { limit_fault normals.Multilinear (P.problem problem) ≡ None }
     ensures image { IfOk result (λ made.
         made.quad ≡ quad_by normals.Multilinear highs.Rosenberg (P.problem problem)) }
     ensures stands { IfOk result (λ made. IsFormed (P.problem problem) made.quad made.figures) }
 {
-    // a problem that is read is in normal form
-    let _problem = problem.problem();
-    let made = quadratic_of(alloc, &MultilinearForm, problem)?;
+    let source = problem.problem();
+    let terms = multilinear_terms(alloc, source)?;
+    let figures = Figures {
+        scale: 1,
+        offset: 0,
+        threshold: source.upper(),
+    };
+    drop(problem);
     Ok(FiguredQuad {
-        quad: made.quad,
-        figures: made.figures,
+        quad: quad_by_pairs_of(alloc, terms)?,
+        figures,
     })
 }
 

@@ -18,7 +18,6 @@ mod site;
 mod size_laws;
 mod spins;
 mod states;
-mod steps;
 mod written;
 
 pub use energy::energy_of;
@@ -31,4 +30,3 @@ pub use on_qubits::{form_on_qubits, model_on_qubits};
 pub use site::{Perch, Qubits, Site};
 pub use size_laws::laws_of_sizes;
 pub use states::extended_state;
-pub use steps::{Quadratic, quadratic_of};

@@ -6,7 +6,7 @@ use Rattle.literal_lists.specs.declared.literal.Literal.{Literal}
 use Rattle.term_table.specs.Terms.{Term}
 use Rattle.term_table.specs.Tables.{TableContent, with_appended, with_more}
 use Rattle.term_table.specs.MultipliedOut.{ArePlain, plain_terms, contributions}
-use Rattle.penalty_layer.specs.Rooms.{HasRoom, Fills}
+use Rattle.term_table.specs.Rooms.{HasRoomFor, Fills}
 use Rattle.normal_form.specs.Behind.{behind}
 use Rattle.normal_form.specs.Multilinear.{multiplied}
 use Rattle.normal_form.proofs.PlainSteps.{behind-nothing, last_terms}
@@ -23,7 +23,7 @@ plain_alone ls n c short none =
 
 -- where there is room for what terms are multiplied out to, there is for the first
 pub room-multiplied : {S : Type 0} (takes : S → List Term → Type 0) (s : S) (list ls : List Literal) (c : ℤ) (more : List Term)
-    → list ≡ [] → takes s (contributions ((ls, c) ∷ more)) → HasRoom takes s (behind list (plain_terms ls c))
+    → list ≡ [] → takes s (contributions ((ls, c) ∷ more)) → HasRoomFor takes s (behind list (plain_terms ls c))
 room-multiplied takes s list ls c more empty room =
     (contributions more, subst (λ ts. takes s (ts ++ contributions more)) (sym (behind-empty list (plain_terms ls c) empty)) room)
 
@@ -48,7 +48,7 @@ module _ {S : Type 0} (takes : S → List Term → Type 0) (holds : S → TableC
 -- a term without complements was gathered elsewhere
 module _ {S : Type 0} (takes : S → List Term → Type 0) (holds : S → TableContent → Type 0)
     (ls : List Literal) (n : ℕ) (c : ℤ) (short : length ls ≤ n) (none : ArePlain (take n ls)) where
-  pub room-alone : (s : S) (more : List Term) → takes s (contributions ((ls, c) ∷ more)) → HasRoom takes s ((ls, c) ∷ [])
+  pub room-alone : (s : S) (more : List Term) → takes s (contributions ((ls, c) ∷ more)) → HasRoomFor takes s ((ls, c) ∷ [])
   room-alone s more room =
       (contributions more, subst (λ ts. takes s (ts ++ contributions more)) (plain_alone ls n c short none) room)
 

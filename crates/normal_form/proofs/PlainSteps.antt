@@ -16,7 +16,7 @@ use Rattle.term_table.proofs.Additions.{terms_total-append, terms_total-cons}
 use Rattle.term_table.proofs.KeptTerms.{OfSet}
 use Rattle.term_table.proofs.Loops.{with_more-append}
 use Rattle.term_table.proofs.PlainSums.{terms_total-plain_terms}
-use Rattle.penalty_layer.specs.Rooms.{HasRoom}
+use Rattle.term_table.specs.Rooms.{HasRoomFor}
 use Rattle.normal_form.specs.Behind.{behind}
 
 -- ---- terms behind literals
@@ -144,7 +144,7 @@ coefficient_small t fs ls c h =
 
 -- where terms are additions after others, there is room for them
 pub room-additions : (t : TableContent) (ts : List Term) → AreAdditions (with_more t ts)
-    → HasRoom (λ (s : TableContent) (us : List Term). AreAdditions (with_more s us)) t ts
+    → HasRoomFor (λ (s : TableContent) (us : List Term). AreAdditions (with_more s us)) t ts
 room-additions t ts fits = ([], subst (λ us. AreAdditions (with_more t us)) (sym (append-nil ts)) fits)
 
 all_before : (P : Term → Type 0) (ts us : List Term) → AllByRecursion P (ts ++ us)

@@ -1,14 +1,14 @@
 //! Terms that are multiplied out as they come.
 ghost use Rattle.std.specs.Prelude.{◌≡◌, ◌≤◌, ◌^◌, OnOk, unsigned_abs};
 ghost use Rattle.term_table.specs.MultipliedOut.{plain_terms};
-ghost use Rattle.penalty_layer.specs.Rooms.{Fills, HasRoom};
+ghost use Rattle.term_table.specs.Rooms.{Fills, HasRoomFor};
 ghost use Rattle.normal_form.specs.Behind.{behind};
 
 use crate::multiplied::{first_complement, negated, plain};
 use base::NoMemory;
 use literal_lists::Literal;
-use penalty_layer::Gather;
 use std::alloc::Global;
+use term_table::Gather;
 
 /// Gathers what a term is multiplied out to whose first literals, without complements, stand in the
 /// list already. The list ends as it began.
@@ -18,7 +18,7 @@ pub(crate) fn gather_plain_terms<T: Gather>(
     literals: &[Literal],
     coefficient: &i128,
 ) -> Result<(), NoMemory>
-    requires room { HasRoom T.takes terms.old
+    requires room { HasRoomFor T.takes terms.old
         (behind list.old.items (plain_terms literals.now coefficient.now)) }
     requires small { unsigned_abs coefficient.now ≤ 2 ^ 124 }
     ensures gathered { OnOk result (Fills T.takes T.holds terms.old terms.new

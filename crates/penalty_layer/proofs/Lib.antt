@@ -5,9 +5,7 @@ pub mod Sizes
 pub mod Sets
 pub mod Admitted
 pub mod Gathering
-pub mod Filling
 pub mod SlackSteps
 pub mod WholeSquares
 pub mod SquareSteps
 pub mod RoomForTerms
-pub mod Filled

@@ -1,50 +1,14 @@
--- Where terms are kept as they come, there is room for those with which they are additions.
-use Rattle.std.proofs.Common.{◌≡◌, ℕ, ◌+◌, ◌≤◌, ◌^◌, unsigned_abs, ℤ, List, [], ◌∷◌, ◌++◌, All, get_or, length, subst, sym, ap, append_assoc, arith}
-use Rattle.std.specs.List.{AllByRecursion}
-use Rattle.std.proofs.lemmas.List.Elements.{recursion_from_All}
-use Rattle.literal_lists.specs.declared.literal.Literal.{Literal}
+-- There is room in a table for what a problem contributes.
+use Rattle.std.proofs.Common.{◌≡◌, List, [], arith}
 use Rattle.problem_form.specs.Problems.{ProblemContent}
-use Rattle.term_table.specs.Terms.{Term, terms_total, IsTermSet}
-use Rattle.term_table.specs.Tables.{TableContent, AreAdditions, with_appended, with_more}
-use Rattle.term_table.proofs.Additions.{terms_total-append, terms_total-cons}
-use Rattle.term_table.proofs.KeptTerms.{OfSet}
-use Rattle.std.proofs.lemmas.List.{append-nil}
-use Rattle.penalty_layer.specs.Rooms.{HasRoom}
+use Rattle.term_table.specs.Rooms.{HasRoomFor}
+use Rattle.term_table.specs.Terms.{Term}
+use Rattle.term_table.specs.Tables.{TableContent, AreAdditions, with_more}
+use Rattle.term_table.proofs.RoomForTerms.{room-additions}
 use Rattle.penalty_layer.specs.Penalty.{Admits, contributions, node_count}
 use Rattle.penalty_layer.proofs.Bounds.{within_limits}
 use Rattle.penalty_layer.proofs.Sets.{contribution_sets}
 use Rattle.penalty_layer.proofs.Sums.{contributions-total}
-
--- the first of those after others
-pub first_after : (P : Term → Type 0) (ts : List Term) (u : Term) (us : List Term)
-    → AllByRecursion P (ts ++ u ∷ us) → P u
-first_after P [] u us all = all.0
-first_after P (t ∷ ts) u us all = first_after P ts u us all.1
-
-module _ (t : TableContent) (ls : List Literal) (c : ℤ) (more : List Term)
-    (fits : AreAdditions (with_more t ((ls, c) ∷ more))) where
-  -- the next one is over the variables
-  pub next_set : IsTermSet t.width ls
-  next_set =
-      let P = OfSet (IsTermSet t.width) in
-      first_after P t.terms (ls, c) more (recursion_from_All P (t.terms ++ (ls, c) ∷ more) fits.sets)
-
-  -- it is small
-  pub next_small : terms_total t.terms + unsigned_abs c ≤ 2 ^ 124
-  next_small =
-      omega (
-        arith,
-        fits.small,
-        terms_total-append t.terms ((ls, c) ∷ more),
-        terms_total-cons (ls, c) more,
-      )
-
-  -- and after it there is room for the others
-  pub next_room : (new : TableContent) → new ≡ with_appended t ls c → AreAdditions (with_more new more)
-  next_room new made =
-      subst (λ (s : TableContent). AreAdditions (with_more s more)) (sym made)
-      (subst (λ (ts : List Term). AreAdditions (record t { terms = ts }))
-      (sym (append_assoc t.terms ((ls, c) ∷ []) more)) fits)
 
 -- what a problem contributes are additions
 pub AreAdditions-contributions : (p : ProblemContent) → Admits p
@@ -57,10 +21,6 @@ AreAdditions-contributions p admitted = record {
 -- there is room for them in an empty table
 pub room-contributions : (p : ProblemContent) (t : TableContent) → Admits p
     → t ≡ record { width = node_count p; terms = [] }
-    → HasRoom (λ (s : TableContent) (ts : List Term). AreAdditions (with_more s ts)) t (contributions p)
-room-contributions p t admitted made = (
-  [],
-  subst (λ (s : TableContent). AreAdditions (with_more s (contributions p ++ []))) (sym made)
-      (subst (λ (ts : List Term). AreAdditions (record { width = node_count p; terms = ts }))
-      (sym (append-nil (contributions p))) (AreAdditions-contributions p admitted)),
-)
+    → HasRoomFor (λ (s : TableContent) (ts : List Term). AreAdditions (with_more s ts)) t (contributions p)
+room-contributions p t admitted made =
+    room-additions (node_count p) (contributions p) t (AreAdditions-contributions p admitted) made

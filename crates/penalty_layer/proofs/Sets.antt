@@ -14,7 +14,7 @@ use Rattle.term_table.specs.Products.{scaled, products_with, IsFactor}
 use Rattle.term_table.proofs.KeptTerms.{OfSet}
 use Rattle.term_table.proofs.SmallSets.{IsTermSet-none, IsTermSet-one, IsTermSet-wider}
 use Rattle.term_table.proofs.TermProducts.{AreFactors, factor_set, products_with-sets}
-use Rattle.penalty_layer.specs.Rooms.{IsSet}
+use Rattle.penalty_layer.specs.Sets.{IsSet}
 use Rattle.penalty_layer.specs.Penalty.{opposite, clause_term, plain_terms, contributions, node_count, Admits}
 use Rattle.penalty_layer.specs.Slack.{slack_weights}
 use Rattle.penalty_layer.specs.Squares.{product_term, square_terms, node, slack_terms, slack_form, constraint_terms}

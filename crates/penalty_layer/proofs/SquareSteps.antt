@@ -12,7 +12,7 @@ use Rattle.term_table.specs.Terms.{Term, terms_total}
 use Rattle.term_table.specs.Products.{scaled, union_terms, product_terms, products_with}
 use Rattle.term_table.proofs.Additions.{terms_total-cons}
 use Rattle.term_table.proofs.PairUnions.{union_apart}
-use Rattle.penalty_layer.specs.Rooms.{IsSet}
+use Rattle.penalty_layer.specs.Sets.{IsSet}
 use Rattle.penalty_layer.specs.Squares.{square_terms}
 use Rattle.penalty_layer.proofs.Sums.{square_is}
 

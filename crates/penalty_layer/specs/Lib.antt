@@ -4,5 +4,5 @@ pub mod Stated
 pub mod Penalty
 pub mod Weights
 pub mod Gathered
-pub mod Rooms
+pub mod Sets
 pub mod laws

@@ -1,6 +1,6 @@
 //! What each part of a problem contributes to the sums.
 ghost use Rattle.std.specs.Prelude.{◌≡◌, ◌≤◌, ◌^◌, [], pos, map, OnOk, unwrap_or};
-ghost use Rattle.penalty_layer.specs.Rooms.{Fills, HasRoom};
+ghost use Rattle.term_table.specs.Rooms.{Fills, HasRoomFor};
 ghost use Rattle.penalty_layer.specs.Penalty.{
   opposite,
   clause_term,
@@ -11,11 +11,11 @@ ghost use Rattle.penalty_layer.specs.Penalty.{
 ghost use Rattle.penalty_layer.specs.Squares.{product_term};
 
 use crate::constraints::add_constraints;
-use crate::gather::Gather;
 use base::NoMemory;
 use literal_lists::{Literal, Literals};
 use problem_form::{ClauseList, ClauseRef, Problem, ProductList, ProductRef};
 use std::alloc::Global;
+use term_table::Gather;
 
 /// Adds the products with their coefficients.
 fn add_products<T: Gather>(
@@ -23,7 +23,7 @@ fn add_products<T: Gather>(
     terms: &mut T,
     products: &ProductList,
 ) -> Result<(), NoMemory>
-    requires { HasRoom T.takes terms.old (map product_term products.now) }
+    requires { HasRoomFor T.takes terms.old (map product_term products.now) }
     ensures { OnOk result (Fills T.takes T.holds terms.old terms.new
         (map product_term products.now)) }
 {
@@ -78,7 +78,7 @@ fn add_clauses<T: Gather>(
     clauses: &ClauseList,
     penalty: u128,
 ) -> Result<(), NoMemory>
-    requires room { HasRoom T.takes terms.old (map (clause_term penalty) clauses.now) }
+    requires room { HasRoomFor T.takes terms.old (map (clause_term penalty) clauses.now) }
     requires penalty { penalty ≤ 2 ^ 100 }
     ensures { OnOk result (Fills T.takes T.holds terms.old terms.new
         (map (clause_term penalty) clauses.now)) }
@@ -100,7 +100,7 @@ pub fn add_contributions<T: Gather>(
     problem: &Problem,
 ) -> Result<(), NoMemory>
     requires admits { Admits problem.now }
-    requires room { HasRoom T.takes terms.old (contributions problem.now) }
+    requires room { HasRoomFor T.takes terms.old (contributions problem.now) }
     requires empty { T.holds terms.old (record { width = node_count problem.now; terms = [] }) }
     ensures { OnOk result (T.holds terms.new
         (record { width = node_count problem.now; terms = contributions problem.now })) }

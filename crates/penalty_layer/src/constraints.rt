@@ -3,17 +3,18 @@ ghost use Rattle.std.specs.Prelude.{◌≡◌, ◌+◌, ◌*◌, ◌<◌, ◌≤
 ghost use Rattle.std.specs.List.{sum_by};
 ghost use Rattle.problem_form.specs.Problems.{constraint_total};
 ghost use Rattle.problem_form.specs.Limits.{reach, slack_bits};
-ghost use Rattle.penalty_layer.specs.Rooms.{Fills, HasRoom, IsSet};
+ghost use Rattle.term_table.specs.Rooms.{Fills, HasRoomFor};
+ghost use Rattle.penalty_layer.specs.Sets.{IsSet};
 ghost use Rattle.penalty_layer.specs.Penalty.{node_count, Admits};
 ghost use Rattle.penalty_layer.specs.Squares.{constraint_terms};
 
-use crate::gather::Gather;
 use crate::parts::Parts;
 use crate::slack::slack_bits_of;
 use crate::squares::add_square;
 use base::NoMemory;
 use problem_form::{ConstraintList, Problem};
 use std::alloc::Global;
+use term_table::Gather;
 
 /// The nodes of a problem's image: its variables, and the slack bits of its constraints.
 pub fn node_count(problem: &Problem) -> usize
@@ -42,7 +43,7 @@ pub(crate) fn add_constraints<T: Gather>(
     requires totals { sum_by constraint_total constraints.now < 2 ^ 100 }
     requires factor { factor ≤ 2 ^ 100 }
     requires small { sum_by (λ k. factor * reach k ^ 2) constraints.now ≤ 2 ^ 97 }
-    requires room { HasRoom T.takes terms.old (constraint_terms factor first constraints.now) }
+    requires room { HasRoomFor T.takes terms.old (constraint_terms factor first constraints.now) }
     ensures { OnOk result (Fills T.takes T.holds terms.old terms.new
         (constraint_terms factor first constraints.now)) }
 {

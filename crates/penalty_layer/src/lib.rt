@@ -3,7 +3,6 @@
 
 mod adding;
 mod constraints;
-mod gather;
 mod laws;
 mod parts;
 mod penalty;
@@ -12,6 +11,5 @@ mod squares;
 
 pub use adding::add_contributions;
 pub use constraints::node_count;
-pub use gather::Gather;
 pub use laws::laws_of_squares;
 pub use penalty::Penalty;

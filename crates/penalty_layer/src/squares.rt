@@ -2,14 +2,14 @@
 ghost use Rattle.std.specs.Prelude.{◌≡◌, ◌*◌, ◌≤◌, ◌^◌, ◌*ℤ◌, ◌∷◌, [], All, drop, length, pos, unsigned_abs, OnOk};
 ghost use Rattle.term_table.specs.Terms.{terms_total};
 ghost use Rattle.term_table.specs.Products.{products_with, union_terms};
-ghost use Rattle.penalty_layer.specs.Rooms.{Fills, HasRoom, IsSet};
+ghost use Rattle.term_table.specs.Rooms.{Fills, HasRoomFor};
+ghost use Rattle.penalty_layer.specs.Sets.{IsSet};
 ghost use Rattle.penalty_layer.specs.Squares.{square_terms};
 
-use crate::gather::Gather;
 use crate::parts::Parts;
 use base::NoMemory;
 use literal_lists::{Literal, clashes};
-use term_table::unite;
+use term_table::{Gather, unite};
 
 #[inline(always)]
 fn times(a: &i128, b: &i128) -> i128
@@ -45,7 +45,7 @@ fn add_pair<T: Gather>(
     k: Literal,
     coefficient: i128,
 ) -> Result<(), NoMemory>
-    requires { HasRoom T.takes terms.old (union_terms (l ∷ []) (k ∷ []) coefficient) }
+    requires { HasRoomFor T.takes terms.old (union_terms (l ∷ []) (k ∷ []) coefficient) }
     ensures { OnOk result (Fills T.takes T.holds terms.old terms.new
         (union_terms (l ∷ []) (k ∷ []) coefficient)) }
 {
@@ -71,7 +71,7 @@ fn add_union<T: Gather>(
 ) -> Result<(), NoMemory>
     requires left { IsSet ls.now }
     requires right { IsSet ks.now }
-    requires room { HasRoom T.takes terms.old (union_terms ls.now ks.now coefficient) }
+    requires room { HasRoomFor T.takes terms.old (union_terms ls.now ks.now coefficient) }
     ensures { OnOk result (Fills T.takes T.holds terms.old terms.new
         (union_terms ls.now ks.now coefficient)) }
 {
@@ -104,7 +104,7 @@ fn add_row<T: Gather>(
     requires parts { All (λ t. IsSet t.0) parts.now }
     requires start { start ≤ length parts.now }
     requires small { unsigned_abs coefficient.now * terms_total (drop start parts.now) ≤ 2 ^ 97 }
-    requires room { HasRoom T.takes terms.old
+    requires room { HasRoomFor T.takes terms.old
         (products_with (ls.now, coefficient.now) (drop start parts.now)) }
     ensures { OnOk result (Fills T.takes T.holds terms.old terms.new
         (products_with (ls.now, coefficient.now) (drop start parts.now))) }
@@ -126,7 +126,7 @@ pub(crate) fn add_square<T: Gather>(
     requires parts { All (λ t. IsSet t.0) parts.now }
     requires factor { factor ≤ 2 ^ 100 }
     requires small { factor * terms_total parts.now ^ 2 ≤ 2 ^ 97 }
-    requires room { HasRoom T.takes terms.old (square_terms factor parts.now) }
+    requires room { HasRoomFor T.takes terms.old (square_terms factor parts.now) }
     ensures { OnOk result (Fills T.takes T.holds terms.old terms.new
         (square_terms factor parts.now)) }
 {

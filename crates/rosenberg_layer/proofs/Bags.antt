@@ -2,7 +2,7 @@
 --
 -- Two lists have the same terms where each number of a term has the same sum over both. So filters
 -- and maps of the one and of the other have the same terms too.
-use Rattle.std.proofs.Common.{◌≡◌, ◌≢◌, ℕ, suc, ◌+◌, ◌≤◌, Bool, true, false, not, ◌||◌, cond, arith, refl, sym, ap, ◌∙◌, subst, List, [], ◌∷◌, ◌++◌, length, map, ℤ, pos, negsuc, ◌+ℤ◌, neg_ℤ, Some, None, ◌^◌, sum_by, unsigned_abs}
+use Rattle.std.proofs.Common.{◌≡◌, ◌≢◌, ℕ, suc, ◌+◌, ◌≤◌, Bool, true, false, not, ◌||◌, cond, arith, refl, sym, ap, ◌∙◌, subst, List, [], ◌∷◌, ◌++◌, map, ℤ, pos, negsuc, ◌+ℤ◌, neg_ℤ, Some, None, ◌^◌, sum_by, unsigned_abs}
 use Rattle.std.specs.Bool.{Decides}
 use Rattle.std.specs.List.{AllByRecursion, filter}
 use Rattle.std.specs.List.Sorted.{IsPermutation, IsStrictlySortedBy}
@@ -11,9 +11,9 @@ use Rattle.std.specs.declared.cmp.Ordering.{Ordering}
 use Rattle.std.specs.declared.cmp.Ordering.TheVariants.{Less, Equal, Greater}
 use Rattle.std.proofs.lemmas.Bool.Decides.{Decides-int_eq}
 use Rattle.std.proofs.lemmas.Int.{ints}
-use Rattle.std.proofs.lemmas.List.{append_assoc, append-nil}
+use Rattle.std.proofs.lemmas.List.{append-nil}
 use Rattle.std.proofs.lemmas.List.Elements.{All-from_recursion, recursion_from_All, filter-append}
-use Rattle.std.proofs.lemmas.List.Sorted.{All-permutation, sum_by-IsPermutation, IsPermutation-append_right}
+use Rattle.std.proofs.lemmas.List.Sorted.{All-permutation, sum_by-IsPermutation}
 use Rattle.std.proofs.lemmas.List.Sums.{sum_by-append, sum_by-cons}
 use Rattle.base.specs.Sums.{total_by}
 use Rattle.literal_lists.specs.declared.literal.Literal.{Literal}
@@ -24,10 +24,10 @@ use Rattle.term_table.proofs.SetOrder.{same_set}
 use Rattle.term_table.proofs.Steps.{with_additions-append}
 use Rattle.rosenberg_layer.specs.Rosenberg.{node, Pair, is_long, new_term, tie_terms, with_pair, front_pair, next_pair}
 use Rattle.rosenberg_layer.specs.laws.Sets.{has_own_pair, found_in, pair_differs, new_terms-sets}
-use Rattle.rosenberg_layer.specs.Steps.{begins, first_begins, front_term, is_short, pair_cmp, pair_of, Begin, Follow, IsStep, IsTaken}
+use Rattle.rosenberg_layer.specs.Steps.{begins, first_begins, front_term, is_short, pair_cmp, pair_of, Begin, Follow, IsStep}
 use Rattle.rosenberg_layer.specs.Parts.{weights, weight_of, AllLong, AreParts, NoneLong}
 use Rattle.rosenberg_layer.proofs.PairTerms.{begins-is, new_terms-split, AsBegins, NoneBegin}
-use Rattle.rosenberg_layer.proofs.GoBack.{all-append, all-left, all-right, back_left, can_go_back, filter-first, high-long, CanGoBack}
+use Rattle.rosenberg_layer.proofs.GoBack.{all-append, all-left, all-right, back_left, can_go_back, filter-first, CanGoBack}
 use Rattle.rosenberg_layer.proofs.Parts.{all-filtered, filter-all, filter-none, filter-yes, long-is, long-sets, parts-start, parts-step, short-none_long, wider-all, IsSortedStep}
 use Rattle.rosenberg_layer.proofs.PairOrder.{all-follow, pair-begins, pair_itself}
 

@@ -1,18 +1,16 @@
 -- The end of the run: the additions of lower degree give the image, and the pairs are those of the
 -- image.
-use Rattle.std.proofs.Common.{◌≡◌, ℕ, zero, suc, ◌+◌, ◌*◌, ◌^◌, ◌≤◌, arith, sym, ap, ◌∙◌, subst, List, [], ◌++◌, length, Option, Some, None}
-use Rattle.std.specs.List.{AllByRecursion}
-use Rattle.std.proofs.lemmas.List.Elements.{recursion_from_All}
+use Rattle.std.proofs.Common.{◌≡◌, ℕ, zero, suc, ◌+◌, ◌*◌, ◌^◌, ◌≤◌, arith, sym, ap, ◌∙◌, subst, List, [], length, Option, Some, None}
+use Rattle.std.specs.Prelude.{All}
+use Rattle.std.proofs.lemmas.List.Elements.{All-from_recursion, recursion_from_All}
 use Rattle.term_table.specs.Terms.{Term, terms_total, with_additions, IsTermSet}
-use Rattle.term_table.specs.Tables.{TableContent}
-use Rattle.term_table.proofs.Additions.{terms_total-append}
+use Rattle.term_table.specs.Tables.{AreAdditions, TableContent}
 use Rattle.term_table.proofs.KeptTerms.{OfSet}
 use Rattle.rosenberg_layer.specs.Rosenberg.{Pair, next_pair, with_pair, with_next, run, excess, image, pairs_of}
 use Rattle.rosenberg_layer.specs.laws.Sets.{IsSound}
 use Rattle.rosenberg_layer.specs.Parts.{weights, AreParts}
 use Rattle.rosenberg_layer.proofs.Ends.{short-none, IsLow-image}
 use Rattle.rosenberg_layer.proofs.Growth.{total-weights, weights-table}
-use Rattle.rosenberg_layer.proofs.GoBack.{all-right}
 use Rattle.rosenberg_layer.proofs.Parts.{long-is, low-is}
 use Rattle.rosenberg_layer.proofs.Turns.{width-pairs, pairs-enough}
 
@@ -53,30 +51,22 @@ made-image t made adds long width k count bound sound number start pairs parts n
     omega (arith, width-pairs (excess t.terms) t, start, pairs, nodes) in
     new ∙ (λ i. record { width = width i; terms = terms i })
 
--- .. and they fit
-pub adds-fit : (t : TableContent) (base low long : List Term) (k : ℕ) → IsSound t
-    → AreParts (run k t) (base ++ low) long (weights t.terms)
-    → (terms_total t.terms + 1) * 2 ^ 15 ≤ 2 ^ 124
-    → terms_total base + terms_total low ≤ 2 ^ 124
-adds-fit t base low long k sound parts small =
-    let old = parts.small in
-    omega (
-      arith,
-      old,
-      small,
-      terms_total-append base low,
-      total-weights (base ++ low),
-      weights-table t sound,
-    )
-
-pub adds-sets : (t : TableContent) (base low long : List Term) (width k count bound : ℕ)
+-- .. and can be added
+pub adds-fit : (t : TableContent) (adds long : List Term) (width k count : ℕ) → IsSound t
     → width ≡ t.width → count ≡ length (pairs_of k t)
-    → AreParts (run k t) (base ++ low) long bound
-    → AllByRecursion (OfSet (IsTermSet (width + count))) low
-adds-sets t base low long width k count bound start pairs parts =
+    → AreParts (run k t) adds long (weights t.terms)
+    → (terms_total t.terms + 1) * 2 ^ 15 ≤ 2 ^ 124
+    → AreAdditions (record { width = width + count; terms = adds })
+adds-fit t adds long width k count sound start pairs parts small =
+    let old = parts.small in
     let number : (run k t).width ≡ width + count = omega (arith, width-pairs k t, start, pairs) in
-    subst (λ n. AllByRecursion (OfSet (IsTermSet n)) low) number
-    (all-right (OfSet (IsTermSet (run k t).width)) base low parts.sets)
+    let Set : ℕ → Term → Type 0 = λ n. OfSet (IsTermSet n) in
+    record {
+      sets =
+          subst (λ n. All (Set n) adds) number
+          (All-from_recursion (Set (run k t).width) adds parts.sets);
+      small = omega (arith, old, small, total-weights adds, weights-table t sound);
+    }
 
 -- as many turns as there are new nodes give all pairs
 pub all-pairs : (t : TableContent) (k : ℕ) → (image t).width ≡ t.width + k

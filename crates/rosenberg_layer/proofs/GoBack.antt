@@ -1,12 +1,11 @@
 -- Terms that began with the pair go back without it: their new sets differ, and are not there yet.
-use Rattle.std.proofs.Common.{◌≡◌, ◌≢◌, ℕ, zero, suc, ◌+◌, ◌<◌, ◌≤◌, Bool, true, false, cond, arith, refl, sym, ap, ◌∙◌, subst, List, [], ◌∷◌, ◌++◌, length, map, drop, get_or, pos}
+use Rattle.std.proofs.Common.{◌≡◌, ◌≢◌, ℕ, ◌<◌, ◌≤◌, Bool, true, false, cond, arith, refl, sym, ap, ◌∙◌, subst, List, [], ◌∷◌, ◌++◌, length, drop, get_or, pos}
 use Rattle.std.specs.Prelude.{All, ⊤}
 use Rattle.std.specs.List.{AllByRecursion, filter}
 use Rattle.std.specs.List.Sorted.{IsStrictlySortedBy}
 use Rattle.std.specs.declared.cmp.Ordering.TheVariants.{Less, Equal}
-use Rattle.std.proofs.Math.Seq.{drop-nil}
 use Rattle.std.proofs.lemmas.Bool.Decides.{nat_tests}
-use Rattle.std.proofs.lemmas.List.{length-append, drop-append-le, append_assoc}
+use Rattle.std.proofs.lemmas.List.{length-append}
 use Rattle.std.proofs.lemmas.List.Elements.{All-from_recursion, recursion_from_All, filter-append}
 use Rattle.literal_lists.specs.declared.literal.Literal.{Literal}
 use Rattle.term_table.specs.Terms.{Term, set_cmp, with_additions, Ascends, IsTermSet}
@@ -15,7 +14,7 @@ use Rattle.term_table.proofs.SetOrder.{set_itself}
 use Rattle.rosenberg_layer.specs.Rosenberg.{node, Pair, is_long}
 use Rattle.rosenberg_layer.specs.laws.Sets.{Within}
 use Rattle.rosenberg_layer.proofs.PairTerms.{begins-is, AreLong}
-use Rattle.rosenberg_layer.specs.Steps.{begins, front_term, is_short, Begin}
+use Rattle.rosenberg_layer.specs.Steps.{begins, front_term, Begin}
 
 -- without their first two literals the sets are still different
 abbrev pub AreApart : List Term → Type 0

@@ -1,19 +1,18 @@
 -- Runs on the terms of degree 3 or more alone: they are the same for each table with these terms.
-use Rattle.std.proofs.Common.{◌≡◌, ◌≢◌, ℕ, pos, zero, suc, ◌+◌, ◌*◌, ◌≤◌, ◌<◌, ◌^◌, Bool, true, false, cond, arith, refl, sym, ap, ◌∙◌, subst, List, [], ◌∷◌, ◌++◌, length, drop, unsigned_abs}
+use Rattle.std.proofs.Common.{◌≡◌, ◌≢◌, ℕ, pos, ◌+◌, ◌*◌, ◌≤◌, ◌<◌, ◌^◌, Bool, true, false, cond, arith, refl, sym, ap, ◌∙◌, subst, List, [], ◌∷◌, ◌++◌, length, unsigned_abs}
 use Rattle.std.specs.Prelude.{All, Some, None, Option, IfOk, Result, Ok, Err}
-use Rattle.std.specs.List.{AllByRecursion, filter}
+use Rattle.std.specs.List.{filter}
 use Rattle.std.proofs.lemmas.List.{append_assoc, length-append}
 use Rattle.std.proofs.lemmas.List.Filters.{length-filter_both}
 use Rattle.std.proofs.lemmas.List.Elements.{All-filter, All-from_recursion, All-weaker, filter-append, recursion_from_All}
 use Rattle.literal_lists.specs.declared.literal.Literal.{Literal}
-use Rattle.term_table.specs.Terms.{Term, terms_size, terms_total, IsTermSet}
+use Rattle.term_table.specs.Terms.{Term, terms_size, IsTermSet}
 use Rattle.term_table.specs.Tables.{IsTable, TableContent, table_size}
 use Rattle.term_table.proofs.Additions.{terms_size-cons}
 use Rattle.term_table.proofs.KeptTerms.{OfSet}
-use Rattle.rosenberg_layer.specs.Rosenberg.{excess, is_long, Pair, next_before, pairs_of, run, substituted, with_next}
+use Rattle.rosenberg_layer.specs.Rosenberg.{excess, is_long, Pair, run}
 use Rattle.rosenberg_layer.specs.Steps.{is_short}
 use Rattle.rosenberg_layer.specs.Parts.{weights, IsTurn}
-use Rattle.rosenberg_layer.specs.Waiting.{first_pair}
 use Rattle.rosenberg_layer.proofs.Bags.{held-start}
 use Rattle.rosenberg_layer.proofs.Parts.{filter-all, filter-ascends, filter-yes}
 use Rattle.rosenberg_layer.proofs.PartlyTerms.{sum-filter_le}
@@ -106,14 +105,6 @@ pub turn_made : (o : Option Pair) (n : ℕ) (long low : List Term) (pairs : List
 turn_made None n long low pairs ms long' low' pairs' ms' turned = omega (arith, ap length turned.3)
 turn_made (Some pair) n long low pairs ms long' low' pairs' ms' turned =
     omega (arith, ap length turned.2, length-append pairs (pair ∷ []))
-
--- where there is a pair, there is a key
-pub some_left : (ts : List Term) (keys : List ℕ) (at : ℕ) (pair : Pair)
-    → first_pair ts (drop at keys) ≡ Some pair → at < length keys
-some_left ts [] zero pair e = absurd cc
-some_left ts [] (suc at) pair e = absurd cc
-some_left ts (k ∷ keys) zero pair e = omega arith
-some_left ts (k ∷ keys) (suc at) pair e = omega (arith, some_left ts keys at pair e)
 
 -- a bound on the terms of degree 3 or more is one on all
 pub fewer : (ts long : List Term) (n : ℕ) → long ≡ filter is_long ts → n ≤ length long

@@ -1,30 +1,21 @@
 -- The order of pairs, and the pairs that terms in order begin with.
-use Rattle.std.proofs.Common.{◌≡◌, ◌≢◌, ◌⊎◌, inl, inr, ◌≤◌, Bool, true, false, cond, arith, refl, sym, ap, ◌∙◌, subst, List, [], ◌∷◌, ◌++◌, length, map, Option, Some, None}
-use Rattle.std.specs.List.{AllByRecursion, filter}
-use Rattle.std.specs.List.Sorted.{IsPermutation, IsStrictlySortedBy}
-use Rattle.std.specs.Map.{keys_of, lookup, set_value}
-use Rattle.std.specs.BTreeMap.{is_at, insert_entry}
-use Rattle.std.specs.Option.{unwrap_or}
-use Rattle.std.specs.Ordering.{is_eq, is_lt, ordering_then, ordering_reverse, match_ordering}
-use Rattle.std.specs.Global.{Vec}
+use Rattle.std.proofs.Common.{◌≡◌, ◌⊎◌, inl, inr, ◌≤◌, true, arith, refl, sym, ap, subst, List, [], ◌∷◌, length}
+use Rattle.std.specs.Ordering.{is_eq, ordering_then}
 use Rattle.std.specs.Cmp.{IsTotalOrder, on_total, then_total}
 use Rattle.std.specs.declared.cmp.Ordering.{Ordering}
 use Rattle.std.specs.declared.cmp.Ordering.TheVariants.{Less, Equal, Greater}
 use Rattle.std.proofs.lemmas.Bool.Decides.{nat_tests}
 use Rattle.std.proofs.lemmas.Cmp.{tied_itself}
-use Rattle.std.proofs.lemmas.List.{append_assoc}
-use Rattle.std.proofs.lemmas.List.Sorted.{IsPermutation-trans, IsPermutation-append_left, IsPermutation-append_right, IsPermutation-append_comm, IsPermutation-to_front}
 use Rattle.literal_lists.specs.declared.literal.Literal.{Literal}
 use Rattle.literal_lists.specs.Literals.{literal_cmp}
 use Rattle.literal_lists.proofs.LiteralSets.{literal_total}
-use Rattle.term_table.specs.Terms.{Term, set_cmp, Ascends}
+use Rattle.term_table.specs.Terms.{Term, set_cmp}
 use Rattle.term_table.proofs.KeptTerms.{Under}
 use Rattle.rosenberg_layer.specs.Rosenberg.{Pair, is_long}
-use Rattle.rosenberg_layer.specs.Steps.{begins, first_begins, front_term, pair_cmp, pair_of, Begin, Follow, IsTaken}
+use Rattle.rosenberg_layer.specs.Steps.{begins, pair_cmp, pair_of, Follow}
 use Rattle.rosenberg_layer.specs.Parts.{AllLong}
 use Rattle.rosenberg_layer.specs.laws.Costs.{literal_same}
-use Rattle.rosenberg_layer.proofs.PairTerms.{begins-is, begins-own, Ascends-end}
-use Rattle.rosenberg_layer.proofs.GoBack.{all-append, all-left, all-right, filter-first}
+use Rattle.rosenberg_layer.proofs.PairTerms.{begins-is, begins-own}
 
 -- ---- the order of pairs
 

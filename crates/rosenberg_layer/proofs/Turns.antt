@@ -12,7 +12,6 @@ use Rattle.term_table.specs.Terms.{Term, set_size, terms_size}
 use Rattle.term_table.specs.Tables.{TableContent}
 use Rattle.term_table.proofs.Additions.{terms_size-cons}
 use Rattle.rosenberg_layer.specs.Rosenberg.{node, Pair, next_pair, tie_terms, with_pair, with_next, is_long, substituted, run, excess, next_before, pairs_of}
-use Rattle.rosenberg_layer.specs.laws.Kept.{width-run-le}
 use Rattle.rosenberg_layer.specs.Steps.{front_term, is_short, IsStep}
 use Rattle.rosenberg_layer.specs.Parts.{ties_of, AllLong, IsTurn}
 use Rattle.rosenberg_layer.proofs.Growth.{square_is}

@@ -6,3 +6,4 @@ pub mod Stated
 pub mod Rings
 pub mod Buckets
 pub mod Waiting
+pub mod Added

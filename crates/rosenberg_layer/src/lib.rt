@@ -13,9 +13,9 @@ mod rosenberg;
 mod run;
 mod waiting;
 
-pub use gather::node;
+pub use gather::add_moved;
 pub use laws::laws_of_substitutions;
 pub use long_terms::LongTerms;
 pub use low_set::LowSet;
 pub use rosenberg::{Rosenberg, push_products};
-pub use run::{Run, excess, run_of, run_of_long};
+pub use run::{Run, run_of_long};

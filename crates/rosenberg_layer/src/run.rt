@@ -46,7 +46,7 @@ pub struct Run {
 }
 
 /// The sum of d - 2 over the terms of a degree d of 3 or more.
-pub fn excess(table: &Table) -> usize
+pub(crate) fn excess(table: &Table) -> usize
     requires { terms_size table.now.content.terms ≤ 2 ^ 32 }
     ensures { result ≡ excess table.now.content.terms }
 {
@@ -178,7 +178,12 @@ fn long_terms(alloc: Global, table: &Table) -> Result<LongTerms, NoMemory>
 }
 
 /// What so many substitutions leave of lower degree, and their pairs.
-pub fn run_of(alloc: Global, table: &Table, width: usize, turns: usize) -> Result<Run, NoMemory>
+pub(crate) fn run_of(
+    alloc: Global,
+    table: &Table,
+    width: usize,
+    turns: usize,
+) -> Result<Run, NoMemory>
     requires width { width ≡ table.now.content.width }
     requires turns { turns ≤ excess table.now.content.terms }
     requires size { table_size table.now.content * 2 ^ 2 ≤ 2 ^ 32 }

@@ -1,4 +1,4 @@
-use Rattle.std.proofs.Common.{◌≡◌, ◌+◌, ◌*◌, ◌≤◌, ◌^◌, ◌∙◌, [], List, ap, arith, length, map, subst, sym}
+use Rattle.std.proofs.Common.{◌≡◌, ◌+◌, ◌*◌, ◌≤◌, ◌^◌, ◌∙◌, [], List, ap, arith, length, map, refl, subst, sym}
 use Rattle.std.specs.Prelude.{All}
 use Rattle.std.proofs.lemmas.Result.{IfOk-weaker}
 use Rattle.problem_form.specs.declared.terms.Product.{Product}
@@ -7,7 +7,7 @@ use Rattle.term_table.specs.Tables.{TableContent, AreAdditions, table_size}
 use Rattle.direct_quad.specs.Parts.{short_part, table_of}
 use Rattle.direct_quad.specs.Long.{product_term, terms_of}
 use Rattle.direct_quad.specs.Held.{HeldContent, AreHeld}
-use Rattle.direct_rosenberg.specs.ByPairs.{HasRoom, IsRunOf}
+use Rattle.direct_rosenberg.specs.ByPairs.{FitsByPairs, IsRunOf}
 use Rattle.direct_rosenberg.proofs.HeldRuns as runs
 use Rattle.direct_rosenberg.proofs.by_pairs.quad_by_pairs_of.Goals as goal
 
@@ -39,7 +39,7 @@ pub widened-requires-clause-narrow : goal.widened-requires-clause-narrow
 widened-requires-clause-narrow c =
     let t : TableContent = c.requires.held.0 in
     let h : HeldContent = c.args.terms in
-    let room : HasRoom t = c.requires.held.1 in
+    let room : FitsByPairs t = c.requires.held.1 in
     let held : AreHeld t h = c.requires.held.2 in
     let made = c.in_ok-made.made in
     let number : c.len.result ≡ length made.pairs.items = omega (arith, c.len.ensures) in
@@ -52,7 +52,7 @@ pub add_moved-requires-clause-each : goal.add_moved-requires-clause-each
 add_moved-requires-clause-each c =
     let t : TableContent = c.requires.held.0 in
     let h : HeldContent = c.args.terms in
-    let room : HasRoom t = c.requires.held.1 in
+    let room : FitsByPairs t = c.requires.held.1 in
     let held : AreHeld t h = c.requires.held.2 in
     let made = c.in_ok-made.made in
     let number : c.len.result ≡ length made.pairs.items = omega (arith, c.len.ensures) in
@@ -65,7 +65,7 @@ pub add_moved-requires-clause-narrow : goal.add_moved-requires-clause-narrow
 add_moved-requires-clause-narrow c =
     let t : TableContent = c.requires.held.0 in
     let h : HeldContent = c.args.terms in
-    let room : HasRoom t = c.requires.held.1 in
+    let room : FitsByPairs t = c.requires.held.1 in
     let held : AreHeld t h = c.requires.held.2 in
     let made = c.in_ok-made.made in
     let number : c.len.result ≡ length made.pairs.items = omega (arith, c.len.ensures) in
@@ -74,55 +74,40 @@ add_moved-requires-clause-narrow c =
     (runs.long-terms t h room held ∙ ap (λ (ps : List Product). with_additions [] (map product_term ps)) (sym c.apart-short.ensures.long)) in
     runs.next-narrow t h room held made left c.width-width.result c.len.result c.width-width.ensures number
 
-pub add_moved-requires-clause-sets : goal.add_moved-requires-clause-sets
-add_moved-requires-clause-sets c =
+pub add_moved-requires-clause-room : goal.add_moved-requires-clause-room
+add_moved-requires-clause-room c =
     let t : TableContent = c.requires.held.0 in
     let h : HeldContent = c.args.terms in
-    let room : HasRoom t = c.requires.held.1 in
+    let room : FitsByPairs t = c.requires.held.1 in
     let held : AreHeld t h = c.requires.held.2 in
     let made = c.in_ok-made.made in
     let number : c.len.result ≡ length made.pairs.items = omega (arith, c.len.ensures) in
     let left : IsRunOf (table_of t) made =
     c.in_ok-made.ensures (table_of t) (runs.kept t h room held) (sym (c.width-width.ensures ∙ held.width))
     (runs.long-terms t h room held ∙ ap (λ (ps : List Product). with_additions [] (map product_term ps)) (sym c.apart-short.ensures.long)) in
-    runs.sets-moved t h room held made left c.width-width.result c.len.result c.width-width.ensures number
-    (length c.in_ok-terms.terms.weights) c.in_ok-terms.ensures.width
+    runs.room-moved t h room held made left c.width-width.result c.len.result c.width-width.ensures number
+    c.in_ok-terms.terms (c.width-width.result + c.len.result) refl c.in_ok-terms.ensures.width
+    (c.in_ok-terms.ensures.held (short_part t) (runs.short-additions t room.additions) (c.apart-short.ensures.short t held))
+    (omega (arith, c.requires.few, ap length c.in_ok-terms.ensures.pairs, ap length c.apart-short.ensures.pairs))
 
 pub add_moved-requires-clause-small : goal.add_moved-requires-clause-small
 add_moved-requires-clause-small c =
     let t : TableContent = c.requires.held.0 in
     let h : HeldContent = c.args.terms in
-    let room : HasRoom t = c.requires.held.1 in
+    let room : FitsByPairs t = c.requires.held.1 in
     let held : AreHeld t h = c.requires.held.2 in
     let made = c.in_ok-made.made in
     let number : c.len.result ≡ length made.pairs.items = omega (arith, c.len.ensures) in
     let left : IsRunOf (table_of t) made =
     c.in_ok-made.ensures (table_of t) (runs.kept t h room held) (sym (c.width-width.ensures ∙ held.width))
     (runs.long-terms t h room held ∙ ap (λ (ps : List Product). with_additions [] (map product_term ps)) (sym c.apart-short.ensures.long)) in
-    runs.total-moved t h room held made left c.width-width.result c.len.result c.width-width.ensures number c.in_ok-terms.terms
-    (c.width-width.result + c.len.result)
-    (c.in_ok-terms.ensures.held (short_part t) (runs.short-additions t room.additions) (c.apart-short.ensures.short t held))
-
-pub add_moved-requires-clause-few : goal.add_moved-requires-clause-few
-add_moved-requires-clause-few c =
-    let t : TableContent = c.requires.held.0 in
-    let h : HeldContent = c.args.terms in
-    let room : HasRoom t = c.requires.held.1 in
-    let held : AreHeld t h = c.requires.held.2 in
-    let made = c.in_ok-made.made in
-    let number : c.len.result ≡ length made.pairs.items = omega (arith, c.len.ensures) in
-    let left : IsRunOf (table_of t) made =
-    c.in_ok-made.ensures (table_of t) (runs.kept t h room held) (sym (c.width-width.ensures ∙ held.width))
-    (runs.long-terms t h room held ∙ ap (λ (ps : List Product). with_additions [] (map product_term ps)) (sym c.apart-short.ensures.long)) in
-    runs.pairs-moved t h room held made left c.width-width.result c.len.result c.width-width.ensures number
-    (4 * length c.in_ok-terms.terms.pairs)
-    (omega (arith, c.requires.few, ap length c.in_ok-terms.ensures.pairs, ap length c.apart-short.ensures.pairs))
+    runs.small-moved t h room held made left c.width-width.result c.len.result c.width-width.ensures number
 
 pub into_quad-requires : goal.into_quad-requires
 into_quad-requires c =
     let t : TableContent = c.requires.held.0 in
     let h : HeldContent = c.args.terms in
-    let room : HasRoom t = c.requires.held.1 in
+    let room : FitsByPairs t = c.requires.held.1 in
     let held : AreHeld t h = c.requires.held.2 in
     let made = c.in_ok-made.made in
     let number : c.len.result ≡ length made.pairs.items = omega (arith, c.len.ensures) in

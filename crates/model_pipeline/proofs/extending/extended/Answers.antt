@@ -4,8 +4,9 @@ use Rattle.problem_form.specs.declared.limits.Normal.TheVariants.{Literal, Multi
 use Rattle.problem_form.specs.Problems.{IsNormal}
 use Rattle.problem_form.specs.Limits.{limit_fault}
 use Rattle.penalty_layer.specs.Penalty.{Admits}
+use Rattle.normal_form.specs.Multilinear as multilinear
 use Rattle.model_pipeline.specs.Models.{quad_by}
-use Rattle.model_pipeline.proofs.LeastStates.{if_ok-by_three, if_ok-by_four, least_at_once, least_by_literal_pairs, least_by_monomials, least_by_pairs}
+use Rattle.model_pipeline.proofs.LeastStates.{if_ok-by_three, least_at_once, least_by_literal_pairs, least_by_monomials, least_by_plain_pairs}
 use Rattle.model_pipeline.proofs.extending.extended.Goals as goal
 
 pub by_long_terms-requires-clause-admits : goal.by_long_terms-requires-clause-admits
@@ -31,8 +32,8 @@ by_monomials-requires-clause-admits c = record {
   within = ap (λ n. limit_fault n c.args.problem.now) (sym c.in-Multilinear.is) ∙ c.requires.within;
 }
 
-pub by_pairs-requires-clause-admits : goal.by_pairs-requires-clause-admits
-by_pairs-requires-clause-admits c = record {
+pub by_plain_pairs-requires-clause-admits : goal.by_plain_pairs-requires-clause-admits
+by_plain_pairs-requires-clause-admits c = record {
   normal = subst IsNormal c.problem.view_is c.problem.invariant.0;
   within = ap (λ n. limit_fault n c.args.problem.now) (sym c.in-Multilinear.is) ∙ c.requires.within;
 }
@@ -70,7 +71,12 @@ returns-in-Monomial-high-clause-least c =
 
 pub returns-in-Rosenberg-high-clause-least : goal.returns-in-Rosenberg-high-clause-least
 returns-in-Rosenberg-high-clause-least c =
-    let made = c.by_pairs.ensures in
-    if_ok-by_four c.by_pairs.result made.extension made.first made.second made.third
-    (λ y same first second third. least_by_pairs Multilinear c.args.choices.now c.args.problem.now
-    c.args.x.now y.items c.in-Multilinear.is c.in-Rosenberg-high.is c.requires.width same first second third)
+    let p = c.args.problem.now in
+    let admitted : multilinear.Admits p = record {
+      normal = subst IsNormal c.problem.view_is c.problem.invariant.0;
+      within = ap (λ n. limit_fault n p) (sym c.in-Multilinear.is) ∙ c.requires.within;
+    } in
+    IfOk-weaker c.by_plain_pairs.result _ _
+    (λ y same. least_by_plain_pairs c.args.choices.now p c.args.x.now y.items c.in-Multilinear.is
+    c.in-Rosenberg-high.is admitted c.requires.width same)
+    c.by_plain_pairs.ensures.extension

@@ -4,8 +4,8 @@ use Rattle.std.proofs.lemmas.Int.{ints, to_z-of_z}
 use Rattle.std.proofs.lemmas.List.{take_all, length-drop}
 use Rattle.literal_lists.specs.declared.literal.Literal.{Literal}
 use Rattle.term_table.specs.MultipliedOut.{plain, plain_terms}
-use Rattle.penalty_layer.specs.Rooms.{Fills}
-use Rattle.penalty_layer.proofs.Filling.{fills_as, fills_more, fills_same, room_as, room_first, room_next, room_same}
+use Rattle.term_table.specs.Rooms.{Fills}
+use Rattle.term_table.proofs.Filling.{fills_as, fills_more, fills_same, room_as, room_first, room_next, room_same}
 use Rattle.normal_form.specs.Behind.{behind}
 use Rattle.normal_form.proofs.PlainSteps.{last_terms, more_terms}
 use Rattle.normal_form.proofs.plain.+gather_plain_terms.Goals as goal

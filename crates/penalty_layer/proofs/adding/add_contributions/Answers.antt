@@ -6,12 +6,13 @@ use Rattle.problem_form.specs.Problems.{ProblemContent}
 use Rattle.problem_form.specs.Limits.{penalty, reach}
 use Rattle.problem_form.specs.declared.terms.Product.{Product}
 use Rattle.problem_form.specs.declared.terms.Constraint.{Constraint}
-use Rattle.penalty_layer.specs.Rooms.{Fills, HasRoom, IsSet}
+use Rattle.term_table.specs.Rooms.{Fills, HasRoomFor}
+use Rattle.penalty_layer.specs.Sets.{IsSet}
 use Rattle.penalty_layer.specs.Squares.{product_term, constraint_terms}
 use Rattle.penalty_layer.specs.Penalty.{clause_term, contributions, node_count}
 use Rattle.penalty_layer.proofs.Bounds.{within_limits, all_within}
 use Rattle.penalty_layer.proofs.Admitted.{nodes_within}
-use Rattle.penalty_layer.proofs.Filling.{fills_as, fills_same, room_as, room_first, room_next, room_same}
+use Rattle.term_table.proofs.Filling.{fills_as, fills_same, room_as, room_first, room_next, room_same}
 use Rattle.penalty_layer.proofs.Sets.{problem_sets}
 use Rattle.penalty_layer.proofs.adding.add_contributions.Goals as goal
 

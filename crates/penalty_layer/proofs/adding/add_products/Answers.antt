@@ -3,7 +3,7 @@ use Rattle.std.specs.Int.{w128}
 use Rattle.std.proofs.lemmas.Int.{to_z-of_z}
 use Rattle.problem_form.specs.declared.terms.Product.{Product}
 use Rattle.penalty_layer.specs.Squares.{product_term}
-use Rattle.penalty_layer.proofs.Filling.{fills_as, rest_more, rest_room, room_as}
+use Rattle.term_table.proofs.Filling.{fills_as, rest_more, rest_room, room_as}
 use Rattle.penalty_layer.proofs.adding.add_products.Goals as goal
 
 pub gather-requires : goal.gather-requires

@@ -6,9 +6,9 @@ use Rattle.problem_form.specs.declared.terms.Constraint.{Constraint}
 use Rattle.problem_form.specs.Problems.{constraint_total}
 use Rattle.problem_form.specs.Limits.{reach, slack_bits}
 use Rattle.term_table.specs.Terms.{Term, terms_total}
-use Rattle.penalty_layer.specs.Rooms.{IsSet}
+use Rattle.penalty_layer.specs.Sets.{IsSet}
 use Rattle.penalty_layer.specs.Squares.{square_terms, slack_form, constraint_terms}
-use Rattle.penalty_layer.proofs.Filling.{fills_same, rest_more, rest_room, room_same}
+use Rattle.term_table.proofs.Filling.{fills_same, rest_more, rest_room, room_same}
 use Rattle.penalty_layer.proofs.Sets.{slack_form-sets}
 use Rattle.penalty_layer.proofs.Sums.{slack_form-total}
 use Rattle.penalty_layer.proofs.constraints.add_constraints.Goals as goal

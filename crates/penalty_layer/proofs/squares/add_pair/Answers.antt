@@ -2,8 +2,8 @@ use Rattle.std.proofs.Common.{rules, ◌≡◌, ◌∷◌, [], refl, arith, to_z
 use Rattle.std.specs.Int.{w128}
 use Rattle.std.proofs.lemmas.Int.{to_z-of_z}
 use Rattle.term_table.proofs.PairUnions.{pair_less, pair_greater, pair_same}
-use Rattle.penalty_layer.proofs.Filled.{fills_if_ok}
-use Rattle.penalty_layer.proofs.Filling.{room_as, room_same}
+use Rattle.term_table.proofs.Filled.{fills_if_ok}
+use Rattle.term_table.proofs.Filling.{room_as, room_same}
 use Rattle.penalty_layer.proofs.squares.add_pair.Goals as goal
 
 pub gather-requires : goal.gather-requires

@@ -3,7 +3,7 @@ use Rattle.std.specs.Int.{w128}
 use Rattle.std.proofs.lemmas.Int.{to_z-of_z}
 use Rattle.term_table.specs.Terms.{Term}
 use Rattle.term_table.specs.Products.{products_with, union_terms}
-use Rattle.penalty_layer.proofs.Filling.{fills_same, rest_more, rest_room, room_same}
+use Rattle.term_table.proofs.Filling.{fills_same, rest_more, rest_room, room_same}
 use Rattle.penalty_layer.proofs.SquareSteps.{part_at, row_step, row_small}
 use Rattle.penalty_layer.proofs.squares.add_row.Goals as goal
 

@@ -4,7 +4,7 @@ use Rattle.std.proofs.lemmas.Int.{to_z-of_z}
 use Rattle.term_table.specs.Terms.{Term, terms_total}
 use Rattle.term_table.specs.Products.{scaled, products_with}
 use Rattle.penalty_layer.specs.Squares.{square_terms}
-use Rattle.penalty_layer.proofs.Filling.{fills_as, fills_more, fills_same, rest_more, rest_room, room_as, room_first, room_next, room_same}
+use Rattle.term_table.proofs.Filling.{fills_as, fills_more, fills_same, rest_more, rest_room, room_as, room_first, room_next, room_same}
 use Rattle.penalty_layer.proofs.SquareSteps.{part_at, square_step, square_small, once_small, scaled_size}
 use Rattle.penalty_layer.proofs.squares.add_square.Goals as goal
 

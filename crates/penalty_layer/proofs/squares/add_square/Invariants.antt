@@ -1,7 +1,7 @@
 use Rattle.std.proofs.Common.{◌*◌, ◌≤◌, ◌^◌, drop}
 use Rattle.term_table.specs.Terms.{terms_total}
 use Rattle.penalty_layer.specs.Squares.{square_terms}
-use Rattle.penalty_layer.proofs.Filling.{Rest}
+use Rattle.term_table.proofs.Filling.{Rest}
 use Rattle.penalty_layer.proofs.squares.add_square.Given as goal
 
 -- the terms so far were added, and the square of the parts that are left is small

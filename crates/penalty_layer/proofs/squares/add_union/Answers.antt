@@ -9,8 +9,8 @@ use Rattle.literal_lists.specs.Literals.{literal_cmp, has_clash}
 use Rattle.literal_lists.proofs.LiteralSets.{literal_set-ascends}
 use Rattle.term_table.specs.Products.{union, union_terms}
 use Rattle.term_table.proofs.PairUnions.{union_apart}
-use Rattle.penalty_layer.proofs.Filled.{fills_if_ok}
-use Rattle.penalty_layer.proofs.Filling.{room_as, room_same}
+use Rattle.term_table.proofs.Filled.{fills_if_ok}
+use Rattle.term_table.proofs.Filling.{room_as, room_same}
 use Rattle.penalty_layer.proofs.SquareSteps.{union_empty-left, union_empty-right}
 use Rattle.penalty_layer.proofs.squares.add_union.Goals as goal
 

@@ -1,25 +1,31 @@
-use Rattle.std.proofs.Common.{◌∙◌, arith, ap, unsigned_abs, rules, List}
+use Rattle.std.proofs.Common.{◌∷◌, ◌+◌, [], drop, rules, List}
 use Rattle.std.specs.Int.{w128}
 use Rattle.std.proofs.lemmas.Int.{to_z-of_z}
-use Rattle.std.proofs.lemmas.List.{take_all}
 use Rattle.term_table.specs.Terms.{Term}
-use Rattle.term_table.specs.Tables.{with_more}
-use Rattle.rosenberg_layer.proofs.Gathered.{next_fits}
+use Rattle.term_table.proofs.Filling.{fills_as, rest_more, rest_room, room_as}
+use Rattle.rosenberg_layer.proofs.Gathered.{next-left}
 use Rattle.rosenberg_layer.proofs.gather.add_all.Goals as goal
 
-pub add-requires-clause-small : goal.add-requires-clause-small
-add-requires-clause-small c =
+pub gather-requires : goal.gather-requires
+gather-requires g c =
     let xs : List Term = c.args.low.now in
-    let i = c.loop-set.set-index in
     let d : Term = c.loop-set-item.result in
+    let i = c.loop-set.set-index in
     let back = to_z-of_z w128 d.1 (search rules) in
-    let fits =
-    next_fits c.args.quadratic.now c.loop-set.quadratic xs i d _ c.loop-set-test.true
-    c.loop-set.invariant c.requires.small in
-    rw back (omega (arith, fits, ap (λ (t : Term). unsigned_abs t.1) c.loop-set-item.is))
+    let left = next-left xs i d _ c.loop-set-test.true c.loop-set-item.is in
+    room_as g.G.Gather.takes c.loop-set.terms d.0 _ d.1 _ c.as_slice.ensures back
+    (rest_room g.G.Gather.takes g.G.Gather.holds c.args.terms.now c.loop-set.terms (drop i xs) (drop (i + 1) xs)
+    xs (d ∷ []) left c.loop-set.invariant c.requires)
 
-pub returns : goal.returns
-returns c =
+pub loop-set-preserved : goal.loop-set-preserved
+loop-set-preserved g c =
     let xs : List Term = c.args.low.now in
-    c.loop-set.invariant
-    ∙ ap (with_more c.args.quadratic.now) (take_all c.loop-set.set-index xs c.loop-set-test.false)
+    let d : Term = c.loop-set-item.result in
+    let i = c.loop-set.set-index in
+    let back = to_z-of_z w128 d.1 (search rules) in
+    let left = next-left xs i d _ c.loop-set-test.true c.loop-set-item.is in
+    let one =
+    fills_as g.G.Gather.takes g.G.Gather.holds c.loop-set.terms c.gather.new.self d.0 _ d.1 _
+    c.as_slice.ensures back c.in_ok-gather.ensures.added c.in_ok-gather.ensures.takes in
+    rest_more g.G.Gather.takes g.G.Gather.holds c.args.terms.now c.loop-set.terms c.gather.new.self (drop i xs)
+    (drop (i + 1) xs) xs (d ∷ []) left one c.loop-set.invariant

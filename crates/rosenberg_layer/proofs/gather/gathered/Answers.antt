@@ -1,45 +1,38 @@
-use Rattle.std.proofs.Common.{◌≡◌, ◌∙◌, ap, sym, subst, ℕ, List}
-use Rattle.std.specs.Prelude.{All}
-use Rattle.std.specs.List.{AllByRecursion}
-use Rattle.std.proofs.lemmas.List.Elements.{All-from_recursion}
-use Rattle.term_table.specs.Terms.{Term, IsTermSet}
-use Rattle.term_table.specs.Tables.{TableContent}
-use Rattle.rosenberg_layer.specs.Rosenberg.{Pair}
-use Rattle.rosenberg_layer.specs.Parts.{ties_of}
-use Rattle.rosenberg_layer.proofs.GoBack.{all-left, all-right}
+use Rattle.std.proofs.Common.{◌≡◌, ◌++◌, ◌∙◌, [], ap, arith, refl, List}
+use Rattle.std.specs.List.{filter}
+use Rattle.term_table.specs.Terms.{Term, terms_total}
+use Rattle.term_table.specs.Tables.{TableContent, AreAdditions, with_more}
+use Rattle.term_table.proofs.Additions.{terms_total-append}
+use Rattle.term_table.proofs.Filling.{room_first, room_next}
+use Rattle.term_table.proofs.RoomForTerms.{room-additions}
+use Rattle.rosenberg_layer.specs.Steps.{is_short}
+use Rattle.rosenberg_layer.specs.Added.{moved_of}
 use Rattle.rosenberg_layer.proofs.gather.gathered.Goals as goal
 
-pub add_all-requires-clause-sets : goal.add_all-requires-clause-sets
-add_all-requires-clause-sets c =
-    let low : List Term = c.args.made.now.low.items in
-    let ties = ties_of c.args.start c.args.made.now.pairs.items c.args.made.now.weights.items in
-    let width : c.add_low.new.quadratic.width ≡ c.args.width =
-    ap (λ (q : TableContent). q.width) c.in_ok-add_low.ensures
-    ∙ ap (λ (q : TableContent). q.width) c.new-quadratic.ensures in
-    let sets = all-left (λ (t : Term). IsTermSet c.args.width t.0) low ties c.requires.sets in
-    let all = All-from_recursion (λ (t : Term). IsTermSet c.args.width t.0) low sets in
-    let same = subst (λ n. All (λ (t : Term). IsTermSet n t.0) low) (sym width) all in
-    subst (All (λ (t : Term). IsTermSet c.add_low.new.quadratic.width t.0)) (sym c.deref.ensures.value)
-    same
+-- for which additions a table that is being gathered has room, and what it holds
+abbrev Takes : TableContent → List Term → Type 0
+Takes t ts = AreAdditions (with_more t ts)
 
-pub add_ties-requires-clause-sets : goal.add_ties-requires-clause-sets
-add_ties-requires-clause-sets c =
-    let low : List Term = c.args.made.now.low.items in
-    let pairs : List Pair = c.args.made.now.pairs.items in
-    let ms : List ℕ = c.args.made.now.weights.items in
-    let width : c.add_all.new.quadratic.width ≡ c.args.width =
-    ap (λ (q : TableContent). q.width) c.in_ok-add_all.ensures
-    ∙ ap (λ (q : TableContent). q.width) c.in_ok-add_low.ensures
-    ∙ ap (λ (q : TableContent). q.width) c.new-quadratic.ensures in
-    let sets =
-    all-right (λ (t : Term). IsTermSet c.args.width t.0) low (ties_of c.args.start pairs ms)
-    c.requires.sets in
-    let same =
-    subst (λ n. AllByRecursion (λ (t : Term). IsTermSet n t.0) (ties_of c.args.start pairs ms))
-    (sym width) sets in
-    subst
-    (λ (ps : List Pair). AllByRecursion (λ (t : Term). IsTermSet c.add_all.new.quadratic.width t.0)
-    (ties_of c.args.start ps c.deref-3.result.now)) (sym c.deref-2.ensures.value)
-    (subst
-    (λ (ks : List ℕ). AllByRecursion (λ (t : Term). IsTermSet c.add_all.new.quadratic.width t.0)
-    (ties_of c.args.start pairs ks)) (sym c.deref-3.ensures.value) same)
+abbrev Holds : TableContent → TableContent → Type 0
+Holds now t = now ≡ t
+
+pub add_low-requires : goal.add_low-requires
+add_low-requires c =
+    let base = filter is_short c.args.table.now.content.terms in
+    let moved = moved_of c.args.start c.args.made.now in
+    room_first Takes c.new-quadratic.result (base ++ moved) base moved refl
+    (room-additions c.args.width (base ++ moved) _ c.requires.additions c.new-quadratic.ensures)
+
+pub add_moved-requires-clause-room : goal.add_moved-requires-clause-room
+add_moved-requires-clause-room c =
+    let base = filter is_short c.args.table.now.content.terms in
+    let moved = moved_of c.args.start c.args.made.now in
+    room_next Takes Holds c.new-quadratic.result c.add_low.new.terms (base ++ moved) base moved refl
+    c.in_ok-add_low.ensures
+    (room-additions c.args.width (base ++ moved) _ c.requires.additions c.new-quadratic.ensures)
+
+pub add_moved-requires-clause-small : goal.add_moved-requires-clause-small
+add_moved-requires-clause-small c =
+    let base = filter is_short c.args.table.now.content.terms in
+    let small = c.requires.additions.small in
+    omega (arith, small, terms_total-append base (moved_of c.args.start c.args.made.now))

@@ -6,8 +6,9 @@ use Rattle.term_table.specs.Tables.{kept_at_once}
 use Rattle.rosenberg_layer.specs.Rosenberg.{is_long, pairs_of, run}
 use Rattle.rosenberg_layer.specs.Steps.{is_short}
 use Rattle.rosenberg_layer.specs.Parts.{ties_of, weights}
+use Rattle.rosenberg_layer.specs.Added.{moved_of}
 use Rattle.rosenberg_layer.proofs.Turns.{excess-size, width-pairs}
-use Rattle.rosenberg_layer.proofs.Finish.{width-le, made-image, adds-fit, adds-sets}
+use Rattle.rosenberg_layer.proofs.Finish.{width-le, made-image, adds-fit}
 use Rattle.rosenberg_layer.proofs.rosenberg.reduced.Goals as goal
 
 pub run_of-requires-clause-turns : goal.run_of-requires-clause-turns
@@ -27,27 +28,15 @@ gathered-requires-clause-narrow c =
       c.requires.size,
     )
 
-pub gathered-requires-clause-sets : goal.gathered-requires-clause-sets
-gathered-requires-clause-sets c =
+pub gathered-requires-clause-additions : goal.gathered-requires-clause-additions
+gathered-requires-clause-additions c =
     let t = c.args.table.now.content in
-    let made = c.in_ok-made.made in
-    let adds : List Term =
-    made.low.items ++ ties_of c.width-width.result made.pairs.items made.weights.items in
-    let base = filter is_short t.terms in
     let count : c.len.result ≡ length (pairs_of c.excess.result t) =
     omega (arith, c.len.ensures, ap length c.in_ok-made.ensures.pairs) in
-    adds-sets t base adds (filter is_long (run c.excess.result t).terms) c.width-width.result
-    c.excess.result c.len.result (weights t.terms) c.width-width.ensures count
-    c.in_ok-made.ensures.parts
-
-pub gathered-requires-clause-small : goal.gathered-requires-clause-small
-gathered-requires-clause-small c =
-    let t = c.args.table.now.content in
-    let made = c.in_ok-made.made in
-    let adds : List Term =
-    made.low.items ++ ties_of c.width-width.result made.pairs.items made.weights.items in
-    adds-fit t (filter is_short t.terms) adds (filter is_long (run c.excess.result t).terms)
-    c.excess.result c.in_ok-made.ensures.kept.terms c.in_ok-made.ensures.parts c.requires.total
+    let adds = filter is_short t.terms ++ moved_of c.width-width.result c.in_ok-made.made in
+    adds-fit t adds (filter is_long (run c.excess.result t).terms) c.width-width.result c.excess.result
+    c.len.result c.in_ok-made.ensures.kept.terms c.width-width.ensures count c.in_ok-made.ensures.parts
+    c.requires.total
 
 pub returns-clause-made : goal.returns-clause-made
 returns-clause-made c =

@@ -5,8 +5,8 @@ use Rattle.std.proofs.lemmas.List.Elements.{All-head, All-tail}
 use Rattle.std.proofs.lemmas.Result.{on_ok_weaker}
 use Rattle.term_table.specs.Tables.{with_appended}
 use Rattle.term_table.specs.MultipliedOut.{contributions}
-use Rattle.penalty_layer.proofs.Filled.{fills_if_ok}
-use Rattle.penalty_layer.proofs.Filling.{room_as}
+use Rattle.term_table.proofs.Filled.{fills_if_ok}
+use Rattle.term_table.proofs.Filling.{room_as}
 use Rattle.normal_form.specs.Multilinear.{IsSmall, multiplied}
 use Rattle.normal_form.proofs.Gathered.{held-alone, held-multiplied, room-alone, room-multiplied, takes-alone, takes-multiplied}
 use Rattle.normal_form.proofs.plain.PlainTermsGather.gather.Goals as goal

@@ -5,8 +5,8 @@ use Rattle.std.specs.Result.{OnOk}
 use Rattle.literal_lists.specs.declared.literal.Literal.{Literal}
 use Rattle.term_table.specs.Terms.{Term}
 use Rattle.term_table.specs.Tables.{TableContent, with_appended}
-use Rattle.penalty_layer.specs.Rooms.{Fills}
-use Rattle.penalty_layer.proofs.Filling.{fills_as}
+use Rattle.term_table.specs.Rooms.{Fills}
+use Rattle.term_table.proofs.Filling.{fills_as}
 
 -- one term, whose literals and coefficient the code has in other words
 pub fills_if_ok : {S V E : Type 0} (takes : S → List Term → Type 0) (holds : S → TableContent → Type 0) (now new : S)

@@ -3,7 +3,7 @@ use Rattle.std.proofs.Common.{◌≡◌, ℤ, List, [], ◌∷◌, ◌++◌, ref
 use Rattle.literal_lists.specs.declared.literal.Literal.{Literal}
 use Rattle.term_table.specs.Terms.{Term}
 use Rattle.term_table.specs.Tables.{TableContent, with_appended}
-use Rattle.penalty_layer.specs.Rooms.{Fills, HasRoom}
+use Rattle.term_table.specs.Rooms.{Fills, HasRoomFor}
 
 -- what was taken in, with what is left, is all
 pub record Rest {S : Type 0} (takes : S → List Term → Type 0) (holds : S → TableContent → Type 0) (start now : S) (left all : List Term) : Type 0 where
@@ -11,22 +11,27 @@ pub record Rest {S : Type 0} (takes : S → List Term → Type 0) (holds : S →
   pub filled : Fills takes holds start now done
   pub whole : done ++ left ≡ all
 
+-- where terms are taken, there is room for them, with none after them
+pub room_own : {S : Type 0} (takes : S → List Term → Type 0) (s : S) (ts : List Term) → takes s ts
+    → HasRoomFor takes s ts
+room_own takes s ts fits = ([], subst (takes s) (sym (append-nil ts)) fits)
+
 -- where there is room for two lists of terms, there is for the first
 pub room_first : {S : Type 0} (takes : S → List Term → Type 0) (s : S) (all ts us : List Term)
-    → all ≡ ts ++ us → HasRoom takes s all → HasRoom takes s ts
+    → all ≡ ts ++ us → HasRoomFor takes s all → HasRoomFor takes s ts
 room_first takes s all ts us same room =
     (us ++ room.0, subst (takes s) (ap (λ vs. vs ++ room.0) same ∙ append_assoc ts us room.0) room.1)
 
 -- the same terms, in other words
 pub room_same : {S : Type 0} (takes : S → List Term → Type 0) (s : S) (ts us : List Term) → ts ≡ us
-    → HasRoom takes s ts → HasRoom takes s us
-room_same takes s ts us same room = subst (HasRoom takes s) same room
+    → HasRoomFor takes s ts → HasRoomFor takes s us
+room_same takes s ts us same room = subst (HasRoomFor takes s) same room
 
 -- and of one term, whose literals and coefficient the code has in other words
 pub room_as : {S : Type 0} (takes : S → List Term → Type 0) (s : S) (ls ks : List Literal) (c d : ℤ)
-    → ks ≡ ls → d ≡ c → HasRoom takes s ((ls, c) ∷ []) → HasRoom takes s ((ks, d) ∷ [])
+    → ks ≡ ls → d ≡ c → HasRoomFor takes s ((ls, c) ∷ []) → HasRoomFor takes s ((ks, d) ∷ [])
 room_as takes s ls ks c d set coefficient room =
-    subst (λ (t : Term). HasRoom takes s (t ∷ [])) (λ i. (sym set i, sym coefficient i)) room
+    subst (λ (t : Term). HasRoomFor takes s (t ∷ [])) (λ i. (sym set i, sym coefficient i)) room
 
 module _ {S : Type 0} (takes : S → List Term → Type 0) (holds : S → TableContent → Type 0) where
   pub fills_none : (s : S) → Fills takes holds s s []
@@ -61,7 +66,7 @@ module _ {S : Type 0} (takes : S → List Term → Type 0) (holds : S → TableC
 
   -- after the first terms there is room for those after them
   pub room_next : (now new : S) (all ts us : List Term) → all ≡ ts ++ us
-      → Fills takes holds now new ts → HasRoom takes now all → HasRoom takes new us
+      → Fills takes holds now new ts → HasRoomFor takes now all → HasRoomFor takes new us
   room_next now new all ts us same p room =
       (room.0, p.room (us ++ room.0) (subst (takes now) (ap (λ vs. vs ++ room.0) same ∙ append_assoc ts us room.0) room.1))
 
@@ -91,7 +96,7 @@ module _ {S : Type 0} (takes : S → List Term → Type 0) (holds : S → TableC
 
   -- where there is room for all, there is for what comes next
   pub rest_room : (start now : S) (left later all ts : List Term) → left ≡ ts ++ later
-      → Rest takes holds start now left all → HasRoom takes start all → HasRoom takes now ts
+      → Rest takes holds start now left all → HasRoomFor takes start all → HasRoomFor takes now ts
   rest_room start now left later all ts step before room =
       room_first takes now left ts later step
       (room_next start now all before.done left (sym before.whole) before.filled room)

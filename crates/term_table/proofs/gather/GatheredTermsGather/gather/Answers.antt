@@ -3,8 +3,8 @@ use Rattle.std.specs.Int.{w128}
 use Rattle.std.proofs.lemmas.Int.{to_z-of_z}
 use Rattle.std.proofs.lemmas.Result.{on_ok_weaker}
 use Rattle.term_table.specs.Tables.{with_appended}
-use Rattle.penalty_layer.proofs.RoomForTerms.{next_set, next_small, next_room}
-use Rattle.penalty_layer.proofs.gather.GatheredTermsGather.gather.Goals as goal
+use Rattle.term_table.proofs.RoomForTerms.{next_set, next_small, next_room}
+use Rattle.term_table.proofs.gather.GatheredTermsGather.gather.Goals as goal
 
 pub add-requires-clause-set : goal.add-requires-clause-set
 add-requires-clause-set c =

@@ -1,11 +1,11 @@
-//! Where the parts of a problem are added, whatever is made of them in the end.
+//! Where terms are added, whatever is made of them in the end.
 ghost use Rattle.std.specs.Prelude.{◌≡◌, ◌∷◌, List, OnOk};
 ghost use Rattle.term_table.specs.Terms.{Term};
 ghost use Rattle.term_table.specs.Tables.{TableContent, with_appended, with_more, AreAdditions};
 
+use crate::gathered::GatheredTerms;
 use base::NoMemory;
 use literal_lists::Literal;
-use term_table::GatheredTerms;
 
 /// What gathers sets with coefficients, in the order in which they come. It need not keep each of
 /// them. Where memory is refused, it may have gathered a part of what a set gives.
