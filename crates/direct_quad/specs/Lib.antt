@@ -6,8 +6,6 @@ pub mod Stated
 pub mod Direct
 pub mod FlatMonomials
 pub mod laws
-pub mod Long
 pub mod PairLists
 pub mod RowSums
-pub mod Occurrences
 pub mod Held

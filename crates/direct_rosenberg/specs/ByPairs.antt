@@ -12,7 +12,7 @@ use Rattle.rosenberg_layer.specs.Steps.{is_short}
 use Rattle.rosenberg_layer.specs.Parts.{ties_of, weights, AreParts}
 use Rattle.quad_form.specs.Quads.{QuadContent}
 use Rattle.quad_form.specs.Flat as flat
-use Rattle.direct_quad.specs.Parts.{table_of}
+use Rattle.long_terms.specs.Apart.{table_of}
 use Rattle.direct_quad.specs.Held.{HeldContent, AreHeld}
 
 -- the image of the two steps

@@ -2,7 +2,7 @@
 ghost use Rattle.std.specs.Prelude.{◌≡◌, ◌+◌, ◌*◌, ◌≤◌, ◌^◌, IfOk, length};
 ghost use Rattle.term_table.specs.Terms.{terms_total};
 ghost use Rattle.term_table.specs.Tables.{IsTable, TableContent, table_size};
-ghost use Rattle.direct_quad.specs.Parts.{table_of};
+ghost use Rattle.long_terms.specs.Apart.{table_of};
 ghost use Rattle.direct_quad.specs.Held.{AreHeld};
 ghost use Rattle.direct_rosenberg.specs.ByPairs.{image, HasRoom};
 

@@ -5,7 +5,7 @@ ghost use Rattle.rosenberg_layer.specs.Rosenberg.{extension};
 
 use crate::long_run::long_run;
 use base::NoMemory;
-use long_extension::long_additions;
+use long_terms::long_additions;
 use penalty_layer::node_count;
 use problem_form::Problem;
 use rosenberg_layer::push_products;

@@ -4,12 +4,12 @@ ghost use Rattle.std.specs.List.{filter};
 ghost use Rattle.term_table.specs.Terms.{with_additions};
 ghost use Rattle.term_table.specs.Tables.{AreAdditions, IsTable, TableContent, table_size};
 ghost use Rattle.rosenberg_layer.specs.Rosenberg.{excess, is_long};
-ghost use Rattle.direct_quad.specs.Parts.{table_of};
-ghost use Rattle.direct_quad.specs.Long.{product_term, terms_of};
+ghost use Rattle.long_terms.specs.Apart.{table_of};
+ghost use Rattle.long_terms.specs.Long.{product_term, terms_of};
 ghost use Rattle.direct_rosenberg.specs.ByPairs.{IsRunOf};
 
 use base::NoMemory;
-use direct_quad::LongTable;
+use long_terms::LongTable;
 use problem_form::ProductList;
 use rosenberg_layer::{LongTerms, Run, run_of_long};
 use std::alloc::Global;

@@ -14,7 +14,7 @@ ghost use Rattle.model_pipeline.specs.Extensions.{extension_of, IsLeastExtension
 
 use crate::new_nodes::monomial_link;
 use base::{Costed, NoMemory};
-use direct_quad::FlatMonomials;
+use direct_quad::{DirectQuad, FlatMonomials};
 use direct_rosenberg::with_pair_bits;
 use form_steps::{BitsLink, Guard, Layer};
 use normal_form::MultilinearForm;
@@ -116,7 +116,11 @@ fn by_long_terms(
     // What the steps to a model rest on.
     ensures room { IfOk result (λ _. HasRoom (direct.image problem.now)) }
 {
-    long_extension::extended(alloc, problem, nodes, x)
+    let link = BitsLink {
+        source_width: problem.variables as usize,
+        target_width: nodes,
+    };
+    DirectQuad.extend(alloc, problem, &link, x)
 }
 
 /// The state that an assignment extends to over literals, where pairs are replaced one after another:

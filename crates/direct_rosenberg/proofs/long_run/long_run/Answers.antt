@@ -1,4 +1,4 @@
-use Rattle.std.proofs.Common.{◌≡◌, ◌≤◌, ◌∙◌, [], length, map, arith, refl, subst, sym, ap}
+use Rattle.std.proofs.Common.{◌≡◌, ◌≤◌, ◌∙◌, [], length, map, arith, subst, sym, ap}
 use Rattle.std.specs.List.{filter}
 use Rattle.term_table.specs.Terms.{with_additions}
 use Rattle.term_table.specs.Tables.{TableContent, IsTable}
@@ -6,9 +6,9 @@ use Rattle.monomial_layer.proofs.Sizes.{all_nodes-le}
 use Rattle.rosenberg_layer.specs.Rosenberg.{excess, is_long}
 use Rattle.rosenberg_layer.proofs.LongRuns.{all_long}
 use Rattle.rosenberg_layer.proofs.Turns.{excess-size}
-use Rattle.direct_quad.specs.Parts.{table_of}
-use Rattle.direct_quad.specs.Long.{product_term, terms_of}
-use Rattle.direct_quad.specs.laws.Between.{IsTable-table_of}
+use Rattle.long_terms.specs.Apart.{table_of}
+use Rattle.long_terms.specs.Long.{product_term, terms_of}
+use Rattle.long_terms.proofs.Apart.{IsTable-table_of}
 use Rattle.direct_rosenberg.proofs.LongRuns.{count-long, excess-long, long-sums, run-of}
 use Rattle.direct_rosenberg.proofs.long_run.long_run.Goals as goal
 

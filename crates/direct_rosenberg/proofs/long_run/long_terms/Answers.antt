@@ -1,14 +1,12 @@
-use Rattle.std.proofs.Common.{rules, ◌≡◌, ◌+◌, ◌-◌, ◌<◌, ◌≤◌, ◌∷◌, ◌++◌, ◌∙◌, [], List, ap, arith, get_or, length, of_z, pos, subst, sym, take, to_z}
+use Rattle.std.proofs.Common.{rules, ◌≡◌, ◌+◌, ◌-◌, ◌<◌, ◌∷◌, ◌++◌, ◌∙◌, [], List, ap, arith, get_or, length, of_z, pos, sym, take, to_z}
 use Rattle.std.specs.Int.{w128}
 use Rattle.std.proofs.lemmas.Int.{to_z-of_z}
 use Rattle.std.proofs.lemmas.List.{take_more}
-use Rattle.std.proofs.lemmas.List.Elements.{All-get_or}
 use Rattle.std.proofs.lemmas.List.Sums.{sum_by_push}
 use Rattle.std.proofs.lemmas.Option.{get_or_from_slice_get, slice_get_within}
-use Rattle.term_table.specs.Terms.{Term, IsTermSet}
+use Rattle.term_table.specs.Terms.{Term}
 use Rattle.rosenberg_layer.specs.Rosenberg.{excess}
 use Rattle.rosenberg_layer.proofs.LongRuns.{set_narrow}
-use Rattle.direct_quad.specs.Long.{AreLong}
 use Rattle.direct_rosenberg.proofs.LongRuns.{set-at, long-at}
 use Rattle.direct_rosenberg.proofs.long_run.long_terms.Goals as goal
 
