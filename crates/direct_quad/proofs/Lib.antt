@@ -23,4 +23,4 @@ pub mod PairSums
 pub mod FlatTables
 pub mod RoomForSums
 pub mod HeldParts
-pub mod NewBits
+pub mod NoNewNodes

@@ -11,7 +11,7 @@ use Rattle.problem_form.specs.declared.terms.Product.{Product}
 use Rattle.term_table.specs.Terms.{Term, set_cmp, terms_total}
 use Rattle.long_terms.specs.declared.additions.Keyed.{Keyed}
 use Rattle.long_terms.specs.Long.{addition_at, additions_at, sums_with}
-use Rattle.long_terms.proofs.SortedAdditions.{next_addition, same_step, put_zero, put_one, IsOther}
+use Rattle.long_terms.proofs.SortedAdditions.{next_addition, same_step, sum_none, sum_some, IsOther}
 
 -- the index of the addition at a place of an order
 abbrev pub index_at : List Keyed → ℕ → ℕ
@@ -79,7 +79,7 @@ module _ (ps : List Product) (order : List Keyed) (i : ℕ) (in' : i < length or
       → sums_with sum (left ps order i) ≡ sums_with (pos 0) (left ps order (i + 1))
   end_none sum other none =
       ap (sums_with sum) left_more
-      ∙ put_zero [] sum (term_at ps order i) (left ps order (i + 1)) other none
+      ∙ sum_none sum (term_at ps order i) (left ps order (i + 1)) other none
 
   -- it ends with another sum
   pub end_some : (sum : ℤ) → IsOther (term_at ps order i) (left ps order (i + 1))
@@ -89,4 +89,4 @@ module _ (ps : List Product) (order : List Keyed) (i : ℕ) (in' : i < length or
       ∷ sums_with (pos 0) (left ps order (i + 1))
   end_some sum other some =
       ap (sums_with sum) left_more
-      ∙ put_one [] sum (term_at ps order i) (left ps order (i + 1)) other some
+      ∙ sum_some sum (term_at ps order i) (left ps order (i + 1)) other some

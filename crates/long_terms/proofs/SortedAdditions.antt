@@ -1,5 +1,5 @@
 -- Additions with their keys, in the order of their sets, and the numbers of new nodes.
-use Rattle.std.proofs.Common.{◌≡◌, ◌≢◌, ℕ, ◌+◌, ◌<◌, ◌≤◌, ◌^◌, Bool, true, false, cond, arith, sym, ap, ◌∙◌, refl, subst, List, [], ◌∷◌, ◌++◌, map, length, get_or, append_assoc, take, drop, ℤ, pos, ◌+ℤ◌, Some, slice_get}
+use Rattle.std.proofs.Common.{◌≡◌, ◌≢◌, ℕ, ◌+◌, ◌<◌, ◌≤◌, ◌^◌, Bool, true, false, cond, arith, sym, ap, ◌∙◌, refl, subst, List, [], ◌∷◌, ◌++◌, map, length, get_or, take, drop, ℤ, pos, ◌+ℤ◌, Some, slice_get}
 use Rattle.std.specs.Prelude.{All}
 use Rattle.std.specs.List.{AllByRecursion, sum_by}
 use Rattle.std.specs.Ordering.{ordering_then, int_eq, is_eq}
@@ -159,23 +159,26 @@ other_step c t (u ∷ us) other =
     ap (λ b. cond b (sums_from (t.0, c +ℤ t.1 +ℤ u.1) us) (term_in_front (t.0, c +ℤ t.1) (sums_from u us)))
     (not_equal_order (set_cmp t.0 u.0) other)
 
-pub put_zero : (before : List Term) (c : ℤ) (t : Term) (us : List Term) → IsOther t us
-    → c +ℤ t.1 ≡ pos 0 → before ++ sums_with c (t ∷ us) ≡ before ++ sums_with (pos 0) us
-put_zero before c t us other none =
-    ap (λ ts. before ++ ts) (other_step c t us other ∙ go (int_eq (c +ℤ t.1) (pos 0)) (Decides-int_eq (c +ℤ t.1) (pos 0)) ∙ sym (sums_with-zero us))
+-- the set of the first term ends there: a sum of 0 is left out
+pub sum_none : (c : ℤ) (t : Term) (us : List Term) → IsOther t us → c +ℤ t.1 ≡ pos 0
+    → sums_with c (t ∷ us) ≡ sums_with (pos 0) us
+sum_none c t us other none =
+    other_step c t us other
+    ∙ go (int_eq (c +ℤ t.1) (pos 0)) (Decides-int_eq (c +ℤ t.1) (pos 0))
+    ∙ sym (sums_with-zero us)
   where
     go : (zero_sum : Bool) → Decides zero_sum (c +ℤ t.1 ≡ pos 0)
         → cond zero_sum (sums_of us) ((t.0, c +ℤ t.1) ∷ sums_of us) ≡ sums_of us
     go true d = refl
     go false d = let both : false ≡ true = d.1 none in cc
 
-pub put_one : (before : List Term) (c : ℤ) (t : Term) (us : List Term) → IsOther t us
-    → c +ℤ t.1 ≢ pos 0
-    → before ++ sums_with c (t ∷ us) ≡ (before ++ (t.0, c +ℤ t.1) ∷ []) ++ sums_with (pos 0) us
-put_one before c t us other some =
-    ap (λ ts. before ++ ts) (other_step c t us other ∙ go (int_eq (c +ℤ t.1) (pos 0)) (Decides-int_eq (c +ℤ t.1) (pos 0)))
-    ∙ sym (append_assoc before ((t.0, c +ℤ t.1) ∷ []) (sums_of us))
-    ∙ ap (λ ts. (before ++ (t.0, c +ℤ t.1) ∷ []) ++ ts) (sym (sums_with-zero us))
+-- another sum comes next
+pub sum_some : (c : ℤ) (t : Term) (us : List Term) → IsOther t us → c +ℤ t.1 ≢ pos 0
+    → sums_with c (t ∷ us) ≡ (t.0, c +ℤ t.1) ∷ sums_with (pos 0) us
+sum_some c t us other some =
+    other_step c t us other
+    ∙ go (int_eq (c +ℤ t.1) (pos 0)) (Decides-int_eq (c +ℤ t.1) (pos 0))
+    ∙ ap (λ ts. (t.0, c +ℤ t.1) ∷ ts) (sym (sums_with-zero us))
   where
     go : (none : Bool) → Decides none (c +ℤ t.1 ≡ pos 0)
         → cond none (sums_of us) ((t.0, c +ℤ t.1) ∷ sums_of us) ≡ (t.0, c +ℤ t.1) ∷ sums_of us

@@ -1,6 +1,6 @@
 use Rattle.std.proofs.Common.{◌∙◌}
 use Rattle.penalty_layer.specs.Penalty as penalty
-use Rattle.direct_quad.proofs.NewBits.{no-bits}
+use Rattle.direct_quad.proofs.NoNewNodes.{no-bits}
 use Rattle.direct_quad.proofs.extending.extended.Goals as goal
 
 pub returns-then-nodes-width : goal.returns-then-nodes-width
