@@ -13,12 +13,16 @@ use Rattle.term_table.specs.Tables.{TableContent}
 use Rattle.monomial_layer.specs.Monomials.{node, new_nodes, new_terms, all_new_terms}
 use Rattle.quad_form.specs.Quads.{QuadContent, IsCoupler}
 use Rattle.pair_sums.specs.Pairs.{weight_for, weight_at}
-use Rattle.direct_quad.specs.Parts.{image, short_terms, long_terms, parts, sum_for}
-use Rattle.direct_quad.specs.Places.{place_couplers, term_places, all_places, short_couplers, Share, share_at, term_shares, all_shares, short_shares, long_constant, short_constant}
+use Rattle.direct_quad.specs.Parts.{image, parts, sum_for}
+use Rattle.long_terms.specs.Apart.{short_terms, long_terms}
+use Rattle.direct_quad.specs.Places.{place_couplers, short_couplers, Share, share_at, term_shares, all_shares, short_shares, long_constant, short_constant}
+use Rattle.long_terms.specs.Places.{term_places, all_places}
 use Rattle.direct_quad.specs.Gathered.{constant_of, shares_of, couplers_of, IsSumOf}
 use Rattle.direct_quad.specs.Stated.{IsWithin}
-use Rattle.direct_quad.proofs.Additive.{Amount, given, share_of, sum_for-given}
-use Rattle.direct_quad.proofs.Split.{sum_for-append, short_terms-short, long_terms-long}
+use Rattle.long_terms.proofs.Additive.{Amount, given}
+use Rattle.direct_quad.proofs.MultipliedOut.{share_of, sum_for-given}
+use Rattle.direct_quad.proofs.Split.{sum_for-append}
+use Rattle.long_terms.proofs.Apart.{short_terms-short, long_terms-long}
 use Rattle.direct_quad.proofs.AtOnce.{sums_give_image, image-quad, constant-image, weight-image, pair-image, nodes-image, width-low_of}
 use Rattle.direct_quad.specs.laws.Between.{low_of}
 use Rattle.direct_quad.proofs.TwoLiterals.{short_constant-is, short_shares-are, short_couplers-are}

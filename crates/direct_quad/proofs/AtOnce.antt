@@ -28,9 +28,10 @@ use Rattle.quad_form.proofs.FlatForms.{quad_total-image, quad_size-image}
 use Rattle.pair_sums.proofs.PairOrder.{rising_from_ordered}
 use Rattle.quad_form.proofs.UniqueForms.{couplers_are_pairs, nonzero_couplers, constant-fold, node-fold, pair-fold, IsQuad-image}
 use Rattle.pair_sums.proofs.UniqueSums.{same_entries}
-use Rattle.direct_quad.specs.Parts.{table_of, image, all_nodes, parts, sum_for, GivesSums}
+use Rattle.long_terms.specs.Apart.{table_of}
+use Rattle.direct_quad.specs.Parts.{image, all_nodes, parts, sum_for, GivesSums}
 use Rattle.direct_quad.specs.Stated.{IsWithin}
-use Rattle.direct_quad.proofs.Additive.{sum_for-with_additions}
+use Rattle.direct_quad.proofs.MultipliedOut.{sum_for-with_additions}
 use Rattle.direct_quad.proofs.Split.{nodes-table, parts-give}
 use Rattle.direct_quad.specs.laws.Between.{low_of, IsTable-low_of, total-low_of}
 

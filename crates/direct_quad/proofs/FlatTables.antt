@@ -10,7 +10,7 @@ use Rattle.penalty_layer.specs.Gathered.{squares}
 use Rattle.penalty_layer.proofs.Gathering.{Rest, first_fits, gathers_one, next_few, rest_all, rest_more, rest_none}
 use Rattle.monomial_layer.proofs.Sizes.{all_nodes-le}
 use Rattle.quad_form.specs.Quads.{QuadContent, IsQuad}
-use Rattle.direct_quad.specs.Parts.{table_of}
+use Rattle.long_terms.specs.Apart.{table_of}
 use Rattle.direct_quad.specs.Gathered.{IsSumOf}
 use Rattle.direct_quad.specs.Held.{HeldContent, AreHeld}
 use Rattle.direct_quad.specs.Stated.{IsWithin}

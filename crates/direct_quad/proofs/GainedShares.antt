@@ -15,7 +15,7 @@ use Rattle.term_table.specs.Tables.{TableContent}
 use Rattle.monomial_layer.specs.Monomials.{factor, new_nodes}
 use Rattle.monomial_layer.specs.laws.Positive.{factor_cases}
 use Rattle.direct_quad.specs.Places.{Share, node_share, node_shares, term_shares, all_shares, long_constant}
-use Rattle.direct_quad.specs.Long.{AreLong, node_at}
+use Rattle.long_terms.specs.Long.{AreLong, node_at}
 use Rattle.direct_quad.specs.RowSums.{size_of}
 use Rattle.direct_quad.specs.Held.{Gain, shares_total}
 use Rattle.direct_quad.proofs.PartSizes.{node-size, all_shares-size, long_constants-size}

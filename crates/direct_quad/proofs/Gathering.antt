@@ -6,7 +6,8 @@ use Rattle.term_table.specs.Terms.{Term}
 use Rattle.term_table.specs.Tables.{TableContent}
 use Rattle.monomial_layer.specs.Monomials.{is_low}
 use Rattle.quad_form.specs.Quads.{QuadContent}
-use Rattle.direct_quad.specs.Parts.{is_long, short_terms, long_additions, all_nodes}
+use Rattle.long_terms.specs.Apart.{is_long, short_terms, long_additions}
+use Rattle.direct_quad.specs.Parts.{all_nodes}
 use Rattle.direct_quad.specs.Places.{Share, share_at}
 use Rattle.direct_quad.specs.Gathered.{constant_of, shares_of, couplers_of, IsSumOf}
 use Rattle.direct_quad.specs.Rows.{AreRows}

@@ -9,21 +9,18 @@ use Rattle.problem_form.specs.Problems as problems
 use Rattle.problem_form.specs.Limits.{upper}
 use Rattle.term_table.specs.Tables.{TableContent}
 use Rattle.penalty_layer.specs.Penalty.{Admits}
-use Rattle.penalty_layer.specs.Penalty as penalty
 use Rattle.penalty_layer.proofs.Admitted.{image_size}
-use Rattle.monomial_layer.specs.Monomials as monomials
 use Rattle.monomial_layer.proofs.Sizes.{all_nodes-le}
 use Rattle.quad_form.specs.Quads.{QuadContent, IsQuad, quad_total, quad_size}
 use Rattle.quad_form.specs.Quads as quads
-use Rattle.quad_form.specs.laws.Flattened.{length-image}
-use Rattle.direct_quad.specs.Parts.{table_of}
-use Rattle.direct_quad.specs.Long.{terms_of, node_count}
+use Rattle.long_terms.specs.Apart.{table_of}
+use Rattle.long_terms.specs.Long.{terms_of, node_count}
 use Rattle.direct_quad.specs.Gathered.{IsSumOf}
 use Rattle.direct_quad.specs.Held.{HeldContent, AreHeld}
 use Rattle.direct_quad.specs.Direct.{additions_of, image, Fits}
 use Rattle.direct_quad.specs.Stated.{IsWithin}
-use Rattle.direct_quad.specs.laws.Between.{low_of, IsTable-table_of}
-use Rattle.direct_quad.specs.laws.Relaxing.{AreAdditions-of, total-additions, direct_relaxes}
+use Rattle.long_terms.proofs.KeptTerms.{AreAdditions-of, total-additions}
+use Rattle.direct_quad.specs.laws.Relaxing.{direct_relaxes}
 use Rattle.direct_quad.proofs.Split.{nodes-table}
 use Rattle.direct_quad.proofs.AtOnce.{total-grows, size-grows, image-quad}
 use Rattle.direct_quad.proofs.AllParts.{sum_is_image}
@@ -100,15 +97,3 @@ quad_size_within p q admitted made =
       size-grows (additions_of p),
       image_size p admitted,
     )
-
--- ---- the table that an assignment is extended by
-
-pub fits_table : (link : BitsLink) (p : ProblemContent) (table : TableContent) (source target : ℕ) → Fits link p
-    → table ≡ penalty.image p → source ≡ penalty.node_count p → target ≡ link.target_width
-    → monomials.Fits (record { source_width = source; target_width = target }) table
-fits_table link p table source target fits made from to =
-    subst (monomials.Fits (record { source_width = source; target_width = target })) (sym made) (record {
-      source = from;
-      target = to ∙ fits.target ∙ length-image (low_of (additions_of p));
-      table = IsTable-table_of (additions_of p) (AreAdditions-of p fits.admitted);
-    })

@@ -15,9 +15,10 @@ use Rattle.term_table.proofs.SmallSets.{IsTermSet-wider}
 use Rattle.term_table.proofs.Steps.{terms_total-map}
 use Rattle.monomial_layer.specs.Monomials.{is_low}
 use Rattle.pair_sums.specs.Pairs.{IsPair}
-use Rattle.direct_quad.specs.Parts.{is_long, long_additions, short_part, short_terms}
+use Rattle.long_terms.specs.Apart.{is_long, long_additions, short_terms}
+use Rattle.direct_quad.specs.Parts.{short_part}
 use Rattle.direct_quad.specs.Places.{share_at, short_constant, short_couplers, short_shares}
-use Rattle.direct_quad.specs.Long.{product_term}
+use Rattle.long_terms.specs.Long.{product_term}
 use Rattle.direct_quad.specs.RowSums.{size_of}
 use Rattle.direct_quad.specs.Held.{HeldContent, AreHeld, IsHeld, widened}
 use Rattle.direct_quad.proofs.HeldSums.{length-widened, short-at, size-widened, value-widened}

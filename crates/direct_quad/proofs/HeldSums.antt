@@ -20,21 +20,23 @@ use Rattle.term_table.proofs.Additions.{terms_total-with_additions}
 use Rattle.term_table.proofs.Steps.{terms_total-map}
 use Rattle.monomial_layer.specs.Monomials.{new_nodes}
 use Rattle.pair_sums.specs.Pairs.{IsPair, weight_for, weight_at}
-use Rattle.direct_quad.specs.Parts.{table_of, short_terms, long_terms, all_nodes}
-use Rattle.direct_quad.specs.Places.{Place, Share, share_at, short_couplers, short_shares, place_couplers, places_in, term_places, all_places, all_shares, long_constant}
-use Rattle.direct_quad.specs.Long.{product_term, terms_of, node_count, AreLong}
+use Rattle.long_terms.specs.Apart.{table_of, short_terms, long_terms}
+use Rattle.direct_quad.specs.Parts.{all_nodes}
+use Rattle.long_terms.specs.Places.{Place, places_in, term_places, all_places}
+use Rattle.direct_quad.specs.Places.{Share, share_at, short_couplers, short_shares, place_couplers, all_shares, long_constant}
+use Rattle.long_terms.specs.Long.{product_term, terms_of, node_count, AreLong}
 use Rattle.direct_quad.specs.Gathered.{couplers_of, IsSumOf}
 use Rattle.direct_quad.specs.Held.{HeldContent, AreHeld, IsHeld, Gain, widened}
 use Rattle.direct_quad.specs.Rows.{AreRows}
 use Rattle.direct_quad.specs.RowSums.{size_of}
 use Rattle.direct_quad.proofs.Gathering.{sum-of_rows}
 use Rattle.direct_quad.proofs.HeldTerms.{share_at-append}
-use Rattle.direct_quad.proofs.LongPlaces.{differs}
+use Rattle.long_terms.proofs.LongPlaces.{differs}
 use Rattle.direct_quad.proofs.PartPairs.{IsWithin, join, long_sets, short_pairs, short_sets, short_within}
 use Rattle.direct_quad.proofs.PartSizes.{long_constants-size}
 use Rattle.direct_quad.proofs.PartSizes.{AreLong as AreShort}
 use Rattle.direct_quad.proofs.RowSums.{weight-below, weight-place_other}
-use Rattle.direct_quad.proofs.SortedAdditions.{AreLong-table}
+use Rattle.long_terms.proofs.SortedAdditions.{AreLong-table}
 use Rattle.direct_quad.proofs.SummedRows.{no_size, value-zeros}
 
 -- ---- the weights of more nodes

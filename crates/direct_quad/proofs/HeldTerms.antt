@@ -21,9 +21,9 @@ use Rattle.term_table.proofs.Additions.{terms_total-cons}
 use Rattle.term_table.proofs.Loops.{total-with_more}
 use Rattle.term_table.proofs.SmallSets.{IsLiteralSet-ascends}
 use Rattle.pair_sums.specs.Pairs.{IsPair}
-use Rattle.direct_quad.specs.Parts.{short_terms}
+use Rattle.long_terms.specs.Apart.{short_terms}
 use Rattle.direct_quad.specs.Places.{Share, share_at, short_couplers, short_shares, short_constant}
-use Rattle.direct_quad.specs.Long.{product_term}
+use Rattle.long_terms.specs.Long.{product_term}
 use Rattle.direct_quad.specs.RowSums.{size_of, with_weight}
 use Rattle.direct_quad.specs.Held.{HeldContent, AreHeld, IsHeld, Gain}
 use Rattle.direct_quad.proofs.Gathering.{short-more, long-more}

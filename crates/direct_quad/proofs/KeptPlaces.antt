@@ -5,9 +5,9 @@ use Rattle.std.proofs.lemmas.List.{drop_more}
 use Rattle.bits_model.specs.declared.output.Entry.{Entry}
 use Rattle.direct_quad.specs.declared.heads.Head.{Head}
 use Rattle.term_table.specs.Tables.{TableContent}
-use Rattle.direct_quad.specs.Places.{Place}
-use Rattle.direct_quad.specs.Long.{node_count, IsPlaceOf}
-use Rattle.direct_quad.specs.Occurrences.{places_in_term, places_at}
+use Rattle.long_terms.specs.Places.{Place}
+use Rattle.long_terms.specs.Long.{node_count, IsPlaceOf}
+use Rattle.long_terms.specs.Occurrences.{places_in_term, places_at}
 use Rattle.direct_quad.specs.RowSums.{node_part, head_of, head_part, IsHead}
 
 -- one key more

@@ -13,12 +13,13 @@ use Rattle.term_table.specs.Terms.{Term}
 use Rattle.term_table.specs.Tables.{TableContent}
 use Rattle.term_table.proofs.SmallSets.{IsBelow, Ascend}
 use Rattle.monomial_layer.specs.Monomials.{new_nodes}
-use Rattle.direct_quad.specs.Places.{Place, pair_coupler, places_in, term_places, all_places}
-use Rattle.direct_quad.specs.Rows.{is_at, places_of}
+use Rattle.long_terms.specs.Places.{Place, places_in, term_places, all_places}
+use Rattle.direct_quad.specs.Places.{pair_coupler}
+use Rattle.long_terms.specs.Places.{is_at, places_of}
 use Rattle.direct_quad.specs.RowSums.{with_weight, with_entries, size_of, pair_part}
-use Rattle.direct_quad.specs.Occurrences.{has_variable, occurrences, term_at, places_in_term, places_at, IsOccurrence}
+use Rattle.long_terms.specs.Occurrences.{has_variable, occurrences, term_at, places_in_term, places_at, IsOccurrence}
 use Rattle.direct_quad.proofs.SummedRows.{length-with_weight, size-with_weight}
-use Rattle.direct_quad.proofs.LongPlaces.{none_above}
+use Rattle.long_terms.proofs.LongPlaces.{none_above}
 
 -- ---- weights of many entries
 

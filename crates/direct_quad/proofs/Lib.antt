@@ -1,4 +1,4 @@
-pub mod Additive
+pub mod MultipliedOut
 pub mod Split
 pub mod AtOnce
 pub mod TwoLiterals
@@ -7,8 +7,6 @@ pub mod AllParts
 pub mod RowSums
 pub mod SummedRows
 pub mod KeyLists
-pub mod OccurrenceLists
-pub mod LongPlaces
 pub mod KeyPlaces
 pub mod RowForms
 pub mod Guarded
@@ -16,8 +14,6 @@ pub mod Gathering
 pub mod PartSizes
 pub mod PartPairs
 pub mod RowRuns
-pub mod SortedAdditions
-pub mod SetKeys
 pub mod HeldTerms
 pub mod GainedShares
 pub mod HeldSums
@@ -26,3 +22,4 @@ pub mod PairRows
 pub mod FlatTables
 pub mod RoomForSums
 pub mod HeldParts
+pub mod NoNewNodes

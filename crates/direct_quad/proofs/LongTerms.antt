@@ -18,8 +18,10 @@ use Rattle.monomial_layer.specs.Monomials.{node, with_each, each_with, pair_term
 use Rattle.monomial_layer.specs.laws.Positive.{pairs, pairs_is, factor_cases}
 use Rattle.pair_sums.specs.Pairs.{weight_for, weight_at}
 use Rattle.direct_quad.specs.Parts.{sum_for}
-use Rattle.direct_quad.specs.Places.{signed, complements, pairs_among, pair_coupler, node_coupler, node_couplers, Place, place_couplers, places_in, term_places, Share, share_at, literal_share, node_share, node_shares, term_shares, long_constant}
-use Rattle.direct_quad.proofs.Additive.{Amount, given, share_of, sum_for-given}
+use Rattle.direct_quad.specs.Places.{signed, complements, pairs_among, pair_coupler, node_coupler, node_couplers, place_couplers, Share, share_at, literal_share, node_share, node_shares, term_shares, long_constant}
+use Rattle.long_terms.specs.Places.{Place, places_in, term_places}
+use Rattle.long_terms.proofs.Additive.{Amount, given}
+use Rattle.direct_quad.proofs.MultipliedOut.{share_of, sum_for-given}
 use Rattle.direct_quad.proofs.TwoLiterals.{constant-two, share-one, share-two, pair-one, pair-two}
 
 -- ---- sums and counts

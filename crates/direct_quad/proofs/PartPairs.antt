@@ -10,7 +10,7 @@ use Rattle.term_table.proofs.KeptTerms.{OfSet, All-with_additions}
 use Rattle.term_table.proofs.SmallSets.{Ascend, IsLiteralSet-ascends}
 use Rattle.monomial_layer.specs.Monomials.{is_low}
 use Rattle.pair_sums.specs.Pairs.{IsPair}
-use Rattle.direct_quad.specs.Parts.{is_long, short_terms, long_additions, long_terms}
+use Rattle.long_terms.specs.Apart.{is_long, short_terms, long_additions, long_terms}
 use Rattle.direct_quad.specs.Places.{signed, Share, moved_share, short_shares, short_couplers}
 
 -- the variables lie below n

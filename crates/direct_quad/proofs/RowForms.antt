@@ -22,14 +22,16 @@ use Rattle.quad_form.specs.Quads.{IsCoupler}
 use Rattle.pair_sums.specs.Pairs.{IsPair, IsNonzero, weight_for, weight_at}
 use Rattle.pair_sums.proofs.PairOrder.{Before, Rises, ordered_from_rising}
 use Rattle.quad_form.proofs.UniqueForms.{couplers_are_pairs}
-use Rattle.direct_quad.specs.Places.{Place, signed, pair_coupler, node_coupler, node_couplers, place_couplers, term_places, all_places}
-use Rattle.direct_quad.specs.Rows.{row_of, is_at, places_of, IsRow}
-use Rattle.direct_quad.specs.Long.{node_count, place_nodes, AreLong}
+use Rattle.long_terms.specs.Places.{Place, term_places, all_places}
+use Rattle.direct_quad.specs.Places.{signed, pair_coupler, node_coupler, node_couplers, place_couplers}
+use Rattle.direct_quad.specs.Rows.{row_of, IsRow}
+use Rattle.long_terms.specs.Places.{is_at, places_of}
+use Rattle.long_terms.specs.Long.{node_count, place_nodes, AreLong}
 use Rattle.direct_quad.specs.RowSums.{with_entries, AreFrom, AreSums, pair_part, node_part}
 use Rattle.direct_quad.proofs.RowSums.{weight-row, places_make_rows}
 use Rattle.direct_quad.proofs.SummedRows.{AreOf, AreFrom-weaker, value-with_entries, value-zeros, length-with_entries}
 use Rattle.direct_quad.proofs.KeyLists.{factor-low, factor-le}
-use Rattle.direct_quad.proofs.LongPlaces.{long_nodes}
+use Rattle.long_terms.proofs.LongPlaces.{long_nodes}
 use Rattle.direct_quad.proofs.KeyPlaces.{IsNone, IsOnly, term_cases}
 
 -- ---- entries in order

@@ -14,11 +14,13 @@ use Rattle.term_table.proofs.SmallSets.{IsLiteralSet-ascends}
 use Rattle.monomial_layer.specs.Monomials.{new_nodes}
 use Rattle.quad_form.specs.Quads.{IsCoupler}
 use Rattle.pair_sums.proofs.PairOrder.{ordered_from_rising}
-use Rattle.direct_quad.specs.Places.{Place, signed, pair_coupler, term_places, all_places}
-use Rattle.direct_quad.specs.Rows.{row_of, is_at, places_of, AreRows}
-use Rattle.direct_quad.specs.Long.{node_at}
+use Rattle.long_terms.specs.Places.{Place, term_places, all_places}
+use Rattle.direct_quad.specs.Places.{signed, pair_coupler}
+use Rattle.direct_quad.specs.Rows.{row_of, AreRows}
+use Rattle.long_terms.specs.Places.{is_at, places_of}
+use Rattle.long_terms.specs.Long.{node_at}
 use Rattle.direct_quad.specs.RowSums.{pair_part}
-use Rattle.direct_quad.specs.Occurrences.{occurrences, places_in_term, places_at, IsOccurrence}
+use Rattle.long_terms.specs.Occurrences.{occurrences, places_in_term, places_at, IsOccurrence}
 use Rattle.direct_quad.proofs.KeyLists.{size-signed}
 use Rattle.direct_quad.proofs.KeyPlaces.{IsNone, IsOnly, term_cases, weight_total-append, places_are, occurrences-are}
 use Rattle.direct_quad.proofs.RowForms.{IsKept}

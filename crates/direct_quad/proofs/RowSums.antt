@@ -17,8 +17,10 @@ use Rattle.quad_form.specs.Quads.{IsCoupler}
 use Rattle.pair_sums.specs.Pairs.{weight_for, weight_at}
 use Rattle.pair_sums.proofs.PairOrder.{Before, Rises, ordered_from_rising, rising_from_ordered}
 use Rattle.quad_form.proofs.UniqueForms.{couplers_are_pairs}
-use Rattle.direct_quad.specs.Places.{pair_coupler, node_coupler, node_couplers, Place, place_couplers}
-use Rattle.direct_quad.specs.Rows.{is_at, row_of, places_of, IsRow, AreRows}
+use Rattle.direct_quad.specs.Places.{pair_coupler, node_coupler, node_couplers, place_couplers}
+use Rattle.long_terms.specs.Places.{Place}
+use Rattle.long_terms.specs.Places.{is_at, places_of}
+use Rattle.direct_quad.specs.Rows.{row_of, IsRow, AreRows}
 
 -- ---- entries of other rows
 

@@ -1,5 +1,5 @@
 -- Weights that are summed in a place for each second node, and taken out again in order.
-use Rattle.std.proofs.Common.{◌≡◌, ◌≢◌, inl, inr, ℕ, zero, suc, ◌+◌, ◌<◌, ◌≤◌, ◌^◌, Bool, true, false, ◌&&◌, eqb, arith, sym, ap, ◌∙◌, refl, subst, List, [], ◌∷◌, ◌++◌, length, get_or, set, replicate, append-nil, append_assoc, take, drop, ℤ, pos, ◌+ℤ◌, unsigned_abs, if◌then◌else◌}
+use Rattle.std.proofs.Common.{◌≡◌, ◌≢◌, inl, inr, ℕ, zero, suc, ◌+◌, ◌<◌, ◌≤◌, ◌^◌, Bool, true, false, ◌&&◌, eqb, arith, sym, ap, ◌∙◌, refl, subst, List, [], ◌∷◌, ◌++◌, length, get_or, set, replicate, append_assoc, ℤ, pos, ◌+ℤ◌, unsigned_abs, if◌then◌else◌}
 use Rattle.std.specs.Prelude.{All, Contains}
 use Rattle.std.specs.List.{AllByRecursion}
 use Rattle.std.specs.Bool.{Decides}
@@ -7,7 +7,7 @@ use Rattle.std.specs.Ordering.{int_eq}
 use Rattle.std.proofs.lemmas.Int.{ints}
 use Rattle.std.proofs.lemmas.Bool.{cases_lt, eq-eqb}
 use Rattle.std.proofs.lemmas.Bool.Decides.{Decides-eqb, Decides-int_eq}
-use Rattle.std.proofs.lemmas.List.{drop_all, take_all, length-set, length-replicate, get_or-set_same, get_or-set_other, get_or_past, get_or-replicate, ext_get_or}
+use Rattle.std.proofs.lemmas.List.{length-set, length-replicate, get_or-set_same, get_or-set_other, get_or_past, get_or-replicate, ext_get_or}
 use Rattle.std.proofs.lemmas.List.Sums.{sum_by-cons, sum_by-set, get_or-le-sum_by}
 use Rattle.std.proofs.lemmas.List.Elements.{All-from_recursion, All-nil, All-push, Contains-append_left, Contains-push}
 use Rattle.std.specs.List.Sorted.{IsPermutation}
@@ -480,12 +480,3 @@ touched_kept sums left touched moved h permuted size kept =
       within = subst P (sym size) (All-permutation (λ i. i < length sums) touched moved permuted h.within);
       narrow = subst Q (sym size) h.narrow;
     }
-
--- ---- a list after its items were changed as those of a slice
-
-pub changed : {X : Type 0} (xs ys : List X) (n : ℕ) → length xs ≡ n → length ys ≡ n
-    → take n (ys ++ drop (length ys) xs) ≡ ys
-changed xs ys n size same =
-    let none : drop (length ys) xs ≡ [] = drop_all (length ys) xs (omega (arith, size, same)) in
-    let whole : ys ++ drop (length ys) xs ≡ ys = ap (λ r. ys ++ r) none ∙ append-nil ys in
-    ap (take n) whole ∙ take_all n ys (omega (arith, same))

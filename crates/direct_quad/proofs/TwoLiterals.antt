@@ -12,7 +12,7 @@ use Rattle.pair_sums.specs.Pairs.{weight_for, weight_at}
 use Rattle.quad_form.specs.laws.Flattened.{one_out, two_out}
 use Rattle.quad_form.proofs.UniqueForms.{then_less, then_greater, one_is, two_are}
 use Rattle.direct_quad.specs.Places.{signed, pair_coupler, Share, share_at, short_couplers, short_shares, short_constant}
-use Rattle.direct_quad.proofs.Additive.{share_of}
+use Rattle.direct_quad.proofs.MultipliedOut.{share_of}
 
 -- ---- the constant
 

@@ -8,8 +8,10 @@ use Rattle.bits_model.specs.Output.{entry_cmp}
 use Rattle.term_table.specs.Tables.{TableContent}
 use Rattle.quad_form.specs.Quads.{QuadContent, IsCoupler}
 use Rattle.pair_sums.specs.Pairs.{weight_at}
-use Rattle.direct_quad.specs.Parts.{short_terms, long_terms, all_nodes}
-use Rattle.direct_quad.specs.Places.{Share, share_at, short_couplers, short_shares, short_constant, place_couplers, all_places, all_shares, long_constant}
+use Rattle.long_terms.specs.Apart.{short_terms, long_terms}
+use Rattle.direct_quad.specs.Parts.{all_nodes}
+use Rattle.direct_quad.specs.Places.{Share, share_at, short_couplers, short_shares, short_constant, place_couplers, all_shares, long_constant}
+use Rattle.long_terms.specs.Places.{all_places}
 
 -- ---- what all parts give
 

@@ -11,9 +11,9 @@ use Rattle.term_table.specs.Terms.{Term, terms_total, IsTermSet}
 use Rattle.term_table.specs.Tables.{TableContent}
 use Rattle.penalty_layer.specs.Gathered.{squares}
 use Rattle.pair_sums.specs.Pairs.{IsPair}
-use Rattle.direct_quad.specs.Parts.{short_terms, long_additions}
+use Rattle.long_terms.specs.Apart.{short_terms, long_additions}
 use Rattle.direct_quad.specs.Places.{Share, share_at, short_couplers, short_shares, short_constant}
-use Rattle.direct_quad.specs.Long.{product_term}
+use Rattle.long_terms.specs.Long.{product_term}
 use Rattle.direct_quad.specs.RowSums.{size_of}
 
 -- the sum of the sizes of all coefficients, then the constant, the weights of nodes and the couplers

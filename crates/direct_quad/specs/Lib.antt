@@ -6,7 +6,5 @@ pub mod Stated
 pub mod Direct
 pub mod FlatMonomials
 pub mod laws
-pub mod Long
 pub mod RowSums
-pub mod Occurrences
 pub mod Held

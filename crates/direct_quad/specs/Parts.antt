@@ -3,25 +3,22 @@
 -- In place of all new terms, those of at most two literals need not be summed before they are
 -- multiplied out, since the form has the sums of all. Longer ones are summed first: what stands for
 -- a term goes by the sign of its sum, and its new nodes are numbered in the order of the table.
-use Rattle.std.specs.Prelude.{◌≡◌, ℕ, ◌+◌, ◌<◌, ℤ, pos, Bool, not, List, [], ◌∷◌, ◌++◌, length, All}
-use Rattle.std.specs.List.{filter, slice_index_or, sum_by}
+use Rattle.std.specs.Prelude.{◌≡◌, ℕ, ◌+◌, ◌<◌, ℤ, pos, List, [], ◌∷◌, ◌++◌, length, All}
+use Rattle.std.specs.List.{slice_index_or, sum_by}
 use Rattle.std.specs.List.Sorted.{IsStrictlySortedBy}
 use Rattle.bits_model.specs.Output.{entry_cmp}
 use Rattle.literal_lists.specs.declared.literal.Literal.{Literal}
-use Rattle.term_table.specs.Terms.{Term, with_additions, coefficient_of}
+use Rattle.term_table.specs.Terms.{Term, coefficient_of}
 use Rattle.term_table.specs.Tables.{TableContent}
 use Rattle.term_table.specs.MultipliedOut.{contributions}
-use Rattle.monomial_layer.specs.Monomials.{node, is_low, new_nodes, all_new_terms}
+use Rattle.monomial_layer.specs.Monomials.{node, new_nodes, all_new_terms}
 use Rattle.monomial_layer.specs.Monomials as monomials
+use Rattle.long_terms.specs.Apart.{table_of, short_terms, long_terms}
 use Rattle.quad_form.specs.Quads.{QuadContent, IsCoupler}
 use Rattle.quad_form.specs.Flat as flat
 use Rattle.pair_sums.specs.Pairs.{weight_at}
 
 -- ---- three steps in a row
-
--- the table of additions
-abbrev pub table_of : TableContent → TableContent
-table_of t = record { width = t.width; terms = with_additions [] t.terms }
 
 -- additions summed to a table, its longer terms replaced, and the result multiplied out
 abbrev pub image : TableContent → QuadContent
@@ -29,25 +26,9 @@ image t = flat.image (monomials.image (table_of t))
 
 -- ---- short and long terms
 
--- three literals or more
-abbrev pub is_long : Term → Bool
-is_long t = not (is_low t)
-
--- the additions of at most two literals, in the order in which they came
-abbrev pub short_terms : List Term → List Term
-short_terms ts = filter is_low ts
-
--- the additions of three literals or more, in the order in which they came
-abbrev pub long_additions : List Term → List Term
-long_additions ts = filter is_long ts
-
 -- the additions of at most two literals alone
 abbrev pub short_part : TableContent → TableContent
 short_part t = record t { terms = short_terms t.terms }
-
--- the sums of the additions of three literals or more, in the order of a table
-abbrev pub long_terms : List Term → List Term
-long_terms ts = with_additions [] (long_additions ts)
 
 -- the variables, and the new nodes of the long terms
 abbrev pub all_nodes : TableContent → ℕ

@@ -10,6 +10,7 @@ use Rattle.base.specs.Sums.{total_by, if_so}
 use Rattle.bits_model.specs.declared.output.Entry.{Entry}
 use Rattle.literal_lists.specs.declared.literal.Literal.{Literal}
 use Rattle.term_table.specs.Terms.{Term}
+use Rattle.long_terms.specs.Places.{Place}
 use Rattle.monomial_layer.specs.Monomials.{factor, nodes_for, new_nodes}
 
 -- a number, whose sign a complement turns
@@ -44,15 +45,6 @@ node_couplers l d c n zero = []
 node_couplers l d c n (suc k) =
     node_couplers l d c n k ++ node_coupler l (neg_ℤ (c *ℤ pos (factor d k))) (n + k) ∷ []
 
--- a literal in a long term, the literals after it, and the term's degree, coefficient and first
--- new node
-pub record Place : Type 0 where
-  pub literal : Literal
-  pub later : List Literal
-  pub degree : ℕ
-  pub coefficient : ℤ
-  pub first_node : ℕ
-
 -- the couplers of a literal with those after it, and with the new nodes
 abbrev pub place_couplers : Place → List Entry
 place_couplers p =
@@ -62,22 +54,6 @@ place_couplers p =
     map (pair_coupler p.literal p.coefficient) p.later
     ++ node_couplers p.literal p.degree p.coefficient p.first_node (nodes_for p.degree)
     )
-
--- the places of these literals in a term
-abbrev pub places_in : List Literal → ℕ → ℤ → ℕ → List Place
-places_in [] d c n = []
-places_in (l ∷ ls) d c n =
-    record { literal = l; later = ls; degree = d; coefficient = c; first_node = n }
-    ∷ places_in ls d c n
-
--- the places of a term, whose new nodes are numbered from n on
-abbrev pub term_places : Term → ℕ → List Place
-term_places t n = places_in t.0 (length t.0) t.1 n
-
--- the places of long terms, their new nodes being numbered from n on
-abbrev pub all_places : List Term → ℕ → List Place
-all_places [] n = []
-all_places (t ∷ ts) n = term_places t n ++ all_places ts (n + new_nodes t)
 
 -- the coupler of a term of two literals
 abbrev pub short_couplers : Term → List Entry

@@ -8,7 +8,8 @@ use Rattle.bits_model.specs.declared.output.Entry.{Entry}
 use Rattle.pair_sums.specs.Pairs.{weight_at, IsNonzero, entry_in_front}
 use Rattle.monomial_layer.specs.Monomials.{nodes_for}
 use Rattle.direct_quad.specs.declared.heads.Head.{Head}
-use Rattle.direct_quad.specs.Places.{Place, pair_coupler, node_coupler, node_couplers}
+use Rattle.long_terms.specs.Places.{Place}
+use Rattle.direct_quad.specs.Places.{pair_coupler, node_coupler, node_couplers}
 
 -- a weight added to that of a second node
 abbrev pub with_weight : List ℤ → ℕ → ℤ → List ℤ

@@ -9,7 +9,6 @@ use Rattle.bits_model.specs.declared.output.Entry.{Entry}
 use Rattle.bits_model.specs.Output.{entry_cmp}
 use Rattle.quad_form.specs.Quads.{IsCoupler}
 use Rattle.pair_sums.specs.Pairs.{weight_at}
-use Rattle.direct_quad.specs.Places.{Place}
 
 -- the first node of the entry is i
 abbrev pub is_of : ℕ → Entry → Bool
@@ -18,14 +17,6 @@ is_of i e = i == e.first
 -- the entries of one row
 abbrev pub row_of : ℕ → List Entry → List Entry
 row_of i es = filter (is_of i) es
-
--- the literal at the place has this variable
-abbrev pub is_at : ℕ → Place → Bool
-is_at i p = i == p.literal.variable
-
--- the places of one variable
-abbrev pub places_of : ℕ → List Place → List Place
-places_of i ps = filter (is_at i) ps
 
 -- the couplers of a row, in order and none of them 0, with the sums of what is to be summed
 pub record IsRow (nodes i : ℕ) (all row : List Entry) : Type 0 where

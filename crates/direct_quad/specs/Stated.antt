@@ -8,10 +8,13 @@ use Rattle.term_table.specs.Tables.{TableContent, AreAdditions, table_size}
 use Rattle.monomial_layer.specs.Monomials.{node, new_terms}
 use Rattle.quad_form.specs.Quads.{QuadContent, quad_total, quad_size, IsQuad}
 use Rattle.pair_sums.specs.Pairs.{weight_at}
-use Rattle.direct_quad.specs.Parts.{table_of, image, all_nodes, parts, sum_for, GivesSums}
-use Rattle.direct_quad.specs.Places.{Place, term_places, place_couplers, share_at, term_shares, long_constant}
+use Rattle.long_terms.specs.Apart.{table_of}
+use Rattle.direct_quad.specs.Parts.{image, all_nodes, parts, sum_for, GivesSums}
+use Rattle.long_terms.specs.Places.{Place, term_places}
+use Rattle.direct_quad.specs.Places.{place_couplers, share_at, term_shares, long_constant}
 use Rattle.direct_quad.specs.Gathered.{IsSumOf}
-use Rattle.direct_quad.specs.Rows.{places_of, IsRow, AreRows}
+use Rattle.long_terms.specs.Places.{places_of}
+use Rattle.direct_quad.specs.Rows.{IsRow, AreRows}
 
 -- the numbers of the form fit their fields
 pub record IsWithin (t : TableContent) : Type 0 where

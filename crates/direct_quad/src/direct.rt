@@ -1,9 +1,10 @@
 //! The guard from a problem to its quadratic form.
+use crate::extending::extended;
 use crate::gathered::{DirectTerms, Sums};
 use base::{Costed, Figures, NoMemory};
 use form_steps::{BitsLink, Guard, Guarded, Layer};
 use monomial_layer::Monomials;
-use penalty_layer::{Penalty, add_contributions, node_count};
+use penalty_layer::{add_contributions, node_count};
 use problem_form::Problem;
 use quad_form::{NumberList, Quad};
 use std::alloc::Global;
@@ -99,12 +100,6 @@ impl Guard for DirectQuad {
         link: &BitsLink,
         x: &[bool],
     ) -> Result<Vec<bool>, NoMemory> {
-        let guarded = Penalty.guard(alloc, source)?;
-        let y = Penalty.extend(alloc, source, &guarded.link, x)?;
-        let nodes = BitsLink {
-            source_width: guarded.link.target_width,
-            target_width: link.target_width,
-        };
-        Monomials.extend(alloc, &guarded.target, &nodes, &y)
+        extended(alloc, source, link.target_width, x)
     }
 }

@@ -3,13 +3,13 @@ ghost use Rattle.std.specs.Prelude.{◌≡◌, ◌+◌, ◌*◌, ◌≤◌, ◌<
 ghost use Rattle.problem_form.specs.Problems.{products_total};
 ghost use Rattle.term_table.specs.Terms.{IsTermSet};
 ghost use Rattle.term_table.specs.Tables.{TableContent, AreAdditions, with_appended};
-ghost use Rattle.direct_quad.specs.Parts.{image, short_part, table_of};
-ghost use Rattle.direct_quad.specs.Long.{terms_of, node_count};
+ghost use Rattle.direct_quad.specs.Parts.{image, short_part};
+ghost use Rattle.long_terms.specs.Apart.{table_of};
+ghost use Rattle.long_terms.specs.Long.{terms_of, node_count};
 ghost use Rattle.direct_quad.specs.Held.{AreHeld, HasPlaces};
 ghost use Rattle.direct_quad.specs.Gathered.{IsSumOf};
 ghost use Rattle.direct_quad.specs.Stated.{IsWithin};
 
-use crate::long_table::LongTable;
 use crate::rows::couplers_of;
 use crate::shares::with_long;
 use crate::short::{add_short_shares, constant_of, push_short};
@@ -18,6 +18,7 @@ use base::NoMemory;
 use bits_model::CouplerList;
 use literal_lists::Literal;
 use pair_sums::GatheredPairs;
+use long_terms::LongTable;
 use problem_form::ProductList;
 use quad_form::{NumberList, Quad};
 use std::alloc::Global;

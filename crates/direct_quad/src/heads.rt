@@ -6,11 +6,12 @@ ghost use Rattle.monomial_layer.specs.Monomials.{nodes_for};
 ghost use Rattle.direct_quad.specs.Places.{node_couplers};
 ghost use Rattle.direct_quad.specs.RowSums.{head_of, head_part, IsHead};
 
-use crate::long_table::PlaceRef;
-use crate::new_nodes::{factor, nodes_for, signed};
+use crate::weights::signed;
 use base::NoMemory;
 use bits_model::CouplerList;
 use literal_lists::Literal;
+use long_terms::PlaceRef;
+use monomial_layer::{factor, nodes_for};
 
 /// A literal in a long term, and the term's degree, coefficient and first new node.
 #[derive(Clone, Copy)]
@@ -49,7 +50,7 @@ fn push_nodes(
 {
     let first = literal.variable as u32;
     for k in 0..nodes_for(degree) {
-        let weight = signed(literal, -(coefficient * factor(degree, k)));
+        let weight = signed(literal, -(coefficient * i128::from(factor(degree, k))));
         couplers.push(first, first_node + k as u32, weight)?;
     }
     Ok(())

@@ -11,22 +11,22 @@ ghost use Rattle.bits_model.specs.Output.{weight_total};
 ghost use Rattle.literal_lists.specs.declared.literal.Literal.{Literal};
 ghost use Rattle.term_table.specs.Terms.{terms_total};
 ghost use Rattle.pair_sums.specs.Pairs.{IsPair};
-ghost use Rattle.direct_quad.specs.Places.{pair_coupler, place_couplers, all_places};
+ghost use Rattle.direct_quad.specs.Places.{pair_coupler, place_couplers};
+ghost use Rattle.long_terms.specs.Places.{all_places};
 ghost use Rattle.direct_quad.specs.Rows.{row_of, AreRows};
 ghost use Rattle.direct_quad.specs.Rows.{AreFromRow, AreAfterRow};
-ghost use Rattle.direct_quad.specs.Long.{node_count};
+ghost use Rattle.long_terms.specs.Long.{node_count};
 ghost use Rattle.direct_quad.specs.RowSums.{with_entries, size_of, pair_part, node_part, head_of, IsHead, AppendsBoth};
-ghost use Rattle.direct_quad.specs.Occurrences.{places_at, IsOccurrence};
+ghost use Rattle.long_terms.specs.Occurrences.{places_at, IsOccurrence};
 
 use crate::accumulator::Accumulator;
 use crate::heads::{Head, head_of, push_heads};
-use crate::long_table::{LongTable, PlaceRef};
-use crate::new_nodes::signed;
-use crate::occurrences::Occurrences;
+use crate::weights::signed;
 use base::NoMemory;
 use bits_model::CouplerList;
 use literal_lists::{Literal, Literals};
 use pair_sums::{GatheredPairs, Pairs};
+use long_terms::{LongTable, Occurrences, PlaceRef};
 use std::alloc::Global;
 
 /// Adds the weights of a variable's pairs, the first of those from an index on, and gives the index

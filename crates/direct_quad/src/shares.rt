@@ -5,15 +5,15 @@ ghost use Rattle.base.specs.Sums.{total_by};
 ghost use Rattle.term_table.specs.Terms.{terms_total, IsTermSet};
 ghost use Rattle.monomial_layer.specs.Monomials.{factor, nodes_for, new_nodes};
 ghost use Rattle.direct_quad.specs.Places.{complements, literal_share, node_share, node_shares, term_shares, all_shares, long_constant};
-ghost use Rattle.direct_quad.specs.Long.{node_count};
+ghost use Rattle.long_terms.specs.Long.{node_count};
 ghost use Rattle.direct_quad.specs.Held.{Gain, shares_total, widened};
 ghost use Rattle.direct_quad.specs.RowSums.{size_of};
 
-use crate::long_table::{LongTable, LongTerm};
-use crate::new_nodes::{factor, nodes_for};
 use crate::weights::{add_weight, widened};
 use base::NoMemory;
 use literal_lists::{Literal, Literals};
+use long_terms::{LongTable, LongTerm};
+use monomial_layer::{factor, nodes_for};
 
 /// How many literals are complements.
 fn complements(literals: Literals<'_>) -> usize
@@ -85,7 +85,7 @@ fn node_times(degree: usize, negated: usize, k: usize) -> i128
     requires place { 2 * k + 2 ≤ degree }
     ensures value { result ≡ pos (factor degree k) *ℤ (pos (2 * k + 2) -ℤ pos negated) -ℤ pos 1 }
 {
-    factor(degree, k) * ((2 * k + 2) as i128 - negated as i128) - 1
+    i128::from(factor(degree, k)) * ((2 * k + 2) as i128 - negated as i128) - 1
 }
 
 /// What the new node after k others of a positive term adds to its own weight.

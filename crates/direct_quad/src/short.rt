@@ -5,8 +5,7 @@ ghost use Rattle.direct_quad.specs.Places.{moved_share, signed, short_constant, 
 ghost use Rattle.direct_quad.specs.Held.{Gain};
 ghost use Rattle.direct_quad.specs.RowSums.{size_of};
 
-use crate::new_nodes::signed;
-use crate::weights::add_weight;
+use crate::weights::{add_weight, signed};
 use base::NoMemory;
 use literal_lists::Literal;
 use pair_sums::GatheredPairs;

@@ -1,9 +1,20 @@
 //! The weights of nodes, to which terms add.
 ghost use Rattle.std.specs.Prelude.{◌≡◌, ◌+◌, ◌≤◌, ◌<◌, ◌^◌, IfOk, length, unsigned_abs};
+ghost use Rattle.direct_quad.specs.Places.{signed};
 ghost use Rattle.direct_quad.specs.Held.{widened};
 ghost use Rattle.direct_quad.specs.RowSums.{size_of, with_weight};
 
 use base::NoMemory;
+use literal_lists::Literal;
+
+/// A weight, whose sign a complement turns.
+#[inline(always)]
+pub(crate) fn signed(literal: Literal, weight: i128) -> i128
+    requires { unsigned_abs weight ≤ 2 ^ 126 }
+    ensures { result ≡ signed literal weight }
+{
+    if literal.negated { -weight } else { weight }
+}
 
 /// Adds to the weight of a node.
 #[inline(always)]

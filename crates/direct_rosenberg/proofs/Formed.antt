@@ -19,9 +19,10 @@ use Rattle.rosenberg_layer.proofs.Growth.{total-weights, weights-table}
 use Rattle.rosenberg_layer.proofs.Turns.{excess-size, width-pairs}
 use Rattle.quad_form.specs.Quads.{QuadContent}
 use Rattle.quad_form.specs.Flat as flat
-use Rattle.direct_quad.specs.Parts.{all_nodes, long_additions, table_of}
+use Rattle.direct_quad.specs.Parts.{all_nodes}
+use Rattle.long_terms.specs.Apart.{long_additions, table_of}
 use Rattle.direct_quad.specs.Parts as direct
-use Rattle.direct_quad.specs.laws.Between.{IsTable-table_of}
+use Rattle.long_terms.proofs.Apart.{IsTable-table_of}
 use Rattle.direct_quad.specs.laws.FlatKept.{table_of-table}
 use Rattle.direct_rosenberg.specs.ByPairs.{image}
 

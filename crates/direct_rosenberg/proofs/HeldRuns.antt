@@ -24,14 +24,16 @@ use Rattle.rosenberg_layer.proofs.Growth.{total-weights, weights-table}
 use Rattle.rosenberg_layer.proofs.Turns.{width-pairs}
 use Rattle.quad_form.specs.Quads.{QuadContent}
 use Rattle.quad_form.specs.Flat as flat
-use Rattle.direct_quad.specs.Parts.{all_nodes, long_additions, short_part, short_terms, table_of}
+use Rattle.direct_quad.specs.Parts.{all_nodes, short_part}
+use Rattle.long_terms.specs.Apart.{long_additions, short_terms, table_of}
+use Rattle.long_terms.specs.Apart as apart
 use Rattle.direct_quad.specs.Parts as direct
-use Rattle.direct_quad.specs.Long.{product_term, terms_of}
 use Rattle.direct_quad.specs.Held.{HeldContent, AreHeld, HasPlaces}
+use Rattle.long_terms.specs.Long.{product_term, terms_of}
 use Rattle.direct_quad.specs.Stated.{IsWithin}
-use Rattle.direct_quad.specs.laws.Between.{IsTable-table_of}
+use Rattle.long_terms.proofs.Apart.{IsTable-table_of}
 use Rattle.direct_quad.specs.laws.FlatKept.{table_of-table}
-use Rattle.direct_quad.proofs.SortedAdditions.{long_of}
+use Rattle.long_terms.proofs.SortedAdditions.{long_of}
 use Rattle.direct_quad.proofs.Split.{nodes-table}
 use Rattle.rosenberg_layer.specs.Added.{moved_of}
 use Rattle.direct_rosenberg.specs.ByPairs.{image, FitsByPairs, IsRunOf}
@@ -44,7 +46,7 @@ long_length n e = grind (arith, nat_tests)
 
 total-parts : (ts : List Term)
     → terms_total (short_terms ts) + terms_total (long_additions ts) ≡ terms_total ts
-total-parts ts = sum_by-filter_both is_low direct.is_long (λ t. refl) (λ (t : Term). unsigned_abs t.1) ts
+total-parts ts = sum_by-filter_both is_low apart.is_long (λ t. refl) (λ (t : Term). unsigned_abs t.1) ts
 
 -- the short additions are additions
 pub short-additions : (t : TableContent) → AreAdditions t → AreAdditions (short_part t)
@@ -75,7 +77,7 @@ module _ (t : TableContent) (h : HeldContent) (room : FitsByPairs t) (held : Are
     long-additions =
         subst AreAdditions (sym long-is)
         (record {
-          sets = All-filter direct.is_long (λ (u : Term). IsTermSet t.width u.0) t.terms room.additions.sets;
+          sets = All-filter apart.is_long (λ (u : Term). IsTermSet t.width u.0) t.terms room.additions.sets;
           small = omega (arith, room.additions.small, total-parts t.terms);
         })
 
@@ -97,8 +99,8 @@ module _ (t : TableContent) (h : HeldContent) (room : FitsByPairs t) (held : Are
   long-lengths =
       let L : Term → Type 0 = λ u. 3 ≤ length u.0 in
       let all =
-      All-weaker (λ (u : Term). direct.is_long u ≡ true) L (λ (u : Term) e. long_length (length u.0) e)
-      (long_additions t.terms) (filter_passes direct.is_long t.terms) in
+      All-weaker (λ (u : Term). apart.is_long u ≡ true) L (λ (u : Term) e. long_length (length u.0) e)
+      (long_additions t.terms) (filter_passes apart.is_long t.terms) in
       long_of h.long (subst (All L) (sym held.long) all)
 
   -- ---- what the run adds

@@ -22,14 +22,15 @@ use Rattle.rosenberg_layer.specs.Rosenberg.{excess, is_long, pairs_of, run}
 use Rattle.rosenberg_layer.specs.Steps.{is_short}
 use Rattle.rosenberg_layer.specs.Parts.{weights, AreParts}
 use Rattle.rosenberg_layer.proofs.Parts.{filter-ascends}
-use Rattle.direct_quad.specs.Parts.{long_additions, short_terms}
-use Rattle.direct_quad.specs.Parts as direct
 use Rattle.direct_quad.specs.Long.{product_term, terms_of}
-use Rattle.direct_quad.proofs.Additive.{Amount, IsAdditive, additive-only, given-filter, given-with_additions, only}
 use Rattle.direct_quad.proofs.LongPlaces.{term_from_product}
-use Rattle.direct_quad.proofs.Split.{filter-with_additions, is_short_set}
 use Rattle.rosenberg_layer.specs.Added.{moved_of}
 use Rattle.direct_rosenberg.specs.ByPairs.{IsRunOf}
+use Rattle.long_terms.specs.Apart.{long_additions, short_terms}
+use Rattle.long_terms.specs.Apart as apart
+use Rattle.long_terms.specs.Long.{product_term, AreLong}
+use Rattle.long_terms.proofs.Additive.{Amount, IsAdditive, additive-only, given-filter, given-with_additions, only}
+use Rattle.long_terms.proofs.Apart.{filter-with_additions, is_short_set}
 
 -- ---- long and short terms
 
@@ -53,7 +54,7 @@ filter-same f g same (t ∷ ts) =
     λ i. cond (same t i) (t ∷ filter-same f g same ts i) (filter-same f g same ts i)
 
 long-part : (ts : List Term) → filter is_long ts ≡ long_additions ts
-long-part ts = filter-same is_long direct.is_long (λ t. high-test (length t.0)) ts
+long-part ts = filter-same is_long apart.is_long (λ t. high-test (length t.0)) ts
 
 short-part : (ts : List Term) → filter is_short ts ≡ short_terms ts
 short-part ts =

@@ -1,5 +1,5 @@
 -- What a problem adds has room in a form, and its pairs are few.
-use Rattle.std.proofs.Common.{◌≡◌, ℕ, ◌+◌, ◌*◌, ◌≤◌, ◌^◌, Bool, true, false, leb, cond, arith, refl, sym, ap, ◌∙◌, List, [], ◌∷◌, ◌++◌, length, map, length-append}
+use Rattle.std.proofs.Common.{◌≡◌, ℕ, ◌*◌, ◌≤◌, ◌^◌, Bool, true, false, leb, cond, arith, refl, sym, ap, ◌∙◌, List, [], ◌∷◌, ◌++◌, length, map, length-append}
 use Rattle.std.specs.List.{filter, flat_map}
 use Rattle.std.proofs.lemmas.Bool.Decides.{nat_tests}
 use Rattle.std.proofs.lemmas.List.Sums.{sum_by-cons}
@@ -16,14 +16,14 @@ use Rattle.penalty_layer.proofs.Gathering.{squares-append}
 use Rattle.penalty_layer.proofs.Sizes.{squares_within}
 use Rattle.rosenberg_layer.specs.declared.run.Run.{Run}
 use Rattle.rosenberg_layer.specs.Rosenberg.{is_long}
-use Rattle.direct_quad.specs.Parts.{long_additions, short_terms, table_of}
+use Rattle.long_terms.specs.Apart.{long_additions, short_terms, table_of}
 use Rattle.direct_quad.specs.Places.{short_couplers}
-use Rattle.direct_quad.specs.Long.{terms_of}
-use Rattle.direct_quad.specs.Long.{product_term as term_of}
+use Rattle.long_terms.specs.Long.{terms_of}
+use Rattle.long_terms.specs.Long.{product_term as term_of}
 use Rattle.direct_quad.specs.Direct.{additions_of}
 use Rattle.direct_quad.specs.Held.{HeldContent, AreHeld}
-use Rattle.direct_quad.specs.laws.Between.{IsTable-table_of}
-use Rattle.direct_quad.specs.laws.Relaxing.{AreAdditions-of, total-additions}
+use Rattle.long_terms.proofs.Apart.{IsTable-table_of}
+use Rattle.long_terms.proofs.KeptTerms.{AreAdditions-of, total-additions}
 use Rattle.direct_quad.proofs.HeldTerms.{more-pairs}
 use Rattle.direct_rosenberg.specs.ByPairs.{FitsByPairs, IsRunOf}
 use Rattle.direct_rosenberg.proofs.LongRuns.{long-table, size-long}

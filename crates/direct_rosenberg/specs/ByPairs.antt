@@ -12,7 +12,7 @@ use Rattle.rosenberg_layer.specs.Parts.{weights, AreParts}
 use Rattle.rosenberg_layer.specs.Added.{moved_of}
 use Rattle.quad_form.specs.Quads.{QuadContent}
 use Rattle.quad_form.specs.Flat as flat
-use Rattle.direct_quad.specs.Parts.{table_of}
+use Rattle.long_terms.specs.Apart.{table_of}
 
 -- the image of the two steps
 abbrev pub image : TableContent → QuadContent

@@ -1,7 +1,7 @@
 //! The quadratic form of terms whose pairs of literals are replaced one after another.
 ghost use Rattle.std.specs.Prelude.{◌≡◌, ◌*◌, ◌≤◌, ◌^◌, IfOk, length};
 ghost use Rattle.term_table.specs.Tables.{TableContent};
-ghost use Rattle.direct_quad.specs.Parts.{table_of};
+ghost use Rattle.long_terms.specs.Apart.{table_of};
 ghost use Rattle.direct_quad.specs.Held.{AreHeld};
 ghost use Rattle.direct_rosenberg.specs.ByPairs.{image, FitsByPairs};
 

@@ -10,7 +10,7 @@ ghost use Rattle.direct_rosenberg.specs.ByPairs.{FitsByPairs};
 use crate::long_run::long_run;
 use base::NoMemory;
 use direct_quad::DirectTerms;
-use long_extension::long_additions;
+use long_terms::long_additions;
 use penalty_layer::node_count;
 use problem_form::Problem;
 use rosenberg_layer::push_products;

@@ -5,13 +5,15 @@ ghost use Rattle.term_table.specs.Terms.{terms_total, with_additions};
 ghost use Rattle.term_table.specs.Tables.{AreAdditions, IsTable, TableContent, table_size};
 ghost use Rattle.term_table.specs.Summed.{sums_of};
 ghost use Rattle.rosenberg_layer.specs.Rosenberg.{excess, is_long};
-ghost use Rattle.direct_quad.specs.Parts.{table_of};
 ghost use Rattle.direct_quad.specs.Long.{additions_at, product_term, terms_of, HaveKeys};
+ghost use Rattle.long_terms.specs.Apart.{table_of};
+ghost use Rattle.long_terms.specs.Long.{product_term, terms_of};
 ghost use Rattle.direct_rosenberg.specs.ByPairs.{IsRunOf};
 
 use base::NoMemory;
 use direct_quad::{Keyed, are_alike, ordered_additions};
 use literal_lists::Literals;
+use long_terms::LongTable;
 use problem_form::ProductList;
 use rosenberg_layer::{LongTerms, Run, run_of_long};
 use std::alloc::Global;

@@ -32,8 +32,9 @@ use Rattle.direct_quad.specs.Direct.{additions_of}
 use Rattle.direct_quad.specs.Direct as direct
 use Rattle.direct_quad.specs.FlatMonomials as flat_monomials
 use Rattle.direct_quad.specs.laws.FlatKept.{first, second, fits_first, fits_second}
-use Rattle.direct_quad.specs.laws.Between.{IsTable-table_of}
-use Rattle.direct_quad.specs.laws.Relaxing.{AreAdditions-of, direct_extends, figures-still}
+use Rattle.long_terms.proofs.Apart.{IsTable-table_of}
+use Rattle.long_terms.proofs.KeptTerms.{AreAdditions-of}
+use Rattle.direct_quad.specs.laws.Relaxing.{direct_extends, figures-still}
 use Rattle.model_pipeline.specs.Models.{low_terms_of, quad_by, terms_of}
 use Rattle.model_pipeline.specs.Extensions.{low_extension, extension_by, link_by, ExtendsLeastBy, IsLeastExtension}
 use Rattle.model_pipeline.specs.Decoders.{LowFits}

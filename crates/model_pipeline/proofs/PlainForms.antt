@@ -1,6 +1,7 @@
 -- The form of what a problem contributes, multiplied out as it comes, is that of its multilinear
 -- table.
 use Rattle.std.proofs.Common.{◌≡◌, ◌+◌, ◌*◌, ◌++◌, ◌≤◌, ◌^◌, List, [], length, All, refl, sym, ap, ◌∙◌, subst, arith}
+use Rattle.std.proofs.Common.{◌≡◌, ◌++◌, List, [], length, All, refl, sym, ap, ◌∙◌, subst, arith}
 use Rattle.std.proofs.lemmas.List.{append-nil}
 use Rattle.std.proofs.lemmas.List.Elements.{recursion_from_All}
 use Rattle.form_steps.specs.declared.layer.BitsLink.{BitsLink}
@@ -28,15 +29,15 @@ use Rattle.monomial_layer.proofs.Sizes.{all_nodes-le}
 use Rattle.rosenberg_layer.specs.Rosenberg as rosenberg
 use Rattle.quad_form.specs.Quads.{quad_size, quad_total}
 use Rattle.quad_form.specs.Flat as flat
-use Rattle.direct_quad.specs.Parts.{table_of}
+use Rattle.long_terms.specs.Apart.{table_of}
 use Rattle.direct_quad.specs.Parts as parts
 use Rattle.direct_quad.specs.Direct.{additions_of}
 use Rattle.direct_quad.specs.FlatMonomials as flat_monomials
 use Rattle.direct_quad.specs.Held.{HeldContent, AreHeld, HasPlaces}
 use Rattle.direct_quad.specs.Stated.{IsWithin}
-use Rattle.direct_quad.specs.laws.Between.{IsTable-table_of}
+use Rattle.long_terms.proofs.Apart.{IsTable-table_of}
 use Rattle.direct_quad.specs.laws.FlatKept.{first, second, fits_first, fits_second}
-use Rattle.direct_quad.proofs.Additive.{sum_for-with_additions}
+use Rattle.direct_quad.proofs.MultipliedOut.{sum_for-with_additions}
 use Rattle.direct_quad.proofs.AtOnce.{size-grows, total-grows}
 use Rattle.direct_quad.proofs.RoomForSums.{places_at_first}
 use Rattle.direct_quad.proofs.Split.{nodes-table}

@@ -19,9 +19,9 @@ use Rattle.quad_form.proofs.FlatForms.{quad_total-image}
 use Rattle.quad_form.proofs.UniqueForms.{IsQuad-image}
 use Rattle.direct_quad.specs.Direct as direct
 use Rattle.direct_quad.specs.FlatMonomials as flat_monomials
-use Rattle.direct_quad.specs.laws.Between.{IsTable-table_of}
+use Rattle.long_terms.proofs.Apart.{IsTable-table_of}
 use Rattle.direct_quad.specs.laws.FlatKept.{fits_second}
-use Rattle.direct_quad.specs.laws.Relaxing.{AreAdditions-of}
+use Rattle.long_terms.proofs.KeptTerms.{AreAdditions-of}
 use Rattle.direct_quad.proofs.AtOnce.{image-quad}
 use Rattle.direct_quad.proofs.Guarded.{IsWithin-of, made_total}
 use Rattle.model_pipeline.specs.Formed.{HasRoom}

@@ -38,8 +38,9 @@ use Rattle.quad_form.specs.Flat as flat
 use Rattle.quad_form.specs.laws.Flattened.{length-image, flat_keeps}
 use Rattle.direct_quad.specs.Direct.{additions_of}
 use Rattle.direct_quad.specs.Direct as direct
-use Rattle.direct_quad.specs.laws.Between.{IsTable-table_of}
-use Rattle.direct_quad.specs.laws.Relaxing.{AreAdditions-of, direct_relaxes, figures-still}
+use Rattle.long_terms.proofs.Apart.{IsTable-table_of}
+use Rattle.long_terms.proofs.KeptTerms.{AreAdditions-of}
+use Rattle.direct_quad.specs.laws.Relaxing.{direct_relaxes, figures-still}
 use Rattle.ising_form.specs.Isings as isings
 use Rattle.ising_form.specs.Spins.{coupled}
 use Rattle.ising_form.specs.Spins as spins

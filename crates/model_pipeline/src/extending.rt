@@ -16,8 +16,8 @@ ghost use Rattle.model_pipeline.specs.Extensions.{extension_of, IsLeastExtension
 use crate::forms::multilinear_terms;
 use crate::new_nodes::monomial_link;
 use base::NoMemory;
-use direct_quad::FlatMonomials;
 use direct_rosenberg::{with_pair_bits, with_pair_bits_of};
+use direct_quad::{DirectQuad, FlatMonomials};
 use form_steps::{BitsLink, Guard, Layer};
 use normal_form::MultilinearForm;
 use penalty_layer::{Penalty, node_count};
@@ -69,7 +69,11 @@ fn by_long_terms(
     // What the steps to a model rest on.
     ensures room { IfOk result (λ _. HasRoom (direct.image problem.now)) }
 {
-    long_extension::extended(alloc, problem, nodes, x)
+    let link = BitsLink {
+        source_width: problem.variables as usize,
+        target_width: nodes,
+    };
+    DirectQuad.extend(alloc, problem, &link, x)
 }
 
 /// The state that an assignment extends to over literals, where pairs are replaced one after another:

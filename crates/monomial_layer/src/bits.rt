@@ -14,7 +14,7 @@ fn true_literals(literals: &[Literal], x: &[bool]) -> usize
 }
 
 /// Appends the bits of so many new nodes of a positive term.
-fn push_taken(bits: &mut Vec<bool>, count: usize, nodes: usize) -> Result<(), NoMemory>
+pub fn push_taken(bits: &mut Vec<bool>, count: usize, nodes: usize) -> Result<(), NoMemory>
     requires { nodes < 2 ^ 32 }
     ensures { OnOk result (bits.new.items ≡ bits.old.items ++ first_values (is_taken count) nodes) }
 {

@@ -8,5 +8,7 @@ mod monomials;
 mod nodes;
 mod replace;
 
+pub use bits::push_taken;
 pub use laws::laws_of_replacements;
 pub use monomials::Monomials;
+pub use nodes::{all_new_nodes, factor, new_nodes, nodes_for};

@@ -1,7 +1,9 @@
 //! New nodes: how many a term has, and the factors of their weights.
-ghost use Rattle.std.specs.Prelude.{◌≡◌, ◌+◌, ◌-◌, ◌*◌, ◌<◌, ◌≤◌, ◌^◌, ◌*ℤ◌, length, neg_ℤ, pos, unsigned_abs};
+ghost use Rattle.std.specs.Prelude.{◌≡◌, ◌+◌, ◌-◌, ◌*◌, ◌<◌, ◌≤◌, ◌^◌, ◌*ℤ◌, List, length, neg_ℤ, pos, unsigned_abs};
 ghost use Rattle.std.specs.List.{sum_by};
+ghost use Rattle.literal_lists.specs.declared.literal.Literal.{Literal};
 ghost use Rattle.term_table.specs.Terms.{terms_size};
+ghost use Rattle.term_table.specs.Tables.{IsTable};
 ghost use Rattle.monomial_layer.specs.Monomials.{factor, new_nodes, node, nodes_for};
 
 use literal_lists::Literal;
@@ -25,7 +27,7 @@ pub fn nodes_for(degree: usize) -> usize
 }
 
 /// The factor of the new node after so many others: 1 for the last of an odd degree, and else 2.
-fn factor(degree: usize, place: usize) -> u64
+pub fn factor(degree: usize, place: usize) -> u64
     requires { place < 2 ^ 32 }
     ensures { result ≡ factor degree place }
 {
@@ -60,27 +62,30 @@ pub fn negative_weight(coefficient: &i128, degree: usize) -> i128
     -(*coefficient * (degree - 1) as i128)
 }
 
-/// How many new nodes a term has.
-pub fn new_nodes(literals: &[Literal], coefficient: i128) -> usize
-    ensures { result ≡ new_nodes (literals.now, coefficient) }
+/// How many new nodes a term of a degree has.
+pub fn new_nodes(degree: usize, coefficient: i128) -> usize
+    ensures { (ls : List Literal) → length ls ≡ degree → result ≡ new_nodes (ls, coefficient) }
 {
-    if literals.len() <= 2 {
+    if degree <= 2 {
         0
     } else if coefficient < 0 {
         1
     } else {
-        nodes_for(literals.len())
+        nodes_for(degree)
     }
 }
 
 /// How many new nodes all terms have.
 pub fn all_new_nodes(table: &Table) -> usize
     requires { terms_size table.now.content.terms ≤ 2 ^ 32 }
-    ensures { result ≡ sum_by new_nodes table.now.content.terms }
+    ensures nodes { result ≡ sum_by new_nodes table.now.content.terms }
+
+    // What the laws of the layer rest on.
+    ensures kept { IsTable table.now.content }
 {
     let mut nodes = 0;
     for (literals, coefficient) in table.terms() {
-        nodes += new_nodes(literals, coefficient);
+        nodes += new_nodes(literals.len(), coefficient);
     }
     nodes
 }

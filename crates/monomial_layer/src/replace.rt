@@ -212,7 +212,7 @@ pub fn quadratic_table(alloc: Global, table: &Table) -> Result<Table, NoMemory>
     let mut quadratic = GatheredTerms::new(alloc, next + all_new_nodes(table));
     for (literals, coefficient) in table.terms() {
         add_replaced(&mut quadratic, literals, coefficient, next)?;
-        next += new_nodes(literals, coefficient);
+        next += new_nodes(literals.len(), coefficient);
     }
     Ok(quadratic.into_table())
 }

@@ -10,19 +10,13 @@ use Rattle.term_table.proofs.KeptTerms.{AreTerms-with_additions}
 use Rattle.monomial_layer.specs.Monomials.{all_new_terms}
 use Rattle.monomial_layer.specs.Monomials as monomials
 use Rattle.monomial_layer.proofs.Sizes.{total-image}
-use Rattle.direct_quad.specs.Parts.{table_of}
+use Rattle.long_terms.specs.Apart.{table_of}
+use Rattle.long_terms.proofs.Apart.{IsTable-table_of}
 use Rattle.direct_quad.specs.laws.NewSets.{sets-all_new_terms}
 
 -- the table of quadratic terms
 abbrev pub low_of : TableContent → TableContent
 low_of t = monomials.image (table_of t)
-
--- the sums of additions are a table
-pub IsTable-table_of : (t : TableContent) → AreAdditions t → IsTable (table_of t)
-IsTable-table_of t additions = record {
-  terms = AreTerms-with_additions t.width t.terms additions.sets;
-  small = omega (arith, additions.small, terms_total-with_additions t.terms);
-}
 
 -- with one more on both sides, the sizes of the quadratic terms sum up to at most 2^24 times what
 -- those of the additions do

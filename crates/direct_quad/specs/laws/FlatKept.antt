@@ -19,7 +19,7 @@ use Rattle.monomial_layer.proofs.Sets.{IsLow-image}
 use Rattle.quad_form.specs.Quads as quads
 use Rattle.quad_form.specs.Flat as flat
 use Rattle.quad_form.specs.laws.Flattened.{length-image, flat_keeps, flat_reaches, flat_whole}
-use Rattle.direct_quad.specs.Parts.{table_of}
+use Rattle.long_terms.specs.Apart.{table_of}
 use Rattle.direct_quad.specs.FlatMonomials.{image, extension, Fits}
 use Rattle.direct_quad.specs.laws.Between.{IsTable-low_of}
 

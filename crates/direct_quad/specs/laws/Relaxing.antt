@@ -1,6 +1,6 @@
 -- The quadratic form of a problem relaxes it, as the three steps in a row do. Nothing here has to be
 -- believed.
-use Rattle.std.specs.Prelude.{◌≡◌, ◌+◌, ◌≤◌, ◌^◌, None, pos, ◌+ℤ◌, ◌*ℤ◌, Bool, List, length, take}
+use Rattle.std.specs.Prelude.{◌≡◌, pos, ◌+ℤ◌, ◌*ℤ◌, Bool, List, length, take}
 use Rattle.std.proofs.Common.{arith, sym, ap, ◌∙◌, refl, subst}
 use Rattle.std.proofs.lemmas.Int.{ints}
 use Rattle.std.proofs.lemmas.List.{take-take}
@@ -12,18 +12,11 @@ use Rattle.form_steps.specs.Relations.{Decoding, Relaxes, ExtendsLeast, Joins, d
 use Rattle.base.specs.Figures.{figures_after}
 use Rattle.form_steps.specs.laws.Composed.{keeps_after_relaxes, least-trans}
 use Rattle.form_steps.proofs.Alike.{relaxes_alike}
-use Rattle.problem_form.specs.declared.limits.Normal.TheVariants as normals
 use Rattle.problem_form.specs.Problems.{ProblemContent}
 use Rattle.problem_form.specs.Problems as problems
-use Rattle.problem_form.specs.Limits.{limit_fault}
-use Rattle.term_table.specs.Terms.{terms_total}
-use Rattle.term_table.specs.Tables.{AreAdditions}
-use Rattle.penalty_layer.specs.Penalty.{contributions, figures, node_count, Admits}
+use Rattle.penalty_layer.specs.Penalty.{figures, node_count, Admits}
 use Rattle.penalty_layer.specs.Penalty as penalty
 use Rattle.penalty_layer.specs.laws.Relaxing.{penalty_relaxes, penalty_extends}
-use Rattle.penalty_layer.proofs.Bounds.{within_limits}
-use Rattle.penalty_layer.proofs.Sums.{contributions-total}
-use Rattle.penalty_layer.proofs.Sets.{contribution_sets}
 use Rattle.monomial_layer.specs.Monomials as monomials
 use Rattle.monomial_layer.specs.laws.Kept.{mono_keeps, mono_reaches}
 use Rattle.monomial_layer.proofs.Sets.{IsLow-image}
@@ -32,22 +25,9 @@ use Rattle.quad_form.specs.Flat.{same_bits}
 use Rattle.quad_form.specs.Flat as flat
 use Rattle.quad_form.specs.laws.Flattened.{length-image, flat_keeps, flat_reaches}
 use Rattle.direct_quad.specs.Direct.{additions_of, image, extension, Fits}
-use Rattle.direct_quad.specs.laws.Between.{low_of, IsTable-table_of, IsTable-low_of}
-
--- ---- what an admitted problem adds
-
--- within the limits, the sizes of all contributions sum up to less than 2^64
-pub total-additions : (p : ProblemContent) → limit_fault normals.Literal p ≡ None
-    → terms_total (contributions p) + 1 ≤ 2 ^ 64
-total-additions p none =
-    omega (arith, contributions-total p, (within_limits p none).weight)
-
--- the contributions of an admitted problem are additions of which a table can be made
-pub AreAdditions-of : (p : ProblemContent) → Admits p → AreAdditions (additions_of p)
-AreAdditions-of p admitted = record {
-  sets = contribution_sets p admitted;
-  small = omega (arith, total-additions p admitted.within);
-}
+use Rattle.long_terms.proofs.KeptTerms.{total-additions, AreAdditions-of}
+use Rattle.direct_quad.specs.laws.Between.{low_of, IsTable-low_of}
+use Rattle.long_terms.proofs.Apart.{IsTable-table_of}
 
 -- ---- the links of the steps
 

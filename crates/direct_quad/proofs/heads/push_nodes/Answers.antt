@@ -17,7 +17,7 @@ loop-k-preserved c =
     let so_far = rw back at c.loop-k.invariant in
     let weighs : to_z w128 (of_z w128 c.signed-weight.result) ≡ signed l (neg_ℤ (k *ℤ pos (factor d i))) =
     to_z-of_z w128 c.signed-weight.result (search rules) ∙ c.signed-weight.ensures
-    ∙ ap (signed l) (turned k c.factor.result (factor d i) c.factor.ensures (factor-low d i) (factor-le d i) c.requires.small) in
+    ∙ ap (signed l) (turned k c.from.result (factor d i) (c.from.ensures ∙ ap pos c.factor.ensures) (factor-low d i) (factor-le d i) c.requires.small) in
     rw back (
     c.in_ok-push.ensures.pushed
     ∙ (λ j. so_far j ++ record { first = l.variable; second = n + i; weight = weighs j } ∷ [])

@@ -2,7 +2,8 @@ use Rattle.std.proofs.Common.{◌≡◌, [], map, false, pos, int_lt, if◌then�
 use Rattle.std.specs.Prelude.{OnOk}
 use Rattle.std.specs.Int.{w128}
 use Rattle.std.proofs.lemmas.Int.{to_z-of_z}
-use Rattle.direct_quad.specs.Places.{Place, pair_coupler}
+use Rattle.long_terms.specs.Places.{Place}
+use Rattle.direct_quad.specs.Places.{pair_coupler}
 use Rattle.direct_quad.specs.RowSums.{with_entries, pair_part}
 use Rattle.direct_quad.proofs.rows.add_place.Goals as goal
 

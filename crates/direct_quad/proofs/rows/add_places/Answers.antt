@@ -5,7 +5,7 @@ use Rattle.std.proofs.lemmas.List.Elements.{All-push}
 use Rattle.std.proofs.lemmas.List.{drop_more, drop_all}
 use Rattle.bits_model.specs.declared.output.Entry.{Entry}
 use Rattle.bits_model.specs.Output.{weight_total}
-use Rattle.direct_quad.specs.Occurrences.{places_in_term, places_at}
+use Rattle.long_terms.specs.Occurrences.{places_in_term, places_at}
 use Rattle.direct_quad.specs.RowSums.{with_entries, size_of, pair_part, head_of, IsHead}
 use Rattle.direct_quad.proofs.SummedRows.{length-with_entries}
 use Rattle.direct_quad.proofs.KeyPlaces.{with_entries-append, places_more, added_place, place_size}

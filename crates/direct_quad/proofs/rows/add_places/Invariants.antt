@@ -2,7 +2,7 @@ use Rattle.std.proofs.Common.{◌≡◌, ◌+◌, ◌++◌, ◌≤◌, ◌^◌, 
 use Rattle.std.specs.Prelude.{All}
 use Rattle.std.specs.List.{flat_map}
 use Rattle.bits_model.specs.Output.{weight_total}
-use Rattle.direct_quad.specs.Occurrences.{places_at}
+use Rattle.long_terms.specs.Occurrences.{places_at}
 use Rattle.direct_quad.specs.RowSums.{with_entries, size_of, pair_part, head_of, IsHead}
 use Rattle.direct_quad.proofs.rows.add_places.Given as goal
 

@@ -8,12 +8,13 @@ use Rattle.std.proofs.lemmas.Result.{IfOk-weaker}
 use Rattle.bits_model.specs.declared.output.Entry.{Entry}
 use Rattle.term_table.specs.Terms.{Term}
 use Rattle.pair_sums.specs.Pairs.{IsPair, AreSummed}
-use Rattle.direct_quad.specs.Places.{place_couplers, all_places}
+use Rattle.direct_quad.specs.Places.{place_couplers}
+use Rattle.long_terms.specs.Places.{all_places}
 use Rattle.direct_quad.specs.Rows.{AreRows}
-use Rattle.direct_quad.specs.Long.{node_count}
+use Rattle.long_terms.specs.Long.{node_count}
 use Rattle.direct_quad.proofs.HeldSums.{rows-permuted, total-permuted}
-use Rattle.direct_quad.proofs.LongPlaces.{enough_nodes}
 use Rattle.direct_quad.proofs.PairRows.{from_numbers, rows-summed}
+use Rattle.long_terms.proofs.LongPlaces.{enough_nodes}
 use Rattle.direct_quad.proofs.rows.couplers_of.Goals as goal
 
 pub rows_of-requires-clause-ordered : goal.rows_of-requires-clause-ordered

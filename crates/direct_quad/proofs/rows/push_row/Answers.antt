@@ -1,6 +1,6 @@
 use Rattle.std.proofs.Common.{◌≡◌, ◌++◌, List, ℤ, length, replicate, pos, ap, ◌∙◌, subst}
 use Rattle.std.specs.List.{flat_map}
-use Rattle.direct_quad.specs.Occurrences.{places_at}
+use Rattle.long_terms.specs.Occurrences.{places_at}
 use Rattle.direct_quad.specs.RowSums.{pair_part, node_part, head_part, AppendsBoth}
 use Rattle.direct_quad.proofs.SummedRows.{length-with_entries}
 use Rattle.direct_quad.proofs.KeptPlaces.{heads_part}

@@ -6,15 +6,17 @@ use Rattle.std.proofs.lemmas.List.Elements.{All-weaker}
 use Rattle.bits_model.specs.declared.output.Entry.{Entry}
 use Rattle.bits_model.specs.Output.{weight_total}
 use Rattle.pair_sums.specs.Pairs.{IsPair}
-use Rattle.direct_quad.specs.Places.{place_couplers, all_places}
-use Rattle.direct_quad.specs.Rows.{row_of, places_of, AreRows}
-use Rattle.direct_quad.specs.Long.{node_count}
-use Rattle.direct_quad.specs.Occurrences.{places_at, IsOccurrence}
+use Rattle.direct_quad.specs.Places.{place_couplers}
+use Rattle.long_terms.specs.Places.{all_places}
+use Rattle.direct_quad.specs.Rows.{row_of, AreRows}
+use Rattle.long_terms.specs.Places.{places_of}
+use Rattle.long_terms.specs.Long.{node_count}
+use Rattle.long_terms.specs.Occurrences.{places_at, IsOccurrence}
 use Rattle.direct_quad.specs.RowSums.{with_entries, size_of, pair_part, node_part, AreSums}
 use Rattle.direct_quad.proofs.SummedRows.{length-with_entries, no_size}
 use Rattle.direct_quad.proofs.RowSums.{rows_follow}
 use Rattle.direct_quad.proofs.RowForms.{row_is, kept_of}
-use Rattle.direct_quad.proofs.OccurrenceLists.{own_list, lists_size}
+use Rattle.long_terms.proofs.OccurrenceLists.{own_list, lists_size}
 use Rattle.direct_quad.proofs.RowRuns.{place_run, place_run-of, no_rows, row-total, places-total}
 use Rattle.direct_quad.proofs.PairRows.{row-size}
 use Rattle.direct_quad.proofs.rows.rows_of.Goals as goal

@@ -7,7 +7,7 @@ use Rattle.term_table.specs.Terms.{Term}
 use Rattle.direct_quad.specs.Places.{complements, term_shares, long_constant}
 use Rattle.direct_quad.specs.Held.{Gain, shares_total}
 use Rattle.direct_quad.proofs.GainedShares.{shares-fit, constant-term, constant-fits, coefficient-fits, set-fits, gain-term}
-use Rattle.direct_quad.proofs.LongPlaces.{nodes_below}
+use Rattle.long_terms.proofs.LongPlaces.{nodes_below}
 use Rattle.direct_quad.proofs.PartSizes.{complements-le}
 use Rattle.direct_quad.proofs.shares.add_shares.Goals as goal
 

@@ -4,8 +4,9 @@ use Rattle.std.proofs.lemmas.Result.{IfOk-weaker}
 use Rattle.problem_form.specs.declared.terms.Product.{Product}
 use Rattle.term_table.specs.Terms.{with_additions}
 use Rattle.term_table.specs.Tables.{TableContent, AreAdditions, table_size}
-use Rattle.direct_quad.specs.Parts.{short_part, table_of}
-use Rattle.direct_quad.specs.Long.{product_term, terms_of}
+use Rattle.direct_quad.specs.Parts.{short_part}
+use Rattle.long_terms.specs.Apart.{table_of}
+use Rattle.long_terms.specs.Long.{product_term, terms_of}
 use Rattle.direct_quad.specs.Held.{HeldContent, AreHeld}
 use Rattle.direct_rosenberg.specs.ByPairs.{FitsByPairs, IsRunOf}
 use Rattle.direct_rosenberg.proofs.HeldRuns as runs

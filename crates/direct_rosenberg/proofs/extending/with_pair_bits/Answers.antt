@@ -1,5 +1,5 @@
 use Rattle.std.proofs.Common.{◌∙◌, ap, fold, List, Bool}
-use Rattle.long_extension.proofs.KeptTerms.{kept-additions, kept-lengths}
+use Rattle.long_terms.proofs.KeptTerms.{kept-additions, kept-lengths}
 use Rattle.rosenberg_layer.specs.Rosenberg.{with_product}
 use Rattle.direct_rosenberg.proofs.ProblemTerms.{run-kept, size-kept}
 use Rattle.direct_rosenberg.proofs.extending.with_pair_bits.Goals as goal

@@ -4,4 +4,4 @@ use Rattle.model_pipeline.proofs.extending.by_long_terms.Goals as goal
 
 pub returns-clause-room : goal.returns-clause-room
 returns-clause-room c =
-    if_ok-always c.extended.result (λ y. direct_room c.args.problem.now c.requires.admits)
+    if_ok-always c.extend.result (λ y. direct_room c.args.problem.now c.requires.admits)

@@ -1,6 +1,6 @@
 use Rattle.std.proofs.Common.{◌∙◌, length, ap, sym, subst}
 use Rattle.std.proofs.lemmas.Result.{IfOk-weaker}
-use Rattle.problem_form.specs.declared.limits.Normal.TheVariants.{Literal, Multilinear}
+use Rattle.problem_form.specs.declared.limits.Normal.TheVariants.{Multilinear}
 use Rattle.problem_form.specs.Problems.{IsNormal}
 use Rattle.problem_form.specs.Limits.{limit_fault}
 use Rattle.penalty_layer.specs.Penalty.{Admits}

@@ -1,4 +1,4 @@
-use Rattle.std.proofs.Common.{◌≡◌, [], length, ap, ◌∙◌, subst, sym}
+use Rattle.std.proofs.Common.{[], length, ap, ◌∙◌, subst, sym}
 use Rattle.penalty_layer.specs.Penalty.{node_count}
 use Rattle.direct_quad.specs.Held.{HeldContent, AreHeld}
 use Rattle.normal_form.proofs.Limits.{penalty_admits}

@@ -1,4 +1,4 @@
-use Rattle.std.proofs.Common.{◌≡◌, ◌∙◌, ap, arith, rules}
+use Rattle.std.proofs.Common.{◌≡◌, ◌∙◌, ap, arith, refl, rules}
 use Rattle.std.specs.Int.{w128}
 use Rattle.std.proofs.lemmas.Int.{to_z-of_z}
 use Rattle.std.proofs.lemmas.Map.Iter.{rest_more}
@@ -13,7 +13,7 @@ overflow_add-nodes c =
     let t : Term = (c.in-Some.literals.now, c.in-Some.coefficient) in
     let left = rest_more _ c.loop-literals.literals-iterator c.next.new.self c.next.result (c.in-Some.literals, c.in-Some.coefficient) c.in-Some.is c.next.ensures.steps in
     let back = to_z-of_z w128 c.in-Some.coefficient (search rules) in
-    let new : c.new_nodes-nodes.result ≡ new_nodes t = c.new_nodes-nodes.ensures ∙ ap (λ z. new_nodes (c.in-Some.literals.now, z)) back in
+    let new : c.new_nodes-nodes.result ≡ new_nodes t = c.new_nodes-nodes.ensures c.in-Some.literals.now refl ∙ ap (λ z. new_nodes (c.in-Some.literals.now, z)) back in
     omega (
       arith,
       nodes_left c.loop-literals.nodes c.new_nodes-nodes.result _ t _ _ left new c.loop-literals.invariant.whole,
@@ -26,7 +26,7 @@ loop-literals-preserved c =
     let t : Term = (c.in-Some.literals.now, c.in-Some.coefficient) in
     let left = rest_more _ c.loop-literals.literals-iterator c.next.new.self c.next.result (c.in-Some.literals, c.in-Some.coefficient) c.in-Some.is c.next.ensures.steps in
     let back = to_z-of_z w128 c.in-Some.coefficient (search rules) in
-    let new : c.new_nodes-nodes.result ≡ new_nodes t = c.new_nodes-nodes.ensures ∙ ap (λ z. new_nodes (c.in-Some.literals.now, z)) back in
+    let new : c.new_nodes-nodes.result ≡ new_nodes t = c.new_nodes-nodes.ensures c.in-Some.literals.now refl ∙ ap (λ z. new_nodes (c.in-Some.literals.now, z)) back in
     record {
       whole = nodes_left c.loop-literals.nodes c.new_nodes-nodes.result _ t _ _ left new c.loop-literals.invariant.whole;
     }

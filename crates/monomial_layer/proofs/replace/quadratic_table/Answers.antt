@@ -1,4 +1,4 @@
-use Rattle.std.proofs.Common.{◌≡◌, ◌+◌, ◌++◌, ◌∙◌, [], ap, arith, rules}
+use Rattle.std.proofs.Common.{◌≡◌, ◌+◌, ◌++◌, ◌∙◌, [], ap, arith, refl, rules}
 use Rattle.std.specs.Int.{w128}
 use Rattle.std.specs.List.{sum_by}
 use Rattle.std.proofs.lemmas.Int.{to_z-of_z}
@@ -19,7 +19,7 @@ overflow_add-next c =
     omega (
       arith,
       c.width-next.ensures,
-      c.all_new_nodes.ensures,
+      c.all_new_nodes.ensures.nodes,
       all_nodes-le c.args.table.now.content.terms,
       c.requires.size,
     )
@@ -35,7 +35,7 @@ loop-literals-init c =
     λ i. terms_total (all_new_terms (left i) (start i)) in
     record {
       whole = λ i. empty i ++ all_new_terms (left i) (start i);
-      width = ap (λ (u : TableContent). u.width) c.new-quadratic.ensures ∙ (λ i. start i + c.all_new_nodes.ensures i);
+      width = ap (λ (u : TableContent). u.width) c.new-quadratic.ensures ∙ (λ i. start i + c.all_new_nodes.ensures.nodes i);
       numbered = λ i. start i + sum_by new_nodes (left i);
       above = omega (arith, start);
       sets = All-same (λ (u : Term). IsTermSet t.width u.0) _ _ left c.terms-literals-items.ensures.kept.terms.sets;
@@ -96,7 +96,7 @@ loop-literals-preserved c =
     let left = rest_more _ c.loop-literals.literals-iterator c.next.new.self c.next.result (c.in-Some.literals, c.in-Some.coefficient) c.in-Some.is c.next.ensures.steps in
     let back = to_z-of_z w128 c.in-Some.coefficient (search rules) in
     let made : after ≡ with_more now (new_terms t next) = rw back at c.in_ok-add_replaced.ensures in
-    let found : c.new_nodes-next.result ≡ new_nodes t = c.new_nodes-next.ensures ∙ ap (λ z. new_nodes (c.in-Some.literals.now, z)) back in
+    let found : c.new_nodes-next.result ≡ new_nodes t = c.new_nodes-next.ensures c.in-Some.literals.now refl ∙ ap (λ z. new_nodes (c.in-Some.literals.now, z)) back in
     let number = ap (λ k. next + k) found in
     record {
       whole = replaced_left now after t _ _ next _ _ left number made c.loop-literals.invariant.whole;

@@ -2,7 +2,8 @@ use Rattle.std.proofs.Common.{◌≡◌, ◌≢◌, ◌++◌, ◌<◌, ℕ, ℤ,
 use Rattle.std.specs.Prelude.{Contains}
 use Rattle.std.proofs.lemmas.List.Sorted.{IsNonDecreasingBy-from_sort, All-permutation, Contains-permutation}
 use Rattle.direct_quad.specs.RowSums.{taken, emptied, Appends}
-use Rattle.direct_quad.proofs.SummedRows.{AreSums-taken, Climbs, Climbs-from, changed, emptied_is, touched_kept, touched_none}
+use Rattle.direct_quad.proofs.SummedRows.{AreSums-taken, Climbs, Climbs-from, emptied_is, touched_kept, touched_none}
+use Rattle.long_terms.proofs.OccurrenceLists.{changed}
 use Rattle.direct_quad.proofs.accumulator.Accumulator.put_into.Goals as goal
 
 pub take_sums-requires : goal.take_sums-requires

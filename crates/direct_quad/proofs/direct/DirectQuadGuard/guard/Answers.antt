@@ -7,7 +7,7 @@ use Rattle.penalty_layer.proofs.Admitted.{threshold_within}
 use Rattle.quad_form.specs.Quads.{QuadContent}
 use Rattle.direct_quad.specs.Gathered.{IsSumOf}
 use Rattle.direct_quad.specs.Direct.{additions_of}
-use Rattle.direct_quad.specs.laws.Relaxing.{AreAdditions-of}
+use Rattle.long_terms.proofs.KeptTerms.{AreAdditions-of}
 use Rattle.direct_quad.proofs.Guarded.{IsWithin-of, nodes-held, made_sums, made_image, made_quad, made_fits, made_relaxes, made_total, quad_size_within}
 use Rattle.direct_quad.proofs.RoomForSums.{room-contributions}
 use Rattle.direct_quad.proofs.direct.DirectQuadGuard.guard.Goals as goal

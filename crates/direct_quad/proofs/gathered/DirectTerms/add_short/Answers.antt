@@ -7,7 +7,7 @@ use Rattle.direct_quad.specs.Places.{short_constant, short_shares}
 use Rattle.direct_quad.specs.Held.{HeldContent, AreHeld, Gain}
 use Rattle.direct_quad.proofs.HeldTerms.{held-short_as, fits-short}
 use Rattle.direct_quad.proofs.PartSizes.{short_constant-size}
-use Rattle.direct_quad.proofs.SummedRows.{changed}
+use Rattle.long_terms.proofs.OccurrenceLists.{changed}
 use Rattle.direct_quad.proofs.gathered.DirectTerms.add_short.Goals as goal
 
 pub invariant_of-self-2 : goal.invariant_of-self-2

@@ -6,9 +6,9 @@ use Rattle.base.specs.Sums.{total_by}
 use Rattle.term_table.specs.Terms.{terms_total}
 use Rattle.term_table.specs.Tables.{TableContent, AreAdditions}
 use Rattle.pair_sums.specs.Pairs.{IsPair}
-use Rattle.direct_quad.specs.Parts.{table_of}
+use Rattle.long_terms.specs.Apart.{table_of}
 use Rattle.direct_quad.specs.Places.{long_constant}
-use Rattle.direct_quad.specs.Long.{terms_of, node_count}
+use Rattle.long_terms.specs.Long.{terms_of, node_count}
 use Rattle.direct_quad.specs.Held.{HeldContent, AreHeld}
 use Rattle.direct_quad.proofs.HeldSums.{additions-held, couplers-fit, weights-fit, constants-fit, same_table, sum-of_held}
 use Rattle.direct_quad.proofs.gathered.DirectTerms.into_sums.Goals as goal

@@ -1,4 +1,0 @@
-pub mod CountedBits
-pub mod KeptTerms
-pub mod NewBits
-pub mod SummedBits

@@ -1,2 +1,0 @@
-pub mod CountedSets
-pub mod Kept

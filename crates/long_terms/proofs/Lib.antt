@@ -1,0 +1,11 @@
+pub mod Additive
+pub mod Apart
+pub mod SetKeys
+pub mod SortedAdditions
+pub mod LongPlaces
+pub mod OccurrenceLists
+pub mod CountedBits
+pub mod Neighbours
+pub mod SummedBits
+pub mod KeptTerms
+pub mod NewBits

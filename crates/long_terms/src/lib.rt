@@ -1,0 +1,16 @@
+//! Terms of three literals and more: the sums of additions, the places of their variables, and the
+//! bits of their new nodes, where each term is replaced by itself.
+#![tactic(auto)]
+
+mod additions;
+mod bits;
+mod counted;
+mod kept;
+mod long_table;
+mod occurrences;
+mod sums;
+
+pub use bits::push_new_bits;
+pub use kept::long_additions;
+pub use long_table::{LongTable, LongTerm, PlaceRef};
+pub use occurrences::Occurrences;
