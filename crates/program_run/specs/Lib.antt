@@ -4,3 +4,4 @@ pub mod Unembedded
 pub mod Made
 pub mod Answers
 pub mod Lines
+pub mod Exits

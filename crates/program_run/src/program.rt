@@ -1,6 +1,8 @@
 //! The program, over the real words and files.
-ghost use Rattle.std.specs.Prelude.{IfErr};
-ghost use Rattle.run_steps.specs.Statuses.{IsUntaken, IsExitNumber};
+ghost use Rattle.std.specs.Prelude.{◌≡◌, ◌≢◌, IfErr};
+ghost use Rattle.edge_io.specs.Counts.{Rose};
+ghost use Rattle.run_steps.specs.Statuses.{IsUntaken, IsExitNumber, OnDone, OnRefusal};
+ghost use Rattle.program_run.specs.Exits.{IsTold, IsToldBy};
 
 use crate::running::run;
 use edge_io::{RealFiles, Sink};
@@ -24,18 +26,38 @@ pub fn given_words(rt: &HostRuntime) -> Result<Vec<String>, Status>
     collected.map_err(|_| Status::NoMemory)
 }
 
-/// One run on the words of the command line and the files of the system. The result is the number to
-/// exit with: that of the run's status, or of the one where there are no words.
-pub fn exit_number<O: Sink, E: Sink>(rt: HostRuntime, out: &mut O, err: &mut E) -> u8
-    ensures { IsExitNumber result }
+/// How a run on the words of the command line and the files of the system ends.
+fn ending<O: Sink, E: Sink>(rt: HostRuntime, out: &mut O, err: &mut E) -> Status
+    ensures refused { OnRefusal result (out.new ≡ out.old) }
+    ensures write_fault { result ≡ Status.WriteFault
+        → Rose (O.faults out.old) (O.faults out.new) }
+    ensures silent { OnDone result (err.new ≡ err.old) }
+    ensures told { IsTold result
+        (E.bytes err.old) (E.bytes err.new) (E.faults err.old) (E.faults err.new) }
 {
-    let status = match given_words(&rt) {
+    match given_words(&rt) {
         Err(status) => status,
         Ok(words) => {
             let alloc: Global = rt.alloc();
             let mut files = RealFiles::new(rt);
             run(alloc, &words, &mut files, out, err)
         }
-    };
-    status.number()
+    }
+}
+
+/// One run on the words of the command line and the files of the system. The result is the number to
+/// exit with: that of the run's status, or of the one where there are no words.
+pub fn exit_number<O: Sink, E: Sink>(rt: HostRuntime, out: &mut O, err: &mut E) -> u8
+    ensures number { IsExitNumber result }
+
+    // Something is written to `out` only with 0 and, after a fault of it, with 4.
+    ensures refused { result ≢ 0 → result ≢ 4 → out.new ≡ out.old }
+    ensures write_fault { result ≡ 4 → Rose (O.faults out.old) (O.faults out.new) }
+
+    // The line for the status goes to `err`, and with 0 there is none.
+    ensures silent { result ≡ 0 → err.new ≡ err.old }
+    ensures told { IsToldBy result
+        (E.bytes err.old) (E.bytes err.new) (E.faults err.old) (E.faults err.new) }
+{
+    ending(rt, out, err).number()
 }
