@@ -22,8 +22,8 @@ use Rattle.rosenberg_layer.specs.Rosenberg.{excess, is_long, pairs_of, run}
 use Rattle.rosenberg_layer.specs.Steps.{is_short}
 use Rattle.rosenberg_layer.specs.Parts.{weights, AreParts}
 use Rattle.rosenberg_layer.proofs.Parts.{filter-ascends}
-use Rattle.direct_quad.specs.Long.{product_term, terms_of}
-use Rattle.direct_quad.proofs.LongPlaces.{term_from_product}
+use Rattle.long_terms.specs.Long.{product_term, terms_of}
+use Rattle.long_terms.proofs.LongPlaces.{term_from_product}
 use Rattle.rosenberg_layer.specs.Added.{moved_of}
 use Rattle.direct_rosenberg.specs.ByPairs.{IsRunOf}
 use Rattle.long_terms.specs.Apart.{long_additions, short_terms}

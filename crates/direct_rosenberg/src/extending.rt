@@ -3,7 +3,7 @@ ghost use Rattle.std.specs.Prelude.{◌≡◌, IfOk};
 ghost use Rattle.term_table.specs.Tables.{TableContent};
 ghost use Rattle.penalty_layer.specs.Penalty.{image, Admits};
 ghost use Rattle.rosenberg_layer.specs.Rosenberg.{extension};
-ghost use Rattle.direct_quad.specs.Parts.{table_of};
+ghost use Rattle.long_terms.specs.Apart.{table_of};
 ghost use Rattle.direct_quad.specs.Held.{AreHeld};
 ghost use Rattle.direct_rosenberg.specs.ByPairs.{FitsByPairs};
 

@@ -5,15 +5,13 @@ ghost use Rattle.term_table.specs.Terms.{terms_total, with_additions};
 ghost use Rattle.term_table.specs.Tables.{AreAdditions, IsTable, TableContent, table_size};
 ghost use Rattle.term_table.specs.Summed.{sums_of};
 ghost use Rattle.rosenberg_layer.specs.Rosenberg.{excess, is_long};
-ghost use Rattle.direct_quad.specs.Long.{additions_at, product_term, terms_of, HaveKeys};
+ghost use Rattle.long_terms.specs.Long.{additions_at, product_term, terms_of, HaveKeys};
 ghost use Rattle.long_terms.specs.Apart.{table_of};
-ghost use Rattle.long_terms.specs.Long.{product_term, terms_of};
 ghost use Rattle.direct_rosenberg.specs.ByPairs.{IsRunOf};
 
 use base::NoMemory;
-use direct_quad::{Keyed, are_alike, ordered_additions};
 use literal_lists::Literals;
-use long_terms::LongTable;
+use long_terms::{Keyed, next_sum, ordered_additions};
 use problem_form::ProductList;
 use rosenberg_layer::{LongTerms, Run, run_of_long};
 use std::alloc::Global;
@@ -58,15 +56,10 @@ fn summed_terms(
     let mut turns = 0;
     let mut sum = 0;
     for i in 0..order.len() {
-        let product = additions.at(order[i].index);
-        sum += product.coefficient;
-        if i + 1 < order.len() && are_alike(additions, &order[i], &order[i + 1]) {
-            continue;
+        if let Some(coefficient) = next_sum(additions, order, i, &mut sum) {
+            let literals = additions.at(order[i].index).literals;
+            append(&mut terms, &mut turns, literals, coefficient)?;
         }
-        if sum != 0 {
-            append(&mut terms, &mut turns, product.literals, sum)?;
-        }
-        sum = 0;
     }
     Ok((terms, turns))
 }

@@ -123,7 +123,7 @@ fn compared_keys(additions: &ProductList, left: &Keyed, right: &Keyed) -> Orderi
 }
 
 /// The additions in the order of their sets.
-pub(crate) fn ordered_additions(
+pub fn ordered_additions(
     alloc: Global,
     width: usize,
     additions: &ProductList,

@@ -4,8 +4,8 @@ use Rattle.problem_form.specs.declared.terms.Product.{Product}
 use Rattle.term_table.specs.Terms.{with_additions}
 use Rattle.term_table.specs.Tables.{TableContent, AreAdditions, table_size}
 use Rattle.rosenberg_layer.specs.Rosenberg.{with_product}
-use Rattle.direct_quad.specs.Parts.{table_of}
-use Rattle.direct_quad.specs.Long.{product_term, terms_of}
+use Rattle.long_terms.specs.Apart.{table_of}
+use Rattle.long_terms.specs.Long.{product_term, terms_of}
 use Rattle.direct_quad.specs.Held.{HeldContent}
 use Rattle.direct_rosenberg.specs.ByPairs.{IsRunOf}
 use Rattle.direct_rosenberg.proofs.HeldRuns as runs

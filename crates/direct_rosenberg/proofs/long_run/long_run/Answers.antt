@@ -7,7 +7,7 @@ use Rattle.term_table.proofs.SummedTerms.{summed_is}
 use Rattle.rosenberg_layer.specs.Rosenberg.{excess, is_long}
 use Rattle.rosenberg_layer.proofs.LongRuns.{all_long}
 use Rattle.rosenberg_layer.proofs.Turns.{excess-size}
-use Rattle.direct_quad.specs.Long.{additions_at, product_term, terms_of}
+use Rattle.long_terms.specs.Long.{additions_at, product_term, terms_of}
 use Rattle.long_terms.specs.Apart.{table_of}
 use Rattle.long_terms.specs.Long.{product_term, terms_of}
 use Rattle.long_terms.proofs.Apart.{IsTable-table_of}

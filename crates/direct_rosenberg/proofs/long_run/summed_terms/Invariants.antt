@@ -2,7 +2,7 @@ use Rattle.std.proofs.Common.{◌≡◌, ◌+◌, ◌≤◌, ◌^◌, ◌++◌, 
 use Rattle.term_table.specs.Terms.{terms_total}
 use Rattle.term_table.specs.Summed.{sums_of}
 use Rattle.rosenberg_layer.specs.Rosenberg.{excess}
-use Rattle.direct_quad.specs.Long.{additions_at, sums_with}
+use Rattle.long_terms.specs.Long.{additions_at, sums_with}
 use Rattle.direct_rosenberg.proofs.long_run.summed_terms.Given as goal
 
 -- the sums so far, and then those of what is left with the sum that waits
