@@ -1,8 +1,7 @@
 use Rattle.std.proofs.Common.{◌≡◌, ◌≤◌, ◌++◌, ℕ, drop, pos, replicate}
 use Rattle.std.specs.List.{flat_map}
 use Rattle.direct_quad.specs.Places.{place_couplers, all_places}
-use Rattle.direct_quad.specs.Rows.{row_of, AreRows}
-use Rattle.direct_quad.specs.Rows.{AreFromRow}
+use Rattle.direct_quad.specs.Rows.{row_of, AreRows, AreFromRow}
 use Rattle.direct_quad.specs.Long.{node_count}
 use Rattle.direct_quad.proofs.rows.rows_of.Given as goal
 
