@@ -32,9 +32,8 @@ use Rattle.chain_layer.specs.laws.Kept.{chain_within, shares_within}
 use Rattle.chain_layer.proofs.Sizes.{sum_is, size, weights-in_order, weights-flat_map, fields_small, weights_of_shares, weights_of_image_fields, weights_placed, weight_of_tie, sums_le, few_qubits, sizes-append, sizes-in_order, sizes-le, sizes_of_nodes, sizes_of_couplers, length-placed}
 use Rattle.cut_chains.specs.Sides.{is_below, weight_of, side_weight, cut_strength}
 use Rattle.cut_chains.specs.CutImage.{ties_of, cut_ties, cut_image, cut_cost, cut_offset}
-use Rattle.chain_layer.specs.laws.OnceChains.{Once}
+use Rattle.chain_layer.specs.laws.OnceChains.{Once, chain_once}
 use Rattle.cut_chains.specs.laws.Mended.{node_ties, couplers_placed}
-use Rattle.chain_layer.specs.laws.OnceChains.{chain_once}
 use Rattle.cut_chains.proofs.CutPairs.{cut_couplers, cut_apart, in_order_rises}
 
 -- ---- how much qubits weigh

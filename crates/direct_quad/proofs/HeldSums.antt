@@ -33,8 +33,7 @@ use Rattle.direct_quad.proofs.Gathering.{sum-of_rows}
 use Rattle.direct_quad.proofs.HeldTerms.{share_at-append}
 use Rattle.long_terms.proofs.LongPlaces.{differs}
 use Rattle.direct_quad.proofs.PartPairs.{IsWithin, join, long_sets, short_pairs, short_sets, short_within}
-use Rattle.direct_quad.proofs.PartSizes.{long_constants-size}
-use Rattle.direct_quad.proofs.PartSizes.{AreLong as AreShort}
+use Rattle.direct_quad.proofs.PartSizes.{long_constants-size, AreLong as AreShort}
 use Rattle.direct_quad.proofs.RowSums.{weight-below, weight-place_other}
 use Rattle.long_terms.proofs.SortedAdditions.{AreLong-table}
 use Rattle.direct_quad.proofs.SummedRows.{no_size, value-zeros}

@@ -13,9 +13,8 @@ ghost use Rattle.term_table.specs.Terms.{terms_total};
 ghost use Rattle.pair_sums.specs.Pairs.{IsPair};
 ghost use Rattle.direct_quad.specs.Places.{pair_coupler, place_couplers};
 ghost use Rattle.long_terms.specs.Places.{all_places};
-ghost use Rattle.direct_quad.specs.Rows.{row_of, AreRows};
-ghost use Rattle.direct_quad.specs.Rows.{AreFromRow, AreAfterRow};
 ghost use Rattle.long_terms.specs.Long.{node_count};
+ghost use Rattle.direct_quad.specs.Rows.{row_of, AreRows, AreFromRow, AreAfterRow};
 ghost use Rattle.direct_quad.specs.RowSums.{with_entries, size_of, pair_part, node_part, head_of, IsHead, AppendsBoth};
 ghost use Rattle.long_terms.specs.Occurrences.{places_at, IsOccurrence};
 

@@ -240,7 +240,7 @@ impl Pairs {
     }
 
     /// The same couplers in the order of their pairs.
-    pub fn sorted(self, arrival: Arrival) -> Result<Pairs, NoMemory>
+    pub(crate) fn sorted(self, arrival: Arrival) -> Result<Pairs, NoMemory>
         ensures same { IfOk result (IsPermutation self) }
         ensures ordered { IfOk result (IsNonDecreasingBy pair_number) }
     {

@@ -11,11 +11,10 @@ use Rattle.term_table.specs.Tables.{TableContent, IsTable, IsLow}
 use Rattle.term_table.specs.MultipliedOut.{plain_terms, contributions}
 use Rattle.term_table.proofs.Additions.{terms_total-cons}
 use Rattle.term_table.proofs.KeptTerms.{OfSet}
-use Rattle.quad_form.specs.Quads.{QuadContent, node_entries, quad_total, IsCoupler, IsQuad}
+use Rattle.quad_form.specs.Quads.{QuadContent, node_entries, quad_total, IsCoupler, IsQuad, IsSettled}
 use Rattle.quad_form.specs.Flat.{with_term, quad_of, IsFlat}
 use Rattle.quad_form.specs.laws.Flattened.{length-fold, flat_contributions}
 use Rattle.pair_sums.specs.Pairs.{IsPair, AreSummed, weight_at}
-use Rattle.quad_form.specs.Quads.{IsSettled}
 use Rattle.quad_form.proofs.NodeEnergies.{weights-append}
 use Rattle.quad_form.proofs.FlatSums.{terms_total-plain_terms, terms_total-contributions}
 use Rattle.quad_form.proofs.FlatForms.{quad_total-with_term, quad_total-fold, quad_total-of, couplers_of, pairs_of}

@@ -21,11 +21,10 @@ use Rattle.term_table.specs.Tables.{TableContent, IsTable, IsLow}
 use Rattle.term_table.specs.MultipliedOut.{contributions}
 use Rattle.term_table.proofs.Additions.{coefficient_of-with_additions, terms_total-with_additions}
 use Rattle.term_table.proofs.KeptTerms.{OfSet, AreTerms-with_additions}
-use Rattle.quad_form.specs.Quads.{QuadContent, IsCoupler, IsQuad}
+use Rattle.quad_form.specs.Quads.{QuadContent, IsCoupler, IsQuad, IsSettled}
 use Rattle.quad_form.specs.Flat.{pair_entry, with_term, zero_quad, quad_of, image, IsFlat}
 use Rattle.quad_form.specs.laws.Flattened.{length-with_term, flat_sets, flat_contributions}
 use Rattle.pair_sums.specs.Pairs.{IsNonzero, weight_for, weight_at}
-use Rattle.quad_form.specs.Quads.{IsSettled}
 use Rattle.quad_form.proofs.FlatForms.{width_of, IsQuad-of}
 use Rattle.quad_form.proofs.FlatSets.{IsTermSet-flat}
 use Rattle.quad_form.proofs.FlatSums.{terms_total-contributions}

@@ -1,9 +1,8 @@
 //! A quadratic form that is being made.
 ghost use Rattle.std.specs.Prelude.{◌≡◌, ◌+◌, ◌<◌, ◌≤◌, ◌^◌, All, IfOk, OnOk, length, unsigned_abs};
-ghost use Rattle.quad_form.specs.Quads.{quad_total, IsQuad};
+ghost use Rattle.quad_form.specs.Quads.{quad_total, IsQuad, IsSettled};
 ghost use Rattle.quad_form.specs.Flat.{with_term, zero_quad, IsFlat};
 ghost use Rattle.pair_sums.specs.Pairs.{IsPair};
-ghost use Rattle.quad_form.specs.Quads.{IsSettled};
 
 use crate::quad::{NumberList, Quad};
 use base::NoMemory;

@@ -5,8 +5,7 @@ use Rattle.std.proofs.lemmas.List.Elements.{All-get_or}
 use Rattle.std.proofs.lemmas.Option.{get_or_from_slice_get, slice_get_within}
 use Rattle.bits_model.specs.declared.output.Entry.{Entry}
 use Rattle.bits_model.specs.Output.{weight_total}
-use Rattle.direct_quad.specs.Rows.{row_of}
-use Rattle.direct_quad.specs.Rows.{AreFromRow}
+use Rattle.direct_quad.specs.Rows.{row_of, AreFromRow}
 use Rattle.direct_quad.specs.RowSums.{with_weight, with_entries, size_of}
 use Rattle.direct_quad.proofs.SummedRows.{length-with_weight}
 use Rattle.direct_quad.proofs.KeyLists.{added_size, first_size}

@@ -1,7 +1,6 @@
 use Rattle.std.proofs.Common.{◌≡◌, ℕ, ◌+◌, ◌<◌, ◌≤◌, ◌^◌, length, drop}
 use Rattle.bits_model.specs.Output.{weight_total}
-use Rattle.direct_quad.specs.Rows.{row_of}
-use Rattle.direct_quad.specs.Rows.{AreFromRow}
+use Rattle.direct_quad.specs.Rows.{row_of, AreFromRow}
 use Rattle.direct_quad.specs.RowSums.{with_entries, size_of}
 use Rattle.direct_quad.proofs.rows.add_pairs.Given as goal
 

@@ -2,9 +2,8 @@ use Rattle.std.proofs.Common.{◌≡◌, ◌≤◌, ◌++◌, ℕ, drop, pos, re
 use Rattle.std.specs.List.{flat_map}
 use Rattle.direct_quad.specs.Places.{place_couplers}
 use Rattle.long_terms.specs.Places.{all_places}
-use Rattle.direct_quad.specs.Rows.{row_of, AreRows}
-use Rattle.direct_quad.specs.Rows.{AreFromRow}
 use Rattle.long_terms.specs.Long.{node_count}
+use Rattle.direct_quad.specs.Rows.{row_of, AreRows, AreFromRow}
 use Rattle.direct_quad.proofs.rows.rows_of.Given as goal
 
 -- the first rows stand, all sums are 0, and the pairs of all later variables are left

@@ -1,9 +1,8 @@
 use Rattle.std.proofs.Common.{◌≡◌, ◌<◌, ◌≤◌, ◌^◌, length, All, subst, refl, sym, rules}
 use Rattle.std.specs.Int.{w128}
 use Rattle.std.proofs.lemmas.Int.{to_z-of_z}
-use Rattle.quad_form.specs.Quads.{QuadContent, quad_total}
+use Rattle.quad_form.specs.Quads.{QuadContent, quad_total, IsSettled}
 use Rattle.pair_sums.specs.Pairs.{IsPair}
-use Rattle.quad_form.specs.Quads.{IsSettled}
 use Rattle.quad_form.proofs.FlatParts.{IsQuad-settled, settled-summed}
 use Rattle.quad_form.proofs.parts.Parts.into_quad.Goals as goal
 
