@@ -12,7 +12,7 @@ use std::alloc::Global;
 /// Adds the coefficient of the addition at a place to the sum of those before it of its set. Where
 /// the set ends, gives the sum unless it is 0, and the next one starts at 0.
 #[inline(always)]
-pub(crate) fn next_sum(
+pub fn next_sum(
     additions: &ProductList,
     order: &[Keyed],
     place: usize,
