@@ -18,7 +18,7 @@ mod ties;
 
 pub use chains::Chains;
 pub use decoding::decoded;
-pub use extending::extended;
+pub use extending::{extended, on_chains};
 pub use gathered::Gathered;
 pub use laws::laws_of_images;
 pub use link::ChainLink;
