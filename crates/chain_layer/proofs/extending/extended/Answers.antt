@@ -1,5 +1,4 @@
-use Rattle.std.proofs.Common.{◌≡◌, ◌<◌, ℕ, List, length, All, sym, ap, subst, ◌∙◌}
-use Rattle.chain_layer.specs.Image.{on_chains}
+use Rattle.std.proofs.Common.{◌<◌, ℕ, List, length, All, sym, ap, subst, ◌∙◌}
 use Rattle.chain_layer.proofs.extending.extended.Goals as goal
 
 pub on_chains-requires-clause-width : goal.on_chains-requires-clause-width
