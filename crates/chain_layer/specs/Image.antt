@@ -137,12 +137,19 @@ pub record Fits (link : ChainLink) (e : Embedding) : Type 0 where
   pub qubits : link.qubits ≡ e.qubits
   pub kept : IsEmbedding e
 
--- the state in which each qubit has the bit of its node, and a qubit in no chain has 0
+-- the bit of the node whose chain the qubit is in, and 0 in no chain
+abbrev pub bit_on : List (List ℕ) → List Bool → ℕ → Bool
+bit_on chains x q =
+    list_any (λ node. bit_at x node && is_in (chain_of chains node) q)
+    (range_with_len 0 (length chains))
+
+-- the state of so many qubits in which each has the bit of its node
+abbrev pub on_chains : List (List ℕ) → ℕ → List Bool → List Bool
+on_chains chains qubits x = map (bit_on chains x) (range_with_len 0 qubits)
+
+-- the state that stands for an assignment of the embedded form
 abbrev pub extension : Embedding → List Bool → List Bool
-extension e x =
-    map
-    (λ q. list_any (λ node. bit_at x node && is_in (chain_of e.chains node) q) (nodes_of e))
-    (range_with_len 0 e.qubits)
+extension e x = on_chains e.chains e.qubits x
 
 -- no chain is empty, and all its qubits exist
 pub record IsSound (link : ChainLink) : Type 0 where

@@ -1,11 +1,11 @@
 -- Ising forms whose weights are counted in their greatest unit: what a quadratic form of the same
 -- weights keeps, and the energies of spins.
-use Rattle.std.proofs.Common.{◌≡◌, ◌*◌, ◌≤◌, Bool, true, false, ℤ, pos, neg_ℤ, ◌*ℤ◌, ◌≤ℤ◌, unsigned_abs, List, ◌++◌, map, if◌then◌else◌, refl, sym, ap, ◌∙◌}
+use Rattle.std.proofs.Common.{◌≡◌, ◌*◌, ◌≤◌, Bool, true, false, ℤ, pos, neg_ℤ, ◌*ℤ◌, ◌≤ℤ◌, unsigned_abs, List, map, if◌then◌else◌, refl, ap, ◌∙◌}
 use Rattle.base.proofs.Products.{times-neg}
 use Rattle.bits_model.specs.declared.output.Entry.{Entry}
 use Rattle.form_steps.specs.Relations.{Reduces}
 use Rattle.bits_model.specs.Output.{bit_at, times_spin, is_node, spins_energy}
-use Rattle.quad_form.specs.Quads.{QuadContent, IsQuad, node_entries}
+use Rattle.quad_form.specs.Quads.{QuadContent, IsQuad}
 use Rattle.quad_form.specs.Units.{unit_of, weights_of, counted_in, entry_in}
 use Rattle.quad_form.specs.Units as units
 use Rattle.quad_form.proofs.ReducedForms.{IsLinear, one_le_quad_unit, reduced_is_quad}

@@ -1,9 +1,10 @@
 //! The nodes of a model on the qubits of a graph: one has an entry where it is on a chain.
 //!
 //! The qubits of chains are marked first, so that each qubit and each chain is seen once.
-ghost use Rattle.std.specs.Prelude.{◌≡◌, ◌<◌, ◌^◌, ◌++◌, ◌∷◌, [], ◌==◌, ◌||◌, ℕ, All, IfOk, OnOk, false, length};
-ghost use Rattle.std.specs.List.{filter, list_any, slice_index_or};
+ghost use Rattle.std.specs.Prelude.{◌≡◌, ◌<◌, ◌^◌, ◌++◌, ◌∷◌, [], ◌||◌, ℕ, All, IfOk, OnOk, false, length};
+ghost use Rattle.std.specs.List.{filter, slice_index_or};
 ghost use Rattle.bits_model.specs.Output.{is_chained};
+ghost use Rattle.bits_model.specs.Walks.{is_in};
 ghost use Rattle.quad_form.specs.Quads.{node_entries};
 ghost use Rattle.ising_form.specs.Outputs.{is_marked, is_on_chain};
 
@@ -12,11 +13,11 @@ use bits_model::{ChainList, NodeWeights};
 use std::alloc::Global;
 
 /// Marks the qubits of a chain.
-fn mark(marks: &mut [bool], chain: &[u32])
+pub fn mark(marks: &mut [bool], chain: &[u32])
     requires { All (λ q. q < length marks.old) chain.now }
     ensures length { length marks.new ≡ length marks.old }
     ensures marked { (q : ℕ) → slice_index_or marks.new q false
-        ≡ (slice_index_or marks.old q false || list_any (λ p. p == q) chain.now) }
+        ≡ (slice_index_or marks.old q false || is_in chain.now q) }
 {
     for qubit in chain {
         marks[*qubit as usize] = true;

@@ -9,6 +9,7 @@ mod output;
 mod spins;
 mod to_spins;
 
+pub use chained::mark;
 pub use ising::Ising;
 pub use laws::written_stands_for_its_form;
 pub use to_spins::ToSpins;

@@ -143,7 +143,7 @@ pub fn ordered_additions(
 }
 
 /// Whether two additions are of one set: most that are not have other keys.
-pub fn are_alike(additions: &ProductList, left: &Keyed, right: &Keyed) -> bool
+pub(crate) fn are_alike(additions: &ProductList, left: &Keyed, right: &Keyed) -> bool
     requires { set_cmp (addition_at additions.now left.now.index).0
         (addition_at additions.now right.now.index).0 ≡ Equal → left.now.key ≡ right.now.key }
     ensures { Decides result (set_cmp (addition_at additions.now left.now.index).0

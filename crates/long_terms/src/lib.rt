@@ -11,7 +11,6 @@ mod occurrences;
 mod sums;
 
 pub use additions::{Keyed, ordered_additions};
-pub use additions::{Keyed, are_alike, ordered_additions};
 pub use bits::push_new_bits;
 pub use kept::long_additions;
 pub use long_table::{LongTable, LongTerm, PlaceRef};

@@ -1,7 +1,6 @@
 -- The state of a written model that an assignment extends to: it decodes to the assignment, and is
 -- least among those that do.
-use Rattle.std.proofs.Common.{◌≡◌, ◌≤◌, ◌<◌, inl, inr, ℕ, ◌&&◌, Bool, List, [], length, map, All, refl, sym, ap, subst, ◌∙◌, arith}
-use Rattle.std.specs.List.{list_any, range_with_len}
+use Rattle.std.proofs.Common.{◌≡◌, ◌≤◌, ◌<◌, inl, inr, ℕ, Bool, List, [], length, map, All, refl, sym, ap, subst, ◌∙◌, arith}
 use Rattle.std.proofs.lemmas.List.{length-map}
 use Rattle.base.specs.declared.costs.Figures.{Figures}
 use Rattle.bits_model.specs.declared.output.Kind.TheVariants as kinds
@@ -9,9 +8,8 @@ use Rattle.base.specs.declared.unit.UnitChoice.{UnitChoice}
 use Rattle.base.specs.declared.unit.UnitChoice.TheVariants.{One, Reduce}
 use Rattle.base.specs.Costs.{Form}
 use Rattle.form_steps.specs.Links.{first_bits}
-use Rattle.bits_model.specs.Output.{Written, bit_at, read_off}
+use Rattle.bits_model.specs.Output.{Written, read_off}
 use Rattle.form_steps.specs.Relations.{Decoding, ExtendsLeast, decoding_after}
-use Rattle.bits_model.specs.Walks.{is_in}
 use Rattle.form_steps.specs.laws.Composed.{least-trans}
 use Rattle.problem_form.specs.declared.limits.Choices.{Choices}
 use Rattle.problem_form.specs.Problems.{ProblemContent}
@@ -32,7 +30,6 @@ use Rattle.ising_form.specs.laws.Spun.{length-fields, spins_keeps, spins_reaches
 use Rattle.ising_form.proofs.Images.{image_is_ising}
 use Rattle.chimera_graph.specs.declared.chimera.Chimera.{Chimera}
 use Rattle.chimera_graph.specs.Graph.{qubits_of}
-use Rattle.chain_map.specs.Chains.{chain_of}
 use Rattle.embedding_check.specs.Embeddings.{Embedding, IsEmbedding}
 use Rattle.embedding_check.specs.Checked.{IsChecked}
 use Rattle.embedding_check.proofs.Checked.{checked_embeds}
@@ -183,14 +180,6 @@ module _ (choices : Choices) (p : ProblemContent) (room : HasRoom (quad_of choic
           after_chains reads
           (reduced_fits graph.rows graph.cols graph.shore own e.chains (image_by ties e) on_graph)
 
-      -- the state on the qubits is the extension
-      abbrev bits_of : ℕ → ℕ → List Bool
-      bits_of nodes qubits =
-          map
-          (λ q. list_any (λ node. bit_at y node && is_in (chain_of e.chains node) q)
-          (range_with_len 0 nodes))
-          (range_with_len 0 qubits)
-
       model_width : (unit : UnitChoice)
           → (qubit_model unit ties e own spun_figures (kind_of graph)).nodes ≡ e.qubits
       model_width One = tied_width ties e
@@ -198,10 +187,11 @@ module _ (choices : Choices) (p : ProblemContent) (room : HasRoom (quad_of choic
           length-map (image_by ties e).fields (counted_in (ising_unit (image_by ties e)))
           ∙ tied_width ties e
 
+      -- the state on the qubits is the extension
       state_is : (unit : UnitChoice)
           → state_on (qubit_model unit ties e own spun_figures (kind_of graph)) y ≡ z
-      state_is One = λ i. bits_of (kept.counted i) (model_width One i)
-      state_is Reduce = λ i. bits_of (kept.counted i) (model_width Reduce i)
+      state_is One = ap (λ n. chains.on_chains e.chains n y) (model_width One)
+      state_is Reduce = ap (λ n. chains.on_chains e.chains n y) (model_width Reduce)
 
       on_chains : (unit : UnitChoice)
           → ExtendsTo p.variables source (qubit_model unit ties e own spun_figures (kind_of graph))

@@ -1,7 +1,6 @@
 -- The extension of an assignment: the bits of all nodes that the steps add to a problem, and the
 -- state of a written model.
-use Rattle.std.specs.Prelude.{◌≡◌, ◌⊎◌, ⊤, ℕ, ◌<◌, ◌≤◌, ℤ, ◌+ℤ◌, ◌*ℤ◌, ◌≤ℤ◌, Bool, ◌&&◌, List, length, map, take, All}
-use Rattle.std.specs.List.{list_any, range_with_len}
+use Rattle.std.specs.Prelude.{◌≡◌, ◌⊎◌, ⊤, ℕ, ◌<◌, ◌≤◌, ℤ, ◌+ℤ◌, ◌*ℤ◌, ◌≤ℤ◌, Bool, List, length, take, All}
 use Rattle.base.specs.declared.costs.Cost.TheVariants.{Whole}
 use Rattle.form_steps.specs.declared.layer.BitsLink.{BitsLink}
 use Rattle.bits_model.specs.declared.output.Kind.{Kind}
@@ -9,9 +8,8 @@ use Rattle.bits_model.specs.declared.output.Kind.TheVariants.{Qubo, Ising, Chime
 use Rattle.base.specs.declared.unit.UnitChoice.{UnitChoice}
 use Rattle.base.specs.Costs.{Form, energy}
 use Rattle.form_steps.specs.Links.{first_bits}
-use Rattle.bits_model.specs.Output.{Written, bit_at, decoding_of, form_of}
+use Rattle.bits_model.specs.Output.{Written, decoding_of, form_of}
 use Rattle.form_steps.specs.Relations.{ExtendsLeast}
-use Rattle.bits_model.specs.Walks.{is_in}
 use Rattle.problem_form.specs.declared.limits.Choices.{Choices}
 use Rattle.problem_form.specs.declared.limits.Normal.{Normal}
 use Rattle.problem_form.specs.declared.limits.High.{High}
@@ -25,7 +23,7 @@ use Rattle.penalty_layer.specs.Penalty as penalty
 use Rattle.monomial_layer.specs.Monomials as monomials
 use Rattle.rosenberg_layer.specs.Rosenberg as rosenberg
 use Rattle.quad_form.specs.Quads as quads
-use Rattle.chain_map.specs.Chains.{chain_of}
+use Rattle.chain_layer.specs.Image.{on_chains}
 use Rattle.working_graph.specs.Fabrics.{IsValidOn}
 use Rattle.model_pipeline.specs.declared.site.Qubits.{Qubits}
 use Rattle.model_pipeline.specs.Models.{terms_of, quad_by, ising_figures, model, decoding_to}
@@ -70,18 +68,12 @@ IsLeastExtension choices p x y = ExtendsLeastBy choices.normal choices.high p x 
 
 -- ---- the state of a written model
 
--- the bit of the node whose chain the qubit is in, and 0 in no chain
-abbrev pub bit_on : List (List ℕ) → List Bool → ℕ → Bool
-bit_on chains x q =
-    list_any (λ node. bit_at x node && is_in (chain_of chains node) q)
-    (range_with_len 0 (length chains))
-
 -- the bits of a model's nodes, from those of its form's nodes: the same, or on a graph the bit of
 -- each qubit
 abbrev pub state_by : Kind → Written → List Bool → List Bool
 state_by Qubo m x = x
 state_by Ising m x = x
-state_by (Chimera rows cols shore) m x = map (bit_on m.chains x) (range_with_len 0 m.nodes)
+state_by (Chimera rows cols shore) m x = on_chains m.chains m.nodes x
 
 -- the same, by the model's own kind
 abbrev pub state_on : Written → List Bool → List Bool

@@ -1,11 +1,8 @@
 //! The state of a written model that an assignment extends to.
-ghost use Rattle.std.specs.Prelude.{◌≡◌, ◌<◌, ◌||◌, ◌&&◌, ℕ, true, All, None, IfOk, length, map};
-ghost use Rattle.std.specs.List.{range_with_len, slice_index_or};
-ghost use Rattle.bits_model.specs.Walks.{is_in};
+ghost use Rattle.std.specs.Prelude.{◌≡◌, ℕ, None, IfOk, length};
 ghost use Rattle.problem_form.specs.Limits.{limit_fault};
 ghost use Rattle.problem_form.specs.Problems as problems;
 ghost use Rattle.model_pipeline.specs.Extensions.{
-  bit_on,
   extension_of,
   form_nodes,
   state_on,
@@ -19,52 +16,10 @@ ghost use Rattle.command_words.specs.declared.commands.Ties.TheVariants.{Choi};
 
 use crate::extending::extended;
 use base::NoMemory;
-use bits_model::{ChainList, Kind, OutputModel};
+use bits_model::{Kind, OutputModel};
+use chain_layer::on_chains;
 use problem_form::{Choices, Problem};
 use std::alloc::Global;
-
-/// Sets all qubits of a chain.
-fn set_chain(y: &mut [bool], chain: &[u32])
-    requires { All (λ q. q < length y.old) chain.now }
-    ensures length { length y.new ≡ length y.old }
-    ensures bits { (q : ℕ) → q < length y.old
-        → slice_index_or y.new q true ≡ (slice_index_or y.old q true || is_in chain.now q) }
-{
-    for qubit in chain {
-        y[*qubit as usize] = true;
-    }
-}
-
-/// Sets all qubits of a chain, if the bit of its node is 1.
-fn set_where(y: &mut [bool], bit: bool, chain: &[u32])
-    requires { All (λ q. q < length y.old) chain.now }
-    ensures length { length y.new ≡ length y.old }
-    ensures bits { (q : ℕ) → q < length y.old → slice_index_or y.new q true
-        ≡ (slice_index_or y.old q true || (bit && is_in chain.now q)) }
-{
-    if bit {
-        set_chain(y, chain);
-    }
-}
-
-/// Each qubit has the bit of its node, and a qubit in no chain has 0.
-fn on_chains(
-    alloc: Global,
-    chains: &ChainList,
-    qubits: u32,
-    x: &[bool],
-) -> Result<Vec<bool>, NoMemory>
-    requires width { length x.now ≡ length chains.now }
-    requires within { All (λ chain. All (λ q. q < qubits) chain) chains.now }
-    ensures { IfOk result (λ y.
-        y.items ≡ map (bit_on chains.now x.now) (range_with_len 0 qubits)) }
-{
-    let mut y = vec![in alloc; false; qubits as usize]?;
-    for i in 0..x.len() {
-        set_where(&mut y, x[i], chains.list(i));
-    }
-    Ok(y)
-}
 
 /// The bits of a model's nodes, from those of its form's nodes.
 fn state_of(alloc: Global, model: &OutputModel, x: Vec<bool>) -> Result<Vec<bool>, NoMemory>

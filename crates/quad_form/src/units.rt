@@ -4,7 +4,7 @@
 //! proposition 2), with remainders in the place of repeated differences. A weight that the divisor
 //! so far divides costs one remainder, of 64 bits where both fit. A pass over all weights ends as
 //! soon as the divisor is 1, and in the unit 1 all weights stay as they are.
-ghost use Rattle.std.specs.Prelude.{◌≡◌, ◌+◌, ◌%◌, ◌≤◌, ◌≤ℤ◌, ◌^◌, IsTrue, map, pos};
+ghost use Rattle.std.specs.Prelude.{◌≡◌, ◌+◌, ◌%◌, ◌≤◌, ◌^◌, IsTrue, map};
 ghost use Rattle.std.specs.Int.{IsGcd};
 ghost use Rattle.bits_model.specs.Output.{weight_total};
 ghost use Rattle.quad_form.specs.Quads.{node_entries};
@@ -85,30 +85,6 @@ fn greatest_unit(nodes: &[i128], couplers: &CouplerList) -> i128
     if divisor == 0 { 1 } else { divisor as i128 }
 }
 
-/// Numbers, counted in a unit in their own memory.
-fn counted_numbers(numbers: Vec<i128>, unit: i128) -> Vec<i128>
-    requires { pos 1 ≤ℤ unit }
-    ensures { result.items ≡ map (counted_in unit) numbers.items }
-{
-    if unit == 1 {
-        numbers
-    } else {
-        divide_weights(numbers, unit)
-    }
-}
-
-/// Couplers whose weights are counted in a unit, in their own memory.
-fn counted_couplers(couplers: CouplerList, unit: i128) -> CouplerList
-    requires { pos 1 ≤ℤ unit }
-    ensures { result ≡ map (entry_in unit) couplers }
-{
-    if unit == 1 {
-        couplers
-    } else {
-        couplers.divide(unit)
-    }
-}
-
 /// The weights of nodes and of couplers, counted in a unit.
 #[derive(Drop)]
 pub struct CountedWeights {
@@ -127,9 +103,16 @@ pub fn counted_weights(nodes: NumberList, couplers: CouplerList) -> CountedWeigh
         ≡ map (entry_in (unit_of (weights_of nodes couplers))) couplers }
 {
     let unit = greatest_unit(nodes.as_slice(), &couplers);
+    if unit == 1 {
+        return CountedWeights {
+            nodes,
+            couplers,
+            unit,
+        };
+    }
     CountedWeights {
-        nodes: NumberList::new(counted_numbers(nodes.into_vec(), unit)),
-        couplers: counted_couplers(couplers, unit),
+        nodes: NumberList::new(divide_weights(nodes.into_vec(), unit)),
+        couplers: couplers.divide(unit),
         unit,
     }
 }

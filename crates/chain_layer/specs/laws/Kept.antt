@@ -23,7 +23,7 @@ use Rattle.embedding_check.specs.Embeddings.{Embedding, IsEmbedding, IsTie, form
 use Rattle.chain_map.specs.Chains.{IsBetween, chain_of, occurrences}
 use Rattle.chain_map.proofs.Occurrences.{occurrences-sum}
 use Rattle.chain_layer.specs.declared.link.ChainLink.{ChainLink}
-use Rattle.chain_layer.specs.Image.{nodes_of, field_of, strength, shares, ties, all_shares, all_ties, placed, field_at, in_order, image, offset, decoding, IsSound, Fits, extension}
+use Rattle.chain_layer.specs.Image.{nodes_of, field_of, strength, shares, ties, all_shares, all_ties, placed, field_at, in_order, image, offset, decoding, IsSound, Fits, bit_on, extension}
 use Rattle.chain_layer.specs.laws.SpinSums.{all_append, spin_energy, pair_energy, shares_spread, nodes_energy, fields_energy, IsUpward, couplings_energy, total_by-in_order}
 use Rattle.chain_layer.specs.laws.Whole.{are_same, is_whole, HasBit, one_bit, each_in, in_rest, majority_of}
 use Rattle.chain_layer.specs.laws.NodeEnergies.{ties_upward, shares_of}
@@ -210,26 +210,26 @@ one_chain chains q i j once i_in j_in here there =
           absurd (omega (arith, one, other, once, occurrences-sum q chains, two_of (λ c. count_by (λ p. p == q) c) chains j i [] more i_in))
     ]
 
--- the test of each node, for the bit of a qubit of chain i
-extended_bit : (e : Embedding) → IsEmbedding e → (x : List Bool) (i : ℕ) → i < length e.ising.fields
-    → (q : ℕ) → is_in (chain_of e.chains i) q ≡ true
-    → list_any (λ j. bit_at x j && is_in (chain_of e.chains j) q) (nodes_of e) ≡ bit_at x i
-extended_bit e kept x i within q in' = elim (cases_Bool (bit_at x i)) [
+-- a qubit of a chain has the bit of its node
+bit_of_node : (chains : List (List ℕ)) (x : List Bool) (q i : ℕ) → occurrences q chains ≤ 1
+    → i < length chains → is_in (chain_of chains i) q ≡ true → bit_on chains x q ≡ bit_at x i
+bit_of_node chains x q i once within in' = elim (cases_Bool (bit_at x i)) [
   | inl one ↦
-      any_of_range (λ j. bit_at x j && is_in (chain_of e.chains j) q) i 0 (length e.ising.fields)
-      (omega arith)
-      (omega (arith, within))
+      any_of_range test i 0 (length chains) (omega arith) (omega (arith, within))
       (and_from (bit_at x i) _ one in')
       ∙ sym one
   | inr none ↦
-      none_of_range (λ j. bit_at x j && is_in (chain_of e.chains j) q) 0 (length e.ising.fields)
+      none_of_range test 0 (length chains)
       (λ j l. false_from_ne_true _ (λ both.
-      let parts = and_parts (bit_at x j) (is_in (chain_of e.chains j) q) both in
-      let same = one_chain e.chains q i j (kept.once q) (omega (arith, within, kept.counted)) (omega (arith, l, kept.counted)) in' parts.1 in
+      let parts = and_parts (bit_at x j) (is_in (chain_of chains j) q) both in
+      let same = one_chain chains q i j once within (omega (arith, l)) in' parts.1 in
       let bit : true ≡ false = sym parts.0 ∙ sym (ap (bit_at x) same) ∙ none in
       cc))
       ∙ sym none
 ]
+  where
+    test : ℕ → Bool
+    test j = bit_at x j && is_in (chain_of chains j) q
 
 -- what is true of all qubits of a list is true of any qubit that is in it
 pub each_at : (P : ℕ → Type 0) (qs : List ℕ) (q : ℕ) → AllByRecursion P qs → is_in qs q ≡ true → P q
@@ -245,8 +245,8 @@ pub extension_bits : (e : Embedding) → IsEmbedding e → (x : List Bool) (i : 
     → i < length e.ising.fields → HasBit (bit_at (extension e x)) (chain_of e.chains i) (bit_at x i)
 extension_bits e kept x i within q in' =
     let below : q < e.qubits = each_at (λ p. p < e.qubits) (chain_of e.chains i) q (chain_within e kept i within) in' in
-    get_or-map-range_with_len (λ p. list_any (λ j. bit_at x j && is_in (chain_of e.chains j) p) (nodes_of e)) 0 e.qubits q q false below (omega arith)
-    ∙ extended_bit e kept x i within q in'
+    get_or-map-range_with_len (bit_on e.chains x) 0 e.qubits q q false below (omega arith)
+    ∙ bit_of_node e.chains x q i (kept.once q) (omega (arith, within, kept.counted)) in'
 
 -- a chain of one bit has no broken tie
 whole_of_bit : (s : ℕ → Bool) (chain : List ℕ) (b : Bool) (qs ps : List ℕ) → HasBit s chain b
@@ -336,7 +336,7 @@ pub chains_reach : (link : ChainLink) (e : Embedding) (x : List Bool) → Fits l
     → Extends (form_of e) (isings.form_of (image e)) (decoding link) (pos 1) (offset e) x (extension e x)
 chains_reach link e x fits width = record {
   width =
-      length-map-range_with_len (λ q. list_any (λ j. bit_at x j && is_in (chain_of e.chains j) q) (nodes_of e)) 0 e.qubits
+      length-map-range_with_len (bit_on e.chains x) 0 e.qubits
       ∙ sym (length-map-range_with_len (field_at (all_shares e)) 0 e.qubits);
   decodes = ap (map (majority (extension e x))) fits.chains ∙ extension_decodes e fits.kept x width;
   energy = omega (arith, ints, extension_value e fits.kept x);

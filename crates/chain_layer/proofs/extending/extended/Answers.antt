@@ -1,41 +1,15 @@
-use Rattle.std.proofs.Common.{◌≡◌, ◌&&◌, ◌||◌, true, length, get_or, ap, sym, ◌∙◌, arith}
-use Rattle.std.specs.List.{list_any, range_with_len}
-use Rattle.std.proofs.lemmas.List.FromFn.{fill_by_all}
-use Rattle.bits_model.specs.Output.{bit_at}
-use Rattle.bits_model.specs.Walks.{is_in}
-use Rattle.chain_map.specs.Chains.{chain_of}
-use Rattle.chain_layer.specs.Image.{nodes_of}
-use Rattle.chain_layer.proofs.Added.{changed, any_range}
+use Rattle.std.proofs.Common.{◌<◌, ℕ, List, length, All, sym, ap, subst, ◌∙◌}
 use Rattle.chain_layer.proofs.extending.extended.Goals as goal
 
-pub loop-i-preserved : goal.loop-i-preserved
-loop-i-preserved c =
-    let e = c.args.source.now in
-    let x = c.args.x.now in
-    let i = c.loop-i.i in
-    let next = c.set_where.new.y in
-    let value = c.deref_mut.ensures.value in
-    let chain : c.list.result.now ≡ chain_of e.chains i = c.list.ensures.listed ∙ ap (λ cs. chain_of cs i) c.chains.ensures in
-    let wide : length c.deref_mut.result.now ≡ e.qubits = ap length value ∙ c.loop-i.invariant.wide in
-    let same =
-    changed c.loop-i.y.items next c.loop-i.y.len
-    (omega (arith, ap length value, c.deref_mut.ensures.len))
-    (omega (arith, c.set_where.ensures.length, c.deref_mut.ensures.len)) in
-    record {
-      wide = ap length same ∙ c.set_where.ensures.length ∙ wide;
-      bits = λ q l.
-          ap (λ y. get_or y q true) same
-          ∙ c.set_where.ensures.bits q (omega (arith, l, wide))
-          ∙ (λ k. get_or (value k) q true || (bit_at x i && is_in (chain k) q))
-          ∙ ap (λ b. b || (bit_at x i && is_in (chain_of e.chains i) q)) (c.loop-i.invariant.bits q l)
-          ∙ sym (any_range (λ j. bit_at x j && is_in (chain_of e.chains j) q) i);
-    }
+pub on_chains-requires-clause-width : goal.on_chains-requires-clause-width
+on_chains-requires-clause-width c =
+    c.requires.width
+    ∙ sym c.requires.kept.counted
+    ∙ ap (λ (cs : List (List ℕ)). length cs) (sym c.chains.ensures)
 
-pub returns : goal.returns
-returns c =
-    let e = c.args.source.now in
-    let x = c.args.x.now in
-    let all : c.loop-i.i ≡ length e.ising.fields = omega (arith, c.requires.width, c.loop-i-test.false, c.loop-i.auto.i-end) in
-    fill_by_all (λ q. list_any (λ j. bit_at x j && is_in (chain_of e.chains j) q) (nodes_of e)) c.loop-i.y.items e.qubits true
-    c.loop-i.invariant.wide
-    (λ q l. c.loop-i.invariant.bits q l ∙ ap (λ n. list_any (λ j. bit_at x j && is_in (chain_of e.chains j) q) (range_with_len 0 n)) all)
+pub on_chains-requires-clause-within : goal.on_chains-requires-clause-within
+on_chains-requires-clause-within c =
+    subst (λ (cs : List (List ℕ)). All (λ chain. All (λ q. q < c.qubits.result) chain) cs)
+    (sym c.chains.ensures)
+    (subst (λ n. All (λ chain. All (λ q. q < n) chain) c.args.source.now.chains)
+    (sym c.qubits.ensures) c.requires.kept.within)

@@ -1,5 +1,6 @@
-use Rattle.std.proofs.Common.{◌≡◌, ℕ, ◌==◌, ◌||◌, false, length, take}
-use Rattle.std.specs.List.{list_any, slice_index_or}
+use Rattle.std.proofs.Common.{◌≡◌, ℕ, ◌||◌, false, length, take}
+use Rattle.std.specs.List.{slice_index_or}
+use Rattle.bits_model.specs.Walks.{is_in}
 use Rattle.ising_form.proofs.chained.mark.Given as goal
 
 -- the qubits so far are marked
@@ -7,5 +8,5 @@ abbrev pub invariant-loop-qubit : goal.invariant-loop-qubit
 invariant-loop-qubit l = record {
   length : length l.marks ≡ length l.initial.marks;
   marked : (q : ℕ) → slice_index_or l.marks q false
-      ≡ (slice_index_or l.initial.marks q false || list_any (λ p. p == q) (take l.qubit-index l.chain));
+      ≡ (slice_index_or l.initial.marks q false || is_in (take l.qubit-index l.chain) q);
 }

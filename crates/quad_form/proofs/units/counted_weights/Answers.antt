@@ -3,6 +3,7 @@ use Rattle.std.specs.Int.{w128}
 use Rattle.std.proofs.lemmas.Int.{to_z-of_z}
 use Rattle.bits_model.specs.declared.output.Entry.{Entry}
 use Rattle.quad_form.specs.Units.{unit_of, weights_of, counted_in, entry_in}
+use Rattle.quad_form.proofs.Divisors.{numbers_in-one, couplers_in-one}
 use Rattle.quad_form.proofs.ReducedForms.{one_le_quad_unit}
 use Rattle.quad_form.proofs.units.counted_weights.Goals as goal
 
@@ -21,25 +22,26 @@ unit_low unit lent nodes couplers fits is same =
     subst (λ u. pos 1 ≤ℤ u) (sym (unit_found unit lent nodes couplers fits is same))
     (one_le_quad_unit (record { constant = pos 0; diagonal = nodes; couplers = couplers }))
 
-pub counted_numbers-requires : goal.counted_numbers-requires
-counted_numbers-requires c =
+pub divide_weights-requires : goal.divide_weights-requires
+divide_weights-requires c =
     unit_low _ _ _ c.args.couplers (search rules) c.greatest_unit-unit.ensures c.as_slice.ensures
 
-pub counted_couplers-requires : goal.counted_couplers-requires
-counted_couplers-requires c =
+pub divide-requires : goal.divide-requires
+divide-requires c =
     unit_low _ _ _ c.args.couplers (search rules) c.greatest_unit-unit.ensures c.as_slice.ensures
 
-pub returns-clause-unit : goal.returns-clause-unit
-returns-clause-unit c =
-    unit_found _ _ _ c.args.couplers (search rules) c.greatest_unit-unit.ensures c.as_slice.ensures
+pub returns-then-unit-eq1-clause-nodes : goal.returns-then-unit-eq1-clause-nodes
+returns-then-unit-eq1-clause-nodes c =
+    let one : c.greatest_unit-unit.result ≡ pos 1 = search rules in
+    let found = c.greatest_unit-unit.ensures
+    ∙ ap (λ ws. unit_of (weights_of ws c.args.couplers)) c.as_slice.ensures in
+    sym (ap (λ u. map (counted_in u) c.args.nodes) (sym found ∙ one) ∙ numbers_in-one c.args.nodes)
 
-pub returns-clause-nodes : goal.returns-clause-nodes
-returns-clause-nodes c =
-    c.new.ensures
-    ∙ c.counted_numbers.ensures
-    ∙ (λ i. map (counted_in (returns-clause-unit c i)) (c.into_vec.ensures i))
-
-pub returns-clause-couplers : goal.returns-clause-couplers
-returns-clause-couplers c =
-    c.counted_couplers.ensures
-    ∙ ap (λ u. map (entry_in u) c.args.couplers) (returns-clause-unit c)
+pub returns-then-unit-eq1-clause-couplers : goal.returns-then-unit-eq1-clause-couplers
+returns-then-unit-eq1-clause-couplers c =
+    let one : c.greatest_unit-unit.result ≡ pos 1 = search rules in
+    let found = c.greatest_unit-unit.ensures
+    ∙ ap (λ ws. unit_of (weights_of ws c.args.couplers)) c.as_slice.ensures in
+    sym
+    (ap (λ u. map (entry_in u) c.args.couplers) (sym found ∙ one)
+    ∙ couplers_in-one c.args.couplers)

@@ -1,14 +1,14 @@
-use Rattle.std.proofs.Common.{◌≡◌, ◌<◌, ◌&&◌, ℕ, true, length, get_or}
+use Rattle.std.proofs.Common.{◌≡◌, ◌<◌, ◌&&◌, ℕ, false, length, get_or}
 use Rattle.std.specs.List.{list_any, range_with_len}
 use Rattle.bits_model.specs.Output.{bit_at}
 use Rattle.bits_model.specs.Walks.{is_in}
 use Rattle.chain_map.specs.Chains.{chain_of}
-use Rattle.model_pipeline.proofs.states.on_chains.Given as goal
+use Rattle.chain_layer.proofs.extending.on_chains.Given as goal
 
 -- the chains of the nodes so far that are 1 are set
 abbrev pub invariant-loop-i : goal.invariant-loop-i
 invariant-loop-i l = record {
   wide : length l.y.items ≡ l.qubits;
-  bits : (q : ℕ) → q < l.qubits
-      → get_or l.y.items q true ≡ list_any (λ j. bit_at l.x j && is_in (chain_of l.chains j) q) (range_with_len 0 l.i);
+  bits : (q : ℕ) → q < l.qubits → get_or l.y.items q false
+      ≡ list_any (λ j. bit_at l.x j && is_in (chain_of l.chains j) q) (range_with_len 0 l.i);
 }

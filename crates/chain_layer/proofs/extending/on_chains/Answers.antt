@@ -1,31 +1,31 @@
-use Rattle.std.proofs.Common.{◌≡◌, ◌&&◌, ◌||◌, true, length, get_or, ap, sym, ◌∙◌, arith}
+use Rattle.std.proofs.Common.{◌≡◌, ◌&&◌, ◌||◌, false, length, get_or, ap, sym, ◌∙◌, arith}
 use Rattle.std.specs.List.{list_any, range_with_len}
 use Rattle.std.proofs.lemmas.List.FromFn.{fill_by_all}
 use Rattle.bits_model.specs.Output.{bit_at}
 use Rattle.bits_model.specs.Walks.{is_in}
 use Rattle.chain_map.specs.Chains.{chain_of}
+use Rattle.chain_layer.specs.Image.{bit_on}
 use Rattle.chain_layer.proofs.Added.{changed, any_range}
-use Rattle.model_pipeline.specs.Extensions.{bit_on}
-use Rattle.model_pipeline.proofs.states.on_chains.Goals as goal
+use Rattle.chain_layer.proofs.extending.on_chains.Goals as goal
 
 pub loop-i-preserved : goal.loop-i-preserved
 loop-i-preserved c =
     let chains = c.args.chains.now in
     let x = c.args.x.now in
     let i = c.loop-i.i in
-    let next = c.set_where.new.y in
+    let next = c.mark_where.new.y in
     let value = c.deref_mut.ensures.value in
     let wide : length c.deref_mut.result.now ≡ c.args.qubits = ap length value ∙ c.loop-i.invariant.wide in
     let same =
     changed c.loop-i.y.items next c.loop-i.y.len
     (omega (arith, ap length value, c.deref_mut.ensures.len))
-    (omega (arith, c.set_where.ensures.length, c.deref_mut.ensures.len)) in
+    (omega (arith, c.mark_where.ensures.length, c.deref_mut.ensures.len)) in
     record {
-      wide = ap length same ∙ c.set_where.ensures.length ∙ wide;
+      wide = ap length same ∙ c.mark_where.ensures.length ∙ wide;
       bits = λ q l.
-          ap (λ y. get_or y q true) same
-          ∙ c.set_where.ensures.bits q (omega (arith, l, wide))
-          ∙ (λ k. get_or (value k) q true || (bit_at x i && is_in (c.list.ensures.listed k) q))
+          ap (λ y. get_or y q false) same
+          ∙ c.mark_where.ensures.bits q
+          ∙ (λ k. get_or (value k) q false || (bit_at x i && is_in (c.list.ensures.listed k) q))
           ∙ ap (λ b. b || (bit_at x i && is_in (chain_of chains i) q)) (c.loop-i.invariant.bits q l)
           ∙ sym (any_range (λ j. bit_at x j && is_in (chain_of chains j) q) i);
     }
@@ -35,6 +35,6 @@ returns c =
     let chains = c.args.chains.now in
     let x = c.args.x.now in
     let all : c.loop-i.i ≡ length chains = omega (arith, c.requires.width, c.loop-i-test.false, c.loop-i.auto.i-end) in
-    fill_by_all (bit_on chains x) c.loop-i.y.items c.args.qubits true c.loop-i.invariant.wide
+    fill_by_all (bit_on chains x) c.loop-i.y.items c.args.qubits false c.loop-i.invariant.wide
     (λ q l. c.loop-i.invariant.bits q l
     ∙ ap (λ n. list_any (λ j. bit_at x j && is_in (chain_of chains j) q) (range_with_len 0 n)) all)
