@@ -16,12 +16,7 @@ mod ties;
 
 pub use chains::Chains;
 pub use decoding::decoded;
-<<<<<<< HEAD
-pub use extending::extended;
-=======
 pub use extending::{extended, on_chains};
-pub use gathered::Gathered;
->>>>>>> cf865ecdbbb2f60952215c6b8d7ea3b02549ef82
 pub use laws::laws_of_images;
 pub use link::ChainLink;
 pub use shares::shared_fields;
