@@ -24,8 +24,8 @@ use crate::weights::signed;
 use base::NoMemory;
 use bits_model::CouplerList;
 use literal_lists::{Literal, Literals};
-use pair_sums::{GatheredPairs, Pairs};
 use long_terms::{LongTable, Occurrences, PlaceRef};
+use pair_sums::{GatheredPairs, Pairs};
 use std::alloc::Global;
 
 /// Adds the weights of a variable's pairs, the first of those from an index on, and gives the index
