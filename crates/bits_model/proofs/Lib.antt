@@ -1,5 +1,6 @@
 pub mod Energies
 pub mod NodeNumbers
+pub mod EntryCounts
 pub mod Packed
 pub mod EntryRows
 pub mod PairNumbers

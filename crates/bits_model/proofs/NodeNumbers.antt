@@ -1,5 +1,6 @@
 -- The entries of nodes that are held as weights alone, or beside the nodes' numbers.
 use Rattle.std.proofs.Common.{◌≡◌, ℕ, zero, suc, ◌+◌, ◌<◌, ◌≤◌, ℤ, pos, List, [], ◌∷◌, length, drop, get_or, refl, sym, ap, ◌∙◌, arith}
+use Rattle.std.specs.List.{AllByRecursion}
 use Rattle.std.proofs.lemmas.List.{drop_more, drop_all}
 use Rattle.bits_model.specs.declared.output.Entry.{Entry}
 use Rattle.bits_model.specs.declared.nodes.Numbers.{Numbers}
@@ -22,6 +23,23 @@ pub length-weighed : (numbers : Numbers) (ws : List ℤ) → AreNumbers numbers 
     → length (weighed_nodes numbers ws) ≡ length ws
 length-weighed All ws a = length-node_entries 0 ws
 length-weighed (Listed ns) ws a = length-listed ns.items ws a
+
+node_entries-same : (n : ℕ) (ws : List ℤ)
+    → AllByRecursion (λ e. e.first ≡ e.second) (node_entries n ws)
+node_entries-same n [] = tt
+node_entries-same n (w ∷ ws) = (refl, node_entries-same (suc n) ws)
+
+listed-same : (ns : List ℕ) (ws : List ℤ)
+    → AllByRecursion (λ e. e.first ≡ e.second) (listed_entries ns ws)
+listed-same [] ws = tt
+listed-same (n ∷ ns) [] = tt
+listed-same (n ∷ ns) (w ∷ ws) = (refl, listed-same ns ws)
+
+-- both numbers of each entry are that of its node
+pub weighed-same : (numbers : Numbers) (ws : List ℤ)
+    → AllByRecursion (λ e. e.first ≡ e.second) (weighed_nodes numbers ws)
+weighed-same All ws = node_entries-same 0 ws
+weighed-same (Listed ns) ws = listed-same ns.items ws
 
 pub get_or-node_entries : (n : ℕ) (ws : List ℤ) (i : ℕ) (d : Entry) → i < length ws
     → get_or (node_entries n ws) i d

@@ -20,7 +20,7 @@ pub use chains::ChainList;
 pub use coupler_entries::CouplerEntries;
 pub use couplers::CouplerList;
 pub use energy::{bit_at, bits_energy, couplers_energy, times_spin, total_energy};
-pub use entries::{Entries, EntryList};
+pub use entries::{Counts, Entries, EntryList};
 pub use form_steps::{
     BitsLink, Guard, Guarded, Layer, Lowered, Reduced, Then, ThenLink, relations_compose,
 };

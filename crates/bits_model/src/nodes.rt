@@ -1,5 +1,5 @@
 //! The weights of nodes.
-ghost use Rattle.std.specs.Prelude.{◌≡◌, ◌<◌, ◌^◌, length};
+ghost use Rattle.std.specs.Prelude.{◌≡◌, ◌<◌, ◌^◌, All, length};
 ghost use Rattle.bits_model.specs.Entries.{node_entries, listed_entries, weighed_nodes};
 
 use crate::output::Entry;
@@ -54,8 +54,10 @@ impl NodeWeights {
         }
     }
 
+    /// How many entries there are, each of them that of a node.
     pub fn len(&self) -> usize
-        ensures { result ≡ length self.now }
+        ensures length { result ≡ length self.now }
+        ensures nodes { All (λ e. e.first ≡ e.second) self.now }
     {
         self.weights.len()
     }

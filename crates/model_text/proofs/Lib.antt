@@ -2,7 +2,6 @@ pub mod RowTexts
 pub mod Numerals
 pub mod ModelRows
 pub mod QubitNumbers
-pub mod EntryCounts
 pub mod EntryLists
 pub mod Puts
 pub mod RowPieces

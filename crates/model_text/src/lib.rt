@@ -6,7 +6,6 @@
 //! appended to a vector.
 #![tactic(auto)]
 
-mod counts;
 mod laws;
 mod lines;
 mod summary;

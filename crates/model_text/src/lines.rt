@@ -8,7 +8,6 @@ ghost use Rattle.edge_io.specs.Sinks.{AppendsFront, Passes, joined_bytes};
 ghost use Rattle.model_text.specs.Rows.{row_text, rows_text, figure_rows, chimera_row, chain_row, chain_rows, graph_rows, kind_words, header_row, entry_row, FitsFigures, FitsGraph};
 ghost use Rattle.model_text.specs.Lines.{spaced_numbers};
 
-use crate::counts::counts_of;
 use base::Figures;
 use bits_model::{ChainList, CouplerList, Entry, EntryList, Kind, NodeWeights, Row};
 use edge_io::{LineBuffer, Sink, WriteFault};
@@ -231,7 +230,7 @@ pub fn put_header<S: Sink>(
     ensures lost { OnErr result (buffer.new ≡ []) }
     ensures cause { HasCause (S.faults sink.old) (S.faults sink.new) result }
 {
-    let counts = counts_of(entries);
+    let counts = entries.counts();
     let mut first = Buffer::new();
     let mut second = Buffer::new();
     let mut third = Buffer::new();

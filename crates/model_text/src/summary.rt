@@ -3,7 +3,6 @@ ghost use Rattle.std.specs.Prelude.{◌≡◌, ◌++◌, IfOk, OnOk};
 ghost use Rattle.model_text.specs.Rows.{row_text, rows_text};
 ghost use Rattle.model_text.specs.Summary.{summary_row, summary_rows, summary_text};
 
-use crate::counts::counts_of;
 use base::{Figures, NoMemory};
 use bits_model::OutputModel;
 use std::alloc::Global;
@@ -47,12 +46,12 @@ fn push_summary(
 pub fn written_summary(alloc: Global, model: &OutputModel) -> Result<Vec<u8>, NoMemory>
     ensures { IfOk result (λ text. text.items ≡ summary_text model.now) }
 {
-    let counts = counts_of(&model.entries);
+    let counts = model.entries.counts();
     let mut text = Vec::new(alloc);
     push_summary(
         &mut text,
-        counts.nodes,
-        counts.couplers,
+        counts.nodes as i128,
+        counts.couplers as i128,
         model.figures,
         model.unit,
     )?;
