@@ -14,33 +14,34 @@ use Rattle.problem_form.specs.declared.limits.High.{High}
 use Rattle.problem_form.specs.declared.limits.High.TheVariants.{Monomial, Rosenberg}
 use Rattle.problem_form.specs.Problems.{ProblemContent, form_of}
 use Rattle.term_table.specs.Tables.{TableContent, IsTable}
-use Rattle.term_table.specs.Tables as tables
 use Rattle.penalty_layer.specs.Penalty.{figures, node_count, Admits}
-use Rattle.penalty_layer.specs.Penalty as penalty
 use Rattle.penalty_layer.specs.laws.Relaxing.{penalty_extends}
-use Rattle.penalty_layer.proofs.Admitted.{image_size}
 use Rattle.penalty_layer.proofs.Sums.{image-total}
-use Rattle.normal_form.specs.Multilinear as multilinear
 use Rattle.normal_form.specs.laws.Relaxing.{multilinear_extends}
 use Rattle.monomial_layer.specs.laws.Kept.{mono_reaches}
-use Rattle.rosenberg_layer.specs.Rosenberg as rosenberg
 use Rattle.rosenberg_layer.specs.laws.Kept.{rosen_reaches}
-use Rattle.quad_form.specs.Quads as quads
-use Rattle.quad_form.specs.Flat as flat
 use Rattle.quad_form.specs.laws.Flattened.{flat_keeps, flat_reaches}
 use Rattle.direct_quad.specs.Direct.{additions_of}
-use Rattle.direct_quad.specs.Direct as direct
-use Rattle.direct_quad.specs.FlatMonomials as flat_monomials
 use Rattle.direct_quad.specs.laws.FlatKept.{first, second, fits_first, fits_second}
 use Rattle.long_terms.proofs.Apart.{IsTable-table_of}
 use Rattle.long_terms.proofs.KeptTerms.{AreAdditions-of}
-use Rattle.direct_quad.specs.laws.Relaxing.{direct_extends, figures-still}
+use Rattle.direct_quad.specs.laws.Relaxing.{direct_extends, figures-still, AreAdditions-of}
 use Rattle.model_pipeline.specs.Models.{low_terms_of, quad_by, terms_of}
 use Rattle.model_pipeline.specs.Extensions.{low_extension, extension_by, link_by, ExtendsLeastBy, IsLeastExtension}
 use Rattle.model_pipeline.specs.Decoders.{LowFits}
 use Rattle.model_pipeline.proofs.PairForms.{flat_link, pair_link}
 use Rattle.model_pipeline.proofs.PlainForms.{plain_flat, plain_nodes, plain_pair}
 use Rattle.model_pipeline.proofs.Standing.{low_keeps, low_source, steps, terms_width}
+use Rattle.penalty_layer.proofs.Admitted.{image_size}
+use Rattle.direct_quad.specs.laws.Between.{IsTable-table_of}
+use Rattle.term_table.specs.Tables as tables
+use Rattle.penalty_layer.specs.Penalty as penalty
+use Rattle.normal_form.specs.Multilinear as multilinear
+use Rattle.rosenberg_layer.specs.Rosenberg as rosenberg
+use Rattle.quad_form.specs.Quads as quads
+use Rattle.quad_form.specs.Flat as flat
+use Rattle.direct_quad.specs.Direct as direct
+use Rattle.direct_quad.specs.FlatMonomials as flat_monomials
 
 -- slack bits extend an assignment with the least cost
 terms_extend : (normal : Normal) (a : BitsLink) (p : ProblemContent) (x : List Bool)
@@ -145,8 +146,7 @@ least_by_literal_pairs choices p x y normal_is high_is admitted width same =
     let kept : IsTable t = IsTable-table_of (additions_of p) (AreAdditions-of p admitted) in
     let link : BitsLink = record { source_width = p.variables; target_width = node_count p } in
     let fits : penalty.Fits link p = record { source = refl; target = refl; normal = admitted.normal } in
-    least_by_pairs Literal choices p x y normal_is high_is width same (link, fits)
-    (pair_link t kept (omega (arith, image_size p admitted)))
+    least_by_pairs Literal choices p x y normal_is high_is width same (link, fits) (pair_link t kept)
     (flat_link t kept (omega (arith, image-total p admitted.within)))
 
 -- .. and over variables alone

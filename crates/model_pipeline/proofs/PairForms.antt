@@ -1,15 +1,15 @@
 -- The quadratic form of a table whose pairs are replaced: its links, and how far it grows.
-use Rattle.std.proofs.Common.{◌≤◌, ◌+◌, ◌*◌, ◌^◌, refl, arith}
+use Rattle.std.proofs.Common.{◌≤◌, ◌+◌, ◌*◌, ◌^◌, refl, arith, ℕ, zero, suc}
 use Rattle.form_steps.specs.declared.layer.BitsLink.{BitsLink}
 use Rattle.term_table.specs.Terms.{terms_total}
 use Rattle.term_table.specs.Tables.{TableContent, IsTable, table_size}
-use Rattle.rosenberg_layer.specs.Rosenberg as rosenberg
-use Rattle.rosenberg_layer.specs.laws.Sets.{IsSound-run}
+use Rattle.rosenberg_layer.specs.laws.Sets.{IsSound-run, IsSound, IsSound-substituted}
 use Rattle.rosenberg_layer.proofs.Ends.{IsLow-image}
 use Rattle.rosenberg_layer.proofs.Growth.{total-image, size-image}
 use Rattle.quad_form.specs.Quads.{quad_size, quad_total}
-use Rattle.quad_form.specs.Flat as flat
 use Rattle.quad_form.proofs.FlatForms.{quad_total-image, quad_size-image}
+use Rattle.rosenberg_layer.specs.Rosenberg as rosenberg
+use Rattle.quad_form.specs.Flat as flat
 
 low_is_table : (t : TableContent) → IsTable t → (terms_total t.terms + 1) * 2 ^ 15 ≤ 2 ^ 124
     → IsTable (rosenberg.image t)
@@ -19,11 +19,10 @@ low_is_table t is small = record {
 }
 
 -- the links of the two steps
-pub pair_link : (t : TableContent) → IsTable t → table_size t * 2 ^ 2 ≤ 2 ^ 32
-    → (link : BitsLink) × rosenberg.Fits link t
-pair_link t is size = (
+pub pair_link : (t : TableContent) → IsTable t → (link : BitsLink) × rosenberg.Fits link t
+pair_link t is = (
   record { source_width = t.width; target_width = (rosenberg.image t).width },
-  record { source = refl; target = refl; table = is; size = size },
+  record { source = refl; target = refl; table = is },
 )
 
 pub flat_link : (t : TableContent) → IsTable t → (terms_total t.terms + 1) * 2 ^ 15 ≤ 2 ^ 124

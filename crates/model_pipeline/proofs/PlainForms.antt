@@ -1,7 +1,6 @@
 -- The form of what a problem contributes, multiplied out as it comes, is that of its multilinear
 -- table.
 use Rattle.std.proofs.Common.{◌≡◌, ◌+◌, ◌*◌, ◌++◌, ◌≤◌, ◌^◌, List, [], length, All, refl, sym, ap, ◌∙◌, subst, arith}
-use Rattle.std.proofs.Common.{◌≡◌, ◌++◌, List, [], length, All, refl, sym, ap, ◌∙◌, subst, arith}
 use Rattle.std.proofs.lemmas.List.{append-nil}
 use Rattle.std.proofs.lemmas.List.Elements.{recursion_from_All}
 use Rattle.form_steps.specs.declared.layer.BitsLink.{BitsLink}
@@ -16,23 +15,16 @@ use Rattle.term_table.proofs.Additions.{coefficient_of-with_additions, terms_tot
 use Rattle.term_table.proofs.KeptTerms.{OfSet, All-with_additions, AreTerms-with_additions}
 use Rattle.term_table.proofs.PlainSets.{contributions-sets}
 use Rattle.term_table.proofs.UniqueTerms.{same_tables}
-use Rattle.penalty_layer.specs.Penalty as penalty
 use Rattle.penalty_layer.proofs.Admitted.{threshold_within}
 use Rattle.penalty_layer.proofs.Sets.{contribution_sets}
 use Rattle.normal_form.specs.Multilinear.{multiplied, Admits, IsSmall}
-use Rattle.normal_form.specs.Multilinear as multilinear
 use Rattle.normal_form.proofs.Limits.{penalty_admits}
 use Rattle.normal_form.proofs.MultipliedOut.{AreAdditions-multiplied_out, small-additions, total-multiplied}
 use Rattle.normal_form.proofs.Sizes.{size_within, squares-multiplied}
-use Rattle.monomial_layer.specs.Monomials as monomials
 use Rattle.monomial_layer.proofs.Sizes.{all_nodes-le}
-use Rattle.rosenberg_layer.specs.Rosenberg as rosenberg
 use Rattle.quad_form.specs.Quads.{quad_size, quad_total}
-use Rattle.quad_form.specs.Flat as flat
 use Rattle.long_terms.specs.Apart.{table_of}
-use Rattle.direct_quad.specs.Parts as parts
 use Rattle.direct_quad.specs.Direct.{additions_of}
-use Rattle.direct_quad.specs.FlatMonomials as flat_monomials
 use Rattle.direct_quad.specs.Held.{HeldContent, AreHeld, HasPlaces}
 use Rattle.direct_quad.specs.Stated.{IsWithin}
 use Rattle.long_terms.proofs.Apart.{IsTable-table_of}
@@ -48,6 +40,14 @@ use Rattle.model_pipeline.specs.Models.{quad_by}
 use Rattle.model_pipeline.proofs.PairForms.{flat_link, pair_link, pair_size, pair_total}
 use Rattle.model_pipeline.proofs.Rooms.{pair_room}
 use Rattle.model_pipeline.proofs.Standing.{formed_by_steps}
+use Rattle.direct_quad.specs.laws.Between.{IsTable-table_of}
+use Rattle.penalty_layer.specs.Penalty as penalty
+use Rattle.normal_form.specs.Multilinear as multilinear
+use Rattle.monomial_layer.specs.Monomials as monomials
+use Rattle.rosenberg_layer.specs.Rosenberg as rosenberg
+use Rattle.quad_form.specs.Flat as flat
+use Rattle.direct_quad.specs.Parts as parts
+use Rattle.direct_quad.specs.FlatMonomials as flat_monomials
 
 -- what a problem adds, multiplied out
 abbrev pub plain_additions : ProblemContent → TableContent
@@ -196,9 +196,7 @@ total-plain p admitted =
 -- the links of the two steps
 pub plain_pair : (p : ProblemContent) → Admits p
     → (link : BitsLink) × rosenberg.Fits link (multilinear.image p)
-plain_pair p admitted =
-    pair_link (multilinear.image p) (IsTable-plain p admitted)
-    (omega (arith, size_within p admitted.within))
+plain_pair p admitted = pair_link (multilinear.image p) (IsTable-plain p admitted)
 
 pub plain_flat : (p : ProblemContent) → Admits p
     → (link : BitsLink) × flat.Fits link (rosenberg.image (multilinear.image p))

@@ -12,7 +12,6 @@ use Rattle.form_steps.specs.laws.Composed.{keeps_after_relaxes}
 use Rattle.form_steps.specs.Links.{first_bits}
 use Rattle.problem_form.specs.declared.limits.Normal.{Normal}
 use Rattle.problem_form.specs.declared.limits.Normal.TheVariants.{Literal, Multilinear}
-use Rattle.problem_form.specs.declared.limits.Normal.TheVariants as normals
 use Rattle.problem_form.specs.declared.limits.High.{High}
 use Rattle.problem_form.specs.declared.limits.High.TheVariants.{Monomial, Rosenberg}
 use Rattle.problem_form.specs.Problems.{ProblemContent, form_of}
@@ -20,30 +19,22 @@ use Rattle.problem_form.specs.Limits.{upper, limit_fault}
 use Rattle.command_words.specs.declared.commands.NodeModel.{NodeModel}
 use Rattle.command_words.specs.declared.commands.NodeModel.TheVariants.{Qubo, Ising}
 use Rattle.penalty_layer.specs.Penalty.{figures, node_count, Admits}
-use Rattle.penalty_layer.specs.Penalty as penalty
 use Rattle.penalty_layer.specs.laws.Relaxing.{penalty_relaxes}
 use Rattle.penalty_layer.proofs.Admitted.{image_size, threshold_within}
 use Rattle.penalty_layer.proofs.Sums.{image-total}
 use Rattle.term_table.specs.Tables.{TableContent, IsTable}
-use Rattle.term_table.specs.Tables as tables
 use Rattle.normal_form.specs.laws.Relaxing.{multilinear_relaxes}
-use Rattle.monomial_layer.specs.Monomials as monomials
 use Rattle.monomial_layer.specs.laws.Kept.{mono_keeps}
 use Rattle.rosenberg_layer.specs.Rosenberg.{excess}
 use Rattle.rosenberg_layer.specs.laws.Kept.{rosen_keeps, width-run-le}
 use Rattle.quad_form.specs.Quads.{QuadContent, IsQuad, quad_size, quad_total}
-use Rattle.quad_form.specs.Quads as quads
 use Rattle.quad_form.specs.Flat.{same_bits}
-use Rattle.quad_form.specs.Flat as flat
 use Rattle.quad_form.specs.laws.Flattened.{length-image, flat_keeps}
 use Rattle.direct_quad.specs.Direct.{additions_of}
-use Rattle.direct_quad.specs.Direct as direct
 use Rattle.long_terms.proofs.Apart.{IsTable-table_of}
 use Rattle.long_terms.proofs.KeptTerms.{AreAdditions-of}
-use Rattle.direct_quad.specs.laws.Relaxing.{direct_relaxes, figures-still}
-use Rattle.ising_form.specs.Isings as isings
+use Rattle.direct_quad.specs.laws.Relaxing.{direct_relaxes, figures-still, AreAdditions-of}
 use Rattle.ising_form.specs.Spins.{coupled}
-use Rattle.ising_form.specs.Spins as spins
 use Rattle.ising_form.specs.laws.Spun.{length-fields, spins_keeps}
 use Rattle.ising_form.proofs.Images.{image_is_ising, total-image}
 use Rattle.model_pipeline.specs.Models.{IsModelOf, form_model, ising_figures, low_terms_of, quad_by, terms_of}
@@ -51,6 +42,16 @@ use Rattle.model_pipeline.specs.Formed.{IsFormed, Stands}
 use Rattle.model_pipeline.specs.Decoders.{LowFits}
 use Rattle.model_pipeline.proofs.PairForms.{flat_link, pair_link, pair_size, pair_total}
 use Rattle.model_pipeline.proofs.FormModels.{HasFigures, figures_within, qubo_stands, ising_stands}
+use Rattle.direct_quad.specs.laws.Between.{IsTable-table_of}
+use Rattle.problem_form.specs.declared.limits.Normal.TheVariants as normals
+use Rattle.penalty_layer.specs.Penalty as penalty
+use Rattle.term_table.specs.Tables as tables
+use Rattle.monomial_layer.specs.Monomials as monomials
+use Rattle.quad_form.specs.Quads as quads
+use Rattle.quad_form.specs.Flat as flat
+use Rattle.direct_quad.specs.Direct as direct
+use Rattle.ising_form.specs.Isings as isings
+use Rattle.ising_form.specs.Spins as spins
 
 -- the same form, with the same figures
 pub formed_as : (p : ProblemContent) (q r : QuadContent) (n : Figures) → q ≡ r → n ≡ figures p
@@ -163,7 +164,7 @@ formed_by_pairs p admitted =
     let kept : IsTable t = IsTable-table_of (additions_of p) (AreAdditions-of p admitted) in
     let first : BitsLink = record { source_width = p.variables; target_width = node_count p } in
     let fits : penalty.Fits first p = record { source = refl; target = refl; normal = admitted.normal } in
-    let pair = pair_link t kept (omega (arith, image_size p admitted)) in
+    let pair = pair_link t kept in
     let low = flat_link t kept (omega (arith, image-total p none)) in
     formed_by_steps Literal Rosenberg p first pair.0 low.0 (threshold_within p (upper p) none refl) fits pair.1
     low.1

@@ -6,14 +6,14 @@
 -- each of these w takes their place, and m * (p q - 2 p w - 2 q w + 3 w) is added. That is 0 where w
 -- is the product of p and q, and at least m elsewhere. See Rosenberg, Reduction of bivalent
 -- maximization to the quadratic case (1975).
-use Rattle.std.specs.Prelude.{◌≡◌, ℕ, zero, suc, ◌+◌, ◌-◌, ◌*◌, ◌^◌, ◌≤◌, pos, neg_ℤ, Bool, false, not, ◌&&◌, nat_le, List, [], ◌∷◌, ◌++◌, map, length, fold, Option, Some, None, if◌then◌else◌}
+use Rattle.std.specs.Prelude.{◌≡◌, ℕ, zero, suc, ◌+◌, ◌-◌, ◌*◌, pos, neg_ℤ, Bool, false, not, ◌&&◌, nat_le, List, [], ◌∷◌, ◌++◌, map, length, fold, Option, Some, None, if◌then◌else◌}
 use Rattle.std.specs.List.{filter, list_any, sum_by}
 use Rattle.std.specs.Ordering.{is_eq}
 use Rattle.form_steps.specs.declared.layer.BitsLink.{BitsLink}
 use Rattle.literal_lists.specs.declared.literal.Literal.{Literal}
 use Rattle.literal_lists.specs.Literals.{holds, literal_cmp}
 use Rattle.term_table.specs.Terms.{Term, terms_total, with_additions}
-use Rattle.term_table.specs.Tables.{TableContent, IsTable, table_size}
+use Rattle.term_table.specs.Tables.{TableContent, IsTable}
 
 -- the node of a number, as a literal
 abbrev pub node : ℕ → Literal
@@ -132,9 +132,8 @@ extension x t = fold with_product x (pairs_of (excess t.terms) t)
 
 -- ---- the layer's link
 
--- a link between a table and its image: the table has the size that lowering asks for
+-- a link between a table and its image
 pub record Fits (link : BitsLink) (t : TableContent) : Type 0 where
   pub source : link.source_width ≡ t.width
   pub target : link.target_width ≡ (image t).width
   pub table : IsTable t
-  pub size : table_size t * 2 ^ 2 ≤ 2 ^ 32

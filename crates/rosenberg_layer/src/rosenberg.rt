@@ -64,8 +64,6 @@ fn extended(
 ) -> Result<Vec<bool>, NoMemory>
     requires source { variables ≡ table.now.content.width }
     requires target { bits ≡ (image table.now.content).width }
-    requires table { IsTable table.now.content }
-    requires size { table_size table.now.content * 2 ^ 2 ≤ 2 ^ 32 }
     ensures { IfOk result (λ y. y.items ≡ extension x.now table.now.content) }
 {
     let made = run_of(alloc, table, variables, bits - variables)?;

@@ -1,8 +1,7 @@
 use Rattle.std.proofs.Common.{◌≡◌, ◌+◌, ◌-◌, ◌∙◌, ap, arith, fold, rules, List, Bool}
 use Rattle.rosenberg_layer.specs.Rosenberg.{image, excess, with_product}
 use Rattle.rosenberg_layer.specs.laws.Kept.{width-run-le}
-use Rattle.rosenberg_layer.proofs.Ends.{nodes-few}
-use Rattle.rosenberg_layer.proofs.Finish.{all-pairs}
+use Rattle.rosenberg_layer.proofs.Finish.{width-le, all-pairs}
 use Rattle.rosenberg_layer.proofs.rosenberg.extended.Goals as goal
 
 pub overflow_sub-bits : goal.overflow_sub-bits
@@ -10,14 +9,15 @@ overflow_sub-bits c =
     let t = c.args.table.now.content in
     omega (arith, c.requires.source, c.requires.target, width-run-le (excess t.terms) t)
 
-pub run_of-requires-clause-turns : goal.run_of-requires-clause-turns
-run_of-requires-clause-turns c =
+pub run_of-requires-clause-narrow : goal.run_of-requires-clause-narrow
+run_of-requires-clause-narrow c =
     let t = c.args.table.now.content in
     omega (
       arith,
       c.requires.source,
       c.requires.target,
-      nodes-few t c.requires.table.terms,
+      width-run-le (excess t.terms) t,
+      width-le (c.args.bits - c.args.variables) t,
     )
 
 pub returns : goal.returns

@@ -38,7 +38,6 @@ returns-clause-keeps c =
       source = c.width.ensures;
       target = c.width-2.ensures ∙ ap (λ (u : KeptTable). u.content.width) made;
       table = c.in_ok-target.ensures.kept;
-      size = c.requires.size;
     } in
     subst (λ (u : KeptTable). Keeps (form_of t) (form_of u.content) (first_bits link) (pos 1) (pos 0))
     (sym (c.known_low.ensures ∙ made)) (rosen_keeps link t fits)
