@@ -15,6 +15,24 @@ abbrev pub index_of : List Bool → List ℕ → ℕ
 index_of y [] = 0
 index_of y (u ∷ us) = cond (bit_at y u) 1 0 + 2 * index_of y us
 
+-- the number that stands at a place of a table, and 0 past its end
+abbrev pub number_at : List ℤ → ℕ → ℤ
+number_at values x = slice_index_or values x (pos 0)
+
+-- the number at a place of a table, with the one that another table has where `places` sends it,
+-- past a start: with places [0, 0, 1, 1] and start 2, place 3 takes the other table's number 3
+abbrev pub sum_at : (values more : List ℤ) → (places : List ℕ) → ℕ → ℕ → ℤ
+sum_at values more places start x =
+    number_at values x +ℤ number_at more (start + slice_index_or places x 0)
+
+-- whether the first table has the lesser number at a place
+abbrev pub is_lesser_at : (values others : List ℤ) → ℕ → Bool
+is_lesser_at values others x = int_lt (number_at values x) (number_at others x)
+
+-- the lesser of the numbers that two tables have at a place
+abbrev pub lesser_at : (values others : List ℤ) → ℕ → ℤ
+lesser_at values others x = int_min (number_at values x) (number_at others x)
+
 -- what a table over these nodes holds for a state
 abbrev pub value_at : List ℕ → List ℤ → List Bool → ℤ
 value_at nodes values y = slice_index_or values (index_of y nodes) (pos 0)
@@ -148,6 +166,12 @@ pub record IsPassedTo (v : ℕ) (nodes : List ℕ) (t : TableOver) : Type 0 wher
   pub below : AllBelow v rest
   pub count : length t.values ≡ 2 ^ length t.nodes
 
+-- a table over the nodes below v after one that is passed to v is added, where v has this bit: it
+-- holds for each state of those nodes what it held, and what the other holds for the state and the bit
+abbrev pub Adds : List ℕ → TableOver → Bool → (old new : List ℤ) → Type 0
+Adds nodes t bit old new = (v : ℕ) (y : List Bool) → IsPassedTo v nodes t → length y ≡ v
+    → value_at nodes new y ≡ value_at nodes old y +ℤ table_energy (y ++ bit ∷ []) t
+
 -- the lists of tables after this table is appended to the list of its last node
 pub record IsHandedOn (t : TableOver) (lists passed : List (List TableOver)) : Type 0 where
   pub none : t.nodes ≡ [] → passed ≡ lists
@@ -186,9 +210,7 @@ pub record IsSettled (kind : Kind) (v : ℕ) (nodes : List ℕ) (entries : List 
   pub one : IsTableOfBit kind v true nodes entries tables ones
   pub bit_count : length zeros ≤ length bits
   pub bit : (x : ℕ) → x < length zeros
-      → slice_index_or bits x false
-      ≡ int_lt (slice_index_or ones x (pos 0)) (slice_index_or zeros x (pos 0))
+      → slice_index_or bits x false ≡ is_lesser_at ones zeros x
   pub count : length values ≡ length zeros
   pub lesser : (x : ℕ) → x < length zeros
-      → slice_index_or values x (pos 0)
-      ≡ int_min (slice_index_or zeros x (pos 0)) (slice_index_or ones x (pos 0))
+      → number_at values x ≡ lesser_at zeros ones x

@@ -3,6 +3,10 @@
 -- Each field is split over its chain, each coupling is placed on one joined pair of qubits, and
 -- each qubit of a chain but the first is tied to its parent, so strongly that a broken tie never
 -- pays.
+--
+-- A node with field 5 on the chain 4, 7, 9 gives the qubits 4 and 7 the field 2 each and 9 the
+-- field 1. If it has the couplings 3 and -1 with other nodes, its strength is 5 + 3 + 1 + 1 = 10:
+-- the two ties have the coupling -10 each.
 use Rattle.std.specs.Prelude.{◌≡◌, ◌≢◌, ℕ, ◌+◌, ◌-◌, ◌*◌, ◌<◌, ◌==◌, ℤ, pos, neg_ℤ, ◌+ℤ◌, unsigned_abs, Bool, ◌&&◌, ◌||◌, List, [], ◌∷◌, ◌++◌, map, length, take, drop, All, sum_by, flat_map, nat_lt, if◌then◌else◌}
 use Rattle.std.specs.List.{list_any, range_with_len, slice_index_or}
 use Rattle.std.specs.Int.{int_div_euclid, int_rem_euclid}
@@ -19,32 +23,34 @@ use Rattle.chain_layer.specs.declared.link.ChainLink.{ChainLink}
 
 -- ---- the nodes of the form
 
--- their numbers
+-- their numbers, from 0 upwards
 abbrev pub nodes_of : Embedding → List ℕ
 nodes_of e = range_with_len 0 (length e.ising.fields)
 
--- the field of a node
+-- the field of a node, and 0 of one that the form does not have
 abbrev pub field_of : Embedding → ℕ → ℤ
 field_of e node = slice_index_or e.ising.fields node (pos 0)
 
--- the sizes of a node's couplings
+-- The sizes of a node's couplings. A coupling counts at both of its nodes. The couplings 3 and -1
+-- of a node come to 4.
 abbrev pub couplings_at : ℕ → List Entry → ℕ
 couplings_at node couplings =
     sum_by (λ c. if (node == c.first) || (node == c.second) then unsigned_abs c.weight else 0)
     couplings
 
 -- how strongly the qubits of a node's chain are tied: one more than the sizes of its field and its
--- couplings
+-- couplings. To break a tie costs twice that, and gives back at most twice those sizes
 abbrev pub strength : Embedding → ℕ → ℕ
 strength e node = unsigned_abs (field_of e node) + couplings_at node e.ising.couplings + 1
 
 -- ---- what a chain has
 
--- a share of a field
+-- a share of a field: an entry whose two nodes are the same qubit
 abbrev pub field_entry : ℕ → ℤ → Entry
 field_entry q w = record { first = q; second = q; weight = w }
 
--- a coupling of two qubits, the lesser one first
+-- A coupling of two qubits, the lesser one first. Of weight w it costs w where the two spins are
+-- equal, and -w where they differ.
 abbrev pub coupling_entry : ℕ → ℕ → ℤ → Entry
 coupling_entry p q w =
     if nat_lt p q
@@ -55,15 +61,18 @@ coupling_entry p q w =
 abbrev pub equal_shares : List ℕ → ℤ → List Entry
 equal_shares qubits share = map (λ q. field_entry q share) qubits
 
--- a field h, split over a chain of n qubits: h is `share * n + rest`, with `rest` from 0 to n - 1,
--- and the first `rest` qubits get one more
+-- A field h, split over a chain of n qubits: h is `share * n + rest`, with `rest` from 0 to n - 1,
+-- and the first `rest` qubits get one more. The field 5 on three qubits is 2, 2, 1, and the field
+-- -5 is -1, -2, -2, since -5 = -2 * 3 + 1. All shares have the sign of the field or are 0, so their
+-- sizes add up to that of the field.
 abbrev pub shares : List ℕ → ℤ → List Entry
 shares chain h =
     let share = int_div_euclid h (pos (length chain)) in
     let rest = unsigned_abs (int_rem_euclid h (pos (length chain))) in
     equal_shares (take rest chain) (share +ℤ pos 1) ++ equal_shares (drop rest chain) share
 
--- the couplings of these qubits with their parents
+-- The couplings of these qubits with their parents. A coupling of -F, where F is the strength: it
+-- costs -F where qubit and parent agree, and F where they don't.
 abbrev pub ties : List ℕ → List ℕ → ℕ → List Entry
 ties (q ∷ qs) (p ∷ ps) strong = coupling_entry q p (neg_ℤ (pos strong)) ∷ ties qs ps strong
 ties (q ∷ qs) [] strong = []
@@ -75,14 +84,15 @@ ties [] ps strong = []
 abbrev pub all_shares : Embedding → List Entry
 all_shares e = flat_map (λ node. shares (chain_of e.chains node) (field_of e node)) (nodes_of e)
 
--- the ties of all chains
+-- The ties of all chains. Each chain's ties are as strong as its own node asks.
 abbrev pub all_ties : Embedding → List Entry
 all_ties e =
     flat_map
     (λ node. ties (drop 1 (chain_of e.chains node)) (chain_of e.parents node) (strength e node))
     (nodes_of e)
 
--- each coupling on its pair of qubits
+-- Each coupling on its pair of qubits. The pair of qubits of a coupling is joined in the graph, and
+-- has one end in each of the two chains.
 abbrev pub placed : List Entry → List (ℕ × ℕ) → List Entry
 placed (c ∷ cs) (p ∷ ps) = record { first = p.0; second = p.1; weight = c.weight } ∷ placed cs ps
 placed (c ∷ cs) [] = []
@@ -90,11 +100,12 @@ placed [] ps = []
 
 -- ---- the form on the qubits
 
--- the sum of what a qubit gets
+-- the sum of what a qubit gets: the weights of those entries that are at it
 abbrev pub field_at : List Entry → ℕ → ℤ
 field_at es q = total_by (λ e. if_so (q == e.first) e.weight) es
 
--- an entry among entries in order of their pairs
+-- An entry among entries in order of their pairs. It goes before the first entry whose pair is not
+-- below its own.
 abbrev pub inserted : Entry → List Entry → List Entry
 inserted e [] = e ∷ []
 inserted e (f ∷ fs) =
@@ -105,7 +116,8 @@ abbrev pub in_order : List Entry → List Entry
 in_order [] = []
 in_order (e ∷ es) = inserted e (in_order es)
 
--- the split fields, the placed couplings, the ties, and the same constant
+-- The split fields, the placed couplings, the ties, and the same constant. A model of it has a
+-- field for each qubit of the graph: 0 for those that are in no chain.
 abbrev pub image : Embedding → IsingContent
 image e = record {
   constant = e.ising.constant;
@@ -113,17 +125,19 @@ image e = record {
   couplings = in_order (placed e.ising.couplings e.places ++ all_ties e);
 }
 
--- what the ties cost where none is broken
+-- What the ties cost where none is broken. A chain of n qubits has n - 1 ties of one strength.
 abbrev pub ties_cost : Embedding → ℕ
 ties_cost e = sum_by (λ node. strength e node * (length (chain_of e.chains node) - 1)) (nodes_of e)
 
--- so much lower are all energies
+-- so much lower are all energies: with no tie broken each tie adds minus its strength
 abbrev pub offset : Embedding → ℤ
 offset e = neg_ℤ (pos (ties_cost e))
 
 -- ---- the link
 
--- the bit that most qubits of each chain have, and on a tie that of its first qubit
+-- The bit that most qubits of each chain have, and on a tie that of its first qubit. A state has a
+-- bit for each qubit of the graph. The bits 0, 1, 1 of a chain decode to 1, and the bits 0, 1 of a
+-- chain of two to 0, that of its first qubit.
 abbrev pub decoding : ChainLink → Decoding
 decoding link = record {
   source_width = length link.chains;
@@ -133,25 +147,34 @@ decoding link = record {
 
 -- a link between an embedding and its image
 pub record Fits (link : ChainLink) (e : Embedding) : Type 0 where
+  -- the link has the chains of the embedding, in the order of its nodes
   pub chains : link.chains ≡ e.chains
+  -- and as many qubits
   pub qubits : link.qubits ≡ e.qubits
+  -- what is embedded is well formed: chains that are filled and apart, a tree on each, a place for
+  -- each coupling
   pub kept : IsEmbedding e
 
--- the bit of the node whose chain the qubit is in, and 0 in no chain
+-- The bit of the node whose chain the qubit is in, and 0 in no chain. No qubit is in two chains, so
+-- at most one node has a say.
 abbrev pub bit_on : List (List ℕ) → List Bool → ℕ → Bool
 bit_on chains x q =
     list_any (λ node. bit_at x node && is_in (chain_of chains node) q)
     (range_with_len 0 (length chains))
 
--- the state of so many qubits in which each has the bit of its node
+-- The state of so many qubits in which each has the bit of its node. Qubits that are in no chain
+-- have the bit 0.
 abbrev pub on_chains : List (List ℕ) → ℕ → List Bool → List Bool
 on_chains chains qubits x = map (bit_on chains x) (range_with_len 0 qubits)
 
--- the state that stands for an assignment of the embedded form
+-- The state that stands for an assignment of the embedded form. All qubits of a chain have one bit,
+-- so no tie is broken.
 abbrev pub extension : Embedding → List Bool → List Bool
 extension e x = on_chains e.chains e.qubits x
 
 -- no chain is empty, and all its qubits exist
 pub record IsSound (link : ChainLink) : Type 0 where
+  -- so each chain has a majority and a first qubit
   pub filled : All (λ chain. chain ≢ []) link.chains
+  -- so each of its bits stands in the state
   pub within : All (λ chain. All (λ q. q < link.qubits) chain) link.chains

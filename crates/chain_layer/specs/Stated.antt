@@ -10,19 +10,24 @@ use Rattle.embedding_check.specs.Checked.{IsChecked}
 use Rattle.chain_layer.specs.declared.link.ChainLink.{ChainLink}
 use Rattle.chain_layer.specs.Image.{image, decoding}
 
--- a model of the image can be written on the chains of its source, on a graph with as many qubits
+-- A model of the image can be written on the chains of its source, on a graph with as many qubits.
+-- A graph of `rows` times `cols` cells has two shores of `shore` qubits a cell. The source's own
+-- variables are the first `variables` of the chains.
 abbrev pub ImageFitsOutput : Type 0
 ImageFitsOutput = (e : Embedding) (rows cols shore variables : ℕ) → IsEmbedding e
     → e.qubits ≡ 2 * rows * cols * shore → variables ≤ length e.chains
     → FitsOutput (Chimera rows cols shore) e.chains variables (image e)
 
--- where a check gave the parents and places, each coupling of the image is on joined qubits
+-- Where a check gave the parents and places, each coupling of the image is on joined qubits. So
+-- each tie and each placed coupling stands on an edge of the graph, and the model can be loaded as
+-- it is. `joined` is asked to be symmetric, since a tie is written with its lesser qubit first.
 abbrev pub ImageIsJoined : Type 0
 ImageIsJoined = (joined : Joins) (n : ℕ) (f : IsingContent) (map : List (List ℕ)) (e : Embedding)
     → ((a b : ℕ) → joined a b ≡ joined b a) → IsChecked joined n f map e
     → All (λ c. joined c.first c.second ≡ true) (image e).couplings
 
--- what is read off such a model are the first bits of what the link decodes
+-- What is read off such a model are the first bits of what the link decodes. The other chains stand
+-- for nodes that the translation added, and are left out.
 abbrev pub ReadOffTheChains : Type 0
 ReadOffTheChains = (link : ChainLink) (rows cols shore variables : ℕ) (y : List Bool)
     → read_off (Chimera rows cols shore) variables link.chains y

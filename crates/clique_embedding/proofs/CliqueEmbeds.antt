@@ -17,10 +17,10 @@ use Rattle.embedding_check.specs.Distances.{AreParents}
 use Rattle.embedding_check.specs.Embeddings.{Embedding, IsEmbedding}
 use Rattle.embedding_check.specs.Checked.{IsPlace, IsPlaceOf, IsChecked}
 use Rattle.embedding_check.proofs.Checked.{checked_embeds}
-use Rattle.clique_embedding.specs.Placing.{but_last, place_of_spots, clique_place}
+use Rattle.clique_embedding.specs.Placing.{but_last, place_of_spots, clique_place, joined_on}
 use Rattle.clique_embedding.proofs.PathParents.{path_parents}
 use Rattle.clique_embedding.proofs.CliquePaths.{clique_path}
-use Rattle.clique_embedding.proofs.LeastMeetings.{joined_on, same_cell, other_cell}
+use Rattle.clique_embedding.proofs.LeastMeetings.{same_cell, other_cell}
 
 -- ---- places
 

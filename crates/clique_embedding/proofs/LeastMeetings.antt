@@ -19,9 +19,7 @@ use Rattle.chain_map.proofs.Paths.{is_in_at}
 use Rattle.embedding_check.specs.Checked.{IsBefore, IsPlace}
 use Rattle.chain_map.proofs.CliqueChains.{down_place, along_place, place_again, down_in, along_in, path_len, path_down, path_along, cell_joined}
 use Rattle.clique_embedding.proofs.CliquePaths.{IsStep, step_of, joined_at, down_down, along_along, down_along, along_down}
-
-abbrev pub joined_on : Chimera → Joins
-joined_on graph = λ a b. are_joined (place_of graph a) (place_of graph b)
+use Rattle.clique_embedding.specs.Placing.{joined_on}
 
 -- ---- where two chains meet
 

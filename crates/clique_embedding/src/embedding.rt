@@ -1,10 +1,10 @@
 //! The embedding of an Ising form on the chains of a clique.
-ghost use Rattle.std.specs.Prelude.{◌≡◌, ◌<◌, ◌≤◌, length, IfOk, IfErr};
-ghost use Rattle.chimera_graph.specs.Graph.{qubits_of, place_of};
-ghost use Rattle.chimera_graph.specs.Places.{are_joined};
+ghost use Rattle.std.specs.Prelude.{◌<◌, ◌≤◌, length, IfOk, IfErr};
+ghost use Rattle.chimera_graph.specs.Graph.{qubits_of};
 ghost use Rattle.chain_map.specs.Faults.{IfFault};
 ghost use Rattle.chain_map.specs.Cliques.{clique_of, clique_places};
 ghost use Rattle.embedding_check.specs.Checked.{IsChecked};
+ghost use Rattle.clique_embedding.specs.Placing.{joined_on, IsTooMany};
 
 use crate::chains::{clique_chains, path_parents};
 use crate::places::all_places;
@@ -21,13 +21,11 @@ pub fn clique_embedded(
     graph: &Chimera,
     ising: Ising,
 ) -> Result<Embedded, CheckAnswer>
-    ensures checked { IfOk result (IsChecked
-        (λ a b. are_joined (place_of graph.now a) (place_of graph.now b))
-        (qubits_of graph.now) ising (clique_of graph.now (length ising.fields))) }
+    ensures checked { IfOk result (IsChecked (joined_on graph.now) (qubits_of graph.now) ising
+        (clique_of graph.now (length ising.fields))) }
     ensures fits { IfOk result (λ _. length ising.fields ≤ clique_places graph.now) }
-    ensures refused { IfErr result (λ e. IfFault e (λ f.
-        (clique_places graph.now < length ising.fields)
-        × (f ≡ EmbedFault.TooManyNodes (length ising.fields) (clique_places graph.now)))) }
+    ensures refused { IfErr result (λ e. IfFault e
+        (IsTooMany (length ising.fields) (clique_places graph.now))) }
 {
     let room = clique_places(graph);
     let nodes = ising.fields.as_slice().len();

@@ -1,4 +1,8 @@
 -- Which lists of words ask for a command.
+--
+-- The definition of a command goes along the words. Here it is said from the other side: which
+-- words ask for a given command, that every command can be asked for, and that no other words ask
+-- for any.
 use Rattle.std.specs.Prelude.{◌≡◌, ◌<◌, ◌≤◌, ◌+◌, ◌*◌, ◌^◌, List, [], ◌∷◌, ◌++◌, ℕ, codes, length, IfOk, Ok, Err, Option, Some, None}
 use Rattle.base.specs.declared.unit.UnitChoice.{UnitChoice}
 use Rattle.base.specs.declared.unit.UnitChoice.TheVariants.{One, Reduce}
@@ -52,7 +56,7 @@ abbrev pub word_of : Target → TargetWord
 word_of (targets.Nodes model) = Nodes model
 word_of (targets.Chimera board) = Chimera
 
--- the words of a format, a target and a file
+-- The words of a format, a target and a file. Every verb but `sample` has them after itself.
 abbrev pub job_words : Format → TargetWord → List ℕ → List (List ℕ)
 job_words format target file = format_word format ∷ target_word target ∷ file ∷ []
 
@@ -80,12 +84,13 @@ abbrev pub prove_words : Format → TargetWord → List ℕ → List ℕ → Lis
 prove_words format target file state certificate keys =
     codes "prove" ∷ job_words format target file ++ state ∷ certificate ∷ keys
 
--- the words that ask for the model of a sample, with keys
+-- The words that ask for the model of a sample, with keys. Two numbers stand in place of a format
+-- and a file.
 abbrev pub sample_words : List ℕ → List ℕ → TargetWord → List (List ℕ) → List (List ℕ)
 sample_words number clauses target keys =
     codes "sample" ∷ number ∷ clauses ∷ target_word target ∷ keys
 
--- what is asked of the file that the fourth word names
+-- What is asked of the file that the fourth word names. Counted from 0 it is word 3.
 abbrev pub on_fourth_word : Format → Target → Keys → Ask → Command
 on_fourth_word format target keys ask = record {
   origin = File format (Whole 3);
@@ -120,16 +125,16 @@ abbrev pub unit_key : UnitChoice → List ℕ
 unit_key One = codes "unit=one"
 unit_key Reduce = codes "unit=reduce"
 
--- the key that gives a number of a graph, the map of chains, the chains of a clique, the list of
--- dead qubits, or how chains are tied
+-- The key that gives a number of a graph, the map of chains, the chains of a clique, the list of
+-- dead qubits, or how chains are tied. The value is the digits of the number, as in `rows=16`.
 abbrev pub rows_key : List ℕ → List ℕ
 rows_key value = codes "rows=" ++ value
 
--- the key that gives how many columns of cells the graph has
+-- the key that gives how many columns of cells the graph has, as in `cols=16`
 abbrev pub cols_key : List ℕ → List ℕ
 cols_key value = codes "cols=" ++ value
 
--- the key that gives how many qubits a side of a cell has
+-- the key that gives how many qubits a side of a cell has, as in `shore=4`
 abbrev pub shore_key : List ℕ → List ℕ
 shore_key value = codes "shore=" ++ value
 
@@ -150,7 +155,8 @@ abbrev pub chain_key : Ties → List ℕ
 chain_key Choi = codes "chain=choi"
 chain_key Cut = codes "chain=cut"
 
--- every format, target and file can be asked for, with what the keys after them choose
+-- Every format, target and file can be asked for, with what the keys after them choose. So no
+-- format and no target is left out.
 abbrev pub EachJobIsAskedFor : Type 0
 EachJobIsAskedFor = (format : Format) (word : TargetWord) (file : List ℕ) (keys : List (List ℕ))
     → command_of (compile_words format word file keys)
@@ -220,7 +226,8 @@ abbrev pub board_with : graphs.Chimera → Option WordAt → Chaining → Ties �
 board_with graph dead chains ties =
     targets.Chimera (record { graph = graph; dead = dead; chains = chains; ties = ties })
 
--- a graph without dead qubits, with chains that are tied as usual
+-- A graph without dead qubits, with chains that are tied as usual. The strength that no state can
+-- gain by breaking is the usual one.
 abbrev pub board_of : graphs.Chimera → Chaining → Target
 board_of graph chains = board_with graph None chains Choi
 
@@ -237,18 +244,21 @@ dead_at i (Some name) = Some (Value i)
 -- each graph can be asked for, with every format and file, any words for its numbers, and the chains
 -- of a clique or of any map; besides with or without any list of dead qubits, and with both ties
 pub record EachGraphIsAskedFor : Type 0 where
+  -- with the chains of a clique, and ties as usual
   pub clique : (format : Format) (file first second third : List ℕ) (graph : graphs.Chimera)
       → digits_number first ≡ Some graph.rows → digits_number second ≡ Some graph.cols
       → digits_number third ≡ Some graph.shore
       → command_of (compile_words format Chimera file
       (rows_key first ∷ cols_key second ∷ shore_key third ∷ clique_key ∷ []))
       ≡ Ok (on_fourth_word format (board_of graph Clique) no_keys asks.Model)
+  -- with the chains of a map, and ties as usual
   pub map : (format : Format) (file first second third name : List ℕ) (graph : graphs.Chimera)
       → digits_number first ≡ Some graph.rows → digits_number second ≡ Some graph.cols
       → digits_number third ≡ Some graph.shore
       → command_of (compile_words format Chimera file
       (rows_key first ∷ cols_key second ∷ shore_key third ∷ map_key name ∷ []))
       ≡ Ok (on_fourth_word format (board_of graph (Map (Value 7))) no_keys asks.Model)
+  -- with the chains of a clique, any list of dead parts and any ties
   pub tied_clique : (format : Format) (file first second third : List ℕ) (dead : Option (List ℕ))
       (ties : Ties) (graph : graphs.Chimera)
       → digits_number first ≡ Some graph.rows → digits_number second ≡ Some graph.cols
@@ -258,6 +268,7 @@ pub record EachGraphIsAskedFor : Type 0 where
       ∷ dead_keys dead ++ chain_key ties ∷ []))
       ≡ Ok (on_fourth_word format (board_with graph (dead_at 8 dead) Clique ties) no_keys
       asks.Model)
+  -- with the chains of a map, any list of dead parts and any ties
   pub tied_map : (format : Format) (file first second third name : List ℕ) (dead : Option (List ℕ))
       (ties : Ties) (graph : graphs.Chimera)
       → digits_number first ≡ Some graph.rows → digits_number second ≡ Some graph.cols
@@ -296,12 +307,13 @@ pub record EachKeyStands : Type 0 where
   pub ties : (keys : Keys) (at : ℕ) (ties : Ties) → keys.ties ≡ None
       → with_word Chimera keys at (chain_key ties) ≡ Some (record keys { ties = Some ties })
 
--- no word of this name can stand
+-- No word of this name can stand. Whatever its value is, the word is refused at its position.
 abbrev pub CannotStand : TargetWord → Keys → ℕ → List ℕ → Type 0
 CannotStand target keys at name =
     (word value : List ℕ) → cut word ≡ Some (name, value) → with_word target keys at word ≡ None
 
--- no key stands twice, and with the chains of a clique no map can stand, nor the other way round
+-- no key stands twice, and with the chains of a clique no map can stand, nor the other way round.
+-- `embed` and `map` both choose the chains, so one of them keeps out the other.
 pub record NoKeyStandsTwice : Type 0 where
   pub normal : (target : TargetWord) (keys : Keys) (at : ℕ) (first : Normal)
       → keys.normal ≡ Some first → CannotStand target keys at (codes "normal")
@@ -324,7 +336,8 @@ pub record NoKeyStandsTwice : Type 0 where
   pub ties : (target : TargetWord) (keys : Keys) (at : ℕ) (first : Ties)
       → keys.ties ≡ Some first → CannotStand target keys at (codes "chain")
 
--- no key of a graph stands with a model on nodes
+-- No key of a graph stands with a model on nodes. So a key of a graph with a model on nodes is
+-- refused, and not passed over.
 pub record NoGraphKeyElsewhere : Type 0 where
   pub rows : (model : NodeModel) (keys : Keys) (at : ℕ)
       → CannotStand (Nodes model) keys at (codes "rows")
@@ -341,7 +354,8 @@ pub record NoGraphKeyElsewhere : Type 0 where
   pub ties : (model : NodeModel) (keys : Keys) (at : ℕ)
       → CannotStand (Nodes model) keys at (codes "chain")
 
--- with these keys the words of a graph's model are refused, at the number of words and one
+-- With these keys the words of a graph's model are refused, at the number of words and one. It is
+-- one fact for each verb.
 pub record IsRefusedAfterAll (given : Keys) : Type 0 where
   pub job : (format : Format) (file : List ℕ) (keys : List (List ℕ))
       → keys_from Chimera no_keys 4 keys ≡ Ok given
@@ -369,7 +383,8 @@ pub record IsRefusedAfterAll (given : Keys) : Type 0 where
       → command_of (sample_words first second Chimera keys)
       ≡ Err (length (sample_words first second Chimera keys) + 1)
 
--- no graph stands without one of its keys
+-- No graph stands without one of its keys. A key that is missing is told after the last word, where
+-- it might have stood.
 pub record NoGraphWithout : Type 0 where
   pub rows : (keys : Keys) → keys.rows ≡ None → IsRefusedAfterAll keys
   pub cols : (keys : Keys) → keys.cols ≡ None → IsRefusedAfterAll keys
@@ -382,7 +397,7 @@ NoLargerGraph = (keys : Keys) (rows cols shore : ℕ) → keys.rows ≡ Some row
     → keys.cols ≡ Some cols → keys.shore ≡ Some shore → 2 ^ 20 < 2 * rows * cols * shore
     → IsRefusedAfterAll keys
 
--- the words say a sample of these numbers, before keys
+-- The words say a sample of these numbers, before keys. Many words say one number, as 7 and 007.
 pub record SaySample (words : List (List ℕ)) (number clauses : ℕ) (target : TargetWord)
     (keys : List (List ℕ)) : Type 0 where
   pub first : List ℕ
@@ -414,7 +429,8 @@ SayOf words origin ask target keys = ⊥
 abbrev pub Say : List (List ℕ) → Command → List (List ℕ) → Type 0
 Say words command keys = SayOf words command.origin command.ask (word_of command.target) keys
 
--- words that ask for a command say it, and then keys
+-- Words that ask for a command say it, and then keys. This is the other half of what a command is:
+-- nothing is taken for a command by mistake.
 abbrev pub NoOtherWordsAsk : Type 0
 NoOtherWordsAsk = (words : List (List ℕ)) → IfOk (command_of words)
     (λ command. (keys : List (List ℕ)) × Say words command keys)

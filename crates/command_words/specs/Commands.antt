@@ -1,6 +1,9 @@
 -- What a list of words asks for, or the position of the first word that cannot stand, counted from
 -- 1; where no word is wrong but one is missing, or the graph were too large, it is the number of
 -- words and one.
+--
+-- So `compile wcnf qubo clash.wcnf unit=reduce` asks for a model, `compile wcnf qubo` is refused at
+-- position 4, where the file is missing, and `compile wcnf graph clash.wcnf` at position 3.
 use Rattle.std.specs.Prelude.{ℕ, ◌+◌, ◌≤◌, ⊤, List, length, drop, String, string_bytes, map, bytes_eq, codes, nat_le, if◌then◌else◌, Ok, Err, Some, None, Result, Option, slice_get}
 use Rattle.std.specs.Option.{option_map_or, ok_or}
 use Rattle.whole_text.specs.Numbers.{digits_number}
@@ -24,18 +27,21 @@ use Rattle.command_words.specs.declared.words.Verb.TheVariants as verbs
 use Rattle.command_words.specs.declared.keys.Keys.{Keys}
 use Rattle.command_words.specs.Keys.{choices_of, chosen_unit, keys_from, no_keys, target_by}
 
--- a step on the words, and the next one with its value; a word that cannot stand ends it
+-- a step on the words, and the next one with its value; a word that cannot stand ends it, so the
+-- first such word is the one that is told
 infixl 10 ◌>>=◌
 abbrev pub ◌>>=◌ : {A B : Type 0} → Result A ℕ → (A → Result B ℕ) → Result B ℕ
 (Ok x) >>= f = f x
 (Err position) >>= f = Err position
 
--- the value of the word at an index, or its position where it is missing or has none
+-- The value of the word at an index, or its position where it is missing or has none. Indices count
+-- from 0, and positions from 1.
 abbrev pub valued : {A : Type 0} → (List ℕ → Option A) → List (List ℕ) → ℕ → Result A ℕ
 valued value words i =
     option_map_or (λ word. ok_or (value word) (i + 1)) (slice_get words i) (Err (i + 1))
 
--- the name that is the whole word at an index, or its position where it is missing
+-- The name that is the whole word at an index, or its position where it is missing. Every word can
+-- be the name of a file, also an empty one.
 abbrev pub named : List (List ℕ) → ℕ → Result WordAt ℕ
 named words i = option_map_or (λ word. Ok (Whole i)) (slice_get words i) (Err (i + 1))
 
@@ -63,11 +69,14 @@ target_of word =
     then Some (Nodes Ising)
     else if bytes_eq word (codes "chimera") then Some Chimera else None
 
--- the target that a word and the keys choose, or the position after all words
+-- The target that a word and the keys choose, or the position after all words. What is missing
+-- there is a key of the graph, which might have stood after the last word.
 abbrev pub chosen_target : List (List ℕ) → TargetWord → Keys → Result Target ℕ
 chosen_target words target keys = ok_or (target_by target keys) (length words + 1)
 
--- the job of FORMAT TARGET FILE, from the second word on, with the keys from an index on
+-- The job of FORMAT TARGET FILE, from the second word on, with the keys from an index on. The keys
+-- stand after what the verb has besides: from index 4 on for a model, 5 with a state, 6 with a
+-- certificate as well.
 abbrev pub job_of : List (List ℕ) → ℕ → Result Job ℕ
 job_of words keys_at = do
   format ← valued format_of words 1
@@ -83,13 +92,15 @@ job_of words keys_at = do
     unit = chosen_unit keys;
   })
 
--- a count of clauses in digits, of at most 100,000
+-- A count of clauses in digits, of at most 100,000. More than that would make a text that the
+-- limits refuse.
 abbrev pub clauses_of : List ℕ → Option ℕ
 clauses_of word =
     option_map_or (λ clauses. if nat_le clauses 100000 then Some clauses else None)
     (digits_number word) None
 
--- the sample of NUMBER CLAUSES TARGET, from the second word on, with the keys after them
+-- The sample of NUMBER CLAUSES TARGET, from the second word on, with the keys after them. It has no
+-- file: the text is drawn from the two numbers.
 abbrev pub sample_of : List (List ℕ) → Result Sample ℕ
 sample_of words = do
   number ← valued digits_number words 1
@@ -171,7 +182,8 @@ command_of words = do
   verb ← valued verb_of words 0
   after_verb verb words
 
--- a source with at most 100,000 clauses, where it is drawn
+-- A source with at most 100,000 clauses, where it is drawn. It keeps the text of a drawn source
+-- within its limit.
 abbrev pub HasFewClauses : Origin → Type 0
 HasFewClauses (File format at) = ⊤
 HasFewClauses (Drawn number clauses) = clauses ≤ 100000

@@ -1,4 +1,7 @@
 -- The keys of a command, in any order, each at most once: words of the form `NAME=VALUE`.
+--
+-- A word is cut at its first `=`, so a name may have another one. A key that stands twice, and a
+-- key that a target does not have, are words that cannot stand.
 use Rattle.std.specs.Prelude.{◌≡◌, refl, ℕ, ◌+◌, ◌^◌, ◌==◌, nat_lt, nat_le, ◌&&◌, List, [], ◌∷◌, take, drop, Bool, true, false, codes, bytes_eq, if◌then◌else◌, Ok, Err, Some, None, Result, Option, option_and_then}
 use Rattle.std.specs.List.{position}
 use Rattle.std.specs.Option.{option_map, option_map_or}
@@ -38,7 +41,8 @@ no_keys = record {
   ties = None;
 }
 
--- what keys choose, and the usual choice for each that was not given
+-- What keys choose, and the usual choice for each that was not given. The usual normal form and the
+-- usual steps are those of a command without keys.
 abbrev pub choices_of : Keys → Choices
 choices_of keys = record {
   normal = option_map_or (λ value. value) keys.normal Literal;
@@ -60,7 +64,8 @@ graph_if rows cols shore true shape =
     Some (record { rows = rows; cols = cols; shore = shore; shape = shape refl })
 graph_if rows cols shore false shape = None
 
--- the graph of these numbers, or none where one of them is 0 or it had more than 2^20 qubits
+-- The graph of these numbers, or none where one of them is 0 or it had more than 2^20 qubits. The
+-- largest graph that may stand has 2^20 qubits, such as 256 rows and columns with a shore of 8.
 abbrev pub graph_with : ℕ → ℕ → ℕ → Option graphs.Chimera
 graph_with rows cols shore =
     graph_if rows cols shore (fits_graph rows cols shore) (fitting_is_shape rows cols shore)
@@ -74,8 +79,9 @@ abbrev pub graph_of : Keys → Option graphs.Chimera
 graph_of keys =
     given keys.rows (λ rows. given keys.cols (λ cols. given keys.shore (graph_with rows cols)))
 
--- the target that a word and the keys choose, or none where a key is missing that a graph needs,
--- or it were too large
+-- The target that a word and the keys choose, or none where a key is missing that a graph needs, or
+-- it were too large. A model on nodes needs no key, and a graph needs its rows, its columns, its
+-- shore, and chains.
 abbrev pub target_by : TargetWord → Keys → Option Target
 target_by (Nodes model) keys = Some (targets.Nodes model)
 target_by Chimera keys =
@@ -96,7 +102,8 @@ is_equals byte = byte == 61
 abbrev pub cut : List ℕ → Option (List ℕ × List ℕ)
 cut word = option_map (λ i. (take i word, drop (i + 1) word)) (position is_equals word)
 
--- the value of a key that is given once: none where there is one already
+-- The value of a key that is given once: none where there is one already. So the second word of a
+-- key is the one that cannot stand.
 abbrev pub once : {A : Type 0} → Option A → Option A → Option A
 once None value = value
 once (Some given) value = None
@@ -122,7 +129,8 @@ unit_of value =
     then Some One
     else if bytes_eq value (codes "reduce") then Some Reduce else None
 
--- a number of rows, columns or qubits on a side, in digits: from 1 to 2^20
+-- A number of rows, columns or qubits on a side, in digits: from 1 to 2^20. Digits may have zeros
+-- in front of them.
 abbrev pub side_of : List ℕ → Option ℕ
 side_of value =
     option_map_or (λ side. if nat_lt 0 side && nat_le side (2 ^ 20) then Some side else None)
@@ -139,8 +147,8 @@ ties_of value =
     then Some Choi
     else if bytes_eq value (codes "cut") then Some Cut else None
 
--- the keys of a graph: the keys with one more, whose word stands at an index, or none where it
--- cannot stand
+-- The keys of a graph: the keys with one more, whose word stands at an index, or none where it
+-- cannot stand. They are `rows`, `cols`, `shore`, `embed`, `map`, `dead` and `chain`.
 abbrev pub with_graph_pair : Keys → ℕ → List ℕ → List ℕ → Option Keys
 with_graph_pair keys at name value =
     if bytes_eq name (codes "rows")
@@ -160,13 +168,13 @@ with_graph_pair keys at name value =
     then option_map (λ ties. record keys { ties = Some ties }) (once keys.ties (ties_of value))
     else None
 
--- the keys that a target has of its own
+-- The keys that a target has of its own. A model on nodes has none.
 abbrev pub with_own_pair : TargetWord → Keys → ℕ → List ℕ → List ℕ → Option Keys
 with_own_pair (Nodes model) keys at name value = None
 with_own_pair Chimera keys at name value = with_graph_pair keys at name value
 
--- the table of keys: the keys with one more, whose word stands at an index, or none where it
--- cannot stand
+-- The table of keys: the keys with one more, whose word stands at an index, or none where it cannot
+-- stand. Every target has `normal`, `high` and `unit`.
 abbrev pub with_pair : TargetWord → Keys → ℕ → List ℕ → List ℕ → Option Keys
 with_pair target keys at name value =
     if bytes_eq name (codes "normal")

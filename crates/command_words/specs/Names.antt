@@ -1,4 +1,7 @@
 -- The files that a command names.
+--
+-- A name is a whole word, as that of the source, or the value of a key, as in `map=chains.txt`. An
+-- empty name is lawful, and names a file that cannot be read.
 use Rattle.std.specs.Prelude.{ℕ, List, [], ◌∷◌, ◌++◌, Some, None, Option, slice_get}
 use Rattle.std.specs.Option.{option_map_or}
 use Rattle.command_words.specs.declared.commands.WordAt.{WordAt}
@@ -31,7 +34,8 @@ abbrev pub file_of : Origin → Option WordAt
 file_of (File format at) = Some at
 file_of (Drawn number clauses) = None
 
--- the place of the name of the list of dead qubits and couplers that a target has
+-- The place of the name of the list of dead qubits and couplers that a target has. Only a graph has
+-- such a list.
 abbrev pub dead_of : Target → Option WordAt
 dead_of (targets.Nodes model) = None
 dead_of (targets.Chimera board) = board.dead
@@ -46,7 +50,8 @@ abbrev pub map_of : Target → Option WordAt
 map_of (targets.Nodes model) = None
 map_of (targets.Chimera board) = map_in board.chains
 
--- the place of the name of a state or an assignment
+-- The place of the name of a state or an assignment. Decoding and proving take a state of the
+-- model, and extending an assignment of the source.
 abbrev pub state_of : Ask → Option WordAt
 state_of Model = None
 state_of Summary = None
@@ -80,12 +85,14 @@ name_of words command which = option_map_or (text_at words) (place_of command wh
 abbrev pub if_named : Command → Which → List Which
 if_named command which = option_map_or (λ place. which ∷ []) (place_of command which) []
 
--- the files that the model of a command is made of, in the order in which they are taken
+-- The files that the model of a command is made of, in the order in which they are taken. At most
+-- three: the source, the list of dead parts, and the map.
 abbrev pub model_files : Command → List Which
 model_files command =
     if_named command Source ++ if_named command Dead ++ if_named command Map
 
--- the files that are taken once the model stands
+-- The files that are taken once the model stands. The source is read first, so a fault in it is
+-- told before one in these.
 abbrev pub last_files : Command → List Which
 last_files command = if_named command State ++ if_named command Certificate
 

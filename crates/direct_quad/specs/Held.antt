@@ -66,3 +66,12 @@ pub record Gain (shares : List Share) (most : ℕ) (old new : List ℤ) : Type 0
   pub weights : (i : ℕ) → i < length old → slice_index_or new i (pos 0)
       ≡ slice_index_or old i (pos 0) +ℤ share_at i shares
   pub small : size_of new ≤ size_of old + most
+
+-- weights to which just these shares were added
+abbrev pub Gains : List Share → (old new : List ℤ) → Type 0
+Gains shares old new = Gain shares (shares_total shares) old new
+
+-- weights to which the shares of two lists were added
+abbrev pub GainsBoth : (first second : List Share) → (old new : List ℤ) → Type 0
+GainsBoth first second old new =
+    Gain (first ++ second) (shares_total first + shares_total second) old new

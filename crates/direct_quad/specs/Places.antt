@@ -86,14 +86,22 @@ abbrev pub node_shares : ℕ → ℕ → ℤ → ℕ → ℕ → List Share
 node_shares d e c n zero = []
 node_shares d e c n (suc k) = node_shares d e c n k ++ node_share d e c n k ∷ []
 
+-- of all literals of a positive term with e complements
+abbrev pub literal_shares : ℕ → ℤ → List Literal → List Share
+literal_shares e c ls = map (literal_share e c) ls
+
+-- of all new nodes of a positive term of degree d, numbered from n on
+abbrev pub new_shares : ℕ → ℕ → ℤ → ℕ → List Share
+new_shares d e c n = node_shares d e c n (nodes_for d)
+
 -- of a long term, whose new nodes are numbered from n on
 abbrev pub term_shares : Term → ℕ → List Share
 term_shares t n =
     if int_lt t.1 (pos 0)
     then (n, t.1 *ℤ (pos (complements t.0 + 1) -ℤ pos (length t.0))) ∷ []
     else (
-    map (literal_share (complements t.0) t.1) t.0
-    ++ node_shares (length t.0) (complements t.0) t.1 n (nodes_for (length t.0))
+    literal_shares (complements t.0) t.1 t.0
+    ++ new_shares (length t.0) (complements t.0) t.1 n
     )
 
 -- of long terms, their new nodes being numbered from n on

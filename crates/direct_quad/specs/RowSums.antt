@@ -3,7 +3,7 @@
 -- See Gustavson, Two fast algorithms for sparse matrices: multiplication and permuted transposition
 -- (1978).
 use Rattle.std.specs.Prelude.{◌≡◌, ◌≢◌, ℕ, suc, ◌≤◌, ◌<◌, ◌^◌, ◌+◌, ℤ, pos, ◌+ℤ◌, unsigned_abs, int_lt, List, [], ◌∷◌, ◌++◌, map, length, fold, slice_set, All, Contains, ⊤, if◌then◌else◌}
-use Rattle.std.specs.List.{slice_index_or, sum_by}
+use Rattle.std.specs.List.{flat_map, slice_index_or, sum_by}
 use Rattle.bits_model.specs.declared.output.Entry.{Entry}
 use Rattle.pair_sums.specs.Pairs.{weight_at, IsNonzero, entry_in_front}
 use Rattle.monomial_layer.specs.Monomials.{nodes_for}
@@ -98,6 +98,13 @@ head_part h =
 -- the couplers of a place with new nodes
 abbrev pub node_part : Place → List Entry
 node_part p = head_part (head_of p)
+
+-- the couplers of places appended, all of which have this first node: the entries of the sums to
+-- which those with later literals are added, and then those with new nodes
+abbrev pub AppendsPlaces : ℕ → List ℤ → List Place → (old new : List Entry) → Type 0
+AppendsPlaces first sums places old new =
+    AppendsBoth first (with_entries sums (flat_map pair_part places)) (flat_map node_part places) old
+    new
 
 -- the numbers of a head fit their fields
 pub record IsHead (h : Head) : Type 0 where

@@ -7,7 +7,7 @@ ghost use Rattle.direct_quad.specs.Parts.{image, short_part};
 ghost use Rattle.long_terms.specs.Apart.{table_of};
 ghost use Rattle.long_terms.specs.Long.{terms_of, node_count};
 ghost use Rattle.direct_quad.specs.Held.{AreHeld, HasPlaces};
-ghost use Rattle.direct_quad.specs.Gathered.{IsSumOf};
+ghost use Rattle.direct_quad.specs.Gathered.{AreSumsOf};
 ghost use Rattle.direct_quad.specs.Stated.{IsWithin};
 
 use crate::rows::couplers_of;
@@ -218,11 +218,8 @@ impl DirectTerms {
     pub(crate) fn into_sums(self, alloc: Global) -> Result<Sums, NoMemory>
         requires narrow { node_count (table_of (terms_of (length self.weights) self.long)) < 2 ^ 32 }
         ensures { (t : TableContent) → AreAdditions t → AreHeld t self
-            → IfOk result (λ sums. IsSumOf t (record {
-              constant = sums.constant;
-              diagonal = sums.weights.items;
-              couplers = sums.couplers;
-            })) }
+            → IfOk result (λ sums.
+            AreSumsOf t sums.constant sums.weights.items sums.couplers) }
     {
         let DirectTerms {
             constant,

@@ -11,11 +11,11 @@ ghost use Rattle.bits_model.specs.Output.{weight_total};
 ghost use Rattle.literal_lists.specs.declared.literal.Literal.{Literal};
 ghost use Rattle.term_table.specs.Terms.{terms_total};
 ghost use Rattle.pair_sums.specs.Pairs.{IsPair};
-ghost use Rattle.direct_quad.specs.Places.{pair_coupler, place_couplers};
-ghost use Rattle.long_terms.specs.Places.{all_places};
+ghost use Rattle.direct_quad.specs.Gathered.{couplers_of_long};
+ghost use Rattle.direct_quad.specs.Places.{pair_coupler};
 ghost use Rattle.long_terms.specs.Long.{node_count};
 ghost use Rattle.direct_quad.specs.Rows.{row_of, AreRows, AreFromRow, AreAfterRow};
-ghost use Rattle.direct_quad.specs.RowSums.{with_entries, size_of, pair_part, node_part, head_of, IsHead, AppendsBoth};
+ghost use Rattle.direct_quad.specs.RowSums.{with_entries, size_of, pair_part, head_of, IsHead, AppendsPlaces};
 ghost use Rattle.long_terms.specs.Occurrences.{places_at, IsOccurrence};
 
 use crate::accumulator::Accumulator;
@@ -142,10 +142,8 @@ fn push_row(
     requires indices { All (IsOccurrence long.now variable) indices.now }
     requires small { size_of sums.old
         + weight_total (flat_map pair_part (places_at long.now variable indices.now)) ≤ 2 ^ 126 }
-    ensures row { OnOk result (AppendsBoth variable
-        (with_entries sums.old (flat_map pair_part (places_at long.now variable indices.now)))
-        (flat_map node_part (places_at long.now variable indices.now))
-        couplers.old couplers.new) }
+    ensures row { OnOk result (AppendsPlaces variable sums.old
+        (places_at long.now variable indices.now) couplers.old couplers.new) }
     ensures zeros { OnOk result (sums.new ≡ replicate long.now.width (pos 0)) }
 {
     add_places(sums, heads, long, variable, indices)?;
@@ -160,7 +158,7 @@ fn rows_of(alloc: Global, pairs: &Pairs, long: &LongTable) -> Result<CouplerList
     requires pairs { All (IsPair long.now.width) pairs.now }
     requires small { weight_total pairs.now + terms_total long.now.terms * 2 ^ 24 ≤ 2 ^ 126 }
     ensures { IfOk result (λ couplers. AreRows (node_count long.now) long.now.width
-        (pairs.now ++ flat_map place_couplers (all_places long.now.terms long.now.width))
+        (pairs.now ++ couplers_of_long long.now.terms long.now.width)
         couplers) }
 {
     let occurrences = Occurrences::of(alloc, long)?;
@@ -186,7 +184,7 @@ pub fn couplers_of(
     requires pairs { All (IsPair long.now.width) pairs }
     requires small { weight_total pairs + terms_total long.now.terms * 2 ^ 24 ≤ 2 ^ 126 }
     ensures { IfOk result (λ couplers. AreRows (node_count long.now) long.now.width
-        (pairs ++ flat_map place_couplers (all_places long.now.terms long.now.width))
+        (pairs ++ couplers_of_long long.now.terms long.now.width)
         couplers) }
 {
     if long.node_count() as usize == long.width() {

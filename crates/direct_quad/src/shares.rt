@@ -1,12 +1,12 @@
 //! What long terms add to the weights of nodes, and to the constant.
-ghost use Rattle.std.specs.Prelude.{◌≡◌, ◌+◌, ◌-◌, ◌*◌, ◌≤◌, ◌<◌, ◌^◌, ◌∷◌, [], ◌++◌, All, IfOk, List, length, map, pos, ◌-ℤ◌, ◌*ℤ◌, unsigned_abs};
+ghost use Rattle.std.specs.Prelude.{◌≡◌, ◌+◌, ◌-◌, ◌*◌, ◌≤◌, ◌<◌, ◌^◌, ◌∷◌, [], All, IfOk, List, length, pos, ◌-ℤ◌, ◌*ℤ◌, unsigned_abs};
 ghost use Rattle.literal_lists.specs.declared.literal.Literal.{Literal};
 ghost use Rattle.base.specs.Sums.{total_by};
 ghost use Rattle.term_table.specs.Terms.{terms_total, IsTermSet};
 ghost use Rattle.monomial_layer.specs.Monomials.{factor, nodes_for, new_nodes};
-ghost use Rattle.direct_quad.specs.Places.{complements, literal_share, node_share, node_shares, term_shares, all_shares, long_constant};
+ghost use Rattle.direct_quad.specs.Places.{complements, literal_share, literal_shares, node_share, new_shares, term_shares, all_shares, long_constant};
 ghost use Rattle.long_terms.specs.Long.{node_count};
-ghost use Rattle.direct_quad.specs.Held.{Gain, shares_total, widened};
+ghost use Rattle.direct_quad.specs.Held.{Gain, Gains, GainsBoth, shares_total, widened};
 ghost use Rattle.direct_quad.specs.RowSums.{size_of};
 
 use crate::weights::{add_weight, widened};
@@ -66,10 +66,8 @@ fn add_literal_shares(
     requires negated { negated ≤ 2048 }
     requires coefficient { unsigned_abs coefficient ≤ 2 ^ 102 }
     requires small { size_of weights.old
-        + shares_total (map (literal_share negated coefficient) literals) ≤ 2 ^ 126 }
-    ensures { Gain (map (literal_share negated coefficient) literals.entry)
-        (shares_total (map (literal_share negated coefficient) literals.entry))
-        weights.old weights.new }
+        + shares_total (literal_shares negated coefficient literals) ≤ 2 ^ 126 }
+    ensures { Gains (literal_shares negated coefficient literals.entry) weights.old weights.new }
 {
     for literal in literals {
         let share = literal_share(literal, negated, coefficient);
@@ -113,11 +111,8 @@ fn add_node_shares(
     requires negated { negated ≤ degree }
     requires coefficient { unsigned_abs coefficient ≤ 2 ^ 102 }
     requires small { size_of weights.old
-        + shares_total (node_shares degree negated coefficient first_node (nodes_for degree))
-        ≤ 2 ^ 126 }
-    ensures { Gain (node_shares degree negated coefficient first_node (nodes_for degree))
-        (shares_total (node_shares degree negated coefficient first_node (nodes_for degree)))
-        weights.old weights.new }
+        + shares_total (new_shares degree negated coefficient first_node) ≤ 2 ^ 126 }
+    ensures { Gains (new_shares degree negated coefficient first_node) weights.old weights.new }
 {
     for k in 0..nodes_for(degree) {
         let share = node_share(degree, negated, coefficient, k);
@@ -155,15 +150,10 @@ fn add_positive(
     requires negated { negated ≤ length literals }
     requires coefficient { unsigned_abs coefficient ≤ 2 ^ 102 }
     requires small { size_of weights.old
-        + shares_total (map (literal_share negated coefficient) literals)
-        + shares_total (node_shares (length literals) negated coefficient node
-        (nodes_for (length literals))) ≤ 2 ^ 126 }
-    ensures { Gain (map (literal_share negated coefficient) literals.entry
-        ++ node_shares (length literals.entry) negated coefficient node
-        (nodes_for (length literals.entry)))
-        (shares_total (map (literal_share negated coefficient) literals.entry)
-        + shares_total (node_shares (length literals.entry) negated coefficient node
-        (nodes_for (length literals.entry))))
+        + shares_total (literal_shares negated coefficient literals)
+        + shares_total (new_shares (length literals) negated coefficient node) ≤ 2 ^ 126 }
+    ensures { GainsBoth (literal_shares negated coefficient literals.entry)
+        (new_shares (length literals.entry) negated coefficient node)
         weights.old weights.new }
 {
     let degree = literals.len();
@@ -181,8 +171,8 @@ fn add_term_shares(weights: &mut [i128], term: LongTerm<'_>, negated: usize)
     requires coefficient { unsigned_abs term.coefficient ≤ 2 ^ 102 }
     requires small { size_of weights.old
         + shares_total (term_shares (term.literals, term.coefficient) term.first_node) ≤ 2 ^ 126 }
-    ensures { Gain (term_shares (term.entry.literals, term.entry.coefficient) term.entry.first_node)
-        (shares_total (term_shares (term.entry.literals, term.entry.coefficient) term.entry.first_node))
+    ensures { Gains
+        (term_shares (term.entry.literals, term.entry.coefficient) term.entry.first_node)
         weights.old weights.new }
 {
     let LongTerm {
@@ -202,7 +192,8 @@ fn add_term_shares(weights: &mut [i128], term: LongTerm<'_>, negated: usize)
 fn long_constant(negated: usize, coefficient: i128) -> i128
     requires negated { negated ≤ 2048 }
     requires coefficient { unsigned_abs coefficient ≤ 2 ^ 102 }
-    ensures { (ls : List Literal) → negated ≡ complements ls → result ≡ long_constant (ls, coefficient) }
+    ensures { (ls : List Literal) → negated ≡ complements ls
+        → result ≡ long_constant (ls, coefficient) }
 {
     if coefficient < 0 {
         0
@@ -215,8 +206,7 @@ fn long_constant(negated: usize, coefficient: i128) -> i128
 pub(crate) fn add_shares(weights: &mut [i128], long: &LongTable) -> i128
     requires nodes { length weights.old ≡ node_count long.now }
     requires small { size_of weights.old + terms_total long.now.terms * 2 ^ 24 ≤ 2 ^ 126 }
-    ensures weights { Gain (all_shares long.now.terms long.now.width)
-        (shares_total (all_shares long.now.terms long.now.width)) weights.old weights.new }
+    ensures weights { Gains (all_shares long.now.terms long.now.width) weights.old weights.new }
     ensures constant { result ≡ total_by long_constant long.now.terms }
 {
     let mut constant = 0;
@@ -235,8 +225,7 @@ pub(crate) fn add_shares(weights: &mut [i128], long: &LongTable) -> i128
 pub(crate) fn with_long(weights: Vec<i128>, long: &LongTable) -> Result<(Vec<i128>, i128), NoMemory>
     requires width { length weights.items ≡ long.now.width }
     requires small { size_of weights.items + terms_total long.now.terms * 2 ^ 24 ≤ 2 ^ 126 }
-    ensures weights { IfOk result (λ made. Gain (all_shares long.now.terms long.now.width)
-        (shares_total (all_shares long.now.terms long.now.width))
+    ensures weights { IfOk result (λ made. Gains (all_shares long.now.terms long.now.width)
         (widened (node_count long.now) weights.items) made.0.items) }
     ensures constant { IfOk result (λ made. made.1 ≡ total_by long_constant long.now.terms) }
 {

@@ -1,5 +1,5 @@
 -- What a check gives: the map with its parents and places on the graph.
-use Rattle.std.specs.Prelude.{◌≡◌, ℕ, ◌≤◌, ◌<◌, ◌⊎◌, List}
+use Rattle.std.specs.Prelude.{◌≡◌, ℕ, ◌≤◌, ◌<◌, ◌⊎◌, List, ◌++◌}
 use Rattle.std.specs.List.{AllZip}
 use Rattle.bits_model.specs.declared.output.Entry.{Entry}
 use Rattle.ising_form.specs.Isings.{IsingContent}
@@ -21,6 +21,16 @@ pub record IsPlace (joined : Joins) (c d : List ℕ) (place : ℕ × ℕ) : Type
 abbrev pub IsPlaceOf : Joins → List (List ℕ) → Entry → ℕ × ℕ → Type 0
 IsPlaceOf joined chains c place =
     IsPlace joined (chain_of chains c.first) (chain_of chains c.second) place
+
+-- the places of couplings, one after another
+abbrev pub ArePlaces : Joins → List (List ℕ) → List Entry → List (ℕ × ℕ) → Type 0
+ArePlaces joined chains couplings places = AllZip (IsPlaceOf joined chains) couplings places
+
+-- where the old places are those of some couplings, the new ones are those of these and of a row more
+abbrev pub AddsPlaces : Joins → List (List ℕ) → List Entry → (old new : List (ℕ × ℕ)) → Type 0
+AddsPlaces joined chains row old new =
+    (before : List Entry) → ArePlaces joined chains before old
+    → ArePlaces joined chains (before ++ row) new
 
 -- the given form and chains on the graph, with their parents and the places of the couplings
 pub record IsChecked (joined : Joins) (n : ℕ) (f : IsingContent) (map : List (List ℕ)) (e : Embedding) : Type 0 where

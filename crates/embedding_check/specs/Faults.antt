@@ -85,6 +85,17 @@ pub record IsUncoupled (joined : Joins) (couplings : List Entry) (map : List (Li
   pub first : (d : Entry) → (slice_index_or couplings k d).first ≡ u
   pub second : (d : Entry) → (slice_index_or couplings k d).second ≡ v
 
+-- the fault names the first qubit, chain after chain, that no walk inside its chain reaches
+abbrev pub NamesUnreached : Joins → List (List ℕ) → EmbedFault → Type 0
+NamesUnreached joined map f =
+    (v : ℕ) × (k : ℕ) × IsFirstAt map (IsReachedAt joined map) v k
+    × (f ≡ Disconnected v (number_at map v k))
+
+-- the fault names the first coupling between whose chains no qubits are joined
+abbrev pub NamesUncoupled : Joins → List Entry → List (List ℕ) → EmbedFault → Type 0
+NamesUncoupled joined couplings map f =
+    (u : ℕ) × (v : ℕ) × (k : ℕ) × IsUncoupled joined couplings map u v k × (f ≡ NoCoupler u v)
+
 -- the map breaks what the fault names, first at its place, and keeps all that is asked before that
 abbrev pub IsFault : Joins → ℕ → IsingContent → List (List ℕ) → EmbedFault → Type 0
 IsFault joined qubits f map (ChainCount n) = (n ≡ length map) × (length map ≢ length f.fields)

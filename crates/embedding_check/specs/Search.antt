@@ -26,6 +26,10 @@ parent_at s i = slice_index_or s.parents i 0
 abbrev pub qubit_at : List ℕ → ℕ → ℕ
 qubit_at qs i = slice_index_or qs i 0
 
+-- q is done with a position: it does not wait any more, or its qubit is not joined to q
+abbrev pub IsDone : Joins → List ℕ → ℕ → Found → ℕ → Type 0
+IsDone joined qs q s i = waits_at s i ≡ true → joined q (qubit_at qs i) ≡ false
+
 -- the qubits ascend, and none is listed twice
 abbrev pub IsRising : List ℕ → Type 0
 IsRising qs = (i j : ℕ) → i < j → j < length qs → qubit_at qs i < qubit_at qs j

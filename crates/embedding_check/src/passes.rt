@@ -1,11 +1,10 @@
 //! The passes over a map, one for each fault.
-ghost use Rattle.std.specs.Prelude.{◌≡◌, ◌≢◌, ◌==◌, ◌+◌, ◌≤◌, ◌<◌, ◌^◌, ℕ, [], length, take, count_by, All, Option, Some, None, IfOk, OnOk, IfErr, IfSome, MatchOption, if◌then◌else◌};
+ghost use Rattle.std.specs.Prelude.{◌≡◌, ◌≢◌, ◌==◌, ◌+◌, ◌≤◌, ◌<◌, ◌^◌, ℕ, [], length, count_by, All, Option, Some, None, IfOk, OnOk, IfErr, IfSome};
 ghost use Rattle.std.specs.List.{slice_index_or, AllZip};
 ghost use Rattle.chain_map.specs.Chains.{chain_of, occurrences};
 ghost use Rattle.chain_map.specs.Faults.{IfFault};
 ghost use Rattle.embedding_check.specs.Distances.{AreParents};
-ghost use Rattle.embedding_check.specs.Reached.{IsFirstBad};
-ghost use Rattle.embedding_check.specs.Marks.{marked};
+ghost use Rattle.embedding_check.specs.Marks.{marked, times_met};
 ghost use Rattle.embedding_check.specs.Search.{IsSortedChain};
 ghost use Rattle.embedding_check.specs.Faults.{
   IsFound,
@@ -13,6 +12,7 @@ ghost use Rattle.embedding_check.specs.Faults.{
   Exists,
   IsNew,
   IsReachedAt,
+  NamesUnreached,
   number_at,
 };
 
@@ -68,8 +68,7 @@ pub(crate) fn check_inside(map: &ChainMap, qubits: u32) -> Result<(), CheckAnswe
 /// Marks the qubits of a chain, up to the first one that is marked already.
 fn mark(seen: &mut [bool], chain: &[u64]) -> Option<usize>
     requires { (j : ℕ) → j < length chain.now → slice_index_or chain.now j 0 < length seen.old }
-    ensures first { IsFound (length chain.now) (λ j. marked seen.old (slice_index_or chain.now j 0)
-        + count_by (λ p. p == slice_index_or chain.now j 0) (take j chain.now) ≡ 0) result }
+    ensures first { IsFound (length chain.now) (λ j. times_met seen.old chain.now j ≡ 0) result }
     ensures all { result ≡ None → (q : ℕ) →
         marked seen.new q ≡ marked seen.old q + count_by (λ p. p == q) chain.now }
 {
@@ -162,9 +161,8 @@ pub(crate) fn all_parents<H: Hardware>(
     ensures connected { IfOk result (λ _. (u : ℕ) → u < length chains.now
         → (j : ℕ) → j < length (chain_of chains.now u)
         → IsReachedAt (H.joined hardware.now) chains.now u j) }
-    ensures fault { IfErr result (λ e. IfFault e (λ f. (v : ℕ) × (k : ℕ)
-        × IsFirstAt chains.now (IsReachedAt (H.joined hardware.now) chains.now) v k
-        × (f ≡ EmbedFault.Disconnected v (number_at chains.now v k)))) }
+    ensures fault { IfErr result (λ e. IfFault e
+        (NamesUnreached (H.joined hardware.now) chains.now)) }
 {
     let mut parents = ChainList::with_room(alloc, chains.len(), 0)?;
     for node in 0..chains.len() {

@@ -3,14 +3,12 @@
 //! The couplings of a node stand next to each other, in one row. Either the joins of its chain are
 //! noted once for the whole row, or the two chains of each coupling are walked along up to the
 //! first join: what costs less.
-ghost use Rattle.std.specs.Prelude.{◌≡◌, ◌++◌, ◌≤◌, ◌<◌, ◌^◌, ℕ, true, length, All, List, Option, IfOk, IfErr, OnOk};
-ghost use Rattle.std.specs.List.{AllZip};
-ghost use Rattle.bits_model.specs.declared.output.Entry.{Entry};
+ghost use Rattle.std.specs.Prelude.{◌≡◌, ◌≤◌, ◌<◌, ◌^◌, ℕ, true, length, All, Option, IfOk, IfErr, OnOk};
 ghost use Rattle.quad_form.specs.Quads.{IsCoupler};
 ghost use Rattle.chain_map.specs.Chains.{chain_of, occurrences};
 ghost use Rattle.chain_map.specs.Faults.{IfFault};
-ghost use Rattle.embedding_check.specs.Checked.{IsPlaceOf};
-ghost use Rattle.embedding_check.specs.Faults.{IsUncoupled, Exists};
+ghost use Rattle.embedding_check.specs.Checked.{ArePlaces, AddsPlaces};
+ghost use Rattle.embedding_check.specs.Faults.{NamesUncoupled, Exists};
 ghost use Rattle.embedding_check.specs.Search.{IsSortedChain};
 ghost use Rattle.embedding_check.specs.Least.{IsPlaceIn};
 ghost use Rattle.embedding_check.specs.Owners.{AreOwners};
@@ -158,13 +156,10 @@ fn push_places<H: Hardware>(
     requires all { length noted.now ≡ length chains.now }
     requires noted { noting ≡ true →
         All (λ c. AreNoted (H.joined hardware.now) chains.now c.first noted.now) row.now }
-    ensures places { OnOk result ((before : List Entry)
-        → AllZip (IsPlaceOf (H.joined hardware.now) chains.now) before places.old.items
-        → AllZip (IsPlaceOf (H.joined hardware.now) chains.now) (before ++ row.now)
-        places.new.items) }
-    ensures fault { IfErr result (λ e. IfFault e (λ f. (u : ℕ) × (v : ℕ) × (k : ℕ)
-        × IsUncoupled (H.joined hardware.now) row.now chains.now u v k
-        × (f ≡ EmbedFault.NoCoupler u v))) }
+    ensures places { OnOk result (AddsPlaces (H.joined hardware.now) chains.now row.now
+        places.old.items places.new.items) }
+    ensures fault { IfErr result (λ e. IfFault e
+        (NamesUncoupled (H.joined hardware.now) row.now chains.now)) }
 {
     let first = row.first();
     for k in 0..row.len() {
@@ -198,11 +193,9 @@ pub(crate) fn all_places<H: Hardware>(
     requires len { length sorted.now ≡ length chains.now }
     requires sorted { (u : ℕ) → u < length chains.now
         → IsSortedChain (chain_of chains.now u) (chain_of sorted.now u) }
-    ensures places { IfOk result
-        (AllZip (IsPlaceOf (H.joined hardware.now) chains.now) couplings.now) }
-    ensures fault { IfErr result (λ e. IfFault e (λ f. (u : ℕ) × (v : ℕ) × (k : ℕ)
-        × IsUncoupled (H.joined hardware.now) couplings.now chains.now u v k
-        × (f ≡ EmbedFault.NoCoupler u v))) }
+    ensures places { IfOk result (ArePlaces (H.joined hardware.now) chains.now couplings.now) }
+    ensures fault { IfErr result (λ e. IfFault e
+        (NamesUncoupled (H.joined hardware.now) couplings.now chains.now)) }
 {
     let owners = owners_of(alloc, chains, hardware.qubits())?;
     let mut noted = Noted::new(alloc, chains.len())?;

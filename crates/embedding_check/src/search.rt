@@ -3,15 +3,15 @@
 //! Levels are in ascending order, so the first qubit that reaches another is its parent. What a
 //! qubit faces is a span of numbers, so the waiting qubits of the chain there are next to each
 //! other in its ascending list, and each of them is met once more only where it is not joined.
-ghost use Rattle.std.specs.Prelude.{◌≡◌, ◌==◌, count_by, ◌+◌, ◌≤◌, ◌<◌, ℕ, true, false, [], length, All, Some, IfOk, OnOk};
+ghost use Rattle.std.specs.Prelude.{◌≡◌, ◌==◌, count_by, ◌+◌, ◌≤◌, ◌<◌, ℕ, length, All, Some, IfOk, OnOk};
 ghost use Rattle.std.specs.List.Sorted.{IsNonDecreasing, IsPermutation};
 ghost use Rattle.bits_model.specs.Walks.{first_of};
 ghost use Rattle.chain_map.specs.Chains.{chain_of, occurrences};
 ghost use Rattle.embedding_check.specs.Reached.{AreFound};
 ghost use Rattle.embedding_check.specs.Search.{
   Found,
-  waits_at,
   qubit_at,
+  IsDone,
   IsRising,
   taken,
   Takes,
@@ -106,8 +106,8 @@ impl Search {
         requires within { All (λ q. q < H.qubits hardware.now) sorted.now }
         ensures takes { OnOk result
             (Takes (H.joined hardware.now) sorted.now qubit self.old self.new) }
-        ensures done { OnOk result (waits_at self.new at ≡ true
-            → H.joined hardware.now qubit (qubit_at sorted.now at) ≡ false) }
+        ensures done { OnOk result
+            (IsDone (H.joined hardware.now) sorted.now qubit self.new at) }
     {
         if self.waiting.has(at) && hardware.joined(qubit, sorted[at]) {
             return self.take(at, qubit);
@@ -133,8 +133,8 @@ impl Search {
         ensures takes { OnOk result
             (Takes (H.joined hardware.now) sorted.now qubit self.old self.new) }
         ensures done { OnOk result ((i : ℕ) → from ≤ i → i < length sorted.now
-            → qubit_at sorted.now i < end → waits_at self.new i ≡ true
-            → H.joined hardware.now qubit (qubit_at sorted.now i) ≡ false) }
+            → qubit_at sorted.now i < end
+            → IsDone (H.joined hardware.now) sorted.now qubit self.new i) }
     {
         let mut at = self.waiting.next_from(from);
         while at < sorted.len() && sorted[at] < end {
@@ -159,8 +159,8 @@ impl Search {
         ensures takes { OnOk result
             (Takes (H.joined hardware.now) sorted.now qubit self.old self.new) }
         ensures done { OnOk result ((i : ℕ) → i < length sorted.now
-            → number ≡ Some (qubit_at sorted.now i) → waits_at self.new i ≡ true
-            → H.joined hardware.now qubit (qubit_at sorted.now i) ≡ false) }
+            → number ≡ Some (qubit_at sorted.now i)
+            → IsDone (H.joined hardware.now) sorted.now qubit self.new i) }
     {
         match number {
             Some(other) => match sorted.binary_search(&other) {

@@ -3,7 +3,8 @@ use Rattle.std.specs.Prelude.{◌≤◌, take}
 use Rattle.form_steps.specs.declared.layer.BitsLink.{BitsLink}
 use Rattle.form_steps.specs.Relations.{Decoding}
 
--- the first bits of a state are the assignment
+-- The first bits of a state are the assignment. What a layer adds stands after the assignment's
+-- bits, and is dropped.
 abbrev pub first_bits : BitsLink → Decoding
 first_bits link = record {
   source_width = link.source_width;
@@ -11,6 +12,6 @@ first_bits link = record {
   decoded = λ y. take link.source_width y;
 }
 
--- a state has at least the bits of an assignment
+-- A state has at least the bits of an assignment. So each state has bits enough to decode it.
 abbrev pub HasFirstBits : BitsLink → Type 0
 HasFirstBits link = link.source_width ≤ link.target_width

@@ -5,19 +5,23 @@ use Rattle.base.specs.Costs.{Form, IsOf}
 use Rattle.form_steps.specs.Relations.{Decoding, Keeps, Relaxes, Reduces, Rewrites, decoding_after, first_decoded}
 use Rattle.base.specs.Figures.{figures_after, figures_moved}
 
--- what keeps a form that relaxes a source relaxes the source
+-- What keeps a form that relaxes a source relaxes the source. This is how a guard and the layers
+-- after it become one step: the scales are multiplied, and the offset of the first is scaled by the
+-- second.
 abbrev pub KeepsAfterRelaxes : Type 0
 KeepsAfterRelaxes =
     (f g h : Form) (d e : Decoding) (n : Figures) (a b : ℤ) → Relaxes f g d (pos 1) n
     → Keeps g h e a b → Relaxes f h (decoding_after d e) (pos 1) (figures_after n a b)
 
--- what keeps a form that keeps another keeps the other
+-- What keeps a form that keeps another keeps the other. With the scales 4 and 1 and the offsets -3
+-- and -10 they come to the scale 4 and the offset -13.
 abbrev pub KeepsAfterKeeps : Type 0
 KeepsAfterKeeps =
     (f g h : Form) (d e : Decoding) (a1 b1 a2 b2 : ℤ) → Keeps f g d a1 b1 → Keeps g h e a2 b2
     → Keeps f h (decoding_after d e) (a1 *ℤ a2) (a2 *ℤ b1 +ℤ b2)
 
--- a form that relaxes a source, divided by a unit, relaxes it in this unit
+-- A form that relaxes a source, divided by a unit, relaxes it in this unit. Offset and threshold
+-- are moved as the constant is, and stay undivided.
 abbrev pub ReducesAfterRelaxes : Type 0
 ReducesAfterRelaxes =
     (f g h : Form) (d : Decoding) (n : Figures) (u b : ℤ) → Relaxes f g d (pos 1) n

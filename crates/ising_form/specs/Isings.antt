@@ -10,7 +10,7 @@ use Rattle.base.specs.Costs.{Form}
 use Rattle.bits_model.specs.Output.{entry_cmp, spins_energy, weight_total, entry_size}
 use Rattle.quad_form.specs.Quads.{node_entries, IsCoupler}
 
--- what an Ising form says
+-- What an Ising form says. Fields stand in a list by the numbers of nodes, 0 where a node has none.
 pub record IsingContent : Type 0 where
   pub constant : ℤ
   pub fields : List ℤ
@@ -20,7 +20,9 @@ pub record IsingContent : Type 0 where
 abbrev pub entries_of : IsingContent → List Entry
 entries_of f = node_entries 0 f.fields ++ f.couplings
 
--- the constant, each field times its spin, and each coupling times both spins
+-- The constant, each field times its spin, and each coupling times both spins. Bit 1 is the spin
+-- +1, and bit 0 the spin -1: a coupling of 3 costs 3 where both bits agree, and -3 where they
+-- don't.
 abbrev pub ising_value : IsingContent → List Bool → ℤ
 ising_value f y = f.constant +ℤ total_by (spins_energy y) (entries_of f)
 
@@ -30,7 +32,7 @@ form_of f = record { bits = length f.fields; cost = λ y. Whole (ising_value f y
 
 -- ---- its sizes
 
--- the sizes of all weights and of the constant
+-- The sizes of all weights and of the constant. It bounds the size of every energy.
 abbrev pub ising_total : IsingContent → ℕ
 ising_total f = unsigned_abs f.constant + weight_total (entries_of f)
 
@@ -44,7 +46,11 @@ ising_size f =
 
 -- couplings of its nodes, in order, none twice and none 0
 pub record IsIsing (f : IsingContent) : Type 0 where
+  -- by their first nodes, and then by their second ones
   pub ordered : IsStrictlySortedBy entry_cmp f.couplings
+  -- each is of two nodes, the lesser one first
   pub couplings : All (IsCoupler (length f.fields)) f.couplings
+  -- node numbers fit 32 bits
   pub narrow : length f.fields < 2 ^ 32
+  -- energies are far below what 128 bits hold
   pub small : ising_total f ≤ 2 ^ 124

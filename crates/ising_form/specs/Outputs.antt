@@ -13,10 +13,14 @@ use Rattle.ising_form.specs.Isings.{IsingContent, entries_of}
 -- the nodes are the qubits of a graph, and what is not on a chain has no field
 pub record IsOnChains (qubits : ℕ) (chains : List (List ℕ)) (variables : ℕ) (f : IsingContent)
     : Type 0 where
+  -- each qubit of the graph is a node, also those that nothing stands on
   pub sized : length f.fields ≡ qubits
+  -- all chains are on qubits of the graph
   pub placed : All (λ chain. All (λ q. q < qubits) chain) chains
   pub filled : All (λ chain. chain ≢ []) chains
+  -- each of the source's own variables has a chain
   pub enough : variables ≤ length chains
+  -- what is left out of the text has no field, so nothing is lost
   pub unchained : (q : ℕ) → is_chained chains q ≡ false → slice_index_or f.fields q (pos 0) ≡ pos 0
 
 -- a form for which a model of this kind can be written: over spins, without chains or on those of a
@@ -41,7 +45,8 @@ AreNodes Qubo chains n = Unit {0}
 AreNodes Ising chains n = Unit {0}
 AreNodes (Chimera rows cols shore) chains n = All (λ chain. All (λ q. q < n) chain) chains
 
--- the entries of nodes, on a graph those of chained qubits alone
+-- The entries of nodes, on a graph those of chained qubits alone. A qubit without a chain is not
+-- written.
 abbrev pub written_nodes : Kind → List (List ℕ) → List ℤ → List Entry
 written_nodes Qubo chains fields = node_entries 0 fields
 written_nodes Ising chains fields = node_entries 0 fields

@@ -7,7 +7,8 @@ use Rattle.quad_form.specs.Units.{unit_of, weights_of, counted_in, entry_in}
 use Rattle.ising_form.specs.Isings.{IsingContent}
 use Rattle.ising_form.specs.Outputs.{FitsOutput, written_of}
 
--- the greatest unit of its weights, whatever the constant is
+-- The greatest unit of its weights, whatever the constant is. A solver's range of weights is used
+-- best where no common factor is left in them.
 abbrev pub ising_unit : IsingContent → ℤ
 ising_unit f = unit_of (weights_of f.fields f.couplings)
 

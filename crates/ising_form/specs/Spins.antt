@@ -1,5 +1,9 @@
 -- The Ising form of a quadratic form: a bit is half of its spin and 1, so that four times the quadratic
 -- form has whole weights over spins.
+--
+-- The weight -2 of x and the coupler 3 of x and y become the fields -1 of x and 3 of y, the
+-- coupling 3 and the constant -1. With both spins +1 that is 4, four times -2 + 3; with x alone it
+-- is -8, four times -2.
 use Rattle.std.specs.Prelude.{◌≡◌, ℕ, suc, ◌==◌, ℤ, pos, ◌+ℤ◌, ◌*ℤ◌, List, [], ◌∷◌, length, slice_set}
 use Rattle.std.specs.List.{slice_index_or}
 use Rattle.base.specs.Sums.{total_by, if_so}
@@ -8,7 +12,8 @@ use Rattle.form_steps.specs.declared.layer.BitsLink.{BitsLink}
 use Rattle.quad_form.specs.Quads.{QuadContent, IsQuad}
 use Rattle.ising_form.specs.Isings.{IsingContent}
 
--- the weight of an entry, for each of its ends that is the node i
+-- The weight of an entry, for each of its ends that is the node i. A coupler counts at each of its
+-- two ends.
 abbrev pub end_weight : ℕ → Entry → ℤ
 end_weight i e = if_so (e.first == i) e.weight +ℤ if_so (e.second == i) e.weight
 
@@ -31,7 +36,8 @@ spins_constant constant nodes couplers =
     pos 4 *ℤ constant
     +ℤ (pos 2 *ℤ total_by (λ (w : ℤ). w) nodes +ℤ total_by (λ (e : Entry). e.weight) couplers)
 
--- the Ising form, whose couplings are the couplers
+-- The Ising form, whose couplings are the couplers. Its energy is four times that of the quadratic
+-- form, for the same bits.
 abbrev pub image : QuadContent → IsingContent
 image q = record {
   constant = spins_constant q.constant q.diagonal q.couplers;

@@ -9,7 +9,8 @@ use Rattle.quad_form.specs.Stated.{RelaxesAsWritten}
 use Rattle.ising_form.specs.Isings.{IsingContent, IsIsing, form_of}
 use Rattle.ising_form.specs.Outputs.{FitsOutput, written_of}
 
--- the model of an Ising form is well formed, for each kind that it fits
+-- The model of an Ising form is well formed, for each kind that it fits. So a reader of models
+-- accepts its text.
 abbrev pub WrittenIsWellFormed : Type 0
 WrittenIsWellFormed = (f : IsingContent) (variables : ℕ) (figures : Figures) (unit : ℤ) (kind : Kind)
     (chains : List (List ℕ)) → IsIsing f → FitsOutput kind chains variables f

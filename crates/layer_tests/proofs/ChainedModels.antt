@@ -1,26 +1,11 @@
 -- A model of two nodes on a cell of six qubits, whose chains have two and three of them.
-use Rattle.std.proofs.Common.{◌≡◌, ◌≢◌, ℕ, zero, suc, ◌≤◌, ◌^◌, pos, negsuc, List, [], ◌∷◌, All, refl, sym, subst, arith, rules}
+use Rattle.std.proofs.Common.{◌≡◌, ◌≢◌, ℕ, zero, suc, ◌≤◌, ◌^◌, pos, negsuc, List, [], All, refl, sym, subst, arith, rules}
 use Rattle.std.specs.List.Sorted.{IsStrictlySortedBy}
 use Rattle.std.proofs.lemmas.List.Elements.{All-from_recursion}
 use Rattle.bits_model.specs.declared.output.Entry.{Entry}
 use Rattle.bits_model.specs.declared.output.Kind.TheVariants.{Chimera}
 use Rattle.bits_model.specs.Output.{Written, IsPlaced, IsChained, IsWellFormed, entry_cmp, has_node, is_chained, weight_total}
-
-abbrev pub nine : List Entry
-nine =
-    record { first = 0; second = 0; weight = pos 1 }
-    ∷ record { first = 1; second = 1; weight = negsuc 1 }
-    ∷ record { first = 2; second = 2; weight = pos 4 }
-    ∷ record { first = 3; second = 3; weight = pos 8 }
-    ∷ record { first = 4; second = 4; weight = negsuc 15 }
-    ∷ record { first = 0; second = 3; weight = negsuc 31 }
-    ∷ record { first = 1; second = 3; weight = pos 64 }
-    ∷ record { first = 1; second = 4; weight = negsuc 127 }
-    ∷ record { first = 2; second = 4; weight = negsuc 255 }
-    ∷ []
-
-abbrev pub two_chains : List (List ℕ)
-two_chains = (0 ∷ 3 ∷ []) ∷ (1 ∷ 4 ∷ 2 ∷ []) ∷ []
+use Rattle.layer_tests.specs.Models.{nine, two_chains}
 
 -- the model with these entries and these chains
 abbrev pub model : List Entry → List (List ℕ) → Written

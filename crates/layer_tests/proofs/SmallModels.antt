@@ -1,22 +1,12 @@
 -- Models of two nodes and the coupler between them, of any kind.
-use Rattle.std.proofs.Common.{◌≡◌, ◌≢◌, ℕ, zero, suc, ◌<◌, ◌≤◌, ◌^◌, true, ℤ, pos, negsuc, ◌≤ℤ◌, List, [], ◌∷◌, All, refl, sym, subst, arith, rules}
+use Rattle.std.proofs.Common.{◌≡◌, ◌≢◌, ℕ, zero, suc, ◌<◌, ◌≤◌, ◌^◌, true, ℤ, pos, negsuc, ◌≤ℤ◌, List, [], All, refl, sym, subst, arith, rules}
 use Rattle.std.specs.Prelude.{IsTrue}
 use Rattle.std.specs.List.Sorted.{IsStrictlySortedBy}
 use Rattle.std.proofs.lemmas.List.Elements.{All-from_recursion}
 use Rattle.bits_model.specs.declared.output.Entry.{Entry}
 use Rattle.bits_model.specs.declared.output.Kind.{Kind}
 use Rattle.bits_model.specs.Output.{Written, IsPlaced, IsPlain, IsChained, FitsKind, IsWellFormed, entry_cmp, is_coupler, has_node, is_chained, weight_total}
-
-abbrev pub three : List Entry
-three =
-    record { first = 0; second = 0; weight = pos 0 }
-    ∷ record { first = 1; second = 1; weight = negsuc 19 }
-    ∷ record { first = 0; second = 1; weight = pos 5 }
-    ∷ []
-
--- the first node has the second qubit, and the other way round
-abbrev pub swapped : List (List ℕ)
-swapped = (1 ∷ []) ∷ (0 ∷ []) ∷ []
+use Rattle.layer_tests.specs.Models.{three, swapped}
 
 -- the model of a kind with this unit, these entries and these chains
 abbrev pub model : Kind → ℤ → List Entry → List (List ℕ) → Written

@@ -1,6 +1,7 @@
 //! Models of each kind: their texts, and the energies of their states.
-ghost use Rattle.std.specs.Prelude.{◌≡◌, ◌≢◌, ◌∷◌, [], pos, negsuc, IfOk};
+ghost use Rattle.std.specs.Prelude.{◌≡◌, ◌≢◌, IfOk};
 ghost use Rattle.bits_model.specs.declared.output.Kind.TheVariants.{Qubo};
+ghost use Rattle.layer_tests.specs.Models.{nine, swapped, three, two_chains};
 
 use base::{Cost, Costed, Figures, NoMemory};
 use bits_model::{ChainList, CouplerList, Entry, EntryList, Kind, NodeWeights, OutputModel};
@@ -26,11 +27,7 @@ fn entry(first: u32, second: u32, weight: i128) -> Entry
 
 /// Two nodes and the coupler between them.
 fn entries(alloc: Global) -> Result<EntryList, NoMemory>
-    ensures { IfOk result (λ es. es ≡
-        record { first = 0; second = 0; weight = pos 0 }
-        ∷ record { first = 1; second = 1; weight = negsuc 19 }
-        ∷ record { first = 0; second = 1; weight = pos 5 }
-        ∷ []) }
+    ensures { IfOk result (λ es. es ≡ three) }
 {
     let mut weights = Vec::new(alloc);
     weights.extend_from_slice(&[0, -20])?;
@@ -44,7 +41,7 @@ fn entries(alloc: Global) -> Result<EntryList, NoMemory>
 
 /// The second qubit for the first node, and the first for the second.
 fn chains(alloc: Global) -> Result<ChainList, NoMemory>
-    ensures { IfOk result (λ cs. cs ≡ (1 ∷ []) ∷ (0 ∷ []) ∷ []) }
+    ensures { IfOk result (λ cs. cs ≡ swapped) }
 {
     let mut list = ChainList::empty(alloc);
     list.push(&[1])?;
@@ -102,17 +99,7 @@ fn chimera(alloc: Global) -> Result<OutputModel, NoMemory> {
 /// The fields of five qubits of a cell of six, the couplers inside the chains 0, 3 and 1, 4, 2, and
 /// one between them.
 fn chained_entries(alloc: Global) -> Result<EntryList, NoMemory>
-    ensures { IfOk result (λ es. es ≡
-        record { first = 0; second = 0; weight = pos 1 }
-        ∷ record { first = 1; second = 1; weight = negsuc 1 }
-        ∷ record { first = 2; second = 2; weight = pos 4 }
-        ∷ record { first = 3; second = 3; weight = pos 8 }
-        ∷ record { first = 4; second = 4; weight = negsuc 15 }
-        ∷ record { first = 0; second = 3; weight = negsuc 31 }
-        ∷ record { first = 1; second = 3; weight = pos 64 }
-        ∷ record { first = 1; second = 4; weight = negsuc 127 }
-        ∷ record { first = 2; second = 4; weight = negsuc 255 }
-        ∷ []) }
+    ensures { IfOk result (λ es. es ≡ nine) }
 {
     let mut weights = Vec::new(alloc);
     weights.extend_from_slice(&[1, -2, 4, 8, -16])?;
@@ -131,7 +118,7 @@ fn chained_entries(alloc: Global) -> Result<EntryList, NoMemory>
 
 /// Two qubits for the first node, and three for the second.
 fn longer_chains(alloc: Global) -> Result<ChainList, NoMemory>
-    ensures { IfOk result (λ cs. cs ≡ (0 ∷ 3 ∷ []) ∷ (1 ∷ 4 ∷ 2 ∷ []) ∷ []) }
+    ensures { IfOk result (λ cs. cs ≡ two_chains) }
 {
     let mut list = ChainList::empty(alloc);
     list.push(&[0, 3])?;

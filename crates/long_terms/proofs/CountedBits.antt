@@ -18,11 +18,7 @@ use Rattle.monomial_layer.specs.Monomials.{true_literals}
 use Rattle.monomial_layer.specs.laws.TermCosts.{all_hold-count}
 use Rattle.long_terms.specs.Long.{product_term, addition_at}
 use Rattle.long_terms.specs.declared.counted.Counted.{Counted}
-use Rattle.long_terms.specs.CountedSets.{counted_bits, counted_of}
-
--- what is counted of the sets of additions
-abbrev pub counts_of : List Bool → List Product → List Counted
-counts_of y ps = map (λ (p : Product). counted_of y p.literals) ps
+use Rattle.long_terms.specs.CountedSets.{counted_bits, counted_of, counts_of}
 
 -- ---- one set
 

@@ -1,5 +1,5 @@
 -- Terms of three literals or more, as they are kept for what is made of them.
-use Rattle.std.specs.Prelude.{◌≡◌, ℕ, ◌+◌, ◌≤◌, ◌<◌, ◌^◌, ◌*◌, pos, int_lt, unsigned_abs, ℤ, ◌+ℤ◌, Bool, Option, None, Some, List, [], ◌∷◌, map, take, length, All, if◌then◌else◌}
+use Rattle.std.specs.Prelude.{◌≡◌, ℕ, ◌+◌, ◌≤◌, ◌<◌, ◌^◌, ◌*◌, pos, int_lt, unsigned_abs, ℤ, ◌+ℤ◌, Bool, Option, None, Some, List, [], ◌∷◌, ◌++◌, map, take, drop, length, All, if◌then◌else◌}
 use Rattle.std.specs.List.{sum_by, slice_index_or}
 use Rattle.literal_lists.specs.declared.literal.Literal.{Literal}
 use Rattle.problem_form.specs.declared.terms.Product.{Product}
@@ -87,6 +87,10 @@ addition_at additions i =
 abbrev pub additions_at : List Product → List Keyed → List Term
 additions_at additions order = map (λ k. addition_at additions k.index) order
 
+-- the additions from a place of an order on
+abbrev pub additions_from : List Product → List Keyed → ℕ → List Term
+additions_from additions order place = additions_at additions (drop place order)
+
 -- the keys of an order are those of their sets
 pub record HaveKeys (additions : List Product) (order : List Keyed) : Type 0 where
   pub coded : Bool
@@ -112,3 +116,13 @@ summed_term ls (Some c) = (ls, c) ∷ []
 abbrev pub sums_with : ℤ → List Term → List Term
 sums_with c [] = []
 sums_with c (t ∷ ts) = sums_from (t.0, c +ℤ t.1) ts
+
+-- A step over an order: it adds the addition at a place to the sum of those before it of its set, and
+-- gives the sum where the set ends. What it gives, and the sums of what is left with the sum that it
+-- leaves, are the sums from the place on with the sum before. Of x, x and y with the coefficients 2, 3
+-- and 4 the first step gives nothing and leaves 2, and the second gives 5 and leaves 0.
+abbrev pub IsNextSum : List Product → List Keyed → ℕ → (old new : ℤ) → Option ℤ → Type 0
+IsNextSum additions order place old new given =
+    sums_with old (additions_from additions order place)
+    ≡ summed_term (set_at additions order place) given
+    ++ sums_with new (additions_from additions order (place + 1))

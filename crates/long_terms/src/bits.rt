@@ -8,10 +8,9 @@ ghost use Rattle.std.specs.Prelude.{Bool, List, [], length, map};
 ghost use Rattle.std.specs.List.{flat_map};
 ghost use Rattle.term_table.specs.Terms.{terms_total, with_additions};
 ghost use Rattle.term_table.specs.Tables.{AreAdditions};
-ghost use Rattle.term_table.specs.Summed.{sums_of};
 ghost use Rattle.monomial_layer.specs.Monomials.{new_bits, nodes_for};
 ghost use Rattle.long_terms.specs.Long.{additions_at, product_term, terms_of, HaveKeys};
-ghost use Rattle.long_terms.specs.CountedSets.{counted_bits, counted_of};
+ghost use Rattle.long_terms.specs.CountedSets.{counted_bits, counts_of, sum_bits};
 
 use crate::additions::{Keyed, ordered_additions};
 use crate::counted::{Counted, counted_sets};
@@ -45,10 +44,9 @@ fn push_summed_bits(
     requires indices { All (λ k. k.index < length additions.now) order.now }
     requires keys { HaveKeys additions.now order.now }
     requires small { terms_total (additions_at additions.now order.now) ≤ 2 ^ 124 }
-    ensures { OnOk result ((x : List Bool)
-        → counts.now ≡ map (λ p. counted_of x p.literals) additions.now
+    ensures { OnOk result ((x : List Bool) → counts.now ≡ counts_of x additions.now
         → bits.new.items ≡ bits.old.items
-        ++ flat_map (new_bits x) (sums_of (additions_at additions.now order.now))) }
+        ++ sum_bits x (additions_at additions.now order.now)) }
 {
     let mut sum = 0;
     for i in 0..order.len() {

@@ -1,6 +1,6 @@
 //! How many literals of each addition are true, counted in the order in which the additions lie.
-ghost use Rattle.std.specs.Prelude.{◌≡◌, ◌≤◌, IfOk, All, length, map};
-ghost use Rattle.long_terms.specs.CountedSets.{counted_of};
+ghost use Rattle.std.specs.Prelude.{◌≡◌, ◌≤◌, IfOk, All, length};
+ghost use Rattle.long_terms.specs.CountedSets.{counted_of, counts_of};
 
 use base::NoMemory;
 use literal_lists::Literals;
@@ -31,8 +31,7 @@ pub(crate) fn counted_sets(
     additions: &ProductList,
 ) -> Result<Vec<Counted>, NoMemory>
     requires { All (λ p. length p.literals ≤ 2048) additions.now }
-    ensures { IfOk result (λ counts.
-        counts.items ≡ map (λ p. counted_of x.now p.literals) additions.now) }
+    ensures { IfOk result (λ counts. counts.items ≡ counts_of x.now additions.now) }
 {
     let mut counts = Vec::with_capacity(alloc, additions.len())?;
     for index in 0..additions.len() {

@@ -1,8 +1,8 @@
 //! The sums of additions, of which those of one set are neighbours.
-ghost use Rattle.std.specs.Prelude.{◌≡◌, ◌+◌, ◌≤◌, ◌<◌, ◌^◌, ◌++◌, IfOk, All, length, map, drop, unsigned_abs};
+ghost use Rattle.std.specs.Prelude.{◌≡◌, ◌+◌, ◌≤◌, ◌<◌, ◌^◌, IfOk, All, length, map, unsigned_abs};
 ghost use Rattle.term_table.specs.Terms.{terms_total};
 ghost use Rattle.term_table.specs.Summed.{sums_of};
-ghost use Rattle.long_terms.specs.Long.{product_term, additions_at, set_at, summed_term, sums_with, HaveKeys};
+ghost use Rattle.long_terms.specs.Long.{product_term, additions_at, additions_from, HaveKeys, IsNextSum};
 
 use crate::additions::{Keyed, are_alike};
 use base::NoMemory;
@@ -22,12 +22,10 @@ pub fn next_sum(
     requires indices { All (λ k. k.index < length additions.now) order.now }
     requires keys { HaveKeys additions.now order.now }
     requires small { unsigned_abs sum.old
-        + terms_total (additions_at additions.now (drop place order.now)) ≤ 2 ^ 124 }
-    ensures sums { sums_with sum.old (additions_at additions.now (drop place order.now))
-        ≡ summed_term (set_at additions.now order.now place) result
-        ++ sums_with sum.new (additions_at additions.now (drop (place + 1) order.now)) }
+        + terms_total (additions_from additions.now order.now place) ≤ 2 ^ 124 }
+    ensures sums { IsNextSum additions.now order.now place sum.old sum.new result }
     ensures small { unsigned_abs sum.new
-        + terms_total (additions_at additions.now (drop (place + 1) order.now)) ≤ 2 ^ 124 }
+        + terms_total (additions_from additions.now order.now (place + 1)) ≤ 2 ^ 124 }
 {
     *sum += additions.at(order[place].index).coefficient;
     if place + 1 < order.len() && are_alike(additions, &order[place], &order[place + 1]) {

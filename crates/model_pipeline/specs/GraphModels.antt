@@ -20,7 +20,7 @@ use Rattle.model_pipeline.specs.declared.site.Site.{Site}
 use Rattle.model_pipeline.specs.Models.{quad_of, decoding_to, ising_figures}
 use Rattle.model_pipeline.specs.Sites.{chains_of, fabric_in, graph_in}
 use Rattle.model_pipeline.specs.QubitModels.{kind_of, IsModelByCheck}
-use Rattle.model_pipeline.specs.QubitStanding.{demand_of, StandsBy}
+use Rattle.model_pipeline.specs.QubitStanding.{demand_of, StandsBy, IsQubitModelOf}
 
 -- the Ising form of a problem, as a command chooses its steps
 abbrev pub ising_of : Choices → ProblemContent → IsingContent
@@ -47,12 +47,23 @@ pub record IsGraphModelOf (p : ProblemContent) (own : ℕ) (choice : UnitChoice)
 abbrev pub site_chains : Site → Choices → ProblemContent → List (List ℕ)
 site_chains site choices p = chains_of site.qubits site.perch (length (ising_of choices p).fields)
 
--- the model of the Ising form of a problem at a site, as a check puts it on the site's chains
+-- the model of an Ising form at a site, as a check puts it on the site's chains; so many of its
+-- variables are the source's own
+abbrev pub IsFormAt : Site → UnitChoice → IsingContent → ℕ → Figures → Written → Type 0
+IsFormAt site unit form own figures m =
+    IsModelByCheck unit site.ties (graph_in site.qubits) (fabric_in site.qubits) form
+    (chains_of site.qubits site.perch (length form.fields)) own figures m
+
+-- the same, as a model that stands for the form as the site's ties allow
+abbrev pub StandsForForm : Site → UnitChoice → IsingContent → ℕ → Figures → Written → Type 0
+StandsForForm site unit form own figures m =
+    IsQubitModelOf form figures own unit site.ties (graph_in site.qubits) (fabric_in site.qubits)
+    (chains_of site.qubits site.perch (length form.fields)) m
+
+-- the model of the Ising form of a problem at a site
 abbrev pub IsModelAt : Site → Choices → UnitChoice → ℕ → ProblemContent → Written → Type 0
 IsModelAt site choices unit variables p m =
-    IsModelByCheck unit site.ties (graph_in site.qubits) (fabric_in site.qubits)
-    (ising_of choices p) (site_chains site choices p) variables
-    (ising_figures (penalty.figures p)) m
+    IsFormAt site unit (ising_of choices p) variables (ising_figures (penalty.figures p)) m
 
 -- a model at a site that stands for the problem
 abbrev pub StandsAt : Site → Choices → UnitChoice → ℕ → ProblemContent → Written → Type 0

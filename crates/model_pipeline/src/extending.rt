@@ -101,8 +101,8 @@ fn by_long_pairs(alloc: Global, problem: &Problem, x: &[bool]) -> Result<Vec<boo
 fn by_plain_pairs(alloc: Global, problem: &Problem, x: &[bool]) -> Result<Vec<bool>, NoMemory>
     requires admits { multilinear.Admits problem.now }
     requires width { length x.now ≡ problem.now.variables }
-    ensures extension { IfOk result (λ y. y.items
-        ≡ rosenberg.extension (penalty.extension problem.now x.now) (multilinear.image problem.now)) }
+    ensures extension { IfOk result (λ y. y.items ≡ rosenberg.extension
+        (penalty.extension problem.now x.now) (multilinear.image problem.now)) }
 
     // What the steps to a model rest on.
     ensures room { IfOk result (λ _.

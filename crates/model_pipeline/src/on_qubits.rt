@@ -4,15 +4,11 @@ ghost use Rattle.problem_form.specs.Limits.{limit_fault};
 ghost use Rattle.ising_form.specs.Isings.{ising_size, ising_total};
 ghost use Rattle.chain_map.specs.Faults.{IfFault};
 ghost use Rattle.model_pipeline.specs.Sites.{
-  chains_of,
-  fabric_in,
   graph_in,
   CanStandBy,
   IsFaultBy,
 };
-ghost use Rattle.model_pipeline.specs.QubitModels.{IsModelByCheck};
-ghost use Rattle.model_pipeline.specs.QubitStanding.{IsQubitModelOf};
-ghost use Rattle.model_pipeline.specs.GraphModels.{ising_of, IsOnQubits};
+ghost use Rattle.model_pipeline.specs.GraphModels.{ising_of, IsOnQubits, IsFormAt, StandsForForm};
 ghost use Rattle.model_pipeline.specs.Extensions.{IsMadeOf};
 
 use crate::chained::embedded_model;
@@ -43,12 +39,8 @@ pub fn form_on_qubits(
     requires scale { pos 1 ≤ℤ figures.scale }
     requires offset { unsigned_abs figures.offset < 2 ^ 122 }
     requires threshold { unsigned_abs figures.threshold < 2 ^ 122 }
-    ensures model { IfOk result (IsModelByCheck unit site.now.ties (graph_in site.now.qubits)
-        (fabric_in site.now.qubits) form
-        (chains_of site.now.qubits site.now.perch (length form.fields)) own figures) }
-    ensures stands { IfOk result (IsQubitModelOf form figures own unit site.now.ties
-        (graph_in site.now.qubits) (fabric_in site.now.qubits)
-        (chains_of site.now.qubits site.now.perch (length form.fields))) }
+    ensures model { IfOk result (IsFormAt site.now unit form own figures) }
+    ensures stands { IfOk result (StandsForForm site.now unit form own figures) }
 
     ensures can_stand { IfOk result (λ _. CanStandBy site.now form) }
     ensures fault { IfErr result (λ e. IfFault e (IsFaultBy site.now form)) }

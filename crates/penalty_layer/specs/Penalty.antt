@@ -24,12 +24,14 @@ use Rattle.penalty_layer.specs.Squares.{product_term, constraint_terms, slack_st
 abbrev pub opposite : Literal → Literal
 opposite l = record { variable = l.variable; negated = not l.negated }
 
--- a clause is violated where the complements of its literals are all true; then it adds its weight,
--- or the penalty n
+-- A clause is violated where the complements of its literals are all true; then it adds its weight,
+-- or the penalty n. The clause x or not y is violated where not x and y are true, so its term is
+-- its weight times these two.
 abbrev pub clause_term : ℕ → Clause → Term
 clause_term n c = (map opposite c.literals, pos (unwrap_or c.weight n))
 
--- the constant, the objective's products and the clauses, in their order
+-- The constant, the objective's products and the clauses, in their order. A product that stands
+-- twice is two terms here, and one in the table.
 abbrev pub plain_terms : ProblemContent → List Term
 plain_terms p =
     ([], p.constant)
@@ -39,7 +41,7 @@ plain_terms p =
 abbrev pub contributions : ProblemContent → List Term
 contributions p = plain_terms p ++ constraint_terms (penalty p) p.variables p.constraints
 
--- the variables and the slack bits
+-- The variables and the slack bits. Each slack bit is a node after the variables.
 abbrev pub node_count : ProblemContent → ℕ
 node_count p = p.variables + sum_by slack_bits p.constraints
 
@@ -49,21 +51,29 @@ node_count p = p.variables + sum_by slack_bits p.constraints
 abbrev pub image : ProblemContent → TableContent
 image p = record { width = node_count p; terms = with_additions [] (contributions p) }
 
--- nothing is scaled or moved, and the threshold is the upper bound
+-- Nothing is scaled or moved, and the threshold is the upper bound: every state that breaks a hard
+-- clause or a constraint costs more than it, and the extension of an assignment that breaks none
+-- does not.
 abbrev pub figures : ProblemContent → Figures
 figures p = record { scale = pos 1; offset = pos 0; threshold = upper p }
 
--- an assignment, and the slack bits of all constraints
+-- An assignment, and the slack bits of all constraints. The slack bits of each constraint give the
+-- slack that makes its square least: 0 where the constraint holds.
 abbrev pub extension : ProblemContent → List Bool → List Bool
 extension p x = x ++ flat_map (slack_state x) p.constraints
 
 -- a problem in normal form and within the limits
 pub record Admits (p : ProblemContent) : Type 0 where
+  -- each product and clause is a set of literals over the problem's variables
   pub normal : IsNormal p
+  -- no limit is passed, so all sums fit their fields
   pub within : limit_fault normals.Literal p ≡ None
 
 -- a link between a problem in normal form and its image
 pub record Fits (link : BitsLink) (p : ProblemContent) : Type 0 where
+  -- the state begins with the problem's variables
   pub source : link.source_width ≡ p.variables
+  -- and has the slack bits of all constraints after them
   pub target : link.target_width ≡ node_count p
+  -- the problem is in normal form, so no literal is past the variables
   pub normal : IsNormal p

@@ -4,7 +4,10 @@ use Rattle.std.specs.List.Sorted.{IsStrictlySortedBy}
 use Rattle.literal_lists.specs.declared.literal.Literal.{Literal}
 use Rattle.literal_lists.specs.Literals.{literal_cmp, has_clash}
 
--- ascending literals, none beside its complement
+-- Ascending literals, none beside its complement. So the product of such a set is true for some
+-- assignment.
 pub record IsSet (ls : List Literal) : Type 0 where
+  -- by their variables, none of them twice
   pub ordered : IsStrictlySortedBy literal_cmp ls
+  -- no variable stands in it both plain and complemented
   pub apart : has_clash ls ≡ false

@@ -1,4 +1,8 @@
 -- The square of what a constraint's sum is off by, as terms.
+--
+-- A constraint whose sum has to be at least its bound may have any number up to its range above it.
+-- What is off is the sum less the bound less the slack: it can be 0 exactly where the constraint
+-- holds, and its square times the penalty is at least the penalty wherever it is not 0.
 use Rattle.std.specs.Prelude.{ℕ, suc, ◌+◌, ◌*◌, pos, neg_ℤ, ◌-ℤ◌, ◌*ℤ◌, Bool, false, List, [], ◌∷◌, ◌++◌, map}
 use Rattle.literal_lists.specs.declared.literal.Literal.{Literal}
 use Rattle.problem_form.specs.declared.terms.Constraint.{Constraint}
@@ -13,8 +17,9 @@ use Rattle.penalty_layer.specs.Slack.{slack_weights, value_bits, clamped}
 abbrev pub product_term : Product → Term
 product_term t = (t.literals, t.coefficient)
 
--- n times the square of a sum: each term's square, which is true where the term is, and twice its
--- products with the later ones
+-- N times the square of a sum: each term's square, which is true where the term is, and twice its
+-- products with the later ones. Three times the square of x - 1 is 3 * x, twice 3 times -x, and 3:
+-- together 3 - 3 * x, which is 3 where x is 0 and 0 where it is 1.
 abbrev pub square_terms : ℕ → List Term → List Term
 square_terms n [] = []
 square_terms n (t ∷ ts) =
@@ -23,16 +28,17 @@ square_terms n (t ∷ ts) =
 
 -- ---- constraints
 
--- a node, as a literal
+-- A node, as a literal. It is true where the node's bit is 1.
 abbrev pub node : ℕ → Literal
 node i = record { variable = i; negated = false }
 
--- the weights of slack bits, from a first node on, taken off
+-- The weights of slack bits, from a first node on, taken off. Each weight is a term of one slack
+-- bit: for the weights 1, 2, 2 from node 7 on they are -1 * y7, -2 * y8 and -2 * y9.
 abbrev pub slack_terms : ℕ → List ℕ → List Term
 slack_terms first [] = []
 slack_terms first (w ∷ ws) = (node first ∷ [], neg_ℤ (pos w)) ∷ slack_terms (suc first) ws
 
--- sum - bound - slack
+-- what a constraint is off by, as terms: sum - bound - slack
 abbrev pub slack_form : ℕ → Constraint → List Term
 slack_form first k =
     map product_term k.products
@@ -47,7 +53,8 @@ constraint_terms n first (k ∷ ks) =
 
 -- ---- the slack of an assignment
 
--- the slack of a constraint: what its sum has above the bound, within what its bits reach
+-- the slack of a constraint: what its sum has above the bound, within what its bits reach. Where
+-- the sum is below the bound it is 0
 abbrev pub slack_of : List Bool → Constraint → ℕ
 slack_of x k = clamped (slack_range k) (sum_of x k.products -ℤ k.bound)
 

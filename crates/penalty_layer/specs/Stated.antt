@@ -11,31 +11,36 @@ use Rattle.term_table.specs.Products.{scaled, products_with}
 use Rattle.penalty_layer.specs.Slack.{slack_value, slack_weights, value_bits}
 use Rattle.penalty_layer.specs.Squares.{slack_form, square_terms}
 
--- the weights reach each value within the range
+-- The weights reach each value within the range. So a constraint that holds can have the square 0.
 abbrev pub WeightsReach : Type 0
 WeightsReach = (r v : ℕ) → v ≤ r → slack_value (value_bits r v) 0 (slack_weights r) ≡ v
 
--- and no other
+-- and no other. So a constraint whose sum is below its bound, or above it where it has to be equal,
+-- cannot
 abbrev pub WeightsStay : Type 0
 WeightsStay = (y : List Bool) (first r : ℕ) → slack_value y first (slack_weights r) ≤ r
 
--- what the sum of a constraint has above its bound, less the slack
+-- What the sum of a constraint has above its bound, less the slack. It is 0 exactly where the slack
+-- makes up for what the sum has above the bound.
 abbrev pub excess : List Bool → ℕ → Constraint → ℤ
 excess y first k =
     (sum_of y k.products -ℤ k.bound) -ℤ pos (slack_value y first (slack_weights (slack_range k)))
 
--- a constraint's terms cost the factor times the square of it
+-- A constraint's terms cost the factor times the square of it. This is what the penalty method
+-- rests on, for every state and every factor.
 abbrev pub SquaresCost : Type 0
 SquaresCost = (y : List Bool) (n first : ℕ) (k : Constraint)
     → terms_cost y (square_terms n (slack_form first k))
     ≡ pos n *ℤ (excess y first k *ℤ excess y first k)
 
--- n times the products of each term and each
+-- N times the products of each term and each. In a square each term meets each, also itself, so
+-- pairs of two terms are there twice.
 abbrev pub whole_square : ℕ → List Term → List Term
 whole_square n ts = flat_map (λ t. products_with (scaled (pos n) t) ts) ts
 
--- the terms of a square give each set the sum that the whole product of the terms with themselves
--- gives
+-- The terms of a square give each set the sum that the whole product of the terms with themselves
+-- gives. The layer multiplies out each pair once, with twice the factor, and this says that nothing
+-- is lost by it.
 abbrev pub SquaresAreProducts : Type 0
 SquaresAreProducts = (n width : ℕ) (ts : List Term) → All (λ t. IsLiteralSet width t.0) ts
     → (ls : List Literal)

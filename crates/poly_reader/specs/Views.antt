@@ -1,5 +1,5 @@
 -- What the steps of the reader give: the readings of `Poly`, seen as parts of the problem.
-use Rattle.std.specs.Prelude.{ℕ, List, [], ◌++◌, length, map, fold, Result, Ok}
+use Rattle.std.specs.Prelude.{ℕ, ℤ, List, [], ◌++◌, length, map, fold, Result, Ok}
 use Rattle.std.specs.Borrow.{Bor}
 use Rattle.whole_text.specs.declared.faults.TextFault.{TextFault}
 use Rattle.whole_text.specs.Tokens.{Word}
@@ -38,6 +38,10 @@ literals_read line names front ws =
       names_after names ls,
       past_line line ws,
     )
+
+-- the product of the literals of a list, as a set, and a coefficient
+abbrev pub product_of_list : List Literal → ℤ → Product
+product_of_list ls c = record { literals = literal_set ls; coefficient = c }
 
 -- the product with this first word, of the set of its literals, all names so far, and what is left
 abbrev pub product_read : List (List ℕ) → Word → List Word

@@ -1,12 +1,12 @@
 //! A product of a text: a number, and the literals that follow on its line.
-ghost use Rattle.std.specs.Prelude.{◌≡◌, ◌<◌, ◌≤◌, ◌^◌, ◌∷◌, [], true, ℕ, length, nat_abs, All, OnOk, IfOk};
+ghost use Rattle.std.specs.Prelude.{◌≡◌, ◌<◌, ◌≤◌, ◌^◌, [], true, ℕ, length, nat_abs, All, OnOk, IfOk};
 ghost use Rattle.std.specs.List.{list_all};
 ghost use Rattle.whole_text.specs.TokenTexts.{word_of};
 ghost use Rattle.whole_text.specs.Steps.{Gives, GivesAlways};
 ghost use Rattle.whole_text.specs.Rows.{left};
 ghost use Rattle.literal_lists.specs.Literals.{literal_set};
 ghost use Rattle.poly_reader.specs.Poly.{is_name, begins_name, is_name_byte, named_at, literal_at};
-ghost use Rattle.poly_reader.specs.Views.{named_of, literals_read, product_read};
+ghost use Rattle.poly_reader.specs.Views.{named_of, literals_read, product_of_list, product_read};
 
 use crate::name_table::NameTable;
 use crate::names::as_text;
@@ -138,11 +138,8 @@ pub(crate) fn product<'a>(
     list: &mut Vec<Literal>,
 ) -> Result<(i128, Option<WordRef<'a>>), TextAnswer>
     requires { list.old.items ≡ [] }
-    ensures read { Gives (λ x. (
-      record { literals = literal_set list.new.items; coefficient = x.0 },
-      names.new,
-      left x.1 words.new,
-    )) result (product_read names.old (word_of first.entry) words.old) }
+    ensures read { Gives (λ x. (product_of_list list.new.items x.0, names.new, left x.1 words.new))
+        result (product_read names.old (word_of first.entry) words.old) }
     ensures small { IfOk result (λ x. nat_abs x.0 < 2 ^ 64) }
     ensures within { OnOk result (All (λ l. l.variable < length names.new) list.new.items) }
     ensures wider { OnOk result (length names.old ≤ length names.new) }

@@ -42,6 +42,8 @@ use Rattle.program_run.specs.declared.answers.Answer.{Answer}
 use Rattle.program_run.specs.declared.answers.Answer.TheVariants.{Model, Text}
 use Rattle.run_steps.specs.declared.status.Status.{Status}
 use Rattle.run_steps.specs.declared.status.Status.TheVariants.{Done, WriteFault, NoMemory}
+use Rattle.run_steps.specs.Causes.{WhereHeld}
+use Rattle.program_run.specs.Outcome.{IsComplete}
 
 -- ---- a source and its model
 
@@ -218,3 +220,16 @@ IsDelivered Done old new text = Appends old new text
 IsDelivered WriteFault old new text = AppendsFront old new text
 IsDelivered NoMemory old new text = ⊤
 IsDelivered status old new text = ⊥
+
+-- some text was delivered to a sink, and it answers the words, whatever files may be held
+abbrev pub DeliversAnswer : List (List ℕ) → Option NamedFiles → Status → (old new : Option (List ℕ))
+    → Type 0
+DeliversAnswer words told status old new =
+    (text : List ℕ) × IsDelivered status old new text
+    × WhereHeld told (files_in words) (λ held. IsAnswered words held text)
+
+-- whatever files may be held, where the outcome of the words is Done, so is the status, or memory was
+-- wanting
+abbrev pub Completes : List (List ℕ) → Option NamedFiles → Status → Type 0
+Completes words told status =
+    WhereHeld told (files_in words) (λ held. IsComplete words held status)

@@ -56,6 +56,22 @@ limit_words Negations = codes ": limit negations "
 limit_words Pairs = codes ": limit pairs "
 limit_words Weight = codes ": limit weight "
 
+-- the line for an embedding in words round a number, piece by piece
+abbrev pub with_number : List ℕ → ℕ → List ℕ → List (List ℕ)
+with_number before number after =
+    codes "not embedded: " ∷ before ∷ decimal number ∷ after ∷ []
+
+-- the same, in words round two numbers
+abbrev pub with_numbers : List ℕ → ℕ → List ℕ → ℕ → List ℕ → List (List ℕ)
+with_numbers before first between second after =
+    codes "not embedded: " ∷ before ∷ decimal first ∷ between ∷ decimal second ∷ after ∷ []
+
+-- the line for a model that is too wide, piece by piece
+abbrev pub wide_pieces : ℕ → ℕ → List (List ℕ)
+wide_pieces node width =
+    codes "too wide: node " ∷ decimal node ∷ codes " has " ∷ decimal width
+    ∷ codes " neighbours\n" ∷ []
+
 -- what the line for an embedding says after its first words
 abbrev pub fault_pieces : EmbedFault → List (List ℕ)
 fault_pieces (ChainCount count) = decimal count ∷ codes " chains\n" ∷ []
@@ -92,9 +108,7 @@ error_pieces (Limit which kind number) name =
 error_pieces (NotEmbedded fault) name = codes "not embedded: " ∷ fault_pieces fault
 error_pieces (NoState length) name =
     name ∷ codes ": no state of " ∷ decimal length ∷ codes " characters\n" ∷ []
-error_pieces (TooWide node width) name =
-    codes "too wide: node " ∷ decimal node ∷ codes " has " ∷ decimal width
-    ∷ codes " neighbours\n" ∷ []
+error_pieces (TooWide node width) name = wide_pieces node width
 error_pieces (NotProved fault) name = codes "not proved: " ∷ proof_pieces fault
 error_pieces NoMemory name = codes "out of memory\n" ∷ []
 
@@ -106,3 +120,7 @@ error_line status name = concat (error_pieces status name)
 pub record IsSaid (old new : Option (List ℕ)) (before now : ℕ) (line : List ℕ) : Type 0 where
   pub front : AppendsFront old new line
   pub whole : ¬ (Rose before now) → Appends old new line
+
+-- the same, for a line that is given piece by piece
+abbrev pub AreSaid : (old new : Option (List ℕ)) → (before now : ℕ) → List (List ℕ) → Type 0
+AreSaid old new before now pieces = IsSaid old new before now (concat pieces)

@@ -21,8 +21,9 @@ use Rattle.run_steps.specs.declared.status.Status.{Status}
 use Rattle.run_steps.specs.declared.status.Status.TheVariants.{Done, ReadFault, WriteFault, NoMemory}
 use Rattle.run_steps.specs.Placements.{ties_of}
 use Rattle.run_steps.specs.Plans.{CanStand, IsModelBy, Stands}
-use Rattle.run_steps.specs.Steps.{Steps}
+use Rattle.run_steps.specs.Steps.{Steps, last_step}
 use Rattle.program_run.specs.Outcome.{OfModel, IsEndOf}
+use Rattle.edge_io.specs.Held.{NamedFiles}
 
 -- the model is that of the plan, which can stand, and stands for its problem, of which it was made
 pub record IsModelled (plan : Plan) (m : Written) : Type 0 where
@@ -59,18 +60,27 @@ pub record IsSolvedBy (read : Read) (m : Written) (text : List ℕ) : Type 0 whe
       ((decoding_of m).decoded state) read.names
       (read_cost read ((decoding_of m).decoded state))
 
+-- what is written for a state of a model: the assignment that it decodes to, with these names of the
+-- variables, what that costs the source, and the energy of the state
+abbrev pub state_text : Read → Written → List Bool → List ℕ
+state_text read m bits =
+    decoding_text ((decoding_of m).decoded bits) read.names
+    (read_cost read ((decoding_of m).decoded bits)) (energy (form_of m) bits)
+
+-- what is written for a state that is proved to be least: the same, with the energy first
+abbrev pub least_text : Read → Written → List Bool → List ℕ
+least_text read m bits =
+    proof_text (energy (form_of m) bits) ((decoding_of m).decoded bits) read.names
+    (read_cost read ((decoding_of m).decoded bits))
+
 -- the text is what is asked of the model
 abbrev pub IsTold : Ask → Read → Choices → Written → List Bool → List ℕ → Type 0
 IsTold Model read choices m bits text = text ≡ model_text m
 IsTold Summary read choices m bits text = text ≡ summary_text m
 IsTold Solve read choices m bits text = IsSolvedBy read m text
-IsTold (Decode at) read choices m bits text =
-    text ≡ decoding_text ((decoding_of m).decoded bits) read.names
-    (read_cost read ((decoding_of m).decoded bits)) (energy (form_of m) bits)
+IsTold (Decode at) read choices m bits text = text ≡ state_text read m bits
 IsTold (Extend at) read choices m bits text = IsExtendedBy choices read m bits text
-IsTold (Prove state certificate) read choices m bits text =
-    text ≡ proof_text (energy (form_of m) bits) ((decoding_of m).decoded bits) read.names
-    (read_cost read ((decoding_of m).decoded bits))
+IsTold (Prove state certificate) read choices m bits text = text ≡ least_text read m bits
 
 -- the text is what is asked of the plan's model, with the bits that are read last
 pub record IsMadeText (ask : Ask) (plan : Plan) (last : Written → Steps (List Bool))
@@ -80,6 +90,11 @@ pub record IsMadeText (ask : Ask) (plan : Plan) (last : Written → Steps (List 
   pub bits : List Bool
   pub read : (last model).end ≡ Some (Ok bits)
   pub told : IsTold ask plan.read plan.choices model bits text
+
+-- the same, with the bits that a command of these words reads once the model of its plan stands
+abbrev pub IsMadeTextOf : List (List ℕ) → NamedFiles → Ask → Plan → List ℕ → Type 0
+IsMadeTextOf words held ask plan text =
+    IsMadeText ask plan (last_step words held ask plan) text
 
 -- the status is how a plan ends, unless it is a fault or want of memory
 abbrev pub EndsOf : Status → Plan → (Written → Steps (List Bool)) → Type 0

@@ -12,6 +12,7 @@ use Rattle.run_steps.specs.declared.plans.Plan.{Plan}
 use Rattle.run_steps.specs.Plans.{CanStand, IsModelBy, IsFaultIn}
 use Rattle.run_steps.specs.declared.status.Status.{Status}
 use Rattle.run_steps.specs.declared.status.Status.TheVariants.{Done, Usage, ReadFault, WriteFault, NotEmbedded, NoMemory}
+use Rattle.edge_io.specs.Counts.{Counts, Rose}
 
 -- the plan can stand, and of its model this holds
 abbrev pub OfModel : Plan → (Written → Type 0) → Type 0
@@ -74,3 +75,7 @@ MeetsOutcome words held status = MeetsOutcomeOf words held (command_of words) st
 -- where the outcome is Done, so is the status, or memory was wanting
 abbrev pub IsComplete : List (List ℕ) → NamedFiles → Status → Type 0
 IsComplete words held status = IsOutcome words held Done → IsDoneOrWant status
+
+-- the store of files counted no fault more
+abbrev pub NoFault : Counts → Counts → Type 0
+NoFault old new = ¬ (Rose old.faults new.faults)

@@ -1,15 +1,15 @@
 //! What a command answers.
-ghost use Rattle.std.specs.Prelude.{◌≡◌, [], None, map, string_bytes, IfOk, IfErr};
+ghost use Rattle.std.specs.Prelude.{◌≡◌, [], None, IfOk, IfErr, Ok};
 ghost use Rattle.problem_form.specs.Limits.{limit_fault};
 ghost use Rattle.command_words.specs.Commands.{HasFewClauses};
-ghost use Rattle.command_words.specs.Names.{name_of, files_of, last_files};
+ghost use Rattle.command_words.specs.Names.{files_of, last_files};
 ghost use Rattle.source_texts.specs.Sources.{KeepsSoft};
-ghost use Rattle.run_steps.specs.Steps.{last_step, planning};
-ghost use Rattle.program_run.specs.Outcome.{Ends};
-ghost use Rattle.program_run.specs.Made.{EndsOf, IsMadeText};
+ghost use Rattle.run_steps.specs.Steps.{last_step};
+ghost use Rattle.program_run.specs.Outcome.{MeetsOutcomeOf};
+ghost use Rattle.program_run.specs.Made.{EndsOf, IsMadeTextOf};
 ghost use Rattle.run_steps.specs.Statuses.{ended, IsRefusal};
 ghost use Rattle.program_run.specs.Answers.{text_of, IsAnswer};
-ghost use Rattle.run_steps.specs.Causes.{AreFiles, AreFilesOf, WhereHeld};
+ghost use Rattle.run_steps.specs.Causes.{AreFiles, AreFilesOf, WhereHeld, spelled, named_in};
 
 use crate::made::{answer_solved, answer_state, model_given};
 use bits_model::OutputModel;
@@ -37,12 +37,11 @@ fn answer_by<F: Files>(
     requires within { limit_fault plan.choices.normal plan.read.problem ≡ None }
     requires kept { KeepsSoft plan.read }
     ensures step { WhereHeld (F.held files.old) (last_files command) (λ held.
-        EndsOf (ended result) plan (last_step (map string_bytes words.now) held command.ask plan)) }
-    ensures files { AreFilesOf (name_of (map string_bytes words.now) command) []
+        EndsOf (ended result) plan (last_step (spelled words.now) held command.ask plan)) }
+    ensures files { AreFilesOf (named_in words.now command) []
         (last_files command) (ended result) (F.counts files.old) (F.counts files.new) }
     ensures answer { IfOk result (λ answer. WhereHeld (F.held files.old) (last_files command)
-        (λ held. IsMadeText command.ask plan
-        (last_step (map string_bytes words.now) held command.ask plan) (text_of answer))) }
+        (λ held. IsMadeTextOf (spelled words.now) held command.ask plan (text_of answer))) }
     ensures refusal { IfErr result IsRefusal }
 {
     match command.ask {
@@ -78,13 +77,12 @@ pub fn answer_to<F: Files>(
     files: &mut F,
 ) -> Result<Answer, Status>
     requires { HasFewClauses command.origin }
-    ensures step { WhereHeld (F.held files.old) (files_of command) (λ held. Ends (ended result)
-        (planning (map string_bytes words.now) held command)
-        (last_step (map string_bytes words.now) held command.ask)) }
-    ensures files { AreFiles (map string_bytes words.now) command (ended result)
+    ensures step { WhereHeld (F.held files.old) (files_of command) (λ held.
+        MeetsOutcomeOf (spelled words.now) held (Ok command) (ended result)) }
+    ensures files { AreFiles (spelled words.now) command (ended result)
         (F.counts files.old) (F.counts files.new) }
     ensures answer { IfOk result (λ answer. WhereHeld (F.held files.old) (files_of command)
-        (λ held. IsAnswer (map string_bytes words.now) held command (text_of answer))) }
+        (λ held. IsAnswer (spelled words.now) held command (text_of answer))) }
     ensures refusal { IfErr result IsRefusal }
 {
     let plan = match take_plan(alloc, words, command, files) {

@@ -1,11 +1,9 @@
 //! What is written for a state of a model: the assignment that it stands for, and whether that is the
 //! optimum where the state is proved to be least.
 ghost use Rattle.std.specs.Prelude.{◌≡◌, ◌<◌, ◌^◌, length, IfOk};
-ghost use Rattle.base.specs.Costs.{energy};
-ghost use Rattle.bits_model.specs.Output.{form_of, decoding_of};
+ghost use Rattle.bits_model.specs.Output.{decoding_of};
 ghost use Rattle.source_texts.specs.Sources.{KeepsSoft};
-ghost use Rattle.program_run.specs.Made.{read_cost};
-ghost use Rattle.answer_text.specs.Answers.{decoding_text, proof_text};
+ghost use Rattle.program_run.specs.Made.{state_text, least_text};
 
 use answer_text::{written_decoding, written_proof};
 use base::NoMemory;
@@ -37,10 +35,7 @@ pub fn decoded_text(
     requires state { length state.now ≡ model.now.nodes }
     requires variables { model.now.variables ≡ read.now.variables }
     requires kept { KeepsSoft read.now }
-    ensures { IfOk result (λ text. text.items
-        ≡ decoding_text ((decoding_of model.now).decoded state.now) read.now.names
-        (read_cost read.now ((decoding_of model.now).decoded state.now))
-        (energy (form_of model.now) state.now)) }
+    ensures { IfOk result (λ text. text.items ≡ state_text read.now model.now state.now) }
 {
     let x = decoded(alloc, model, state)?;
     let cost = cost_of(read, &x);
@@ -58,10 +53,7 @@ pub fn proved_text(
     requires state { length state.now ≡ model.now.nodes }
     requires variables { model.now.variables ≡ read.now.variables }
     requires kept { KeepsSoft read.now }
-    ensures { IfOk result (λ text. text.items
-        ≡ proof_text (energy (form_of model.now) state.now)
-        ((decoding_of model.now).decoded state.now) read.now.names
-        (read_cost read.now ((decoding_of model.now).decoded state.now))) }
+    ensures { IfOk result (λ text. text.items ≡ least_text read.now model.now state.now) }
 {
     let x = decoded(alloc, model, state)?;
     let cost = cost_of(read, &x);

@@ -1,7 +1,6 @@
 //! The line for a status, of pieces that take no memory, in one write.
-ghost use Rattle.std.specs.Prelude.{◌≡◌, [], ◌∷◌, codes, decimal};
-ghost use Rattle.std.specs.List.{concat};
-ghost use Rattle.program_run.specs.Lines.{error_line, fault_pieces, kind_end, limit_words, proof_pieces, IsSaid};
+ghost use Rattle.std.specs.Prelude.{◌≡◌, [], ◌∷◌, codes};
+ghost use Rattle.program_run.specs.Lines.{error_line, fault_pieces, kind_end, limit_words, proof_pieces, IsSaid, AreSaid, with_number, with_numbers, wide_pieces};
 
 use crate::one_write::write_line;
 use chain_map::EmbedFault;
@@ -39,8 +38,8 @@ fn limit_words(kind: LimitKind) -> &'static [u8]
 
 /// Writes four pieces, or a front of them where the sink fails.
 fn put<E: Sink>(err: &mut E, first: &[u8], second: &[u8], third: &[u8], last: &[u8])
-    ensures { IsSaid (E.bytes err.old) (E.bytes err.new) (E.faults err.old) (E.faults err.new)
-        (concat (first.now ∷ second.now ∷ third.now ∷ last.now ∷ [])) }
+    ensures { AreSaid (E.bytes err.old) (E.bytes err.new) (E.faults err.old) (E.faults err.new)
+        (first.now ∷ second.now ∷ third.now ∷ last.now ∷ []) }
 {
     let _ = write_line(err, &[first, second, third, last]);
 }
@@ -55,8 +54,8 @@ fn put_six<E: Sink>(
     fifth: &[u8],
     last: &[u8],
 )
-    ensures { IsSaid (E.bytes err.old) (E.bytes err.new) (E.faults err.old) (E.faults err.new)
-        (concat (first.now ∷ second.now ∷ third.now ∷ fourth.now ∷ fifth.now ∷ last.now ∷ [])) }
+    ensures { AreSaid (E.bytes err.old) (E.bytes err.new) (E.faults err.old) (E.faults err.new)
+        (first.now ∷ second.now ∷ third.now ∷ fourth.now ∷ fifth.now ∷ last.now ∷ []) }
 {
     let _ = write_line(err, &[first, second, third, fourth, fifth, last]);
 }
@@ -64,8 +63,8 @@ fn put_six<E: Sink>(
 /// Writes what is wrong with an embedding in words round a number, or a front of them where the
 /// sink fails.
 fn put_number<E: Sink>(err: &mut E, before: &[u8], number: u64, after: &[u8])
-    ensures { IsSaid (E.bytes err.old) (E.bytes err.new) (E.faults err.old) (E.faults err.new)
-        (concat (codes "not embedded: " ∷ before.now ∷ decimal number ∷ after.now ∷ [])) }
+    ensures { AreSaid (E.bytes err.old) (E.bytes err.new) (E.faults err.old) (E.faults err.new)
+        (with_number before.now number after.now) }
 {
     let mut digits = Buffer::new();
     let number = digits.format(number).as_bytes();
@@ -81,9 +80,8 @@ fn put_numbers<E: Sink>(
     second: u64,
     after: &[u8],
 )
-    ensures { IsSaid (E.bytes err.old) (E.bytes err.new) (E.faults err.old) (E.faults err.new)
-        (concat (codes "not embedded: " ∷ before.now ∷ decimal first ∷ between.now
-        ∷ decimal second ∷ after.now ∷ [])) }
+    ensures { AreSaid (E.bytes err.old) (E.bytes err.new) (E.faults err.old) (E.faults err.new)
+        (with_numbers before.now first between.now second after.now) }
 {
     let mut digits = Buffer::new();
     let mut others = Buffer::new();
@@ -95,8 +93,8 @@ fn put_numbers<E: Sink>(
 
 /// Writes the line for an embedding that is not valid, or a front of it where the sink fails.
 fn say_fault<E: Sink>(fault: EmbedFault, err: &mut E)
-    ensures { IsSaid (E.bytes err.old) (E.bytes err.new) (E.faults err.old) (E.faults err.new)
-        (concat (codes "not embedded: " ∷ fault_pieces fault)) }
+    ensures { AreSaid (E.bytes err.old) (E.bytes err.new) (E.faults err.old) (E.faults err.new)
+        (codes "not embedded: " ∷ fault_pieces fault) }
 {
     match fault {
         EmbedFault::ChainCount(count) => put_number(err, b"", count as u64, b" chains\n"),
@@ -129,9 +127,8 @@ fn say_fault<E: Sink>(fault: EmbedFault, err: &mut E)
 
 /// Writes the line for a model that is too wide, or a front of it where the sink fails.
 fn say_wide<E: Sink>(node: u32, width: u32, err: &mut E)
-    ensures { IsSaid (E.bytes err.old) (E.bytes err.new) (E.faults err.old) (E.faults err.new)
-        (concat (codes "too wide: node " ∷ decimal node ∷ codes " has " ∷ decimal width
-        ∷ codes " neighbours\n" ∷ [])) }
+    ensures { AreSaid (E.bytes err.old) (E.bytes err.new) (E.faults err.old) (E.faults err.new)
+        (wide_pieces node width) }
 {
     let mut digits = Buffer::new();
     let mut others = Buffer::new();
@@ -150,8 +147,8 @@ fn say_wide<E: Sink>(node: u32, width: u32, err: &mut E)
 
 /// Writes two coefficients that differ, or a front of their line where the sink fails.
 fn say_difference<E: Sink>(ours: i128, theirs: i128, err: &mut E)
-    ensures { IsSaid (E.bytes err.old) (E.bytes err.new) (E.faults err.old) (E.faults err.new)
-        (concat (codes "not proved: " ∷ proof_pieces (ProofFault.Differs ours theirs))) }
+    ensures { AreSaid (E.bytes err.old) (E.bytes err.new) (E.faults err.old) (E.faults err.new)
+        (codes "not proved: " ∷ proof_pieces (ProofFault.Differs ours theirs)) }
 {
     let mut digits = Buffer::new();
     let mut others = Buffer::new();
@@ -171,8 +168,8 @@ fn say_difference<E: Sink>(ours: i128, theirs: i128, err: &mut E)
 
 /// Writes the line for a state that is not proved, or a front of it where the sink fails.
 fn say_unproved<E: Sink>(fault: ProofFault, err: &mut E)
-    ensures { IsSaid (E.bytes err.old) (E.bytes err.new) (E.faults err.old) (E.faults err.new)
-        (concat (codes "not proved: " ∷ proof_pieces fault)) }
+    ensures { AreSaid (E.bytes err.old) (E.bytes err.new) (E.faults err.old) (E.faults err.new)
+        (codes "not proved: " ∷ proof_pieces fault) }
 {
     let mut digits = Buffer::new();
     match fault {

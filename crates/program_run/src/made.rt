@@ -1,18 +1,17 @@
 //! The answer of a command from the plan of its model: the model alone, or a state of it.
-ghost use Rattle.std.specs.Prelude.{◌≡◌, [], None, Some, map, string_bytes, length, IfOk, IfErr};
+ghost use Rattle.std.specs.Prelude.{◌≡◌, [], None, Some, length, IfOk, IfErr};
 ghost use Rattle.problem_form.specs.Limits.{limit_fault};
 ghost use Rattle.bits_model.specs.Output.{form_of};
 ghost use Rattle.basic_solve.specs.FirstLeast.{IsFirstLeast};
-ghost use Rattle.command_words.specs.Names.{name_of, last_files, state_of};
+ghost use Rattle.command_words.specs.Names.{last_files, state_of};
 ghost use Rattle.model_pipeline.specs.Extensions.{IsMade, IsMadeOf};
 ghost use Rattle.source_texts.specs.Sources.{KeepsSoft};
 ghost use Rattle.run_steps.specs.Placements.{ties_of};
-ghost use Rattle.run_steps.specs.Plans.{plan_of};
 ghost use Rattle.run_steps.specs.Steps.{ends, last_step, wide_below, width_end, asked_width};
-ghost use Rattle.program_run.specs.Made.{EndsOf, IsMadeText, IsModelled, IsSolvedBy, IsTold};
+ghost use Rattle.program_run.specs.Made.{EndsOf, IsMadeText, IsModelled, IsSolvedBy, IsTold, IsMadeTextOf};
 ghost use Rattle.program_run.specs.Unembedded.{IsUnembedded, unsolved};
 ghost use Rattle.run_steps.specs.Statuses.{ended, IsRefusal, IsUnsolved};
-ghost use Rattle.run_steps.specs.Causes.{AreFilesOf, WhereHeld};
+ghost use Rattle.run_steps.specs.Causes.{AreFilesOf, WhereHeld, spelled, named_in};
 
 use crate::decode::{decoded, decoded_text, proved_text};
 use crate::extend::extended_text;
@@ -166,12 +165,11 @@ pub fn answer_state<F: Files>(
     requires kept { KeepsSoft plan.now.read }
     ensures step { WhereHeld (F.held files.old) (last_files command) (λ held.
         EndsOf (ended result) plan.now
-        (last_step (map string_bytes words.now) held command.ask plan.now)) }
-    ensures files { AreFilesOf (name_of (map string_bytes words.now) command) []
+        (last_step (spelled words.now) held command.ask plan.now)) }
+    ensures files { AreFilesOf (named_in words.now command) []
         (last_files command) (ended result) (F.counts files.old) (F.counts files.new) }
     ensures answer { IfOk result (λ text. WhereHeld (F.held files.old) (last_files command) (λ held.
-        IsMadeText command.ask plan.now
-        (last_step (map string_bytes words.now) held command.ask plan.now) text.items)) }
+        IsMadeTextOf (spelled words.now) held command.ask plan.now text.items)) }
     ensures refusal { IfErr result IsRefusal }
 {
     let model = match model_lent(alloc, plan) {

@@ -1,11 +1,11 @@
 //! One run: the answer to a command, its delivery, and the line for the status.
-ghost use Rattle.std.specs.Prelude.{◌≡◌, List, ℕ, map, string_bytes, IfOk};
+ghost use Rattle.std.specs.Prelude.{◌≡◌, IfOk};
 ghost use Rattle.edge_io.specs.Counts.{Rose};
 ghost use Rattle.command_words.specs.Commands.{asked, HasFewClauses};
 ghost use Rattle.run_steps.specs.Statuses.{IsUsageOf, OnUsage, OnWriting, OnDone, OnRefusal};
-ghost use Rattle.program_run.specs.Outcome.{MeetsOutcome, IsComplete};
-ghost use Rattle.run_steps.specs.Causes.{AreFiles, WhereHeld};
-ghost use Rattle.program_run.specs.Answers.{files_in, IsAnswered, IsDelivered};
+ghost use Rattle.program_run.specs.Outcome.{MeetsOutcome, NoFault};
+ghost use Rattle.run_steps.specs.Causes.{AreFiles, WhereHeld, spelled};
+ghost use Rattle.program_run.specs.Answers.{files_in, Completes, DeliversAnswer};
 ghost use Rattle.program_run.specs.Lines.{error_line, name_in, name_said, file_in, IsSaid};
 
 use crate::answers::answer_to;
@@ -29,7 +29,7 @@ fn file_in(status: Status) -> Which
 
 /// The file's name in the line for a status.
 fn name_in(words: &[String], asked: Result<Command, usize>, status: Status) -> &str
-    ensures { result.now ≡ name_in (map string_bytes words.now) asked status }
+    ensures { result.now ≡ name_in (spelled words.now) asked status }
 {
     match asked {
         Ok(command) => name_of(words, command, file_in(status)),
@@ -50,16 +50,14 @@ fn answered<F: Files, O: Sink>(
     ensures usage { IsUsageOf result said }
     ensures no_call { OnUsage result (files.new ≡ files.old) }
     ensures files { IfOk said (λ command.
-        AreFiles (map string_bytes words.now) command result
+        AreFiles (spelled words.now) command result
         (F.counts files.old) (F.counts files.new)) }
     ensures write_fault { result ≡ Status.WriteFault
         → Rose (O.faults out.old) (O.faults out.new) }
-    ensures outcome { WhereHeld (F.held files.old) (files_in (map string_bytes words.now)) (λ held.
-        MeetsOutcome (map string_bytes words.now) held result) }
-    ensures answered { OnWriting result ((text : List ℕ)
-        × IsDelivered result (O.bytes out.old) (O.bytes out.new) text
-        × WhereHeld (F.held files.old) (files_in (map string_bytes words.now)) (λ held.
-        IsAnswered (map string_bytes words.now) held text)) }
+    ensures outcome { WhereHeld (F.held files.old) (files_in (spelled words.now)) (λ held.
+        MeetsOutcome (spelled words.now) held result) }
+    ensures answered { OnWriting result (DeliversAnswer (spelled words.now) (F.held files.old)
+        result (O.bytes out.old) (O.bytes out.new)) }
     ensures refused { OnRefusal result (out.new ≡ out.old) }
 {
     match said {
@@ -89,28 +87,25 @@ pub fn run<F: Files, O: Sink, E: Sink>(
 
     // Why a file was not read, how many were begun, and that no more was read.
     ensures files { IfOk (asked words.now) (λ command.
-        AreFiles (map string_bytes words.now) command result
+        AreFiles (spelled words.now) command result
         (F.counts files.old) (F.counts files.new)) }
     ensures write_fault { result ≡ Status.WriteFault
         → Rose (O.faults out.old) (O.faults out.new) }
 
     // Of what the store holds, or of whatever it may hold where no file is taken.
-    ensures outcome { WhereHeld (F.held files.old) (files_in (map string_bytes words.now)) (λ held.
-        MeetsOutcome (map string_bytes words.now) held result) }
-    ensures complete { ¬ (Rose (F.counts files.old).faults (F.counts files.new).faults)
+    ensures outcome { WhereHeld (F.held files.old) (files_in (spelled words.now)) (λ held.
+        MeetsOutcome (spelled words.now) held result) }
+    ensures complete { NoFault (F.counts files.old) (F.counts files.new)
         → ¬ (Rose (O.faults out.old) (O.faults out.new))
-        → WhereHeld (F.held files.old) (files_in (map string_bytes words.now)) (λ held.
-        IsComplete (map string_bytes words.now) held result) }
+        → Completes (spelled words.now) (F.held files.old) result }
 
     // The headline.
-    ensures answered { OnWriting result ((text : List ℕ)
-        × IsDelivered result (O.bytes out.old) (O.bytes out.new) text
-        × WhereHeld (F.held files.old) (files_in (map string_bytes words.now)) (λ held.
-        IsAnswered (map string_bytes words.now) held text)) }
+    ensures answered { OnWriting result (DeliversAnswer (spelled words.now) (F.held files.old)
+        result (O.bytes out.old) (O.bytes out.new)) }
     ensures refused { OnRefusal result (out.new ≡ out.old) }
 
     ensures line { IsSaid (E.bytes err.old) (E.bytes err.new) (E.faults err.old) (E.faults err.new)
-        (error_line result (name_said (map string_bytes words.now) result)) }
+        (error_line result (name_said (spelled words.now) result)) }
     ensures silent { OnDone result (err.new ≡ err.old) }
 {
     let asked = command(words);

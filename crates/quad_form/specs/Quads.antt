@@ -14,7 +14,8 @@ pub use Rattle.bits_model.specs.Entries.{node_entries}
 use Rattle.bits_model.specs.Output.{Written, entry_cmp, bits_energy, weight_total, entry_size}
 use Rattle.pair_sums.specs.Pairs.{weight_at}
 
--- what a quadratic form says
+-- What a quadratic form says. The weights of nodes stand in a list by their numbers, 0 where a node
+-- has none; couplers are kept where they are not 0.
 pub record QuadContent : Type 0 where
   pub constant : ℤ
   pub diagonal : List ℤ
@@ -34,11 +35,12 @@ form_of q = record { bits = length q.diagonal; cost = λ y. Whole (quad_value q 
 
 -- ---- its sizes
 
--- the sizes of all weights and of the constant
+-- The sizes of all weights and of the constant. It bounds the size of every energy.
 abbrev pub quad_total : QuadContent → ℕ
 quad_total q = unsigned_abs q.constant + weight_total (entries_of q)
 
--- the nodes, and the squares of the degrees of all terms
+-- the nodes, and the squares of the degrees of all terms: a weight that is not 0 counts 1 at a node
+-- and 4 at a coupler
 abbrev pub quad_size : QuadContent → ℕ
 quad_size q =
     length q.diagonal + (if int_eq q.constant (pos 0) then 0 else 1)
@@ -46,7 +48,7 @@ quad_size q =
 
 -- ---- what it keeps
 
--- a coupler of two of the first n nodes, that is not 0
+-- A coupler of two of the first n nodes, that is not 0. The lesser node stands first.
 pub record IsCoupler (n : ℕ) (e : Entry) : Type 0 where
   pub upward : e.first < e.second
   pub within : e.second < n
@@ -54,15 +56,20 @@ pub record IsCoupler (n : ℕ) (e : Entry) : Type 0 where
 
 -- couplers of its nodes, in order and none twice
 pub record IsQuad (q : QuadContent) : Type 0 where
+  -- by their first nodes, and then by their second ones
   pub ordered : IsStrictlySortedBy entry_cmp q.couplers
+  -- each is of two nodes of the form
   pub couplers : All (IsCoupler (length q.diagonal)) q.couplers
+  -- node numbers fit 32 bits
   pub narrow : length q.diagonal < 2 ^ 32
+  -- all energies are far below what 128 bits hold, so that later steps can scale them
   pub small : quad_total q ≤ 2 ^ 124
 
 -- ---- the model that is written for it
 
--- the model of a form, in a unit: entries carry no constant, and so it is taken off the offset and
--- the threshold
+-- The model of a form, in a unit: entries carry no constant, and so it is taken off the offset and
+-- the threshold. With the constant 5 and the offset 3 the model says the offset -2: unit times its
+-- energy is scale times the cost, and -2.
 abbrev pub written_of : QuadContent → ℕ → Figures → ℤ → Written
 written_of q variables figures unit = record {
   kind = Qubo;

@@ -26,8 +26,8 @@ abbrev pub greatest_within : ℕ → List ℤ → ℕ
 greatest_within zero ws = 1
 greatest_within (suc n) ws = if list_all (is_multiple (suc n)) ws then suc n else greatest_within n ws
 
--- the greatest whole number that divides all weights, which is 1 where all are 0: no divisor of a
--- weight that is not 0 is above the sum of the sizes
+-- The greatest whole number that divides all weights, which is 1 where all are 0: no divisor of a
+-- weight that is not 0 is above the sum of the sizes. Of 6, -4 and 0 it is 2.
 abbrev pub unit_of : List ℤ → ℤ
 unit_of ws = pos (greatest_within (sum_by unsigned_abs ws) ws)
 
@@ -35,7 +35,7 @@ unit_of ws = pos (greatest_within (sum_by unsigned_abs ws) ws)
 abbrev pub weights_of : List ℤ → List Entry → List ℤ
 weights_of diagonal couplers = diagonal ++ map weight_of couplers
 
--- a weight, counted in a unit
+-- A weight, counted in a unit. Where the unit divides the weight nothing is lost.
 abbrev pub counted_in : ℤ → ℤ → ℤ
 counted_in unit w = int_div w unit
 
@@ -49,7 +49,8 @@ entry_in unit e = record e { weight = counted_in unit e.weight }
 abbrev pub quad_unit : QuadContent → ℤ
 quad_unit q = unit_of (weights_of q.diagonal q.couplers)
 
--- its weights, counted in their greatest unit, and no constant
+-- Its weights, counted in their greatest unit, and no constant. The constant is not divided: it is
+-- taken off the offset and the threshold before.
 abbrev pub reduced : QuadContent → QuadContent
 reduced q = record {
   constant = pos 0;

@@ -14,7 +14,7 @@ use Rattle.command_words.specs.declared.commands.Chaining.TheVariants as chainin
 use Rattle.command_words.specs.declared.commands.Command.{Command}
 use Rattle.command_words.specs.Names.{text_at, name_of, state_of, certificate_of, if_named, model_files}
 use Rattle.run_steps.specs.declared.status.Status.{Status}
-use Rattle.run_steps.specs.Causes.{MayHold, WhereHeld, AreRefused, IsRefusedBy}
+use Rattle.run_steps.specs.Causes.{MayHold, WhereHeld, AreRefused, IsRefusedBy, board_files}
 use Rattle.run_steps.proofs.FilesRead.{refused_alone}
 
 -- what may be held where all files are taken may be where the first ones are
@@ -37,9 +37,6 @@ may_next told later first files held same may =
     go None (file ∷ first) may = absurd may
 
 -- ---- the files of a model: the source, and those of the board
-
-abbrev pub board_files : Command → List Which
-board_files command = if_named command Dead ++ if_named command Map
 
 grouped : (command : Command) → model_files command ≡ if_named command Source ++ board_files command
 grouped command =

@@ -1,17 +1,37 @@
 -- Which files were begun, how far the last of them was read, and why one could not be read: by what
 -- the store of files counted before and after.
-use Rattle.std.specs.Prelude.{◌≡◌, ◌≤◌, ℕ, zero, suc, List, [], ◌∷◌, ◌++◌, length, None, Some, ⊤}
+use Rattle.std.specs.Prelude.{◌≡◌, ◌≤◌, ℕ, zero, suc, List, [], ◌∷◌, ◌++◌, length, map, String, string_bytes, Result, None, Some, ⊤}
 use Rattle.std.specs.declared.option.Option.{Option}
 use Rattle.edge_io.specs.Counts.{Counts, Rose, count_after}
 use Rattle.edge_io.specs.Held.{NamedFiles}
 use Rattle.problem_form.specs.declared.limits.LimitKind.{LimitKind}
 use Rattle.problem_form.specs.declared.limits.LimitKind.TheVariants.{Bytes}
 use Rattle.command_words.specs.declared.names.Which.{Which}
-use Rattle.command_words.specs.declared.names.Which.TheVariants.{State}
+use Rattle.command_words.specs.declared.names.Which.TheVariants.{State, Dead, Map}
 use Rattle.command_words.specs.declared.commands.Command.{Command}
-use Rattle.command_words.specs.Names.{name_of, model_files, last_files}
+use Rattle.command_words.specs.declared.commands.WordAt.{WordAt}
+use Rattle.command_words.specs.Names.{name_of, if_named, text_at, model_files, last_files}
+use Rattle.run_steps.specs.Steps.{Steps, Meets}
 use Rattle.run_steps.specs.declared.status.Status.{Status}
 use Rattle.run_steps.specs.declared.status.Status.TheVariants.{Done, Usage, ReadFault, WriteFault, BadText, Limit, NotEmbedded, TooWide, NotProved, NoState, NoMemory}
+
+-- ---- names
+
+-- what words say, byte by byte
+abbrev pub spelled : {A : Type 0} → List (String A) → List (List ℕ)
+spelled words = map string_bytes words
+
+-- what the word at a place among words says
+abbrev pub spelled_at : {A : Type 0} → List (String A) → WordAt → List ℕ
+spelled_at words at = text_at (spelled words) at
+
+-- how each file is named by a command of these words
+abbrev pub named_in : {A : Type 0} → List (String A) → Command → Which → List ℕ
+named_in words command = name_of (spelled words) command
+
+-- the files that a command names for a graph: what of it is dead, and where chains stand
+abbrev pub board_files : Command → List Which
+board_files command = if_named command Dead ++ if_named command Map
 
 -- ---- one file
 
@@ -108,6 +128,13 @@ MayHold None (file ∷ files) held = ⊥
 -- where these files are taken, P holds of what may be held
 abbrev pub WhereHeld : Option NamedFiles → List Which → (NamedFiles → Type 0) → Type 0
 WhereHeld told files P = (held : NamedFiles) → MayHold told files held → P held
+
+-- where these files are taken, what a function returned, seen by view, is what the steps give of what
+-- may be held
+abbrev pub MeetsHeld : {X A : Type 0} → Option NamedFiles → List Which → (X → A) → Result X Status
+    → (NamedFiles → Steps A) → Type 0
+MeetsHeld told files view result steps =
+    WhereHeld told files (λ held. Meets view result (steps held))
 
 -- what a step leaves that takes a file of this name alone, and then refuses
 abbrev pub IsRefusedBy : Which → List ℕ → Status → Counts → Counts → Type 0

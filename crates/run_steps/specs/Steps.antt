@@ -1,5 +1,5 @@
 -- The steps of a command: a line each, and the first one that refuses ends them.
-use Rattle.std.specs.Prelude.{◌≡◌, ℕ, zero, suc, ◌+◌, Bool, List, [], ◌∷◌, ◌++◌, length, nat_lt, if◌then◌else◌, Ok, Err, Some, None, Result, Contains, ⊤}
+use Rattle.std.specs.Prelude.{◌≡◌, ℕ, zero, suc, ◌+◌, Bool, List, [], ◌∷◌, ◌++◌, length, nat_lt, Ok, Err, Some, None, Result, Contains, ⊤, IfOk, IsErrOf, if◌then◌else◌}
 use Rattle.std.specs.declared.option.Option.{Option}
 use Rattle.std.specs.Option.{option_map_or}
 use Rattle.edge_io.specs.Held.{NamedFiles, find_file}
@@ -49,6 +49,8 @@ use Rattle.run_steps.specs.declared.plans.Plan.{Plan}
 use Rattle.run_steps.specs.Plans.{plan_of}
 use Rattle.run_steps.specs.declared.status.Status.{Status}
 use Rattle.run_steps.specs.declared.status.Status.TheVariants.{ReadFault, BadText, Limit, TooWide, NotProved, NoState, NoMemory}
+use Rattle.state_file.specs.declared.answer.StateAnswer.{StateAnswer}
+use Rattle.state_file.specs.declared.answer.StateAnswer.TheVariants as answers
 
 -- ---- steps
 
@@ -245,3 +247,12 @@ Refuses status steps = steps.end ≡ Some (Err status)
 abbrev pub Meets : {X A : Type 0} → (X → A) → Result X Status → Steps A → Type 0
 Meets view (Ok x) steps = steps.end ≡ Some (Ok (view x))
 Meets view (Err status) steps = Refuses status steps
+
+-- what a function returned for a text that was read, seen by view, is how a state of so many bits
+-- ends, where the text says bits or none
+abbrev pub EndsState : {X : Type 0} → (X → List Bool) → Result X StateAnswer → ℕ → Result X Status
+    → Type 0
+EndsState view read width result =
+    (said : Option (List Bool)) → IfOk read (λ x. said ≡ Some (view x))
+    → (IsErrOf read answers.NoState → said ≡ None)
+    → Meets view result (ends (state_end width said))

@@ -1,16 +1,16 @@
 //! A certificate, read from a file, and the state that it proves.
-ghost use Rattle.std.specs.Prelude.{◌≡◌, ◌≤◌, ◌^◌, [], None, Some, Result, length, map, string_bytes, IfOk, OnOk, IfErr};
+ghost use Rattle.std.specs.Prelude.{◌≡◌, ◌≤◌, ◌^◌, [], None, Some, Result, length, IfOk, OnOk, IfErr};
 ghost use Rattle.bits_model.specs.Output.{weight_total};
 ghost use Rattle.edge_io.specs.Held.{WhereTold};
 ghost use Rattle.whole_text.specs.declared.faults.TextFault.{TextFault};
 ghost use Rattle.whole_text.specs.Steps.{Gives};
-ghost use Rattle.command_words.specs.Names.{name_of, certificate_of, if_named, text_at};
+ghost use Rattle.command_words.specs.Names.{certificate_of, if_named, text_at};
 ghost use Rattle.posiform_check.specs.BitForms.{CertificateContent};
 ghost use Rattle.posiform_check.specs.Certificates.{certificate_fault, AreOfNodes};
 ghost use Rattle.posiform_check.specs.FirstFaults.{proof_fault};
 ghost use Rattle.run_steps.specs.Steps.{Meets, certified, certifying, ends, limits_end, proof_end, text_end};
 ghost use Rattle.run_steps.specs.Statuses.{ended, IsReading, IsTextRefusal, IsUnproved};
-ghost use Rattle.run_steps.specs.Causes.{AreFilesOf, IsReadTo, IsRefusedBy, WhereHeld};
+ghost use Rattle.run_steps.specs.Causes.{AreFilesOf, IsReadTo, IsRefusedBy, MeetsHeld, named_in, spelled_at};
 
 use crate::status::Status;
 use crate::steps::take_bytes;
@@ -109,11 +109,11 @@ pub fn take_proof<F: Files>(
     requires asked { certificate_of command.ask ≡ Some at }
     requires small { weight_total model.now.entries ≤ 2 ^ 121 }
     requires width { length bits.items ≡ model.now.nodes }
-    ensures step { WhereHeld (F.held files.old) (if_named command Which.Certificate) (λ held.
-        Meets (λ b. b.items) result
-        (certified held (text_at (map string_bytes words.now) at) model.now bits.items)) }
+    ensures step { MeetsHeld (F.held files.old) (if_named command Which.Certificate)
+        (λ b. b.items) result
+        (λ held. certified held (spelled_at words.now at) model.now bits.items) }
     ensures same { IfOk result (λ b. b ≡ bits) }
-    ensures files { AreFilesOf (name_of (map string_bytes words.now) command) []
+    ensures files { AreFilesOf (named_in words.now command) []
         (if_named command Which.Certificate) (ended result)
         (F.counts files.old) (F.counts files.new) }
     ensures refusal { IfErr result IsReading }

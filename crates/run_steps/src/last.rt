@@ -1,11 +1,11 @@
 //! What is read once a model stands: a state of it, which a certificate may have to prove, or an
 //! assignment of its source.
-ghost use Rattle.std.specs.Prelude.{◌≡◌, ◌≤◌, ◌^◌, [], Some, length, map, string_bytes, IfOk, IfErr};
+ghost use Rattle.std.specs.Prelude.{◌≡◌, ◌≤◌, ◌^◌, [], Some, length, IfOk, IfErr};
 ghost use Rattle.bits_model.specs.Output.{weight_total};
-ghost use Rattle.command_words.specs.Names.{name_of, last_files, state_of};
-ghost use Rattle.run_steps.specs.Steps.{Meets, last_step, asked_width};
+ghost use Rattle.command_words.specs.Names.{last_files, state_of};
+ghost use Rattle.run_steps.specs.Steps.{last_step, asked_width};
 ghost use Rattle.run_steps.specs.Statuses.{ended, IsReading};
-ghost use Rattle.run_steps.specs.Causes.{AreFilesOf, WhereHeld};
+ghost use Rattle.run_steps.specs.Causes.{AreFilesOf, MeetsHeld, named_in, spelled};
 
 use crate::certificates::take_proof;
 use crate::plans::Plan;
@@ -39,12 +39,12 @@ pub fn take_last<F: Files>(
 ) -> Result<Vec<bool>, Status>
     requires asked { state_of command.ask ≡ Some at }
     requires small { weight_total model.now.entries ≤ 2 ^ 121 }
-    ensures step { WhereHeld (F.held files.old) (last_files command) (λ held.
-        Meets (λ bits. bits.items) result
-        (last_step (map string_bytes words.now) held command.ask plan.now model.now)) }
+    ensures step { MeetsHeld (F.held files.old) (last_files command)
+        (λ bits. bits.items) result
+        (λ held. last_step (spelled words.now) held command.ask plan.now model.now) }
     ensures width { IfOk result (λ bits.
         length bits.items ≡ asked_width command.ask plan.now.read.variables model.now) }
-    ensures files { AreFilesOf (name_of (map string_bytes words.now) command) []
+    ensures files { AreFilesOf (named_in words.now command) []
         (last_files command) (ended result) (F.counts files.old) (F.counts files.new) }
     ensures refusal { IfErr result IsReading }
 {

@@ -1,13 +1,13 @@
 //! What a model stands on: the nodes of a form, or the qubits of a graph.
-ghost use Rattle.std.specs.Prelude.{◌≡◌, ◌++◌, Ok, Result, List, ℕ, map, string_bytes, IfOk, OnOk, IfErr};
+ghost use Rattle.std.specs.Prelude.{◌≡◌, Ok, Result, List, ℕ, map, IfOk, OnOk, IfErr};
 ghost use Rattle.edge_io.specs.Held.{WhereTold};
 ghost use Rattle.whole_text.specs.declared.faults.TextFault.{TextFault};
 ghost use Rattle.whole_text.specs.Steps.{Gives};
 ghost use Rattle.working_graph.specs.Working.{WorkingGraph};
-ghost use Rattle.command_words.specs.Names.{name_of, if_named};
+ghost use Rattle.command_words.specs.Names.{if_named};
 ghost use Rattle.run_steps.specs.Steps.{Meets, ends, text_end, mapping, perching, placing, siting, surveying, working};
 ghost use Rattle.run_steps.specs.Statuses.{IsTextRefusal, IsRefusal};
-ghost use Rattle.run_steps.specs.Causes.{AreRead, AreRefused, IsReadTo, IsRefusedBy, WhereHeld};
+ghost use Rattle.run_steps.specs.Causes.{AreRead, AreRefused, IsReadTo, IsRefusedBy, MeetsHeld, board_files, named_in, spelled};
 
 use crate::status::Status;
 use crate::steps::take_bytes;
@@ -101,14 +101,14 @@ fn take_qubits<F: Files>(
     files: &mut F,
 ) -> Result<Qubits, Status>
     requires { command.target ≡ Target.Chimera board }
-    ensures step { WhereHeld (F.held files.old) (if_named command Which.Dead) (λ held.
-        Meets (λ qubits. qubits) result
-        (surveying (map string_bytes words.now) held board.graph board.dead)) }
+    ensures step { MeetsHeld (F.held files.old) (if_named command Which.Dead)
+        (λ qubits. qubits) result
+        (λ held. surveying (spelled words.now) held board.graph board.dead) }
     ensures held { F.held files.new ≡ F.held files.old }
-    ensures passed { OnOk result (AreRead (name_of (map string_bytes words.now) command)
+    ensures passed { OnOk result (AreRead (named_in words.now command)
         (if_named command Which.Dead) (F.counts files.old) (F.counts files.new)) }
     ensures refused { IfErr result (λ status. AreRefused
-        (name_of (map string_bytes words.now) command) (if_named command Which.Dead) status
+        (named_in words.now command) (if_named command Which.Dead) status
         (F.counts files.old) (F.counts files.new)) }
 {
     match board.dead {
@@ -129,14 +129,14 @@ fn take_perch<F: Files>(
     files: &mut F,
 ) -> Result<Perch, Status>
     requires { command.target ≡ Target.Chimera board }
-    ensures step { WhereHeld (F.held files.old) (if_named command Which.Map) (λ held.
-        Meets (λ perch. perch) result
-        (perching (map string_bytes words.now) held board.chains)) }
+    ensures step { MeetsHeld (F.held files.old) (if_named command Which.Map)
+        (λ perch. perch) result
+        (λ held. perching (spelled words.now) held board.chains) }
     ensures held { F.held files.new ≡ F.held files.old }
-    ensures passed { OnOk result (AreRead (name_of (map string_bytes words.now) command)
+    ensures passed { OnOk result (AreRead (named_in words.now command)
         (if_named command Which.Map) (F.counts files.old) (F.counts files.new)) }
     ensures refused { IfErr result (λ status. AreRefused
-        (name_of (map string_bytes words.now) command) (if_named command Which.Map) status
+        (named_in words.now command) (if_named command Which.Map) status
         (F.counts files.old) (F.counts files.new)) }
 {
     match board.chains {
@@ -157,16 +157,14 @@ fn take_site<F: Files>(
     files: &mut F,
 ) -> Result<Site, Status>
     requires { command.target ≡ Target.Chimera board }
-    ensures step { WhereHeld (F.held files.old)
-        (if_named command Which.Dead ++ if_named command Which.Map) (λ held.
-        Meets (λ site. site) result (siting (map string_bytes words.now) held board)) }
+    ensures step { MeetsHeld (F.held files.old) (board_files command)
+        (λ site. site) result
+        (λ held. siting (spelled words.now) held board) }
     ensures held { F.held files.new ≡ F.held files.old }
-    ensures passed { OnOk result (AreRead (name_of (map string_bytes words.now) command)
-        (if_named command Which.Dead ++ if_named command Which.Map)
-        (F.counts files.old) (F.counts files.new)) }
+    ensures passed { OnOk result (AreRead (named_in words.now command)
+        (board_files command) (F.counts files.old) (F.counts files.new)) }
     ensures refused { IfErr result (λ status. AreRefused
-        (name_of (map string_bytes words.now) command)
-        (if_named command Which.Dead ++ if_named command Which.Map) status
+        (named_in words.now command) (board_files command) status
         (F.counts files.old) (F.counts files.new)) }
 {
     let qubits = match take_qubits(alloc, words, command, board, files) {
@@ -190,16 +188,14 @@ pub fn take_placement<F: Files>(
     command: Command,
     files: &mut F,
 ) -> Result<Placement, Status>
-    ensures step { WhereHeld (F.held files.old)
-        (if_named command Which.Dead ++ if_named command Which.Map) (λ held.
-        Meets (λ base. base) result (placing (map string_bytes words.now) held command.target)) }
+    ensures step { MeetsHeld (F.held files.old) (board_files command)
+        (λ base. base) result
+        (λ held. placing (spelled words.now) held command.target) }
     ensures held { F.held files.new ≡ F.held files.old }
-    ensures passed { OnOk result (AreRead (name_of (map string_bytes words.now) command)
-        (if_named command Which.Dead ++ if_named command Which.Map)
-        (F.counts files.old) (F.counts files.new)) }
+    ensures passed { OnOk result (AreRead (named_in words.now command)
+        (board_files command) (F.counts files.old) (F.counts files.new)) }
     ensures refused { IfErr result (λ status. AreRefused
-        (name_of (map string_bytes words.now) command)
-        (if_named command Which.Dead ++ if_named command Which.Map) status
+        (named_in words.now command) (board_files command) status
         (F.counts files.old) (F.counts files.new)) }
     ensures refusal { IfErr result IsRefusal }
 {

@@ -1,12 +1,12 @@
 //! What the model of a command is made of.
-ghost use Rattle.std.specs.Prelude.{◌≡◌, None, map, string_bytes, IfOk, OnOk, IfErr};
+ghost use Rattle.std.specs.Prelude.{◌≡◌, None, IfOk, OnOk, IfErr};
 ghost use Rattle.problem_form.specs.Limits.{limit_fault};
 ghost use Rattle.command_words.specs.Commands.{HasFewClauses};
-ghost use Rattle.command_words.specs.Names.{name_of, model_files};
+ghost use Rattle.command_words.specs.Names.{model_files};
 ghost use Rattle.source_texts.specs.Sources.{KeepsSoft};
-ghost use Rattle.run_steps.specs.Steps.{Meets, planning};
+ghost use Rattle.run_steps.specs.Steps.{planning};
 ghost use Rattle.run_steps.specs.Statuses.{IsRefusal};
-ghost use Rattle.run_steps.specs.Causes.{AreRead, AreRefused, WhereHeld};
+ghost use Rattle.run_steps.specs.Causes.{AreRead, AreRefused, MeetsHeld, named_in, spelled};
 
 use crate::placements::{Placement, take_placement};
 use crate::sources::take_source;
@@ -36,16 +36,17 @@ pub fn take_plan<F: Files>(
     files: &mut F,
 ) -> Result<Plan, Status>
     requires { HasFewClauses command.origin }
-    ensures step { WhereHeld (F.held files.old) (model_files command) (λ held.
-        Meets (λ plan. plan) result (planning (map string_bytes words.now) held command)) }
+    ensures step { MeetsHeld (F.held files.old) (model_files command)
+        (λ plan. plan) result
+        (λ held. planning (spelled words.now) held command) }
     ensures held { F.held files.new ≡ F.held files.old }
     ensures within { IfOk result (λ plan.
         limit_fault plan.choices.normal plan.read.problem ≡ None) }
     ensures kept { IfOk result (λ plan. KeepsSoft plan.read) }
-    ensures passed { OnOk result (AreRead (name_of (map string_bytes words.now) command)
+    ensures passed { OnOk result (AreRead (named_in words.now command)
         (model_files command) (F.counts files.old) (F.counts files.new)) }
     ensures refused { IfErr result (λ status. AreRefused
-        (name_of (map string_bytes words.now) command) (model_files command) status
+        (named_in words.now command) (model_files command) status
         (F.counts files.old) (F.counts files.new)) }
     ensures refusal { IfErr result IsRefusal }
 {

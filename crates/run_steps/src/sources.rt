@@ -1,13 +1,13 @@
 //! The source of a command: the file that it names, or the text that a number draws.
-ghost use Rattle.std.specs.Prelude.{◌≡◌, ◌≤◌, None, map, string_bytes, IfOk, OnOk, IfErr};
+ghost use Rattle.std.specs.Prelude.{◌≡◌, ◌≤◌, None, IfOk, OnOk, IfErr};
 ghost use Rattle.problem_form.specs.declared.limits.Normal.{Normal};
 ghost use Rattle.problem_form.specs.Limits.{limit_fault};
 ghost use Rattle.command_words.specs.Commands.{HasFewClauses};
-ghost use Rattle.command_words.specs.Names.{name_of, if_named};
+ghost use Rattle.command_words.specs.Names.{if_named};
 ghost use Rattle.source_texts.specs.Sources.{KeepsSoft};
-ghost use Rattle.run_steps.specs.Steps.{Meets, checking};
+ghost use Rattle.run_steps.specs.Steps.{checking};
 ghost use Rattle.run_steps.specs.Statuses.{IsRefusal};
-ghost use Rattle.run_steps.specs.Causes.{AreRead, AreRefused, WhereHeld};
+ghost use Rattle.run_steps.specs.Causes.{AreRead, AreRefused, MeetsHeld, named_in, spelled};
 ghost use Rattle.run_steps.specs.Drawn.{IsDrawnInto};
 
 use crate::status::Status;
@@ -46,16 +46,17 @@ pub fn take_source<F: Files>(
     files: &mut F,
 ) -> Result<Read, Status>
     requires { HasFewClauses command.origin }
-    ensures step { WhereHeld (F.held files.old) (if_named command Which.Source) (λ held.
-        Meets (λ read. read) result (checking (map string_bytes words.now) held command)) }
+    ensures step { MeetsHeld (F.held files.old) (if_named command Which.Source)
+        (λ read. read) result
+        (λ held. checking (spelled words.now) held command) }
     ensures held { F.held files.new ≡ F.held files.old }
     ensures within { IfOk result (λ read.
         limit_fault command.choices.normal read.problem ≡ None) }
     ensures kept { IfOk result KeepsSoft }
-    ensures passed { OnOk result (AreRead (name_of (map string_bytes words.now) command)
+    ensures passed { OnOk result (AreRead (named_in words.now command)
         (if_named command Which.Source) (F.counts files.old) (F.counts files.new)) }
     ensures refused { IfErr result (λ status. AreRefused
-        (name_of (map string_bytes words.now) command) (if_named command Which.Source) status
+        (named_in words.now command) (if_named command Which.Source) status
         (F.counts files.old) (F.counts files.new)) }
     ensures refusal { IfErr result IsRefusal }
 {

@@ -1,10 +1,10 @@
 //! A state of a model or an assignment of a source, read from a file.
-ghost use Rattle.std.specs.Prelude.{◌≡◌, None, Some, Bool, List, Option, length, map, string_bytes, IfOk, OnOk, IfErr, IsErrOf};
+ghost use Rattle.std.specs.Prelude.{◌≡◌, Some, length, IfOk, OnOk, IfErr};
 ghost use Rattle.edge_io.specs.Held.{WhereTold};
-ghost use Rattle.command_words.specs.Names.{name_of, if_named, state_of, text_at};
-ghost use Rattle.run_steps.specs.Steps.{Meets, ends, state_end, stating};
+ghost use Rattle.command_words.specs.Names.{if_named, state_of, text_at};
+ghost use Rattle.run_steps.specs.Steps.{Meets, stating, EndsState};
 ghost use Rattle.run_steps.specs.Statuses.{IsReading, IsStateRefusal};
-ghost use Rattle.run_steps.specs.Causes.{AreRead, AreRefused, IsReadTo, IsRefusedBy, WhereHeld};
+ghost use Rattle.run_steps.specs.Causes.{AreRead, AreRefused, IsReadTo, IsRefusedBy, MeetsHeld, named_in, spelled_at};
 
 use crate::status::Status;
 use crate::steps::take_bytes;
@@ -15,9 +15,7 @@ use std::alloc::Global;
 
 /// The bits that a text is read into, or the status where it has none of this length.
 fn judged_state(read: Result<Vec<bool>, StateAnswer>, width: usize) -> Result<Vec<bool>, Status>
-    ensures step { (said : Option (List Bool)) → IfOk read (λ bits. said ≡ Some bits.items)
-        → (IsErrOf read StateAnswer.NoState → said ≡ None)
-        → Meets (λ bits. bits.items) result (ends (state_end width said)) }
+    ensures step { EndsState (λ bits. bits.items) read width result }
     ensures good { IfOk result (λ bits. read ≡ Ok bits) }
     ensures bad { IfErr result IsStateRefusal }
 {
@@ -60,15 +58,15 @@ pub fn take_state<F: Files>(
     files: &mut F,
 ) -> Result<Vec<bool>, Status>
     requires { state_of command.ask ≡ Some at }
-    ensures step { WhereHeld (F.held files.old) (if_named command Which.State) (λ held.
-        Meets (λ bits. bits.items) result
-        (stating held (text_at (map string_bytes words.now) at) width)) }
+    ensures step { MeetsHeld (F.held files.old) (if_named command Which.State)
+        (λ bits. bits.items) result
+        (λ held. stating held (spelled_at words.now at) width) }
     ensures held { F.held files.new ≡ F.held files.old }
     ensures width { IfOk result (λ bits. length bits.items ≡ width) }
-    ensures passed { OnOk result (AreRead (name_of (map string_bytes words.now) command)
+    ensures passed { OnOk result (AreRead (named_in words.now command)
         (if_named command Which.State) (F.counts files.old) (F.counts files.new)) }
     ensures refused { IfErr result (λ status. AreRefused
-        (name_of (map string_bytes words.now) command) (if_named command Which.State) status
+        (named_in words.now command) (if_named command Which.State) status
         (F.counts files.old) (F.counts files.new)) }
     ensures refusal { IfErr result IsReading }
 {

@@ -34,15 +34,23 @@ drawn_literal variables state =
 abbrev pub line : List (List ℕ) → List ℕ
 line words = join_with_byte 32 words ++ 10 ∷ []
 
+-- a clause of three literals: its weight, the literals, and the 0 that ends it, as `4 1 -2 3 0`
+abbrev pub words_of_clause : ℕ → ℤ → ℤ → ℤ → List (List ℕ)
+words_of_clause weight first second third =
+    decimal weight
+    ∷ signed_decimal first
+    ∷ signed_decimal second
+    ∷ signed_decimal third
+    ∷ codes "0"
+    ∷ []
+
 -- seven draws: a clause of three literals
 abbrev pub clause_words : ℕ → ℕ → ℕ → List (List ℕ)
 clause_words variables top state =
-    decimal (drawn_weight top state)
-    ∷ signed_decimal (drawn_literal variables (after 1 state))
-    ∷ signed_decimal (drawn_literal variables (after 3 state))
-    ∷ signed_decimal (drawn_literal variables (after 5 state))
-    ∷ codes "0"
-    ∷ []
+    words_of_clause (drawn_weight top state)
+    (drawn_literal variables (after 1 state))
+    (drawn_literal variables (after 3 state))
+    (drawn_literal variables (after 5 state))
 
 -- so many clauses, each drawn from the state that the one before leaves
 abbrev pub drawn_clauses : ℕ → ℕ → ℕ → ℕ → List (List (List ℕ))

@@ -1,8 +1,8 @@
 //! The lines of a text, each appended by a function of its own.
-ghost use Rattle.std.specs.Prelude.{◌≡◌, ◌<◌, [], ◌∷◌, ◌++◌, codes, OnOk};
+ghost use Rattle.std.specs.Prelude.{◌≡◌, ◌<◌, ◌∷◌, ◌++◌, OnOk};
 ghost use Rattle.std.specs.List.{flat_map};
-ghost use Rattle.std.specs.Fmt.{decimal, signed_decimal};
-ghost use Rattle.sample_text.specs.Sample.{after, clause_words, drawn_clauses, header_words, line};
+ghost use Rattle.std.specs.Fmt.{signed_decimal};
+ghost use Rattle.sample_text.specs.Sample.{after, clause_words, drawn_clauses, header_words, line, words_of_clause};
 
 use crate::draws::Draws;
 use base::NoMemory;
@@ -45,9 +45,8 @@ fn push_words(
     second: i128,
     third: i128,
 ) -> Result<(), NoMemory>
-    ensures { let literals = signed_decimal first ∷ signed_decimal second ∷ signed_decimal third
-        ∷ codes "0" ∷ [] in
-        OnOk result (text.new.items ≡ text.old.items ++ line (decimal weight ∷ literals)) }
+    ensures { let words = words_of_clause weight first second third in
+        OnOk result (text.new.items ≡ text.old.items ++ line words) }
 {
     push_number(text, i128::from(weight))?;
     push_literal(text, first)?;

@@ -8,6 +8,7 @@ use Rattle.chimera_graph.specs.declared.chimera.Chimera.{Chimera}
 use Rattle.chimera_graph.specs.Graph.{qubits_of}
 use Rattle.working_graph.specs.declared.parts.DeadPart.{DeadPart}
 use Rattle.working_graph.specs.declared.noted.Noted.{Noted}
+use Rattle.chain_map.specs.Maps.{after_front}
 use Rattle.working_graph.specs.DeadLists.{is_qubit, numbers_of}
 
 -- marks for the qubits of a graph and numbers of couplers say these parts
@@ -23,3 +24,11 @@ abbrev pub Notes : {X : Type 0} → Chimera → (X → Noted) → Result X TextA
 Notes graph view (Ok x) read =
     (parts : List DeadPart) × (read ≡ Ok parts) × AreNoted graph parts (view x)
 Notes graph view (Err e) read = Fails e read
+
+-- where the marks and numbers said some parts, they say those and the parts that a line more names;
+-- a fault of that line is the first fault of all lines so far
+abbrev pub NotesMore : {X : Type 0} → Chimera → (old new : Noted) → Result X TextAnswer
+    → Result (List DeadPart) TextFault → Type 0
+NotesMore graph old new result read =
+    (parts : List DeadPart) → AreNoted graph parts old
+    → Notes graph (λ _. new) result (after_front parts read)

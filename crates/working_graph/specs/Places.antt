@@ -92,3 +92,10 @@ pub record AreTaken (fabric : Fabric) (chain : ℕ → List ℕ) (n : ℕ) (xs :
   pub coupled : (i j : ℕ) → i < j → j < length xs
       → are_coupled fabric.joined (chain (slice_index_or xs j 0))
       (chain (slice_index_or xs i 0)) ≡ true
+
+-- whether a place may be taken after those with marks, where they are just the places below it that
+-- are taken
+abbrev pub TellsFree : Fabric → (ℕ → List ℕ) → List Bool → ℕ → Bool → Type 0
+TellsFree fabric chain marks place free =
+    (xs : List ℕ) → AreMarked marks xs → AreTaken fabric chain place xs
+    → free ≡ is_free fabric chain xs place

@@ -1,14 +1,12 @@
 //! The text of a dead list, line by line, and what is left of a graph without the parts that it
 //! names.
-ghost use Rattle.std.specs.Prelude.{◌≡◌, ◌≤◌, length, List, slice_range, IfOk, IfErr};
+ghost use Rattle.std.specs.Prelude.{◌≡◌, ◌≤◌, length, slice_range, IfOk, IfErr};
 ghost use Rattle.chimera_graph.specs.Graph.{qubits_of};
 ghost use Rattle.whole_text.specs.declared.token.Style.TheVariants.{Plain};
 ghost use Rattle.whole_text.specs.Tokens.{tokens_of_line};
 ghost use Rattle.whole_text.specs.Steps.{Fails, Gives};
-ghost use Rattle.chain_map.specs.Maps.{after_front};
-ghost use Rattle.working_graph.specs.declared.parts.DeadPart.{DeadPart};
 ghost use Rattle.working_graph.specs.DeadLists.{parts_of_words, dead_parts, working_of, IsLeftBy};
-ghost use Rattle.working_graph.specs.NotedParts.{AreNoted, Notes};
+ghost use Rattle.working_graph.specs.NotedParts.{Notes, NotesMore};
 
 use crate::noted::Noted;
 use crate::parts::part_of_line;
@@ -30,9 +28,8 @@ fn note_line(
     requires ordered { start ≤ end }
     requires within { end ≤ length text.now }
     requires marks { length noted.old.dead.items ≡ qubits_of graph.now }
-    ensures { (parts : List DeadPart) → AreNoted graph.now parts noted.old
-        → Notes graph.now (λ _. noted.new) result (after_front parts
-        (parts_of_words graph.now (tokens_of_line Plain line (slice_range text.now start end)))) }
+    ensures { NotesMore graph.now noted.old noted.new result
+        (parts_of_words graph.now (tokens_of_line Plain line (slice_range text.now start end))) }
 {
     match part_of_line(graph, text, start, end, line)? {
         Some(part) => Ok(noted.add(part)?),

@@ -1,5 +1,5 @@
 //! The places that are taken for a clique.
-ghost use Rattle.std.specs.Prelude.{◌≡◌, ◌<◌, ℕ, true, List, length, IfOk};
+ghost use Rattle.std.specs.Prelude.{◌≡◌, ◌<◌, ℕ, true, length, IfOk};
 ghost use Rattle.std.specs.List.{slice_index_or, list_all};
 ghost use Rattle.chimera_graph.specs.Graph.{qubits_of};
 ghost use Rattle.chain_map.specs.Cliques.{clique_places, clique_chain};
@@ -7,11 +7,9 @@ ghost use Rattle.working_graph.specs.Working.{exists_in, joined_in, fabric_of};
 ghost use Rattle.working_graph.specs.Places.{
   are_linked,
   is_whole,
-  is_free,
   is_marked,
   working_clique,
-  AreMarked,
-  AreTaken,
+  TellsFree,
 };
 
 use crate::parting::is_parted;
@@ -78,9 +76,8 @@ fn is_free(
     requires place { place < clique_places working.now.graph }
     requires len { length marks.now ≡ clique_places working.now.graph }
     requires earlier { (u : ℕ) → is_marked marks.now u ≡ true → u < place }
-    ensures free { IfOk result (λ free. (xs : List ℕ) → AreMarked marks.now xs
-        → AreTaken (fabric_of working.now) (clique_chain working.now.graph) place xs
-        → free ≡ is_free (fabric_of working.now) (clique_chain working.now.graph) xs place) }
+    ensures free { IfOk result
+        (TellsFree (fabric_of working.now) (clique_chain working.now.graph) marks.now place) }
     ensures filled { IfOk result (λ free. free ≡ true
         → chain.new.items ≡ clique_chain working.now.graph place) }
 {

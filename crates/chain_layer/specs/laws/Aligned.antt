@@ -27,9 +27,11 @@ use Rattle.chain_layer.specs.laws.NodeEnergies.{ties_whole, ties_broken, shares_
 
 -- ---- the nodes
 
--- what is kept of one node
+-- What is kept of one node. This is what the law of one node's chain needs of the embedding.
 pub record IsNode (e : Embedding) (i : ℕ) : Type 0 where
+  -- there is a first qubit, and a share of the field for each
   pub filled : chain_of e.chains i ≢ []
+  -- each qubit after the first has a parent in the chain, and all lead to the first
   pub tree : IsTree (chain_of e.chains i) (chain_of e.parents i)
 
 -- each node of an embedding has a chain that is not empty, and a tree on it
@@ -41,34 +43,40 @@ node_at e kept i within =
       tree = AllZip-get_or IsTree e.chains e.parents i [] [] kept.trees listed;
     }
 
--- no tie of the node's chain is broken
+-- no tie of the node's chain is broken: each qubit after the first has the bit of its parent
 abbrev pub whole_at : Embedding → (ℕ → Bool) → ℕ → Bool
 whole_at e s i = is_whole s (drop 1 (chain_of e.chains i)) (chain_of e.parents i)
 
--- x has the bit of each chain on which no tie is broken
+-- X has the bit of each chain on which no tie is broken. Of a chain with a broken tie nothing is
+-- said, so any rule for a tie or a minority will do.
 abbrev pub Reads : Embedding → (s x : ℕ → Bool) → Type 0
 Reads e s x = (i : ℕ) → i < length e.ising.fields → whole_at e s i ≡ true
     → HasBit s (chain_of e.chains i) (x i)
 
--- what the shares and the ties of a node's chain cost
+-- what the shares and the ties of a node's chain cost for these spins, without placed couplings
 abbrev pub node_energy : Embedding → (ℕ → Bool) → ℕ → ℤ
 node_energy e s i =
     total_by (spin_energy s) (shares (chain_of e.chains i) (field_of e i))
     +ℤ total_by (pair_energy s)
     (ties (drop 1 (chain_of e.chains i)) (chain_of e.parents i) (strength e i))
 
--- by so much the ties of a node's chain lower the energy where none of them is broken
+-- by so much the ties of a node's chain lower the energy where none of them is broken: the
+-- strength, times the number of qubits after the first
 abbrev pub node_cost : Embedding → ℕ → ℕ
 node_cost e i = strength e i * (length (chain_of e.chains i) - 1)
 
--- what broken ties at a node have to pay for
+-- What broken ties at a node have to pay for. It is twice the sizes of the node's couplings where a
+-- tie of its chain is broken, and 0 where none is: a placed coupling with a broken end may give
+-- back that much.
 abbrev pub charge : Embedding → (ℕ → Bool) → ℕ → ℤ
 charge e s i = if_so (not (whole_at e s i)) (pos (2 * couplings_at i e.ising.couplings))
 
+-- a chain has a parent for each qubit after the first
 ties_matched : (e : Embedding) (i : ℕ) → IsNode e i
     → length (drop 1 (chain_of e.chains i)) ≡ length (chain_of e.parents i)
 ties_matched e i node = length_all_zip _ _ _ node.tree.ties
 
+-- the strength times the number of ties is what the node's ties save
 same_cost : (e : Embedding) (i : ℕ)
     → strength e i * length (drop 1 (chain_of e.chains i)) ≡ node_cost e i
 same_cost e i = ap (λ n. strength e i * n) (length-drop 1 (chain_of e.chains i))
@@ -86,12 +94,14 @@ node_equal e s i b node whole has =
       same_cost e i,
     )
 
+-- a weight times a spin is at most its size
 size-times_spin : (b : Bool) (w : ℤ) → times_spin b w ≤ℤ pos (unsigned_abs w)
 size-times_spin true w = omega (arith, ints)
 size-times_spin false w = omega (arith, ints)
 
 -- the energy of a node's chain is at least what the field costs at the bit that is read, less the
--- strength of its ties, and the charge
+-- strength of its ties, and the charge. With a broken tie it is twice the strength higher, which
+-- pays for twice the field and for the charge, and 2 is left
 pub node_low : (e : Embedding) (s : ℕ → Bool) (i : ℕ) (b : Bool) → IsNode e i
     → (whole_at e s i ≡ true → HasBit s (chain_of e.chains i) b)
     → (times_spin b (field_of e i) +ℤ (neg_ℤ (pos (node_cost e i)) +ℤ charge e s i)) ≤ℤ node_energy e s i
@@ -118,6 +128,7 @@ node_low e s i b node reads =
 
 -- ---- the couplings
 
+-- a coupling on a pair with one qubit in each chain costs what it costs between the two nodes
 both_ends : (s : ℕ → Bool) (c d : List ℕ) (place : ℕ × ℕ) (a b : Bool) (w : ℤ) → IsBetween c d place
     → HasBit s c a → HasBit s d b
     → times_spin (s place.0) (times_spin (s place.1) w) ≡ times_spin a (times_spin b w)
@@ -134,6 +145,7 @@ both_ends s c d place a b w between in_c in_d =
           ∙ times_spin-comm b a w
     ]
 
+-- two values of one coupling differ by at most twice its size
 pairs_near : (a b c d : Bool) (w : ℤ)
     → times_spin a (times_spin b w) ≤ℤ (times_spin c (times_spin d w) +ℤ pos (2 * unsigned_abs w))
 pairs_near a b c d w = omega (arith, ints, high a b, low c d)
@@ -150,7 +162,8 @@ pairs_near a b c d w = omega (arith, ints, high a b, low c d)
     low false true = omega (arith, ints)
     low false false = omega (arith, ints)
 
--- a coupling costs no less than it does in the reading, with twice its size for each broken end
+-- a coupling costs no less than it does in the reading, with twice its size for each broken end.
+-- Where neither end is broken it costs the same
 one_low : (s : ℕ → Bool) (c d : List ℕ) (place : ℕ × ℕ) (a b u v : Bool) (w : ℤ) → IsBetween c d place
     → (u ≡ true → HasBit s c a) → (v ≡ true → HasBit s d b)
     → times_spin a (times_spin b w)
@@ -167,7 +180,8 @@ one_low s c d place a b false v w between in_c in_d =
     more true = omega (arith, ints)
     more false = omega (arith, ints)
 
--- the places of these couplings
+-- the places of these couplings: each has one end in the chain of its first node, and one in that
+-- of its second
 abbrev pub ArePlaced : Embedding → List Entry → List (ℕ × ℕ) → Type 0
 ArePlaced e cs ps = AllZip (λ c place. IsBetween (chain_of e.chains c.first) (chain_of e.chains c.second) place) cs ps
 
@@ -177,6 +191,7 @@ ends_charge e s c =
     if_so (not (whole_at e s c.first)) (pos (2 * unsigned_abs c.weight))
     +ℤ if_so (not (whole_at e s c.second)) (pos (2 * unsigned_abs c.weight))
 
+-- the same, summed over all couplings
 placed_low : (e : Embedding) (s x : ℕ → Bool) → Reads e s x → (cs : List Entry) (ps : List (ℕ × ℕ))
     → AllByRecursion (IsCoupler (length e.ising.fields)) cs → ArePlaced e cs ps
     → total_by (pair_energy x) cs
@@ -199,7 +214,8 @@ placed_low e s x reads (c ∷ cs) (p ∷ ps) couplers between =
       placed_low e s x reads cs ps couplers.1 between.1,
     )
 
--- where each chain has the bit of its node, the placed couplings cost what the couplings do
+-- where each chain has the bit of its node, the placed couplings cost what the couplings do between
+-- the nodes
 pub placed_equal : (e : Embedding) (s x : ℕ → Bool)
     → ((i : ℕ) → i < length e.ising.fields → HasBit s (chain_of e.chains i) (x i))
     → (cs : List Entry) (ps : List (ℕ × ℕ))
@@ -238,14 +254,16 @@ abbrev pub read_energy : Embedding → (ℕ → Bool) → ℤ
 read_energy e x =
     total_by (λ i. times_spin (x i) (field_of e i)) (nodes_of e) +ℤ total_by (pair_energy x) e.ising.couplings
 
--- that of the image: shares and ties, node by node, and placed couplings
+-- that of the image: shares and ties, node by node, and placed couplings; the constant is left out
+-- here as well
 abbrev pub chains_energy : Embedding → (ℕ → Bool) → ℤ
 chains_energy e s =
     total_by (node_energy e s) (nodes_of e)
     +ℤ total_by (pair_energy s) (placed e.ising.couplings e.places)
 
--- the energy of all chains and placed couplings is at least that of the form at the bits that are
--- read, and the offset
+-- The energy of all chains and placed couplings is at least that of the form at the bits that are
+-- read, and the offset. What the charges of the nodes add up to is exactly what broken ends may
+-- give back, so they cancel.
 pub chains_low : (e : Embedding) → IsEmbedding e → (s x : ℕ → Bool) → Reads e s x
     → (read_energy e x +ℤ offset e) ≤ℤ chains_energy e s
 chains_low e kept s x reads =

@@ -1,5 +1,9 @@
 -- The image keeps the costs of the embedded form, over all states of the qubits.
 -- Nothing here has to be believed.
+--
+-- Decoding takes the majority of each chain. With no tie broken that is the one bit that the chain
+-- has, and the energies agree, but for the offset. With a broken tie the image lies above, by the
+-- law of chains, whatever the majority is.
 use Rattle.std.specs.Prelude.{◌≡◌, ◌≢◌, ◌⊎◌, ℕ, zero, suc, ◌+◌, ◌<◌, ◌≤◌, ◌==◌, ℤ, pos, ◌+ℤ◌, ◌≤ℤ◌, Bool, true, false, cond, ◌&&◌, ◌||◌, List, [], ◌∷◌, ◌++◌, length, take, drop, sum_by, count_by, flat_map, map, All}
 use Rattle.std.specs.List.{AllByRecursion, AllZip, list_any, range_with_len, slice_index_or}
 use Rattle.std.proofs.Common.{arith, ap, sym, ◌∙◌, refl, inl, inr, subst}
@@ -31,7 +35,7 @@ use Rattle.chain_layer.specs.laws.Aligned.{node_at, whole_at, Reads, read_energy
 
 -- ---- the value of a form, and that of its image
 
--- what is true of the entries of each node
+-- what is true of the entries of each node of a range is true of the entries of all of them
 pub each_of_range : (P : Entry → Type 0) (f : ℕ → List Entry) (a n : ℕ)
     → ((i : ℕ) → a ≤ i → i < a + n → AllByRecursion P (f i))
     → AllByRecursion P (flat_map f (range_with_len a n))
@@ -77,7 +81,8 @@ pub couplings_upward : (n : ℕ) (cs : List Entry) → AllByRecursion (IsCoupler
 couplings_upward n [] h = tt
 couplings_upward n (c ∷ cs) h = (h.0.upward, couplings_upward n cs h.1)
 
--- the value of a form is its constant, and the energy of its nodes and couplings
+-- The value of a form is its constant, and the energy of its nodes and couplings. The constant
+-- stands apart, since no bit changes it.
 pub form_value : (e : Embedding) → IsEmbedding e → (x : List Bool)
     → ising_value e.ising x ≡ e.ising.constant +ℤ read_energy e (bit_at x)
 form_value e kept x =
@@ -89,6 +94,7 @@ form_value e kept x =
       couplings_energy x e.ising.couplings (couplings_upward _ _ (couplers_of e kept)),
     )
 
+-- and that of its image is the same constant, and the energy of the chains and placed couplings
 image_value : (e : Embedding) → IsEmbedding e → (y : List Bool)
     → ising_value (image e) y ≡ e.ising.constant +ℤ chains_energy e (bit_at y)
 image_value e kept y =
@@ -124,7 +130,8 @@ bit_of_chain y [] i h = absurd (omega arith)
 bit_of_chain y (c ∷ cs) zero h = refl
 bit_of_chain y (c ∷ cs) (suc i) h = bit_of_chain y cs i (omega arith)
 
--- the majority is the bit of a chain on which no tie is broken
+-- the majority is the bit of a chain on which no tie is broken, so it is a reading as the law of
+-- chains asks for
 pub majority_reads : (e : Embedding) → IsEmbedding e → (y : List Bool)
     → Reads e (bit_at y) (bit_at (map (majority y) e.chains))
 majority_reads e kept y i within whole q in' =
@@ -134,7 +141,8 @@ majority_reads e kept y i within whole q in' =
     ∙ sym (majority_of y (chain_of e.chains i) _ node.filled has)
     ∙ sym (bit_of_chain y e.chains i (omega (arith, within, kept.counted)))
 
--- the image's value is at least that of the form at the majorities of the chains, and the offset
+-- The image's value is at least that of the form at the majorities of the chains, and the offset.
+-- This is one half of keeping costs: no state costs less than what it decodes to.
 pub image_low : (e : Embedding) → IsEmbedding e → (y : List Bool)
     → (ising_value e.ising (map (majority y) e.chains) +ℤ offset e) ≤ℤ ising_value (image e) y
 image_low e kept y =
@@ -165,6 +173,7 @@ any_of_range p i a (suc n) low high h =
     go (inl same) later = or_left (p a) _ (ap p same ∙ h)
     go (inr above) later = or_right (p a) _ (later above)
 
+-- and where none passes, no number of the range does
 none_of_range : (p : ℕ → Bool) (a n : ℕ) → ((i : ℕ) → i < a + n → p i ≡ false)
     → list_any p (range_with_len a n) ≡ false
 none_of_range p a zero h = refl
@@ -184,6 +193,7 @@ counted_in (p ∷ ps) q h =
     go true h later = omega arith
     go false h later = omega (arith, later h)
 
+-- two places of a list come to no more than its sum
 two_of : {X : Type 0} (f : X → ℕ) (xs : List X) (i j : ℕ) (d : X) → i < j → j < length xs
     → f (slice_index_or xs i d) + f (slice_index_or xs j d) ≤ sum_by f xs
 two_of f xs i j d less within =
@@ -195,7 +205,8 @@ two_of f xs i j d less within =
       ap f (get_or-take j xs i d less),
     )
 
--- a qubit is in one chain at most
+-- a qubit is in one chain at most: where it occurs once in all chains together, two chains that
+-- have it are one
 pub one_chain : (chains : List (List ℕ)) (q i j : ℕ) → occurrences q chains ≤ 1 → i < length chains
     → j < length chains → is_in (chain_of chains i) q ≡ true → is_in (chain_of chains j) q ≡ true
     → i ≡ j
@@ -210,7 +221,7 @@ one_chain chains q i j once i_in j_in here there =
           absurd (omega (arith, one, other, once, occurrences-sum q chains, two_of (λ c. count_by (λ p. p == q) c) chains j i [] more i_in))
     ]
 
--- a qubit of a chain has the bit of its node
+-- A qubit of a chain has the bit of its node. This makes the extension well defined.
 bit_of_node : (chains : List (List ℕ)) (x : List Bool) (q i : ℕ) → occurrences q chains ≤ 1
     → i < length chains → is_in (chain_of chains i) q ≡ true → bit_on chains x q ≡ bit_at x i
 bit_of_node chains x q i once within in' = elim (cases_Bool (bit_at x i)) [
@@ -248,7 +259,7 @@ extension_bits e kept x i within q in' =
     get_or-map-range_with_len (bit_on e.chains x) 0 e.qubits q q false below (omega arith)
     ∙ bit_of_node e.chains x q i (kept.once q) (omega (arith, within, kept.counted)) in'
 
--- a chain of one bit has no broken tie
+-- a chain of one bit has no broken tie: each qubit and its parent have that bit
 whole_of_bit : (s : ℕ → Bool) (chain : List ℕ) (b : Bool) (qs ps : List ℕ) → HasBit s chain b
     → AllByRecursion (λ q. is_in chain q ≡ true) qs → AllZip (IsTie chain) qs ps
     → is_whole s qs ps ≡ true
@@ -278,7 +289,8 @@ extension_whole e kept x i within =
     (rest_in (chain_of e.chains i))
     (node_at e kept i within).tree.ties
 
--- the value of the image at an extension is that of the form at its assignment, and the offset
+-- The value of the image at an extension is that of the form at its assignment, and the offset.
+-- This is the other half: each assignment is reached with equality.
 pub extension_value : (e : Embedding) → IsEmbedding e → (x : List Bool)
     → ising_value (image e) (extension e x) ≡ ising_value e.ising x +ℤ offset e
 extension_value e kept x =
@@ -290,7 +302,8 @@ extension_value e kept x =
       chains_equal e kept (bit_at (extension e x)) (bit_at x) (extension_whole e kept x) (extension_bits e kept x),
     )
 
--- each bit of an assignment is the majority of its chain in the extension
+-- each bit of an assignment is the majority of its chain in the extension; two lists of bits are
+-- one where they are as long and have the same bits
 same_bits : (xs ys : List Bool) → length xs ≡ length ys
     → ((i : ℕ) → i < length ys → bit_at xs i ≡ bit_at ys i) → xs ≡ ys
 same_bits [] [] e h = refl
@@ -330,7 +343,8 @@ chains_join link e fits = record {
   target = fits.qubits ∙ sym (length-map-range_with_len (field_at (all_shares e)) 0 e.qubits);
 }
 
--- the extension decodes to its assignment and reaches it
+-- The extension decodes to its assignment and reaches it. The scale is 1: the weights are not
+-- multiplied.
 pub chains_reach : (link : ChainLink) (e : Embedding) (x : List Bool) → Fits link e
     → length x ≡ length e.ising.fields
     → Extends (form_of e) (isings.form_of (image e)) (decoding link) (pos 1) (offset e) x (extension e x)
@@ -342,7 +356,8 @@ chains_reach link e x fits width = record {
   energy = omega (arith, ints, extension_value e fits.kept x);
 }
 
--- the image keeps the costs of the form
+-- The image keeps the costs of the form. No state lies below what it decodes to, and each
+-- assignment is reached, with the scale 1 and the offset of the ties.
 pub chains_keep : (link : ChainLink) (e : Embedding) → Fits link e
     → Keeps (form_of e) (isings.form_of (image e)) (decoding link) (pos 1) (offset e)
 chains_keep link e fits = record {

@@ -51,7 +51,7 @@ ties_upward chain (q ∷ qs) [] strong h = tt
 ties_upward chain (q ∷ qs) (p ∷ ps) strong h =
     (coupling_upward q p _ h.0.apart, ties_upward chain qs ps strong h.1)
 
--- a tie that holds and one that is broken
+-- a tie of strength n costs -n where it holds and n where it is broken
 pub tie_energy : (a b : Bool) (n : ℕ)
     → times_spin a (times_spin b (neg_ℤ (pos n))) ≡ cond (are_same a b) (neg_ℤ (pos n)) (pos n)
 tie_energy true true n = refl
@@ -72,6 +72,7 @@ ties_whole s (q ∷ qs) (p ∷ ps) n same h =
     ∙ ap (λ t. cond t (neg_ℤ (pos n)) (pos n)) parts.0 in
     omega (arith, ints, tie, ties_whole s qs ps n (omega (arith, same)) parts.1)
 
+-- whatever the spins are, ties lower the energy at most by their strengths
 ties_low : (s : ℕ → Bool) (qs ps : List ℕ) (n : ℕ) → length qs ≡ length ps
     → neg_ℤ (pos (n * length qs)) ≤ℤ total_by (pair_energy s) (ties qs ps n)
 ties_low s [] ps n same = omega (arith, ints)
@@ -84,7 +85,7 @@ ties_low s (q ∷ qs) (p ∷ ps) n same =
     low true = omega (arith, ints)
     low false = omega (arith, ints)
 
--- one of them is broken
+-- one of them is broken: then they cost at least twice the strength more than where none is
 pub ties_broken : (s : ℕ → Bool) (qs ps : List ℕ) (n : ℕ) → length qs ≡ length ps
     → is_whole s qs ps ≡ false
     → (neg_ℤ (pos (n * length qs)) +ℤ pos (2 * n)) ≤ℤ total_by (pair_energy s) (ties qs ps n)
@@ -126,20 +127,22 @@ shares_of P chain h all =
     (equal_of P (take rest chain) _ (recursion_from_All P _ (All-take P rest chain each)))
     (equal_of P (drop rest chain) _ (recursion_from_All P _ (All-drop P rest chain each)))
 
+-- equal shares add up to the share times the number of qubits
 equal_total : (qs : List ℕ) (share : ℤ)
     → total_by (λ e. e.weight) (equal_shares qs share) ≡ share *ℤ pos (length qs)
 equal_total [] share = omega (arith, ints)
 equal_total (q ∷ qs) share =
     omega (arith, ints, equal_total qs share, times-plus share (pos 1) (pos (length qs)))
 
--- the quotient and the rest of a field
+-- the quotient and the rest of a field: the rest is from 0 to n - 1, also for a negative field, and
+-- quotient times n plus rest is the field
 pub split_of : (h : ℤ) (n : ℕ) → 0 < n
     → (unsigned_abs (int_rem_euclid h (pos n)) < n)
     × (int_div_euclid h (pos n) *ℤ pos n +ℤ pos (unsigned_abs (int_rem_euclid h (pos n))) ≡ h)
 split_of (pos a) n some = (mod-lt a some, omega (arith, ints, div-add-mod' a n))
 split_of (negsuc a) n some = (omega (arith, mod-lt a some), omega (arith, ints, mod-lt a some, div-add-mod' a n))
 
--- shares of one spin
+-- shares of one spin cost what their sum costs at this spin
 one_spin : (s : ℕ → Bool) (b : Bool) (es : List Entry) → AllByRecursion (λ e. s e.first ≡ b) es
     → total_by (spin_energy s) es ≡ times_spin b (total_by (λ e. e.weight) es)
 one_spin s b [] h = sym (times_spin-zero b)
@@ -157,11 +160,12 @@ pub filled_length : (chain : List ℕ) → (chain ≢ []) → 0 < length chain
 filled_length [] h = absurd (h refl)
 filled_length (q ∷ qs) h = omega arith
 
--- where a chain is cut
+-- where a chain is cut into a front of `rest` qubits and the others, the lengths add up
 cut : (chain : List ℕ) (rest : ℕ) → rest ≤ length chain
     → (length (take rest chain) ≡ rest) × (length (drop rest chain) + rest ≡ length chain)
 cut chain rest h = (length-take-le rest chain h, omega (arith, length-drop rest chain))
 
+-- so the shares of a field add up to it
 shares_total : (chain : List ℕ) (h : ℤ) → (chain ≢ []) → total_by (λ e. e.weight) (shares chain h) ≡ h
 shares_total chain h filled =
     let n = length chain in
@@ -205,7 +209,8 @@ weights_of_equal (q ∷ qs) share =
       weights_of_equal qs share,
     )
 
--- the shares of a field have one sign, so together they have its size
+-- The shares of a field have one sign, so together they have its size. So splitting a field makes
+-- no weight of the model larger than it was.
 pub shares_size : (chain : List ℕ) (h : ℤ) → (chain ≢ []) → weight_total (shares chain h) ≡ unsigned_abs h
 shares_size chain h filled =
     let n = length chain in
@@ -228,7 +233,7 @@ shares_size chain h filled =
         let one : unsigned_abs (negsuc (a / n) +ℤ pos 1) ≡ a / n = omega (arith, ints) in
         omega (arith, ap (λ u. f * u) one, all, front, back, less, div-add-mod' a n)
 
--- whatever the spins are
+-- whatever the spins are, fields cost at least minus the sum of their sizes
 pub spins_low : (s : ℕ → Bool) (es : List Entry)
     → neg_ℤ (pos (weight_total es)) ≤ℤ total_by (spin_energy s) es
 spins_low s [] = omega (arith, ints)

@@ -11,11 +11,12 @@ use Rattle.chain_map.proofs.Occurrences.{occurrences-chain-le}
 use Rattle.chain_layer.specs.laws.Whole.{in_first, in_rest}
 use Rattle.chain_layer.specs.laws.Kept.{counted_in}
 
--- the qubits of the list are different
+-- the qubits of the list are different: none of them is in the list behind it
 abbrev pub Once : List ℕ → Type 0
 Once [] = ⊤
 Once (q ∷ qs) = (is_in qs q ≡ false) × Once qs
 
+-- that is so where each occurs at most once
 once_of : (qs : List ℕ) → ((q : ℕ) → count_by (λ p. p == q) qs ≤ 1) → Once qs
 once_of [] h = tt
 once_of (q ∷ qs) h = (
@@ -37,7 +38,8 @@ chain_once e kept i within =
     once_of (chain_of e.chains i) (λ q.
     omega (arith, kept.once q, occurrences-chain-le q e.chains i (omega (arith, within, kept.counted))))
 
--- the parents that a look-up gives
+-- the parents that a look-up gives: for each qubit of the second list the parent at its place,
+-- where one looks among the first two
 abbrev pub AreOwn : List ℕ → List ℕ → List ℕ → List ℕ → Type 0
 AreOwn cs ds qs ps = AllZip (λ q p. parent_in cs ds q ≡ p) qs ps
 
@@ -47,7 +49,8 @@ apart_qubits q c cs out in' same =
     let both : true ≡ false = sym in' ∙ sym (ap (is_in cs) same) ∙ out in
     cc
 
--- where the qubits of a list are different, a look-up gives each of them the parent at its place
+-- Where the qubits of a list are different, a look-up gives each of them the parent at its place.
+-- So a tie can be named by its qubit alone.
 pub own_parents : (cs ds : List ℕ) → Once cs → length cs ≡ length ds → AreOwn cs ds cs ds
 own_parents [] [] once same = tt
 own_parents [] (d ∷ ds) once same = absurd (omega (arith, same))

@@ -39,6 +39,7 @@ record IsOn (p q : Place) : Type 0 where
   row : q.row ≡ p.row
   col : q.col ≡ p.col + 1
 
+-- a join from side 0 to side 1 of a cell leads across it
 across_to : (p q : Place) → are_in_one_cell p q ≡ true → IsAcross p q
 across_to p q h = record {
   row = grind (arith, nat_tests);
@@ -46,6 +47,7 @@ across_to p q h = record {
   side = grind (arith, nat_tests);
 }
 
+-- and so it does seen from its other end
 across_back : (p q : Place) → are_in_one_cell q p ≡ true → IsAcross p q
 across_back p q h = record {
   row = grind (arith, nat_tests);
@@ -53,6 +55,7 @@ across_back p q h = record {
   side = grind (arith, nat_tests);
 }
 
+-- a join along a column leads to the next place down
 down : (p q : Place) → are_in_one_column p q ≡ true → IsDown p q
 down p q h = record {
   from = grind (arith, nat_tests);
@@ -62,6 +65,7 @@ down p q h = record {
   col = grind (arith, nat_tests);
 }
 
+-- a join along a row leads to the next place on
 on : (p q : Place) → are_in_one_row p q ≡ true → IsOn p q
 on p q h = record {
   from = grind (arith, nat_tests);
@@ -73,11 +77,13 @@ on p q h = record {
 
 -- ---- their numbers
 
+-- the same coordinates give the same number
 same_index : (graph : Chimera) (p q : Place) → q.row ≡ p.row → q.col ≡ p.col → q.side ≡ p.side
     → q.at ≡ p.at → index_of graph q ≡ index_of graph p
 same_index graph p q row col side at =
     λ i. ((row i * graph.cols + col i) * 2 + side i) * graph.shore + at i
 
+-- what is across the cell lies in the span of numbers there
 faced : (graph : Chimera) (p q : Place) (b : ℕ) → index_of graph q ≡ b → q.at < graph.shore
     → IsAcross p q
     → IsFaced
@@ -96,6 +102,7 @@ faced graph p q b number at across =
 number_back : (graph : Chimera) (b : ℕ) → index_of graph (place_of graph b) ≡ b
 number_back graph b = simp div-add-mod'
 
+-- the row of a qubit is one of the graph's rows
 row_below : (graph : Chimera) (b : ℕ) → b < qubits_of graph
     → (place_of graph b).row < graph.rows
 row_below graph b h =
@@ -103,20 +110,25 @@ row_below graph b h =
     (div-lt_iff_lt-mul graph.shape.some_cols).1
     ((div-lt_iff_lt-mul (omega arith)).1 ((div-lt_iff_lt-mul graph.shape.some_shore).1 few))
 
+-- a test that holds takes its first branch, and one that doesn't hold there the second
 then_some : (b c : Bool) (n m : ℕ) (r : Option ℕ) → b ≡ true → c ≡ false → n ≡ m
     → (if b then (if c then None else Some n) else r) ≡ Some m
 then_some b c n m r is isnt e = rw (is, isnt) (ap (λ k. Some k) e)
 
+-- the same for a test that does not hold
 else_some : (b c : Bool) (n m : ℕ) (l : Option ℕ) → b ≡ false → c ≡ false → n ≡ m
     → (if b then l else (if c then None else Some n)) ≡ Some m
 else_some b c n m l is isnt e = rw (is, isnt) (ap (λ k. Some k) e)
 
+-- a coordinate of 0 is the first
 is_zero : (n : ℕ) → n ≡ 0 → (n == 0) ≡ true
 is_zero n e = grind (arith, nat_tests)
 
+-- and one above another is not
 is_above : (n m : ℕ) → n ≡ m + 1 → (n == 0) ≡ false
 is_above n m e = grind (arith, nat_tests)
 
+-- a coordinate before another is not the last
 not_last : (n next end : ℕ) → next ≡ n + 1 → next < end → (n + 1 == end) ≡ false
 not_last n next end step below = grind (arith, nat_tests)
 
@@ -133,6 +145,7 @@ before_at graph p q b number (inr h) =
     let same = same_index graph q (place_at p p.row (p.col - 1)) h.row (omega (arith, h.col)) (h.to ∙ sym h.from) h.at in
     else_some _ _ _ _ _ (is_above p.side 0 h.to) (is_above p.col q.col h.col) (same ∙ number)
 
+-- and a place after another
 after_at : (graph : Chimera) (p q : Place) (b : ℕ) → index_of graph q ≡ b → q.row < graph.rows
     → q.col < graph.cols → IsDown p q ⊎ IsOn p q
     → (if p.side == 0
@@ -146,7 +159,8 @@ after_at graph p q b number row col (inr h) =
     let same = same_index graph q (place_at p p.row (p.col + 1)) (sym h.row) (sym h.col) (h.from ∙ sym h.to) (sym h.at) in
     else_some _ _ _ _ _ (is_above p.side 0 h.from) (not_last p.col q.col graph.cols h.col col) (same ∙ number)
 
--- each qubit that a is joined to is one that a faces, or the one before a or after it
+-- Each qubit that a is joined to is one that a faces, or the one before a or after it. So all
+-- qubits that are joined to one are found without looking at all others.
 pub joins_findable : (graph : Chimera) (a b : ℕ) → a < qubits_of graph → b < qubits_of graph
     → are_joined (place_of graph a) (place_of graph b) ≡ true
     → CanBeJoined (facing_of graph a) (before_of graph a) (after_of graph a) b

@@ -1,4 +1,9 @@
 -- What an energy changes by when some spins are flipped. Nothing here has to be believed.
+--
+-- A term of the energy (a field or a coupling) changes its sign at most when spins are flipped, so
+-- it gives back at most twice its size. What is summed here is exactly that: twice the sizes of the
+-- fields and placed couplings at flipped qubits, and the ties, of which just the broken one
+-- changes.
 use Rattle.chain_layer.specs.laws.NodeEnergies.{coupling_energy}
 use Rattle.std.specs.Prelude.{◌≡◌, ◌≢◌, ℕ, ◌*◌, ◌<◌, ◌==◌, ℤ, pos, neg_ℤ, ◌+ℤ◌, ◌≤ℤ◌, unsigned_abs, Bool, true, false, not, cond, ◌&&◌, ◌||◌, List, [], ◌∷◌}
 use Rattle.std.specs.List.{AllByRecursion, AllZip, range_with_len}
@@ -19,20 +24,22 @@ use Rattle.cut_chains.specs.Sides.{side_weight}
 use Rattle.cut_chains.specs.CutImage.{ties_of}
 use Rattle.chain_layer.specs.laws.OnceChains.{Once}
 
--- the spins with those of a side turned over
+-- The spins with those of a side turned over. A side is a test of qubits. Bits are spins: 1 is up,
+-- 0 is down.
 abbrev pub flipped : (side s : ℕ → Bool) → ℕ → Bool
 flipped side s q = cond (side q) (not (s q)) (s q)
 
 -- ---- fields
 
--- a field gives back at most twice its size
+-- a field gives back at most twice its size when its spin is flipped, and nothing otherwise
 field_flip : (t b : Bool) (w : ℤ)
     → times_spin (cond t (not b) b) w ≤ℤ (times_spin b w +ℤ if_so t (pos (2 * unsigned_abs w)))
 field_flip true true w = omega (arith, ints)
 field_flip true false w = omega (arith, ints)
 field_flip false b w = omega (arith, ints)
 
--- and all of those on the side together twice the sum of their sizes
+-- and all of those on the side together twice the sum of their sizes. The sums go over all n qubits
+-- of the graph, and those not on the side count 0
 pub fields_flip : (side s : ℕ → Bool) (f : ℕ → ℤ) (n : ℕ)
     → total_by (λ q. times_spin (flipped side s q) (f q)) (range_with_len 0 n)
     ≤ℤ (total_by (λ q. times_spin (s q) (f q)) (range_with_len 0 n)
@@ -50,6 +57,8 @@ fields_flip side s f n =
 
 -- ---- placed couplings
 
+-- a coupling between two qubits gives back at most twice its size for each end that is flipped.
+-- Where both are flipped it stays the same, which is even less
 pair_flip : (t u a b : Bool) (w : ℤ)
     → times_spin (cond t (not a) a) (times_spin (cond u (not b) b) w)
     ≤ℤ (times_spin a (times_spin b w)
@@ -71,12 +80,14 @@ pair_flip false true false true w = omega (arith, ints)
 pair_flip false true false false w = omega (arith, ints)
 pair_flip false false a b w = omega (arith, ints)
 
--- what couplings give back for their ends on the side
+-- What couplings give back for their ends on the side. A coupling with both ends on the side counts
+-- twice, which is more than is needed.
 abbrev ends_due : (ℕ → Bool) → Entry → ℤ
 ends_due side c =
     if_so (side c.first) (pos (2 * unsigned_abs c.weight))
     +ℤ if_so (side c.second) (pos (2 * unsigned_abs c.weight))
 
+-- so all couplings together give back at most what their ends on the side are due
 pairs_flip : (side s : ℕ → Bool) (cs : List Entry)
     → total_by (pair_energy (flipped side s)) cs
     ≤ℤ (total_by (pair_energy s) cs +ℤ total_by (ends_due side) cs)
@@ -89,7 +100,8 @@ pairs_flip side s (c ∷ cs) =
       pairs_flip side s cs,
     )
 
--- twice the sizes of the couplings at the qubits of the side
+-- The same, counted by qubits in place of couplings: twice the sizes of the couplings at the qubits
+-- of the side. So the bound is a sum over qubits, like the weight of a side.
 pub couplings_flip : (side s : ℕ → Bool) (n : ℕ) (cs : List Entry) → AllByRecursion (IsCoupler n) cs
     → total_by (pair_energy (flipped side s)) cs
     ≤ℤ (total_by (pair_energy s) cs
@@ -99,7 +111,9 @@ couplings_flip side s n cs couplers =
 
 -- ---- the weight of a side
 
--- of a chain's qubits on the side, each is one of all
+-- of a chain's qubits on the side, each is one of all: twice their weights, summed over the qubits
+-- of the graph, is at most twice the weight of the side. A qubit that the chain had twice would
+-- count twice on the right alone
 pub side_counted : (weight : ℕ → ℕ) (is_on : ℕ → Bool) (n : ℕ) (chain : List ℕ)
     → AllByRecursion (λ q. q < n) chain
     → total_by (λ q. if_so (is_in chain q && is_on q) (pos (2 * weight q))) (range_with_len 0 n)
@@ -140,7 +154,7 @@ side_counted weight is_on n (c ∷ cs) within =
 
 -- ---- ties
 
--- both ends on one side, or none of them
+-- a tie with both ends on the side, or none of them, costs what it cost
 kept_flip : (t u a b : Bool) (w : ℤ) → t ≡ u
     → times_spin (cond t (not a) a) (times_spin (cond u (not b) b) w)
     ≡ times_spin a (times_spin b w)
@@ -152,7 +166,8 @@ kept_flip true false a b w same = absurd (cc)
 kept_flip false true a b w same = absurd (cc)
 kept_flip false false a b w same = refl
 
--- one end of a broken tie on the side
+-- a broken tie of strength n with one end on the side becomes whole, and costs 2 * n less: n
+-- before, -n after
 mended_flip : (t u a b : Bool) (n : ℕ) → u ≡ not t → are_same a b ≡ false
     → times_spin (cond t (not a) a) (times_spin (cond u (not b) b) (neg_ℤ (pos n))) +ℤ pos (2 * n)
     ≡ times_spin a (times_spin b (neg_ℤ (pos n)))
@@ -165,11 +180,12 @@ mended_flip true false false true n other broken = omega (arith, ints)
 mended_flip false true true false n other broken = omega (arith, ints)
 mended_flip false true false true n other broken = omega (arith, ints)
 
--- the ends of these ties are on one side
+-- The ends of these ties are on one side. A tie is a qubit of the first list with the parent at the
+-- same place of the second.
 abbrev pub AreKept : (ℕ → Bool) → List ℕ → List ℕ → Type 0
 AreKept side qs ps = AllZip (λ q p. side q ≡ side p) qs ps
 
--- then the ties cost what they cost before
+-- then the ties cost what they cost before the side was flipped
 pub ties_kept : (side s : ℕ → Bool) (strong : ℕ → ℕ) (qs ps : List ℕ) → AreKept side qs ps
     → total_by (pair_energy (flipped side s)) (ties_of strong qs ps)
     ≡ total_by (pair_energy s) (ties_of strong qs ps)
@@ -186,12 +202,17 @@ ties_kept side s strong (q ∷ qs) (p ∷ ps) kept =
       ties_kept side s strong qs ps kept.1,
     )
 
--- what is known of the ties when one of them is broken, and a side of it is turned over
+-- What is known of the ties when one of them is broken, and a side of it is turned over. It is said
+-- of each tie, from q to its parent p, where c is the qubit of the broken one.
 pub record IsCut (side s : ℕ → Bool) (c q p : ℕ) : Type 0 where
+  -- each other tie has both ends on the side or none
   pub same : (q ≢ c) → side q ≡ side p
+  -- of the broken tie one end is on the side, and one is not
   pub cut : q ≡ c → side p ≡ not (side q)
+  -- its ends have different bits
   pub broken : q ≡ c → are_same (s q) (s p) ≡ false
 
+-- among ties without the broken one, all are kept
 kept_of_cut : (side s : ℕ → Bool) (c : ℕ) (qs ps : List ℕ) → is_in qs c ≡ false
     → AllZip (IsCut side s c) qs ps → AreKept side qs ps
 kept_of_cut side s c [] [] out cuts = tt
@@ -203,7 +224,8 @@ kept_of_cut side s c (q ∷ qs) (p ∷ ps) out cuts =
       kept_of_cut side s c qs ps parts.1 cuts.1,
     )
 
--- the broken tie is mended, and all others stay
+-- the broken tie is mended, and all others stay: the energy of the ties falls by twice the strength
+-- of the broken one
 pub ties_mended : (side s : ℕ → Bool) (strong : ℕ → ℕ) (c : ℕ) (qs ps : List ℕ) → Once qs
     → is_in qs c ≡ true → AllZip (IsCut side s c) qs ps
     → total_by (pair_energy (flipped side s)) (ties_of strong qs ps) +ℤ pos (2 * strong c)
@@ -242,7 +264,8 @@ ties_mended side s strong c (q ∷ qs) (p ∷ ps) once in' cuts =
 
 -- ---- broken ties
 
--- where ties are not whole, one of them is broken
+-- where ties are not whole, one of them is broken: some qubit of the chain has a bit other than its
+-- parent's
 pub broken_tie : (s : ℕ → Bool) (up : ℕ → ℕ) (qs ps : List ℕ) → AllZip (λ q p. up q ≡ p) qs ps
     → is_whole s qs ps ≡ false
     → (c : ℕ) × (is_in qs c ≡ true) × (are_same (s c) (s (up c)) ≡ false)

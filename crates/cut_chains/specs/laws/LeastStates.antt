@@ -1,4 +1,8 @@
 -- The least states of the image are those of the embedded form. Nothing here has to be believed.
+--
+-- A least state has no broken tie, so its energy is that of what it decodes to, and the offset. An
+-- assignment's extension has none either. So if an assignment lay below what a least state decodes
+-- to, its extension would lie below the least state.
 use Rattle.std.specs.Prelude.{◌≡◌, pos, ◌+ℤ◌, ◌≤ℤ◌, Bool, List, length, map}
 use Rattle.std.proofs.Common.{arith, ap, sym, ◌∙◌}
 use Rattle.std.proofs.lemmas.Int.{ints}
@@ -18,7 +22,8 @@ use Rattle.cut_chains.specs.CutImage.{cut_image, cut_offset}
 use Rattle.cut_chains.specs.CutLinks.{as_chains, decoding, Fits}
 use Rattle.cut_chains.specs.laws.Unbroken.{cut_value, least_is_whole, whole_energy}
 
--- a least state has the energy of what it decodes to, and the offset
+-- A least state has the energy of what it decodes to, and the offset. The majority of a chain is
+-- then the bit that all of its qubits have.
 least_reads : (e : Embedding) → IsEmbedding e → (y : List Bool)
     → IsLeastState (isings.form_of (cut_image e)) y
     → ising_value (cut_image e) y
@@ -35,6 +40,7 @@ least_reads e kept y least =
           (λ i within. majority_reads e kept y i within (whole i within)),
     )
 
+-- an assignment's extension has its energy, and the offset
 extension_value : (e : Embedding) → IsEmbedding e → (x : List Bool)
     → ising_value (cut_image e) (extension e x) ≡ ising_value e.ising x +ℤ cut_offset e
 extension_value e kept x =
@@ -47,7 +53,8 @@ extension_value e kept x =
           (extension_bits e kept x),
     )
 
--- the extension decodes to its assignment and reaches it
+-- the extension decodes to its assignment and reaches it: its energy is that of the assignment, and
+-- the offset, with scale 1
 pub cut_reaches : (link : CutLink) (e : Embedding) (x : List Bool) → Fits link e
     → length x ≡ length e.ising.fields
     → Extends (form_of e) (isings.form_of (cut_image e)) (decoding link) (pos 1) (cut_offset e) x
@@ -61,9 +68,11 @@ cut_reaches link e x fits width =
     }
 
 module _ (link : CutLink) (e : Embedding) (fits : Fits link e) where
+  -- a state decodes to a bit for each field of the form
   cut_width : (z : List Bool) → length ((decoding link).decoded z) ≡ length e.ising.fields
   cut_width z = length-map link.chains (majority z) ∙ ap length fits.chains ∙ fits.kept.counted
 
+  -- the energy of a least state, told by what the link decodes
   least_value : (z : List Bool) → IsLeastState (isings.form_of (cut_image e)) z
       → ising_value (cut_image e) z
       ≡ ising_value e.ising ((decoding link).decoded z) +ℤ cut_offset e
@@ -85,7 +94,9 @@ module _ (link : CutLink) (e : Embedding) (fits : Fits link e) where
       least.least (extension e y) reached.width in
       omega (arith, ints, least_value z least, no_less, extension_value e fits.kept y)
 
-  -- the image keeps the least states of the form
+  -- the image keeps the least states of the form: what a least state of the image decodes to is
+  -- least, and each least assignment is decoded from some least state. Nothing is said of other
+  -- states
   pub cut_keeps : KeepsLeast (form_of e) (isings.form_of (cut_image e)) (decoding link) (pos 1)
       (cut_offset e)
   cut_keeps = record {
@@ -107,6 +118,7 @@ module _ (link : CutLink) (e : Embedding) (fits : Fits link e) where
     reached = λ y w. (extension e y, cut_reaches link e y fits w);
   }
 
+  -- the widths are the number of fields of the form and the number of qubits
   pub cut_joins : Joins (form_of e) (isings.form_of (cut_image e)) (decoding link)
   cut_joins = record {
     source = ap length fits.chains ∙ fits.kept.counted;

@@ -32,33 +32,37 @@ use Rattle.cut_chains.specs.laws.Flips.{flipped, fields_flip, couplings_flip, si
 
 -- ---- energies over spins
 
--- what the fields of the qubits and the placed couplings cost
+-- What the fields of the qubits and the placed couplings cost. These are all parts of the energy
+-- but the ties and the constant.
 abbrev pub free_energy : Embedding → (ℕ → Bool) → ℤ
 free_energy e s =
     total_by (λ q. times_spin (s q) (field_at (all_shares e) q)) (range_with_len 0 e.qubits)
     +ℤ total_by (pair_energy s) (placed e.ising.couplings e.places)
 
--- the ties of a node's chain
+-- The ties of a node's chain. Each qubit of the chain after the first is tied to its parent by the
+-- strength of its own tie.
 abbrev pub node_ties : Embedding → ℕ → List Entry
 node_ties e i = ties_of (cut_strength e i) (drop 1 (chain_of e.chains i)) (chain_of e.parents i)
 
--- what they cost
+-- what the ties of a node's chain cost for these spins
 abbrev pub tied_energy : Embedding → (ℕ → Bool) → ℕ → ℤ
 tied_energy e s i = total_by (pair_energy s) (node_ties e i)
 
--- what all cost
+-- what fields, placed couplings and the ties of all chains cost: the energy of the image, but for
+-- the constant
 abbrev pub cut_energy : Embedding → (ℕ → Bool) → ℤ
 cut_energy e s = free_energy e s +ℤ total_by (tied_energy e s) (nodes_of e)
 
 -- ---- the chain of a node
 
--- a tree on a chain without a qubit twice
+-- A tree on a chain without a qubit twice. So each qubit after the first has one parent, and a
+-- look-up gives it.
 pub record IsOnceTree (chain parents : List ℕ) : Type 0 where
   pub filled : chain ≢ []
   pub once : Once chain
   pub tree : IsTree chain parents
 
--- the chain of a node is one
+-- the chain of a node is such a tree, in any embedding
 pub once_tree : (e : Embedding) → IsEmbedding e → (i : ℕ) → i < length e.ising.fields
     → IsOnceTree (chain_of e.chains i) (chain_of e.parents i)
 once_tree e kept i within =
@@ -78,12 +82,16 @@ parents_of_tree first cs ps t = own_parents cs ps t.once.1 (length_all_zip _ _ _
 
 -- ---- the lighter side of a tie
 
--- a side of the tie of the qubit c: each other tie has both ends on it or none
+-- A side of the tie of the qubit c: each other tie has both ends on it or none. The chain's first
+-- qubit has no tie of its own, so ties are named by the qubits after it.
 pub record IsSide (chain parents : List ℕ) (c : ℕ) (is_on : ℕ → Bool) : Type 0 where
+  -- the ends of another tie are both on the side, or both are not
   pub same : (q : ℕ) → is_in (drop 1 chain) q ≡ true → (q ≢ c)
       → is_on q ≡ is_on (parent_in (drop 1 chain) parents q)
+  -- of the tie of c one end is on the side and the other is not
   pub cut : is_on (parent_in (drop 1 chain) parents c) ≡ not (is_on c)
 
+-- the qubits below c are a side of its tie
 below_is_side : (first : ℕ) (cs ps : List ℕ) (c : ℕ) → IsRooted first cs ps → is_in cs c ≡ true
     → IsSide (first ∷ cs) ps c (is_below (first ∷ cs) ps c)
 below_is_side first cs ps c root c_in = record {
@@ -91,6 +99,7 @@ below_is_side first cs ps c root c_in = record {
   cut = parent_above first cs ps root c c_in ∙ sym (ap not (tied_below first cs ps root c));
 }
 
+-- and so are all others
 others_are_side : (chain parents : List ℕ) (c : ℕ) (is_on : ℕ → Bool) → IsSide chain parents c is_on
     → IsSide chain parents c (λ r. not (is_on r))
 others_are_side chain parents c is_on side = record {
@@ -98,7 +107,8 @@ others_are_side chain parents c is_on side = record {
   cut = ap not side.cut;
 }
 
--- the strength of the tie is one more than the weight of one of its sides
+-- the strength of the tie is one more than the weight of one of its sides: of the one below where
+-- both weigh the same
 lighter_side : (weight : ℕ → ℕ) (first : ℕ) (cs ps : List ℕ) (c : ℕ) → IsRooted first cs ps
     → is_in cs c ≡ true
     → (is_on : ℕ → Bool) × IsSide (first ∷ cs) ps c is_on
@@ -126,11 +136,14 @@ lighter_side weight first cs ps c root c_in =
 abbrev pub on_chain : List ℕ → (ℕ → Bool) → ℕ → Bool
 on_chain chain is_on q = is_in chain q && is_on q
 
+-- for a qubit of the chain this is the test itself
 chosen : (chain : List ℕ) (is_on : ℕ → Bool) (q : ℕ) → is_in chain q ≡ true
     → on_chain chain is_on q ≡ is_on q
 chosen chain is_on q in' = ap (λ b. b && is_on q) in'
 
--- the ties of the chain itself
+-- the ties of the chain itself: when a side of c's tie is flipped, and that tie is broken, each tie
+-- of the list is as `IsCut` says. It goes along the qubits after the first and their parents, of
+-- which a rest is left
 cut_ties_of_chain : (s : ℕ → Bool) (chain parents : List ℕ) (c : ℕ) (is_on : ℕ → Bool)
     → IsSide chain parents c is_on
     → are_same (s c) (s (parent_in (drop 1 chain) parents c)) ≡ false
@@ -162,14 +175,21 @@ cut_ties_of_chain s chain parents c is_on side broken (q ∷ qs) (p ∷ ps) ins 
           (λ r in'. ins r (in_rest q r qs in')) rest owns.1 ties.1,
     )
 
--- a broken tie and a side of it: the strength of the tie is one more than the weight of the side
+-- A broken tie and a side of it: the strength of the tie is one more than the weight of the side.
+-- This is all that the flip needs to know of the chain of node i.
 pub record IsLight (e : Embedding) (s : ℕ → Bool) (i c : ℕ) (is_on : ℕ → Bool) : Type 0 where
+  -- what is flipped are the chain's qubits on the side, and of its ties just that of c has one end
+  -- there
   pub cuts : AllZip (IsCut (on_chain (chain_of e.chains i) is_on) s c)
       (drop 1 (chain_of e.chains i)) (chain_of e.parents i)
+  -- c is a qubit after the first, so it has a tie
   pub inside : is_in (drop 1 (chain_of e.chains i)) c ≡ true
+  -- the qubits after the first are different, so c has just one
   pub once : Once (drop 1 (chain_of e.chains i))
+  -- flipping the side gives back at most twice its weight, which is 2 less than twice the strength
   pub light : side_weight (weight_of e) (chain_of e.chains i) is_on + 1 ≡ cut_strength e i c
 
+-- the same for a chain and its parents alone
 light_of : (weight : ℕ → ℕ) (s : ℕ → Bool) (chain parents : List ℕ) → IsOnceTree chain parents
     → (c : ℕ) → is_in (drop 1 chain) c ≡ true
     → are_same (s c) (s (parent_in (drop 1 chain) parents c)) ≡ false
@@ -184,7 +204,7 @@ light_of weight s (first ∷ cs) parents t c c_in broken =
     (λ q in'. in_rest first q cs in') (parents_of_tree first cs parents t) t.tree.ties in
     (light.0, cuts, light.2, t.once.1)
 
--- each broken tie has such a side
+-- each broken tie of an embedding has such a side
 pub light_side : (e : Embedding) → IsEmbedding e → (s : ℕ → Bool) (i c : ℕ)
     → i < length e.ising.fields → is_in (drop 1 (chain_of e.chains i)) c ≡ true
     → are_same (s c) (s (parent_in (drop 1 (chain_of e.chains i)) (chain_of e.parents i) c)) ≡ false
@@ -195,7 +215,8 @@ light_side e kept s i c within c_in broken =
     (once_tree e kept i within) c c_in broken in
     (found.0, record { cuts = found.1; inside = c_in; once = found.3; light = found.2 })
 
--- the ties of another chain, of which no qubit is flipped
+-- The ties of another chain, of which no qubit is flipped. Each of its ties has no end on the side,
+-- so both ends are alike.
 others_kept : (side : ℕ → Bool) (chain qs ps : List ℕ)
     → ((q : ℕ) → is_in chain q ≡ true → side q ≡ false)
     → ((q : ℕ) → is_in qs q ≡ true → is_in chain q ≡ true) → AllZip (IsTie chain) qs ps
@@ -208,7 +229,7 @@ others_kept side chain (q ∷ qs) (p ∷ ps) none ins ties = (
   others_kept side chain qs ps none (λ r in'. ins r (in_rest q r qs in')) ties.1,
 )
 
--- the side of a chain has no qubit of another
+-- the side of a chain has no qubit of another, since a qubit is in one chain at most
 not_on_other : (e : Embedding) → IsEmbedding e → (i j : ℕ) → i < length e.ising.fields
     → j < length e.ising.fields → (j ≢ i) → (is_on : ℕ → Bool) (q : ℕ)
     → is_in (chain_of e.chains j) q ≡ true → on_chain (chain_of e.chains i) is_on q ≡ false
@@ -217,7 +238,8 @@ not_on_other e kept i j i_in j_in other is_on q in' =
     other (one_chain e.chains q j i (kept.once q) (omega (arith, j_in, kept.counted))
     (omega (arith, i_in, kept.counted)) in' here)))
 
--- the ties of one node, before and after
+-- the ties of one node, before and after: those of node i cost less by twice the strength of the
+-- broken tie, and those of every other node what they cost
 tied_flip : (e : Embedding) → IsEmbedding e → (s : ℕ → Bool) (i c : ℕ) (is_on : ℕ → Bool)
     → IsLight e s i c is_on → i < length e.ising.fields → (j : ℕ) → j < length e.ising.fields
     → tied_energy e (flipped (on_chain (chain_of e.chains i) is_on) s) j
@@ -254,7 +276,8 @@ tied_flip e kept s i c is_on light i_in j j_in =
           )
     ]
 
--- all ties cost less by twice the strength of the broken one
+-- All ties cost less by twice the strength of the broken one. It is the sum over all nodes of what
+-- a flip does to the ties of one.
 all_ties_flip : (e : Embedding) → IsEmbedding e → (s : ℕ → Bool) (i c : ℕ) (is_on : ℕ → Bool)
     → IsLight e s i c is_on → i < length e.ising.fields
     → total_by (tied_energy e (flipped (on_chain (chain_of e.chains i) is_on) s)) (nodes_of e)
@@ -275,7 +298,7 @@ all_ties_flip e kept s i c is_on light within =
 
 -- ---- fields and placed couplings
 
--- what holds of each entry of two lists, one after the other, holds of each of both
+-- what holds of each entry of two lists, one after the other, holds of each entry of both
 pub all_parts : (P : Entry → Type 0) (es ds : List Entry) → AllByRecursion P (es ++ ds)
     → AllByRecursion P es × AllByRecursion P ds
 all_parts P [] ds all = (tt, all)
@@ -290,7 +313,8 @@ couplers_placed e kept =
     (all_parts (IsCoupler e.qubits) (placed e.ising.couplings e.places) (all_ties e)
     (all_couplers e kept)).0
 
--- what fields and placed couplings give back is at most twice the weight of the side
+-- What fields and placed couplings give back is at most twice the weight of the side. So the whole
+-- flip saves 2 or more: the ties save twice the strength, which is one more than the weight.
 free_flip : (e : Embedding) → IsEmbedding e → (s : ℕ → Bool) (i : ℕ) (is_on : ℕ → Bool)
     → i < length e.ising.fields
     → free_energy e (flipped (on_chain (chain_of e.chains i) is_on) s)
@@ -321,7 +345,8 @@ free_flip e kept s i is_on within =
 
 -- ---- the energy falls
 
--- the spins of a side of a broken tie can be flipped so that the energy falls
+-- The spins of a side of a broken tie can be flipped so that the energy falls. The state after the
+-- flip is a bit for each qubit again, so no least state has a broken tie.
 pub flip_lowers : (e : Embedding) → IsEmbedding e → (s : ℕ → Bool) (i : ℕ)
     → i < length e.ising.fields → whole_at e s i ≡ false
     → (is_on : ℕ → Bool)

@@ -21,13 +21,14 @@ same_answer false false to from = refl
 
 -- ---- steps to the parent
 
--- one step more, at the end
+-- one step more, at the end: steps are counted from the qubit on, and here the last one is taken
+-- apart
 pub climbed-suc : (cs ps : List ℕ) (n q : ℕ)
     → climbed cs ps (suc n) q ≡ parent_in cs ps (climbed cs ps n q)
 climbed-suc cs ps zero q = refl
 climbed-suc cs ps (suc n) q = climbed-suc cs ps n (parent_in cs ps q)
 
--- a qubit without a parent stays
+-- a qubit without a parent stays where it is, such as the first qubit of a chain
 pub parent_outside : (cs ps : List ℕ) (q : ℕ) → is_in cs q ≡ false → parent_in cs ps q ≡ q
 parent_outside [] ps q out = refl
 parent_outside (c ∷ cs) [] q out = refl
@@ -44,7 +45,7 @@ climbed_outside cs ps zero q out = refl
 climbed_outside cs ps (suc n) q out =
     ap (climbed cs ps n) (parent_outside cs ps q out) ∙ climbed_outside cs ps n q out
 
--- some steps, and then more
+-- some steps, and then more; m steps from where n steps lead are m + n steps.
 pub climbed-plus : (cs ps : List ℕ) (m n q : ℕ)
     → climbed cs ps (m + n) q ≡ climbed cs ps m (climbed cs ps n q)
 climbed-plus cs ps m zero q =
@@ -56,10 +57,12 @@ climbed-plus cs ps m (suc n) q =
 
 -- what is known of a chain: its qubits after the first, their parents, and that steps lead to it
 pub record IsRooted (first : ℕ) (cs ps : List ℕ) : Type 0 where
+  -- the first qubit has no parent among them
   pub apart : is_in cs first ≡ false
+  -- from each of the others some number of steps leads to it
   pub leads : (q : ℕ) → is_in cs q ≡ true → (n : ℕ) × (climbed cs ps n q ≡ first)
 
--- at the first qubit steps stay
+-- at the first qubit steps stay: where m steps lead to it, all larger numbers of steps do
 stays : (first : ℕ) (cs ps : List ℕ) → is_in cs first ≡ false → (m n q : ℕ) → m ≤ n
     → climbed cs ps m q ≡ first → climbed cs ps n q ≡ first
 stays first cs ps apart m n q more here =
@@ -68,7 +71,8 @@ stays first cs ps apart m n q more here =
     ∙ ap (climbed cs ps (n - m)) here
     ∙ climbed_outside cs ps (n - m) first apart
 
--- no qubit but the first is met again
+-- where m steps lead from a qubit back to it, 2 * m, 3 * m and so on do as well: it goes round a
+-- circle
 turns : (cs ps : List ℕ) (m q : ℕ) → climbed cs ps m q ≡ q → (k : ℕ) → climbed cs ps (k * m) q ≡ q
 turns cs ps m q back zero =
     let none : 0 * m ≡ 0 = omega arith in
@@ -79,12 +83,14 @@ turns cs ps m q back (suc k) =
     ∙ ap (climbed cs ps (k * m)) back
     ∙ turns cs ps m q back k
 
+-- a qubit in a list and a qubit outside it are two
 in_or_out : (cs : List ℕ) (q c : ℕ) → is_in cs q ≡ true → is_in cs c ≡ false → q ≡ c → ⊥
 in_or_out cs q c in' out same =
     let both : true ≡ false = sym in' ∙ ap (is_in cs) same ∙ out in
     cc
 
--- steps from a qubit after the first do not lead back to it
+-- steps from a qubit after the first do not lead back to it. Else they went round for ever, but
+-- some number of steps leads to the first qubit, where they stay
 pub not_again : (first : ℕ) (cs ps : List ℕ) → IsRooted first cs ps → (m q : ℕ) → is_in cs q ≡ true
     → climbed cs ps (suc m) q ≡ q → ⊥
 not_again first cs ps root m q in' back =
@@ -100,12 +106,14 @@ not_again first cs ps root m q in' back =
 abbrev is_far : (first : ℕ) (cs ps : List ℕ) → ℕ → ℕ → Bool
 is_far first cs ps k q = not (climbed cs ps k q == first)
 
--- one of the qubits from which k steps do not lead to the first, but one step more does
+-- One of the qubits from which k steps do not lead to the first, but one step more does. They stand
+-- on the edge of what k steps reach.
 record IsEdge (first : ℕ) (cs ps : List ℕ) (k r : ℕ) : Type 0 where
   inside : is_in cs r ≡ true
   far : climbed cs ps k r ≢ first
   near : climbed cs ps (suc k) r ≡ first
 
+-- where a qubit is far, there is such a one on its way
 edge : (first : ℕ) (cs ps : List ℕ) → is_in cs first ≡ false → (k n q : ℕ)
     → (climbed cs ps k q ≢ first) → climbed cs ps n q ≡ first
     → (r : ℕ) × IsEdge first cs ps k r
@@ -126,10 +134,11 @@ edge first cs ps apart k (suc n) q far here =
       | inr further ↦ edge first cs ps apart k n (parent_in cs ps q) further here
     ]
 
--- how many of these qubits are far
+-- How many of these qubits are far. With each further step it falls, until it is 0.
 abbrev far_count : (first : ℕ) (cs ps : List ℕ) → ℕ → List ℕ → ℕ
 far_count first cs ps k qs = count_by (is_far first cs ps k) qs
 
+-- a qubit that k steps bring to the first is brought there by k + 1 as well, so no more are far
 fewer : (first : ℕ) (cs ps : List ℕ) → is_in cs first ≡ false → (k : ℕ) (qs : List ℕ)
     → far_count first cs ps (suc k) qs ≤ far_count first cs ps k qs
 fewer first cs ps apart k [] = omega arith
@@ -150,6 +159,7 @@ fewer first cs ps apart k (q ∷ qs) =
     one false true h = omega arith
     one false false h = omega arith
 
+-- and where one is on the edge, at least one less is far
 fewer_by_one : (first : ℕ) (cs ps : List ℕ) → is_in cs first ≡ false → (k r : ℕ)
     → IsEdge first cs ps k r → (qs : List ℕ) → is_in qs r ≡ true
     → far_count first cs ps (suc k) qs < far_count first cs ps k qs
@@ -189,7 +199,8 @@ fewer_by_one first cs ps apart k r at_edge (q ∷ qs) in' =
 abbrev AreNear : (first : ℕ) (cs ps : List ℕ) → ℕ → Type 0
 AreNear first cs ps k = (q : ℕ) → is_in cs q ≡ true → climbed cs ps k q ≡ first
 
--- none is far, or one of them is
+-- None is far, or one of them is. It looks through a list of qubits for one that k steps don't
+-- bring to the first.
 near_or_far : (first : ℕ) (cs ps : List ℕ) (k : ℕ) (qs : List ℕ)
     → ((q : ℕ) → is_in qs q ≡ true → climbed cs ps k q ≡ first)
     ⊎ ((q : ℕ) × (is_in qs q ≡ true) × (climbed cs ps k q ≢ first))
@@ -208,7 +219,8 @@ near_or_far first cs ps k (q ∷ qs) =
           ]
     ]
 
--- with each step that leaves one far, fewer are
+-- with each step that leaves one far, fewer are: so either none is far after k steps, or at most as
+-- many as the qubits less k
 near_in_time : (first : ℕ) (cs ps : List ℕ) → IsRooted first cs ps → (k : ℕ)
     → AreNear first cs ps k ⊎ (far_count first cs ps k cs + k ≤ length cs)
 near_in_time first cs ps root zero =
@@ -234,7 +246,8 @@ near_in_time first cs ps root (suc k) =
           ]
     ]
 
--- as many steps as there are qubits after the first are enough
+-- As many steps as there are qubits after the first are enough. So walks of fewer steps than the
+-- chain has qubits reach every qubit that longer ones reach.
 pub near_all : (first : ℕ) (cs ps : List ℕ) → IsRooted first cs ps → AreNear first cs ps (length cs)
 near_all first cs ps root =
     elim (near_in_time first cs ps root (length cs)) [
@@ -267,7 +280,7 @@ near_all first cs ps root =
 
 -- ---- the sides of a tie
 
--- some number of a range passes a test
+-- Some number of a range passes a test. The range has n numbers from a on.
 pub found_in_range : (p : ℕ → Bool) (a n : ℕ) → list_any p (range_with_len a n) ≡ true
     → (i : ℕ) × (i < a + n) × (p i ≡ true)
 found_in_range p a zero h = absurd cc
@@ -281,30 +294,33 @@ found_in_range p a (suc n) h =
 
 -- a chain from its first qubit on, as a tree
 module _ (first : ℕ) (cs ps : List ℕ) (root : IsRooted first cs ps) where
+  -- where a qubit is below q, a number of steps leads from it to q
   below_ways : (q r : ℕ) → is_below (first ∷ cs) ps q r ≡ true
       → (n : ℕ) × (n ≤ length cs) × (climbed cs ps n r ≡ q)
   below_ways q r h =
       let found = found_in_range (λ n. climbed cs ps n r == q) 0 (suc (length cs)) h in
       (found.0, omega (arith, found.1), eqb-true (climbed cs ps found.0 r) q found.2)
 
+  -- and where so few steps lead to q, it is below q
   is_below_by : (q r n : ℕ) → n ≤ length cs → climbed cs ps n r ≡ q
       → is_below (first ∷ cs) ps q r ≡ true
   is_below_by q r n few way =
       any_of_range (λ m. climbed cs ps m r == q) n 0 (suc (length cs)) (omega arith) (omega arith)
       (eq-eqb (climbed cs ps n r) q way)
 
-  -- the qubit of a tie is below it
+  -- the qubit of a tie is below itself, so the side is not empty
   pub tied_below : (q : ℕ) → is_below (first ∷ cs) ps q q ≡ true
   tied_below q = is_below_by q q 0 (omega arith) refl
 
-  -- its parent is not
+  -- its parent is not below it, since steps do not lead back: so the tie has one end on each side
   pub parent_above : (q : ℕ) → is_in cs q ≡ true
       → is_below (first ∷ cs) ps q (parent_in cs ps q) ≡ false
   parent_above q in' = false_from_ne_true _ (λ below.
       let way = below_ways q (parent_in cs ps q) below in
       not_again first cs ps root way.0 q in' way.2)
 
-  -- both ends of another tie are on one side
+  -- both ends of another tie are on one side: a step from q to its parent is one step of the walk
+  -- that leads from q to c, if there is one
   pub same_side : (c q : ℕ) → is_in cs c ≡ true → is_in cs q ≡ true → (q ≢ c)
       → is_below (first ∷ cs) ps c q ≡ is_below (first ∷ cs) ps c (parent_in cs ps q)
   same_side c q c_in q_in other =
@@ -337,7 +353,8 @@ module _ (first : ℕ) (cs ps : List ℕ) (root : IsRooted first cs ps) where
           less : (m n : ℕ) → m ≤ n → (m ≢ n) → suc m ≤ n
           less m n le ne = grind arith
 
--- all qubits of the chain are below the first
+-- All qubits of the chain are below the first. So the sum below the first qubit is that of the
+-- whole chain.
 pub is_below_first : (first : ℕ) (cs ps : List ℕ) → IsRooted first cs ps → (r : ℕ)
     → (r ≡ first) ⊎ (is_in cs r ≡ true) → is_below (first ∷ cs) ps first r ≡ true
 is_below_first first cs ps root r (inl same) =

@@ -1,5 +1,9 @@
 -- The energy of the image, and that a least state has no broken tie.
 -- Nothing here has to be believed.
+--
+-- If a state had a broken tie, a side of it could be flipped, and the state with the flipped spins
+-- would lie lower by 2 or more. So it was not a least one. Without broken ties each chain has one
+-- bit, and the energy is that of the form at these bits, less the sum of all strengths.
 use Rattle.std.specs.Prelude.{◌≡◌, ℕ, ◌<◌, ◌≤◌, ℤ, pos, neg_ℤ, ◌+ℤ◌, ◌≤ℤ◌, Bool, true, false, not, cond, List, [], ◌∷◌, ◌++◌, length, drop, map, sum_by}
 use Rattle.std.specs.List.{AllByRecursion, AllZip, range_with_len}
 use Rattle.std.proofs.Common.{arith, ap, sym, ◌∙◌, refl, inl, inr, subst}
@@ -31,6 +35,7 @@ use Rattle.cut_chains.specs.laws.Mended.{node_ties, tied_energy, free_energy, cu
 
 -- ---- the energy of the image
 
+-- each tie is of two different qubits, the lesser one first
 ties_of_upward : (chain qs ps : List ℕ) (strong : ℕ → ℕ) → AllZip (IsTie chain) qs ps
     → AllByRecursion IsUpward (ties_of strong qs ps)
 ties_of_upward chain [] ps strong h = tt
@@ -38,13 +43,15 @@ ties_of_upward chain (q ∷ qs) [] strong h = tt
 ties_of_upward chain (q ∷ qs) (p ∷ ps) strong h =
     (coupling_upward q p _ h.0.apart, ties_of_upward chain qs ps strong h.1)
 
+-- and so are the ties of all chains
 cut_ties_upward : (e : Embedding) → IsEmbedding e → AllByRecursion IsUpward (cut_ties e)
 cut_ties_upward e kept =
     each_of_range IsUpward (node_ties e) 0 (length e.ising.fields)
     (λ i a l. ties_of_upward (chain_of e.chains i) _ _ (cut_strength e i)
     (node_at e kept i (omega (arith, l))).tree.ties)
 
--- the energy of a state is that of its spins, and the constant
+-- the energy of a state is that of its spins, and the constant. The image's couplings stand in the
+-- order of their pairs, and a sum does not depend on the order
 pub cut_value : (e : Embedding) → IsEmbedding e → (y : List Bool)
     → ising_value (cut_image e) y ≡ e.ising.constant +ℤ cut_energy e (bit_at y)
 cut_value e kept y =
@@ -69,6 +76,7 @@ cut_value e kept y =
 abbrev flipped_state : Embedding → (ℕ → Bool) → List Bool → List Bool
 flipped_state e side y = map (flipped side (bit_at y)) (range_with_len 0 e.qubits)
 
+-- as a test of qubits it is the flipped spins, also beyond the last qubit, where no side is
 flipped_bits : (e : Embedding) (side : ℕ → Bool) (y : List Bool) → length y ≡ e.qubits
     → ((q : ℕ) → e.qubits ≤ q → side q ≡ false)
     → bit_at (flipped_state e side y) ≡ flipped side (bit_at y)
@@ -87,7 +95,8 @@ flipped_bits e side y width out = λ k q. at_qubit q k
           none ∙ sym no_bit ∙ sym (ap (λ b. cond b (not (bit_at y q)) (bit_at y q)) (out q above))
     ]
 
--- no qubit of a chain is beyond the last
+-- no qubit of a chain is beyond the last, so flipping a side of it changes no bit that a state does
+-- not have
 not_beyond : (e : Embedding) → IsEmbedding e → (i : ℕ) → i < length e.ising.fields
     → (is_on : ℕ → Bool) (q : ℕ) → e.qubits ≤ q → on_chain (chain_of e.chains i) is_on q ≡ false
 not_beyond e kept i within is_on q above =
@@ -96,7 +105,7 @@ not_beyond e kept i within is_on q above =
     each_at (λ p. p < e.qubits) (chain_of e.chains i) q (chain_within e kept i within) in' in
     omega (arith, above, below)))
 
--- a least state has no broken tie
+-- a least state has no broken tie: else the state with a side flipped would lie below it
 pub least_is_whole : (e : Embedding) → IsEmbedding e → (y : List Bool)
     → IsLeastState (isings.form_of (cut_image e)) y → (i : ℕ) → i < length e.ising.fields
     → whole_at e (bit_at y) i ≡ true
@@ -120,6 +129,7 @@ least_is_whole e kept y least i within = elim (cases_Bool (whole_at e (bit_at y)
 
 -- ---- states without a broken tie
 
+-- where no tie is broken the ties cost minus the sum of their strengths
 ties_of_whole : (s : ℕ → Bool) (strong : ℕ → ℕ) (qs ps : List ℕ) → length qs ≡ length ps
     → is_whole s qs ps ≡ true
     → total_by (pair_energy s) (ties_of strong qs ps) ≡ neg_ℤ (pos (sum_by strong qs))
@@ -139,11 +149,12 @@ ties_of_whole s strong (q ∷ qs) (p ∷ ps) same h =
       ties_of_whole s strong qs ps (omega (arith, same)) parts.1,
     )
 
--- what the ties of a node cost where none is broken
+-- what the ties of a node save where none is broken
 abbrev whole_cost : Embedding → ℕ → ℕ
 whole_cost e i = sum_by (cut_strength e i) (drop 1 (chain_of e.chains i))
 
--- the fields of the qubits and the placed couplings cost what the form costs
+-- the fields of the qubits and the placed couplings cost what the form costs at the bits of the
+-- chains: shares of one field add up to it, and a coupling has the spins of its nodes
 free_whole : (e : Embedding) → IsEmbedding e → (s x : ℕ → Bool)
     → ((i : ℕ) → i < length e.ising.fields → HasBit s (chain_of e.chains i) (x i))
     → free_energy e s ≡ read_energy e x
@@ -163,7 +174,8 @@ free_whole e kept s x has =
       placed_equal e s x has e.ising.couplings e.places (couplers_of e kept) kept.placed,
     )
 
--- a state without a broken tie has the energy of what it reads, and the offset
+-- a state without a broken tie has the energy of what it reads, and the offset. This holds of each
+-- such state, not only of least ones
 pub whole_energy : (e : Embedding) → IsEmbedding e → (s x : ℕ → Bool)
     → ((i : ℕ) → i < length e.ising.fields → whole_at e s i ≡ true)
     → ((i : ℕ) → i < length e.ising.fields → HasBit s (chain_of e.chains i) (x i))

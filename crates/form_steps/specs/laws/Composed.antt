@@ -9,6 +9,7 @@ use Rattle.form_steps.specs.Relations.{Decoding, Keeps, Relaxes, Reduces, Reache
 use Rattle.base.specs.Figures.{figures_after, figures_moved}
 use Rattle.form_steps.specs.laws.Plain.{RelaxesPlainly, relaxes_in_one, relaxes_plainly}
 
+-- a scale of 1 or more keeps an inequality
 scaled-le : (a v w : ℤ) → pos 1 ≤ℤ a → v ≤ℤ w → (a *ℤ v) ≤ℤ (a *ℤ w)
 scaled-le a v w p h = times-le a v w (omega (arith, ints)) h
 
@@ -59,6 +60,7 @@ keeps_after_keeps {f} {g} {h} {d} {e} {a1} {b1} {a2} {b2} p q = record {
       (z.0, Reaches-trans a1 b1 a2 b2 (energy f x) y.1 z.1);
 }
 
+-- what keeps a form that relaxes a source in the unit 1 relaxes it
 keeps_after_plain : {f g h : Form} {d e : Decoding} {n : Figures} {a b : ℤ}
     → RelaxesPlainly f g d n → Keeps g h e a b
     → RelaxesPlainly f h (decoding_after d e) (figures_after n a b)
@@ -127,6 +129,7 @@ pub widths_meet : {f g h : Form} {d e : Decoding} → Joins f g d → Joins g h 
     → d.target_width ≡ e.source_width
 widths_meet p q = p.target ∙ sym q.source
 
+-- a least energy stays the least where the next step reaches it and bounds all others
 least_twice : (g h : Form) (y y' z z' : List Bool) (a b : ℤ) → pos 1 ≤ℤ a
     → energy g y ≤ℤ energy g y'
     → energy h z ≡ a *ℤ energy g y +ℤ b

@@ -30,6 +30,7 @@ pub energy_of_node : (y : List Bool) (n : ℕ) (w : ℤ)
     → spins_energy y (record { first = n; second = n; weight = w }) ≡ times_spin (bit_at y n) w
 energy_of_node y n w = rw (eq-eqb n n refl) refl
 
+-- the lesser of two numbers is another one
 apart : (i j : ℕ) → i < j → (i == j) ≡ false
 apart i j h = go (eqb_tells i j)
   where
@@ -48,10 +49,12 @@ energy_of_coupling y e up = rw (apart e.first e.second up) refl
 abbrev fields_energy : List Bool → ℕ → List ℤ → ℤ
 fields_energy y n fields = total_by (spins_energy y) (node_entries n fields)
 
+-- the first field times its spin, and the others
 fields_energy-cons : (y : List Bool) (n : ℕ) (h : ℤ) (hs : List ℤ)
     → fields_energy y n (h ∷ hs) ≡ times_spin (bit_at y n) h +ℤ fields_energy y (suc n) hs
 fields_energy-cons y n h hs = ap (λ z. z +ℤ fields_energy y (suc n) hs) (energy_of_node y n h)
 
+-- a sum of two weights gives the sum of what each gives
 times_spin-plus : (b : Bool) (v w : ℤ) → times_spin b (v +ℤ w) ≡ times_spin b v +ℤ times_spin b w
 times_spin-plus true v w = refl
 times_spin-plus false v w = omega (arith, ints)
@@ -82,6 +85,7 @@ fields_alone y added n (w ∷ ws) =
     of_node true w = omega (arith, ints)
     of_node false w = omega (arith, ints)
 
+-- what two functions add is the sum of what each adds
 added_energy-plus : (y : List Bool) (f g : ℕ → ℤ) (n : ℕ) (ws : List ℤ)
     → added_energy y (λ i. f i +ℤ g i) n ws ≡ added_energy y f n ws +ℤ added_energy y g n ws
 unfolding added_energy
@@ -94,6 +98,7 @@ added_energy-plus y f g n (w ∷ ws) =
       added_energy-plus y f g (suc n) ws,
     )
 
+-- and nothing adds nothing
 added_energy-zero : (y : List Bool) (n : ℕ) (ws : List ℤ) → added_energy y (λ i. pos 0) n ws ≡ pos 0
 unfolding added_energy
 added_energy-zero y n [] = refl
@@ -176,6 +181,7 @@ four_times true false w = omega (arith, ints)
 four_times false true w = omega (arith, ints)
 four_times false false w = omega (arith, ints)
 
+-- so all couplers come to four times their energy of bits
 couplers_energy : (y : List Bool) (ws : List ℤ) (cs : List Entry)
     → AllByRecursion (IsCoupler (length ws)) cs
     → added_energy y (coupled cs) 0 ws

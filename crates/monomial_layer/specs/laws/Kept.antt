@@ -29,9 +29,11 @@ use Rattle.monomial_layer.specs.laws.TermCosts.{true_literals-cons, positive_ter
 
 -- ---- no state costs less
 
+-- a degree that is not low is 3 or more
 above_two : (n : ℕ) → leb n 2 ≡ false → 3 ≤ n
 above_two n h = grind (arith, nat_tests)
 
+-- what stands for one term costs no less than the term, for any bits of the new nodes
 new_terms-le : (y : List Bool) (t : Term) (n : ℕ) → term_cost y t ≤ℤ terms_cost y (new_terms t n)
 new_terms-le y t n =
     go (leb (length t.0) 2) (int_lt t.1 (pos 0)) (above_two (length t.0)) (λ h. omega (arith, ints))
@@ -73,16 +75,19 @@ Below n ls = AllByRecursion (λ l. l.variable < n) ls
 abbrev AllBelow : ℕ → List Term → Type 0
 AllBelow n ts = AllByRecursion (λ t. Below n t.0) ts
 
+-- a literal of the first n variables is true under both states, or under none
 holds-agrees : (n : ℕ) (x y : List Bool) (l : Literal) → Agrees n x y → l.variable < n
     → holds x l ≡ holds y l
 holds-agrees n x y l same below = ap (λ v. cond l.negated (not v) v) (same l.variable below)
 
+-- and so is a product of them
 all_hold-agrees : (n : ℕ) (x y : List Bool) (ls : List Literal) → Agrees n x y → Below n ls
     → all_hold x ls ≡ all_hold y ls
 all_hold-agrees n x y [] same below = refl
 all_hold-agrees n x y (l ∷ ls) same below =
     λ i. holds-agrees n x y l same below.0 i && all_hold-agrees n x y ls same below.1 i
 
+-- as many of them are true under both
 count-agrees : (n : ℕ) (x y : List Bool) (ls : List Literal) → Agrees n x y → Below n ls
     → true_literals x ls ≡ true_literals y ls
 count-agrees n x y [] same below = refl
@@ -92,6 +97,7 @@ count-agrees n x y (l ∷ ls) same below =
     + count-agrees n x y ls same below.1 i)
     ∙ sym (true_literals-cons y l ls)
 
+-- so terms over the first n variables cost the same
 cost-agrees : (n : ℕ) (x y : List Bool) (ts : List Term) → Agrees n x y → AllBelow n ts
     → terms_cost x ts ≡ terms_cost y ts
 cost-agrees n x y [] same below = refl
@@ -101,11 +107,13 @@ cost-agrees n x y (t ∷ ts) same below =
 
 -- ---- the bits of the new nodes
 
+-- there are n values
 length-first_values : (f : ℕ → Bool) (n : ℕ) → length (first_values f n) ≡ n
 length-first_values f zero = refl
 length-first_values f (suc n) =
     length_push (first_values f n) (f n) ∙ omega (arith, length-first_values f n)
 
+-- of which the one at i is that of i
 get_or-first_values : (f : ℕ → Bool) (n i : ℕ) → i < n → get_or (first_values f n) i false ≡ f i
 get_or-first_values f zero i h = absurd (omega arith)
 get_or-first_values f (suc n) i h = go (cases_lt i n) (get_or-first_values f n i)
@@ -124,10 +132,12 @@ get_or-first_values f (suc n) i h = go (cases_lt i n) (get_or-first_values f n i
 abbrev Has : List Bool → ℕ → List Bool → Type 0
 Has y m bits = (i : ℕ) → i < length bits → get_or y (m + i) false ≡ get_or bits i false
 
+-- where a state has bits in a row, it has the first of them at that place
 has_left : (y : List Bool) (m : ℕ) (bs cs : List Bool) → Has y m (bs ++ cs) → Has y m bs
 has_left y m bs cs h =
     λ i l. h i (omega (arith, length-append bs cs)) ∙ get_or_append_left bs cs false i l
 
+-- and those after them as many places later
 has_right : (y : List Bool) (m : ℕ) (bs cs : List Bool) → Has y m (bs ++ cs)
     → Has y (m + length bs) cs
 has_right y m bs cs h = λ i l.
@@ -136,6 +146,7 @@ has_right y m bs cs h = λ i l.
     ∙ h (length bs + i) (omega (arith, length-append bs cs))
     ∙ get_or-append-add bs cs i false
 
+-- with its own bits at its new nodes, what stands for a term costs what the term costs
 new_terms_reach : (x y : List Bool) (n m : ℕ) (t : Term) → Agrees n x y → Below n t.0
     → Has y m (new_bits x t) → terms_cost y (new_terms t m) ≡ term_cost y t
 new_terms_reach x y n m t agrees below has =
@@ -176,6 +187,7 @@ length-new_bits x t = go (leb (length t.0) 2) (int_lt t.1 (pos 0))
     go false true = refl
     go false false = length-first_values (is_taken (true_literals x t.0)) (nodes_for (length t.0))
 
+-- and so for all terms, one after another
 replaced_reach : (x y : List Bool) (n m : ℕ) (ts : List Term) → Agrees n x y → AllBelow n ts
     → Has y m (flat_map (new_bits x) ts) → terms_cost y (all_new_terms ts m) ≡ terms_cost y ts
 replaced_reach x y n m [] agrees below has = refl
@@ -188,6 +200,7 @@ replaced_reach x y n m (t ∷ ts) agrees below has =
     total_by-append (term_cost y) (new_terms t m) (all_new_terms ts (m + new_nodes t))
     ∙ (λ i. first i +ℤ rest i)
 
+-- the extension has these bits, so it reaches the cost of all terms
 extension_reach : (x : List Bool) (ts : List Term) → AllBelow (length x) ts
     → terms_cost (extension x ts) (all_new_terms ts (length x)) ≡ terms_cost x ts
 extension_reach x ts below =
@@ -200,6 +213,7 @@ extension_reach x ts below =
 
 -- ---- the layer's laws
 
+-- the terms of a table name no node past its width
 below_width : (t : TableContent) → IsTable t → AllBelow t.width t.terms
 below_width t table = go t.terms (recursion_from_All _ _ table.terms.sets)
   where
@@ -208,7 +222,8 @@ below_width t table = go t.terms (recursion_from_All _ _ table.terms.sets)
     go [] sets = tt
     go (u ∷ us) sets = (recursion_from_All _ _ sets.0.set.within, go us sets.1)
 
--- a state costs no less than its first bits in the source
+-- A state costs no less than its first bits in the source. This is one half of keeping costs, and
+-- `mono_reaches` is the other.
 pub image_bound : (t : TableContent) → IsTable t → (y : List Bool)
     → terms_cost (take t.width y) t.terms ≤ℤ terms_cost y (image t).terms
 image_bound t table y =
@@ -221,6 +236,7 @@ image_bound t table y =
       terms_cost-with_additions y (all_new_terms t.terms t.width),
     )
 
+-- as many bits are appended as there are new nodes
 length-bits : (x : List Bool) (ts : List Term)
     → length (flat_map (new_bits x) ts) ≡ sum_by new_nodes ts
 length-bits x [] = refl

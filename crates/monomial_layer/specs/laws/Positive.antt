@@ -22,22 +22,24 @@ pub pairs_is : (n : ℕ) → 2 * pairs n + n ≡ n * n
 pairs_is zero = omega arith
 pairs_is (suc n) = omega (arith, pairs_is n)
 
--- what the first n nodes add, which are 1 where w says so
+-- What the first n nodes add, which are 1 where w says so. These are parts of c, which is left out
+-- until the end.
 abbrev pub above : ℕ → (ℕ → Bool) → ℕ → ℕ
 above d w zero = 0
 above d w (suc k) = above d w k + cond (w k) (factor d k * (2 * k + 2) - 1) 0
 
--- what they take away
+-- What they take away. With s true literals a node of factor f takes f * s away.
 abbrev pub below : ℕ → ℕ → (ℕ → Bool) → ℕ → ℕ
 below d s w zero = 0
 below d s w (suc k) = below d s w k + cond (w k) (factor d k * s) 0
 
--- what they can save, if every factor is 2
+-- What they can save, if every factor is 2. Each can save 2 * (s - 2 * k - 2) + 1 where at least 2
+-- * k + 2 literals are true, and else nothing.
 abbrev plain : ℕ → ℕ → ℕ
 plain s zero = 0
 plain s (suc k) = plain s k + cond (leb (2 * k + 2) s) (2 * s + 1 - 2 * (2 * k + 2)) 0
 
--- what they can save
+-- what they can save, with their own factors
 abbrev gain : ℕ → ℕ → ℕ → ℕ
 gain d s zero = 0
 gain d s (suc k) =
@@ -49,6 +51,7 @@ factor_cases d k = grind (arith, nat_tests)
 
 -- ---- one node, of factor f
 
+-- no choice of a node saves more than it can
 one_saves : (f s k : ℕ) (w : Bool) → (f ≡ 1) ⊎ (f ≡ 2)
     → cond w (f * s) 0
     ≤ cond w (f * (2 * k + 2) - 1) 0 + cond (leb (2 * k + 2) s) (f * s + 1 - f * (2 * k + 2)) 0
@@ -56,6 +59,7 @@ one_saves f s k true (inl e) = rw e (grind (arith, nat_tests))
 one_saves f s k true (inr e) = rw e (grind (arith, nat_tests))
 one_saves f s k false h = omega arith
 
+-- and it saves just that where it is taken as `is_taken` says
 one_reaches : (f s k : ℕ) → (f ≡ 1) ⊎ (f ≡ 2)
     → cond (leb (2 * k + 2) s) (f * s) 0
     ≡ cond (leb (2 * k + 2) s) (f * (2 * k + 2) - 1) 0
@@ -63,11 +67,13 @@ one_reaches : (f s k : ℕ) → (f ≡ 1) ⊎ (f ≡ 2)
 one_reaches f s k (inl e) = rw e (grind (arith, nat_tests))
 one_reaches f s k (inr e) = rw e (grind (arith, nat_tests))
 
+-- the same for the first n nodes
 saves : (d s : ℕ) (w : ℕ → Bool) (n : ℕ) → below d s w n ≤ above d w n + gain d s n
 saves d s w zero = omega arith
 saves d s w (suc k) =
     omega (arith, saves d s w k, one_saves (factor d k) s k (w k) (factor_cases d k))
 
+-- and for all of them taken so
 reaches : (d s n : ℕ) → below d s (is_taken s) n ≡ above d (is_taken s) n + gain d s n
 reaches d s zero = omega arith
 reaches d s (suc k) =
@@ -75,11 +81,13 @@ reaches d s (suc k) =
 
 -- ---- what all can save
 
+-- while 2 * n is at most s, all of the first n nodes can save something
 plain_early : (s n : ℕ) → 2 * n ≤ s → plain s n + 2 * (n * n) + n ≡ 2 * (n * s)
 plain_early s zero h = omega arith
 plain_early s (suc k) h =
     let before = plain_early s k (omega arith) in grind (arith, nat_tests)
 
+-- with the last node that can, they save as much as the pairs cost
 plain_last : (s k : ℕ) → 2 * k + 2 ≤ s → s < 2 * suc k + 2
     → plain s k + 2 * (k * k) + k ≡ 2 * (k * s) → plain s (suc k) ≡ pairs s
 plain_last s k low high before =
@@ -93,6 +101,7 @@ plain_last s k low high before =
           omega (arith, pairs_is s, ap (λ x. x * s) same, ap (λ x. k * x) same)
     ])
 
+-- so with nodes enough they save just that
 plain_late : (s n : ℕ) → s < 2 * n + 2 → plain s n ≡ pairs s
 plain_late s zero h = small s (omega arith)
   where
@@ -109,6 +118,7 @@ plain_late s (suc k) h =
       | inr le ↦ plain_last s k le h (plain_early s k (omega arith))
     ]
 
+-- all factors but the last of an odd degree are 2
 plain_is : (d s n : ℕ) → 2 * n + 1 < d → gain d s n ≡ plain s n
 plain_is d s zero h = refl
 plain_is d s (suc k) h =
@@ -116,10 +126,12 @@ plain_is d s (suc k) h =
     let f = plain_is d s k (omega arith) in
     rw (e, f) refl
 
--- d is at least 2, and 2 * n + 1 or 2 * n + 2
+-- D is at least 2, and 2 * n + 1 or 2 * n + 2. For n nodes the degree is one of these two: the
+-- nodes that a positive term of it has.
 abbrev pub IsSized : ℕ → ℕ → Type 0
 IsSized d n = (2 ≤ d) × ((d ≡ 2 * n + 1) ⊎ (d ≡ 2 * n + 2))
 
+-- for an even degree the nodes save what the pairs cost, and 1 less where all literals are true
 even : (s n : ℕ) → s ≤ 2 * n + 2
     → gain (2 * n + 2) s n + cond (eqb s (2 * n + 2)) 1 0 ≡ pairs s
 even s n h =
@@ -140,6 +152,7 @@ even s n h =
           ))
     ])
 
+-- for an odd degree the last node of factor 1 comes to the same
 odd_end : (s n : ℕ) → 2 * n + 2 ≤ s → s ≤ 2 * n + 3
     → plain s n + (1 * s + 1 - 1 * (2 * n + 2)) + cond (eqb s (2 * n + 3)) 1 0 ≡ pairs s
 odd_end s n low high = elim (cases_lt s (2 * n + 3)) [
@@ -182,6 +195,7 @@ odd s n h =
           let f : leb (2 * n + 2) s ≡ true = grind (arith, nat_tests) in rw f (odd_end s n le h)
     ])
 
+-- so for every degree of 3 or more
 gain_is : (d s n : ℕ) → IsSized d n → s ≤ d → gain d s n + cond (eqb s d) 1 0 ≡ pairs s
 gain_is d s zero (two, inl e) h = absurd (omega arith)
 gain_is d s (suc n) (two, inl e) h =
@@ -194,8 +208,8 @@ gain_is d s n (two, inr e) h =
 
 -- ---- the law
 
--- whatever the nodes are, the pairs and nodes cost at least 1 where all literals are true, and
--- else 0
+-- Whatever the nodes are, the pairs and nodes cost at least 1 where all literals are true, and else
+-- 0. Both sides times c are the cost of the term and of what stands for it.
 pub positive_bound : (d s n : ℕ) (w : ℕ → Bool) → IsSized d n → s ≤ d
     → cond (eqb s d) 1 0 + below d s w n ≤ pairs s + above d w n
 positive_bound d s n w sized within = omega (arith, saves d s w n, gain_is d s n sized within)

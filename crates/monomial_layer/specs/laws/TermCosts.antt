@@ -42,10 +42,12 @@ all_hold-count y (l ∷ ls) =
     go true h = h ∙ grind (arith, nat_tests)
     go false h = let le = true_literals-le y ls in grind (arith, nat_tests)
 
+-- a coefficient counts once or not at all
 times_one : (c : ℤ) (t : Bool) → c *ℤ pos (cond t 1 0) ≡ if_so t c
 times_one c true = omega (arith, ints)
 times_one c false = omega (arith, ints)
 
+-- so a term costs its coefficient just where as many literals are true as it has
 term_cost-count : (y : List Bool) (ls : List Literal) (c : ℤ)
     → term_cost y (ls, c) ≡ c *ℤ pos (cond (eqb (true_literals y ls) (length ls)) 1 0)
 term_cost-count y ls c =
@@ -54,22 +56,26 @@ term_cost-count y ls c =
 
 -- ---- sums of products
 
+-- a product of two literals counts where both are true
 if_so-pair : (a b : Bool) (c : ℤ) → if_so (a && (b && true)) c ≡ if_so b (if_so a c)
 if_so-pair true true c = refl
 if_so-pair true false c = refl
 if_so-pair false true c = refl
 if_so-pair false false c = refl
 
+-- in either order
 if_so-pair_turned : (a b : Bool) (c : ℤ) → if_so (b && (a && true)) c ≡ if_so b (if_so a c)
 if_so-pair_turned true true c = refl
 if_so-pair_turned true false c = refl
 if_so-pair_turned false true c = refl
 if_so-pair_turned false false c = refl
 
+-- a number may be multiplied before or after the test
 if_so-times : (t : Bool) (c : ℤ) (n : ℕ) → if_so t c *ℤ pos n ≡ if_so t (c *ℤ pos n)
 if_so-times true c n = refl
 if_so-times false c n = omega (arith, ints)
 
+-- a literal times each of a list costs the coefficient for each true one, where the literal is true
 cost-with_each : (y : List Bool) (l : Literal) (c : ℤ) (ks : List Literal)
     → terms_cost y (with_each l c ks) ≡ if_so (holds y l) (c *ℤ pos (true_literals y ks))
 cost-with_each y l c ks =
@@ -79,6 +85,7 @@ cost-with_each y l c ks =
     ∙ total_by-if_so (holds y) (if_so (holds y l) c) ks
     ∙ if_so-times (holds y l) c (true_literals y ks)
 
+-- and so in the other order
 cost-each_with : (y : List Bool) (l : Literal) (c : ℤ) (ks : List Literal)
     → terms_cost y (each_with ks l c) ≡ if_so (holds y l) (c *ℤ pos (true_literals y ks))
 cost-each_with y l c ks =
@@ -88,6 +95,7 @@ cost-each_with y l c ks =
     ∙ total_by-if_so (holds y) (if_so (holds y l) c) ks
     ∙ if_so-times (holds y l) c (true_literals y ks)
 
+-- all pairs cost the coefficient for each pair of true literals
 cost-pair_terms : (y : List Bool) (ls : List Literal) (c : ℤ)
     → terms_cost y (pair_terms ls c) ≡ c *ℤ pos (pairs (true_literals y ls))
 cost-pair_terms y [] c = omega (arith, ints)
@@ -109,6 +117,7 @@ cost-pair_terms y (l ∷ ls) c =
 
 -- ---- a positive coefficient
 
+-- what one node more adds, and what it takes away
 one_node : (t : Bool) (c : ℤ) (a f s u d : ℕ)
     → c *ℤ (pos u -ℤ pos d)
     +ℤ (if_so (t && true) (c *ℤ pos a) +ℤ if_so t (neg_ℤ (c *ℤ pos f) *ℤ pos s))
@@ -120,6 +129,7 @@ one_node false c a f s u d = simp multiply_out (omega (arith, integers))
 abbrev pub nodes_at : List Bool → ℕ → ℕ → Bool
 nodes_at y n i = holds y (node (n + i))
 
+-- the first k nodes cost c times what they add, less what they take away
 cost-node_terms : (y : List Bool) (ls : List Literal) (c : ℤ) (n k : ℕ)
     → terms_cost y (node_terms ls c n k)
     ≡ c
@@ -139,10 +149,12 @@ cost-node_terms y ls c n (suc k) =
 pub sized : (d : ℕ) → 3 ≤ d → IsSized d (nodes_for d)
 sized d high = (omega arith, grind arith)
 
+-- the pairs and the nodes, under one coefficient
 joined : (c : ℤ) (p u d : ℕ)
     → c *ℤ pos p +ℤ c *ℤ (pos u -ℤ pos d) ≡ c *ℤ (pos (p + u) -ℤ pos d)
 joined c p u d = simp multiply_out (omega (arith, integers))
 
+-- so what stands for a positive term costs c times a difference of whole numbers
 cost-positive_terms : (y : List Bool) (ls : List Literal) (c : ℤ) (n : ℕ)
     → terms_cost y (positive_terms ls c n)
     ≡ c
@@ -164,6 +176,7 @@ positive_terms-le y ls c n high positive =
     rw (term_cost-count y ls c, cost-positive_terms y ls c n)
     (times-le c _ _ positive (omega (arith, ints, bound)))
 
+-- what the nodes add depends on their own bits alone
 above-same : (d : ℕ) (w v : ℕ → Bool) (n : ℕ) → ((i : ℕ) → i < n → w i ≡ v i)
     → above d w n ≡ above d v n
 above-same d w v zero same = refl
@@ -172,6 +185,7 @@ above-same d w v (suc k) same =
     let f = same k (omega arith) in
     rw (e, f) refl
 
+-- and so does what they take away
 below-same : (d s : ℕ) (w v : ℕ → Bool) (n : ℕ) → ((i : ℕ) → i < n → w i ≡ v i)
     → below d s w n ≡ below d s v n
 below-same d s w v zero same = refl
@@ -198,12 +212,14 @@ positive_terms_reach y ls c n high same =
 
 -- ---- a negative coefficient
 
+-- a negative term's node costs its share where it is 1
 negative_value : (t : Bool) (c : ℤ) (d s : ℕ)
     → if_so (t && true) (neg_ℤ (c *ℤ pos d)) +ℤ if_so t (c *ℤ pos s)
     ≡ if_so t (c *ℤ (pos s -ℤ pos d))
 negative_value true c d s = simp multiply_out (omega (arith, integers))
 negative_value false c d s = refl
 
+-- so what stands for it costs c times the number of true literals less d - 1, where the node is 1
 cost-negative_terms : (y : List Bool) (ls : List Literal) (c : ℤ) (n : ℕ)
     → terms_cost y (negative_terms ls c n)
     ≡ if_so (holds y (node n)) (c *ℤ (pos (true_literals y ls) -ℤ pos (length ls - 1)))
@@ -212,12 +228,14 @@ cost-negative_terms y ls c n =
     (cost-each_with y (node n) c ls)
     ∙ negative_value (holds y (node n)) c (length ls - 1) (true_literals y ls)
 
+-- that difference is at most 1, and 1 only where all d literals are true
 tested : (s d : ℕ) → s ≤ d → 1 ≤ d → (pos s -ℤ pos (d - 1)) ≤ℤ pos (cond (eqb s d) 1 0)
 tested s d le some = elim (cases_lt s d) [
   | inl lt ↦ omega (arith, ints)
   | inr ge ↦ let e : eqb s d ≡ true = grind (arith, nat_tests) in rw e (omega (arith, ints))
 ]
 
+-- where all are true the term costs c, as the node does
 reached_value : (s d : ℕ) (c : ℤ) → s ≤ d → 1 ≤ d
     → if_so (eqb s d) c ≡ if_so (eqb s d) (c *ℤ (pos s -ℤ pos (d - 1)))
 reached_value s d c le some = elim (cases_lt s d) [

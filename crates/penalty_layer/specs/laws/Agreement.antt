@@ -1,5 +1,8 @@
 -- A problem costs the same under two states that agree on its variables. Nothing
 -- here has to be believed.
+--
+-- The slack bits stand after the variables, and no product, clause or constraint of the problem
+-- names them. So a state costs the problem what its first bits cost.
 use Rattle.std.proofs.Common.{◌≡◌, ℕ, ◌<◌, Bool, false, not, cond, ◌&&◌, ◌||◌, refl, ap, List, [], ◌∷◌, get_or, pos, ◌+ℤ◌, is_none, int_lt}
 use Rattle.std.specs.Prelude.{All, if◌then◌else◌}
 use Rattle.std.specs.Ordering.{int_eq}
@@ -65,10 +68,12 @@ constraints-within n ks normal = go ks (recursion_from_All _ ks normal)
 
 -- ---- its parts
 
+-- a literal of the first n variables is true under both states, or under none
 holds-agrees : (n : ℕ) (x y : List Bool) (l : Literal) → Agrees n x y → l.variable < n
     → holds x l ≡ holds y l
 holds-agrees n x y l same below = ap (λ v. cond l.negated (not v) v) (same l.variable below)
 
+-- a product of the first n variables is true under both states, or under none
 all_hold-agrees : (n : ℕ) (x y : List Bool) (ls : List Literal) → Agrees n x y → Within n ls
     → all_hold x ls ≡ all_hold y ls
 all_hold-agrees n x y [] same below = refl
@@ -90,6 +95,7 @@ sum_of-agrees n x y (t ∷ ts) same below =
     λ i. if_so (all_hold-agrees n x y t.literals same below.0 i) t.coefficient
     +ℤ sum_of-agrees n x y ts same below.1 i
 
+-- violated soft clauses weigh the same under both
 soft-agrees : (n : ℕ) (x y : List Bool) (cs : List Clause) → Agrees n x y → ClausesWithin n cs
     → total_by (soft_cost x) cs ≡ total_by (soft_cost y) cs
 soft-agrees n x y [] same below = refl
@@ -97,6 +103,7 @@ soft-agrees n x y (c ∷ cs) same below =
     λ i. if_so (not (some_holds-agrees n x y c.literals same below.0 i)) (pos (soft_weight c))
     +ℤ soft-agrees n x y cs same below.1 i
 
+-- some hard clause is violated under both, or none is
 hard-agrees : (n : ℕ) (x y : List Bool) (cs : List Clause) → Agrees n x y → ClausesWithin n cs
     → list_any (fails_hard x) cs ≡ list_any (fails_hard y) cs
 hard-agrees n x y [] same below = refl
@@ -104,6 +111,7 @@ hard-agrees n x y (c ∷ cs) same below =
     λ i. (is_none c.weight && not (some_holds-agrees n x y c.literals same below.0 i))
     || hard-agrees n x y cs same below.1 i
 
+-- some constraint fails under both, or none does
 fails-agrees : (n : ℕ) (x y : List Bool) (ks : List Constraint) → Agrees n x y
     → ConstraintsWithin n ks → list_any (fails x) ks ≡ list_any (fails y) ks
 fails-agrees n x y [] same below = refl

@@ -1,5 +1,8 @@
 -- What the squares of constraints add: nothing below 0, the penalty where one is broken, 0 where all
 -- slacks are right, and the least where they are clamped. Nothing here has to be believed.
+--
+-- A square is a whole number that is not negative, so it is 0 or at least 1, and n times it is 0 or
+-- at least n.
 use Rattle.std.proofs.Common.{◌≡◌, ◌≢◌, ℕ, ◌+◌, ◌≤◌, Bool, true, false, not, ◌||◌, refl, sym, ap, ◌∙◌, subst, arith, List, [], ◌∷◌, ◌++◌, length, append_assoc, ℤ, pos, negsuc, ◌+ℤ◌, ◌-ℤ◌, ◌*ℤ◌, ◌≤ℤ◌, ◌<ℤ◌, int_lt}
 use Rattle.std.specs.Prelude.{if◌then◌else◌}
 use Rattle.std.specs.Ordering.{int_eq}
@@ -23,7 +26,8 @@ use Rattle.penalty_layer.specs.laws.SquareCosts.{constraint-cost}
 use Rattle.penalty_layer.specs.laws.Nearest.{square_at_least, square_not_below, clamped-least, clamped-le, clamped-same}
 use Rattle.penalty_layer.specs.laws.Agreement.{Agrees, ConstraintsWithin, sum_of-agrees}
 
--- what all squares cost, with the slack bits numbered on from a first node
+-- What all squares cost, with the slack bits numbered on from a first node. Each is the factor n
+-- times the square of what its constraint is off by.
 abbrev pub squares_cost : List Bool → ℕ → ℕ → List Constraint → ℤ
 squares_cost y n first [] = pos 0
 squares_cost y n first (k ∷ ks) =
@@ -39,7 +43,8 @@ constraint_terms-cost y n first (k ∷ ks) =
     ∙ (λ i. constraint-cost y n first k i
     +ℤ constraint_terms-cost y n (first + slack_bits k) ks i)
 
--- the squares never cost less than 0
+-- The squares never cost less than 0. So slack bits never make a state cheaper than its variables
+-- alone.
 pub squares_not_negative : (y : List Bool) (n first : ℕ) (ks : List Constraint)
     → pos 0 ≤ℤ squares_cost y n first ks
 squares_not_negative y n first [] = omega (arith, ints)
@@ -53,9 +58,11 @@ squares_not_negative y n first (k ∷ ks) =
 
 -- ---- where a constraint fails
 
+-- a test of integers, told as an inequality
 less_from : (a b : ℤ) → int_lt a b ≡ true → a <ℤ b
 less_from a b h = omega (arith, ints)
 
+-- and where the test is false, the other way round
 not_less_from : (a b : ℤ) → int_lt a b ≡ false → b ≤ℤ a
 not_less_from a b h = omega (arith, ints)
 
@@ -67,7 +74,8 @@ true_from_not : (b : Bool) → not b ≡ false → b ≡ true
 true_from_not true h = refl
 true_from_not false h = cc
 
--- no slack within the range makes up for it
+-- No slack within the range makes up for it. So a broken constraint costs at least n, whatever the
+-- slack bits are.
 excess_not_zero : (y : List Bool) (first : ℕ) (k : Constraint) → fails y k ≡ true
     → excess y first k ≢ pos 0
 excess_not_zero y first k broken =
@@ -114,13 +122,15 @@ squares_at_least y n first (k ∷ ks) h =
 
 -- ---- where the slacks are right
 
--- each slack has the clamped value under the assignment x
+-- Each slack has the clamped value under the assignment x. It is the value that is nearest to what
+-- the sum has above the bound, among those that the bits reach.
 abbrev pub AreClamped : List Bool → List Bool → ℕ → List Constraint → Type 0
 AreClamped x y first [] = Unit {0}
 AreClamped x y first (k ∷ ks) =
     (slack_value y first (slack_weights (slack_range k)) ≡ slack_of x k)
     × AreClamped x y (first + slack_bits k) ks
 
+-- an integer is at most its positive part
 positive-le : (z : ℤ) → z ≤ℤ pos (positive_part z)
 positive-le (pos n) = omega (arith, ints)
 positive-le (negsuc n) = omega (arith, ints)
@@ -153,7 +163,8 @@ in_range y k kept = go k.exact kept
           ),
         )
 
--- the state y has the sums of the assignment x
+-- the state y has the sums of the assignment x, and no constraint fails: with each slack clamped,
+-- all squares are 0
 pub squares_zero : (x y : List Bool) (n m first : ℕ) (ks : List Constraint) → Agrees m x y
     → ConstraintsWithin m ks → list_any (fails y) ks ≡ false → AreClamped x y first ks
     → squares_cost y n first ks ≡ pos 0
@@ -184,7 +195,7 @@ squares_zero x y n m first (k ∷ ks) same within kept right =
         ap (λ z. pos n *ℤ (z *ℤ z) +ℤ squares_cost y n (first + slack_bits k) ks) none
         ∙ omega (arith, ints, rest e)
 
--- no state with the same variables has lesser squares
+-- no state with the same variables has lesser squares than one whose slacks are clamped
 pub squares_least : (x y z : List Bool) (n m first : ℕ) (ks : List Constraint) → Agrees m x y
     → Agrees m x z → ConstraintsWithin m ks → AreClamped x y first ks
     → squares_cost y n first ks ≤ℤ squares_cost z n first ks

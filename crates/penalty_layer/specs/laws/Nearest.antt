@@ -12,16 +12,19 @@ pub square-not_negative : (a : ℤ) → pos 0 ≤ℤ (a *ℤ a)
 square-not_negative (pos a) = omega (arith, ints)
 square-not_negative (negsuc a) = omega (arith, ints)
 
+-- of two numbers from 0 up, the greater one has the greater square
 square-le : (a b : ℤ) → pos 0 ≤ℤ a → a ≤ℤ b → (a *ℤ a) ≤ℤ (b *ℤ b)
 square-le (pos a) (pos b) p q =
     omega (arith, ints, mul-le a a b b (omega (arith, ints)) (omega (arith, ints)))
 square-le (pos a) (negsuc b) p q = omega (arith, ints)
 square-le (negsuc a) b p q = omega (arith, ints)
 
+-- a difference may be turned round before it is squared
 turned : (a b : ℤ) → (b -ℤ a) *ℤ (b -ℤ a) ≡ (a -ℤ b) *ℤ (a -ℤ b)
 turned a b = simp multiply_out (omega (arith, integers))
 
--- of all values within r, the clamped one leaves the least square
+-- Of all values within r, the clamped one leaves the least square. Values above or below the range
+-- leave the distance to its nearer end, which no other value makes less.
 pub clamped-least : (r : ℕ) (s : ℤ) (v : ℕ) → v ≤ r
     → ((s -ℤ pos (clamped r s)) *ℤ (s -ℤ pos (clamped r s)))
     ≤ℤ ((s -ℤ pos v) *ℤ (s -ℤ pos v))
@@ -54,6 +57,7 @@ clamped-same r (negsuc n) low high = absurd (omega (arith, ints))
 
 -- ---- n times a square
 
+-- the square of a whole number that is not 0 is at least 1
 nonzero_square : (v : ℤ) → v ≢ pos 0 → pos 1 ≤ℤ (v *ℤ v)
 nonzero_square (pos zero) h = absurd (h refl)
 nonzero_square (pos (suc n)) h = omega (arith, ints)

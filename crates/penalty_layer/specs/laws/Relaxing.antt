@@ -1,4 +1,8 @@
 -- The table of a problem relaxes it, and extensions are least. Nothing here has to be believed.
+--
+-- The table costs what the problem's whole cost is, and the squares. Where the problem's cost is
+-- infinite, a hard clause or a constraint adds at least the penalty, which is one more than all
+-- that can be gained elsewhere: so the state lies above the threshold.
 use Rattle.std.proofs.Common.{◌≡◌, ℕ, ℤ, pos, ◌+ℤ◌, ◌-ℤ◌, ◌≤ℤ◌, ◌<ℤ◌, Bool, true, false, not, ◌||◌, cond, unwrap_or, List, [], ◌∷◌, length, map, take, refl, arith, sym, ap, ◌∙◌, subst}
 use Rattle.std.specs.List.{list_any, sum_by, flat_map}
 use Rattle.std.proofs.lemmas.Int.{ints}
@@ -34,6 +38,8 @@ use Rattle.penalty_layer.specs.laws.Broken.{squares_cost, constraint_terms-cost,
 abbrev pub squares : List Bool → ProblemContent → ℤ
 squares y p = squares_cost y (penalty p) p.variables p.constraints
 
+-- the terms without squares cost the constant, the objective, and the clauses with hard ones at the
+-- penalty
 plain_value : (y : List Bool) (p : ProblemContent)
     → terms_cost y (plain_terms p)
     ≡ p.constant +ℤ (sum_of y p.objective +ℤ total_by (clause_cost y (penalty p)) p.clauses)
@@ -42,6 +48,8 @@ plain_value y p =
     (total_by-append (term_cost y) (map product_term p.objective) (map (clause_term (penalty p)) p.clauses)
     ∙ (λ i. product_terms_cost y p.objective i +ℤ clause_terms_cost y (penalty p) p.clauses i))
 
+-- and the whole table costs that and the squares, since the sum of terms of one set costs what they
+-- cost
 image_value : (y : List Bool) (p : ProblemContent)
     → terms_cost y (image p).terms
     ≡ (p.constant +ℤ (sum_of y p.objective +ℤ total_by (clause_cost y (penalty p)) p.clauses))
@@ -53,7 +61,8 @@ image_value y p =
     ∙ (λ i. plain_value y p i
     +ℤ constraint_terms-cost y (penalty p) p.variables p.constraints i)
 
--- what breaks a hard clause or a constraint lies above the threshold
+-- What breaks a hard clause or a constraint lies above the threshold. The penalty is more than the
+-- objective and the soft clauses can lower the cost by.
 broken_above : (y : List Bool) (p : ProblemContent)
     → (list_any (fails_hard y) p.clauses || list_any (fails y) p.constraints) ≡ true
     → upper p <ℤ terms_cost y (image p).terms
@@ -82,7 +91,8 @@ broken_above y p broken =
           squares_at_least y (penalty p) p.variables p.constraints e,
         )
 
--- the whole cost, of what breaks nothing
+-- The whole cost, of what breaks nothing. It is the constant, the objective's sum, and the weights
+-- of the violated soft clauses.
 abbrev pub kept_cost : List Bool → ProblemContent → ℤ
 kept_cost y p = p.constant +ℤ sum_of y p.objective +ℤ total_by (soft_cost y) p.clauses
 
@@ -91,17 +101,20 @@ kept_value : (y : List Bool) (p : ProblemContent) → list_any (fails_hard y) p.
     → terms_cost y (image p).terms ≡ kept_cost y p +ℤ squares y p
 kept_value y p h = omega (arith, ints, image_value y p, clauses_soft y (penalty p) p.clauses h)
 
+-- the whole cost is at most the upper bound, for every assignment
 whole_below : (y : List Bool) (p : ProblemContent) → kept_cost y p ≤ℤ upper p
 whole_below y p = omega (arith, ints, sum_upper y p.objective, soft_costs_upper y p.clauses)
 
 -- ---- the cost of the problem, by cases
 
+-- a cost is whole only where no hard clause and no constraint is broken
 whole_is_unbroken : (a b : Bool) (u v : ℤ) → cond (a || b) Infinite (Whole u) ≡ Whole v
     → (a ≡ false) × (b ≡ false) × (u ≡ v)
 whole_is_unbroken true b u v e = absurd cc
 whole_is_unbroken false true u v e = absurd cc
 whole_is_unbroken false false u v e = (refl, refl, cc)
 
+-- and infinite only where one is
 infinite_is_broken : (b : Bool) (u : ℤ) → cond b Infinite (Whole u) ≡ Infinite → b ≡ true
 infinite_is_broken true u e = refl
 infinite_is_broken false u e = absurd cc
@@ -118,6 +131,7 @@ whole_value y p v whole =
       cases.1,
     )
 
+-- a state of infinite cost lies above the threshold
 infinite_value : (y : List Bool) (p : ProblemContent) → problem_cost p y ≡ Infinite
     → upper p <ℤ terms_cost y (image p).terms
 infinite_value y p infinite = broken_above y p (infinite_is_broken _ _ infinite)
@@ -135,12 +149,14 @@ decoded_cost link p y fit =
     ap (λ n. problem_cost p (take n y)) fit.source
     ∙ problem_cost-agrees (take p.variables y) y p fit.normal (first_agrees p.variables y)
 
+-- a state agrees with the assignment that it decodes to
 decoded_agrees : (link : BitsLink) (p : ProblemContent) (x y : List Bool) → Fits link p
     → (first_bits link).decoded y ≡ x → Agrees p.variables x y
 decoded_agrees link p x y fit same =
     subst (λ z. Agrees p.variables z y) (ap (λ n. take n y) (sym fit.source) ∙ same)
     (first_agrees p.variables y)
 
+-- so many slack bits stand after the assignment
 length-bits : (x : List Bool) (ks : List Constraint)
     → length (flat_map (slack_state x) ks) ≡ sum_by slack_bits ks
 length-bits x [] = refl
@@ -154,6 +170,7 @@ length-bits x (k ∷ ks) =
       sum_by-cons slack_bits k ks,
     )
 
+-- the extension has a bit for each node
 length-extension : (x : List Bool) (p : ProblemContent) → length x ≡ p.variables
     → length (extension p x) ≡ node_count p
 length-extension x p width =
@@ -164,6 +181,7 @@ length-extension x p width =
       length-bits x p.constraints,
     )
 
+-- the extension decodes to the assignment that it extends
 decoded_extension : (link : BitsLink) (p : ProblemContent) (x : List Bool) → Fits link p
     → length x ≡ p.variables → (first_bits link).decoded (extension p x) ≡ x
 decoded_extension link p x fit width =
@@ -171,13 +189,15 @@ decoded_extension link p x fit width =
     take-append-le link.source_width x (flat_map (slack_state x) p.constraints) (omega arith)
     ∙ take_all link.source_width x (omega arith)
 
+-- and its slack bits give each constraint the clamped slack
 clamped_extension : (x : List Bool) (p : ProblemContent) → length x ≡ p.variables
     → AreClamped x (extension p x) p.variables p.constraints
 clamped_extension x p width =
     subst (λ n. AreClamped x (extension p x) n p.constraints) width
     (extension_clamped x x p.constraints)
 
--- an assignment of whole cost is reached by its extension
+-- An assignment of whole cost is reached by its extension. So each feasible assignment is reached
+-- with equality.
 extension_value : (link : BitsLink) (p : ProblemContent) (x : List Bool) (v : ℤ) → Fits link p
     → length x ≡ p.variables → problem_cost p x ≡ Whole v
     → terms_cost (extension p x) (image p).terms ≡ v
@@ -196,7 +216,8 @@ extension_value link p x v fit width whole =
 
 -- ---- the relations
 
--- the table relaxes the problem
+-- The table relaxes the problem. No state costs less than what it decodes to; feasible assignments
+-- are reached; all others stay above the threshold.
 pub penalty_relaxes : (link : BitsLink) (p : ProblemContent) → Fits link p
     → Relaxes (problems.form_of p) (tables.form_of (image p)) (first_bits link) (pos 1) (figures p)
 penalty_relaxes link p fit = relaxes_in_one (record {
@@ -233,7 +254,8 @@ clause-agrees n m x y (c ∷ cs) same below =
     λ i. if_so (not (some_holds-agrees m x y c.literals same below.0 i)) (pos (unwrap_or c.weight n))
     +ℤ clause-agrees n m x y cs same below.1 i
 
--- no state that decodes to an assignment costs less than its extension
+-- No state that decodes to an assignment costs less than its extension. Their clauses and objective
+-- cost the same, and the extension's squares are least.
 extension_least : (link : BitsLink) (p : ProblemContent) (x z : List Bool) → Fits link p
     → length x ≡ p.variables → (first_bits link).decoded z ≡ x
     → terms_cost (extension p x) (image p).terms ≤ℤ terms_cost z (image p).terms

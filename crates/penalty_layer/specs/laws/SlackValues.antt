@@ -1,4 +1,7 @@
 -- The slack weights of r reach exactly the values 0 to r. Nothing here has to be believed.
+--
+-- With w digits the first w - 1 weights reach 0 to 2 ^ (w - 1) - 1, and the last one moves that
+-- range up to r. The two ranges meet or overlap, since the last weight is at most 2 ^ (w - 1).
 use Rattle.std.proofs.Common.{◌≡◌, ◌≢◌, ℕ, zero, suc, ◌+◌, ◌-◌, ◌*◌, ◌/◌, ◌%◌, ◌^◌, ◌<◌, ◌≤◌, Bool, true, false, cond, ltb, refl, ap, arith, List, [], ◌∷◌, ◌++◌, length, get_or}
 use Rattle.std.specs.Prelude.{◌==◌, if◌then◌else◌}
 use Rattle.std.specs.Bool.{Decides}
@@ -9,11 +12,13 @@ use Rattle.penalty_layer.specs.Slack.{doubled, last_weight, weights_for, slack_w
 
 -- ---- how many digits there are
 
--- r lies where numbers have so many binary digits
+-- R lies where numbers have so many binary digits. For w digits that is from 2 ^ (w - 1) to 2 ^ w -
+-- 1; 0 has none.
 abbrev pub HasDigits : ℕ → ℕ → Type 0
 HasDigits r zero = r ≡ 0
 HasDigits r (suc m) = (2 ^ m ≤ r) × (r < 2 ^ suc m)
 
+-- the next power is twice as much
 power_next : (m : ℕ) → 2 ^ suc m ≡ 2 * 2 ^ m
 power_next m = omega arith
 
@@ -27,6 +32,7 @@ HasDigits-binary_digits r = go (binary_digits r) (digits_are_least r).0 (digits_
 
 -- ---- no value is above r
 
+-- doubled weights from b on reach at most what their sum is
 doubled-le : (y : List Bool) (first b m last : ℕ)
     → slack_value y first (doubled b m last) + b ≤ b * 2 ^ m + last
 doubled-le y first b zero last = go (get_or y first false)
@@ -42,7 +48,7 @@ doubled-le y first b (suc m) last =
     go true h = omega (arith, h, ap (λ x. b * x) (power_next m))
     go false h = omega (arith, h, ap (λ x. b * x) (power_next m))
 
--- no state gives the slack a value above r
+-- No state gives the slack a value above r. This is one half of reaching exactly 0 to r.
 pub slack_value-le : (y : List Bool) (first r : ℕ) → slack_value y first (slack_weights r) ≤ r
 slack_value-le y first r = go (binary_digits r) (HasDigits-binary_digits r)
   where
@@ -74,6 +80,7 @@ HasBits-middle [] bs rest = HasBits-front bs rest
 HasBits-middle (x ∷ xs) bs rest =
     HasBits-after x (xs ++ (bs ++ rest)) (length xs) bs (HasBits-middle xs bs rest)
 
+-- a digit of 0 or 1 counts as much as its bit
 digit_times : (b d : ℕ) → d < 2 → cond (d == 1) b 0 ≡ b * d
 digit_times b d h = go (d == 1) (Decides-eqb d 1)
   where
@@ -86,11 +93,13 @@ digit_times b d h = go (d == 1) (Decides-eqb d 1)
         zero_or_one : (d : ℕ) → d < 2 → d ≢ 1 → d ≡ 0
         zero_or_one d h other = omega arith
 
+-- a number is its lowest digit, and twice what is left
 first_digit : (b v : ℕ) → cond (v % 2 == 1) b 0 + 2 * b * (v / 2) ≡ b * v
 first_digit b v =
     let parts : v ≡ 2 * (v / 2) + v % 2 = omega arith in
     omega (arith, digit_times b (v % 2) (omega arith), ap (λ x. b * x) parts)
 
+-- the digits of v give v times b, and the last bit adds its weight
 doubled-reach : (y : List Bool) (first b m v last : ℕ) (t : Bool) → v < 2 ^ m
     → HasBits y first (digit_bits m v t)
     → slack_value y first (doubled b m last) ≡ b * v + cond t last 0
@@ -105,7 +114,7 @@ doubled-reach y first b (suc m) v last t small bits =
       first_digit b v,
     )
 
--- the slack bits of a value up to r give the slack this value
+-- The slack bits of a value up to r give the slack this value. This is the other half.
 pub slack_reaches : (y : List Bool) (first r v : ℕ) → v ≤ r → HasBits y first (value_bits r v)
     → slack_value y first (slack_weights r) ≡ v
 slack_reaches y first r v within = go (binary_digits r) (HasDigits-binary_digits r)
@@ -135,6 +144,7 @@ slack_reaches y first r v within = go (binary_digits r) (HasDigits-binary_digits
 
 -- ---- how many there are
 
+-- one weight for each step, and the last
 length-doubled : (b m last : ℕ) → length (doubled b m last) ≡ suc m
 length-doubled b zero last = refl
 length-doubled b (suc m) last = ap suc (length-doubled (2 * b) m last)
@@ -147,6 +157,7 @@ length-slack_weights r = go (binary_digits r)
     go zero = refl
     go (suc m) = length-doubled 1 m (last_weight r m)
 
+-- as many bits as there are weights
 length-digit_bits : (m v : ℕ) (t : Bool) → length (digit_bits m v t) ≡ suc m
 length-digit_bits zero v t = refl
 length-digit_bits (suc m) v t = ap suc (length-digit_bits m (v / 2) t)

@@ -1,4 +1,8 @@
 -- The terms of a square cost the square. Nothing here has to be believed.
+--
+-- A term costs its coefficient where all its literals are true. The product of two terms has the
+-- union of their literals, which are all true just where both sets are; where the union has a
+-- literal beside its complement it is never true, and no term stands for it.
 use Rattle.std.proofs.Common.{◌≡◌, ℕ, suc, ◌*◌, Bool, true, false, cond, ◌&&◌, refl, sym, ap, ◌∙◌, arith, List, [], ◌∷◌, ◌++◌, map, get_or, ℤ, pos, ◌+ℤ◌, ◌*ℤ◌, neg_ℤ}
 use Rattle.std.specs.Prelude.{if◌then◌else◌}
 use Rattle.std.proofs.lemmas.Int.{ints}
@@ -20,10 +24,12 @@ use Rattle.penalty_layer.specs.Squares.{product_term, square_terms, slack_terms,
 
 -- ---- a union is true where both sets are, and never where it clashes
 
+-- the conjunction of three tests may be read from either side
 and_assoc : (a b c : Bool) → (a && (b && c)) ≡ ((a && b) && c)
 and_assoc true b c = refl
 and_assoc false b c = refl
 
+-- literals in a row are all true where those of both parts are
 all_hold-append : (y : List Bool) (ls ks : List Literal)
     → all_hold y (ls ++ ks) ≡ (all_hold y ls && all_hold y ks)
 all_hold-append y [] ks = refl
@@ -31,24 +37,29 @@ all_hold-append y (l ∷ ls) ks =
     ap (λ b. holds y l && b) (all_hold-append y ls ks)
     ∙ and_assoc (holds y l) (all_hold y ls) (all_hold y ks)
 
+-- and so are those of a union, in which what both have stands once
 all_hold-union : (y : List Bool) (ls ks : List Literal)
     → all_hold y (union ls ks) ≡ (all_hold y ls && all_hold y ks)
 all_hold-union y ls ks = list_all-literal_set (holds y) (ls ++ ks) ∙ all_hold-append y ls ks
 
 -- ---- products
 
+-- a number times 0 is 0
 times_zero : (c : ℤ) → c *ℤ pos 0 ≡ pos 0
 times_zero c = omega (arith, ints)
 
+-- and so is 0 times a number
 zero_times : (c : ℤ) → pos 0 *ℤ c ≡ pos 0
 zero_times c = omega (arith, ints)
 
+-- what counts under two tests is the product of what counts under each
 both_times : (a b : Bool) (c d : ℤ) → if_so (a && b) (c *ℤ d) ≡ if_so a c *ℤ if_so b d
 both_times true true c d = refl
 both_times true false c d = sym (times_zero c)
 both_times false true c d = sym (zero_times d)
 both_times false false c d = refl
 
+-- so the product of two terms costs the product of their costs
 product_terms-cost : (y : List Bool) (t u : Term)
     → terms_cost y (product_terms t u) ≡ term_cost y t *ℤ term_cost y u
 product_terms-cost y t u =
@@ -70,17 +81,21 @@ products_with-cost y t us =
     ∙ total_by-same _ (λ u. term_cost y t *ℤ term_cost y u) us (product_terms-cost y t)
     ∙ total_by-times (term_cost y t) (term_cost y) us
 
+-- a factor may be taken out of what counts under a test
 if_so-times : (b : Bool) (c d : ℤ) → if_so b (c *ℤ d) ≡ c *ℤ if_so b d
 if_so-times true c d = refl
 if_so-times false c d = sym (times_zero c)
 
+-- the square of a sum, multiplied out: both squares, and twice the product
 square_of_sum : (f a s : ℤ)
     → f *ℤ (a *ℤ a) +ℤ (((f +ℤ f) *ℤ a) *ℤ s +ℤ f *ℤ (s *ℤ s)) ≡ f *ℤ ((a +ℤ s) *ℤ (a +ℤ s))
 square_of_sum f a s = simp multiply_out (omega (arith, integers))
 
+-- twice a number is the number and itself
 twice : (n : ℕ) → pos (2 * n) ≡ pos n +ℤ pos n
 twice n = omega (arith, ints)
 
+-- a term's own square is true where the term is
 own_square : (b : Bool) (f c : ℤ) → if_so b (f *ℤ (c *ℤ c)) ≡ f *ℤ (if_so b c *ℤ if_so b c)
 own_square true f c = refl
 own_square false f c = sym (times_zero f)
@@ -101,10 +116,12 @@ square_terms-cost y n (t ∷ ts) =
 
 -- ---- what a constraint is off by
 
+-- the weight of a slack bit is taken off where the bit is 1
 weight_taken : (b : Bool) (w : ℕ) → if_so (b && true) (neg_ℤ (pos w)) ≡ neg_ℤ (pos (cond b w 0))
 weight_taken true w = refl
 weight_taken false w = refl
 
+-- so the terms of slack bits cost minus the slack
 slack_terms-cost : (y : List Bool) (first : ℕ) (ws : List ℕ)
     → terms_cost y (slack_terms first ws) ≡ neg_ℤ (pos (slack_value y first ws))
 slack_terms-cost y first [] = refl
@@ -116,6 +133,7 @@ slack_terms-cost y first (w ∷ ws) =
       slack_terms-cost y (suc first) ws,
     )
 
+-- and those of a constraint cost what it is off by
 slack_form-cost : (y : List Bool) (first : ℕ) (k : Constraint)
     → terms_cost y (slack_form first k) ≡ excess y first k
 slack_form-cost y first k =

@@ -1,4 +1,8 @@
 -- The costs of products and clauses under one assignment. Nothing here has to be believed.
+--
+-- The penalty is one more than what the objective and the soft clauses can gain: the objective lies
+-- between what its negative coefficients come to and what its positive ones do, and a soft clause
+-- adds between 0 and its weight.
 use Rattle.std.proofs.Common.{◌≡◌, ℕ, Bool, true, false, not, cond, ◌&&◌, ◌||◌, List, [], ◌∷◌, map, get_or, Option, Some, None, ℤ, pos, negsuc, ◌+ℤ◌, ◌≤ℤ◌, unsigned_abs, refl, sym, ap, ◌∙◌, arith}
 use Rattle.std.specs.Prelude.{unwrap_or}
 use Rattle.std.specs.List.{list_any, sum_by}
@@ -19,6 +23,7 @@ use Rattle.penalty_layer.specs.Squares.{product_term}
 
 -- ---- a clause is violated where the complements of its literals are all true
 
+-- the complement of a literal is true where the literal is not
 holds-opposite : (bit negated : Bool)
     → cond (not negated) (not bit) bit ≡ not (cond negated (not bit) bit)
 holds-opposite true true = refl
@@ -26,6 +31,7 @@ holds-opposite true false = refl
 holds-opposite false true = refl
 holds-opposite false false = refl
 
+-- none of two is true where both are false
 not-or : (a b : Bool) → not (a || b) ≡ (not a && not b)
 not-or true b = refl
 not-or false b = refl
@@ -38,7 +44,8 @@ all_hold-opposite x (l ∷ ls) =
     (λ i. holds-opposite (get_or x l.variable false) l.negated i && all_hold-opposite x ls i)
     ∙ sym (not-or (holds x l) (some_holds x ls))
 
--- what a clause adds, where a hard one weighs n
+-- what a clause adds, where a hard one weighs n: its weight where no literal of it is true, and
+-- else 0
 abbrev pub clause_cost : List Bool → ℕ → Clause → ℤ
 clause_cost x n c = if_so (is_violated x c) (pos (unwrap_or c.weight n))
 
@@ -65,6 +72,7 @@ clause_not_negative x n c = go (is_violated x c)
     go true = omega (arith, ints)
     go false = omega (arith, ints)
 
+-- a violated hard clause adds n
 clause_at_least : (x : List Bool) (n : ℕ) (c : Clause) → fails_hard x c ≡ true
     → pos n ≤ℤ clause_cost x n c
 clause_at_least x n c = go c.weight (is_violated x c)
@@ -75,6 +83,7 @@ clause_at_least x n c = go c.weight (is_violated x c)
     go None false h = cc
     go (Some w) t h = cc
 
+-- any other clause adds what the soft clauses of the problem add
 clause_soft : (x : List Bool) (n : ℕ) (c : Clause) → fails_hard x c ≡ false
     → clause_cost x n c ≡ soft_cost x c
 clause_soft x n c = go c.weight (is_violated x c)
@@ -85,7 +94,7 @@ clause_soft x n c = go c.weight (is_violated x c)
     go None false h = refl
     go (Some w) t h = refl
 
--- so do all clauses
+-- so do all clauses together
 pub clauses_not_negative : (x : List Bool) (n : ℕ) (cs : List Clause)
     → pos 0 ≤ℤ total_by (clause_cost x n) cs
 clauses_not_negative x n [] = omega (arith, ints)
@@ -135,12 +144,14 @@ soft_costs_upper x (c ∷ cs) =
 
 -- ---- the objective lies between what is negative and what is positive
 
+-- a coefficient counts no less than its positive part less its size
 one_lower : (t : Bool) (c : ℤ) → pos (positive_part c) ≤ℤ (if_so t c +ℤ pos (unsigned_abs c))
 one_lower true (pos n) = omega (arith, ints)
 one_lower true (negsuc n) = omega (arith, ints)
 one_lower false (pos n) = omega (arith, ints)
 one_lower false (negsuc n) = omega (arith, ints)
 
+-- and no more than its positive part
 one_upper : (t : Bool) (c : ℤ) → if_so t c ≤ℤ pos (positive_part c)
 one_upper true (pos n) = omega (arith, ints)
 one_upper true (negsuc n) = omega (arith, ints)

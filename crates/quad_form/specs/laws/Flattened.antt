@@ -58,6 +58,7 @@ two_out n m v w c =
     then one_out m w c ++ with_front v (one_out m w (neg_ℤ c))
     else with_front v (one_out m w c)
 
+-- a term of one literal gives the constant and a node
 flat_one : (width : ℕ) (l : Literal) (c : ℤ) → l.variable < width
     → AreFlat width (plain_terms (l ∷ []) c)
 flat_one width l c in' = go l.negated
@@ -69,6 +70,7 @@ flat_one width l c in' = go l.negated
     go true = (tt, (variable, tt))
     go false = (variable, tt)
 
+-- one of two literals gives the constant, two nodes and a coupler, as far as they have complements
 flat_two : (width : ℕ) (l k : Literal) (c : ℤ) → l.variable < k.variable → k.variable < width
     → AreFlat width (plain_terms (l ∷ k ∷ []) c)
 flat_two width l k c up in' = go l.negated k.negated
@@ -85,6 +87,7 @@ flat_two width l k c up in' = go l.negated k.negated
     go false true = (first, ((first, second, up), tt))
     go false false = ((first, second, up), tt)
 
+-- so a term of at most two literals gives sets that have a place
 flat_term : (width : ℕ) (ls : List Literal) (c : ℤ) → IsLiteralSet width ls → length ls ≤ 2
     → AreFlat width (plain_terms ls c)
 flat_term width [] c set short = (tt, tt)
@@ -134,6 +137,7 @@ node_grown y n zero node (w ∷ ws) c in' same =
 node_grown y n (suc i) node (w ∷ ws) c in' same =
     omega (arith, ints, node_grown y (suc n) i node ws c (omega arith) (omega arith))
 
+-- a set of one variable is true where its bit is 1
 all_hold-one : (y : List Bool) (l : Literal) → l.negated ≡ false
     → all_hold y (l ∷ []) ≡ bit_at y l.variable
 all_hold-one y l is = go l.negated (bit_at y l.variable) is
@@ -143,6 +147,7 @@ all_hold-one y l is = go l.negated (bit_at y l.variable) is
     go false true is = refl
     go false false is = refl
 
+-- a set of two where both bits are
 all_hold-two : (y : List Bool) (l k : Literal) → l.negated ≡ false → k.negated ≡ false
     → all_hold y (l ∷ k ∷ []) ≡ (bit_at y l.variable && bit_at y k.variable)
 all_hold-two y l k is ks =
@@ -161,6 +166,7 @@ length-with_term q ([], c) = refl
 length-with_term q (l ∷ [], c) = length-set q.diagonal l.variable _
 length-with_term q (l ∷ k ∷ ls, c) = refl
 
+-- a term in its place adds to the value what it costs
 quad_value-with_term : (y : List Bool) (q : QuadContent) (ls : List Literal) (c : ℤ)
     → IsFlat (length q.diagonal) ls
     → quad_value (with_term q (ls, c)) y ≡ quad_value q y +ℤ term_cost y (ls, c)
@@ -192,6 +198,7 @@ quad_value-with_term y q (l ∷ k ∷ []) c flat =
     )
 quad_value-with_term y q (l ∷ k ∷ m ∷ ls) c flat = absurd flat
 
+-- and so do all terms, one after another
 quad_value-fold : (y : List Bool) (q : QuadContent) (width : ℕ) (ts : List Term)
     → length q.diagonal ≡ width → AreFlat width ts
     → quad_value (fold with_term q ts) y ≡ quad_value q y +ℤ terms_cost y ts
@@ -205,6 +212,7 @@ quad_value-fold y q width (t ∷ ts) same flat =
       quad_value-with_term y q t.0 t.1 (subst P (sym same) flat.0),
     )
 
+-- a form of zeros has the value 0
 quad_value-zero : (y : List Bool) (n width : ℕ)
     → total_by (bits_energy y) (node_entries n (replicate width (pos 0)) ++ []) ≡ pos 0
 quad_value-zero y n zero = refl

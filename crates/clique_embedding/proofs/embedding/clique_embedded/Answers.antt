@@ -4,8 +4,7 @@ use Rattle.chimera_graph.specs.Graph.{qubits_of}
 use Rattle.chain_map.specs.Cliques.{clique_of, clique_places}
 use Rattle.embedding_check.specs.Embeddings.{Embedding}
 use Rattle.embedding_check.specs.Checked.{IsChecked}
-use Rattle.clique_embedding.specs.Placing.{clique_place}
-use Rattle.clique_embedding.proofs.LeastMeetings.{joined_on}
+use Rattle.clique_embedding.specs.Placing.{clique_place, joined_on}
 use Rattle.clique_embedding.proofs.CliqueEmbeds.{made_of_parts, made_checked, made_embeds}
 use Rattle.clique_embedding.proofs.embedding.clique_embedded.Goals as goal
 

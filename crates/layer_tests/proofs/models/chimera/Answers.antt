@@ -1,6 +1,7 @@
 use Rattle.std.proofs.Common.{pos, rules}
 use Rattle.bits_model.specs.declared.output.Kind.TheVariants.{Chimera}
-use Rattle.layer_tests.proofs.SmallModels.{is_swapped, kept, swapped}
+use Rattle.layer_tests.specs.Models.{swapped}
+use Rattle.layer_tests.proofs.SmallModels.{is_swapped, kept}
 use Rattle.layer_tests.proofs.models.chimera.Goals as goal
 
 pub invariant_of-model : goal.invariant_of-model

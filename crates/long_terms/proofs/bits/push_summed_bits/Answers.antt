@@ -8,9 +8,9 @@ use Rattle.problem_form.specs.declared.terms.Product.{Product}
 use Rattle.monomial_layer.specs.Monomials.{new_bits}
 use Rattle.long_terms.specs.declared.additions.Keyed.{Keyed}
 use Rattle.long_terms.specs.declared.counted.Counted.{Counted}
-use Rattle.long_terms.specs.CountedSets.{counted_bits}
+use Rattle.long_terms.specs.CountedSets.{counted_bits, counts_of}
 use Rattle.long_terms.specs.Long.{set_at, summed_term, sums_with}
-use Rattle.long_terms.proofs.CountedBits.{counts_of, count_at}
+use Rattle.long_terms.proofs.CountedBits.{count_at}
 use Rattle.long_terms.proofs.Neighbours.{index_at, left}
 use Rattle.long_terms.proofs.SummedBits.{bits_with, put_in}
 use Rattle.long_terms.proofs.bits.push_summed_bits.Goals as goal

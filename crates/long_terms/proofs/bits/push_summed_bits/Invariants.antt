@@ -4,7 +4,7 @@ use Rattle.term_table.specs.Terms.{terms_total}
 use Rattle.term_table.specs.Summed.{sums_of}
 use Rattle.monomial_layer.specs.Monomials.{new_bits}
 use Rattle.long_terms.specs.Long.{additions_at}
-use Rattle.long_terms.proofs.CountedBits.{counts_of}
+use Rattle.long_terms.specs.CountedSets.{counts_of}
 use Rattle.long_terms.proofs.Neighbours.{left}
 use Rattle.long_terms.proofs.SummedBits.{bits_with}
 use Rattle.long_terms.proofs.bits.push_summed_bits.Given as goal

@@ -1,5 +1,5 @@
 use Rattle.std.proofs.Common.{◌≡◌, take}
-use Rattle.long_terms.proofs.CountedBits.{counts_of}
+use Rattle.long_terms.specs.CountedSets.{counts_of}
 use Rattle.long_terms.proofs.counted.counted_sets.Given as goal
 
 -- the sets so far are counted

@@ -2,9 +2,9 @@ use Rattle.std.proofs.Common.{map, string_bytes}
 use Rattle.command_words.specs.declared.names.Which.TheVariants.{Source}
 use Rattle.command_words.specs.Names.{name_of, if_named}
 use Rattle.run_steps.proofs.FilesRead.{refused_first, refused_then}
-use Rattle.run_steps.proofs.Holding.{board_files, may_board, may_source, of_model_files}
+use Rattle.run_steps.proofs.Holding.{may_board, may_source, of_model_files}
 use Rattle.run_steps.proofs.Planned.{plan_gives, source_refuses, placement_refuses}
-use Rattle.run_steps.specs.Causes.{AreRead, AreRefused}
+use Rattle.run_steps.specs.Causes.{AreRead, AreRefused, board_files}
 use Rattle.run_steps.proofs.FilesRead.{read_then}
 use Rattle.run_steps.proofs.plans.take_plan.Goals as goal
 
