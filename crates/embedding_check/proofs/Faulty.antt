@@ -88,28 +88,19 @@ pub is_inside : (qubits : ℕ) (f : IsingContent) (map : List (List ℕ)) → le
     → ((u : ℕ) → u < length map → (j : ℕ) → j < length (chain_of map u) → Exists qubits map u j)
     → IsInside qubits f map
 is_inside qubits f map counted filled within = record {
-  counted = counted;
-  filled = is_filled map filled;
+  listed = record { listed = record { counted = counted }; filled = is_filled map filled };
   within = all_of_places map (λ chain q. q < qubits) within;
 }
 
 pub is_apart : (qubits : ℕ) (f : IsingContent) (map : List (List ℕ)) → IsInside qubits f map
     → ((q : ℕ) → occurrences q map ≤ 1) → IsApart qubits f map
-is_apart qubits f map inside once = record {
-  counted = inside.counted;
-  filled = inside.filled;
-  within = inside.within;
-  once = once;
-}
+is_apart qubits f map inside once = record { inside = inside; once = once }
 
 pub is_linked : (joined : Joins) (qubits : ℕ) (f : IsingContent) (map : List (List ℕ)) → IsApart qubits f map
     → ((u : ℕ) → u < length map → (j : ℕ) → j < length (chain_of map u) → IsReachedAt joined map u j)
     → IsLinked joined qubits f map
 is_linked joined qubits f map apart reached = record {
-  counted = apart.counted;
-  filled = apart.filled;
-  within = apart.within;
-  once = apart.once;
+  apart = apart;
   connected = all_of_places map (IsReached joined) reached;
 }
 
@@ -117,12 +108,12 @@ pub is_valid : (joined : Joins) (qubits : ℕ) (f : IsingContent) (map : List (L
     → IsLinked joined qubits f map
     → AllZip (λ (c : Entry) place. IsPlace joined (chain_of map c.first) (chain_of map c.second) place) f.couplings places
     → IsValid joined qubits f map
-is_valid joined qubits f map places connected placed = record {
-  counted = connected.counted;
-  filled = connected.filled;
-  within = connected.within;
-  once = connected.once;
-  connected = connected.connected;
+is_valid joined qubits f map places linked placed = record {
+  counted = linked.apart.inside.listed.listed.counted;
+  filled = linked.apart.inside.listed.filled;
+  within = linked.apart.inside.within;
+  once = linked.apart.once;
+  connected = linked.connected;
   coupled = zip_all (λ (c : Entry) place. IsPlace joined (chain_of map c.first) (chain_of map c.second) place)
       (λ (c : Entry). (pair : ℕ × ℕ) × IsCrossing joined (chain_of map c.first) (chain_of map c.second) pair)
       f.couplings places

@@ -49,30 +49,24 @@ IsReachedAt joined map u j = IsReached joined (chain_of map u) (number_at map u 
 pub record IsCounted (f : IsingContent) (map : List (List ℕ)) : Type 0 where
   pub counted : length map ≡ length f.fields
 
--- there are as many chains as nodes, and none is empty
+-- .. and none is empty
 pub record IsFilled (f : IsingContent) (map : List (List ℕ)) : Type 0 where
-  pub counted : length map ≡ length f.fields
+  pub listed : IsCounted f map
   pub filled : All (λ chain. chain ≢ []) map
 
--- there are as many chains as nodes, none is empty, and all their qubits exist
+-- .. and all their qubits exist
 pub record IsInside (qubits : ℕ) (f : IsingContent) (map : List (List ℕ)) : Type 0 where
-  pub counted : length map ≡ length f.fields
-  pub filled : All (λ chain. chain ≢ []) map
+  pub listed : IsFilled f map
   pub within : All (λ chain. All (λ q. q < qubits) chain) map
 
--- each node has a chain that is not empty, of qubits that exist, and no qubit is listed twice
+-- .. and no qubit is listed twice
 pub record IsApart (qubits : ℕ) (f : IsingContent) (map : List (List ℕ)) : Type 0 where
-  pub counted : length map ≡ length f.fields
-  pub filled : All (λ chain. chain ≢ []) map
-  pub within : All (λ chain. All (λ q. q < qubits) chain) map
+  pub inside : IsInside qubits f map
   pub once : (q : ℕ) → occurrences q map ≤ 1
 
--- each node has a connected chain that is not empty, of qubits that exist, none listed twice
+-- .. and each chain is connected: a walk inside it leads from its first qubit to each of its own
 pub record IsLinked (joined : Joins) (qubits : ℕ) (f : IsingContent) (map : List (List ℕ)) : Type 0 where
-  pub counted : length map ≡ length f.fields
-  pub filled : All (λ chain. chain ≢ []) map
-  pub within : All (λ chain. All (λ q. q < qubits) chain) map
-  pub once : (q : ℕ) → occurrences q map ≤ 1
+  pub apart : IsApart qubits f map
   pub connected : All (λ chain. All (IsReached joined chain) chain) map
 
 -- ---- the faults
