@@ -233,17 +233,3 @@ fits-long h k ls c held low set high total constant weights pairs long =
           (subst (All (λ (q : Product). IsTermSet n q.literals)) (sym long)
           (All-push (λ (q : Product). IsTermSet n q.literals) h.long p held.sets set));
     }
-
--- ---- how many pairs there are
-
--- at most one, where there are two literals
-pub few-short : (ls : List Literal) (c : ℤ) → length ls ≤ 2 → 4 * length (short_couplers (ls, c)) ≤ length ls ^ 2
-few-short [] c short = omega arith
-few-short (l ∷ []) c short = omega arith
-few-short (l ∷ k ∷ []) c short = omega arith
-few-short (l ∷ k ∷ m ∷ ls) c short = absurd (omega arith)
-
-pub more-pairs : (old new : List Entry) (ls : List Literal) (c : ℤ) → length ls ≤ 2
-    → new ≡ old ++ short_couplers (ls, c) → 4 * length new ≤ 4 * length old + length ls ^ 2
-more-pairs old new ls c short pushed =
-    omega (arith, ap length pushed, length-append old (short_couplers (ls, c)), few-short ls c short)

@@ -23,3 +23,7 @@ pub mod FlatTables
 pub mod RoomForSums
 pub mod HeldParts
 pub mod NoNewNodes
+pub mod Formed
+pub mod LongRuns
+pub mod HeldRuns
+pub mod ProblemTerms

@@ -9,7 +9,6 @@ use Rattle.problem_form.specs.declared.terms.Product.{Product}
 use Rattle.problem_form.specs.Problems.{products_total}
 use Rattle.term_table.specs.Terms.{Term, terms_total, IsTermSet}
 use Rattle.term_table.specs.Tables.{TableContent}
-use Rattle.penalty_layer.specs.Gathered.{squares}
 use Rattle.pair_sums.specs.Pairs.{IsPair}
 use Rattle.long_terms.specs.Apart.{short_terms, long_additions}
 use Rattle.direct_quad.specs.Places.{Share, share_at, short_couplers, short_shares, short_constant}
@@ -39,7 +38,6 @@ pub record AreHeld (t : TableContent) (h : HeldContent) : Type 0 where
 pub record HasPlaces (h : HeldContent) (ts : List Term) : Type 0 where
   pub sets : All (λ u. IsTermSet (length h.weights) u.0) ts
   pub total : h.total + terms_total ts ≤ 2 ^ 97
-  pub few : 4 * length h.pairs + squares ts ≤ 2 ^ 33
 
 -- the numbers fit their fields, and all is over the variables
 pub record IsHeld (h : HeldContent) : Type 0 where

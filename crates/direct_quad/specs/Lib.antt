@@ -4,6 +4,7 @@ pub mod Gathered
 pub mod Rows
 pub mod Stated
 pub mod Direct
+pub mod ByPairs
 pub mod FlatMonomials
 pub mod laws
 pub mod RowSums

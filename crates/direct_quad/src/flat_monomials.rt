@@ -1,6 +1,6 @@
 //! The layer from a table to its quadratic form.
 ghost use Rattle.std.specs.Prelude.{◌≡◌, ◌+◌, ◌*◌, ◌≤◌, ◌^◌, IfOk, OnOk, length};
-ghost use Rattle.term_table.specs.Terms.{terms_size, terms_total};
+ghost use Rattle.term_table.specs.Terms.{terms_total};
 ghost use Rattle.term_table.specs.Tables.{IsTable, TableContent, table_size, with_more};
 ghost use Rattle.direct_quad.specs.Held.{AreHeld};
 ghost use Rattle.direct_quad.specs.FlatMonomials.{image};
@@ -23,7 +23,6 @@ pub struct FlatMonomials;
 fn add_terms(terms: &mut DirectTerms, table: &Table) -> Result<(), NoMemory>
     requires width { length terms.old.weights ≡ table.now.content.width }
     requires total { terms.old.total + terms_total table.now.content.terms ≤ 2 ^ 97 }
-    requires few { 4 * length terms.old.pairs + terms_size table.now.content.terms ≤ 2 ^ 29 }
     ensures added { (t : TableContent) → AreHeld t terms.old
         → OnOk result (AreHeld (with_more t table.now.content.terms) terms.new) }
 

@@ -85,7 +85,6 @@ impl DirectTerms {
         ensures empty { IfOk result (AreHeld (record { width = width; terms = [] })) }
         ensures width { IfOk result (λ terms. length terms.weights ≡ width) }
         ensures total { IfOk result (λ terms. terms.total ≡ 0) }
-        ensures pairs { IfOk result (λ terms. length terms.pairs ≡ 0) }
     {
         Ok(DirectTerms {
             total: 0,
@@ -102,13 +101,10 @@ impl DirectTerms {
         requires set { IsTermSet (length self.old.weights) literals.now }
         requires short { length literals.now ≤ 2 }
         requires small { self.old.total + unsigned_abs coefficient ≤ 2 ^ 97 }
-        requires few { length self.old.pairs + 1 < 2 ^ 32 }
         ensures added { (t : TableContent) → AreHeld t self.old
             → OnOk result (AreHeld (with_appended t literals.now coefficient) self.new) }
         ensures width { OnOk result (length self.new.weights ≡ length self.old.weights) }
         ensures total { OnOk result (self.new.total ≡ self.old.total + unsigned_abs coefficient) }
-        ensures pairs { OnOk result (4 * length self.new.pairs
-            ≤ 4 * length self.old.pairs + length literals.now ^ 2) }
         ensures unchanged { OnErr result (self.new ≡ self.old) }
     {
         push_short(&mut self.pairs, literals, coefficient)?;
@@ -127,7 +123,6 @@ impl DirectTerms {
             → OnOk result (AreHeld (with_appended t literals.now coefficient) self.new) }
         ensures width { OnOk result (length self.new.weights ≡ length self.old.weights) }
         ensures total { OnOk result (self.new.total ≡ self.old.total + unsigned_abs coefficient) }
-        ensures pairs { OnOk result (self.new.pairs ≡ self.old.pairs) }
         ensures unchanged { OnErr result (self.new ≡ self.old) }
     {
         self.long.push(literals, coefficient)?;
@@ -140,13 +135,10 @@ impl DirectTerms {
     pub fn add(&mut self, literals: &[Literal], coefficient: i128) -> Result<(), NoMemory>
         requires set { IsTermSet (length self.old.weights) literals.now }
         requires small { self.old.total + unsigned_abs coefficient ≤ 2 ^ 97 }
-        requires few { length self.old.pairs + 1 < 2 ^ 32 }
         ensures added { (t : TableContent) → AreHeld t self.old
             → OnOk result (AreHeld (with_appended t literals.now coefficient) self.new) }
         ensures width { OnOk result (length self.new.weights ≡ length self.old.weights) }
         ensures total { OnOk result (self.new.total ≡ self.old.total + unsigned_abs coefficient) }
-        ensures pairs { OnOk result (4 * length self.new.pairs
-            ≤ 4 * length self.old.pairs + length literals.now ^ 2) }
         ensures unchanged { OnErr result (self.new ≡ self.old) }
     {
         if literals.len() <= 2 {
@@ -168,7 +160,6 @@ impl DirectTerms {
         ensures short { (t : TableContent) → AreHeld t self → AreHeld (short_part t) result.0 }
         ensures long { result.1 ≡ self.long }
         ensures width { length result.0.weights ≡ length self.weights }
-        ensures pairs { result.0.pairs ≡ self.pairs }
     {
         let DirectTerms {
             total,
@@ -195,7 +186,6 @@ impl DirectTerms {
             → IfOk result (AreHeld (record t { width = nodes })) }
         ensures width { IfOk result (λ terms. length terms.weights ≡ nodes) }
         ensures total { IfOk result (λ terms. terms.total ≡ self.total) }
-        ensures pairs { IfOk result (λ terms. terms.pairs ≡ self.pairs) }
     {
         let DirectTerms {
             total,

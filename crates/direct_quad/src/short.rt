@@ -91,7 +91,6 @@ pub(crate) fn push_short(
 ) -> Result<(), NoMemory>
     requires narrow { All (λ l. l.variable < 2 ^ 32) literals.now }
     requires small { unsigned_abs coefficient ≤ 2 ^ 126 }
-    requires few { length pairs.old + 1 < 2 ^ 32 }
     ensures pushed { OnOk result (pairs.new
         ≡ pairs.old ++ short_couplers (literals.now, coefficient)) }
     ensures unchanged { OnErr result (pairs.new ≡ pairs.old) }

@@ -9,4 +9,5 @@ pub mod Marks
 pub mod Least
 pub mod Owners
 pub mod Noted
+pub mod CliquePlaces
 pub mod Stated

@@ -21,11 +21,13 @@ use Rattle.normal_form.specs.Multilinear.{multiplied, Admits, IsSmall}
 use Rattle.normal_form.proofs.Limits.{penalty_admits}
 use Rattle.normal_form.proofs.MultipliedOut.{AreAdditions-multiplied_out, small-additions, total-multiplied}
 use Rattle.normal_form.proofs.Sizes.{size_within, squares-multiplied}
+use Rattle.monomial_layer.specs.Monomials as monomials
 use Rattle.monomial_layer.proofs.Sizes.{all_nodes-le}
 use Rattle.quad_form.specs.Quads.{quad_size, quad_total}
 use Rattle.long_terms.specs.Apart.{table_of}
 use Rattle.direct_quad.specs.Direct.{additions_of}
 use Rattle.direct_quad.specs.Held.{HeldContent, AreHeld, HasPlaces}
+use Rattle.direct_quad.specs.FlatMonomials as flat_monomials
 use Rattle.direct_quad.specs.Stated.{IsWithin}
 use Rattle.long_terms.proofs.Apart.{IsTable-table_of}
 use Rattle.direct_quad.specs.laws.FlatKept.{first, second, fits_first, fits_second}
@@ -33,8 +35,7 @@ use Rattle.direct_quad.proofs.MultipliedOut.{sum_for-with_additions}
 use Rattle.direct_quad.proofs.AtOnce.{size-grows, total-grows}
 use Rattle.direct_quad.proofs.RoomForSums.{places_at_first}
 use Rattle.direct_quad.proofs.Split.{nodes-table}
-use Rattle.direct_rosenberg.specs.ByPairs.{FitsByPairs}
-use Rattle.direct_rosenberg.proofs.ProblemTerms.{pairs-few}
+use Rattle.direct_quad.specs.ByPairs.{FitsByPairs}
 use Rattle.model_pipeline.specs.Formed.{HasRoom, IsFormed}
 use Rattle.model_pipeline.specs.Models.{quad_by}
 use Rattle.model_pipeline.proofs.PairForms.{flat_link, pair_link, pair_size, pair_total}
@@ -97,15 +98,15 @@ IsWithin-plain p admitted =
 
 -- there is room for it where nothing is held
 pub room-plain : (p : ProblemContent) (h : HeldContent) → Admits p → length h.weights ≡ penalty.node_count p
-    → h.total ≡ 0 → length h.pairs ≡ 0
+    → h.total ≡ 0
     → (more : List Term)
     × (HasPlaces h (contributions (penalty.contributions p ++ more)) × All IsSmall (penalty.contributions p ++ more))
-room-plain p h admitted wide total pairs =
+room-plain p h admitted wide total =
     let ts = penalty.contributions p in
     let additions = AreAdditions-multiplied_out p admitted in
     let places =
-    places_at_first h (contributions ts) (penalty.node_count p) wide total pairs additions.sets
-    (omega (arith, total-multiplied p admitted)) (omega (arith, squares-multiplied p admitted.within)) in
+    places_at_first h (contributions ts) (penalty.node_count p) wide total additions.sets
+    (omega (arith, total-multiplied p admitted)) in
     ([], subst (λ us. HasPlaces h (contributions us) × All IsSmall us) (sym (append-nil ts)) (places, small-additions p admitted))
 
 -- ---- the form stands for the problem
@@ -170,13 +171,6 @@ FitsByPairs-plain p admitted = record {
         ap table_size (table_of-plain p admitted),
       );
 }
-
--- its pairs are few
-pub few-plain : (p : ProblemContent) (h : HeldContent) → Admits p → AreHeld (plain_additions p) h
-    → 4 * length h.pairs ≤ 2 ^ 31
-few-plain p h admitted held =
-    pairs-few (plain_additions p) h (2 ^ 31) held
-    (omega (arith, squares-multiplied p admitted.within))
 
 pub IsTable-plain : (p : ProblemContent) → Admits p → IsTable (multilinear.image p)
 IsTable-plain p admitted =

@@ -20,8 +20,7 @@ ghost use Rattle.model_pipeline.specs.Sites.{
 
 use crate::site::{Perch, Qubits};
 use chain_map::{ChainMap, CheckAnswer};
-use clique_embedding::clique_embedded;
-use embedding_check::{Embedded, check};
+use embedding_check::{Embedded, check, clique_embedded};
 use ising_form::Ising;
 use std::alloc::Global;
 use working_graph::{Working, check_working, clique_working};

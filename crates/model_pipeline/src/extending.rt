@@ -16,8 +16,7 @@ ghost use Rattle.model_pipeline.specs.Extensions.{extension_of, IsLeastExtension
 use crate::forms::multilinear_terms;
 use crate::new_nodes::monomial_link;
 use base::NoMemory;
-use direct_quad::{DirectQuad, FlatMonomials};
-use direct_rosenberg::{with_pair_bits, with_pair_bits_of};
+use direct_quad::{DirectQuad, FlatMonomials, with_pair_bits, with_pair_bits_of};
 use form_steps::{BitsLink, Guard, Layer};
 use normal_form::MultilinearForm;
 use penalty_layer::{Penalty, node_count};

@@ -11,8 +11,7 @@ ghost use Rattle.model_pipeline.specs.Formed.{IsFormed};
 
 use crate::held::Held;
 use base::{Figures, NoMemory};
-use direct_quad::{DirectQuad, DirectTerms};
-use direct_rosenberg::{problem_terms, quad_by_pairs_of};
+use direct_quad::{DirectQuad, DirectTerms, problem_terms, quad_by_pairs_of};
 use form_steps::Guard;
 use normal_form::PlainTerms;
 use penalty_layer::{add_contributions, node_count};

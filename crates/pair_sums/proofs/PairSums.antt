@@ -133,27 +133,15 @@ ascending-push (f ∷ fs) e last up low less =
     )
 
 -- one more of them
-pub gathered-push : (es others : List Entry) (e : Entry) (last next : ℕ) → AreGathered es last others
-    → last < next → next ≡ pair_number e → IsNonzero e → length (es ++ others) + 1 < 2 ^ 32
-    → AreGathered (es ++ e ∷ []) next others
-gathered-push es others e last next held less is some few = record {
+pub gathered-push : (es : List Entry) (e : Entry) (last next : ℕ) → AreGathered es last → last < next
+    → next ≡ pair_number e → IsNonzero e → AreGathered (es ++ e ∷ []) next
+gathered-push es e last next held less is some = record {
   ascending = ascending-push es e last held.ascending held.upto (omega (arith, less, is));
   upto = All-push (λ (f : Entry). pair_number f ≤ next) es e
       (All-weaker (λ (f : Entry). pair_number f ≤ last) (λ (f : Entry). pair_number f ≤ next)
       (λ f le. omega (arith, le, less)) es held.upto)
       (omega (arith, is));
   nonzero = All-push IsNonzero es e held.nonzero some;
-  few = omega (arith, few, length-append es others, length-append es (e ∷ []));
-}
-
--- one more of the others
-pub gathered-other : (es others more : List Entry) (e : Entry) (last : ℕ) → AreGathered es last others
-    → more ≡ others ++ e ∷ [] → length (es ++ others) + 1 < 2 ^ 32 → AreGathered es last more
-gathered-other es others more e last held pushed few = record {
-  ascending = held.ascending;
-  upto = held.upto;
-  nonzero = held.nonzero;
-  few = omega (arith, few, ap length pushed, length-append es others, length-append others (e ∷ []));
 }
 
 rises : (es : List Entry) → AreAscending es → Rises es
@@ -162,7 +150,7 @@ rises (e ∷ es) up =
     (recursion_from_All (λ (f : Entry). pair_number e < pair_number f) es up.0, rises es up.1)
 
 -- they are summed already
-pub summed-ordered : (es : List Entry) (last : ℕ) (others : List Entry) → AreGathered es last others
+pub summed-ordered : (es : List Entry) (last : ℕ) (others : List Entry) → AreGathered es last
     → others ≡ [] → All (IsPair (2 ^ 32)) (es ++ others) → AreSummed (es ++ others) es
 summed-ordered es last others held none pairs =
     let whole : es ++ others ≡ es = ap (λ fs. es ++ fs) none ∙ append-nil es in

@@ -1,5 +1,5 @@
 -- Couplers that are held in as few bytes as their weights need, and their order.
-use Rattle.std.specs.Prelude.{ℕ, ◌+◌, ◌≤◌, ◌<◌, ◌^◌, List, [], ◌∷◌, map, length, All, ⊤}
+use Rattle.std.specs.Prelude.{ℕ, ◌≤◌, ◌<◌, List, [], ◌∷◌, map, All, ⊤}
 use Rattle.bits_model.specs.declared.output.Entry.{Entry}
 use Rattle.bits_model.specs.PairNumbers.{pair_number}
 use Rattle.pair_sums.specs.Pairs.{IsNonzero}
@@ -18,10 +18,8 @@ abbrev pub AreAscending : List Entry → Type 0
 AreAscending [] = ⊤
 AreAscending (e ∷ es) = All (λ f. pair_number e < pair_number f) es × AreAscending es
 
--- some couplers came in order, none of them 0 and no pair above the last number, and there are few
--- of these and the others
-pub record AreGathered (ordered : List Entry) (last : ℕ) (others : List Entry) : Type 0 where
+-- couplers that came in order: none of them is 0, and no pair lies above the last number
+pub record AreGathered (ordered : List Entry) (last : ℕ) : Type 0 where
   pub ascending : AreAscending ordered
   pub upto : All (λ e. pair_number e ≤ last) ordered
   pub nonzero : All IsNonzero ordered
-  pub few : length ordered + length others < 2 ^ 32

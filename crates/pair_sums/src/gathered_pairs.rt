@@ -25,7 +25,7 @@ pub struct GatheredPairs {
 }
 
 impl Model for GatheredPairs {
-    ghost use Rattle.std.specs.Prelude.{◌<◌, ◌^◌, ◌++◌, List, length};
+    ghost use Rattle.std.specs.Prelude.{◌++◌, List};
     ghost use Rattle.bits_model.specs.declared.output.Entry.{Entry};
     ghost use Rattle.pair_sums.specs.PairLists.{AreGathered};
 
@@ -33,7 +33,7 @@ impl Model for GatheredPairs {
 
     ghost view = { λ a. a.ordered ++ a.others };
 
-    ghost invariant = { λ a. AreGathered a.ordered a.last a.others };
+    ghost invariant = { λ a. AreGathered a.ordered a.last };
 }
 
 /// The couplers of both lists.
@@ -70,7 +70,6 @@ impl GatheredPairs {
     /// Appends a coupler. Where memory is refused the list stays as it was.
     #[inline(always)]
     pub fn push(&mut self, first: u32, second: u32, weight: i128) -> Result<(), NoMemory>
-        requires few { length self.old + 1 < 2 ^ 32 }
         ensures pushed { OnOk result (self.new
             ≡ self.old ++ record { first = first; second = second; weight = weight } ∷ []) }
         ensures unchanged { OnErr result (self.new ≡ self.old) }

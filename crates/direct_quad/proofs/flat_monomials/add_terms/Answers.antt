@@ -5,7 +5,7 @@ use Rattle.std.proofs.lemmas.Map.Iter.{rest_more, rest_all}
 use Rattle.std.proofs.lemmas.List.Elements.{All-rest, All-same}
 use Rattle.term_table.specs.Terms.{Term, IsTermSet}
 use Rattle.term_table.proofs.Steps.{first_left}
-use Rattle.direct_quad.proofs.FlatTables.{added-all, added-few, added-fits, added-more, added-none, added-wide}
+use Rattle.direct_quad.proofs.FlatTables.{added-all, added-fits, added-more, added-none, added-wide}
 use Rattle.direct_quad.proofs.flat_monomials.add_terms.Goals as goal
 
 pub loop-literals-init : goal.loop-literals-init
@@ -34,11 +34,6 @@ add-requires-clause-small c =
     rw back
     (added-fits c.args.terms.now c.loop-literals.terms _ _ c.args.table.now.content.terms c.in-Some.literals.now _ left c.loop-literals.invariant.added c.requires.total)
 
-pub add-requires-clause-few : goal.add-requires-clause-few
-add-requires-clause-few c =
-    let left = rest_more _ c.loop-literals.literals-iterator c.next.new.self c.next.result (c.in-Some.literals, c.in-Some.coefficient) c.in-Some.is c.next.ensures.steps in
-    added-few c.args.terms.now c.loop-literals.terms _ _ c.args.table.now.content.terms c.in-Some.literals.now c.in-Some.coefficient left c.loop-literals.invariant.added c.requires.few
-
 pub loop-literals-preserved : goal.loop-literals-preserved
 loop-literals-preserved c =
     let left = rest_more _ c.loop-literals.literals-iterator c.next.new.self c.next.result (c.in-Some.literals, c.in-Some.coefficient) c.in-Some.is c.next.ensures.steps in
@@ -47,7 +42,7 @@ loop-literals-preserved c =
     record {
       added =
           added-more c.args.terms.now c.loop-literals.terms c.add.new.self _ _ c.args.table.now.content.terms c.in-Some.literals.now _ c.in-Some.coefficient
-          back left more.added more.width more.total more.pairs c.loop-literals.invariant.added;
+          back left more.added more.width more.total c.loop-literals.invariant.added;
       sets = All-rest (λ (u : Term). IsTermSet c.args.table.now.content.width u.0) _ _ _ left c.loop-literals.invariant.sets;
     }
 

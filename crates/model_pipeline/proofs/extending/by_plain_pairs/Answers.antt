@@ -3,7 +3,7 @@ use Rattle.std.proofs.lemmas.Result.{IfOk-weaker}
 use Rattle.rosenberg_layer.specs.Rosenberg as rosenberg
 use Rattle.normal_form.proofs.Limits.{penalty_admits}
 use Rattle.model_pipeline.proofs.LeastStates.{if_ok-always}
-use Rattle.model_pipeline.proofs.PlainForms.{few-plain, plain_additions, plain_room, table_of-plain, FitsByPairs-plain}
+use Rattle.model_pipeline.proofs.PlainForms.{plain_additions, plain_room, table_of-plain, FitsByPairs-plain}
 use Rattle.model_pipeline.proofs.extending.by_plain_pairs.Goals as goal
 
 pub node_count-requires : goal.node_count-requires

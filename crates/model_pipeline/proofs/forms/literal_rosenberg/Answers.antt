@@ -17,9 +17,10 @@ problem_terms-requires g c = record {
   within = ap (limit_fault Literal) c.problem.ensures.same ∙ c.requires;
 }
 
-pub quad_by_pairs_of-requires-clause-held : goal.quad_by_pairs_of-requires-clause-held
-quad_by_pairs_of-requires-clause-held g c =
-    (additions_of c.problem.result.now, c.in_ok-terms.ensures.room, c.in_ok-terms.ensures.held)
+pub quad_by_pairs_of-requires : goal.quad_by_pairs_of-requires
+quad_by_pairs_of-requires g c = record {
+  held = (additions_of c.problem.result.now, c.in_ok-terms.ensures.room, c.in_ok-terms.ensures.held);
+}
 
 pub returns-clause-image : goal.returns-clause-image
 returns-clause-image g c =

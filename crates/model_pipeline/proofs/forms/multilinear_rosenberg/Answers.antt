@@ -11,7 +11,7 @@ use Rattle.rosenberg_layer.specs.Rosenberg as rosenberg
 use Rattle.quad_form.specs.Flat as flat
 use Rattle.model_pipeline.specs.Models.{quad_by}
 use Rattle.model_pipeline.specs.Formed.{IsFormed}
-use Rattle.model_pipeline.proofs.PlainForms.{few-plain, formed-plain_pairs, plain_additions, table_of-plain, FitsByPairs-plain}
+use Rattle.model_pipeline.proofs.PlainForms.{formed-plain_pairs, plain_additions, table_of-plain, FitsByPairs-plain}
 use Rattle.model_pipeline.proofs.Standing.{formed_as}
 use Rattle.model_pipeline.proofs.forms.multilinear_rosenberg.Goals as goal
 
@@ -21,23 +21,14 @@ multilinear_terms-requires g c = record {
   within = ap (limit_fault Multilinear) c.problem-source.ensures.same ∙ c.requires;
 }
 
-pub quad_by_pairs_of-requires-clause-held : goal.quad_by_pairs_of-requires-clause-held
-quad_by_pairs_of-requires-clause-held g c =
+pub quad_by_pairs_of-requires : goal.quad_by_pairs_of-requires
+quad_by_pairs_of-requires g c =
     let p = c.problem-source.result.now in
     let admitted : Admits p = record {
       normal = subst IsNormal (sym c.problem-source.ensures.same) c.problem-source.ensures.normal;
       within = ap (limit_fault Multilinear) c.problem-source.ensures.same ∙ c.requires;
     } in
-    (plain_additions p, FitsByPairs-plain p admitted, c.in_ok-terms.ensures)
-
-pub quad_by_pairs_of-requires-clause-few : goal.quad_by_pairs_of-requires-clause-few
-quad_by_pairs_of-requires-clause-few g c =
-    let p = c.problem-source.result.now in
-    let admitted : Admits p = record {
-      normal = subst IsNormal (sym c.problem-source.ensures.same) c.problem-source.ensures.normal;
-      within = ap (limit_fault Multilinear) c.problem-source.ensures.same ∙ c.requires;
-    } in
-    few-plain p c.in_ok-terms.terms admitted c.in_ok-terms.ensures
+    record { held = (plain_additions p, FitsByPairs-plain p admitted, c.in_ok-terms.ensures) }
 
 pub returns-clause-image : goal.returns-clause-image
 returns-clause-image g c =

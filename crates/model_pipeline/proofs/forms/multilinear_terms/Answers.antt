@@ -18,7 +18,6 @@ add_contributions-requires-clause-room c =
     room-plain c.args.problem.now c.new-terms.result.terms c.requires
     (ap (λ (h : HeldContent). length h.weights) same ∙ made.width ∙ c.node_count.ensures.value)
     (ap (λ (h : HeldContent). h.total) same ∙ made.total)
-    (ap (λ (h : HeldContent). length h.pairs) same ∙ made.pairs)
 
 pub add_contributions-requires-clause-empty : goal.add_contributions-requires-clause-empty
 add_contributions-requires-clause-empty c =

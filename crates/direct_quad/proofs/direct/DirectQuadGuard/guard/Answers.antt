@@ -16,7 +16,7 @@ pub add_contributions-requires-clause-room : goal.add_contributions-requires-cla
 add_contributions-requires-clause-room c =
     let made = c.in_ok-terms.ensures in
     room-contributions c.args.source.now c.in_ok-terms.terms c.requires (made.width ∙ c.node_count-width.ensures.value)
-    made.total made.pairs
+    made.total
 
 pub into_sums-requires : goal.into_sums-requires
 into_sums-requires c = record {

@@ -1,7 +1,7 @@
 use Rattle.std.proofs.Common.{rules}
 use Rattle.std.specs.Int.{w128}
 use Rattle.std.proofs.lemmas.Int.{to_z-of_z}
-use Rattle.direct_quad.proofs.RoomForSums.{place_set, place_small, place_few, places_if_ok}
+use Rattle.direct_quad.proofs.RoomForSums.{place_set, place_small, places_if_ok}
 use Rattle.direct_quad.proofs.gathered.DirectTermsGather.gather.Goals as goal
 
 pub add-requires-clause-set : goal.add-requires-clause-set
@@ -13,12 +13,8 @@ add-requires-clause-small c =
     let back = to_z-of_z w128 c.args.coefficient (search rules) in
     rw back (place_small c.args.self.now c.args.literals.now c.args.coefficient c.requires.0 c.requires.1)
 
-pub add-requires-clause-few : goal.add-requires-clause-few
-add-requires-clause-few c =
-    place_few c.args.self.now c.args.literals.now c.args.coefficient c.requires.0 c.requires.1
-
 pub returns-clause-takes : goal.returns-clause-takes
 returns-clause-takes c more room =
     let back = to_z-of_z w128 c.args.coefficient (search rules) in
     places_if_ok c.add.result c.args.self.now c.add.new.self c.args.literals.now _ c.args.coefficient more back room
-    c.add.ensures.width c.add.ensures.total c.add.ensures.pairs
+    c.add.ensures.width c.add.ensures.total

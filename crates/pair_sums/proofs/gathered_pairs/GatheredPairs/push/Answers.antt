@@ -1,4 +1,4 @@
-use Rattle.std.proofs.Common.{◌≡◌, ◌≢◌, ◌+◌, ◌<◌, ◌^◌, ◌++◌, ◌∷◌, [], List, ap, sym, subst, arith, rules, length, pos}
+use Rattle.std.proofs.Common.{◌≡◌, ◌≢◌, ◌++◌, ◌∷◌, [], List, sym, subst, rules, pos}
 use Rattle.bits_model.specs.declared.output.Entry.{Entry}
 use Rattle.pair_sums.specs.PairLists.{AreGathered}
 use Rattle.pair_sums.proofs.PairSums.{gathered-push}
@@ -7,11 +7,9 @@ use Rattle.pair_sums.proofs.gathered_pairs.GatheredPairs.push.Goals as goal
 pub invariant_of-self-then-weight-ne0 : goal.invariant_of-self-then-weight-ne0
 invariant_of-self-then-weight-ne0 c =
     let es = c.self.inside.ordered in
-    let others = c.self.inside.others in
     let e : Entry = record { first = c.args.first; second = c.args.second; weight = c.args.weight } in
     let some : c.args.weight ≢ pos 0 = search rules in
     let pushed : c.push.new.self ≡ es ++ e ∷ [] = search rules in
-    let few : length (es ++ others) + 1 < 2 ^ 32 = omega (arith, c.requires.few, ap length c.self.view_is) in
-    subst (λ (fs : List Entry). AreGathered fs c.pair_number-number.result others) (sym pushed)
-    (gathered-push es others e c.self.inside.last c.pair_number-number.result c.self.invariant c.if-self-number.true
-    c.pair_number-number.ensures some few)
+    subst (λ (fs : List Entry). AreGathered fs c.pair_number-number.result) (sym pushed)
+    (gathered-push es e c.self.inside.last c.pair_number-number.result c.self.invariant c.if-self-number.true
+    c.pair_number-number.ensures some)

@@ -1,4 +1,0 @@
-pub mod PathParents
-pub mod CliquePaths
-pub mod LeastMeetings
-pub mod CliqueEmbeds

@@ -1,7 +1,0 @@
-use Rattle.std.proofs.Common.{◌≡◌, map, take}
-use Rattle.clique_embedding.specs.Placing.{but_last}
-use Rattle.clique_embedding.proofs.chains.path_parents.Given as goal
-
--- the parents on the chains so far
-abbrev pub invariant-loop-k : goal.invariant-loop-k
-invariant-loop-k l = l.parents ≡ map but_last (take l.k l.chains)

@@ -1,5 +1,0 @@
-pub mod Sizes
-pub mod Formed
-pub mod LongRuns
-pub mod HeldRuns
-pub mod ProblemTerms

@@ -1,0 +1,141 @@
+-- Distances and parents on a chain that is a path.
+--
+-- A step of a walk goes at most one place on in the chain. So the distance of a qubit is its place
+-- in the chain, and the one qubit nearer to the first that it is joined to stands before it.
+use Rattle.std.proofs.Common.{◌≡◌, ℕ, zero, suc, ◌+◌, ◌-◌, ◌<◌, ◌≤◌, inl, inr, true, eqb, List, [], ◌∷◌, length, get_or, take, refl, sym, ap, subst, ◌∙◌, arith}
+use Rattle.std.specs.List.{AllZip}
+use Rattle.std.proofs.lemmas.Bool.{eqb-true, or_cases}
+use Rattle.bits_model.specs.Walks.{is_in, IsWalk, end_of}
+use Rattle.chain_map.specs.Chains.{Joins}
+use Rattle.chain_map.proofs.Paths.{is_in_at}
+use Rattle.embedding_check.specs.Distances.{HasDistance, IsParent, AreParents}
+use Rattle.embedding_check.proofs.Checked.{one_distance}
+use Rattle.embedding_check.specs.CliquePlaces.{but_last}
+
+-- each qubit is joined to the next one, and to none further on; and none stands twice
+pub record IsPath (joined : Joins) (chain : List ℕ) : Type 0 where
+  pub linked : (j : ℕ) → j + 1 < length chain
+      → joined (get_or chain j 0) (get_or chain (j + 1) 0) ≡ true
+  pub near : (j k : ℕ) → j < length chain → k < length chain
+      → joined (get_or chain j 0) (get_or chain k 0) ≡ true → k ≤ j + 1
+  pub once : (j k : ℕ) → j < length chain → k < length chain
+      → get_or chain j 0 ≡ get_or chain k 0 → j ≡ k
+
+-- a qubit of a chain has a place in it
+pub place_in : (chain : List ℕ) (q : ℕ) → is_in chain q ≡ true
+    → (k : ℕ) × (k < length chain) × (get_or chain k 0 ≡ q)
+place_in [] q in' = absurd cc
+place_in (c ∷ cs) q in' = elim (or_cases (eqb c q) (is_in cs q) in') [
+  | inl here ↦ (0, omega arith, eqb-true c q here)
+  | inr rest ↦ let later = place_in cs q rest in (suc later.0, omega (arith, later.1), later.2)
+]
+
+-- ---- distances
+
+-- the next m qubits after the j-th
+steps_on : List ℕ → ℕ → ℕ → List ℕ
+steps_on chain j zero = []
+steps_on chain j (suc m) = get_or chain (j + 1) 0 ∷ steps_on chain (j + 1) m
+
+long_on : (chain : List ℕ) (j m : ℕ) → length (steps_on chain j m) ≡ m
+unfolding steps_on
+long_on chain j zero = refl
+long_on chain j (suc m) = ap suc (long_on chain (j + 1) m)
+
+end_on : (chain : List ℕ) (j m k : ℕ) → j + m ≡ k
+    → end_of (get_or chain j 0) (steps_on chain j m) ≡ get_or chain k 0
+unfolding steps_on
+end_on chain j zero k is = ap (λ n. get_or chain n 0) (omega (arith, is))
+end_on chain j (suc m) k is = end_on chain (j + 1) m k (omega (arith, is))
+
+walk_on : (joined : Joins) (chain : List ℕ) → IsPath joined chain → (j m : ℕ) → j + m < length chain
+    → IsWalk joined chain (get_or chain j 0) (steps_on chain j m)
+unfolding steps_on
+walk_on joined chain path j zero below = tt
+walk_on joined chain path j (suc m) below = (
+  is_in_at chain (j + 1) (get_or chain (j + 1) 0) (omega (arith, below)) refl,
+  path.linked j (omega (arith, below)),
+  walk_on joined chain path (j + 1) m (omega (arith, below)),
+)
+
+-- a walk goes on by at most a place for each of its steps
+walk_short : (joined : Joins) (chain : List ℕ) → IsPath joined chain → (steps : List ℕ) (j k : ℕ)
+    → j < length chain → k < length chain → IsWalk joined chain (get_or chain j 0) steps
+    → end_of (get_or chain j 0) steps ≡ get_or chain k 0 → k ≤ j + length steps
+walk_short joined chain path [] j k low high walk ends = omega (arith, path.once j k low high ends)
+walk_short joined chain path (q ∷ qs) j k low high walk ends =
+    let next = place_in chain q walk.0 in
+    let one : next.0 ≤ j + 1 =
+    path.near j next.0 low next.1
+    (subst (λ r. joined (get_or chain j 0) r ≡ true) (sym next.2) walk.1) in
+    let rest : k ≤ next.0 + length qs =
+    walk_short joined chain path qs next.0 k next.1 high
+    (subst (λ r. IsWalk joined chain r qs) (sym next.2) walk.2)
+    (subst (λ r. end_of r qs ≡ get_or chain k 0) (sym next.2) ends) in
+    omega (arith, one, rest)
+
+-- the distance of a qubit is its place
+place_distance : (joined : Joins) (chain : List ℕ) → IsPath joined chain → (k : ℕ)
+    → k < length chain → HasDistance joined chain (get_or chain k 0) k
+place_distance joined chain path k below = record {
+  reached = (
+    steps_on chain 0 k,
+    record {
+      walk = walk_on joined chain path 0 k (omega (arith, below));
+      ends = end_on chain 0 k k (omega arith);
+    },
+    long_on chain 0 k,
+  );
+  least = λ steps walk.
+      let low : 0 < length chain = omega (arith, below) in
+      omega (arith, walk_short joined chain path steps 0 k low below walk.walk walk.ends);
+}
+
+-- ---- parents
+
+-- the parent of a qubit stands before it
+place_parent : (joined : Joins) (chain : List ℕ) → IsPath joined chain → (k : ℕ)
+    → suc k < length chain → IsParent joined chain (get_or chain (suc k) 0) (get_or chain k 0)
+place_parent joined chain path k below =
+    let next : k + 1 ≡ suc k = omega arith in
+    let here = place_distance joined chain path k (omega (arith, below)) in
+    let further = place_distance joined chain path (suc k) below in
+    record {
+      nearer = record {
+        inside = is_in_at chain k (get_or chain k 0) (omega (arith, below)) refl;
+        linked = subst (λ n. joined (get_or chain k 0) (get_or chain n 0) ≡ true) next
+            (path.linked k (omega (arith, below)));
+        nearer = (k, here, further);
+      };
+      least = λ r near.
+          let at = place_in chain r near.inside in
+          let there : HasDistance joined chain r at.0 =
+          subst (λ q. HasDistance joined chain q at.0) at.2
+          (place_distance joined chain path at.0 at.1) in
+          let same : k ≡ at.0 =
+          omega (
+            arith,
+            one_distance joined chain r near.nearer.0 at.0 near.nearer.1 there,
+            one_distance joined chain (get_or chain (suc k) 0) (suc near.nearer.0) (suc k)
+                near.nearer.2 further,
+          ) in
+          let is : get_or chain k 0 ≡ r = ap (λ n. get_or chain n 0) same ∙ at.2 in
+          omega (arith, is);
+    }
+
+-- what holds of each two neighbours
+zip_neighbours : (R : ℕ → ℕ → Type 0) (c : ℕ) (cs : List ℕ)
+    → ((k : ℕ) → suc k < length (c ∷ cs) → R (get_or (c ∷ cs) (suc k) 0) (get_or (c ∷ cs) k 0))
+    → AllZip R cs (take (length cs) (c ∷ cs))
+zip_neighbours R c [] each = tt
+zip_neighbours R c (d ∷ ds) each =
+    (each 0 (omega arith), zip_neighbours R d ds (λ k below. each (suc k) (omega (arith, below))))
+
+-- all qubits but the last are the parents of those from the second on
+pub path_parents : (joined : Joins) (chain : List ℕ) → IsPath joined chain → 0 < length chain
+    → AreParents joined chain (but_last chain)
+path_parents joined [] path some = absurd (omega (arith, some))
+path_parents joined (c ∷ cs) path some =
+    let less : length cs ≡ length (c ∷ cs) - 1 = omega arith in
+    subst (λ n. AllZip (IsParent joined (c ∷ cs)) cs (take n (c ∷ cs))) less
+    (zip_neighbours (IsParent joined (c ∷ cs)) c cs (place_parent joined (c ∷ cs) path))

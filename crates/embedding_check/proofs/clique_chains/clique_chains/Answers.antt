@@ -1,0 +1,15 @@
+use Rattle.std.proofs.Common.{◌≡◌, ◌+◌, [], ◌∷◌, ◌++◌, sym, ◌∙◌, arith}
+use Rattle.std.proofs.lemmas.List.FromFn.{map-range_with_len_more}
+use Rattle.chain_map.specs.Cliques.{clique_chain, clique_of}
+use Rattle.embedding_check.proofs.clique_chains.clique_chains.Goals as goal
+
+pub loop-node-preserved : goal.loop-node-preserved
+loop-node-preserved c =
+    let graph = c.args.graph.now in
+    let node = c.loop-node.node in
+    let chain : c.deref.result.now ≡ clique_chain graph node =
+    c.deref.ensures.value ∙ c.in_ok-fill_chain.ensures in
+    let before : c.loop-node.chains ≡ clique_of graph node = c.loop-node.invariant in
+    let more : clique_of graph (node + 1) ≡ clique_of graph node ++ clique_chain graph node ∷ [] =
+    map-range_with_len_more (clique_chain graph) 0 node node (omega arith) in
+    c.in_ok-push.ensures.pushed ∙ (λ i. before i ++ chain i ∷ []) ∙ sym more

@@ -1,0 +1,7 @@
+use Rattle.std.proofs.Common.{◌≡◌, map, take}
+use Rattle.embedding_check.specs.CliquePlaces.{but_last}
+use Rattle.embedding_check.proofs.clique_chains.path_parents.Given as goal
+
+-- the parents on the chains so far
+abbrev pub invariant-loop-k : goal.invariant-loop-k
+invariant-loop-k l = l.parents ≡ map but_last (take l.k l.chains)

@@ -1,0 +1,41 @@
+use Rattle.std.proofs.Common.{◌<◌, ◌++◌, List, map, length, All, sym, ap, subst, ◌∙◌, arith}
+use Rattle.std.proofs.lemmas.List.{map-append}
+use Rattle.bits_model.specs.declared.output.Entry.{Entry}
+use Rattle.quad_form.specs.Quads.{IsCoupler}
+use Rattle.chain_map.specs.Cliques.{clique_places}
+use Rattle.embedding_check.proofs.PlacedRows.{rows_before, rows_more, rows_all, all_in_row, some_in_row}
+use Rattle.embedding_check.specs.CliquePlaces.{clique_place}
+use Rattle.embedding_check.proofs.clique_places.all_places.Goals as goal
+
+pub push_places-requires-clause-some : goal.push_places-requires-clause-some
+push_places-requires-clause-some c =
+    subst (λ (es : List Entry). 0 < length es) (sym c.row-row.ensures)
+    (some_in_row c.args.couplings.now c.loop-k.k
+    (omega (arith, c.loop-k-test.true, c.row_count-k-end.ensures)))
+
+pub push_places-requires-clause-nodes : goal.push_places-requires-clause-nodes
+push_places-requires-clause-nodes c =
+    let P = IsCoupler (clique_places c.args.graph.now) in
+    subst (λ (es : List Entry). All P es) (sym c.row-row.ensures)
+    (all_in_row P c.args.couplings.now c.loop-k.k
+    (omega (arith, c.loop-k-test.true, c.row_count-k-end.ensures)) c.requires)
+
+pub loop-k-preserved : goal.loop-k-preserved
+loop-k-preserved c =
+    let couplings = c.args.couplings.now in
+    let k = c.loop-k.k in
+    let place = clique_place c.args.graph.now in
+    c.in_ok-push_places.ensures
+    ∙ (λ i. c.loop-k.invariant i ++ map place (c.row-row.ensures i))
+    ∙ sym (map-append place (rows_before couplings k) _)
+    ∙ ap (map place)
+    (sym (rows_more couplings k (omega (arith, c.loop-k-test.true, c.row_count-k-end.ensures))))
+
+pub returns : goal.returns
+returns c =
+    let couplings = c.args.couplings.now in
+    c.new.ensures
+    ∙ c.loop-k.invariant
+    ∙ ap (map (clique_place c.args.graph.now))
+    (rows_all couplings c.loop-k.k
+    (omega (arith, c.loop-k-test.false, c.row_count-k-end.ensures, c.loop-k.auto.k-end)))

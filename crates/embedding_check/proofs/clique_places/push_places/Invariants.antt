@@ -1,0 +1,8 @@
+use Rattle.std.proofs.Common.{◌≡◌, ◌++◌, map, take}
+use Rattle.embedding_check.specs.CliquePlaces.{clique_place}
+use Rattle.embedding_check.proofs.clique_places.push_places.Given as goal
+
+-- the places of the couplings so far are added
+abbrev pub invariant-loop-k : goal.invariant-loop-k
+invariant-loop-k l =
+    l.places.items ≡ l.fn.places.items ++ map (clique_place l.graph) (take l.k l.row)
