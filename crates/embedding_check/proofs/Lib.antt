@@ -10,7 +10,3 @@ pub mod Noting
 pub mod PlacedRows
 pub mod Runs
 pub mod Unique
-pub mod PathParents
-pub mod CliquePaths
-pub mod LeastMeetings
-pub mod CliqueEmbeds

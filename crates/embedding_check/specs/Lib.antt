@@ -9,5 +9,4 @@ pub mod Marks
 pub mod Least
 pub mod Owners
 pub mod Noted
-pub mod CliquePlaces
 pub mod Stated

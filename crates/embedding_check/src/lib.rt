@@ -5,14 +5,9 @@
 //! The check makes one pass over the map for each way to fail. On the way it finds what a layer
 //! above needs: for each qubit of a chain its parent on the way to the chain's first qubit, and
 //! for each coupling the least joined pair of qubits.
-//!
-//! The embedding of a clique is made at once, and is what the check of its chains gives.
 #![tactic(auto)]
 
 mod checking;
-mod clique;
-mod clique_chains;
-mod clique_places;
 mod embedded;
 mod laws;
 mod least;
@@ -25,7 +20,6 @@ mod waiting;
 
 pub use chain_map::{ChainMap, CheckAnswer, EmbedFault, clique_map, read_map};
 pub use checking::check;
-pub use clique::clique_embedded;
 pub use embedded::{Embedded, PairList};
 pub use laws::checks_give_one_embedding;
 pub use passes::first_empty;

@@ -10,11 +10,12 @@ use base::NoMemory;
 use chain_layer::{ChainLink, Chains};
 use chain_map::{ChainMap, CheckAnswer, clique_map};
 use chimera_graph::{Chimera, Hardware};
-use embedding_check::{Embedded, check, clique_embedded};
+use embedding_check::{Embedded, check};
 use form_steps::{Layer, Lowered};
 use ising_form::Ising;
 use std::alloc::Global;
 use std::test::Fail;
+use working_graph::clique_embedded;
 
 /// How many models and couplings there were, and how many states with some broken and some tied
 /// chain.

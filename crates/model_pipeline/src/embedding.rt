@@ -20,10 +20,10 @@ ghost use Rattle.model_pipeline.specs.Sites.{
 
 use crate::site::{Perch, Qubits};
 use chain_map::{ChainMap, CheckAnswer};
-use embedding_check::{Embedded, check, clique_embedded};
+use embedding_check::{Embedded, check};
 use ising_form::Ising;
 use std::alloc::Global;
-use working_graph::{Working, check_working, clique_working};
+use working_graph::{Working, check_working, clique_embedded, clique_working};
 
 /// An Ising form on the chains of a clique, of the qubits of a graph that work.
 fn clique_on_working(alloc: Global, working: &Working, form: Ising) -> Result<Embedded, CheckAnswer>

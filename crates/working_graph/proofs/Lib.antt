@@ -13,3 +13,7 @@ pub mod RisingNumbers
 pub mod LeftParts
 pub mod NamedParts
 pub mod NotedLists
+pub mod PathParents
+pub mod CliquePaths
+pub mod LeastMeetings
+pub mod CliqueEmbeds

@@ -7,3 +7,4 @@ pub mod Faults
 pub mod DeadLists
 pub mod NotedParts
 pub mod Stated
+pub mod CliquePlaces

@@ -4,9 +4,9 @@ use Rattle.chimera_graph.specs.Graph.{qubits_of}
 use Rattle.chain_map.specs.Cliques.{clique_of, clique_places}
 use Rattle.embedding_check.specs.Embeddings.{Embedding}
 use Rattle.embedding_check.specs.Checked.{IsChecked}
-use Rattle.embedding_check.specs.CliquePlaces.{clique_place, joined_on}
-use Rattle.embedding_check.proofs.CliqueEmbeds.{made_of_parts, made_checked, made_embeds}
-use Rattle.embedding_check.proofs.clique.clique_embedded.Goals as goal
+use Rattle.working_graph.specs.CliquePlaces.{clique_place, joined_on}
+use Rattle.working_graph.proofs.CliqueEmbeds.{made_of_parts, made_checked, made_embeds}
+use Rattle.working_graph.proofs.whole_clique.clique_embedded.Goals as goal
 
 pub of-requires : goal.of-requires
 of-requires c =

@@ -1,7 +1,7 @@
 //! The chains of a clique, and the parents of their qubits.
 ghost use Rattle.std.specs.Prelude.{◌≡◌, ◌≤◌, map, IfOk};
 ghost use Rattle.chain_map.specs.Cliques.{clique_places, clique_of};
-ghost use Rattle.embedding_check.specs.CliquePlaces.{but_last};
+ghost use Rattle.working_graph.specs.CliquePlaces.{but_last};
 
 use base::NoMemory;
 use bits_model::ChainList;

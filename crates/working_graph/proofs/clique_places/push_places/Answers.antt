@@ -4,9 +4,9 @@ use Rattle.bits_model.specs.declared.output.Entry.{Entry}
 use Rattle.quad_form.specs.Quads.{IsCoupler}
 use Rattle.chain_map.specs.declared.spot.Spot.{Spot}
 use Rattle.chain_map.specs.Cliques.{clique_places, spot_of}
-use Rattle.embedding_check.specs.CliquePlaces.{place_of_spots, clique_place}
+use Rattle.working_graph.specs.CliquePlaces.{place_of_spots, clique_place}
 use Rattle.chain_map.proofs.CliqueChains.{cells_rise}
-use Rattle.embedding_check.proofs.clique_places.push_places.Goals as goal
+use Rattle.working_graph.proofs.clique_places.push_places.Goals as goal
 
 pub spot_of-first-requires : goal.spot_of-first-requires
 spot_of-first-requires c =

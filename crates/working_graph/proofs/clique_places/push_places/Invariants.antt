@@ -1,6 +1,6 @@
 use Rattle.std.proofs.Common.{◌≡◌, ◌++◌, map, take}
-use Rattle.embedding_check.specs.CliquePlaces.{clique_place}
-use Rattle.embedding_check.proofs.clique_places.push_places.Given as goal
+use Rattle.working_graph.specs.CliquePlaces.{clique_place}
+use Rattle.working_graph.proofs.clique_places.push_places.Given as goal
 
 -- the places of the couplings so far are added
 abbrev pub invariant-loop-k : goal.invariant-loop-k

@@ -17,10 +17,10 @@ use Rattle.embedding_check.specs.Distances.{AreParents}
 use Rattle.embedding_check.specs.Embeddings.{Embedding, IsEmbedding}
 use Rattle.embedding_check.specs.Checked.{IsPlace, IsPlaceOf, IsChecked}
 use Rattle.embedding_check.proofs.Checked.{checked_embeds}
-use Rattle.embedding_check.specs.CliquePlaces.{but_last, place_of_spots, clique_place, joined_on}
-use Rattle.embedding_check.proofs.PathParents.{path_parents}
-use Rattle.embedding_check.proofs.CliquePaths.{clique_path}
-use Rattle.embedding_check.proofs.LeastMeetings.{same_cell, other_cell}
+use Rattle.working_graph.specs.CliquePlaces.{but_last, place_of_spots, clique_place, joined_on}
+use Rattle.working_graph.proofs.PathParents.{path_parents}
+use Rattle.working_graph.proofs.CliquePaths.{clique_path}
+use Rattle.working_graph.proofs.LeastMeetings.{same_cell, other_cell}
 
 -- ---- places
 

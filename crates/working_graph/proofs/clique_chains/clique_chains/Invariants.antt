@@ -1,6 +1,6 @@
 use Rattle.std.proofs.Common.{◌≡◌}
 use Rattle.chain_map.specs.Cliques.{clique_of}
-use Rattle.embedding_check.proofs.clique_chains.clique_chains.Given as goal
+use Rattle.working_graph.proofs.clique_chains.clique_chains.Given as goal
 
 -- the chains of the nodes so far
 abbrev pub invariant-loop-node : goal.invariant-loop-node

@@ -10,7 +10,7 @@ use Rattle.chain_map.specs.Chains.{Joins}
 use Rattle.chain_map.proofs.Paths.{is_in_at}
 use Rattle.embedding_check.specs.Distances.{HasDistance, IsParent, AreParents}
 use Rattle.embedding_check.proofs.Checked.{one_distance}
-use Rattle.embedding_check.specs.CliquePlaces.{but_last}
+use Rattle.working_graph.specs.CliquePlaces.{but_last}
 
 -- each qubit is joined to the next one, and to none further on; and none stands twice
 pub record IsPath (joined : Joins) (chain : List ℕ) : Type 0 where

@@ -18,8 +18,8 @@ use Rattle.chain_map.specs.Cliques.{diagonal_of, down_qubit, along_qubit, path_o
 use Rattle.chain_map.proofs.Paths.{is_in_at}
 use Rattle.embedding_check.specs.Checked.{IsBefore, IsPlace}
 use Rattle.chain_map.proofs.CliqueChains.{down_place, along_place, place_again, down_in, along_in, path_len, path_down, path_along, cell_joined}
-use Rattle.embedding_check.proofs.CliquePaths.{IsStep, step_of, joined_at, down_down, along_along, down_along, along_down}
-use Rattle.embedding_check.specs.CliquePlaces.{joined_on}
+use Rattle.working_graph.proofs.CliquePaths.{IsStep, step_of, joined_at, down_down, along_along, down_along, along_down}
+use Rattle.working_graph.specs.CliquePlaces.{joined_on}
 
 -- ---- where two chains meet
 

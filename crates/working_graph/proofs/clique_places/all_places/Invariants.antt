@@ -1,7 +1,7 @@
 use Rattle.std.proofs.Common.{◌≡◌, map}
 use Rattle.embedding_check.proofs.PlacedRows.{rows_before}
-use Rattle.embedding_check.specs.CliquePlaces.{clique_place}
-use Rattle.embedding_check.proofs.clique_places.all_places.Given as goal
+use Rattle.working_graph.specs.CliquePlaces.{clique_place}
+use Rattle.working_graph.proofs.clique_places.all_places.Given as goal
 
 -- the places of the couplings of the rows so far
 abbrev pub invariant-loop-k : goal.invariant-loop-k

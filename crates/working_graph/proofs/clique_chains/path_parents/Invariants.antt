@@ -1,6 +1,6 @@
 use Rattle.std.proofs.Common.{◌≡◌, map, take}
-use Rattle.embedding_check.specs.CliquePlaces.{but_last}
-use Rattle.embedding_check.proofs.clique_chains.path_parents.Given as goal
+use Rattle.working_graph.specs.CliquePlaces.{but_last}
+use Rattle.working_graph.proofs.clique_chains.path_parents.Given as goal
 
 -- the parents on the chains so far
 abbrev pub invariant-loop-k : goal.invariant-loop-k

@@ -13,7 +13,7 @@ use Rattle.chimera_graph.specs.Graph.{place_of}
 use Rattle.chimera_graph.specs.Places.{are_joined}
 use Rattle.chain_map.proofs.CliqueChains.{down_place, along_place, place_again, down_in, along_in, path_len, path_down, path_along, down_joined, along_joined, cell_joined}
 use Rattle.chain_map.specs.Cliques.{diagonal_of, path_of}
-use Rattle.embedding_check.proofs.PathParents.{IsPath, place_in}
+use Rattle.working_graph.proofs.PathParents.{IsPath, place_in}
 
 -- ---- the qubits of a path
 

@@ -4,8 +4,8 @@ use Rattle.bits_model.specs.declared.output.Entry.{Entry}
 use Rattle.quad_form.specs.Quads.{IsCoupler}
 use Rattle.chain_map.specs.Cliques.{clique_places}
 use Rattle.embedding_check.proofs.PlacedRows.{rows_before, rows_more, rows_all, all_in_row, some_in_row}
-use Rattle.embedding_check.specs.CliquePlaces.{clique_place}
-use Rattle.embedding_check.proofs.clique_places.all_places.Goals as goal
+use Rattle.working_graph.specs.CliquePlaces.{clique_place}
+use Rattle.working_graph.proofs.clique_places.all_places.Goals as goal
 
 pub push_places-requires-clause-some : goal.push_places-requires-clause-some
 push_places-requires-clause-some c =

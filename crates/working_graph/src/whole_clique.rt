@@ -7,13 +7,13 @@ ghost use Rattle.chimera_graph.specs.Graph.{qubits_of};
 ghost use Rattle.chain_map.specs.Faults.{IfFault};
 ghost use Rattle.chain_map.specs.Cliques.{clique_of, clique_places};
 ghost use Rattle.embedding_check.specs.Checked.{IsChecked};
-ghost use Rattle.embedding_check.specs.CliquePlaces.{joined_on, IsTooMany};
+ghost use Rattle.working_graph.specs.CliquePlaces.{joined_on, IsTooMany};
 
 use crate::clique_chains::{clique_chains, path_parents};
 use crate::clique_places::all_places;
-use crate::embedded::Embedded;
 use chain_map::{CheckAnswer, EmbedFault, clique_places};
 use chimera_graph::{Chimera, Hardware};
+use embedding_check::Embedded;
 use ising_form::Ising;
 use std::alloc::Global;
 

@@ -2,13 +2,13 @@
 ghost use Rattle.std.specs.Prelude.{◌≡◌, ◌<◌, ◌≤◌, ◌++◌, length, map, All, IfOk, OnOk};
 ghost use Rattle.quad_form.specs.Quads.{IsCoupler};
 ghost use Rattle.chain_map.specs.Cliques.{diagonal_of, clique_places};
-ghost use Rattle.embedding_check.specs.CliquePlaces.{place_of_spots, clique_place};
+ghost use Rattle.working_graph.specs.CliquePlaces.{place_of_spots, clique_place};
 
-use crate::embedded::PairList;
 use base::{Items, NoMemory};
 use bits_model::{CouplerList, Row};
 use chain_map::{Spot, spot_of};
 use chimera_graph::{Chimera, Place};
+use embedding_check::PairList;
 use std::alloc::Global;
 
 /// The least joined pair of the chains of an earlier node and a later one.
