@@ -1,7 +1,7 @@
 -- A model of two nodes on a cell of six qubits, whose chains have two and three of them.
-use Rattle.std.proofs.Common.{◌≡◌, ◌≢◌, ℕ, zero, suc, ◌≤◌, ◌^◌, pos, negsuc, List, [], All, refl, sym, subst, arith, rules}
+use Rattle.std.proofs.Common.{◌≡◌, ◌≢◌, ℕ, zero, suc, ◌<◌, ◌≤◌, ◌^◌, pos, negsuc, List, [], ◌∷◌, All, refl, sym, subst, arith, rules}
 use Rattle.std.specs.List.Sorted.{IsStrictlySortedBy}
-use Rattle.std.proofs.lemmas.List.Elements.{All-from_recursion}
+use Rattle.std.proofs.lemmas.List.Elements.{All-from_recursion, All-same}
 use Rattle.bits_model.specs.declared.output.Entry.{Entry}
 use Rattle.bits_model.specs.declared.output.Kind.TheVariants.{Chimera}
 use Rattle.bits_model.specs.Output.{Written, IsPlaced, IsChained, IsWellFormed, entry_cmp, has_node, is_chained, weight_total}
@@ -61,3 +61,18 @@ kept es cs entries same =
       subst IsWellFormed (sym all_same) formed,
       subst (λ (es : List Entry). weight_total es ≤ 2 ^ 124) (sym entries) (search rules),
     )
+
+abbrev pub four : List Entry
+four =
+    record { first = 0; second = 3; weight = negsuc 31 }
+    ∷ record { first = 1; second = 3; weight = pos 64 }
+    ∷ record { first = 1; second = 4; weight = negsuc 127 }
+    ∷ record { first = 2; second = 4; weight = negsuc 255 }
+    ∷ []
+
+-- each of its couplers has the lesser node first
+pub four_upward : (es : List Entry) → es ≡ four → All (λ (e : Entry). e.first < e.second) es
+four_upward es is =
+    All-same (λ (e : Entry). e.first < e.second) es four is
+    (All-from_recursion (λ (e : Entry). e.first < e.second) four
+    (omega arith, (omega arith, (omega arith, (omega arith, tt)))))

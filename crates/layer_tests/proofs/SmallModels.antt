@@ -1,8 +1,8 @@
 -- Models of two nodes and the coupler between them, of any kind.
-use Rattle.std.proofs.Common.{◌≡◌, ◌≢◌, ℕ, zero, suc, ◌<◌, ◌≤◌, ◌^◌, true, ℤ, pos, negsuc, ◌≤ℤ◌, List, [], All, refl, sym, subst, arith, rules}
+use Rattle.std.proofs.Common.{◌≡◌, ◌≢◌, ℕ, zero, suc, ◌<◌, ◌≤◌, ◌^◌, true, ℤ, pos, negsuc, ◌≤ℤ◌, List, [], ◌∷◌, ◌++◌, All, refl, sym, ap, ◌∙◌, subst, arith, rules}
 use Rattle.std.specs.Prelude.{IsTrue}
 use Rattle.std.specs.List.Sorted.{IsStrictlySortedBy}
-use Rattle.std.proofs.lemmas.List.Elements.{All-from_recursion}
+use Rattle.std.proofs.lemmas.List.Elements.{All-from_recursion, All-same}
 use Rattle.bits_model.specs.declared.output.Entry.{Entry}
 use Rattle.bits_model.specs.declared.output.Kind.{Kind}
 use Rattle.bits_model.specs.Output.{Written, IsPlaced, IsPlain, IsChained, FitsKind, IsWellFormed, entry_cmp, is_coupler, has_node, is_chained, weight_total}
@@ -81,3 +81,13 @@ kept kind unit es cs chains positive fits entries same =
       subst IsWellFormed (sym all_same) formed,
       subst (λ (es : List Entry). weight_total es ≤ 2 ^ 124) (sym entries) (search rules),
     )
+
+-- a list of one coupler has its lesser node first
+pub one_upward : (old new : List Entry) (first second : ℕ) (weight : ℤ) → old ≡ []
+    → new ≡ old ++ record { first = first; second = second; weight = weight } ∷ [] → first < second
+    → All (λ (e : Entry). e.first < e.second) new
+one_upward old new first second weight none pushed less =
+    let only : List Entry = record { first = first; second = second; weight = weight } ∷ [] in
+    All-same (λ (e : Entry). e.first < e.second) new only
+    (pushed ∙ ap (λ (es : List Entry). es ++ only) none)
+    (All-from_recursion (λ (e : Entry). e.first < e.second) only (less, tt))

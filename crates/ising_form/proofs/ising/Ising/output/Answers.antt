@@ -3,6 +3,7 @@ use Rattle.std.specs.Int.{w128}
 use Rattle.std.proofs.lemmas.Int.{ints, to_z-of_z}
 use Rattle.bits_model.specs.Output.{Written, IsWellFormed, weight_total}
 use Rattle.base.specs.Figures.{figures_moved}
+use Rattle.quad_form.proofs.NodeEntries.{all_upward}
 use Rattle.ising_form.specs.Isings.{IsingContent, IsIsing}
 use Rattle.ising_form.specs.Outputs.{AreNodes, written_entries, written_of}
 use Rattle.ising_form.proofs.WrittenModels.{written_is_well_formed, written_total, nodes_and_couplings, are_nodes}
@@ -49,8 +50,12 @@ made_is c =
     whole
     ∙ ap (λ (g : IsingContent). written_of g c.args.variables c.args.figures c.args.unit c.args.kind c.args.chains) c.self.view_is
 
+-- the entries keep the form's couplings
 pub invariant_of-result : goal.invariant_of-result
-invariant_of-result c =
+invariant_of-result c = all_upward (length c.self.inside.fields) c.self.inside.couplings c.self.invariant.couplings
+
+pub invariant_of-result-2 : goal.invariant_of-result-2
+invariant_of-result-2 c =
     let f = c.args.self in
     let kind = c.args.kind in
     let chains = c.args.chains in

@@ -5,6 +5,7 @@ use Rattle.bits_model.specs.declared.output.Kind.TheVariants.{Qubo}
 use Rattle.bits_model.specs.Output.{Written, IsWellFormed, weight_total}
 use Rattle.base.specs.Figures.{figures_moved}
 use Rattle.quad_form.specs.Quads.{QuadContent, IsQuad, entries_of, node_entries, written_of}
+use Rattle.quad_form.proofs.NodeEntries.{all_upward}
 use Rattle.quad_form.proofs.WrittenModels.{written_is_well_formed}
 use Rattle.quad_form.proofs.quad.Quad.output.Goals as goal
 
@@ -44,8 +45,12 @@ made_is c =
     whole
     ∙ ap (λ (f : QuadContent). written_of f c.args.variables c.args.figures c.args.unit) c.self.view_is
 
+-- the entries keep the form's couplers
 pub invariant_of-result : goal.invariant_of-result
-invariant_of-result c =
+invariant_of-result c = all_upward (length c.self.inside.diagonal) c.self.inside.couplers c.self.invariant.couplers
+
+pub invariant_of-result-2 : goal.invariant_of-result-2
+invariant_of-result-2 c =
     let q = c.args.self in
     let quad : IsQuad q = subst IsQuad c.self.view_is c.self.invariant in
     let formed = written_is_well_formed q c.args.variables c.args.figures c.args.unit quad c.requires.enough c.requires.scale c.requires.unit in
