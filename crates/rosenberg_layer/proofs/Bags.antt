@@ -2,7 +2,7 @@
 --
 -- Two lists have the same terms where each number of a term has the same sum over both. So filters
 -- and maps of the one and of the other have the same terms too.
-use Rattle.std.proofs.Common.{◌≡◌, ◌≢◌, ℕ, suc, ◌+◌, ◌≤◌, Bool, true, false, not, ◌||◌, cond, arith, refl, sym, ap, ◌∙◌, subst, List, [], ◌∷◌, ◌++◌, map, ℤ, pos, negsuc, ◌+ℤ◌, neg_ℤ, Some, None, ◌^◌, sum_by, unsigned_abs, length}
+use Rattle.std.proofs.Common.{◌≡◌, ◌≢◌, ℕ, suc, ◌+◌, ◌≤◌, Bool, true, false, not, ◌||◌, cond, arith, refl, sym, ap, ◌∙◌, subst, List, [], ◌∷◌, ◌++◌, map, ℤ, pos, negsuc, ◌+ℤ◌, neg_ℤ, Some, None, ◌^◌, sum_by, unsigned_abs}
 use Rattle.std.specs.Bool.{Decides}
 use Rattle.std.specs.List.{AllByRecursion, filter}
 use Rattle.std.specs.List.Sorted.{IsPermutation, IsStrictlySortedBy}
@@ -11,9 +11,9 @@ use Rattle.std.specs.declared.cmp.Ordering.{Ordering}
 use Rattle.std.specs.declared.cmp.Ordering.TheVariants.{Less, Equal, Greater}
 use Rattle.std.proofs.lemmas.Bool.Decides.{Decides-int_eq}
 use Rattle.std.proofs.lemmas.Int.{ints}
-use Rattle.std.proofs.lemmas.List.{append-nil, append_assoc}
+use Rattle.std.proofs.lemmas.List.{append-nil}
 use Rattle.std.proofs.lemmas.List.Elements.{All-from_recursion, recursion_from_All, filter-append}
-use Rattle.std.proofs.lemmas.List.Sorted.{All-permutation, sum_by-IsPermutation, IsPermutation-append_right}
+use Rattle.std.proofs.lemmas.List.Sorted.{All-permutation, sum_by-IsPermutation}
 use Rattle.std.proofs.lemmas.List.Sums.{sum_by-append, sum_by-cons}
 use Rattle.base.specs.Sums.{total_by}
 use Rattle.literal_lists.specs.declared.literal.Literal.{Literal}
@@ -24,13 +24,12 @@ use Rattle.term_table.proofs.SetOrder.{same_set}
 use Rattle.term_table.proofs.Steps.{with_additions-append}
 use Rattle.rosenberg_layer.specs.Rosenberg.{node, Pair, is_long, new_term, tie_terms, with_pair, front_pair, next_pair}
 use Rattle.rosenberg_layer.specs.laws.Sets.{has_own_pair, found_in, pair_differs, new_terms-sets}
-use Rattle.rosenberg_layer.specs.Steps.{begins, first_begins, front_term, is_short, pair_cmp, pair_of, Begin, Follow, IsStep, IsTaken}
+use Rattle.rosenberg_layer.specs.Steps.{begins, first_begins, front_term, is_short, pair_cmp, pair_of, Begin, Follow, IsStep}
 use Rattle.rosenberg_layer.specs.Parts.{weights, weight_of, AllLong, AreParts, NoneLong}
-use Rattle.rosenberg_layer.specs.Groups.{Group, grouped, ArePut}
 use Rattle.rosenberg_layer.proofs.PairTerms.{begins-is, new_terms-split, AsBegins, NoneBegin}
-use Rattle.rosenberg_layer.proofs.GoBack.{all-append, all-left, all-right, back_left, can_go_back, filter-first, CanGoBack, high-long}
+use Rattle.rosenberg_layer.proofs.GoBack.{all-append, all-left, all-right, back_left, can_go_back, filter-first, CanGoBack}
 use Rattle.rosenberg_layer.proofs.Parts.{all-filtered, filter-all, filter-none, filter-yes, long-is, long-sets, parts-start, parts-step, short-none_long, wider-all, IsSortedStep}
-use Rattle.rosenberg_layer.proofs.Taking.{all-follow, pair-begins, pair_itself}
+use Rattle.rosenberg_layer.proofs.PairOrder.{all-follow, pair-begins, pair_itself}
 
 -- ---- lists with the same terms
 
@@ -564,40 +563,6 @@ held-step t a adds adds' low bag low' bag' m bound held long step moved = (
 
 -- ---- what a step asks of the terms that are taken and put back
 
-pub touched-high : (a : Pair) (touched rest bag : List Term) → IsTaken a touched rest bag
-    → AllLong bag → AllByRecursion (λ (t : Term). 3 ≤ length t.0) touched
-touched-high a touched rest bag taken long =
-    high-long touched
-    (all-left (λ u. is_long u ≡ true) touched rest
-    (moved-all (λ u. is_long u ≡ true) bag (touched ++ rest) taken.whole long))
-
-pub touched-small : (a : Pair) (touched rest bag : List Term) (bound : ℕ) → IsTaken a touched rest bag
-    → terms_total bag ≤ bound → terms_total touched ≤ bound
-touched-small a touched rest bag bound taken small =
-    omega (
-      arith,
-      small,
-      same-moved bag (touched ++ rest) taken.whole (λ u. unsigned_abs u.1),
-      sum_by-append (λ (u : Term). unsigned_abs u.1) touched rest,
-    )
-
-pub put-high : (ts front : List Term) (groups groups' : List Group)
-    → ArePut (filter is_long ts) groups groups' → AllLong (front ++ grouped groups)
-    → AllLong (front ++ grouped groups')
-put-high ts front groups groups' put long =
-    all-append (λ u. is_long u ≡ true) front (grouped groups')
-    (all-left (λ u. is_long u ≡ true) front (grouped groups) long)
-    (moved-all (λ u. is_long u ≡ true) (grouped groups ++ filter is_long ts) (grouped groups') put.whole
-    (all-append (λ u. is_long u ≡ true) (grouped groups) (filter is_long ts)
-    (all-right (λ u. is_long u ≡ true) front (grouped groups) long) (filter-yes is_long ts)))
-
-pub put-behind : (ts front : List Term) (groups groups' : List Group) → ArePut ts groups groups'
-    → IsPermutation ((front ++ grouped groups) ++ ts) (front ++ grouped groups')
-put-behind ts front groups groups' put =
-    subst (λ us. IsPermutation us (front ++ grouped groups'))
-    (sym (append_assoc front (grouped groups) ts))
-    (IsPermutation-append_right front (grouped groups ++ ts) (grouped groups') put.whole)
-
 -- ---- the start of a run
 
 empty-same : (ts : List Term) → SameTerms ts [] → ts ≡ []
@@ -616,23 +581,13 @@ pub held-small : (t : TableContent) (adds bag : List Term) (bound : ℕ) → Are
 held-small t adds bag bound held =
     let small = held.parts.total in omega (arith, small, held.same (λ u. unsigned_abs u.1))
 
-pub held-start : (t : TableContent) (front : List Term) (groups : List Group) (bound : ℕ) → IsTable t
-    → weights t.terms ≤ bound → front ≡ filter is_long t.terms → groups ≡ []
-    → AreHeld t (filter is_short t.terms) (front ++ grouped groups) bound
-held-start t front groups bound table small e none = record {
-  parts = parts-start t bound table.terms small table.small;
-  same = λ f. ap (sum_by f) (sym whole);
+pub held-start : (t : TableContent) (bag : List Term) → IsTable t → bag ≡ filter is_long t.terms
+    → AreHeld t (filter is_short t.terms) bag (weights t.terms)
+held-start t bag table e = record {
+  parts = parts-start t (weights t.terms) table.terms (omega arith) table.small;
+  same = λ f. ap (sum_by f) (sym e);
   sets =
-      subst (AllByRecursion (OfSet (IsTermSet t.width))) (sym whole)
+      subst (AllByRecursion (OfSet (IsTermSet t.width))) (sym e)
       (all-filtered (OfSet (IsTermSet t.width)) is_long t.terms
       (recursion_from_All (OfSet (IsTermSet t.width)) t.terms table.terms.sets));
 }
-  where
-    whole : front ++ grouped groups ≡ filter is_long t.terms
-    whole = (λ i. e i ++ grouped (none i)) ∙ append-nil (filter is_long t.terms)
-
-pub high-start : (t : TableContent) (front : List Term) (groups : List Group)
-    → front ≡ filter is_long t.terms → groups ≡ [] → AllLong (front ++ grouped groups)
-high-start t front groups e none =
-    let whole = (λ i. e i ++ grouped (none i)) ∙ append-nil (filter is_long t.terms) in
-    subst AllLong (sym whole) (filter-yes is_long t.terms)

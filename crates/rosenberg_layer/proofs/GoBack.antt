@@ -1,11 +1,11 @@
 -- Terms that began with the pair go back without it: their new sets differ, and are not there yet.
-use Rattle.std.proofs.Common.{◌≡◌, ◌≢◌, ℕ, ◌<◌, ◌≤◌, Bool, true, false, cond, arith, refl, sym, ap, ◌∙◌, subst, List, [], ◌∷◌, ◌++◌, length, drop, get_or, pos, zero, suc, ◌+◌, map}
+use Rattle.std.proofs.Common.{◌≡◌, ◌≢◌, ℕ, ◌<◌, ◌≤◌, Bool, true, false, cond, arith, refl, sym, ap, ◌∙◌, subst, List, [], ◌∷◌, ◌++◌, length, drop, get_or, pos}
 use Rattle.std.specs.Prelude.{All, ⊤}
 use Rattle.std.specs.List.{AllByRecursion, filter}
 use Rattle.std.specs.List.Sorted.{IsStrictlySortedBy}
 use Rattle.std.specs.declared.cmp.Ordering.TheVariants.{Less, Equal}
 use Rattle.std.proofs.lemmas.Bool.Decides.{nat_tests}
-use Rattle.std.proofs.lemmas.List.{length-append, drop-append-le, append_assoc}
+use Rattle.std.proofs.lemmas.List.{length-append}
 use Rattle.std.proofs.lemmas.List.Elements.{All-from_recursion, recursion_from_All, filter-append}
 use Rattle.literal_lists.specs.declared.literal.Literal.{Literal}
 use Rattle.term_table.specs.Terms.{Term, set_cmp, with_additions, Ascends, IsTermSet}
@@ -14,8 +14,7 @@ use Rattle.term_table.proofs.SetOrder.{set_itself}
 use Rattle.rosenberg_layer.specs.Rosenberg.{node, Pair, is_long}
 use Rattle.rosenberg_layer.specs.laws.Sets.{Within}
 use Rattle.rosenberg_layer.proofs.PairTerms.{begins-is, AreLong}
-use Rattle.rosenberg_layer.specs.Steps.{begins, front_term, Begin, is_short}
-use Rattle.std.proofs.Math.Seq.{drop-nil}
+use Rattle.rosenberg_layer.specs.Steps.{begins, front_term, Begin}
 
 -- without their first two literals the sets are still different
 abbrev pub AreApart : List Term → Type 0
@@ -33,42 +32,11 @@ pub record CanGoBack (w : Literal) (long touched : List Term) : Type 0 where
   pub apart : AreApart touched
   pub fresh : AllByRecursion (IsFresh w long) touched
 
--- ---- one term
-
-drop-plus : {X : Type 0} (n m : ℕ) (xs : List X) → drop (n + m) xs ≡ drop m (drop n xs)
-drop-plus zero m xs = let e : 0 + m ≡ m = omega arith in ap (λ k. drop k xs) e
-drop-plus (suc n) m [] = drop-nil (suc n + m) ∙ sym (drop-nil m)
-drop-plus (suc n) m (x ∷ xs) =
-    let e : suc n + m ≡ suc (n + m) = omega arith in
-    ap (λ k. drop k (x ∷ xs)) e ∙ drop-plus n m xs
-
--- two literals more are dropped at the front, whatever is left of those before them, and the node
--- stands at the end
-pub drop-pushed : (n m : ℕ) (ls room ks : List Literal) (w : Literal) → drop n ls ≡ ks → m ≤ length room
-    → drop m room ≡ drop (n + 2) ls → drop m (room ++ w ∷ []) ≡ drop 2 ks ++ w ∷ []
-drop-pushed n m ls room ks w e inside same =
-    drop-append-le m room (w ∷ []) inside
-    ∙ ap (λ ms. ms ++ w ∷ []) (same ∙ drop-plus n 2 ls ∙ ap (drop 2) e)
-
 -- ---- all terms
 
 pub filter-first : (test : Term → Bool) (t : Term) (ts : List Term)
     → filter test (t ∷ ts) ≡ filter test (t ∷ []) ++ filter test ts
 filter-first test t ts = filter-append test (t ∷ []) ts
-
--- the short ones that are left
-pub short_left : (w : Literal) (now after : List Term) (t : Term) (left rest : List Term)
-    (whole : List Term) → left ≡ t ∷ rest
-    → after ≡ now ++ filter is_short (front_term w t ∷ [])
-    → now ++ filter is_short (map (front_term w) left) ≡ whole
-    → after ++ filter is_short (map (front_term w) rest) ≡ whole
-short_left w now after t left rest whole e new so_far =
-    let others = filter is_short (map (front_term w) rest) in
-    ap (λ ts. ts ++ others) new
-    ∙ append_assoc now (filter is_short (front_term w t ∷ [])) others
-    ∙ sym (ap (λ ts. now ++ ts) (filter-first is_short (front_term w t) (map (front_term w) rest)))
-    ∙ sym (ap (λ ts. now ++ filter is_short (map (front_term w) ts)) e)
-    ∙ so_far
 
 -- ---- the others can still go back
 

@@ -1,39 +1,35 @@
 -- Runs on the terms of degree 3 or more alone: they are the same for each table with these terms.
-use Rattle.std.proofs.Common.{◌≡◌, ◌≢◌, ℕ, pos, ◌+◌, ◌≤◌, ◌<◌, ◌^◌, true, arith, refl, sym, ap, ◌∙◌, subst, List, [], ◌∷◌, ◌++◌, length, unsigned_abs}
+use Rattle.std.proofs.Common.{◌≡◌, ◌≢◌, ℕ, pos, ◌+◌, ◌*◌, ◌≤◌, ◌<◌, ◌^◌, Bool, true, false, cond, arith, refl, sym, ap, ◌∙◌, subst, List, [], ◌∷◌, ◌++◌, length, unsigned_abs}
 use Rattle.std.specs.Prelude.{All, Some, None, Option, IfOk, Result, Ok, Err}
 use Rattle.std.specs.List.{filter}
-use Rattle.std.proofs.lemmas.List.{append_assoc, length-append, append-nil}
+use Rattle.std.proofs.lemmas.List.{append_assoc, length-append}
 use Rattle.std.proofs.lemmas.List.Filters.{length-filter_both}
 use Rattle.std.proofs.lemmas.List.Elements.{All-filter, All-from_recursion, All-weaker, filter-append, recursion_from_All}
 use Rattle.literal_lists.specs.declared.literal.Literal.{Literal}
-use Rattle.term_table.specs.Terms.{Term, IsTermSet}
-use Rattle.term_table.specs.Tables.{IsTable, TableContent}
+use Rattle.term_table.specs.Terms.{Term, terms_size, IsTermSet}
+use Rattle.term_table.specs.Tables.{IsTable, TableContent, table_size}
+use Rattle.term_table.proofs.Additions.{terms_size-cons}
 use Rattle.term_table.proofs.KeptTerms.{OfSet}
-use Rattle.rosenberg_layer.specs.Rosenberg.{is_long, Pair, run}
+use Rattle.rosenberg_layer.specs.Rosenberg.{excess, is_long, Pair, run}
 use Rattle.rosenberg_layer.specs.Steps.{is_short}
 use Rattle.rosenberg_layer.specs.Parts.{weights, IsTurn}
-use Rattle.rosenberg_layer.proofs.Bags.{held-start, AreHeld}
+use Rattle.rosenberg_layer.proofs.Bags.{held-start}
 use Rattle.rosenberg_layer.proofs.Parts.{filter-all, filter-ascends, filter-yes}
 use Rattle.rosenberg_layer.proofs.PartlyTerms.{sum-filter_le}
-use Rattle.rosenberg_layer.proofs.Turns.{run-start, width-pairs, IsRun}
+use Rattle.rosenberg_layer.proofs.PutBack.{three-long}
+use Rattle.rosenberg_layer.proofs.Turns.{excess-one, excess-size, run-start, width-pairs, IsRun}
 
 -- the terms of degree 3 or more alone are a table
 pub alone : (width : ℕ) (long : List Term) → All (λ t. is_long t ≡ true) long
     → filter is_long long ≡ long
 alone width long all = filter-all is_long long (recursion_from_All (λ t. is_long t ≡ true) long all)
 
-pub held_bag : (t : TableContent) (bag : List Term) → IsTable t → bag ≡ filter is_long t.terms
-    → AreHeld t (filter is_short t.terms) bag (weights t.terms)
-held_bag t bag table e =
-    subst (λ us. AreHeld t (filter is_short t.terms) us (weights t.terms)) (append-nil bag)
-    (held-start t bag [] (weights t.terms) table (omega arith) e refl)
-
 pub run_begins : (t : TableContent) (width : ℕ) (bag low : List Term) (pairs : List Pair) (ms : List ℕ)
     → IsTable t → bag ≡ filter is_long t.terms → low ≡ [] → pairs ≡ [] → ms ≡ []
     → IsRun t 0 width (filter is_short t.terms) low bag pairs ms (weights t.terms)
 run_begins t width bag low pairs ms table e no_low no_pairs no_ms =
     run-start t width (filter is_short t.terms) low pairs bag ms (weights t.terms)
-    (held_bag t bag table e) no_low no_pairs no_ms
+    (held-start t bag table e) no_low no_pairs no_ms
 
 -- the number of the next node
 pub run_width : (t : TableContent) (k width : ℕ) (base low long : List Term) (pairs : List Pair)
@@ -81,6 +77,26 @@ pub all_long : (ts long : List Term) → long ≡ filter is_long ts → All (λ 
 all_long ts long e =
     subst (All (λ t. is_long t ≡ true)) (sym e)
     (All-from_recursion (λ t. is_long t ≡ true) (filter is_long ts) (filter-yes is_long ts))
+
+-- the nodes of a run have codes of 32 bits
+pub nodes-narrow : (t : TableContent) (turns : ℕ) → table_size t * 2 ^ 2 ≤ 2 ^ 32
+    → turns ≤ excess t.terms → t.width + turns ≤ 2 ^ 31
+nodes-narrow t turns size few = omega (arith, size, few, excess-size t.terms)
+
+-- a long term counts one at least
+long-few : (ts : List Term) → length (filter is_long ts) ≤ terms_size ts
+long-few [] = omega arith
+long-few (t ∷ ts) = go (is_long t) refl (long-few ts)
+  where
+    go : (b : Bool) → is_long t ≡ b → length (filter is_long ts) ≤ terms_size ts
+        → length (cond b (t ∷ filter is_long ts) (filter is_long ts)) ≤ terms_size (t ∷ ts)
+    go false e rest = omega (arith, rest, terms_size-cons t ts)
+    go true e rest = omega (arith, rest, terms_size-cons t ts, excess-one t.0, three-long t e)
+
+-- the long terms of a table have numbers of 32 bits
+pub terms-narrow : (t : TableContent) (long : List Term) → table_size t * 2 ^ 2 ≤ 2 ^ 32
+    → long ≡ filter is_long t.terms → length long < 2 ^ 32
+terms-narrow t long size e = omega (arith, size, long-few t.terms, ap length e)
 
 -- a turn adds one pair at most
 pub turn_made : (o : Option Pair) (n : ℕ) (long low : List Term) (pairs : List Pair) (ms : List ℕ)

@@ -133,7 +133,7 @@ filter-gives f test t ts = go (test t)
     go true = refl
     go false = omega (arith, ints)
 
-coefficient-long : (ls : List Literal) (ts : List Term)
+pub coefficient-long : (ls : List Literal) (ts : List Term)
     → coefficient_of ls (filter is_long ts) ≡ if_so (leb 3 (length ls)) (coefficient_of ls ts)
 coefficient-long ls [] = sym (if_so-none (leb 3 (length ls)))
 coefficient-long ls (t ∷ ts) =

@@ -13,7 +13,6 @@ use Rattle.term_table.specs.Tables.{TableContent}
 use Rattle.term_table.proofs.Additions.{terms_size-cons}
 use Rattle.rosenberg_layer.specs.Rosenberg.{node, Pair, next_pair, tie_terms, with_pair, with_next, is_long, substituted, run, excess, next_before, pairs_of}
 use Rattle.rosenberg_layer.specs.Steps.{front_term, is_short, IsStep}
-use Rattle.rosenberg_layer.specs.Groups.{grouped, Group}
 use Rattle.rosenberg_layer.specs.Parts.{ties_of, AllLong, IsTurn}
 use Rattle.rosenberg_layer.proofs.Growth.{square_is}
 use Rattle.rosenberg_layer.proofs.Bags.{held-step, none-next, AreHeld}
@@ -21,7 +20,7 @@ use Rattle.rosenberg_layer.specs.laws.Kept.{width-run-le}
 
 -- ---- the measure fits
 
-excess-one : (ls : List Literal) → length ls - 2 ≤ set_size ls
+pub excess-one : (ls : List Literal) → length ls - 2 ≤ set_size ls
 excess-one [] = omega arith
 excess-one (l ∷ ls) =
     let n = length (l ∷ ls) in
@@ -246,19 +245,6 @@ turn-few None n most low low' long long' pairs pairs' ms ms' few turned =
     omega (arith, few, ap length turned.1, ap length turned.2)
 turn-few (Some pair) n most low low' long long' pairs pairs' ms ms' few turned =
     omega (arith, few, step-few pair (node n) long low long' low' turned.0 turned.1)
-
--- all long terms are among those of the table
-pub start-few : (ts low front : List Term) (groups : List Group) → low ≡ [] → front ≡ filter is_long ts
-    → groups ≡ [] → length low + length (front ++ grouped groups) ≤ length ts
-start-few ts low front groups none long no_groups =
-    omega (
-      arith,
-      ap length none,
-      length-append front (grouped groups),
-      ap length long,
-      ap (λ gs. length (grouped gs)) no_groups,
-      length-filter_both is_long is_short (λ t. refl) ts,
-    )
 
 -- as many turns as there are pairs give all pairs
 pub pairs-enough : (k : ℕ) (t : TableContent) → pairs_of (length (pairs_of k t)) t ≡ pairs_of k t

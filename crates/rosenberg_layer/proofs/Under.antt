@@ -3,7 +3,7 @@
 use Rattle.std.proofs.Common.{◌≡◌, ◌⊎◌, inl, inr, ℕ, ◌+◌, ◌*◌, ◌-◌, ◌/◌, ◌%◌, ◌<◌, ◌≤◌, ◌^◌, Bool, true, false, cond, ◌&&◌, arith, refl, sym, ap, ◌∙◌, subst, List, [], ◌∷◌, ◌++◌, length, set, unsigned_abs}
 use Rattle.std.specs.Prelude.{Contains}
 use Rattle.std.specs.List.{AllByRecursion, filter}
-use Rattle.std.proofs.lemmas.Bool.{and_parts}
+use Rattle.std.proofs.lemmas.Bool.{and_parts, cases_eq}
 use Rattle.std.proofs.lemmas.List.{length-set}
 use Rattle.literal_lists.specs.declared.literal.Literal.{Literal}
 use Rattle.literal_lists.specs.Codes.{code_of}
@@ -15,7 +15,7 @@ use Rattle.rosenberg_layer.specs.Buckets.{list_at}
 use Rattle.rosenberg_layer.specs.Waiting.{is_touched, key_of, lists_with, AreWaiting, ArePartly, IsBeyond, IsFound}
 use Rattle.rosenberg_layer.proofs.PartlyTerms.{code-later, code-same, least, long_at, pair-first, pair-second, partly_at, partly_skip, partly_start, partly_touch, whole_step}
 use Rattle.rosenberg_layer.proofs.PutBack.{three-long}
-use Rattle.rosenberg_layer.proofs.Taking.{begins-pair, pair-begins, two-long}
+use Rattle.rosenberg_layer.proofs.PairOrder.{begins-pair, pair-begins, two-long}
 use Rattle.rosenberg_layer.proofs.WaitingTerms.{in-cons, in-first, keyed_first, keys_after, key-term, wait_less, wait_put, IsFirst}
 
 -- the pair of the term of a key

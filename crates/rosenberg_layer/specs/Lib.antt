@@ -3,8 +3,8 @@ pub mod laws
 pub mod Steps
 pub mod Parts
 pub mod Stated
-pub mod Groups
 pub mod Rings
 pub mod Buckets
 pub mod Waiting
 pub mod Added
+pub mod LongParts

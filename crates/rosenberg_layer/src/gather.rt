@@ -4,18 +4,27 @@ ghost use Rattle.std.specs.List.{filter};
 ghost use Rattle.term_table.specs.Terms.{with_additions, terms_total};
 ghost use Rattle.term_table.specs.Tables.{kept_at_once, AreAdditions};
 ghost use Rattle.term_table.specs.Rooms.{Fills, HasRoomFor};
-ghost use Rattle.rosenberg_layer.specs.Rosenberg.{tie_terms};
+ghost use Rattle.rosenberg_layer.specs.Rosenberg.{node, tie_terms};
 ghost use Rattle.rosenberg_layer.specs.Steps.{is_short};
 ghost use Rattle.rosenberg_layer.specs.Parts.{ties_of};
 ghost use Rattle.rosenberg_layer.specs.Added.{moved_of};
 
 use crate::low_set::LowSet;
 use crate::run::Run;
-use crate::substitute::node;
 use base::NoMemory;
 use literal_lists::Literal;
 use std::alloc::Global;
 use term_table::{Gather, GatheredTerms, Table};
+
+/// The node of a number, as a literal.
+pub(crate) fn node(number: usize) -> Literal
+    ensures { result ≡ node number }
+{
+    Literal {
+        variable: number as u64,
+        negated: false,
+    }
+}
 
 /// Adds a term of degree 2 or less, and no other.
 fn add_short<G: Gather>(

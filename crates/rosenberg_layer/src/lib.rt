@@ -4,18 +4,15 @@
 
 mod buckets;
 mod gather;
-mod grouped_terms;
 mod laws;
-mod long_set;
 mod long_terms;
 mod low_set;
+mod pairs;
 mod replacing;
 mod rings;
 mod rosenberg;
 mod run;
-mod substitute;
 mod waiting;
-mod wide;
 
 pub use gather::add_moved;
 pub use laws::laws_of_substitutions;

@@ -5,6 +5,7 @@ ghost use Rattle.term_table.specs.Tables.{kept_at_once, table_size, IsLow, IsTab
 ghost use Rattle.rosenberg_layer.specs.Rosenberg.{extension, image, with_product};
 
 use crate::gather::gathered;
+use crate::pairs::pairs_of;
 use crate::run::{excess, run_of};
 use base::{Costed, NoMemory};
 use form_steps::{BitsLink, Layer, Lowered};
@@ -66,9 +67,9 @@ fn extended(
     requires target { bits ≡ (image table.now.content).width }
     ensures { IfOk result (λ y. y.items ≡ extension x.now table.now.content) }
 {
-    let made = run_of(alloc, table, variables, bits - variables)?;
+    let pairs = pairs_of(alloc, table, variables, bits - variables)?;
     let mut y = x.to_vec(alloc)?;
-    push_products(&mut y, &made.pairs)?;
+    push_products(&mut y, &pairs)?;
     Ok(y)
 }
 

@@ -21,7 +21,7 @@ ghost use Rattle.std.specs.Prelude.{
 };
 ghost use Rattle.std.specs.List.{filter, AllByRecursion};
 ghost use Rattle.term_table.specs.Terms.{terms_size, terms_total, IsTermSet};
-ghost use Rattle.term_table.specs.Tables.{IsTable, TableContent};
+ghost use Rattle.term_table.specs.Tables.{IsTable, TableContent, table_size};
 ghost use Rattle.rosenberg_layer.specs.Rosenberg.{excess, is_long, pairs_of, run};
 ghost use Rattle.rosenberg_layer.specs.Steps.{is_short};
 ghost use Rattle.rosenberg_layer.specs.Parts.{ties_of, weights, AreParts, IsTurn};
@@ -31,17 +31,10 @@ use crate::long_terms::LongTerms;
 use crate::low_set::LowSet;
 use crate::replacing::substitute;
 use crate::waiting::Waiting;
-use crate::wide::wide_run;
 use base::NoMemory;
 use literal_lists::Literal;
 use std::alloc::Global;
 use term_table::Table;
-
-/// How many nodes have codes of 32 bits.
-const NODES: usize = 1 << 31;
-
-/// How many terms have numbers of 32 bits.
-const TERMS: usize = (1 << 32) - 1;
 
 /// The touched terms of lower degree, the pairs that the new nodes stand for, and the weights of
 /// the terms that tie each node to its pair.
@@ -172,7 +165,7 @@ fn add_long(long: &mut LongTerms, literals: &[Literal], coefficient: i128) -> Re
 }
 
 /// The terms of degree 3 or more of a table.
-fn long_terms(alloc: Global, table: &Table) -> Result<LongTerms, NoMemory>
+pub(crate) fn long_terms(alloc: Global, table: &Table) -> Result<LongTerms, NoMemory>
     requires { table.now.content.width ≤ 2 ^ 31 }
     ensures long { IfOk result (λ long. long ≡ filter is_long table.now.content.terms) }
     ensures kept { IsTable table.now.content }
@@ -192,7 +185,8 @@ pub(crate) fn run_of(
     turns: usize,
 ) -> Result<Run, NoMemory>
     requires width { width ≡ table.now.content.width }
-    requires narrow { (run turns table.now.content).width < 2 ^ 64 }
+    requires turns { turns ≤ excess table.now.content.terms }
+    requires size { table_size table.now.content * 2 ^ 2 ≤ 2 ^ 32 }
     ensures parts { IfOk result (λ made. AreParts (run turns table.now.content)
         (filter is_short table.now.content.terms
         ++ (made.low.items ++ ties_of width made.pairs.items made.weights.items))
@@ -202,11 +196,6 @@ pub(crate) fn run_of(
     ensures few { IfOk result (λ made. length made.low.items ≤ length table.now.content.terms) }
     ensures kept { IsTable table.now.content }
 {
-    if turns <= NODES && width <= NODES - turns {
-        let long = long_terms(alloc, table)?;
-        if long.len() <= TERMS {
-            return run_of_long(alloc, long, width, turns);
-        }
-    }
-    wide_run(alloc, table, width, turns)
+    let long = long_terms(alloc, table)?;
+    run_of_long(alloc, long, width, turns)
 }

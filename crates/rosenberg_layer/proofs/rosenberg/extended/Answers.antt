@@ -9,8 +9,8 @@ overflow_sub-bits c =
     let t = c.args.table.now.content in
     omega (arith, c.requires.source, c.requires.target, width-run-le (excess t.terms) t)
 
-pub run_of-requires-clause-narrow : goal.run_of-requires-clause-narrow
-run_of-requires-clause-narrow c =
+pub pairs_of-requires-clause-narrow : goal.pairs_of-requires-clause-narrow
+pairs_of-requires-clause-narrow c =
     let t = c.args.table.now.content in
     omega (
       arith,
@@ -30,4 +30,4 @@ returns c =
     let start : c.in_ok-y.y.items ≡ x = search rules in
     c.in_ok-push_products.ensures
     ∙ (λ i. fold with_product (start i) (c.deref.ensures.value i))
-    ∙ ap (fold with_product x) (c.in_ok-made.ensures.pairs ∙ all-pairs t k number)
+    ∙ ap (fold with_product x) (c.in_ok-pairs.ensures ∙ all-pairs t k number)

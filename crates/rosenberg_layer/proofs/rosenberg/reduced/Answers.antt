@@ -11,16 +11,8 @@ use Rattle.rosenberg_layer.proofs.Turns.{excess-size, width-pairs}
 use Rattle.rosenberg_layer.proofs.Finish.{width-le, made-image, adds-fit}
 use Rattle.rosenberg_layer.proofs.rosenberg.reduced.Goals as goal
 
-pub run_of-requires-clause-narrow : goal.run_of-requires-clause-narrow
-run_of-requires-clause-narrow c =
-    let t = c.args.table.now.content in
-    omega (
-      arith,
-      width-le c.excess.result t,
-      c.excess.ensures,
-      excess-size t.terms,
-      c.requires.size,
-    )
+pub run_of-requires-clause-turns : goal.run_of-requires-clause-turns
+run_of-requires-clause-turns c = omega (arith, c.excess.ensures)
 
 pub gathered-requires-clause-narrow : goal.gathered-requires-clause-narrow
 gathered-requires-clause-narrow c =

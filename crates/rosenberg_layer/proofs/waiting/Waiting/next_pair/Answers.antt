@@ -1,8 +1,8 @@
-use Rattle.std.proofs.Common.{◌≡◌, ◌+◌, ◌%◌, ◌^◌, ◌<◌, ◌∷◌, length, get_or, drop, sym, ap, ◌∙◌, subst, arith, rules}
+use Rattle.std.proofs.Common.{◌≡◌, ◌+◌, ◌%◌, ◌^◌, ◌<◌, ◌≤◌, ℕ, List, ◌∷◌, length, get_or, drop, sym, ap, ◌∙◌, subst, arith, rules}
 use Rattle.std.proofs.lemmas.List.{drop_more}
 use Rattle.rosenberg_layer.specs.Rings.{term_at}
 use Rattle.rosenberg_layer.specs.Waiting.{keys_left, AreWaiting}
-use Rattle.rosenberg_layer.proofs.Taking.{two-long}
+use Rattle.rosenberg_layer.proofs.PairOrder.{two-long}
 use Rattle.rosenberg_layer.proofs.WaitingTerms.{keyed_first}
 use Rattle.rosenberg_layer.proofs.waiting.Waiting.next_pair.Goals as goal
 

@@ -1,0 +1,54 @@
+use Rattle.std.proofs.Common.{◌≡◌, ◌++◌, ◌∙◌, ◌∷◌, [], ap, sym, rules, List}
+use Rattle.std.specs.Int.{w128}
+use Rattle.std.specs.List.{filter}
+use Rattle.std.proofs.lemmas.Int.{to_z-of_z}
+use Rattle.std.proofs.lemmas.List.{append-nil}
+use Rattle.std.proofs.lemmas.List.Elements.{All-filter, All-rest}
+use Rattle.std.proofs.lemmas.Map.Iter.{rest_all, rest_more}
+use Rattle.term_table.specs.Terms.{Term, with_additions, IsTermSet}
+use Rattle.term_table.specs.Tables.{kept_at_once, TableContent}
+use Rattle.term_table.proofs.KeptTerms.{IsNonzero}
+use Rattle.rosenberg_layer.specs.Rosenberg.{is_long}
+use Rattle.rosenberg_layer.proofs.LongParts.{passed_more, total_more, total-long}
+use Rattle.rosenberg_layer.proofs.Parts.{filter-ascends, with_additions-itself}
+use Rattle.rosenberg_layer.proofs.pairs.long_part.Goals as goal
+
+pub loop-literals-preserved : goal.loop-literals-preserved
+loop-literals-preserved c =
+    let t : Term = (c.in-Some.literals.now, c.in-Some.coefficient) in
+    let old = c.loop-literals.terms in
+    let left =
+    rest_more _ c.loop-literals.literals-iterator c.next.new.self c.next.result
+    (c.in-Some.literals, c.in-Some.coefficient) c.in-Some.is c.next.ensures.steps in
+    let back = to_z-of_z w128 c.in-Some.coefficient (search rules) in
+    let added = rw back at c.in_ok-gather_long.ensures in
+    let more = ap (λ (u : TableContent). u.terms) added in
+    record {
+      width = ap (λ (u : TableContent). u.width) added ∙ c.loop-literals.invariant.width;
+      whole = passed_more is_long old.terms _ t _ _ _ left more c.loop-literals.invariant.whole;
+      sets =
+          All-rest (λ (u : Term). IsTermSet c.args.table.now.content.width u.0) _ _ _ left
+          c.loop-literals.invariant.sets;
+      small =
+          total_more old.terms _ (filter is_long (t ∷ [])) t _ _ left more (total-long t)
+          c.loop-literals.invariant.small;
+    }
+
+pub returns-clause-long : goal.returns-clause-long
+returns-clause-long c =
+    let t = c.args.table.now.content in
+    let terms = c.loop-literals.terms in
+    let kept = c.terms-literals-items.ensures.kept.terms in
+    let none =
+    rest_all _ c.loop-literals.literals-iterator c.next.new.self c.next.result c.in-None.is
+    c.next.ensures.steps in
+    let all : terms.terms ≡ filter is_long t.terms =
+    sym (append-nil terms.terms)
+    ∙ sym (ap (λ us. terms.terms ++ filter is_long us) none)
+    ∙ c.loop-literals.invariant.whole in
+    let sums =
+    ap (with_additions []) all
+    ∙ with_additions-itself (filter is_long t.terms) (filter-ascends is_long t.terms kept.ordered)
+    (All-filter is_long IsNonzero t.terms kept.nonzero) in
+    c.into_table.ensures
+    ∙ (λ i. kept_at_once (record { width = c.loop-literals.invariant.width i; terms = sums i }))
