@@ -10,9 +10,9 @@ use Rattle.problem_form.specs.Problems.{products_total}
 use Rattle.term_table.specs.Terms.{Term, terms_total, IsTermSet}
 use Rattle.term_table.specs.Tables.{TableContent}
 use Rattle.pair_sums.specs.Pairs.{IsPair}
-use Rattle.long_terms.specs.Apart.{short_terms, long_additions}
+use Rattle.long_terms.specs.Apart.{short_terms, long_additions, table_of}
 use Rattle.direct_quad.specs.Places.{Share, share_at, short_couplers, short_shares, short_constant}
-use Rattle.long_terms.specs.Long.{product_term}
+use Rattle.long_terms.specs.Long.{product_term, terms_of, node_count}
 use Rattle.direct_quad.specs.RowSums.{size_of}
 
 -- the sum of the sizes of all coefficients, then the constant, the weights of nodes and the couplers
@@ -53,6 +53,10 @@ pub record IsHeld (h : HeldContent) : Type 0 where
 -- the weights of so many nodes, of which those after the last one weigh 0
 abbrev pub widened : ℕ → List ℤ → List ℤ
 widened nodes ws = ws ++ replicate (nodes - length ws) (pos 0)
+
+-- how many nodes there are, with the new nodes of these long terms
+abbrev pub nodes_with : ℕ → List Product → ℕ
+nodes_with width long = node_count (table_of (terms_of width long))
 
 -- the sum of the sizes of shares
 abbrev pub shares_total : List Share → ℕ

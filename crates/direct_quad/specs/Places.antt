@@ -86,9 +86,9 @@ abbrev pub node_shares : ℕ → ℕ → ℤ → ℕ → ℕ → List Share
 node_shares d e c n zero = []
 node_shares d e c n (suc k) = node_shares d e c n k ++ node_share d e c n k ∷ []
 
--- of all literals of a positive term with e complements
-abbrev pub literal_shares : ℕ → ℤ → List Literal → List Share
-literal_shares e c ls = map (literal_share e c) ls
+-- of the literals of a positive term with e complements, one after another
+abbrev pub own_shares : ℕ → ℤ → List Literal → List Share
+own_shares e c ls = map (literal_share e c) ls
 
 -- of all new nodes of a positive term of degree d, numbered from n on
 abbrev pub new_shares : ℕ → ℕ → ℤ → ℕ → List Share
@@ -100,7 +100,7 @@ term_shares t n =
     if int_lt t.1 (pos 0)
     then (n, t.1 *ℤ (pos (complements t.0 + 1) -ℤ pos (length t.0))) ∷ []
     else (
-    literal_shares (complements t.0) t.1 t.0
+    own_shares (complements t.0) t.1 t.0
     ++ new_shares (length t.0) (complements t.0) t.1 n
     )
 

@@ -4,9 +4,7 @@ ghost use Rattle.problem_form.specs.Problems.{products_total};
 ghost use Rattle.term_table.specs.Terms.{IsTermSet};
 ghost use Rattle.term_table.specs.Tables.{TableContent, AreAdditions, with_appended};
 ghost use Rattle.direct_quad.specs.Parts.{image, short_part};
-ghost use Rattle.long_terms.specs.Apart.{table_of};
-ghost use Rattle.long_terms.specs.Long.{terms_of, node_count};
-ghost use Rattle.direct_quad.specs.Held.{AreHeld, HasPlaces};
+ghost use Rattle.direct_quad.specs.Held.{AreHeld, HasPlaces, nodes_with};
 ghost use Rattle.direct_quad.specs.Gathered.{AreSumsOf};
 ghost use Rattle.direct_quad.specs.Stated.{IsWithin};
 
@@ -206,7 +204,7 @@ impl DirectTerms {
     /// The sums of what all additions give, with new nodes for long terms. Each list is let go as
     /// soon as it is used.
     pub(crate) fn into_sums(self, alloc: Global) -> Result<Sums, NoMemory>
-        requires narrow { node_count (table_of (terms_of (length self.weights) self.long)) < 2 ^ 32 }
+        requires narrow { nodes_with (length self.weights) self.long < 2 ^ 32 }
         ensures { (t : TableContent) → AreAdditions t → AreHeld t self
             → IfOk result (λ sums.
             AreSumsOf t sums.constant sums.weights.items sums.couplers) }

@@ -4,7 +4,7 @@ ghost use Rattle.literal_lists.specs.declared.literal.Literal.{Literal};
 ghost use Rattle.base.specs.Sums.{total_by};
 ghost use Rattle.term_table.specs.Terms.{terms_total, IsTermSet};
 ghost use Rattle.monomial_layer.specs.Monomials.{factor, nodes_for, new_nodes};
-ghost use Rattle.direct_quad.specs.Places.{complements, literal_share, literal_shares, node_share, new_shares, term_shares, all_shares, long_constant};
+ghost use Rattle.direct_quad.specs.Places.{complements, literal_share, own_shares, node_share, new_shares, term_shares, all_shares, long_constant};
 ghost use Rattle.long_terms.specs.Long.{node_count};
 ghost use Rattle.direct_quad.specs.Held.{Gain, Gains, GainsBoth, shares_total, widened};
 ghost use Rattle.direct_quad.specs.RowSums.{size_of};
@@ -66,8 +66,8 @@ fn add_literal_shares(
     requires negated { negated ≤ 2048 }
     requires coefficient { unsigned_abs coefficient ≤ 2 ^ 102 }
     requires small { size_of weights.old
-        + shares_total (literal_shares negated coefficient literals) ≤ 2 ^ 126 }
-    ensures { Gains (literal_shares negated coefficient literals.entry) weights.old weights.new }
+        + shares_total (own_shares negated coefficient literals) ≤ 2 ^ 126 }
+    ensures { Gains (own_shares negated coefficient literals.entry) weights.old weights.new }
 {
     for literal in literals {
         let share = literal_share(literal, negated, coefficient);
@@ -150,9 +150,9 @@ fn add_positive(
     requires negated { negated ≤ length literals }
     requires coefficient { unsigned_abs coefficient ≤ 2 ^ 102 }
     requires small { size_of weights.old
-        + shares_total (literal_shares negated coefficient literals)
+        + shares_total (own_shares negated coefficient literals)
         + shares_total (new_shares (length literals) negated coefficient node) ≤ 2 ^ 126 }
-    ensures { GainsBoth (literal_shares negated coefficient literals.entry)
+    ensures { GainsBoth (own_shares negated coefficient literals.entry)
         (new_shares (length literals.entry) negated coefficient node)
         weights.old weights.new }
 {

@@ -9,7 +9,7 @@ use Rattle.std.specs.declared.cmp.Ordering.{Ordering}
 use Rattle.std.specs.declared.cmp.Ordering.TheVariants.{Less, Equal, Greater}
 use Rattle.std.proofs.lemmas.Bool.{cases_eq}
 use Rattle.std.proofs.lemmas.Cmp.{ranked, tied_itself}
-use Rattle.std.proofs.lemmas.List.{append_assoc, append-nil, map-append, take_all, drop_all, take_more, drop_more, length-append, length-map, length-take-le, length-drop, get_or-append_right, get_or-drop, set-get_or, length-set, get_or_default}
+use Rattle.std.proofs.lemmas.List.{append_assoc, append-nil, map-append, take_all, drop_all, length-append, length-map, length-take-le, length-drop, get_or-append_right, get_or-drop, set-get_or, get_or_default}
 use Rattle.std.proofs.lemmas.List.Edits.{map_over_more}
 use Rattle.std.proofs.lemmas.List.Elements.{filter_more, filter-append, recursion_from_All}
 use Rattle.std.proofs.lemmas.List.Sorted.{IsPermutation-refl, IsPermutation-cons, IsPermutation-trans, IsPermutation-middle, IsPermutation-filter_both}
@@ -20,14 +20,13 @@ use Rattle.literal_lists.specs.Literals.{literal_cmp}
 use Rattle.literal_lists.specs.Codes.{code_of, literal_of}
 use Rattle.term_table.specs.Terms.{Term, terms_total, IsTermSet}
 use Rattle.rosenberg_layer.specs.Rosenberg.{node, Pair, is_long}
-use Rattle.rosenberg_layer.specs.Steps.{begins, front_term, is_short, pair_cmp, pair_of, Begin, Follow, IsStep, IsTaken}
+use Rattle.rosenberg_layer.specs.Steps.{begins, front_term, is_short, pair_cmp, pair_of, Begin, Follow, IsStep}
 use Rattle.rosenberg_layer.specs.Rings.{code_at, term_at}
-use Rattle.rosenberg_layer.specs.Buckets.{list_at}
 use Rattle.rosenberg_layer.specs.Waiting.{first_pair, is_touched, key_of, turned, AreWaiting, ArePartly, IsFound}
 use Rattle.rosenberg_layer.proofs.Parts.{filter-yes}
 use Rattle.rosenberg_layer.proofs.RingTerms.{literal_of-code_of}
-use Rattle.rosenberg_layer.proofs.PairOrder.{begins-pair, pair-begins, two-long, From}
-use Rattle.rosenberg_layer.proofs.WaitingTerms.{in-cons, keyed_first, keys_after}
+use Rattle.rosenberg_layer.proofs.PairOrder.{begins-pair, two-long, From}
+use Rattle.rosenberg_layer.proofs.WaitingTerms.{in-cons, keys_after}
 
 -- ---- codes are in the order of literals
 

@@ -1,6 +1,6 @@
 -- Terms of degree 3 or more as they are kept: the term at a place, one more term, and a term whose
 -- first two literals are replaced.
-use Rattle.std.proofs.Common.{◌≡◌, ℕ, zero, suc, ◌+◌, ◌-◌, ◌*◌, ◌/◌, ◌%◌, ◌<◌, ◌≤◌, ◌^◌, Bool, true, false, List, [], ◌∷◌, ◌++◌, length, map, get_or, set, take, drop, refl, sym, ap, ◌∙◌, subst, arith, ℤ, pos, ◌==◌, if◌then◌else◌}
+use Rattle.std.proofs.Common.{◌≡◌, ℕ, zero, suc, ◌+◌, ◌*◌, ◌/◌, ◌%◌, ◌<◌, ◌≤◌, Bool, true, false, List, [], ◌∷◌, ◌++◌, length, map, get_or, set, take, drop, refl, sym, ap, ◌∙◌, subst, arith, ℤ, pos, ◌==◌, if◌then◌else◌}
 use Rattle.std.specs.List.{AllZip}
 use Rattle.std.proofs.lemmas.List.{append_assoc, append-nil, map-append, drop-map, length-map, length-set, length-append, length-drop, length-take-le, get_or-drop, set-append_left, drop-append-le, drop-set-lt, drop-drop, take_more_set}
 use Rattle.literal_lists.specs.declared.literal.Literal.{Literal}

@@ -1,5 +1,5 @@
 -- Terms in lists by their first literals.
-use Rattle.std.specs.Prelude.{◌≢◌, ℕ, zero, suc, List, [], ◌∷◌, length, map, All}
+use Rattle.std.specs.Prelude.{◌≢◌, ℕ, zero, suc, List, [], ◌∷◌, length, All}
 use Rattle.std.specs.List.{slice_index, slice_index_or, sum_by}
 use Rattle.rosenberg_layer.specs.declared.buckets.Head.{Head}
 

@@ -6,6 +6,10 @@
 -- each of these w takes their place, and m * (p q - 2 p w - 2 q w + 3 w) is added. That is 0 where w
 -- is the product of p and q, and at least m elsewhere. See Rosenberg, Reduction of bivalent
 -- maximization to the quadratic case (1975).
+--
+-- So -4 * x * y * z gets the pair x, y and m = 4: it becomes -4 * z * w with
+-- 4 * x * y - 8 * x * w - 8 * y * w + 12 * w. With x = 1, y = 0 and w = 1 the tie costs 4, and no
+-- more than that is what the term gains by a node that is not its pair's product.
 use Rattle.std.specs.Prelude.{◌≡◌, ℕ, zero, suc, ◌+◌, ◌-◌, ◌*◌, pos, neg_ℤ, Bool, false, not, ◌&&◌, nat_le, List, [], ◌∷◌, ◌++◌, map, length, fold, Option, Some, None, if◌then◌else◌}
 use Rattle.std.specs.List.{filter, list_any, sum_by}
 use Rattle.std.specs.Ordering.{is_eq}
@@ -41,22 +45,26 @@ without l ls = filter (λ k. not (is_literal l k)) ls
 abbrev pub is_long : Term → Bool
 is_long t = nat_le 3 (length t.0)
 
--- .. that has both literals of the pair
+-- a term of degree 3 or more that has both literals of the pair, wherever they stand in it
 abbrev pub has_pair : Pair → Term → Bool
 has_pair pair t = is_long t && (has_literal pair.0 t.0 && has_literal pair.1 t.0)
 
 -- ---- one substitution
 
--- a term that has the pair, with the node in its place, last; another stays as it is
+-- A term that has the pair, with the node in its place, last; another stays as it is. The node has
+-- the greatest number so far, so the term stays in order.
 abbrev pub new_term : Pair → Literal → Term → Term
 new_term pair w t =
     if has_pair pair t then (without pair.0 (without pair.1 t.0) ++ w ∷ [], t.1) else t
 
--- the sum of the sizes of the coefficients of the terms that have the pair
+-- The sum of the sizes of the coefficients of the terms that have the pair. It is the least weight
+-- with which a node that is not its pair's product never pays.
 abbrev pub pair_total : Pair → List Term → ℕ
 pair_total pair ts = terms_total (filter (has_pair pair) ts)
 
--- m * (p q - 2 p w - 2 q w + 3 w), which ties the node to the product of the pair
+-- The terms m * (p q - 2 p w - 2 q w + 3 w), which tie the node to the product of the pair. For w =
+-- p q they come to 0, for all four values of p and q; for another w to m, or to 3 * m where w is 1
+-- and both are 0.
 abbrev pub tie_terms : Pair → Literal → ℕ → List Term
 tie_terms pair w m =
     (pair.0 ∷ pair.1 ∷ [], pos m)
@@ -69,7 +77,8 @@ tie_terms pair w m =
 abbrev pub replaced : Pair → Literal → List Term → List Term
 replaced pair w ts = map (new_term pair w) ts ++ tie_terms pair w (pair_total pair ts)
 
--- the table with a new node for the pair, numbered after all others
+-- The table with a new node for the pair, numbered after all others. Terms of one set are summed,
+-- also with those that tie the node.
 abbrev pub with_pair : Pair → TableContent → TableContent
 with_pair pair t = record {
   width = t.width + 1;
@@ -83,7 +92,8 @@ abbrev pub front_pair : List Term → Option Pair
 front_pair ((p ∷ q ∷ ls, c) ∷ ts) = Some (p, q)
 front_pair _ = None
 
--- the first two literals of the first term of degree 3 or more
+-- The first two literals of the first term of degree 3 or more. Terms are in order, so it is the
+-- same whatever else is in the table.
 abbrev pub next_pair : List Term → Option Pair
 next_pair ts = front_pair (filter is_long ts)
 
@@ -96,13 +106,15 @@ with_next (Some pair) t = with_pair pair t
 abbrev pub substituted : TableContent → TableContent
 substituted t = with_next (next_pair t.terms) t
 
--- the table after so many substitutions
+-- The table after so many substitutions. Where no term is long any more, further steps change
+-- nothing.
 abbrev pub run : ℕ → TableContent → TableContent
 run zero t = t
 run (suc k) t = run k (substituted t)
 
--- the sum of d - 2 over the terms of a degree d of 3 or more: each substitution takes from it, so
--- there are at most so many
+-- The sum of d - 2 over the terms of a degree d of 3 or more: each substitution takes from it, so
+-- there are at most so many. A term of degree 5 counts 3, and is quadratic after 3 substitutions
+-- that touch it.
 abbrev pub excess : List Term → ℕ
 excess ts = sum_by (λ t. length t.0 - 2) ts
 
@@ -126,7 +138,8 @@ pairs_of (suc k) t = next_before (next_pair t.terms) (pairs_of k (substituted t)
 abbrev pub with_product : List Bool → Pair → List Bool
 with_product y pair = y ++ (holds y pair.0 && holds y pair.1) ∷ []
 
--- an assignment, and for each new node the product of its two literals
+-- An assignment, and for each new node the product of its two literals. So each tie costs 0, and
+-- each replaced term what it cost.
 abbrev pub extension : List Bool → TableContent → List Bool
 extension x t = fold with_product x (pairs_of (excess t.terms) t)
 
@@ -134,6 +147,9 @@ extension x t = fold with_product x (pairs_of (excess t.terms) t)
 
 -- a link between a table and its image
 pub record Fits (link : BitsLink) (t : TableContent) : Type 0 where
+  -- the state begins with the bits of the table's nodes
   pub source : link.source_width ≡ t.width
+  -- and has one bit more for each substitution
   pub target : link.target_width ≡ (image t).width
+  -- the terms are in order, over those nodes
   pub table : IsTable t

@@ -1,6 +1,9 @@
 -- One substitution on the terms of degree 3 or more alone: those that begin with the first pair of
 -- all are taken from the others, and go back without it, or down to the terms of lower degree.
-use Rattle.std.specs.Prelude.{◌≡◌, ◌≢◌, ℕ, Bool, true, false, not, ◌&&◌, List, [], ◌∷◌, ◌++◌, map, drop}
+--
+-- The first term in order has the least first literal of all, and then the least second one. So a
+-- term that has both literals of its pair begins with them, and those that do lie next to each other.
+use Rattle.std.specs.Prelude.{◌≡◌, ◌≢◌, ℕ, Bool, true, false, not, ◌&&◌, List, [], ◌∷◌, ◌++◌, map, drop, Some, Option}
 use Rattle.std.specs.List.{AllByRecursion, filter}
 use Rattle.std.specs.List.Sorted.{IsPermutation}
 use Rattle.std.specs.Ordering.{ordering_then}
@@ -52,9 +55,13 @@ Follow pair ts = AllByRecursion (λ t. pair_cmp pair (pair_of t.0) ≡ Less) ts
 
 -- the terms that begin with the first pair of all are taken from the others
 pub record IsTaken (pair : Pair) (touched rest long : List Term) : Type 0 where
+  -- no term is lost, and none is there twice
   pub whole : IsPermutation long (touched ++ rest)
+  -- the first term at least is among them
   pub some : touched ≢ []
+  -- all of them begin with the pair
   pub begin : Begin pair touched
+  -- and no other term does: each begins with a later pair
   pub others : Follow pair rest
 
 -- .. and those of them that stay long go back, the others down, and their sizes are summed
@@ -63,6 +70,14 @@ pub record IsStep (pair : Pair) (w : Literal) (long low long' low' : List Term) 
   pub touched : List Term
   pub rest : List Term
   pub taken : IsTaken pair touched rest long
+  -- those of degree 4 or more are long still
   pub put_back : IsPermutation (rest ++ filter is_long (map (front_term w) touched)) long'
+  -- those of degree 3 are gathered with what is of lower degree
   pub put_down : low' ≡ low ++ filter is_short (map (front_term w) touched)
+  -- the sum of their sizes ties the node to its pair
   pub weight : m ≡ terms_total touched
+
+-- a step for this pair, if there is one, that gives the node of a number
+abbrev pub IsStepOf : Option Pair → ℕ → (long low long' low' : List Term) → ℕ → Type 0
+IsStepOf first number long low long' low' m =
+    (pair : Pair) → first ≡ Some pair → IsStep pair (node number) long low long' low' m

@@ -12,13 +12,17 @@ use Rattle.rosenberg_layer.specs.Steps.{begins, front_term, is_short, pair_of}
 use Rattle.rosenberg_layer.specs.Rings.{code_at, term_at}
 use Rattle.rosenberg_layer.specs.Buckets.{list_at, listed_count}
 
--- a term's key among those of its first literal: the code of its second literal, and the term
+-- A term's key among those of its first literal: the code of its second literal, and the term. Keys
+-- in order give the pairs of one first literal in order, and the terms of a pair next to each
+-- other.
 abbrev pub key_of : List Term → ℕ → ℕ
 key_of ts t = code_at (term_at ts t) 1 * 2 ^ 32 + t
 
 -- a term in a list of literals, from one on, has degree 3 or more and begins with the list's literal
 pub record IsListed (ts : List Term) (upto cursor b t : ℕ) : Type 0 where
+  -- it is one of the first so many terms
   pub within : t < upto
+  -- lists before the cursor are empty
   pub later : cursor ≤ b
   pub long : is_long (term_at ts t) ≡ true
   pub first : code_at (term_at ts t) 0 ≡ b
@@ -27,6 +31,7 @@ pub record IsListed (ts : List Term) (upto cursor b t : ℕ) : Type 0 where
 pub record IsKeyed (ts : List Term) (cursor k : ℕ) : Type 0 where
   pub term : ℕ
   pub within : term < length ts
+  -- the key tells the second literal and the term
   pub key : k ≡ key_of ts term
   pub long : is_long (term_at ts term) ≡ true
   pub first : code_at (term_at ts term) 0 + 1 ≡ cursor
@@ -40,11 +45,15 @@ IsFound ts lists cursor keys t =
 -- of the first so many terms, those of degree 3 or more wait, each at one place
 pub record AreWaiting (ts : List Term) (upto : ℕ) (lists : List (List ℕ)) (cursor : ℕ) (keys : List ℕ)
     : Type 0 where
+  -- each term that is listed has the list's literal first
   pub listed : (b t : ℕ) → Contains (list_at lists b) t → IsListed ts upto cursor b t
+  -- no list has a term twice
   pub distinct : (b : ℕ) → IsDistinct (λ x y. x == y) (list_at lists b)
   pub keyed : (k : ℕ) → Contains keys k → IsKeyed ts cursor k
   pub ordered : IsStrictlySortedBy nat_cmp keys
+  -- no term is forgotten
   pub found : (t : ℕ) → t < upto → is_long (term_at ts t) ≡ true → IsFound ts lists cursor keys t
+  -- so the lists have room for all
   pub few : listed_count lists + length keys ≤ upto
 
 -- the keys that are left
@@ -85,7 +94,9 @@ turned pair w t = if is_touched pair t then front_term w t else t
 
 -- the terms before a place are replaced
 pub record ArePartly (pair : Pair) (w : Literal) (start now low low' : List Term) (m i : ℕ) : Type 0 where
+  -- so many terms are replaced so far
   pub place : i ≤ length start
   pub terms : now ≡ map (turned pair w) (take i start) ++ drop i start
   pub down : low' ≡ low ++ filter is_short (map (front_term w) (filter (is_touched pair) (take i start)))
+  -- and their sizes are summed
   pub weight : m ≡ terms_total (filter (is_touched pair) (take i start))

@@ -102,7 +102,8 @@ impl Buckets {
     /// Takes all terms of a list out, and appends them to others.
     pub(crate) fn take(&mut self, list: usize, terms: &mut Vec<u64>) -> Result<(), NoMemory>
         requires { list < length self.old.lists }
-        ensures taken { OnOk result (terms.new.items ≡ terms.old.items ++ list_at self.old.lists list) }
+        ensures taken { OnOk result
+            (terms.new.items ≡ terms.old.items ++ list_at self.old.lists list) }
         ensures lists { OnOk result (self.new.lists ≡ set self.old.lists list []) }
         ensures room { OnOk result (self.new.room ≡ self.old.room) }
     {

@@ -1,5 +1,5 @@
 //! The quadratic terms that the run left, wherever they are added.
-ghost use Rattle.std.specs.Prelude.{◌≡◌, ◌+◌, ◌<◌, ◌≤◌, ◌^◌, ◌++◌, ◌∷◌, [], IfOk, OnOk, length};
+ghost use Rattle.std.specs.Prelude.{◌≡◌, ◌+◌, ◌<◌, ◌≤◌, ◌^◌, ◌∷◌, [], IfOk, OnOk, length};
 ghost use Rattle.std.specs.List.{filter};
 ghost use Rattle.term_table.specs.Terms.{with_additions, terms_total};
 ghost use Rattle.term_table.specs.Tables.{kept_at_once, AreAdditions};
@@ -7,7 +7,7 @@ ghost use Rattle.term_table.specs.Rooms.{Fills, HasRoomFor};
 ghost use Rattle.rosenberg_layer.specs.Rosenberg.{node, tie_terms};
 ghost use Rattle.rosenberg_layer.specs.Steps.{is_short};
 ghost use Rattle.rosenberg_layer.specs.Parts.{ties_of};
-ghost use Rattle.rosenberg_layer.specs.Added.{moved_of};
+ghost use Rattle.rosenberg_layer.specs.Added.{moved_of, gathered_terms};
 
 use crate::low_set::LowSet;
 use crate::run::Run;
@@ -127,11 +127,11 @@ pub(crate) fn gathered(
     requires narrow { start + length made.now.pairs.items < 2 ^ 64 }
     requires additions { AreAdditions (record {
       width = width;
-      terms = filter is_short table.now.content.terms ++ moved_of start made.now;
+      terms = gathered_terms table.now.content start made.now;
     }) }
     ensures { IfOk result (λ quadratic. quadratic ≡ kept_at_once (record {
       width = width;
-      terms = with_additions [] (filter is_short table.now.content.terms ++ moved_of start made.now);
+      terms = with_additions [] (gathered_terms table.now.content start made.now);
     })) }
 {
     let mut quadratic = GatheredTerms::new(alloc, width);

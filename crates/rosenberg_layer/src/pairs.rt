@@ -118,11 +118,8 @@ fn replaced(
     requires narrow { number + 1 < 2 ^ 64 }
     requires long { All (λ t. is_long t ≡ true) long.now.content.terms }
     requires first { front_pair long.now.content.terms ≡ Some pair }
-    ensures { IfOk result (λ next. next ≡ kept_at_once (record {
-      width = long.now.content.width + 1;
-      terms = with_additions []
-          (long_after pair (node long.now.content.width) long.now.content.terms);
-    })) }
+    ensures { IfOk result (λ next.
+        next ≡ kept_at_once (after_turn (Some pair) long.now.content)) }
 {
     let mut terms = GatheredTerms::new(alloc, number + 1);
     for (literals, coefficient) in long.terms() {

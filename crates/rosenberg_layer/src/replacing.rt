@@ -2,8 +2,8 @@
 ghost use Rattle.std.specs.Prelude.{◌≡◌, ◌+◌, ◌*◌, ◌<◌, ◌≤◌, ◌^◌, ◌++◌, ◌∷◌, [], IfOk, OnOk, Some, length, set};
 ghost use Rattle.std.specs.List.{filter, AllByRecursion};
 ghost use Rattle.term_table.specs.Terms.{terms_total, IsTermSet};
-ghost use Rattle.rosenberg_layer.specs.Rosenberg.{is_long, node, Pair};
-ghost use Rattle.rosenberg_layer.specs.Steps.{front_term, is_short, IsStep};
+ghost use Rattle.rosenberg_layer.specs.Rosenberg.{is_long, node};
+ghost use Rattle.rosenberg_layer.specs.Steps.{front_term, is_short, IsStepOf};
 ghost use Rattle.rosenberg_layer.specs.Rings.{code_at, term_at};
 ghost use Rattle.rosenberg_layer.specs.Buckets.{listed_count, IsApart};
 ghost use Rattle.rosenberg_layer.specs.Waiting.{first_pair, keys_left, lists_with, Wait};
@@ -33,8 +33,8 @@ fn replace(
     requires few { listed_count buckets.old.lists + 1 < 2 ^ 32 }
     ensures terms { OnOk result
         (long.new ≡ set long.old term (front_term (node number) (term_at long.old term))) }
-    ensures low { OnOk result (low.new.items
-        ≡ low.old.items ++ filter is_short (front_term (node number) (term_at long.old term) ∷ [])) }
+    ensures low { OnOk result (low.new.items ≡ low.old.items
+        ++ filter is_short (front_term (node number) (term_at long.old term) ∷ [])) }
     ensures lists { OnOk result (buckets.new.lists ≡ lists_with buckets.old.lists term
         (front_term (node number) (term_at long.old term))) }
     ensures room { OnOk result (buckets.new.room ≡ buckets.old.room) }
@@ -67,10 +67,8 @@ pub(crate) fn substitute(
     ensures wait { OnOk result (Wait long.new waiting.new) }
     ensures lists { OnOk result (length waiting.new.buckets.lists ≡ 2 * (number + 1)) }
     ensures count { OnOk result (length long.new ≡ length long.old) }
-    ensures step { IfOk result (λ weight. (pair : Pair)
-        → first_pair long.old (keys_left waiting.old) ≡ Some pair
-        → IsStep pair (node number) (filter is_long long.old) low.old.items
-        (filter is_long long.new) low.new.items weight) }
+    ensures step { IfOk result (IsStepOf (first_pair long.old (keys_left waiting.old)) number
+        (filter is_long long.old) low.old.items (filter is_long long.new) low.new.items) }
 {
     let node = number as u32;
     waiting.buckets.add()?;

@@ -23,9 +23,8 @@ ghost use Rattle.std.specs.List.{filter, AllByRecursion};
 ghost use Rattle.term_table.specs.Terms.{terms_size, terms_total, IsTermSet};
 ghost use Rattle.term_table.specs.Tables.{IsTable, TableContent, table_size};
 ghost use Rattle.rosenberg_layer.specs.Rosenberg.{excess, is_long, pairs_of, run};
-ghost use Rattle.rosenberg_layer.specs.Steps.{is_short};
-ghost use Rattle.rosenberg_layer.specs.Parts.{ties_of, weights, AreParts, IsTurn};
 ghost use Rattle.rosenberg_layer.specs.Waiting.{Wait};
+ghost use Rattle.rosenberg_layer.specs.Added.{IsRunAfter, TurnsRun};
 
 use crate::long_terms::LongTerms;
 use crate::low_set::LowSet;
@@ -75,10 +74,8 @@ fn turn(
     ensures lists { OnOk result
         (length waiting.new.buckets.lists ≡ 2 * (width + length made.new.pairs.items)) }
     ensures few { OnOk result (length long.new ≡ length long.old) }
-    ensures turn { IfOk result (λ pair. IsTurn pair
-        (width + length made.old.pairs.items)
-        (filter is_long long.old) made.old.low.items made.old.pairs.items made.old.weights.items
-        (filter is_long long.new) made.new.low.items made.new.pairs.items made.new.weights.items) }
+    ensures turn { IfOk result (λ pair. TurnsRun pair width
+        (filter is_long long.old) made.old (filter is_long long.new) made.new) }
 {
     match waiting.next_pair(long)? {
         None => Ok(None),
@@ -103,12 +100,11 @@ fn turns_of(
     requires long { All (λ t. is_long t ≡ true) long.old }
     requires few { length long.old < 2 ^ 32 }
     requires narrow { width + turns ≤ 2 ^ 31 }
-    ensures parts { (t : TableContent) → IsTable t → t.width ≡ width → filter is_long t.terms ≡ long.old
-        → IfOk result (λ made. AreParts (run turns t)
-        (filter is_short t.terms
-        ++ (made.low.items ++ ties_of width made.pairs.items made.weights.items))
-        (filter is_long (run turns t).terms) (weights t.terms)) }
-    ensures pairs { (t : TableContent) → IsTable t → t.width ≡ width → filter is_long t.terms ≡ long.old
+    ensures parts { (t : TableContent) → IsTable t → t.width ≡ width
+        → filter is_long t.terms ≡ long.old
+        → IfOk result (IsRunAfter t width turns) }
+    ensures pairs { (t : TableContent) → IsTable t → t.width ≡ width
+        → filter is_long t.terms ≡ long.old
         → IfOk result (λ made. made.pairs.items ≡ pairs_of turns t) }
     ensures each { IfOk result (λ made. length made.weights.items ≡ length made.pairs.items) }
     ensures few { IfOk result (λ made. length made.low.items ≤ length long.old) }
@@ -137,12 +133,11 @@ pub fn run_of_long(
     requires long { All (λ t. is_long t ≡ true) long }
     requires few { length long < 2 ^ 32 }
     requires narrow { width + turns ≤ 2 ^ 31 }
-    ensures parts { (t : TableContent) → IsTable t → t.width ≡ width → filter is_long t.terms ≡ long
-        → IfOk result (λ made. AreParts (run turns t)
-        (filter is_short t.terms
-        ++ (made.low.items ++ ties_of width made.pairs.items made.weights.items))
-        (filter is_long (run turns t).terms) (weights t.terms)) }
-    ensures pairs { (t : TableContent) → IsTable t → t.width ≡ width → filter is_long t.terms ≡ long
+    ensures parts { (t : TableContent) → IsTable t → t.width ≡ width
+        → filter is_long t.terms ≡ long
+        → IfOk result (IsRunAfter t width turns) }
+    ensures pairs { (t : TableContent) → IsTable t → t.width ≡ width
+        → filter is_long t.terms ≡ long
         → IfOk result (λ made. made.pairs.items ≡ pairs_of turns t) }
     ensures each { IfOk result (λ made. length made.weights.items ≡ length made.pairs.items) }
     ensures few { IfOk result (λ made. length made.low.items ≤ length long) }
@@ -187,10 +182,7 @@ pub(crate) fn run_of(
     requires width { width ≡ table.now.content.width }
     requires turns { turns ≤ excess table.now.content.terms }
     requires size { table_size table.now.content * 2 ^ 2 ≤ 2 ^ 32 }
-    ensures parts { IfOk result (λ made. AreParts (run turns table.now.content)
-        (filter is_short table.now.content.terms
-        ++ (made.low.items ++ ties_of width made.pairs.items made.weights.items))
-        (filter is_long (run turns table.now.content).terms) (weights table.now.content.terms)) }
+    ensures parts { IfOk result (IsRunAfter table.now.content width turns) }
     ensures pairs { IfOk result (λ made. made.pairs.items ≡ pairs_of turns table.now.content) }
     ensures each { IfOk result (λ made. length made.weights.items ≡ length made.pairs.items) }
     ensures few { IfOk result (λ made. length made.low.items ≤ length table.now.content.terms) }

@@ -1,6 +1,6 @@
-use Rattle.std.proofs.Common.{◌≡◌, ◌++◌, ◌∙◌, [], ap, arith, refl, List}
+use Rattle.std.proofs.Common.{◌≡◌, ◌++◌, arith, refl, List}
 use Rattle.std.specs.List.{filter}
-use Rattle.term_table.specs.Terms.{Term, terms_total}
+use Rattle.term_table.specs.Terms.{Term}
 use Rattle.term_table.specs.Tables.{TableContent, AreAdditions, with_more}
 use Rattle.term_table.proofs.Additions.{terms_total-append}
 use Rattle.term_table.proofs.Filling.{room_first, room_next}

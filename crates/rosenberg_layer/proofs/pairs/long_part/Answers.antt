@@ -1,4 +1,4 @@
-use Rattle.std.proofs.Common.{◌≡◌, ◌++◌, ◌∙◌, ◌∷◌, [], ap, sym, rules, List}
+use Rattle.std.proofs.Common.{◌≡◌, ◌++◌, ◌∙◌, ◌∷◌, [], ap, sym, rules}
 use Rattle.std.specs.Int.{w128}
 use Rattle.std.specs.List.{filter}
 use Rattle.std.proofs.lemmas.Int.{to_z-of_z}

@@ -1,6 +1,5 @@
 use Rattle.std.proofs.Common.{◌≡◌, ◌++◌, ◌+◌, ◌≤◌, ◌^◌, true}
 use Rattle.std.specs.Prelude.{All}
-use Rattle.std.specs.List.{filter}
 use Rattle.term_table.specs.Terms.{Term, terms_total, IsTermSet}
 use Rattle.rosenberg_layer.specs.Rosenberg.{is_long, node}
 use Rattle.rosenberg_layer.specs.LongParts.{long_after}

@@ -1,13 +1,13 @@
-use Rattle.std.proofs.Common.{◌≡◌, ◌+◌, ◌*◌, ◌/◌, ◌<◌, ◌≤◌, ◌^◌, ℕ, List, [], ◌∷◌, ◌++◌, length, get_or, drop, set, refl, sym, ap, ◌∙◌, subst, arith, rules, unsigned_abs, Some, Option}
+use Rattle.std.proofs.Common.{◌≡◌, ◌+◌, ◌*◌, ◌/◌, ◌^◌, ℕ, List, [], ◌∷◌, ◌++◌, length, get_or, drop, set, refl, sym, ap, ◌∙◌, subst, arith, rules, unsigned_abs, Some, Option}
 use Rattle.std.specs.List.{filter}
 use Rattle.std.specs.Option.{unwrap_or}
 use Rattle.std.proofs.lemmas.List.{drop_more, get_or_read, length-append, length-set}
-use Rattle.term_table.specs.Terms.{Term, terms_total}
+use Rattle.term_table.specs.Terms.{Term}
 use Rattle.rosenberg_layer.specs.Rosenberg.{is_long, node, Pair}
 use Rattle.rosenberg_layer.specs.Steps.{front_term, is_short, IsStep}
-use Rattle.rosenberg_layer.specs.Rings.{code_at, term_at}
+use Rattle.rosenberg_layer.specs.Rings.{term_at}
 use Rattle.rosenberg_layer.specs.Buckets.{IsApart, TermLists}
-use Rattle.rosenberg_layer.specs.Waiting.{first_pair, keys_left, lists_with, AreWaiting, IsBeyond, Wait}
+use Rattle.rosenberg_layer.specs.Waiting.{first_pair, keys_left, lists_with, AreWaiting, IsBeyond}
 use Rattle.rosenberg_layer.proofs.PartlyTerms.{partly_small}
 use Rattle.rosenberg_layer.proofs.PutBack.{length_with}
 use Rattle.rosenberg_layer.proofs.Under.{under_end, under_ready, under_start, under_step, wait_stepped, pair_at, IsUnder}

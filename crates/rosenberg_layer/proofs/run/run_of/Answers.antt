@@ -1,4 +1,4 @@
-use Rattle.std.proofs.Common.{◌≡◌, ◌≤◌, arith, length, ap}
+use Rattle.std.proofs.Common.{arith}
 use Rattle.rosenberg_layer.proofs.LongRuns.{all_long, fewer, if_ok_weaker, nodes-narrow, table_long, terms-narrow}
 use Rattle.rosenberg_layer.proofs.run.run_of.Goals as goal
 

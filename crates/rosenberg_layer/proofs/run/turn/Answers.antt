@@ -1,4 +1,4 @@
-use Rattle.std.proofs.Common.{◌≡◌, ◌+◌, ◌<◌, ◌∙◌, rules, refl, sym, ap, subst, length, List, ℕ, [], None, Some}
+use Rattle.std.proofs.Common.{◌≡◌, ◌+◌, ◌∙◌, rules, refl, sym, subst, length, Some}
 use Rattle.std.specs.List.{filter}
 use Rattle.rosenberg_layer.specs.Rosenberg.{is_long, node}
 use Rattle.rosenberg_layer.specs.Steps.{IsStep}

@@ -1,4 +1,4 @@
-use Rattle.std.proofs.Common.{◌≡◌, ◌+◌, ◌*◌, ◌^◌, ◌<◌, ℕ, length, get_or, set, ap, ◌∙◌, arith, rules}
+use Rattle.std.proofs.Common.{◌≡◌, ◌+◌, ◌*◌, ◌^◌, ◌<◌, length, get_or, set, ap, ◌∙◌, rules}
 use Rattle.std.proofs.lemmas.List.Edits.{map_over_more}
 use Rattle.rosenberg_layer.specs.Waiting.{key_of}
 use Rattle.rosenberg_layer.proofs.waiting.add_seconds.Goals as goal

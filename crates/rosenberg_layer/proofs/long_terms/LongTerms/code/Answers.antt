@@ -1,4 +1,4 @@
-use Rattle.std.proofs.Common.{◌≡◌, ◌+◌, ◌*◌, ◌<◌, ◌≤◌, ◌++◌, ℕ, ℤ, pos, List, [], length, get_or, set, take, refl, ap, ◌∙◌, arith, rules, sym, subst}
+use Rattle.std.proofs.Common.{◌≡◌, ◌+◌, ◌*◌, ◌++◌, length, get_or, take, ap, ◌∙◌, arith, rules}
 use Rattle.std.proofs.lemmas.List.{get_or_read}
 use Rattle.rosenberg_layer.proofs.RingTerms.{kept_at, kept_code}
 use Rattle.rosenberg_layer.proofs.long_terms.LongTerms.code.Goals as goal

@@ -1,4 +1,4 @@
-use Rattle.std.proofs.Common.{◌≡◌, ◌+◌, ◌<◌, ◌≤◌, ℕ, ℤ, pos, List, [], length, get_or, set, refl, ap, ◌∙◌, arith, rules, sym, subst}
+use Rattle.std.proofs.Common.{◌≡◌, length, ap, ◌∙◌, rules, sym}
 use Rattle.rosenberg_layer.proofs.RingTerms.{length-terms}
 use Rattle.rosenberg_layer.proofs.long_terms.LongTerms.len.Goals as goal
 

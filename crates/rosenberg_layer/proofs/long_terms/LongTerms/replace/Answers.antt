@@ -1,4 +1,4 @@
-use Rattle.std.proofs.Common.{◌≡◌, ◌+◌, ◌*◌, ◌<◌, ◌≤◌, ◌++◌, ℕ, ℤ, pos, List, [], length, get_or, set, take, refl, ap, ◌∙◌, arith, rules, sym, subst}
+use Rattle.std.proofs.Common.{◌≡◌, ◌+◌, ◌≤◌, [], length, get_or, refl, arith, rules, sym, subst}
 use Rattle.std.proofs.lemmas.List.{get_or_read, length-set}
 use Rattle.rosenberg_layer.specs.Rings.{HasTwo}
 use Rattle.rosenberg_layer.proofs.RingTerms.{kept_at, replaced_two, replaced_terms}

@@ -1,7 +1,7 @@
 use Rattle.std.proofs.Common.{◌≡◌, ◌+◌, ◌<◌, ℕ, List, [], length, get_or, set, refl, ap, ◌∙◌, arith, sym, subst}
 use Rattle.base.specs.FlatLists.{parts, start_of}
 use Rattle.base.proofs.FlatParts.{length-parts}
-use Rattle.rosenberg_layer.proofs.FlatSets.{put_within, put_parts, put_ends}
+use Rattle.rosenberg_layer.proofs.FlatSets.{put_within, put_parts}
 use Rattle.rosenberg_layer.proofs.rings.Rings.put.Goals as goal
 
 pub start_of-start-requires : goal.start_of-start-requires

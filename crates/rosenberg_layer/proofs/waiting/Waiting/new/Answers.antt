@@ -1,9 +1,9 @@
-use Rattle.std.proofs.Common.{◌≡◌, ◌+◌, ◌<◌, ◌≤◌, ◌^◌, ℕ, List, [], ◌∷◌, pos, true, length, set, refl, sym, ap, ◌∙◌, subst, arith, replicate}
+use Rattle.std.proofs.Common.{◌≡◌, ◌<◌, ℕ, List, [], pos, true, length, refl, sym, ap, ◌∙◌, subst, arith}
 use Rattle.std.proofs.lemmas.List.{length-set, length-replicate}
 use Rattle.std.proofs.lemmas.List.Elements.{All-get_or}
 use Rattle.term_table.specs.Terms.{Term}
 use Rattle.rosenberg_layer.specs.Rosenberg.{is_long}
-use Rattle.rosenberg_layer.specs.Rings.{code_at, term_at}
+use Rattle.rosenberg_layer.specs.Rings.{code_at}
 use Rattle.rosenberg_layer.specs.Buckets.{list_at, listed_count}
 use Rattle.rosenberg_layer.specs.Waiting.{AreWaiting}
 use Rattle.rosenberg_layer.proofs.WaitingTerms.{apart_start, wait_none, wait_more, none-at, none-count}
