@@ -25,7 +25,7 @@ use Rattle.direct_quad.specs.Direct.{additions_of}
 use Rattle.direct_quad.specs.laws.FlatKept.{first, second, fits_first, fits_second}
 use Rattle.long_terms.proofs.Apart.{IsTable-table_of}
 use Rattle.long_terms.proofs.KeptTerms.{AreAdditions-of}
-use Rattle.direct_quad.specs.laws.Relaxing.{direct_extends, figures-still, AreAdditions-of}
+use Rattle.direct_quad.specs.laws.Relaxing.{direct_extends, figures-still}
 use Rattle.model_pipeline.specs.Models.{low_terms_of, quad_by, terms_of}
 use Rattle.model_pipeline.specs.Extensions.{low_extension, extension_by, link_by, ExtendsLeastBy, IsLeastExtension}
 use Rattle.model_pipeline.specs.Decoders.{LowFits}
@@ -33,7 +33,6 @@ use Rattle.model_pipeline.proofs.PairForms.{flat_link, pair_link}
 use Rattle.model_pipeline.proofs.PlainForms.{plain_flat, plain_nodes, plain_pair}
 use Rattle.model_pipeline.proofs.Standing.{low_keeps, low_source, steps, terms_width}
 use Rattle.penalty_layer.proofs.Admitted.{image_size}
-use Rattle.direct_quad.specs.laws.Between.{IsTable-table_of}
 use Rattle.term_table.specs.Tables as tables
 use Rattle.penalty_layer.specs.Penalty as penalty
 use Rattle.normal_form.specs.Multilinear as multilinear

@@ -1,9 +1,9 @@
 -- The quadratic form of a table whose pairs are replaced: its links, and how far it grows.
-use Rattle.std.proofs.Common.{◌≤◌, ◌+◌, ◌*◌, ◌^◌, refl, arith, ℕ, zero, suc}
+use Rattle.std.proofs.Common.{◌≤◌, ◌+◌, ◌*◌, ◌^◌, refl, arith}
 use Rattle.form_steps.specs.declared.layer.BitsLink.{BitsLink}
 use Rattle.term_table.specs.Terms.{terms_total}
 use Rattle.term_table.specs.Tables.{TableContent, IsTable, table_size}
-use Rattle.rosenberg_layer.specs.laws.Sets.{IsSound-run, IsSound, IsSound-substituted}
+use Rattle.rosenberg_layer.specs.laws.Sets.{IsSound-run}
 use Rattle.rosenberg_layer.proofs.Ends.{IsLow-image}
 use Rattle.rosenberg_layer.proofs.Growth.{total-image, size-image}
 use Rattle.quad_form.specs.Quads.{quad_size, quad_total}

@@ -41,7 +41,6 @@ use Rattle.model_pipeline.specs.Models.{quad_by}
 use Rattle.model_pipeline.proofs.PairForms.{flat_link, pair_link, pair_size, pair_total}
 use Rattle.model_pipeline.proofs.Rooms.{pair_room}
 use Rattle.model_pipeline.proofs.Standing.{formed_by_steps}
-use Rattle.direct_quad.specs.laws.Between.{IsTable-table_of}
 use Rattle.penalty_layer.specs.Penalty as penalty
 use Rattle.normal_form.specs.Multilinear as multilinear
 use Rattle.monomial_layer.specs.Monomials as monomials

@@ -80,8 +80,8 @@ whole_fault graph f map (EmptyChain v) h = h
 whole_fault graph f map (NoSuchQubit v q) h =
     (h.0, (h.1.0, first_missing graph map v h.1.0 h.1.1, h.1.2))
 whole_fault graph f map (Repeated q) h = (h, all_below graph map h.0.within)
-whole_fault graph f map (Disconnected v q) h = (h, all_below graph map h.0.within)
-whole_fault graph f map (NoCoupler u v) h = (h, all_below graph map h.0.within)
+whole_fault graph f map (Disconnected v q) h = (h, all_below graph map h.0.inside.within)
+whole_fault graph f map (NoCoupler u v) h = (h, all_below graph map h.0.apart.inside.within)
 whole_fault graph f map (TooManyNodes n m) h = h
 
 -- ---- chains that can stand

@@ -33,7 +33,7 @@ use Rattle.quad_form.specs.laws.Flattened.{length-image, flat_keeps}
 use Rattle.direct_quad.specs.Direct.{additions_of}
 use Rattle.long_terms.proofs.Apart.{IsTable-table_of}
 use Rattle.long_terms.proofs.KeptTerms.{AreAdditions-of}
-use Rattle.direct_quad.specs.laws.Relaxing.{direct_relaxes, figures-still, AreAdditions-of}
+use Rattle.direct_quad.specs.laws.Relaxing.{direct_relaxes, figures-still}
 use Rattle.ising_form.specs.Spins.{coupled}
 use Rattle.ising_form.specs.laws.Spun.{length-fields, spins_keeps}
 use Rattle.ising_form.proofs.Images.{image_is_ising, total-image}
@@ -42,7 +42,6 @@ use Rattle.model_pipeline.specs.Formed.{IsFormed, Stands}
 use Rattle.model_pipeline.specs.Decoders.{LowFits}
 use Rattle.model_pipeline.proofs.PairForms.{flat_link, pair_link, pair_size, pair_total}
 use Rattle.model_pipeline.proofs.FormModels.{HasFigures, figures_within, qubo_stands, ising_stands}
-use Rattle.direct_quad.specs.laws.Between.{IsTable-table_of}
 use Rattle.problem_form.specs.declared.limits.Normal.TheVariants as normals
 use Rattle.penalty_layer.specs.Penalty as penalty
 use Rattle.term_table.specs.Tables as tables

@@ -1,6 +1,7 @@
 -- The model of a problem on the qubits of a graph: what it is built of, and what it promises of the
 -- problem.
 use Rattle.std.specs.Prelude.{◌≡◌, ℕ, ◌+ℤ◌, ◌*ℤ◌, List, length}
+use Rattle.base.specs.declared.costs.Figures.{Figures}
 use Rattle.base.specs.declared.unit.UnitChoice.{UnitChoice}
 use Rattle.bits_model.specs.Output.{Written, IsWellFormed, form_of}
 use Rattle.faithful.specs.Bounds.{IsBounded}
