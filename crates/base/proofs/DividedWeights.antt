@@ -21,13 +21,3 @@ one_changed f zero (x ∷ xs) h = refl
 one_changed f (suc i) (x ∷ xs) h =
     let more : suc i + 1 ≡ suc (i + 1) = omega arith in
     rw more (ap (λ ys. f x ∷ ys) (one_changed f i xs (omega arith)))
-
-pub none_changed : (f : ℤ → ℤ) (xs : List ℤ) → changed_to f 0 xs ≡ xs
-none_changed f [] = refl
-none_changed f (x ∷ xs) = refl
-
-pub all_changed : (f : ℤ → ℤ) (i : ℕ) (xs : List ℤ) → length xs ≡ i → changed_to f i xs ≡ map f xs
-all_changed f zero [] h = refl
-all_changed f (suc i) [] h = absurd (omega arith)
-all_changed f zero (x ∷ xs) h = absurd (omega arith)
-all_changed f (suc i) (x ∷ xs) h = ap (λ ys. f x ∷ ys) (all_changed f i xs (omega arith))

@@ -48,11 +48,6 @@ total_by-times c f [] = omega (arith, ints)
 total_by-times c f (x ∷ xs) =
     omega (arith, ints, total_by-times c f xs, times-plus c (f x) (total_by f xs))
 
-pub total_by-le : {X : Type 0} (f g : X → ℤ) (xs : List X) → ((x : X) → f x ≤ℤ g x)
-    → total_by f xs ≤ℤ total_by g xs
-total_by-le f g [] h = omega (arith, ints)
-total_by-le f g (x ∷ xs) h = omega (arith, ints, h x, total_by-le f g xs h)
-
 -- one number for each element that passes a test
 pub total_by-if_so : {X : Type 0} (test : X → Bool) (c : ℤ) (xs : List X)
     → total_by (λ x. if_so (test x) c) xs ≡ c *ℤ pos (count_by test xs)

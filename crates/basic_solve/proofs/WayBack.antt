@@ -11,13 +11,6 @@ pub record IsBegun (n : ℕ) (g : List Bool → ℤ) (y : List Bool) : Type 0 wh
   pub within : length y ≤ n
   pub begins : y ++ choices (n - length y) g y ≡ choices n g []
 
-pub begun_at_first : (n : ℕ) (g : List Bool → ℤ) → IsBegun n g []
-begun_at_first n g = record {
-  within = omega arith;
-  begins
-      = ap (λ k. choices k g []) (omega arith);
-}
-
 pub begun_more : (n : ℕ) (g : List Bool → ℤ) (sets : List (List ℕ)) (bits : List (List Bool))
     (y : List Bool) (step : ℕ) (b : Bool) → AreChoices n g sets bits → IsBegun n g y
     → length y + suc step ≡ n → b ≡ get_or (get_or bits step []) (index_of y (get_or sets step []))

@@ -188,15 +188,6 @@ row_done r (s ∷ rs) at ss ws e =
     let none : s.start - (at + 1) ≡ 0 = omega (arith, e) in
     rw (none, e) refl
 
-pub next_in_row : (n at : ℕ) (r : RowStart) (rs : List RowStart) → IsInFirst n at (r ∷ rs)
-    → at + 1 ≢ end_before n rs → IsInFirst n (at + 1) (r ∷ rs)
-next_in_row n at r rs i ne = (omega (arith, i.0, ne), i.1)
-
-pub next_row : (n at : ℕ) (r : RowStart) (rs : List RowStart) → IsInFirst n at (r ∷ rs)
-    → at + 1 ≡ end_before n rs → IsInFirst n (at + 1) rs
-next_row n at r [] i e = e
-next_row n at r (s ∷ rs) i e = (omega (arith, i.1.0, e), i.1.2)
-
 -- the same where rows are a list that is not empty
 pub next_of_left : (rows : List RowStart) (d : RowStart) (at : ℕ) (ss : List ℕ) (ws : List ℤ)
     → 1 ≤ length rows → IsInFirst (length ss) at rows → length ws ≡ length ss
@@ -212,16 +203,6 @@ pub past_first : (rows : List RowStart) (at : ℕ) (ss : List ℕ) (ws : List �
 past_first [] at ss ws h e = absurd (omega arith)
 past_first (r ∷ rs) at ss ws h e = row_done r rs at ss ws e
 
-pub still_in_first : (n at : ℕ) (rows : List RowStart) → 1 ≤ length rows → IsInFirst n at rows
-    → at + 1 ≢ end_before n (drop 1 rows) → IsInFirst n (at + 1) rows
-still_in_first n at [] h i ne = absurd (omega arith)
-still_in_first n at (r ∷ rs) h i ne = next_in_row n at r rs i ne
-
-pub in_second : (n at : ℕ) (rows : List RowStart) → 1 ≤ length rows → IsInFirst n at rows
-    → at + 1 ≡ end_before n (drop 1 rows) → IsInFirst n (at + 1) (drop 1 rows)
-in_second n at [] h i e = absurd (omega arith)
-in_second n at (r ∷ rs) h i e = next_row n at r rs i e
-
 -- what is left of a slice after its first row
 pub later_rows : (rows : List RowStart) → take (length rows - 1) (drop 1 rows) ≡ drop 1 rows
 later_rows rows = take_all (length rows - 1) (drop 1 rows) (omega (arith, length-drop 1 rows))
@@ -235,11 +216,6 @@ pub all_left : (rs : List RowStart) (ss : List ℕ) (ws : List ℤ) → IsPacked
     → entries_left rs 0 ss ws ≡ packed_entries rs ss ws
 all_left [] ss ws p = refl
 all_left (r ∷ rs) ss ws p = rw (p.whole) refl
-
-pub all_in_first : (rs : List RowStart) (ss : List ℕ) (ws : List ℤ) → IsPacked rs ss ws
-    → IsInFirst (length ss) 0 rs
-all_in_first [] ss ws p = sym p.whole
-all_in_first (r ∷ rs) ss ws p = (omega (arith, p.whole, p.rows.0), p.rows.2)
 
 -- ---- one row
 

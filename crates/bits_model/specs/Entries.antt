@@ -1,14 +1,14 @@
 -- Entries that are held packed: those of nodes by their weights, and couplers row by row.
 use Rattle.std.specs.Prelude.{◌≡◌, ◌≢◌, ℕ, suc, ◌-◌, ◌<◌, ◌≤◌, ◌^◌, ◌==◌, ℤ, int_div, Bool, false, List, [], ◌∷◌, ◌++◌, length, drop, replicate, ⊤, if◌then◌else◌}
 use Rattle.bits_model.specs.declared.output.Entry.{Entry}
-use Rattle.bits_model.specs.declared.weights.Held.{Held}
-use Rattle.bits_model.specs.declared.weights.Held.TheVariants.{Narrow, Wide}
+use Rattle.bits_model.specs.declared.weights.HeldWeights.{HeldWeights}
+use Rattle.bits_model.specs.declared.weights.HeldWeights.TheVariants.{Narrow, Wide}
 use Rattle.bits_model.specs.declared.nodes.Numbers.{Numbers}
 use Rattle.bits_model.specs.declared.nodes.Numbers.TheVariants.{All, Listed}
 use Rattle.bits_model.specs.declared.couplers.RowStart.{RowStart}
 
 -- whole numbers, in however many bits they are held
-abbrev pub held_weights : Held → List ℤ
+abbrev pub held_weights : HeldWeights → List ℤ
 held_weights (Narrow weights) = weights.items
 held_weights (Wide weights) = weights.items
 

@@ -8,7 +8,7 @@ use std::marker::Model;
 
 /// How many bits a number takes.
 #[derive(Drop)]
-pub enum Held {
+pub enum HeldWeights {
     Narrow(Vec<i64>),
     Wide(Vec<i128>),
 }
@@ -18,7 +18,7 @@ pub enum Held {
 #[derive(Drop)]
 pub struct WeightList {
     alloc: Global,
-    held: Held,
+    held: HeldWeights,
 }
 
 impl Model for WeightList {
@@ -86,7 +86,7 @@ impl WeightList {
     {
         WeightList {
             alloc,
-            held: Held::Narrow(Vec::new(alloc)),
+            held: HeldWeights::Narrow(Vec::new(alloc)),
         }
     }
 
@@ -96,7 +96,7 @@ impl WeightList {
     {
         Ok(WeightList {
             alloc,
-            held: Held::Narrow(Vec::with_capacity(alloc, count)?),
+            held: HeldWeights::Narrow(Vec::with_capacity(alloc, count)?),
         })
     }
 
@@ -104,8 +104,8 @@ impl WeightList {
         ensures { result ≡ length self.now }
     {
         match &self.held {
-            Held::Narrow(weights) => weights.len(),
-            Held::Wide(weights) => weights.len(),
+            HeldWeights::Narrow(weights) => weights.len(),
+            HeldWeights::Wide(weights) => weights.len(),
         }
     }
 
@@ -116,8 +116,8 @@ impl WeightList {
         ensures { result ≡ slice_index_or self.now index (pos 0) }
     {
         match &self.held {
-            Held::Narrow(weights) => i128::from(weights[index]),
-            Held::Wide(weights) => weights[index],
+            HeldWeights::Narrow(weights) => i128::from(weights[index]),
+            HeldWeights::Wide(weights) => weights[index],
         }
     }
 
@@ -127,15 +127,15 @@ impl WeightList {
         ensures unchanged { OnErr result (self.new ≡ self.old) }
     {
         match &mut self.held {
-            Held::Narrow(weights) => match i64::try_from(weight) {
+            HeldWeights::Narrow(weights) => match i64::try_from(weight) {
                 Ok(narrow) => weights.push(narrow)?,
                 Err(_) => {
                     let mut wide = widened(self.alloc, weights)?;
                     wide.push(weight)?;
-                    self.held = Held::Wide(wide);
+                    self.held = HeldWeights::Wide(wide);
                 }
             },
-            Held::Wide(weights) => weights.push(weight)?,
+            HeldWeights::Wide(weights) => weights.push(weight)?,
         }
         Ok(())
     }
@@ -145,8 +145,8 @@ impl WeightList {
         ensures { IfOk result (λ list. list ≡ self.now) }
     {
         let held = match &self.held {
-            Held::Narrow(weights) => Held::Narrow(weights.to_vec(alloc)?),
-            Held::Wide(weights) => Held::Wide(weights.to_vec(alloc)?),
+            HeldWeights::Narrow(weights) => HeldWeights::Narrow(weights.to_vec(alloc)?),
+            HeldWeights::Wide(weights) => HeldWeights::Wide(weights.to_vec(alloc)?),
         };
         Ok(WeightList { alloc, held })
     }
@@ -158,8 +158,8 @@ impl WeightList {
     {
         let WeightList { alloc, held } = self;
         let held = match held {
-            Held::Narrow(weights) => Held::Narrow(divide_narrow(weights, unit)),
-            Held::Wide(weights) => Held::Wide(divide_weights(weights, unit)),
+            HeldWeights::Narrow(weights) => HeldWeights::Narrow(divide_narrow(weights, unit)),
+            HeldWeights::Wide(weights) => HeldWeights::Wide(divide_weights(weights, unit)),
         };
         WeightList { alloc, held }
     }

@@ -22,16 +22,12 @@ use Rattle.std.proofs.lemmas.List.{length-drop}
 use Rattle.std.proofs.lemmas.List.Elements.{length_all_zip, recursion_from_All, All-from_recursion}
 use Rattle.chain_layer.specs.laws.Aligned.{IsNode}
 use Rattle.chain_layer.specs.laws.NodeEnergies.{shares_size, weights_of_equal, filled_length}
-use Rattle.chain_layer.specs.Steps.{added, sizes_of}
+use Rattle.chain_layer.specs.Steps.added
 
 -- ---- fields
 
 pub length-added : (fields : List ℤ) (e : Entry) → length (added fields e) ≡ length fields
 length-added fields e = length-set fields e.first _
-
-pub length-fold_added : (fields : List ℤ) (es : List Entry) → length (fold added fields es) ≡ length fields
-length-fold_added fields [] = refl
-length-fold_added fields (e ∷ es) = length-fold_added (added fields e) es ∙ length-added fields e
 
 quotient_small : (h : ℤ) (n : ℕ) → 0 < n → unsigned_abs (int_div_euclid h (pos n)) ≤ unsigned_abs h
 quotient_small (pos a) n some = omega (arith, div-le_self a n)
@@ -463,11 +459,6 @@ zip_lengths R [] [] all = refl
 zip_lengths R [] (y ∷ ys) all = absurd all
 zip_lengths R (x ∷ xs) [] all = absurd all
 zip_lengths R (x ∷ xs) (y ∷ ys) all = ap suc (zip_lengths R xs ys all.1)
-
--- the sizes of zeros
-pub zero_sizes : (n : ℕ) → sizes_of (replicate n (pos 0)) ≡ 0
-zero_sizes zero = refl
-zero_sizes (suc n) = omega (arith, zero_sizes n, sum_by-cons unsigned_abs (pos 0) (replicate n (pos 0)))
 
 -- ---- states by steps
 

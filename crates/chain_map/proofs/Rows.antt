@@ -71,10 +71,6 @@ abbrev said_of : Result (List (List ℕ)) TextFault → List (List ℕ)
 said_of (Ok xs) = xs
 said_of (Err f) = []
 
-none_more : (rest : Result (List (List ℕ)) TextFault) → (rest >>= (λ others. Ok others)) ≡ rest
-none_more (Ok xs) = refl
-none_more (Err f) = refl
-
 joined_go : (front chain : List (List ℕ)) (rest : Result (List (List ℕ)) TextFault)
     → after_front front (rest >>= (λ others. Ok (chain ++ others)))
     ≡ after_front (front ++ chain) rest

@@ -1,12 +1,11 @@
 -- How an order comes about: a walk from a qubit to its parents, up to one that is listed, is
 -- appended from its end on.
 use Rattle.std.proofs.Common.{◌≡◌, inl, inr, ℕ, ◌<◌, ◌≤◌, Bool, true, false, ◌||◌, List, [], ◌∷◌, ◌++◌, length, take, get_or, refl, sym, ap, subst, ◌∙◌, arith, append_assoc, length-append}
-use Rattle.std.specs.Prelude.{◌==◌, not, cond, count_by, reverse, All}
+use Rattle.std.specs.Prelude.{◌==◌, reverse, All}
 use Rattle.std.specs.List.{AllByRecursion}
 use Rattle.std.proofs.lemmas.Bool.{cases_lt, cases_eq, eq-eqb, ne_eqb, or_left, or_right, or_parts, or_from}
 use Rattle.std.proofs.lemmas.List.{take-append-le, get_or_append_left, append-nil, reverse-append, get_or-set_same, get_or-set_other}
 use Rattle.std.proofs.lemmas.List.Elements.{All-append, All-from_recursion}
-use Rattle.std.proofs.lemmas.List.Sums.{sum_by-set}
 use Rattle.std.proofs.Math.ListN.{set, length-set}
 use Rattle.std.proofs.Math.Seq.{take-append_seam, get_or-append_seam}
 use Rattle.std.proofs.Math.Bool.{or-false}
@@ -26,13 +25,6 @@ pub climb_more : (up : ℕ → ℕ) (path : List ℕ) (from q : ℕ) → IsClimb
     → IsClimb up (path ++ q ∷ []) from (up q)
 climb_more up [] from q climb = (climb, refl)
 climb_more up (p ∷ ps) from q climb = (climb.0, climb_more up ps (up p) q climb.1)
-
-pub climb_last : (up : ℕ → ℕ) (path : List ℕ) (from p q : ℕ) → IsClimb up (path ++ p ∷ []) from q
-    → IsClimb up path from p × (up p ≡ q)
-climb_last up [] from p q climb = (climb.0, climb.1)
-climb_last up (r ∷ rs) from p q climb =
-    let rest = climb_last up rs (up r) p q climb.1 in
-    ((climb.0, rest.0), rest.1)
 
 -- one more, whose parent is listed
 pub reached_more : (first : ℕ) (up : ℕ → ℕ) (order : List ℕ) (p : ℕ) → IsReached first up order
@@ -155,14 +147,3 @@ walking_more up before now next from q path walking fresh inside stored =
                 ∙ or-false (is_in path r)))
           ];
     }
-
--- fewer are not marked
-pub fewer_left : (now next : List Bool) (q : ℕ) → q < length now → get_or now q true ≡ false
-    → next ≡ set now q true → count_by not next < count_by not now
-fewer_left now next q within fresh stored =
-    omega (
-      arith,
-      ap (count_by not) stored,
-      sum_by-set (λ b. cond (not b) 1 0) now q true true within,
-      ap (λ b. cond {A = ℕ} (not b) 1 0) fresh,
-    )

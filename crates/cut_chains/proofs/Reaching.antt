@@ -5,10 +5,9 @@
 use Rattle.std.proofs.Common.{◌≡◌, ◌≢◌, inl, inr, ℕ, ◌<◌, Bool, true, false, ◌||◌, List, [], ◌∷◌, ◌++◌, length, take, drop, get_or, refl, sym, ap, subst, ◌∙◌, arith}
 use Rattle.std.specs.Prelude.{◌==◌, reverse}
 use Rattle.std.specs.List.{AllByRecursion}
-use Rattle.std.proofs.lemmas.Bool.{cases_lt, cases_eq, eq-eqb, eqb-true, ne_eqb, or_cases, or_left, or_right, or_parts, or_from, both_ways, false_from_ne_true}
-use Rattle.std.proofs.lemmas.List.{append-nil, get_or_past, get_or-set_same, get_or-set_other}
+use Rattle.std.proofs.lemmas.Bool.{cases_lt, eq-eqb, eqb-true, or_cases, or_left, or_right, or_parts, or_from, both_ways, false_from_ne_true}
+use Rattle.std.proofs.lemmas.List.{append-nil, get_or_past}
 use Rattle.std.proofs.lemmas.List.Elements.{recursion_from_All}
-use Rattle.std.proofs.Math.ListN.{set, length-set}
 use Rattle.std.proofs.Math.Bool.{or-false}
 use Rattle.bits_model.specs.Walks.{is_in, first_of}
 use Rattle.chain_map.proofs.Paths.{is_in_at}
@@ -34,33 +33,6 @@ module _ (up : List ℕ) (before : List Bool) (first : ℕ) (cs : List ℕ)
         → get_or seen q true ≡ (get_or before q true || is_in (first ∷ order) q)
     pub inside : (q : ℕ) → is_in order q ≡ true → is_in cs q ≡ true
     pub walked : (q : ℕ) → is_in done q ≡ true → is_in (first ∷ order) q ≡ true
-
-  pub reach_start : (seen : List Bool) → seen ≡ set before first true → IsReaching seen [] []
-  reach_start seen stored = record {
-    sized = ap length stored ∙ length-set before first true;
-    reached =
-        record {
-          after = λ j in'. absurd (omega (arith, in'));
-          once = λ j in'. absurd
-              (omega (arith, in'));
-        };
-    marked = λ q within.
-        ap (λ xs. get_or xs q true) stored
-        ∙ elim (cases_eq q first) [
-          | inl same ↦
-              ap (λ i. get_or (set before first true) i true) same
-              ∙ get_or-set_same before first true true t.inside.0
-              ∙ sym (or_right (get_or before q true) (is_in (first ∷ []) q)
-              (or_left (first == q) false (eq-eqb first q (sym same))))
-          | inr other ↦
-              get_or-set_other before first q true true other
-              ∙ sym (ap (λ b. get_or before q true || b)
-              (or_from (first == q) false (ne_eqb first q (λ e. other (sym e))) refl)
-              ∙ or-false (get_or before q true))
-        ];
-    inside = λ q in'. absurd cc;
-    walked = λ q in'. absurd cc;
-  }
 
   -- ---- one walk
 

@@ -1,5 +1,5 @@
 -- Shares that are added to weights one after another: what is added so far, and what is left.
-use Rattle.std.proofs.Common.{◌≡◌, ℕ, zero, suc, ◌+◌, ◌-◌, ◌*◌, ◌<◌, ◌≤◌, ◌^◌, arith, refl, sym, subst, ap, ◌∙◌, append_assoc, append-nil, get_or, List, [], ◌∷◌, ◌++◌, length, ℤ, pos, ◌-ℤ◌, ◌*ℤ◌, ◌+ℤ◌, unsigned_abs}
+use Rattle.std.proofs.Common.{◌≡◌, ℕ, zero, suc, ◌+◌, ◌-◌, ◌*◌, ◌<◌, ◌≤◌, ◌^◌, arith, sym, subst, ap, ◌∙◌, append_assoc, append-nil, get_or, List, [], ◌∷◌, ◌++◌, length, ℤ, pos, ◌-ℤ◌, ◌*ℤ◌, ◌+ℤ◌, unsigned_abs}
 use Rattle.std.specs.Prelude.{Some, slice_get, take}
 use Rattle.std.specs.List.{sum_by}
 use Rattle.std.proofs.lemmas.List.{take_more}
@@ -20,7 +20,7 @@ use Rattle.direct_quad.specs.RowSums.{size_of}
 use Rattle.direct_quad.specs.Held.{Gain, shares_total}
 use Rattle.direct_quad.proofs.PartSizes.{node-size, all_shares-size, long_constants-size}
 use Rattle.direct_quad.proofs.PartSizes.{AreLong as AreShort}
-use Rattle.direct_quad.proofs.HeldTerms.{gain-none, gain-both}
+use Rattle.direct_quad.proofs.HeldTerms.gain-both
 
 -- ---- sizes
 
@@ -40,10 +40,6 @@ pub record Gaining (start now : List ℤ) (left all : List Share) : Type 0 where
   pub rest : (new : List ℤ) → Gain left (shares_total left) now new → Gain all (shares_total all) start new
   pub width : length now ≡ length start
   pub small : size_of now + shares_total left ≤ 2 ^ 126
-
-pub gaining-none : (start : List ℤ) (all : List Share) → size_of start + shares_total all ≤ 2 ^ 126
-    → Gaining start start all all
-gaining-none start all small = record { rest = λ new gain. gain; width = refl; small = small }
 
 pub gain-weaker : (s : List Share) (m k : ℕ) (a b : List ℤ) → m ≤ k → Gain s m a b → Gain s k a b
 gain-weaker s m k a b low gain = record {
@@ -66,11 +62,6 @@ gaining-more start now next left rest all s step one before =
       width = one.width ∙ before.width;
       small = omega (arith, before.small, total, one.small);
     }
-
-pub gaining-all : (start now : List ℤ) (left all : List Share) → left ≡ [] → Gaining start now left all
-    → Gain all (shares_total all) start now
-gaining-all start now left all none before =
-    before.rest now (subst (λ us. Gain us (shares_total us) now now) (sym none) (gain-none now 0))
 
 -- ---- shares of new nodes
 
@@ -176,9 +167,6 @@ module _ (t : TableContent) (i : ℕ) (u : Term) (kept : AreLong t) (at : slice_
 
   pub set-fits : IsTermSet t.width u.0
   set-fits = subst (λ (v : Term). IsTermSet t.width v.0) is (kept.terms.sets i u in')
-
-  pub long-term : 3 ≤ length u.0
-  long-term = subst (λ (v : Term). 3 ≤ length v.0) is (kept.long i u in')
 
   pub gain-term : (old now new : List ℤ)
       → Gain (all_shares (take i t.terms) t.width) (shares_total (all_shares (take i t.terms) t.width)) old now

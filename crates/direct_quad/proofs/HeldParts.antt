@@ -2,7 +2,7 @@
 use Rattle.std.proofs.Common.{◌≡◌, ℕ, ◌+◌, ◌<◌, ◌≤◌, ◌^◌, true, not, cond, arith, refl, sym, subst, ap, ◌∙◌, List, [], ◌∷◌, length, map, pos, unsigned_abs}
 use Rattle.std.specs.Prelude.{All}
 use Rattle.std.specs.List.{filter, flat_map, slice_index_or, AllByRecursion}
-use Rattle.std.proofs.lemmas.List.Elements.{All-nil, All-weaker, filter_passes, recursion_from_All}
+use Rattle.std.proofs.lemmas.List.Elements.{All-weaker, filter_passes, recursion_from_All}
 use Rattle.std.proofs.lemmas.List.Filters.{sum_by-filter_both}
 use Rattle.base.specs.Sums.{total_by}
 use Rattle.bits_model.specs.declared.output.Entry.{Entry}
@@ -68,24 +68,6 @@ module _ (h k : HeldContent) (total : k.total + products_total h.long ≡ h.tota
             ∙ ap (λ us. share_at i (flat_map short_shares us)) twice;
         pairs = pairs ∙ held.pairs ∙ ap (flat_map short_couplers) twice;
         long = ap (map product_term) long ∙ sym (long-short t.terms);
-      }
-
-  -- and fit
-  pub fits-apart : IsHeld h → IsHeld k
-  fits-apart held =
-      let width = ap length weights in
-      let none = ap products_total long in
-      record {
-        narrow = omega (arith, width, held.narrow);
-        total = omega (arith, total, held.total);
-        constant = omega (arith, ap unsigned_abs constant, total, held.constant, none);
-        weights = omega (arith, ap size_of weights, total, held.weights, none);
-        pairs = subst (λ m. All (IsPair m) k.pairs) (sym width) (subst (All (IsPair (length h.weights))) (sym pairs) held.pairs);
-        pairs_total = omega (arith, ap weight_total pairs, total, held.pairs_total, none);
-        long = subst (All (λ (p : Product). 3 ≤ length p.literals)) (sym long)
-            (All-nil (λ (p : Product). 3 ≤ length p.literals));
-        sets = subst (All (λ (p : Product). IsTermSet (length k.weights) p.literals)) (sym long)
-            (All-nil (λ (p : Product). IsTermSet (length k.weights) p.literals));
       }
 
 -- ---- more nodes

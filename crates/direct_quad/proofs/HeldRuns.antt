@@ -14,7 +14,7 @@ use Rattle.term_table.proofs.Filling.{room_own}
 use Rattle.term_table.proofs.SmallSets.{IsTermSet-wider}
 use Rattle.monomial_layer.specs.Monomials.{is_low, new_nodes}
 use Rattle.monomial_layer.specs.Monomials as monomials
-use Rattle.rosenberg_layer.specs.declared.run.Run.{Run}
+use Rattle.rosenberg_layer.specs.declared.run.Substitutions.{Substitutions}
 use Rattle.rosenberg_layer.specs.Rosenberg.{excess, is_long, pairs_of, run}
 use Rattle.rosenberg_layer.specs.Steps.{is_short}
 use Rattle.rosenberg_layer.specs.Parts.{weights, AreParts}
@@ -102,7 +102,7 @@ module _ (t : TableContent) (h : HeldContent) (room : FitsByPairs t) (held : Are
 
   -- ---- what the run adds
 
-  module _ (made : Run) (left : IsRunOf (table_of t) made) (width count : ℕ) (wide : width ≡ length h.weights) (number : count ≡ length made.pairs.items) where
+  module _ (made : Substitutions) (left : IsRunOf (table_of t) made) (width count : ℕ) (wide : width ≡ length h.weights) (number : count ≡ length made.pairs.items) where
     abbrev full : TableContent
     full = table_of t
 

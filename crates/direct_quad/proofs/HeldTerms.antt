@@ -1,5 +1,5 @@
 -- Additions of which the sums of short terms and the long ones are held: one addition more.
-use Rattle.std.proofs.Common.{◌≡◌, ℕ, ◌+◌, ◌*◌, ◌<◌, ◌≤◌, ◌^◌, eqb, arith, refl, sym, subst, ap, ◌∙◌, List, [], ◌∷◌, ◌++◌, append-nil, length, length-append, map, ℤ, pos, ◌+ℤ◌, unsigned_abs}
+use Rattle.std.proofs.Common.{◌≡◌, ℕ, ◌+◌, ◌*◌, ◌<◌, ◌≤◌, ◌^◌, eqb, arith, refl, sym, subst, ap, ◌∙◌, List, [], ◌∷◌, ◌++◌, append-nil, length, map, ℤ, pos, ◌+ℤ◌, unsigned_abs}
 use Rattle.std.specs.Prelude.{All}
 use Rattle.std.specs.List.{flat_map, slice_index_or}
 use Rattle.std.proofs.lemmas.Int.{ints}
@@ -10,7 +10,6 @@ use Rattle.std.proofs.lemmas.List.Sums.{sum_by-append, sum_by-cons}
 use Rattle.std.proofs.lemmas.Bool.{le-leb, lt-leb}
 use Rattle.base.specs.Sums.{if_so, total_by}
 use Rattle.base.proofs.Totals.{total_by-append, total_by_push}
-use Rattle.bits_model.specs.declared.output.Entry.{Entry}
 use Rattle.bits_model.specs.Output.{weight_total}
 use Rattle.literal_lists.specs.declared.literal.Literal.{Literal}
 use Rattle.problem_form.specs.declared.terms.Product.{Product}
@@ -24,39 +23,17 @@ use Rattle.pair_sums.specs.Pairs.{IsPair}
 use Rattle.long_terms.specs.Apart.{short_terms}
 use Rattle.direct_quad.specs.Places.{Share, share_at, short_couplers, short_shares, short_constant}
 use Rattle.long_terms.specs.Long.{product_term}
-use Rattle.direct_quad.specs.RowSums.{size_of, with_weight}
+use Rattle.direct_quad.specs.RowSums.size_of
 use Rattle.direct_quad.specs.Held.{HeldContent, AreHeld, IsHeld, Gain}
 use Rattle.direct_quad.proofs.Gathering.{short-more, long-more}
 use Rattle.direct_quad.proofs.KeyPlaces.{weight_total-append}
 use Rattle.direct_quad.proofs.PartPairs.{short_couplers-pairs}
 use Rattle.direct_quad.proofs.PartSizes.{short_constant-size, short_couplers-size}
-use Rattle.direct_quad.proofs.SummedRows.{length-with_weight, size-with_weight, value-with_weight}
 
 -- ---- shares added
 
 pub share_at-append : (i : ℕ) (s u : List Share) → share_at i (s ++ u) ≡ share_at i s +ℤ share_at i u
 share_at-append i s u = total_by-append (λ (x : Share). if_so (eqb i x.0) x.1) s u
-
--- none
-pub gain-none : (ws : List ℤ) (most : ℕ) → Gain [] most ws ws
-gain-none ws most = record {
-  width = refl;
-  weights = λ i in'. omega (arith, ints);
-  small = omega arith;
-}
-
--- one
-pub gain-one : (ws : List ℤ) (n most : ℕ) (c : ℤ) → n < length ws → unsigned_abs c ≤ most
-    → Gain ((n, c) ∷ []) most ws (with_weight ws n c)
-gain-one ws n most c within fits = record {
-  width = length-with_weight ws n c;
-  weights = λ i in'. value-with_weight ws i n c within
-      ∙ ap (λ z. slice_index_or ws i (pos 0) +ℤ z) (plus-none (if_so (eqb i n) c));
-  small = omega (arith, fits, size-with_weight ws n c within);
-}
-  where
-    plus-none : (z : ℤ) → z ≡ z +ℤ pos 0
-    plus-none z = omega (arith, ints)
 
 -- first some, and then others
 pub gain-both : (s u : List Share) (m k : ℕ) (a b c : List ℤ) → Gain s m a b → Gain u k b c

@@ -6,7 +6,7 @@ use Rattle.std.specs.Ordering.{is_eq}
 use Rattle.std.proofs.Math.Nat.{mul-le-mul_left}
 use Rattle.std.proofs.lemmas.Bool.Decides.{nat_tests}
 use Rattle.std.proofs.lemmas.List.Elements.{All-filter, All-get_or, recursion_from_All}
-use Rattle.std.proofs.lemmas.List.Filters.{length-filter_both, sum_by-filter_both}
+use Rattle.std.proofs.lemmas.List.Filters.sum_by-filter_both
 use Rattle.std.proofs.lemmas.List.Sums.{sum_by-cons}
 use Rattle.std.proofs.lemmas.Option.{get_or_from_slice_get, slice_get_within}
 use Rattle.base.specs.Sums.{if_so}
@@ -18,7 +18,7 @@ use Rattle.term_table.proofs.Additions.{if_so-plus, terms_size-cons}
 use Rattle.term_table.proofs.KeptTerms.{IsNonzero, Ascends-with_additions, nonzero-with_additions}
 use Rattle.term_table.proofs.Steps.{with_additions-append}
 use Rattle.term_table.proofs.UniqueTerms.{same_terms}
-use Rattle.rosenberg_layer.specs.declared.run.Run.{Run}
+use Rattle.rosenberg_layer.specs.declared.run.Substitutions.{Substitutions}
 use Rattle.rosenberg_layer.specs.Rosenberg.{excess, is_long, pairs_of, run}
 use Rattle.rosenberg_layer.specs.Steps.{is_short}
 use Rattle.rosenberg_layer.specs.Parts.{weights, AreParts}
@@ -30,7 +30,7 @@ use Rattle.rosenberg_layer.specs.Added.{moved_of}
 use Rattle.direct_quad.specs.ByPairs.{IsRunOf}
 use Rattle.long_terms.specs.Apart.{long_additions, short_terms}
 use Rattle.long_terms.specs.Apart as apart
-use Rattle.long_terms.specs.Long.{product_term, AreLong}
+use Rattle.long_terms.specs.Long.product_term
 use Rattle.long_terms.proofs.Additive.{Amount, IsAdditive, additive-only, given-filter, given-with_additions, only}
 use Rattle.long_terms.proofs.Apart.{filter-with_additions, is_short_set}
 
@@ -158,9 +158,6 @@ pub size-long : (ts : List Term) → terms_size (filter is_long ts) ≤ terms_si
 size-long ts =
     omega (arith, sum_by-filter_both is_long is_short (λ t. refl) (λ (t : Term). set_size t.0) ts)
 
-pub count-long : (ts : List Term) → length (filter is_long ts) ≤ length ts
-count-long ts = omega (arith, length-filter_both is_long is_short (λ t. refl) ts)
-
 -- ---- one of the additions
 
 -- its literals are a set
@@ -196,7 +193,7 @@ count-size (t ∷ ts) = omega (arith, size-one t.0, count-size ts, terms_size-co
 -- ---- the run
 
 -- what a run of enough substitutions leaves
-pub run-of : {E : Type 0} (r : Result Run E) (t : TableContent) (width turns : ℕ) → t.width ≡ width
+pub run-of : {E : Type 0} (r : Result Substitutions E) (t : TableContent) (width turns : ℕ) → t.width ≡ width
     → turns ≡ excess t.terms
     → IfOk r (λ made. AreParts (run turns t) (filter is_short t.terms ++ moved_of width made)
     (filter is_long (run turns t).terms) (weights t.terms))

@@ -7,7 +7,7 @@ use Rattle.term_table.specs.Terms.{Term, terms_size, with_additions}
 use Rattle.term_table.specs.Tables.{TableContent, IsTable, table_size}
 use Rattle.penalty_layer.specs.Penalty.{contributions, node_count, Admits}
 use Rattle.penalty_layer.proofs.Admitted.{image_size}
-use Rattle.rosenberg_layer.specs.declared.run.Run.{Run}
+use Rattle.rosenberg_layer.specs.declared.run.Substitutions.{Substitutions}
 use Rattle.rosenberg_layer.specs.Rosenberg.{is_long}
 use Rattle.long_terms.specs.Apart.{long_additions, table_of}
 use Rattle.long_terms.specs.Long.{terms_of}
@@ -43,7 +43,7 @@ module _ (p : ProblemContent) (long : List Product) (kept : map term_of long ≡
       )
 
   -- and their run is that of the problem's terms
-  pub run-kept : (made : Run)
+  pub run-kept : (made : Substitutions)
       → ((t : TableContent) → IsTable t → t.width ≡ width
       → filter is_long t.terms ≡ with_additions [] (map term_of long) → IsRunOf t made)
       → IsRunOf (table_of (additions_of p)) made

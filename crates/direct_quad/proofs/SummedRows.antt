@@ -439,20 +439,6 @@ touched_none n narrow =
 
 -- ---- a sum more is taken
 
-pub in_front-none : (e : Entry) → e.weight ≡ pos 0 → entry_in_front e [] ≡ []
-in_front-none e none = go (int_eq e.weight (pos 0)) (Decides-int_eq e.weight (pos 0))
-  where
-    go : (b : Bool) → Decides b (e.weight ≡ pos 0) → (if b then [] else e ∷ []) ≡ []
-    go true d = refl
-    go false d = let both : false ≡ true = d.1 none in cc
-
-pub in_front-some : (e : Entry) → e.weight ≢ pos 0 → entry_in_front e [] ≡ e ∷ []
-in_front-some e some = go (int_eq e.weight (pos 0)) (Decides-int_eq e.weight (pos 0))
-  where
-    go : (b : Bool) → Decides b (e.weight ≡ pos 0) → (if b then [] else e ∷ []) ≡ e ∷ []
-    go true d = absurd (some (d.0 refl))
-    go false d = refl
-
 in_front-append : (e : Entry) (es : List Entry) → entry_in_front e [] ++ es ≡ entry_in_front e es
 in_front-append e es = go (int_eq e.weight (pos 0))
   where

@@ -4,7 +4,7 @@ use Rattle.std.specs.Prelude.{◌≡◌, ◌+◌, ◌*◌, ◌^◌, ◌≤◌, �
 use Rattle.std.specs.List.{filter}
 use Rattle.term_table.specs.Terms.{terms_total}
 use Rattle.term_table.specs.Tables.{TableContent, AreAdditions, table_size}
-use Rattle.rosenberg_layer.specs.declared.run.Run.{Run}
+use Rattle.rosenberg_layer.specs.declared.run.Substitutions.{Substitutions}
 use Rattle.rosenberg_layer.specs.Rosenberg.{excess, is_long, run}
 use Rattle.rosenberg_layer.specs.Rosenberg as rosenberg
 use Rattle.rosenberg_layer.specs.Steps.{is_short}
@@ -27,7 +27,7 @@ pub record FitsByPairs (t : TableContent) : Type 0 where
   pub size : table_size (table_of t) * 2 ^ 2 ≤ 2 ^ 31
 
 -- what the run of all substitutions in a table leaves: added to its short terms, it is the image
-pub record IsRunOf (t : TableContent) (made : Run) : Type 0 where
+pub record IsRunOf (t : TableContent) (made : Substitutions) : Type 0 where
   pub parts : AreParts (run (excess t.terms) t) (filter is_short t.terms ++ moved_of t.width made)
       (filter is_long (run (excess t.terms) t).terms) (weights t.terms)
   pub pairs : made.pairs.items ≡ rosenberg.pairs_of (excess t.terms) t

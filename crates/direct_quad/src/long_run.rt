@@ -13,7 +13,7 @@ use base::NoMemory;
 use literal_lists::Literals;
 use long_terms::{Keyed, next_sum, ordered_additions};
 use problem_form::ProductList;
-use rosenberg_layer::{LongTerms, Run, run_of_long};
+use rosenberg_layer::{LongTerms, Substitutions, run_of_long};
 use std::alloc::Global;
 
 /// Appends a term, and counts how many substitutions it takes at most.
@@ -65,7 +65,11 @@ fn summed_terms(
 }
 
 /// What all substitutions in the sums of long additions leave.
-pub fn long_run(alloc: Global, width: usize, additions: ProductList) -> Result<Run, NoMemory>
+pub fn long_run(
+    alloc: Global,
+    width: usize,
+    additions: ProductList,
+) -> Result<Substitutions, NoMemory>
     requires additions { AreAdditions (terms_of width additions) }
     requires long { All (λ p. 3 ≤ length p.literals) additions }
     requires size { table_size (table_of (terms_of width additions)) * 2 ^ 2 ≤ 2 ^ 31 }

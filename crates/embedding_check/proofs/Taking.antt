@@ -114,15 +114,6 @@ takes_more joined qs q s t i so_far below waits_len parents_len waits linked =
 
 -- ---- one qubit of the level more
 
-pub level_none : (joined : Joins) (qs level : List ℕ) (s : Found) → LevelTakes joined qs level 0 s s
-level_none joined qs level s = record {
-  moves = moves_none (length qs) s;
-  each = λ i h. inl (record {
-    stays = record { waits = refl; parent = refl };
-    alone = λ w m low. absurd (omega (arith, low));
-  });
-}
-
 moves_both : (count : ℕ) (s t u : Found) → Moves count s t → Moves count t u
     → ((i : ℕ) → i < count → waits_at t i ≡ true → waits_at s i ≡ true)
     → ((i : ℕ) → i < count → waits_at t i ≡ false → waits_at u i ≡ false)

@@ -107,16 +107,16 @@ pub trait Layer {
     fn extend(
         &self,
         alloc: Global,
-        source: &Self::Source,
+        form: &Self::Source,
         link: &Self::Link,
         x: &[bool],
     ) -> Result<Vec<bool>, NoMemory>
-        requires fits { fits link.now source.now }
-        requires width { IsOf (Self.Source.form source.now) x.now }
-        ensures extension { IfOk result (λ y. y.items ≡ extension source.now x.now) }
-        ensures reaches { IfOk result (λ y. Extends (Self.Source.form source.now)
-            (Self.Target.form (image source.now)) (decoding link.now)
-            (scale source.now) (offset source.now) x.now y.items) };
+        requires fits { fits link.now form.now }
+        requires width { IsOf (Self.Source.form form.now) x.now }
+        ensures extension { IfOk result (λ y. y.items ≡ extension form.now x.now) }
+        ensures reaches { IfOk result (λ y. Extends (Self.Source.form form.now)
+            (Self.Target.form (image form.now)) (decoding link.now)
+            (scale form.now) (offset form.now) x.now y.items) };
 
     /// A link that fits a source is sound.
     ghost sound: { (link : Self.Link) (source : Self.Source) → fits link source → is_sound link };

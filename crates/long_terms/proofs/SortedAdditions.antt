@@ -24,7 +24,7 @@ use Rattle.long_terms.specs.Apart.{table_of}
 use Rattle.long_terms.proofs.Apart.{IsTable-table_of}
 use Rattle.monomial_layer.specs.Monomials.{new_nodes}
 use Rattle.long_terms.specs.declared.additions.Keyed.{Keyed}
-use Rattle.long_terms.specs.Long.{product_term, terms_of, node_count, first_nodes, key_for, addition_at, additions_at, sums_with, AreLong, HaveKeys}
+use Rattle.long_terms.specs.Long.{product_term, terms_of, node_count, first_nodes, key_for, addition_at, additions_at, sums_with, AreLong}
 
 -- ---- numbers
 
@@ -189,15 +189,3 @@ pub next_addition : (ps : List Product) (order : List Keyed) (i : ℕ) (d : Keye
     → additions_at ps (drop i order)
     ≡ addition_at ps (get_or order i d).index ∷ additions_at ps (drop (i + 1) order)
 next_addition ps order i d in' = ap (additions_at ps) (drop_more order i d in')
-
--- ---- keys of equal sets
-
--- are equal
-pub same_keys : (ps : List Product) (order : List Keyed) (i j : ℕ) (d : Keyed) → HaveKeys ps order
-    → i < length order → j < length order
-    → set_cmp (addition_at ps (get_or order i d).index).0 (addition_at ps (get_or order j d).index).0 ≡ Equal
-    → (get_or order i d).key ≡ (get_or order j d).key
-same_keys ps order i j d have first second equal =
-    have.keys i d first
-    ∙ ap (key_for have.coded) (same_set (addition_at ps (get_or order i d).index).0 (addition_at ps (get_or order j d).index).0 equal)
-    ∙ sym (have.keys j d second)

@@ -13,7 +13,6 @@ use Rattle.monomial_layer.proofs.Sets.{IsLow-image}
 use Rattle.monomial_layer.proofs.Sizes.{all_nodes-le, total-image_terms}
 use Rattle.rosenberg_layer.specs.Rosenberg as rosenberg
 use Rattle.rosenberg_layer.proofs.Growth.{size-image, total-image}
-use Rattle.quad_form.specs.Quads.{quad_total}
 use Rattle.quad_form.specs.Flat as flat
 use Rattle.quad_form.proofs.FlatForms.{quad_total-image}
 use Rattle.quad_form.proofs.UniqueForms.{IsQuad-image}
@@ -26,16 +25,6 @@ use Rattle.direct_quad.proofs.AtOnce.{image-quad}
 use Rattle.direct_quad.proofs.Guarded.{IsWithin-of, made_total}
 use Rattle.model_pipeline.specs.Formed.{HasRoom}
 use Rattle.model_pipeline.proofs.PairForms.{flat_link, pair_total}
-
--- a form without the table of quadratic terms grows by as much as the two steps
-pub monomial_total : (t : TableContent) → IsTable t
-    → quad_total (flat_monomials.image t) + 1 ≤ (terms_total t.terms + 1) * 2 ^ 26
-monomial_total t is =
-    omega (
-      arith,
-      quad_total-image (monomials.image t) (IsLow-image t),
-      total-image_terms t is,
-    )
 
 -- where each term is replaced by itself
 pub monomial_room : (link : BitsLink) (t : TableContent) → flat_monomials.Fits link t

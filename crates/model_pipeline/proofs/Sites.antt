@@ -14,13 +14,12 @@ use Rattle.embedding_check.specs.Faults.{Exists, IsFault, IsFirstAt}
 use Rattle.working_graph.specs.Fabrics.{AllExist, IsValidOn}
 use Rattle.working_graph.specs.Faults.{ExistsAt, IsFaultOn}
 use Rattle.working_graph.specs.laws.WorkingJoins.{joined_in-comm}
-use Rattle.working_graph.proofs.FaultsOn.{fault_on_invalid}
 use Rattle.working_graph.proofs.WorkingCliques.{working_clique_valid}
 use Rattle.model_pipeline.specs.declared.site.Qubits.{Qubits}
 use Rattle.model_pipeline.specs.declared.site.Qubits.TheVariants as which
 use Rattle.model_pipeline.specs.declared.site.Perch.{Perch}
 use Rattle.model_pipeline.specs.declared.site.Perch.TheVariants.{Clique, Map}
-use Rattle.model_pipeline.specs.Sites.{chains_of, clique_in, fabric_in, graph_in, joins_of, places_in, whole_fabric, CanStandAt, IsFaultAt}
+use Rattle.model_pipeline.specs.Sites.{chains_of, clique_in, fabric_in, graph_in, joins_of, places_in, whole_fabric, CanStandAt}
 
 -- ---- the qubits
 
@@ -100,9 +99,3 @@ pub site_valid : (qubits : Qubits) (perch : Perch) (f : IsingContent) → IsIsin
     → IsValidOn (fabric_in qubits) f (chains_of qubits perch (length f.fields))
 site_valid qubits Clique f ising can = clique_in_valid qubits f ising can
 site_valid qubits (Map map) f ising can = can
-
--- what has a fault cannot stand
-pub fault_stops : (qubits : Qubits) (perch : Perch) (f : IsingContent) (x : EmbedFault)
-    → IsFaultAt qubits perch f x → CanStandAt qubits perch f → ⊥
-fault_stops qubits Clique f x h can = omega (arith, h.0, can)
-fault_stops qubits (Map map) f x h can = fault_on_invalid (fabric_in qubits) f map x h can

@@ -152,11 +152,6 @@ all_before : (P : Term → Type 0) (ts us : List Term) → AllByRecursion P (ts 
 all_before P [] us h = tt
 all_before P (t ∷ ts) us h = (h.0, all_before P ts us h.1)
 
-all_after : (P : Term → Type 0) (ts us : List Term) → AllByRecursion P (ts ++ us)
-    → AllByRecursion P us
-all_after P [] us h = h
-all_after P (t ∷ ts) us h = all_after P ts us h.1
-
 -- additions are additions without the last ones
 pub additions_before : (t : TableContent) (us : List Term) → AreAdditions (with_more t us)
     → AreAdditions t
@@ -187,18 +182,3 @@ pub both_made : (t now next : TableContent) (us vs ws : List Term) → ws ≡ us
     → now ≡ with_more t us → next ≡ with_more now vs → next ≡ with_more t ws
 both_made t now next us vs ws e first second =
     with_more-append t now next us vs first second ∙ ap (with_more t) (sym e)
-
--- an addition has a set
-pub addition_set : (t : TableContent) (ls : List Literal) (c : ℤ) (ws : List Term)
-    → ws ≡ (ls, c) ∷ [] → AreAdditions (with_more t ws) → IsTermSet t.width ls
-addition_set t ls c ws e h =
-    let P = OfSet (IsTermSet t.width) in
-    let one : AreAdditions (with_more t ((ls, c) ∷ [])) = subst (λ ts. AreAdditions (with_more t ts)) e h in
-    (all_after P t.terms ((ls, c) ∷ []) (recursion_from_All P (t.terms ++ (ls, c) ∷ []) one.sets)).0
-
--- and a coefficient that fits
-pub addition_small : (t : TableContent) (ls : List Literal) (c : ℤ) (ws : List Term)
-    → ws ≡ (ls, c) ∷ [] → AreAdditions (with_more t ws) → terms_total t.terms + unsigned_abs c ≤ 2 ^ 124
-addition_small t ls c ws e h =
-    let one : AreAdditions (with_more t ((ls, c) ∷ [])) = subst (λ ts. AreAdditions (with_more t ts)) e h in
-    omega (arith, one.small, terms_total-append t.terms ((ls, c) ∷ []), terms_total-cons (ls, c) [])

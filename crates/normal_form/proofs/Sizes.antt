@@ -25,8 +25,7 @@ use Rattle.term_table.proofs.Additions.{sets_sum, sets_sum-cons, sets_sum-with_a
 use Rattle.term_table.proofs.KeptTerms.{Ascends-with_additions}
 use Rattle.term_table.proofs.PlainSums.{AreFew, sets_sum-contributions}
 use Rattle.term_table.proofs.SetSizes.{terms_size-once}
-use Rattle.penalty_layer.specs.Gathered.{squares}
-use Rattle.penalty_layer.specs.Penalty.{opposite, clause_term, plain_terms, contributions, node_count}
+use Rattle.penalty_layer.specs.Penalty.{opposite, clause_term, plain_terms, contributions}
 use Rattle.penalty_layer.specs.Penalty as penalty_method
 use Rattle.penalty_layer.specs.Squares.{product_term, square_terms, slack_form, constraint_terms}
 use Rattle.penalty_layer.proofs.OppositeSets.{opposites_length}
@@ -139,19 +138,6 @@ size_within p none =
       sets_sum-with_additions square (multiplied.contributions first),
       sets_sum-contributions (λ n. n ^ 2) square-mono first,
       sets_sum-with_additions grown (contributions p),
-      grown-append (plain_terms p) (constraint_terms (penalty p) p.variables p.constraints),
-      plain-grown p,
-      constraints-grown (penalty p) p.variables p.constraints,
-    )
-
--- multiplied out one after another, the squares of all degrees are at most twice the pairs
-pub squares-multiplied : (p : ProblemContent) → limit_fault normals.Multilinear p ≡ None
-    → squares (multiplied.contributions (contributions p)) ≤ 2 ^ 25
-squares-multiplied p none =
-    omega (
-      arith,
-      (within_limits p none).pairs,
-      sets_sum-contributions (λ n. n ^ 2) square-mono (contributions p),
       grown-append (plain_terms p) (constraint_terms (penalty p) p.variables p.constraints),
       plain-grown p,
       constraints-grown (penalty p) p.variables p.constraints,

@@ -1,6 +1,6 @@
 -- Couplers in the order of their pairs, packed ones, equal neighbours as one, and couplers that came
 -- in order.
-use Rattle.std.proofs.Common.{◌≡◌, ◌≢◌, ℕ, ◌+◌, ◌*◌, ◌/◌, ◌%◌, ◌<◌, ◌≤◌, ◌^◌, unsigned_abs, arith, sym, ap, ◌∙◌, refl, subst, List, [], ◌∷◌, ◌++◌, append_assoc, append-nil, pos, length, length-append, map, ℤ, drop, Option, None, Some, slice_get, ◌+ℤ◌, ◌-ℤ◌, OnErr, Result, Ok, Err}
+use Rattle.std.proofs.Common.{◌≡◌, ◌≢◌, ℕ, ◌+◌, ◌*◌, ◌/◌, ◌%◌, ◌<◌, ◌≤◌, ◌^◌, unsigned_abs, arith, sym, ap, ◌∙◌, refl, subst, List, [], ◌∷◌, ◌++◌, append_assoc, append-nil, pos, length, map, ℤ, drop, Option, None, Some, slice_get, ◌+ℤ◌, ◌-ℤ◌, OnErr, Result, Ok, Err}
 use Rattle.std.specs.Prelude.{All, IfSome}
 use Rattle.std.proofs.lemmas.Int.{ints}
 use Rattle.std.specs.List.Sorted.{IsPermutation, IsNonDecreasingBy}
@@ -77,23 +77,9 @@ listed-kept shape ws vs (c ∷ cs) kept all =
     let rest = listed-kept shape ws vs cs kept (All-tail (λ d. low_of shape d < length ws) c cs all) in
     λ k. coupler_of shape c (one k) ∷ rest k
 
-pub AreListed-kept : (shape : Shape) (ws vs : List ℤ) (codes : List ℕ) → KeepsWeights ws vs
-    → AreListed shape ws codes → AreListed shape vs codes
-AreListed-kept shape ws vs codes kept all =
-    All-weaker (λ c. low_of shape c < length ws) (λ c. low_of shape c < length vs)
-    (λ c less. omega (arith, less, kept.within)) codes all
-
 pub on_err : {T E P : Type 0} (r : Result T E) → P → OnErr r P
 on_err (Ok x) p = tt
 on_err (Err e) p = p
-
--- one more code, and perhaps its weight
-pub AreListed-push : (shape : Shape) (ws vs : List ℤ) (codes : List ℕ) (c : ℕ) (e : Entry)
-    → KeepsWeights ws vs → AreListed shape ws codes → IsFound vs e.weight (low_of shape c)
-    → AreListed shape vs (codes ++ c ∷ [])
-AreListed-push shape ws vs codes c e kept all found =
-    All-push (λ d. low_of shape d < length vs) codes c (AreListed-kept shape ws vs codes kept all)
-    found.within
 
 pub listed-push : (shape : Shape) (ws vs : List ℤ) (codes : List ℕ) (c : ℕ) (e : Entry)
     → KeepsWeights ws vs → AreListed shape ws codes → IsFound vs e.weight (low_of shape c)

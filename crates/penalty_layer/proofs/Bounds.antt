@@ -11,7 +11,7 @@ use Rattle.problem_form.specs.declared.terms.Product.{Product}
 use Rattle.problem_form.specs.declared.terms.Clause.{Clause}
 use Rattle.problem_form.specs.declared.limits.Normal.TheVariants as normals
 use Rattle.problem_form.specs.Problems.{ProblemContent, products_total, soft_weight}
-use Rattle.problem_form.specs.Limits.{Counted, first_passed, limit_fault, degree, degrees, pairs, weight, penalty, reach, cost_size, upper, most_degree}
+use Rattle.problem_form.specs.Limits.{Counted, first_passed, limit_fault, degree, degrees, pairs, weight, penalty, reach, upper, most_degree}
 use Rattle.problem_form.proofs.CountedNumbers.{positive_total-le}
 use Rattle.penalty_layer.specs.Weights.{clause_weights}
 
@@ -126,6 +126,3 @@ all_within p = omega (arith, clause_weights_are (penalty p) p.clauses)
 
 pub upper_within : (p : ProblemContent) → unsigned_abs (upper p) ≤ weight p
 upper_within p = omega (arith, ints, positive_total-le p.objective)
-
-pub cost_size_within : (p : ProblemContent) → cost_size p ≤ weight p
-cost_size_within p = omega arith

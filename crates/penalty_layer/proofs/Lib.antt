@@ -4,7 +4,6 @@ pub mod Sums
 pub mod Sizes
 pub mod Sets
 pub mod Admitted
-pub mod Gathering
 pub mod SlackSteps
 pub mod WholeSquares
 pub mod SquareSteps

@@ -25,7 +25,6 @@ use Rattle.term_table.proofs.Additions.{sets_sum, sets_sum-cons, sets_sum-with_a
 use Rattle.term_table.proofs.SetSizes.{terms_size-once}
 use Rattle.term_table.proofs.TermProducts.{length-union}
 use Rattle.penalty_layer.specs.Penalty.{clause_term, plain_terms, contributions, image}
-use Rattle.penalty_layer.specs.Gathered.{squares}
 use Rattle.penalty_layer.specs.Slack.{slack_weights}
 use Rattle.penalty_layer.specs.Squares.{product_term, square_terms, slack_terms, slack_form, constraint_terms}
 use Rattle.penalty_layer.specs.laws.SlackValues.{length-slack_weights}
@@ -247,20 +246,6 @@ plain-squares p =
       sets_sum-append products clauses,
       products_squares p.objective,
       clauses_squares (penalty p) p.clauses,
-    )
-
--- the squares of all degrees are at most twice the pairs
-pub squares_within : (p : ProblemContent) → limit_fault normals.Literal p ≡ None
-    → squares (map product_term p.objective) + squares (map (clause_term (penalty p)) p.clauses)
-    + squares (constraint_terms (penalty p) p.variables p.constraints)
-    ≤ 2 ^ 25
-squares_within p none =
-    omega (
-      arith,
-      (within_limits p none).pairs,
-      products_squares p.objective,
-      clauses_squares (penalty p) p.clauses,
-      constraint_terms-size (penalty p) p.variables p.constraints,
     )
 
 -- the variables, twice the pairs, and 1

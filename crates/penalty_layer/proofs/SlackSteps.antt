@@ -1,13 +1,11 @@
 -- Slack bits, one by one.
 use Rattle.std.proofs.Common.{◌≡◌, ◌≢◌, ℕ, zero, suc, ◌+◌, ◌-◌, ◌*◌, ◌/◌, ◌%◌, ◌^◌, ◌<◌, ◌≤◌, nat_eq, Bool, sym, ap, ◌∙◌, subst, arith, List, [], ◌∷◌, ◌++◌, append_assoc, inl, inr, pos, neg_ℤ}
-use Rattle.std.specs.List.{flat_map}
 use Rattle.std.proofs.lemmas.Bool.{cases_lt}
 use Rattle.std.proofs.Math.Nat.{pow-le-pow_right}
-use Rattle.problem_form.specs.declared.terms.Constraint.{Constraint}
 use Rattle.problem_form.specs.Limits.{binary_digits}
 use Rattle.term_table.specs.Terms.{Term}
-use Rattle.penalty_layer.specs.Slack.{doubled, last_weight, weights_for, slack_weights, digit_bits, bits_for, value_bits}
-use Rattle.penalty_layer.specs.Squares.{node, slack_terms, slack_state}
+use Rattle.penalty_layer.specs.Slack.{doubled, digit_bits}
+use Rattle.penalty_layer.specs.Squares.{node, slack_terms}
 use Rattle.penalty_layer.specs.laws.SlackValues.{HasDigits, HasDigits-binary_digits}
 
 power_next : (m : ℕ) → 2 ^ suc m ≡ 2 * 2 ^ m
@@ -36,28 +34,6 @@ few_digits r w e small = go w (subst (HasDigits r) (sym e) (HasDigits-binary_dig
           | inr many ↦ absurd (omega (arith, h.0, small, raised 100 m many))
         ]
 
--- one digit is the last, and the others are as many as there are weights before it
-pub weights-are : (r w m : ℕ) → w ≡ binary_digits r → w ≢ 0 → m ≡ w - 1
-    → doubled 1 m (last_weight r m) ≡ slack_weights r
-weights-are r w m e some less = ap (λ n. weights_for r n) (one_more w m some less ∙ e)
-  where
-    one_more : (w m : ℕ) → w ≢ 0 → m ≡ w - 1 → suc m ≡ w
-    one_more w m some less = omega arith
-
-pub bits-are : (r v w m : ℕ) → w ≡ binary_digits r → w ≢ 0 → m ≡ w - 1
-    → bits_for r (suc m) v ≡ value_bits r v
-bits-are r v w m e some less = ap (λ n. bits_for r n v) (one_more w m some less ∙ e)
-  where
-    one_more : (w m : ℕ) → w ≢ 0 → m ≡ w - 1 → suc m ≡ w
-    one_more w m some less = omega arith
-
--- a range without digits has no weights and no bits
-pub no_weights : (r w : ℕ) → w ≡ binary_digits r → w ≡ 0 → slack_weights r ≡ []
-no_weights r w e none = ap (λ n. weights_for r n) (sym e ∙ none)
-
-pub no_bits : (r v w : ℕ) → w ≡ binary_digits r → w ≡ 0 → value_bits r v ≡ []
-no_bits r v w e none = ap (λ n. bits_for r n v) (sym e ∙ none)
-
 -- ---- steps of loops
 
 pub push_digit : (now new all : List Bool) (count i rest : ℕ) (last : Bool) → i < count
@@ -85,13 +61,3 @@ push_weight now new all count i number weight last inside pushed whole =
     (λ j. pushed j ++ slack_terms (place j) (doubled (twice j) (count - (i + 1)) last))
     ∙ append_assoc now (part ∷ []) rest
     ∙ before
-
--- one constraint's bits, and those of the constraints after it
-pub push_state : (x now new all : List Bool) (left rest : List Constraint) (k : Constraint) → left ≡ k ∷ rest
-    → new ≡ now ++ slack_state x k → now ++ flat_map (slack_state x) left ≡ all
-    → new ++ flat_map (slack_state x) rest ≡ all
-push_state x now new all left rest k step pushed whole =
-    ap (λ bs. bs ++ flat_map (slack_state x) rest) pushed
-    ∙ append_assoc now (slack_state x k) (flat_map (slack_state x) rest)
-    ∙ ap (λ ks. now ++ flat_map (slack_state x) ks) (sym step)
-    ∙ whole

@@ -37,18 +37,6 @@ number_of-append (n ∷ ns) more name h =
     go false e k others =
         number_of-next n (ns ++ more) name e ∙ ap suc (others k) ∙ sym (number_of-next n ns name e)
 
--- the number of a name that is there is in range
-pub number_of-within : (names : List (List ℕ)) (name : List ℕ) → has names name ≡ true
-    → number_of names name < length names
-number_of-within [] name h = absurd cc
-number_of-within (n ∷ ns) name h = go (bytes_eq name n) refl h (number_of-within ns name)
-  where
-    go : (b : Bool) → bytes_eq name n ≡ b → (b || has ns name) ≡ true
-        → (has ns name ≡ true → number_of ns name < length ns)
-        → number_of (n ∷ ns) name < length (n ∷ ns)
-    go true e k others = rw e (omega arith)
-    go false e k others = rw e (omega (arith, others k))
-
 -- ---- one more name
 
 bytes_eq-same : (name : List ℕ) → bytes_eq name name ≡ true

@@ -68,15 +68,6 @@ module _ (old : TableContent) (i j : ℕ) (w : ℤ)
       rw e (additions_second old next (first ∷ second ∷ []) (third ∷ [])
       (first ∷ second ∷ third ∷ []) refl (two_made now next made more) fits)
 
-  pub three_made : (now next last : TableContent)
-      → now ≡ with_more old ((node_set i, neg_ℤ (pos 2 *ℤ w)) ∷ [])
-      → next ≡ with_more now ((node_set j, neg_ℤ (pos 2 *ℤ w)) ∷ [])
-      → last ≡ with_more next ((pair_set i j, pos 4 *ℤ w) ∷ [])
-      → last ≡ with_more old (coupling_sets i j w)
-  three_made now next last made more most =
-      both_made old next last (first ∷ second ∷ []) (third ∷ []) (first ∷ second ∷ third ∷ []) refl
-      (two_made now next made more) most
-
 -- ---- all entries
 
 -- the sets of an entry are of the model's nodes

@@ -15,7 +15,7 @@ use Rattle.posiform_check.specs.declared.lines.Line.{Line}
 use Rattle.posiform_check.specs.BitForms.{CertificateContent, line_terms, certificate_terms, certificate_list, model_terms, model_list, AreSameForms}
 use Rattle.posiform_check.specs.Certificates.{IsCertificate, AreOfNodes, certificate_fault}
 use Rattle.posiform_check.specs.Differences.{difference}
-use Rattle.posiform_check.specs.Sums.{HasMore, HasNone}
+use Rattle.posiform_check.specs.Sums.HasMore
 use Rattle.posiform_check.proofs.Compared.{comparison_says}
 use Rattle.posiform_check.proofs.Gathering.{certificate_fits}
 use Rattle.posiform_check.proofs.Sums.{coefficients-append}
@@ -98,23 +98,6 @@ split_lines now l left rest steps fits =
     subst (λ (ls : List Line). AreAdditions (with_more now (flat_map line_terms ls))) steps fits
 
 -- ---- both forms
-
--- where nothing is left of the certificate's terms less the model's, the forms are one
-pub same_forms : (m : Written) (c : CertificateContent) (none one all left : List Term)
-    → HasNone none → HasMore none (([], c.bound) ∷ []) one
-    → HasMore one (flat_map line_terms c.lines) all → HasMore left (model_terms m) all
-    → HasNone left → AreSameForms (model_terms m) (certificate_terms c)
-same_forms m c none one all left blank bound lines taken cancel set =
-    omega (
-      arith,
-      ints,
-      blank set,
-      bound set,
-      lines set,
-      taken set,
-      cancel set,
-      coefficients-append set (([], c.bound) ∷ []) (flat_map line_terms c.lines),
-    )
 
 -- and no set differs
 pub none_differs : (m : Written) (c : CertificateContent)

@@ -1,5 +1,5 @@
 -- How the steps of a command end.
-use Rattle.std.proofs.Common.{◌≡◌, ℕ, ◌≤◌, IfOk, arith, inl, inr, Bool, List, Ok, Err, Some, None, Result, refl, sym, ◌∙◌, subst}
+use Rattle.std.proofs.Common.{◌≡◌, ℕ, ◌≤◌, IfOk, arith, inr, Bool, List, Ok, Err, Some, None, Result, refl, sym, ◌∙◌, subst}
 use Rattle.std.specs.declared.option.Option.{Option}
 use Rattle.bits_model.specs.Output.{Written}
 use Rattle.edge_io.specs.Counts.{Counts, Rose}
@@ -9,45 +9,14 @@ use Rattle.command_words.specs.declared.commands.Command.{Command}
 use Rattle.run_steps.specs.declared.plans.Plan.{Plan}
 use Rattle.run_steps.specs.declared.status.Status.{Status}
 use Rattle.run_steps.specs.declared.status.Status.TheVariants.{Done, Usage, ReadFault, WriteFault, BadText, Limit, NotEmbedded, TooWide, NotProved, NoState, NoMemory}
-use Rattle.run_steps.specs.Statuses.{IsRefusal, IsReading, IsDoneOrWant}
+use Rattle.run_steps.specs.Statuses.{IsReading, IsDoneOrWant}
 use Rattle.run_steps.specs.Steps.{Steps, Refuses, planning, last_step}
 use Rattle.program_run.specs.Outcome.{OfModel, IsEndOf, IsEnd, Ends, IsOutcomeOf, MeetsOutcomeOf}
 use Rattle.program_run.specs.Made.{IsModelled, EndsOf}
-use Rattle.run_steps.specs.Causes.{AreRefused, AreFiles}
-use Rattle.program_run.specs.Unembedded.{IsUnembedded}
+use Rattle.run_steps.specs.Causes.AreFiles
 use Rattle.program_run.proofs.OneModel.{one_model}
 
 -- ---- of a plan
-
--- a plan that has no model
-pub unembedded_ends : (status : Status) (plan : Plan) (last : Written → Steps (List Bool))
-    → IsUnembedded plan status → EndsOf status plan last
-unembedded_ends (NotEmbedded fault) plan last is = is
-unembedded_ends NoMemory plan last is = tt
-unembedded_ends Done plan last is = absurd is
-unembedded_ends WriteFault plan last is = absurd is
-unembedded_ends (Usage position) plan last is = absurd is
-unembedded_ends (ReadFault which) plan last is = absurd is
-unembedded_ends (BadText which kind line) plan last is = absurd is
-unembedded_ends (Limit which kind number) plan last is = absurd is
-unembedded_ends (NoState width) plan last is = absurd is
-unembedded_ends (TooWide node width) plan last is = absurd is
-unembedded_ends (NotProved fault) plan last is = absurd is
-
--- a file that was refused was taken or read
-pub refused_reading : (name : Which → List ℕ) (files : List Which) (status : Status)
-    (a b : Counts) → AreRefused name files status a b → IsReading status
-refused_reading name files (ReadFault which) a b at = tt
-refused_reading name files (Limit which kind number) a b at = tt
-refused_reading name files (BadText which kind line) a b at = tt
-refused_reading name files (NoState width) a b at = tt
-refused_reading name files NoMemory a b at = tt
-refused_reading name files Done a b at = absurd at
-refused_reading name files WriteFault a b at = absurd at
-refused_reading name files (Usage position) a b at = absurd at
-refused_reading name files (NotEmbedded fault) a b at = absurd at
-refused_reading name files (TooWide node width) a b at = absurd at
-refused_reading name files (NotProved fault) a b at = absurd at
 
 -- its last step refuses
 pub last_refuses : (status : Status) (plan : Plan) (last : Written → Steps (List Bool))
@@ -74,22 +43,6 @@ pub last_gives : (plan : Plan) (last : Written → Steps (List Bool)) (m : Writt
 last_gives plan last m bits made e = (made.can_stand, (m, made.by, (bits, e)))
 
 -- ---- of all steps
-
--- the plan is refused
-pub plan_refuses : (status : Status) (plans : Steps Plan)
-    (last : Plan → Written → Steps (List Bool)) → IsRefusal status → Refuses status plans
-    → Ends status plans last
-plan_refuses (ReadFault which) plans last refusal is = inl is
-plan_refuses NoMemory plans last refusal is = tt
-plan_refuses Done plans last refusal is = absurd refusal
-plan_refuses WriteFault plans last refusal is = absurd refusal
-plan_refuses (Usage position) plans last refusal is = absurd refusal
-plan_refuses (NotEmbedded fault) plans last refusal is = rw is refl
-plan_refuses (BadText which kind line) plans last refusal is = rw is refl
-plan_refuses (Limit which kind number) plans last refusal is = rw is refl
-plan_refuses (NoState width) plans last refusal is = rw is refl
-plan_refuses (TooWide node width) plans last refusal is = rw is refl
-plan_refuses (NotProved fault) plans last refusal is = rw is refl
 
 -- the plan stands, and its end is that of all
 pub plan_ends : (status : Status) (plans : Steps Plan) (last : Plan → Written → Steps (List Bool))

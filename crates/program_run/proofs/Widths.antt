@@ -75,16 +75,6 @@ nodes_are_its (placements.Qubits site) choices unit own p m can by stands =
     ap (λ k. form_nodes_by k m) stands.kind ∙ ap length stands.embedded.chains
     ∙ chains_are_nodes site.qubits site.perch (ising_of choices p) can
 
--- the model has the variables of what was read
-variables_on : (base : Placement) (choices : Choices) (unit : UnitChoice) (own : ℕ)
-    (p : ProblemContent) (m : Written) → StandsOn base choices unit own p m → m.variables ≡ own
-variables_on (placements.Nodes target) choices unit own p m stands = stands.variables
-variables_on (placements.Qubits site) choices unit own p m stands = stands.variables
-
-pub has_variables : (plan : Plan) (m : Written) → Stands plan m → m.variables ≡ plan.read.variables
-has_variables plan m stands =
-    variables_on plan.base plan.choices plan.unit plan.read.variables plan.read.problem m stands
-
 -- its nodes are at most the problem's variables and the auxiliary bits
 pub has_few_nodes : (plan : Plan) (m : Written) → CanStand plan → IsModelBy plan m → Stands plan m
     → form_nodes m

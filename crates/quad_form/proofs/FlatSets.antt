@@ -1,9 +1,8 @@
 -- Sets of at most two literals: where they are literal sets, and their literals by place.
-use Rattle.std.proofs.Common.{◌≡◌, ℕ, ◌<◌, ◌≤◌, ℤ, List, [], ◌∷◌, length, get_or, ap, arith}
+use Rattle.std.proofs.Common.{◌≡◌, ℕ, ◌<◌, ◌≤◌, ℤ, List, [], ◌∷◌, length, get_or, arith}
 use Rattle.literal_lists.specs.declared.literal.Literal.{Literal}
 use Rattle.literal_lists.specs.Literals.{IsLiteralSet}
 use Rattle.term_table.specs.Terms.{IsTermSet}
-use Rattle.term_table.specs.Tables.{TableContent, with_added}
 use Rattle.term_table.proofs.SmallSets.{IsTermSet-none, IsTermSet-one, IsTermSet-two}
 use Rattle.quad_form.specs.Flat.{IsFlat}
 use Rattle.quad_form.specs.laws.Flattened.{two_in_order}
@@ -13,12 +12,6 @@ IsTermSet-flat width [] flat = IsTermSet-none width
 IsTermSet-flat width (l ∷ []) flat = IsTermSet-one width l flat.within
 IsTermSet-flat width (l ∷ k ∷ []) flat = IsTermSet-two width l k flat.2 flat.1.within
 IsTermSet-flat width (l ∷ k ∷ m ∷ ls) flat = absurd flat
-
--- ---- a table to which a set was added
-
-pub width-added : (t r : TableContent) (ls : List Literal) (c : ℤ) → r ≡ with_added t ls c
-    → r.width ≡ t.width
-width-added t r ls c e = ap (λ (s : TableContent). s.width) e
 
 -- ---- the literals of a set, by place
 

@@ -1,7 +1,7 @@
 -- Lists that lie flat: an item of one of them is replaced.
-use Rattle.std.proofs.Common.{◌≡◌, ℕ, zero, suc, ◌+◌, ◌-◌, ◌<◌, ◌≤◌, List, [], ◌∷◌, length, get_or, set, take, drop, refl, sym, ap, ◌∙◌, subst, arith, false, ◌==◌}
+use Rattle.std.proofs.Common.{◌≡◌, ℕ, zero, suc, ◌+◌, ◌-◌, ◌<◌, ◌≤◌, List, [], ◌∷◌, length, get_or, set, take, drop, refl, sym, ap, ◌∙◌, arith, false, ◌==◌}
 use Rattle.std.specs.List.{slice_range}
-use Rattle.std.proofs.lemmas.List.{length-set, length-take-le, length-drop, take-set-le, drop-set-lt, drop-set-add}
+use Rattle.std.proofs.lemmas.List.{length-take-le, length-drop, take-set-le, drop-set-lt, drop-set-add}
 use Rattle.std.proofs.lemmas.Option.{get_or_from_slice_get}
 use Rattle.std.proofs.Math.Dec.{eqb-suc-zero}
 use Rattle.base.specs.FlatLists.{parts, AreEnds, start_of}
@@ -134,8 +134,3 @@ put_parts codes ends codes' i place a start is within at inside new =
         → parts codes' 0 ends ≡ parts (set codes (begin_of 0 ends i + place) a) 0 ends
     new' from =
         ap (λ cs. parts cs 0 ends) (new ∙ ap (λ n. set codes (n + place) a) (at ∙ sym from))
-
-pub put_ends : (codes ends codes' : List ℕ) (k a : ℕ) → AreEnds 0 ends (length codes)
-    → codes' ≡ set codes k a → AreEnds 0 ends (length codes')
-put_ends codes ends codes' k a is new =
-    subst (AreEnds 0 ends) (sym (ap length new ∙ length-set codes k a)) is

@@ -2,7 +2,7 @@
 use Rattle.std.proofs.Common.{◌≡◌, ◌≢◌, ℕ, ◌<◌, ◌≤◌, Bool, true, false, not, cond, arith, refl, sym, ap, ◌∙◌, List, [], ◌∷◌, ◌++◌, length, set, ℤ, pos}
 use Rattle.std.specs.List.{filter}
 use Rattle.std.proofs.lemmas.Bool.Decides.{nat_tests}
-use Rattle.std.proofs.lemmas.List.{append-nil, get_or-set_same, length-set}
+use Rattle.std.proofs.lemmas.List.{get_or-set_same, length-set}
 use Rattle.literal_lists.specs.declared.literal.Literal.{Literal}
 use Rattle.term_table.specs.Terms.{Term}
 use Rattle.rosenberg_layer.specs.Rosenberg.{Pair, is_long}
@@ -24,9 +24,6 @@ short-two u two = go u.0 two
     go (p ∷ []) two = absurd (omega (arith, two))
     go (p ∷ q ∷ []) two = refl
     go (p ∷ q ∷ r ∷ ls) two = absurd (omega (arith, two))
-
-long-more : (u : Term) → 2 ≤ length u.0 → length u.0 ≢ 2 → is_long u ≡ true
-long-more u two other = grind (arith, nat_tests)
 
 -- a term of two literals
 abbrev low_term : Literal → Literal → ℤ → Term
@@ -57,31 +54,6 @@ low_down u v low low' pair c same two is value new =
     ((λ i. low_term (is i).0 (is i).1 (value i)) ∙ two-literals v two ∙ same)
     ∙ ap (λ ts. low ++ ts)
     (sym (filter-short u false (ap is_long (sym same) ∙ short-two v two)))
-
-pub lists_down : (u v : Term) (lists : List (List ℕ)) (t : ℕ) → v ≡ u → length v.0 ≡ 2
-    → lists ≡ lists_with lists t u
-lists_down u v lists t same two =
-    let short : is_long u ≡ false = ap is_long (sym same) ∙ short-two v two in
-    sym
-    (ap (λ b. cond b (set lists (code_at u 0) (t ∷ list_at lists (code_at u 0))) lists) short)
-
--- .. and one of more goes up
-pub low_kept : (u v : Term) (low : List Term) → v ≡ u → 2 ≤ length v.0 → length v.0 ≢ 2
-    → low ≡ low ++ filter is_short (u ∷ [])
-low_kept u v low same two other =
-    sym (append-nil low)
-    ∙ ap (λ ts. low ++ ts) (sym (filter-short u true (ap is_long (sym same) ∙ long-more v two other)))
-
-pub lists_up : (u v : Term) (lists lists' : List (List ℕ)) (t b : ℕ) → v ≡ u → 2 ≤ length v.0
-    → length v.0 ≢ 2 → b ≡ code_at v 0 → lists' ≡ set lists b (t ∷ list_at lists b)
-    → lists' ≡ lists_with lists t u
-lists_up u v lists lists' t b same two other first new =
-    let long : is_long u ≡ true = ap is_long (sym same) ∙ long-more v two other in
-    let place : b ≡ code_at u 0 = first ∙ ap (λ w. code_at w 0) same in
-    new
-    ∙ ap (λ c. set lists c (t ∷ list_at lists c)) place
-    ∙ sym
-    (ap (λ x. cond x (set lists (code_at u 0) (t ∷ list_at lists (code_at u 0))) lists) long)
 
 -- there are as many lists as before
 pub length_with : (lists : List (List ℕ)) (t : ℕ) (u : Term)

@@ -10,7 +10,7 @@ ghost use Rattle.rosenberg_layer.specs.Parts.{ties_of};
 ghost use Rattle.rosenberg_layer.specs.Added.{moved_of, gathered_terms};
 
 use crate::low_set::LowSet;
-use crate::run::Run;
+use crate::run::Substitutions;
 use base::NoMemory;
 use literal_lists::Literal;
 use std::alloc::Global;
@@ -104,7 +104,11 @@ fn add_ties<G: Gather>(
 }
 
 /// Adds all that a run of substitutions added, whose new nodes are numbered from a number on.
-pub fn add_moved<G: Gather>(terms: &mut G, made: &Run, start: usize) -> Result<(), NoMemory>
+pub fn add_moved<G: Gather>(
+    terms: &mut G,
+    made: &Substitutions,
+    start: usize,
+) -> Result<(), NoMemory>
     requires each { length made.now.weights.items ≡ length made.now.pairs.items }
     requires narrow { start + length made.now.pairs.items < 2 ^ 64 }
     requires room { HasRoomFor G.takes terms.old (moved_of start made.now) }
@@ -119,7 +123,7 @@ pub fn add_moved<G: Gather>(terms: &mut G, made: &Run, start: usize) -> Result<(
 pub(crate) fn gathered(
     alloc: Global,
     table: &Table,
-    made: &Run,
+    made: &Substitutions,
     start: usize,
     width: usize,
 ) -> Result<Table, NoMemory>

@@ -18,5 +18,6 @@ pub use gather::add_moved;
 pub use laws::laws_of_substitutions;
 pub use long_terms::LongTerms;
 pub use low_set::LowSet;
+pub use pairs::{pairs_of, wide_pairs};
 pub use rosenberg::{Rosenberg, push_products};
-pub use run::{Run, run_of_long};
+pub use run::{Substitutions, run_of_long};

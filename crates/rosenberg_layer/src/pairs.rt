@@ -11,7 +11,7 @@ ghost use Rattle.rosenberg_layer.specs.Rosenberg.{front_pair, has_literal, is_lo
 ghost use Rattle.rosenberg_layer.specs.LongParts.{after_turn, long_after, long_part};
 
 use crate::gather::node;
-use crate::run::{Run, long_terms, run_of_long};
+use crate::run::{Substitutions, long_terms, run_of_long};
 use base::NoMemory;
 use literal_lists::Literal;
 use std::alloc::Global;
@@ -175,7 +175,7 @@ fn turn(
 }
 
 /// The pairs of so many substitutions, whatever the width.
-fn wide_pairs(
+pub fn wide_pairs(
     alloc: Global,
     table: &Table,
     width: usize,
@@ -207,7 +207,7 @@ pub fn pairs_of(
     if turns <= NODES && width <= NODES - turns {
         let long = long_terms(alloc, table)?;
         if long.len() <= TERMS {
-            let Run { pairs, .. } = run_of_long(alloc, long, width, turns)?;
+            let Substitutions { pairs, .. } = run_of_long(alloc, long, width, turns)?;
             return Ok(pairs);
         }
     }

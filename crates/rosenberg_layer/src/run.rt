@@ -38,7 +38,7 @@ use term_table::Table;
 /// The touched terms of lower degree, the pairs that the new nodes stand for, and the weights of
 /// the terms that tie each node to its pair.
 #[derive(Drop)]
-pub struct Run {
+pub struct Substitutions {
     pub low: Vec<(LowSet, i128)>,
     pub pairs: Vec<(Literal, Literal)>,
     pub weights: Vec<u128>,
@@ -60,7 +60,7 @@ pub(crate) fn excess(table: &Table) -> usize
 fn turn(
     long: &mut LongTerms,
     waiting: &mut Waiting,
-    made: &mut Run,
+    made: &mut Substitutions,
     width: usize,
 ) -> Result<Option<(Literal, Literal)>, NoMemory>
     requires wait { Wait long.old waiting.old }
@@ -95,7 +95,7 @@ fn turns_of(
     long: &mut LongTerms,
     width: usize,
     turns: usize,
-) -> Result<Run, NoMemory>
+) -> Result<Substitutions, NoMemory>
     requires table { IsTable (record { width = width; terms = long.old }) }
     requires long { All (λ t. is_long t ≡ true) long.old }
     requires few { length long.old < 2 ^ 32 }
@@ -110,7 +110,7 @@ fn turns_of(
     ensures few { IfOk result (λ made. length made.low.items ≤ length long.old) }
 {
     let mut waiting = Waiting::new(alloc, long, 2 * width)?;
-    let mut made = Run {
+    let mut made = Substitutions {
         low: Vec::new(alloc),
         pairs: Vec::new(alloc),
         weights: Vec::new(alloc),
@@ -128,7 +128,7 @@ pub fn run_of_long(
     long: LongTerms,
     width: usize,
     turns: usize,
-) -> Result<Run, NoMemory>
+) -> Result<Substitutions, NoMemory>
     requires table { IsTable (record { width = width; terms = long }) }
     requires long { All (λ t. is_long t ≡ true) long }
     requires few { length long < 2 ^ 32 }
@@ -178,7 +178,7 @@ pub(crate) fn run_of(
     table: &Table,
     width: usize,
     turns: usize,
-) -> Result<Run, NoMemory>
+) -> Result<Substitutions, NoMemory>
     requires width { width ≡ table.now.content.width }
     requires turns { turns ≤ excess table.now.content.terms }
     requires size { table_size table.now.content * 2 ^ 2 ≤ 2 ^ 32 }

@@ -1,12 +1,12 @@
 -- A file that is cut into words as it comes.
 use Rattle.std.proofs.Common.{◌≡◌, ℕ, ◌+◌, ◌<◌, ◌≤◌, List, [], ◌++◌, length, take, Some, None, Ok, Err, Result, refl, sym, ap, ◌∙◌, subst, append_assoc, arith}
 use Rattle.std.proofs.lemmas.List.{append-nil, length-append, length-take, take-append-le}
-use Rattle.std.specs.Io.KnownBytes.{Consumes, IsAtEnd}
+use Rattle.std.specs.Io.KnownBytes.Consumes
 use Rattle.std.specs.Prelude.{IsSomeAnd}
 use Rattle.std.specs.List.{Contains}
 use Rattle.std.proofs.lemmas.List.Elements.{Contains-append_left}
 use Rattle.std.specs.declared.option.Option.{Option}
-use Rattle.edge_io.specs.Held.{NamedFiles, find_file, IsFront, IsLonger, WhereTold}
+use Rattle.edge_io.specs.Held.{NamedFiles, IsFront, IsLonger, WhereTold}
 use Rattle.whole_text.specs.declared.token.Style.{Style}
 use Rattle.whole_text.specs.Tokens.{Word, tokens_of}
 use Rattle.whole_text.specs.Lexing.{LexerState, StandsFor}
@@ -19,7 +19,7 @@ use Rattle.source_texts.proofs.Standing.{words_read}
 use Rattle.run_steps.specs.declared.status.Status.{Status}
 use Rattle.run_steps.specs.declared.status.Status.TheVariants.{Done, Usage, ReadFault, WriteFault, BadText, Limit, NotEmbedded, TooWide, NotProved, NoState, NoMemory}
 use Rattle.run_steps.specs.Steps.{Steps, go_on, ◌>>=◌, ends, gives, taking, text_end, Meets, Refuses}
-use Rattle.run_steps.specs.Cut.{AreWordsOf, cutting, reading_file}
+use Rattle.run_steps.specs.Cut.{cutting, reading_file}
 use Rattle.run_steps.proofs.Stepping.{bound, meets_next}
 
 -- the lexer of this style stands for the bytes that were taken of the file, of which the rest is left
@@ -62,30 +62,6 @@ cut_more held name style taken count bytes behind rest left old new cut within c
       front = front_more held name cut.text piece rest left cut.front consumed;
     }
 
-whole_words : (held : Option NamedFiles) (name text : List ℕ) (limit : ℕ) (style : Style)
-    (rest : Option (List ℕ)) (words : List Word) → IsFront held name text rest → IsAtEnd rest
-    → length text ≤ limit → words ≡ tokens_of style text
-    → WhereTold held (λ h. AreWordsOf (find_file h name) limit style words)
-whole_words None name text limit style rest words is end within cut = tt
-whole_words (Some files) name text limit style None words is end within cut =
-    absurd (let no = is.2 in cc)
-whole_words (Some files) name text limit style (Some xs) words is end within cut =
-    let none : is.0 ≡ [] = let e = is.2 in cc in
-    let found : find_file files name ≡ Some text =
-    is.1 ∙ ap Some (ap (λ l. text ++ l) none ∙ append-nil text) in
-    subst (λ file. AreWordsOf file limit style words) (sym found) (within, cut)
-
--- the words of the whole file
-pub cut_words : (held : Option NamedFiles) (name : List ℕ) (style : Style) (taken limit : ℕ)
-    (rest : Option (List ℕ)) (lexer : LexerState) (words : List Word)
-    → IsCut held name style taken rest lexer → taken ≤ limit → IsAtEnd rest
-    → ((text : List ℕ) → StandsFor lexer text → words ≡ tokens_of lexer.style text)
-    → WhereTold held (λ h. AreWordsOf (find_file h name) limit style words)
-cut_words held name style taken limit rest lexer words cut within end given =
-    whole_words held name cut.text limit style rest words cut.front end
-    (omega (arith, cut.counted, within))
-    (given cut.text cut.stands ∙ ap (λ (s : Style). tokens_of s cut.text) cut.styled)
-
 longer : (held : Option NamedFiles) (name front : List ℕ) (limit : ℕ) (rest : Option (List ℕ))
     → IsFront held name front rest → limit < length front
     → WhereTold held (λ h. IsLonger h name limit)
@@ -93,18 +69,6 @@ longer None name front limit rest is more = tt
 longer (Some files) name front limit rest is more =
     subst (λ file. IsSomeAnd file (λ bytes. limit < length bytes)) (sym is.1)
     (omega (arith, length-append front is.0, more))
-
--- the file is longer than was accepted
-pub cut_longer : (held : Option NamedFiles) (name : List ℕ) (style : Style) (taken count limit : ℕ)
-    (bytes : List ℕ) (rest left : Option (List ℕ)) (lexer : LexerState)
-    → IsCut held name style taken rest lexer
-    → count ≤ length bytes → Consumes rest left (take count bytes) → limit < taken + count
-    → WhereTold held (λ h. IsLonger h name limit)
-cut_longer held name style taken count limit bytes rest left lexer cut within consumed more =
-    let piece = take count bytes in
-    longer held name (cut.text ++ piece) limit left
-    (front_more held name cut.text piece rest left cut.front consumed)
-    (omega (arith, length-append cut.text piece, length-take count bytes, cut.counted, more))
 
 -- ---- reading what was cut
 

@@ -2,7 +2,7 @@
 use Rattle.std.specs.Prelude.{pos, negsuc, [], ◌∷◌, Some}
 use Rattle.bits_model.specs.declared.output.Kind.TheVariants.{Qubo}
 use Rattle.bits_model.specs.Output.{Written}
-use Rattle.wcnf_reader.specs.declared.layout.Layout.TheVariants.{Older}
+use Rattle.wcnf_reader.specs.declared.layout.ClauseLayout.TheVariants.{Older}
 use Rattle.wcnf_reader.specs.Wcnf.{Wcnf}
 
 -- what its text says

@@ -5,7 +5,7 @@ use Rattle.std.specs.List.{AllByRecursion}
 use Rattle.whole_text.specs.declared.faults.TextFault.{TextFault}
 use Rattle.whole_text.specs.Steps.{◌>>=◌}
 use Rattle.problem_form.specs.NormalForm.{normal_form}
-use Rattle.wcnf_reader.specs.declared.layout.Layout.TheVariants.{Older}
+use Rattle.wcnf_reader.specs.declared.layout.ClauseLayout.TheVariants.{Older}
 use Rattle.wcnf_reader.specs.Wcnf.{Wcnf}
 use Rattle.wcnf_reader.specs.Cost.{clause_of, problem_of, normal_reading}
 use Rattle.sample_text.specs.Sample.{seed, after, drawn_weight, variables_of, top_of}

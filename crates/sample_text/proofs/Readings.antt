@@ -10,7 +10,7 @@ use Rattle.whole_text.specs.Tokens.{Word, word, tokens_of}
 use Rattle.whole_text.specs.Steps.{◌>>=◌, end_line}
 use Rattle.whole_text.proofs.LineTokens.{IsInk, AreInk, tokens_after, no_lines, words_then}
 use Rattle.whole_text.proofs.WordsAgain.{decimal_ink, signed_ink, number_first, integer_again, natural_again}
-use Rattle.wcnf_reader.specs.declared.layout.Layout.TheVariants.{Older}
+use Rattle.wcnf_reader.specs.declared.layout.ClauseLayout.TheVariants.{Older}
 use Rattle.wcnf_reader.specs.Wcnf.{Header, Listed, Wcnf, weight_of, literal_at, literals_at, clause_at, wanted_word, header_number, at_line_end, top_at, header_at, clauses_at, older_of, reading_of_words, reading}
 use Rattle.sample_text.specs.Sample.{seed, drawn, after, drawn_weight, drawn_literal, clause_words, drawn_clauses, header_words, variables_of, top_of, sample_text}
 use Rattle.sample_text.proofs.Sizes.{weight_small}

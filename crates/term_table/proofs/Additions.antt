@@ -73,10 +73,6 @@ weight-with_additions test table (t ∷ ts) =
       weight-with_addition test table t.0 t.1,
     )
 
-pub terms_cost-with_addition : (x : List Bool) (ts : List Term) (ls : List Literal) (c : ℤ)
-    → terms_cost x (with_addition ts ls c) ≡ terms_cost x ts +ℤ if_so (all_hold x ls) c
-terms_cost-with_addition x ts ls c = weight-with_addition (all_hold x) ts ls c
-
 pub terms_cost-with_additions : (x : List Bool) (ts : List Term)
     → terms_cost x (with_additions [] ts) ≡ terms_cost x ts
 terms_cost-with_additions x ts = omega (arith, ints, weight-with_additions (all_hold x) [] ts)

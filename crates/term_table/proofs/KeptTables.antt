@@ -1,13 +1,13 @@
 -- An addition to a table leaves a table.
 use Rattle.std.proofs.Common.{◌≡◌, ◌+◌, ◌≤◌, ◌^◌, ℕ, ℤ, List, [], ◌∷◌, ◌++◌, ap, ◌∙◌, arith, unsigned_abs, All, Result, Ok, Err, OnOk, OnErr}
-use Rattle.std.proofs.lemmas.List.Elements.{All-nil, All-push}
+use Rattle.std.proofs.lemmas.List.Elements.All-push
 use Rattle.literal_lists.specs.declared.literal.Literal.{Literal}
 use Rattle.term_table.specs.Terms.{Term, with_additions, terms_total, IsTermSet}
 use Rattle.term_table.specs.Runs.{Run, merged_terms, settled, with_entry, one_run}
 use Rattle.term_table.specs.Tables.{TableContent, kept_in, with_added, with_all, with_appended, IsTable, IsKept, AreAdditions}
 use Rattle.term_table.proofs.Additions.{terms_total-with_addition, terms_total-append, terms_total-cons, terms_total-more, terms_total-with_additions}
 use Rattle.term_table.proofs.KeptTerms.{OfSet, AreTerms-with_additions}
-use Rattle.term_table.proofs.Runs.{AreRuns-nil, AreRuns-one_run, AreRuns-settled, AreRuns-with_entry, AreTerms-merged, merged_terms-one_run, merged_terms-with_entry, merged_terms-with_sums}
+use Rattle.term_table.proofs.Runs.{AreRuns-one_run, AreRuns-settled, AreRuns-with_entry, AreTerms-merged, merged_terms-one_run, merged_terms-with_entry, merged_terms-with_sums}
 
 -- a table's runs make a table
 pub IsTable-kept : (width : ℕ) (runs : List Run) → IsKept width runs
@@ -16,9 +16,6 @@ IsTable-kept width runs kept = record {
   terms = AreTerms-merged width runs kept.runs.terms;
   small = kept.small;
 }
-
-pub IsKept-nil : (width : ℕ) → IsKept width []
-IsKept-nil width = record { runs = AreRuns-nil width; small = omega arith }
 
 pub IsKept-with_entry : (width : ℕ) (runs : List Run) (ls : List Literal) (c : ℤ)
     → IsKept width runs → IsTermSet width ls
@@ -76,9 +73,6 @@ sums-by_result (Ok u) width runs new ts done =
 sums-by_result (Err u) width runs new ts done = tt
 
 -- ---- additions that are to be summed
-
-pub AreAdditions-nil : (width : ℕ) → AreAdditions (record { width = width; terms = [] })
-AreAdditions-nil width = record { sets = All-nil (OfSet (IsTermSet width)); small = omega arith }
 
 AreAdditions-with_appended : (t : TableContent) (ls : List Literal) (c : ℤ) → AreAdditions t
     → IsTermSet t.width ls → terms_total t.terms + unsigned_abs c ≤ 2 ^ 124

@@ -1,7 +1,7 @@
 -- Steps of loops over runs and their places.
 use Rattle.std.proofs.Common.{◌≡◌, ℕ, zero, suc, ◌+◌, ◌<◌, ◌≤◌, ◌^◌, Bool, true, false, arith, length, get_or, take, drop, set, map, List, [], ◌∷◌, ◌++◌, ◌⊎◌, inl, inr, sym, ap, ◌∙◌, subst, refl, ◌+ℤ◌, unsigned_abs, Option, None, Some}
 use Rattle.std.specs.Prelude.{⊤, replicate, fold, if◌then◌else◌}
-use Rattle.std.specs.List.{AllByRecursion, slice_get}
+use Rattle.std.specs.List.AllByRecursion
 use Rattle.std.specs.List.Sorted.{IsStrictlySortedBy}
 use Rattle.std.specs.Ordering.{is_eq, is_lt}
 use Rattle.std.specs.declared.cmp.Ordering.{Ordering}
@@ -19,12 +19,6 @@ use Rattle.term_table.proofs.SetOrder.{set_total, set_itself, same_set}
 use Rattle.term_table.proofs.KeptTerms.{Under, Under-further, greater_back}
 use Rattle.term_table.proofs.UniqueTerms.{coefficient_of-under}
 use Rattle.term_table.proofs.MergingRuns.{less_back}
-
-pub head-drop : (r : Run) (p : ℕ) → slice_get r p ≡ head_of (drop p r)
-head-drop [] zero = refl
-head-drop [] (suc p) = refl
-head-drop (t ∷ ts) zero = refl
-head-drop (t ∷ ts) (suc p) = head-drop ts p
 
 -- ---- the rest of a run, by its place
 

@@ -116,10 +116,6 @@ some_of : (r : Run) → is_empty r ≡ false → 1 ≤ length r
 some_of [] e = absurd cc
 some_of (t ∷ ts) e = omega arith
 
-not_empty : (r : Run) → 1 ≤ length r → is_empty r ≡ false
-not_empty [] h = absurd (omega arith)
-not_empty (t ∷ ts) h = refl
-
 Halve-settled_with : (last : Run) (older : List Run) → Halve older → Halve (settled_with last older)
 Halve-settled_with last [] h = go (is_empty last) refl
   where

@@ -39,9 +39,6 @@ bit_product-value x v c = go (bit_of x v)
     go true = refl
     go false = refl
 
-positive_size : Product → ℕ
-positive_size t = positive_part t.coefficient
-
 part-least : (b : Bool) (c : ℤ)
     → neg_ℤ (pos (positive_part (neg_ℤ c))) ≤ℤ if_so b c
 part-least true c = positive_size-least c

@@ -11,8 +11,8 @@ use Rattle.problem_form.specs.Problems.{ProblemContent}
 use Rattle.problem_form.specs.NormalForm.{blank, with_variables, with_clause, normal_form}
 use Rattle.problem_form.proofs.AddedParts.{clauses_add_up}
 use Rattle.whole_text.proofs.Lengths.{both_parts}
-use Rattle.wcnf_reader.specs.declared.layout.Layout.{Layout}
-use Rattle.wcnf_reader.specs.declared.layout.Layout.TheVariants.{Older}
+use Rattle.wcnf_reader.specs.declared.layout.ClauseLayout.{ClauseLayout}
+use Rattle.wcnf_reader.specs.declared.layout.ClauseLayout.TheVariants.{Older}
 use Rattle.wcnf_reader.specs.Wcnf.{Header, Listed, Wcnf, header_at, clause_at, clauses_at, at_end, older_of}
 use Rattle.wcnf_reader.specs.Cost.{clause_of, problem_of}
 use Rattle.wcnf_reader.specs.Views.{clause_read, problem_read, listed_problem, older_read}
@@ -36,7 +36,7 @@ abbrev with_first : Listed → List Listed × List Word → Listing
 with_first c x = Ok (c ∷ x.0, x.1)
 
 -- a clause that is read, as the problem has it
-abbrev pub as_clause : Layout → Listed × List Word → Result (Clause × List Word) TextFault
+abbrev pub as_clause : ClauseLayout → Listed × List Word → Result (Clause × List Word) TextFault
 as_clause layout x = Ok (clause_of layout x.0, x.1)
 
 regroup : (top : Option ℕ) (p : ProblemContent) (c : Listed) (others : Listing)

@@ -12,8 +12,8 @@ use Rattle.problem_form.specs.declared.terms.Clause.{Clause}
 use Rattle.problem_form.specs.Problems.{ProblemContent}
 use Rattle.problem_form.specs.NormalForm.{blank, with_variables, with_clause, normal_form}
 use Rattle.problem_form.proofs.AddedParts.{clauses_add_up}
-use Rattle.wcnf_reader.specs.declared.layout.Layout.{Layout}
-use Rattle.wcnf_reader.specs.declared.layout.Layout.TheVariants.{WithoutHeader}
+use Rattle.wcnf_reader.specs.declared.layout.ClauseLayout.{ClauseLayout}
+use Rattle.wcnf_reader.specs.declared.layout.ClauseLayout.TheVariants.{WithoutHeader}
 use Rattle.wcnf_reader.specs.Wcnf.{Listed, Wcnf, first_of, literal_at, literals_at, clause_at, clauses_within, clauses_to_end, WordsAreEnough, largest, headerless_of}
 use Rattle.wcnf_reader.specs.Cost.{clause_of, problem_of}
 use Rattle.wcnf_reader.specs.Views.{clause_read, widened, headerless_read}
@@ -78,7 +78,7 @@ mark_then most (Ok x) (Ok weight) h = h
 mark_then most (Err f) (Ok weight) h = tt
 mark_then most numbers (Err f) h = tt
 
-clause_is : (layout : Layout) (variables : Option ℕ) (end : ℕ) (w : Word) (ws : List Word)
+clause_is : (layout : ClauseLayout) (variables : Option ℕ) (end : ℕ) (w : Word) (ws : List Word)
     → IfOk (clause_at layout variables end w ws) (IsReadFrom (length ws))
 unfolding clause_at
 clause_is layout variables end w ws =

@@ -8,7 +8,7 @@ use Rattle.base.specs.Sums.{total_by, if_so}
 use Rattle.literal_lists.specs.Literals.{holds, some_holds}
 use Rattle.problem_form.specs.Problems.{fails_hard, soft_cost, problem_cost}
 use Rattle.problem_form.proofs.NormalForms.{normal_form-cost}
-use Rattle.wcnf_reader.specs.declared.layout.Layout.{Layout}
+use Rattle.wcnf_reader.specs.declared.layout.ClauseLayout.{ClauseLayout}
 use Rattle.wcnf_reader.specs.Wcnf.{Listed, Wcnf}
 use Rattle.wcnf_reader.specs.Cost.{is_true, is_satisfied, is_hard, is_broken, unsatisfied_weight, wcnf_cost, literal_of, clause_of, problem_of, ReadingKeepsCosts}
 
@@ -35,14 +35,14 @@ soft_cost-weight true true w = refl
 soft_cost-weight true false w = refl
 soft_cost-weight false satisfied w = refl
 
-fails_hard-clause_of : (layout : Layout) (x : List Bool) (c : Listed)
+fails_hard-clause_of : (layout : ClauseLayout) (x : List Bool) (c : Listed)
     → fails_hard x (clause_of layout c) ≡ is_hard layout c.weight && not (is_satisfied x c)
 fails_hard-clause_of layout x c =
     let hard = is_hard layout c.weight in
     ap (λ b. is_none (cond hard None (Some (unwrap_or c.weight 0))) && not b) (some_holds-listed x c.literals)
     ∙ fails_hard-weight hard (is_satisfied x c) (unwrap_or c.weight 0)
 
-soft_cost-clause_of : (layout : Layout) (x : List Bool) (c : Listed)
+soft_cost-clause_of : (layout : ClauseLayout) (x : List Bool) (c : Listed)
     → soft_cost x (clause_of layout c)
     ≡ if_so (not (is_hard layout c.weight) && not (is_satisfied x c)) (pos (unwrap_or c.weight 0))
 soft_cost-clause_of layout x c =
@@ -51,14 +51,14 @@ soft_cost-clause_of layout x c =
     (some_holds-listed x c.literals)
     ∙ soft_cost-weight hard (is_satisfied x c) (unwrap_or c.weight 0)
 
-fails_hard-clauses : (layout : Layout) (x : List Bool) (cs : List Listed)
+fails_hard-clauses : (layout : ClauseLayout) (x : List Bool) (cs : List Listed)
     → list_any (fails_hard x) (map (clause_of layout) cs)
     ≡ list_any (λ c. is_hard layout c.weight && not (is_satisfied x c)) cs
 fails_hard-clauses layout x [] = refl
 fails_hard-clauses layout x (c ∷ cs) =
     λ i. fails_hard-clause_of layout x c i || fails_hard-clauses layout x cs i
 
-soft_cost-clauses : (layout : Layout) (x : List Bool) (cs : List Listed)
+soft_cost-clauses : (layout : ClauseLayout) (x : List Bool) (cs : List Listed)
     → total_by (soft_cost x) (map (clause_of layout) cs)
     ≡ total_by (λ c. if_so (not (is_hard layout c.weight) && not (is_satisfied x c)) (pos (unwrap_or c.weight 0))) cs
 soft_cost-clauses layout x [] = refl

@@ -13,8 +13,8 @@ use Rattle.problem_form.specs.declared.terms.Clause.{Clause}
 use Rattle.problem_form.specs.Problems.{ProblemContent, problem_cost}
 use Rattle.problem_form.specs.NormalForm.{normal_form, blank, with_variables}
 use Rattle.problem_form.specs.Limits.{upper}
-use Rattle.wcnf_reader.specs.declared.layout.Layout.{Layout}
-use Rattle.wcnf_reader.specs.declared.layout.Layout.TheVariants.{Older, WithoutHeader}
+use Rattle.wcnf_reader.specs.declared.layout.ClauseLayout.{ClauseLayout}
+use Rattle.wcnf_reader.specs.declared.layout.ClauseLayout.TheVariants.{Older, WithoutHeader}
 use Rattle.wcnf_reader.specs.Wcnf.{Listed, Wcnf, reading_of_words, reading}
 
 -- ---- the cost of the text as written
@@ -30,7 +30,7 @@ is_satisfied x c = list_any (is_true x) c.literals
 
 -- in the older layout a clause is hard where there is a TOP and its weight is at least TOP, and in
 -- that of 2022 where it has no weight, since it begins with `h`
-abbrev pub is_hard : Layout → Option ℕ → Bool
+abbrev pub is_hard : ClauseLayout → Option ℕ → Bool
 is_hard (Older (Some top)) (Some weight) = nat_le top weight
 is_hard (Older top) weight = false
 is_hard WithoutHeader weight = is_none weight
@@ -65,7 +65,7 @@ literal_of z = record { variable = nat_abs z - 1; negated = is_negative z }
     is_negative _ = not false
 
 -- the clause of these literals, hard or with its weight
-abbrev pub clause_of : Layout → Listed → Clause
+abbrev pub clause_of : ClauseLayout → Listed → Clause
 clause_of layout c = record {
   literals = map literal_of c.literals;
   weight = if is_hard layout c.weight then None else Some (unwrap_or c.weight 0);

@@ -7,8 +7,8 @@ use Rattle.literal_lists.specs.declared.literal.Literal.{Literal}
 use Rattle.problem_form.specs.declared.terms.Clause.{Clause}
 use Rattle.problem_form.specs.Problems.{ProblemContent}
 use Rattle.problem_form.specs.NormalForm.{normal_form}
-use Rattle.wcnf_reader.specs.declared.layout.Layout.{Layout}
-use Rattle.wcnf_reader.specs.declared.layout.Layout.TheVariants.{Older}
+use Rattle.wcnf_reader.specs.declared.layout.ClauseLayout.{ClauseLayout}
+use Rattle.wcnf_reader.specs.declared.layout.ClauseLayout.TheVariants.{Older}
 use Rattle.wcnf_reader.specs.declared.header.Start.{Start}
 use Rattle.wcnf_reader.specs.Wcnf.{Header, Listed, Wcnf, first_of, literal_at, literals_at, clause_at, clauses_at, older_of, headerless_of}
 use Rattle.wcnf_reader.specs.Cost.{is_hard, literal_of, clause_of, problem_of}
@@ -18,11 +18,11 @@ abbrev pub header_of : Start → Header
 header_of start = record { variables = start.variables; clauses = start.clauses; top = start.top }
 
 -- the weight of a clause, or none for a hard one
-abbrev pub weight_kept : Layout → Option ℕ → Option ℕ
+abbrev pub weight_kept : ClauseLayout → Option ℕ → Option ℕ
 weight_kept layout weight = if is_hard layout weight then None else Some (unwrap_or weight 0)
 
 -- the first word of a clause, as the weight that the problem has
-abbrev pub weight_read : Layout → Word → Result (Option ℕ) TextFault
+abbrev pub weight_read : ClauseLayout → Word → Result (Option ℕ) TextFault
 weight_read layout w = first_of layout w >>= λ weight. Ok (weight_kept layout weight)
 
 -- a number as a literal, and 0 as none
@@ -47,7 +47,7 @@ abbrev pub widened : ℕ → List Literal → ℕ
 widened variables literals = fold max variables (map (λ l. l.variable + 1) literals)
 
 -- a clause as the problem has it, and what is left
-abbrev pub clause_read : Layout → Option ℕ → ℕ → Word → List Word
+abbrev pub clause_read : ClauseLayout → Option ℕ → ℕ → Word → List Word
     → Result (Clause × List Word) TextFault
 clause_read layout variables end w ws =
     clause_at layout variables end w ws >>= λ x. Ok (clause_of layout x.0, x.1)

@@ -11,8 +11,8 @@ use Rattle.whole_text.specs.declared.token.Style.TheVariants.{Plain}
 use Rattle.whole_text.specs.Numbers.{number_of}
 use Rattle.whole_text.specs.Tokens.{Word, tokens_of}
 use Rattle.whole_text.specs.Steps.{◌>>=◌, fault, end_line, next_of, integer_at, from_least, natural_at}
-use Rattle.wcnf_reader.specs.declared.layout.Layout.{Layout}
-use Rattle.wcnf_reader.specs.declared.layout.Layout.TheVariants.{Older, WithoutHeader}
+use Rattle.wcnf_reader.specs.declared.layout.ClauseLayout.{ClauseLayout}
+use Rattle.wcnf_reader.specs.declared.layout.ClauseLayout.TheVariants.{Older, WithoutHeader}
 
 -- ---- what a text says, as it says it
 
@@ -30,7 +30,7 @@ pub record Header : Type 0 where
 
 -- a whole text: its layout with TOP or none, how many variables there are, and the clauses
 pub record Wcnf : Type 0 where
-  pub layout : Layout
+  pub layout : ClauseLayout
   pub variables : ℕ
   pub clauses : List Listed
 
@@ -49,7 +49,7 @@ mark_of w =
     >>= λ z. from_least 0 w.line z >>= λ n. Ok (Some n))
 
 -- the first word of a clause
-abbrev pub first_of : Layout → Word → Result (Option ℕ) TextFault
+abbrev pub first_of : ClauseLayout → Word → Result (Option ℕ) TextFault
 first_of (Older top) w = weight_of w
 first_of WithoutHeader w = mark_of w
 
@@ -70,7 +70,7 @@ literals_at variables end (w ∷ ws) =
     else literals_at variables end ws >>= λ more. Ok (z ∷ more.0, more.1)
 
 -- a clause with this first word, and what is left
-unfoldable pub clause_at : Layout → Option ℕ → ℕ → Word → List Word
+unfoldable pub clause_at : ClauseLayout → Option ℕ → ℕ → Word → List Word
     → Result (Listed × List Word) TextFault
 clause_at layout variables end w ws = do
   weight ← first_of layout w

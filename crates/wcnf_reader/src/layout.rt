@@ -2,7 +2,7 @@
 
 /// Which layout a text has, and what makes a clause of it hard.
 #[derive(Clone, Copy, Debug, PartialEq, Eq)]
-pub enum Layout {
+pub enum ClauseLayout {
     /// The older one, with a header. A clause is hard where there is a TOP, this number, and its
     /// weight is at least TOP.
     Older(Option<u64>),

@@ -12,5 +12,5 @@ mod listed;
 mod reading;
 
 pub use laws::laws_of_readings;
-pub use layout::Layout;
+pub use layout::ClauseLayout;
 pub use reading::{read_wcnf, read_wcnf_tokens};

@@ -3,10 +3,10 @@ ghost use Rattle.std.specs.Prelude.{◌≡◌, ◌+◌, ◌<◌, ◌≤◌, ◌^
 ghost use Rattle.whole_text.specs.TokenTexts.{word_of};
 ghost use Rattle.whole_text.specs.Steps.{Gives, GivesAlways};
 ghost use Rattle.wcnf_reader.specs.Wcnf.{mark_of};
-ghost use Rattle.wcnf_reader.specs.declared.layout.Layout.TheVariants.{Older};
+ghost use Rattle.wcnf_reader.specs.declared.layout.ClauseLayout.TheVariants.{Older};
 ghost use Rattle.wcnf_reader.specs.Views.{weight_kept, weight_read, literal_read, literals_read, bound_of, widened, clause_read};
 
-use crate::layout::Layout;
+use crate::layout::ClauseLayout;
 use literal_lists::Literal;
 use whole_text::{
     TextAnswer, TextFault, TextKind, WordRef, Words, fault, integer_word, natural_word, number,
@@ -43,12 +43,12 @@ fn mark(word: WordRef<'_>) -> Result<Option<u64>, TextFault>
 /// The weight of a clause, from its first word. `None` for a hard clause.
 #[inline(always)]
 #[tactic(auto, unfolding(crate::specs::Wcnf::weight_of))]
-fn weight(word: WordRef<'_>, layout: Layout) -> Result<Option<u64>, TextFault>
+fn weight(word: WordRef<'_>, layout: ClauseLayout) -> Result<Option<u64>, TextFault>
     ensures { GivesAlways (λ weight. weight) result (weight_read layout (word_of word.entry)) }
 {
     match layout {
-        Layout::Older(top) => Ok(soft_below(top, natural_word(word, 0)?)),
-        Layout::WithoutHeader => mark(word),
+        ClauseLayout::Older(top) => Ok(soft_below(top, natural_word(word, 0)?)),
+        ClauseLayout::WithoutHeader => mark(word),
     }
 }
 
@@ -104,7 +104,7 @@ pub(crate) fn clause(
     first: WordRef<'_>,
     words: &mut Words<'_>,
     list: &mut Vec<Literal>,
-    layout: Layout,
+    layout: ClauseLayout,
     variables: Option<u64>,
     end: u64,
 ) -> Result<Option<u64>, TextAnswer>

@@ -6,7 +6,7 @@ ghost use Rattle.wcnf_reader.specs.Cost.{normal_reading, problem_of_words};
 ghost use Rattle.wcnf_reader.specs.Views.{header_of, problem_read, older_read, headerless_read};
 
 use crate::header::{Start, header};
-use crate::layout::Layout;
+use crate::layout::ClauseLayout;
 use crate::listed::{clause, widened};
 use problem_form::Problem;
 use std::alloc::Global;
@@ -26,7 +26,7 @@ fn counted(
     let mut problem = Problem::new(alloc);
     problem.widen(start.variables);
     let mut literals = Vec::new(alloc);
-    let layout = Layout::Older(start.top);
+    let layout = ClauseLayout::Older(start.top);
     for _ in 0..start.clauses {
         let first = next_word(words, end)?;
         let weight = clause(
@@ -62,7 +62,7 @@ fn headerless(alloc: Global, mut words: Words<'_>, end: u64) -> Result<Problem, 
 {
     let mut problem = Problem::new(alloc);
     let mut literals = Vec::new(alloc);
-    let layout = Layout::WithoutHeader;
+    let layout = ClauseLayout::WithoutHeader;
     while let Some(first) = words.next() {
         let weight = clause(first, &mut words, &mut literals, layout, None, end)?;
         let variables = widened(problem.variables, &literals);

@@ -2,18 +2,11 @@
 use Rattle.std.proofs.Common.{◌≡◌, ℕ, ◌+◌, ◌<◌, ◌≤◌, List, [], ◌∷◌, length, Result, Ok, ap, arith}
 use Rattle.std.proofs.lemmas.List.{length-map}
 use Rattle.whole_text.specs.declared.faults.TextFault.{TextFault}
-use Rattle.whole_text.specs.declared.token.Token.{Token}
-use Rattle.whole_text.specs.Tokens.{Word, word_at, words_at, AreInOrder}
+use Rattle.whole_text.specs.Tokens.{Word, word_at}
 use Rattle.whole_text.specs.declared.token_text.TokenText.{TokenText}
 use Rattle.whole_text.specs.TokenTexts.{words_of}
 use Rattle.whole_text.specs.Steps.{next_of}
 use Rattle.whole_text.proofs.Strides.{length-joined}
-
--- each token takes at least one byte
-pub length-in_order : (low high : ℕ) (ts : List Token) → AreInOrder low ts high
-    → low + length ts ≤ high
-length-in_order low high [] h = omega arith
-length-in_order low high (t ∷ ts) h = omega (arith, h.0, h.1, length-in_order t.end high ts h.2)
 
 -- a value that is read
 abbrev pub read_as : {A : Type 0} → A → Result A TextFault
@@ -23,14 +16,6 @@ read_as a = Ok a
 pub both_parts : {A B : Type 0} (p q : A × B) → read_as p ≡ read_as q
     → (p.0 ≡ q.0) × (p.1 ≡ q.1)
 both_parts p q h = let same : p ≡ q = cc in (ap (λ x. x.0) same, ap (λ x. x.1) same)
-
--- what stands after the next word is shorter
-pub next_shorter : (text : List ℕ) (end : ℕ) (ts rest : List Token) (w : Word)
-    → next_of end (words_at text ts) ≡ Ok (w, words_at text rest) → length rest < length ts
-next_shorter text end [] rest w h = absurd cc
-next_shorter text end (t ∷ ts) rest w h =
-    let same = (both_parts (word_at text t, words_at text ts) (w, words_at text rest) h).1 in
-    omega (arith, simp length-map at (ap length same))
 
 pub next_less : (end : ℕ) (ws rest : List Word) (w : Word) → next_of end ws ≡ Ok (w, rest)
     → length rest < length ws

@@ -1,5 +1,5 @@
 -- The first row of words: the words up to the end of its line.
-use Rattle.std.proofs.Common.{◌≡◌, ℕ, ◌≤◌, Bool, true, false, List, [], ◌∷◌, length, refl, sym, ap, ◌∙◌, arith, ◌==◌}
+use Rattle.std.proofs.Common.{◌≡◌, ℕ, ◌≤◌, Bool, true, false, List, [], ◌∷◌, refl, sym, ap, ◌∙◌, ◌==◌}
 use Rattle.std.specs.Prelude.{if◌then◌else◌}
 use Rattle.std.proofs.lemmas.Bool.{eqb-true}
 use Rattle.whole_text.specs.Tokens.{Word}
@@ -25,12 +25,3 @@ by_line-first w (v ∷ ws) =
         let same : v.line ≡ w.line = eqb-true v.line w.line e in
         λ i. row_of w (v ∷ on_line (same i) ws) ∷ by_line (past_line (same i) ws)
     go false e others = ap (λ ls. row_of w [] ∷ ls) (sym others)
-
-pub past_line-le : (line : ℕ) (ws : List Word) → length (past_line line ws) ≤ length ws
-past_line-le line [] = omega arith
-past_line-le line (w ∷ ws) = go (w.line == line) (past_line-le line ws)
-  where
-    go : (b : Bool) → length (past_line line ws) ≤ length ws
-        → length (if b then past_line line ws else w ∷ ws) ≤ length (w ∷ ws)
-    go true h = omega (arith, h)
-    go false h = omega arith

@@ -1,17 +1,14 @@
 -- Strides, and the tokens and words that they stand for.
 use Rattle.std.proofs.Common.{◌≡◌, ℕ, suc, ◌+◌, ◌-◌, ◌*◌, ◌/◌, ◌<◌, ◌≤◌, eqb, List, [], ◌∷◌, ◌++◌, length, take, drop, refl, ap, ◌∙◌, arith, inl, inr}
-use Rattle.std.specs.Prelude.{slice_get, if◌then◌else◌, Some, None}
-use Rattle.std.specs.Option.{option_map, option_map_or}
-use Rattle.std.specs.declared.option.Option.{Option}
+use Rattle.std.specs.Prelude.{slice_get, if◌then◌else◌}
+use Rattle.std.specs.Option.option_map_or
 use Rattle.std.specs.List.{slice_range}
 use Rattle.std.proofs.lemmas.Bool.{cases_Bool, ne_eqb}
-use Rattle.std.proofs.lemmas.List.{length-map, drop-drop}
+use Rattle.std.proofs.lemmas.List.drop-drop
 use Rattle.std.proofs.lemmas.Nat.{mod-mul-add, div-mul-add}
-use Rattle.std.proofs.lemmas.Option.{slice_get-map}
 use Rattle.whole_text.specs.declared.packed.Stride.{Stride}
 use Rattle.whole_text.specs.declared.token.Token.{Token}
-use Rattle.whole_text.specs.Tokens.{Word, word, word_at, words_at, AreJoined, last_line}
-use Rattle.whole_text.specs.Steps.{end_line}
+use Rattle.whole_text.specs.Tokens.{Word, word, words_at, AreJoined, last_line}
 use Rattle.whole_text.specs.Packed.{stride_of, strides, placed, words_along, bytes_along, lines_along, wide_marks}
 
 -- ---- marks
@@ -141,16 +138,6 @@ last_from at line s (t ∷ ss) =
 pub last_placed : (ss : List Stride) → last_line (placed 0 1 ss) ≡ 1 + lines_along ss
 last_placed [] = omega arith
 last_placed (s ∷ ss) = last_from 0 1 s ss
-
-line_at : (text : List ℕ) (o : Option Token) → option_map_or (λ (w : Word). w.line) (option_map (word_at text) o) 1 ≡ option_map_or (λ t. t.line) o 1
-line_at text None = refl
-line_at text (Some t) = refl
-
--- the last word has the line of the last token
-pub end_line-words_at : (text : List ℕ) (ts : List Token) → end_line (words_at text ts) ≡ last_line ts
-end_line-words_at text ts =
-    let same : length (words_at text ts) ≡ length ts = simp length-map in
-    rw same (ap (λ (o : Option Word). option_map_or (λ (w : Word). w.line) o 1) (slice_get-map (word_at text) ts (length ts - 1)) ∙ line_at text (slice_get ts (length ts - 1)))
 
 -- ---- words
 
