@@ -1,5 +1,5 @@
 -- Additions of which the sums of short terms and the long ones are held: one addition more.
-use Rattle.std.proofs.Common.{◌≡◌, ℕ, ◌+◌, ◌*◌, ◌<◌, ◌≤◌, ◌^◌, eqb, arith, refl, sym, subst, ap, ◌∙◌, List, [], ◌∷◌, ◌++◌, append-nil, length, map, ℤ, pos, ◌+ℤ◌, unsigned_abs}
+use Rattle.std.proofs.Common.{◌≡◌, ℕ, ◌+◌, ◌*◌, ◌<◌, ◌≤◌, ◌^◌, eqb, arith, refl, sym, subst, ap, ◌∙◌, List, [], ◌∷◌, ◌++◌, append-nil, length, length-append, map, ℤ, pos, ◌+ℤ◌, unsigned_abs}
 use Rattle.std.specs.Prelude.{All}
 use Rattle.std.specs.List.{flat_map, slice_index_or}
 use Rattle.std.proofs.lemmas.Int.{ints}
@@ -10,6 +10,7 @@ use Rattle.std.proofs.lemmas.List.Sums.{sum_by-append, sum_by-cons}
 use Rattle.std.proofs.lemmas.Bool.{le-leb, lt-leb}
 use Rattle.base.specs.Sums.{if_so, total_by}
 use Rattle.base.proofs.Totals.{total_by-append, total_by_push}
+use Rattle.bits_model.specs.declared.output.Entry.{Entry}
 use Rattle.bits_model.specs.Output.{weight_total}
 use Rattle.literal_lists.specs.declared.literal.Literal.{Literal}
 use Rattle.problem_form.specs.declared.terms.Product.{Product}
@@ -210,3 +211,17 @@ fits-long h k ls c held low set high total constant weights pairs long =
           (subst (All (λ (q : Product). IsTermSet n q.literals)) (sym long)
           (All-push (λ (q : Product). IsTermSet n q.literals) h.long p held.sets set));
     }
+
+-- ---- how many couplers there are
+
+-- at most one, where there are two literals
+few-short : (ls : List Literal) (c : ℤ) → length ls ≤ 2 → 4 * length (short_couplers (ls, c)) ≤ length ls ^ 2
+few-short [] c short = omega arith
+few-short (l ∷ []) c short = omega arith
+few-short (l ∷ k ∷ []) c short = omega arith
+few-short (l ∷ k ∷ m ∷ ls) c short = absurd (omega arith)
+
+pub more-pairs : (old new : List Entry) (ls : List Literal) (c : ℤ) → length ls ≤ 2
+    → new ≡ old ++ short_couplers (ls, c) → 4 * length new ≤ 4 * length old + length ls ^ 2
+more-pairs old new ls c short pushed =
+    omega (arith, ap length pushed, length-append old (short_couplers (ls, c)), few-short ls c short)

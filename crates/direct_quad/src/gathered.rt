@@ -83,6 +83,7 @@ impl DirectTerms {
         ensures empty { IfOk result (AreHeld (record { width = width; terms = [] })) }
         ensures width { IfOk result (λ terms. length terms.weights ≡ width) }
         ensures total { IfOk result (λ terms. terms.total ≡ 0) }
+        ensures pairs { IfOk result (λ terms. length terms.pairs ≡ 0) }
     {
         Ok(DirectTerms {
             total: 0,
@@ -103,6 +104,8 @@ impl DirectTerms {
             → OnOk result (AreHeld (with_appended t literals.now coefficient) self.new) }
         ensures width { OnOk result (length self.new.weights ≡ length self.old.weights) }
         ensures total { OnOk result (self.new.total ≡ self.old.total + unsigned_abs coefficient) }
+        ensures pairs { OnOk result (4 * length self.new.pairs
+            ≤ 4 * length self.old.pairs + length literals.now ^ 2) }
         ensures unchanged { OnErr result (self.new ≡ self.old) }
     {
         push_short(&mut self.pairs, literals, coefficient)?;
@@ -121,6 +124,7 @@ impl DirectTerms {
             → OnOk result (AreHeld (with_appended t literals.now coefficient) self.new) }
         ensures width { OnOk result (length self.new.weights ≡ length self.old.weights) }
         ensures total { OnOk result (self.new.total ≡ self.old.total + unsigned_abs coefficient) }
+        ensures pairs { OnOk result (self.new.pairs ≡ self.old.pairs) }
         ensures unchanged { OnErr result (self.new ≡ self.old) }
     {
         self.long.push(literals, coefficient)?;
@@ -137,6 +141,8 @@ impl DirectTerms {
             → OnOk result (AreHeld (with_appended t literals.now coefficient) self.new) }
         ensures width { OnOk result (length self.new.weights ≡ length self.old.weights) }
         ensures total { OnOk result (self.new.total ≡ self.old.total + unsigned_abs coefficient) }
+        ensures pairs { OnOk result (4 * length self.new.pairs
+            ≤ 4 * length self.old.pairs + length literals.now ^ 2) }
         ensures unchanged { OnErr result (self.new ≡ self.old) }
     {
         if literals.len() <= 2 {
@@ -158,6 +164,7 @@ impl DirectTerms {
         ensures short { (t : TableContent) → AreHeld t self → AreHeld (short_part t) result.0 }
         ensures long { result.1 ≡ self.long }
         ensures width { length result.0.weights ≡ length self.weights }
+        ensures pairs { result.0.pairs ≡ self.pairs }
     {
         let DirectTerms {
             total,
@@ -184,6 +191,7 @@ impl DirectTerms {
             → IfOk result (AreHeld (record t { width = nodes })) }
         ensures width { IfOk result (λ terms. length terms.weights ≡ nodes) }
         ensures total { IfOk result (λ terms. terms.total ≡ self.total) }
+        ensures pairs { IfOk result (λ terms. terms.pairs ≡ self.pairs) }
     {
         let DirectTerms {
             total,

@@ -18,6 +18,7 @@ pub fn problem_terms(alloc: Global, problem: &Problem) -> Result<DirectTerms, No
 
     // What their quadratic form rests on.
     ensures room { IfOk result (λ _. FitsByPairs (additions_of problem.now)) }
+    ensures few { IfOk result (λ terms. 4 * length terms.pairs ≤ 2 ^ 31) }
 {
     let mut terms = DirectTerms::new(alloc, node_count(problem))?;
     add_contributions(alloc, &mut terms, problem)?;

@@ -248,18 +248,30 @@ plain-squares p =
       clauses_squares (penalty p) p.clauses,
     )
 
+-- the squares of all degrees are at most twice the pairs
+pub contributions_squares : (p : ProblemContent) → limit_fault normals.Literal p ≡ None
+    → sets_sum square (contributions p) ≤ 2 ^ 25
+contributions_squares p none =
+    omega (
+      arith,
+      (within_limits p none).pairs,
+      sets_sum-append (plain_terms p) (constraint_terms (penalty p) p.variables p.constraints),
+      plain-squares p,
+      constraint_terms-size (penalty p) p.variables p.constraints,
+    )
+
 -- the variables, twice the pairs, and 1
 pub size_within : (p : ProblemContent) → limit_fault normals.Literal p ≡ None → Ascends (image p).terms
     → table_size (image p) ≤ 2 ^ 26
 size_within p none ascends =
-    let limits = within_limits p none in
     omega (
       arith,
-      limits.variables,
-      limits.pairs,
+      (within_limits p none).variables,
       terms_size-once (image p).terms ascends,
       sets_sum-with_additions square (contributions p),
+      contributions_squares p none,
+      (within_limits p none).pairs,
       sets_sum-append (plain_terms p) (constraint_terms (penalty p) p.variables p.constraints),
-      plain-squares p,
       constraint_terms-size (penalty p) p.variables p.constraints,
+      plain-squares p,
     )
