@@ -22,7 +22,7 @@ use Rattle.std.proofs.lemmas.List.{length-drop}
 use Rattle.std.proofs.lemmas.List.Elements.{length_all_zip, recursion_from_All, All-from_recursion}
 use Rattle.chain_layer.specs.laws.Aligned.{IsNode}
 use Rattle.chain_layer.specs.laws.NodeEnergies.{shares_size, weights_of_equal, filled_length}
-use Rattle.chain_layer.specs.Steps.added
+use Rattle.chain_layer.specs.Steps.{added}
 
 -- ---- fields
 

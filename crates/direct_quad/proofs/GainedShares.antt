@@ -20,7 +20,7 @@ use Rattle.direct_quad.specs.RowSums.{size_of}
 use Rattle.direct_quad.specs.Held.{Gain, shares_total}
 use Rattle.direct_quad.proofs.PartSizes.{node-size, all_shares-size, long_constants-size}
 use Rattle.direct_quad.proofs.PartSizes.{AreLong as AreShort}
-use Rattle.direct_quad.proofs.HeldTerms.gain-both
+use Rattle.direct_quad.proofs.HeldTerms.{gain-both}
 
 -- ---- sizes
 

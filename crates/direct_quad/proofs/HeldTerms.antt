@@ -24,7 +24,7 @@ use Rattle.pair_sums.specs.Pairs.{IsPair}
 use Rattle.long_terms.specs.Apart.{short_terms}
 use Rattle.direct_quad.specs.Places.{Share, share_at, short_couplers, short_shares, short_constant}
 use Rattle.long_terms.specs.Long.{product_term}
-use Rattle.direct_quad.specs.RowSums.size_of
+use Rattle.direct_quad.specs.RowSums.{size_of}
 use Rattle.direct_quad.specs.Held.{HeldContent, AreHeld, IsHeld, Gain}
 use Rattle.direct_quad.proofs.Gathering.{short-more, long-more}
 use Rattle.direct_quad.proofs.KeyPlaces.{weight_total-append}

@@ -6,7 +6,7 @@ use Rattle.std.specs.Ordering.{is_eq}
 use Rattle.std.proofs.Math.Nat.{mul-le-mul_left}
 use Rattle.std.proofs.lemmas.Bool.Decides.{nat_tests}
 use Rattle.std.proofs.lemmas.List.Elements.{All-filter, All-get_or, recursion_from_All}
-use Rattle.std.proofs.lemmas.List.Filters.sum_by-filter_both
+use Rattle.std.proofs.lemmas.List.Filters.{sum_by-filter_both}
 use Rattle.std.proofs.lemmas.List.Sums.{sum_by-cons}
 use Rattle.std.proofs.lemmas.Option.{get_or_from_slice_get, slice_get_within}
 use Rattle.base.specs.Sums.{if_so}
@@ -30,7 +30,7 @@ use Rattle.rosenberg_layer.specs.Added.{moved_of}
 use Rattle.direct_quad.specs.ByPairs.{IsRunOf}
 use Rattle.long_terms.specs.Apart.{long_additions, short_terms}
 use Rattle.long_terms.specs.Apart as apart
-use Rattle.long_terms.specs.Long.product_term
+use Rattle.long_terms.specs.Long.{product_term}
 use Rattle.long_terms.proofs.Additive.{Amount, IsAdditive, additive-only, given-filter, given-with_additions, only}
 use Rattle.long_terms.proofs.Apart.{filter-with_additions, is_short_set}
 

@@ -15,7 +15,7 @@ use Rattle.posiform_check.specs.declared.lines.Line.{Line}
 use Rattle.posiform_check.specs.BitForms.{CertificateContent, line_terms, certificate_terms, certificate_list, model_terms, model_list, AreSameForms}
 use Rattle.posiform_check.specs.Certificates.{IsCertificate, AreOfNodes, certificate_fault}
 use Rattle.posiform_check.specs.Differences.{difference}
-use Rattle.posiform_check.specs.Sums.HasMore
+use Rattle.posiform_check.specs.Sums.{HasMore}
 use Rattle.posiform_check.proofs.Compared.{comparison_says}
 use Rattle.posiform_check.proofs.Gathering.{certificate_fits}
 use Rattle.posiform_check.proofs.Sums.{coefficients-append}

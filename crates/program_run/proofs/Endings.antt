@@ -13,7 +13,7 @@ use Rattle.run_steps.specs.Statuses.{IsReading, IsDoneOrWant}
 use Rattle.run_steps.specs.Steps.{Steps, Refuses, planning, last_step}
 use Rattle.program_run.specs.Outcome.{OfModel, IsEndOf, IsEnd, Ends, IsOutcomeOf, MeetsOutcomeOf}
 use Rattle.program_run.specs.Made.{IsModelled, EndsOf}
-use Rattle.run_steps.specs.Causes.AreFiles
+use Rattle.run_steps.specs.Causes.{AreFiles}
 use Rattle.program_run.proofs.OneModel.{one_model}
 
 -- ---- of a plan

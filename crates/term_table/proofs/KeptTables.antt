@@ -1,6 +1,6 @@
 -- An addition to a table leaves a table.
 use Rattle.std.proofs.Common.{◌≡◌, ◌+◌, ◌≤◌, ◌^◌, ℕ, ℤ, List, [], ◌∷◌, ◌++◌, ap, ◌∙◌, arith, unsigned_abs, All, Result, Ok, Err, OnOk, OnErr}
-use Rattle.std.proofs.lemmas.List.Elements.All-push
+use Rattle.std.proofs.lemmas.List.Elements.{All-push}
 use Rattle.literal_lists.specs.declared.literal.Literal.{Literal}
 use Rattle.term_table.specs.Terms.{Term, with_additions, terms_total, IsTermSet}
 use Rattle.term_table.specs.Runs.{Run, merged_terms, settled, with_entry, one_run}
