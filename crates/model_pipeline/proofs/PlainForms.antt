@@ -20,7 +20,7 @@ use Rattle.penalty_layer.proofs.Sets.{contribution_sets}
 use Rattle.normal_form.specs.Multilinear.{multiplied, Admits, IsSmall}
 use Rattle.normal_form.proofs.Limits.{penalty_admits}
 use Rattle.normal_form.proofs.MultipliedOut.{AreAdditions-multiplied_out, small-additions, total-multiplied}
-use Rattle.normal_form.proofs.Sizes.{size_within, squares-multiplied}
+use Rattle.normal_form.proofs.Sizes.{size_within}
 use Rattle.monomial_layer.specs.Monomials as monomials
 use Rattle.monomial_layer.proofs.Sizes.{all_nodes-le}
 use Rattle.quad_form.specs.Quads.{quad_size, quad_total}

@@ -9,3 +9,5 @@ pub mod Stood
 pub mod Answered
 pub mod Asked
 pub mod Said
+pub mod SomeText
+pub mod Pieces

@@ -1,5 +1,5 @@
 -- What a command answers of the held files, and how the answer is delivered.
-use Rattle.std.specs.Prelude.{◌≡◌, ℕ, ◌+◌, ◌≤◌, ℤ, ◌+ℤ◌, ◌*ℤ◌, ◌≤ℤ◌, ◌<ℤ◌, Bool, List, [], length, Ok, Err, Some, None, Result, ⊤}
+use Rattle.std.specs.Prelude.{◌≡◌, ◌≢◌, ℕ, ◌+◌, ◌≤◌, ℤ, ◌+ℤ◌, ◌*ℤ◌, ◌≤ℤ◌, ◌<ℤ◌, Bool, List, [], length, Ok, Err, Some, None, Result, ⊤}
 use Rattle.std.specs.declared.option.Option.{Option}
 use Rattle.std.specs.Io.KnownBytes.{Appends}
 use Rattle.edge_io.specs.Held.{NamedFiles, find_file}
@@ -227,6 +227,10 @@ abbrev pub DeliversAnswer : List (List ℕ) → Option NamedFiles → Status →
 DeliversAnswer words told status old new =
     (text : List ℕ) × IsDelivered status old new text
     × WhereHeld told (files_in words) (λ held. IsAnswered words held text)
+
+-- a text went to a sink, and not an empty one
+abbrev pub WritesText : (old new : Option (List ℕ)) → Type 0
+WritesText old new = (text : List ℕ) × (text ≢ []) × Appends old new text
 
 -- whatever files may be held, where the outcome of the words is Done, so is the status, or memory was
 -- wanting

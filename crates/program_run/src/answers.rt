@@ -1,5 +1,5 @@
 //! What a command answers.
-ghost use Rattle.std.specs.Prelude.{◌≡◌, [], None, IfOk, IfErr, Ok};
+ghost use Rattle.std.specs.Prelude.{◌≡◌, ◌≢◌, [], None, IfOk, IfErr, Ok};
 ghost use Rattle.problem_form.specs.Limits.{limit_fault};
 ghost use Rattle.command_words.specs.Commands.{HasFewClauses};
 ghost use Rattle.command_words.specs.Names.{files_of, last_files};
@@ -42,6 +42,7 @@ fn answer_by<F: Files>(
         (last_files command) (ended result) (F.counts files.old) (F.counts files.new) }
     ensures answer { IfOk result (λ answer. WhereHeld (F.held files.old) (last_files command)
         (λ held. IsMadeTextOf (spelled words.now) held command.ask plan (text_of answer))) }
+    ensures some { IfOk result (λ answer. text_of answer ≢ []) }
     ensures refusal { IfErr result IsRefusal }
 {
     match command.ask {
@@ -83,6 +84,7 @@ pub fn answer_to<F: Files>(
         (F.counts files.old) (F.counts files.new) }
     ensures answer { IfOk result (λ answer. WhereHeld (F.held files.old) (files_of command)
         (λ held. IsAnswer (spelled words.now) held command (text_of answer))) }
+    ensures some { IfOk result (λ answer. text_of answer ≢ []) }
     ensures refusal { IfErr result IsRefusal }
 {
     let plan = match take_plan(alloc, words, command, files) {

@@ -1,5 +1,5 @@
 //! The answer of a command from the plan of its model: the model alone, or a state of it.
-ghost use Rattle.std.specs.Prelude.{◌≡◌, [], None, Some, length, IfOk, IfErr};
+ghost use Rattle.std.specs.Prelude.{◌≡◌, ◌≢◌, [], None, Some, length, IfOk, IfErr};
 ghost use Rattle.problem_form.specs.Limits.{limit_fault};
 ghost use Rattle.bits_model.specs.Output.{form_of};
 ghost use Rattle.basic_solve.specs.FirstLeast.{IsFirstLeast};
@@ -134,6 +134,7 @@ pub fn answer_solved(alloc: Global, plan: &Plan) -> Result<Vec<u8>, Status>
     ensures step { EndsOf (ended result) plan.now (λ m. ends (width_end (wide_below m m.nodes))) }
     ensures answer { IfOk result (λ text. IsMadeText Ask.Solve plan.now
         (λ m. ends (width_end (wide_below m m.nodes))) text.items) }
+    ensures some { IfOk result (λ text. text.items ≢ []) }
     ensures refusal { IfErr result IsUnsolved }
 {
     let model = match model_lent(alloc, plan) {
@@ -170,6 +171,7 @@ pub fn answer_state<F: Files>(
         (last_files command) (ended result) (F.counts files.old) (F.counts files.new) }
     ensures answer { IfOk result (λ text. WhereHeld (F.held files.old) (last_files command) (λ held.
         IsMadeTextOf (spelled words.now) held command.ask plan.now text.items)) }
+    ensures some { IfOk result (λ text. text.items ≢ []) }
     ensures refusal { IfErr result IsRefusal }
 {
     let model = match model_lent(alloc, plan) {

@@ -1,5 +1,5 @@
 //! A line in one write, so that the lines of programs that share a pipe do not mix.
-ghost use Rattle.std.specs.Prelude.{◌≡◌, IfSome, OnOk, OnErr};
+ghost use Rattle.std.specs.Prelude.{◌≡◌, ◌≤◌, ◌↔◌, IfSome, IsSome, OnOk, OnErr, length};
 ghost use Rattle.std.specs.Io.KnownBytes.{Appends};
 ghost use Rattle.edge_io.specs.Counts.{HasCause};
 ghost use Rattle.edge_io.specs.Sinks.{AppendsFront, joined_bytes};
@@ -12,7 +12,8 @@ const ROOM: usize = 4096;
 
 /// The pieces one after the other, on the stack; `None` where they have no room there.
 fn joined(pieces: &[&[u8]]) -> Option<ArrayVec<u8, ROOM>>
-    ensures { IfSome result (λ line. line.items ≡ joined_bytes pieces.now) }
+    ensures joined { IfSome result (λ line. line.items ≡ joined_bytes pieces.now) }
+    ensures room { IsSome result ↔ length (joined_bytes pieces.now) ≤ 4096 }
 {
     let mut line = ArrayVec::new();
     for piece in pieces {

@@ -2,6 +2,7 @@
 ghost use Rattle.std.specs.Prelude.{◌≡◌, ◌≢◌, IfErr};
 ghost use Rattle.edge_io.specs.Counts.{Rose};
 ghost use Rattle.run_steps.specs.Statuses.{IsUntaken, IsExitNumber, OnDone, OnRefusal};
+ghost use Rattle.program_run.specs.Answers.{WritesText};
 ghost use Rattle.program_run.specs.Exits.{IsTold, IsToldBy};
 
 use crate::running::run;
@@ -28,6 +29,7 @@ pub fn given_words(rt: &HostRuntime) -> Result<Vec<String>, Status>
 
 /// How a run on the words of the command line and the files of the system ends.
 fn ending<O: Sink, E: Sink>(rt: HostRuntime, out: &mut O, err: &mut E) -> Status
+    ensures written { OnDone result (WritesText (O.bytes out.old) (O.bytes out.new)) }
     ensures refused { OnRefusal result (out.new ≡ out.old) }
     ensures write_fault { result ≡ Status.WriteFault
         → Rose (O.faults out.old) (O.faults out.new) }
@@ -50,7 +52,8 @@ fn ending<O: Sink, E: Sink>(rt: HostRuntime, out: &mut O, err: &mut E) -> Status
 pub fn exit_number<O: Sink, E: Sink>(rt: HostRuntime, out: &mut O, err: &mut E) -> u8
     ensures number { IsExitNumber result }
 
-    // Something is written to `out` only with 0 and, after a fault of it, with 4.
+    // Something is written to `out` with 0 and, after a fault of it, with 4, and else nothing.
+    ensures written { result ≡ 0 → WritesText (O.bytes out.old) (O.bytes out.new) }
     ensures refused { result ≢ 0 → result ≢ 4 → out.new ≡ out.old }
     ensures write_fault { result ≡ 4 → Rose (O.faults out.old) (O.faults out.new) }
 

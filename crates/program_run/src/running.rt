@@ -5,7 +5,7 @@ ghost use Rattle.command_words.specs.Commands.{asked, HasFewClauses};
 ghost use Rattle.run_steps.specs.Statuses.{IsUsageOf, OnUsage, OnWriting, OnDone, OnRefusal};
 ghost use Rattle.program_run.specs.Outcome.{MeetsOutcome, NoFault};
 ghost use Rattle.run_steps.specs.Causes.{AreFiles, WhereHeld, spelled};
-ghost use Rattle.program_run.specs.Answers.{files_in, Completes, DeliversAnswer};
+ghost use Rattle.program_run.specs.Answers.{files_in, Completes, DeliversAnswer, WritesText};
 ghost use Rattle.program_run.specs.Lines.{error_line, name_in, name_said, file_in, IsSaid};
 
 use crate::answers::answer_to;
@@ -58,6 +58,7 @@ fn answered<F: Files, O: Sink>(
         MeetsOutcome (spelled words.now) held result) }
     ensures answered { OnWriting result (DeliversAnswer (spelled words.now) (F.held files.old)
         result (O.bytes out.old) (O.bytes out.new)) }
+    ensures written { OnDone result (WritesText (O.bytes out.old) (O.bytes out.new)) }
     ensures refused { OnRefusal result (out.new ≡ out.old) }
 {
     match said {
@@ -102,6 +103,7 @@ pub fn run<F: Files, O: Sink, E: Sink>(
     // The headline.
     ensures answered { OnWriting result (DeliversAnswer (spelled words.now) (F.held files.old)
         result (O.bytes out.old) (O.bytes out.new)) }
+    ensures written { OnDone result (WritesText (O.bytes out.old) (O.bytes out.new)) }
     ensures refused { OnRefusal result (out.new ≡ out.old) }
 
     ensures line { IsSaid (E.bytes err.old) (E.bytes err.new) (E.faults err.old) (E.faults err.new)

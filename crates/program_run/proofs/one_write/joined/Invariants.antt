@@ -1,7 +1,7 @@
-use Rattle.std.proofs.Common.{◌≡◌, take}
-use Rattle.edge_io.specs.Sinks.{joined_bytes}
+use Rattle.std.proofs.Common.{◌≡◌, ◌≤◌, length}
+use Rattle.program_run.proofs.Pieces.{front_bytes}
 use Rattle.program_run.proofs.one_write.joined.Given as goal
 
--- the line has the pieces before this one
 abbrev pub invariant-loop-piece : goal.invariant-loop-piece
-invariant-loop-piece l = l.line.items ≡ joined_bytes (take l.piece-index l.pieces)
+invariant-loop-piece l =
+    (l.line.items ≡ front_bytes l.piece-index l.fn.pieces) × (length l.line.items ≤ 4096)
