@@ -19,7 +19,7 @@ use Rattle.quad_form.proofs.NodeEntries.{nodes_ordered, couplers_up, all_placed,
 use Rattle.quad_form.proofs.WrittenModels.{moved_relaxes}
 use Rattle.quad_form.proofs.ReducedForms.{counted_coprime}
 use Rattle.ising_form.specs.Isings.{IsingContent, IsIsing, entries_of, form_of}
-use Rattle.ising_form.specs.Outputs.{FitsOutput, is_on_chain, written_entries, written_of}
+use Rattle.ising_form.specs.Outputs.{FitsOutput, AreNodes, is_on_chain, written_nodes, written_entries, written_of}
 use Rattle.ising_form.specs.Reduction.{ising_unit, reduced, IsReducedAsWritten}
 use Rattle.ising_form.proofs.ChainedNodes.{AreUnchained, AllRec-filter, sorted-filter, chained_listed, chained_energy, all_from_chained, chained_total}
 use Rattle.ising_form.proofs.ReducedForms.{weights}
@@ -150,3 +150,18 @@ reduced_is_reduced f variables figures kind chains fits = record {
 pub made_is_reduced : (f g : IsingContent) (unit : ℤ) → g ≡ reduced f → unit ≡ ising_unit f
     → IsReducedAsWritten g unit
 made_is_reduced f g unit is same = rw (is, same) (reduced_is_reduced f)
+
+-- ---- parts of its entries
+
+pub nodes_and_couplings : (kind : Kind) (chains : List (List ℕ)) (f : IsingContent)
+    → written_nodes kind chains f.fields ++ f.couplings ≡ written_entries kind chains f
+nodes_and_couplings Qubo chains f = refl
+nodes_and_couplings Ising chains f = refl
+nodes_and_couplings (Chimera rows cols shore) chains f = refl
+
+pub are_nodes : (kind : Kind) (chains : List (List ℕ)) (variables : ℕ) (f : IsingContent)
+    → FitsOutput kind chains variables f → AreNodes kind chains (length f.fields)
+are_nodes Qubo chains variables f fits = tt
+are_nodes Ising chains variables f fits = tt
+are_nodes (Chimera rows cols shore) chains variables f fits =
+    subst (λ n. All (λ chain. All (λ q. q < n) chain) chains) (sym fits.sized) fits.placed

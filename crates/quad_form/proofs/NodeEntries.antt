@@ -7,7 +7,7 @@ use Rattle.std.specs.declared.cmp.Ordering.TheVariants.{Less}
 use Rattle.std.specs.Cmp.{nat_cmp_is}
 use Rattle.std.proofs.lemmas.Bool.{eq-eqb, lt-ltb, le-ltb, or_right}
 use Rattle.std.proofs.lemmas.List.{take_more, length-take}
-use Rattle.std.proofs.lemmas.List.Elements.{All-append, All-from_recursion, recursion_from_All}
+use Rattle.std.proofs.lemmas.List.Elements.{All-append, All-from_recursion, All-weaker, recursion_from_All}
 use Rattle.bits_model.specs.declared.output.Entry.{Entry}
 use Rattle.bits_model.specs.Output.{is_coupler, entry_cmp, has_node, IsPlaced}
 use Rattle.quad_form.specs.Quads.{node_entries, IsCoupler}
@@ -100,6 +100,10 @@ all_placed ws cs h =
 pub couplers_up : (n : ℕ) (cs : List Entry) → AllByRecursion (IsCoupler n) cs → AreCouplers cs
 couplers_up n [] h = tt
 couplers_up n (c ∷ cs) h = (h.0.upward, couplers_up n cs h.1)
+
+pub all_upward : (n : ℕ) (cs : List Entry) → All (IsCoupler n) cs → All (λ e. e.first < e.second) cs
+all_upward n cs h =
+    All-weaker (IsCoupler n) (λ e. e.first < e.second) (λ e coupler. coupler.upward) cs h
 
 -- ---- each node has one
 
