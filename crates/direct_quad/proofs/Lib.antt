@@ -19,10 +19,8 @@ pub mod GainedShares
 pub mod HeldSums
 pub mod KeptPlaces
 pub mod PairRows
-pub mod FlatTables
 pub mod RoomForSums
 pub mod HeldParts
-pub mod NoNewNodes
 pub mod Formed
 pub mod LongRuns
 pub mod HeldRuns

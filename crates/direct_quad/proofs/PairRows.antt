@@ -1,5 +1,5 @@
 -- Couplers in the order of their first nodes, row by row.
-use Rattle.std.proofs.Common.{◌≡◌, ◌≢◌, ℕ, suc, ◌+◌, ◌<◌, ◌≤◌, Bool, true, false, cond, eqb, arith, sym, ap, ◌∙◌, refl, subst, ◌*◌, ◌^◌, ◌++◌, append-nil, List, [], ◌∷◌, ℤ, map, length, get_or}
+use Rattle.std.proofs.Common.{◌≡◌, ◌≢◌, ℕ, suc, ◌+◌, ◌<◌, ◌≤◌, Bool, true, false, cond, eqb, arith, sym, ap, ◌∙◌, refl, subst, ◌^◌, ◌++◌, append-nil, List, [], ◌∷◌, ℤ, map, length, get_or}
 use Rattle.std.specs.Prelude.{All}
 use Rattle.std.specs.List.{AllByRecursion}
 use Rattle.std.specs.List.Sorted.{IsNonDecreasingBy}

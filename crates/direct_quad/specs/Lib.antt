@@ -9,3 +9,4 @@ pub mod FlatMonomials
 pub mod laws
 pub mod RowSums
 pub mod Held
+pub mod NewNodes

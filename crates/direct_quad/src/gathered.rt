@@ -3,11 +3,14 @@ ghost use Rattle.std.specs.Prelude.{◌≡◌, ◌+◌, ◌*◌, ◌≤◌, ◌<
 ghost use Rattle.problem_form.specs.Problems.{products_total};
 ghost use Rattle.term_table.specs.Terms.{IsTermSet};
 ghost use Rattle.term_table.specs.Tables.{TableContent, AreAdditions, with_appended};
+ghost use Rattle.long_terms.specs.Apart.{long_terms, table_of};
 ghost use Rattle.direct_quad.specs.Parts.{image, short_part};
 ghost use Rattle.direct_quad.specs.Held.{AreHeld, HasPlaces, nodes_with};
 ghost use Rattle.direct_quad.specs.Gathered.{AreSumsOf};
+ghost use Rattle.direct_quad.specs.NewNodes.{AreOfTerms};
 ghost use Rattle.direct_quad.specs.Stated.{IsWithin};
 
+use crate::new_nodes::{DirectForm, NewNodes};
 use crate::rows::couplers_of;
 use crate::shares::with_long;
 use crate::short::{add_short_shares, constant_of, push_short};
@@ -23,12 +26,14 @@ use std::alloc::Global;
 use std::marker::Model;
 use term_table::Gather;
 
-/// What a quadratic form is made of: its constant, the weights of its nodes, and its couplers.
+/// What a quadratic form is made of: its constant, the weights of its nodes, its couplers, and the
+/// long terms that its new nodes stand for.
 #[derive(Drop)]
-pub(crate) struct Sums {
-    pub(crate) constant: i128,
-    pub(crate) weights: Vec<i128>,
-    pub(crate) couplers: CouplerList,
+struct Sums {
+    constant: i128,
+    weights: Vec<i128>,
+    couplers: CouplerList,
+    long: LongTable,
 }
 
 /// Sets with coefficients, of which a quadratic form is to be made. Those of at most two literals
@@ -211,11 +216,13 @@ impl DirectTerms {
 
     /// The sums of what all additions give, with new nodes for long terms. Each list is let go as
     /// soon as it is used.
-    pub(crate) fn into_sums(self, alloc: Global) -> Result<Sums, NoMemory>
+    fn into_sums(self, alloc: Global) -> Result<Sums, NoMemory>
         requires narrow { nodes_with (length self.weights) self.long < 2 ^ 32 }
-        ensures { (t : TableContent) → AreAdditions t → AreHeld t self
+        ensures sums { (t : TableContent) → AreAdditions t → AreHeld t self
             → IfOk result (λ sums.
             AreSumsOf t sums.constant sums.weights.items sums.couplers) }
+        ensures long { (t : TableContent) → AreHeld t self
+            → IfOk result (λ sums. sums.long.terms ≡ long_terms t.terms) }
     {
         let DirectTerms {
             constant,
@@ -232,25 +239,32 @@ impl DirectTerms {
             constant: constant + more,
             weights,
             couplers,
+            long: table,
         })
     }
 
     /// The quadratic form of all additions: each set summed, longer ones replaced, and all
     /// multiplied out.
-    pub fn into_quad(self, alloc: Global) -> Result<Quad, NoMemory>
+    pub fn into_form(self, alloc: Global) -> Result<DirectForm, NoMemory>
         requires held { (t : TableContent) × IsWithin t × AreHeld t self }
-        ensures { (t : TableContent) → IsWithin t → AreHeld t self
-            → IfOk result (λ quad. quad ≡ image t) }
+        ensures quad { (t : TableContent) → IsWithin t → AreHeld t self
+            → IfOk result (λ form. form.quad ≡ image t) }
+        ensures new_nodes { (t : TableContent) → AreHeld t self
+            → IfOk result (λ form. AreOfTerms (table_of t) form.new_nodes) }
     {
         let Sums {
             constant,
             weights,
             couplers,
+            long,
         } = self.into_sums(alloc)?;
-        Ok(Quad {
-            constant,
-            diagonal: NumberList::new(weights),
-            couplers,
+        Ok(DirectForm {
+            quad: Quad {
+                constant,
+                diagonal: NumberList::new(weights),
+                couplers,
+            },
+            new_nodes: NewNodes::Terms(long),
         })
     }
 }

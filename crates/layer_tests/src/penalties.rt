@@ -6,7 +6,7 @@ ghost use Rattle.penalty_layer.specs.Penalty.{Admits};
 
 use crate::given::{A, B, C, D, NOT_A, NOT_B, NOT_C, are_terms, costs_of_two, problem_of};
 use base::{Cost, Figures, NoMemory};
-use direct_quad::DirectQuad;
+use direct_quad::{form_by_pairs, problem_terms};
 use form_steps::{Guard, Then};
 use literal_lists::Literal;
 use monomial_layer::Monomials;
@@ -146,6 +146,34 @@ fn an_assignment_is_its_own_state(rt: HostRuntime) {
     }
 }
 
+/// Whether the new nodes of the form that is made at once extend an assignment to this state.
+fn extends_at_once(
+    alloc: Global,
+    problem: &Problem,
+    x: &[bool],
+    y: &[bool],
+) -> Result<bool, NoMemory>
+    requires { Admits problem.now }
+{
+    let form = problem_terms(alloc, problem)?.into_form(alloc)?;
+    let state = form.new_nodes.extended(alloc, x.to_vec(alloc)?)?;
+    Ok(state.as_slice() == y)
+}
+
+/// The same, where pairs are replaced one after another.
+fn extends_by_pairs(
+    alloc: Global,
+    problem: &Problem,
+    x: &[bool],
+    y: &[bool],
+) -> Result<bool, NoMemory>
+    requires { Admits problem.now }
+{
+    let form = form_by_pairs(alloc, problem_terms(alloc, problem)?)?;
+    let state = form.new_nodes.extended(alloc, x.to_vec(alloc)?)?;
+    Ok(state.as_slice() == y)
+}
+
 /// Whether an assignment of three variables extends to this state, by two steps and at once.
 fn gets_bit(
     alloc: Global,
@@ -159,7 +187,7 @@ fn gets_bit(
         return Ok(false);
     }
     let in_a_row = extends_to(alloc, &steps(), problem, x, y)?;
-    Ok(in_a_row && extends_to(alloc, &DirectQuad, problem, x, y)?)
+    Ok(in_a_row && extends_at_once(alloc, problem, x, y)?)
 }
 
 fn gets_bit_of_three(alloc: Global, x: &[bool; 3], y: &[bool; 4]) -> Result<bool, NoMemory> {
@@ -207,5 +235,26 @@ fn decodes_to_first_bits(alloc: Global, y: &[bool; 4]) -> Result<bool, NoMemory>
 fn a_state_decodes_to_its_first_bits(rt: HostRuntime) {
     for y in [[true, false, true, false], [true, false, true, true]] {
         assert!(rt; decodes_to_first_bits(rt.alloc(), &y) == Ok(true), "{y:?}");
+    }
+}
+
+/// Whether an assignment of three variables gets this bit for its first two literals.
+fn gets_product(alloc: Global, x: &[bool; 3], y: &[bool; 4]) -> Result<bool, NoMemory> {
+    let problem = problem_of(alloc, 3, &WITH_THREE)?;
+    if !is_admitted(&problem) {
+        return Ok(false);
+    }
+    extends_by_pairs(alloc, &problem, x, y)
+}
+
+#[test]
+fn an_assignment_gets_the_product_of_a_pair(rt: HostRuntime) {
+    // The node stands for ~a ~b.
+    let rows = [
+        ([false, false, true], [false, false, true, true]),
+        ([true, false, false], [true, false, false, false]),
+    ];
+    for (x, y) in rows {
+        assert!(rt; gets_product(rt.alloc(), &x, &y) == Ok(true), "{x:?}");
     }
 }

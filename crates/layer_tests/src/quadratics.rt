@@ -6,7 +6,6 @@ ghost use Rattle.base.specs.Costs.{IsOf};
 use crate::given::{A, B, C, NOT_A, NOT_B, costs_of_two, table_of};
 use base::{Cost, Figures, NoMemory};
 use bits_model::{CouplerList, OutputModel};
-use direct_quad::FlatMonomials;
 use form_steps::{Layer, Then};
 use ising_form::ToSpins;
 use literal_lists::Literal;
@@ -277,7 +276,10 @@ fn comes_back(alloc: Global, x: &[bool; 3], y: &[bool; 4]) -> Result<bool, NoMem
 
 fn comes_back_from_spins(alloc: Global, x: &[bool; 3], y: &[bool; 4]) -> Result<bool, NoMemory> {
     let layers = Then {
-        first: FlatMonomials,
+        first: Then {
+            first: Monomials,
+            second: Flatten,
+        },
         second: ToSpins,
     };
     let source = table_of(alloc, 3, &OF_THREE)?;

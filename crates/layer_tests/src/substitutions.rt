@@ -10,7 +10,7 @@ use crate::given::{A, B, C, D, E, NOT_B, are_terms, state, table_of};
 use base::{Cost, Costed, NoMemory};
 use form_steps::{BitsLink, Layer, Lowered};
 use literal_lists::Literal;
-use rosenberg_layer::Rosenberg;
+use rosenberg_layer::{Rosenberg, pairs_of, wide_pairs};
 use std::alloc::Global;
 use std::test::Fail;
 use term_table::{LowTable, Table, is_set};
@@ -47,6 +47,55 @@ fn is_replaced_by(
     let source = table_of(alloc, width, terms)?;
     let made = Rosenberg.lower(alloc, &source)?;
     Ok(are_terms(made.target.terms(), rows))
+}
+
+/// Whether the pairs of a table are the same by codes and as they are defined, and so many.
+fn have_the_same_pairs(
+    alloc: Global,
+    table: &Table,
+    variables: usize,
+    bits: usize,
+    count: usize,
+) -> Result<bool, NoMemory>
+    requires source { variables ≡ table.now.content.width }
+    requires target { bits ≡ (image table.now.content).width }
+{
+    let turns = bits - variables;
+    let pairs = pairs_of(alloc, table, variables, turns)?;
+    let wide = wide_pairs(alloc, table, variables, turns)?;
+    Ok(wide.len() == count && pairs.as_slice() == wide.as_slice())
+}
+
+/// The same of a table of terms.
+fn are_the_same_pairs(
+    alloc: Global,
+    width: usize,
+    terms: &[(&[Literal], i128)],
+    count: usize,
+) -> Result<bool, NoMemory>
+    requires few { length terms.now < 100 }
+    requires narrow { width ≤ 6 }
+{
+    let source = table_of(alloc, width, terms)?;
+    let made = Rosenberg.lower(alloc, &source)?;
+    have_the_same_pairs(
+        alloc,
+        &source,
+        made.link.source_width,
+        made.link.target_width,
+        count,
+    )
+}
+
+#[test]
+fn pairs_are_found_in_both_ways(rt: HostRuntime) -> Result<(), Fail> {
+    let three: [(&[Literal], i128); 1] = [(&[A, B, C], 5)];
+    let shared: [(&[Literal], i128); 2] = [(&[A, NOT_B, C], 2), (&[A, NOT_B, D], -3)];
+    let long: [(&[Literal], i128); 2] = [(&[A, B, C, D, E], 1), (&[B, C, E], -2)];
+    assert!(rt; are_the_same_pairs(rt.alloc(), 3, &three, 1)?);
+    assert!(rt; are_the_same_pairs(rt.alloc(), 4, &shared, 1)?);
+    assert!(rt; are_the_same_pairs(rt.alloc(), 5, &long, 4)?);
+    Ok(())
 }
 
 #[test]

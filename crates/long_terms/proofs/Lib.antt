@@ -6,6 +6,5 @@ pub mod LongPlaces
 pub mod OccurrenceLists
 pub mod CountedBits
 pub mod Neighbours
-pub mod SummedBits
 pub mod KeptTerms
 pub mod NewBits

@@ -1,18 +1,12 @@
 -- The bits of new nodes: long terms alone have some.
 use Rattle.std.proofs.Common.{◌≡◌, Bool, true, false, not, leb, cond, int_lt, pos, refl}
 use Rattle.std.proofs.Common.{sym, ap, ◌∙◌, List, [], ◌∷◌, ◌++◌, length}
-use Rattle.std.proofs.Common.{map}
 use Rattle.std.specs.List.{filter, flat_map}
-use Rattle.problem_form.specs.declared.terms.Product.{Product}
 use Rattle.literal_lists.specs.Literals.{all_hold}
-use Rattle.problem_form.specs.Problems.{ProblemContent}
 use Rattle.term_table.specs.Terms.{Term, with_additions}
-use Rattle.penalty_layer.specs.Penalty.{contributions}
-use Rattle.penalty_layer.specs.Penalty as penalty
 use Rattle.monomial_layer.specs.Monomials.{first_values, is_taken, new_bits, nodes_for}
 use Rattle.monomial_layer.specs.Monomials.{true_literals}
-use Rattle.long_terms.specs.Apart.{is_long, long_additions}
-use Rattle.long_terms.specs.Long.{product_term}
+use Rattle.long_terms.specs.Apart.{is_long, long_terms}
 use Rattle.long_terms.proofs.Apart.{filter-with_additions}
 
 -- ---- long terms alone
@@ -34,13 +28,8 @@ bits-filter y (t ∷ ts) = go (leb (length t.0) 2) refl (bits-filter y ts)
         ap (λ b. cond b [] bits ++ flat_map (new_bits y) ts) e ∙ rest
     go false e rest = ap (λ bs. new_bits y t ++ bs) rest
 
--- the sums of a problem's long terms give the bits of all new nodes
-pub bits-long : (y : List Bool) (p : ProblemContent) (additions : List Product)
-    → map product_term additions ≡ long_additions (contributions p)
-    → flat_map (new_bits y) (with_additions [] (map product_term additions))
-    ≡ flat_map (new_bits y) (penalty.image p).terms
-bits-long y p additions kept =
-    let ts = contributions p in
-    let sums : List Term → List Bool = λ us. flat_map (new_bits y) (with_additions [] us) in
-    let longer = bits-filter y (with_additions [] ts) in
-    ap sums kept ∙ sym (longer ∙ ap (flat_map (new_bits y)) (filter-with_additions ts))
+-- the sums of long additions have the bits of all
+pub bits-long : (y : List Bool) (ts : List Term)
+    → flat_map (new_bits y) (long_terms ts) ≡ flat_map (new_bits y) (with_additions [] ts)
+bits-long y ts =
+    sym (bits-filter y (with_additions [] ts) ∙ ap (flat_map (new_bits y)) (filter-with_additions ts))

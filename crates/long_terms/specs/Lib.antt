@@ -2,5 +2,3 @@ pub mod Apart
 pub mod Places
 pub mod Long
 pub mod Occurrences
-pub mod CountedSets
-pub mod Kept

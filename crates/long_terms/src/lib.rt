@@ -4,15 +4,11 @@
 
 mod additions;
 mod bits;
-mod counted;
-mod kept;
 mod long_table;
 mod occurrences;
 mod sums;
 
 pub use additions::{Keyed, ordered_additions};
-pub use bits::push_new_bits;
-pub use kept::long_additions;
 pub use long_table::{LongTable, LongTerm, PlaceRef};
 pub use occurrences::Occurrences;
 pub use sums::next_sum;

@@ -1,6 +1,6 @@
 -- The state that the steps extend an assignment to has the least energy of those that decode to it.
 use Rattle.std.proofs.Common.{◌≡◌, pos, Bool, List, length, take, refl, sym, ap, ◌∙◌, subst, arith}
-use Rattle.std.specs.Prelude.{IfOk, Result, Ok, Err}
+use Rattle.std.specs.Prelude.{None, IfOk, Result, Ok, Err}
 use Rattle.std.proofs.lemmas.List.{take-take}
 use Rattle.form_steps.specs.declared.layer.BitsLink.{BitsLink}
 use Rattle.form_steps.specs.Links.{first_bits}
@@ -12,7 +12,8 @@ use Rattle.problem_form.specs.declared.limits.Normal.{Normal}
 use Rattle.problem_form.specs.declared.limits.Normal.TheVariants.{Literal, Multilinear}
 use Rattle.problem_form.specs.declared.limits.High.{High}
 use Rattle.problem_form.specs.declared.limits.High.TheVariants.{Monomial, Rosenberg}
-use Rattle.problem_form.specs.Problems.{ProblemContent, form_of}
+use Rattle.problem_form.specs.Problems.{ProblemContent, form_of, IsNormal}
+use Rattle.problem_form.specs.Limits.{limit_fault}
 use Rattle.term_table.specs.Tables.{TableContent, IsTable}
 use Rattle.penalty_layer.specs.Penalty.{figures, node_count, Admits}
 use Rattle.penalty_layer.specs.laws.Relaxing.{penalty_extends}
@@ -27,12 +28,11 @@ use Rattle.long_terms.proofs.Apart.{IsTable-table_of}
 use Rattle.long_terms.proofs.KeptTerms.{AreAdditions-of}
 use Rattle.direct_quad.specs.laws.Relaxing.{direct_extends, figures-still}
 use Rattle.model_pipeline.specs.Models.{low_terms_of, quad_by, terms_of}
-use Rattle.model_pipeline.specs.Extensions.{low_extension, extension_by, link_by, ExtendsLeastBy, IsLeastExtension}
+use Rattle.model_pipeline.specs.Extensions.{low_extension, extension_by, extension_of, link_by, ExtendsLeastBy, IsLeastExtension}
 use Rattle.model_pipeline.specs.Decoders.{LowFits}
 use Rattle.model_pipeline.proofs.PairForms.{flat_link, pair_link}
-use Rattle.model_pipeline.proofs.PlainForms.{plain_flat, plain_nodes, plain_pair}
+use Rattle.model_pipeline.proofs.PlainForms.{plain_flat, plain_fits, plain_link, plain_nodes, plain_pair}
 use Rattle.model_pipeline.proofs.Standing.{low_keeps, low_source, steps, terms_width}
-use Rattle.penalty_layer.proofs.Admitted.{image_size}
 use Rattle.term_table.specs.Tables as tables
 use Rattle.penalty_layer.specs.Penalty as penalty
 use Rattle.normal_form.specs.Multilinear as multilinear
@@ -157,13 +157,27 @@ least_by_plain_pairs choices p x y normal_is high_is admitted width same =
     least_by_pairs Multilinear choices p x y normal_is high_is width same (plain_nodes p admitted)
     (plain_pair p admitted) (plain_flat p admitted)
 
+-- by the steps that a command chooses, where the problem is within their limits
+pub least_by : (choices : Choices) (p : ProblemContent) (x y : List Bool) → IsNormal p
+    → limit_fault choices.normal p ≡ None → length x ≡ p.variables → y ≡ extension_of choices p x
+    → IsLeastExtension choices p x y
+least_by choices p x y normal within width same =
+    go choices.normal choices.high refl refl within same
+  where
+    go : (n : Normal) (h : High) → choices.normal ≡ n → choices.high ≡ h → limit_fault n p ≡ None
+        → y ≡ extension_by n h p x → IsLeastExtension choices p x y
+    go Literal Monomial is high within same =
+        least_at_once choices p x y is high (record { normal = normal; within = within }) width same
+    go Literal Rosenberg is high within same =
+        least_by_literal_pairs choices p x y is high (record { normal = normal; within = within }) width same
+    go Multilinear Monomial is high within same =
+        let admitted : multilinear.Admits p = record { normal = normal; within = within } in
+        least_by_monomials Multilinear choices p x y is high width same (plain_nodes p admitted)
+        (plain_link p, plain_fits p admitted)
+    go Multilinear Rosenberg is high within same =
+        least_by_plain_pairs choices p x y is high (record { normal = normal; within = within }) width same
+
 -- what is true of every value is true of a result's
 pub if_ok-always : {T E : Type 0} (r : Result T E) {P : T → Type 0} → ((y : T) → P y) → IfOk r P
 if_ok-always (Ok y) f = f y
 if_ok-always (Err e) f = tt
-
--- what follows of a result from three facts
-pub if_ok-by_three : {T E : Type 0} (r : Result T E) {P Q R S : T → Type 0} → IfOk r P → IfOk r Q
-    → IfOk r R → ((y : T) → P y → Q y → R y → S y) → IfOk r S
-if_ok-by_three (Ok y) p q r f = f y p q r
-if_ok-by_three (Err e) p q r f = tt

@@ -8,7 +8,6 @@ pub mod FewNodes
 pub mod Rooms
 pub mod WrittenStates
 pub mod WrittenExtensions
-pub mod FormNodes
 pub mod Decoders
 pub mod RowEnergies
 pub mod Sites

@@ -1,13 +1,16 @@
 -- The form of what a problem contributes, multiplied out as it comes, is that of its multilinear
 -- table.
-use Rattle.std.proofs.Common.{◌≡◌, ◌+◌, ◌*◌, ◌++◌, ◌≤◌, ◌^◌, List, [], length, All, refl, sym, ap, ◌∙◌, subst, arith}
+use Rattle.std.proofs.Common.{◌≡◌, ◌+◌, ◌++◌, ◌≤◌, ◌^◌, None, List, [], length, All, refl, sym, ap, ◌∙◌, subst, arith}
 use Rattle.std.proofs.lemmas.List.{append-nil}
 use Rattle.std.proofs.lemmas.List.Elements.{recursion_from_All}
 use Rattle.form_steps.specs.declared.layer.BitsLink.{BitsLink}
-use Rattle.problem_form.specs.declared.limits.Normal.TheVariants.{Multilinear}
+use Rattle.problem_form.specs.declared.limits.Normal.TheVariants.{Literal, Multilinear}
 use Rattle.problem_form.specs.declared.limits.High.TheVariants.{Monomial, Rosenberg}
-use Rattle.problem_form.specs.Problems.{ProblemContent}
-use Rattle.problem_form.specs.Limits.{upper}
+use Rattle.problem_form.specs.Problems.{ProblemContent, IsNormal}
+use Rattle.problem_form.specs.Limits.{upper, limit_fault}
+use Rattle.problem_form.specs.declared.limits.Choices.{Choices}
+use Rattle.problem_form.specs.declared.limits.Normal.{Normal}
+use Rattle.problem_form.specs.declared.limits.High.{High}
 use Rattle.term_table.specs.Terms.{Term, IsTermSet, terms_total, with_additions}
 use Rattle.term_table.specs.Tables.{TableContent, IsTable, table_size}
 use Rattle.term_table.specs.MultipliedOut.{contributions}
@@ -26,7 +29,7 @@ use Rattle.monomial_layer.proofs.Sizes.{all_nodes-le}
 use Rattle.quad_form.specs.Quads.{quad_size, quad_total}
 use Rattle.long_terms.specs.Apart.{table_of}
 use Rattle.direct_quad.specs.Direct.{additions_of}
-use Rattle.direct_quad.specs.Held.{HeldContent, AreHeld, HasPlaces}
+use Rattle.direct_quad.specs.Held.{HeldContent, HasPlaces}
 use Rattle.direct_quad.specs.FlatMonomials as flat_monomials
 use Rattle.direct_quad.specs.Stated.{IsWithin}
 use Rattle.long_terms.proofs.Apart.{IsTable-table_of}
@@ -37,9 +40,9 @@ use Rattle.direct_quad.proofs.RoomForSums.{places_at_first}
 use Rattle.direct_quad.proofs.Split.{nodes-table}
 use Rattle.direct_quad.specs.ByPairs.{FitsByPairs}
 use Rattle.model_pipeline.specs.Formed.{HasRoom, IsFormed}
-use Rattle.model_pipeline.specs.Models.{quad_by}
+use Rattle.model_pipeline.specs.Models.{quad_by, quad_of}
 use Rattle.model_pipeline.proofs.PairForms.{flat_link, pair_link, pair_size, pair_total}
-use Rattle.model_pipeline.proofs.Rooms.{pair_room}
+use Rattle.model_pipeline.proofs.Rooms.{direct_room, literal_room, monomial_room, pair_room}
 use Rattle.model_pipeline.proofs.Standing.{formed_by_steps}
 use Rattle.penalty_layer.specs.Penalty as penalty
 use Rattle.normal_form.specs.Multilinear as multilinear
@@ -110,13 +113,13 @@ room-plain p h admitted wide total =
 
 -- ---- the form stands for the problem
 
-abbrev plain_link : ProblemContent → BitsLink
+abbrev pub plain_link : ProblemContent → BitsLink
 plain_link p = record {
   source_width = (multilinear.image p).width;
   target_width = length (flat_monomials.image (multilinear.image p)).diagonal;
 }
 
-plain_fits : (p : ProblemContent) → Admits p → flat_monomials.Fits (plain_link p) (multilinear.image p)
+pub plain_fits : (p : ProblemContent) → Admits p → flat_monomials.Fits (plain_link p) (multilinear.image p)
 plain_fits p admitted =
     let t = plain_additions p in
     record {
@@ -216,9 +219,32 @@ formed-plain_pairs p admitted =
     (omega (arith, pair_total table kept, total-plain p admitted))
     (omega (arith, pair_size table kept, size_within p admitted.within))
 
--- the form has room for its Ising form
+-- ---- room for the Ising form
+
 pub plain_room : (p : ProblemContent) → Admits p
     → HasRoom (flat.image (rosenberg.image (multilinear.image p)))
 plain_room p admitted =
     pair_room (multilinear.image p) (IsTable-plain p admitted)
     (omega (arith, size_within p admitted.within)) (omega (arith, total-plain p admitted))
+
+-- ---- a problem within the limits of the steps
+
+-- the penalty method admits it
+pub admits_of : (normal : Normal) (p : ProblemContent) → IsNormal p → limit_fault normal p ≡ None
+    → penalty.Admits p
+admits_of Literal p normal within = record { normal = normal; within = within }
+admits_of Multilinear p normal within = penalty_admits p (record { normal = normal; within = within })
+
+-- and its form has room for the Ising form
+pub room_of : (choices : Choices) (p : ProblemContent) → IsNormal p → limit_fault choices.normal p ≡ None
+    → HasRoom (quad_of choices p)
+room_of choices p normal within = go choices.normal choices.high within
+  where
+    go : (n : Normal) (h : High) → limit_fault n p ≡ None → HasRoom (quad_by n h p)
+    go Literal Monomial within = direct_room p (record { normal = normal; within = within })
+    go Literal Rosenberg within = literal_room p (record { normal = normal; within = within })
+    go Multilinear Monomial within =
+        let admitted : Admits p = record { normal = normal; within = within } in
+        monomial_room (plain_link p) (multilinear.image p) (plain_fits p admitted)
+        (omega (arith, size_within p admitted.within)) (omega (arith, total-plain p admitted))
+    go Multilinear Rosenberg within = plain_room p (record { normal = normal; within = within })

@@ -1,5 +1,5 @@
 -- The quadratic forms of tables and problems have room for their Ising forms.
-use Rattle.std.proofs.Common.{◌≤◌, ◌<◌, ◌+◌, ◌*◌, ◌^◌, refl, arith}
+use Rattle.std.proofs.Common.{◌≤◌, ◌<◌, ◌+◌, ◌*◌, ◌^◌, arith}
 use Rattle.form_steps.specs.declared.layer.BitsLink.{BitsLink}
 use Rattle.problem_form.specs.Problems.{ProblemContent}
 use Rattle.term_table.specs.Terms.{terms_total}
@@ -22,7 +22,7 @@ use Rattle.long_terms.proofs.Apart.{IsTable-table_of}
 use Rattle.direct_quad.specs.laws.FlatKept.{fits_second}
 use Rattle.long_terms.proofs.KeptTerms.{AreAdditions-of}
 use Rattle.direct_quad.proofs.AtOnce.{image-quad}
-use Rattle.direct_quad.proofs.Guarded.{IsWithin-of, made_total}
+use Rattle.direct_quad.proofs.Guarded.{IsWithin-of, direct_total}
 use Rattle.model_pipeline.specs.Formed.{HasRoom}
 use Rattle.model_pipeline.proofs.PairForms.{flat_link, pair_total}
 
@@ -65,5 +65,5 @@ literal_room p admitted =
 pub direct_room : (p : ProblemContent) → Admits p → HasRoom (direct.image p)
 direct_room p admitted = record {
   quad = image-quad (direct.additions_of p) (IsWithin-of p admitted);
-  total = omega (arith, made_total p (direct.image p) admitted refl);
+  total = omega (arith, direct_total p admitted);
 }

@@ -1,6 +1,6 @@
 -- The model of a problem: what it promises of the problem.
 use Rattle.std.proofs.Common.{◌≡◌, ◌≤◌, ◌^◌, ◌*◌, ℕ, ◌+◌, ℤ, pos, ◌+ℤ◌, ◌*ℤ◌, length, take, refl, sym, ap, ◌∙◌, subst, arith}
-use Rattle.std.specs.Prelude.{None, unsigned_abs}
+use Rattle.std.specs.Prelude.{unsigned_abs}
 use Rattle.std.proofs.lemmas.Int.{ints}
 use Rattle.std.proofs.lemmas.List.{take-take}
 use Rattle.base.specs.declared.costs.Figures.{Figures}
@@ -15,7 +15,7 @@ use Rattle.problem_form.specs.declared.limits.Normal.TheVariants.{Literal, Multi
 use Rattle.problem_form.specs.declared.limits.High.{High}
 use Rattle.problem_form.specs.declared.limits.High.TheVariants.{Monomial, Rosenberg}
 use Rattle.problem_form.specs.Problems.{ProblemContent, form_of}
-use Rattle.problem_form.specs.Limits.{upper, limit_fault}
+use Rattle.problem_form.specs.Limits.{upper}
 use Rattle.command_words.specs.declared.commands.NodeModel.{NodeModel}
 use Rattle.command_words.specs.declared.commands.NodeModel.TheVariants.{Qubo, Ising}
 use Rattle.penalty_layer.specs.Penalty.{figures, node_count, Admits}
@@ -33,6 +33,7 @@ use Rattle.quad_form.specs.laws.Flattened.{length-image, flat_keeps}
 use Rattle.direct_quad.specs.Direct.{additions_of}
 use Rattle.long_terms.proofs.Apart.{IsTable-table_of}
 use Rattle.long_terms.proofs.KeptTerms.{AreAdditions-of}
+use Rattle.direct_quad.proofs.Guarded.{direct_total, direct_size}
 use Rattle.direct_quad.specs.laws.Relaxing.{direct_relaxes, figures-still}
 use Rattle.ising_form.specs.Spins.{coupled}
 use Rattle.ising_form.specs.laws.Spun.{length-fields, spins_keeps}
@@ -42,7 +43,6 @@ use Rattle.model_pipeline.specs.Formed.{IsFormed, Stands}
 use Rattle.model_pipeline.specs.Decoders.{LowFits}
 use Rattle.model_pipeline.proofs.PairForms.{flat_link, pair_link, pair_size, pair_total}
 use Rattle.model_pipeline.proofs.FormModels.{HasFigures, figures_within, qubo_stands, ising_stands}
-use Rattle.problem_form.specs.declared.limits.Normal.TheVariants as normals
 use Rattle.penalty_layer.specs.Penalty as penalty
 use Rattle.term_table.specs.Tables as tables
 use Rattle.monomial_layer.specs.Monomials as monomials
@@ -64,25 +64,28 @@ formed_as p q r n form figured made =
 literal_enough : (p : ProblemContent) → p.variables ≤ length (direct.image p).diagonal
 literal_enough p = omega (arith, length-image (monomials.image (penalty.image p)))
 
-pub formed_at_once : (p : ProblemContent) (a : BitsLink) → limit_fault normals.Literal p ≡ None
-    → direct.Fits a p → quad_total (direct.image p) + 1 ≤ 2 ^ 98
-    → quad_size (direct.image p) ≤ 2 ^ 29 → IsFormed p (direct.image p) (figures p)
-formed_at_once p a within fits total size = record {
-  figures = refl;
-  threshold = threshold_within p (upper p) within refl;
-  enough = literal_enough p;
-  total = omega (arith, total);
-  size = omega (arith, size);
-  total_low = total;
-  size_low = size;
-  stands = (
-    first_bits a,
+pub formed_at_once : (p : ProblemContent) → Admits p → IsFormed p (direct.image p) (figures p)
+formed_at_once p admitted =
+    let link : BitsLink =
+    record { source_width = p.variables; target_width = length (direct.image p).diagonal } in
+    let total = direct_total p admitted in
+    let size = direct_size p admitted in
     record {
-      relaxes = direct_relaxes a p fits;
-      decodes = λ y. ap (λ n. take n y) fits.source;
-    },
-  );
-}
+      figures = refl;
+      threshold = threshold_within p (upper p) admitted.within refl;
+      enough = literal_enough p;
+      total = omega (arith, total);
+      size = omega (arith, size);
+      total_low = omega (arith, total);
+      size_low = size;
+      stands = (
+        first_bits link,
+        record {
+          relaxes = direct_relaxes link p (record { source = refl; target = refl; admitted = admitted });
+          decodes = λ y. refl;
+        },
+      );
+    }
 
 -- ---- step by step
 

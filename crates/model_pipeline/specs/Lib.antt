@@ -7,3 +7,4 @@ pub mod GraphModels
 pub mod Sizes
 pub mod Extensions
 pub mod Decoders
+pub mod Kept

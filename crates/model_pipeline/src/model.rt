@@ -1,10 +1,12 @@
 //! The model of a problem.
-ghost use Rattle.std.specs.Prelude.{◌≡◌, ◌≤◌, None, IfOk};
+ghost use Rattle.std.specs.Prelude.{◌≡◌, ◌≤◌, None, IfOk, OnOk};
 ghost use Rattle.problem_form.specs.Limits.{limit_fault};
 ghost use Rattle.model_pipeline.specs.Models.{model, IsModelOf};
+ghost use Rattle.model_pipeline.specs.Kept.{Keeps};
 
 use crate::forms::formed;
 use crate::held::Held;
+use crate::kept::Keeping;
 use crate::written::form_model;
 use base::{NoMemory, UnitChoice};
 use bits_model::OutputModel;
@@ -20,14 +22,16 @@ pub fn model_of<P: Held>(
     choices: &Choices,
     target: NodeModel,
     unit: UnitChoice,
+    kept: &mut Keeping,
 ) -> Result<OutputModel, NoMemory>
     requires within { limit_fault choices.now.normal (P.problem problem) ≡ None }
     requires own { variables ≤ (P.problem problem).variables }
     ensures image { IfOk result (λ m.
         m ≡ model choices.now target unit variables (P.problem problem)) }
     ensures stands { IfOk result (λ m. IsModelOf (P.problem problem) variables target unit m) }
+    ensures kept { OnOk result (Keeps choices.now (P.problem problem) kept.old kept.new) }
 {
     let variables = variables as u32;
-    let made = formed(alloc, problem, choices)?;
+    let made = formed(alloc, problem, choices, kept)?;
     form_model(alloc, made.quad, variables, made.figures, target, unit)
 }

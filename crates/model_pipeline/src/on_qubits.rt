@@ -1,5 +1,5 @@
 //! The models of Ising forms and of problems on the qubits of a graph.
-ghost use Rattle.std.specs.Prelude.{◌≡◌, ◌+◌, ◌*◌, ◌<◌, ◌≤◌, ◌^◌, ◌≤ℤ◌, pos, length, unsigned_abs, None, IfOk, IfErr};
+ghost use Rattle.std.specs.Prelude.{◌≡◌, ◌+◌, ◌*◌, ◌<◌, ◌≤◌, ◌^◌, ◌≤ℤ◌, pos, length, unsigned_abs, None, IfOk, IfErr, OnOk};
 ghost use Rattle.problem_form.specs.Limits.{limit_fault};
 ghost use Rattle.ising_form.specs.Isings.{ising_size, ising_total};
 ghost use Rattle.chain_map.specs.Faults.{IfFault};
@@ -10,10 +10,12 @@ ghost use Rattle.model_pipeline.specs.Sites.{
 };
 ghost use Rattle.model_pipeline.specs.GraphModels.{ising_of, IsOnQubits, IsFormAt, StandsForForm};
 ghost use Rattle.model_pipeline.specs.Extensions.{IsMadeOf};
+ghost use Rattle.model_pipeline.specs.Kept.{Keeps};
 
 use crate::chained::embedded_model;
 use crate::embedding::embedded_on;
 use crate::held::Held;
+use crate::kept::Keeping;
 use crate::site::{Site, graph_in};
 use crate::spins::spun;
 use base::{Figures, UnitChoice};
@@ -61,6 +63,7 @@ pub fn model_on_qubits<P: Held>(
     choices: &Choices,
     unit: UnitChoice,
     site: &Site,
+    kept: &mut Keeping,
 ) -> Result<OutputModel, CheckAnswer>
     requires within { limit_fault choices.now.normal (P.problem problem) ≡ None }
     requires own { variables ≤ (P.problem problem).variables }
@@ -70,12 +73,13 @@ pub fn model_on_qubits<P: Held>(
         CanStandBy site.now (ising_of choices.now (P.problem problem))) }
     ensures made { IfOk result (IsMadeOf site.now.ties variables choices.now
         (P.problem problem)) }
+    ensures kept { OnOk result (Keeps choices.now (P.problem problem) kept.old kept.new) }
     ensures fault { IfErr result (λ e. IfFault e
         (IsFaultBy site.now (ising_of choices.now (P.problem problem)))) }
     ensures refused { IfErr result (λ e. IfFault e (λ _.
         CanStandBy site.now (ising_of choices.now (P.problem problem)) → ⊥)) }
 {
     let variables = variables as u32;
-    let made = spun(alloc, problem, choices)?;
+    let made = spun(alloc, problem, choices, kept)?;
     form_on_qubits(alloc, made.ising, variables, made.figures, unit, site)
 }

@@ -1,14 +1,16 @@
 //! The Ising form of a problem, by the steps that a command chooses.
-ghost use Rattle.std.specs.Prelude.{◌≡◌, ◌<◌, ◌≤◌, ◌+◌, ◌*◌, ◌^◌, ◌≤ℤ◌, pos, unsigned_abs, None, IfOk};
+ghost use Rattle.std.specs.Prelude.{◌≡◌, ◌<◌, ◌≤◌, ◌+◌, ◌*◌, ◌^◌, ◌≤ℤ◌, pos, unsigned_abs, None, IfOk, OnOk};
 ghost use Rattle.problem_form.specs.Limits.{limit_fault};
 ghost use Rattle.quad_form.specs.Quads.{IsQuad, quad_size, quad_total};
 ghost use Rattle.ising_form.specs.Spins.{image};
 ghost use Rattle.model_pipeline.specs.Models.{ising_figures};
 ghost use Rattle.model_pipeline.specs.Formed.{IsSpun};
 ghost use Rattle.model_pipeline.specs.GraphModels.{ising_of};
+ghost use Rattle.model_pipeline.specs.Kept.{Keeps};
 
 use crate::forms::formed;
 use crate::held::Held;
+use crate::kept::Keeping;
 use base::{Figures, NoMemory};
 use form_steps::Layer;
 use ising_form::{Ising, ToSpins};
@@ -47,11 +49,17 @@ fn spun_quad(alloc: Global, quad: Quad, figures: Figures) -> Result<FiguredIsing
 
 /// The Ising form of a problem within the limits. The problem is let go as soon as a form stands in
 /// its place.
-pub fn spun<P: Held>(alloc: Global, problem: P, choices: &Choices) -> Result<FiguredIsing, NoMemory>
+pub fn spun<P: Held>(
+    alloc: Global,
+    problem: P,
+    choices: &Choices,
+    kept: &mut Keeping,
+) -> Result<FiguredIsing, NoMemory>
     requires { limit_fault choices.now.normal (P.problem problem) ≡ None }
     ensures image { IfOk result (λ made. made.ising ≡ ising_of choices.now (P.problem problem)) }
     ensures stands { IfOk result (λ made. IsSpun (P.problem problem) made.ising made.figures) }
+    ensures kept { OnOk result (Keeps choices.now (P.problem problem) kept.old kept.new) }
 {
-    let made = formed(alloc, problem, choices)?;
+    let made = formed(alloc, problem, choices, kept)?;
     spun_quad(alloc, made.quad, made.figures)
 }

@@ -6,7 +6,7 @@ ghost use Rattle.posiform_check.specs.Certificates.{AreOfNodes};
 use base::UnitChoice;
 use bits_model::OutputModel;
 use command_words::NodeModel;
-use model_pipeline::model_of;
+use model_pipeline::{Keeping, model_of};
 use poly_reader::read_poly;
 use posiform_check::{
     Certificate, ProofAnswer, ProofFault, check_certificate, prove, read_certificate,
@@ -72,7 +72,9 @@ fn model_for(alloc: Global, text: &str, target: NodeModel) -> Option<OutputModel
     let problem = read_poly(alloc, text.as_bytes()).ok()?.problem;
     check_limits(&problem, &CHOICES).ok()?;
     let variables = problem.variables;
-    model_of(alloc, problem, variables, &CHOICES, target, UnitChoice::One).ok()
+    let one = UnitChoice::One;
+    let mut kept = Keeping::Unwanted;
+    model_of(alloc, problem, variables, &CHOICES, target, one, &mut kept).ok()
 }
 
 /// What is said of the model of a polynomial.

@@ -7,7 +7,7 @@ use bits_model::OutputModel;
 use chimera_graph::Chimera;
 use command_words::{NodeModel, Ties};
 use literal_lists::Literal;
-use model_pipeline::{Perch, Qubits, Site, model_of, model_on_qubits};
+use model_pipeline::{Keeping, Perch, Qubits, Site, model_of, model_on_qubits};
 use problem_form::{Choices, High, Normal, Problem, check_limits};
 use std::alloc::Global;
 
@@ -132,17 +132,19 @@ pub enum Target {
 pub fn model_for(alloc: Global, problem: &Problem, target: Target) -> Option<OutputModel> {
     check_limits(problem, &CHOICES).ok()?;
     let variables = problem.variables;
+    let one = UnitChoice::One;
+    let mut kept = Keeping::Unwanted;
     match target {
-        Target::Nodes(target) => {
-            model_of(alloc, problem, variables, &CHOICES, target, UnitChoice::One).ok()
-        }
+        Target::Nodes(target) => model_of(
+            alloc, problem, variables, &CHOICES, target, one, &mut kept,
+        ).ok(),
         Target::Chimera(rows, cols, shore) => {
             let site = Site {
                 qubits: Qubits::All(Chimera::new(rows, cols, shore)?),
                 perch: Perch::Clique,
                 ties: Ties::Choi,
             };
-            model_on_qubits(alloc, problem, variables, &CHOICES, UnitChoice::One, &site).ok()
+            model_on_qubits(alloc, problem, variables, &CHOICES, one, &site, &mut kept).ok()
         }
     }
 }

@@ -11,3 +11,4 @@ pub mod Asked
 pub mod Said
 pub mod SomeText
 pub mod Pieces
+pub mod KeptSteps

@@ -10,6 +10,8 @@ use Rattle.model_text.specs.Rows.{model_text}
 use Rattle.model_text.specs.Summary.{summary_text}
 use Rattle.answer_text.specs.Answers.{decoding_text, extension_text, proof_text, solution_text}
 use Rattle.basic_solve.specs.FirstLeast.{IsFirstLeast}
+use Rattle.model_pipeline.specs.declared.kept.Keeping.{Keeping}
+use Rattle.model_pipeline.specs.declared.kept.Keeping.TheVariants.{Unwanted, Wanted}
 use Rattle.model_pipeline.specs.Extensions.{extension_of, state_on, ExtendsTo, IsLeastTo, IsMadeOf}
 use Rattle.command_words.specs.declared.commands.Ties.TheVariants.{Choi}
 use Rattle.command_words.specs.declared.commands.Ask.{Ask}
@@ -81,6 +83,11 @@ IsTold Solve read choices m bits text = IsSolvedBy read m text
 IsTold (Decode at) read choices m bits text = text ≡ state_text read m bits
 IsTold (Extend at) read choices m bits text = IsExtendedBy choices read m bits text
 IsTold (Prove state certificate) read choices m bits text = text ≡ least_text read m bits
+
+-- the steps of the model's form are wanted where an assignment is to be extended
+abbrev pub keeping_for : Ask → Keeping
+keeping_for (Extend at) = Wanted
+keeping_for ask = Unwanted
 
 -- the text is what is asked of the plan's model, with the bits that are read last
 pub record IsMadeText (ask : Ask) (plan : Plan) (last : Written → Steps (List Bool))

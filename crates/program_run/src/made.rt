@@ -1,14 +1,15 @@
 //! The answer of a command from the plan of its model: the model alone, or a state of it.
-ghost use Rattle.std.specs.Prelude.{◌≡◌, ◌≢◌, [], None, Some, length, IfOk, IfErr};
+ghost use Rattle.std.specs.Prelude.{◌≡◌, ◌≢◌, [], None, Some, length, IfOk, IfErr, OnOk};
 ghost use Rattle.problem_form.specs.Limits.{limit_fault};
 ghost use Rattle.bits_model.specs.Output.{form_of};
 ghost use Rattle.basic_solve.specs.FirstLeast.{IsFirstLeast};
 ghost use Rattle.command_words.specs.Names.{last_files, state_of};
 ghost use Rattle.model_pipeline.specs.Extensions.{IsMade, IsMadeOf};
+ghost use Rattle.model_pipeline.specs.Kept.{Keeps};
 ghost use Rattle.source_texts.specs.Sources.{KeepsSoft};
 ghost use Rattle.run_steps.specs.Placements.{ties_of};
 ghost use Rattle.run_steps.specs.Steps.{ends, last_step, wide_below, width_end, asked_width};
-ghost use Rattle.program_run.specs.Made.{EndsOf, IsMadeText, IsModelled, IsSolvedBy, IsTold, IsMadeTextOf};
+ghost use Rattle.program_run.specs.Made.{EndsOf, IsMadeText, IsModelled, IsSolvedBy, IsTold, IsMadeTextOf, keeping_for};
 ghost use Rattle.program_run.specs.Unembedded.{IsUnembedded, unsolved};
 ghost use Rattle.run_steps.specs.Statuses.{ended, IsRefusal, IsUnsolved};
 ghost use Rattle.run_steps.specs.Causes.{AreFilesOf, WhereHeld, spelled, named_in};
@@ -22,8 +23,7 @@ use basic_solve::{SolveAnswer, solve};
 use bits_model::OutputModel;
 use command_words::{Ask, Command, WordAt};
 use edge_io::Files;
-use model_pipeline::energy_of;
-use problem_form::Choices;
+use model_pipeline::{Keeping, energy_of};
 use run_steps::{Plan, Status, take_last};
 use source_texts::{Read, cost_of};
 use std::alloc::Global;
@@ -49,16 +49,19 @@ pub fn model_given(alloc: Global, plan: Plan) -> Result<OutputModel, Status>
     } = read;
     drop(names);
     drop(soft);
-    model_on(alloc, problem, variables, &choices, unit, &base)
+    let mut kept = Keeping::Unwanted;
+    model_on(alloc, problem, variables, &choices, unit, &base, &mut kept)
 }
 
-/// The model of a plan, which stays.
-fn model_lent(alloc: Global, plan: &Plan) -> Result<OutputModel, Status>
+/// The model of a plan, which stays. The steps of its form are kept where they are wanted.
+fn model_lent(alloc: Global, plan: &Plan, kept: &mut Keeping) -> Result<OutputModel, Status>
     requires within { limit_fault plan.now.choices.normal plan.now.read.problem ≡ None }
     requires kept { KeepsSoft plan.now.read }
     ensures modelled { IfOk result (IsModelled plan.now) }
     ensures made { IfOk result (IsMadeOf (ties_of plan.now.base) plan.now.read.variables
         plan.now.choices plan.now.read.problem) }
+    ensures kept { OnOk result
+        (Keeps plan.now.choices plan.now.read.problem kept.old kept.new) }
     ensures refused { IfErr result (IsUnembedded plan.now) }
 {
     let read = &plan.read;
@@ -69,31 +72,46 @@ fn model_lent(alloc: Global, plan: &Plan) -> Result<OutputModel, Status>
         &plan.choices,
         plan.unit,
         &plan.base,
+        kept,
     )
+}
+
+/// Whether what asks for a state wants the steps of the form: to extend an assignment.
+fn keeping_for(ask: Ask) -> Keeping
+    ensures { result ≡ keeping_for ask }
+{
+    match ask {
+        Ask::Extend(_) => Keeping::Wanted,
+        _ => Keeping::Unwanted,
+    }
 }
 
 /// What is written for a state of a model, or for an assignment of its source.
 fn told(
     alloc: Global,
     ask: Ask,
-    read: &Read,
-    choices: &Choices,
+    plan: &Plan,
     model: &OutputModel,
+    kept: &Keeping,
     bits: &[bool],
 ) -> Result<Vec<u8>, NoMemory>
     requires asked { state_of ask ≡ None → ⊥ }
-    requires within { limit_fault choices.now.normal read.now.problem ≡ None }
-    requires kept { KeepsSoft read.now }
-    requires variables { model.now.variables ≡ read.now.variables }
-    requires made { IsMade choices.now read.now.problem model.now }
-    requires width { length bits.now ≡ asked_width ask read.now.variables model.now }
+    requires within { limit_fault plan.now.choices.normal plan.now.read.problem ≡ None }
+    requires soft { KeepsSoft plan.now.read }
+    requires variables { model.now.variables ≡ plan.now.read.variables }
+    requires made { IsMade plan.now.choices plan.now.read.problem model.now }
+    requires kept { Keeps plan.now.choices plan.now.read.problem (keeping_for ask) kept.now }
+    requires width { length bits.now ≡ asked_width ask plan.now.read.variables model.now }
     ensures { IfOk result (λ text.
-        IsTold ask read.now choices.now model.now bits.now text.items) }
+        IsTold ask plan.now.read plan.now.choices model.now bits.now text.items) }
 {
     match ask {
-        Ask::Decode(_) => decoded_text(alloc, read, model, bits),
-        Ask::Extend(_) => extended_text(alloc, read, choices, model, bits),
-        Ask::Prove(..) => proved_text(alloc, read, model, bits),
+        Ask::Decode(_) => decoded_text(alloc, &plan.read, model, bits),
+        Ask::Extend(_) => match kept {
+            Keeping::Kept(steps) => extended_text(alloc, &plan.read, steps, model, bits),
+            Keeping::Unwanted | Keeping::Wanted => unreachable!(),
+        },
+        Ask::Prove(..) => proved_text(alloc, &plan.read, model, bits),
         Ask::Model | Ask::Summary | Ask::Solve => unreachable!(),
     }
 }
@@ -137,7 +155,8 @@ pub fn answer_solved(alloc: Global, plan: &Plan) -> Result<Vec<u8>, Status>
     ensures some { IfOk result (λ text. text.items ≢ []) }
     ensures refusal { IfErr result IsUnsolved }
 {
-    let model = match model_lent(alloc, plan) {
+    let mut kept = Keeping::Unwanted;
+    let model = match model_lent(alloc, plan, &mut kept) {
         Ok(model) => model,
         Err(status) => return Err(status),
     };
@@ -174,7 +193,8 @@ pub fn answer_state<F: Files>(
     ensures some { IfOk result (λ text. text.items ≢ []) }
     ensures refusal { IfErr result IsRefusal }
 {
-    let model = match model_lent(alloc, plan) {
+    let mut kept = keeping_for(command.ask);
+    let model = match model_lent(alloc, plan, &mut kept) {
         Ok(model) => model,
         Err(status) => return Err(status),
     };
@@ -182,7 +202,7 @@ pub fn answer_state<F: Files>(
         Ok(bits) => bits,
         Err(status) => return Err(status),
     };
-    match told(alloc, command.ask, &plan.read, &plan.choices, &model, &bits) {
+    match told(alloc, command.ask, plan, &model, &kept, &bits) {
         Ok(text) => Ok(text),
         Err(_) => Err(Status::NoMemory),
     }

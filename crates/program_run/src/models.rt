@@ -1,8 +1,9 @@
 //! The model of a plan, from a problem that is given or lent.
-ghost use Rattle.std.specs.Prelude.{◌≡◌, ◌≤◌, None, IfOk, IfErr};
+ghost use Rattle.std.specs.Prelude.{◌≡◌, ◌≤◌, None, IfOk, IfErr, OnOk};
 ghost use Rattle.problem_form.specs.Limits.{limit_fault};
 ghost use Rattle.model_pipeline.specs.GraphModels.{ising_of};
 ghost use Rattle.model_pipeline.specs.Extensions.{IsMadeOf};
+ghost use Rattle.model_pipeline.specs.Kept.{Keeps};
 ghost use Rattle.run_steps.specs.Placements.{ties_of};
 ghost use Rattle.run_steps.specs.Plans.{CanStandOn, IsModelOn, StandsOn};
 ghost use Rattle.program_run.specs.Unembedded.{IsUnembeddedOn, unembedded};
@@ -10,7 +11,7 @@ ghost use Rattle.program_run.specs.Unembedded.{IsUnembeddedOn, unembedded};
 use base::UnitChoice;
 use bits_model::OutputModel;
 use chain_map::CheckAnswer;
-use model_pipeline::{Held, model_of, model_on_qubits};
+use model_pipeline::{Held, Keeping, model_of, model_on_qubits};
 use problem_form::Choices;
 use run_steps::{Placement, Status};
 use std::alloc::Global;
@@ -34,6 +35,7 @@ pub fn model_on<P: Held>(
     choices: &Choices,
     unit: UnitChoice,
     base: &Placement,
+    kept: &mut Keeping,
 ) -> Result<OutputModel, Status>
     requires within { limit_fault choices.now.normal (P.problem problem) ≡ None }
     requires own { variables ≤ (P.problem problem).variables }
@@ -45,18 +47,19 @@ pub fn model_on<P: Held>(
         (P.problem problem)) }
     ensures made { IfOk result (IsMadeOf (ties_of base.now) variables choices.now
         (P.problem problem)) }
+    ensures kept { OnOk result (Keeps choices.now (P.problem problem) kept.old kept.new) }
     ensures refused { IfErr result (IsUnembeddedOn base.now
         (ising_of choices.now (P.problem problem))) }
 {
     match base {
         Placement::Nodes(target) => {
-            match model_of(alloc, problem, variables, choices, *target, unit) {
+            match model_of(alloc, problem, variables, choices, *target, unit, kept) {
                 Ok(model) => Ok(model),
                 Err(_) => Err(Status::NoMemory),
             }
         }
         Placement::Qubits(site) => {
-            match model_on_qubits(alloc, problem, variables, choices, unit, site) {
+            match model_on_qubits(alloc, problem, variables, choices, unit, site, kept) {
                 Ok(model) => Ok(model),
                 Err(answer) => Err(unembedded(answer)),
             }

@@ -6,7 +6,7 @@ use crate::runs::CLASH;
 use base::{NoMemory, UnitChoice};
 use bits_model::OutputModel;
 use command_words::{Format, NodeModel};
-use model_pipeline::model_of;
+use model_pipeline::{Keeping, model_of};
 use problem_form::{Choices, High, Normal, check_limits};
 use qubo_file::qubo_text;
 use source_texts::read_source;
@@ -27,6 +27,7 @@ fn model_of_text(alloc: Global, text: &str) -> Option<OutputModel>
     let read = read_source(alloc, Format::Wcnf, text.as_bytes()).ok()?;
     check_limits(&read.problem, &CHOICES).ok()?;
     let one = UnitChoice::One;
+    let mut kept = Keeping::Unwanted;
     model_of(
         alloc,
         read.problem,
@@ -34,6 +35,7 @@ fn model_of_text(alloc: Global, text: &str) -> Option<OutputModel>
         &CHOICES,
         NodeModel::Qubo,
         one,
+        &mut kept,
     )
     .ok()
 }

@@ -1,4 +1,4 @@
-use Rattle.std.proofs.Common.{◌≡◌, ◌≤◌, ◌∙◌, [], length, map, arith, subst, sym, ap}
+use Rattle.std.proofs.Common.{◌≡◌, ◌∙◌, [], length, map, arith, subst, sym, ap}
 use Rattle.std.specs.List.{filter}
 use Rattle.term_table.specs.Terms.{with_additions}
 use Rattle.term_table.specs.Tables.{IsTable}

@@ -1,17 +1,15 @@
-use Rattle.std.proofs.Common.{rules, ◌≡◌, pos, ap, subst, sym, ◌∙◌, to_z, of_z}
-use Rattle.std.specs.Int.{w128}
-use Rattle.std.proofs.lemmas.Int.{to_z-of_z}
-use Rattle.base.specs.declared.costs.Figures.{Figures}
+use Rattle.std.proofs.Common.{ap, subst, sym, ◌∙◌}
 use Rattle.problem_form.specs.declared.limits.Normal.TheVariants.{Multilinear}
 use Rattle.problem_form.specs.declared.limits.High.TheVariants.{Rosenberg}
-use Rattle.problem_form.specs.Limits.{limit_fault, upper}
+use Rattle.problem_form.specs.Limits.{limit_fault}
 use Rattle.problem_form.specs.Problems.{ProblemContent, IsNormal}
 use Rattle.normal_form.specs.Multilinear.{Admits}
 use Rattle.rosenberg_layer.specs.Rosenberg as rosenberg
 use Rattle.quad_form.specs.Flat as flat
-use Rattle.model_pipeline.specs.Models.{quad_by}
+use Rattle.model_pipeline.specs.Extensions.{low_extension}
+use Rattle.model_pipeline.specs.Models.{quad_by, terms_of}
 use Rattle.model_pipeline.specs.Formed.{IsFormed}
-use Rattle.model_pipeline.proofs.PlainForms.{formed-plain_pairs, plain_additions, table_of-plain, FitsByPairs-plain}
+use Rattle.model_pipeline.proofs.PlainForms.{FitsByPairs-plain, formed-plain_pairs, plain_additions, table_of-plain}
 use Rattle.model_pipeline.proofs.Standing.{formed_as}
 use Rattle.model_pipeline.proofs.forms.multilinear_rosenberg.Goals as goal
 
@@ -21,8 +19,8 @@ multilinear_terms-requires g c = record {
   within = ap (limit_fault Multilinear) c.problem-source.ensures.same ∙ c.requires;
 }
 
-pub quad_by_pairs_of-requires : goal.quad_by_pairs_of-requires
-quad_by_pairs_of-requires g c =
+pub form_by_pairs-requires : goal.form_by_pairs-requires
+form_by_pairs-requires g c =
     let p = c.problem-source.result.now in
     let admitted : Admits p = record {
       normal = subst IsNormal (sym c.problem-source.ensures.same) c.problem-source.ensures.normal;
@@ -37,7 +35,7 @@ returns-clause-image g c =
       normal = subst IsNormal (sym c.problem-source.ensures.same) c.problem-source.ensures.normal;
       within = ap (limit_fault Multilinear) c.problem-source.ensures.same ∙ c.requires;
     } in
-    c.in_ok-quad_by_pairs_of.ensures (plain_additions p) (FitsByPairs-plain p admitted) c.in_ok-terms.ensures
+    c.in_ok-form.ensures.quad (plain_additions p) (FitsByPairs-plain p admitted) c.in_ok-terms.ensures
     ∙ ap (λ t. flat.image (rosenberg.image t)) (table_of-plain p admitted)
     ∙ ap (quad_by Multilinear Rosenberg) c.problem-source.ensures.same
 
@@ -49,11 +47,18 @@ returns-clause-stands g c =
       within = ap (limit_fault Multilinear) c.problem-source.ensures.same ∙ c.requires;
     } in
     let image =
-    c.in_ok-quad_by_pairs_of.ensures (plain_additions p) (FitsByPairs-plain p admitted) c.in_ok-terms.ensures
+    c.in_ok-form.ensures.quad (plain_additions p) (FitsByPairs-plain p admitted) c.in_ok-terms.ensures
     ∙ ap (λ t. flat.image (rosenberg.image t)) (table_of-plain p admitted) in
-    let z = to_z w128 (of_z w128 c.upper.result) in
-    let threshold : z ≡ upper p = to_z-of_z w128 c.upper.result (search rules) ∙ c.upper.ensures in
-    let figures : Figures = record { scale = pos 1; offset = pos 0; threshold = z } in
-    subst (λ (r : ProblemContent). IsFormed r c.in_ok-quad_by_pairs_of.field-0 figures) c.problem-source.ensures.same
-    (formed_as p _ (quad_by Multilinear Rosenberg p) figures image
-    (λ i. record { scale = pos 1; offset = pos 0; threshold = threshold i }) (formed-plain_pairs p admitted))
+    subst (λ (r : ProblemContent). IsFormed r c.in_ok-form.form.quad c.problem_figures-figures.result) c.problem-source.ensures.same
+    (formed_as p _ (quad_by Multilinear Rosenberg p) _ image c.problem_figures-figures.ensures (formed-plain_pairs p admitted))
+
+pub returns-clause-new_nodes : goal.returns-clause-new_nodes
+returns-clause-new_nodes g c x =
+    let p = c.problem-source.result.now in
+    let admitted : Admits p = record {
+      normal = subst IsNormal (sym c.problem-source.ensures.same) c.problem-source.ensures.normal;
+      within = ap (limit_fault Multilinear) c.problem-source.ensures.same ∙ c.requires;
+    } in
+    c.in_ok-form.ensures.new_nodes (plain_additions p) (FitsByPairs-plain p admitted) c.in_ok-terms.ensures x
+    ∙ ap (λ t. low_extension Rosenberg t x) (table_of-plain p admitted)
+    ∙ ap (λ q. low_extension Rosenberg (terms_of Multilinear q) x) c.problem-source.ensures.same

@@ -2,19 +2,13 @@ use Rattle.std.proofs.Common.{ap, sym, subst, ◌∙◌}
 use Rattle.std.proofs.lemmas.Result.{IfOk-weaker}
 use Rattle.problem_form.specs.Problems as problems
 use Rattle.model_pipeline.specs.Extensions.{ExtendsTo, IsLeastTo, state_on}
-use Rattle.model_pipeline.proofs.FormNodes.{made_nodes}
 use Rattle.model_pipeline.proofs.WrittenExtensions.{made_extends, made_fits, made_least}
 use Rattle.model_pipeline.proofs.states.extended_state.Goals as goal
-
-pub extended-requires-clause-nodes : goal.extended-requires-clause-nodes
-extended-requires-clause-nodes c =
-    c.form_nodes.ensures
-    ∙ made_nodes c.args.choices.now c.args.problem.now c.args.model.now c.requires.made
 
 pub state_of-requires : goal.state_of-requires
 state_of-requires c =
     let extended = c.in_ok-x.ensures in
-    made_fits c.args.choices.now c.args.problem.now extended.room c.args.model.now c.args.x.now _
+    made_fits c.args.steps.now.choices c.args.problem.now extended.room c.args.model.now c.args.x.now _
     c.requires.made
     extended.least
 
@@ -32,7 +26,7 @@ returns-clause-extends c =
     let x = c.args.x.now in
     IfOk-weaker c.state_of.result _ _
     (λ y same. subst (ExtendsTo p.variables (problems.form_of p) m x) (sym same)
-    (made_extends c.args.choices.now p extended.room m x _ c.requires.made extended.least))
+    (made_extends c.args.steps.now.choices p extended.room m x _ c.requires.made extended.least))
     c.state_of.ensures
 
 pub returns-clause-least : goal.returns-clause-least
@@ -43,5 +37,5 @@ returns-clause-least c =
     let x = c.args.x.now in
     IfOk-weaker c.state_of.result _ _
     (λ y same own made. subst (IsLeastTo p.variables m x) (sym same)
-    (made_least c.args.choices.now p extended.room m x _ own made extended.least))
+    (made_least c.args.steps.now.choices p extended.room m x _ own made extended.least))
     c.state_of.ensures

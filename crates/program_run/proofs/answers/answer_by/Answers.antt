@@ -1,6 +1,7 @@
-use Rattle.std.proofs.Common.{map, string_bytes}
+use Rattle.std.proofs.Common.{map, string_bytes, sym, ◌∙◌}
 use Rattle.command_words.specs.Names.{name_of, last_files}
 use Rattle.program_run.proofs.Solving.{unsolved_untold}
+use Rattle.program_run.proofs.SomeText.{model_some, summary_some}
 use Rattle.program_run.proofs.answers.answer_by.Goals as goal
 
 pub returns-in-Ok-answer_solved-clause-step : goal.returns-in-Ok-answer_solved-clause-step
@@ -20,3 +21,10 @@ returns-in-Solve-clause-refusal g c =
     (last_files c.args.command) c.in-Err-answer_solved.status (g.F.Files.counts c.args.files.now)
     c.in-Err-answer_solved.ensures.refusal in
     untold.refusal
+
+pub returns-in-Ok-clause-some : goal.returns-in-Ok-clause-some
+returns-in-Ok-clause-some g c = model_some c.in-Ok.model
+
+pub returns-in-Ok-written_summary-clause-some : goal.returns-in-Ok-written_summary-clause-some
+returns-in-Ok-written_summary-clause-some g c none =
+    summary_some c.in-Ok-model_given.model (sym c.in-Ok-written_summary.ensures ∙ none)

@@ -1,7 +1,9 @@
 use Rattle.std.proofs.Common.{[], Err, Some, ap}
+use Rattle.command_words.specs.declared.commands.Ask.TheVariants.{Solve}
 use Rattle.run_steps.specs.Steps.{ends, wide_below, width_end}
 use Rattle.program_run.proofs.Endings.{last_gives}
 use Rattle.program_run.proofs.Solving.{narrow_ends, unsolved_ends, unsolved_is}
+use Rattle.program_run.proofs.SomeText.{told_some}
 use Rattle.program_run.proofs.made.answer_solved.Goals as goal
 
 pub returns-in-Err-solve-clause-step : goal.returns-in-Err-solve-clause-step
@@ -28,3 +30,8 @@ returns-in-Ok-solved_text-clause-answer c =
       read = ap Some (narrow_ends m c.in-Ok-solve.ensures.narrow);
       told = c.in-Ok-solved_text.ensures;
     }
+
+pub returns-in-Ok-solved_text-clause-some : goal.returns-in-Ok-solved_text-clause-some
+returns-in-Ok-solved_text-clause-some c =
+    told_some Solve c.args.plan.now.read c.args.plan.now.choices c.in-Ok.model [] _
+    c.in-Ok-solved_text.ensures

@@ -47,8 +47,8 @@ overflow_add-result c =
     omega (arith, ap (λ (u : TableContent). unsigned_abs (total_by long_constant u.terms)) made, constants-fit h c.self.invariant narrow) in
     search (rules, fits, c.in_ok-weights.ensures.constant, c.self.invariant.constant, c.self.invariant.total)
 
-pub returns : goal.returns
-returns c t additions held =
+pub returns-clause-sums : goal.returns-clause-sums
+returns-clause-sums c t additions held =
     let h : HeldContent = record { total = c.self.inside.total; constant = c.self.inside.constant; weights = c.self.inside.weights.items; pairs = c.self.inside.pairs; long = c.self.inside.long } in
     let size : c.len.result ≡ length h.weights = search rules in
     let made : c.in_ok-table.table ≡ table_of (terms_of (length h.weights) h.long) =
@@ -69,3 +69,11 @@ couplers_of-requires-clause-pairs c =
     let size : c.len.result ≡ length h.weights = search rules in
     let width : c.in_ok-table.table.width ≡ length h.weights = ap (λ (u : TableContent). u.width) c.in_ok-table.ensures ∙ size in
     subst (λ n. All (IsPair n) h.pairs) (sym width) c.self.invariant.pairs
+
+pub returns-clause-long : goal.returns-clause-long
+returns-clause-long c t held =
+    let h : HeldContent = record { total = c.self.inside.total; constant = c.self.inside.constant; weights = c.self.inside.weights.items; pairs = c.self.inside.pairs; long = c.self.inside.long } in
+    let size : c.len.result ≡ length h.weights = search rules in
+    let made : c.in_ok-table.table ≡ table_of (terms_of (length h.weights) h.long) =
+    c.in_ok-table.ensures ∙ ap (λ n. table_of (terms_of n h.long)) size in
+    ap (λ (u : TableContent). u.terms) (made ∙ same_table t h (subst (AreHeld t) (sym c.self.view_is) held))
