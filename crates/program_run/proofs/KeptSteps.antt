@@ -7,7 +7,7 @@ use Rattle.command_words.specs.declared.commands.Ask.TheVariants.{Extend}
 use Rattle.command_words.specs.declared.commands.WordAt.{WordAt}
 use Rattle.model_pipeline.specs.declared.kept.FormSteps.{FormSteps}
 use Rattle.model_pipeline.specs.declared.kept.Keeping.{Keeping}
-use Rattle.model_pipeline.specs.declared.kept.Keeping.TheVariants.{Unwanted, Wanted, Kept}
+use Rattle.model_pipeline.specs.declared.kept.Keeping.TheVariants.{Kept}
 use Rattle.model_pipeline.specs.Kept.{AreSteps, HasSteps, Keeps}
 use Rattle.program_run.specs.Made.{keeping_for}
 
@@ -18,10 +18,3 @@ module _ (choices : Choices) (p : ProblemContent) (ask : Ask) (at : WordAt) (kep
 
   pub steps_kept : (steps : FormSteps) → kept ≡ Kept steps → AreSteps choices p steps
   steps_kept steps there = subst (HasSteps choices p) there has_steps
-
-  -- and is not empty
-  pub steps_wanted : kept ≡ Wanted → ⊥
-  steps_wanted there = subst (HasSteps choices p) there has_steps
-
-  pub steps_unwanted : kept ≡ Unwanted → ⊥
-  steps_unwanted there = subst (HasSteps choices p) there has_steps

@@ -1,11 +1,13 @@
 -- No answer is empty.
-use Rattle.std.proofs.Common.{◌≡◌, ◌≢◌, ℕ, Bool, List, [], ◌∷◌, ◌++◌, length, length-append, sym, ap, ◌∙◌, arith}
+use Rattle.std.proofs.Common.{◌≡◌, ◌≢◌, ℕ, Bool, List, [], ◌∷◌, ◌++◌, length, length-append, map, ℤ, pos, Option, sym, ap, ◌∙◌, arith}
+use Rattle.std.specs.Prelude.{codes, count_by}
 use Rattle.std.specs.List.{join_with_byte}
-use Rattle.base.specs.Costs.{energy}
-use Rattle.bits_model.specs.Output.{Written, form_of, decoding_of}
+use Rattle.base.specs.declared.costs.Cost.{Cost}
+use Rattle.bits_model.specs.Output.{Written, is_node, is_coupler}
 use Rattle.problem_form.specs.declared.limits.Choices.{Choices}
-use Rattle.model_text.specs.Rows.{Row, rows_text, model_text}
-use Rattle.model_text.specs.Summary.{summary_text}
+use Rattle.model_text.specs.Rows.{Row, rows_text, figure_row, graph_rows, header_row, entry_row, model_text}
+use Rattle.model_text.specs.Summary.{summary_row, summary_text}
+use Rattle.answer_text.specs.Answers.{assignment_row, cost_row, decoding_text, energy_row, extension_text, name_rows, optimum_rows, proof_text, solution_text, state_row}
 use Rattle.command_words.specs.declared.commands.Ask.{Ask}
 use Rattle.command_words.specs.declared.commands.Ask.TheVariants.{Model, Summary, Solve, Decode, Extend, Prove}
 use Rattle.source_texts.specs.declared.reading.Read.{Read}
@@ -27,18 +29,49 @@ same_some text other same some none = some (sym same ∙ none)
 
 pub model_some : (m : Written) → model_text m ≢ []
 unfolding model_text
-model_some m none = some_rows _ _ none
+model_some m none =
+    some_rows (figure_row (codes "scale") m.figures.scale)
+    (figure_row (codes "offset") m.figures.offset
+    ∷ figure_row (codes "threshold") m.figures.threshold
+    ∷ figure_row (codes "unit") m.unit
+    ∷ figure_row (codes "variables") (pos m.variables)
+    ∷ (graph_rows m.kind m.chains ++ header_row m.kind m.nodes m.entries ∷ map entry_row m.entries))
+    none
 
 pub summary_some : (m : Written) → summary_text m ≢ []
 unfolding summary_text
-summary_some m none = some_rows _ _ none
+summary_some m none =
+    some_rows (summary_row (codes "nodes") (pos (count_by is_node m.entries)))
+    (summary_row (codes "couplers") (pos (count_by is_coupler m.entries))
+    ∷ summary_row (codes "scale") m.figures.scale
+    ∷ summary_row (codes "offset") m.figures.offset
+    ∷ summary_row (codes "threshold") m.figures.threshold
+    ∷ summary_row (codes "unit") m.unit ∷ [])
+    none
+
+decoding_some : (x : List Bool) (names : Option (List (List ℕ))) (cost : Cost) (energy : ℤ)
+    → decoding_text x names cost energy ≢ []
+decoding_some x names cost energy =
+    some_rows (assignment_row x) (name_rows names x ++ (cost_row cost ∷ energy_row energy ∷ []))
+
+extension_some : (y : List Bool) (cost : Cost) (energy : ℤ) → extension_text y cost energy ≢ []
+extension_some y cost energy = some_rows (state_row y) (cost_row cost ∷ energy_row energy ∷ [])
+
+solution_some : (y : List Bool) (energy : ℤ) (x : List Bool) (names : Option (List (List ℕ)))
+    (cost : Cost) → solution_text y energy x names cost ≢ []
+solution_some y energy x names cost =
+    some_rows (state_row y) (energy_row energy ∷ optimum_rows x names cost)
+
+proof_some : (energy : ℤ) (x : List Bool) (names : Option (List (List ℕ))) (cost : Cost)
+    → proof_text energy x names cost ≢ []
+proof_some energy x names cost = some_rows (energy_row energy) (optimum_rows x names cost)
 
 -- what is asked of a model is told in some rows
 pub told_some : (ask : Ask) (read : Read) (choices : Choices) (m : Written) (bits : List Bool)
     (text : List ℕ) → IsTold ask read choices m bits text → text ≢ []
 told_some Model read choices m bits text is = same_some text _ is (model_some m)
 told_some Summary read choices m bits text is = same_some text _ is (summary_some m)
-told_some Solve read choices m bits text is = same_some text _ is.said (some_rows _ _)
-told_some (Decode at) read choices m bits text is = same_some text _ is (some_rows _ _)
-told_some (Extend at) read choices m bits text is = same_some text _ is.said (some_rows _ _)
-told_some (Prove state certificate) read choices m bits text is = same_some text _ is (some_rows _ _)
+told_some Solve read choices m bits text is = same_some text _ is.said (solution_some _ _ _ _ _)
+told_some (Decode at) read choices m bits text is = same_some text _ is (decoding_some _ _ _ _)
+told_some (Extend at) read choices m bits text is = same_some text _ is.said (extension_some _ _ _)
+told_some (Prove state certificate) read choices m bits text is = same_some text _ is (proof_some _ _ _ _)

@@ -28,4 +28,4 @@ returns-in-Ok-told-clause-step g c = λ held may.
 pub returns-in-Ok-told-clause-some : goal.returns-in-Ok-told-clause-some
 returns-in-Ok-told-clause-some g c =
     told_some c.args.command.ask c.args.plan.now.read c.args.plan.now.choices c.in-Ok.model
-    c.in-Ok-take_last.bits.items _ c.in-Ok-told.ensures
+    c.deref.result.now _ c.in-Ok-told.ensures
