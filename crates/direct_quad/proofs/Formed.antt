@@ -23,7 +23,7 @@ use Rattle.direct_quad.specs.Parts.{all_nodes}
 use Rattle.long_terms.specs.Apart.{long_additions, table_of}
 use Rattle.direct_quad.specs.Parts as direct
 use Rattle.long_terms.proofs.Apart.{IsTable-table_of}
-use Rattle.direct_quad.specs.laws.FlatKept.{table_of-table}
+use Rattle.direct_quad.proofs.TableAdditions.{table_of-table}
 use Rattle.direct_quad.specs.ByPairs.{image}
 
 -- ---- short terms are not replaced

@@ -30,7 +30,7 @@ use Rattle.direct_quad.specs.Held.{HeldContent, AreHeld, HasPlaces}
 use Rattle.long_terms.specs.Long.{product_term, terms_of}
 use Rattle.direct_quad.specs.Stated.{IsWithin}
 use Rattle.long_terms.proofs.Apart.{IsTable-table_of}
-use Rattle.direct_quad.specs.laws.FlatKept.{table_of-table}
+use Rattle.direct_quad.proofs.TableAdditions.{table_of-table}
 use Rattle.long_terms.proofs.SortedAdditions.{long_of}
 use Rattle.direct_quad.proofs.Split.{nodes-table}
 use Rattle.rosenberg_layer.specs.Added.{moved_of}

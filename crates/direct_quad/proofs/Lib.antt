@@ -25,3 +25,4 @@ pub mod Formed
 pub mod LongRuns
 pub mod HeldRuns
 pub mod ProblemTerms
+pub mod TableAdditions

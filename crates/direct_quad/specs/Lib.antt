@@ -5,7 +5,6 @@ pub mod Rows
 pub mod Stated
 pub mod Direct
 pub mod ByPairs
-pub mod FlatMonomials
 pub mod laws
 pub mod RowSums
 pub mod Held

@@ -17,30 +17,20 @@ use Rattle.problem_form.specs.Limits.{limit_fault}
 use Rattle.term_table.specs.Tables.{TableContent, IsTable}
 use Rattle.penalty_layer.specs.Penalty.{figures, node_count, Admits}
 use Rattle.penalty_layer.specs.laws.Relaxing.{penalty_extends}
-use Rattle.penalty_layer.proofs.Sums.{image-total}
 use Rattle.normal_form.specs.laws.Relaxing.{multilinear_extends}
 use Rattle.monomial_layer.specs.laws.Kept.{mono_reaches}
 use Rattle.rosenberg_layer.specs.laws.Kept.{rosen_reaches}
 use Rattle.quad_form.specs.laws.Flattened.{flat_keeps, flat_reaches}
-use Rattle.direct_quad.specs.Direct.{additions_of}
-use Rattle.direct_quad.specs.laws.FlatKept.{first, second, fits_first, fits_second}
-use Rattle.long_terms.proofs.Apart.{IsTable-table_of}
-use Rattle.long_terms.proofs.KeptTerms.{AreAdditions-of}
-use Rattle.direct_quad.specs.laws.Relaxing.{direct_extends, figures-still}
 use Rattle.model_pipeline.specs.Models.{low_terms_of, quad_by, terms_of}
-use Rattle.model_pipeline.specs.Extensions.{low_extension, extension_by, extension_of, link_by, ExtendsLeastBy, IsLeastExtension}
+use Rattle.model_pipeline.specs.Extensions.{low_extension, extension_by, extension_of, ExtendsLeastBy, IsLeastExtension}
 use Rattle.model_pipeline.specs.Decoders.{LowFits}
-use Rattle.model_pipeline.proofs.PairForms.{flat_link, pair_link}
-use Rattle.model_pipeline.proofs.PlainForms.{plain_flat, plain_fits, plain_link, plain_nodes, plain_pair}
-use Rattle.model_pipeline.proofs.Standing.{low_keeps, low_source, steps, terms_width}
+use Rattle.model_pipeline.proofs.PlainForms.{plain_flat, plain_monomial, plain_monomial_flat, plain_nodes, plain_pair}
+use Rattle.model_pipeline.proofs.Standing.{figures-still, literal_flat, literal_monomial, literal_monomial_flat, literal_nodes, literal_pair, low_keeps, low_source, steps, terms_width}
 use Rattle.term_table.specs.Tables as tables
 use Rattle.penalty_layer.specs.Penalty as penalty
 use Rattle.normal_form.specs.Multilinear as multilinear
-use Rattle.rosenberg_layer.specs.Rosenberg as rosenberg
 use Rattle.quad_form.specs.Quads as quads
 use Rattle.quad_form.specs.Flat as flat
-use Rattle.direct_quad.specs.Direct as direct
-use Rattle.direct_quad.specs.FlatMonomials as flat_monomials
 
 -- slack bits extend an assignment with the least cost
 terms_extend : (normal : Normal) (a : BitsLink) (p : ProblemContent) (x : List Bool)
@@ -104,59 +94,6 @@ module _ (normal : Normal) (high : High) (p : ProblemContent) where
       (subst (λ h. ExtendsLeastBy normal h p x y) (sym high_is)
       (subst (ExtendsLeastBy normal high p x) (sym same) least))
 
--- each term replaced by itself
-pub least_by_monomials : (normal : Normal) (choices : Choices) (p : ProblemContent) (x y : List Bool)
-    → choices.normal ≡ normal → choices.high ≡ Monomial → length x ≡ p.variables
-    → y ≡ extension_by normal Monomial p x → (a : BitsLink) × penalty.Fits a p
-    → (b : BitsLink) × flat_monomials.Fits b (terms_of normal p) → IsLeastExtension choices p x y
-least_by_monomials normal choices p x y normal_is high_is width same (a, fits_a) (b, fits_b) =
-    let t = terms_of normal p in
-    least_by_steps normal Monomial p choices a (first b t) (second b t) x y normal_is high_is fits_a
-    (fits_first b t fits_b) (fits_second b t fits_b) width same
-
--- the same over literals, without a table
-pub least_at_once : (choices : Choices) (p : ProblemContent) (x y : List Bool)
-    → choices.normal ≡ Literal → choices.high ≡ Monomial → penalty.Admits p
-    → length x ≡ p.variables → y ≡ direct.extension p x → IsLeastExtension choices p x y
-least_at_once choices p x y normal_is high_is admitted width same =
-    let link = link_by Literal Monomial p in
-    let fits : direct.Fits link p = record { source = refl; target = refl; admitted = admitted } in
-    let least = direct_extends link p x fits width in
-    subst (λ n. ExtendsLeastBy n choices.high p x y) (sym normal_is)
-    (subst (λ h. ExtendsLeastBy Literal h p x y) (sym high_is)
-    (subst (ExtendsLeastBy Literal Monomial p x) (sym same) least))
-
--- pairs replaced one after another
-pub least_by_pairs : (normal : Normal) (choices : Choices) (p : ProblemContent) (x y : List Bool)
-    → choices.normal ≡ normal → choices.high ≡ Rosenberg → length x ≡ p.variables
-    → y ≡ extension_by normal Rosenberg p x → (a : BitsLink) × penalty.Fits a p
-    → (b : BitsLink) × rosenberg.Fits b (terms_of normal p)
-    → (c : BitsLink) × flat.Fits c (rosenberg.image (terms_of normal p))
-    → IsLeastExtension choices p x y
-least_by_pairs normal choices p x y normal_is high_is width same (a, fits_a) (b, fits_b) (c, fits_c) =
-    least_by_steps normal Rosenberg p choices a b c x y normal_is high_is fits_a fits_b fits_c width same
-
--- .. over literals, where no link is made
-pub least_by_literal_pairs : (choices : Choices) (p : ProblemContent) (x y : List Bool)
-    → choices.normal ≡ Literal → choices.high ≡ Rosenberg → Admits p → length x ≡ p.variables
-    → y ≡ extension_by Literal Rosenberg p x → IsLeastExtension choices p x y
-least_by_literal_pairs choices p x y normal_is high_is admitted width same =
-    let t = penalty.image p in
-    let kept : IsTable t = IsTable-table_of (additions_of p) (AreAdditions-of p admitted) in
-    let link : BitsLink = record { source_width = p.variables; target_width = node_count p } in
-    let fits : penalty.Fits link p = record { source = refl; target = refl; normal = admitted.normal } in
-    least_by_pairs Literal choices p x y normal_is high_is width same (link, fits) (pair_link t kept)
-    (flat_link t kept (omega (arith, image-total p admitted.within)))
-
--- .. and over variables alone
-pub least_by_plain_pairs : (choices : Choices) (p : ProblemContent) (x y : List Bool)
-    → choices.normal ≡ Multilinear → choices.high ≡ Rosenberg → multilinear.Admits p
-    → length x ≡ p.variables → y ≡ extension_by Multilinear Rosenberg p x
-    → IsLeastExtension choices p x y
-least_by_plain_pairs choices p x y normal_is high_is admitted width same =
-    least_by_pairs Multilinear choices p x y normal_is high_is width same (plain_nodes p admitted)
-    (plain_pair p admitted) (plain_flat p admitted)
-
 -- by the steps that a command chooses, where the problem is within their limits
 pub least_by : (choices : Choices) (p : ProblemContent) (x y : List Bool) → IsNormal p
     → limit_fault choices.normal p ≡ None → length x ≡ p.variables → y ≡ extension_of choices p x
@@ -164,18 +101,30 @@ pub least_by : (choices : Choices) (p : ProblemContent) (x y : List Bool) → Is
 least_by choices p x y normal within width same =
     go choices.normal choices.high refl refl within same
   where
+    by_links : (n : Normal) (h : High) → choices.normal ≡ n → choices.high ≡ h → y ≡ extension_by n h p x
+        → (a : BitsLink) × penalty.Fits a p → (b : BitsLink) × LowFits h b (terms_of n p)
+        → (c : BitsLink) × flat.Fits c (low_terms_of h (terms_of n p)) → IsLeastExtension choices p x y
+    by_links n h is high same (a, fits_a) (b, fits_b) (c, fits_c) =
+        least_by_steps n h p choices a b c x y is high fits_a fits_b fits_c width same
+
     go : (n : Normal) (h : High) → choices.normal ≡ n → choices.high ≡ h → limit_fault n p ≡ None
         → y ≡ extension_by n h p x → IsLeastExtension choices p x y
     go Literal Monomial is high within same =
-        least_at_once choices p x y is high (record { normal = normal; within = within }) width same
+        let admitted : Admits p = record { normal = normal; within = within } in
+        by_links Literal Monomial is high same (literal_nodes p admitted) (literal_monomial p admitted)
+        (literal_monomial_flat p admitted)
     go Literal Rosenberg is high within same =
-        least_by_literal_pairs choices p x y is high (record { normal = normal; within = within }) width same
+        let admitted : Admits p = record { normal = normal; within = within } in
+        by_links Literal Rosenberg is high same (literal_nodes p admitted) (literal_pair p admitted)
+        (literal_flat p admitted)
     go Multilinear Monomial is high within same =
         let admitted : multilinear.Admits p = record { normal = normal; within = within } in
-        least_by_monomials Multilinear choices p x y is high width same (plain_nodes p admitted)
-        (plain_link p, plain_fits p admitted)
+        by_links Multilinear Monomial is high same (plain_nodes p admitted) (plain_monomial p admitted)
+        (plain_monomial_flat p admitted)
     go Multilinear Rosenberg is high within same =
-        least_by_plain_pairs choices p x y is high (record { normal = normal; within = within }) width same
+        let admitted : multilinear.Admits p = record { normal = normal; within = within } in
+        by_links Multilinear Rosenberg is high same (plain_nodes p admitted) (plain_pair p admitted)
+        (plain_flat p admitted)
 
 -- what is true of every value is true of a result's
 pub if_ok-always : {T E : Type 0} (r : Result T E) {P : T → Type 0} → ((y : T) → P y) → IfOk r P

@@ -1,4 +1,5 @@
--- The quadratic form of a table whose pairs are replaced: its links, and how far it grows.
+-- The links of the steps from a table to its quadratic form, and how far one grows whose pairs are
+-- replaced.
 use Rattle.std.proofs.Common.{◌≤◌, ◌+◌, ◌*◌, ◌^◌, refl, arith}
 use Rattle.form_steps.specs.declared.layer.BitsLink.{BitsLink}
 use Rattle.term_table.specs.Terms.{terms_total}
@@ -8,6 +9,8 @@ use Rattle.rosenberg_layer.proofs.Ends.{IsLow-image}
 use Rattle.rosenberg_layer.proofs.Growth.{total-image, size-image}
 use Rattle.quad_form.specs.Quads.{quad_size, quad_total}
 use Rattle.quad_form.proofs.FlatForms.{quad_total-image, quad_size-image}
+use Rattle.monomial_layer.specs.Monomials as monomials
+use Rattle.monomial_layer.proofs.Sets as sets
 use Rattle.rosenberg_layer.specs.Rosenberg as rosenberg
 use Rattle.quad_form.specs.Flat as flat
 
@@ -18,7 +21,22 @@ low_is_table t is small = record {
   small = omega (arith, total-image t is.terms, small);
 }
 
--- the links of the two steps
+-- ---- links of the steps, which need not be made
+
+pub monomial_link : (t : TableContent) → IsTable t → (link : BitsLink) × monomials.Fits link t
+monomial_link t is = (
+  record { source_width = t.width; target_width = (monomials.image t).width },
+  record { source = refl; target = refl; table = is },
+)
+
+pub monomial_flat : (t : TableContent) → IsTable (monomials.image t)
+    → (link : BitsLink) × flat.Fits link (monomials.image t)
+monomial_flat t is =
+    let u = monomials.image t in (
+      record { source_width = u.width; target_width = u.width },
+      record { source = refl; target = refl; table = is; low = sets.IsLow-image t },
+    )
+
 pub pair_link : (t : TableContent) → IsTable t → (link : BitsLink) × rosenberg.Fits link t
 pair_link t is = (
   record { source_width = t.width; target_width = (rosenberg.image t).width },

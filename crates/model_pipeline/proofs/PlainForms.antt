@@ -29,11 +29,10 @@ use Rattle.monomial_layer.proofs.Sizes.{all_nodes-le}
 use Rattle.quad_form.specs.Quads.{quad_size, quad_total}
 use Rattle.long_terms.specs.Apart.{table_of}
 use Rattle.direct_quad.specs.Direct.{additions_of}
+use Rattle.direct_quad.specs.laws.Between.{IsTable-low_of}
 use Rattle.direct_quad.specs.Held.{HeldContent, HasPlaces}
-use Rattle.direct_quad.specs.FlatMonomials as flat_monomials
 use Rattle.direct_quad.specs.Stated.{IsWithin}
 use Rattle.long_terms.proofs.Apart.{IsTable-table_of}
-use Rattle.direct_quad.specs.laws.FlatKept.{first, second, fits_first, fits_second}
 use Rattle.direct_quad.proofs.MultipliedOut.{sum_for-with_additions}
 use Rattle.direct_quad.proofs.AtOnce.{size-grows, total-grows}
 use Rattle.direct_quad.proofs.RoomForSums.{places_at_first}
@@ -41,7 +40,7 @@ use Rattle.direct_quad.proofs.Split.{nodes-table}
 use Rattle.direct_quad.specs.ByPairs.{FitsByPairs}
 use Rattle.model_pipeline.specs.Formed.{HasRoom, IsFormed}
 use Rattle.model_pipeline.specs.Models.{quad_by, quad_of}
-use Rattle.model_pipeline.proofs.PairForms.{flat_link, pair_link, pair_size, pair_total}
+use Rattle.model_pipeline.proofs.PairForms.{flat_link, monomial_flat, monomial_link, pair_link, pair_size, pair_total}
 use Rattle.model_pipeline.proofs.Rooms.{direct_room, literal_room, monomial_room, pair_room}
 use Rattle.model_pipeline.proofs.Standing.{formed_by_steps}
 use Rattle.penalty_layer.specs.Penalty as penalty
@@ -50,7 +49,6 @@ use Rattle.monomial_layer.specs.Monomials as monomials
 use Rattle.rosenberg_layer.specs.Rosenberg as rosenberg
 use Rattle.quad_form.specs.Flat as flat
 use Rattle.direct_quad.specs.Parts as parts
-use Rattle.direct_quad.specs.FlatMonomials as flat_monomials
 
 -- what a problem adds, multiplied out
 abbrev pub plain_additions : ProblemContent → TableContent
@@ -113,39 +111,51 @@ room-plain p h admitted wide total =
 
 -- ---- the form stands for the problem
 
-abbrev pub plain_link : ProblemContent → BitsLink
-plain_link p = record {
-  source_width = (multilinear.image p).width;
-  target_width = length (flat_monomials.image (multilinear.image p)).diagonal;
-}
+pub IsTable-plain : (p : ProblemContent) → Admits p → IsTable (multilinear.image p)
+IsTable-plain p admitted =
+    subst IsTable (table_of-plain p admitted)
+    (IsTable-table_of (plain_additions p) (AreAdditions-multiplied_out p admitted))
 
-pub plain_fits : (p : ProblemContent) → Admits p → flat_monomials.Fits (plain_link p) (multilinear.image p)
-plain_fits p admitted =
-    let t = plain_additions p in
-    record {
-      source = refl;
-      target = refl;
-      table = subst IsTable (table_of-plain p admitted) (IsTable-table_of t (AreAdditions-multiplied_out p admitted));
-      small =
-          omega (
-            arith,
-            total-multiplied p admitted,
-            terms_total-with_additions t.terms,
-            ap (λ (u : TableContent). terms_total u.terms) (table_of-plain p admitted),
-          );
-    }
+pub total-plain : (p : ProblemContent) → Admits p
+    → terms_total (multilinear.image p).terms + 1 ≤ 2 ^ 72
+total-plain p admitted =
+    omega (
+      arith,
+      total-multiplied p admitted,
+      terms_total-with_additions (plain_additions p).terms,
+      ap (λ (u : TableContent). terms_total u.terms) (table_of-plain p admitted),
+    )
+
+-- the slack bits' own link
+pub plain_nodes : (p : ProblemContent) → Admits p → (link : BitsLink) × penalty.Fits link p
+plain_nodes p admitted = (
+  record { source_width = p.variables; target_width = penalty.node_count p },
+  record { source = refl; target = refl; normal = admitted.normal },
+)
+
+-- the links of the steps, each term replaced by itself
+pub plain_monomial : (p : ProblemContent) → Admits p
+    → (link : BitsLink) × monomials.Fits link (multilinear.image p)
+plain_monomial p admitted = monomial_link (multilinear.image p) (IsTable-plain p admitted)
+
+IsTable-plain_low : (p : ProblemContent) → Admits p → IsTable (monomials.image (multilinear.image p))
+IsTable-plain_low p admitted =
+    subst (λ u. IsTable (monomials.image u)) (table_of-plain p admitted)
+    (IsTable-low_of (plain_additions p) (AreAdditions-multiplied_out p admitted)
+    (omega (arith, total-multiplied p admitted)))
+
+pub plain_monomial_flat : (p : ProblemContent) → Admits p
+    → (link : BitsLink) × flat.Fits link (monomials.image (multilinear.image p))
+plain_monomial_flat p admitted = monomial_flat (multilinear.image p) (IsTable-plain_low p admitted)
 
 pub formed-plain : (p : ProblemContent) → Admits p → IsFormed p (quad_by Multilinear Monomial p) (penalty.figures p)
 formed-plain p admitted =
     let t = plain_additions p in
-    let link = plain_link p in
-    let table = multilinear.image p in
-    let fits = plain_fits p admitted in
-    let nodes : BitsLink = record { source_width = p.variables; target_width = penalty.node_count p } in
-    let standing : penalty.Fits nodes p = record { source = refl; target = refl; normal = admitted.normal } in
-    formed_by_steps Multilinear Monomial p nodes (first link table) (second link table)
-    (threshold_within p (upper p) (penalty_admits p admitted).within refl) standing (fits_first link table fits)
-    (fits_second link table fits)
+    let nodes = plain_nodes p admitted in
+    let low = plain_monomial p admitted in
+    let quad = plain_monomial_flat p admitted in
+    formed_by_steps Multilinear Monomial p nodes.0 low.0 quad.0
+    (threshold_within p (upper p) (penalty_admits p admitted).within refl) nodes.1 low.1 quad.1
     (omega (
       arith,
       total-multiplied p admitted,
@@ -174,21 +184,6 @@ FitsByPairs-plain p admitted = record {
       );
 }
 
-pub IsTable-plain : (p : ProblemContent) → Admits p → IsTable (multilinear.image p)
-IsTable-plain p admitted =
-    subst IsTable (table_of-plain p admitted)
-    (IsTable-table_of (plain_additions p) (AreAdditions-multiplied_out p admitted))
-
-pub total-plain : (p : ProblemContent) → Admits p
-    → terms_total (multilinear.image p).terms + 1 ≤ 2 ^ 72
-total-plain p admitted =
-    omega (
-      arith,
-      total-multiplied p admitted,
-      terms_total-with_additions (plain_additions p).terms,
-      ap (λ (u : TableContent). terms_total u.terms) (table_of-plain p admitted),
-    )
-
 -- the links of the two steps
 pub plain_pair : (p : ProblemContent) → Admits p
     → (link : BitsLink) × rosenberg.Fits link (multilinear.image p)
@@ -198,13 +193,6 @@ pub plain_flat : (p : ProblemContent) → Admits p
     → (link : BitsLink) × flat.Fits link (rosenberg.image (multilinear.image p))
 plain_flat p admitted =
     flat_link (multilinear.image p) (IsTable-plain p admitted) (omega (arith, total-plain p admitted))
-
--- the slack bits' own link
-pub plain_nodes : (p : ProblemContent) → Admits p → (link : BitsLink) × penalty.Fits link p
-plain_nodes p admitted = (
-  record { source_width = p.variables; target_width = penalty.node_count p },
-  record { source = refl; target = refl; normal = admitted.normal },
-)
 
 pub formed-plain_pairs : (p : ProblemContent) → Admits p
     → IsFormed p (quad_by Multilinear Rosenberg p) (penalty.figures p)
@@ -245,6 +233,6 @@ room_of choices p normal within = go choices.normal choices.high within
     go Literal Rosenberg within = literal_room p (record { normal = normal; within = within })
     go Multilinear Monomial within =
         let admitted : Admits p = record { normal = normal; within = within } in
-        monomial_room (plain_link p) (multilinear.image p) (plain_fits p admitted)
+        monomial_room (multilinear.image p) (IsTable-plain_low p admitted) (IsTable-plain p admitted)
         (omega (arith, size_within p admitted.within)) (omega (arith, total-plain p admitted))
     go Multilinear Rosenberg within = plain_room p (record { normal = normal; within = within })

@@ -1,6 +1,5 @@
 -- The quadratic forms of tables and problems have room for their Ising forms.
 use Rattle.std.proofs.Common.{◌≤◌, ◌<◌, ◌+◌, ◌*◌, ◌^◌, arith}
-use Rattle.form_steps.specs.declared.layer.BitsLink.{BitsLink}
 use Rattle.problem_form.specs.Problems.{ProblemContent}
 use Rattle.term_table.specs.Terms.{terms_total}
 use Rattle.term_table.specs.Tables.{TableContent, IsTable, table_size}
@@ -17,9 +16,7 @@ use Rattle.quad_form.specs.Flat as flat
 use Rattle.quad_form.proofs.FlatForms.{quad_total-image}
 use Rattle.quad_form.proofs.UniqueForms.{IsQuad-image}
 use Rattle.direct_quad.specs.Direct as direct
-use Rattle.direct_quad.specs.FlatMonomials as flat_monomials
 use Rattle.long_terms.proofs.Apart.{IsTable-table_of}
-use Rattle.direct_quad.specs.laws.FlatKept.{fits_second}
 use Rattle.long_terms.proofs.KeptTerms.{AreAdditions-of}
 use Rattle.direct_quad.proofs.AtOnce.{image-quad}
 use Rattle.direct_quad.proofs.Guarded.{IsWithin-of, direct_total}
@@ -27,16 +24,15 @@ use Rattle.model_pipeline.specs.Formed.{HasRoom}
 use Rattle.model_pipeline.proofs.PairForms.{flat_link, pair_total}
 
 -- where each term is replaced by itself
-pub monomial_room : (link : BitsLink) (t : TableContent) → flat_monomials.Fits link t
+pub monomial_room : (t : TableContent) → IsTable (monomials.image t) → IsTable t
     → table_size t * 2 ^ 2 ≤ 2 ^ 32 → (terms_total t.terms + 1) * 2 ^ 28 ≤ 2 ^ 124
-    → HasRoom (flat_monomials.image t)
-monomial_room link t fits size total =
+    → HasRoom (flat.image (monomials.image t))
+monomial_room t is table size total =
     let low = monomials.image t in
-    let growth = total-image_terms t fits.table in
+    let growth = total-image_terms t table in
     let width : low.width < 2 ^ 32 = omega (arith, size, all_nodes-le t.terms) in
     record {
-      quad = IsQuad-image low (fits_second link t fits).table (IsLow-image t) width
-          (omega (arith, growth, total));
+      quad = IsQuad-image low is (IsLow-image t) width (omega (arith, growth, total));
       total = omega (arith, quad_total-image low (IsLow-image t), growth, total);
     }
 

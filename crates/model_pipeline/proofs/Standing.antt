@@ -32,23 +32,23 @@ use Rattle.quad_form.specs.Flat.{same_bits}
 use Rattle.quad_form.specs.laws.Flattened.{length-image, flat_keeps}
 use Rattle.direct_quad.specs.Direct.{additions_of}
 use Rattle.long_terms.proofs.Apart.{IsTable-table_of}
-use Rattle.long_terms.proofs.KeptTerms.{AreAdditions-of}
+use Rattle.long_terms.proofs.KeptTerms.{AreAdditions-of, total-additions}
 use Rattle.direct_quad.proofs.Guarded.{direct_total, direct_size}
-use Rattle.direct_quad.specs.laws.Relaxing.{direct_relaxes, figures-still}
+use Rattle.direct_quad.specs.laws.Between.{IsTable-low_of}
 use Rattle.ising_form.specs.Spins.{coupled}
 use Rattle.ising_form.specs.laws.Spun.{length-fields, spins_keeps}
 use Rattle.ising_form.proofs.Images.{image_is_ising, total-image}
 use Rattle.model_pipeline.specs.Models.{IsModelOf, form_model, ising_figures, low_terms_of, quad_by, terms_of}
 use Rattle.model_pipeline.specs.Formed.{IsFormed, Stands}
 use Rattle.model_pipeline.specs.Decoders.{LowFits}
-use Rattle.model_pipeline.proofs.PairForms.{flat_link, pair_link, pair_size, pair_total}
+use Rattle.model_pipeline.proofs.PairForms.{flat_link, monomial_flat, monomial_link, pair_link, pair_size, pair_total}
 use Rattle.model_pipeline.proofs.FormModels.{HasFigures, figures_within, qubo_stands, ising_stands}
 use Rattle.penalty_layer.specs.Penalty as penalty
 use Rattle.term_table.specs.Tables as tables
 use Rattle.monomial_layer.specs.Monomials as monomials
+use Rattle.rosenberg_layer.specs.Rosenberg as rosenberg
 use Rattle.quad_form.specs.Quads as quads
 use Rattle.quad_form.specs.Flat as flat
-use Rattle.direct_quad.specs.Direct as direct
 use Rattle.ising_form.specs.Isings as isings
 use Rattle.ising_form.specs.Spins as spins
 
@@ -59,33 +59,13 @@ formed_as p q r n form figured made =
     subst (λ m. IsFormed p q m) (sym figured)
     (subst (λ f. IsFormed p f (figures p)) (sym form) made)
 
--- ---- over literals, each term replaced by itself, at once
-
-literal_enough : (p : ProblemContent) → p.variables ≤ length (direct.image p).diagonal
-literal_enough p = omega (arith, length-image (monomials.image (penalty.image p)))
-
-pub formed_at_once : (p : ProblemContent) → Admits p → IsFormed p (direct.image p) (figures p)
-formed_at_once p admitted =
-    let link : BitsLink =
-    record { source_width = p.variables; target_width = length (direct.image p).diagonal } in
-    let total = direct_total p admitted in
-    let size = direct_size p admitted in
-    record {
-      figures = refl;
-      threshold = threshold_within p (upper p) admitted.within refl;
-      enough = literal_enough p;
-      total = omega (arith, total);
-      size = omega (arith, size);
-      total_low = omega (arith, total);
-      size_low = size;
-      stands = (
-        first_bits link,
-        record {
-          relaxes = direct_relaxes link p (record { source = refl; target = refl; admitted = admitted });
-          decodes = λ y. refl;
-        },
-      );
-    }
+-- a step that neither scales nor moves keeps the figures
+pub figures-still : (n : Figures) → figures_after n (pos 1) (pos 0) ≡ n
+figures-still n i =
+    let scale : n.scale *ℤ pos 1 ≡ n.scale = omega (arith, ints) in
+    let offset : pos 1 *ℤ n.offset +ℤ pos 0 ≡ n.offset = omega (arith, ints) in
+    let threshold : pos 1 *ℤ n.threshold +ℤ pos 0 ≡ n.threshold = omega (arith, ints) in
+    record { scale = scale i; offset = offset i; threshold = threshold i }
 
 -- ---- step by step
 
@@ -155,23 +135,51 @@ module _ (normal : Normal) (high : High) (p : ProblemContent) where
         );
       }
 
--- ---- over literals, pairs replaced one after another, at once
+-- ---- over literals
 
--- the links of the steps need not be made
-pub formed_by_pairs : (p : ProblemContent) → Admits p
-    → IsFormed p (quad_by Literal Rosenberg p) (figures p)
-formed_by_pairs p admitted =
-    let t = penalty.image p in
-    let none = admitted.within in
-    let kept : IsTable t = IsTable-table_of (additions_of p) (AreAdditions-of p admitted) in
-    let first : BitsLink = record { source_width = p.variables; target_width = node_count p } in
-    let fits : penalty.Fits first p = record { source = refl; target = refl; normal = admitted.normal } in
-    let pair = pair_link t kept in
-    let low = flat_link t kept (omega (arith, image-total p none)) in
-    formed_by_steps Literal Rosenberg p first pair.0 low.0 (threshold_within p (upper p) none refl) fits pair.1
-    low.1
-    (omega (arith, pair_total t kept, image-total p none))
-    (omega (arith, pair_size t kept, image_size p admitted))
+module _ (p : ProblemContent) (admitted : Admits p) where
+  abbrev table : TableContent
+  table = penalty.image p
+
+  -- the links of the steps
+  pub literal_nodes : (link : BitsLink) × penalty.Fits link p
+  literal_nodes = (
+    record { source_width = p.variables; target_width = node_count p },
+    record { source = refl; target = refl; normal = admitted.normal },
+  )
+
+  pub literal_table : IsTable table
+  literal_table = IsTable-table_of (additions_of p) (AreAdditions-of p admitted)
+
+  pub literal_monomial : (link : BitsLink) × monomials.Fits link table
+  literal_monomial = monomial_link table literal_table
+
+  pub literal_monomial_flat : (link : BitsLink) × flat.Fits link (monomials.image table)
+  literal_monomial_flat =
+      monomial_flat table
+      (IsTable-low_of (additions_of p) (AreAdditions-of p admitted) (omega (arith, total-additions p admitted.within)))
+
+  pub literal_pair : (link : BitsLink) × rosenberg.Fits link table
+  literal_pair = pair_link table literal_table
+
+  pub literal_flat : (link : BitsLink) × flat.Fits link (rosenberg.image table)
+  literal_flat = flat_link table literal_table (omega (arith, image-total p admitted.within))
+
+  -- each term replaced by itself
+  pub formed_at_once : IsFormed p (quad_by Literal Monomial p) (figures p)
+  formed_at_once =
+      formed_by_steps Literal Monomial p literal_nodes.0 literal_monomial.0 literal_monomial_flat.0
+      (threshold_within p (upper p) admitted.within refl) literal_nodes.1 literal_monomial.1
+      literal_monomial_flat.1
+      (omega (arith, direct_total p admitted)) (direct_size p admitted)
+
+  -- pairs replaced one after another
+  pub formed_by_pairs : IsFormed p (quad_by Literal Rosenberg p) (figures p)
+  formed_by_pairs =
+      formed_by_steps Literal Rosenberg p literal_nodes.0 literal_pair.0 literal_flat.0
+      (threshold_within p (upper p) admitted.within refl) literal_nodes.1 literal_pair.1 literal_flat.1
+      (omega (arith, pair_total table literal_table, image-total p admitted.within))
+      (omega (arith, pair_size table literal_table, image_size p admitted))
 
 -- ---- its model
 
