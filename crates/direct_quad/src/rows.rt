@@ -97,6 +97,22 @@ fn add_place(sums: &mut Accumulator, place: PlaceRef<'_>) -> Result<(), NoMemory
     add_later(sums, literal, coefficient, later)
 }
 
+/// Reads the terms of a row one after another, and gives 0 or 1. A search of one of them ends with a
+/// jump that cannot be foreseen, so the next one would be fetched only after it; here the processor
+/// fetches many at a time.
+fn fetched(long: &LongTable, indices: &[u32]) -> usize
+    requires { All (λ i. i < length long.now.terms) indices.now }
+    ensures { result ≤ 1 }
+{
+    let mut read = 0;
+    for index in indices {
+        let mut term = long.at(*index as usize);
+        let first = term.literals.next().map_or(0, |literal| literal.variable);
+        read ^= first ^ u64::from(term.first_node) ^ u64::from(term.coefficient < 0);
+    }
+    (read % 2) as usize
+}
+
 /// Adds the weights of places' couplers with later literals, and keeps what their couplers with new
 /// nodes need, in place of what a list has.
 fn add_places(
@@ -118,6 +134,8 @@ fn add_places(
     ensures kept { OnOk result (All IsHead heads.new.items) }
 {
     heads.clear();
+    // what is read has to be used, or it would not be read: here it is room for one head more
+    heads.reserve(fetched(long, indices))?;
     for index in indices {
         let place = long.place(variable, *index as usize);
         heads.push(head_of(&place))?;
