@@ -7,15 +7,12 @@ use std::alloc::Global;
 use std::marker::Model;
 use std::str;
 
-/// The bytes of a name as text.
+/// The bytes of a name as text. They are of ASCII, so they are not tested again.
 pub(crate) fn as_text(name: &[u8]) -> &str
     requires { is_name name.now ≡ true }
     ensures { result.now ≡ name.now }
 {
-    match str::from_utf8(name) {
-        Ok(text) => text,
-        Err(_) => "",
-    }
+    unsafe { str::from_utf8_unchecked(name) }
 }
 
 /// The names of variables, in the order of the variables. They lie one after another, and a name
