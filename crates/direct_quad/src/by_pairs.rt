@@ -55,9 +55,9 @@ pub fn form_by_pairs(alloc: Global, terms: DirectTerms) -> Result<DirectForm, No
     let mut terms = short.widened(alloc, width + made.pairs.len())?;
     add_moved(&mut terms, &made, width)?;
     let pairs = pairs_alone(made);
-    let form = terms.into_form(alloc)?;
+    let quad = terms.into_form(alloc)?.into_quad();
     Ok(DirectForm {
-        quad: form.quad,
+        quad,
         new_nodes: NewNodes::Pairs(pairs),
     })
 }

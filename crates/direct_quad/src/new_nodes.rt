@@ -24,6 +24,15 @@ pub struct DirectForm {
     pub new_nodes: NewNodes,
 }
 
+impl DirectForm {
+    /// The form alone.
+    pub(crate) fn into_quad(self) -> Quad
+        ensures { result ≡ self.quad }
+    {
+        self.quad
+    }
+}
+
 impl NewNodes {
     /// A state of the nodes before them, and the bits of the new ones.
     pub fn extended(&self, alloc: Global, mut x: Vec<bool>) -> Result<Vec<bool>, NoMemory>

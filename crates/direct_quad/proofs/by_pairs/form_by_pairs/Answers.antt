@@ -1,4 +1,4 @@
-use Rattle.std.proofs.Common.{◌≡◌, ◌+◌, arith, length, refl}
+use Rattle.std.proofs.Common.{◌≡◌, ◌+◌, arith, length, refl, ◌∙◌}
 use Rattle.direct_quad.specs.Parts.{short_part}
 use Rattle.direct_quad.proofs.HeldRuns as runs
 use Rattle.direct_quad.proofs.by_pairs.form_by_pairs.Goals as goal
@@ -52,7 +52,7 @@ returns-clause-quad c t room held =
     let number : c.len.result ≡ length c.in_ok-short.made.pairs.items = omega (arith, c.len.ensures) in
     let short = c.in_ok-terms.ensures.held (short_part t) (runs.short-additions t room.additions) (c.in_ok-short.ensures.short t held) in
     runs.form t h room held made run c.width-width.result c.len.result c.width-width.ensures number
-    c.in_ok-form.form.quad
-    (c.in_ok-form.ensures.quad (runs.all t h room held made run c.width-width.result c.len.result c.width-width.ensures number)
+    c.into_quad-quad.result
+    (c.into_quad-quad.ensures ∙ c.in_ok-into_form.ensures.quad (runs.all t h room held made run c.width-width.result c.len.result c.width-width.ensures number)
     (runs.within t h room held made run c.width-width.result c.len.result c.width-width.ensures number)
     (c.in_ok-add_moved.ensures.held _ short))
