@@ -6,7 +6,7 @@ ghost use Rattle.penalty_layer.specs.Penalty.{Admits};
 
 use crate::given::{A, B, C, D, NOT_A, NOT_B, NOT_C, are_terms, costs_of_two, problem_of};
 use base::{Cost, Figures, NoMemory};
-use direct_quad::{form_by_pairs, problem_terms};
+use direct_quad::{NewNodes, form_by_pairs, problem_terms};
 use form_steps::{Guard, Then};
 use literal_lists::Literal;
 use monomial_layer::Monomials;
@@ -146,6 +146,12 @@ fn an_assignment_is_its_own_state(rt: HostRuntime) {
     }
 }
 
+/// Whether the new nodes of a form extend an assignment to this state.
+fn extend(alloc: Global, new_nodes: &NewNodes, x: &[bool], y: &[bool]) -> Result<bool, NoMemory> {
+    let state = new_nodes.extended(alloc, x.to_vec(alloc)?)?;
+    Ok(state.as_slice() == y)
+}
+
 /// Whether the new nodes of the form that is made at once extend an assignment to this state.
 fn extends_at_once(
     alloc: Global,
@@ -156,8 +162,7 @@ fn extends_at_once(
     requires { Admits problem.now }
 {
     let form = problem_terms(alloc, problem)?.into_form(alloc)?;
-    let state = form.new_nodes.extended(alloc, x.to_vec(alloc)?)?;
-    Ok(state.as_slice() == y)
+    extend(alloc, &form.new_nodes, x, y)
 }
 
 /// The same, where pairs are replaced one after another.
@@ -170,8 +175,7 @@ fn extends_by_pairs(
     requires { Admits problem.now }
 {
     let form = form_by_pairs(alloc, problem_terms(alloc, problem)?)?;
-    let state = form.new_nodes.extended(alloc, x.to_vec(alloc)?)?;
-    Ok(state.as_slice() == y)
+    extend(alloc, &form.new_nodes, x, y)
 }
 
 /// Whether an assignment of three variables extends to this state, by two steps and at once.

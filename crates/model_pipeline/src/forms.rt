@@ -86,7 +86,10 @@ fn literal_rosenberg<P: Held>(alloc: Global, problem: P) -> Result<FiguredForm, 
 /// What a problem within the limits contributes, multiplied out as it comes.
 fn multilinear_terms(alloc: Global, problem: &Problem) -> Result<DirectTerms, NoMemory>
     requires { multilinear.Admits problem.now }
-    ensures { IfOk result (AreHeld (multilinear.multiplied (additions_of problem.now))) }
+    ensures held { IfOk result (AreHeld (multilinear.multiplied (additions_of problem.now))) }
+
+    // What the form of the terms rests on.
+    ensures admitted { IfOk result (λ _. multilinear.Admits problem.now) }
 {
     let sums = DirectTerms::new(alloc, node_count(problem))?;
     let mut terms = PlainTerms::new(alloc, sums);

@@ -3,7 +3,6 @@ use Rattle.problem_form.specs.declared.limits.Normal.TheVariants.{Multilinear}
 use Rattle.problem_form.specs.declared.limits.High.TheVariants.{Monomial}
 use Rattle.problem_form.specs.Limits.{limit_fault}
 use Rattle.problem_form.specs.Problems.{ProblemContent, IsNormal}
-use Rattle.normal_form.specs.Multilinear.{Admits}
 use Rattle.model_pipeline.specs.Extensions.{low_extension}
 use Rattle.model_pipeline.specs.Models.{quad_by, terms_of}
 use Rattle.model_pipeline.specs.Formed.{IsFormed}
@@ -20,32 +19,23 @@ multilinear_terms-requires g c = record {
 pub into_form-requires : goal.into_form-requires
 into_form-requires g c =
     let p = c.problem-source.result.now in
-    let admitted : Admits p = record {
-      normal = subst IsNormal (sym c.problem-source.ensures.same) c.problem-source.ensures.normal;
-      within = ap (limit_fault Multilinear) c.problem-source.ensures.same ∙ c.requires;
-    } in
-    record { held = (plain_additions p, IsWithin-plain p admitted, c.in_ok-terms.ensures) }
+    let admitted = c.in_ok-terms.ensures.admitted in
+    record { held = (plain_additions p, IsWithin-plain p admitted, c.in_ok-terms.ensures.held) }
 
 pub returns-clause-image : goal.returns-clause-image
 returns-clause-image g c =
     let p = c.problem-source.result.now in
-    let admitted : Admits p = record {
-      normal = subst IsNormal (sym c.problem-source.ensures.same) c.problem-source.ensures.normal;
-      within = ap (limit_fault Multilinear) c.problem-source.ensures.same ∙ c.requires;
-    } in
-    c.in_ok-form.ensures.quad (plain_additions p) (IsWithin-plain p admitted) c.in_ok-terms.ensures
+    let admitted = c.in_ok-terms.ensures.admitted in
+    c.in_ok-form.ensures.quad (plain_additions p) (IsWithin-plain p admitted) c.in_ok-terms.ensures.held
     ∙ image-plain p admitted
     ∙ ap (quad_by Multilinear Monomial) c.problem-source.ensures.same
 
 pub returns-clause-stands : goal.returns-clause-stands
 returns-clause-stands g c =
     let p = c.problem-source.result.now in
-    let admitted : Admits p = record {
-      normal = subst IsNormal (sym c.problem-source.ensures.same) c.problem-source.ensures.normal;
-      within = ap (limit_fault Multilinear) c.problem-source.ensures.same ∙ c.requires;
-    } in
+    let admitted = c.in_ok-terms.ensures.admitted in
     let image =
-    c.in_ok-form.ensures.quad (plain_additions p) (IsWithin-plain p admitted) c.in_ok-terms.ensures
+    c.in_ok-form.ensures.quad (plain_additions p) (IsWithin-plain p admitted) c.in_ok-terms.ensures.held
     ∙ image-plain p admitted in
     subst (λ (r : ProblemContent). IsFormed r c.in_ok-form.form.quad c.problem_figures-figures.result) c.problem-source.ensures.same
     (formed_as p _ (quad_by Multilinear Monomial p) _ image c.problem_figures-figures.ensures (formed-plain p admitted))
@@ -53,10 +43,7 @@ returns-clause-stands g c =
 pub returns-clause-new_nodes : goal.returns-clause-new_nodes
 returns-clause-new_nodes g c x =
     let p = c.problem-source.result.now in
-    let admitted : Admits p = record {
-      normal = subst IsNormal (sym c.problem-source.ensures.same) c.problem-source.ensures.normal;
-      within = ap (limit_fault Multilinear) c.problem-source.ensures.same ∙ c.requires;
-    } in
-    c.in_ok-form.ensures.new_nodes (plain_additions p) c.in_ok-terms.ensures x
+    let admitted = c.in_ok-terms.ensures.admitted in
+    c.in_ok-form.ensures.new_nodes (plain_additions p) c.in_ok-terms.ensures.held x
     ∙ ap (λ t. low_extension Monomial t x) (table_of-plain p admitted)
     ∙ ap (λ q. low_extension Monomial (terms_of Multilinear q) x) c.problem-source.ensures.same

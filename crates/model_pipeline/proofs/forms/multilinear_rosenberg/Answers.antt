@@ -3,7 +3,6 @@ use Rattle.problem_form.specs.declared.limits.Normal.TheVariants.{Multilinear}
 use Rattle.problem_form.specs.declared.limits.High.TheVariants.{Rosenberg}
 use Rattle.problem_form.specs.Limits.{limit_fault}
 use Rattle.problem_form.specs.Problems.{ProblemContent, IsNormal}
-use Rattle.normal_form.specs.Multilinear.{Admits}
 use Rattle.rosenberg_layer.specs.Rosenberg as rosenberg
 use Rattle.quad_form.specs.Flat as flat
 use Rattle.model_pipeline.specs.Extensions.{low_extension}
@@ -22,32 +21,23 @@ multilinear_terms-requires g c = record {
 pub form_by_pairs-requires : goal.form_by_pairs-requires
 form_by_pairs-requires g c =
     let p = c.problem-source.result.now in
-    let admitted : Admits p = record {
-      normal = subst IsNormal (sym c.problem-source.ensures.same) c.problem-source.ensures.normal;
-      within = ap (limit_fault Multilinear) c.problem-source.ensures.same ∙ c.requires;
-    } in
-    record { held = (plain_additions p, FitsByPairs-plain p admitted, c.in_ok-terms.ensures) }
+    let admitted = c.in_ok-terms.ensures.admitted in
+    record { held = (plain_additions p, FitsByPairs-plain p admitted, c.in_ok-terms.ensures.held) }
 
 pub returns-clause-image : goal.returns-clause-image
 returns-clause-image g c =
     let p = c.problem-source.result.now in
-    let admitted : Admits p = record {
-      normal = subst IsNormal (sym c.problem-source.ensures.same) c.problem-source.ensures.normal;
-      within = ap (limit_fault Multilinear) c.problem-source.ensures.same ∙ c.requires;
-    } in
-    c.in_ok-form.ensures.quad (plain_additions p) (FitsByPairs-plain p admitted) c.in_ok-terms.ensures
+    let admitted = c.in_ok-terms.ensures.admitted in
+    c.in_ok-form.ensures.quad (plain_additions p) (FitsByPairs-plain p admitted) c.in_ok-terms.ensures.held
     ∙ ap (λ t. flat.image (rosenberg.image t)) (table_of-plain p admitted)
     ∙ ap (quad_by Multilinear Rosenberg) c.problem-source.ensures.same
 
 pub returns-clause-stands : goal.returns-clause-stands
 returns-clause-stands g c =
     let p = c.problem-source.result.now in
-    let admitted : Admits p = record {
-      normal = subst IsNormal (sym c.problem-source.ensures.same) c.problem-source.ensures.normal;
-      within = ap (limit_fault Multilinear) c.problem-source.ensures.same ∙ c.requires;
-    } in
+    let admitted = c.in_ok-terms.ensures.admitted in
     let image =
-    c.in_ok-form.ensures.quad (plain_additions p) (FitsByPairs-plain p admitted) c.in_ok-terms.ensures
+    c.in_ok-form.ensures.quad (plain_additions p) (FitsByPairs-plain p admitted) c.in_ok-terms.ensures.held
     ∙ ap (λ t. flat.image (rosenberg.image t)) (table_of-plain p admitted) in
     subst (λ (r : ProblemContent). IsFormed r c.in_ok-form.form.quad c.problem_figures-figures.result) c.problem-source.ensures.same
     (formed_as p _ (quad_by Multilinear Rosenberg p) _ image c.problem_figures-figures.ensures (formed-plain_pairs p admitted))
@@ -55,10 +45,7 @@ returns-clause-stands g c =
 pub returns-clause-new_nodes : goal.returns-clause-new_nodes
 returns-clause-new_nodes g c x =
     let p = c.problem-source.result.now in
-    let admitted : Admits p = record {
-      normal = subst IsNormal (sym c.problem-source.ensures.same) c.problem-source.ensures.normal;
-      within = ap (limit_fault Multilinear) c.problem-source.ensures.same ∙ c.requires;
-    } in
-    c.in_ok-form.ensures.new_nodes (plain_additions p) (FitsByPairs-plain p admitted) c.in_ok-terms.ensures x
+    let admitted = c.in_ok-terms.ensures.admitted in
+    c.in_ok-form.ensures.new_nodes (plain_additions p) (FitsByPairs-plain p admitted) c.in_ok-terms.ensures.held x
     ∙ ap (λ t. low_extension Rosenberg t x) (table_of-plain p admitted)
     ∙ ap (λ q. low_extension Rosenberg (terms_of Multilinear q) x) c.problem-source.ensures.same

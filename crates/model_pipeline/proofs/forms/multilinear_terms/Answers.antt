@@ -24,6 +24,6 @@ add_contributions-requires-clause-empty c =
     subst (λ (h : HeldContent). AreHeld (record { width = node_count c.args.problem.now; terms = [] }) h) (sym c.new-terms.ensures)
     (subst (λ n. AreHeld (record { width = n; terms = [] }) c.in_ok-sums.sums) c.node_count.ensures.value c.in_ok-sums.ensures.empty)
 
-pub returns : goal.returns
-returns c =
+pub returns-clause-held : goal.returns-clause-held
+returns-clause-held c =
     subst (λ (h : HeldContent). AreHeld (plain_additions c.args.problem.now) h) (sym c.into_terms.ensures) c.in_ok-add_contributions.ensures
