@@ -57,12 +57,19 @@ fn answer_by<F: Files>(
             },
             Err(status) => Err(status),
         },
-        Ask::Solve => match answer_solved(alloc, &plan) {
-            Ok(text) => Ok(Answer::Text(text)),
-            Err(status) => Err(status),
-        },
+        Ask::Solve => {
+            let solved = answer_solved(alloc, &plan);
+            // dropped in each arm, since others move it: else each end would ask whether it is there
+            drop(plan);
+            match solved {
+                Ok(text) => Ok(Answer::Text(text)),
+                Err(status) => Err(status),
+            }
+        }
         Ask::Decode(at) | Ask::Extend(at) | Ask::Prove(at, _) => {
-            match answer_state(alloc, words, command, at, &plan, files) {
+            let told = answer_state(alloc, words, command, at, &plan, files);
+            drop(plan);
+            match told {
                 Ok(text) => Ok(Answer::Text(text)),
                 Err(status) => Err(status),
             }
