@@ -13,6 +13,7 @@ use crate::token_text::TokenText;
 use base::{Items, NoMemory};
 use std::alloc::Global;
 use std::marker::Model;
+use std::mem;
 use std::simd::prelude::*;
 
 /// How many bytes of a word are taken at once.
@@ -36,6 +37,7 @@ enum At {
 /// The words so far of a text that comes in pieces, and where it stands in a line.
 #[derive(Drop)]
 pub struct Lexer {
+    alloc: Global,
     style: Style,
     bytes: Vec<u8>,
     tokens: TokenList,
@@ -96,10 +98,27 @@ impl Lexer {
         ensures style { result.style ≡ style }
     {
         Lexer {
+            alloc,
             style,
             bytes: Vec::new(alloc),
             tokens: TokenList::new(alloc),
             at: At::Fresh,
+            start: 0,
+            line: 1,
+        }
+    }
+
+    /// A lexer that may only be dropped.
+    fn spent(alloc: Global, style: Style) -> Lexer
+        ensures spent { (text : List ℕ) → StandsFor result text → ⊥ }
+        ensures style { result.style ≡ style }
+    {
+        Lexer {
+            alloc,
+            style,
+            bytes: Vec::new(alloc),
+            tokens: TokenList::new(alloc),
+            at: At::Spent,
             start: 0,
             line: 1,
         }
@@ -113,18 +132,9 @@ impl Lexer {
         ensures spent { OnErr result ((text : List ℕ) → StandsFor self.new text → ⊥) }
         ensures style { self.new.style ≡ self.old.style }
     {
-        let fed = match self.style {
-            Style::Plain => self.steps(piece, Style::Plain),
-            Style::Opb => self.steps(piece, Style::Opb),
-            Style::Wbo => self.steps(piece, Style::Wbo),
-        };
-        match fed {
-            Ok(()) => Ok(()),
-            Err(_) => {
-                self.at = At::Spent;
-                Err(NoMemory)
-            }
-        }
+        let spent = Lexer::spent(self.alloc, self.style);
+        *self = mem::replace(self, spent).fed(piece)?;
+        Ok(())
     }
 
     /// The words of the text, which ends here.
@@ -142,15 +152,30 @@ impl Lexer {
         })
     }
 
-    /// A step for each byte. The room for their words is reserved at once. The style is passed
-    /// along, so that each has a loop of its own.
+    /// The lexer after the next piece of the text. The style is passed along, so that each has a
+    /// loop of its own.
+    fn fed(self, piece: &[u8]) -> Result<Lexer, NoMemory>
+        requires { HasRoom self piece.now (2 ^ 32) }
+        ensures fed { IfOk result (λ lexer. (text : List ℕ) → StandsFor self text
+            → StandsFor lexer (text ++ piece.now)) }
+        ensures style { IfOk result (λ lexer. lexer.style ≡ self.style) }
+    {
+        match self.style {
+            Style::Plain => self.steps(piece, Style::Plain),
+            Style::Opb => self.steps(piece, Style::Opb),
+            Style::Wbo => self.steps(piece, Style::Wbo),
+        }
+    }
+
+    /// A step for each byte. The room for their words is reserved at once. The lexer is the
+    /// function's own, so that its fields need not be read again after each byte that is written.
     #[inline(always)]
-    fn steps(&mut self, piece: &[u8], style: Style) -> Result<(), NoMemory>
-        requires room { HasRoom self.old piece.now (2 ^ 32) }
-        requires own { style ≡ self.old.style }
-        ensures fed { OnOk result ((text : List ℕ) → StandsFor self.old text
-            → StandsFor self.new (text ++ piece.now)) }
-        ensures style { self.new.style ≡ self.old.style }
+    fn steps(mut self, piece: &[u8], style: Style) -> Result<Lexer, NoMemory>
+        requires room { HasRoom self piece.now (2 ^ 32) }
+        requires own { style ≡ self.style }
+        ensures fed { IfOk result (λ lexer. (text : List ℕ) → StandsFor self text
+            → StandsFor lexer (text ++ piece.now)) }
+        ensures style { IfOk result (λ lexer. lexer.style ≡ self.style) }
     {
         self.bytes.reserve(piece.len())?;
         let mut rest = piece;
@@ -159,7 +184,7 @@ impl Lexer {
             let len = self.run(more, style)?;
             rest = &more[len..];
         }
-        Ok(())
+        Ok(self)
     }
 
     /// Inside a word of the plain style, takes bytes that go on with it, and answers how many. Most
