@@ -5,7 +5,7 @@ use Rattle.std.specs.Ordering.{bool_cmp}
 use Rattle.std.specs.Cmp.Lexicographic.{slice_cmp}
 use Rattle.std.specs.declared.cmp.Ordering.TheVariants.{Greater}
 use Rattle.base.specs.Costs.{Form}
-use Rattle.faithful.specs.Least.{IsLeastState}
+use Rattle.form_steps.specs.Least.{IsLeastState}
 
 -- no state has a lesser energy, and no other that has none comes before it, where states are
 -- compared from node 0 on, and 0 comes before 1

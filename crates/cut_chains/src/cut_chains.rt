@@ -5,7 +5,7 @@
 //! its strength. So a tie stronger than that weight is broken in no least state. Nothing is said of
 //! other states.
 ghost use Rattle.std.specs.Prelude.{◌≡◌, ◌+◌, ◌*◌, ◌≤◌, ◌^◌, IfOk, pos, unsigned_abs, length};
-ghost use Rattle.faithful.specs.AtLeast.{KeepsLeast};
+ghost use Rattle.form_steps.specs.Least.{KeepsLeast};
 ghost use Rattle.form_steps.specs.Relations.{Extends};
 ghost use Rattle.ising_form.specs.Isings.{ising_total, ising_size};
 ghost use Rattle.ising_form.specs.Isings as isings;

@@ -10,7 +10,7 @@ use Rattle.base.specs.declared.costs.Figures.{Figures}
 use Rattle.base.specs.Costs.{Form, Source, energy}
 use Rattle.form_steps.specs.Relations.{Decoding, Relaxes, ReachesIn}
 use Rattle.form_steps.proofs.Rewritten.{whole_or_infinite}
-use Rattle.faithful.specs.Least.{HasCost, IsFeasible, IsLeast, IsLeastAt, IsLeastState}
+use Rattle.form_steps.specs.Least.{HasCost, IsFeasible, IsLeast, IsLeastAt, IsLeastState}
 use Rattle.bits_model.specs.Output.{Written, IsWellFormed, form_of, decoding_of}
 use Rattle.faithful.specs.AtLeast.{StandsAtLeast}
 use Rattle.faithful.specs.Faithful.{Demand, Faithful, IsStated}

@@ -10,8 +10,8 @@ use Rattle.base.specs.declared.costs.Figures.{Figures}
 use Rattle.base.specs.Costs.{Form, energy}
 use Rattle.base.specs.Figures.{figures_after, figures_moved}
 use Rattle.form_steps.specs.Relations.{Decoding, Reaches, Reduces, decoding_after}
-use Rattle.faithful.specs.Least.{IsFeasible, IsLeast, IsLeastAt, IsLeastState}
-use Rattle.faithful.specs.AtLeast.{StandsAtLeast, KeepsLeast}
+use Rattle.form_steps.specs.Least.{IsFeasible, IsLeast, IsLeastAt, IsLeastState, KeepsLeast}
+use Rattle.faithful.specs.AtLeast.{StandsAtLeast}
 use Rattle.faithful.proofs.LeastStates.{least_state}
 
 -- ---- a step that keeps least states alone

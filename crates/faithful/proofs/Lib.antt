@@ -2,3 +2,4 @@ pub mod LeastStates
 pub mod LeastSteps
 pub mod LongerSources
 pub mod EnergySizes
+pub mod Told

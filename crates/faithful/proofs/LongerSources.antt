@@ -5,7 +5,7 @@ use Rattle.base.specs.declared.costs.Figures.{Figures}
 use Rattle.base.specs.Costs.{Form}
 use Rattle.form_steps.specs.Relations.{Decoding, Rewrites, first_decoded}
 use Rattle.form_steps.proofs.Rewritten.{first_is_of}
-use Rattle.faithful.specs.Least.{IsFeasible, IsLeast, IsLeastAt}
+use Rattle.form_steps.specs.Least.{IsFeasible, IsLeast, IsLeastAt}
 use Rattle.faithful.specs.AtLeast.{StandsAtLeast}
 
 module _ {f f' : Form} (r : Rewrites f f') where

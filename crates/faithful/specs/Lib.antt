@@ -1,10 +1,11 @@
-pub mod Least
 pub mod AtLeast
 pub mod Bounds
 pub mod Faithful
+pub mod Told
 pub mod Stated
 pub use Rattle.base.specs.Costs
 pub use Rattle.form_steps.specs.Relations
+pub use Rattle.form_steps.specs.Least
 pub use Rattle.bits_model.specs.Output
 pub use Rattle.bits_model.specs.Units
 pub use Rattle.bits_model.specs.Walks

@@ -1,13 +1,15 @@
 -- The laws of the promise, as statements.
-use Rattle.std.specs.Prelude.{◌<◌, ◌^◌, ℤ, pos, unsigned_abs, Bool, List}
+use Rattle.std.specs.Prelude.{◌<◌, ◌^◌, ℤ, pos, ◌≤ℤ◌, ◌<ℤ◌, unsigned_abs, Bool, List}
 use Rattle.base.specs.declared.costs.Figures.{Figures}
 use Rattle.base.specs.Costs.{Form, Source, energy}
 use Rattle.base.specs.Figures.{figures_after, figures_moved}
 use Rattle.form_steps.specs.Relations.{Decoding, Relaxes, Reduces, Rewrites, decoding_after, first_decoded}
 use Rattle.bits_model.specs.Output.{Written, IsWellFormed, form_of, decoding_of}
-use Rattle.faithful.specs.AtLeast.{StandsAtLeast, KeepsLeast}
+use Rattle.form_steps.specs.Least.{IsFeasible, IsLeastState, KeepsLeast}
+use Rattle.faithful.specs.AtLeast.{StandsAtLeast}
 use Rattle.faithful.specs.Bounds.{IsBounded}
 use Rattle.faithful.specs.Faithful.{Demand, Faithful, IsStated}
+use Rattle.faithful.specs.Told.{TellsOptimum, whole_energy}
 
 -- ---- of models
 
@@ -32,6 +34,15 @@ EnergiesAreBounded =
     (m : Written) → IsBounded m → (y : List Bool) → unsigned_abs (energy (form_of m) y) < 2 ^ 121
 
 -- ---- of least states
+
+-- a least state of a model that is faithful to its source decodes to a least assignment where it
+-- does not lie above the threshold, and else the source is infeasible
+abbrev pub LeastStatesTell : Type 0
+LeastStatesTell =
+    (source : Source) (demand : Demand) (m : Written) (y : List Bool) → Faithful source demand m
+    → IsLeastState (form_of m) y
+    → (whole_energy m y ≤ℤ m.figures.threshold → TellsOptimum source m y)
+    × (m.figures.threshold <ℤ whole_energy m y → ¬ (IsFeasible source.form))
 
 -- the least states of what relaxes a source are its least assignments
 abbrev pub RelaxedStandsAtLeast : Type 0

@@ -1,5 +1,5 @@
 //! The laws of the promise, as functions without code: each contract is a statement of `specs/`.
-ghost use Rattle.faithful.specs.Stated.{StandingIsFaithful, RelaxedIsFaithful, EnergiesAreBounded, RelaxedStandsAtLeast, LeastAfterLeast, ReducesAfterLeast, LeastAfterRewrites};
+ghost use Rattle.faithful.specs.Stated.{StandingIsFaithful, RelaxedIsFaithful, EnergiesAreBounded, RelaxedStandsAtLeast, LeastAfterLeast, ReducesAfterLeast, LeastAfterRewrites, LeastStatesTell};
 
 /// A well-formed model whose least states stand for the least assignments of a source, with what
 /// is stated of it, is faithful to it.
@@ -24,4 +24,9 @@ pub fn least_states_compose()
     ensures kept { LeastAfterLeast }
     ensures reduced { ReducesAfterLeast }
     ensures rewritten { LeastAfterRewrites }
+{}
+
+/// A least state of a faithful model tells the optimum of the source, or that it is infeasible.
+pub fn least_states_tell()
+    ensures { LeastStatesTell }
 {}

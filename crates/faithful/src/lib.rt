@@ -4,5 +4,6 @@
 mod laws;
 
 pub use laws::{
-    energies_are_bounded, least_states_compose, relaxed_is_faithful, standing_is_faithful,
+    energies_are_bounded, least_states_compose, least_states_tell, relaxed_is_faithful,
+    standing_is_faithful,
 };

@@ -1,4 +1,5 @@
 pub mod Relations
+pub mod Least
 pub mod Links
 pub mod laws
 pub mod Stated

@@ -9,7 +9,7 @@ use Rattle.bits_model.specs.declared.output.Kind.TheVariants.{Chimera}
 use Rattle.form_steps.specs.Relations.{Decoding, Extends, Reduces, Relaxes, decoding_after}
 use Rattle.form_steps.specs.laws.Composed.{keeps_after_relaxes, reduces_after_relaxes}
 use Rattle.faithful.specs.AtLeast.{StandsAtLeast}
-use Rattle.faithful.specs.Least.{IsLeast}
+use Rattle.form_steps.specs.Least.{IsLeast}
 use Rattle.faithful.proofs.LeastStates.{relaxed_stands}
 use Rattle.faithful.proofs.LeastSteps.{kept_stands, reduced_stands}
 use Rattle.command_words.specs.declared.commands.Ties.{Ties}

@@ -9,8 +9,8 @@ use Rattle.base.proofs.Products.{times-lt}
 use Rattle.form_steps.specs.Relations.{Relaxes}
 use Rattle.bits_model.specs.Output.{Written, IsWellFormed, form_of, decoding_of}
 use Rattle.faithful.specs.Faithful.{Demand, Faithful, HasChains}
-use Rattle.faithful.specs.Least.{IsLeastState}
-use Rattle.basic_solve.proofs.Told.{least_states_tell, length-read_off}
+use Rattle.form_steps.specs.Least.{IsLeastState}
+use Rattle.faithful.proofs.Told.{least_states_tell, length-read_off}
 use Rattle.problem_form.specs.declared.limits.Choices.{Choices}
 use Rattle.problem_form.specs.Problems.{ProblemContent}
 use Rattle.wbo_reader.specs.Wbo.{WboContent}

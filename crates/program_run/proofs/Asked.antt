@@ -3,7 +3,7 @@ use Rattle.std.proofs.Common.{◌≡◌, ℕ, Bool, List, length, Ok, Some, None
 use Rattle.std.specs.declared.option.Option.{Option}
 use Rattle.edge_io.specs.Held.{NamedFiles}
 use Rattle.bits_model.specs.Output.{Written, form_of}
-use Rattle.faithful.specs.Least.{IsLeastState}
+use Rattle.form_steps.specs.Least.{IsLeastState}
 use Rattle.posiform_check.specs.BitForms.{CertificateContent}
 use Rattle.posiform_check.specs.FirstFaults.{proof_fault}
 use Rattle.posiform_check.specs.declared.faults.ProofFault.{ProofFault}

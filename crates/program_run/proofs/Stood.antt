@@ -13,7 +13,7 @@ use Rattle.faithful.specs.Faithful.{HasUnit, HasChains, scale_of}
 use Rattle.form_steps.specs.Stated.{DecodesAlike}
 use Rattle.form_steps.proofs.Alike.{relaxes_alike}
 use Rattle.faithful.specs.AtLeast.{StandsAtLeast}
-use Rattle.faithful.specs.Least.{IsLeast}
+use Rattle.form_steps.specs.Least.{IsLeast}
 use Rattle.faithful.proofs.LeastStates.{relaxed_stands, standing_is_faithful}
 use Rattle.faithful.proofs.LongerSources.{rewritten_stands}
 use Rattle.base.specs.declared.unit.UnitChoice.{UnitChoice}

@@ -11,7 +11,7 @@ use Rattle.form_steps.specs.Relations.{Relaxes}
 use Rattle.bits_model.specs.Output.{Written, form_of, decoding_of}
 use Rattle.faithful.specs.Bounds.{IsBounded}
 use Rattle.faithful.specs.Faithful.{Faithful}
-use Rattle.faithful.specs.Least.{IsFeasible, IsLeastState}
+use Rattle.form_steps.specs.Least.{IsFeasible, IsLeastState}
 use Rattle.problem_form.specs.Limits.{auxiliary_bits}
 use Rattle.wbo_reader.specs.Wbo.{WboContent}
 use Rattle.sample_text.specs.Sample.{sample_text}
@@ -31,7 +31,7 @@ use Rattle.command_words.specs.declared.names.Which.{Which}
 use Rattle.source_texts.specs.Sources.{source_of, names_of, carried}
 use Rattle.answer_text.specs.Answers.{decoding_text, extension_text, proof_text, solution_text}
 use Rattle.basic_solve.specs.FirstLeast.{IsFirstLeast}
-use Rattle.basic_solve.specs.Stated.{TellsOptimum, whole_energy}
+use Rattle.faithful.specs.Told.{TellsOptimum, whole_energy}
 use Rattle.model_pipeline.specs.Extensions.{form_nodes, extension_of, state_on}
 use Rattle.run_steps.specs.declared.placements.Placement.{Placement}
 use Rattle.run_steps.specs.declared.plans.Plan.{Plan}

@@ -8,7 +8,7 @@ use Rattle.std.proofs.Common.{arith, ap, sym, ◌∙◌}
 use Rattle.std.proofs.lemmas.Int.{ints}
 use Rattle.std.proofs.lemmas.List.{length-map}
 use Rattle.std.proofs.lemmas.List.FromFn.{length-map-range_with_len}
-use Rattle.faithful.specs.Least.{IsLeastState}
+use Rattle.form_steps.specs.Least.{IsLeastState, KeepsLeast}
 use Rattle.bits_model.specs.Output.{bit_at, majority}
 use Rattle.form_steps.specs.Relations.{Extends, Joins}
 use Rattle.ising_form.specs.Isings.{ising_value}
@@ -17,7 +17,6 @@ use Rattle.embedding_check.specs.Embeddings.{Embedding, IsEmbedding, form_of}
 use Rattle.chain_layer.specs.Image.{all_shares, field_at, extension}
 use Rattle.chain_layer.specs.laws.Kept.{form_value, majority_reads, chains_reach, extension_whole, extension_bits}
 use Rattle.cut_chains.specs.declared.link.CutLink.{CutLink}
-use Rattle.faithful.specs.AtLeast.{KeepsLeast}
 use Rattle.cut_chains.specs.CutImage.{cut_image, cut_offset}
 use Rattle.cut_chains.specs.CutLinks.{as_chains, decoding, Fits}
 use Rattle.cut_chains.specs.laws.Unbroken.{cut_value, least_is_whole, whole_energy}

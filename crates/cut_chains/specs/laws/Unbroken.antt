@@ -15,7 +15,7 @@ use Rattle.std.proofs.lemmas.List.FromFn.{length-map-range_with_len, get_or-map-
 use Rattle.std.proofs.lemmas.List.Sums.{sum_by-cons}
 use Rattle.base.specs.Sums.{total_by}
 use Rattle.base.proofs.Totals.{total_by-append, total_by-flat_map}
-use Rattle.faithful.specs.Least.{IsLeastState}
+use Rattle.form_steps.specs.Least.{IsLeastState}
 use Rattle.bits_model.specs.Output.{bit_at, times_spin, spins_energy}
 use Rattle.quad_form.specs.Quads.{node_entries}
 use Rattle.ising_form.specs.Isings.{ising_value}

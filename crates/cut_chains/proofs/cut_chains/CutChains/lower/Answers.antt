@@ -4,7 +4,7 @@ use Rattle.std.proofs.lemmas.Int.{ints}
 use Rattle.ising_form.specs.Isings.{ising_total, ising_size}
 use Rattle.ising_form.specs.Isings as isings
 use Rattle.embedding_check.specs.Embeddings.{form_of}
-use Rattle.faithful.specs.AtLeast.{KeepsLeast}
+use Rattle.form_steps.specs.Least.{KeepsLeast}
 use Rattle.cut_chains.specs.declared.link.CutLink.{CutLink}
 use Rattle.cut_chains.specs.CutImage.{cut_image, cut_offset}
 use Rattle.cut_chains.specs.CutLinks.{decoding, Fits}

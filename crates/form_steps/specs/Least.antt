@@ -1,7 +1,8 @@
--- Least assignments of a source, and least states of a model.
-use Rattle.std.specs.Prelude.{◌≡◌, ℤ, ◌≤ℤ◌, Bool, List}
+-- Least assignments of a source, least states of a model, and steps that keep least states alone.
+use Rattle.std.specs.Prelude.{◌≡◌, ℤ, pos, ◌+ℤ◌, ◌*ℤ◌, ◌≤ℤ◌, Bool, List}
 use Rattle.base.specs.declared.costs.Cost.TheVariants.{Whole}
 use Rattle.base.specs.Costs.{Form, IsOf, energy}
+use Rattle.form_steps.specs.Relations.{Decoding, Reaches}
 
 -- the assignment x has the whole cost v
 pub record HasCost (f : Form) (x : List Bool) (v : ℤ) : Type 0 where
@@ -25,3 +26,13 @@ IsLeast f x = (v : ℤ) × IsLeastAt f x v
 pub record IsLeastState (g : Form) (y : List Bool) : Type 0 where
   pub width : IsOf g y
   pub least : (y' : List Bool) → IsOf g y' → energy g y ≤ℤ energy g y'
+
+-- h keeps the least states of g, with the scale a and the offset b: least states decode to least
+-- states, the least energy is scaled and moved, and every state of g is reached with equality
+pub record KeepsLeast (g h : Form) (d : Decoding) (a b : ℤ) : Type 0 where
+  pub positive : pos 1 ≤ℤ a
+  pub decodes : (z : List Bool) → IsLeastState h z → IsLeastState g (d.decoded z)
+  pub least : (y z : List Bool) → IsLeastState g y → IsLeastState h z
+      → energy h z ≡ a *ℤ energy g y +ℤ b
+  pub reached : (y : List Bool) → IsOf g y
+      → (z : List Bool) × Reaches h d y (a *ℤ energy g y +ℤ b) z

@@ -12,10 +12,11 @@ use Rattle.base.specs.declared.costs.Cost.TheVariants.{Whole, Infinite}
 use Rattle.bits_model.specs.declared.output.Kind.{Kind}
 use Rattle.bits_model.specs.declared.output.Kind.TheVariants.{Qubo, Ising, Chimera}
 use Rattle.base.specs.Costs.{Form, Source, energy}
-use Rattle.faithful.specs.Least.{IsFeasible, IsLeastState}
+use Rattle.form_steps.specs.Least.{IsFeasible, IsLeastState}
 use Rattle.bits_model.specs.Output.{Written, FitsKind, form_of, decoding_of, read_off, majority}
 use Rattle.faithful.specs.Faithful.{Demand, Faithful}
-use Rattle.basic_solve.specs.Stated.{whole_energy, TellsOptimum, LeastStatesTell}
+use Rattle.faithful.specs.Told.{whole_energy, TellsOptimum}
+use Rattle.faithful.specs.Stated.{LeastStatesTell}
 
 -- a state decodes to as many bits as the model has variables
 pub length-read_off : (m : Written) (y : List Bool) → (k : Kind) → FitsKind k m → length y ≡ m.nodes
