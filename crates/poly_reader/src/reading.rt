@@ -2,7 +2,7 @@
 ghost use Rattle.std.specs.Prelude.{◌≡◌, ◌+◌, ◌*◌, ◌<◌, ◌≤◌, ◌^◌, [], length};
 ghost use Rattle.whole_text.specs.TokenTexts.{words_of};
 ghost use Rattle.whole_text.specs.Steps.{Gives};
-ghost use Rattle.problem_form.specs.Problems.{problem_total};
+ghost use Rattle.problem_form.specs.NormalForm.{blank};
 ghost use Rattle.poly_reader.specs.Cost.{normal_reading, polynomial_of_words};
 ghost use Rattle.poly_reader.specs.Views.{products_read};
 
@@ -21,16 +21,17 @@ pub struct Polynomial {
 }
 
 /// Adds the products up to the end to a problem that says nothing.
-fn products<'a>(
+fn products_into<'a>(
     alloc: Global,
+    problem: &mut Problem,
     mut words: Words<'a>,
     names: &mut NameTable<'a>,
-) -> Result<Problem, TextAnswer>
+) -> Result<(), TextAnswer>
+    requires says_nothing { problem.old ≡ blank }
     requires none { names.old ≡ [] }
     requires few { length words ≤ 2 ^ 24 }
-    ensures { Gives (λ problem. (problem, names.new)) result (products_read words.entry) }
+    ensures { Gives (λ _. (problem.new, names.new)) result (products_read words.entry) }
 {
-    let mut problem = Problem::new(alloc);
     let mut list = Vec::new(alloc);
     let mut next = words.next();
     while let Some(first) = next {
@@ -39,7 +40,37 @@ fn products<'a>(
         problem.add_term(&mut list, coefficient)?;
         next = after;
     }
+    Ok(())
+}
+
+/// The problem of the products up to the end.
+fn products<'a>(
+    alloc: Global,
+    words: Words<'a>,
+    names: &mut NameTable<'a>,
+) -> Result<Problem, TextAnswer>
+    requires none { names.old ≡ [] }
+    requires few { length words ≤ 2 ^ 24 }
+    ensures { Gives (λ problem. (problem, names.new)) result (products_read words.entry) }
+{
+    let mut problem = Problem::new(alloc);
+    products_into(alloc, &mut problem, words, names)?;
     Ok(problem)
+}
+
+/// The problem of words and the names of its variables, read through a table that is empty.
+fn read_with<'a>(
+    alloc: Global,
+    words: Words<'a>,
+    table: &mut NameTable<'a>,
+) -> Result<Polynomial, TextAnswer>
+    requires none { table.old ≡ [] }
+    requires few { length words ≤ 2 ^ 24 }
+    ensures { Gives (λ polynomial. polynomial) result (polynomial_of_words words.entry) }
+{
+    let problem = products(alloc, words, table)?;
+    let names = table.copied(alloc)?;
+    Ok(Polynomial { problem, names })
 }
 
 /// The problem of a text that was cut into words, in normal form, and the names of its variables, or
@@ -49,9 +80,7 @@ pub fn read_poly_tokens(alloc: Global, text: &TokenText) -> Result<Polynomial, T
     ensures { Gives (λ polynomial. polynomial) result (polynomial_of_words (words_of text.now)) }
 {
     let mut table = NameTable::new(alloc);
-    let problem = products(alloc, text.words(), &mut table)?;
-    let names = table.copied(alloc)?;
-    Ok(Polynomial { problem, names })
+    read_with(alloc, text.words(), &mut table)
 }
 
 /// The problem of a text, in normal form, and the names of its variables, or the first fault of the

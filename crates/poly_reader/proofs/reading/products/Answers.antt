@@ -1,64 +1,7 @@
-use Rattle.std.proofs.Common.{◌≡◌, length, sym, ap, subst, ◌∙◌, to_z, of_z, arith, rules}
-use Rattle.std.specs.Int.{w128}
-use Rattle.std.proofs.lemmas.Int.{to_z-of_z}
 use Rattle.std.proofs.lemmas.Result.{err_from_is_err_and}
-use Rattle.whole_text.specs.TokenTexts.{word_of}
-use Rattle.whole_text.specs.Steps.{Fails}
-use Rattle.whole_text.specs.Rows.{left}
-use Rattle.problem_form.specs.declared.terms.Product.{Product}
-use Rattle.problem_form.specs.NormalForm.{with_variables, with_product}
-use Rattle.problem_form.proofs.KeptProducts.{with_product-total}
-use Rattle.problem_form.specs.Problems.{ProblemContent}
-use Rattle.poly_reader.specs.Views.{products_put}
-use Rattle.poly_reader.proofs.ProductSets.{set_product, with_product-set}
-use Rattle.poly_reader.proofs.Products.{product_goes_on, product_fails, products_end}
 use Rattle.poly_reader.proofs.reading.products.Goals as goal
 
-pub returns-in_err-coefficient : goal.returns-in_err-coefficient
-returns-in_err-coefficient c =
-    let w = word_of c.in-Some.first in
-    let e = c.in_err-coefficient.field-0.0 in
-    let before = rw c.in-Some.is at c.loop-next.invariant.read in
-    let failed = product_fails e c.loop-next.problem c.loop-next.names w c.loop-next.words
-    c.in_err-coefficient.ensures.read in
-    let r = err_from_is_err_and c.from_residual.result c.from_residual.ensures.1 in
-    rw (r.1, r.2) (subst (Fails e) before failed)
-
-pub loop-next-preserved : goal.loop-next-preserved
-loop-next-preserved c =
-    let w = word_of c.in-Some.first in
-    let p = c.loop-next.problem in
-    let names = c.product.new.names in
-    let before = rw c.in-Some.is at c.loop-next.invariant.read in
-    let small = rw c.in-Some.is at c.loop-next.invariant.small in
-    let rest = left c.in_ok-coefficient.after c.product.new.words in
-    let z = c.in_ok-coefficient.coefficient in
-    let t : Product = record { literals = c.product.new.list.items; coefficient = z } in
-    let whole : to_z w128 (of_z w128 z) ≡ z = to_z-of_z w128 z (search rules) in
-    let wide : c.widen.new.self ≡ with_variables p (length names) =
-    c.widen.ensures ∙ ap (with_variables p) c.len.ensures in
-    let state : c.add_term.new.self ≡ with_product (with_variables p (length names)) t =
-    c.in_ok-add_term.ensures.added
-    ∙ (λ i. with_product (wide i) (record { literals = t.literals; coefficient = whole i })) in
-    record {
-      read = rw state
-          (ap (λ (q : ProblemContent). products_put (q, names) rest)
-          (sym (with_product-set (with_variables p (length names)) t))
-          ∙ sym (product_goes_on p c.loop-next.names names w c.loop-next.words rest (set_product t) c.in_ok-coefficient.ensures.read)
-          ∙ before);
-      small = rw state
-          (omega (
-            arith,
-            with_product-total (with_variables p (length names)) t,
-            c.in_ok-coefficient.ensures.small,
-            c.in_ok-coefficient.ensures.shorter,
-            small,
-          ));
-      counted = rw state (search rules);
-      emptied = c.in_ok-add_term.ensures.emptied;
-    }
-
-pub returns : goal.returns
-returns c =
-    let before = rw c.in_default.is at c.loop-next.invariant.read in
-    sym before ∙ products_end (c.loop-next.problem, c.loop-next.names) _ (search rules)
+pub returns-in_err-products_into : goal.returns-in_err-products_into
+returns-in_err-products_into c =
+    let p = err_from_is_err_and c.from_residual.result c.from_residual.ensures.1 in
+    rw (p.1, p.2) c.in_err-products_into.ensures

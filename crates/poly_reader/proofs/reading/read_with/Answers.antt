@@ -1,0 +1,17 @@
+use Rattle.std.proofs.Common.{Ok, sym, ◌∙◌}
+use Rattle.std.proofs.lemmas.Result.{err_from_is_err_and}
+use Rattle.poly_reader.proofs.Additions.{polynomial_fails, polynomial_read}
+use Rattle.poly_reader.proofs.reading.read_with.Goals as goal
+
+pub returns-in_err-problem : goal.returns-in_err-problem
+returns-in_err-problem c =
+    let p = err_from_is_err_and c.from_residual.result c.from_residual.ensures.1 in
+    rw (p.1, p.2)
+    (polynomial_fails c.in_err-problem.field-0.0 c.args.words c.in_err-problem.ensures)
+
+pub returns : goal.returns
+returns c =
+    let p = c.in_ok-problem.problem in
+    let names = c.products.new.names in
+    polynomial_read c.args.words p names c.in_ok-problem.ensures
+    ∙ (λ i. Ok (record { problem = p; names = sym c.in_ok-names.ensures i }))
