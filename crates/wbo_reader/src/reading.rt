@@ -56,17 +56,37 @@ fn constraint<'a>(
     Ok(())
 }
 
-/// Adds the constraints up to the end.
-fn constraints(
+/// Adds the constraints up to the end, with lists that are lent to write in.
+fn constraints_through(
+    gathered: &mut Gathered,
+    written: &mut Constraint,
+    words: &mut Words<'_>,
+    list: &mut Vec<Literal>,
+    end: u64,
+) -> Result<(), TextAnswer>
+    requires emptied { list.old.items ≡ [] }
+    requires small { wbo_total gathered.old + length words.old * 2 ^ 64 < 2 ^ 90 }
+    ensures read { Gives (λ _. gathered.new) result
+        (constraints_read gathered.old end words.old) }
+    ensures small { OnOk result (wbo_total gathered.new < 2 ^ 90) }
+{
+    while let Some(first) = words.next() {
+        constraint(first, gathered, written, words, list, end)?;
+    }
+    Ok(())
+}
+
+/// Adds the constraints up to the end, with lists of its own to write in.
+fn constraints_into(
     alloc: Global,
-    mut gathered: Gathered,
+    gathered: &mut Gathered,
     mut words: Words<'_>,
     end: u64,
-) -> Result<Gathered, TextAnswer>
-    requires { wbo_total gathered + length words * 2 ^ 64 < 2 ^ 90 }
-    ensures read { Gives (λ gathered. gathered) result
-        (constraints_read gathered end words.entry) }
-    ensures small { IfOk result (λ s. wbo_total s < 2 ^ 90) }
+) -> Result<(), TextAnswer>
+    requires { wbo_total gathered.old + length words * 2 ^ 64 < 2 ^ 90 }
+    ensures read { Gives (λ _. gathered.new) result
+        (constraints_read gathered.old end words.entry) }
+    ensures small { OnOk result (wbo_total gathered.new < 2 ^ 90) }
 {
     let mut list = Vec::new(alloc);
     let mut written = Constraint {
@@ -74,16 +94,22 @@ fn constraints(
         bound: 0,
         exact: false,
     };
-    while let Some(first) = words.next() {
-        constraint(
-            first,
-            &mut gathered,
-            &mut written,
-            &mut words,
-            &mut list,
-            end,
-        )?;
-    }
+    constraints_through(gathered, &mut written, &mut words, &mut list, end)
+}
+
+/// Adds the constraints up to the end.
+fn constraints(
+    alloc: Global,
+    mut gathered: Gathered,
+    words: Words<'_>,
+    end: u64,
+) -> Result<Gathered, TextAnswer>
+    requires { wbo_total gathered + length words * 2 ^ 64 < 2 ^ 90 }
+    ensures read { Gives (λ gathered. gathered) result
+        (constraints_read gathered end words.entry) }
+    ensures small { IfOk result (λ s. wbo_total s < 2 ^ 90) }
+{
+    constraints_into(alloc, &mut gathered, words, end)?;
     Ok(gathered)
 }
 

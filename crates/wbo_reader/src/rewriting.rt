@@ -2,6 +2,7 @@
 ghost use Rattle.std.specs.Prelude.{◌≡◌, ◌+◌, ◌<◌, ◌^◌, ◌∷◌, [], false, pos, length, IfOk, OnOk};
 ghost use Rattle.problem_form.specs.Problems.{constraint_total};
 ghost use Rattle.problem_form.specs.Fields.{IsSound};
+ghost use Rattle.problem_form.specs.NormalForm.{blank};
 ghost use Rattle.wbo_reader.specs.Rewriting.{bit_product, eased, eased_row, rewritten, rows_of, top_row, weighed_bits, with_products, with_rows};
 
 use crate::copying::{copy_products, ease, put};
@@ -174,25 +175,47 @@ impl Wbo {
         Ok(())
     }
 
-    /// The problem with a bit for each soft constraint, whose constraints stand in the order of the
-    /// text; that of the top stands last, where there is one and the weights reach it.
-    pub fn rewrite(&self, alloc: Global) -> Result<Problem, NoMemory>
-        ensures { IfOk result (λ problem. problem ≡ rewritten self.now) }
+    /// Adds the source to a problem that says nothing: a bit for each soft constraint, with its
+    /// weight, then the rows, and last that of the top.
+    fn fill(
+        &self,
+        problem: &mut Problem,
+        written: &mut Constraint,
+        literals: &mut Vec<Literal>,
+    ) -> Result<(), NoMemory>
+        requires { problem.old ≡ blank }
+        ensures { OnOk result (problem.new ≡ rewritten self.now) }
     {
-        let mut problem = Problem::new(alloc);
+        problem.widen(self.variables + self.soft.len() as u64);
+        add_weights(problem, literals, self.variables, &self.soft)?;
+        self.add_rows(problem, written, literals)?;
+        match self.top {
+            Some(top) => add_top(problem, written, literals, top),
+            None => Ok(()),
+        }
+    }
+
+    /// Adds the source to a problem that says nothing, with lists of its own to write in.
+    fn fill_anew(&self, alloc: Global, problem: &mut Problem) -> Result<(), NoMemory>
+        requires { problem.old ≡ blank }
+        ensures { OnOk result (problem.new ≡ rewritten self.now) }
+    {
         let mut literals = Vec::new(alloc);
         let mut written = Constraint {
             products: ProductList::empty(alloc),
             bound: 0,
             exact: false,
         };
-        problem.widen(self.variables + self.soft.len() as u64);
-        add_weights(&mut problem, &mut literals, self.variables, &self.soft)?;
-        self.add_rows(&mut problem, &mut written, &mut literals)?;
-        match self.top {
-            Some(top) => add_top(&mut problem, &mut written, &mut literals, top)?,
-            None => {}
-        }
+        self.fill(problem, &mut written, &mut literals)
+    }
+
+    /// The problem with a bit for each soft constraint, whose constraints stand in the order of the
+    /// text; that of the top stands last, where there is one and the weights reach it.
+    pub fn rewrite(&self, alloc: Global) -> Result<Problem, NoMemory>
+        ensures { IfOk result (λ problem. problem ≡ rewritten self.now) }
+    {
+        let mut problem = Problem::new(alloc);
+        self.fill_anew(alloc, &mut problem)?;
         Ok(problem)
     }
 }

@@ -3,7 +3,7 @@ use Rattle.std.proofs.lemmas.Result.{err_from_is_err_and}
 use Rattle.whole_text.specs.TokenTexts.{word_of}
 use Rattle.wbo_reader.specs.Gathering.{constraints_read}
 use Rattle.wbo_reader.proofs.WeighedSteps.{constraint_goes_on, constraint_fails, constraints_end}
-use Rattle.wbo_reader.proofs.reading.constraints.Goals as goal
+use Rattle.wbo_reader.proofs.reading.constraints_through.Goals as goal
 
 pub loop-first-preserved : goal.loop-first-preserved
 loop-first-preserved c =
