@@ -5,10 +5,10 @@ use ising_form::Ising;
 use std::alloc::Global;
 
 /// Nodes or qubits one after another.
-pub(crate) const IN_TURN: [u64; 12] = [0, 1, 2, 3, 4, 5, 6, 7, 8, 9, 10, 11];
+pub const IN_TURN: [u64; 12] = [0, 1, 2, 3, 4, 5, 6, 7, 8, 9, 10, 11];
 
 /// The state in which these places have the lowest bits of a number, and all others 0.
-pub(crate) fn state(
+pub fn state(
     alloc: Global,
     width: usize,
     places: &[u64],
@@ -51,7 +51,7 @@ fn fields_energy(form: &Ising, y: &[bool]) -> i128 {
 }
 
 /// The constant, each field times its spin, and each coupling times both spins.
-pub(crate) fn energy(form: &Ising, y: &[bool]) -> i128 {
+pub fn energy(form: &Ising, y: &[bool]) -> i128 {
     let mut energy = form.constant.wrapping_add(fields_energy(form, y));
     for coupling in form.couplings.iter() {
         let once = turned(y, coupling.first as usize, coupling.weight);
@@ -73,7 +73,7 @@ fn strength(form: &Ising, node: usize, field: i128) -> i128 {
 
 /// The strength of each node times the number of its ties, which is one less than that of its
 /// qubits.
-pub(crate) fn ties_cost(form: &Ising, map: &ChainMap) -> i128 {
+pub fn ties_cost(form: &Ising, map: &ChainMap) -> i128 {
     let mut cost: i128 = 0;
     for (node, field) in form.fields.as_slice().iter().enumerate() {
         if node < map.len() {
@@ -86,7 +86,7 @@ pub(crate) fn ties_cost(form: &Ising, map: &ChainMap) -> i128 {
 
 /// What the chains of a state are read as, and how many of them are broken, and how many tied.
 #[derive(Drop)]
-pub(crate) struct Reading {
+pub struct Reading {
     pub bits: Vec<bool>,
     pub broken: u64,
     pub tied: u64,
@@ -123,7 +123,7 @@ impl Reading {
 }
 
 /// Reads all chains.
-pub(crate) fn read(alloc: Global, map: &ChainMap, y: &[bool]) -> Result<Reading, NoMemory> {
+pub fn read(alloc: Global, map: &ChainMap, y: &[bool]) -> Result<Reading, NoMemory> {
     let mut reading = Reading {
         bits: Vec::new(alloc),
         broken: 0,

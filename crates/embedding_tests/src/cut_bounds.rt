@@ -6,9 +6,8 @@ ghost use Rattle.embedding_tests.specs.SmallForms.{IsSmall};
 
 use crate::arithmetic::{IN_TURN, energy, read, state};
 use crate::drawn::{draw_form, grow_map};
-use crate::forms::{Row, small_form};
+use crate::forms::{Row, map_of, small_form};
 use crate::random::Dice;
-use crate::read_states::map_of;
 use base::NoMemory;
 use chain_map::{ChainMap, CheckAnswer};
 use chimera_graph::Chimera;

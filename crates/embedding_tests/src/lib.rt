@@ -3,13 +3,13 @@
 //! states of small models, against plain arithmetic, and of the sort of keys, against that of std.
 //!
 //! The crate stands above what it tests, so that no library is proved once more with its tests. Its
-//! only item beside them is a graph with some joins taken away.
+//! items beside them are a graph with some joins taken away, and the forms, maps and plain
+//! arithmetic that tests of models on chains need as well.
 #![tactic(auto)]
 
 #[cfg(test)]
 mod all_states;
-#[cfg(test)]
-mod arithmetic;
+pub mod arithmetic;
 mod cut;
 #[cfg(test)]
 mod cut_bounds;
@@ -17,8 +17,7 @@ mod cut_bounds;
 mod dead_parts;
 #[cfg(test)]
 mod drawn;
-#[cfg(test)]
-mod forms;
+pub mod forms;
 #[cfg(test)]
 mod keys;
 #[cfg(test)]
@@ -27,5 +26,3 @@ mod maps;
 mod plain;
 #[cfg(test)]
 mod random;
-#[cfg(test)]
-mod read_states;

@@ -1,4 +1,4 @@
-//! Tests of what finds optima, over all states of small models.
+//! Tests of what finds optima, and of what is read off states, over all states of small models.
 //!
 //! The crate is a library without items. It stands above what it tests, so that no library is proved
 //! once more with its tests.
@@ -8,5 +8,7 @@
 mod certificates;
 #[cfg(test)]
 mod drawn;
+#[cfg(test)]
+mod read_states;
 #[cfg(test)]
 mod solving;

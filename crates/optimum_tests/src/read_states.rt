@@ -2,13 +2,13 @@
 ghost use Rattle.std.specs.Prelude.{◌≤◌, length};
 ghost use Rattle.embedding_tests.specs.SmallForms.{IsSmall};
 
-use crate::arithmetic::{IN_TURN, read, state};
-use crate::forms::{Row, small_form};
 use base::{Figures, NoMemory, UnitChoice};
 use bits_model::{ChainList, Kind, OutputModel};
 use chain_map::{ChainMap, CheckAnswer};
 use chimera_graph::Chimera;
 use command_words::Ties;
+use embedding_tests::arithmetic::{IN_TURN, read, state};
+use embedding_tests::forms::{Row, map_of, small_form};
 use ising_form::Ising;
 use model_pipeline::{Perch, Qubits, Site, form_on_qubits};
 use quad_form::Quad;
@@ -83,15 +83,6 @@ fn are_read_by_chains(
         Ok(model) => are_read(alloc, &model, Some(map), variables),
         Err(_) => Ok(false),
     }
-}
-
-/// The map of these chains.
-pub(crate) fn map_of(alloc: Global, chains: &[&[u64]]) -> Result<ChainMap, NoMemory> {
-    let mut map = ChainMap::new(alloc);
-    for chain in chains {
-        map.push(*chain)?;
-    }
-    Ok(map)
 }
 
 const FIELDS: [i128; 3] = [3, -2, 0];
