@@ -24,17 +24,29 @@ use Rattle.pair_sums.specs.Pairs.{IsPair}
 use Rattle.long_terms.specs.Apart.{short_terms}
 use Rattle.direct_quad.specs.Places.{Share, share_at, short_couplers, short_shares, short_constant}
 use Rattle.long_terms.specs.Long.{product_term}
-use Rattle.direct_quad.specs.RowSums.{size_of}
+use Rattle.direct_quad.specs.RowSums.{size_of, with_weight}
 use Rattle.direct_quad.specs.Held.{HeldContent, AreHeld, IsHeld, Gain}
 use Rattle.direct_quad.proofs.Gathering.{short-more, long-more}
 use Rattle.direct_quad.proofs.KeyPlaces.{weight_total-append}
 use Rattle.direct_quad.proofs.PartPairs.{short_couplers-pairs}
 use Rattle.direct_quad.proofs.PartSizes.{short_constant-size, short_couplers-size}
+use Rattle.direct_quad.proofs.SummedRows.{length-with_weight, size-with_weight, value-with_weight}
 
 -- ---- shares added
 
 pub share_at-append : (i : ℕ) (s u : List Share) → share_at i (s ++ u) ≡ share_at i s +ℤ share_at i u
 share_at-append i s u = total_by-append (λ (x : Share). if_so (eqb i x.0) x.1) s u
+
+-- one share, added to the weight of its node
+pub gain-one : (ws new : List ℤ) (i most : ℕ) (c z : ℤ) → i < length ws → z ≡ c
+    → unsigned_abs c ≤ most → new ≡ with_weight ws i z → Gain ((i, c) ∷ []) most ws new
+gain-one ws new i most c z in' is low made =
+    subst (λ us. Gain ((i, c) ∷ []) most ws us) (sym (made ∙ ap (with_weight ws i) is))
+    (record {
+      width = length-with_weight ws i c;
+      weights = λ k here. omega (arith, ints, value-with_weight ws k i c in');
+      small = omega (arith, size-with_weight ws i c in', low);
+    })
 
 -- first some, and then others
 pub gain-both : (s u : List Share) (m k : ℕ) (a b c : List ℤ) → Gain s m a b → Gain u k b c

@@ -1,12 +1,19 @@
 //! Additions that are gathered, and become a quadratic form at once.
-ghost use Rattle.std.specs.Prelude.{◌≡◌, ◌+◌, ◌*◌, ◌≤◌, ◌<◌, ◌^◌, [], IfOk, OnOk, OnErr, length, unsigned_abs};
+ghost use Rattle.std.specs.Prelude.{◌≡◌, ◌+◌, ◌*◌, ◌≤◌, ◌<◌, ◌^◌, ◌++◌, [], All, IfOk, OnOk, OnErr, ◌+ℤ◌, length, unsigned_abs};
+ghost use Rattle.base.specs.Sums.{total_by};
+ghost use Rattle.bits_model.specs.Output.{weight_total};
 ghost use Rattle.problem_form.specs.Problems.{products_total};
-ghost use Rattle.term_table.specs.Terms.{IsTermSet};
+ghost use Rattle.term_table.specs.Terms.{IsTermSet, terms_total};
 ghost use Rattle.term_table.specs.Tables.{TableContent, AreAdditions, with_appended};
+ghost use Rattle.pair_sums.specs.Pairs.{IsPair};
 ghost use Rattle.long_terms.specs.Apart.{long_terms, table_of};
+ghost use Rattle.long_terms.specs.Long.{node_count};
 ghost use Rattle.direct_quad.specs.Parts.{image, short_part};
-ghost use Rattle.direct_quad.specs.Held.{AreHeld, HasPlaces, nodes_with};
-ghost use Rattle.direct_quad.specs.Gathered.{AreSumsOf};
+ghost use Rattle.direct_quad.specs.Held.{AreHeld, Gains, HasPlaces, nodes_with, widened};
+ghost use Rattle.direct_quad.specs.Gathered.{AreSumsOf, couplers_of_long};
+ghost use Rattle.direct_quad.specs.Places.{all_shares, long_constant};
+ghost use Rattle.direct_quad.specs.Rows.{AreRows};
+ghost use Rattle.direct_quad.specs.RowSums.{size_of};
 ghost use Rattle.direct_quad.specs.NewNodes.{AreOfTerms};
 ghost use Rattle.direct_quad.specs.Stated.{IsWithin};
 
@@ -26,14 +33,12 @@ use std::alloc::Global;
 use std::marker::Model;
 use term_table::Gather;
 
-/// What a quadratic form is made of: its constant, the weights of its nodes, its couplers, and the
-/// long terms that its new nodes stand for.
+/// What a quadratic form is made of: its constant, the weights of its nodes, and its couplers.
 #[derive(Drop)]
 struct Sums {
     constant: i128,
     weights: Vec<i128>,
     couplers: CouplerList,
-    long: LongTable,
 }
 
 /// Sets with coefficients, of which a quadratic form is to be made. Those of at most two literals
@@ -79,6 +84,37 @@ fn products_total(products: &ProductList) -> u128
         total += product.coefficient.unsigned_abs();
     }
     total
+}
+
+/// The sums of a constant, the weights of nodes and pairs, with what long terms give. The pairs and
+/// the weights are let go as soon as they are used.
+fn sums_with(
+    alloc: Global,
+    constant: i128,
+    weights: Vec<i128>,
+    pairs: GatheredPairs,
+    long: &LongTable,
+) -> Result<Sums, NoMemory>
+    requires width { length weights.items ≡ long.now.width }
+    requires pairs { All (IsPair long.now.width) pairs }
+    requires constant { unsigned_abs constant + unsigned_abs (total_by long_constant long.now.terms)
+        ≤ 2 ^ 126 }
+    requires weights { size_of weights.items + terms_total long.now.terms * 2 ^ 24 ≤ 2 ^ 126 }
+    requires couplers { weight_total pairs + terms_total long.now.terms * 2 ^ 24 ≤ 2 ^ 126 }
+    ensures constant { IfOk result (λ sums.
+        sums.constant ≡ constant +ℤ total_by long_constant long.now.terms) }
+    ensures weights { IfOk result (λ sums. Gains (all_shares long.now.terms long.now.width)
+        (widened (node_count long.now) weights.items) sums.weights.items) }
+    ensures couplers { IfOk result (λ sums. AreRows (node_count long.now) long.now.width
+        (pairs ++ couplers_of_long long.now.terms long.now.width) sums.couplers) }
+{
+    let couplers = couplers_of(alloc, pairs, long)?;
+    let (weights, more) = with_long(weights, long)?;
+    Ok(Sums {
+        constant: constant + more,
+        weights,
+        couplers,
+    })
 }
 
 impl DirectTerms {
@@ -214,16 +250,17 @@ impl DirectTerms {
         })
     }
 
-    /// The sums of what all additions give, with new nodes for long terms. Each list is let go as
-    /// soon as it is used.
-    fn into_sums(self, alloc: Global) -> Result<Sums, NoMemory>
+    /// The sums of what all additions give, and the long terms, for which they have new nodes. Each
+    /// list is let go as soon as it is used.
+    fn into_sums(self, alloc: Global) -> Result<(Sums, LongTable), NoMemory>
         requires narrow { nodes_with (length self.weights) self.long < 2 ^ 32 }
         ensures sums { (t : TableContent) → AreAdditions t → AreHeld t self
-            → IfOk result (λ sums.
-            AreSumsOf t sums.constant sums.weights.items sums.couplers) }
+            → IfOk result (λ made.
+            AreSumsOf t made.0.constant made.0.weights.items made.0.couplers) }
         ensures long { (t : TableContent) → AreHeld t self
-            → IfOk result (λ sums. sums.long.terms ≡ long_terms t.terms) }
+            → IfOk result (λ made. made.1.terms ≡ long_terms t.terms) }
     {
+        let table = LongTable::of(alloc, self.weights.len(), &self.long)?;
         let DirectTerms {
             constant,
             weights,
@@ -231,16 +268,9 @@ impl DirectTerms {
             long,
             ..
         } = self;
-        let table = LongTable::of(alloc, weights.len(), &long)?;
         drop(long);
-        let couplers = couplers_of(alloc, pairs, &table)?;
-        let (weights, more) = with_long(weights, &table)?;
-        Ok(Sums {
-            constant: constant + more,
-            weights,
-            couplers,
-            long: table,
-        })
+        let sums = sums_with(alloc, constant, weights, pairs, &table)?;
+        Ok((sums, table))
     }
 
     /// The quadratic form of all additions: each set summed, longer ones replaced, and all
@@ -252,12 +282,12 @@ impl DirectTerms {
         ensures new_nodes { (t : TableContent) → AreHeld t self
             → IfOk result (λ form. AreOfTerms (table_of t) form.new_nodes) }
     {
+        let (sums, long) = self.into_sums(alloc)?;
         let Sums {
             constant,
             weights,
             couplers,
-            long,
-        } = self.into_sums(alloc)?;
+        } = sums;
         Ok(DirectForm {
             quad: Quad {
                 constant,

@@ -18,22 +18,22 @@ pub invariant_of-result : goal.invariant_of-result
 invariant_of-result c =
     let t = c.requires.held.0 in
     let within = c.requires.held.1 in
-    let one = c.in_ok-constant.field-0 in
+    let one = c.in_ok-sums.sums in
     let q : QuadContent = record { constant = to_z w128 (of_z w128 one.constant); diagonal = c.new.result; couplers = one.couplers } in
     let sums : IsSumOf t q =
     made_sums t one.constant _ one.weights.items _ one.couplers (to_z-of_z w128 one.constant (search rules)) c.new.ensures
-    (c.in_ok-constant.ensures.sums t within.additions c.requires.held.2) in
+    (c.in_ok-sums.ensures.sums t within.additions c.requires.held.2) in
     sums-quad t q within sums
 
 pub returns-clause-quad : goal.returns-clause-quad
 returns-clause-quad c t within held =
-    let one = c.in_ok-constant.field-0 in
+    let one = c.in_ok-sums.sums in
     let q : QuadContent = record { constant = to_z w128 (of_z w128 one.constant); diagonal = c.new.result; couplers = one.couplers } in
     let sums : IsSumOf t q =
     made_sums t one.constant _ one.weights.items _ one.couplers (to_z-of_z w128 one.constant (search rules)) c.new.ensures
-    (c.in_ok-constant.ensures.sums t within.additions held) in
+    (c.in_ok-sums.ensures.sums t within.additions held) in
     sum_is_image t q within sums
 
 pub returns-clause-new_nodes : goal.returns-clause-new_nodes
 returns-clause-new_nodes c t held x =
-    ap (λ us. extension x us) (c.in_ok-constant.ensures.long t held) ∙ ap (λ bs. x ++ bs) (bits-long x t.terms)
+    ap (λ us. extension x us) (c.in_ok-sums.ensures.long t held) ∙ ap (λ bs. x ++ bs) (bits-long x t.terms)
