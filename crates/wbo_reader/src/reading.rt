@@ -56,52 +56,11 @@ fn constraint<'a>(
     Ok(())
 }
 
-/// Adds the constraints up to the end, with lists that are lent to write in.
-fn constraints_through(
-    gathered: &mut Gathered,
-    written: &mut Constraint,
-    words: &mut Words<'_>,
-    list: &mut Vec<Literal>,
-    end: u64,
-) -> Result<(), TextAnswer>
-    requires emptied { list.old.items ≡ [] }
-    requires small { wbo_total gathered.old + length words.old * 2 ^ 64 < 2 ^ 90 }
-    ensures read { Gives (λ _. gathered.new) result
-        (constraints_read gathered.old end words.old) }
-    ensures small { OnOk result (wbo_total gathered.new < 2 ^ 90) }
-{
-    while let Some(first) = words.next() {
-        constraint(first, gathered, written, words, list, end)?;
-    }
-    Ok(())
-}
-
-/// Adds the constraints up to the end, with lists of its own to write in.
-fn constraints_into(
-    alloc: Global,
-    gathered: &mut Gathered,
-    mut words: Words<'_>,
-    end: u64,
-) -> Result<(), TextAnswer>
-    requires { wbo_total gathered.old + length words * 2 ^ 64 < 2 ^ 90 }
-    ensures read { Gives (λ _. gathered.new) result
-        (constraints_read gathered.old end words.entry) }
-    ensures small { OnOk result (wbo_total gathered.new < 2 ^ 90) }
-{
-    let mut list = Vec::new(alloc);
-    let mut written = Constraint {
-        products: ProductList::empty(alloc),
-        bound: 0,
-        exact: false,
-    };
-    constraints_through(gathered, &mut written, &mut words, &mut list, end)
-}
-
 /// Adds the constraints up to the end.
 fn constraints(
     alloc: Global,
     mut gathered: Gathered,
-    words: Words<'_>,
+    mut words: Words<'_>,
     end: u64,
 ) -> Result<Gathered, TextAnswer>
     requires { wbo_total gathered + length words * 2 ^ 64 < 2 ^ 90 }
@@ -109,7 +68,22 @@ fn constraints(
         (constraints_read gathered end words.entry) }
     ensures small { IfOk result (λ s. wbo_total s < 2 ^ 90) }
 {
-    constraints_into(alloc, &mut gathered, words, end)?;
+    let mut list = Vec::new(alloc);
+    let mut written = Constraint {
+        products: ProductList::empty(alloc),
+        bound: 0,
+        exact: false,
+    };
+    while let Some(first) = words.next() {
+        constraint(
+            first,
+            &mut gathered,
+            &mut written,
+            &mut words,
+            &mut list,
+            end,
+        )?;
+    }
     Ok(gathered)
 }
 

@@ -1,7 +1,41 @@
+use Rattle.std.proofs.Common.{sym, ap, ◌∙◌, length, arith}
 use Rattle.std.proofs.lemmas.Result.{err_from_is_err_and}
+use Rattle.whole_text.specs.TokenTexts.{word_of}
+use Rattle.wbo_reader.specs.Gathering.{constraints_read}
+use Rattle.wbo_reader.proofs.WeighedSteps.{constraint_goes_on, constraint_fails, constraints_end}
 use Rattle.wbo_reader.proofs.reading.constraints.Goals as goal
 
-pub returns-in_err-constraints_into-clause-read : goal.returns-in_err-constraints_into-clause-read
-returns-in_err-constraints_into-clause-read c =
+pub loop-first-preserved : goal.loop-first-preserved
+loop-first-preserved c =
+    let w = word_of c.in-Some.first in
+    let before = rw c.in-Some.ensures at c.loop-first.invariant.read in
+    record {
+      read = sym (constraint_goes_on c.loop-first.gathered c.constraint.new.gathered c.args.end w
+          c.next.new.self c.constraint.new.words c.in_ok-constraint.ensures.shorter
+          c.in_ok-constraint.ensures.read)
+          ∙ before;
+      small = omega (
+        arith,
+        ap length c.in-Some.ensures,
+        c.in_ok-constraint.ensures.small,
+        c.loop-first.invariant.small,
+      );
+      emptied = c.in_ok-constraint.ensures.emptied;
+    }
+
+pub returns-in_err-constraint-clause-read : goal.returns-in_err-constraint-clause-read
+returns-in_err-constraint-clause-read c =
+    let w = word_of c.in-Some.first in
+    let e = c.in_err-constraint.field-0.0 in
+    let before = rw c.in-Some.ensures at c.loop-first.invariant.read in
+    let failed = constraint_fails e c.loop-first.gathered c.args.end w c.next.new.self
+    c.in_err-constraint.ensures.read in
     let p = err_from_is_err_and c.from_residual.result c.from_residual.ensures.1 in
-    rw (p.1, p.2) c.in_err-constraints_into.ensures.read
+    rw (p.1, p.2) (rw before at failed)
+
+pub returns-clause-read : goal.returns-clause-read
+returns-clause-read c =
+    let s = c.loop-first.gathered in
+    sym c.loop-first.invariant.read
+    ∙ ap (constraints_read s c.args.end) c.in_default.ensures.0
+    ∙ constraints_end s c.args.end

@@ -1,7 +1,7 @@
 use Rattle.std.proofs.Common.{◌≡◌, ◌+◌, ◌*◌, ◌^◌, ◌≤◌, [], length}
 use Rattle.wbo_reader.specs.Wbo.{wbo_total}
 use Rattle.wbo_reader.specs.Gathering.{constraints_read}
-use Rattle.wbo_reader.proofs.reading.constraints_through.Given as goal
+use Rattle.wbo_reader.proofs.reading.constraints.Given as goal
 
 -- the source so far, with the constraints that are left, is the source of all; and each took a word
 -- at least, and added less than 2 ^ 64 for each word to the numbers of the source
