@@ -1,6 +1,7 @@
 -- The model of a problem: what it promises of the problem.
-use Rattle.std.proofs.Common.{◌≡◌, ◌≤◌, ◌^◌, ◌*◌, ℕ, ◌+◌, ℤ, pos, ◌+ℤ◌, ◌*ℤ◌, length, take, refl, sym, ap, ◌∙◌, subst, arith}
-use Rattle.std.specs.Prelude.{unsigned_abs}
+use Rattle.std.proofs.Common.{◌≡◌, ◌≤◌, ◌<◌, ◌^◌, ◌*◌, ℕ, ◌+◌, ℤ, pos, ◌+ℤ◌, ◌*ℤ◌, length, take, refl, sym, ap, ◌∙◌, subst, arith}
+use Rattle.std.specs.Prelude.{FitsSigned, unsigned_abs}
+use Rattle.std.specs.Int.{w128}
 use Rattle.std.proofs.lemmas.Int.{ints}
 use Rattle.std.proofs.lemmas.List.{take-take}
 use Rattle.base.specs.declared.costs.Figures.{Figures}
@@ -10,6 +11,7 @@ use Rattle.form_steps.specs.Relations.{Decoding, Keeps, Relaxes, decoding_after}
 use Rattle.base.specs.Figures.{figures_after}
 use Rattle.form_steps.specs.laws.Composed.{keeps_after_relaxes}
 use Rattle.form_steps.specs.Links.{first_bits}
+use Rattle.form_steps.proofs.Growth.{fits_below}
 use Rattle.problem_form.specs.declared.limits.Normal.{Normal}
 use Rattle.problem_form.specs.declared.limits.Normal.TheVariants.{Literal, Multilinear}
 use Rattle.problem_form.specs.declared.limits.High.{High}
@@ -196,6 +198,24 @@ figures_are_stated p low = record {
 four_times_low : (z : ℤ) (most : ℕ) → unsigned_abs z ≤ most
     → unsigned_abs (pos 4 *ℤ z +ℤ pos 0) ≤ 4 * most
 four_times_low z most h = omega (arith, ints)
+
+-- a small number fits four times
+module _ (z s : ℤ) (four : s ≡ pos 4) (small : unsigned_abs z < 2 ^ 122) where
+  pub fits-times : FitsSigned w128 (z *ℤ s)
+  fits-times =
+      subst (λ k. FitsSigned w128 (z *ℤ k)) (sym four)
+      (fits_below (z *ℤ pos 4) (2 ^ 124) (omega (arith, ints, small)) (omega arith))
+
+  pub fits-product : FitsSigned w128 (s *ℤ z)
+  fits-product =
+      subst (λ k. FitsSigned w128 (k *ℤ z)) (sym four)
+      (fits_below (pos 4 *ℤ z) (2 ^ 124) (omega (arith, ints, small)) (omega arith))
+
+  pub fits-sum : (b : ℤ) → b ≡ pos 0 → FitsSigned w128 (s *ℤ z +ℤ b)
+  fits-sum b none =
+      subst (λ k. FitsSigned w128 (s *ℤ z +ℤ k)) (sym none)
+      (subst (λ k. FitsSigned w128 (k *ℤ z +ℤ pos 0)) (sym four)
+      (fits_below (pos 4 *ℤ z +ℤ pos 0) (2 ^ 124) (omega (arith, ints, small)) (omega arith)))
 
 -- the figures of its Ising form
 pub ising_figures_are_stated : (p : ProblemContent) → unsigned_abs (upper p) ≤ 2 ^ 64

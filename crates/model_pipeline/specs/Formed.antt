@@ -11,6 +11,7 @@ use Rattle.quad_form.specs.Quads as quads
 use Rattle.ising_form.specs.Isings.{IsingContent, IsIsing, ising_size, ising_total}
 use Rattle.ising_form.specs.Isings as isings
 use Rattle.model_pipeline.specs.Models.{ising_figures}
+use Rattle.model_pipeline.specs.QubitStanding.{AreSmall}
 
 -- a form that relaxes a problem in this unit, and whose states decode to their first bits
 pub record Stands (p : ProblemContent) (f : Form) (d : Decoding) (u : ℤ) (n : Figures) : Type 0 where
@@ -21,6 +22,12 @@ pub record Stands (p : ProblemContent) (f : Form) (d : Decoding) (u : ℤ) (n : 
 pub record HasRoom (q : QuadContent) : Type 0 where
   pub quad : IsQuad q
   pub total : (quad_total q + 1) * 2 ^ 2 ≤ 2 ^ 124
+
+-- figures with room for those of an Ising form, four times as great: the scale is 1 or more, and each
+-- is below 2 ^ 122 in size
+pub record HaveRoom (n : Figures) : Type 0 where
+  pub scale_low : pos 1 ≤ℤ n.scale
+  pub small : AreSmall n
 
 -- a quadratic form that relaxes a problem with the problem's figures, and has room for the steps to
 -- a model: four times its total, and on chains 2 ^ 21 times that, stay below 2 ^ 121

@@ -1,10 +1,10 @@
 //! The Ising form of a problem, by the steps that a command chooses.
-ghost use Rattle.std.specs.Prelude.{◌≡◌, ◌<◌, ◌≤◌, ◌+◌, ◌*◌, ◌^◌, ◌≤ℤ◌, pos, unsigned_abs, None, IfOk, OnOk};
+ghost use Rattle.std.specs.Prelude.{◌≡◌, ◌≤◌, ◌+◌, ◌*◌, ◌^◌, None, IfOk, OnOk};
 ghost use Rattle.problem_form.specs.Limits.{limit_fault};
 ghost use Rattle.quad_form.specs.Quads.{IsQuad, quad_size, quad_total};
 ghost use Rattle.ising_form.specs.Spins.{image};
 ghost use Rattle.model_pipeline.specs.Models.{ising_figures};
-ghost use Rattle.model_pipeline.specs.Formed.{IsSpun};
+ghost use Rattle.model_pipeline.specs.Formed.{HaveRoom, IsSpun};
 ghost use Rattle.model_pipeline.specs.GraphModels.{ising_of};
 ghost use Rattle.model_pipeline.specs.Kept.{Keeps};
 
@@ -26,13 +26,10 @@ pub struct FiguredIsing {
 }
 
 /// The Ising form of a quadratic form, which is let go.
-fn spun_quad(alloc: Global, quad: Quad, figures: Figures) -> Result<FiguredIsing, NoMemory>
+pub fn spun_quad(alloc: Global, quad: Quad, figures: Figures) -> Result<FiguredIsing, NoMemory>
     requires total { (quad_total quad + 1) * 2 ^ 2 ≤ 2 ^ 124 }
     requires size { quad_size quad * 2 ^ 1 ≤ 2 ^ 32 }
-    requires scale_low { pos 1 ≤ℤ figures.scale }
-    requires scale { unsigned_abs figures.scale < 2 ^ 122 }
-    requires offset { unsigned_abs figures.offset < 2 ^ 122 }
-    requires threshold { unsigned_abs figures.threshold < 2 ^ 122 }
+    requires figures { HaveRoom figures }
     ensures made { IfOk result (λ made.
         (made.ising ≡ image quad) × (made.figures ≡ ising_figures figures)) }
 
@@ -41,9 +38,10 @@ fn spun_quad(alloc: Global, quad: Quad, figures: Figures) -> Result<FiguredIsing
 {
     let made = ToSpins.lower(alloc, &quad)?;
     drop(quad);
+    let figures = figures.after(made.scale, made.offset);
     Ok(FiguredIsing {
         ising: made.target,
-        figures: figures.after(made.scale, made.offset),
+        figures,
     })
 }
 

@@ -4,12 +4,13 @@ ghost use Rattle.std.specs.Prelude.{◌≡◌, ◌≤◌, ◌<◌, ◌+◌, ◌*
 ghost use Rattle.quad_form.specs.Quads.{IsQuad, quad_size, quad_total};
 ghost use Rattle.ising_form.specs.Spins.{image};
 ghost use Rattle.model_pipeline.specs.Models.{form_model, ising_figures, ising_model, qubo_model};
+ghost use Rattle.model_pipeline.specs.Formed.{HaveRoom};
 
+use crate::spins::{FiguredIsing, spun_quad};
 use base::{Figures, NoMemory, UnitChoice};
 use bits_model::{ChainList, Kind, OutputModel};
 use command_words::NodeModel;
-use form_steps::Layer;
-use ising_form::{Ising, ToSpins};
+use ising_form::Ising;
 use quad_form::Quad;
 use std::alloc::Global;
 
@@ -77,20 +78,15 @@ pub fn spins_model(
     requires enough { variables ≤ length quad.diagonal }
     requires total { (quad_total quad + 1) * 2 ^ 2 ≤ 2 ^ 124 }
     requires size { quad_size quad * 2 ^ 1 ≤ 2 ^ 32 }
-    requires scale_low { pos 1 ≤ℤ figures.scale }
-    requires scale { unsigned_abs figures.scale < 2 ^ 122 }
-    requires offset { unsigned_abs figures.offset < 2 ^ 122 }
-    requires threshold { unsigned_abs figures.threshold < 2 ^ 122 }
+    requires figures { HaveRoom figures }
     ensures model { IfOk result (λ m.
         m ≡ ising_model unit (image quad) variables (ising_figures figures)) }
 
     // What the laws of the model rest on.
     ensures kept { IsQuad quad }
 {
-    let made = ToSpins.lower(alloc, &quad)?;
-    drop(quad);
-    let figures = figures.after(made.scale, made.offset);
-    ising_model(alloc, made.target, variables, figures, unit)
+    let FiguredIsing { ising, figures } = spun_quad(alloc, quad, figures)?;
+    ising_model(alloc, ising, variables, figures, unit)
 }
 
 /// The model of a quadratic form for a target.
@@ -105,10 +101,7 @@ pub fn form_model(
     requires enough { variables ≤ length quad.diagonal }
     requires total { (quad_total quad + 1) * 2 ^ 2 ≤ 2 ^ 124 }
     requires size { quad_size quad * 2 ^ 1 ≤ 2 ^ 32 }
-    requires scale_low { pos 1 ≤ℤ figures.scale }
-    requires scale { unsigned_abs figures.scale < 2 ^ 122 }
-    requires offset { unsigned_abs figures.offset < 2 ^ 122 }
-    requires threshold { unsigned_abs figures.threshold < 2 ^ 122 }
+    requires figures { HaveRoom figures }
     ensures model { IfOk result (λ m. m ≡ form_model target unit quad variables figures) }
 
     // What the laws of the model rest on.

@@ -11,22 +11,17 @@ pub form_model-requires-clause-enough : goal.form_model-requires-clause-enough
 form_model-requires-clause-enough g c =
     omega (arith, c.in_ok-made.ensures.stands.enough, c.requires.own)
 
-pub form_model-requires-clause-scale_low : goal.form_model-requires-clause-scale_low
-form_model-requires-clause-scale_low g c =
-    omega (arith, ints, ap (λ (n : Figures). n.scale) c.in_ok-made.ensures.stands.figures)
-
-pub form_model-requires-clause-scale : goal.form_model-requires-clause-scale
-form_model-requires-clause-scale g c =
-    omega (arith, ints, ap (λ (n : Figures). unsigned_abs n.scale) c.in_ok-made.ensures.stands.figures)
-
-pub form_model-requires-clause-offset : goal.form_model-requires-clause-offset
-form_model-requires-clause-offset g c =
-    omega (arith, ints, ap (λ (n : Figures). unsigned_abs n.offset) c.in_ok-made.ensures.stands.figures)
-
-pub form_model-requires-clause-threshold : goal.form_model-requires-clause-threshold
-form_model-requires-clause-threshold g c =
+pub form_model-requires-clause-figures : goal.form_model-requires-clause-figures
+form_model-requires-clause-figures g c =
     let stands = c.in_ok-made.ensures.stands in
-    omega (arith, ap (λ (n : Figures). unsigned_abs n.threshold) stands.figures, stands.threshold)
+    record {
+      scale_low = omega (arith, ints, ap (λ (n : Figures). n.scale) stands.figures);
+      small = record {
+        scale = omega (arith, ints, ap (λ (n : Figures). unsigned_abs n.scale) stands.figures);
+        offset = omega (arith, ints, ap (λ (n : Figures). unsigned_abs n.offset) stands.figures);
+        threshold = omega (arith, ap (λ (n : Figures). unsigned_abs n.threshold) stands.figures, stands.threshold);
+      };
+    }
 
 pub returns-clause-image : goal.returns-clause-image
 returns-clause-image g c =

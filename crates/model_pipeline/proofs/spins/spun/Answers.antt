@@ -7,22 +7,17 @@ use Rattle.ising_form.specs.Spins.{image}
 use Rattle.model_pipeline.proofs.GraphModels.{spun_as}
 use Rattle.model_pipeline.proofs.spins.spun.Goals as goal
 
-pub spun_quad-requires-clause-scale_low : goal.spun_quad-requires-clause-scale_low
-spun_quad-requires-clause-scale_low g c =
-    omega (arith, ints, ap (λ (n : Figures). n.scale) c.in_ok-made.ensures.stands.figures)
-
-pub spun_quad-requires-clause-scale : goal.spun_quad-requires-clause-scale
-spun_quad-requires-clause-scale g c =
-    omega (arith, ints, ap (λ (n : Figures). unsigned_abs n.scale) c.in_ok-made.ensures.stands.figures)
-
-pub spun_quad-requires-clause-offset : goal.spun_quad-requires-clause-offset
-spun_quad-requires-clause-offset g c =
-    omega (arith, ints, ap (λ (n : Figures). unsigned_abs n.offset) c.in_ok-made.ensures.stands.figures)
-
-pub spun_quad-requires-clause-threshold : goal.spun_quad-requires-clause-threshold
-spun_quad-requires-clause-threshold g c =
+pub spun_quad-requires-clause-figures : goal.spun_quad-requires-clause-figures
+spun_quad-requires-clause-figures g c =
     let stands = c.in_ok-made.ensures.stands in
-    omega (arith, ap (λ (n : Figures). unsigned_abs n.threshold) stands.figures, stands.threshold)
+    record {
+      scale_low = omega (arith, ints, ap (λ (n : Figures). n.scale) stands.figures);
+      small = record {
+        scale = omega (arith, ints, ap (λ (n : Figures). unsigned_abs n.scale) stands.figures);
+        offset = omega (arith, ints, ap (λ (n : Figures). unsigned_abs n.offset) stands.figures);
+        threshold = omega (arith, ap (λ (n : Figures). unsigned_abs n.threshold) stands.figures, stands.threshold);
+      };
+    }
 
 pub returns-clause-image : goal.returns-clause-image
 returns-clause-image g c =

@@ -1,21 +1,37 @@
-use Rattle.std.proofs.Common.{◌*ℤ◌, length, ◌∙◌, ap, arith, rules}
-use Rattle.std.specs.Int.{w128}
-use Rattle.std.proofs.lemmas.Int.{ints, to_z-of_z}
+use Rattle.std.proofs.Common.{length, ◌∙◌, ap, arith}
+use Rattle.std.proofs.lemmas.Int.{ints}
+use Rattle.std.proofs.lemmas.Result.{IfOk-weaker}
 use Rattle.base.specs.declared.costs.Figures.{Figures}
 use Rattle.ising_form.specs.Isings.{IsingContent}
 use Rattle.ising_form.specs.Spins.{coupled}
 use Rattle.ising_form.specs.laws.Spun.{length-fields}
+use Rattle.model_pipeline.specs.Models.{ising_model}
 use Rattle.model_pipeline.proofs.written.spins_model.Goals as goal
 
 pub ising_model-requires-clause-enough : goal.ising_model-requires-clause-enough
 ising_model-requires-clause-enough c =
     let q = c.args.quad in
-    let fields = ap (λ (f : IsingContent). length f.fields) c.in_ok-made.ensures.image in
+    let fields = ap (λ (f : IsingContent). length f.fields) c.in_ok-ising.ensures.made.0 in
     omega (arith, fields, length-fields (coupled q.couplers) 0 q.diagonal, c.requires.enough)
 
 pub ising_model-requires-clause-scale : goal.ising_model-requires-clause-scale
 ising_model-requires-clause-scale c =
-    let back = to_z-of_z w128 c.in_ok-made.made.scale (search rules) in
-    let scale = ap (λ (n : Figures). n.scale) c.after-figures.ensures
-    ∙ ap (λ z. c.args.figures.scale *ℤ z) (back ∙ c.in_ok-made.ensures.scale) in
-    omega (arith, ints, scale, c.requires.scale_low)
+    let scale = ap (λ (n : Figures). n.scale) c.in_ok-ising.ensures.made.1 in
+    omega (arith, ints, scale, c.requires.figures.scale_low)
+
+pub ising_model-requires-clause-offset : goal.ising_model-requires-clause-offset
+ising_model-requires-clause-offset c =
+    let offset = ap (λ (n : Figures). n.offset) c.in_ok-ising.ensures.made.1 in
+    omega (arith, ints, offset, c.requires.figures.small.offset)
+
+pub ising_model-requires-clause-threshold : goal.ising_model-requires-clause-threshold
+ising_model-requires-clause-threshold c =
+    let threshold = ap (λ (n : Figures). n.threshold) c.in_ok-ising.ensures.made.1 in
+    omega (arith, ints, threshold, c.requires.figures.small.threshold)
+
+pub returns-clause-model : goal.returns-clause-model
+returns-clause-model c =
+    let made = c.in_ok-ising.ensures.made in
+    IfOk-weaker c.ising_model.result _ _
+    (λ m same. same ∙ (λ i. ising_model c.args.unit (made.0 i) c.args.variables (made.1 i)))
+    c.ising_model.ensures
