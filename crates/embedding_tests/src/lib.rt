@@ -9,7 +9,7 @@
 
 #[cfg(test)]
 mod all_states;
-pub mod arithmetic;
+mod arithmetic;
 mod cut;
 #[cfg(test)]
 mod cut_bounds;
@@ -17,7 +17,7 @@ mod cut_bounds;
 mod dead_parts;
 #[cfg(test)]
 mod drawn;
-pub mod forms;
+mod forms;
 #[cfg(test)]
 mod keys;
 #[cfg(test)]
@@ -26,3 +26,6 @@ mod maps;
 mod plain;
 #[cfg(test)]
 mod random;
+
+pub use arithmetic::{IN_TURN, Reading, read, state};
+pub use forms::{Row, map_of, small_form};

@@ -1,5 +1,5 @@
 -- What a model that is made promises of its plan.
-use Rattle.std.proofs.Common.{◌≤◌, ◌^◌, ℕ, Ok, Err, Result, IfOk, arith}
+use Rattle.std.proofs.Common.{◌≡◌, ◌≤◌, ◌^◌, ℕ, Ok, Err, Result, IfOk, arith}
 use Rattle.base.specs.declared.unit.UnitChoice.{UnitChoice}
 use Rattle.bits_model.specs.Output.{Written, weight_total}
 use Rattle.faithful.specs.Bounds.{IsBounded}
@@ -35,3 +35,13 @@ small_weights plan m made =
     let bounded = bounded_on plan.base plan.choices plan.unit plan.read.variables
     plan.read.problem m made.stands in
     omega (arith, bounded.weights)
+
+variables_on : (base : Placement) (choices : Choices) (unit : UnitChoice) (own : ℕ)
+    (p : ProblemContent) (m : Written) → StandsOn base choices unit own p m → m.variables ≡ own
+variables_on (Nodes target) choices unit own p m stands = stands.variables
+variables_on (Qubits site) choices unit own p m stands = stands.variables
+
+pub own_variables : (plan : Plan) (m : Written) → IsModelled plan m
+    → m.variables ≡ plan.read.variables
+own_variables plan m made =
+    variables_on plan.base plan.choices plan.unit plan.read.variables plan.read.problem m made.stands

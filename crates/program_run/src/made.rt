@@ -145,6 +145,26 @@ fn unsolved(answer: SolveAnswer) -> Status
     }
 }
 
+/// Solves a model of a plan, and says what its first least state tells.
+fn solved(alloc: Global, plan: &Plan, model: &OutputModel) -> Result<Vec<u8>, Status>
+    requires kept { KeepsSoft plan.now.read }
+    requires modelled { IsModelled plan.now model.now }
+    ensures step { EndsOf (ended result) plan.now (λ m. ends (width_end (wide_below m m.nodes))) }
+    ensures answer { IfOk result (λ text. IsMadeText Ask.Solve plan.now
+        (λ m. ends (width_end (wide_below m m.nodes))) text.items) }
+    ensures some { IfOk result (λ text. text.items ≢ []) }
+    ensures refusal { IfErr result IsUnsolved }
+{
+    let state = match solve(alloc, model) {
+        Ok(state) => state,
+        Err(answer) => return Err(unsolved(answer)),
+    };
+    match solved_text(alloc, &plan.read, model, &state) {
+        Ok(text) => Ok(text),
+        Err(_) => Err(Status::NoMemory),
+    }
+}
+
 /// Solves the model of a plan, and says what its first least state tells.
 pub fn answer_solved(alloc: Global, plan: &Plan) -> Result<Vec<u8>, Status>
     requires within { limit_fault plan.now.choices.normal plan.now.read.problem ≡ None }
@@ -156,15 +176,45 @@ pub fn answer_solved(alloc: Global, plan: &Plan) -> Result<Vec<u8>, Status>
     ensures refusal { IfErr result IsUnsolved }
 {
     let mut kept = Keeping::Unwanted;
-    let model = match model_lent(alloc, plan, &mut kept) {
-        Ok(model) => model,
+    match model_lent(alloc, plan, &mut kept) {
+        Ok(model) => solved(alloc, plan, &model),
+        Err(status) => Err(status),
+    }
+}
+
+/// Takes a state of a model, or an assignment of its source, from the file of this name, and says what
+/// is asked of it.
+fn state_told<F: Files>(
+    alloc: Global,
+    words: &[String],
+    command: Command,
+    at: WordAt,
+    plan: &Plan,
+    model: &OutputModel,
+    kept: &Keeping,
+    files: &mut F,
+) -> Result<Vec<u8>, Status>
+    requires asked { state_of command.ask ≡ Some at }
+    requires within { limit_fault plan.now.choices.normal plan.now.read.problem ≡ None }
+    requires soft { KeepsSoft plan.now.read }
+    requires modelled { IsModelled plan.now model.now }
+    requires kept { Keeps plan.now.choices plan.now.read.problem
+        (keeping_for command.ask) kept.now }
+    ensures step { WhereHeld (F.held files.old) (last_files command) (λ held.
+        EndsOf (ended result) plan.now
+        (last_step (spelled words.now) held command.ask plan.now)) }
+    ensures files { AreFilesOf (named_in words.now command) []
+        (last_files command) (ended result) (F.counts files.old) (F.counts files.new) }
+    ensures answer { IfOk result (λ text. WhereHeld (F.held files.old) (last_files command) (λ held.
+        IsMadeTextOf (spelled words.now) held command.ask plan.now text.items)) }
+    ensures some { IfOk result (λ text. text.items ≢ []) }
+    ensures refusal { IfErr result IsRefusal }
+{
+    let bits = match take_last(alloc, words, command, at, plan, model, files) {
+        Ok(bits) => bits,
         Err(status) => return Err(status),
     };
-    let state = match solve(alloc, &model) {
-        Ok(state) => state,
-        Err(answer) => return Err(unsolved(answer)),
-    };
-    match solved_text(alloc, &plan.read, &model, &state) {
+    match told(alloc, command.ask, plan, model, kept, &bits) {
         Ok(text) => Ok(text),
         Err(_) => Err(Status::NoMemory),
     }
@@ -194,16 +244,8 @@ pub fn answer_state<F: Files>(
     ensures refusal { IfErr result IsRefusal }
 {
     let mut kept = keeping_for(command.ask);
-    let model = match model_lent(alloc, plan, &mut kept) {
-        Ok(model) => model,
-        Err(status) => return Err(status),
-    };
-    let bits = match take_last(alloc, words, command, at, plan, &model, files) {
-        Ok(bits) => bits,
-        Err(status) => return Err(status),
-    };
-    match told(alloc, command.ask, plan, &model, &kept, &bits) {
-        Ok(text) => Ok(text),
-        Err(_) => Err(Status::NoMemory),
+    match model_lent(alloc, plan, &mut kept) {
+        Ok(model) => state_told(alloc, words, command, at, plan, &model, &kept, files),
+        Err(status) => Err(status),
     }
 }
