@@ -1,7 +1,7 @@
 -- The energy of a state, entry by entry.
-use Rattle.std.proofs.Common.{◌≡◌, ℕ, ◌+◌, ◌≤◌, ℤ, ◌+ℤ◌, unsigned_abs, Bool, true, false, cond, List, [], ◌∷◌, ap, ◌∙◌, ◌<◌, length, take, get_or, arith}
+use Rattle.std.proofs.Common.{◌≡◌, ℕ, ◌+◌, ◌≤◌, ℤ, ◌+ℤ◌, unsigned_abs, Bool, true, false, cond, List, [], ◌∷◌, ◌++◌, ap, ◌∙◌, ◌<◌, length, take, get_or, arith}
 use Rattle.std.proofs.lemmas.Int.{ints}
-use Rattle.std.proofs.lemmas.List.Sums.{sum_by-cons, sum_by_more_le}
+use Rattle.std.proofs.lemmas.List.Sums.{sum_by-cons, sum_by_more_le, sum_by-append}
 use Rattle.base.specs.Sums.{if_so, total_by}
 use Rattle.base.proofs.Totals.{size-plus}
 use Rattle.bits_model.specs.declared.output.Entry.{Entry}
@@ -78,3 +78,6 @@ size_left kind y es rest e so_far n left small =
 pub weight_within : (es : List Entry) (i : ℕ) (d : Entry) → i < length es
     → weight_total (take i es) + unsigned_abs (get_or es i d).weight ≤ weight_total es
 weight_within es i d h = sum_by_more_le (λ (e : Entry). unsigned_abs e.weight) es i d h
+
+pub weights-append : (es cs : List Entry) → weight_total (es ++ cs) ≡ weight_total es + weight_total cs
+weights-append es cs = sum_by-append (λ (e : Entry). unsigned_abs e.weight) es cs

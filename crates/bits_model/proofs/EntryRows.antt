@@ -1,8 +1,9 @@
 -- The rows of couplers are the longest stretches of entries with one first node.
-use Rattle.std.proofs.Common.{◌≡◌, ◌≢◌, ℕ, zero, suc, ◌+◌, ◌-◌, ◌<◌, ◌≤◌, Bool, true, false, cond, eqb, ℤ, List, [], ◌∷◌, ◌++◌, length, drop, get_or, replicate, refl, sym, ap, ◌∙◌, arith}
+use Rattle.std.proofs.Common.{◌≡◌, ◌≢◌, ℕ, zero, suc, ◌+◌, ◌-◌, ◌<◌, ◌≤◌, Bool, true, false, cond, eqb, ℤ, List, [], ◌∷◌, ◌++◌, length, take, drop, get_or, replicate, append-nil, refl, sym, ap, ◌∙◌, arith}
 use Rattle.std.specs.List.{flat_map}
 use Rattle.std.proofs.lemmas.Bool.{eq-eqb, ne_eqb}
-use Rattle.std.proofs.lemmas.List.{length-drop, drop-drop}
+use Rattle.std.proofs.lemmas.List.{length-drop, drop-drop, take_more, take_all}
+use Rattle.std.proofs.lemmas.Grind.{flat_map-append}
 use Rattle.bits_model.specs.declared.output.Entry.{Entry}
 use Rattle.bits_model.specs.declared.couplers.RowStart.{RowStart}
 use Rattle.bits_model.specs.Entries.{in_rows, rows_of, end_before, firsts_of, coupled, IsOther, AreRows, IsPacked, packed_entries, row_entries, IsWithin}
@@ -24,6 +25,20 @@ joined-in_rows e ((f ∷ row) ∷ rows) = go (eqb e.first f.first) where
 pub joined_rows : RowsMakeUp
 joined_rows [] = refl
 joined_rows (e ∷ es) = joined-in_rows e (rows_of es) ∙ ap (λ ds. e ∷ ds) (joined_rows es)
+
+abbrev pub rows_before : List Entry → ℕ → List Entry
+rows_before es k = flat_map (λ row. row) (take k (rows_of es))
+
+pub rows_more : (es : List Entry) (k : ℕ) → k < length (rows_of es)
+    → rows_before es (k + 1) ≡ rows_before es k ++ get_or (rows_of es) k []
+rows_more es k h =
+    ap (flat_map (λ (row : List Entry). row)) (take_more (rows_of es) k [] h)
+    ∙ flat_map-append (λ (row : List Entry). row) (take k (rows_of es)) (get_or (rows_of es) k [] ∷ [])
+    ∙ ap (λ xs. rows_before es k ++ xs) (append-nil (get_or (rows_of es) k []))
+
+pub rows_all : (es : List Entry) (k : ℕ) → length (rows_of es) ≡ k → rows_before es k ≡ es
+rows_all es k e =
+    ap (flat_map (λ (row : List Entry). row)) (take_all k (rows_of es) (omega (arith, e))) ∙ joined_rows es
 
 -- ---- one row before others
 

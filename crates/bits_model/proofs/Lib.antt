@@ -4,3 +4,4 @@ pub mod EntryCounts
 pub mod Packed
 pub mod EntryRows
 pub mod PairNumbers
+pub mod RowEnergies

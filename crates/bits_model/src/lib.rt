@@ -13,6 +13,7 @@ mod output;
 mod pair_numbers;
 mod reading_off;
 mod row;
+mod row_energies;
 mod weights;
 
 pub use base::{Cost, Costed, Figures, Items, NoMemory, UnitChoice};
@@ -30,4 +31,5 @@ pub use output::{Entry, Kind, OutputModel};
 pub use pair_numbers::{numbered, pair_number};
 pub use reading_off::majority;
 pub use row::Row;
+pub use row_energies::energy_of;
 pub use weights::{WeightList, divide_weights};

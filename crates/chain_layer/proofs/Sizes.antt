@@ -20,7 +20,8 @@ use Rattle.base.proofs.Totals.{total_by-plus, total_by-same, total_by-map}
 use Rattle.bits_model.specs.declared.output.Entry.{Entry}
 use Rattle.bits_model.specs.Output.{weight_total, entry_size, is_node}
 use Rattle.quad_form.specs.Quads.{node_entries, IsCoupler}
-use Rattle.quad_form.proofs.NodeEnergies.{weights_within, weights-append}
+use Rattle.bits_model.proofs.Energies.{weights-append}
+use Rattle.quad_form.proofs.NodeEnergies.{weights_within}
 use Rattle.ising_form.specs.Isings.{ising_total, ising_size}
 use Rattle.embedding_check.specs.Embeddings.{Embedding, IsEmbedding, embedding_size}
 use Rattle.chain_map.specs.Chains.{chain_of, occurrences}

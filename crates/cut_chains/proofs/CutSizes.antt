@@ -19,7 +19,7 @@ use Rattle.bits_model.specs.declared.output.Entry.{Entry}
 use Rattle.bits_model.specs.Output.{weight_total}
 use Rattle.bits_model.specs.Walks.{is_in}
 use Rattle.quad_form.specs.Quads.{node_entries, IsCoupler}
-use Rattle.quad_form.proofs.NodeEnergies.{weights-append}
+use Rattle.bits_model.proofs.Energies.{weights-append}
 use Rattle.pair_sums.proofs.PairOrder.{ordered_from_rising}
 use Rattle.ising_form.specs.Isings.{IsIsing, ising_total, ising_size}
 use Rattle.embedding_check.specs.Embeddings.{Embedding, IsEmbedding, embedding_size}

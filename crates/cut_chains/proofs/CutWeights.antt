@@ -10,7 +10,8 @@ use Rattle.std.proofs.lemmas.List.FromFn.{fill_by_all, get_or-map-range_with_len
 use Rattle.bits_model.specs.declared.output.Entry.{Entry}
 use Rattle.bits_model.specs.Output.{weight_total}
 use Rattle.quad_form.specs.Quads.{node_entries, IsCoupler}
-use Rattle.quad_form.proofs.NodeEnergies.{weights_within, weights-append}
+use Rattle.bits_model.proofs.Energies.{weights-append}
+use Rattle.quad_form.proofs.NodeEnergies.{weights_within}
 use Rattle.bits_model.specs.Walks.{is_in}
 use Rattle.chain_map.specs.Chains.{chain_of}
 use Rattle.chain_layer.specs.laws.Kept.{each_at, chain_within}

@@ -1,12 +1,12 @@
 -- Rows of couplings, one after another: their places, and the first coupling without joined qubits.
-use Rattle.std.proofs.Common.{◌≡◌, ℕ, zero, suc, ◌+◌, ◌-◌, ◌<◌, Bool, true, false, cond, eqb, inl, inr, List, [], ◌∷◌, ◌++◌, length, get_or, take, drop, All, sym, ap, subst, append-nil, append_assoc, ◌∙◌, arith}
+use Rattle.std.proofs.Common.{◌≡◌, ℕ, zero, suc, ◌+◌, ◌-◌, ◌<◌, Bool, true, false, cond, eqb, inl, inr, List, [], ◌∷◌, ◌++◌, length, get_or, take, drop, All, sym, ap, subst, append_assoc, ◌∙◌, arith}
 use Rattle.std.specs.List.{AllZip, flat_map}
 use Rattle.std.proofs.lemmas.Bool.{cases_lt}
-use Rattle.std.proofs.lemmas.List.{length-append, get_or_append_left, get_or-append-add, take-append-drop, take_more, take_all, drop_more}
+use Rattle.std.proofs.lemmas.List.{length-append, get_or_append_left, get_or-append-add, take-append-drop, take_more, drop_more}
 use Rattle.std.proofs.lemmas.Grind.{flat_map-append}
 use Rattle.bits_model.specs.declared.output.Entry.{Entry}
 use Rattle.bits_model.specs.Entries.{in_rows, rows_of}
-use Rattle.bits_model.proofs.EntryRows.{joined_rows}
+use Rattle.bits_model.proofs.EntryRows.{joined_rows, rows_before}
 use Rattle.chain_map.specs.Chains.{Joins}
 use Rattle.chain_map.specs.Valid.{IsCoupled}
 use Rattle.embedding_check.specs.Faults.{IsUncoupled}
@@ -37,25 +37,11 @@ some_in_row (e ∷ es) i h = some_in_rows e (rows_of es) (some_in_row es) i h
 
 -- ---- a row stands between those before and after it
 
-abbrev pub rows_before : List Entry → ℕ → List Entry
-rows_before es k = flat_map (λ row. row) (take k (rows_of es))
-
 abbrev rows_after : List Entry → ℕ → List Entry
 rows_after es k = flat_map (λ row. row) (drop (k + 1) (rows_of es))
 
 abbrev row_at : List Entry → ℕ → List Entry
 row_at es k = get_or (rows_of es) k []
-
-pub rows_more : (es : List Entry) (k : ℕ) → k < length (rows_of es)
-    → rows_before es (k + 1) ≡ rows_before es k ++ get_or (rows_of es) k []
-rows_more es k h =
-    ap (flat_map (λ (row : List Entry). row)) (take_more (rows_of es) k [] h)
-    ∙ flat_map-append (λ (row : List Entry). row) (take k (rows_of es)) (row_at es k ∷ [])
-    ∙ ap (λ xs. rows_before es k ++ xs) (append-nil (row_at es k))
-
-pub rows_all : (es : List Entry) (k : ℕ) → length (rows_of es) ≡ k → rows_before es k ≡ es
-rows_all es k e =
-    ap (flat_map (λ (row : List Entry). row)) (take_all k (rows_of es) (omega (arith, e))) ∙ joined_rows es
 
 row_between : (es : List Entry) (k : ℕ) → k < length (rows_of es)
     → es ≡ rows_before es k ++ (row_at es k ++ rows_after es k)

@@ -14,7 +14,7 @@ use Rattle.bits_model.specs.Output.{is_node, entry_size}
 use Rattle.quad_form.specs.Quads.{QuadContent, IsQuad, IsCoupler, node_entries, quad_total, quad_size}
 use Rattle.quad_form.specs.Quads as quads
 use Rattle.quad_form.specs.Flat.{same_bits}
-use Rattle.quad_form.proofs.NodeEnergies.{weights-append}
+use Rattle.bits_model.proofs.Energies.{weights-append}
 use Rattle.ising_form.specs.Isings.{IsingContent, IsIsing, ising_total, ising_size, form_of}
 use Rattle.ising_form.specs.Spins.{coupled, spins_fields, image, Fits}
 use Rattle.ising_form.specs.laws.Spun.{length-fields, spins_keeps}

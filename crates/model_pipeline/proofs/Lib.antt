@@ -9,7 +9,6 @@ pub mod Rooms
 pub mod WrittenStates
 pub mod WrittenExtensions
 pub mod Decoders
-pub mod RowEnergies
 pub mod Sites
 pub mod Tied
 pub mod OnChains

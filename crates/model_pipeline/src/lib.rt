@@ -6,7 +6,6 @@
 
 mod chained;
 mod embedding;
-mod energy;
 mod extending;
 mod forms;
 mod held;
@@ -20,7 +19,6 @@ mod spins;
 mod states;
 mod written;
 
-pub use energy::energy_of;
 pub use extending::extended;
 pub use forms::{FiguredQuad, formed};
 pub use held::Held;

@@ -7,8 +7,7 @@ ghost use Rattle.program_run.specs.Made.{state_text, least_text};
 
 use answer_text::{written_decoding, written_proof};
 use base::NoMemory;
-use bits_model::OutputModel;
-use model_pipeline::energy_of;
+use bits_model::{OutputModel, energy_of};
 use source_texts::{Read, cost_of};
 use std::alloc::Global;
 

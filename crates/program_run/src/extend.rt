@@ -8,8 +8,8 @@ ghost use Rattle.program_run.specs.Made.{IsExtendedBy, IsStateText};
 
 use answer_text::written_extension;
 use base::{Cost, NoMemory};
-use bits_model::OutputModel;
-use model_pipeline::{FormSteps, energy_of, extended_state};
+use bits_model::{OutputModel, energy_of};
+use model_pipeline::{FormSteps, extended_state};
 use problem_form::Problem;
 use source_texts::{Read, carried, cost_of};
 use std::alloc::Global;

@@ -25,7 +25,8 @@ use Rattle.term_table.proofs.KeptTerms.{OfSet, Under}
 use Rattle.quad_form.specs.Quads.{QuadContent, node_entries, quad_total, quad_size, IsCoupler, IsQuad}
 use Rattle.quad_form.specs.Flat.{pair_entry, with_term, zero_quad, quad_of, image, IsFlat}
 use Rattle.quad_form.specs.laws.Flattened.{length-fold, length-image}
-use Rattle.quad_form.proofs.NodeEnergies.{weights_within, weights-append}
+use Rattle.bits_model.proofs.Energies.{weights-append}
+use Rattle.quad_form.proofs.NodeEnergies.{weights_within}
 use Rattle.quad_form.proofs.FlatSums.{form_size, terms_total-contributions, form_size-contributions}
 
 -- ---- the sum of the sizes

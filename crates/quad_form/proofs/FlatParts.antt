@@ -15,7 +15,7 @@ use Rattle.quad_form.specs.Quads.{QuadContent, node_entries, quad_total, IsCoupl
 use Rattle.quad_form.specs.Flat.{with_term, quad_of, IsFlat}
 use Rattle.quad_form.specs.laws.Flattened.{length-fold, flat_contributions}
 use Rattle.pair_sums.specs.Pairs.{IsPair, AreSummed, weight_at}
-use Rattle.quad_form.proofs.NodeEnergies.{weights-append}
+use Rattle.bits_model.proofs.Energies.{weights-append}
 use Rattle.quad_form.proofs.FlatSums.{terms_total-plain_terms, terms_total-contributions}
 use Rattle.quad_form.proofs.FlatForms.{quad_total-with_term, quad_total-fold, quad_total-of, couplers_of, pairs_of}
 

@@ -1,7 +1,7 @@
 -- The energy of nodes that are numbered one after another.
-use Rattle.std.proofs.Common.{◌≡◌, ℕ, zero, suc, ◌+◌, ◌<◌, ◌≤◌, Bool, true, false, ◌&&◌, ℤ, ◌+ℤ◌, unsigned_abs, List, [], ◌∷◌, ◌++◌, length, take, get_or, refl, ap, ◌∙◌, arith}
+use Rattle.std.proofs.Common.{◌≡◌, ℕ, zero, suc, ◌+◌, ◌<◌, ◌≤◌, Bool, true, false, ◌&&◌, ℤ, ◌+ℤ◌, unsigned_abs, List, [], ◌∷◌, length, take, get_or, refl, ap, ◌∙◌, arith}
 use Rattle.std.proofs.lemmas.Int.{ints}
-use Rattle.std.proofs.lemmas.List.Sums.{sum_by_push, sum_by-cons, sum_by-append}
+use Rattle.std.proofs.lemmas.List.Sums.{sum_by_push, sum_by-cons}
 use Rattle.base.specs.Sums.{total_by, if_so}
 use Rattle.base.proofs.Totals.{total_by_push, size-plus}
 use Rattle.bits_model.specs.declared.output.Entry.{Entry}
@@ -74,6 +74,3 @@ size_more y ws i d so_far h small =
       size-if_so (bit_at y i) (get_or ws i d),
       weights_more ws i d h,
     )
-
-pub weights-append : (es cs : List Entry) → weight_total (es ++ cs) ≡ weight_total es + weight_total cs
-weights-append es cs = sum_by-append size es cs

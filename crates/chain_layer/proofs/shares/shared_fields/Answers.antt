@@ -4,7 +4,8 @@ use Rattle.std.specs.List.{range_with_len}
 use Rattle.std.proofs.lemmas.Int.{ints}
 use Rattle.bits_model.specs.Output.{weight_total}
 use Rattle.quad_form.specs.Quads.{node_entries}
-use Rattle.quad_form.proofs.NodeEnergies.{weights_within, weights_more, weights-append}
+use Rattle.bits_model.proofs.Energies.{weights-append}
+use Rattle.quad_form.proofs.NodeEnergies.{weights_within, weights_more}
 use Rattle.ising_form.specs.Isings.{IsingContent}
 use Rattle.chain_map.specs.Chains.{chain_of}
 use Rattle.chain_layer.specs.Image.{all_shares, field_of, shares}

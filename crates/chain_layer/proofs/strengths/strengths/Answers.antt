@@ -1,6 +1,6 @@
 use Rattle.std.proofs.Common.{◌≡◌, ◌∙◌, ap, length, map, ◌+◌, unsigned_abs, arith}
 use Rattle.quad_form.specs.Quads.{node_entries}
-use Rattle.quad_form.proofs.NodeEnergies.{weights-append}
+use Rattle.bits_model.proofs.Energies.{weights-append}
 use Rattle.ising_form.specs.Isings.{IsingContent}
 use Rattle.chain_layer.proofs.Added.{first_strength, changed, all_strengths}
 use Rattle.chain_layer.proofs.strengths.strengths.Goals as goal

@@ -9,7 +9,8 @@ use Rattle.chain_map.specs.declared.faults.EmbedFault.TheVariants.{NoCoupler}
 use Rattle.embedding_check.specs.Checked.{IsPlaceOf}
 use Rattle.embedding_check.specs.Faults.{IsUncoupled}
 use Rattle.embedding_check.proofs.Faulty.{if_fault, zip_all}
-use Rattle.embedding_check.proofs.PlacedRows.{rows_before, rows_all, all_in_row, some_in_row, uncoupled_in_row}
+use Rattle.bits_model.proofs.EntryRows.{rows_before, rows_all}
+use Rattle.embedding_check.proofs.PlacedRows.{all_in_row, some_in_row, uncoupled_in_row}
 use Rattle.embedding_check.proofs.places.all_places.Goals as goal
 
 pub note_row-noting-requires-clause-nodes : goal.note_row-noting-requires-clause-nodes

@@ -1,9 +1,8 @@
 use Rattle.std.proofs.Common.{ℕ, ◌<◌, pos, ◌+ℤ◌, unsigned_abs, take, get_or, length, subst, sym, ap, ◌∙◌, arith}
 use Rattle.std.proofs.lemmas.List.Elements.{All-get_or}
 use Rattle.bits_model.specs.declared.output.Entry.{Entry}
-use Rattle.bits_model.proofs.Energies.{weight_within}
+use Rattle.bits_model.proofs.Energies.{weight_within, weights-append}
 use Rattle.quad_form.specs.Quads.{QuadContent, IsQuad, IsCoupler, node_entries}
-use Rattle.quad_form.proofs.NodeEnergies.{weights-append}
 use Rattle.ising_form.specs.Spins.{spins_constant, spins_fields, raised}
 use Rattle.ising_form.specs.laws.Spun.{length-fields}
 use Rattle.ising_form.proofs.CouplerSteps.{taken, next_taken, all_taken}

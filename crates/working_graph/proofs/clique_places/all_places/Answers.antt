@@ -3,7 +3,8 @@ use Rattle.std.proofs.lemmas.List.{map-append}
 use Rattle.bits_model.specs.declared.output.Entry.{Entry}
 use Rattle.quad_form.specs.Quads.{IsCoupler}
 use Rattle.chain_map.specs.Cliques.{clique_places}
-use Rattle.embedding_check.proofs.PlacedRows.{rows_before, rows_more, rows_all, all_in_row, some_in_row}
+use Rattle.bits_model.proofs.EntryRows.{rows_before, rows_more, rows_all}
+use Rattle.embedding_check.proofs.PlacedRows.{all_in_row, some_in_row}
 use Rattle.working_graph.specs.CliquePlaces.{clique_place}
 use Rattle.working_graph.proofs.clique_places.all_places.Goals as goal
 

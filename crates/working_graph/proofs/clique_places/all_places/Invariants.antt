@@ -1,5 +1,5 @@
 use Rattle.std.proofs.Common.{◌≡◌, map}
-use Rattle.embedding_check.proofs.PlacedRows.{rows_before}
+use Rattle.bits_model.proofs.EntryRows.{rows_before}
 use Rattle.working_graph.specs.CliquePlaces.{clique_place}
 use Rattle.working_graph.proofs.clique_places.all_places.Given as goal
 

@@ -6,9 +6,8 @@ use Rattle.base.proofs.Totals.{total_by-append}
 use Rattle.base.specs.declared.costs.Cost.TheVariants.{Whole}
 use Rattle.bits_model.specs.declared.output.Kind.TheVariants.{Ising}
 use Rattle.bits_model.specs.Output.{spins_energy}
-use Rattle.bits_model.proofs.Energies.{size-energy}
+use Rattle.bits_model.proofs.Energies.{size-energy, weights-append}
 use Rattle.quad_form.specs.Quads.{node_entries}
-use Rattle.quad_form.proofs.NodeEnergies.{weights-append}
 use Rattle.ising_form.specs.Isings.{IsingContent, ising_value}
 use Rattle.ising_form.proofs.energy.IsingCosted.cost.Goals as goal
 

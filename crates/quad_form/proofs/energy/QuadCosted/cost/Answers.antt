@@ -6,9 +6,8 @@ use Rattle.base.proofs.Totals.{total_by-append}
 use Rattle.base.specs.declared.costs.Cost.TheVariants.{Whole}
 use Rattle.bits_model.specs.declared.output.Kind.TheVariants.{Qubo}
 use Rattle.bits_model.specs.Output.{bits_energy}
-use Rattle.bits_model.proofs.Energies.{size-energy}
+use Rattle.bits_model.proofs.Energies.{size-energy, weights-append}
 use Rattle.quad_form.specs.Quads.{QuadContent, node_entries, quad_value}
-use Rattle.quad_form.proofs.NodeEnergies.{weights-append}
 use Rattle.quad_form.proofs.energy.QuadCosted.cost.Goals as goal
 
 pub overflow_add-result : goal.overflow_add-result

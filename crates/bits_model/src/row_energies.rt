@@ -6,9 +6,12 @@ ghost use Rattle.std.specs.Prelude.{◌≡◌, ◌≤◌, ◌^◌};
 ghost use Rattle.base.specs.Sums.{total_by, if_so};
 ghost use Rattle.bits_model.specs.Output.{bit_at, bits_energy, entry_energy, weight_total};
 
-use bits_model::{
-    CouplerList, EntryList, Kind, NodeWeights, Row, bit_at, bits_energy, total_energy,
-};
+use crate::couplers::CouplerList;
+use crate::energy::{bit_at, bits_energy, total_energy};
+use crate::entries::EntryList;
+use crate::nodes::NodeWeights;
+use crate::output::Kind;
+use crate::row::Row;
 
 /// The sum of a row's weights whose second node has bit 1.
 fn ones_weight(y: &[bool], row: &Row<'_>) -> i128

@@ -10,9 +10,8 @@ use Rattle.base.proofs.Totals.{total_by-append, total_by_more}
 use Rattle.bits_model.specs.declared.output.Entry.{Entry}
 use Rattle.bits_model.specs.Entries.{rows_of}
 use Rattle.bits_model.specs.Output.{bit_at, bits_energy, weight_total}
-use Rattle.bits_model.proofs.EntryRows.{joined_rows}
-use Rattle.quad_form.proofs.NodeEnergies.{weights-append}
-use Rattle.embedding_check.proofs.PlacedRows.{rows_before, rows_more, rows_all}
+use Rattle.bits_model.proofs.EntryRows.{joined_rows, rows_before, rows_more, rows_all}
+use Rattle.bits_model.proofs.Energies.{weights-append}
 
 -- ---- one row
 

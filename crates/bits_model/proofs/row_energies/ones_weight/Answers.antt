@@ -5,9 +5,9 @@ use Rattle.base.proofs.Totals.{size-plus}
 use Rattle.bits_model.specs.declared.output.Entry.{Entry}
 use Rattle.bits_model.specs.Output.{bit_at, weight_total}
 use Rattle.bits_model.proofs.Energies.{weight_within}
-use Rattle.model_pipeline.proofs.RowEnergies.{sum_more, sum_same, weight_more}
-use Rattle.model_pipeline.proofs.energy.ones_weight.Goals.{then-bit_at, else-bit_at}
-use Rattle.model_pipeline.proofs.energy.ones_weight.Goals as goal
+use Rattle.bits_model.proofs.RowEnergies.{sum_more, sum_same, weight_more}
+use Rattle.bits_model.proofs.row_energies.ones_weight.Goals.{then-bit_at, else-bit_at}
+use Rattle.bits_model.proofs.row_energies.ones_weight.Goals as goal
 
 pub overflow_add-sum : goal.overflow_add-sum
 overflow_add-sum c =

@@ -1,7 +1,7 @@
 use Rattle.std.proofs.Common.{◌≡◌, ◌+◌, ◌≤◌, ◌^◌, ◌+ℤ◌, unsigned_abs}
 use Rattle.base.specs.Sums.{total_by}
 use Rattle.bits_model.specs.Output.{bits_energy, weight_total}
-use Rattle.model_pipeline.proofs.energy.nodes_energy.Given as goal
+use Rattle.bits_model.proofs.row_energies.nodes_energy.Given as goal
 
 -- the energy so far and that of the entries that are left make up the whole, and are small
 abbrev pub invariant-loop-entry : goal.invariant-loop-entry

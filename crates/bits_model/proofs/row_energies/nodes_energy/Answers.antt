@@ -4,7 +4,7 @@ use Rattle.std.proofs.lemmas.Int.{ints}
 use Rattle.bits_model.specs.declared.output.Kind.TheVariants.{Qubo}
 use Rattle.bits_model.specs.Output.{bits_energy}
 use Rattle.bits_model.proofs.Energies.{energy_left, weight_left, size-entry_energy, size_left}
-use Rattle.model_pipeline.proofs.energy.nodes_energy.Goals as goal
+use Rattle.bits_model.proofs.row_energies.nodes_energy.Goals as goal
 
 pub overflow_add-energy : goal.overflow_add-energy
 overflow_add-energy c =

@@ -1,8 +1,8 @@
 use Rattle.std.proofs.Common.{◌≡◌, ◌≤◌, unsigned_abs, take}
 use Rattle.base.specs.Sums.{total_by}
 use Rattle.bits_model.specs.Output.{weight_total}
-use Rattle.model_pipeline.proofs.RowEnergies.{second_weight}
-use Rattle.model_pipeline.proofs.energy.ones_weight.Given as goal
+use Rattle.bits_model.proofs.RowEnergies.{second_weight}
+use Rattle.bits_model.proofs.row_energies.ones_weight.Given as goal
 
 -- the entries before this one are summed, and weigh no less than the sum
 abbrev pub invariant-loop-i : goal.invariant-loop-i

@@ -1,8 +1,8 @@
 use Rattle.std.proofs.Common.{◌≡◌}
 use Rattle.base.specs.Sums.{total_by}
 use Rattle.bits_model.specs.Output.{bits_energy}
-use Rattle.embedding_check.proofs.PlacedRows.{rows_before}
-use Rattle.model_pipeline.proofs.energy.rows_energy.Given as goal
+use Rattle.bits_model.proofs.EntryRows.{rows_before}
+use Rattle.bits_model.proofs.row_energies.rows_energy.Given as goal
 
 -- the rows before this one are summed
 abbrev pub invariant-loop-index : goal.invariant-loop-index

@@ -2,8 +2,8 @@ use Rattle.std.proofs.Common.{◌≡◌, true, false, to_z, of_z, sym, ◌∙◌
 use Rattle.std.specs.Int.{w128}
 use Rattle.std.proofs.lemmas.Int.{to_z-of_z}
 use Rattle.bits_model.specs.Output.{bit_at}
-use Rattle.model_pipeline.proofs.RowEnergies.{row_of_one, row_of_zero}
-use Rattle.model_pipeline.proofs.energy.row_energy.Goals as goal
+use Rattle.bits_model.proofs.RowEnergies.{row_of_one, row_of_zero}
+use Rattle.bits_model.proofs.row_energies.row_energy.Goals as goal
 
 pub returns-then-bit_at : goal.returns-then-bit_at
 returns-then-bit_at c =

@@ -3,9 +3,9 @@ use Rattle.std.proofs.lemmas.Int.{ints}
 use Rattle.bits_model.specs.declared.output.Kind.TheVariants.{Qubo}
 use Rattle.bits_model.specs.Entries.{rows_of}
 use Rattle.bits_model.proofs.Energies.{size-energy}
-use Rattle.embedding_check.proofs.PlacedRows.{rows_before}
-use Rattle.model_pipeline.proofs.RowEnergies.{weight_before, weight_of_row, energy_of_row, energy_of_all}
-use Rattle.model_pipeline.proofs.energy.rows_energy.Goals as goal
+use Rattle.bits_model.proofs.EntryRows.{rows_before}
+use Rattle.bits_model.proofs.RowEnergies.{weight_before, weight_of_row, energy_of_row, energy_of_all}
+use Rattle.bits_model.proofs.row_energies.rows_energy.Goals as goal
 
 pub row_energy-energy-requires : goal.row_energy-energy-requires
 row_energy-energy-requires c =

@@ -5,9 +5,8 @@ use Rattle.base.specs.Sums.{total_by}
 use Rattle.base.proofs.Totals.{total_by-append}
 use Rattle.bits_model.specs.declared.output.Kind.TheVariants.{Qubo}
 use Rattle.bits_model.specs.Output.{bits_energy, weight_total}
-use Rattle.bits_model.proofs.Energies.{size-energy}
-use Rattle.quad_form.proofs.NodeEnergies.{weights-append}
-use Rattle.model_pipeline.proofs.energy.energy_of.Goals as goal
+use Rattle.bits_model.proofs.Energies.{size-energy, weights-append}
+use Rattle.bits_model.proofs.row_energies.energy_of.Goals as goal
 
 pub overflow_add-result : goal.overflow_add-result
 overflow_add-result c =
