@@ -19,7 +19,7 @@ use Rattle.embedding_check.specs.Checked.{IsPlace}
 use Rattle.embedding_check.specs.Search.{qubit_at, IsSortedChain}
 use Rattle.embedding_check.specs.Least.{IsPlaceIn}
 use Rattle.chain_map.specs.Faults.{IfFault}
-use Rattle.embedding_check.specs.Faults.{IsFault, IsFirstAt, Exists, IsNew, IsReachedAt, IsUncoupled, number_at, IsInside, IsApart, IsLinked}
+use Rattle.embedding_check.specs.Faults.{IsFault, IsFirstAt, Exists, IsNew, IsReachedAt, IsUncoupled, number_at, IsInside, IsApart, AreSearchable, IsLinked}
 use Rattle.std.specs.Prelude.{Option}
 use Rattle.embedding_check.proofs.Noting.{least_pair_same}
 use Rattle.embedding_check.proofs.Sorting.{is_in_at, at_of_in, same_test}
@@ -173,9 +173,22 @@ sorted_within n chain qs within sorted = λ k d h.
 
 -- ---- a fault makes a map invalid
 
-places_of_all : (map : List (List ℕ)) (P : List ℕ → ℕ → Type 0) → All (λ chain. All (P chain) chain) map
+pub places_of_all : (map : List (List ℕ)) (P : List ℕ → ℕ → Type 0) → All (λ chain. All (P chain) chain) map
     → (u : ℕ) → u < length map → (j : ℕ) → j < length (chain_of map u) → P (chain_of map u) (number_at map u j)
 places_of_all map P all u below j low = all u [] below j 0 low
+
+some_of_full : (chain : List ℕ) → chain ≢ [] → 0 < length chain
+some_of_full [] full = absurd (full refl)
+some_of_full (q ∷ chain) full = omega arith
+
+-- chains that are apart can be searched
+pub searchable : (qubits : ℕ) (f : IsingContent) (map : List (List ℕ)) → IsApart qubits f map
+    → AreSearchable qubits map
+searchable qubits f map apart = record {
+  filled = λ u below. some_of_full (chain_of map u) (apart.inside.listed.filled u [] below);
+  within = places_of_all map (λ chain q. q < qubits) apart.inside.within;
+  once = apart.once;
+}
 
 -- in a list without repeats, each number is new
 new_of_once : (map : List (List ℕ)) → ((q : ℕ) → occurrences q map ≤ 1)

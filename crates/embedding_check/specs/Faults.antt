@@ -69,6 +69,13 @@ pub record IsLinked (joined : Joins) (qubits : ℕ) (f : IsingContent) (map : Li
   pub apart : IsApart qubits f map
   pub connected : All (λ chain. All (IsReached joined chain) chain) map
 
+-- what the searches ask of chains: none is empty, all their qubits exist, and none is listed twice
+pub record AreSearchable (qubits : ℕ) (chains : List (List ℕ)) : Type 0 where
+  pub filled : (u : ℕ) → u < length chains → 0 < length (chain_of chains u)
+  pub within : (u : ℕ) → u < length chains → (j : ℕ) → j < length (chain_of chains u)
+      → Exists qubits chains u j
+  pub once : (q : ℕ) → occurrences q chains ≤ 1
+
 -- ---- the faults
 
 -- the least pair, in the order of the couplings, without joined qubits

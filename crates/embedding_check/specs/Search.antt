@@ -2,7 +2,7 @@
 -- Qubits are given by their positions in the ascending list `qs` of the chain's qubits.
 use Rattle.std.specs.Prelude.{◌≡◌, ◌≢◌, ℕ, ◌+◌, ◌<◌, ◌≤◌, ◌⊎◌, Bool, true, false, List, [], ◌∷◌, ◌++◌, length, sum_by, if◌then◌else◌, slice_set}
 use Rattle.std.specs.List.{slice_index_or, Contains}
-use Rattle.chain_map.specs.Chains.{Joins}
+use Rattle.chain_map.specs.Chains.{Joins, chain_of}
 use Rattle.bits_model.specs.Walks.{is_in, first_of, WalksTo, IsReached}
 use Rattle.embedding_check.specs.Distances.{HasDistance}
 use Rattle.embedding_check.specs.Distances.{IsParent}
@@ -130,6 +130,11 @@ pub record IsSortedChain (chain qs : List ℕ) : Type 0 where
   pub inside : (i : ℕ) → i < length qs → is_in chain (qubit_at qs i) ≡ true
   pub found : (q : ℕ) → is_in chain q ≡ true → (i : ℕ) × (i < length qs) × (qubit_at qs i ≡ q)
   pub rising : (i j : ℕ) → i < j → j < length qs → qubit_at qs i < qubit_at qs j
+
+-- each of some chains in ascending order
+pub record AreSorted (chains sorted : List (List ℕ)) : Type 0 where
+  pub len : length sorted ≡ length chains
+  pub each : (u : ℕ) → u < length chains → IsSortedChain (chain_of chains u) (chain_of sorted u)
 
 -- just the qubits that walks reach no longer wait, with their parents
 pub record IsSearched (joined : Joins) (chain qs : List ℕ) (s : Found) : Type 0 where

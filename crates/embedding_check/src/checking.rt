@@ -1,19 +1,106 @@
 //! The check of a map of chains.
-ghost use Rattle.std.specs.Prelude.{IfOk, IfErr};
+ghost use Rattle.std.specs.Prelude.{◌≡◌, IfOk, IfErr};
+ghost use Rattle.std.specs.List.{AllZip};
 ghost use Rattle.chain_map.specs.Faults.{IfFault};
 ghost use Rattle.chain_map.specs.Valid.{IsValid};
-ghost use Rattle.embedding_check.specs.Checked.{IsChecked};
-ghost use Rattle.embedding_check.specs.Faults.{IsFault};
+ghost use Rattle.embedding_check.specs.Checked.{IsChecked, ArePlaces};
+ghost use Rattle.embedding_check.specs.Distances.{AreParents};
+ghost use Rattle.embedding_check.specs.Faults.{IsFault, IsApart};
+ghost use Rattle.embedding_check.specs.Search.{AreSorted};
 
-use crate::embedded::Embedded;
-use crate::owners::owners_of;
+use crate::embedded::{Embedded, PairList};
 use crate::passes::{all_parents, check_inside, check_once, first_empty, qubits_of};
 use crate::places::all_places;
 use crate::search::sorted_chains;
+use bits_model::ChainList;
 use chain_map::{ChainMap, CheckAnswer, EmbedFault};
 use chimera_graph::Hardware;
 use ising_form::Ising;
 use std::alloc::Global;
+
+/// Whether a map has a chain for each node of a form, none empty, of qubits of the graph, and no
+/// qubit twice; or its first fault.
+fn check_apart<H: Hardware>(
+    alloc: Global,
+    hardware: &H,
+    ising: &Ising,
+    map: &ChainMap,
+) -> Result<(), CheckAnswer>
+    ensures apart { IfOk result (λ _. IsApart (H.qubits hardware.now) ising.now map.now) }
+    ensures fault { IfErr result (λ e. IfFault e
+        (IsFault (H.joined hardware.now) (H.qubits hardware.now) ising.now map.now)) }
+{
+    if map.len() != ising.fields.as_slice().len() {
+        return Err(CheckAnswer::Fault(EmbedFault::ChainCount(map.len())));
+    }
+    match first_empty(map) {
+        Some(node) => return Err(CheckAnswer::Fault(EmbedFault::EmptyChain(node))),
+        None => {}
+    }
+    let qubits = hardware.qubits();
+    check_inside(map, qubits)?;
+    check_once(alloc, map, qubits)
+}
+
+/// The parents of chains and the places of the couplings, or the first fault.
+fn parents_and_places<H: Hardware>(
+    alloc: Global,
+    hardware: &H,
+    ising: &Ising,
+    chains: &ChainList,
+    sorted: &ChainList,
+) -> Result<(ChainList, PairList), CheckAnswer>
+    requires apart { IsApart (H.qubits hardware.now) ising.now chains.now }
+    requires sorted { AreSorted chains.now sorted.now }
+    ensures valid { IfOk result (λ _.
+        IsValid (H.joined hardware.now) (H.qubits hardware.now) ising.now chains.now) }
+    ensures parents { IfOk result (λ r.
+        AllZip (AreParents (H.joined hardware.now)) chains.now r.0) }
+    ensures places { IfOk result (λ r.
+        ArePlaces (H.joined hardware.now) chains.now ising.now.couplings r.1) }
+    ensures fault { IfErr result (λ e. IfFault e
+        (IsFault (H.joined hardware.now) (H.qubits hardware.now) ising.now chains.now)) }
+{
+    let parents = all_parents(alloc, hardware, chains, sorted)?;
+    let places = all_places(alloc, hardware, &ising.couplings, chains, sorted)?;
+    Ok((parents, places))
+}
+
+/// Chains of qubits, the parents of each, and the places of couplings.
+#[derive(Drop)]
+struct Layout {
+    chains: ChainList,
+    parents: ChainList,
+    places: PairList,
+}
+
+/// The layout of a form on a graph by a map, or the first fault of the map.
+fn laid_out<H: Hardware>(
+    alloc: Global,
+    hardware: &H,
+    ising: &Ising,
+    map: &ChainMap,
+) -> Result<Layout, CheckAnswer>
+    ensures valid { IfOk result (λ _.
+        IsValid (H.joined hardware.now) (H.qubits hardware.now) ising.now map.now) }
+    ensures chains { IfOk result (λ l. l.chains ≡ map.now) }
+    ensures parents { IfOk result (λ l.
+        AllZip (AreParents (H.joined hardware.now)) map.now l.parents) }
+    ensures places { IfOk result (λ l.
+        ArePlaces (H.joined hardware.now) map.now ising.now.couplings l.places) }
+    ensures fault { IfErr result (λ e. IfFault e
+        (IsFault (H.joined hardware.now) (H.qubits hardware.now) ising.now map.now)) }
+{
+    check_apart(alloc, hardware, ising, map)?;
+    let chains = qubits_of(alloc, map)?;
+    let sorted = sorted_chains(alloc, &chains)?;
+    let (parents, places) = parents_and_places(alloc, hardware, ising, &chains, &sorted)?;
+    Ok(Layout {
+        chains,
+        parents,
+        places,
+    })
+}
 
 /// Embeds an Ising form by a map, or names the first fault of the map. It is refused exactly where
 /// the map is not valid.
@@ -32,25 +119,12 @@ pub fn check<H: Hardware>(
     ensures fault { IfErr result (λ e. IfFault e
         (IsFault (H.joined hardware.now) (H.qubits hardware.now) ising map.now)) }
 {
-    if map.len() != ising.fields.as_slice().len() {
-        return Err(CheckAnswer::Fault(EmbedFault::ChainCount(map.len())));
-    }
-    match first_empty(map) {
-        Some(node) => return Err(CheckAnswer::Fault(EmbedFault::EmptyChain(node))),
-        None => {}
-    }
-    let qubits = hardware.qubits();
-    check_inside(map, qubits)?;
-    check_once(alloc, map, qubits)?;
-    let chains = qubits_of(alloc, map)?;
-    let sorted = sorted_chains(alloc, &chains)?;
-    let parents = all_parents(alloc, hardware, &chains, &sorted)?;
-    let places = all_places(alloc, hardware, &ising.couplings, &chains, &sorted)?;
+    let layout = laid_out(alloc, hardware, &ising, map)?;
     Ok(Embedded {
         ising,
-        chains,
-        qubits,
-        parents,
-        places,
+        chains: layout.chains,
+        qubits: hardware.qubits(),
+        parents: layout.parents,
+        places: layout.places,
     })
 }

@@ -5,13 +5,14 @@ ghost use Rattle.chain_map.specs.Chains.{chain_of, occurrences};
 ghost use Rattle.chain_map.specs.Faults.{IfFault};
 ghost use Rattle.embedding_check.specs.Distances.{AreParents};
 ghost use Rattle.embedding_check.specs.Marks.{marked, times_met};
-ghost use Rattle.embedding_check.specs.Search.{IsSortedChain};
+ghost use Rattle.embedding_check.specs.Search.{AreSorted};
 ghost use Rattle.embedding_check.specs.Faults.{
   IsFound,
   IsFirstAt,
   Exists,
   IsNew,
   IsReachedAt,
+  AreSearchable,
   NamesUnreached,
   number_at,
 };
@@ -150,13 +151,8 @@ pub(crate) fn all_parents<H: Hardware>(
     chains: &ChainList,
     sorted: &ChainList,
 ) -> Result<ChainList, CheckAnswer>
-    requires filled { (u : ℕ) → u < length chains.now → 0 < length (chain_of chains.now u) }
-    requires within { (u : ℕ) → u < length chains.now → (j : ℕ) → j < length (chain_of chains.now u)
-        → Exists (H.qubits hardware.now) chains.now u j }
-    requires once { (q : ℕ) → occurrences q chains.now ≤ 1 }
-    requires len { length sorted.now ≡ length chains.now }
-    requires sorted { (u : ℕ) → u < length chains.now
-        → IsSortedChain (chain_of chains.now u) (chain_of sorted.now u) }
+    requires chains { AreSearchable (H.qubits hardware.now) chains.now }
+    requires sorted { AreSorted chains.now sorted.now }
     ensures parents { IfOk result (AllZip (AreParents (H.joined hardware.now)) chains.now) }
     ensures connected { IfOk result (λ _. (u : ℕ) → u < length chains.now
         → (j : ℕ) → j < length (chain_of chains.now u)

@@ -3,13 +3,13 @@
 //! The couplings of a node stand next to each other, in one row. Either the joins of its chain are
 //! noted once for the whole row, or the two chains of each coupling are walked along up to the
 //! first join: what costs less.
-ghost use Rattle.std.specs.Prelude.{◌≡◌, ◌≤◌, ◌<◌, ◌^◌, ℕ, true, length, All, Option, IfOk, IfErr, OnOk};
+ghost use Rattle.std.specs.Prelude.{◌≡◌, ◌≤◌, ◌<◌, ◌^◌, ℕ, true, [], length, All, Option, IfOk, IfErr, OnOk};
 ghost use Rattle.quad_form.specs.Quads.{IsCoupler};
 ghost use Rattle.chain_map.specs.Chains.{chain_of, occurrences};
 ghost use Rattle.chain_map.specs.Faults.{IfFault};
 ghost use Rattle.embedding_check.specs.Checked.{ArePlaces, AddsPlaces};
-ghost use Rattle.embedding_check.specs.Faults.{NamesUncoupled, Exists};
-ghost use Rattle.embedding_check.specs.Search.{IsSortedChain};
+ghost use Rattle.embedding_check.specs.Faults.{NamesUncoupled, AreSearchable, Exists};
+ghost use Rattle.embedding_check.specs.Search.{AreSorted, IsSortedChain};
 ghost use Rattle.embedding_check.specs.Least.{IsPlaceIn};
 ghost use Rattle.embedding_check.specs.Owners.{AreOwners};
 ghost use Rattle.embedding_check.specs.Noted.{AreNoted};
@@ -177,6 +177,37 @@ fn push_places<H: Hardware>(
     Ok(())
 }
 
+/// Appends the places of the couplings row after row, or gives the first coupling without joined
+/// qubits.
+fn push_rows<H: Hardware>(
+    places: &mut Vec<(u32, u32)>,
+    noted: &mut Noted,
+    hardware: &H,
+    owners: &Owned,
+    couplings: &CouplerList,
+    chains: &ChainList,
+    sorted: &ChainList,
+) -> Result<(), CheckAnswer>
+    requires none { places.old.items ≡ [] }
+    requires len { length noted.old ≡ length chains.now }
+    requires owners { AreOwners chains.now owners.now }
+    requires all { length owners.now ≡ H.qubits hardware.now }
+    requires nodes { All (IsCoupler (length chains.now)) couplings.now }
+    requires chains { AreSearchable (H.qubits hardware.now) chains.now }
+    requires sorted { AreSorted chains.now sorted.now }
+    ensures places { OnOk result
+        (ArePlaces (H.joined hardware.now) chains.now couplings.now places.new.items) }
+    ensures fault { IfErr result (λ e. IfFault e
+        (NamesUncoupled (H.joined hardware.now) couplings.now chains.now)) }
+{
+    for k in 0..couplings.row_count() {
+        let row = couplings.row(k);
+        let noting = note_row(hardware, owners, chains, &row, noted);
+        push_places(places, hardware, sorted, chains, noting, noted, &row)?;
+    }
+    Ok(())
+}
+
 /// The place of each coupling, or the first coupling without joined qubits.
 pub(crate) fn all_places<H: Hardware>(
     alloc: Global,
@@ -187,23 +218,23 @@ pub(crate) fn all_places<H: Hardware>(
 ) -> Result<PairList, CheckAnswer>
     requires nodes { All (IsCoupler (length chains.now)) couplings.now }
     requires few { length chains.now < 2 ^ 32 }
-    requires within { (u : ℕ) → u < length chains.now → (j : ℕ) → j < length (chain_of chains.now u)
-        → Exists (H.qubits hardware.now) chains.now u j }
-    requires once { (q : ℕ) → occurrences q chains.now ≤ 1 }
-    requires len { length sorted.now ≡ length chains.now }
-    requires sorted { (u : ℕ) → u < length chains.now
-        → IsSortedChain (chain_of chains.now u) (chain_of sorted.now u) }
+    requires chains { AreSearchable (H.qubits hardware.now) chains.now }
+    requires sorted { AreSorted chains.now sorted.now }
     ensures places { IfOk result (ArePlaces (H.joined hardware.now) chains.now couplings.now) }
     ensures fault { IfErr result (λ e. IfFault e
         (NamesUncoupled (H.joined hardware.now) couplings.now chains.now)) }
 {
+    let mut places = Vec::with_capacity(alloc, couplings.len())?;
     let owners = owners_of(alloc, chains, hardware.qubits())?;
     let mut noted = Noted::new(alloc, chains.len())?;
-    let mut places = Vec::with_capacity(alloc, couplings.len())?;
-    for k in 0..couplings.row_count() {
-        let row = couplings.row(k);
-        let noting = note_row(hardware, &owners, chains, &row, &mut noted);
-        push_places(&mut places, hardware, sorted, chains, noting, &noted, &row)?;
-    }
+    push_rows(
+        &mut places,
+        &mut noted,
+        hardware,
+        &owners,
+        couplings,
+        chains,
+        sorted,
+    )?;
     Ok(Items::new(places))
 }

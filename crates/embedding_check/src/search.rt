@@ -17,6 +17,7 @@ ghost use Rattle.embedding_check.specs.Search.{
   Takes,
   Spreads,
   LevelTakes,
+  AreSorted,
   IsSortedChain,
   IsSearched,
   IsBegun,
@@ -279,9 +280,7 @@ fn sort_chain(sorted: &mut Vec<u32>, chain: &[u32]) -> Result<(), NoMemory>
 /// The chains, each in ascending order.
 pub(crate) fn sorted_chains(alloc: Global, chains: &ChainList) -> Result<ChainList, NoMemory>
     requires { (q : ℕ) → occurrences q chains.now ≤ 1 }
-    ensures len { IfOk result (λ v. length v ≡ length chains.now) }
-    ensures sorted { IfOk result (λ v. (u : ℕ) → u < length chains.now
-        → IsSortedChain (chain_of chains.now u) (chain_of v u)) }
+    ensures { IfOk result (AreSorted chains.now) }
 {
     let mut sorted = ChainList::with_room(alloc, chains.len(), chains.len())?;
     let mut ascending = Vec::new(alloc);

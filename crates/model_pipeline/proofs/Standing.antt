@@ -41,7 +41,7 @@ use Rattle.ising_form.specs.Spins.{coupled}
 use Rattle.ising_form.specs.laws.Spun.{length-fields, spins_keeps}
 use Rattle.ising_form.proofs.Images.{image_is_ising, total-image}
 use Rattle.model_pipeline.specs.Models.{IsModelOf, form_model, ising_figures, low_terms_of, quad_by, terms_of}
-use Rattle.model_pipeline.specs.Formed.{IsFormed, Stands}
+use Rattle.model_pipeline.specs.Formed.{HaveRoom, IsFormed, Stands}
 use Rattle.model_pipeline.specs.Decoders.{LowFits}
 use Rattle.model_pipeline.proofs.PairForms.{flat_link, monomial_flat, monomial_link, pair_link, pair_size, pair_total}
 use Rattle.model_pipeline.proofs.FormModels.{HasFigures, figures_within, qubo_stands, ising_stands}
@@ -53,6 +53,23 @@ use Rattle.quad_form.specs.Quads as quads
 use Rattle.quad_form.specs.Flat as flat
 use Rattle.ising_form.specs.Isings as isings
 use Rattle.ising_form.specs.Spins as spins
+
+-- the figures of a problem's form have room for those of an Ising form
+pub formed_have_room : (p : ProblemContent) (q : QuadContent) (n : Figures) → IsFormed p q n
+    → HaveRoom n
+formed_have_room p q n formed = record {
+  scale_low = omega (arith, ints, ap (λ (m : Figures). m.scale) formed.figures);
+  small = record {
+    scale = omega (arith, ints, ap (λ (m : Figures). unsigned_abs m.scale) formed.figures);
+    offset = omega (arith, ints, ap (λ (m : Figures). unsigned_abs m.offset) formed.figures);
+    threshold =
+        omega (
+          arith,
+          ap (λ (m : Figures). unsigned_abs m.threshold) formed.figures,
+          formed.threshold,
+        );
+  };
+}
 
 -- the same form, with the same figures
 pub formed_as : (p : ProblemContent) (q r : QuadContent) (n : Figures) → q ≡ r → n ≡ figures p

@@ -60,6 +60,28 @@ pub rowed_sound : (s : WboContent) → IsWbo s → IsSound (rowed s)
 rowed_sound s is =
     first_rows (weighed s) (rows_of s) (top_rows s.variables s.top s.soft) (rewritten_is_sound s is)
 
+-- ---- the problem as it is filled
+
+pub weighed_then : {s : WboContent} {p q : ProblemContent} → IsWbo s → p ≡ wide s
+    → q ≡ with_products p (weighed_bits s.variables s.soft) → q ≡ weighed s
+weighed_then {s = s} kept widened added =
+    added ∙ ap (λ (p : ProblemContent). with_products p (weighed_bits s.variables s.soft)) widened
+
+pub rowed_then : {s t : WboContent} {p q : ProblemContent} → s ≡ t → p ≡ weighed s
+    → q ≡ with_rows p (rows_of t) → q ≡ rowed s
+rowed_then same filled added = added ∙ (λ n. with_rows (filled n) (rows_of (sym same n)))
+
+pub weights_are_sound : {s : WboContent} {p : ProblemContent} → IsWbo s → p ≡ wide s
+    → IsSound (with_products p (weighed_bits s.variables s.soft))
+weights_are_sound {s = s} kept widened =
+    subst (λ (p : ProblemContent). IsSound (with_products p (weighed_bits s.variables s.soft)))
+    (sym widened) (weighed_sound s kept)
+
+pub rows_are_sound : {s t : WboContent} {p : ProblemContent} → IsWbo s → s ≡ t → p ≡ weighed s
+    → IsSound (with_rows p (rows_of t))
+rows_are_sound {s = s} kept same filled =
+    subst IsSound (λ n. with_rows (sym filled n) (rows_of (same n))) (rowed_sound s kept)
+
 -- ---- the top
 
 reached : (n top : ℕ) → nat_le top n ≡ true → int_lt (pos n) (pos top) ≡ false

@@ -21,13 +21,6 @@ same_answer false false to from = refl
 
 -- ---- steps to the parent
 
--- one step more, at the end: steps are counted from the qubit on, and here the last one is taken
--- apart
-pub climbed-suc : (cs ps : List ℕ) (n q : ℕ)
-    → climbed cs ps (suc n) q ≡ parent_in cs ps (climbed cs ps n q)
-climbed-suc cs ps zero q = refl
-climbed-suc cs ps (suc n) q = climbed-suc cs ps n (parent_in cs ps q)
-
 -- a qubit without a parent stays where it is, such as the first qubit of a chain
 pub parent_outside : (cs ps : List ℕ) (q : ℕ) → is_in cs q ≡ false → parent_in cs ps q ≡ q
 parent_outside [] ps q out = refl

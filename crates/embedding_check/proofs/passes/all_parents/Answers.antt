@@ -14,7 +14,7 @@ use Rattle.embedding_check.proofs.passes.all_parents.Goals as goal
 pub parents_of-requires-clause-once : goal.parents_of-requires-clause-once
 parents_of-requires-clause-once g c = λ q.
     subst (λ (xs : List ℕ). count_by (λ p. p == q) xs ≤ 1) (sym c.list-listed.ensures.listed)
-    (once_each c.args.chains.now c.requires.once c.loop-node.node (omega (arith, c.loop-node-test.true, c.len-node-end.ensures)) q)
+    (once_each c.args.chains.now c.requires.chains.once c.loop-node.node (omega (arith, c.loop-node-test.true, c.len-node-end.ensures)) q)
 
 pub returns-in-Unreached-clause-fault : goal.returns-in-Unreached-clause-fault
 returns-in-Unreached-clause-fault g c =

@@ -1,10 +1,7 @@
-use Rattle.std.proofs.Common.{◌∙◌, ap, arith, subst, sym}
-use Rattle.std.specs.Prelude.{unsigned_abs}
-use Rattle.std.proofs.lemmas.Int.{ints}
+use Rattle.std.proofs.Common.{◌∙◌, arith, subst, sym}
 use Rattle.std.proofs.lemmas.Result.{IfOk-weaker}
-use Rattle.base.specs.declared.costs.Figures.{Figures}
 use Rattle.model_pipeline.specs.Models.{IsModelOf, form_model}
-use Rattle.model_pipeline.proofs.Standing.{formed_model}
+use Rattle.model_pipeline.proofs.Standing.{formed_have_room, formed_model}
 use Rattle.model_pipeline.proofs.model.model_of.Goals as goal
 
 pub form_model-requires-clause-enough : goal.form_model-requires-clause-enough
@@ -12,16 +9,7 @@ form_model-requires-clause-enough g c =
     omega (arith, c.in_ok-made.ensures.stands.enough, c.requires.own)
 
 pub form_model-requires-clause-figures : goal.form_model-requires-clause-figures
-form_model-requires-clause-figures g c =
-    let stands = c.in_ok-made.ensures.stands in
-    record {
-      scale_low = omega (arith, ints, ap (λ (n : Figures). n.scale) stands.figures);
-      small = record {
-        scale = omega (arith, ints, ap (λ (n : Figures). unsigned_abs n.scale) stands.figures);
-        offset = omega (arith, ints, ap (λ (n : Figures). unsigned_abs n.offset) stands.figures);
-        threshold = omega (arith, ap (λ (n : Figures). unsigned_abs n.threshold) stands.figures, stands.threshold);
-      };
-    }
+form_model-requires-clause-figures g c = formed_have_room _ _ _ c.in_ok-made.ensures.stands
 
 pub returns-clause-image : goal.returns-clause-image
 returns-clause-image g c =

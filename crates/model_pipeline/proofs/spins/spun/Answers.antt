@@ -1,23 +1,12 @@
-use Rattle.std.proofs.Common.{◌∙◌, ap, arith}
-use Rattle.std.specs.Prelude.{unsigned_abs}
-use Rattle.std.proofs.lemmas.Int.{ints}
+use Rattle.std.proofs.Common.{◌∙◌, ap}
 use Rattle.std.proofs.lemmas.Result.{IfOk-weaker}
-use Rattle.base.specs.declared.costs.Figures.{Figures}
 use Rattle.ising_form.specs.Spins.{image}
 use Rattle.model_pipeline.proofs.GraphModels.{spun_as}
+use Rattle.model_pipeline.proofs.Standing.{formed_have_room}
 use Rattle.model_pipeline.proofs.spins.spun.Goals as goal
 
 pub spun_quad-requires-clause-figures : goal.spun_quad-requires-clause-figures
-spun_quad-requires-clause-figures g c =
-    let stands = c.in_ok-made.ensures.stands in
-    record {
-      scale_low = omega (arith, ints, ap (λ (n : Figures). n.scale) stands.figures);
-      small = record {
-        scale = omega (arith, ints, ap (λ (n : Figures). unsigned_abs n.scale) stands.figures);
-        offset = omega (arith, ints, ap (λ (n : Figures). unsigned_abs n.offset) stands.figures);
-        threshold = omega (arith, ap (λ (n : Figures). unsigned_abs n.threshold) stands.figures, stands.threshold);
-      };
-    }
+spun_quad-requires-clause-figures g c = formed_have_room _ _ _ c.in_ok-made.ensures.stands
 
 pub returns-clause-image : goal.returns-clause-image
 returns-clause-image g c =

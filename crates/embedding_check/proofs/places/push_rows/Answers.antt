@@ -11,7 +11,7 @@ use Rattle.embedding_check.specs.Faults.{IsUncoupled}
 use Rattle.embedding_check.proofs.Faulty.{if_fault, zip_all}
 use Rattle.bits_model.proofs.EntryRows.{rows_before, rows_all}
 use Rattle.embedding_check.proofs.PlacedRows.{all_in_row, some_in_row, uncoupled_in_row}
-use Rattle.embedding_check.proofs.places.all_places.Goals as goal
+use Rattle.embedding_check.proofs.places.push_rows.Goals as goal
 
 pub note_row-noting-requires-clause-nodes : goal.note_row-noting-requires-clause-nodes
 note_row-noting-requires-clause-nodes g c =
@@ -40,7 +40,7 @@ returns-in_err-push_places-clause-fault g c =
     let coupled : All (IsCoupled joined chains) (rows_before couplings k) =
     zip_all (IsPlaceOf joined chains) (IsCoupled joined chains) (rows_before couplings k) c.loop-k.places.items
     (λ e place p. (place, p.crossing)) c.loop-k.invariant.placed in
-    let p = err_from_is_err_and c.from_residual-in_err-push_places.result c.from_residual-in_err-push_places.ensures.1 in
+    let p = err_from_is_err_and c.from_residual.result c.from_residual.ensures.1 in
     rw (p.1, p.2)
     (if_fault c.in_err-push_places.field-0.0 _
     (λ f. (u : ℕ) × (v : ℕ) × (n : ℕ) × IsUncoupled joined couplings chains u v n × (f ≡ NoCoupler u v))
@@ -57,8 +57,6 @@ returns-in_err-push_places-clause-fault g c =
 pub returns-clause-places : goal.returns-clause-places
 returns-clause-places g c =
     let R = IsPlaceOf (g.H.Hardware.joined c.args.hardware.now) c.args.chains.now in
-    let couplings = c.args.couplings.now in
-    subst (λ (ys : List (ℕ × ℕ)). AllZip R couplings ys) (sym c.new-2.ensures)
-    (subst (λ (xs : List Entry). AllZip R xs c.loop-k.places.items)
-    (rows_all couplings c.loop-k.k (omega (arith, c.loop-k-test.false, c.row_count-k-end.ensures, c.loop-k.auto.k-end)))
-    c.loop-k.invariant.placed)
+    subst (λ (xs : List Entry). AllZip R xs c.loop-k.places.items)
+    (rows_all c.args.couplings.now c.loop-k.k (omega (arith, c.loop-k-test.false, c.row_count-k-end.ensures, c.loop-k.auto.k-end)))
+    c.loop-k.invariant.placed

@@ -1,0 +1,35 @@
+use Rattle.std.proofs.Common.{◌≡◌, length, sym, subst, ap, ◌∙◌}
+use Rattle.std.proofs.lemmas.Result.{IfOk-weaker, IfErr-weaker}
+use Rattle.ising_form.specs.Isings.{IsingContent}
+use Rattle.embedding_check.specs.Faults.{Exists, IsInside}
+use Rattle.embedding_check.proofs.Faulty.{is_inside, is_apart, repeated_fault}
+use Rattle.embedding_check.proofs.checking.check_apart.Given.{Over}
+use Rattle.embedding_check.proofs.checking.check_apart.Goals.{In_ok-check_inside}
+use Rattle.embedding_check.proofs.checking.check_apart.Goals as goal
+
+-- a chain for each node, none empty, all of qubits
+inside : (g : Over) (c : In_ok-check_inside g)
+    → IsInside (g.H.Hardware.qubits c.args.hardware.now) c.args.ising.now c.args.map.now
+inside g c =
+    let f = c.args.ising.now in
+    let map = c.args.map.now in
+    let counted : length map ≡ length f.fields =
+    sym c.len.ensures
+    ∙ c.if-len-as_slice.false
+    ∙ ap (λ xs. length xs) c.as_slice.ensures
+    ∙ ap (λ (x : IsingContent). length x.fields) c.ising.view_is in
+    is_inside _ f map counted c.in-None.ensures
+    (λ u hu j hj. subst (λ m. Exists m map u j) c.qubits-qubits.ensures
+    (c.in_ok-check_inside.ensures.within u hu j hj))
+
+pub returns-clause-apart : goal.returns-clause-apart
+returns-clause-apart g c =
+    let inside = inside g (goal.at.returns-clause-apart g c).In_ok-check_inside in
+    IfOk-weaker c.check_once.result _ _ (λ _ once. is_apart _ _ _ inside once)
+    c.check_once.ensures.once
+
+pub returns-clause-fault : goal.returns-clause-fault
+returns-clause-fault g c =
+    let inside = inside g (goal.at.returns-clause-fault g c).In_ok-check_inside in
+    IfErr-weaker c.check_once.result _ _ (λ e h. repeated_fault _ _ _ _ e inside h)
+    c.check_once.ensures.fault

@@ -1,0 +1,8 @@
+use Rattle.std.proofs.Common.{◌≤◌, ℕ, List, sym, subst}
+use Rattle.chain_map.specs.Chains.{occurrences}
+use Rattle.embedding_check.proofs.checking.laid_out.Goals as goal
+
+pub sorted_chains-requires : goal.sorted_chains-requires
+sorted_chains-requires g c =
+    subst (λ (m : List (List ℕ)). (q : ℕ) → occurrences q m ≤ 1) (sym c.in_ok-chains.ensures.same)
+    c.in_ok-check_apart.ensures.apart.once
