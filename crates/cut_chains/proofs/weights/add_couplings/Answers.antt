@@ -3,11 +3,11 @@ use Rattle.std.proofs.lemmas.Int.{ints}
 use Rattle.std.proofs.lemmas.List.{drop_more}
 use Rattle.bits_model.specs.declared.output.Entry.{Entry}
 use Rattle.chain_layer.proofs.Added.{CanRaise, next_small, can_raise, first_fits, second_fits, raised_more, AreLeft, left_more}
-use Rattle.cut_chains.proofs.weights.add_couplings.Goals.{After-at-coupling, After-unsigned_abs-size}
+use Rattle.cut_chains.proofs.weights.add_couplings.Goals.{After-unsigned_abs-size}
 use Rattle.cut_chains.proofs.weights.add_couplings.Goals as goal
 
 -- the couplings that are left begin with this one
-next : (c : After-at-coupling)
+next : (c : After-unsigned_abs-size)
     → drop c.loop-k.k c.args.couplings.now
     ≡ c.at-coupling.result ∷ drop (c.loop-k.k + 1) c.args.couplings.now
 next c =
@@ -34,30 +34,34 @@ can c =
     so_far.small same
 
 pub raise-requires-clause-small : goal.raise-requires-clause-small
-raise-requires-clause-small c = first_fits c.loop-k.weights c.at-coupling.result _ _ (can c)
+raise-requires-clause-small c =
+    let at = (goal.at.raise-requires-clause-small c).After-unsigned_abs-size in
+    first_fits c.loop-k.weights c.at-coupling.result _ _ (can at)
 
 pub raise-requires-in-loop-k-clause-small : goal.raise-requires-in-loop-k-clause-small
 raise-requires-in-loop-k-clause-small c =
-    rw c.raise.ensures (second_fits c.loop-k.weights c.at-coupling.result _ _ _ (can c))
+    let at = (goal.at.raise-requires-in-loop-k-clause-small c).After-unsigned_abs-size in
+    rw c.raise.ensures (second_fits c.loop-k.weights c.at-coupling.result _ _ _ (can at))
 
 pub loop-k-preserved : goal.loop-k-preserved
 loop-k-preserved c =
+    let at = (goal.at.loop-k-preserved c).After-unsigned_abs-size in
     let start = c.args.weights.now in
     let xs = c.loop-k.weights in
     let all = c.args.couplings.now in
     let e : Entry = c.at-coupling.result in
     let so_far = c.loop-k.invariant in
-    let raised = raised_more xs _ _ e _ _ (can c) c.raise.ensures c.raise-in-loop-k.ensures in
+    let raised = raised_more xs _ _ e _ _ (can at) c.raise.ensures c.raise-in-loop-k.ensures in
     let left : AreLeft start xs all (drop c.loop-k.k all) = record {
       same_length = so_far.same_length;
       within = so_far.within;
       small = so_far.small;
       sums = so_far.sums;
     } in
-    let next = left_more start xs _ all (drop c.loop-k.k all) e _ (next c) left raised in
+    let more = left_more start xs _ all (drop c.loop-k.k all) e _ (next at) left raised in
     record {
-      same_length = next.same_length;
-      within = next.within;
-      small = next.small;
-      sums = next.sums;
+      same_length = more.same_length;
+      within = more.within;
+      small = more.small;
+      sums = more.sums;
     }

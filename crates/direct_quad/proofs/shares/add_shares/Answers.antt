@@ -35,28 +35,31 @@ constant_more c =
     ∙ c.long_constant-constant.ensures c.at-term.result.literals negated
     ∙ ap (λ w. long_constant (c.at-term.result.literals, w)) back in
     let so_far : to_z w128 c.loop-i.constant-bits ≡ total_by long_constant (take i t.terms) =
-    search (rules, c.loop-i.constant-is, c.loop-i.invariant.constant) in
+    search (rules, c.loop-i.invariant.constant) in
     (λ j. so_far j +ℤ own j) ∙ sym (constant-term t i u c.at-term.ensures.kept at)
 
 pub add_term_shares-requires-clause-nodes : goal.add_term_shares-requires-clause-nodes
 add_term_shares-requires-clause-nodes c =
-    let below = nodes_below c.args.long.now c.loop-i.i (here c) c.at-term.ensures.term in
+    let at = (goal.at.add_term_shares-requires-clause-nodes c).After-at-term in
+    let below = nodes_below c.args.long.now c.loop-i.i (here at) c.at-term.ensures.term in
     omega (arith, c.at-term.ensures.node, below, c.requires.nodes, c.loop-i.invariant.gain.width)
 
 pub add_term_shares-requires-clause-coefficient : goal.add_term_shares-requires-clause-coefficient
 add_term_shares-requires-clause-coefficient c =
-    let at = c.at-term.ensures in
-    omega (arith, coefficient-fits c.args.long.now c.loop-i.i (here c) at.kept at.term, c.requires.small)
+    let at = (goal.at.add_term_shares-requires-clause-coefficient c).After-at-term in
+    let term = c.at-term.ensures in
+    omega (arith, coefficient-fits c.args.long.now c.loop-i.i (here at) term.kept term.term, c.requires.small)
 
 pub add_term_shares-requires-clause-small : goal.add_term_shares-requires-clause-small
 add_term_shares-requires-clause-small c =
-    let at = c.at-term.ensures in
+    let at = (goal.at.add_term_shares-requires-clause-small c).After-at-term in
+    let term = c.at-term.ensures in
     omega (
       arith,
-      shares-fit c.args.long.now c.loop-i.i (here c) at.kept at.term,
+      shares-fit c.args.long.now c.loop-i.i (here at) term.kept term.term,
       c.loop-i.invariant.gain.small,
       c.requires.small,
-      ap (λ n. shares_total (term_shares (here c) n)) at.node,
+      ap (λ n. shares_total (term_shares (here at) n)) term.node,
     )
 
 pub long_constant-constant-requires-clause-negated : goal.long_constant-constant-requires-clause-negated
@@ -71,30 +74,33 @@ long_constant-constant-requires-clause-negated c =
 
 pub long_constant-constant-requires-clause-coefficient : goal.long_constant-constant-requires-clause-coefficient
 long_constant-constant-requires-clause-coefficient c =
-    let at = c.at-term.ensures in
+    let at = (goal.at.long_constant-constant-requires-clause-coefficient c).After-at-term in
+    let term = c.at-term.ensures in
     let back = to_z-of_z w128 c.at-term.result.coefficient (search rules) in
-    let fits = coefficient-fits c.args.long.now c.loop-i.i (here c) at.kept at.term in
+    let fits = coefficient-fits c.args.long.now c.loop-i.i (here at) term.kept term.term in
     omega (arith, ap unsigned_abs back, fits, c.requires.small)
 
 pub overflow_add-constant : goal.overflow_add-constant
 overflow_add-constant c =
-    let at = c.at-term.ensures in
-    let fits = constant-fits c.args.long.now c.loop-i.i (here c) at.kept at.term in
+    let at = (goal.at.overflow_add-constant c).After-at-term in
+    let term = c.at-term.ensures in
+    let fits = constant-fits c.args.long.now c.loop-i.i (here at) term.kept term.term in
     search (rules, constant_more c, fits, c.requires.small)
 
 pub loop-i-preserved : goal.loop-i-preserved
 loop-i-preserved c =
+    let at = (goal.at.loop-i-preserved c).After-at-term in
     let t = c.args.long.now in
     let i = c.loop-i.i in
-    let at = c.at-term.ensures in
+    let term = c.at-term.ensures in
     let old = c.loop-i.weights in
     let new = c.add_term_shares.new.weights in
-    let fits = constant-fits t i (here c) at.kept at.term in
+    let fits = constant-fits t i (here at) term.kept term.term in
     record {
       gain =
-          gain-term t i (here c) at.kept at.term c.args.weights.now old new c.loop-i.invariant.gain
-          (subst (λ n. Gain (term_shares (here c) n) (shares_total (term_shares (here c) n)) old new)
-          at.node c.add_term_shares.ensures);
+          gain-term t i (here at) term.kept term.term c.args.weights.now old new c.loop-i.invariant.gain
+          (subst (λ n. Gain (term_shares (here at) n) (shares_total (term_shares (here at) n)) old new)
+          term.node c.add_term_shares.ensures);
       constant =
           ap (λ w. to_z w128 (of_z w128 w)) (constant_more c)
           ∙ to_z-of_z w128 (total_by long_constant (take (i + 1) t.terms))
