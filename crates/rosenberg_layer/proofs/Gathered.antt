@@ -58,15 +58,15 @@ next-left xs i x d inside is =
 -- ---- the terms that tie the nodes
 
 -- those of the next pair, and of the others
-pub ties-next : (n i : ℕ) (pairs : List Pair) (ms : List ℕ) (d : Pair) (e : ℕ) → i < length pairs
-    → i < length ms
+pub ties-next : (n i : ℕ) (pairs : List Pair) (ms : List ℕ) (d : Pair) (e : ℕ) (w : Literal)
+    → i < length pairs → i < length ms → w ≡ node (n + i)
     → ties_of (n + i) (drop i pairs) (drop i ms)
-    ≡ tie_terms (get_or pairs i d) (node (n + i)) (get_or ms i e)
+    ≡ tie_terms (get_or pairs i d) w (get_or ms i e)
     ++ ties_of (n + (i + 1)) (drop (i + 1) pairs) (drop (i + 1) ms)
-ties-next n i pairs ms d e inside also =
-    let first = tie_terms (get_or pairs i d) (node (n + i)) (get_or ms i e) in
+ties-next n i pairs ms d e w inside also is =
     let next : n + i + 1 ≡ n + (i + 1) = omega arith in
     let after : suc i ≡ i + 1 = omega arith in
     (λ j. ties_of (n + i) (drop-cons pairs i d inside j) (drop-cons ms i e also j))
-    ∙ ap (λ k. first ++ ties_of k (drop (suc i) pairs) (drop (suc i) ms)) next
-    ∙ ap (λ k. first ++ ties_of (n + (i + 1)) (drop k pairs) (drop k ms)) after
+    ∙ (λ j.
+    tie_terms (get_or pairs i d) (sym is j) (get_or ms i e)
+    ++ ties_of (next j) (drop (after j) pairs) (drop (after j) ms))
