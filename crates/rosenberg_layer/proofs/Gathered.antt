@@ -1,11 +1,13 @@
 -- The quadratic terms that a run left, as loops add them.
-use Rattle.std.proofs.Common.{◌≡◌, ℕ, suc, drop, ◌+◌, ◌<◌, arith, sym, ap, ◌∙◌, subst, List, [], ◌∷◌, ◌++◌, length, get_or}
+use Rattle.std.proofs.Common.{◌≡◌, refl, ℕ, ℤ, suc, drop, ◌+◌, ◌<◌, arith, sym, ap, ◌∙◌, subst, List, [], ◌∷◌, ◌++◌, length, get_or}
 use Rattle.std.specs.List.{filter}
 use Rattle.std.proofs.Math.Seq.{drop-cons}
 use Rattle.std.proofs.lemmas.List.Elements.{filter-append}
+use Rattle.literal_lists.specs.declared.literal.Literal.{Literal}
 use Rattle.term_table.specs.Terms.{Term}
-use Rattle.term_table.specs.Tables.{TableContent}
-use Rattle.term_table.proofs.Filling.{Rest, rest_none}
+use Rattle.term_table.specs.Rooms.{HasRoomFor}
+use Rattle.term_table.specs.Tables.{TableContent, with_appended}
+use Rattle.term_table.proofs.Filling.{fills_as, rest_more, rest_none, rest_room, room_as, Rest}
 use Rattle.rosenberg_layer.specs.Rosenberg.{node, Pair, tie_terms}
 use Rattle.rosenberg_layer.specs.Steps.{is_short}
 use Rattle.rosenberg_layer.specs.Parts.{ties_of}
@@ -15,6 +17,27 @@ pub rest-start : {S : Type 0} (takes : S → List Term → Type 0) (holds : S �
     (left all : List Term) → left ≡ all → Rest takes holds start start left all
 rest-start takes holds start left all same =
     subst (λ ts. Rest takes holds start start ts all) (sym same) (rest_none takes holds start all)
+
+-- ---- the first of the terms left, whose coefficient the code has in other words
+
+module _ {S : Type 0} (takes : S → List Term → Type 0) (holds : S → TableContent → Type 0) where
+  -- there is room for it
+  pub room_term : (start now : S) (ls : List Literal) (c d : ℤ) (left all : List Term)
+      → Rest takes holds start now ((ls, c) ∷ left) all → HasRoomFor takes start all → d ≡ c
+      → HasRoomFor takes now ((ls, d) ∷ [])
+  room_term start now ls c d left all before room coefficient =
+      room_as takes now ls ls c d refl coefficient
+      (rest_room takes holds start now ((ls, c) ∷ left) left all ((ls, c) ∷ []) refl before room)
+
+  -- it is taken in
+  pub rest_term : (start now new : S) (ls : List Literal) (c d : ℤ) (left all : List Term)
+      → Rest takes holds start now ((ls, c) ∷ left) all → d ≡ c
+      → ((t : TableContent) → holds now t → holds new (with_appended t ls d))
+      → ((more : List Term) → takes now ((ls, d) ∷ more) → takes new more)
+      → Rest takes holds start new left all
+  rest_term start now new ls c d left all before coefficient held room =
+      rest_more takes holds start now new ((ls, c) ∷ left) left all ((ls, c) ∷ []) refl
+      (fills_as takes holds now new ls ls c d refl coefficient held room) before
 
 -- ---- the terms of degree 2 or less
 
@@ -35,15 +58,15 @@ next-left xs i x d inside is =
 -- ---- the terms that tie the nodes
 
 -- those of the next pair, and of the others
-pub ties-next : (n i : ℕ) (pairs : List Pair) (ms : List ℕ) (d : Pair) (e : ℕ) → i < length pairs
-    → i < length ms
+pub ties-next : (n i : ℕ) (pairs : List Pair) (ms : List ℕ) (d : Pair) (e : ℕ) (w : Literal)
+    → i < length pairs → i < length ms → w ≡ node (n + i)
     → ties_of (n + i) (drop i pairs) (drop i ms)
-    ≡ tie_terms (get_or pairs i d) (node (n + i)) (get_or ms i e)
+    ≡ tie_terms (get_or pairs i d) w (get_or ms i e)
     ++ ties_of (n + (i + 1)) (drop (i + 1) pairs) (drop (i + 1) ms)
-ties-next n i pairs ms d e inside also =
-    let first = tie_terms (get_or pairs i d) (node (n + i)) (get_or ms i e) in
+ties-next n i pairs ms d e w inside also is =
     let next : n + i + 1 ≡ n + (i + 1) = omega arith in
     let after : suc i ≡ i + 1 = omega arith in
     (λ j. ties_of (n + i) (drop-cons pairs i d inside j) (drop-cons ms i e also j))
-    ∙ ap (λ k. first ++ ties_of k (drop (suc i) pairs) (drop (suc i) ms)) next
-    ∙ ap (λ k. first ++ ties_of (n + (i + 1)) (drop k pairs) (drop k ms)) after
+    ∙ (λ j.
+    tie_terms (get_or pairs i d) (sym is j) (get_or ms i e)
+    ++ ties_of (next j) (drop (after j) pairs) (drop (after j) ms))

@@ -1,5 +1,5 @@
 -- A term whose first two literals are replaced goes into the list of its first literal, or down.
-use Rattle.std.proofs.Common.{◌≡◌, ◌≢◌, ℕ, ◌<◌, ◌≤◌, Bool, true, false, not, cond, arith, refl, sym, ap, ◌∙◌, List, [], ◌∷◌, ◌++◌, length, set, ℤ, pos}
+use Rattle.std.proofs.Common.{◌≡◌, ℕ, ◌<◌, ◌≤◌, Bool, true, false, not, cond, arith, refl, sym, ap, ◌∙◌, List, [], ◌∷◌, ◌++◌, length, set, ℤ, pos}
 use Rattle.std.specs.List.{filter}
 use Rattle.std.proofs.lemmas.Bool.Decides.{nat_tests}
 use Rattle.std.proofs.lemmas.List.{get_or-set_same, length-set}

@@ -1,56 +1,52 @@
-use Rattle.std.proofs.Common.{◌≡◌, arith, ap, refl, sym, List}
+use Rattle.std.proofs.Common.{◌≡◌, ◌++◌, arith, ap, sym}
 use Rattle.std.proofs.lemmas.Result.{on_ok_weaker}
-use Rattle.term_table.specs.Terms.{Term, terms_total}
+use Rattle.term_table.specs.Terms.{terms_total}
 use Rattle.term_table.proofs.Additions.{terms_total-append}
-use Rattle.term_table.proofs.Filling.{fills_more, fills_same, room_first, room_next, room_same}
+use Rattle.term_table.proofs.Filling.{fills_more, fills_same, room_first, room_next}
 use Rattle.rosenberg_layer.specs.Parts.{ties_of}
 use Rattle.rosenberg_layer.specs.Added.{moved_of}
+use Rattle.rosenberg_layer.proofs.gather.add_moved.Given.{Over}
+use Rattle.rosenberg_layer.proofs.gather.add_moved.Goals.{After-deref-3}
 use Rattle.rosenberg_layer.proofs.gather.add_moved.Goals as goal
+
+-- the terms are the low ones, and those that tie the nodes
+whole : (g : Over) (c : After-deref-3 g)
+    → moved_of c.args.start c.args.made.now
+    ≡ c.deref.result.now ++ ties_of c.args.start c.deref-2.result.now c.deref-3.result.now
+whole g c = λ i.
+    sym c.deref.ensures.value i
+    ++ ties_of c.args.start (sym c.deref-2.ensures.value i) (sym c.deref-3.ensures.value i)
 
 pub add_all-requires : goal.add_all-requires
 add_all-requires g c =
     let made = c.args.made.now in
-    let low : List Term = made.low.items in
     let ties = ties_of c.args.start made.pairs.items made.weights.items in
-    room_same g.G.Gather.takes c.args.terms.now low _ (sym c.deref.ensures.value)
-    (room_first g.G.Gather.takes c.args.terms.now (moved_of c.args.start made) low ties refl c.requires.room)
+    room_first g.G.Gather.takes c.args.terms.now (moved_of c.args.start made) _ ties
+    (ap (λ ts. ts ++ ties) (sym c.deref.ensures.value)) c.requires.room
 
 pub add_ties-requires-clause-room : goal.add_ties-requires-clause-room
 add_ties-requires-clause-room g c =
-    let made = c.args.made.now in
-    let low : List Term = made.low.items in
-    let ties = ties_of c.args.start made.pairs.items made.weights.items in
-    let same : ties_of c.args.start c.deref-2.result.now c.deref-3.result.now ≡ ties =
-    λ i. ties_of c.args.start (c.deref-2.ensures.value i) (c.deref-3.ensures.value i) in
-    let first =
-    fills_same g.G.Gather.takes g.G.Gather.holds c.args.terms.now c.add_all.new.terms _ low c.deref.ensures.value
-    c.in_ok-add_all.ensures in
-    room_same g.G.Gather.takes c.add_all.new.terms ties _ (sym same)
-    (room_next g.G.Gather.takes g.G.Gather.holds c.args.terms.now c.add_all.new.terms
-    (moved_of c.args.start made) low ties refl first c.requires.room)
+    room_next g.G.Gather.takes g.G.Gather.holds c.args.terms.now c.add_all.new.terms _ _ _
+    (whole g (goal.at.add_ties-requires-clause-room g c).After-deref-3) c.in_ok-add_all.ensures
+    c.requires.room
 
 pub add_ties-requires-clause-small : goal.add_ties-requires-clause-small
 add_ties-requires-clause-small g c =
-    let made = c.args.made.now in
-    let low : List Term = made.low.items in
-    let ties = ties_of c.args.start made.pairs.items made.weights.items in
-    let same : ties_of c.args.start c.deref-2.result.now c.deref-3.result.now ≡ ties =
-    λ i. ties_of c.args.start (c.deref-2.ensures.value i) (c.deref-3.ensures.value i) in
-    omega (arith, c.requires.small, terms_total-append low ties, ap terms_total same)
+    let all = whole g (goal.at.add_ties-requires-clause-small g c).After-deref-3 in
+    let ties = ties_of c.args.start c.deref-2.result.now c.deref-3.result.now in
+    omega (
+      arith,
+      c.requires.small,
+      terms_total-append c.deref.result.now ties,
+      ap terms_total all,
+    )
 
 pub returns : goal.returns
 returns g c =
-    let made = c.args.made.now in
-    let low : List Term = made.low.items in
-    let ties = ties_of c.args.start made.pairs.items made.weights.items in
-    let same : ties_of c.args.start c.deref-2.result.now c.deref-3.result.now ≡ ties =
-    λ i. ties_of c.args.start (c.deref-2.ensures.value i) (c.deref-3.ensures.value i) in
-    let first =
-    fills_same g.G.Gather.takes g.G.Gather.holds c.args.terms.now c.add_all.new.terms _ low c.deref.ensures.value
-    c.in_ok-add_all.ensures in
+    let Takes = g.G.Gather.takes in
+    let Holds = g.G.Gather.holds in
+    let all = whole g (goal.at.returns g c).After-deref-3 in
     on_ok_weaker c.add_ties.result
-    (λ more.
-    fills_more g.G.Gather.takes g.G.Gather.holds c.args.terms.now c.add_all.new.terms c.add_ties.new.terms low ties
-    first
-    (fills_same g.G.Gather.takes g.G.Gather.holds c.add_all.new.terms c.add_ties.new.terms _ ties same more))
+    (λ more. fills_same Takes Holds _ _ _ _ (sym all)
+    (fills_more Takes Holds _ _ _ _ _ c.in_ok-add_all.ensures more))
     c.add_ties.ensures

@@ -10,8 +10,9 @@ use Rattle.rosenberg_layer.specs.Buckets.{IsApart, TermLists}
 use Rattle.rosenberg_layer.specs.Waiting.{first_pair, keys_left, lists_with, AreWaiting, IsBeyond}
 use Rattle.rosenberg_layer.proofs.PartlyTerms.{partly_small}
 use Rattle.rosenberg_layer.proofs.PutBack.{length_with}
-use Rattle.rosenberg_layer.proofs.Under.{under_end, under_ready, under_start, under_step, wait_stepped, pair_at, IsUnder}
+use Rattle.rosenberg_layer.proofs.Under.{IsReady, under_end, under_ready, under_start, under_step, wait_stepped, pair_at, IsUnder}
 use Rattle.rosenberg_layer.proofs.WaitingTerms.{apart_first, keyed_first, wait_wider}
+use Rattle.rosenberg_layer.proofs.replacing.substitute.Goals.{In-Some}
 use Rattle.rosenberg_layer.proofs.replacing.substitute.Goals as goal
 
 pub loop-term-init : goal.loop-term-init
@@ -50,286 +51,151 @@ loop-term-init c =
           (under_start start w.buckets.lists w.cursor key c.args.number rest low all wait.narrow);
     }
 
+-- the term that an iteration takes
+module _ (c : In-Some) where
+  abbrev start : List Term
+  start = c.args.long.now
+
+  abbrev low : List Term
+  low = c.args.low.now.items
+
+  abbrev now : List Term
+  now = c.loop-term.long
+
+  abbrev key : ℕ
+  key = get_or c.args.waiting.now.keys.items c.args.waiting.now.at 0
+
+  abbrev k : ℕ
+  k = key / 2 ^ 32 * 2 ^ 32 + c.in-Some.term
+
+  abbrev rest : List ℕ
+  rest = keys_left c.pop.new.self
+
+  abbrev lists : List (List ℕ)
+  lists = c.loop-term.waiting.buckets.lists
+
+  abbrev cursor : ℕ
+  cursor = c.loop-term.waiting.cursor
+
+  -- what it becomes
+  abbrev replaced : Term
+  replaced = front_term (node c.args.number) (term_at now c.in-Some.term)
+
+  -- its key is the first of those left
+  taken : keys_left c.loop-term.waiting ≡ k ∷ rest
+  taken =
+      let w = c.args.waiting.now in
+      let d = c.index.result.now in
+      let first = get_or_read w.keys.items w.at d c.requires.some (search rules) 0 in
+      c.in-Some.ensures.taken ∙ ap (λ q. (q / 2 ^ 32 * 2 ^ 32 + c.in-Some.term) ∷ rest) first
+
+  -- all terms of the keys wait
+  wait : AreWaiting now (length now) lists cursor (k ∷ rest)
+  wait = subst (AreWaiting now (length now) lists cursor) taken c.loop-term.invariant.wait.all
+
+  -- the terms before it are replaced
+  under : IsUnder start key c.args.number low now c.loop-term.low.items c.loop-term.weight cursor
+      (k ∷ rest)
+  under =
+      let old = c.loop-term in
+      subst (IsUnder start key c.args.number low now old.low.items old.weight cursor) taken
+      old.invariant.under
+
+  -- it can be replaced
+  ready : IsReady now lists cursor c.args.number k c.in-Some.term rest
+  ready =
+      under_ready start lists cursor key c.args.number k c.in-Some.term rest low now
+      c.loop-term.low.items c.loop-term.weight under wait c.loop-term.invariant.wait.narrow
+      c.in-Some.ensures.term refl c.requires.sets
+
+  -- once it is replaced, the terms up to it are
+  stepped : (now' low' : List Term) (m : ℕ) → now' ≡ set now c.in-Some.term replaced
+      → low' ≡ c.loop-term.low.items ++ filter is_short (replaced ∷ [])
+      → m ≡ c.loop-term.weight + unsigned_abs (term_at now c.in-Some.term).1
+      → IsUnder start key c.args.number low now' low' m cursor rest
+  stepped now' low' m =
+      under_step start lists cursor key c.args.number k c.in-Some.term rest low now now'
+      c.loop-term.low.items low' c.loop-term.weight m under wait c.loop-term.invariant.wait.narrow
+      c.in-Some.ensures.term refl
+
 pub coefficient-requires : goal.coefficient-requires
-coefficient-requires c =
-    let start : List Term = c.args.long.now in
-    let w0 = c.args.waiting.now in
-    let key = get_or w0.keys.items w0.at 0 in
-    let n = c.args.number in
-    let low : List Term = c.args.low.now.items in
-    let now : List Term = c.loop-term.long in
-    let w = c.loop-term.waiting in
-    let old = c.loop-term.invariant in
-    let t = c.in-Some.term in
-    let k = key / 2 ^ 32 * 2 ^ 32 + t in
-    let rest = keys_left c.pop.new.self in
-    let read : c.index.result.now ≡ get_or w0.keys.items w0.at c.index.result.now = search rules in
-    let first : c.index.result.now ≡ key =
-    get_or_read w0.keys.items w0.at c.index.result.now c.requires.some read 0 in
-    let taken : keys_left w ≡ k ∷ rest =
-    c.in-Some.ensures.taken ∙ ap (λ q. (q / 2 ^ 32 * 2 ^ 32 + t) ∷ rest) first in
-    let wait = subst (AreWaiting now (length now) w.buckets.lists w.cursor) taken old.wait.all in
-    let under =
-    subst (λ ks. IsUnder start key n low now c.loop-term.low.items c.loop-term.weight w.cursor ks) taken
-    old.under in
-    let below = c.in-Some.ensures.term in
-    let u = front_term (node n) (term_at now t) in
-    let ready =
-    under_ready start w.buckets.lists w.cursor key n k t rest low now c.loop-term.low.items
-    c.loop-term.weight under wait old.wait.narrow below refl c.requires.sets in
-    ready.first.term
+coefficient-requires c = (ready c).first.term
 
 pub overflow_add-weight : goal.overflow_add-weight
 overflow_add-weight c =
-    let start : List Term = c.args.long.now in
-    let w0 = c.args.waiting.now in
-    let key = get_or w0.keys.items w0.at 0 in
-    let n = c.args.number in
-    let low : List Term = c.args.low.now.items in
-    let now : List Term = c.loop-term.long in
-    let w = c.loop-term.waiting in
-    let old = c.loop-term.invariant in
-    let t = c.in-Some.term in
-    let k = key / 2 ^ 32 * 2 ^ 32 + t in
-    let rest = keys_left c.pop.new.self in
-    let read : c.index.result.now ≡ get_or w0.keys.items w0.at c.index.result.now = search rules in
-    let first : c.index.result.now ≡ key =
-    get_or_read w0.keys.items w0.at c.index.result.now c.requires.some read 0 in
-    let taken : keys_left w ≡ k ∷ rest =
-    c.in-Some.ensures.taken ∙ ap (λ q. (q / 2 ^ 32 * 2 ^ 32 + t) ∷ rest) first in
-    let wait = subst (AreWaiting now (length now) w.buckets.lists w.cursor) taken old.wait.all in
-    let under =
-    subst (λ ks. IsUnder start key n low now c.loop-term.low.items c.loop-term.weight w.cursor ks) taken
-    old.under in
-    let below = c.in-Some.ensures.term in
-    let u = front_term (node n) (term_at now t) in
-    let ready =
-    under_ready start w.buckets.lists w.cursor key n k t rest low now c.loop-term.low.items
-    c.loop-term.weight under wait old.wait.narrow below refl c.requires.sets in
+    let some = (goal.at.overflow_add-weight c).In-Some in
     let size : c.unsigned_abs-weight.result ≡ unsigned_abs c.coefficient.result = search rules in
-    let value = ap unsigned_abs c.coefficient.ensures in
-    let after =
-    under_step start w.buckets.lists w.cursor key n k t rest low now (set now t u)
-    c.loop-term.low.items (c.loop-term.low.items ++ filter is_short (u ∷ [])) c.loop-term.weight
-    (c.loop-term.weight + unsigned_abs (term_at now t).1) under wait old.wait.narrow below refl refl refl
-    refl in
+    let after = stepped some _ _ _ refl refl refl in
     omega (
       arith,
       size,
-      value,
-      partly_small (pair_at start key) (node n) start (set now t u) low
-          (c.loop-term.low.items ++ filter is_short (u ∷ []))
-          (c.loop-term.weight + unsigned_abs (term_at now t).1) after.place (2 ^ 124) after.partly
-          c.requires.small,
+      ap unsigned_abs c.coefficient.ensures,
+      partly_small (pair_at (start some) (key some)) (node c.args.number) _ _ _ _ _ after.place
+          (2 ^ 124) after.partly c.requires.small,
     )
 
 pub replace-requires-clause-within : goal.replace-requires-clause-within
 replace-requires-clause-within c =
-    let start : List Term = c.args.long.now in
-    let w0 = c.args.waiting.now in
-    let key = get_or w0.keys.items w0.at 0 in
-    let n = c.args.number in
-    let low : List Term = c.args.low.now.items in
-    let now : List Term = c.loop-term.long in
-    let w = c.loop-term.waiting in
-    let old = c.loop-term.invariant in
-    let t = c.in-Some.term in
-    let k = key / 2 ^ 32 * 2 ^ 32 + t in
-    let rest = keys_left c.pop.new.self in
-    let read : c.index.result.now ≡ get_or w0.keys.items w0.at c.index.result.now = search rules in
-    let first : c.index.result.now ≡ key =
-    get_or_read w0.keys.items w0.at c.index.result.now c.requires.some read 0 in
-    let taken : keys_left w ≡ k ∷ rest =
-    c.in-Some.ensures.taken ∙ ap (λ q. (q / 2 ^ 32 * 2 ^ 32 + t) ∷ rest) first in
-    let wait = subst (AreWaiting now (length now) w.buckets.lists w.cursor) taken old.wait.all in
-    let under =
-    subst (λ ks. IsUnder start key n low now c.loop-term.low.items c.loop-term.weight w.cursor ks) taken
-    old.under in
-    let below = c.in-Some.ensures.term in
-    let u = front_term (node n) (term_at now t) in
-    let ready =
-    under_ready start w.buckets.lists w.cursor key n k t rest low now c.loop-term.low.items
-    c.loop-term.weight under wait old.wait.narrow below refl c.requires.sets in
-    ready.first.term
+    (ready (goal.at.replace-requires-clause-within c).In-Some).first.term
 
 pub replace-requires-clause-degree : goal.replace-requires-clause-degree
 replace-requires-clause-degree c =
-    let start : List Term = c.args.long.now in
-    let w0 = c.args.waiting.now in
-    let key = get_or w0.keys.items w0.at 0 in
-    let n = c.args.number in
-    let low : List Term = c.args.low.now.items in
-    let now : List Term = c.loop-term.long in
-    let w = c.loop-term.waiting in
-    let old = c.loop-term.invariant in
-    let t = c.in-Some.term in
-    let k = key / 2 ^ 32 * 2 ^ 32 + t in
-    let rest = keys_left c.pop.new.self in
-    let read : c.index.result.now ≡ get_or w0.keys.items w0.at c.index.result.now = search rules in
-    let first : c.index.result.now ≡ key =
-    get_or_read w0.keys.items w0.at c.index.result.now c.requires.some read 0 in
-    let taken : keys_left w ≡ k ∷ rest =
-    c.in-Some.ensures.taken ∙ ap (λ q. (q / 2 ^ 32 * 2 ^ 32 + t) ∷ rest) first in
-    let wait = subst (AreWaiting now (length now) w.buckets.lists w.cursor) taken old.wait.all in
-    let under =
-    subst (λ ks. IsUnder start key n low now c.loop-term.low.items c.loop-term.weight w.cursor ks) taken
-    old.under in
-    let below = c.in-Some.ensures.term in
-    let u = front_term (node n) (term_at now t) in
-    let ready =
-    under_ready start w.buckets.lists w.cursor key n k t rest low now c.loop-term.low.items
-    c.loop-term.weight under wait old.wait.narrow below refl c.requires.sets in
-    ready.three
+    (ready (goal.at.replace-requires-clause-degree c).In-Some).three
 
 pub replace-requires-clause-lists : goal.replace-requires-clause-lists
 replace-requires-clause-lists c =
-    let start : List Term = c.args.long.now in
-    let w0 = c.args.waiting.now in
-    let key = get_or w0.keys.items w0.at 0 in
-    let n = c.args.number in
-    let low : List Term = c.args.low.now.items in
-    let now : List Term = c.loop-term.long in
-    let w = c.loop-term.waiting in
-    let old = c.loop-term.invariant in
-    let t = c.in-Some.term in
-    let k = key / 2 ^ 32 * 2 ^ 32 + t in
-    let rest = keys_left c.pop.new.self in
-    let read : c.index.result.now ≡ get_or w0.keys.items w0.at c.index.result.now = search rules in
-    let first : c.index.result.now ≡ key =
-    get_or_read w0.keys.items w0.at c.index.result.now c.requires.some read 0 in
-    let taken : keys_left w ≡ k ∷ rest =
-    c.in-Some.ensures.taken ∙ ap (λ q. (q / 2 ^ 32 * 2 ^ 32 + t) ∷ rest) first in
-    let wait = subst (AreWaiting now (length now) w.buckets.lists w.cursor) taken old.wait.all in
-    let under =
-    subst (λ ks. IsUnder start key n low now c.loop-term.low.items c.loop-term.weight w.cursor ks) taken
-    old.under in
-    let below = c.in-Some.ensures.term in
-    let u = front_term (node n) (term_at now t) in
-    let ready =
-    under_ready start w.buckets.lists w.cursor key n k t rest low now c.loop-term.low.items
-    c.loop-term.weight under wait old.wait.narrow below refl c.requires.sets in
-    let listed = ready.listed in
-    let count = old.lists in
+    let listed = (ready (goal.at.replace-requires-clause-lists c).In-Some).listed in
+    let count = c.loop-term.invariant.lists in
     omega (arith, listed, count, ap (λ (b : TermLists). length b.lists) c.pop.ensures.buckets)
 
 pub replace-requires-clause-room : goal.replace-requires-clause-room
 replace-requires-clause-room c =
-    let start : List Term = c.args.long.now in
-    let w0 = c.args.waiting.now in
-    let key = get_or w0.keys.items w0.at 0 in
-    let n = c.args.number in
-    let low : List Term = c.args.low.now.items in
-    let now : List Term = c.loop-term.long in
-    let w = c.loop-term.waiting in
-    let old = c.loop-term.invariant in
-    let t = c.in-Some.term in
-    let k = key / 2 ^ 32 * 2 ^ 32 + t in
-    let rest = keys_left c.pop.new.self in
-    let read : c.index.result.now ≡ get_or w0.keys.items w0.at c.index.result.now = search rules in
-    let first : c.index.result.now ≡ key =
-    get_or_read w0.keys.items w0.at c.index.result.now c.requires.some read 0 in
-    let taken : keys_left w ≡ k ∷ rest =
-    c.in-Some.ensures.taken ∙ ap (λ q. (q / 2 ^ 32 * 2 ^ 32 + t) ∷ rest) first in
-    let wait = subst (AreWaiting now (length now) w.buckets.lists w.cursor) taken old.wait.all in
-    let under =
-    subst (λ ks. IsUnder start key n low now c.loop-term.low.items c.loop-term.weight w.cursor ks) taken
-    old.under in
-    let below = c.in-Some.ensures.term in
-    let u = front_term (node n) (term_at now t) in
-    let ready =
-    under_ready start w.buckets.lists w.cursor key n k t rest low now c.loop-term.low.items
-    c.loop-term.weight under wait old.wait.narrow below refl c.requires.sets in
-    let inside = ready.first.term in
-    let room = old.wait.room in
+    let inside = (ready (goal.at.replace-requires-clause-room c).In-Some).first.term in
+    let room = c.loop-term.invariant.wait.room in
     omega (arith, inside, room, ap (λ (b : TermLists). b.room) c.pop.ensures.buckets)
 
 pub replace-requires-clause-apart : goal.replace-requires-clause-apart
 replace-requires-clause-apart c =
-    let start : List Term = c.args.long.now in
-    let w0 = c.args.waiting.now in
-    let key = get_or w0.keys.items w0.at 0 in
-    let n = c.args.number in
-    let low : List Term = c.args.low.now.items in
-    let now : List Term = c.loop-term.long in
-    let w = c.loop-term.waiting in
-    let old = c.loop-term.invariant in
-    let t = c.in-Some.term in
-    let k = key / 2 ^ 32 * 2 ^ 32 + t in
-    let rest = keys_left c.pop.new.self in
-    let read : c.index.result.now ≡ get_or w0.keys.items w0.at c.index.result.now = search rules in
-    let first : c.index.result.now ≡ key =
-    get_or_read w0.keys.items w0.at c.index.result.now c.requires.some read 0 in
-    let taken : keys_left w ≡ k ∷ rest =
-    c.in-Some.ensures.taken ∙ ap (λ q. (q / 2 ^ 32 * 2 ^ 32 + t) ∷ rest) first in
-    let wait = subst (AreWaiting now (length now) w.buckets.lists w.cursor) taken old.wait.all in
-    let under =
-    subst (λ ks. IsUnder start key n low now c.loop-term.low.items c.loop-term.weight w.cursor ks) taken
-    old.under in
-    let below = c.in-Some.ensures.term in
-    let u = front_term (node n) (term_at now t) in
-    let ready =
-    under_ready start w.buckets.lists w.cursor key n k t rest low now c.loop-term.low.items
-    c.loop-term.weight under wait old.wait.narrow below refl c.requires.sets in
-    subst (λ (b : TermLists). IsApart b.lists t) (sym c.pop.ensures.buckets)
-    (apart_first now w.buckets.lists w.cursor k t rest ready.first)
+    let some = (goal.at.replace-requires-clause-apart c).In-Some in
+    subst (λ (b : TermLists). IsApart b.lists c.in-Some.term) (sym c.pop.ensures.buckets)
+    (apart_first (now some) (lists some) (cursor some) (k some) c.in-Some.term (rest some)
+    (ready some).first)
 
 pub loop-term-preserved : goal.loop-term-preserved
 loop-term-preserved c =
-    let start : List Term = c.args.long.now in
-    let w0 = c.args.waiting.now in
-    let key = get_or w0.keys.items w0.at 0 in
-    let n = c.args.number in
-    let low : List Term = c.args.low.now.items in
-    let now : List Term = c.loop-term.long in
-    let w = c.loop-term.waiting in
+    let some = (goal.at.loop-term-preserved c).In-Some in
     let old = c.loop-term.invariant in
     let t = c.in-Some.term in
-    let k = key / 2 ^ 32 * 2 ^ 32 + t in
-    let rest = keys_left c.pop.new.self in
-    let read : c.index.result.now ≡ get_or w0.keys.items w0.at c.index.result.now = search rules in
-    let first : c.index.result.now ≡ key =
-    get_or_read w0.keys.items w0.at c.index.result.now c.requires.some read 0 in
-    let taken : keys_left w ≡ k ∷ rest =
-    c.in-Some.ensures.taken ∙ ap (λ q. (q / 2 ^ 32 * 2 ^ 32 + t) ∷ rest) first in
-    let wait = subst (AreWaiting now (length now) w.buckets.lists w.cursor) taken old.wait.all in
-    let under =
-    subst (λ ks. IsUnder start key n low now c.loop-term.low.items c.loop-term.weight w.cursor ks) taken
-    old.under in
-    let below = c.in-Some.ensures.term in
-    let u = front_term (node n) (term_at now t) in
-    let ready =
-    under_ready start w.buckets.lists w.cursor key n k t rest low now c.loop-term.low.items
-    c.loop-term.weight under wait old.wait.narrow below refl c.requires.sets in
+    let new = c.replace.new.buckets in
+    let done = c.in_ok-replace.ensures in
     let size : c.unsigned_abs-weight.result ≡ unsigned_abs c.coefficient.result = search rules in
-    let placed =
-    c.in_ok-replace.ensures.lists ∙ ap (λ (b : TermLists). lists_with b.lists t u) c.pop.ensures.buckets in
+    let u = replaced some in
+    let placed = done.lists ∙ ap (λ (b : TermLists). lists_with b.lists t u) c.pop.ensures.buckets in
     let count = old.lists in
-    let listed = ready.listed in
-    let stepped =
-    wait_stepped now c.replace.new.long w.buckets.lists c.replace.new.buckets.lists w.cursor k t rest u
-    ready.first c.in_ok-replace.ensures.terms placed ready.later (omega (arith, listed, count)) in
-    let same = ap length c.in_ok-replace.ensures.terms ∙ length-set now t u in
+    let listed = (ready some).listed in
+    let after =
+    wait_stepped (now some) c.replace.new.long (lists some) new.lists (cursor some) (k some) t
+    (rest some) u (ready some).first done.terms placed (ready some).later
+    (omega (arith, listed, count)) in
+    let same = ap length done.terms ∙ length-set (now some) t u in
     record {
       wait = record {
         all =
-            subst (λ (i : ℕ). AreWaiting c.replace.new.long (length c.replace.new.long)
-            c.replace.new.buckets.lists i rest) (sym c.pop.ensures.cursor) stepped;
+            subst (λ (i : ℕ). AreWaiting c.replace.new.long (length c.replace.new.long) new.lists i
+            (rest some)) (sym c.pop.ensures.cursor) after;
         room =
-            c.in_ok-replace.ensures.room
-            ∙ ap (λ (b : TermLists). b.room) c.pop.ensures.buckets
-            ∙ old.wait.room
+            done.room ∙ ap (λ (b : TermLists). b.room) c.pop.ensures.buckets ∙ old.wait.room
             ∙ sym same;
         narrow = let narrow = old.wait.narrow in omega (arith, narrow, same);
         place = c.pop.ensures.place;
       };
-      lists = ap length placed ∙ length_with w.buckets.lists t u ∙ count;
+      lists = ap length placed ∙ length_with (lists some) t u ∙ count;
       under =
-          subst (λ (i : ℕ). IsUnder start key n low c.replace.new.long c.replace.new.low.items
-          (c.loop-term.weight + c.unsigned_abs-weight.result) i rest)
+          subst (λ (i : ℕ). IsUnder (start some) (key some) c.args.number (low some)
+          c.replace.new.long c.replace.new.low.items
+          (c.loop-term.weight + c.unsigned_abs-weight.result) i (rest some))
           (sym c.pop.ensures.cursor)
-          (under_step start w.buckets.lists w.cursor key n k t rest low now c.replace.new.long
-          c.loop-term.low.items c.replace.new.low.items c.loop-term.weight _ under wait
-          old.wait.narrow below refl c.in_ok-replace.ensures.terms c.in_ok-replace.ensures.low
+          (stepped some c.replace.new.long c.replace.new.low.items _ done.terms done.low
           (ap (λ m. c.loop-term.weight + m) (size ∙ ap unsigned_abs c.coefficient.ensures)));
     }
 
@@ -344,9 +210,8 @@ returns-clause-step c = λ pair is.
     let now : List Term = c.loop-term.long in
     let w = c.loop-term.waiting in
     let old = c.loop-term.invariant in
-    let read : c.index.result.now ≡ get_or w0.keys.items w0.at c.index.result.now = search rules in
-    let first : c.index.result.now ≡ key =
-    get_or_read w0.keys.items w0.at c.index.result.now c.requires.some read 0 in
+    let second = c.index.result.now in
+    let first = get_or_read w0.keys.items w0.at second c.requires.some (search rules) 0 in
     let left : keys_left w0 ≡ key ∷ rest = drop_more w0.keys.items w0.at 0 c.requires.some in
     let all =
     subst (AreWaiting start (length start) w0.buckets.lists w0.cursor) left c.requires.wait.all in
