@@ -8,6 +8,7 @@ use Rattle.std.proofs.lemmas.List.{length-append, get_or_append_left, get_or_pas
 use Rattle.std.proofs.lemmas.List.Elements.{All-append}
 use Rattle.std.proofs.Math.Seq.{get_or-append_seam}
 use Rattle.bits_model.specs.declared.output.Entry.{Entry}
+use Rattle.bits_model.specs.declared.output.Kind.{Kind}
 use Rattle.base.specs.Costs.{energy}
 use Rattle.bits_model.specs.Output.{Written, IsPlaced, form_of, is_coupler, weight_total}
 use Rattle.bits_model.specs.Walks.{is_in}
@@ -182,6 +183,23 @@ lesser-most zeros ones values b long h z o =
 plus_one : (n : ℕ) → n + 1 ≡ suc n
 plus_one n = omega arith
 
+-- what holds of the next node, once its entries and tables are taken
+pub record NextNode (m : Written) (kind : Kind) (sets : List (List ℕ)) (step : ℕ)
+    (choices : List (List Bool)) (front : List (List Entry)) (own : List Entry)
+    (before : List (List TableOver)) (tables : List TableOver) (ns : List ℕ) (v : ℕ)
+    : Type 0 where
+  pub entries : AreOf v own
+  pub leads : LeadTo ns own
+  pub passed : All (IsPassedTo v ns) tables
+  pub few : length ns ≤ 16
+  pub small : own_size own tables ≤ 3 * weight_total m.entries
+  pub within : (values : List ℤ) (bits : List Bool)
+      → IsSettled kind v ns own tables values bits → All (λ u. u < length before) ns
+  pub next : (values : List ℤ) (bits : List Bool)
+      → IsSettled kind v ns own tables values bits → (passed : List (List TableOver))
+      → IsHandedOn (record { nodes = ns; values = values }) before passed
+      → Eliminated m sets (step + 1) front passed (choices ++ bits ∷ [])
+
 module _ (m : Written) (sets : List (List ℕ)) (near : AreNeighbourhoods 16 m sets) (step : ℕ)
     (held : List (List Entry)) (waiting : List (List TableOver)) (choices : List (List Bool))
     (e : Eliminated m sets step held waiting choices) (front : List (List Entry)) (own : List Entry)
@@ -224,23 +242,6 @@ module _ (m : Written) (sets : List (List ℕ)) (near : AreNeighbourhoods 16 m s
       ∙ ap (λ k. get_or (before ++ tables ∷ []) k []) (sym before_long)
       ∙ get_or-append_seam before tables [] []
 
-  -- what is asked of its tables
-  pub own_of : AreOf v own
-  own_of = subst (AreOf v) own_is (held_of v held inside e.left.entries)
-
-  pub own_leads : LeadTo ns own
-  own_leads =
-      subst (λ l. LeadTo l own) set_is
-      (subst (λ es. LeadTo (set_of m sets v) es) own_is (e.lead v inside))
-
-  pub own_passed : All (IsPassedTo v ns) tables
-  own_passed =
-      subst (λ l. All (IsPassedTo v l) tables) set_is
-      (subst (λ ts. All (IsPassedTo v (set_of m sets v)) ts) tables_is (e.passed v inside))
-
-  pub own_few : length ns ≤ 16
-  own_few = let le = near.narrow v node in omega (arith, ap length set_is, le)
-
   held_sum : sum_by weight_total held ≡ sum_by weight_total front + weight_total own
   held_sum = ap (sum_by weight_total) held_is ∙ sum-push weight_total front own
 
@@ -248,9 +249,6 @@ module _ (m : Written) (sets : List (List ℕ)) (near : AreNeighbourhoods 16 m s
       ≡ sum_by (sum_by table_size) before + sum_by table_size tables
   waiting_sum = ap (sum_by (sum_by table_size)) waiting_is
       ∙ sum-push (sum_by table_size) before tables
-
-  pub own_small : own_size own tables ≤ 3 * weight_total m.entries
-  own_small = let le = e.size in omega (arith, held_sum, waiting_sum, le)
 
   -- its neighbours are below it
   ascends : Ascends 0 ns
@@ -300,7 +298,7 @@ module _ (m : Written) (sets : List (List ℕ)) (near : AreNeighbourhoods 16 m s
         (subst (λ w. is_neighbour m v w ≡ true) same near_v) in
         omega (arith, node))
 
-    pub all_within : All (λ u. u < length before) ns
+    all_within : All (λ u. u < length before) ns
     all_within k d h =
         let lt = below_in v ns (get_or ns k d) below (member_at ns k d h) in
         omega (arith, before_long, lt)
@@ -468,7 +466,7 @@ module _ (m : Written) (sets : List (List ℕ)) (near : AreNeighbourhoods 16 m s
       }
 
     -- whichever nodes get the table
-    pub eliminated_one : (passed : List (List TableOver)) → IsHandedOn table before passed
+    eliminated_one : (passed : List (List TableOver)) → IsHandedOn table before passed
         → Eliminated m sets (step + 1) front passed (choices ++ bits ∷ [])
     eliminated_one passed h =
         by_last ns
@@ -479,18 +477,28 @@ module _ (m : Written) (sets : List (List ℕ)) (near : AreNeighbourhoods 16 m s
         subst (λ ws. Eliminated m sets (step + 1) front ws (choices ++ bits ∷ []))
         (sym (h.last rest q parts)) (eliminated_next rest q parts))
 
-  -- the same, of what a node has settled
-  module _ (placed : All (IsPlaced m.nodes) m.entries) (values : List ℤ) (bits : List Bool)
-      (s : IsSettled m.kind v ns own tables values bits) where
-    pub settled_within : All (λ u. u < length before) ns
-    settled_within = all_within placed s.zeros s.ones values bits s.zero s.one s.bit_count s.bit
-        s.count s.lesser
-
-    pub settled_one : (passed : List (List TableOver))
-        → IsHandedOn (record { nodes = ns; values = values }) before passed
-        → Eliminated m sets (step + 1) front passed (choices ++ bits ∷ [])
-    settled_one = eliminated_one placed s.zeros s.ones values bits s.zero s.one s.bit_count s.bit
-        s.count s.lesser
+  -- what a step needs
+  pub next_node : (kind : Kind) → kind ≡ m.kind → All (IsPlaced m.nodes) m.entries
+      → NextNode m kind sets step choices front own before tables ns v
+  next_node kind same placed = record {
+    entries = subst (AreOf v) own_is (held_of v held inside e.left.entries);
+    leads =
+        subst (λ l. LeadTo l own) set_is
+        (subst (λ es. LeadTo (set_of m sets v) es) own_is (e.lead v inside));
+    passed =
+        subst (λ l. All (IsPassedTo v l) tables) set_is
+        (subst (λ ts. All (IsPassedTo v (set_of m sets v)) ts) tables_is (e.passed v inside));
+    few = let le = near.narrow v node in omega (arith, ap length set_is, le);
+    small = let le = e.size in omega (arith, held_sum, waiting_sum, le);
+    within = λ values bits settled.
+        let s = subst (λ k. IsSettled k v ns own tables values bits) same settled in
+        all_within placed s.zeros s.ones values bits s.zero s.one s.bit_count s.bit s.count
+        s.lesser;
+    next = λ values bits settled.
+        let s = subst (λ k. IsSettled k v ns own tables values bits) same settled in
+        eliminated_one placed s.zeros s.ones values bits s.zero s.one s.bit_count s.bit s.count
+        s.lesser;
+  }
 
 -- ---- all nodes
 
