@@ -261,24 +261,18 @@ module _ (m : Written) (sets : List (List ℕ)) (near : AreNeighbourhoods 16 m s
 
   -- ---- what is chosen
 
-  module _ (placed : All (IsPlaced m.nodes) m.entries) (zeros ones values : List ℤ)
-      (bits : List Bool)
-      (z : IsTableOfBit m.kind v false ns own tables zeros)
-      (o : IsTableOfBit m.kind v true ns own tables ones) (bits_long : length zeros ≤ length bits)
-      (bits_are : (x : ℕ) → x < length zeros
-      → get_or bits x false ≡ int_lt (get_or ones x (pos 0)) (get_or zeros x (pos 0)))
-      (values_long : length values ≡ length zeros)
-      (values_are : (x : ℕ) → x < length zeros
-      → get_or values x (pos 0) ≡ int_min (get_or zeros x (pos 0)) (get_or ones x (pos 0))) where
-    zeros_front : IsTableOfBit m.kind (length front) false ns own tables zeros
-    zeros_front = subst (λ w. IsTableOfBit m.kind w false ns own tables zeros) (sym front_long) z
+  module _ (placed : All (IsPlaced m.nodes) m.entries) (values : List ℤ) (bits : List Bool)
+      (s : IsSettled m.kind v ns own tables values bits) where
+    zeros_front : IsTableOfBit m.kind (length front) false ns own tables s.zeros
+    zeros_front =
+        subst (λ w. IsTableOfBit m.kind w false ns own tables s.zeros) (sym front_long) s.zero
 
-    ones_front : IsTableOfBit m.kind (length front) true ns own tables ones
-    ones_front = subst (λ w. IsTableOfBit m.kind w true ns own tables ones) (sym front_long) o
+    ones_front : IsTableOfBit m.kind (length front) true ns own tables s.ones
+    ones_front = subst (λ w. IsTableOfBit m.kind w true ns own tables s.ones) (sym front_long) s.one
 
     choice : IsChoiceOf m.nodes step (energy (form_of m)) ns bits
     choice = choice_of m.kind m.nodes step (energy (form_of m)) held waiting front own before tables
-        e.left held_is waiting_is ns zeros ones zeros_front ones_front bits bits_long bits_are
+        e.left held_is waiting_is ns s.zeros s.ones zeros_front ones_front bits s.bit_count s.bit
         (omega (arith, front_long, v_is))
 
     abbrev pub table : TableOver
@@ -309,12 +303,12 @@ module _ (m : Written) (sets : List (List ℕ)) (near : AreNeighbourhoods 16 m s
       below = subst (λ w. AllBelow w ns) (sym front_long) below;
       holds = lesser_holds m.kind m.nodes step (energy (form_of m)) held waiting front own before
           tables
-          e.left held_is waiting_is ns zeros ones zeros_front ones_front values values_are;
+          e.left held_is waiting_is ns s.zeros s.ones zeros_front ones_front values s.lesser;
     }
 
     small : most values ≤ own_size own tables
-    small = lesser-most zeros ones values (own_size own tables) values_long values_are z.small
-        o.small
+    small = lesser-most s.zeros s.ones values (own_size own tables) s.count s.lesser s.zero.small
+        s.one.small
 
     all_each : (s : ℕ) → s < step + 1
         → IsChoiceOf m.nodes s (energy (form_of m)) (get_or sets s [])
@@ -409,7 +403,7 @@ module _ (m : Written) (sets : List (List ℕ)) (near : AreNeighbourhoods 16 m s
         parts = parts;
         among = among;
         below = rest_below;
-        count = values_long ∙ z.count;
+        count = s.count ∙ s.zero.count;
       }
 
       abbrev pub next : List (List TableOver)
@@ -490,14 +484,10 @@ module _ (m : Written) (sets : List (List ℕ)) (near : AreNeighbourhoods 16 m s
         (subst (λ ts. All (IsPassedTo v (set_of m sets v)) ts) tables_is (e.passed v inside));
     few = let le = near.narrow v node in omega (arith, ap length set_is, le);
     small = let le = e.size in omega (arith, held_sum, waiting_sum, le);
-    within = λ values bits settled.
-        let s = subst (λ k. IsSettled k v ns own tables values bits) same settled in
-        all_within placed s.zeros s.ones values bits s.zero s.one s.bit_count s.bit s.count
-        s.lesser;
-    next = λ values bits settled.
-        let s = subst (λ k. IsSettled k v ns own tables values bits) same settled in
-        eliminated_one placed s.zeros s.ones values bits s.zero s.one s.bit_count s.bit s.count
-        s.lesser;
+    within = λ values bits settled. all_within placed values bits
+        (subst (λ k. IsSettled k v ns own tables values bits) same settled);
+    next = λ values bits settled. eliminated_one placed values bits
+        (subst (λ k. IsSettled k v ns own tables values bits) same settled);
   }
 
 -- ---- all nodes
