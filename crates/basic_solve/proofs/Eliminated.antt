@@ -8,6 +8,7 @@ use Rattle.std.proofs.lemmas.List.{length-append, get_or_append_left, get_or_pas
 use Rattle.std.proofs.lemmas.List.Elements.{All-append}
 use Rattle.std.proofs.Math.Seq.{get_or-append_seam}
 use Rattle.bits_model.specs.declared.output.Entry.{Entry}
+use Rattle.bits_model.specs.declared.output.Kind.{Kind}
 use Rattle.base.specs.Costs.{energy}
 use Rattle.bits_model.specs.Output.{Written, IsPlaced, form_of, is_coupler, weight_total}
 use Rattle.bits_model.specs.Walks.{is_in}
@@ -182,6 +183,23 @@ lesser-most zeros ones values b long h z o =
 plus_one : (n : ℕ) → n + 1 ≡ suc n
 plus_one n = omega arith
 
+-- what holds of the next node, once its entries and tables are taken
+pub record NextNode (m : Written) (kind : Kind) (sets : List (List ℕ)) (step : ℕ)
+    (choices : List (List Bool)) (front : List (List Entry)) (own : List Entry)
+    (before : List (List TableOver)) (tables : List TableOver) (ns : List ℕ) (v : ℕ)
+    : Type 0 where
+  pub entries : AreOf v own
+  pub leads : LeadTo ns own
+  pub passed : All (IsPassedTo v ns) tables
+  pub few : length ns ≤ 16
+  pub small : own_size own tables ≤ 3 * weight_total m.entries
+  pub within : (values : List ℤ) (bits : List Bool)
+      → IsSettled kind v ns own tables values bits → All (λ u. u < length before) ns
+  pub next : (values : List ℤ) (bits : List Bool)
+      → IsSettled kind v ns own tables values bits → (passed : List (List TableOver))
+      → IsHandedOn (record { nodes = ns; values = values }) before passed
+      → Eliminated m sets (step + 1) front passed (choices ++ bits ∷ [])
+
 module _ (m : Written) (sets : List (List ℕ)) (near : AreNeighbourhoods 16 m sets) (step : ℕ)
     (held : List (List Entry)) (waiting : List (List TableOver)) (choices : List (List Bool))
     (e : Eliminated m sets step held waiting choices) (front : List (List Entry)) (own : List Entry)
@@ -224,23 +242,6 @@ module _ (m : Written) (sets : List (List ℕ)) (near : AreNeighbourhoods 16 m s
       ∙ ap (λ k. get_or (before ++ tables ∷ []) k []) (sym before_long)
       ∙ get_or-append_seam before tables [] []
 
-  -- what is asked of its tables
-  pub own_of : AreOf v own
-  own_of = subst (AreOf v) own_is (held_of v held inside e.left.entries)
-
-  pub own_leads : LeadTo ns own
-  own_leads =
-      subst (λ l. LeadTo l own) set_is
-      (subst (λ es. LeadTo (set_of m sets v) es) own_is (e.lead v inside))
-
-  pub own_passed : All (IsPassedTo v ns) tables
-  own_passed =
-      subst (λ l. All (IsPassedTo v l) tables) set_is
-      (subst (λ ts. All (IsPassedTo v (set_of m sets v)) ts) tables_is (e.passed v inside))
-
-  pub own_few : length ns ≤ 16
-  own_few = let le = near.narrow v node in omega (arith, ap length set_is, le)
-
   held_sum : sum_by weight_total held ≡ sum_by weight_total front + weight_total own
   held_sum = ap (sum_by weight_total) held_is ∙ sum-push weight_total front own
 
@@ -248,9 +249,6 @@ module _ (m : Written) (sets : List (List ℕ)) (near : AreNeighbourhoods 16 m s
       ≡ sum_by (sum_by table_size) before + sum_by table_size tables
   waiting_sum = ap (sum_by (sum_by table_size)) waiting_is
       ∙ sum-push (sum_by table_size) before tables
-
-  pub own_small : own_size own tables ≤ 3 * weight_total m.entries
-  own_small = let le = e.size in omega (arith, held_sum, waiting_sum, le)
 
   -- its neighbours are below it
   ascends : Ascends 0 ns
@@ -263,24 +261,18 @@ module _ (m : Written) (sets : List (List ℕ)) (near : AreNeighbourhoods 16 m s
 
   -- ---- what is chosen
 
-  module _ (placed : All (IsPlaced m.nodes) m.entries) (zeros ones values : List ℤ)
-      (bits : List Bool)
-      (z : IsTableOfBit m.kind v false ns own tables zeros)
-      (o : IsTableOfBit m.kind v true ns own tables ones) (bits_long : length zeros ≤ length bits)
-      (bits_are : (x : ℕ) → x < length zeros
-      → get_or bits x false ≡ int_lt (get_or ones x (pos 0)) (get_or zeros x (pos 0)))
-      (values_long : length values ≡ length zeros)
-      (values_are : (x : ℕ) → x < length zeros
-      → get_or values x (pos 0) ≡ int_min (get_or zeros x (pos 0)) (get_or ones x (pos 0))) where
-    zeros_front : IsTableOfBit m.kind (length front) false ns own tables zeros
-    zeros_front = subst (λ w. IsTableOfBit m.kind w false ns own tables zeros) (sym front_long) z
+  module _ (placed : All (IsPlaced m.nodes) m.entries) (values : List ℤ) (bits : List Bool)
+      (s : IsSettled m.kind v ns own tables values bits) where
+    zeros_front : IsTableOfBit m.kind (length front) false ns own tables s.zeros
+    zeros_front =
+        subst (λ w. IsTableOfBit m.kind w false ns own tables s.zeros) (sym front_long) s.zero
 
-    ones_front : IsTableOfBit m.kind (length front) true ns own tables ones
-    ones_front = subst (λ w. IsTableOfBit m.kind w true ns own tables ones) (sym front_long) o
+    ones_front : IsTableOfBit m.kind (length front) true ns own tables s.ones
+    ones_front = subst (λ w. IsTableOfBit m.kind w true ns own tables s.ones) (sym front_long) s.one
 
     choice : IsChoiceOf m.nodes step (energy (form_of m)) ns bits
     choice = choice_of m.kind m.nodes step (energy (form_of m)) held waiting front own before tables
-        e.left held_is waiting_is ns zeros ones zeros_front ones_front bits bits_long bits_are
+        e.left held_is waiting_is ns s.zeros s.ones zeros_front ones_front bits s.bit_count s.bit
         (omega (arith, front_long, v_is))
 
     abbrev pub table : TableOver
@@ -300,7 +292,7 @@ module _ (m : Written) (sets : List (List ℕ)) (near : AreNeighbourhoods 16 m s
         (subst (λ w. is_neighbour m v w ≡ true) same near_v) in
         omega (arith, node))
 
-    pub all_within : All (λ u. u < length before) ns
+    all_within : All (λ u. u < length before) ns
     all_within k d h =
         let lt = below_in v ns (get_or ns k d) below (member_at ns k d h) in
         omega (arith, before_long, lt)
@@ -311,12 +303,12 @@ module _ (m : Written) (sets : List (List ℕ)) (near : AreNeighbourhoods 16 m s
       below = subst (λ w. AllBelow w ns) (sym front_long) below;
       holds = lesser_holds m.kind m.nodes step (energy (form_of m)) held waiting front own before
           tables
-          e.left held_is waiting_is ns zeros ones zeros_front ones_front values values_are;
+          e.left held_is waiting_is ns s.zeros s.ones zeros_front ones_front values s.lesser;
     }
 
     small : most values ≤ own_size own tables
-    small = lesser-most zeros ones values (own_size own tables) values_long values_are z.small
-        o.small
+    small = lesser-most s.zeros s.ones values (own_size own tables) s.count s.lesser s.zero.small
+        s.one.small
 
     all_each : (s : ℕ) → s < step + 1
         → IsChoiceOf m.nodes s (energy (form_of m)) (get_or sets s [])
@@ -411,7 +403,7 @@ module _ (m : Written) (sets : List (List ℕ)) (near : AreNeighbourhoods 16 m s
         parts = parts;
         among = among;
         below = rest_below;
-        count = values_long ∙ z.count;
+        count = s.count ∙ s.zero.count;
       }
 
       abbrev pub next : List (List TableOver)
@@ -468,7 +460,7 @@ module _ (m : Written) (sets : List (List ℕ)) (near : AreNeighbourhoods 16 m s
       }
 
     -- whichever nodes get the table
-    pub eliminated_one : (passed : List (List TableOver)) → IsHandedOn table before passed
+    eliminated_one : (passed : List (List TableOver)) → IsHandedOn table before passed
         → Eliminated m sets (step + 1) front passed (choices ++ bits ∷ [])
     eliminated_one passed h =
         by_last ns
@@ -479,18 +471,24 @@ module _ (m : Written) (sets : List (List ℕ)) (near : AreNeighbourhoods 16 m s
         subst (λ ws. Eliminated m sets (step + 1) front ws (choices ++ bits ∷ []))
         (sym (h.last rest q parts)) (eliminated_next rest q parts))
 
-  -- the same, of what a node has settled
-  module _ (placed : All (IsPlaced m.nodes) m.entries) (values : List ℤ) (bits : List Bool)
-      (s : IsSettled m.kind v ns own tables values bits) where
-    pub settled_within : All (λ u. u < length before) ns
-    settled_within = all_within placed s.zeros s.ones values bits s.zero s.one s.bit_count s.bit
-        s.count s.lesser
-
-    pub settled_one : (passed : List (List TableOver))
-        → IsHandedOn (record { nodes = ns; values = values }) before passed
-        → Eliminated m sets (step + 1) front passed (choices ++ bits ∷ [])
-    settled_one = eliminated_one placed s.zeros s.ones values bits s.zero s.one s.bit_count s.bit
-        s.count s.lesser
+  -- what a step needs
+  pub next_node : (kind : Kind) → kind ≡ m.kind → All (IsPlaced m.nodes) m.entries
+      → NextNode m kind sets step choices front own before tables ns v
+  next_node kind same placed = record {
+    entries = subst (AreOf v) own_is (held_of v held inside e.left.entries);
+    leads =
+        subst (λ l. LeadTo l own) set_is
+        (subst (λ es. LeadTo (set_of m sets v) es) own_is (e.lead v inside));
+    passed =
+        subst (λ l. All (IsPassedTo v l) tables) set_is
+        (subst (λ ts. All (IsPassedTo v (set_of m sets v)) ts) tables_is (e.passed v inside));
+    few = let le = near.narrow v node in omega (arith, ap length set_is, le);
+    small = let le = e.size in omega (arith, held_sum, waiting_sum, le);
+    within = λ values bits settled. all_within placed values bits
+        (subst (λ k. IsSettled k v ns own tables values bits) same settled);
+    next = λ values bits settled. eliminated_one placed values bits
+        (subst (λ k. IsSettled k v ns own tables values bits) same settled);
+  }
 
 -- ---- all nodes
 

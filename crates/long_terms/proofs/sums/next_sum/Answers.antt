@@ -1,94 +1,80 @@
-use Rattle.std.proofs.Common.{◌≡◌, ◌≢◌, true, false, ◌+◌, ◌∷◌, pos, ◌+ℤ◌, to_z, of_z, sym, ap, ◌∙◌, arith}
+use Rattle.std.proofs.Common.{◌≡◌, true, false, ◌+◌, ◌∷◌, ◌≤◌, ◌^◌, pos, ◌+ℤ◌, unsigned_abs, to_z, of_z, sym, ap, ◌∙◌, arith}
 use Rattle.std.specs.Int.{w128}
-use Rattle.std.proofs.lemmas.Int.{ints}
+use Rattle.std.proofs.lemmas.Int.{ints, to_z-of_z}
+use Rattle.term_table.specs.Terms.{terms_total}
 use Rattle.long_terms.specs.Long.{sums_with}
 use Rattle.long_terms.proofs.Neighbours as sums
 use Rattle.long_terms.proofs.Neighbours.{left, term_at}
 use Rattle.long_terms.proofs.SortedAdditions.{IsOther}
 use Rattle.long_terms.proofs.sums.next_sum.Goals as goal
-use Rattle.long_terms.proofs.sums.next_sum.Goals.{else-place-order-via-then-place-order+else-are_alike, else-place-order-via-else-place-order}
+use Rattle.long_terms.proofs.sums.next_sum.Goals.{After-sum, else-place-order-via-then-place-order+else-are_alike, else-place-order-via-else-place-order}
 
-pub overflow_add-sum : goal.overflow_add-sum
-overflow_add-sum c =
+-- the sum with the coefficient is small, and the same in 128 bits
+added : (c : After-sum) →
+    (to_z w128 (of_z w128 c.args.sum.now) +ℤ to_z w128 (of_z w128 c.sum.inside.coefficient)
+    ≡ c.args.sum.now +ℤ (term_at c.args.additions.now c.args.order.now c.args.place).1)
+    × (unsigned_abs (c.args.sum.now
+    +ℤ (term_at c.args.additions.now c.args.order.now c.args.place).1)
+    + terms_total (left c.args.additions.now c.args.order.now (c.args.place + 1)) ≤ 2 ^ 124)
+added c =
     let ps = c.args.additions.now in
     let order = c.args.order.now in
     let read = sums.read_coefficient ps order c.args.place _ _ c.at.ensures c.sum.view_is in
-    let small = sums.small_more ps order c.args.place c.requires.within c.args.sum.now c.requires.small in
-    omega (arith, ints, small, read)
+    let small = sums.small_more ps order c.args.place c.requires.within _ c.requires.small in
+    (omega (arith, ints, small, read), small)
+
+pub overflow_add-sum : goal.overflow_add-sum
+overflow_add-sum c = omega (arith, ints, added (goal.at.overflow_add-sum c).After-sum)
 
 pub returns-then-are_alike-clause-sums : goal.returns-then-are_alike-clause-sums
 returns-then-are_alike-clause-sums c =
-    let ps = c.args.additions.now in
-    let order = c.args.order.now in
     let i = c.args.place in
     let sum = c.args.sum.now in
-    let read = sums.read_coefficient ps order i _ _ c.at.ensures c.sum.view_is in
-    let small = sums.small_more ps order i c.requires.within sum c.requires.small in
+    let now = added (goal.at.returns-then-are_alike-clause-sums c).After-sum in
     let value : to_z w128 (of_z w128 (to_z w128 (of_z w128 sum) +ℤ to_z w128 (of_z w128 c.sum.inside.coefficient)))
-    ≡ sum +ℤ (term_at ps order i).1 = omega (arith, ints, small, read) in
-    sums.wait ps order i c.requires.within sum c.if-place-order.true (c.are_alike.ensures.0 c.if-are_alike.true)
-    ∙ ap (λ z. sums_with z (left ps order (i + 1))) (sym value)
+    ≡ sum +ℤ (term_at c.args.additions.now c.args.order.now i).1 = omega (arith, ints, now) in
+    sums.wait _ _ i c.requires.within sum c.if-place-order.true
+    (c.are_alike.ensures.0 c.if-are_alike.true)
+    ∙ ap (λ z. sums_with z (left c.args.additions.now c.args.order.now (i + 1))) (sym value)
 
 pub returns-then-are_alike-clause-small : goal.returns-then-are_alike-clause-small
 returns-then-are_alike-clause-small c =
-    let ps = c.args.additions.now in
-    let order = c.args.order.now in
-    let i = c.args.place in
-    let sum = c.args.sum.now in
-    let read = sums.read_coefficient ps order i _ _ c.at.ensures c.sum.view_is in
-    let small = sums.small_more ps order i c.requires.within sum c.requires.small in
-    let value : to_z w128 (of_z w128 (to_z w128 (of_z w128 sum) +ℤ to_z w128 (of_z w128 c.sum.inside.coefficient)))
-    ≡ sum +ℤ (term_at ps order i).1 = omega (arith, ints, small, read) in
-    omega (arith, ints, value, small)
+    omega (arith, ints, added (goal.at.returns-then-are_alike-clause-small c).After-sum)
 
 pub returns-then-whole-eq0-clause-sums : goal.returns-then-whole-eq0-clause-sums
 returns-then-whole-eq0-clause-sums c =
-    let ps = c.args.additions.now in
-    let order = c.args.order.now in
-    let i = c.args.place in
-    let in' = c.requires.within in
     let sum = c.args.sum.now in
-    let t = term_at ps order i in
-    let read = sums.read_coefficient ps order i _ _ c.at.ensures c.sum.view_is in
-    let small = sums.small_more ps order i in' sum c.requires.small in
-    let plain : to_z w128 (of_z w128 sum) +ℤ to_z w128 (of_z w128 c.sum.inside.coefficient)
-    ≡ sum +ℤ t.1 = omega (arith, ints, small, read) in
-    let value : to_z w128 (of_z w128 (to_z w128 (of_z w128 sum) +ℤ to_z w128 (of_z w128 c.sum.inside.coefficient)))
-    ≡ sum +ℤ t.1 = omega (arith, ints, small, read) in
-    let none : sum +ℤ t.1 ≡ pos 0 = omega (arith, ints, value, plain, c.if-whole-eq0.true) in
-    let other : IsOther t (left ps order (i + 1)) =
-    elim c.else-place-order.branch [
+    let t = term_at c.args.additions.now c.args.order.now c.args.place in
+    let now = added (goal.at.returns-then-whole-eq0-clause-sums c).After-sum in
+    let none : sum +ℤ t.1 ≡ pos 0 = omega (arith, ints, now, c.if-whole-eq0.true) in
+    let other : IsOther t (left c.args.additions.now c.args.order.now (c.args.place + 1))
+    = elim c.else-place-order.branch [
       | else-place-order-via-then-place-order+else-are_alike w ↦
-          sums.other_next ps order i in' w.if-place-order.true
+          sums.other_next _ _ _ c.requires.within w.if-place-order.true
           (λ z. let both : true ≡ false = sym (w.are_alike.ensures.1 z) ∙ w.if-are_alike.false in cc)
       | else-place-order-via-else-place-order w ↦
-          sums.other_end ps order i in' w.if-place-order.false
+          sums.other_end _ _ _ c.requires.within w.if-place-order.false
     ] in
-    sums.end_none ps order i in' sum other none
+    sums.end_none _ _ _ c.requires.within sum other none
 
 pub returns-else-whole-eq0-clause-sums : goal.returns-else-whole-eq0-clause-sums
 returns-else-whole-eq0-clause-sums c =
-    let ps = c.args.additions.now in
-    let order = c.args.order.now in
-    let i = c.args.place in
-    let in' = c.requires.within in
     let sum = c.args.sum.now in
-    let t = term_at ps order i in
-    let rest = left ps order (i + 1) in
-    let read = sums.read_coefficient ps order i _ _ c.at.ensures c.sum.view_is in
-    let small = sums.small_more ps order i in' sum c.requires.small in
+    let t = term_at c.args.additions.now c.args.order.now c.args.place in
+    let now = added (goal.at.returns-else-whole-eq0-clause-sums c).After-sum in
     let once : to_z w128 (of_z w128 (to_z w128 (of_z w128 sum) +ℤ to_z w128 (of_z w128 c.sum.inside.coefficient)))
-    ≡ sum +ℤ t.1 = omega (arith, ints, small, read) in
-    let value : to_z w128 (of_z w128 (to_z w128 (of_z w128 (to_z w128 (of_z w128 sum) +ℤ to_z w128 (of_z w128 c.sum.inside.coefficient)))))
-    ≡ sum +ℤ t.1 = omega (arith, ints, small, read) in
-    let some : sum +ℤ t.1 ≢ pos 0 = λ z. c.if-whole-eq0.false (ap (of_z w128) (once ∙ z)) in
-    let other : IsOther t rest =
-    elim c.else-place-order.branch [
+    ≡ sum +ℤ t.1 = omega (arith, ints, now) in
+    let value = ap (λ z. to_z w128 (of_z w128 z)) once
+    ∙ to_z-of_z w128 (sum +ℤ t.1) (omega (arith, ints, now)) in
+    let rest = left c.args.additions.now c.args.order.now (c.args.place + 1) in
+    let other : IsOther t rest
+    = elim c.else-place-order.branch [
       | else-place-order-via-then-place-order+else-are_alike w ↦
-          sums.other_next ps order i in' w.if-place-order.true
+          sums.other_next _ _ _ c.requires.within w.if-place-order.true
           (λ z. let both : true ≡ false = sym (w.are_alike.ensures.1 z) ∙ w.if-are_alike.false in cc)
       | else-place-order-via-else-place-order w ↦
-          sums.other_end ps order i in' w.if-place-order.false
+          sums.other_end _ _ _ c.requires.within w.if-place-order.false
     ] in
-    sums.end_some ps order i in' sum other some
+    sums.end_some _ _ _ c.requires.within sum other
+    (λ z. c.if-whole-eq0.false (ap (of_z w128) (once ∙ z)))
     ∙ ap (λ z. (t.0, z) ∷ sums_with (pos 0) rest) (sym value)

@@ -1,4 +1,4 @@
-use Rattle.std.proofs.Common.{rules, arith, ◌≡◌, ◌*◌, ◌^◌, ◌++◌, ◌∷◌, [], ap, refl, sym, subst, ◌∙◌, map, ℕ, All, to_z, of_z, append_assoc}
+use Rattle.std.proofs.Common.{rules, arith, ◌≡◌, ◌*◌, ◌^◌, ◌++◌, ◌∷◌, [], ap, refl, sym, subst, ◌∙◌, map, List, All, append_assoc}
 use Rattle.std.specs.Int.{w128}
 use Rattle.std.specs.List.{sum_by}
 use Rattle.std.proofs.lemmas.Int.{to_z-of_z}
@@ -6,7 +6,8 @@ use Rattle.problem_form.specs.Problems.{ProblemContent}
 use Rattle.problem_form.specs.Limits.{penalty, reach}
 use Rattle.problem_form.specs.declared.terms.Product.{Product}
 use Rattle.problem_form.specs.declared.terms.Constraint.{Constraint}
-use Rattle.term_table.specs.Rooms.{Fills, HasRoomFor}
+use Rattle.term_table.specs.Terms.{Term}
+use Rattle.term_table.specs.Rooms.{HasRoomFor}
 use Rattle.penalty_layer.specs.Sets.{IsSet}
 use Rattle.penalty_layer.specs.Squares.{product_term, constraint_terms}
 use Rattle.penalty_layer.specs.Penalty.{clause_term, contributions, node_count}
@@ -14,59 +15,74 @@ use Rattle.penalty_layer.proofs.Bounds.{within_limits, all_within}
 use Rattle.penalty_layer.proofs.Admitted.{nodes_within}
 use Rattle.term_table.proofs.Filling.{fills_as, fills_same, room_as, room_first, room_next, room_same}
 use Rattle.penalty_layer.proofs.Sets.{problem_sets}
+use Rattle.penalty_layer.proofs.adding.add_contributions.Given.{Over}
+use Rattle.penalty_layer.proofs.adding.add_contributions.Goals.{In_ok-gather, In_ok-add_products}
 use Rattle.penalty_layer.proofs.adding.add_contributions.Goals as goal
+
+-- what the clauses and the constraints contribute
+abbrev clause_terms : ProblemContent → List Term
+clause_terms p = map (clause_term (penalty p)) p.clauses
+
+abbrev squared_terms : ProblemContent → List Term
+squared_terms p = constraint_terms (penalty p) p.variables p.constraints
+
+-- all but the constant
+abbrev others : ProblemContent → List Term
+others p = (map product_term p.objective ++ clause_terms p) ++ squared_terms p
+
+-- after the constant there is room for all else
+room_for_products : (g : Over) (c : In_ok-gather g)
+    → HasRoomFor g.T.Gather.takes c.gather.new.self (others c.args.problem.now)
+room_for_products g c =
+    let p = c.args.problem.now in
+    room_next g.T.Gather.takes g.T.Gather.holds c.args.terms.now c.gather.new.self (contributions p)
+    (([], p.constant) ∷ []) (others p) refl
+    (fills_as g.T.Gather.takes g.T.Gather.holds _ _ [] _ p.constant _ refl
+    (to_z-of_z w128 c.problem.inside.constant (search rules)
+    ∙ ap (λ (q : ProblemContent). q.constant) c.problem.view_is)
+    c.in_ok-gather.ensures.added c.in_ok-gather.ensures.takes) c.requires.room
+
+-- after the products there is room for the clauses and the squares
+room_for_clauses : (g : Over) (c : In_ok-add_products g)
+    → HasRoomFor g.T.Gather.takes c.gather.new.self (others c.args.problem.now)
+    → HasRoomFor g.T.Gather.takes c.add_products.new.terms
+    (clause_terms c.args.problem.now ++ squared_terms c.args.problem.now)
+room_for_clauses g c =
+    let p = c.args.problem.now in
+    let products = map product_term p.objective in
+    room_next g.T.Gather.takes g.T.Gather.holds c.gather.new.self c.add_products.new.terms
+    (others p) products _ (append_assoc products (clause_terms p) (squared_terms p))
+    (fills_same g.T.Gather.takes g.T.Gather.holds _ _ _ products
+    (ap (λ (q : ProblemContent). map product_term q.objective) c.problem.view_is)
+    c.in_ok-add_products.ensures)
 
 pub gather-requires : goal.gather-requires
 gather-requires g c =
     let p = c.args.problem.now in
-    let constant : to_z w128 (of_z w128 c.problem.inside.constant) ≡ p.constant =
-    to_z-of_z w128 c.problem.inside.constant (search rules) ∙ ap (λ (q : ProblemContent). q.constant) c.problem.view_is in
-    room_as g.T.Gather.takes c.args.terms.now [] _ p.constant _ refl constant
-    (room_first g.T.Gather.takes c.args.terms.now (contributions p) (([], p.constant) ∷ []) _ refl c.requires.room)
+    room_as g.T.Gather.takes c.args.terms.now [] _ p.constant _ refl
+    (to_z-of_z w128 c.problem.inside.constant (search rules)
+    ∙ ap (λ (q : ProblemContent). q.constant) c.problem.view_is)
+    (room_first g.T.Gather.takes c.args.terms.now (contributions p) (([], p.constant) ∷ []) _ refl
+    c.requires.room)
 
 pub add_products-requires : goal.add_products-requires
 add_products-requires g c =
     let p = c.args.problem.now in
-    let Takes = g.T.Gather.takes in
-    let Holds = g.T.Gather.holds in
-    let constant : to_z w128 (of_z w128 c.problem.inside.constant) ≡ p.constant =
-    to_z-of_z w128 c.problem.inside.constant (search rules) ∙ ap (λ (q : ProblemContent). q.constant) c.problem.view_is in
     let products = map product_term p.objective in
-    let clauses = map (clause_term (penalty p)) p.clauses in
-    let squares = constraint_terms (penalty p) p.variables p.constraints in
-    let first =
-    fills_as Takes Holds c.args.terms.now c.gather.new.self [] _ p.constant _ refl constant
-    c.in_ok-gather.ensures.added c.in_ok-gather.ensures.takes in
-    room_same Takes c.gather.new.self products _ (ap (λ (q : ProblemContent). map product_term q.objective) (sym c.problem.view_is))
-    (room_first Takes c.gather.new.self ((products ++ clauses) ++ squares) products (clauses ++ squares)
-    (append_assoc products clauses squares)
-    (room_next Takes Holds c.args.terms.now c.gather.new.self (contributions p) (([], p.constant) ∷ [])
-    ((products ++ clauses) ++ squares) refl first c.requires.room))
+    room_same g.T.Gather.takes c.gather.new.self products _
+    (ap (λ (q : ProblemContent). map product_term q.objective) (sym c.problem.view_is))
+    (room_first g.T.Gather.takes c.gather.new.self (others p) products _
+    (append_assoc products (clause_terms p) (squared_terms p))
+    (room_for_products g (goal.at.add_products-requires g c).In_ok-gather))
 
 pub add_clauses-requires-clause-room : goal.add_clauses-requires-clause-room
 add_clauses-requires-clause-room g c =
     let p = c.args.problem.now in
-    let Takes = g.T.Gather.takes in
-    let Holds = g.T.Gather.holds in
-    let constant : to_z w128 (of_z w128 c.problem.inside.constant) ≡ p.constant =
-    to_z-of_z w128 c.problem.inside.constant (search rules) ∙ ap (λ (q : ProblemContent). q.constant) c.problem.view_is in
-    let products = map product_term p.objective in
-    let clauses = map (clause_term (penalty p)) p.clauses in
-    let squares = constraint_terms (penalty p) p.variables p.constraints in
-    let first =
-    fills_as Takes Holds c.args.terms.now c.gather.new.self [] _ p.constant _ refl constant
-    c.in_ok-gather.ensures.added c.in_ok-gather.ensures.takes in
-    let second =
-    fills_same Takes Holds c.gather.new.self c.add_products.new.terms _ products
-    (ap (λ (q : ProblemContent). map product_term q.objective) c.problem.view_is) c.in_ok-add_products.ensures in
-    let same : clauses ≡ map (clause_term c.penalty-penalty.result) c.problem.inside.clauses =
-    sym (λ i. map (clause_term (c.penalty-penalty.ensures.value i)) (c.problem.view_is i).clauses) in
-    room_same Takes c.add_products.new.terms clauses _ same
-    (room_first Takes c.add_products.new.terms (clauses ++ squares) clauses squares refl
-    (room_next Takes Holds c.gather.new.self c.add_products.new.terms ((products ++ clauses) ++ squares) products
-    (clauses ++ squares) (append_assoc products clauses squares) second
-    (room_next Takes Holds c.args.terms.now c.gather.new.self (contributions p) (([], p.constant) ∷ [])
-    ((products ++ clauses) ++ squares) refl first c.requires.room)))
+    let at = goal.at.add_clauses-requires-clause-room g c in
+    room_same g.T.Gather.takes c.add_products.new.terms (clause_terms p) _
+    (sym (λ i. map (clause_term (c.penalty-penalty.ensures.value i)) (c.problem.view_is i).clauses))
+    (room_first g.T.Gather.takes c.add_products.new.terms _ (clause_terms p) (squared_terms p) refl
+    (room_for_clauses g at.In_ok-add_products (room_for_products g at.In_ok-gather)))
 
 pub add_constraints-requires-clause-sets : goal.add_constraints-requires-clause-sets
 add_constraints-requires-clause-sets g c =
@@ -92,27 +108,15 @@ add_constraints-requires-clause-small g c =
 pub add_constraints-requires-clause-room : goal.add_constraints-requires-clause-room
 add_constraints-requires-clause-room g c =
     let p = c.args.problem.now in
-    let Takes = g.T.Gather.takes in
-    let Holds = g.T.Gather.holds in
-    let constant : to_z w128 (of_z w128 c.problem.inside.constant) ≡ p.constant =
-    to_z-of_z w128 c.problem.inside.constant (search rules) ∙ ap (λ (q : ProblemContent). q.constant) c.problem.view_is in
-    let products = map product_term p.objective in
-    let clauses = map (clause_term (penalty p)) p.clauses in
-    let squares = constraint_terms (penalty p) p.variables p.constraints in
-    let first =
-    fills_as Takes Holds c.args.terms.now c.gather.new.self [] _ p.constant _ refl constant
-    c.in_ok-gather.ensures.added c.in_ok-gather.ensures.takes in
-    let second =
-    fills_same Takes Holds c.gather.new.self c.add_products.new.terms _ products
-    (ap (λ (q : ProblemContent). map product_term q.objective) c.problem.view_is) c.in_ok-add_products.ensures in
-    let same : map (clause_term c.penalty-penalty.result) c.problem.inside.clauses ≡ clauses =
-    (λ i. map (clause_term (c.penalty-penalty.ensures.value i)) (c.problem.view_is i).clauses) in
-    let third = fills_same Takes Holds c.add_products.new.terms c.add_clauses.new.terms _ clauses same c.in_ok-add_clauses.ensures in
-    let last : squares ≡ constraint_terms c.penalty-penalty.result c.problem.inside.variables c.problem.inside.constraints =
-    sym (λ i. constraint_terms (c.penalty-penalty.ensures.value i) (c.problem.view_is i).variables (c.problem.view_is i).constraints) in
-    room_same Takes c.add_clauses.new.terms squares _ last
-    (room_next Takes Holds c.add_products.new.terms c.add_clauses.new.terms (clauses ++ squares) clauses squares refl third
-    (room_next Takes Holds c.gather.new.self c.add_products.new.terms ((products ++ clauses) ++ squares) products
-    (clauses ++ squares) (append_assoc products clauses squares) second
-    (room_next Takes Holds c.args.terms.now c.gather.new.self (contributions p) (([], p.constant) ∷ [])
-    ((products ++ clauses) ++ squares) refl first c.requires.room)))
+    let at = goal.at.add_constraints-requires-clause-room g c in
+    let third =
+    fills_same g.T.Gather.takes g.T.Gather.holds c.add_products.new.terms c.add_clauses.new.terms _
+    (clause_terms p)
+    (λ i. map (clause_term (c.penalty-penalty.ensures.value i)) (c.problem.view_is i).clauses)
+    c.in_ok-add_clauses.ensures in
+    room_same g.T.Gather.takes c.add_clauses.new.terms (squared_terms p) _
+    (sym (λ i. constraint_terms (c.penalty-penalty.ensures.value i) (c.problem.view_is i).variables
+    (c.problem.view_is i).constraints))
+    (room_next g.T.Gather.takes g.T.Gather.holds c.add_products.new.terms c.add_clauses.new.terms
+    (clause_terms p ++ squared_terms p) (clause_terms p) (squared_terms p) refl third
+    (room_for_clauses g at.In_ok-add_products (room_for_products g at.In_ok-gather)))

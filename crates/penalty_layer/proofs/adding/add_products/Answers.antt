@@ -1,4 +1,4 @@
-use Rattle.std.proofs.Common.{rules, ◌∷◌, [], ◌≡◌, ◌∙◌, ap, sym, map, to_z, of_z}
+use Rattle.std.proofs.Common.{rules, ◌∷◌, [], ◌≡◌, ◌∙◌, ap, map, to_z, of_z}
 use Rattle.std.specs.Int.{w128}
 use Rattle.std.proofs.lemmas.Int.{to_z-of_z}
 use Rattle.problem_form.specs.declared.terms.Product.{Product}

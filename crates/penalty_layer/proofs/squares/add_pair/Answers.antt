@@ -1,4 +1,4 @@
-use Rattle.std.proofs.Common.{rules, ◌≡◌, ◌∷◌, [], refl, arith, to_z, of_z}
+use Rattle.std.proofs.Common.{rules, ◌≡◌, ◌∷◌, [], refl, arith}
 use Rattle.std.specs.Int.{w128}
 use Rattle.std.proofs.lemmas.Int.{to_z-of_z}
 use Rattle.term_table.proofs.PairUnions.{pair_less, pair_greater, pair_same}

@@ -12,55 +12,66 @@ use Rattle.term_table.proofs.PairUnions.{union_apart}
 use Rattle.term_table.proofs.Filled.{fills_if_ok}
 use Rattle.term_table.proofs.Filling.{room_as, room_same}
 use Rattle.penalty_layer.proofs.SquareSteps.{union_empty-left, union_empty-right}
+use Rattle.penalty_layer.proofs.squares.add_union.Given.{Over}
+use Rattle.penalty_layer.proofs.squares.add_union.Goals.{Then-is_empty, Then-is_empty-2, Else-clashes}
 use Rattle.penalty_layer.proofs.squares.add_union.Goals as goal
+
+-- where the second set is empty, the first is the union
+first_alone : (g : Over) (c : Then-is_empty g)
+    → union_terms c.args.ls.now c.args.ks.now c.args.coefficient
+    ≡ (c.args.ls.now, c.args.coefficient) ∷ []
+first_alone g c =
+    ap (λ (us : List Literal). union_terms c.args.ls.now us c.args.coefficient)
+    (nil_from_length c.args.ks.now (eqb-true _ _ (sym c.is_empty.ensures ∙ c.if-is_empty.true)))
+    ∙ union_empty-right c.args.ls.now c.args.coefficient c.requires.left
+
+-- where the first set is empty, the second is
+second_alone : (g : Over) (c : Then-is_empty-2 g)
+    → union_terms c.args.ls.now c.args.ks.now c.args.coefficient
+    ≡ (c.args.ks.now, c.args.coefficient) ∷ []
+second_alone g c =
+    ap (λ (us : List Literal). union_terms us c.args.ks.now c.args.coefficient)
+    (nil_from_length c.args.ls.now (eqb-true _ _ (sym c.is_empty-2.ensures ∙ c.if-is_empty-2.true)))
+    ∙ union_empty-left c.args.ks.now c.args.coefficient c.requires.right
+
+-- where there is no clash, the literals of both are
+both : (g : Over) (c : Else-clashes g)
+    → union_terms c.args.ls.now c.args.ks.now c.args.coefficient
+    ≡ (union c.args.ls.now c.args.ks.now, c.args.coefficient) ∷ []
+both g c =
+    union_apart c.args.ls.now c.args.ks.now _ c.args.coefficient refl
+    (ap has_clash (sym (c.deref.ensures.value ∙ c.in_ok-unite.ensures))
+    ∙ sym c.clashes.ensures ∙ c.if-clashes.false)
 
 pub gather-requires : goal.gather-requires
 gather-requires g c =
-    let ls = c.args.ls.now in
-    let none : c.args.ks.now ≡ [] =
-    nil_from_length c.args.ks.now (eqb-true _ _ (sym c.is_empty.ensures ∙ c.if-is_empty.true)) in
-    let same : union_terms ls c.args.ks.now c.args.coefficient ≡ (ls, c.args.coefficient) ∷ [] =
-    ap (λ (us : List Literal). union_terms ls us c.args.coefficient) none
-    ∙ union_empty-right ls c.args.coefficient c.requires.left in
-    let back = to_z-of_z w128 c.args.coefficient (search rules) in
-    room_as g.T.Gather.takes c.args.terms.now ls _ c.args.coefficient _ refl back
-    (room_same g.T.Gather.takes c.args.terms.now _ _ same c.requires.room)
+    room_as g.T.Gather.takes c.args.terms.now c.args.ls.now _ c.args.coefficient _ refl
+    (to_z-of_z w128 c.args.coefficient (search rules))
+    (room_same g.T.Gather.takes c.args.terms.now _ _
+    (first_alone g (goal.at.gather-requires g c).Then-is_empty) c.requires.room)
 
 pub returns-then-is_empty : goal.returns-then-is_empty
 returns-then-is_empty g c =
-    let ls = c.args.ls.now in
-    let none : c.args.ks.now ≡ [] =
-    nil_from_length c.args.ks.now (eqb-true _ _ (sym c.is_empty.ensures ∙ c.if-is_empty.true)) in
-    let same : union_terms ls c.args.ks.now c.args.coefficient ≡ (ls, c.args.coefficient) ∷ [] =
-    ap (λ (us : List Literal). union_terms ls us c.args.coefficient) none
-    ∙ union_empty-right ls c.args.coefficient c.requires.left in
-    let back = to_z-of_z w128 c.args.coefficient (search rules) in
-    rw same (fills_if_ok g.T.Gather.takes g.T.Gather.holds c.args.terms.now c.gather.new.self c.gather.result
-    ls _ c.args.coefficient _ refl back c.gather.ensures.added c.gather.ensures.takes)
+    rw (first_alone g (goal.at.returns-then-is_empty g c).Then-is_empty)
+    (fills_if_ok g.T.Gather.takes g.T.Gather.holds c.args.terms.now c.gather.new.self
+    c.gather.result c.args.ls.now _ c.args.coefficient _ refl
+    (to_z-of_z w128 c.args.coefficient (search rules)) c.gather.ensures.added
+    c.gather.ensures.takes)
 
 pub gather-requires-then-is_empty-2 : goal.gather-requires-then-is_empty-2
 gather-requires-then-is_empty-2 g c =
-    let ks = c.args.ks.now in
-    let none : c.args.ls.now ≡ [] =
-    nil_from_length c.args.ls.now (eqb-true _ _ (sym c.is_empty-2.ensures ∙ c.if-is_empty-2.true)) in
-    let same : union_terms c.args.ls.now ks c.args.coefficient ≡ (ks, c.args.coefficient) ∷ [] =
-    ap (λ (us : List Literal). union_terms us ks c.args.coefficient) none
-    ∙ union_empty-left ks c.args.coefficient c.requires.right in
-    let back = to_z-of_z w128 c.args.coefficient (search rules) in
-    room_as g.T.Gather.takes c.args.terms.now ks _ c.args.coefficient _ refl back
-    (room_same g.T.Gather.takes c.args.terms.now _ _ same c.requires.room)
+    room_as g.T.Gather.takes c.args.terms.now c.args.ks.now _ c.args.coefficient _ refl
+    (to_z-of_z w128 c.args.coefficient (search rules))
+    (room_same g.T.Gather.takes c.args.terms.now _ _
+    (second_alone g (goal.at.gather-requires-then-is_empty-2 g c).Then-is_empty-2) c.requires.room)
 
 pub returns-then-is_empty-2 : goal.returns-then-is_empty-2
 returns-then-is_empty-2 g c =
-    let ks = c.args.ks.now in
-    let none : c.args.ls.now ≡ [] =
-    nil_from_length c.args.ls.now (eqb-true _ _ (sym c.is_empty-2.ensures ∙ c.if-is_empty-2.true)) in
-    let same : union_terms c.args.ls.now ks c.args.coefficient ≡ (ks, c.args.coefficient) ∷ [] =
-    ap (λ (us : List Literal). union_terms us ks c.args.coefficient) none
-    ∙ union_empty-left ks c.args.coefficient c.requires.right in
-    let back = to_z-of_z w128 c.args.coefficient (search rules) in
-    rw same (fills_if_ok g.T.Gather.takes g.T.Gather.holds c.args.terms.now c.gather-then-is_empty-2.new.self c.gather-then-is_empty-2.result
-    ks _ c.args.coefficient _ refl back c.gather-then-is_empty-2.ensures.added c.gather-then-is_empty-2.ensures.takes)
+    let own = c.gather-then-is_empty-2 in
+    rw (second_alone g (goal.at.returns-then-is_empty-2 g c).Then-is_empty-2)
+    (fills_if_ok g.T.Gather.takes g.T.Gather.holds c.args.terms.now own.new.self own.result
+    c.args.ks.now _ c.args.coefficient _ refl (to_z-of_z w128 c.args.coefficient (search rules))
+    own.ensures.added own.ensures.takes)
 
 pub clashes-requires : goal.clashes-requires
 clashes-requires g c =
@@ -69,21 +80,16 @@ clashes-requires g c =
 
 pub gather-requires-2 : goal.gather-requires-2
 gather-requires-2 g c =
-    let us = union c.args.ls.now c.args.ks.now in
-    let apart =
-    ap has_clash (sym (c.deref.ensures.value ∙ c.in_ok-unite.ensures)) ∙ sym c.clashes.ensures ∙ c.if-clashes.false in
-    let back = to_z-of_z w128 c.args.coefficient (search rules) in
-    room_as g.T.Gather.takes c.args.terms.now us _ c.args.coefficient _ (c.deref-2.ensures.value ∙ c.in_ok-unite.ensures) back
+    room_as g.T.Gather.takes c.args.terms.now (union c.args.ls.now c.args.ks.now) _
+    c.args.coefficient _ (c.deref-2.ensures.value ∙ c.in_ok-unite.ensures)
+    (to_z-of_z w128 c.args.coefficient (search rules))
     (room_same g.T.Gather.takes c.args.terms.now _ _
-    (union_apart c.args.ls.now c.args.ks.now us c.args.coefficient refl apart) c.requires.room)
+    (both g (goal.at.gather-requires-2 g c).Else-clashes) c.requires.room)
 
 pub returns : goal.returns
 returns g c =
-    let us = union c.args.ls.now c.args.ks.now in
-    let apart =
-    ap has_clash (sym (c.deref.ensures.value ∙ c.in_ok-unite.ensures)) ∙ sym c.clashes.ensures ∙ c.if-clashes.false in
-    let back = to_z-of_z w128 c.args.coefficient (search rules) in
-    rw (union_apart c.args.ls.now c.args.ks.now us c.args.coefficient refl apart)
+    rw (both g (goal.at.returns g c).Else-clashes)
     (fills_if_ok g.T.Gather.takes g.T.Gather.holds c.args.terms.now c.gather-2.new.self c.gather-2.result
-    us _ c.args.coefficient _ (c.deref-2.ensures.value ∙ c.in_ok-unite.ensures) back c.gather-2.ensures.added
+    _ _ c.args.coefficient _ (c.deref-2.ensures.value ∙ c.in_ok-unite.ensures)
+    (to_z-of_z w128 c.args.coefficient (search rules)) c.gather-2.ensures.added
     c.gather-2.ensures.takes)
