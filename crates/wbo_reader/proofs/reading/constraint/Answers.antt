@@ -12,6 +12,7 @@ use Rattle.wbo_reader.specs.Wbo.{WboContent}
 use Rattle.wbo_reader.specs.Gathering.{with_weighed}
 use Rattle.wbo_reader.proofs.Together.{with_constraint-total}
 use Rattle.wbo_reader.proofs.WeighedSteps.{front_fails, sum_fails, comparison_fails, weighed, weighed_is, added_is}
+use Rattle.wbo_reader.proofs.reading.constraint.Goals.{In_ok-add}
 use Rattle.wbo_reader.proofs.reading.constraint.Goals as goal
 
 pub returns-in_err-weight-clause-read : goal.returns-in_err-weight-clause-read
@@ -58,42 +59,32 @@ add-requires c =
       c.in_ok-operator.ensures.small,
     )
 
-pub returns-clause-read : goal.returns-clause-read
-returns-clause-read c =
-    let s = c.args.gathered.now in
-    let i = c.gathered.inside in
+-- the source with the constraint that was read
+state : (c : In_ok-add)
+    → c.add.new.self ≡ with_weighed c.args.gathered.now (weighed c.in_ok-weight.weight
+    c.sum.new.terms c.in_ok-operator.operator c.in_ok-operator.bound)
+state c =
     let ts = c.sum.new.terms in
     let operator = c.in_ok-operator.operator in
     let z = c.in_ok-operator.bound in
-    let whole : to_z w128 (of_z w128 z) ≡ z = to_z-of_z w128 z (search rules) in
-    let written : c.compare.new.constraint ≡ compared operator ts z =
-    c.compare.ensures ∙ ap (compared operator ts) whole in
-    let state : c.add.new.self ≡ with_weighed s (weighed c.in_ok-weight.weight ts operator z) =
-    added_is s i.variables c.sum.new.variables i.hard i.soft i.top i.order c.add.new.self
-    c.in_ok-weight.weight ts operator z c.compare.new.constraint c.gathered.view_is
-    c.in_ok-next.ensures.counted written c.in_ok-add.ensures in
-    rw state
-    (weighed_is s c.args.end (word_of c.args.first) c.args.words.now c.in_ok-weight.weight
-    (word_of c.in_ok-weight.first) c.front.new.words (left c.in_ok-next.next c.sum.new.words)
-    c.comparison.new.words ts operator z c.in_ok-weight.ensures.read c.in_ok-next.ensures.read
+    let whole = to_z-of_z w128 z (search rules) in
+    added_is _ _ _ _ _ _ _ _ _ ts operator z _ c.gathered.view_is c.in_ok-next.ensures.counted
+    (c.compare.ensures ∙ ap (compared operator ts) whole) c.in_ok-add.ensures
+
+pub returns-clause-read : goal.returns-clause-read
+returns-clause-read c =
+    rw (state (goal.at.returns-clause-read c).In_ok-add)
+    (weighed_is _ _ _ _ _ _ _ _ _ _ _ _ c.in_ok-weight.ensures.read c.in_ok-next.ensures.read
     c.in_ok-operator.ensures.read)
 
 pub returns-clause-small : goal.returns-clause-small
 returns-clause-small c =
     let s = c.args.gathered.now in
-    let i = c.gathered.inside in
     let ts = c.sum.new.terms in
     let operator = c.in_ok-operator.operator in
     let z = c.in_ok-operator.bound in
-    let whole : to_z w128 (of_z w128 z) ≡ z = to_z-of_z w128 z (search rules) in
-    let written : c.compare.new.constraint ≡ compared operator ts z =
-    c.compare.ensures ∙ ap (compared operator ts) whole in
-    let state : c.add.new.self ≡ with_weighed s (weighed c.in_ok-weight.weight ts operator z) =
-    added_is s i.variables c.sum.new.variables i.hard i.soft i.top i.order c.add.new.self
-    c.in_ok-weight.weight ts operator z c.compare.new.constraint c.gathered.view_is
-    c.in_ok-next.ensures.counted written c.in_ok-add.ensures in
     let wide : WboContent = record s { variables = widened s.variables (literals_in ts) } in
-    rw state
+    rw (state (goal.at.returns-clause-small c).In_ok-add)
     (omega (
       arith,
       with_constraint-total wide c.in_ok-weight.weight (compared operator ts z),

@@ -1,10 +1,12 @@
-use Rattle.std.proofs.Common.{rules, ◌≡◌, ◌-ℤ◌, neg_ℤ, pos, true, map, subst, sym, ap, arith, to_z, of_z, OnOk}
+use Rattle.std.proofs.Common.{rules, ◌≡◌, ◌-ℤ◌, pos, [], ◌∷◌, map, subst, sym, ap, arith, to_z, of_z, OnOk}
 use Rattle.std.specs.Int.{w128}
 use Rattle.std.proofs.lemmas.Int.{ints}
 use Rattle.problem_form.specs.Fields.{IsSound}
 use Rattle.problem_form.specs.Problems.{ProblemContent, negated, products_total}
+use Rattle.wbo_reader.specs.Rewriting.{eased, eased_row, with_rows}
 use Rattle.wbo_reader.proofs.Sound.{negated_total}
 use Rattle.wbo_reader.proofs.Steps.{first_eased, both_eased}
+use Rattle.wbo_reader.proofs.rewriting.add_soft.Goals.{After-negate}
 use Rattle.wbo_reader.proofs.rewriting.add_soft.Goals as goal
 
 pub add_eased-requires-clause-sound : goal.add_eased-requires-clause-sound
@@ -29,36 +31,26 @@ add_eased-requires-2-clause-small c =
       bound,
     )
 
-pub add_eased-requires-2-clause-sound : goal.add_eased-requires-2-clause-sound
-add_eased-requires-2-clause-sound c =
-    let p = c.args.problem.now in
+-- both rows of an equation are added
+both : (c : After-negate)
+    → with_rows c.add_eased.new.problem (eased c.args.variable c.negate.new.self
+    (to_z w128 (of_z w128 (pos 0 -ℤ to_z w128 (of_z w128 c.constraint.inside.bound)))) ∷ [])
+    ≡ with_rows c.args.problem.now (eased_row c.args.variable c.args.constraint)
+both c =
     let k = c.args.constraint in
-    let first : c.copy_products.new.list ≡ k.products = search rules in
-    let products : c.negate.new.self ≡ map negated k.products = search rules in
+    let products : c.copy_products.new.list ≡ k.products = search rules in
     let bound : to_z w128 (of_z w128 c.constraint.inside.bound) ≡ k.bound = search rules in
     let inside : c.constraint.inside.bound ≡ k.bound = search rules in
-    let other : to_z w128 (of_z w128 (pos 0 -ℤ to_z w128 (of_z w128 c.constraint.inside.bound)))
-    ≡ neg_ℤ k.bound =
-    omega (arith, ints, inside, c.requires.small) in
-    let exact : k.exact ≡ true = search rules in
-    subst IsSound
-    (sym (both_eased p c.add_eased.new.problem c.args.variable k _ _ _ _ exact
-    c.in_ok-add_eased.ensures first bound products other))
-    c.requires.sound
+    both_eased _ _ _ k _ c.negate.new.self _ _ (search rules) c.in_ok-add_eased.ensures products
+    bound (search rules) (omega (arith, ints, inside, c.requires.small))
+
+pub add_eased-requires-2-clause-sound : goal.add_eased-requires-2-clause-sound
+add_eased-requires-2-clause-sound c =
+    let both = both (goal.at.add_eased-requires-2-clause-sound c).After-negate in
+    subst IsSound (sym both) c.requires.sound
 
 pub returns : goal.returns
 returns c =
-    let p = c.args.problem.now in
-    let k = c.args.constraint in
-    let first : c.copy_products.new.list ≡ k.products = search rules in
-    let products : c.negate.new.self ≡ map negated k.products = search rules in
-    let bound : to_z w128 (of_z w128 c.constraint.inside.bound) ≡ k.bound = search rules in
-    let inside : c.constraint.inside.bound ≡ k.bound = search rules in
-    let other : to_z w128 (of_z w128 (pos 0 -ℤ to_z w128 (of_z w128 c.constraint.inside.bound)))
-    ≡ neg_ℤ k.bound =
-    omega (arith, ints, inside, c.requires.small) in
-    let exact : k.exact ≡ true = search rules in
-    subst (λ (q : ProblemContent). OnOk c.add_eased-2.result (c.add_eased-2.new.problem ≡ q))
-    (both_eased p c.add_eased.new.problem c.args.variable k _ _ _ _ exact
-    c.in_ok-add_eased.ensures first bound products other)
+    let both = both (goal.at.returns c).After-negate in
+    subst (λ (q : ProblemContent). OnOk c.add_eased-2.result (c.add_eased-2.new.problem ≡ q)) both
     c.add_eased-2.ensures

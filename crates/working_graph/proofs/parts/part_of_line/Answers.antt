@@ -4,7 +4,7 @@ use Rattle.std.proofs.lemmas.Result.{err_from_is_err_and}
 use Rattle.whole_text.specs.declared.token.Style.TheVariants.{Plain}
 use Rattle.whole_text.specs.Tokens.{tokens_of_line}
 use Rattle.chain_map.proofs.LineNumbers.{line_blank, line_comment, line_tokens}
-use Rattle.working_graph.proofs.LineParts.{head_of, all_of, first_bad, first_good, follow_bad}
+use Rattle.working_graph.proofs.LineParts.{first_bad, first_good, follow_bad}
 use Rattle.working_graph.proofs.PartRows.{parts_none}
 use Rattle.working_graph.proofs.parts.part_of_line.Goals.{then-at-end-via-then-at-end, then-at-end-via-else-at-end+then-text-at-eq99}
 use Rattle.working_graph.proofs.parts.part_of_line.Goals as goal
@@ -30,48 +30,23 @@ returns-then-at-end-clause-read c =
 
 pub returns-in_err-qubit-clause-read : goal.returns-in_err-qubit-clause-read
 returns-in_err-qubit-clause-read c =
-    let text = c.args.text.now in
-    let start = c.args.start in
-    let end = c.args.end in
-    let line = c.args.line in
-    let at = start + c.blank_len.result in
-    let below : at < end = omega arith in
-    let t = line_tokens text start end c.blank_len.result _ line c.requires.ordered
-    c.requires.within c.blank_len.ensures.first below c.if-text-at-eq99.false refl in
+    let t = line_tokens _ _ _ _ _ c.args.line c.requires.ordered c.requires.within
+    c.blank_len.ensures.first (omega arith) c.if-text-at-eq99.false refl in
     let p = err_from_is_err_and c.from_residual.result c.from_residual.ensures.1 in
-    rw (p.1, p.2)
-    (first_bad c.args.graph.now line (slice_range text start end) (head_of line text at end) _ _ t.2
-    c.in_err-qubit.ensures.value)
+    rw (p.1, p.2) (first_bad _ _ _ _ _ _ t.2 c.in_err-qubit.ensures.value)
 
 pub returns-in_err-rest_of_line-clause-read : goal.returns-in_err-rest_of_line-clause-read
 returns-in_err-rest_of_line-clause-read c =
-    let text = c.args.text.now in
-    let start = c.args.start in
-    let end = c.args.end in
-    let line = c.args.line in
-    let at = start + c.blank_len.result in
-    let below : at < end = omega arith in
-    let t = line_tokens text start end c.blank_len.result c.in_ok-qubit.len line c.requires.ordered
-    c.requires.within c.blank_len.ensures.first below c.if-text-at-eq99.false
-    c.in_ok-qubit.ensures.len in
-    let p = err_from_is_err_and c.from_residual-in_err-rest_of_line.result
-    c.from_residual-in_err-rest_of_line.ensures.1 in
+    let t = line_tokens _ _ _ _ _ c.args.line c.requires.ordered c.requires.within
+    c.blank_len.ensures.first (omega arith) c.if-text-at-eq99.false c.in_ok-qubit.ensures.len in
+    let residual = c.from_residual-in_err-rest_of_line in
+    let p = err_from_is_err_and residual.result residual.ensures.1 in
     rw (p.1, p.2)
-    (follow_bad c.args.graph.now line c.in_ok-qubit.qubit (slice_range text start end)
-    (head_of line text at end) (all_of line text (at + c.in_ok-qubit.len) end) _ t.2
-    c.in_ok-qubit.ensures.value (sym c.in_err-rest_of_line.ensures.read))
+    (follow_bad _ _ _ _ _ _ _ t.2 c.in_ok-qubit.ensures.value
+    (sym c.in_err-rest_of_line.ensures.read))
 
 pub returns-clause-read : goal.returns-clause-read
 returns-clause-read c =
-    let text = c.args.text.now in
-    let start = c.args.start in
-    let end = c.args.end in
-    let line = c.args.line in
-    let at = start + c.blank_len.result in
-    let below : at < end = omega arith in
-    let t = line_tokens text start end c.blank_len.result c.in_ok-qubit.len line c.requires.ordered
-    c.requires.within c.blank_len.ensures.first below c.if-text-at-eq99.false
-    c.in_ok-qubit.ensures.len in
-    first_good c.args.graph.now line c.in_ok-qubit.qubit (slice_range text start end)
-    (head_of line text at end) (all_of line text (at + c.in_ok-qubit.len) end) _ t.2
-    c.in_ok-qubit.ensures.value (sym c.in_ok-rest_of_line.ensures.read)
+    let t = line_tokens _ _ _ _ _ c.args.line c.requires.ordered c.requires.within
+    c.blank_len.ensures.first (omega arith) c.if-text-at-eq99.false c.in_ok-qubit.ensures.len in
+    first_good _ _ _ _ _ _ _ t.2 c.in_ok-qubit.ensures.value (sym c.in_ok-rest_of_line.ensures.read)

@@ -1,7 +1,7 @@
-use Rattle.std.proofs.Common.{◌+◌, ◌<◌, Err, refl, sym, ap, ◌∙◌, arith}
+use Rattle.std.proofs.Common.{Err, refl, sym, ap, ◌∙◌, arith}
 use Rattle.std.proofs.lemmas.Result.{err_from_is_err_and}
 use Rattle.working_graph.specs.DeadLists.{rest_at}
-use Rattle.working_graph.proofs.LineParts.{head_of, none_left, some_left, rest_none, rest_bad, rest_one, rest_more}
+use Rattle.working_graph.proofs.LineParts.{none_left, some_left, rest_none, rest_bad, rest_one, rest_more}
 use Rattle.working_graph.proofs.parts.rest_of_line.Goals as goal
 
 pub returns-then-at-end-clause-read : goal.returns-then-at-end-clause-read
@@ -12,52 +12,30 @@ returns-then-at-end-clause-read c =
 
 pub returns-in_err-to-clause-read : goal.returns-in_err-to-clause-read
 returns-in_err-to-clause-read c =
-    let graph = c.args.graph.now in
-    let text = c.args.text.now in
-    let at = c.args.start + c.blank_len.result in
-    let end = c.args.end in
-    let line = c.args.line in
-    let below : at < end = omega (arith, c.blank_len.ensures.within, c.if-at-end.false) in
-    let w = some_left text c.args.start end c.blank_len.result _ line c.requires.ordered
-    c.requires.within c.blank_len.ensures.first below refl in
+    let w = some_left _ _ _ _ _ c.args.line c.requires.ordered c.requires.within
+    c.blank_len.ensures.first (omega (arith, c.blank_len.ensures.within, c.if-at-end.false)) refl in
     let p = err_from_is_err_and c.from_residual.result c.from_residual.ensures.1 in
     rw (p.1, p.2)
-    (sym (ap (rest_at graph c.args.from) w.1
-    ∙ rest_bad graph c.args.from (head_of line text at end) _ _ c.in_err-to.ensures.value))
+    (sym (ap (rest_at c.args.graph.now c.args.from) w.1
+    ∙ rest_bad _ _ _ _ _ c.in_err-to.ensures.value))
 
 pub returns-then-last-end-clause-read : goal.returns-then-last-end-clause-read
 returns-then-last-end-clause-read c =
-    let graph = c.args.graph.now in
-    let text = c.args.text.now in
-    let at = c.args.start + c.blank_len.result in
-    let end = c.args.end in
-    let line = c.args.line in
-    let len = c.in_ok-to.len in
-    let below : at < end = omega (arith, c.blank_len.ensures.within, c.if-at-end.false) in
-    let w = some_left text c.args.start end c.blank_len.result len line c.requires.ordered
-    c.requires.within c.blank_len.ensures.first below c.in_ok-to.ensures.len in
-    let none = none_left text (at + len) end c.blank_len-2.result line w.0 c.requires.within
-    c.blank_len-2.ensures.first c.if-last-end.true in
-    sym (ap (rest_at graph c.args.from) w.1
-    ∙ rest_one graph c.args.from c.in_ok-to.to (head_of line text at end) _
-    c.in_ok-to.ensures.value none)
+    let w = some_left _ _ _ _ _ c.args.line c.requires.ordered c.requires.within
+    c.blank_len.ensures.first (omega (arith, c.blank_len.ensures.within, c.if-at-end.false))
+    c.in_ok-to.ensures.len in
+    let none = none_left _ _ _ _ c.args.line w.0 c.requires.within c.blank_len-2.ensures.first
+    c.if-last-end.true in
+    sym (ap (rest_at c.args.graph.now c.args.from) w.1
+    ∙ rest_one _ _ _ _ _ c.in_ok-to.ensures.value none)
 
 pub returns-else-last-end-clause-read : goal.returns-else-last-end-clause-read
 returns-else-last-end-clause-read c =
-    let graph = c.args.graph.now in
-    let text = c.args.text.now in
-    let at = c.args.start + c.blank_len.result in
-    let end = c.args.end in
-    let line = c.args.line in
-    let len = c.in_ok-to.len in
-    let below : at < end = omega (arith, c.blank_len.ensures.within, c.if-at-end.false) in
-    let w = some_left text c.args.start end c.blank_len.result len line c.requires.ordered
-    c.requires.within c.blank_len.ensures.first below c.in_ok-to.ensures.len in
-    let more : at + len + c.blank_len-2.result < end =
-    omega (arith, c.blank_len-2.ensures.within, c.if-last-end.false) in
-    let v = some_left text (at + len) end c.blank_len-2.result _ line w.0 c.requires.within
-    c.blank_len-2.ensures.first more refl in
+    let w = some_left _ _ _ _ _ c.args.line c.requires.ordered c.requires.within
+    c.blank_len.ensures.first (omega (arith, c.blank_len.ensures.within, c.if-at-end.false))
+    c.in_ok-to.ensures.len in
+    let v = some_left _ _ _ _ _ c.args.line w.0 c.requires.within c.blank_len-2.ensures.first
+    (omega (arith, c.blank_len-2.ensures.within, c.if-last-end.false)) refl in
     ap Err c.fault.ensures
-    ∙ sym (ap (rest_at graph c.args.from) w.1
-    ∙ rest_more graph c.args.from c.in_ok-to.to (head_of line text at end) _ _ _
-    c.in_ok-to.ensures.value v.1)
+    ∙ sym (ap (rest_at c.args.graph.now c.args.from) w.1
+    ∙ rest_more _ _ _ _ _ _ _ c.in_ok-to.ensures.value v.1)

@@ -1,5 +1,4 @@
-use Rattle.std.proofs.Common.{◌≡◌, ◌+◌, inl, inr, [], length, sym, subst, ◌∙◌, arith}
-use Rattle.std.specs.List.{slice_range}
+use Rattle.std.proofs.Common.{◌+◌, inl, inr, [], length, sym, subst, ◌∙◌, arith}
 use Rattle.std.proofs.lemmas.Bool.{cases_lt}
 use Rattle.std.proofs.lemmas.List.{take_rest}
 use Rattle.std.proofs.lemmas.Result.{err_from_is_err_and}
@@ -37,61 +36,42 @@ returns-in_err-note_line c =
     let text = c.args.text.now in
     let start = c.loop-noted.start in
     let n = c.line_len.result in
-    let number = c.loop-noted.line in
     let so_far = c.loop-noted.invariant.read in
-    let line = slice_range text start (start + n) in
-    let first = rw (take_rest text start) at c.line_len.ensures.first in
+    let first = rw (take_rest c.args.text.now c.loop-noted.start) at c.line_len.ensures.first in
     let e = c.in_err-note_line.field-0.0 in
     let fails = c.in_err-note_line.ensures so_far.0 so_far.1 in
-    let p = err_from_is_err_and c.from_residual-in_err-note_line.result c.from_residual-in_err-note_line.ensures.1 in
+    let residual = c.from_residual-in_err-note_line in
+    let p = err_from_is_err_and residual.result residual.ensures.1 in
     rw (p.1, p.2)
     (subst (Fails e) so_far.2
     (elim (cases_lt (start + n) (length text)) [
-      | inl low ↦
-          line_fails graph so_far.0 number line _ _ e (line_cut text start n first low) fails
+      | inl low ↦ line_fails graph so_far.0 _ _ _ _ e (line_cut text start n first low) fails
       | inr high ↦
-          let end : start + n ≡ length text = omega (arith, high) in
-          line_fails graph so_far.0 number line _ _ e
-          (line_last text start n c.loop-noted.invariant.within first end) fails
+          line_fails graph so_far.0 _ _ _ _ e
+          (line_last text start n c.loop-noted.invariant.within first (omega (arith, high))) fails
     ]))
 
 pub returns-then-end-text : goal.returns-then-end-text
 returns-then-end-text c =
-    let graph = c.args.graph.now in
-    let text = c.args.text.now in
-    let start = c.loop-noted.start in
-    let n = c.line_len.result in
-    let number = c.loop-noted.line in
     let so_far = c.loop-noted.invariant.read in
     let said = c.in_ok-note_line.ensures so_far.0 so_far.1 in
-    let line = slice_range text start (start + n) in
-    let first = rw (take_rest text start) at c.line_len.ensures.first in
-    let last = line_last text start n c.loop-noted.invariant.within first c.if-end-text.true in (
+    let first = rw (take_rest c.args.text.now c.loop-noted.start) at c.line_len.ensures.first in
+    let last = line_last _ _ _ c.loop-noted.invariant.within first c.if-end-text.true in (
       said.0,
       sym so_far.2
-          ∙ line_more graph so_far.0 said.0 number line _ _ last said.1
-          ∙ lines_end graph said.0 (number + 1),
+          ∙ line_more _ _ _ _ _ _ _ last said.1
+          ∙ lines_end c.args.graph.now said.0 (c.loop-noted.line + 1),
       said.2,
     )
 
 pub loop-noted-preserved : goal.loop-noted-preserved
 loop-noted-preserved c =
-    let graph = c.args.graph.now in
-    let text = c.args.text.now in
-    let start = c.loop-noted.start in
-    let n = c.line_len.result in
-    let number = c.loop-noted.line in
     let so_far = c.loop-noted.invariant.read in
     let said = c.in_ok-note_line.ensures so_far.0 so_far.1 in
-    let line = slice_range text start (start + n) in
-    let first = rw (take_rest text start) at c.line_len.ensures.first in
-    let cut = line_cut text start n first (omega arith) in
+    let first = rw (take_rest c.args.text.now c.loop-noted.start) at c.line_len.ensures.first in
+    let cut = line_cut _ c.loop-noted.start _ first (omega arith) in
     record {
       within = omega arith;
       few = omega arith;
-      read = (
-        said.0,
-        said.2,
-        sym (line_more graph so_far.0 said.0 number line _ _ cut said.1) ∙ so_far.2,
-      );
+      read = (said.0, said.2, sym (line_more _ _ _ _ _ _ _ cut said.1) ∙ so_far.2);
     }
