@@ -74,35 +74,23 @@ record AreSame (a b c d : ℕ) : Type 0 where
 
 down_down : (i j k l r s : ℕ) → are_joined (down_place j l r) (down_place i k s) ≡ true
     → AreSame j i l k
-down_down i j k l r s h = record {
-  one = grind (arith, nat_tests);
-  other = grind
-      (arith, nat_tests);
-}
+down_down i j k l r s h =
+    record { one = grind (arith, nat_tests); other = grind (arith, nat_tests) }
 
 along_along : (i j k l c d : ℕ) → are_joined (along_place j l c) (along_place i k d) ≡ true
     → AreSame j i l k
-along_along i j k l c d h = record {
-  one = grind (arith, nat_tests);
-  other = grind
-      (arith, nat_tests);
-}
+along_along i j k l c d h =
+    record { one = grind (arith, nat_tests); other = grind (arith, nat_tests) }
 
 down_along : (i j k l r c : ℕ) → are_joined (down_place j l r) (along_place i k c) ≡ true
     → AreSame r i c j
-down_along i j k l r c h = record {
-  one = grind (arith, nat_tests);
-  other = grind
-      (arith, nat_tests);
-}
+down_along i j k l r c h =
+    record { one = grind (arith, nat_tests); other = grind (arith, nat_tests) }
 
 along_down : (i j k l c r : ℕ) → are_joined (along_place j l c) (down_place i k r) ≡ true
     → AreSame r j c i
-along_down i j k l c r h = record {
-  one = grind (arith, nat_tests);
-  other = grind
-      (arith, nat_tests);
-}
+along_down i j k l c r h =
+    record { one = grind (arith, nat_tests); other = grind (arith, nat_tests) }
 
 -- ---- joins of the working graph
 
@@ -320,21 +308,18 @@ parted_uncoupled w u v before below parted coupled =
     go (inl p) (inl q) =
         apart T u v before
         (down_down i j k l p.0 q.0
-        (as_places graph x y (down_place j l p.0) (down_place i k q.0)
-        (at_down graph j l p.0 x cell_v at_v p.1 p.2)
+        (as_places graph x y _ _ (at_down graph j l p.0 x cell_v at_v p.1 p.2)
         (at_down graph i k q.0 y cell_u at_u q.1 q.2) plain))
     go (inl p) (inr q) =
         let same = down_along i j k l p.0 q.0
-        (as_places graph x y (down_place j l p.0) (along_place i k q.0)
-        (at_down graph j l p.0 x cell_v at_v p.1 p.2)
+        (as_places graph x y _ _ (at_down graph j l p.0 x cell_v at_v p.1 p.2)
         (at_along graph i k q.0 y cell_u at_u q.2 q.3) plain) in
         let is_x : x ≡ down_qubit graph j l i = sym p.2 ∙ ap (down_qubit graph j l) same.one in
         let is_y : y ≡ along_qubit graph i k j = sym q.3 ∙ ap (along_qubit graph i k) same.other in
         not_cut w x y b.2 ((λ n. is_cut w (is_x n) (is_y n)) ∙ parted.down)
     go (inr p) (inl q) =
         let same = along_down i j k l p.0 q.0
-        (as_places graph x y (along_place j l p.0) (down_place i k q.0)
-        (at_along graph j l p.0 x cell_v at_v p.2 p.3)
+        (as_places graph x y _ _ (at_along graph j l p.0 x cell_v at_v p.2 p.3)
         (at_down graph i k q.0 y cell_u at_u q.1 q.2) plain) in
         let is_x : x ≡ along_qubit graph j l i = sym p.3 ∙ ap (along_qubit graph j l) same.other in
         let is_y : y ≡ down_qubit graph i k j = sym q.2 ∙ ap (down_qubit graph i k) same.one in
@@ -343,6 +328,5 @@ parted_uncoupled w u v before below parted coupled =
     go (inr p) (inr q) =
         apart T u v before
         (along_along i j k l p.0 q.0
-        (as_places graph x y (along_place j l p.0) (along_place i k q.0)
-        (at_along graph j l p.0 x cell_v at_v p.2 p.3)
+        (as_places graph x y _ _ (at_along graph j l p.0 x cell_v at_v p.2 p.3)
         (at_along graph i k q.0 y cell_u at_u q.2 q.3) plain))

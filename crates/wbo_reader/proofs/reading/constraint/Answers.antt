@@ -2,8 +2,6 @@ use Rattle.std.proofs.Common.{◌≡◌, ap, ◌∙◌, to_z, of_z, arith, rules
 use Rattle.std.specs.Int.{w128}
 use Rattle.std.proofs.lemmas.Int.{to_z-of_z}
 use Rattle.std.proofs.lemmas.Result.{err_from_is_err_and}
-use Rattle.whole_text.specs.TokenTexts.{word_of}
-use Rattle.whole_text.specs.Rows.{left}
 use Rattle.problem_form.specs.Problems.{constraint_total}
 use Rattle.opb_reader.specs.Opb.{literals_in, widened}
 use Rattle.opb_reader.specs.Cost.{compared}
@@ -18,28 +16,22 @@ use Rattle.wbo_reader.proofs.reading.constraint.Goals as goal
 pub returns-in_err-weight-clause-read : goal.returns-in_err-weight-clause-read
 returns-in_err-weight-clause-read c =
     let p = err_from_is_err_and c.from_residual.result c.from_residual.ensures.1 in
-    rw (p.1, p.2)
-    (front_fails c.in_err-weight.field-0.0 c.args.gathered.now c.args.end (word_of c.args.first)
-    c.args.words.now c.in_err-weight.ensures.read)
+    rw (p.1, p.2) (front_fails _ _ _ _ _ c.in_err-weight.ensures.read)
 
 pub returns-in_err-next-clause-read : goal.returns-in_err-next-clause-read
 returns-in_err-next-clause-read c =
     let residual = c.from_residual-in_err-next in
     let p = err_from_is_err_and residual.result residual.ensures.1 in
     rw (p.1, p.2)
-    (sum_fails c.in_err-next.field-0.0 c.args.gathered.now c.args.end (word_of c.args.first)
-    c.args.words.now c.in_ok-weight.weight (word_of c.in_ok-weight.first) c.front.new.words
-    c.in_ok-weight.ensures.read c.in_err-next.ensures.read)
+    (sum_fails _ _ _ _ _ _ _ _ c.in_ok-weight.ensures.read c.in_err-next.ensures.read)
 
 pub returns-in_err-operator-clause-read : goal.returns-in_err-operator-clause-read
 returns-in_err-operator-clause-read c =
     let residual = c.from_residual-in_err-operator in
     let p = err_from_is_err_and residual.result residual.ensures.1 in
     rw (p.1, p.2)
-    (comparison_fails c.in_err-operator.field-0.0 c.args.gathered.now c.args.end
-    (word_of c.args.first) c.args.words.now c.in_ok-weight.weight (word_of c.in_ok-weight.first)
-    c.front.new.words (left c.in_ok-next.next c.sum.new.words) c.sum.new.terms
-    c.in_ok-weight.ensures.read c.in_ok-next.ensures.read c.in_err-operator.ensures.read)
+    (comparison_fails _ _ _ _ _ _ _ _ _ _ c.in_ok-weight.ensures.read c.in_ok-next.ensures.read
+    c.in_err-operator.ensures.read)
 
 pub add-requires : goal.add-requires
 add-requires c =

@@ -25,12 +25,10 @@ returns-then-place-literals-clause-added g c t held =
     let ls = c.args.literals.now in
     let k = c.args.coefficient in
     let back = to_z-of_z w128 k (search rules) in
-    let now = c.args.self.now.terms in
-    let new = c.gather.new.self in
     on_ok_weaker c.gather.result
     (λ one. held-alone g.T.Gather.takes g.T.Gather.holds ls c.first_complement-place.result k (search rules)
-    c.first_complement-place.ensures.before now new one.held t held)
-    (fills_if_ok g.T.Gather.takes g.T.Gather.holds now new c.gather.result ls _ k _ refl back c.gather.ensures.added
+    c.first_complement-place.ensures.before _ _ one.held t held)
+    (fills_if_ok g.T.Gather.takes g.T.Gather.holds _ _ _ _ _ _ _ refl back c.gather.ensures.added
     c.gather.ensures.takes)
 
 pub returns-then-place-literals-clause-takes : goal.returns-then-place-literals-clause-takes
@@ -38,15 +36,13 @@ returns-then-place-literals-clause-takes g c more room =
     let ls = c.args.literals.now in
     let k = c.args.coefficient in
     let back = to_z-of_z w128 k (search rules) in
-    let now = c.args.self.now.terms in
-    let new = c.gather.new.self in
     on_ok_weaker c.gather.result
     (λ one. (
       takes-alone g.T.Gather.takes g.T.Gather.holds ls c.first_complement-place.result k (search rules)
-          c.first_complement-place.ensures.before now new one.room more room.0,
+          c.first_complement-place.ensures.before _ _ one.room more room.0,
       All-tail IsSmall (ls, k) more room.1,
     ))
-    (fills_if_ok g.T.Gather.takes g.T.Gather.holds now new c.gather.result ls _ k _ refl back c.gather.ensures.added
+    (fills_if_ok g.T.Gather.takes g.T.Gather.holds _ _ _ _ _ _ _ refl back c.gather.ensures.added
     c.gather.ensures.takes)
 
 pub gather_plain_terms-requires-clause-room : goal.gather_plain_terms-requires-clause-room
@@ -68,12 +64,11 @@ returns-clause-added g c t held =
     let ls = c.args.literals.now in
     let k = c.args.coefficient in
     let back = to_z-of_z w128 k (search rules) in
-    let now = c.args.self.now.terms in
     let new = c.gather_plain_terms.new.terms in
     on_ok_weaker c.gather_plain_terms.result
     (λ fills. subst (λ z. g.T.Gather.holds new (multiplied (with_appended t ls z))) back
-    (held-multiplied g.T.Gather.takes g.T.Gather.holds now new c.clear.new.self.items ls (to_z w128 (of_z w128 k)) (search rules)
-    fills t held))
+    (held-multiplied g.T.Gather.takes g.T.Gather.holds _ _ c.clear.new.self.items ls
+    (to_z w128 (of_z w128 k)) (search rules) fills t held))
     c.gather_plain_terms.ensures.gathered
 
 pub returns-clause-takes : goal.returns-clause-takes
@@ -82,11 +77,11 @@ returns-clause-takes g c more room =
     let k = c.args.coefficient in
     let back = to_z-of_z w128 k (search rules) in
     let now = c.args.self.now.terms in
-    let new = c.gather_plain_terms.new.terms in
     on_ok_weaker c.gather_plain_terms.result
     (λ fills. (
-      takes-multiplied g.T.Gather.takes g.T.Gather.holds now new c.clear.new.self.items ls (to_z w128 (of_z w128 k)) (search rules)
-          fills more (subst (λ z. g.T.Gather.takes now (contributions ((ls, z) ∷ more))) (sym back) room.0),
+      takes-multiplied g.T.Gather.takes g.T.Gather.holds _ _ c.clear.new.self.items ls
+          (to_z w128 (of_z w128 k)) (search rules) fills more
+          (subst (λ z. g.T.Gather.takes now (contributions ((ls, z) ∷ more))) (sym back) room.0),
       All-tail IsSmall (ls, k) more room.1,
     ))
     c.gather_plain_terms.ensures.gathered
