@@ -16,6 +16,7 @@ use Rattle.posiform_check.specs.FirstFaults.{first_of, proof_fault, FirstFaultsT
 use Rattle.posiform_check.specs.Proved.{Proves}
 use Rattle.posiform_check.proofs.Compared.{comparison_says, not_zero, proved, faults_prove_nothing}
 
+-- a number that is not 0 is the fault, where none comes before it
 pub first_above : (a : ℤ) → a ≢ pos 0 → first_of None None a ≡ Some (NotZero a)
 first_above a h =
     let test : int_eq a (pos 0) ≡ false = grind (arith, ints) in
