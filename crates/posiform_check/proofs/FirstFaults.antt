@@ -1,5 +1,5 @@
 -- The first fault as it is computed: without one the state is proved, and each one is why it is not.
-use Rattle.std.proofs.Common.{◌≡◌, ◌≢◌, Bool, true, false, List, ℕ, ℤ, pos, ◌-ℤ◌, Option, Some, None, refl, subst, arith}
+use Rattle.std.proofs.Common.{◌≡◌, ◌≢◌, Bool, true, false, List, ℕ, ℤ, pos, ◌-ℤ◌, Option, Some, None, refl, ap, subst, arith}
 use Rattle.std.specs.Prelude.{if◌then◌else◌}
 use Rattle.std.specs.Ordering.{int_eq}
 use Rattle.std.proofs.lemmas.Int.{ints}
@@ -16,9 +16,21 @@ use Rattle.posiform_check.specs.FirstFaults.{first_of, proof_fault, FirstFaultsT
 use Rattle.posiform_check.specs.Proved.{Proves}
 use Rattle.posiform_check.proofs.Compared.{comparison_says, not_zero, proved, faults_prove_nothing}
 
+-- a number that is not 0 is the fault, where none comes before it
+pub first_above : (a : ℤ) → a ≢ pos 0 → first_of None None a ≡ Some (NotZero a)
+first_above a h =
+    let test : int_eq a (pos 0) ≡ false = grind (arith, ints) in
+    ap (λ b. if b then None else Some (NotZero a)) test
+
 module _ (m : Written) (c : CertificateContent) (y : List Bool) where
   abbrev above : ℤ
   above = energy (form_of m) y -ℤ c.bound
+
+  -- the first fault from what it is computed of
+  pub fault_from : (n : Option ℕ) (d : Option (ℤ × ℤ)) (a : ℤ) → first_negative c.lines ≡ n
+      → d ≡ difference (model_list m) (certificate_list c) → a ≡ above
+      → proof_fault m c y ≡ first_of n d a
+  fault_from n d a negative found over = rw (negative, ← found, ← over) refl
 
   -- what no fault, or this one, tells
   abbrev Told : Option ProofFault → Type 0

@@ -26,7 +26,7 @@ pub coefficients-append : (set : List Literal) (ts us : List Term)
     → coefficient_of set (ts ++ us) ≡ coefficient_of set ts +ℤ coefficient_of set us
 coefficients-append set ts us = total_by-append (given set) ts us
 
-nothing-given : (b : Bool) → if_so b (pos 0) ≡ pos 0
+pub nothing-given : (b : Bool) → if_so b (pos 0) ≡ pos 0
 nothing-given true = refl
 nothing-given false = refl
 
