@@ -152,10 +152,6 @@ module _ (t : TableContent) (h : HeldContent) (room : FitsByPairs t) (held : Are
           total-parts t.terms,
         )
 
-    -- each new node has a pair, so the numbers of nodes fit
-    pub next-narrow : width + length made.pairs.items < 2 ^ 64
-    next-narrow = omega (arith, narrow, number)
-
     -- what is added is small
     pub small-moved : terms_total moved ≤ 2 ^ 124
     small-moved = omega (arith, total)
