@@ -1,5 +1,5 @@
 -- One chain more in the passes over a map.
-use Rattle.std.proofs.Common.{◌≡◌, ℕ, zero, suc, ◌∷◌, ◌+◌, ◌<◌, ◌≤◌, ◌==◌, inl, inr, List, [], length, get_or, refl, sym, subst, arith}
+use Rattle.std.proofs.Common.{◌≡◌, ℕ, zero, suc, ◌∷◌, ◌+◌, ◌<◌, ◌≤◌, ◌==◌, inl, inr, List, [], All, length, get_or, refl, sym, subst, arith}
 use Rattle.std.specs.List.{count_by}
 use Rattle.std.proofs.lemmas.Bool.{cases_eq}
 use Rattle.chain_map.proofs.Occurrences.{occurrences-chain-le}
@@ -41,6 +41,14 @@ pub default_free : {X : Type 0} (xs : List X) (i : ℕ) (d e : X) → i < length
 default_free [] i d e below = absurd (omega (arith, below))
 default_free (x ∷ xs) zero d e below = refl
 default_free (x ∷ xs) (suc i) d e below = default_free xs i d e (omega (arith, below))
+
+-- the qubits of a chain of the map
+pub chain_within : (n : ℕ) (map : List (List ℕ)) (v : ℕ) (xs : List ℕ) → xs ≡ chain_of map v → v < length map
+    → ((u : ℕ) → u < length map → (j : ℕ) → j < length (chain_of map u) → get_or (chain_of map u) j 0 < n)
+    → All (λ q. q < n) xs
+chain_within n map v xs same below within =
+    subst (λ (ys : List ℕ). All (λ q. q < n) ys) (sym same)
+    (λ j d low. subst (λ q. q < n) (default_free (chain_of map v) j 0 d low) (within v below j low))
 
 -- a mark counts once
 pub marked-le : (seen : List Bool) (q : ℕ) → marked seen q ≤ 1

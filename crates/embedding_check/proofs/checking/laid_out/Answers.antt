@@ -6,3 +6,7 @@ pub sorted_chains-requires : goal.sorted_chains-requires
 sorted_chains-requires g c =
     subst (λ (m : List (List ℕ)). (q : ℕ) → occurrences q m ≤ 1) (sym c.in_ok-chains.ensures.same)
     c.in_ok-check_apart.ensures.apart.once
+
+pub parents_and_places-requires-clause-apart : goal.parents_and_places-requires-clause-apart
+parents_and_places-requires-clause-apart g c =
+    rw c.in_ok-chains.ensures.same c.in_ok-check_apart.ensures.apart

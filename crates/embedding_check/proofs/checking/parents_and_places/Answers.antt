@@ -1,11 +1,12 @@
-use Rattle.std.proofs.Common.{List, ap, subst}
+use Rattle.std.proofs.Common.{List, All, length, sym, ap, subst, ◌∙◌}
 use Rattle.std.proofs.lemmas.Result.{err_from_is_err_and}
 use Rattle.bits_model.specs.declared.output.Entry.{Entry}
 use Rattle.ising_form.specs.Isings.{IsingContent}
+use Rattle.quad_form.specs.Quads.{IsCoupler}
 use Rattle.chain_map.specs.Faults.{IfFault}
 use Rattle.embedding_check.specs.Checked.{ArePlaces}
 use Rattle.embedding_check.specs.Faults.{IsLinked, NamesUncoupled}
-use Rattle.embedding_check.proofs.Faulty.{is_linked, is_valid, uncoupled_fault}
+use Rattle.embedding_check.proofs.Faulty.{is_linked, is_valid, uncoupled_fault, searchable}
 use Rattle.embedding_check.proofs.checking.parents_and_places.Given.{Over}
 use Rattle.embedding_check.proofs.checking.parents_and_places.Goals.{In_ok-parents}
 use Rattle.embedding_check.proofs.checking.parents_and_places.Goals as goal
@@ -15,6 +16,18 @@ linked : (g : Over) (c : In_ok-parents g)
     → IsLinked (g.H.Hardware.joined c.args.hardware.now) (g.H.Hardware.qubits c.args.hardware.now)
     c.args.ising.now c.args.chains.now
 linked g c = is_linked _ _ _ _ c.requires.apart c.in_ok-parents.ensures.connected
+
+pub all_parents-requires-clause-chains : goal.all_parents-requires-clause-chains
+all_parents-requires-clause-chains g c = searchable _ c.args.ising.now c.args.chains.now c.requires.apart
+
+pub all_places-requires-clause-chains : goal.all_places-requires-clause-chains
+all_places-requires-clause-chains g c = searchable _ c.args.ising.now c.args.chains.now c.requires.apart
+
+pub all_places-requires-clause-nodes : goal.all_places-requires-clause-nodes
+all_places-requires-clause-nodes g c =
+    subst (λ n. All (IsCoupler n) c.ising.inside.couplings)
+    (ap (λ (x : IsingContent). length x.fields) c.ising.view_is ∙ sym c.requires.apart.inside.listed.listed.counted)
+    c.ising.invariant.couplings
 
 pub returns-in_err-places-clause-fault : goal.returns-in_err-places-clause-fault
 returns-in_err-places-clause-fault g c =

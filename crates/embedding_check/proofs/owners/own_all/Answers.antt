@@ -1,8 +1,15 @@
-use Rattle.std.proofs.Common.{◌≡◌, ℕ, ◌⊎◌, true, List, subst, ◌∙◌, arith}
+use Rattle.std.proofs.Common.{◌≡◌, ℕ, ◌⊎◌, true, List, All, length, ◌<◌, sym, subst, ◌∙◌, arith}
 use Rattle.bits_model.specs.Walks.{is_in}
 use Rattle.embedding_check.specs.Owners.{owner_of}
 use Rattle.embedding_check.proofs.Owning.{own_more, owned_all}
+use Rattle.embedding_check.proofs.Passing.{chain_within}
 use Rattle.embedding_check.proofs.owners.own_all.Goals as goal
+
+pub own-requires : goal.own-requires
+own-requires c =
+    subst (λ n. All (λ q. q < n) c.list.result.now) (sym c.loop-node.invariant.len)
+    (chain_within (length c.args.owners.now) c.args.chains.now c.loop-node.node c.list.result.now
+    c.list.ensures.listed (omega (arith, c.loop-node-test.true, c.len-node-end.ensures)) c.requires.within)
 
 pub loop-node-preserved : goal.loop-node-preserved
 loop-node-preserved c =

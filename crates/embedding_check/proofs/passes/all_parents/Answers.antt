@@ -1,5 +1,6 @@
 use Rattle.std.proofs.Common.{◌≡◌, ◌+◌, ℕ, ◌<◌, ◌≤◌, ◌==◌, List, [], ◌∷◌, length, take, get_or, ◌++◌, ◌∙◌, sym, subst, ap, arith}
 use Rattle.std.specs.List.{count_by, AllZip}
+use Rattle.std.proofs.lemmas.List.{take_all}
 use Rattle.std.proofs.lemmas.List.Elements.{all_zip_more}
 use Rattle.chain_map.specs.Chains.{chain_of}
 use Rattle.bits_model.specs.Walks.{IsReached}
@@ -8,13 +9,24 @@ use Rattle.embedding_check.specs.Reached.{AreFound, IsFirstBad}
 use Rattle.embedding_check.specs.Faults.{IsReachedAt}
 use Rattle.chain_map.specs.declared.faults.EmbedFault.TheVariants.{Disconnected}
 use Rattle.embedding_check.specs.declared.search.Parents.TheVariants.{All}
-use Rattle.embedding_check.proofs.Passing.{once_each, places_more, first_at, default_free}
+use Rattle.embedding_check.proofs.Passing.{chain_within, once_each, places_more, first_at, default_free}
 use Rattle.embedding_check.proofs.passes.all_parents.Goals as goal
 
 pub parents_of-requires-clause-once : goal.parents_of-requires-clause-once
 parents_of-requires-clause-once g c = λ q.
     subst (λ (xs : List ℕ). count_by (λ p. p == q) xs ≤ 1) (sym c.list-listed.ensures.listed)
     (once_each c.args.chains.now c.requires.chains.once c.loop-node.node (omega (arith, c.loop-node-test.true, c.len-node-end.ensures)) q)
+
+pub parents_of-requires-clause-within : goal.parents_of-requires-clause-within
+parents_of-requires-clause-within g c =
+    chain_within (g.H.Hardware.qubits c.args.hardware.now) c.args.chains.now c.loop-node.node
+    c.list-listed.result.now c.list-listed.ensures.listed
+    (omega (arith, c.loop-node-test.true, c.len-node-end.ensures)) c.requires.chains.within
+
+pub parents_of-requires-clause-sorted : goal.parents_of-requires-clause-sorted
+parents_of-requires-clause-sorted g c =
+    rw (c.list-listed.ensures.listed, c.list.ensures.listed)
+    (c.requires.sorted.each c.loop-node.node (omega (arith, c.loop-node-test.true, c.len-node-end.ensures)))
 
 pub returns-in-Unreached-clause-fault : goal.returns-in-Unreached-clause-fault
 returns-in-Unreached-clause-fault g c =
@@ -48,3 +60,10 @@ loop-node-preserved g c =
           c.loop-node.invariant.parents both.0);
       reached = places_more chains (IsReachedAt joined chains) node c.loop-node.invariant.reached (λ j low. both.1 j 0 low);
     }
+
+pub returns-clause-parents : goal.returns-clause-parents
+returns-clause-parents g c =
+    let R = AreParents (g.H.Hardware.joined c.args.hardware.now) in
+    subst (λ (xs : List (List ℕ)). AllZip R xs c.loop-node.parents)
+    (take_all c.loop-node.node c.args.chains.now (omega (arith, c.loop-node-test.false, c.len-node-end.ensures)))
+    c.loop-node.invariant.parents

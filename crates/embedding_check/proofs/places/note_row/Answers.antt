@@ -1,4 +1,4 @@
-use Rattle.std.proofs.Common.{◌<◌, List, ℕ, pos, length, get_or, sym, subst, arith}
+use Rattle.std.proofs.Common.{◌<◌, List, All, ℕ, pos, length, get_or, sym, subst, arith}
 use Rattle.bits_model.specs.declared.output.Entry.{Entry}
 use Rattle.quad_form.specs.Quads.{IsCoupler}
 use Rattle.chain_map.specs.Chains.{chain_of}
@@ -6,6 +6,9 @@ use Rattle.embedding_check.specs.Search.{qubit_at}
 use Rattle.embedding_check.specs.Least.{IsLeastPair}
 use Rattle.embedding_check.specs.Noted.{AreNoted, noted_at, IsChainJoin}
 use Rattle.embedding_check.proofs.Noting.{noted_place}
+use Rattle.embedding_check.proofs.Passing.{chain_within}
+use Rattle.embedding_check.proofs.places.note_row.Given.{Over}
+use Rattle.embedding_check.proofs.places.note_row.Goals.{After-list-own}
 use Rattle.embedding_check.proofs.places.note_row.Goals as goal
 
 pub list-own-requires : goal.list-own-requires
@@ -13,6 +16,24 @@ list-own-requires g c =
     let zero : Entry = record { first = 0; second = 0; weight = pos 0 } in
     let coupler : IsCoupler (length c.args.chains.now) (get_or c.args.row.now 0 zero) = c.requires.nodes 0 zero c.requires.some in
     omega (arith, coupler.upward, coupler.within, c.first-node.ensures 0 zero c.requires.some)
+
+-- the qubits of the row's first chain
+within : (g : Over) (c : After-list-own g)
+    → All (λ q. q < g.H.Hardware.qubits c.args.hardware.now) c.list-own.result.now
+within g c =
+    let zero : Entry = record { first = 0; second = 0; weight = pos 0 } in
+    let coupler : IsCoupler (length c.args.chains.now) (get_or c.args.row.now 0 zero) = c.requires.nodes 0 zero c.requires.some in
+    chain_within (g.H.Hardware.qubits c.args.hardware.now) c.args.chains.now c.first-node.result
+    c.list-own.result.now c.list-own.ensures.listed
+    (omega (arith, coupler.upward, coupler.within, c.first-node.ensures 0 zero c.requires.some)) c.requires.within
+
+pub is_noting_cheap-requires-clause-within : goal.is_noting_cheap-requires-clause-within
+is_noting_cheap-requires-clause-within g c =
+    within g (goal.at.is_noting_cheap-requires-clause-within g c).After-list-own
+
+pub note_chain-requires-clause-within : goal.note_chain-requires-clause-within
+note_chain-requires-clause-within g c =
+    within g (goal.at.note_chain-requires-clause-within g c).After-list-own
 
 pub returns-clause-noted : goal.returns-clause-noted
 returns-clause-noted g c = λ yes k d low.

@@ -1,4 +1,4 @@
-use Rattle.std.proofs.Common.{◌≡◌, ◌<◌, ◌+◌, ℕ, List, length, All, sym, subst, arith}
+use Rattle.std.proofs.Common.{◌≡◌, ◌<◌, ◌+◌, ℕ, List, ◌++◌, length, All, sym, ap, subst, ◌∙◌, arith}
 use Rattle.std.specs.List.{AllZip}
 use Rattle.std.proofs.lemmas.Result.{err_from_is_err_and}
 use Rattle.bits_model.specs.declared.output.Entry.{Entry}
@@ -6,10 +6,10 @@ use Rattle.bits_model.specs.Entries.{rows_of}
 use Rattle.quad_form.specs.Quads.{IsCoupler}
 use Rattle.chain_map.specs.Valid.{IsCoupled}
 use Rattle.chain_map.specs.declared.faults.EmbedFault.TheVariants.{NoCoupler}
-use Rattle.embedding_check.specs.Checked.{IsPlaceOf}
+use Rattle.embedding_check.specs.Checked.{ArePlaces, IsPlaceOf}
 use Rattle.embedding_check.specs.Faults.{IsUncoupled}
 use Rattle.embedding_check.proofs.Faulty.{if_fault, zip_all}
-use Rattle.bits_model.proofs.EntryRows.{rows_before, rows_all}
+use Rattle.bits_model.proofs.EntryRows.{rows_before, rows_more, rows_all}
 use Rattle.embedding_check.proofs.PlacedRows.{all_in_row, some_in_row, uncoupled_in_row}
 use Rattle.embedding_check.proofs.places.push_rows.Goals as goal
 
@@ -29,6 +29,19 @@ push_places-requires-clause-nodes g c =
     let P = IsCoupler (length c.args.chains.now) in
     subst (λ (es : List Entry). All P es) (sym c.row-row.ensures)
     (all_in_row P c.args.couplings.now c.loop-k.k (omega (arith, c.loop-k-test.true, c.row_count-k-end.ensures)) c.requires.nodes)
+
+pub loop-k-preserved : goal.loop-k-preserved
+loop-k-preserved g c =
+    let joined = g.H.Hardware.joined c.args.hardware.now in
+    let couplings = c.args.couplings.now in
+    let k = c.loop-k.k in
+    record {
+      table = c.note_row-noting.ensures.len;
+      placed = subst (λ (es : List Entry). ArePlaces joined c.args.chains.now es c.push_places.new.places.items)
+          (ap (λ (row : List Entry). rows_before couplings k ++ row) c.row-row.ensures
+          ∙ sym (rows_more couplings k (omega (arith, c.loop-k-test.true, c.row_count-k-end.ensures))))
+          (c.in_ok-push_places.ensures.places (rows_before couplings k) c.loop-k.invariant.placed);
+    }
 
 pub returns-in_err-push_places-clause-fault : goal.returns-in_err-push_places-clause-fault
 returns-in_err-push_places-clause-fault g c =
