@@ -134,14 +134,6 @@ repeated_fault joined qubits f map e inside h =
     if_fault e _ (IsFault joined qubits f map)
     (λ x p. subst (IsFault joined qubits f map) (sym p.3) (inside, (p.0, p.1, p.2, refl))) h
 
-pub disconnected_fault : (joined : Joins) (qubits : ℕ) (f : IsingContent) (map : List (List ℕ)) (e : CheckAnswer)
-    → IsApart qubits f map
-    → IfFault e (λ x. (v : ℕ) × (k : ℕ) × IsFirstAt map (IsReachedAt joined map) v k × (x ≡ Disconnected v (number_at map v k)))
-    → IfFault e (IsFault joined qubits f map)
-disconnected_fault joined qubits f map e apart h =
-    if_fault e _ (IsFault joined qubits f map)
-    (λ x p. subst (IsFault joined qubits f map) (sym p.3) (apart, (p.1, p.2, refl))) h
-
 pub uncoupled_fault : (joined : Joins) (qubits : ℕ) (f : IsingContent) (map : List (List ℕ)) (e : CheckAnswer)
     → IsLinked joined qubits f map
     → IfFault e (λ x. (u : ℕ) × (v : ℕ) × (k : ℕ) × IsUncoupled joined f.couplings map u v k × (x ≡ NoCoupler u v))
