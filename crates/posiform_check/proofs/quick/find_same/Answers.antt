@@ -12,13 +12,13 @@ returns-then-branch c =
     let more = rw bound at c.in_ok-add_constant.ensures in
     let none = c.in_ok-cancel.ensures c.if-branch.true in
     λ set.
-        omega (
-          arith,
-          ints,
-          c.in_ok-sums.ensures set,
-          more set,
-          c.in_ok-add_lines.ensures set,
-          c.in_ok-take_entries.ensures set,
-          none set,
-          ap (λ m. coefficient_of set (model_terms m)) c.model.view_is,
-        )
+    omega (
+      arith,
+      ints,
+      c.in_ok-sums.ensures set,
+      more set,
+      c.in_ok-add_lines.ensures set,
+      c.in_ok-take_entries.ensures set,
+      none set,
+      ap (λ m. coefficient_of set (model_terms m)) c.model.view_is,
+    )

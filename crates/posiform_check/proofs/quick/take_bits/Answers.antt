@@ -11,8 +11,8 @@ returns-then-first-second c =
     let less : to_z w128 (of_z w128 c.in_ok-less.less) +ℤ c.args.entry.weight ≡ pos 0 =
     search rules in
     rw node (
-      on_ok_weaker c.add_node.result (take_back _ _ _ _ _ less)
-      (rw c.from.ensures at c.add_node.ensures)
+    on_ok_weaker c.add_node.result (take_back _ _ _ _ _ less)
+    (rw c.from.ensures at c.add_node.ensures)
     )
 
 pub returns-else-first-second : goal.returns-else-first-second
@@ -23,6 +23,6 @@ returns-else-first-second c =
     let first = c.from-else-first-second.ensures in
     let second = c.from-else-first-second-2.ensures in
     rw pair (
-      on_ok_weaker c.add_pair.result (take_back _ _ _ _ _ less)
-      (rw (first, second) at c.add_pair.ensures)
+    on_ok_weaker c.add_pair.result (take_back _ _ _ _ _ less)
+    (rw (first, second) at c.add_pair.ensures)
     )

@@ -11,9 +11,9 @@ use Rattle.posiform_check.proofs.quick.take_entry.Goals as goal
 pub returns-in-Qubo : goal.returns-in-Qubo
 returns-in-Qubo c =
     rw c.in-Qubo.is (
-      on_ok_weaker c.take_bits.result
-      (λ more set. omega (arith, ints, more set, nothing-given (is_eq (set_cmp set []))))
-      c.take_bits.ensures
+    on_ok_weaker c.take_bits.result
+    (λ more set. omega (arith, ints, more set, nothing-given (is_eq (set_cmp set []))))
+    c.take_bits.ensures
     )
 
 pub returns-then-entry : goal.returns-then-entry

@@ -12,5 +12,5 @@ returns-in_ok-sum c =
     let w = c.args.next.coefficient in
     let value : to_z w128 (of_z w128 c.in_ok-sum.sum) ≡ k +ℤ w = search rules in
     rw (c.if-first-sum.true, c.if-second-sum.true, value) λ set.
-        let test = is_eq (set_cmp set (pair_set c.args.sum.first c.args.sum.second)) in
-        omega (arith, ints, if_so-plus test k w)
+    let test = is_eq (set_cmp set (pair_set c.args.sum.first c.args.sum.second)) in
+    omega (arith, ints, if_so-plus test k w)

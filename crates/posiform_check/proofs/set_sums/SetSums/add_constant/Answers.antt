@@ -12,6 +12,6 @@ returns c =
     let value : to_z w128 (of_z w128 c.in_ok-self-inside.field-0) ≡ k +ℤ c.args.coefficient =
     search rules in
     λ set.
-        let b = is_eq (set_cmp set []) in
-        let given = ap (if_so b) value ∙ if_so-plus b k c.args.coefficient in
-        omega (arith, ints, given, ap (coefficient_of set) c.self.view_is)
+    let b = is_eq (set_cmp set []) in
+    let given = ap (if_so b) value ∙ if_so-plus b k c.args.coefficient in
+    omega (arith, ints, given, ap (coefficient_of set) c.self.view_is)

@@ -16,7 +16,7 @@ returns c =
     search rules in
     let less = whole ∙ c.in_ok-opposite.ensures ∙ ap neg_ℤ own in
     rw c.if-not-literal.false (
-      on_ok_weaker c.add_node-2.result
-      (two_more _ _ _ _ _ (rw own at c.in_ok-add_constant.ensures))
-      (rw less at c.add_node-2.ensures)
+    on_ok_weaker c.add_node-2.result
+    (two_more _ _ _ _ _ (rw own at c.in_ok-add_constant.ensures))
+    (rw less at c.add_node-2.ensures)
     )
