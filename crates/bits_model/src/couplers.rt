@@ -23,11 +23,20 @@ pub struct RowStart {
 
 /// Couplers, which contracts see as the list of their entries. Neighbours with the same first node
 /// are one row.
-#[derive(Drop)]
 pub struct CouplerList {
     starts: Vec<RowStart>,
     seconds: Vec<u32>,
     weights: WeightList,
+}
+
+impl Drop for CouplerList {
+    fn drop(self) {
+        let CouplerList {
+            starts: _starts,
+            seconds: _seconds,
+            weights: _weights,
+        } = self;
+    }
 }
 
 impl Model for CouplerList {

@@ -31,7 +31,6 @@ pub struct Entry {
 /// It is kept well formed: unit and scale of at least 1; entries in order, nodes before couplers,
 /// none twice; every node of a model without chains has an entry and no coupler is 0; and the sizes
 /// of the weights sum to at most 2^124.
-#[derive(Drop)]
 pub struct OutputModel {
     pub kind: Kind,
     pub variables: u32,
@@ -40,6 +39,20 @@ pub struct OutputModel {
     pub nodes: u32,
     pub entries: EntryList,
     pub chains: ChainList,
+}
+
+impl Drop for OutputModel {
+    fn drop(self) {
+        let OutputModel {
+            kind: _kind,
+            variables: _variables,
+            figures: _figures,
+            unit: _unit,
+            nodes: _nodes,
+            entries: _entries,
+            chains: _chains,
+        } = self;
+    }
 }
 
 impl Model for OutputModel {

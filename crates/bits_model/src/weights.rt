@@ -15,10 +15,18 @@ pub enum HeldWeights {
 
 /// Weights, which contracts see as the list of their values: in 8 bytes each as long as all fit, and
 /// in 16 from the first one on that does not.
-#[derive(Drop)]
 pub struct WeightList {
     alloc: Global,
     held: HeldWeights,
+}
+
+impl Drop for WeightList {
+    fn drop(self) {
+        let WeightList {
+            alloc: _alloc,
+            held: _held,
+        } = self;
+    }
 }
 
 impl Model for WeightList {

@@ -13,13 +13,24 @@ pub type PairList = Items<(u32, u32)>;
 /// It is kept that there is a chain for each node, none empty; that no qubit is listed twice,
 /// and there are at most 2^20; that the parents of a chain make a tree on it; and that each
 /// coupling has a place with one end in each of its chains.
-#[derive(Drop)]
 pub struct Embedded {
     pub(crate) ising: Ising,
     pub(crate) chains: ChainList,
     pub(crate) qubits: u32,
     pub(crate) parents: ChainList,
     pub(crate) places: PairList,
+}
+
+impl Drop for Embedded {
+    fn drop(self) {
+        let Embedded {
+            ising: _ising,
+            chains: _chains,
+            qubits: _qubits,
+            parents: _parents,
+            places: _places,
+        } = self;
+    }
 }
 
 impl Model for Embedded {

@@ -159,21 +159,49 @@ fn seen_of_states(
     Ok(Outcome::Held(seen))
 }
 
+/// What is seen of an embedded form and of its image.
+fn seen_of_image(
+    alloc: Global,
+    embedded: &Embedded,
+    form: &Ising,
+    made: &Lowered<Ising, ChainLink>,
+    map: &ChainMap,
+) -> Result<Outcome, NoMemory>
+    requires { Fits made.now.link embedded.now }
+{
+    let cost = ties_cost(form, map);
+    if made.scale != 1 || made.offset != cost.wrapping_neg() {
+        return Ok(Outcome::Failed);
+    }
+    if !are_reached(alloc, embedded, made, map)? {
+        return Ok(Outcome::Failed);
+    }
+    let places = chained_qubits(alloc, map)?;
+    seen_of_states(alloc, embedded, made, map, &places)
+}
+
 /// What is seen of an embedded form.
 fn seen_of(alloc: Global, embedded: &Embedded, map: &ChainMap) -> Result<Outcome, NoMemory>
     requires { IsSmall embedded.now.ising }
 {
     let form = embedded.ising();
     let made = Chains.lower(alloc, embedded)?;
-    let cost = ties_cost(form, map);
-    if made.scale != 1 || made.offset != cost.wrapping_neg() {
-        return Ok(Outcome::Failed);
+    seen_of_image(alloc, embedded, form, &made, map)
+}
+
+/// What is seen of one model, with its couplings.
+fn seen_of_model(alloc: Global, embedded: &Embedded, map: &ChainMap) -> Result<Outcome, NoMemory>
+    requires { IsSmall embedded.now.ising }
+{
+    match seen_of(alloc, embedded, map)? {
+        Outcome::Held(seen) => Ok(Outcome::Held(Seen {
+            models: 1,
+            couplings: embedded.ising().couplings.len() as u64,
+            broken: seen.broken,
+            tied: seen.tied,
+        })),
+        other => Ok(other),
     }
-    if !are_reached(alloc, embedded, &made, map)? {
-        return Ok(Outcome::Failed);
-    }
-    let places = chained_qubits(alloc, map)?;
-    seen_of_states(alloc, embedded, &made, map, &places)
 }
 
 /// What is seen of a form that was embedded in the chains of a map, if the map is valid.
@@ -185,15 +213,7 @@ fn seen_of_answer(
     requires { IfOk answer (λ e. IsSmall e.ising) }
 {
     match answer {
-        Ok(embedded) => match seen_of(alloc, &embedded, map)? {
-            Outcome::Held(seen) => Ok(Outcome::Held(Seen {
-                models: 1,
-                couplings: embedded.ising().couplings.len() as u64,
-                broken: seen.broken,
-                tied: seen.tied,
-            })),
-            other => Ok(other),
-        },
+        Ok(embedded) => seen_of_model(alloc, &embedded, map),
         Err(CheckAnswer::Fault(_)) => Ok(Outcome::Refused),
         Err(CheckAnswer::NoMemory) => Err(NoMemory),
     }

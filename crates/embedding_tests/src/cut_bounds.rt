@@ -1,6 +1,6 @@
 //! All states of small forms whose ties are cut-bound: the least ones have no broken chain and are
 //! read as least assignments, and others lie below what they are read as.
-ghost use Rattle.std.specs.Prelude.{◌≡◌, length, IfOk};
+ghost use Rattle.std.specs.Prelude.{◌≡◌, length, IfOk, IfSome};
 ghost use Rattle.cut_chains.specs.CutLinks.{Fits};
 ghost use Rattle.embedding_tests.specs.SmallForms.{IsSmall};
 
@@ -163,6 +163,32 @@ fn seen_of(alloc: Global, embedded: &Embedded, map: &ChainMap) -> Result<Outcome
     seen_of_image(alloc, embedded, &made, map, least)
 }
 
+/// What is seen of a form on the chains of a map.
+fn seen_on(alloc: Global, graph: &Chimera, form: Ising, map: &ChainMap) -> Result<Outcome, NoMemory>
+    requires { IsSmall form }
+{
+    match check(alloc, graph, form, map) {
+        Ok(embedded) => seen_of(alloc, &embedded, map),
+        Err(CheckAnswer::Fault(_)) => Ok(Outcome::Refused),
+        Err(CheckAnswer::NoMemory) => Err(NoMemory),
+    }
+}
+
+/// What is seen of a drawn form on the chains of a map.
+fn seen_of_form(
+    alloc: Global,
+    graph: &Chimera,
+    form: Option<Ising>,
+    map: &ChainMap,
+) -> Result<Outcome, NoMemory>
+    requires { IfSome form IsSmall }
+{
+    match form {
+        Some(form) => seen_on(alloc, graph, form, map),
+        None => Ok(Outcome::Failed),
+    }
+}
+
 /// What is seen of a drawn form on chains that grow.
 fn seen_of_drawn(
     alloc: Global,
@@ -171,14 +197,8 @@ fn seen_of_drawn(
     nodes: u32,
 ) -> Result<Outcome, NoMemory> {
     let map = grow_map(alloc, graph, dice, nodes)?;
-    match draw_form(alloc, dice, nodes)? {
-        Some(form) => match check(alloc, graph, form, &map) {
-            Ok(embedded) => seen_of(alloc, &embedded, &map),
-            Err(CheckAnswer::Fault(_)) => Ok(Outcome::Refused),
-            Err(CheckAnswer::NoMemory) => Err(NoMemory),
-        },
-        None => Ok(Outcome::Failed),
-    }
+    let form = draw_form(alloc, dice, nodes)?;
+    seen_of_form(alloc, graph, form, &map)
 }
 
 /// How many states of ten forms of one to three nodes lie below what they are read as.

@@ -162,6 +162,32 @@ fn decoded(
     Ok(Some((number_of(&x), quad.cost(&y))))
 }
 
+/// Whether the least energy for each assignment could be noted, of all states of a form.
+fn note_all(
+    alloc: Global,
+    link: &MadeLink,
+    quad: &Quad,
+    least: &mut Least,
+) -> Result<bool, NoMemory>
+    requires first { HasFirstBits link.now.first.first }
+    requires second { HasFirstBits link.now.first.second }
+    requires second_meets { link.now.first.first.target_width ≡ link.now.first.second.source_width }
+    requires third { IsSound link.now.second }
+    requires third_meets { link.now.first.second.target_width ≡ link.now.second.source_width }
+{
+    let nodes = link.second.target_width;
+    if nodes > 11 {
+        return Ok(false);
+    }
+    for number in 0..1 << nodes {
+        match decoded(alloc, link, quad, number)? {
+            Some((place, energy)) => note(least, place, energy),
+            None => return Ok(false),
+        }
+    }
+    Ok(true)
+}
+
 /// The figures of the quadratic form. The least energy for each assignment is noted.
 fn note_least(
     alloc: Global,
@@ -171,17 +197,8 @@ fn note_least(
     requires { Admits problem.now }
 {
     let made = steps().guard(alloc, problem)?;
-    let nodes = made.link.second.target_width;
-    if nodes > 11 {
-        return Ok(None);
-    }
-    for number in 0..1 << nodes {
-        match decoded(alloc, &made.link, &made.target, number)? {
-            Some((place, energy)) => note(least, place, energy),
-            None => return Ok(None),
-        }
-    }
-    Ok(Some(made.figures))
+    let is_noted = note_all(alloc, &made.link, &made.target, least)?;
+    Ok(if is_noted { Some(made.figures) } else { None })
 }
 
 /// Whether a least energy is the cost, scaled and moved, or lies above the threshold of an infinite

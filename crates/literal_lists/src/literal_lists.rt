@@ -19,10 +19,19 @@ pub(crate) enum HeldLists {
 /// Lists of literals, which contracts see as a list of lists. A list takes no memory of its own, and
 /// a literal four bytes, as long as all variables are below 2^31 and there are fewer than 2^32
 /// literals: the first list for which that does not hold turns all into a form of sixteen.
-#[derive(Drop)]
 pub struct LiteralLists {
     held: HeldLists,
     alloc: Global,
+}
+
+// an owner's end lets it go by one call, and does not ask which form it has
+impl Drop for LiteralLists {
+    fn drop(self) {
+        let LiteralLists {
+            held: _held,
+            alloc: _alloc,
+        } = self;
+    }
 }
 
 impl Model for LiteralLists {

@@ -169,33 +169,59 @@ fn quad_of(form: Ising) -> Quad {
     }
 }
 
-/// Whether the first bits of each state are read off the two models of a form without chains.
-fn are_first_bits(alloc: Global, variables: u32) -> Result<bool, NoMemory>
-    requires { variables ≤ 3 }
+/// Whether the first bits of each state are read off the model of a form of spins.
+fn are_first_spins(alloc: Global, form: Ising, variables: u32) -> Result<bool, NoMemory>
+    requires narrow { variables ≤ 3 }
+    requires small { IsSmall form }
 {
-    let Some(form) = small_form(alloc, 2, &FIELDS, &COUPLINGS)? else {
-        return Ok(false);
-    };
-    let Some(other) = small_form(alloc, 2, &FIELDS, &COUPLINGS)? else {
-        return Ok(false);
-    };
-    let chains = ChainList::empty(alloc);
     if form.fields.as_slice().len() < variables as usize {
         return Ok(false);
     }
-    let spins = form.output(alloc, variables, FIGURES, 1, Kind::Ising, chains)?;
-    let quad = quad_of(other);
+    let model = form.output(
+        alloc,
+        variables,
+        FIGURES,
+        1,
+        Kind::Ising,
+        ChainList::empty(alloc),
+    )?;
+    are_read(alloc, &model, None, variables)
+}
+
+/// Whether the first bits of each state are read off the model of a quadratic form.
+fn are_first_of_quad(alloc: Global, quad: Quad, variables: u32) -> Result<bool, NoMemory>
+    requires narrow { variables ≤ 3 }
+{
     if quad.diagonal.as_slice().len() < variables as usize {
         return Ok(false);
     }
-    let bits = quad.output(alloc, variables, FIGURES, 1)?;
-    Ok(are_read(alloc, &spins, None, variables)? && are_read(alloc, &bits, None, variables)?)
+    let model = quad.output(alloc, variables, FIGURES, 1)?;
+    are_read(alloc, &model, None, variables)
+}
+
+fn are_first_of_spins(alloc: Global, variables: u32) -> Result<bool, NoMemory>
+    requires { variables ≤ 3 }
+{
+    match small_form(alloc, 2, &FIELDS, &COUPLINGS)? {
+        Some(form) => are_first_spins(alloc, form, variables),
+        None => Ok(false),
+    }
+}
+
+fn are_first_of_bits(alloc: Global, variables: u32) -> Result<bool, NoMemory>
+    requires { variables ≤ 3 }
+{
+    match small_form(alloc, 2, &FIELDS, &COUPLINGS)? {
+        Some(form) => are_first_of_quad(alloc, quad_of(form), variables),
+        None => Ok(false),
+    }
 }
 
 #[test]
 fn first_bits_are_read(rt: HostRuntime) -> Result<(), Fail> {
     for variables in 0..4 {
-        assert!(rt; are_first_bits(rt.alloc(), variables)?, "{variables}");
+        assert!(rt; are_first_of_spins(rt.alloc(), variables)?, "{variables}");
+        assert!(rt; are_first_of_bits(rt.alloc(), variables)?, "{variables}");
     }
     Ok(())
 }

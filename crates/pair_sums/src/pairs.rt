@@ -29,10 +29,18 @@ pub enum HeldPairs {
 /// and the weights that differ as long as their indices can be, and else 32.
 ///
 /// The library's sort in place is fastest for elements of at most 8 bytes.
-#[derive(Drop)]
 pub struct Pairs {
     alloc: Global,
     held: HeldPairs,
+}
+
+impl Drop for Pairs {
+    fn drop(self) {
+        let Pairs {
+            alloc: _alloc,
+            held: _held,
+        } = self;
+    }
 }
 
 impl Model for Pairs {

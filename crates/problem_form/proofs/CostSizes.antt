@@ -1,5 +1,5 @@
 -- Sums over products and clauses lie within the sizes of their numbers.
-use Rattle.std.proofs.Common.{◌≡◌, ℕ, ◌+◌, ◌≤◌, Bool, true, false, arith, ap, List, ℤ, pos, ◌+ℤ◌, unsigned_abs}
+use Rattle.std.proofs.Common.{◌≡◌, ℕ, ◌+◌, ◌≤◌, Bool, true, false, arith, ap, if◌then◌else◌, List, [], ◌∷◌, ℤ, pos, ◌+ℤ◌, unsigned_abs}
 use Rattle.std.specs.List.{sum_by, list_any}
 use Rattle.std.proofs.lemmas.List.Sums.{sum_by-le-sum_by}
 use Rattle.base.specs.Sums.{total_by, if_so}
@@ -7,8 +7,10 @@ use Rattle.base.proofs.Totals.{size-total_by}
 use Rattle.base.specs.declared.costs.Cost.TheVariants.{Whole}
 use Rattle.problem_form.specs.declared.terms.Product.{Product}
 use Rattle.problem_form.specs.declared.terms.Clause.{Clause}
+use Rattle.literal_lists.specs.declared.literal.Literal.{Literal}
 use Rattle.literal_lists.specs.Literals.{all_hold}
 use Rattle.problem_form.specs.Problems.{ProblemContent, fails, fails_hard, problem_cost, problem_total, product_value, sum_of, is_violated, soft_cost, soft_weight, products_total}
+use Rattle.problem_form.specs.NormalForm.{is_empty, product_constant}
 
 if_so-size : (b : Bool) (c : ℤ) → unsigned_abs (if_so b c) ≤ unsigned_abs c
 if_so-size true c = omega arith
@@ -23,6 +25,15 @@ total_within f size xs each =
 pub product-size : (x : List Bool) (t : Product)
     → unsigned_abs (product_value x t) ≤ unsigned_abs t.coefficient
 product-size x t = if_so-size (all_hold x t.literals) t.coefficient
+
+empty-size : (ls : List Literal) (c : ℤ)
+    → unsigned_abs (if is_empty ls then c else pos 0) ≤ unsigned_abs c
+empty-size [] c = omega arith
+empty-size (l ∷ ls) c = omega arith
+
+pub constant-size : (t : Product)
+    → unsigned_abs (product_constant t) ≤ unsigned_abs t.coefficient
+constant-size t = empty-size t.literals t.coefficient
 
 pub clause-size : (x : List Bool) (c : Clause) → unsigned_abs (soft_cost x c) ≤ soft_weight c
 clause-size x c = if_so-size (is_violated x c) (pos (soft_weight c))

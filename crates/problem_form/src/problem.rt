@@ -16,13 +16,25 @@ use std::marker::Model;
 
 /// A problem in normal form: its cost is the constant, the products that are true and the soft
 /// clauses that are violated, and it is infinite where a hard clause or a constraint fails.
-#[derive(Drop)]
 pub struct Problem {
     pub variables: u64,
     pub constant: i128,
     pub objective: ProductList,
     pub clauses: ClauseList,
     pub constraints: ConstraintList,
+}
+
+// an owner's end lets it go by one call
+impl Drop for Problem {
+    fn drop(self) {
+        let Problem {
+            variables: _variables,
+            constant: _constant,
+            objective: _objective,
+            clauses: _clauses,
+            constraints: _constraints,
+        } = self;
+    }
 }
 
 impl Model for Problem {

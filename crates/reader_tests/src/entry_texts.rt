@@ -1,5 +1,5 @@
 //! QUBO and Ising texts, read by both readers: the cost of each or its first fault.
-ghost use Rattle.std.specs.Prelude.{◌<◌, length};
+ghost use Rattle.std.specs.Prelude.{◌<◌, ◌≤◌, ◌^◌, length};
 
 use crate::changed_texts::count_answer;
 use crate::plain_entries::{PlainEntries, plain_entries};
@@ -120,24 +120,38 @@ fn cost_alike(problem: &Problem, plain: &PlainEntries) -> bool {
     true
 }
 
-/// What both readers answer to a text: its fault's kind, or `None` for a good text. No answer where
-/// they differ.
-fn same_answer(alloc: Global, layout: Layout, text: &[u8]) -> Option<Option<TextKind>> {
-    if text.len() > 1 << 24 {
-        return None;
-    }
-    let read = match layout {
-        Layout::Qubo => read_qubo(alloc, text),
-        Layout::Ising => read_ising(alloc, text),
-    };
-    let plain = plain_entries(alloc, layout, text);
-    match (&read, &plain) {
+/// What both readers answer: the fault's kind, or `None` for a good text. No answer where they differ.
+fn alike(
+    read: &Result<Problem, TextAnswer>,
+    plain: &Result<PlainEntries, TextAnswer>,
+) -> Option<Option<TextKind>> {
+    match (read, plain) {
         (Ok(problem), Ok(plain)) if cost_alike(problem, plain) => Some(None),
         (Err(TextAnswer::Bad(fault)), Err(TextAnswer::Bad(plain))) if fault == plain => {
             Some(Some(fault.kind))
         }
         _ => None,
     }
+}
+
+fn read(alloc: Global, layout: Layout, text: &[u8]) -> Result<Problem, TextAnswer>
+    requires { length text.now ≤ 2 ^ 24 }
+{
+    match layout {
+        Layout::Qubo => read_qubo(alloc, text),
+        Layout::Ising => read_ising(alloc, text),
+    }
+}
+
+/// What both readers answer to a text.
+fn same_answer(alloc: Global, layout: Layout, text: &[u8]) -> Option<Option<TextKind>> {
+    if text.len() > 1 << 24 {
+        return None;
+    }
+    alike(
+        &read(alloc, layout, text),
+        &plain_entries(alloc, layout, text),
+    )
 }
 
 /// Counts the answer to the text of these words, by its place. Whether the readers answer alike.

@@ -168,11 +168,14 @@ fn read_cut(
 
 /// What a text says under the assignment that is 1 at the last of two variables, or what is wrong
 /// with it. No answer where it has other variables.
-fn said(read: Result<Read, TextAnswer>) -> Option<Result<Cost, TextAnswer>> {
+fn said(read: &Result<Read, TextAnswer>) -> Option<Result<Cost, TextAnswer>> {
     match read {
-        Ok(read) if read.problem.variables != 2 => None,
-        Ok(read) => Some(Ok(read.problem.cost(&[false, true]))),
-        Err(answer) => Some(Err(answer)),
+        Ok(read) => if read.problem.variables == 2 {
+            Some(Ok(read.problem.cost(&[false, true])))
+        } else {
+            None
+        },
+        Err(answer) => Some(Err(*answer)),
     }
 }
 
@@ -188,7 +191,7 @@ fn is_read_before(
     requires small { length text.now ≤ 2 ^ 16 }
 {
     for first in 0..second + 1 {
-        if said(read_cut(alloc, format, text, first, second)) != Some(wanted) {
+        if said(&read_cut(alloc, format, text, first, second)) != Some(wanted) {
             return false;
         }
     }

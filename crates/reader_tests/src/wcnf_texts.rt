@@ -3,7 +3,7 @@ use crate::changed_texts::{Readers, counted};
 use crate::plain_reader::{PlainClause, PlainReading, plain_reading};
 use command_words::Format;
 use problem_form::{ClauseList, ClauseRef, Problem};
-use source_texts::read_source;
+use source_texts::{Read, read_source};
 use std::alloc::Global;
 use wcnf_reader::read_wcnf;
 use whole_text::{TextAnswer, TextFault, TextKind};
@@ -61,6 +61,14 @@ fn clauses_over_lines_and_several_on_one(rt: HostRuntime) {
     assert!(rt; is_read_as(rt.alloc(), OVER_LINES, 3, 7, CLAUSES) == Ok(true));
 }
 
+/// Whether a source has so many variables and these clauses.
+fn is_of(read: &Read, variables: u64, rows: &[Row]) -> bool {
+    read.variables == variables
+        && read.problem.variables == variables
+        && read.problem.constant == 0
+        && are_clauses(&read.problem.clauses, rows)
+}
+
 /// Whether a source of weighted CNF is read as so many variables and these clauses.
 fn is_source_of(
     alloc: Global,
@@ -72,12 +80,7 @@ fn is_source_of(
         return Ok(false);
     }
     let read = read_source(alloc, Format::Wcnf, text)?;
-    Ok(
-        read.variables == variables
-            && read.problem.variables == variables
-            && read.problem.constant == 0
-            && are_clauses(&read.problem.clauses, rows),
-    )
+    Ok(is_of(&read, variables, rows))
 }
 
 const SOURCE: &[Row] = &[(None, &[(0, false)]), (Some(3), &[(0, true), (1, false)])];
@@ -182,21 +185,26 @@ fn same_problem(problem: &Problem, plain: &PlainReading) -> bool {
             .all(|(a, b)| same_clause(a, b))
 }
 
-/// What both readers answer to a text: its fault's kind, or `None` for a good text. No answer where
-/// they differ.
-pub(crate) fn same_answer(alloc: Global, text: &[u8]) -> Option<Option<TextKind>> {
-    if text.len() > 1 << 24 {
-        return None;
-    }
-    let read = read_wcnf(alloc, text);
-    let plain = plain_reading(alloc, text);
-    match (&read, &plain) {
+/// What both readers answer: the fault's kind, or `None` for a good text. No answer where they differ.
+fn alike(
+    read: &Result<Problem, TextAnswer>,
+    plain: &Result<PlainReading, TextAnswer>,
+) -> Option<Option<TextKind>> {
+    match (read, plain) {
         (Ok(problem), Ok(plain)) if same_problem(problem, plain) => Some(None),
         (Err(TextAnswer::Bad(fault)), Err(TextAnswer::Bad(plain))) if fault == plain => {
             Some(Some(fault.kind))
         }
         _ => None,
     }
+}
+
+/// What both readers answer to a text.
+pub(crate) fn same_answer(alloc: Global, text: &[u8]) -> Option<Option<TextKind>> {
+    if text.len() > 1 << 24 {
+        return None;
+    }
+    alike(&read_wcnf(alloc, text), &plain_reading(alloc, text))
 }
 
 #[test]

@@ -1,5 +1,5 @@
 //! The text of a model that the calls of the steps make, by the call for a QUBO alone.
-ghost use Rattle.std.specs.Prelude.{◌≡◌, IfSome};
+ghost use Rattle.std.specs.Prelude.{◌≡◌, ◌≤◌, IfSome};
 ghost use Rattle.bits_model.specs.declared.output.Kind.TheVariants.{Qubo};
 
 use crate::runs::CLASH;
@@ -7,15 +7,34 @@ use base::{NoMemory, UnitChoice};
 use bits_model::OutputModel;
 use command_words::{Format, NodeModel};
 use model_pipeline::{Keeping, model_of};
-use problem_form::{Choices, High, Normal, check_limits};
+use problem_form::{Choices, High, Normal, Problem, check_limits};
 use qubo_file::qubo_text;
-use source_texts::read_source;
+use source_texts::{Read, read_source};
 use std::alloc::Global;
 
 const CHOICES: Choices = Choices {
     normal: Normal::Literal,
     high: High::Monomial,
 };
+
+/// The model of a problem of so many variables.
+fn model_of_problem(alloc: Global, problem: Problem, variables: u64) -> Option<OutputModel>
+    requires { variables ≤ problem.variables }
+    ensures { IfSome result (λ model. model.kind ≡ Qubo) }
+{
+    check_limits(&problem, &CHOICES).ok()?;
+    let mut kept = Keeping::Unwanted;
+    model_of(
+        alloc,
+        problem,
+        variables,
+        &CHOICES,
+        NodeModel::Qubo,
+        UnitChoice::One,
+        &mut kept,
+    )
+    .ok()
+}
 
 /// The model of a short text.
 fn model_of_text(alloc: Global, text: &str) -> Option<OutputModel>
@@ -24,20 +43,12 @@ fn model_of_text(alloc: Global, text: &str) -> Option<OutputModel>
     if text.len() > 100 {
         return None;
     }
-    let read = read_source(alloc, Format::Wcnf, text.as_bytes()).ok()?;
-    check_limits(&read.problem, &CHOICES).ok()?;
-    let one = UnitChoice::One;
-    let mut kept = Keeping::Unwanted;
-    model_of(
-        alloc,
-        read.problem,
-        read.variables,
-        &CHOICES,
-        NodeModel::Qubo,
-        one,
-        &mut kept,
-    )
-    .ok()
+    let Read {
+        problem,
+        variables,
+        ..
+    } = read_source(alloc, Format::Wcnf, text.as_bytes()).ok()?;
+    model_of_problem(alloc, problem, variables)
 }
 
 /// Whether this is the text of the model as that of a QUBO.

@@ -20,11 +20,20 @@ use std::alloc::Global;
 use std::marker::Model;
 
 /// Terms over the variables or nodes below `width`.
-#[derive(Drop)]
 pub struct Table {
     pub(crate) width: usize,
     pub(crate) alloc: Global,
     pub(crate) runs: SmallVec<Run, 1>,
+}
+
+impl Drop for Table {
+    fn drop(self) {
+        let Table {
+            width: _width,
+            alloc: _alloc,
+            runs: _runs,
+        } = self;
+    }
 }
 
 impl Model for Table {

@@ -8,13 +8,24 @@ use std::marker::Model;
 /// the text's order, whether it is soft.
 ///
 /// It is kept in normal form, as a problem is, with weights of at least 1.
-#[derive(Drop)]
 pub struct Wbo {
     pub variables: u64,
     pub hard: ConstraintList,
     pub soft: SoftList,
     pub top: Option<u64>,
     pub order: OrderList,
+}
+
+impl Drop for Wbo {
+    fn drop(self) {
+        let Wbo {
+            variables: _variables,
+            hard: _hard,
+            soft: _soft,
+            top: _top,
+            order: _order,
+        } = self;
+    }
 }
 
 impl Model for Wbo {

@@ -1,5 +1,6 @@
 //! A whole text, in the layout that its first word says.
 ghost use Rattle.std.specs.Prelude.{◌≡◌, ◌≤◌, ◌^◌, length};
+ghost use Rattle.problem_form.specs.NormalForm.{blank, with_variables};
 ghost use Rattle.whole_text.specs.TokenTexts.{words_of};
 ghost use Rattle.whole_text.specs.Steps.{Gives};
 ghost use Rattle.wcnf_reader.specs.Cost.{normal_reading, problem_of_words};
@@ -15,16 +16,16 @@ use whole_text::{Lexer, Style, TextAnswer, TextKind, TokenText, Words, fault, ne
 /// The clauses that the header counts.
 fn counted(
     alloc: Global,
+    problem: &mut Problem,
     words: &mut Words<'_>,
     start: Start,
     end: u64,
-) -> Result<Problem, TextAnswer>
-    requires { length words.old ≤ 2 ^ 24 }
-    ensures { Gives (λ problem. (problem, words.new)) result
+) -> Result<(), TextAnswer>
+    requires empty { problem.old ≡ with_variables blank start.variables }
+    requires short { length words.old ≤ 2 ^ 24 }
+    ensures { Gives (λ _. (problem.new, words.new)) result
         (problem_read (header_of start) end words.old) }
 {
-    let mut problem = Problem::new(alloc);
-    problem.widen(start.variables);
     let mut literals = Vec::new(alloc);
     let layout = ClauseLayout::Older(start.top);
     for _ in 0..start.clauses {
@@ -39,28 +40,41 @@ fn counted(
         )?;
         problem.add_literals(&mut literals, weight)?;
     }
-    Ok(problem)
+    Ok(())
 }
 
 /// A text of the older layout, after a `p` on this line.
-fn older(alloc: Global, mut words: Words<'_>, line: u64, end: u64) -> Result<Problem, TextAnswer>
-    requires { length words ≤ 2 ^ 24 }
-    ensures { Gives (λ problem. problem) result (older_read line end words.entry) }
+fn older(
+    alloc: Global,
+    problem: &mut Problem,
+    mut words: Words<'_>,
+    line: u64,
+    end: u64,
+) -> Result<(), TextAnswer>
+    requires empty { problem.old ≡ blank }
+    requires short { length words ≤ 2 ^ 24 }
+    ensures { Gives (λ _. problem.new) result (older_read line end words.entry) }
 {
     let start = header(&mut words, line, end)?;
-    let problem = counted(alloc, &mut words, start, end)?;
+    problem.widen(start.variables);
+    counted(alloc, problem, &mut words, start, end)?;
     match words.next() {
-        None => Ok(problem),
+        None => Ok(()),
         Some(word) => Err(TextAnswer::Bad(fault(TextKind::Extra, word.line))),
     }
 }
 
 /// A text of the layout of 2022. The problem is widened as larger literals come.
-fn headerless(alloc: Global, mut words: Words<'_>, end: u64) -> Result<Problem, TextAnswer>
-    requires { length words ≤ 2 ^ 24 }
-    ensures { Gives (λ problem. problem) result (headerless_read end words.entry) }
+fn headerless(
+    alloc: Global,
+    problem: &mut Problem,
+    mut words: Words<'_>,
+    end: u64,
+) -> Result<(), TextAnswer>
+    requires empty { problem.old ≡ blank }
+    requires short { length words ≤ 2 ^ 24 }
+    ensures { Gives (λ _. problem.new) result (headerless_read end words.entry) }
 {
-    let mut problem = Problem::new(alloc);
     let mut literals = Vec::new(alloc);
     let layout = ClauseLayout::WithoutHeader;
     while let Some(first) = words.next() {
@@ -69,22 +83,35 @@ fn headerless(alloc: Global, mut words: Words<'_>, end: u64) -> Result<Problem, 
         problem.widen(variables);
         problem.add_literals(&mut literals, weight)?;
     }
-    Ok(problem)
+    Ok(())
 }
 
-/// The problem of a text that was cut into words, in normal form, or the first fault of the text.
+/// A text that was cut into words, in the layout that its first word says.
 #[tactic(auto, unfolding(crate::specs::Cost::problem_of_words, crate::specs::Wcnf::reading_of_words))]
-pub fn read_wcnf_tokens(alloc: Global, text: &TokenText) -> Result<Problem, TextAnswer>
-    requires { length text.now.bytes ≤ 2 ^ 24 }
-    ensures { Gives (λ problem. problem) result (problem_of_words (words_of text.now)) }
+fn read_into(alloc: Global, problem: &mut Problem, text: &TokenText) -> Result<(), TextAnswer>
+    requires empty { problem.old ≡ blank }
+    requires short { length text.now.bytes ≤ 2 ^ 24 }
+    ensures { Gives (λ _. problem.new) result (problem_of_words (words_of text.now)) }
 {
     let mut words = text.words();
     let end = text.end_line();
     match words.next() {
         None => Err(TextAnswer::Bad(fault(TextKind::End, end))),
-        Some(first) if first.bytes == b"p".as_slice() => older(alloc, words, first.line, end),
-        Some(_) => headerless(alloc, text.words(), end),
+        Some(first) if first.bytes == b"p".as_slice() => older(
+            alloc, problem, words, first.line, end,
+        ),
+        Some(_) => headerless(alloc, problem, text.words(), end),
     }
+}
+
+/// The problem of a text that was cut into words, in normal form, or the first fault of the text.
+pub fn read_wcnf_tokens(alloc: Global, text: &TokenText) -> Result<Problem, TextAnswer>
+    requires { length text.now.bytes ≤ 2 ^ 24 }
+    ensures { Gives (λ problem. problem) result (problem_of_words (words_of text.now)) }
+{
+    let mut problem = Problem::new(alloc);
+    read_into(alloc, &mut problem, text)?;
+    Ok(problem)
 }
 
 /// The problem of a text, in normal form, or the first fault of the text.

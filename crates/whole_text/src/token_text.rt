@@ -11,11 +11,19 @@ use base::Items;
 pub type ByteList = Items<u8>;
 
 /// The words of a text: their bytes, one word right after another, and a token for each word.
-#[derive(Drop)]
 pub struct TokenText {
     pub bytes: ByteList,
     pub tokens: TokenList,
     pub ghost joined: { TakeAll tokens bytes } by { TakeAll-prop tokens bytes },
+}
+
+impl Drop for TokenText {
+    fn drop(self) {
+        let TokenText {
+            bytes: _bytes,
+            tokens: _tokens,
+        } = self;
+    }
 }
 
 impl TokenText {
