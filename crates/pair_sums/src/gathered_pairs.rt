@@ -17,11 +17,20 @@ use std::marker::Model;
 
 /// Couplers, which contracts see as a list of entries: first those that came in order, the last one
 /// with this number of its pair, and then all others.
-#[derive(Drop)]
 pub struct GatheredPairs {
     ordered: CouplerList,
     last: u64,
     others: Pairs,
+}
+
+impl Drop for GatheredPairs {
+    fn drop(self) {
+        let GatheredPairs {
+            ordered: _ordered,
+            last: _last,
+            others: _others,
+        } = self;
+    }
 }
 
 impl Model for GatheredPairs {
@@ -95,7 +104,11 @@ impl GatheredPairs {
         if self.others.len() > 0 {
             return self;
         }
-        let GatheredPairs { ordered, last, .. } = self;
+        let GatheredPairs {
+            ordered,
+            last,
+            others: _others,
+        } = self;
         GatheredPairs {
             ordered,
             last,
@@ -110,8 +123,8 @@ impl GatheredPairs {
     {
         let GatheredPairs {
             ordered,
+            last: _last,
             others,
-            ..
         } = self;
         joined(others, ordered)?.sorted(Arrival::Mixed)
     }
@@ -124,8 +137,8 @@ impl GatheredPairs {
     {
         let GatheredPairs {
             ordered,
+            last: _last,
             others,
-            ..
         } = self;
         if others.len() == 0 {
             return Ok(ordered);

@@ -16,12 +16,22 @@ use std::alloc::Global;
 use std::marker::Model;
 
 /// Couplers, which contracts see as a list of entries.
-#[derive(Drop)]
 pub struct ListedPairs {
     shape: Shape,
     codes: Vec<u64>,
     weights: WeightList,
     recent: Vec<u32>,
+}
+
+impl Drop for ListedPairs {
+    fn drop(self) {
+        let ListedPairs {
+            shape: _shape,
+            codes: _codes,
+            weights: _weights,
+            recent: _recent,
+        } = self;
+    }
 }
 
 impl Model for ListedPairs {

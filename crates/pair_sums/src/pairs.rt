@@ -1,5 +1,5 @@
 //! Couplers that are gathered one by one, more than one for some pairs.
-ghost use Rattle.std.specs.Prelude.{◌≡◌, ◌+◌, ◌++◌, ◌∷◌, [], ◌<◌, ◌≤◌, ◌^◌, All, IfOk, IfSome, List, OnOk, OnErr, length, map, slice_get, Some, unsigned_abs};
+ghost use Rattle.std.specs.Prelude.{◌≡◌, ◌+◌, ◌++◌, ◌∷◌, [], ◌<◌, ◌≤◌, ◌^◌, All, IfOk, IfSome, List, OnOk, OnErr, length, map, slice_get, Some, unsigned_abs, if◌then◌else◌};
 ghost use Rattle.std.specs.List.Sorted.{IsPermutation, IsNonDecreasingBy};
 ghost use Rattle.bits_model.specs.declared.output.Entry.{Entry};
 ghost use Rattle.bits_model.specs.Output.{weight_total};
@@ -108,6 +108,23 @@ fn with_longer(
     let mut wide = widened(alloc, shape, codes)?;
     wide.push(entry)?;
     Ok(HeldPairs::Wide(wide))
+}
+
+/// Appends a coupler, unless a node or its weight needs more bits, and says whether it did.
+#[inline(always)]
+fn push_packed(shape: Shape, codes: &mut Vec<u64>, entry: Entry) -> Result<bool, NoMemory>
+    ensures pushed { IfOk result (λ taken. map (unpacked shape) codes.new.items
+        ≡ (if taken then map (unpacked shape) codes.old.items ++ entry ∷ []
+        else map (unpacked shape) codes.old.items)) }
+    ensures unchanged { OnErr result (codes.new.items ≡ codes.old.items) }
+{
+    match packed(shape, entry.first, entry.second, entry.weight) {
+        Some(code) => {
+            codes.push(code)?;
+            Ok(true)
+        }
+        None => Ok(false),
+    }
 }
 
 /// Entries in the order of their pairs.
@@ -274,24 +291,25 @@ impl Pairs {
         ensures pushed { OnOk result (self.new ≡ self.old ++ entry ∷ []) }
         ensures unchanged { OnErr result (self.new ≡ self.old) }
     {
-        match &mut self.held {
+        let longer = match &mut self.held {
             HeldPairs::Packed(shape, codes) => {
-                match packed(*shape, entry.first, entry.second, entry.weight) {
-                    Some(code) => codes.push(code)?,
-                    None => {
-                        let longer = with_longer(self.alloc, *shape, codes, entry)?;
-                        self.held = longer;
-                    }
+                if push_packed(*shape, codes, entry)? {
+                    return Ok(());
                 }
+                with_longer(self.alloc, *shape, codes, entry)?
             }
             HeldPairs::Listed(pairs) => {
-                if !pairs.push(entry)? {
-                    let wide = with_wide(self.alloc, pairs, entry)?;
-                    self.held = HeldPairs::Wide(wide);
+                if pairs.push(entry)? {
+                    return Ok(());
                 }
+                HeldPairs::Wide(with_wide(self.alloc, pairs, entry)?)
             }
-            HeldPairs::Wide(pairs) => pairs.push(entry)?,
-        }
+            HeldPairs::Wide(pairs) => {
+                pairs.push(entry)?;
+                return Ok(());
+            }
+        };
+        self.held = longer;
         Ok(())
     }
 }

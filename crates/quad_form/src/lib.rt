@@ -6,7 +6,6 @@ mod flatten;
 mod laws;
 mod parts;
 mod quad;
-mod reduce;
 mod units;
 
 pub use flatten::Flatten;

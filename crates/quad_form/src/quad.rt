@@ -1,6 +1,8 @@
 //! Quadratic forms, and the models that are written for them.
+use crate::units::counted_weights;
 use base::{Figures, Items, NoMemory};
 use bits_model::{ChainList, CouplerList, EntryList, Kind, NodeWeights, OutputModel};
+use form_steps::Reduced;
 use std::alloc::Global;
 use std::marker::Model;
 
@@ -9,11 +11,20 @@ pub type NumberList = Items<i128>;
 
 /// A quadratic form over nodes that are 0 or 1: a constant, a weight for each node, and couplers in
 /// order, whose weights are not 0.
-#[derive(Drop)]
 pub struct Quad {
     pub constant: i128,
     pub diagonal: NumberList,
     pub couplers: CouplerList,
+}
+
+impl Drop for Quad {
+    fn drop(self) {
+        let Quad {
+            constant: _constant,
+            diagonal: _diagonal,
+            couplers: _couplers,
+        } = self;
+    }
 }
 
 impl Model for Quad {
@@ -44,10 +55,14 @@ impl Quad {
       ◌≤ℤ◌,
       IfOk,
       length,
+      ◌*◌,
+      neg_ℤ,
       pos,
       unsigned_abs,
     };
-    ghost use Rattle.quad_form.specs.Quads.{written_of};
+    ghost use Rattle.form_steps.specs.Relations.{Reduces};
+    ghost use Rattle.quad_form.specs.Quads.{form_of, quad_total, written_of};
+    ghost use Rattle.quad_form.specs.Units.{quad_unit, reduced, IsReducedAsWritten};
 
     /// The model of the form, whose energies count this unit: its constant is taken off the offset
     /// and the threshold. A form in another unit than 1 has no constant. The model takes the form's
@@ -84,6 +99,35 @@ impl Quad {
                 couplers,
             },
             chains: ChainList::empty(alloc),
+        })
+    }
+    /// The form whose weights are counted in their greatest unit, without the constant. The weights
+    /// are divided in place, or stay as they are in the unit 1.
+    pub fn reduce(self) -> Result<Reduced<Quad>, NoMemory>
+        ensures target { IfOk result (λ made. made.target ≡ reduced self) }
+        ensures unit { IfOk result (λ made. made.unit ≡ quad_unit self) }
+        ensures offset { IfOk result (λ made. made.offset ≡ neg_ℤ self.constant) }
+
+        ensures reduces { IfOk result (λ made.
+            Reduces (form_of self) (form_of made.target) made.unit made.offset) }
+        ensures total { IfOk result (λ made.
+            unsigned_abs made.unit * quad_total made.target ≤ quad_total self) }
+        ensures greatest { IfOk result (λ made. IsReducedAsWritten made.target made.unit) }
+    {
+        let Quad {
+            constant,
+            diagonal,
+            couplers,
+        } = self;
+        let counted = counted_weights(diagonal, couplers);
+        Ok(Reduced {
+            target: Quad {
+                constant: 0,
+                diagonal: counted.nodes,
+                couplers: counted.couplers,
+            },
+            unit: counted.unit,
+            offset: -constant,
         })
     }
 }
