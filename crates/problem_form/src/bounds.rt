@@ -43,7 +43,7 @@ impl Problem {
 
     /// The constant, the positive coefficients and the soft weights: no whole cost is greater where
     /// there is no most.
-    fn own_upper(&self) -> i128
+    pub fn own_upper(&self) -> i128
         ensures value { result ≡ own_upper self.now }
         ensures small { unsigned_abs result < 2 ^ 100 }
     {
