@@ -57,8 +57,8 @@ made_relaxes link p third threshold fit made high =
     λ t z. Relaxes (problems.form_of p) (tables.form_of t.content) (first_bits link) (pos 1) (record { scale = pos 1; offset = pos 0; threshold = z }) in
     subst (λ t. Q t threshold) (sym made) (subst (λ z. Q (kept_at_once (image p)) z) (sym high) (penalty_relaxes link p fit))
 
-pub threshold_within : (p : ProblemContent) (threshold : ℤ) → limit_fault normals.Literal p ≡ None → threshold ≡ upper p
+pub threshold_within : (p : ProblemContent) (threshold : ℤ) → Admits p → threshold ≡ upper p
     → unsigned_abs threshold ≤ 2 ^ 64
-threshold_within p threshold none high =
-    let limits = within_limits p none in
-    omega (arith, ap unsigned_abs high, upper_within p, limits.weight)
+threshold_within p threshold admitted high =
+    let limits = within_limits p admitted.within in
+    omega (arith, ap unsigned_abs high, upper_within p admitted.normal (omega (arith, limits.weight)))

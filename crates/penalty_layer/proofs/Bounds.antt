@@ -1,6 +1,6 @@
 -- What the limits of a problem say of its table.
-use Rattle.std.proofs.Common.{◌≡◌, ℕ, ◌+◌, ◌-◌, ◌*◌, ◌^◌, ◌≤◌, max, min, unsigned_abs, Bool, true, false, cond, ltb, Option, Some, None, unwrap_or, List, [], ◌∷◌, ◌++◌, length, map, fold, count_by, append_assoc, subst, refl, sym, ap, ◌∙◌, arith, inl, inr}
-use Rattle.std.specs.Prelude.{is_none}
+use Rattle.std.proofs.Common.{◌≡◌, ℕ, ◌+◌, ◌-◌, ◌*◌, ◌^◌, ◌≤◌, max, min, ℤ, int_lt, unsigned_abs, Bool, true, false, cond, ltb, Option, Some, None, unwrap_or, List, [], ◌∷◌, ◌++◌, length, map, fold, count_by, append_assoc, subst, refl, sym, ap, ◌∙◌, arith, inl, inr}
+use Rattle.std.specs.Prelude.{is_none, if◌then◌else◌}
 use Rattle.std.specs.List.{sum_by, AllByRecursion}
 use Rattle.std.proofs.lemmas.Int.{ints}
 use Rattle.std.proofs.lemmas.Bool.{cases_lt, lt-ltb}
@@ -10,8 +10,8 @@ use Rattle.problem_form.specs.declared.limits.LimitKind.TheVariants.{Variables, 
 use Rattle.problem_form.specs.declared.terms.Product.{Product}
 use Rattle.problem_form.specs.declared.terms.Clause.{Clause}
 use Rattle.problem_form.specs.declared.limits.Normal.TheVariants as normals
-use Rattle.problem_form.specs.Problems.{ProblemContent, products_total, soft_weight}
-use Rattle.problem_form.specs.Limits.{Counted, first_passed, limit_fault, degree, degrees, pairs, weight, penalty, reach, upper, most_degree}
+use Rattle.problem_form.specs.Problems.{ProblemContent, IsNormal, products_total, soft_weight}
+use Rattle.problem_form.specs.Limits.{Counted, first_passed, limit_fault, degree, degrees, pairs, weight, penalty, reach, own_upper, lesser_of, upper, most_degree}
 use Rattle.problem_form.proofs.CountedNumbers.{positive_total-le}
 use Rattle.penalty_layer.specs.Weights.{clause_weights}
 
@@ -124,5 +124,17 @@ pub all_within : (p : ProblemContent)
     ≤ weight p
 all_within p = omega (arith, clause_weights_are (penalty p) p.clauses)
 
-pub upper_within : (p : ProblemContent) → unsigned_abs (upper p) ≤ weight p
-upper_within p = omega (arith, ints, positive_total-le p.objective)
+-- the upper bound is as small as that without the most and the most are
+lesser-small : (n : ℕ) (most : Option ℤ) (u : ℤ) → unsigned_abs u ≤ n
+    → ((m : ℤ) → most ≡ Some m → unsigned_abs m ≤ n) → unsigned_abs (lesser_of most u) ≤ n
+lesser-small n None u small most_small = small
+lesser-small n (Some most) u small most_small = go (int_lt most u)
+  where
+    go : (less : Bool) → unsigned_abs (if less then most else u) ≤ n
+    go true = most_small most refl
+    go false = small
+
+pub upper_within : (p : ProblemContent) → IsNormal p → weight p ≤ 2 ^ 64 → unsigned_abs (upper p) ≤ 2 ^ 64
+upper_within p normal small =
+    lesser-small (2 ^ 64) p.most (own_upper p) (omega (arith, ints, positive_total-le p.objective))
+    (λ m is. omega (arith, normal.most m is))

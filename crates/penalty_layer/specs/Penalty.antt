@@ -3,8 +3,9 @@
 --
 -- With A the sum of the sizes of the objective's coefficients and of the soft weights, no
 -- assignment gains more than A by breaking a hard clause or a constraint, so a penalty of A + 1 for
--- each puts what breaks one above every whole cost. What a sum may have above its bound is taken
--- off by slack bits. See Boros and Hammer, Pseudo-Boolean optimization (2002).
+-- each puts what breaks one above every whole cost. Where an assignment may cost no more than a
+-- given most, a penalty that lifts the least cost above that does as well. What a sum may have above
+-- its bound is taken off by slack bits. See Boros and Hammer, Pseudo-Boolean optimization (2002).
 use Rattle.std.specs.Prelude.{◌≡◌, ℕ, ◌+◌, pos, not, Bool, List, [], ◌∷◌, ◌++◌, map, unwrap_or, None}
 use Rattle.std.specs.List.{sum_by, flat_map}
 use Rattle.base.specs.declared.costs.Figures.{Figures}
@@ -51,9 +52,8 @@ node_count p = p.variables + sum_by slack_bits p.constraints
 abbrev pub image : ProblemContent → TableContent
 image p = record { width = node_count p; terms = with_additions [] (contributions p) }
 
--- Nothing is scaled or moved, and the threshold is the upper bound: every state that breaks a hard
--- clause or a constraint costs more than it, and the extension of an assignment that breaks none
--- does not.
+-- Nothing is scaled or moved, and the threshold is the upper bound: every state whose assignment has
+-- an infinite cost costs more than it, and the extension of an assignment of a whole cost does not.
 abbrev pub figures : ProblemContent → Figures
 figures p = record { scale = pos 1; offset = pos 0; threshold = upper p }
 

@@ -20,7 +20,8 @@ use term_table::{GatheredTerms, Table};
 /// first bits.
 ///
 /// The penalty is one more than the sum of the sizes of the objective's coefficients and of the
-/// soft weights (Boros and Hammer, Pseudo-Boolean optimization, 2002).
+/// soft weights (Boros and Hammer, Pseudo-Boolean optimization, 2002). Where an assignment may cost no
+/// more than a given most, it is no more than what lifts the least cost above that.
 #[derive(Drop)]
 pub struct Penalty;
 

@@ -9,7 +9,7 @@ use Rattle.problem_form.specs.declared.terms.Product.{Product}
 use Rattle.problem_form.specs.declared.terms.Clause.{Clause}
 use Rattle.literal_lists.specs.declared.literal.Literal.{Literal}
 use Rattle.literal_lists.specs.Literals.{all_hold}
-use Rattle.problem_form.specs.Problems.{ProblemContent, fails, fails_hard, problem_cost, problem_total, product_value, sum_of, is_violated, soft_cost, soft_weight, products_total}
+use Rattle.problem_form.specs.Problems.{ProblemContent, fails, fails_hard, own_cost, problem_total, product_value, sum_of, is_violated, soft_cost, soft_weight, products_total}
 use Rattle.problem_form.specs.NormalForm.{is_empty, product_constant}
 
 if_so-size : (b : Bool) (c : ℤ) → unsigned_abs (if_so b c) ≤ unsigned_abs c
@@ -50,11 +50,11 @@ soft_costs-size x clauses = total_within (soft_cost x) soft_weight clauses (clau
 
 -- ---- the cost, where nothing fails
 
-pub problem_cost-whole : (p : ProblemContent) (x : List Bool) (value : ℤ)
+pub own_cost-whole : (p : ProblemContent) (x : List Bool) (value : ℤ)
     → list_any (fails_hard x) p.clauses ≡ false → list_any (fails x) p.constraints ≡ false
     → value ≡ p.constant +ℤ sum_of x p.objective +ℤ total_by (soft_cost x) p.clauses
-    → Whole value ≡ problem_cost p x
-problem_cost-whole p x value hard constraints e = rw (hard, constraints) (ap Whole e)
+    → Whole value ≡ own_cost p x
+own_cost-whole p x value hard constraints e = rw (hard, constraints) (ap Whole e)
 
 -- the parts of the whole cost fit, one after the other
 pub cost_parts : (p : ProblemContent) (x : List Bool)

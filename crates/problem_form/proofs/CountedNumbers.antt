@@ -1,8 +1,9 @@
 -- The numbers that are counted against limits, and arithmetic that stops at the greatest of 128
 -- bits.
-use Rattle.std.proofs.Common.{◌≡◌, Bool, true, false, cond, leb, ℕ, zero, suc, ◌+◌, ◌-◌, ◌*◌, ◌<◌, ◌≤◌, ◌^◌, min, arith, refl, sym, ap, ◌∙◌, inl, inr, List, [], ◌∷◌, fold, ℤ, pos, negsuc, ◌-ℤ◌, unsigned_abs}
+use Rattle.std.proofs.Common.{◌≡◌, Bool, true, false, cond, leb, ℕ, zero, suc, ◌+◌, ◌-◌, ◌*◌, ◌<◌, ◌≤◌, ◌^◌, min, max, arith, refl, sym, ap, ◌∙◌, inl, inr, List, [], ◌∷◌, fold, ℤ, pos, negsuc, ◌-ℤ◌, unsigned_abs}
+use Rattle.std.specs.Int.{int_max}
 use Rattle.std.specs.List.{flat_map}
-use Rattle.std.proofs.lemmas.Int.{ints}
+use Rattle.std.proofs.lemmas.Int.{ints, int_max_is}
 use Rattle.std.proofs.lemmas.Bool.{cases_lt, le-leb, lt-leb}
 use Rattle.std.proofs.lemmas.List.Sums.{fold-append, sum_by-le-sum_by}
 use Rattle.std.proofs.Math.Nat.{pow-zero, pow-suc, pow-le-pow_right}
@@ -61,6 +62,11 @@ answered_number-power e h =
 positive_part-le : (z : ℤ) → positive_part z ≤ unsigned_abs z
 positive_part-le (pos n) = omega arith
 positive_part-le (negsuc n) = omega arith
+
+-- a number that is raised to 1, where it is lower
+pub positive_part-raised : (z : ℤ) → int_max z (pos 1) ≡ pos (max 1 (positive_part z))
+positive_part-raised (pos n) = omega (arith, ints, int_max_is (pos n) (pos 1))
+positive_part-raised (negsuc n) = omega (arith, ints, int_max_is (negsuc n) (pos 1))
 
 pub positive_total-le : (products : List Product) → positive_total products ≤ products_total products
 positive_total-le products =

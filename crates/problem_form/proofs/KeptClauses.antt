@@ -112,6 +112,7 @@ with_clause-normal p c normal within = record {
   clauses = All-append (IsNormalClause p.variables) p.clauses (kept_clause c) normal.clauses
       (kept_clause-normal p.variables c within);
   constraints = normal.constraints;
+  most = normal.most;
 }
 
 -- ---- sizes

@@ -170,6 +170,7 @@ with_product-sound p t sound within small = (
         sound.0.objective (kept_product-normal p.variables t within);
     clauses = sound.0.clauses;
     constraints = sound.0.constraints;
+    most = sound.0.most;
   },
   omega (arith, with_product-total p t),
 )
@@ -196,6 +197,7 @@ with_constraint-sound p k sound within small =
         constraints = All-append Normal p.constraints (normal_constraint k ∷ []) sound.0.constraints
             (All-cons Normal (normal_constraint k) []
             (kept_products-normal p.variables k.products within) (All-nil _));
+        most = sound.0.most;
       },
       omega (arith, with_constraint-total p k),
     )

@@ -20,7 +20,7 @@ use Rattle.problem_form.specs.declared.terms.Product.{Product}
 use Rattle.problem_form.specs.declared.terms.Clause.{Clause}
 use Rattle.problem_form.specs.declared.terms.Constraint.{Constraint}
 use Rattle.literal_lists.specs.Literals.{holds, all_hold, some_holds, are_opposite, has_clash, literal_set}
-use Rattle.problem_form.specs.Problems.{product_value, sum_of, soft_cost, fails_hard, fails}
+use Rattle.problem_form.specs.Problems.{product_value, sum_of, soft_cost, fails_hard, fails, cut_off}
 use Rattle.problem_form.specs.NormalForm.{is_empty, kept_product, product_constant, is_plain_cost, kept_clause, weight_constant, clause_constant, normal_constraint, NormalFormKeepsCosts}
 use Rattle.literal_lists.proofs.LiteralSets.{list_any-literal_set, list_all-literal_set}
 
@@ -254,6 +254,7 @@ normal_form-cost p x =
     +ℤ total_by (soft_cost x) (flat_map kept_clause p.clauses)
     ≡ p.constant +ℤ sum_of x p.objective +ℤ total_by (soft_cost x) p.clauses =
     omega (arith, ints, sum_of-kept x p.objective, soft_cost-kept x p.clauses) in
-    λ i. if list_any-kept x p.clauses i || list_any-constraints x p.constraints i
+    λ i. cut_off p.most
+    (if list_any-kept x p.clauses i || list_any-constraints x p.constraints i
     then Infinite
-    else Whole (whole i)
+    else Whole (whole i))

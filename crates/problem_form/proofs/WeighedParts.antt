@@ -1,5 +1,5 @@
 -- What is made of two lists, place by place: its length, an element, and one more.
-use Rattle.std.proofs.Common.{◌≡◌, ◌≢◌, ℕ, zero, suc, ◌+◌, ◌<◌, List, [], ◌∷◌, ◌++◌, length, get_or, refl, ap, arith, Option, Some, None, unwrap_or, map, neg_ℤ, ℤ, unsigned_abs, All}
+use Rattle.std.proofs.Common.{◌≡◌, ◌≢◌, ℕ, zero, suc, ◌<◌, List, [], ◌∷◌, ◌++◌, length, get_or, refl, ap, arith, Option, Some, None, unwrap_or, map, neg_ℤ, ℤ, unsigned_abs, All}
 use Rattle.std.specs.List.{AllByRecursion}
 use Rattle.std.proofs.lemmas.List.Elements.{All-from_recursion, recursion_from_All}
 use Rattle.literal_lists.specs.declared.literal.Literal.{Literal}

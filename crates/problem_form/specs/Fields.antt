@@ -11,6 +11,7 @@ content_within p = record {
   objective = p.objective;
   clauses = p.clauses;
   constraints = p.constraints;
+  most = p.most;
 }
 
 -- normal form, and sizes that sum to below 2^100, so that sums over a problem fit 128 bits

@@ -1,5 +1,5 @@
 -- The numbers of a problem that are counted against limits, as mathematical whole numbers.
-use Rattle.std.specs.Prelude.{ℕ, zero, suc, ◌+◌, ◌-◌, ◌*◌, ◌^◌, ◌<◌, ◌≤◌, min, max, ℤ, pos, ◌+ℤ◌, ◌-ℤ◌, unsigned_abs, not, List, [], ◌∷◌, ◌++◌, length, Option, Some, None, is_none, map, fold, count_by, nat_lt, nat_le, if◌then◌else◌}
+use Rattle.std.specs.Prelude.{ℕ, zero, suc, ◌+◌, ◌-◌, ◌*◌, ◌^◌, ◌<◌, ◌≤◌, min, max, ℤ, pos, ◌+ℤ◌, ◌-ℤ◌, unsigned_abs, int_lt, not, List, [], ◌∷◌, ◌++◌, length, Option, Some, None, is_none, map, fold, count_by, nat_lt, nat_le, if◌then◌else◌}
 use Rattle.std.specs.List.{sum_by, flat_map}
 use Rattle.base.specs.Sums.{positive_part}
 use Rattle.problem_form.specs.declared.limits.LimitKind.{LimitKind}
@@ -22,13 +22,35 @@ cost_size p = products_total p.objective + sum_by soft_weight p.clauses
 abbrev pub positive_total : List Product → ℕ
 positive_total products = sum_by (λ t. positive_part t.coefficient) products
 
+-- an upper bound of what an assignment costs without the most: the constant, the positive
+-- coefficients and the soft weights
+abbrev pub own_upper : ProblemContent → ℤ
+own_upper p = p.constant +ℤ pos (positive_total p.objective + sum_by soft_weight p.clauses)
+
+-- no assignment costs less, with or without what it violates: the constant and the negative
+-- coefficients
+abbrev pub lower : ProblemContent → ℤ
+lower p = own_upper p -ℤ pos (cost_size p)
+
+-- the lesser of a number and the most that is given
+abbrev pub lesser_of : Option ℤ → ℤ → ℤ
+lesser_of None u = u
+lesser_of (Some most) u = if int_lt most u then most else u
+
 -- an upper bound of every whole cost
 abbrev pub upper : ProblemContent → ℤ
-upper p = p.constant +ℤ pos (positive_total p.objective + sum_by soft_weight p.clauses)
+upper p = lesser_of p.most (own_upper p)
+
+-- what lifts a cost of at least `least` above all that can be gained and, where a most is given that
+-- is less, above that
+abbrev pub penalty_above : Option ℤ → ℤ → ℕ → ℕ
+penalty_above None least gain = gain + 1
+penalty_above (Some most) least gain =
+    max 1 (min (gain + 1) (positive_part (most -ℤ least +ℤ pos 1)))
 
 -- what one violation adds at least
 abbrev pub penalty : ProblemContent → ℕ
-penalty p = cost_size p + 1
+penalty p = penalty_above p.most (lower p) (cost_size p)
 
 -- ---- what is counted
 

@@ -78,6 +78,7 @@ normal_form p = record {
   objective = flat_map kept_product p.objective;
   clauses = flat_map kept_clause p.clauses;
   constraints = map normal_constraint p.constraints;
+  most = p.most;
 }
 
 -- the normal form costs what the problem as written costs, under every assignment
@@ -89,11 +90,22 @@ NormalFormKeepsCosts =
 
 -- a problem of no variables that says nothing
 abbrev pub blank : ProblemContent
-blank = record { variables = 0; constant = pos 0; objective = []; clauses = []; constraints = [] }
+blank = record {
+  variables = 0;
+  constant = pos 0;
+  objective = [];
+  clauses = [];
+  constraints = [];
+  most = None;
+}
 
 -- a problem with so many variables
 abbrev pub with_variables : ProblemContent → ℕ → ProblemContent
 with_variables p variables = record p { variables = variables }
+
+-- a problem whose assignments may cost at most this, where it is given
+abbrev pub with_most : ProblemContent → Option ℤ → ProblemContent
+with_most p most = record p { most = most }
 
 -- a problem in normal form, with one more product as written
 abbrev pub with_product : ProblemContent → Product → ProblemContent

@@ -1,5 +1,6 @@
 -- What a problem says, as it is written or in normal form: its cost and its sizes.
-use Rattle.std.specs.Prelude.{◌≡◌, ◌≢◌, ℕ, ◌+◌, ◌^◌, ◌<◌, ℤ, pos, ◌+ℤ◌, neg_ℤ, unsigned_abs, int_lt, Bool, not, ◌&&◌, ◌||◌, List, [], length, Some, unwrap_or, is_none, All, if◌then◌else◌}
+use Rattle.std.specs.Prelude.{◌≡◌, ◌≢◌, ℕ, ◌+◌, ◌^◌, ◌<◌, ℤ, pos, ◌+ℤ◌, neg_ℤ, unsigned_abs, int_lt, Bool, not, ◌&&◌, ◌||◌, List, [], length, Some, None, unwrap_or, is_none, All, if◌then◌else◌}
+use Rattle.std.specs.declared.option.Option.{Option}
 use Rattle.std.specs.List.{list_any, sum_by}
 use Rattle.std.specs.Ordering.{int_eq}
 use Rattle.base.specs.Sums.{total_by, if_so}
@@ -11,13 +12,15 @@ use Rattle.problem_form.specs.declared.terms.Clause.{Clause}
 use Rattle.problem_form.specs.declared.terms.Constraint.{Constraint}
 use Rattle.literal_lists.specs.Literals.{all_hold, some_holds, IsLiteralSet}
 
--- variables, a constant, products that are added, clauses and constraints that are to hold
+-- variables, a constant, products that are added, clauses and constraints that are to hold, and where
+-- there is one the most that an assignment may cost
 pub record ProblemContent : Type 0 where
   pub variables : ℕ
   pub constant : ℤ
   pub objective : List Product
   pub clauses : List Clause
   pub constraints : List Constraint
+  pub most : Option ℤ
 
 -- ---- its cost
 
@@ -58,11 +61,21 @@ fails x k =
 
 -- infinite where a hard clause or a constraint fails; else the constant, the true products and the
 -- violated soft clauses
-abbrev pub problem_cost : ProblemContent → List Bool → Cost
-problem_cost p x =
+abbrev pub own_cost : ProblemContent → List Bool → Cost
+own_cost p x =
     if list_any (fails_hard x) p.clauses || list_any (fails x) p.constraints
     then Infinite
     else Whole (p.constant +ℤ sum_of x p.objective +ℤ total_by (soft_cost x) p.clauses)
+
+-- a cost that is whole and above the most that is given is infinite
+abbrev pub cut_off : Option ℤ → Cost → Cost
+cut_off None c = c
+cut_off (Some most) Infinite = Infinite
+cut_off (Some most) (Whole v) = if int_lt most v then Infinite else Whole v
+
+-- what the problem says, and infinite above the most that an assignment may cost
+abbrev pub problem_cost : ProblemContent → List Bool → Cost
+problem_cost p x = cut_off p.most (own_cost p x)
 
 -- the problem as a form: its bits and its cost
 abbrev pub form_of : ProblemContent → Form
@@ -108,8 +121,9 @@ pub record IsNormalClause (variables : ℕ) (c : Clause) : Type 0 where
   pub set : IsLiteralSet variables c.literals
   pub weighty : (w : ℕ) → c.weight ≡ Some w → (0 < w) × (c.literals ≢ [])
 
--- all products, clauses and constraints are in normal form
+-- all products, clauses and constraints are in normal form, and the most is a number of 64 bits
 pub record IsNormal (p : ProblemContent) : Type 0 where
   pub objective : All (IsNormalProduct p.variables) p.objective
   pub clauses : All (IsNormalClause p.variables) p.clauses
   pub constraints : All (λ k. All (IsNormalProduct p.variables) k.products) p.constraints
+  pub most : (n : ℤ) → p.most ≡ Some n → unsigned_abs n < 2 ^ 64

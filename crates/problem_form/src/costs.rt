@@ -3,7 +3,7 @@ ghost use Rattle.std.specs.Prelude.{◌≡◌, ◌<◌, ◌^◌};
 ghost use Rattle.std.specs.List.{list_any, sum_by};
 ghost use Rattle.base.specs.Sums.{total_by};
 ghost use Rattle.literal_lists.specs.Literals.{all_hold, some_holds};
-ghost use Rattle.problem_form.specs.Problems.{constraint_total, fails, fails_hard, form_of, problem_size, problem_total, product_value, products_total, soft_cost, soft_weight, sum_of};
+ghost use Rattle.problem_form.specs.Problems.{constraint_total, cut_off, fails, fails_hard, form_of, own_cost, problem_size, problem_total, product_value, products_total, soft_cost, soft_weight, sum_of};
 
 use crate::clause_list::{ClauseList, ClauseRef};
 use crate::constraint_list::{ConstraintList, ConstraintRef};
@@ -109,6 +109,32 @@ fn a_constraint_fails(constraints: &ConstraintList, x: &[bool]) -> bool
     false
 }
 
+impl Problem {
+    /// What an assignment costs, whatever the most is that it may cost.
+    pub fn own_cost(&self, x: &[bool]) -> Cost
+        ensures { result ≡ own_cost self.now x.now }
+    {
+        if a_hard_clause_fails(&self.clauses, x) {
+            return Cost::Infinite;
+        }
+        if a_constraint_fails(&self.constraints, x) {
+            return Cost::Infinite;
+        }
+        let sum = sum_of_products(self.objective.iter(), x);
+        Cost::Whole(self.constant + sum + soft_costs(&self.clauses, x))
+    }
+}
+
+/// A cost that is whole and above the most that is given is infinite.
+fn cut_off(most: Option<i128>, cost: Cost) -> Cost
+    ensures { result ≡ cut_off most cost }
+{
+    match (most, cost) {
+        (Some(most), Cost::Whole(value)) if most < value => Cost::Infinite,
+        _ => cost,
+    }
+}
+
 impl Costed for Problem {
     ghost form = { form_of };
 
@@ -121,13 +147,6 @@ impl Costed for Problem {
     }
 
     fn cost(&self, x: &[bool]) -> Cost {
-        if a_hard_clause_fails(&self.clauses, x) {
-            return Cost::Infinite;
-        }
-        if a_constraint_fails(&self.constraints, x) {
-            return Cost::Infinite;
-        }
-        let sum = sum_of_products(self.objective.iter(), x);
-        Cost::Whole(self.constant + sum + soft_costs(&self.clauses, x))
+        cut_off(self.most, self.own_cost(x))
     }
 }

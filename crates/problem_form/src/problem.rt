@@ -1,6 +1,6 @@
 //! A problem in normal form.
-ghost use Rattle.std.specs.Prelude.{◌≡◌, ◌+◌, ◌<◌, ◌≤◌, ◌^◌, All, OnOk, OnErr, unsigned_abs, unwrap_or, []};
-ghost use Rattle.problem_form.specs.NormalForm.{blank, with_variables, with_clause, with_constraint, with_product};
+ghost use Rattle.std.specs.Prelude.{◌≡◌, ◌+◌, ◌<◌, ◌≤◌, ◌^◌, All, IfSome, OnOk, OnErr, unsigned_abs, unwrap_or, []};
+ghost use Rattle.problem_form.specs.NormalForm.{blank, with_variables, with_most, with_clause, with_constraint, with_product};
 ghost use Rattle.problem_form.specs.Problems.{constraint_total, problem_total};
 
 use crate::clause_list::ClauseList;
@@ -15,13 +15,15 @@ use std::alloc::Global;
 use std::marker::Model;
 
 /// A problem in normal form: its cost is the constant, the products that are true and the soft
-/// clauses that are violated, and it is infinite where a hard clause or a constraint fails.
+/// clauses that are violated, and it is infinite where a hard clause or a constraint fails, and above
+/// the most that an assignment may cost, where there is one.
 pub struct Problem {
     pub variables: u64,
     pub constant: i128,
     pub objective: ProductList,
     pub clauses: ClauseList,
     pub constraints: ConstraintList,
+    pub most: Option<i128>,
 }
 
 // an owner's end lets it go by one call
@@ -33,6 +35,7 @@ impl Drop for Problem {
             objective: _objective,
             clauses: _clauses,
             constraints: _constraints,
+            most: _most,
         } = self;
     }
 }
@@ -60,6 +63,7 @@ impl Problem {
             objective: ProductList::empty(alloc),
             clauses: ClauseList::empty(alloc),
             constraints: ConstraintList::empty(alloc),
+            most: None,
         }
     }
 
@@ -69,6 +73,14 @@ impl Problem {
         ensures { self.new ≡ with_variables self.old variables }
     {
         self.variables = variables;
+    }
+
+    /// Gives the problem the most that an assignment may cost: one that costs more is infeasible.
+    pub fn cut_off(&mut self, most: Option<i128>)
+        requires { IfSome most (λ n. unsigned_abs n < 2 ^ 64) }
+        ensures { self.new ≡ with_most self.old most }
+    {
+        self.most = most;
     }
 
     /// Adds the product of literals as written to the objective, in normal form. The literals are

@@ -15,7 +15,7 @@ use Rattle.problem_form.specs.declared.terms.Product.{Product}
 use Rattle.problem_form.specs.declared.terms.Clause.{Clause}
 use Rattle.problem_form.specs.declared.terms.Constraint.{Constraint}
 use Rattle.literal_lists.specs.Literals.{holds, all_hold, some_holds}
-use Rattle.problem_form.specs.Problems.{ProblemContent, IsNormal, IsNormalProduct, IsNormalClause, sum_of, soft_weight, soft_cost, fails_hard, fails, problem_cost}
+use Rattle.problem_form.specs.Problems.{ProblemContent, IsNormal, IsNormalProduct, IsNormalClause, sum_of, soft_weight, soft_cost, fails_hard, fails, cut_off, problem_cost}
 
 -- the first n bits of the two states are the same
 abbrev pub Agrees : ℕ → List Bool → List Bool → Type 0
@@ -131,7 +131,8 @@ problem_cost-agrees x y p normal same =
     let products = products-within n p.objective normal.objective in
     let clauses = clauses-within n p.clauses normal.clauses in
     let constraints = constraints-within n p.constraints normal.constraints in
-    λ i. if hard-agrees n x y p.clauses same clauses i || fails-agrees n x y p.constraints same constraints i
+    λ i. cut_off p.most
+    (if hard-agrees n x y p.clauses same clauses i || fails-agrees n x y p.constraints same constraints i
     then Infinite
     else Whole (p.constant +ℤ sum_of-agrees n x y p.objective same products i
-    +ℤ soft-agrees n x y p.clauses same clauses i)
+    +ℤ soft-agrees n x y p.clauses same clauses i))

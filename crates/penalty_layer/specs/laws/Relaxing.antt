@@ -1,15 +1,17 @@
 -- The table of a problem relaxes it, and extensions are least. Nothing here has to be believed.
 --
--- The table costs what the problem's whole cost is, and the squares. Where the problem's cost is
--- infinite, a hard clause or a constraint adds at least the penalty, which is one more than all
--- that can be gained elsewhere: so the state lies above the threshold.
-use Rattle.std.proofs.Common.{◌≡◌, ℕ, ℤ, pos, ◌+ℤ◌, ◌-ℤ◌, ◌≤ℤ◌, ◌<ℤ◌, Bool, true, false, not, ◌||◌, cond, unwrap_or, List, [], ◌∷◌, length, map, take, refl, arith, sym, ap, ◌∙◌, subst}
+-- The table costs what the problem's own cost is, where that is whole, and the squares. Where a hard
+-- clause or a constraint is broken, it adds at least the penalty, which lifts the least cost above
+-- the threshold. A cost above the most is above the threshold by itself.
+use Rattle.std.proofs.Common.{◌≡◌, ℕ, ◌+◌, min, max, ◌⊎◌, inl, inr, ℤ, pos, negsuc, ◌+ℤ◌, ◌-ℤ◌, ◌≤ℤ◌, ◌<ℤ◌, int_lt, Bool, true, false, not, ◌||◌, cond, Option, Some, None, unwrap_or, List, [], ◌∷◌, length, map, take, refl, arith, sym, ap, ◌∙◌, subst}
+use Rattle.std.specs.Prelude.{if◌then◌else◌}
 use Rattle.std.specs.List.{list_any, sum_by, flat_map}
 use Rattle.std.proofs.lemmas.Int.{ints}
 use Rattle.std.proofs.lemmas.List.{take_all, length-take, length-append, get_or-take, take-append-le}
 use Rattle.std.proofs.lemmas.List.Sums.{sum_by-cons}
-use Rattle.base.specs.Sums.{total_by, if_so}
+use Rattle.base.specs.Sums.{total_by, if_so, positive_part}
 use Rattle.base.proofs.Totals.{total_by-append}
+use Rattle.base.specs.declared.costs.Cost.{Cost}
 use Rattle.base.specs.declared.costs.Cost.TheVariants.{Whole, Infinite}
 use Rattle.form_steps.specs.declared.layer.BitsLink.{BitsLink}
 use Rattle.base.specs.Costs.{IsNeverInfinite}
@@ -18,9 +20,9 @@ use Rattle.form_steps.specs.laws.Plain.{relaxes_in_one}
 use Rattle.form_steps.specs.Links.{first_bits, HasFirstBits}
 use Rattle.problem_form.specs.declared.terms.Clause.{Clause}
 use Rattle.problem_form.specs.declared.terms.Constraint.{Constraint}
-use Rattle.problem_form.specs.Problems.{ProblemContent, sum_of, soft_cost, fails_hard, fails, problem_cost}
+use Rattle.problem_form.specs.Problems.{ProblemContent, sum_of, soft_cost, fails_hard, fails, own_cost, cut_off, problem_cost}
 use Rattle.problem_form.specs.Problems as problems
-use Rattle.problem_form.specs.Limits.{penalty, upper, slack_range, slack_bits}
+use Rattle.problem_form.specs.Limits.{cost_size, own_upper, lower, lesser_of, upper, penalty_above, penalty, slack_range, slack_bits}
 use Rattle.term_table.specs.Terms.{term_cost, terms_cost}
 use Rattle.term_table.specs.Tables as tables
 use Rattle.term_table.proofs.Additions.{terms_cost-with_additions}
@@ -61,17 +63,16 @@ image_value y p =
     ∙ (λ i. plain_value y p i
     +ℤ constraint_terms-cost y (penalty p) p.variables p.constraints i)
 
--- What breaks a hard clause or a constraint lies above the threshold. The penalty is more than the
--- objective and the soft clauses can lower the cost by.
-broken_above : (y : List Bool) (p : ProblemContent)
+-- what breaks a hard clause or a constraint costs at least the least and the penalty
+broken_lifted : (y : List Bool) (p : ProblemContent)
     → (list_any (fails_hard y) p.clauses || list_any (fails y) p.constraints) ≡ true
-    → upper p <ℤ terms_cost y (image p).terms
-broken_above y p broken =
+    → (lower p +ℤ pos (penalty p)) ≤ℤ terms_cost y (image p).terms
+broken_lifted y p broken =
     go (list_any (fails_hard y) p.clauses) broken (clauses_at_least y (penalty p) p.clauses)
   where
     go : (hard : Bool) → (hard || list_any (fails y) p.constraints) ≡ true
         → (hard ≡ true → pos (penalty p) ≤ℤ total_by (clause_cost y (penalty p)) p.clauses)
-        → upper p <ℤ terms_cost y (image p).terms
+        → (lower p +ℤ pos (penalty p)) ≤ℤ terms_cost y (image p).terms
     go true e hard =
         omega (
           arith,
@@ -91,6 +92,28 @@ broken_above y p broken =
           squares_at_least y (penalty p) p.variables p.constraints e,
         )
 
+-- The penalty lifts the least cost above the threshold. A gain and one more lift it above all that
+-- there is without the most; where less does, it is lifted above the most.
+lifted_above : (most : Option ℤ) (u : ℤ) (gain : ℕ)
+    → lesser_of most u <ℤ ((u -ℤ pos gain) +ℤ pos (penalty_above most (u -ℤ pos gain) gain))
+lifted_above None u gain = omega (arith, ints)
+lifted_above (Some most) u gain = go (int_lt most u) refl (most -ℤ (u -ℤ pos gain) +ℤ pos 1) refl
+  where
+    go : (less : Bool) → int_lt most u ≡ less → (lift : ℤ) → (most -ℤ (u -ℤ pos gain) +ℤ pos 1) ≡ lift
+        → (if less then most else u)
+        <ℤ ((u -ℤ pos gain) +ℤ pos (max 1 (min (gain + 1) (positive_part lift))))
+    go true e (pos n) is = omega (arith, ints)
+    go true e (negsuc n) is = omega (arith, ints)
+    go false e (pos n) is = omega (arith, ints)
+    go false e (negsuc n) is = omega (arith, ints)
+
+-- so what breaks a hard clause or a constraint lies above the threshold
+broken_above : (y : List Bool) (p : ProblemContent)
+    → (list_any (fails_hard y) p.clauses || list_any (fails y) p.constraints) ≡ true
+    → upper p <ℤ terms_cost y (image p).terms
+broken_above y p broken =
+    omega (arith, ints, broken_lifted y p broken, lifted_above p.most (own_upper p) (cost_size p))
+
 -- The whole cost, of what breaks nothing. It is the constant, the objective's sum, and the weights
 -- of the violated soft clauses.
 abbrev pub kept_cost : List Bool → ProblemContent → ℤ
@@ -101,8 +124,8 @@ kept_value : (y : List Bool) (p : ProblemContent) → list_any (fails_hard y) p.
     → terms_cost y (image p).terms ≡ kept_cost y p +ℤ squares y p
 kept_value y p h = omega (arith, ints, image_value y p, clauses_soft y (penalty p) p.clauses h)
 
--- the whole cost is at most the upper bound, for every assignment
-whole_below : (y : List Bool) (p : ProblemContent) → kept_cost y p ≤ℤ upper p
+-- it is at most the upper bound without the most, for every assignment
+whole_below : (y : List Bool) (p : ProblemContent) → kept_cost y p ≤ℤ own_upper p
 whole_below y p = omega (arith, ints, sum_upper y p.objective, soft_costs_upper y p.clauses)
 
 -- ---- the cost of the problem, by cases
@@ -119,22 +142,87 @@ infinite_is_broken : (b : Bool) (u : ℤ) → cond b Infinite (Whole u) ≡ Infi
 infinite_is_broken true u e = refl
 infinite_is_broken false u e = absurd cc
 
--- a state of whole cost costs that and its squares; the cost is at most the threshold
-whole_value : (y : List Bool) (p : ProblemContent) (v : ℤ) → problem_cost p y ≡ Whole v
+-- a state that breaks nothing costs what the problem does and its squares; without the most its cost
+-- is at most the upper bound
+own_value : (y : List Bool) (p : ProblemContent) (v : ℤ) → own_cost p y ≡ Whole v
     → (terms_cost y (image p).terms ≡ v +ℤ squares y p)
-    × (v ≤ℤ upper p)
+    × (v ≤ℤ own_upper p)
     × (list_any (fails y) p.constraints ≡ false)
-whole_value y p v whole =
+own_value y p v whole =
     let cases = whole_is_unbroken (list_any (fails_hard y) p.clauses) (list_any (fails y) p.constraints) (kept_cost y p) v whole in (
       kept_value y p cases.0 ∙ ap (λ u. u +ℤ squares y p) cases.2,
       omega (arith, ints, whole_below y p, cases.2),
       cases.1,
     )
 
+-- ---- with the most that an assignment may cost
+
+-- what is at most two numbers is at most the lesser of them
+at_most_lesser : (most u v : ℤ) → v ≤ℤ most → v ≤ℤ u → v ≤ℤ lesser_of (Some most) u
+at_most_lesser most u v low below = go (int_lt most u)
+  where
+    go : (less : Bool) → v ≤ℤ (if less then most else u)
+    go true = low
+    go false = below
+
+-- and the lesser of them is below what is above one
+lesser_below : (most u v : ℤ) → most <ℤ v → lesser_of (Some most) u <ℤ v
+lesser_below most u v above = go (int_lt most u) refl
+  where
+    go : (less : Bool) → int_lt most u ≡ less → (if less then most else u) <ℤ v
+    go true e = above
+    go false e = omega (arith, ints)
+
+-- a cost that is whole once it is cut off is whole before, and as low as what is above it
+whole_is_kept : (most : Option ℤ) (c : Cost) (u v : ℤ) → cut_off most c ≡ Whole v
+    → (c ≡ Whole v) × (v ≤ℤ u → v ≤ℤ lesser_of most u)
+whole_is_kept None c u v e = (e, λ below. below)
+whole_is_kept (Some most) Infinite u v e = absurd cc
+whole_is_kept (Some most) (Whole w) u v e = go (int_lt most w) refl e
+  where
+    go : (over : Bool) → int_lt most w ≡ over → (if over then Infinite else Whole w) ≡ Whole v
+        → (Whole w ≡ Whole v) × (v ≤ℤ u → v ≤ℤ lesser_of (Some most) u)
+    go true over h = absurd cc
+    go false over h =
+        let same : w ≡ v = cc in
+        (h, λ below. at_most_lesser most u v (omega (arith, ints, same)) below)
+
+-- one that is infinite is infinite before, or above the threshold
+infinite_is_above : (most : Option ℤ) (c : Cost) (u : ℤ) → cut_off most c ≡ Infinite
+    → (c ≡ Infinite) ⊎ ((v : ℤ) × (c ≡ Whole v) × (lesser_of most u <ℤ v))
+infinite_is_above None c u e = inl e
+infinite_is_above (Some most) Infinite u e = inl refl
+infinite_is_above (Some most) (Whole w) u e = go (int_lt most w) refl e
+  where
+    go : (over : Bool) → int_lt most w ≡ over → (if over then Infinite else Whole w) ≡ Infinite
+        → (Whole w ≡ Infinite) ⊎ ((v : ℤ) × (Whole w ≡ Whole v) × (lesser_of (Some most) u <ℤ v))
+    go true over h = inr (w, refl, lesser_below most u w (omega (arith, ints)))
+    go false over h = absurd cc
+
+-- a state of whole cost costs that and its squares; the cost is at most the threshold
+whole_value : (y : List Bool) (p : ProblemContent) (v : ℤ) → problem_cost p y ≡ Whole v
+    → (terms_cost y (image p).terms ≡ v +ℤ squares y p)
+    × (v ≤ℤ upper p)
+    × (list_any (fails y) p.constraints ≡ false)
+whole_value y p v whole =
+    let kept = whole_is_kept p.most (own_cost p y) (own_upper p) v whole in
+    let value = own_value y p v kept.0 in
+    (value.0, kept.1 value.1, value.2)
+
 -- a state of infinite cost lies above the threshold
 infinite_value : (y : List Bool) (p : ProblemContent) → problem_cost p y ≡ Infinite
     → upper p <ℤ terms_cost y (image p).terms
-infinite_value y p infinite = broken_above y p (infinite_is_broken _ _ infinite)
+infinite_value y p infinite =
+    elim (infinite_is_above p.most (own_cost p y) (own_upper p) infinite) [
+      | inl broken ↦ broken_above y p (infinite_is_broken _ _ broken)
+      | inr over ↦ omega (
+        arith,
+        ints,
+        (own_value y p over.0 over.1).0,
+        squares_not_negative y (penalty p) p.variables p.constraints,
+        over.2,
+      )
+    ]
 
 -- ---- states and assignments
 

@@ -1,8 +1,8 @@
 -- The costs of products and clauses under one assignment. Nothing here has to be believed.
 --
--- The penalty is one more than what the objective and the soft clauses can gain: the objective lies
--- between what its negative coefficients come to and what its positive ones do, and a soft clause
--- adds between 0 and its weight.
+-- The penalty rests on what the objective and the soft clauses can gain: the objective lies between
+-- what its negative coefficients come to and what its positive ones do, and a soft clause adds
+-- between 0 and its weight.
 use Rattle.std.proofs.Common.{◌≡◌, ℕ, Bool, true, false, not, cond, ◌&&◌, ◌||◌, List, [], ◌∷◌, map, get_or, Option, Some, None, ℤ, pos, negsuc, ◌+ℤ◌, ◌≤ℤ◌, unsigned_abs, refl, sym, ap, ◌∙◌, arith}
 use Rattle.std.specs.Prelude.{unwrap_or}
 use Rattle.std.specs.List.{list_any, sum_by}

@@ -30,7 +30,7 @@ returns-clause-relaxes c =
 
 pub returns-clause-threshold_high : goal.returns-clause-threshold_high
 returns-clause-threshold_high c =
-    threshold_within c.args.source.now _ c.requires.within
+    threshold_within c.args.source.now _ c.requires
     (to_z-of_z w128 c.upper.result (search rules) ∙ c.upper.ensures)
 
 pub returns-clause-total : goal.returns-clause-total

@@ -2,9 +2,9 @@ use Rattle.std.proofs.Common.{◌≡◌, false, arith, ap, sym, ◌∙◌}
 use Rattle.std.specs.List.{list_any}
 use Rattle.std.proofs.lemmas.Int.{ints}
 use Rattle.problem_form.specs.Fields.{content_within}
-use Rattle.problem_form.specs.Problems.{fails, fails_hard, problem_cost, sum_of}
-use Rattle.problem_form.proofs.CostSizes.{cost_parts, problem_cost-whole}
-use Rattle.problem_form.proofs.costs.ProblemCosted.cost.Goals as goal
+use Rattle.problem_form.specs.Problems.{fails, fails_hard, own_cost, sum_of}
+use Rattle.problem_form.proofs.CostSizes.{cost_parts, own_cost-whole}
+use Rattle.problem_form.proofs.problem.Problem.own_cost.Goals as goal
 
 pub overflow_add-result : goal.overflow_add-result
 overflow_add-result c =
@@ -31,6 +31,6 @@ returns c =
     sym c.a_hard_clause_fails.ensures ∙ c.if-a_hard_clause_fails.false in
     let constraints : list_any (fails x) p.constraints ≡ false =
     sym c.a_constraint_fails.ensures ∙ c.if-a_constraint_fails.false in
-    problem_cost-whole p x _ hard constraints
+    own_cost-whole p x _ hard constraints
     (omega (arith, ints, sum, soft, cost_parts p x, c.self.invariant.1))
-    ∙ ap (λ f. problem_cost f x) c.self.view_is
+    ∙ ap (λ f. own_cost f x) c.self.view_is

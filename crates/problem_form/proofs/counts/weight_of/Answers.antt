@@ -1,0 +1,36 @@
+use Rattle.std.proofs.Common.{◌≡◌, ◌∙◌, ◌+◌, ◌*◌, ◌^◌, ap, arith, count_by, is_none, unsigned_abs}
+use Rattle.std.specs.List.{sum_by}
+use Rattle.std.proofs.lemmas.Int.{ints}
+use Rattle.problem_form.specs.declared.terms.Clause.{Clause}
+use Rattle.problem_form.specs.declared.terms.Constraint.{Constraint}
+use Rattle.problem_form.specs.Problems.{ProblemContent}
+use Rattle.problem_form.specs.Limits.{answered_number, cost_size, penalty, reach}
+use Rattle.problem_form.proofs.CountedNumbers.{answered_sum_of_3}
+use Rattle.problem_form.proofs.counts.weight_of.Goals as goal
+
+pub returns : goal.returns
+returns c =
+    let p = c.args.problem.now in
+    let costs : c.unsigned_abs.result + c.cost_size-costs.result
+    ≡ answered_number (unsigned_abs p.constant + cost_size p) =
+    omega (
+      arith,
+      ints,
+      c.unsigned_abs.ensures.value,
+      c.cost_size-costs.ensures.value,
+      c.cost_size-costs.ensures.small,
+      ap (λ (q : ProblemContent). unsigned_abs q.constant) c.problem.view_is,
+      c.problem.invariant.1,
+    ) in
+    let hard : c.saturating_mul-hard.result
+    ≡ answered_number (penalty p * count_by (λ (k : Clause). is_none k.weight) p.clauses) =
+    c.saturating_mul-hard.ensures
+    ∙ (λ i. answered_number (c.penalty-penalty.ensures.value i
+    * (c.hard_clauses.ensures
+    ∙ ap (λ (q : ProblemContent). count_by (λ (k : Clause). is_none k.weight) q.clauses) c.problem.view_is) i)) in
+    let squares : c.squares.result
+    ≡ answered_number (sum_by (λ (k : Constraint). penalty p * reach k ^ 2) p.constraints) =
+    c.squares.ensures
+    ∙ (λ i. answered_number (sum_by (λ (k : Constraint). c.penalty-penalty.ensures.value i * reach k ^ 2)
+    (c.problem.view_is i).constraints)) in
+    answered_sum_of_3 _ _ _ _ _ _ _ _ costs hard squares c.saturating_add.ensures c.saturating_add-2.ensures
