@@ -5,6 +5,10 @@ use Rattle.std.specs.Prelude.{◌≡◌, ℕ, List, [], ◌+◌, ◌-◌, ◌^�
 abbrev pub count_after : ℕ → ℕ → ℕ
 count_after before n = min (before + n) (2 ^ 64 - 1)
 
+-- the count rose by n, as far as it goes
+abbrev pub RoseBy : ℕ → ℕ → ℕ → Type 0
+RoseBy n before now = min now (2 ^ 64 - 1) ≡ count_after before n
+
 -- the count rose, or stands at its end
 abbrev pub Rose : ℕ → ℕ → Type 0
 Rose before now = min (before + 1) (2 ^ 64 - 1) ≤ now

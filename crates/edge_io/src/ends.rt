@@ -3,9 +3,9 @@
 ghost use Rattle.std.specs.Prelude.{◌≡◌, ℕ, List, [], IfOk, OnErr, Option, string_bytes};
 ghost use Rattle.std.specs.Io.{ReadsAtMost};
 ghost use Rattle.std.specs.Io.KnownBytes.{ReadConsumes, WriteAppends, IsAtEnd};
-ghost use Rattle.edge_io.specs.Counts.{Counts, count_after, CountsErr, CountsNothing, HasCause};
+ghost use Rattle.edge_io.specs.Counts.{Counts, count_after, RoseBy, CountsErr, CountsNothing, HasCause};
 ghost use Rattle.edge_io.specs.Held.{NamedFiles, Begins};
-ghost use Rattle.edge_io.specs.Sinks.{TakesSome};
+ghost use Rattle.edge_io.specs.Sinks.{Taken, TakesSome};
 
 /// The only error of a store of files and of a sink.
 #[derive(Clone, Copy, Debug, PartialEq, Eq)]
@@ -57,15 +57,19 @@ pub trait Files {
 
 /// What bytes are written to. A `write` that fails has taken nothing, and later ones may succeed.
 pub trait Sink {
-    /// The bytes so far, where it tells them.
-    ghost bytes: { Self → Option (List ℕ) };
+    /// What it tells of the bytes so far.
+    ghost taken: { Self → Taken };
 
     /// How often a call has failed.
     ghost faults: { Self → ℕ };
 
     /// Takes a front of the piece, and says how many bytes it took.
     fn write(&mut self, piece: &[u8]) -> Result<usize, Failed>
-        ensures bytes { WriteAppends (bytes self.old) (bytes self.new) result piece.now }
+        ensures bytes { WriteAppends (taken self.old).bytes (taken self.new).bytes result
+            piece.now }
+        ensures counted { IfOk result (λ n.
+            RoseBy n (taken self.old).count (taken self.new).count) }
+        ensures none_counted { OnErr result ((taken self.new).count ≡ (taken self.old).count) }
         ensures bound { TakesSome result piece.now }
         ensures faults { CountsErr (faults self.old) (faults self.new) result }
         ensures cause { HasCause (faults self.old) (faults self.new) result };

@@ -1,9 +1,8 @@
 //! A small buffer before a sink, so that lines are written without a whole text and without a call
 //! for each.
 ghost use Rattle.std.specs.Prelude.{◌≡◌, ◌++◌, ◌+◌, ◌≤◌, [], length, IfOk, OnOk, OnErr};
-ghost use Rattle.std.specs.Io.KnownBytes.{Appends};
 ghost use Rattle.edge_io.specs.Counts.{HasCause};
-ghost use Rattle.edge_io.specs.Sinks.{AppendsFront, Passes};
+ghost use Rattle.edge_io.specs.Sinks.{Takes, TakesFront, Passes};
 
 use crate::Sink;
 use crate::whole::{WriteFault, write_all};
@@ -46,9 +45,9 @@ impl LineBuffer {
     #[inline(always)]
     pub fn put<S: Sink>(&mut self, sink: &mut S, piece: &[u8]) -> Result<(), WriteFault>
         ensures passed { OnOk result
-            (Passes (S.bytes sink.old) (S.bytes sink.new) self.old self.new piece.now) }
+            (Passes (S.taken sink.old) (S.taken sink.new) self.old self.new piece.now) }
         ensures front { OnErr result
-            (AppendsFront (S.bytes sink.old) (S.bytes sink.new) (self.old ++ piece.now)) }
+            (TakesFront (S.taken sink.old) (S.taken sink.new) (self.old ++ piece.now)) }
         ensures lost { OnErr result (self.new ≡ []) }
         ensures cause { HasCause (S.faults sink.old) (S.faults sink.new) result }
     {
@@ -62,9 +61,9 @@ impl LineBuffer {
 
     /// Writes the pending bytes. Whatever the answer, nothing is pending then.
     pub fn flush<S: Sink>(&mut self, sink: &mut S) -> Result<(), WriteFault>
-        ensures whole { OnOk result (Appends (S.bytes sink.old) (S.bytes sink.new) self.old) }
+        ensures whole { OnOk result (Takes (S.taken sink.old) (S.taken sink.new) self.old) }
         ensures front { OnErr result
-            (AppendsFront (S.bytes sink.old) (S.bytes sink.new) self.old) }
+            (TakesFront (S.taken sink.old) (S.taken sink.new) self.old) }
         ensures empty { self.new ≡ [] }
         ensures cause { HasCause (S.faults sink.old) (S.faults sink.new) result }
     {
@@ -92,9 +91,9 @@ impl LineBuffer {
     #[inline(never)]
     fn put_long<S: Sink>(&mut self, sink: &mut S, piece: &[u8]) -> Result<(), WriteFault>
         ensures passed { OnOk result
-            (Passes (S.bytes sink.old) (S.bytes sink.new) self.old self.new piece.now) }
+            (Passes (S.taken sink.old) (S.taken sink.new) self.old self.new piece.now) }
         ensures front { OnErr result
-            (AppendsFront (S.bytes sink.old) (S.bytes sink.new) (self.old ++ piece.now)) }
+            (TakesFront (S.taken sink.old) (S.taken sink.new) (self.old ++ piece.now)) }
         ensures lost { OnErr result (self.new ≡ []) }
         ensures cause { HasCause (S.faults sink.old) (S.faults sink.new) result }
     {

@@ -1,7 +1,7 @@
 //! A sink in memory, of limited room, whose listed calls fail.
-ghost use Rattle.std.specs.Prelude.{◌≡◌, ◌↔◌, ◌^◌, ◌<◌, ◌≤◌, Some, IsTrue, IsErr, IfOk};
+ghost use Rattle.std.specs.Prelude.{◌≡◌, ◌↔◌, ◌^◌, ◌<◌, ◌≤◌, Some, length, IsTrue, IsErr, IfOk, OnErr};
 ghost use Rattle.std.specs.Io.KnownBytes.{WriteAppends};
-ghost use Rattle.edge_io.specs.Counts.{count_after, CountsErr, HasCause};
+ghost use Rattle.edge_io.specs.Counts.{count_after, RoseBy, CountsErr, HasCause};
 ghost use Rattle.edge_io.specs.Sinks.{TakesSome};
 ghost use Rattle.edge_io.specs.InMemory.{empty_sink, write_fails, write_takes};
 
@@ -73,7 +73,10 @@ impl MemorySink {
 }
 
 impl Sink for MemorySink {
-    ghost bytes = { λ s. Some s.bytes };
+    ghost taken = { λ s. record {
+      bytes = Some s.bytes;
+      count = length s.bytes;
+    } };
 
     ghost faults = { λ s. s.faults };
 
@@ -90,6 +93,9 @@ impl Sink for MemorySink {
 
         // What each sink promises.
         ensures bytes { WriteAppends (Some self.old.bytes) (Some self.new.bytes) result piece.now }
+        ensures counted { IfOk result (λ n.
+            RoseBy n (length self.old.bytes) (length self.new.bytes)) }
+        ensures none_counted { OnErr result (length self.new.bytes ≡ length self.old.bytes) }
         ensures bound { TakesSome result piece.now }
         ensures cause { HasCause self.old.faults self.new.faults result }
     {

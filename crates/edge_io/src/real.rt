@@ -108,25 +108,37 @@ where
 #[derive(Drop)]
 pub struct RealSink<W: Write> {
     writer: W,
+    taken: u64,
     faults: u64,
 }
 
 impl<W: Write> RealSink<W> {
     pub fn new(writer: W) -> RealSink<W>
+        ensures none_taken { (⟦<RealSink<W> as Sink>⟧.taken result).count ≡ 0 }
         ensures no_fault { ⟦<RealSink<W> as Sink>⟧.faults result ≡ 0 }
     {
-        RealSink { writer, faults: 0 }
+        RealSink {
+            writer,
+            taken: 0,
+            faults: 0,
+        }
     }
 }
 
 impl<W: Write> Sink for RealSink<W> {
-    ghost bytes = { λ s. None };
+    ghost taken = { λ s. record {
+      bytes = None;
+      count = s.taken;
+    } };
 
     ghost faults = { λ s. s.faults };
 
     fn write(&mut self, piece: &[u8]) -> Result<usize, Failed> {
         match self.writer.write(piece) {
-            Ok(count) if count > 0 || piece.is_empty() => Ok(count),
+            Ok(count) if count > 0 || piece.is_empty() => {
+                self.taken = self.taken.saturating_add(count as u64);
+                Ok(count)
+            }
             _ => {
                 self.faults = self.faults.saturating_add(1);
                 Err(Failed)

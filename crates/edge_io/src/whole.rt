@@ -1,9 +1,8 @@
 //! Whole files and whole pieces, over any store of files and any sink.
 ghost use Rattle.std.specs.Prelude.{◌≡◌, ◌+◌, ◌^◌, ◌<◌, ◌≤◌, ◌↔◌, length, IfOk, OnOk, OnErr, IsErrOf, string_bytes};
-ghost use Rattle.std.specs.Io.KnownBytes.{Appends};
 ghost use Rattle.edge_io.specs.Counts.{count_after, Rose, HasCause};
 ghost use Rattle.edge_io.specs.Held.{find_file, WhereTold, IsLonger};
-ghost use Rattle.edge_io.specs.Sinks.{AppendsFront, joined_bytes};
+ghost use Rattle.edge_io.specs.Sinks.{Takes, TakesFront, joined_bytes};
 ghost use Rattle.edge_io.specs.declared.whole.ReadAnswer.TheVariants.{NoMemory};
 
 use crate::{Files, Sink};
@@ -93,8 +92,8 @@ pub fn read_all<F: Files>(
 
 /// Writes the whole piece, or a front of it where the sink fails.
 pub fn write_all<S: Sink>(sink: &mut S, piece: &[u8]) -> Result<(), WriteFault>
-    ensures whole { OnOk result (Appends (S.bytes sink.old) (S.bytes sink.new) piece.now) }
-    ensures front { OnErr result (AppendsFront (S.bytes sink.old) (S.bytes sink.new) piece.now) }
+    ensures whole { OnOk result (Takes (S.taken sink.old) (S.taken sink.new) piece.now) }
+    ensures front { OnErr result (TakesFront (S.taken sink.old) (S.taken sink.new) piece.now) }
     ensures cause { HasCause (S.faults sink.old) (S.faults sink.new) result }
 {
     let mut rest = piece;
@@ -111,9 +110,9 @@ pub fn write_all<S: Sink>(sink: &mut S, piece: &[u8]) -> Result<(), WriteFault>
 /// memory, since the pieces are not joined first.
 pub fn write_pieces<S: Sink>(sink: &mut S, pieces: &[&[u8]]) -> Result<(), WriteFault>
     ensures whole { OnOk result
-        (Appends (S.bytes sink.old) (S.bytes sink.new) (joined_bytes pieces.now)) }
+        (Takes (S.taken sink.old) (S.taken sink.new) (joined_bytes pieces.now)) }
     ensures front { OnErr result
-        (AppendsFront (S.bytes sink.old) (S.bytes sink.new) (joined_bytes pieces.now)) }
+        (TakesFront (S.taken sink.old) (S.taken sink.new) (joined_bytes pieces.now)) }
     ensures cause { HasCause (S.faults sink.old) (S.faults sink.new) result }
 {
     for piece in pieces {

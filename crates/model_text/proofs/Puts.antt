@@ -1,23 +1,20 @@
 -- A text that is put piece by piece: what of it was put, and what is left.
 use Rattle.std.proofs.Common.{◌≡◌, ℕ, List, [], ◌++◌, refl, sym, ap, ◌∙◌, subst, append_assoc, append-nil}
-use Rattle.std.proofs.KnownBytes.{Appends-trans}
 use Rattle.std.specs.Prelude.{Result, Ok, Err, OnOk, OnErr}
-use Rattle.std.specs.Io.KnownBytes.{Appends}
-use Rattle.std.specs.declared.option.Option.{Option}
-use Rattle.edge_io.specs.Sinks.{AppendsFront, Passes}
-use Rattle.edge_io.proofs.Pieces.{Passes-trans, Passes-front, Passes-kept, AppendsFront-more}
+use Rattle.edge_io.specs.Sinks.{Taken, Takes, TakesFront, Passes}
+use Rattle.edge_io.proofs.Pieces.{Takes-trans, Passes-trans, Passes-front, Passes-kept, TakesFront-more}
 
 -- all of the text but the rest was put
-pub record IsPut (told now : Option (List ℕ)) (pending left text rest : List ℕ) : Type 0 where
+pub record IsPut (told now : Taken) (pending left text rest : List ℕ) : Type 0 where
   pub done : List ℕ
   pub split : text ≡ done ++ rest
   pub passed : Passes told now pending left done
 
-pub put_none : (a : Option (List ℕ)) (p text : List ℕ) → IsPut a a p p text text
+pub put_none : (a : Taken) (p text : List ℕ) → IsPut a a p p text text
 put_none a p text = record { done = []; split = refl; passed = Passes-kept a p p [] (sym (append-nil p)) }
 
 -- one piece more was put
-pub put_more : (a b c : Option (List ℕ)) (p q r text rest piece later : List ℕ) → rest ≡ piece ++ later
+pub put_more : (a b c : Taken) (p q r text rest piece later : List ℕ) → rest ≡ piece ++ later
     → IsPut a b p q text rest → Passes b c q r piece → IsPut a c p r text later
 put_more a b c p q r text rest piece later cut so_far put = record {
   done = so_far.done ++ piece;
@@ -26,18 +23,18 @@ put_more a b c p q r text rest piece later cut so_far put = record {
 }
 
 -- of one piece more a front was put
-pub put_fault : (a b c : Option (List ℕ)) (p q text rest piece later : List ℕ) → rest ≡ piece ++ later
-    → IsPut a b p q text rest → AppendsFront b c (q ++ piece) → AppendsFront a c (p ++ text)
+pub put_fault : (a b c : Taken) (p q text rest piece later : List ℕ) → rest ≡ piece ++ later
+    → IsPut a b p q text rest → TakesFront b c (q ++ piece) → TakesFront a c (p ++ text)
 put_fault a b c p q text rest piece later cut so_far fault =
     let done = so_far.done in
-    let front = AppendsFront-more a c (p ++ (done ++ piece)) later (Passes-front a b c p q done piece so_far.passed fault) in
+    let front = TakesFront-more a c (p ++ (done ++ piece)) later (Passes-front a b c p q done piece so_far.passed fault) in
     let all : (p ++ (done ++ piece)) ++ later ≡ p ++ text =
     append_assoc p (done ++ piece) later
     ∙ ap (λ (l : List ℕ). p ++ l) (append_assoc done piece later ∙ sym (ap (λ (l : List ℕ). done ++ l) cut) ∙ sym so_far.split) in
-    subst (AppendsFront a c) all front
+    subst (TakesFront a c) all front
 
 -- nothing is left
-pub put_all : (a b : Option (List ℕ)) (p q text rest : List ℕ) → rest ≡ [] → IsPut a b p q text rest
+pub put_all : (a b : Taken) (p q text rest : List ℕ) → rest ≡ [] → IsPut a b p q text rest
     → Passes a b p q text
 put_all a b p q text rest none so_far =
     subst (Passes a b p q) (ap (λ (l : List ℕ). so_far.done ++ l) (sym none) ∙ sym so_far.split)
@@ -58,24 +55,24 @@ then_error (Ok x) f h = tt
 then_error (Err e) f h = f h
 
 -- the same text in other words
-pub same_front : {T E : Type 0} (result : Result T E) (a b : Option (List ℕ)) (p xs ys : List ℕ) → xs ≡ ys
-    → OnErr result (AppendsFront a b (p ++ xs)) → OnErr result (AppendsFront a b (p ++ ys))
-same_front result a b p xs ys e h = subst (λ (l : List ℕ). OnErr result (AppendsFront a b (p ++ l))) e h
+pub same_front : {T E : Type 0} (result : Result T E) (a b : Taken) (p xs ys : List ℕ) → xs ≡ ys
+    → OnErr result (TakesFront a b (p ++ xs)) → OnErr result (TakesFront a b (p ++ ys))
+same_front result a b p xs ys e h = subst (λ (l : List ℕ). OnErr result (TakesFront a b (p ++ l))) e h
 
-pub same_passed : {T E : Type 0} (result : Result T E) (a b : Option (List ℕ)) (p q xs ys : List ℕ) → xs ≡ ys
+pub same_passed : {T E : Type 0} (result : Result T E) (a b : Taken) (p q xs ys : List ℕ) → xs ≡ ys
     → OnOk result (Passes a b p q xs) → OnOk result (Passes a b p q ys)
 same_passed result a b p q xs ys e h = subst (λ (l : List ℕ). OnOk result (Passes a b p q l)) e h
 
 -- ---- the last bytes are written
 
-pub flushed : (a b c : Option (List ℕ)) (p q text : List ℕ) → p ≡ [] → Passes a b p q text → Appends b c q
-    → Appends a c text
+pub flushed : (a b c : Taken) (p q text : List ℕ) → p ≡ [] → Passes a b p q text → Takes b c q
+    → Takes a c text
 flushed a b c p q text none put written =
-    subst (Appends a c) (sym put.1 ∙ ap (λ (l : List ℕ). l ++ text) none) (Appends-trans a b c put.0 q put.2 written)
+    subst (Takes a c) (sym put.1 ∙ ap (λ (l : List ℕ). l ++ text) none) (Takes-trans a b c put.0 q put.2 written)
 
-pub flushed_front : (a b c : Option (List ℕ)) (p q text : List ℕ) → p ≡ [] → Passes a b p q text
-    → AppendsFront b c q → AppendsFront a c text
+pub flushed_front : (a b c : Taken) (p q text : List ℕ) → p ≡ [] → Passes a b p q text
+    → TakesFront b c q → TakesFront a c text
 flushed_front a b c p q text none put fault =
     let cut : text ≡ (put.0 ++ fault.0) ++ fault.1 =
     ap (λ (l : List ℕ). l ++ text) (sym none) ∙ put.1 ∙ ap (λ (l : List ℕ). put.0 ++ l) fault.2 ∙ sym (append_assoc put.0 fault.0 fault.1) in
-    (put.0 ++ fault.0, fault.1, cut, Appends-trans a b c put.0 fault.0 put.2 fault.3)
+    (put.0 ++ fault.0, fault.1, cut, Takes-trans a b c put.0 fault.0 put.2 fault.3)

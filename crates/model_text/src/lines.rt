@@ -4,7 +4,7 @@ ghost use Rattle.std.specs.Prelude.{◌≡◌, ◌+◌, ◌<◌, ◌≤◌, ◌+
 ghost use Rattle.std.specs.List.{join_with_byte, slice_index_or};
 ghost use Rattle.std.specs.Fmt.{decimal, signed_decimal};
 ghost use Rattle.edge_io.specs.Counts.{HasCause};
-ghost use Rattle.edge_io.specs.Sinks.{AppendsFront, Passes, joined_bytes};
+ghost use Rattle.edge_io.specs.Sinks.{TakesFront, Passes, joined_bytes};
 ghost use Rattle.model_text.specs.Rows.{row_text, rows_text, figure_rows, chimera_row, chain_row, chain_rows, graph_rows, kind_words, header_row, entry_row, FitsFigures, FitsGraph};
 ghost use Rattle.model_text.specs.Lines.{spaced_numbers};
 
@@ -24,9 +24,9 @@ fn put_pieces<S: Sink>(
     sink: &mut S,
     pieces: &[&[u8]],
 ) -> Result<(), WriteFault>
-    ensures passed { OnOk result (Passes (S.bytes sink.old) (S.bytes sink.new)
+    ensures passed { OnOk result (Passes (S.taken sink.old) (S.taken sink.new)
         buffer.old buffer.new (joined_bytes pieces.now)) }
-    ensures front { OnErr result (AppendsFront (S.bytes sink.old) (S.bytes sink.new)
+    ensures front { OnErr result (TakesFront (S.taken sink.old) (S.taken sink.new)
         (buffer.old ++ joined_bytes pieces.now)) }
     ensures lost { OnErr result (buffer.new ≡ []) }
     ensures cause { HasCause (S.faults sink.old) (S.faults sink.new) result }
@@ -46,10 +46,10 @@ pub fn put_figures<S: Sink>(
     variables: u32,
 ) -> Result<(), WriteFault>
     ensures passed { let rows = figure_rows figures unit variables in
-        OnOk result (Passes (S.bytes sink.old) (S.bytes sink.new)
+        OnOk result (Passes (S.taken sink.old) (S.taken sink.new)
         buffer.old buffer.new (rows_text rows)) }
     ensures front { let rows = figure_rows figures unit variables in
-        OnErr result (AppendsFront (S.bytes sink.old) (S.bytes sink.new)
+        OnErr result (TakesFront (S.taken sink.old) (S.taken sink.new)
         (buffer.old ++ rows_text rows)) }
     ensures lost { OnErr result (buffer.new ≡ []) }
     ensures cause { HasCause (S.faults sink.old) (S.faults sink.new) result }
@@ -90,9 +90,9 @@ fn put_qubits<S: Sink>(
     sink: &mut S,
     qubits: &[u32],
 ) -> Result<(), WriteFault>
-    ensures passed { OnOk result (Passes (S.bytes sink.old) (S.bytes sink.new)
+    ensures passed { OnOk result (Passes (S.taken sink.old) (S.taken sink.new)
         buffer.old buffer.new (spaced_numbers qubits.now)) }
-    ensures front { OnErr result (AppendsFront (S.bytes sink.old) (S.bytes sink.new)
+    ensures front { OnErr result (TakesFront (S.taken sink.old) (S.taken sink.new)
         (buffer.old ++ spaced_numbers qubits.now)) }
     ensures lost { OnErr result (buffer.new ≡ []) }
     ensures cause { HasCause (S.faults sink.old) (S.faults sink.new) result }
@@ -113,10 +113,10 @@ fn put_chain<S: Sink>(
     qubits: &[u32],
 ) -> Result<(), WriteFault>
     ensures passed { let row = chain_row node qubits.now in
-        OnOk result (Passes (S.bytes sink.old) (S.bytes sink.new)
+        OnOk result (Passes (S.taken sink.old) (S.taken sink.new)
         buffer.old buffer.new (row_text row)) }
     ensures front { let row = chain_row node qubits.now in
-        OnErr result (AppendsFront (S.bytes sink.old) (S.bytes sink.new)
+        OnErr result (TakesFront (S.taken sink.old) (S.taken sink.new)
         (buffer.old ++ row_text row)) }
     ensures lost { OnErr result (buffer.new ≡ []) }
     ensures cause { HasCause (S.faults sink.old) (S.faults sink.new) result }
@@ -135,10 +135,10 @@ fn put_chains<S: Sink>(
     chains: &ChainList,
 ) -> Result<(), WriteFault>
     ensures passed { let rows = chain_rows 0 chains.now in
-        OnOk result (Passes (S.bytes sink.old) (S.bytes sink.new)
+        OnOk result (Passes (S.taken sink.old) (S.taken sink.new)
         buffer.old buffer.new (rows_text rows)) }
     ensures front { let rows = chain_rows 0 chains.now in
-        OnErr result (AppendsFront (S.bytes sink.old) (S.bytes sink.new)
+        OnErr result (TakesFront (S.taken sink.old) (S.taken sink.new)
         (buffer.old ++ rows_text rows)) }
     ensures lost { OnErr result (buffer.new ≡ []) }
     ensures cause { HasCause (S.faults sink.old) (S.faults sink.new) result }
@@ -158,10 +158,10 @@ fn put_chimera<S: Sink>(
     shore: u32,
 ) -> Result<(), WriteFault>
     ensures passed { let row = chimera_row rows cols shore in
-        OnOk result (Passes (S.bytes sink.old) (S.bytes sink.new)
+        OnOk result (Passes (S.taken sink.old) (S.taken sink.new)
         buffer.old buffer.new (row_text row)) }
     ensures front { let row = chimera_row rows cols shore in
-        OnErr result (AppendsFront (S.bytes sink.old) (S.bytes sink.new)
+        OnErr result (TakesFront (S.taken sink.old) (S.taken sink.new)
         (buffer.old ++ row_text row)) }
     ensures lost { OnErr result (buffer.new ≡ []) }
     ensures cause { HasCause (S.faults sink.old) (S.faults sink.new) result }
@@ -187,10 +187,10 @@ pub fn put_graph<S: Sink>(
     chains: &ChainList,
 ) -> Result<(), WriteFault>
     ensures passed { let rows = graph_rows kind chains.now in
-        OnOk result (Passes (S.bytes sink.old) (S.bytes sink.new)
+        OnOk result (Passes (S.taken sink.old) (S.taken sink.new)
         buffer.old buffer.new (rows_text rows)) }
     ensures front { let rows = graph_rows kind chains.now in
-        OnErr result (AppendsFront (S.bytes sink.old) (S.bytes sink.new)
+        OnErr result (TakesFront (S.taken sink.old) (S.taken sink.new)
         (buffer.old ++ rows_text rows)) }
     ensures lost { OnErr result (buffer.new ≡ []) }
     ensures cause { HasCause (S.faults sink.old) (S.faults sink.new) result }
@@ -222,10 +222,10 @@ pub fn put_header<S: Sink>(
     entries: &EntryList,
 ) -> Result<(), WriteFault>
     ensures passed { let row = header_row kind nodes entries.now in
-        OnOk result (Passes (S.bytes sink.old) (S.bytes sink.new)
+        OnOk result (Passes (S.taken sink.old) (S.taken sink.new)
         buffer.old buffer.new (row_text row)) }
     ensures front { let row = header_row kind nodes entries.now in
-        OnErr result (AppendsFront (S.bytes sink.old) (S.bytes sink.new)
+        OnErr result (TakesFront (S.taken sink.old) (S.taken sink.new)
         (buffer.old ++ row_text row)) }
     ensures lost { OnErr result (buffer.new ≡ []) }
     ensures cause { HasCause (S.faults sink.old) (S.faults sink.new) result }
@@ -306,10 +306,10 @@ fn write_row(first: u32, second: u32, weight: i64, line: &mut [u8; LINE]) -> usi
 #[inline(never)]
 fn put_wide<S: Sink>(buffer: &mut LineBuffer, sink: &mut S, entry: &Entry) -> Result<(), WriteFault>
     ensures passed { let row = entry_row entry.now in
-        OnOk result (Passes (S.bytes sink.old) (S.bytes sink.new)
+        OnOk result (Passes (S.taken sink.old) (S.taken sink.new)
         buffer.old buffer.new (row_text row)) }
     ensures front { let row = entry_row entry.now in
-        OnErr result (AppendsFront (S.bytes sink.old) (S.bytes sink.new)
+        OnErr result (TakesFront (S.taken sink.old) (S.taken sink.new)
         (buffer.old ++ row_text row)) }
     ensures lost { OnErr result (buffer.new ≡ []) }
     ensures cause { HasCause (S.faults sink.old) (S.faults sink.new) result }
@@ -333,10 +333,10 @@ fn put_entry<S: Sink>(
     entry: &Entry,
 ) -> Result<(), WriteFault>
     ensures passed { let row = entry_row entry.now in
-        OnOk result (Passes (S.bytes sink.old) (S.bytes sink.new)
+        OnOk result (Passes (S.taken sink.old) (S.taken sink.new)
         buffer.old buffer.new (row_text row)) }
     ensures front { let row = entry_row entry.now in
-        OnErr result (AppendsFront (S.bytes sink.old) (S.bytes sink.new)
+        OnErr result (TakesFront (S.taken sink.old) (S.taken sink.new)
         (buffer.old ++ row_text row)) }
     ensures lost { OnErr result (buffer.new ≡ []) }
     ensures cause { HasCause (S.faults sink.old) (S.faults sink.new) result }
@@ -358,10 +358,10 @@ fn put_nodes<S: Sink>(
     weights: &NodeWeights,
 ) -> Result<(), WriteFault>
     ensures passed { let rows = map entry_row weights.now in
-        OnOk result (Passes (S.bytes sink.old) (S.bytes sink.new)
+        OnOk result (Passes (S.taken sink.old) (S.taken sink.new)
         buffer.old buffer.new (rows_text rows)) }
     ensures front { let rows = map entry_row weights.now in
-        OnErr result (AppendsFront (S.bytes sink.old) (S.bytes sink.new)
+        OnErr result (TakesFront (S.taken sink.old) (S.taken sink.new)
         (buffer.old ++ rows_text rows)) }
     ensures lost { OnErr result (buffer.new ≡ []) }
     ensures cause { HasCause (S.faults sink.old) (S.faults sink.new) result }
@@ -393,10 +393,10 @@ fn put_row<S: Sink>(
     row: &Row<'_>,
 ) -> Result<(), WriteFault>
     ensures passed { let rows = map entry_row row.now in
-        OnOk result (Passes (S.bytes sink.old) (S.bytes sink.new)
+        OnOk result (Passes (S.taken sink.old) (S.taken sink.new)
         buffer.old buffer.new (rows_text rows)) }
     ensures front { let rows = map entry_row row.now in
-        OnErr result (AppendsFront (S.bytes sink.old) (S.bytes sink.new)
+        OnErr result (TakesFront (S.taken sink.old) (S.taken sink.new)
         (buffer.old ++ rows_text rows)) }
     ensures lost { OnErr result (buffer.new ≡ []) }
     ensures cause { HasCause (S.faults sink.old) (S.faults sink.new) result }
@@ -416,10 +416,10 @@ fn put_couplers<S: Sink>(
     couplers: &CouplerList,
 ) -> Result<(), WriteFault>
     ensures passed { let rows = map entry_row couplers.now in
-        OnOk result (Passes (S.bytes sink.old) (S.bytes sink.new)
+        OnOk result (Passes (S.taken sink.old) (S.taken sink.new)
         buffer.old buffer.new (rows_text rows)) }
     ensures front { let rows = map entry_row couplers.now in
-        OnErr result (AppendsFront (S.bytes sink.old) (S.bytes sink.new)
+        OnErr result (TakesFront (S.taken sink.old) (S.taken sink.new)
         (buffer.old ++ rows_text rows)) }
     ensures lost { OnErr result (buffer.new ≡ []) }
     ensures cause { HasCause (S.faults sink.old) (S.faults sink.new) result }
@@ -438,10 +438,10 @@ pub fn put_entries<S: Sink>(
     entries: &EntryList,
 ) -> Result<(), WriteFault>
     ensures passed { let rows = map entry_row entries.now in
-        OnOk result (Passes (S.bytes sink.old) (S.bytes sink.new)
+        OnOk result (Passes (S.taken sink.old) (S.taken sink.new)
         buffer.old buffer.new (rows_text rows)) }
     ensures front { let rows = map entry_row entries.now in
-        OnErr result (AppendsFront (S.bytes sink.old) (S.bytes sink.new)
+        OnErr result (TakesFront (S.taken sink.old) (S.taken sink.new)
         (buffer.old ++ rows_text rows)) }
     ensures lost { OnErr result (buffer.new ≡ []) }
     ensures cause { HasCause (S.faults sink.old) (S.faults sink.new) result }

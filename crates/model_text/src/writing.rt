@@ -1,8 +1,7 @@
 //! The text of a model as a whole.
-ghost use Rattle.std.specs.Prelude.{◌≡◌, ◌++◌, [], Some, IfOk, OnOk, OnErr};
-ghost use Rattle.std.specs.Io.KnownBytes.{Appends};
+ghost use Rattle.std.specs.Prelude.{◌≡◌, ◌++◌, [], Some, length, IfOk, OnOk, OnErr};
 ghost use Rattle.edge_io.specs.Counts.{HasCause};
-ghost use Rattle.edge_io.specs.Sinks.{AppendsFront, Passes};
+ghost use Rattle.edge_io.specs.Sinks.{Takes, TakesFront, Passes};
 ghost use Rattle.model_text.specs.Rows.{model_text};
 ghost use Rattle.model_text.specs.Told.{TellsModel};
 
@@ -20,7 +19,10 @@ struct GrowingSink {
 }
 
 impl Sink for GrowingSink {
-    ghost bytes = { λ s. Some s.bytes.items };
+    ghost taken = { λ s. record {
+      bytes = Some s.bytes.items;
+      count = length s.bytes.items;
+    } };
 
     ghost faults = { λ s. s.faults };
 
@@ -56,10 +58,10 @@ fn put_text<S: Sink>(
     buffer: &mut LineBuffer,
     sink: &mut S,
 ) -> Result<(), WriteFault>
-    ensures passed { OnOk result (Passes (S.bytes sink.old) (S.bytes sink.new)
+    ensures passed { OnOk result (Passes (S.taken sink.old) (S.taken sink.new)
         buffer.old buffer.new (model_text model.now)) }
     ensures one { OnOk result (TellsModel (model_text model.now) model.now) }
-    ensures front { OnErr result (AppendsFront (S.bytes sink.old) (S.bytes sink.new)
+    ensures front { OnErr result (TakesFront (S.taken sink.old) (S.taken sink.new)
         (buffer.old ++ model_text model.now)) }
     ensures lost { OnErr result (buffer.new ≡ []) }
     ensures cause { HasCause (S.faults sink.old) (S.faults sink.new) result }
@@ -80,10 +82,10 @@ pub fn write_text<S: Sink>(
 ) -> Result<(), WriteFault>
     requires { buffer.old ≡ [] }
     ensures whole { OnOk result
-        (Appends (S.bytes sink.old) (S.bytes sink.new) (model_text model.now)) }
+        (Takes (S.taken sink.old) (S.taken sink.new) (model_text model.now)) }
     ensures one { OnOk result (TellsModel (model_text model.now) model.now) }
     ensures front { OnErr result
-        (AppendsFront (S.bytes sink.old) (S.bytes sink.new) (model_text model.now)) }
+        (TakesFront (S.taken sink.old) (S.taken sink.new) (model_text model.now)) }
     ensures empty { buffer.new ≡ [] }
     ensures cause { HasCause (S.faults sink.old) (S.faults sink.new) result }
 {

@@ -1,9 +1,8 @@
 -- What a command answers of the held files, and how the answer is delivered.
 use Rattle.std.specs.Prelude.{◌≡◌, ◌≢◌, ℕ, ◌+◌, ◌≤◌, ℤ, ◌+ℤ◌, ◌*ℤ◌, ◌≤ℤ◌, ◌<ℤ◌, Bool, List, [], length, Ok, Err, Some, None, Result, ⊤}
 use Rattle.std.specs.declared.option.Option.{Option}
-use Rattle.std.specs.Io.KnownBytes.{Appends}
 use Rattle.edge_io.specs.Held.{NamedFiles, find_file}
-use Rattle.edge_io.specs.Sinks.{AppendsFront}
+use Rattle.edge_io.specs.Sinks.{Taken, Takes, TakesFront}
 use Rattle.base.specs.declared.unit.UnitChoice.{UnitChoice}
 use Rattle.base.specs.Costs.{Source, energy}
 use Rattle.base.specs.declared.costs.Cost.TheVariants.{Whole}
@@ -215,22 +214,21 @@ text_of (Text bytes) = bytes.items
 
 -- how a text is delivered to a sink: the whole of it, a front of it where there was a fault, or nothing
 -- where memory is wanting
-abbrev pub IsDelivered : Status → Option (List ℕ) → Option (List ℕ) → List ℕ → Type 0
-IsDelivered Done old new text = Appends old new text
-IsDelivered WriteFault old new text = AppendsFront old new text
+abbrev pub IsDelivered : Status → Taken → Taken → List ℕ → Type 0
+IsDelivered Done old new text = Takes old new text
+IsDelivered WriteFault old new text = TakesFront old new text
 IsDelivered NoMemory old new text = ⊤
 IsDelivered status old new text = ⊥
 
 -- some text was delivered to a sink, and it answers the words, whatever files may be held
-abbrev pub DeliversAnswer : List (List ℕ) → Option NamedFiles → Status → (old new : Option (List ℕ))
-    → Type 0
+abbrev pub DeliversAnswer : List (List ℕ) → Option NamedFiles → Status → (old new : Taken) → Type 0
 DeliversAnswer words told status old new =
     (text : List ℕ) × IsDelivered status old new text
     × WhereHeld told (files_in words) (λ held. IsAnswered words held text)
 
 -- a text went to a sink, and not an empty one
-abbrev pub WritesText : (old new : Option (List ℕ)) → Type 0
-WritesText old new = (text : List ℕ) × (text ≢ []) × Appends old new text
+abbrev pub WritesText : (old new : Taken) → Type 0
+WritesText old new = (text : List ℕ) × (text ≢ []) × Takes old new text
 
 -- whatever files may be held, where the outcome of the words is Done, so is the status, or memory was
 -- wanting

@@ -1,11 +1,9 @@
 -- The line that is written to the error output for each status but Done.
 use Rattle.std.specs.Prelude.{ℕ, List, [], ◌∷◌, codes, decimal, Ok, Err, Result}
-use Rattle.std.specs.declared.option.Option.{Option}
 use Rattle.std.specs.List.{concat}
 use Rattle.std.specs.Fmt.{signed_decimal}
-use Rattle.std.specs.Io.KnownBytes.{Appends}
 use Rattle.edge_io.specs.Counts.{Rose}
-use Rattle.edge_io.specs.Sinks.{AppendsFront}
+use Rattle.edge_io.specs.Sinks.{Taken, Takes, TakesFront}
 use Rattle.whole_text.specs.declared.faults.TextKind.{TextKind}
 use Rattle.whole_text.specs.declared.faults.TextKind.TheVariants.{Word, Number, Range, End, Extra}
 use Rattle.chain_map.specs.declared.faults.EmbedFault.{EmbedFault}
@@ -117,10 +115,10 @@ abbrev pub error_line : Status → List ℕ → List ℕ
 error_line status name = concat (error_pieces status name)
 
 -- a front of the line was written, and the whole of it where the count of faults did not rise
-pub record IsSaid (old new : Option (List ℕ)) (before now : ℕ) (line : List ℕ) : Type 0 where
-  pub front : AppendsFront old new line
-  pub whole : ¬ (Rose before now) → Appends old new line
+pub record IsSaid (old new : Taken) (before now : ℕ) (line : List ℕ) : Type 0 where
+  pub front : TakesFront old new line
+  pub whole : ¬ (Rose before now) → Takes old new line
 
 -- the same, for a line that is given piece by piece
-abbrev pub AreSaid : (old new : Option (List ℕ)) → (before now : ℕ) → List (List ℕ) → Type 0
+abbrev pub AreSaid : (old new : Taken) → (before now : ℕ) → List (List ℕ) → Type 0
 AreSaid old new before now pieces = IsSaid old new before now (concat pieces)

@@ -13,7 +13,7 @@ use std::alloc::Global;
 
 /// Writes the text of a model row by row, through a buffer.
 fn deliver_model<O: Sink>(alloc: Global, model: &OutputModel, out: &mut O) -> Status
-    ensures delivered { IsDelivered result (O.bytes out.old) (O.bytes out.new)
+    ensures delivered { IsDelivered result (O.taken out.old) (O.taken out.new)
         (model_text model.now) }
     ensures fault { result ≡ Status.WriteFault → Rose (O.faults out.old) (O.faults out.new) }
     ensures unwritten { result ≡ Status.NoMemory → out.new ≡ out.old }
@@ -29,7 +29,7 @@ fn deliver_model<O: Sink>(alloc: Global, model: &OutputModel, out: &mut O) -> St
 
 /// Writes a text that stands.
 fn deliver_text<O: Sink>(text: &[u8], out: &mut O) -> Status
-    ensures delivered { IsDelivered result (O.bytes out.old) (O.bytes out.new) text.now }
+    ensures delivered { IsDelivered result (O.taken out.old) (O.taken out.new) text.now }
     ensures fault { result ≡ Status.WriteFault → Rose (O.faults out.old) (O.faults out.new) }
     ensures wants_none { result ≢ Status.NoMemory }
 {
@@ -42,7 +42,7 @@ fn deliver_text<O: Sink>(text: &[u8], out: &mut O) -> Status
 /// Writes the text of an answer, or a front of it where the sink fails. All memory is taken before
 /// the first write.
 pub fn deliver<O: Sink>(alloc: Global, answer: &Answer, out: &mut O) -> Status
-    ensures delivered { IsDelivered result (O.bytes out.old) (O.bytes out.new)
+    ensures delivered { IsDelivered result (O.taken out.old) (O.taken out.new)
         (text_of answer.now) }
     ensures fault { result ≡ Status.WriteFault → Rose (O.faults out.old) (O.faults out.new) }
     ensures unwritten { result ≡ Status.NoMemory → out.new ≡ out.old }

@@ -38,7 +38,7 @@ fn limit_words(kind: LimitKind) -> &'static [u8]
 
 /// Writes four pieces, or a front of them where the sink fails.
 fn put<E: Sink>(err: &mut E, first: &[u8], second: &[u8], third: &[u8], last: &[u8])
-    ensures { AreSaid (E.bytes err.old) (E.bytes err.new) (E.faults err.old) (E.faults err.new)
+    ensures { AreSaid (E.taken err.old) (E.taken err.new) (E.faults err.old) (E.faults err.new)
         (first.now ∷ second.now ∷ third.now ∷ last.now ∷ []) }
 {
     let _ = write_line(err, &[first, second, third, last]);
@@ -54,7 +54,7 @@ fn put_six<E: Sink>(
     fifth: &[u8],
     last: &[u8],
 )
-    ensures { AreSaid (E.bytes err.old) (E.bytes err.new) (E.faults err.old) (E.faults err.new)
+    ensures { AreSaid (E.taken err.old) (E.taken err.new) (E.faults err.old) (E.faults err.new)
         (first.now ∷ second.now ∷ third.now ∷ fourth.now ∷ fifth.now ∷ last.now ∷ []) }
 {
     let _ = write_line(err, &[first, second, third, fourth, fifth, last]);
@@ -63,7 +63,7 @@ fn put_six<E: Sink>(
 /// Writes what is wrong with an embedding in words round a number, or a front of them where the
 /// sink fails.
 fn put_number<E: Sink>(err: &mut E, before: &[u8], number: u64, after: &[u8])
-    ensures { AreSaid (E.bytes err.old) (E.bytes err.new) (E.faults err.old) (E.faults err.new)
+    ensures { AreSaid (E.taken err.old) (E.taken err.new) (E.faults err.old) (E.faults err.new)
         (with_number before.now number after.now) }
 {
     let mut digits = Buffer::new();
@@ -80,7 +80,7 @@ fn put_numbers<E: Sink>(
     second: u64,
     after: &[u8],
 )
-    ensures { AreSaid (E.bytes err.old) (E.bytes err.new) (E.faults err.old) (E.faults err.new)
+    ensures { AreSaid (E.taken err.old) (E.taken err.new) (E.faults err.old) (E.faults err.new)
         (with_numbers before.now first between.now second after.now) }
 {
     let mut digits = Buffer::new();
@@ -93,7 +93,7 @@ fn put_numbers<E: Sink>(
 
 /// Writes the line for an embedding that is not valid, or a front of it where the sink fails.
 fn say_fault<E: Sink>(fault: EmbedFault, err: &mut E)
-    ensures { AreSaid (E.bytes err.old) (E.bytes err.new) (E.faults err.old) (E.faults err.new)
+    ensures { AreSaid (E.taken err.old) (E.taken err.new) (E.faults err.old) (E.faults err.new)
         (codes "not embedded: " ∷ fault_pieces fault) }
 {
     match fault {
@@ -127,7 +127,7 @@ fn say_fault<E: Sink>(fault: EmbedFault, err: &mut E)
 
 /// Writes the line for a model that is too wide, or a front of it where the sink fails.
 fn say_wide<E: Sink>(node: u32, width: u32, err: &mut E)
-    ensures { AreSaid (E.bytes err.old) (E.bytes err.new) (E.faults err.old) (E.faults err.new)
+    ensures { AreSaid (E.taken err.old) (E.taken err.new) (E.faults err.old) (E.faults err.new)
         (wide_pieces node width) }
 {
     let mut digits = Buffer::new();
@@ -147,7 +147,7 @@ fn say_wide<E: Sink>(node: u32, width: u32, err: &mut E)
 
 /// Writes two coefficients that differ, or a front of their line where the sink fails.
 fn say_difference<E: Sink>(ours: i128, theirs: i128, err: &mut E)
-    ensures { AreSaid (E.bytes err.old) (E.bytes err.new) (E.faults err.old) (E.faults err.new)
+    ensures { AreSaid (E.taken err.old) (E.taken err.new) (E.faults err.old) (E.faults err.new)
         (codes "not proved: " ∷ proof_pieces (ProofFault.Differs ours theirs)) }
 {
     let mut digits = Buffer::new();
@@ -168,7 +168,7 @@ fn say_difference<E: Sink>(ours: i128, theirs: i128, err: &mut E)
 
 /// Writes the line for a state that is not proved, or a front of it where the sink fails.
 fn say_unproved<E: Sink>(fault: ProofFault, err: &mut E)
-    ensures { AreSaid (E.bytes err.old) (E.bytes err.new) (E.faults err.old) (E.faults err.new)
+    ensures { AreSaid (E.taken err.old) (E.taken err.new) (E.faults err.old) (E.faults err.new)
         (codes "not proved: " ∷ proof_pieces fault) }
 {
     let mut digits = Buffer::new();
@@ -187,7 +187,7 @@ fn say_unproved<E: Sink>(fault: ProofFault, err: &mut E)
 
 /// Writes the line for a status, of the file's name, or a front of it where the sink fails.
 pub fn say<E: Sink>(status: Status, name: &str, err: &mut E)
-    ensures said { IsSaid (E.bytes err.old) (E.bytes err.new) (E.faults err.old) (E.faults err.new)
+    ensures said { IsSaid (E.taken err.old) (E.taken err.new) (E.faults err.old) (E.faults err.new)
         (error_line status name.now) }
     ensures silent { status ≡ Status.Done → err.new ≡ err.old }
 {

@@ -1,8 +1,7 @@
 //! A line in one write, so that the lines of programs that share a pipe do not mix.
 ghost use Rattle.std.specs.Prelude.{◌≡◌, ◌≤◌, ◌↔◌, IfSome, IsSome, OnOk, OnErr, length};
-ghost use Rattle.std.specs.Io.KnownBytes.{Appends};
 ghost use Rattle.edge_io.specs.Counts.{HasCause};
-ghost use Rattle.edge_io.specs.Sinks.{AppendsFront, joined_bytes};
+ghost use Rattle.edge_io.specs.Sinks.{Takes, TakesFront, joined_bytes};
 
 use arrayvec::ArrayVec;
 use edge_io::{Sink, WriteFault, write_all, write_pieces};
@@ -28,9 +27,9 @@ fn joined(pieces: &[&[u8]]) -> Option<ArrayVec<u8, ROOM>>
 /// one write where they have room on the stack, and else in one each. It takes no memory.
 pub(crate) fn write_line<S: Sink>(sink: &mut S, pieces: &[&[u8]]) -> Result<(), WriteFault>
     ensures whole { OnOk result
-        (Appends (S.bytes sink.old) (S.bytes sink.new) (joined_bytes pieces.now)) }
+        (Takes (S.taken sink.old) (S.taken sink.new) (joined_bytes pieces.now)) }
     ensures front { OnErr result
-        (AppendsFront (S.bytes sink.old) (S.bytes sink.new) (joined_bytes pieces.now)) }
+        (TakesFront (S.taken sink.old) (S.taken sink.new) (joined_bytes pieces.now)) }
     ensures cause { HasCause (S.faults sink.old) (S.faults sink.new) result }
 {
     match joined(pieces) {

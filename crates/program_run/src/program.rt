@@ -29,13 +29,13 @@ pub fn given_words(rt: &HostRuntime) -> Result<Vec<String>, Status>
 
 /// How a run on the words of the command line and the files of the system ends.
 fn ending<O: Sink, E: Sink>(rt: HostRuntime, out: &mut O, err: &mut E) -> Status
-    ensures written { OnDone result (WritesText (O.bytes out.old) (O.bytes out.new)) }
+    ensures written { OnDone result (WritesText (O.taken out.old) (O.taken out.new)) }
     ensures refused { OnRefusal result (out.new ≡ out.old) }
     ensures write_fault { result ≡ Status.WriteFault
         → Rose (O.faults out.old) (O.faults out.new) }
     ensures silent { OnDone result (err.new ≡ err.old) }
     ensures told { IsTold result
-        (E.bytes err.old) (E.bytes err.new) (E.faults err.old) (E.faults err.new) }
+        (E.taken err.old) (E.taken err.new) (E.faults err.old) (E.faults err.new) }
 {
     match given_words(&rt) {
         Err(status) => status,
@@ -53,14 +53,14 @@ pub fn exit_number<O: Sink, E: Sink>(rt: HostRuntime, out: &mut O, err: &mut E) 
     ensures number { IsExitNumber result }
 
     // Something is written to `out` with 0 and, after a fault of it, with 4, and else nothing.
-    ensures written { result ≡ 0 → WritesText (O.bytes out.old) (O.bytes out.new) }
+    ensures written { result ≡ 0 → WritesText (O.taken out.old) (O.taken out.new) }
     ensures refused { result ≢ 0 → result ≢ 4 → out.new ≡ out.old }
     ensures write_fault { result ≡ 4 → Rose (O.faults out.old) (O.faults out.new) }
 
     // The line for the status goes to `err`, and with 0 there is none.
     ensures silent { result ≡ 0 → err.new ≡ err.old }
     ensures told { IsToldBy result
-        (E.bytes err.old) (E.bytes err.new) (E.faults err.old) (E.faults err.new) }
+        (E.taken err.old) (E.taken err.new) (E.faults err.old) (E.faults err.new) }
 {
     ending(rt, out, err).number()
 }

@@ -57,8 +57,8 @@ fn answered<F: Files, O: Sink>(
     ensures outcome { WhereHeld (F.held files.old) (files_in (spelled words.now)) (λ held.
         MeetsOutcome (spelled words.now) held result) }
     ensures answered { OnWriting result (DeliversAnswer (spelled words.now) (F.held files.old)
-        result (O.bytes out.old) (O.bytes out.new)) }
-    ensures written { OnDone result (WritesText (O.bytes out.old) (O.bytes out.new)) }
+        result (O.taken out.old) (O.taken out.new)) }
+    ensures written { OnDone result (WritesText (O.taken out.old) (O.taken out.new)) }
     ensures refused { OnRefusal result (out.new ≡ out.old) }
 {
     match said {
@@ -102,11 +102,11 @@ pub fn run<F: Files, O: Sink, E: Sink>(
 
     // The headline.
     ensures answered { OnWriting result (DeliversAnswer (spelled words.now) (F.held files.old)
-        result (O.bytes out.old) (O.bytes out.new)) }
-    ensures written { OnDone result (WritesText (O.bytes out.old) (O.bytes out.new)) }
+        result (O.taken out.old) (O.taken out.new)) }
+    ensures written { OnDone result (WritesText (O.taken out.old) (O.taken out.new)) }
     ensures refused { OnRefusal result (out.new ≡ out.old) }
 
-    ensures line { IsSaid (E.bytes err.old) (E.bytes err.new) (E.faults err.old) (E.faults err.new)
+    ensures line { IsSaid (E.taken err.old) (E.taken err.new) (E.faults err.old) (E.faults err.new)
         (error_line result (name_said (spelled words.now) result)) }
     ensures silent { OnDone result (err.new ≡ err.old) }
 {

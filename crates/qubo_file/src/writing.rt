@@ -1,8 +1,7 @@
 //! The text of a QUBO as a whole.
 ghost use Rattle.std.specs.Prelude.{◌≡◌, [], IfOk, OnOk, OnErr};
-ghost use Rattle.std.specs.Io.KnownBytes.{Appends};
 ghost use Rattle.edge_io.specs.Counts.{HasCause};
-ghost use Rattle.edge_io.specs.Sinks.{AppendsFront};
+ghost use Rattle.edge_io.specs.Sinks.{Takes, TakesFront};
 ghost use Rattle.bits_model.specs.declared.output.Kind.TheVariants.{Qubo};
 ghost use Rattle.model_text.specs.Rows.{model_text};
 ghost use Rattle.model_text.specs.Told.{TellsModel};
@@ -32,9 +31,9 @@ pub fn write_qubo<S: Sink>(
     requires kind { model.now.kind ≡ Qubo }
     requires unused { buffer.old ≡ [] }
     ensures whole { OnOk result
-        (Appends (S.bytes sink.old) (S.bytes sink.new) (model_text model.now)) }
+        (Takes (S.taken sink.old) (S.taken sink.new) (model_text model.now)) }
     ensures front { OnErr result
-        (AppendsFront (S.bytes sink.old) (S.bytes sink.new) (model_text model.now)) }
+        (TakesFront (S.taken sink.old) (S.taken sink.new) (model_text model.now)) }
     ensures empty { buffer.new ≡ [] }
     ensures cause { HasCause (S.faults sink.old) (S.faults sink.new) result }
 {

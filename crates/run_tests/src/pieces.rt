@@ -1,5 +1,5 @@
 //! A file that is taken, and a text that is written, in small pieces alone.
-ghost use Rattle.std.specs.Prelude.{[], None, string_bytes};
+ghost use Rattle.std.specs.Prelude.{[], None, length, string_bytes};
 ghost use Rattle.std.specs.Option.{option_map_or};
 ghost use Rattle.edge_io.specs.Held.{after_first};
 ghost use Rattle.edge_io.specs.laws.Begun.{after_first-none};
@@ -83,7 +83,10 @@ struct ShortSink {
 }
 
 impl Sink for ShortSink {
-    ghost bytes = { λ s. None };
+    ghost taken = { λ s. record {
+      bytes = None;
+      count = length s.bytes.items;
+    } };
 
     ghost faults = { λ s. s.faults };
 

@@ -2,7 +2,7 @@
 ghost use Rattle.std.specs.Prelude.{◌≡◌, ◌++◌, [], OnOk, OnErr};
 ghost use Rattle.std.specs.Fmt.{signed_decimal};
 ghost use Rattle.edge_io.specs.Counts.{HasCause};
-ghost use Rattle.edge_io.specs.Sinks.{AppendsFront, Passes};
+ghost use Rattle.edge_io.specs.Sinks.{TakesFront, Passes};
 
 use edge_io::{LineBuffer, Sink, WriteFault};
 use itoa::Buffer;
@@ -14,9 +14,9 @@ pub fn put_number<S: Sink>(
     sink: &mut S,
     value: i128,
 ) -> Result<(), WriteFault>
-    ensures passed { OnOk result (Passes (S.bytes sink.old) (S.bytes sink.new)
+    ensures passed { OnOk result (Passes (S.taken sink.old) (S.taken sink.new)
         buffer.old buffer.new (signed_decimal value)) }
-    ensures front { OnErr result (AppendsFront (S.bytes sink.old) (S.bytes sink.new)
+    ensures front { OnErr result (TakesFront (S.taken sink.old) (S.taken sink.new)
         (buffer.old ++ signed_decimal value)) }
     ensures lost { OnErr result (buffer.new ≡ []) }
     ensures cause { HasCause (S.faults sink.old) (S.faults sink.new) result }

@@ -1,11 +1,11 @@
 use Rattle.std.proofs.Common.{◌≡◌, ◌≤◌, List, ℕ, ◌++◌, length}
-use Rattle.std.specs.Io.KnownBytes.{Appends}
+use Rattle.edge_io.specs.Sinks.{Takes}
 use Rattle.edge_io.proofs.whole.write_all.Given as goal
 
 -- the front of the piece before the rest was taken
 abbrev pub invariant-loop-rest : goal.invariant-loop-rest
 invariant-loop-rest g l = record {
-  taken : (front : List ℕ) × (l.piece ≡ front ++ l.rest) × Appends (g.S.Sink.bytes l.initial.sink) (g.S.Sink.bytes l.sink) front;
+  taken : (front : List ℕ) × (l.piece ≡ front ++ l.rest) × Takes (g.S.Sink.taken l.initial.sink) (g.S.Sink.taken l.sink) front;
   later : g.S.Sink.faults l.initial.sink ≤ g.S.Sink.faults l.sink;
 }
 

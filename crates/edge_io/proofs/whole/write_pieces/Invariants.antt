@@ -1,11 +1,10 @@
 use Rattle.std.proofs.Common.{◌≤◌, take}
-use Rattle.std.specs.Io.KnownBytes.{Appends}
-use Rattle.edge_io.specs.Sinks.{joined_bytes}
+use Rattle.edge_io.specs.Sinks.{Takes, joined_bytes}
 use Rattle.edge_io.proofs.whole.write_pieces.Given as goal
 
 -- the pieces before this one were taken whole
 abbrev pub invariant-loop-piece : goal.invariant-loop-piece
 invariant-loop-piece g l = record {
-  taken : Appends (g.S.Sink.bytes l.initial.sink) (g.S.Sink.bytes l.sink) (joined_bytes (take l.piece-index l.pieces));
+  taken : Takes (g.S.Sink.taken l.initial.sink) (g.S.Sink.taken l.sink) (joined_bytes (take l.piece-index l.pieces));
   later : g.S.Sink.faults l.initial.sink ≤ g.S.Sink.faults l.sink;
 }

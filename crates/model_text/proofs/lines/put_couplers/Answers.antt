@@ -22,7 +22,7 @@ loop-index-preserved g c =
 
 pub loop-index-init : goal.loop-index-init
 loop-index-init g c =
-    let told = g.S.Sink.bytes c.args.sink.now in
+    let told = g.S.Sink.taken c.args.sink.now in
     let pending = c.args.buffer.now in
     let text = entries_text c.args.couplers.now in
     record {

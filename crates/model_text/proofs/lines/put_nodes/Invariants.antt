@@ -6,6 +6,6 @@ use Rattle.model_text.proofs.lines.put_nodes.Given as goal
 -- the rows of all entries but those that are left were put
 abbrev pub invariant-loop-entry : goal.invariant-loop-entry
 invariant-loop-entry g l = record {
-  put : IsPut (g.S.Sink.bytes l.fn.sink) (g.S.Sink.bytes l.sink) l.fn.buffer l.buffer (rows_text (map entry_row l.weights)) (rows_text (map entry_row l.entry-iterator));
+  put : IsPut (g.S.Sink.taken l.fn.sink) (g.S.Sink.taken l.sink) l.fn.buffer l.buffer (rows_text (map entry_row l.weights)) (rows_text (map entry_row l.entry-iterator));
   later : g.S.Sink.faults l.fn.sink ≤ g.S.Sink.faults l.sink;
 }

@@ -6,6 +6,6 @@ use Rattle.model_text.proofs.lines.put_row.Given as goal
 -- the entries before this one were put
 abbrev pub invariant-loop-index : goal.invariant-loop-index
 invariant-loop-index g l = record {
-  put : IsPut (g.S.Sink.bytes l.fn.sink) (g.S.Sink.bytes l.sink) l.fn.buffer l.buffer (entries_text l.row) (entries_text (drop l.index l.row));
+  put : IsPut (g.S.Sink.taken l.fn.sink) (g.S.Sink.taken l.sink) l.fn.buffer l.buffer (entries_text l.row) (entries_text (drop l.index l.row));
   later : g.S.Sink.faults l.fn.sink ≤ g.S.Sink.faults l.sink;
 }

@@ -3,7 +3,7 @@ use Rattle.std.specs.Int.{w128}
 use Rattle.std.proofs.lemmas.Int.{to_z-of_z}
 use Rattle.bits_model.specs.declared.output.OutputModel.TheInside.{Inside}
 use Rattle.bits_model.specs.Output.{Written}
-use Rattle.edge_io.specs.Sinks.{AppendsFront, Passes}
+use Rattle.edge_io.specs.Sinks.{TakesFront, Passes}
 use Rattle.model_text.specs.Rows.{rows_text, figure_rows, model_text, FitsFields}
 use Rattle.model_text.specs.Told.{TellsModel}
 use Rattle.model_text.proofs.Numerals.{size_fits}
@@ -28,7 +28,7 @@ written m = record {
 pub returns-in_err-put_figures-clause-front : goal.returns-in_err-put_figures-clause-front
 returns-in_err-put_figures-clause-front g c =
     let m = written c.model.inside in
-    let of_unit = λ (unit : ℤ). AppendsFront (g.S.Sink.bytes c.args.sink.now) (g.S.Sink.bytes c.put_figures.new.sink) (c.args.buffer.now ++ rows_text (figure_rows m.figures unit m.variables)) in
+    let of_unit = λ (unit : ℤ). TakesFront (g.S.Sink.taken c.args.sink.now) (g.S.Sink.taken c.put_figures.new.sink) (c.args.buffer.now ++ rows_text (figure_rows m.figures unit m.variables)) in
     let figures = subst of_unit (to_z-of_z w128 m.unit (search rules)) c.in_err-put_figures.ensures.front in
     let cut = sym (ap model_text c.model.view_is) ∙ text_parts m m.chains refl in
     at_error c.from_residual.result
@@ -37,7 +37,7 @@ returns-in_err-put_figures-clause-front g c =
 pub returns-in_err-put_graph-clause-front : goal.returns-in_err-put_graph-clause-front
 returns-in_err-put_graph-clause-front g c =
     let m = written c.model.inside in
-    let figures : Passes (g.S.Sink.bytes c.args.sink.now) (g.S.Sink.bytes c.put_figures.new.sink) c.args.buffer.now c.put_figures.new.buffer (rows_text (figure_rows m.figures m.unit m.variables)) =
+    let figures : Passes (g.S.Sink.taken c.args.sink.now) (g.S.Sink.taken c.put_figures.new.sink) c.args.buffer.now c.put_figures.new.buffer (rows_text (figure_rows m.figures m.unit m.variables)) =
     search rules in
     let cut = sym (ap model_text c.model.view_is) ∙ text_parts m m.chains refl in
     let figured =
@@ -48,7 +48,7 @@ returns-in_err-put_graph-clause-front g c =
 pub returns-in_err-put_header-clause-front : goal.returns-in_err-put_header-clause-front
 returns-in_err-put_header-clause-front g c =
     let m = written c.model.inside in
-    let figures : Passes (g.S.Sink.bytes c.args.sink.now) (g.S.Sink.bytes c.put_figures.new.sink) c.args.buffer.now c.put_figures.new.buffer (rows_text (figure_rows m.figures m.unit m.variables)) =
+    let figures : Passes (g.S.Sink.taken c.args.sink.now) (g.S.Sink.taken c.put_figures.new.sink) c.args.buffer.now c.put_figures.new.buffer (rows_text (figure_rows m.figures m.unit m.variables)) =
     search rules in
     let cut = sym (ap model_text c.model.view_is) ∙ text_parts m m.chains refl in
     let figured =
@@ -60,7 +60,7 @@ returns-in_err-put_header-clause-front g c =
 pub returns-clause-passed : goal.returns-clause-passed
 returns-clause-passed g c =
     let m = written c.model.inside in
-    let figures : Passes (g.S.Sink.bytes c.args.sink.now) (g.S.Sink.bytes c.put_figures.new.sink) c.args.buffer.now c.put_figures.new.buffer (rows_text (figure_rows m.figures m.unit m.variables)) =
+    let figures : Passes (g.S.Sink.taken c.args.sink.now) (g.S.Sink.taken c.put_figures.new.sink) c.args.buffer.now c.put_figures.new.buffer (rows_text (figure_rows m.figures m.unit m.variables)) =
     search rules in
     let cut = sym (ap model_text c.model.view_is) ∙ text_parts m m.chains refl in
     let figured =
@@ -75,7 +75,7 @@ returns-clause-passed g c =
 pub returns-clause-front : goal.returns-clause-front
 returns-clause-front g c =
     let m = written c.model.inside in
-    let figures : Passes (g.S.Sink.bytes c.args.sink.now) (g.S.Sink.bytes c.put_figures.new.sink) c.args.buffer.now c.put_figures.new.buffer (rows_text (figure_rows m.figures m.unit m.variables)) =
+    let figures : Passes (g.S.Sink.taken c.args.sink.now) (g.S.Sink.taken c.put_figures.new.sink) c.args.buffer.now c.put_figures.new.buffer (rows_text (figure_rows m.figures m.unit m.variables)) =
     search rules in
     let cut = sym (ap model_text c.model.view_is) ∙ text_parts m m.chains refl in
     let figured =

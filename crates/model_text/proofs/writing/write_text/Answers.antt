@@ -1,5 +1,5 @@
 use Rattle.std.proofs.Common.{◌++◌, List, ℕ, subst}
-use Rattle.edge_io.specs.Sinks.{AppendsFront}
+use Rattle.edge_io.specs.Sinks.{TakesFront}
 use Rattle.model_text.proofs.Puts.{at_error, then_ok, then_error, flushed, flushed_front}
 use Rattle.model_text.specs.Rows.{model_text}
 use Rattle.model_text.proofs.writing.write_text.Goals as goal
@@ -7,7 +7,7 @@ use Rattle.model_text.proofs.writing.write_text.Goals as goal
 pub returns-in_err-put_text-clause-front : goal.returns-in_err-put_text-clause-front
 returns-in_err-put_text-clause-front g c =
     at_error c.from_residual.result
-    (subst (λ (p : List ℕ). AppendsFront (g.S.Sink.bytes c.args.sink.now) (g.S.Sink.bytes c.put_text.new.sink) (p ++ model_text c.args.model.now))
+    (subst (λ (p : List ℕ). TakesFront (g.S.Sink.taken c.args.sink.now) (g.S.Sink.taken c.put_text.new.sink) (p ++ model_text c.args.model.now))
     c.requires c.in_err-put_text.ensures.front)
 
 pub returns-clause-whole : goal.returns-clause-whole
