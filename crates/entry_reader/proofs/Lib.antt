@@ -1,5 +1,6 @@
 pub mod Words
 pub mod Puttings
+pub mod Totals
 pub mod RowsAgain
 pub mod EntriesAgain
 pub mod TextsAgain

@@ -3,6 +3,7 @@ ghost use Rattle.std.specs.Prelude.{◌≡◌, ◌+◌, ◌*◌, ◌<◌, ◌≤
 ghost use Rattle.whole_text.specs.TokenTexts.{word_of, words_of};
 ghost use Rattle.whole_text.specs.Steps.{Gives};
 ghost use Rattle.problem_form.specs.Problems.{problem_total};
+ghost use Rattle.problem_form.specs.NormalForm.{blank};
 ghost use Rattle.opb_reader.specs.Cost.{normal_reading, problem_of_words};
 ghost use Rattle.opb_reader.specs.Views.{head_read, constraint_read, constraints_read};
 
@@ -74,34 +75,55 @@ fn constraint<'a>(
     Ok(())
 }
 
-/// Adds the constraints up to the end.
+/// Adds the constraints up to the end. Each is written down in place of the one before.
 fn constraints(
-    alloc: Global,
-    mut problem: Problem,
-    mut words: Words<'_>,
-    mut list: Vec<Literal>,
+    problem: &mut Problem,
+    written: &mut Constraint,
+    words: &mut Words<'_>,
+    list: &mut Vec<Literal>,
     end: u64,
-) -> Result<Problem, TextAnswer>
-    requires emptied { list.items ≡ [] }
-    requires small { problem_total problem + length words * 2 ^ 64 < 2 ^ 100 }
-    ensures { Gives (λ problem. problem) result (constraints_read problem end words.entry) }
+) -> Result<(), TextAnswer>
+    requires emptied { list.old.items ≡ [] }
+    requires small { problem_total problem.old + length words.old * 2 ^ 64 < 2 ^ 100 }
+    ensures { Gives (λ _. problem.new) result (constraints_read problem.old end words.old) }
 {
+    while let Some(first) = words.next() {
+        constraint(first, problem, written, words, list, end)?;
+    }
+    Ok(())
+}
+
+/// Adds the objective and the constraints of a text to a problem that is new.
+fn add_text(
+    problem: &mut Problem,
+    written: &mut Constraint,
+    list: &mut Vec<Literal>,
+    text: &TokenText,
+) -> Result<(), TextAnswer>
+    requires empty { problem.old ≡ blank }
+    requires emptied { list.old.items ≡ [] }
+    requires short { length text.now.bytes ≤ 2 ^ 24 }
+    ensures { Gives (λ _. problem.new) result (problem_of_words (words_of text.now)) }
+{
+    let mut words = text.words();
+    let end = text.end_line();
+    head(problem, &mut words, list, end)?;
+    constraints(problem, written, &mut words, list, end)
+}
+
+/// Reads a text that was cut into words into a problem that is new.
+fn read_into(alloc: Global, problem: &mut Problem, text: &TokenText) -> Result<(), TextAnswer>
+    requires empty { problem.old ≡ blank }
+    requires short { length text.now.bytes ≤ 2 ^ 24 }
+    ensures { Gives (λ _. problem.new) result (problem_of_words (words_of text.now)) }
+{
+    let mut list = Vec::new(alloc);
     let mut written = Constraint {
         products: ProductList::empty(alloc),
         bound: 0,
         exact: false,
     };
-    while let Some(first) = words.next() {
-        constraint(
-            first,
-            &mut problem,
-            &mut written,
-            &mut words,
-            &mut list,
-            end,
-        )?;
-    }
-    Ok(problem)
+    add_text(problem, &mut written, &mut list, text)
 }
 
 /// The problem of a text that was cut into words, in normal form, or the first fault of the text.
@@ -109,12 +131,9 @@ pub fn read_opb_tokens(alloc: Global, text: &TokenText) -> Result<Problem, TextA
     requires { length text.now.bytes ≤ 2 ^ 24 }
     ensures { Gives (λ problem. problem) result (problem_of_words (words_of text.now)) }
 {
-    let mut words = text.words();
-    let end = text.end_line();
     let mut problem = Problem::new(alloc);
-    let mut list = Vec::new(alloc);
-    head(&mut problem, &mut words, &mut list, end)?;
-    constraints(alloc, problem, words, list, end)
+    read_into(alloc, &mut problem, text)?;
+    Ok(problem)
 }
 
 /// The problem of a text, in normal form, or the first fault of the text.

@@ -10,9 +10,14 @@ use std::alloc::Global;
 use std::marker::Model;
 
 /// Names, each as it stands in the text. Contracts see the list of the names.
-#[derive(Drop)]
 pub(crate) struct NameTable<'a> {
     set: IndexSet<&'a str>,
+}
+
+impl<'a> Drop for NameTable<'a> {
+    fn drop(self) {
+        let NameTable { set: _set } = self;
+    }
 }
 
 impl<'a> Model for NameTable<'a> {

@@ -17,9 +17,14 @@ pub(crate) fn as_text(name: &[u8]) -> &str
 
 /// The names of variables, in the order of the variables. They lie one after another, and a name
 /// takes no memory of its own. Contracts see the list of the names.
-#[derive(Drop)]
 pub struct Names {
     names: Lists<u8>,
+}
+
+impl Drop for Names {
+    fn drop(self) {
+        let Names { names: _names } = self;
+    }
 }
 
 impl Model for Names {

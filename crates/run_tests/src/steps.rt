@@ -9,7 +9,7 @@ use command_words::{Format, NodeModel};
 use model_pipeline::{Keeping, model_of};
 use problem_form::{Choices, High, Normal, Problem, check_limits};
 use qubo_file::qubo_text;
-use source_texts::{Read, read_source};
+use source_texts::read_source;
 use std::alloc::Global;
 
 const CHOICES: Choices = Choices {
@@ -43,12 +43,9 @@ fn model_of_text(alloc: Global, text: &str) -> Option<OutputModel>
     if text.len() > 100 {
         return None;
     }
-    let Read {
-        problem,
-        variables,
-        ..
-    } = read_source(alloc, Format::Wcnf, text.as_bytes()).ok()?;
-    model_of_problem(alloc, problem, variables)
+    let read = read_source(alloc, Format::Wcnf, text.as_bytes()).ok()?;
+    let variables = read.variables;
+    model_of_problem(alloc, read.into_problem(), variables)
 }
 
 /// Whether this is the text of the model as that of a QUBO.

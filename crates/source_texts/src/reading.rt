@@ -27,12 +27,37 @@ use whole_text::{Lexer, Style, TextAnswer, TokenText};
 /// What a text is read into: its problem, how many of the problem's first variables are the
 /// source's own, and their names, where the text has names for them. Soft constraints are kept,
 /// where the problem is what they are rewritten to: then its further variables are their bits.
-#[derive(Drop)]
 pub struct Read {
     pub problem: Problem,
     pub variables: u64,
     pub names: Option<Names>,
     pub soft: Option<Wbo>,
+}
+
+impl Drop for Read {
+    fn drop(self) {
+        let Read {
+            problem: _problem,
+            variables: _variables,
+            names: _names,
+            soft: _soft,
+        } = self;
+    }
+}
+
+impl Read {
+    /// The problem. All else is let go.
+    pub fn into_problem(self) -> Problem
+        ensures { result ≡ self.problem }
+    {
+        let Read {
+            problem,
+            variables: _variables,
+            names: _names,
+            soft: _soft,
+        } = self;
+        problem
+    }
 }
 
 /// How the texts of a format are cut into words.

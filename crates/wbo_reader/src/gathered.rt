@@ -13,13 +13,24 @@ use std::marker::Model;
 
 /// The constraints so far, and how many variables they have. It keeps nothing of what a source
 /// keeps: what is read has this for every text, so that it is shown once, for the whole.
-#[derive(Drop)]
 pub(crate) struct Gathered {
     pub variables: u64,
     pub hard: ConstraintList,
     pub soft: SoftList,
     pub top: Option<u64>,
     pub order: OrderList,
+}
+
+impl Drop for Gathered {
+    fn drop(self) {
+        let Gathered {
+            variables: _variables,
+            hard: _hard,
+            soft: _soft,
+            top: _top,
+            order: _order,
+        } = self;
+    }
 }
 
 impl Model for Gathered {
@@ -74,12 +85,19 @@ impl Gathered {
         requires { IsWbo self }
         ensures { result ≡ self }
     {
+        let Gathered {
+            variables,
+            hard,
+            soft,
+            top,
+            order,
+        } = self;
         Wbo {
-            variables: self.variables,
-            hard: self.hard,
-            soft: self.soft,
-            top: self.top,
-            order: self.order,
+            variables,
+            hard,
+            soft,
+            top,
+            order,
         }
     }
 }

@@ -1,5 +1,5 @@
 //! A whole text.
-ghost use Rattle.std.specs.Prelude.{◌≡◌, ◌+◌, ◌*◌, ◌<◌, ◌≤◌, ◌^◌, [], length, IfOk, OnOk};
+ghost use Rattle.std.specs.Prelude.{◌≡◌, ◌+◌, ◌*◌, ◌<◌, ◌≤◌, ◌^◌, [], length, OnOk};
 ghost use Rattle.whole_text.specs.TokenTexts.{word_of, words_of};
 ghost use Rattle.whole_text.specs.Steps.{Gives};
 ghost use Rattle.wbo_reader.specs.Wbo.{wbo_total};
@@ -56,17 +56,37 @@ fn constraint<'a>(
     Ok(())
 }
 
-/// Adds the constraints up to the end.
+/// Adds the constraints up to the end. Each is written down in place of the one before.
 fn constraints(
-    alloc: Global,
-    mut gathered: Gathered,
-    mut words: Words<'_>,
+    gathered: &mut Gathered,
+    written: &mut Constraint,
+    words: &mut Words<'_>,
+    list: &mut Vec<Literal>,
     end: u64,
-) -> Result<Gathered, TextAnswer>
-    requires { wbo_total gathered + length words * 2 ^ 64 < 2 ^ 90 }
-    ensures read { Gives (λ gathered. gathered) result
-        (constraints_read gathered end words.entry) }
-    ensures small { IfOk result (λ s. wbo_total s < 2 ^ 90) }
+) -> Result<(), TextAnswer>
+    requires emptied { list.old.items ≡ [] }
+    requires small { wbo_total gathered.old + length words.old * 2 ^ 64 < 2 ^ 90 }
+    ensures read { Gives (λ _. gathered.new) result
+        (constraints_read gathered.old end words.old) }
+    ensures small { OnOk result (wbo_total gathered.new < 2 ^ 90) }
+{
+    while let Some(first) = words.next() {
+        constraint(first, gathered, written, words, list, end)?;
+    }
+    Ok(())
+}
+
+/// Reads what stands behind the head of a text.
+fn read_into(
+    alloc: Global,
+    gathered: &mut Gathered,
+    words: &mut Words<'_>,
+    end: u64,
+) -> Result<(), TextAnswer>
+    requires { wbo_total gathered.old + length words.old * 2 ^ 64 < 2 ^ 90 }
+    ensures read { Gives (λ _. gathered.new) result
+        (constraints_read gathered.old end words.old) }
+    ensures small { OnOk result (wbo_total gathered.new < 2 ^ 90) }
 {
     let mut list = Vec::new(alloc);
     let mut written = Constraint {
@@ -74,17 +94,7 @@ fn constraints(
         bound: 0,
         exact: false,
     };
-    while let Some(first) = words.next() {
-        constraint(
-            first,
-            &mut gathered,
-            &mut written,
-            &mut words,
-            &mut list,
-            end,
-        )?;
-    }
-    Ok(gathered)
+    constraints(gathered, &mut written, words, &mut list, end)
 }
 
 /// The source of a text that was cut into words, in normal form, or the first fault of the text.
@@ -95,8 +105,8 @@ pub fn read_wbo_tokens(alloc: Global, text: &TokenText) -> Result<Wbo, TextAnswe
     let mut words = text.words();
     let end = text.end_line();
     let top = head(&mut words, end)?;
-    let gathered = Gathered::new(alloc, top);
-    let gathered = constraints(alloc, gathered, words, end)?;
+    let mut gathered = Gathered::new(alloc, top);
+    read_into(alloc, &mut gathered, &mut words, end)?;
     Ok(gathered.into_wbo())
 }
 

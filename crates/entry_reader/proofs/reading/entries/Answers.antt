@@ -9,7 +9,7 @@ use Rattle.entry_reader.proofs.reading.entries.Goals as goal
 
 pub returns-in_err-entry : goal.returns-in_err-entry
 returns-in_err-entry c =
-    let ws = c.args.words in
+    let ws = c.args.words.now in
     let all = problem_read-blank c.args.layout c.args.end c.args.counts ws in
     let before = rw c.in-Some.ensures at c.loop-first.invariant.read in
     let p = err_from_is_err_and c.from_residual.result c.from_residual.ensures.1 in
@@ -23,7 +23,7 @@ pub loop-first-preserved : goal.loop-first-preserved
 loop-first-preserved c =
     let entry = c.in_ok-entry.entry in
     let all = read_into c.args.layout (with_variables blank c.args.counts.nodes)
-    (entries_at c.args.end c.args.counts c.args.words) in
+    (entries_at c.args.end c.args.counts c.args.words.now) in
     let before = rw c.in-Some.ensures at c.loop-first.invariant.read in
     let added = c.in_ok-add_entry.ensures.added in
     record {
@@ -46,7 +46,7 @@ loop-first-preserved c =
 
 pub returns-in_err-none_to_come : goal.returns-in_err-none_to_come
 returns-in_err-none_to_come c =
-    let ws = c.args.words in
+    let ws = c.args.words.now in
     let all = problem_read-blank c.args.layout c.args.end c.args.counts ws in
     let residual = c.from_residual-in_err-none_to_come in
     let p = err_from_is_err_and residual.result residual.ensures.1 in
@@ -58,7 +58,7 @@ returns-in_err-none_to_come c =
 
 pub returns : goal.returns
 returns c =
-    let ws = c.args.words in
+    let ws = c.args.words.now in
     let all = problem_read-blank c.args.layout c.args.end c.args.counts ws in
     entries_end c.args.layout c.args.end c.loop-first.to_come c.loop-first.problem
     c.loop-first.words _ (problem_read c.args.layout c.args.end c.args.counts ws)

@@ -39,8 +39,8 @@ returns-in_err-top c =
     (whole text words end c.end_line-end.ensures c.words-words.ensures
     ∙ head_fails c.in_err-top.field-0.0 end (head_at end words) c.in_err-top.ensures.read)
 
-pub constraints-requires : goal.constraints-requires
-constraints-requires c =
+pub read_into-requires : goal.read_into-requires
+read_into-requires c =
     omega (
       arith,
       ap wbo_total c.new-gathered.ensures,
@@ -50,24 +50,24 @@ constraints-requires c =
       c.in_ok-top.ensures.small,
     )
 
-pub returns-in_err-gathered : goal.returns-in_err-gathered
-returns-in_err-gathered c =
+pub returns-in_err-read_into : goal.returns-in_err-read_into
+returns-in_err-read_into c =
     let text = words_of c.args.text.now in
     let end = c.end_line-end.result in
-    let e = c.in_err-gathered.field-0.0 in
-    let residual = c.from_residual-in_err-gathered in
+    let e = c.in_err-read_into.field-0.0 in
+    let residual = c.from_residual-in_err-read_into in
     let p = err_from_is_err_and residual.result residual.ensures.1 in
     let same = after_head text c.words-words.result c.head.new.words end c.in_ok-top.top
     c.new-gathered.result c.end_line-end.ensures c.words-words.ensures c.in_ok-top.ensures.read
     c.new-gathered.ensures in
-    rw (p.1, p.2) (subst (Fails e) (sym same) c.in_err-gathered.ensures.read)
+    rw (p.1, p.2) (subst (Fails e) (sym same) c.in_err-read_into.ensures.read)
 
 pub into_wbo-requires : goal.into_wbo-requires
 into_wbo-requires c =
     let end = c.end_line-end.result in
     let top = c.in_ok-top.top in
     let rest = c.head.new.words in
-    let read = c.in_ok-gathered.ensures.read in
+    let read = c.in_ok-read_into.ensures.read in
     let few : length rest ≤ 2 ^ 24 =
     omega (
       arith,
@@ -76,10 +76,10 @@ into_wbo-requires c =
       ap length c.words-words.ensures,
       c.in_ok-top.ensures.small,
     ) in
-    read_is_wbo top end rest c.in_ok-gathered.gathered
-    (subst (λ (s : WboContent). constraints_read s end rest ≡ Ok c.in_ok-gathered.gathered)
+    read_is_wbo top end rest c.read_into.new.gathered
+    (subst (λ (s : WboContent). constraints_read s end rest ≡ Ok c.read_into.new.gathered)
     c.new-gathered.ensures read)
-    c.in_ok-top.ensures.some few c.in_ok-gathered.ensures.small
+    c.in_ok-top.ensures.some few c.in_ok-read_into.ensures.small
 
 pub returns : goal.returns
 returns c =
@@ -88,4 +88,4 @@ returns c =
     let same = after_head text c.words-words.result c.head.new.words end c.in_ok-top.top
     c.new-gathered.result c.end_line-end.ensures c.words-words.ensures c.in_ok-top.ensures.read
     c.new-gathered.ensures in
-    same ∙ c.in_ok-gathered.ensures.read ∙ ap (λ (s : WboContent). Ok s) (sym c.into_wbo.ensures)
+    same ∙ c.in_ok-read_into.ensures.read ∙ ap (λ (s : WboContent). Ok s) (sym c.into_wbo.ensures)

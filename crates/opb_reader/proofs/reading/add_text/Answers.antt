@@ -10,7 +10,7 @@ use Rattle.problem_form.specs.NormalForm.{blank}
 use Rattle.opb_reader.specs.Cost.{problem_of_words}
 use Rattle.opb_reader.specs.Views.{head_read}
 use Rattle.opb_reader.proofs.Additions.{constraints_after, problem_of_words-put, head_fails}
-use Rattle.opb_reader.proofs.reading.read_opb_tokens.Goals as goal
+use Rattle.opb_reader.proofs.reading.add_text.Goals as goal
 
 -- the problem of words, by the values that the code has
 whole : (text ws : List Word) (p : ProblemContent) (end : ℕ) → p ≡ blank → end ≡ end_line text
@@ -21,8 +21,8 @@ whole text ws p end new last words =
 
 pub head-requires-clause-small : goal.head-requires-clause-small
 head-requires-clause-small c =
-    let none : problem_total c.new-problem.result ≡ 0 = rw c.new-problem.ensures refl in
-    omega (arith, none, c.requires, few_words c.args.text.now, ap length c.words-words.ensures)
+    let none : problem_total c.args.problem.now ≡ 0 = rw c.requires.empty refl in
+    omega (arith, none, c.requires.short, few_words c.args.text.now, ap length c.words-words.ensures)
 
 pub returns-in_err-head : goal.returns-in_err-head
 returns-in_err-head c =
@@ -30,20 +30,20 @@ returns-in_err-head c =
     let end = c.end_line-end.result in
     let e = c.in_err-head.field-0.0 in
     let p = err_from_is_err_and c.from_residual.result c.from_residual.ensures.1 in
-    let read = head_read c.new-problem.result end c.words-words.result in
+    let read = head_read c.args.problem.now end c.words-words.result in
     rw (p.1, p.2)
     (subst (Fails e)
-    (sym (whole text c.words-words.result c.new-problem.result end c.new-problem.ensures
+    (sym (whole text c.words-words.result c.args.problem.now end c.requires.empty
     c.end_line-end.ensures c.words-words.ensures))
     (head_fails e end read c.in_err-head.ensures.read))
 
 pub constraints-requires-clause-small : goal.constraints-requires-clause-small
 constraints-requires-clause-small c =
-    let none : problem_total c.new-problem.result ≡ 0 = rw c.new-problem.ensures refl in
+    let none : problem_total c.args.problem.now ≡ 0 = rw c.requires.empty refl in
     omega (
       arith,
       none,
-      c.requires,
+      c.requires.short,
       few_words c.args.text.now,
       ap length c.words-words.ensures,
       c.in_ok-head.ensures.small,
@@ -53,8 +53,8 @@ pub returns : goal.returns
 returns c =
     let text = words_of c.args.text.now in
     let end = c.end_line-end.result in
-    let same = whole text c.words-words.result c.new-problem.result end c.new-problem.ensures
+    let same = whole text c.words-words.result c.args.problem.now end c.requires.empty
     c.end_line-end.ensures c.words-words.ensures
     ∙ ap (λ (r : Result (ProblemContent × List Word) TextFault). r >>= constraints_after end)
     c.in_ok-head.ensures.read in
-    subst (Gives (λ problem. problem) c.constraints.result) (sym same) c.constraints.ensures
+    subst (Gives (λ _. c.constraints.new.problem) c.constraints.result) (sym same) c.constraints.ensures
