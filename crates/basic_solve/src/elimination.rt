@@ -1,12 +1,12 @@
 //! Elimination of nodes, one after another.
-ghost use Rattle.std.specs.Prelude.{◌≡◌, ◌≤◌, ◌^◌, ◌*◌, ◌+◌, ◌+ℤ◌, ℕ, List, Bool, true, false, All, IfOk, OnOk, length, map, pos, replicate, unsigned_abs};
+ghost use Rattle.std.specs.Prelude.{◌≡◌, ◌≤◌, ◌^◌, ◌*◌, ◌+◌, ◌+ℤ◌, ℕ, List, Bool, true, false, [], All, IfOk, OnOk, length, map, pos, replicate, unsigned_abs};
 ghost use Rattle.std.specs.List.{sum_by};
 ghost use Rattle.base.specs.Sums.{total_by, if_so};
 ghost use Rattle.base.specs.Costs.{energy};
 ghost use Rattle.bits_model.specs.Output.{bit_at, form_of, weight_total};
 ghost use Rattle.bits_model.specs.Walks.{is_in};
 ghost use Rattle.basic_solve.specs.Bits.{all_bits};
-ghost use Rattle.basic_solve.specs.Tables.{sum_where, step_at, AreChoices, AreOf, IsPassedTo, IsSettled, IsTableOfBit, LeadTo, own_size};
+ghost use Rattle.basic_solve.specs.Tables.{sum_where, step_at, AreChoices, AreEntriesOf, AreOf, IsPassedTo, IsSettled, IsTableOfBit, LeadTo, own_size};
 ghost use Rattle.basic_solve.specs.Widths.{AreNeighbourhoods};
 
 use crate::buckets::Buckets;
@@ -126,6 +126,80 @@ fn settle<T: Number>(
     Ok(())
 }
 
+/// Memory that is used again for each node: that of its tables, and its bytes.
+struct Scratch<T: Number> {
+    room: Room,
+    ones: Vec<T>,
+    bytes: Vec<u8>,
+}
+
+impl<T: Number> Drop for Scratch<T> {
+    fn drop(self) {
+        let Scratch {
+            room: _room,
+            ones: _ones,
+            bytes: _bytes,
+        } = self;
+    }
+}
+
+impl<T: Number> Scratch<T> {
+    /// Takes no memory.
+    fn empty(alloc: Global) -> Scratch<T> {
+        Scratch {
+            room: Room {
+                steps: Vec::new(alloc),
+                places: Places::empty(alloc),
+            },
+            ones: Vec::new(alloc),
+            bytes: Vec::new(alloc),
+        }
+    }
+}
+
+/// Appends the bits that each node chooses, from the last node to node 0, which gives its table to
+/// the highest of its neighbours.
+fn choose_all<T: Number>(
+    alloc: Global,
+    model: &OutputModel,
+    sets: &ChainList,
+    held: &mut Buckets<Entry>,
+    waiting: &mut Buckets<Table<T>>,
+    choices: &mut Lists<u8>,
+) -> Result<(), NoMemory>
+    requires sets { AreNeighbourhoods 16 model.now sets.now }
+    requires small { 3 * weight_total model.now.entries ≤ T.room }
+    requires held { AreEntriesOf model.now.nodes model.now.entries held.old }
+    requires waiting { waiting.old ≡ replicate model.now.nodes [] }
+    requires none { choices.old ≡ [] }
+    ensures { OnOk result (AreChoices model.now.nodes (energy (form_of model.now))
+        sets.now (map all_bits choices.new)) }
+{
+    let nodes = model.nodes as usize;
+    let mut scratch = Scratch::empty(alloc);
+    for step in 0..nodes {
+        let set = sets.list(step);
+        let node = nodes - 1 - step;
+        let entries = held.take_last();
+        let tables: Vec<Table<T>> = waiting.take_last();
+        let mut values: Vec<T> = Vec::new(alloc);
+        settle(
+            &mut scratch.room,
+            &mut values,
+            &mut scratch.ones,
+            &mut scratch.bytes,
+            model.kind,
+            node,
+            set,
+            &entries,
+            &tables,
+        )?;
+        choices.push(&scratch.bytes)?;
+        pass_table(alloc, waiting, set, values)?;
+    }
+    Ok(())
+}
+
 /// The bits that each node chooses, from the last node to node 0.
 pub(crate) fn all_choices<T: Number>(
     alloc: Global,
@@ -141,31 +215,6 @@ pub(crate) fn all_choices<T: Number>(
     let mut held = entries_of_nodes(alloc, nodes, &model.entries)?;
     let mut waiting: Buckets<Table<T>> = Buckets::empty(alloc, nodes)?;
     let mut choices = Lists::empty(alloc);
-    let mut room = Room {
-        steps: Vec::new(alloc),
-        places: Places::empty(alloc),
-    };
-    let mut ones: Vec<T> = Vec::new(alloc);
-    let mut bytes = Vec::new(alloc);
-    for step in 0..nodes {
-        let set = sets.list(step);
-        let node = nodes - 1 - step;
-        let entries = held.take_last();
-        let tables: Vec<Table<T>> = waiting.take_last();
-        let mut values: Vec<T> = Vec::new(alloc);
-        settle(
-            &mut room,
-            &mut values,
-            &mut ones,
-            &mut bytes,
-            model.kind,
-            node,
-            set,
-            &entries,
-            &tables,
-        )?;
-        choices.push(&bytes)?;
-        pass_table(alloc, &mut waiting, set, values)?;
-    }
+    choose_all(alloc, model, sets, &mut held, &mut waiting, &mut choices)?;
     Ok(choices)
 }

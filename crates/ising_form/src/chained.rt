@@ -6,10 +6,11 @@ ghost use Rattle.std.specs.List.{filter, slice_index_or};
 ghost use Rattle.bits_model.specs.Output.{is_chained};
 ghost use Rattle.bits_model.specs.Walks.{is_in};
 ghost use Rattle.quad_form.specs.Quads.{node_entries};
-ghost use Rattle.ising_form.specs.Outputs.{is_marked, is_on_chain};
+ghost use Rattle.ising_form.specs.Outputs.{AreNodes, is_marked, is_on_chain, written_nodes};
 
 use base::NoMemory;
-use bits_model::{ChainList, NodeWeights};
+use bits_model::{ChainList, Kind, NodeWeights};
+use quad_form::NumberList;
 use std::alloc::Global;
 
 /// Marks the qubits of a chain.
@@ -71,7 +72,7 @@ fn marked_nodes(alloc: Global, fields: &[i128], marks: &[bool]) -> Result<NodeWe
 }
 
 /// The fields of the nodes on chains.
-pub fn chained_nodes(
+fn chained_nodes(
     alloc: Global,
     fields: &[i128],
     chains: &ChainList,
@@ -83,4 +84,21 @@ pub fn chained_nodes(
 {
     let marks = marked(alloc, fields.len(), chains)?;
     marked_nodes(alloc, fields, &marks)
+}
+
+/// The fields that a model of this kind has, which are moved where it has all.
+pub fn nodes_for(
+    alloc: Global,
+    fields: NumberList,
+    kind: Kind,
+    chains: &ChainList,
+) -> Result<NodeWeights, NoMemory>
+    requires narrow { length fields < 2 ^ 32 }
+    requires placed { AreNodes kind chains.now (length fields) }
+    ensures { IfOk result (λ nodes. nodes ≡ written_nodes kind chains.now fields) }
+{
+    match kind {
+        Kind::Qubo | Kind::Ising => Ok(NodeWeights::numbered(fields.into_vec())),
+        Kind::Chimera { .. } => chained_nodes(alloc, fields.as_slice(), chains),
+    }
 }

@@ -5,7 +5,6 @@ mod chained;
 mod energy;
 mod ising;
 mod laws;
-mod output;
 mod spins;
 mod to_spins;
 

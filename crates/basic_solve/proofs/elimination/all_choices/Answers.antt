@@ -1,88 +1,12 @@
-use Rattle.std.proofs.Common.{◌≡◌, ◌-◌, ◌∙◌, ◌∷◌, ◌++◌, [], map, replicate, All, ap, sym, arith, subst}
-use Rattle.std.proofs.lemmas.List.{map-append}
-use Rattle.bits_model.specs.Output.{IsPlaced, weight_total}
-use Rattle.basic_solve.specs.Bits.{all_bits}
+use Rattle.std.proofs.Common.{◌∙◌, [], ap, replicate, subst}
 use Rattle.basic_solve.specs.Tables.{AreEntriesOf}
-use Rattle.basic_solve.proofs.Eliminated.{Eliminated, NextNode, eliminated_at_first, next_node}
-use Rattle.basic_solve.proofs.elimination.all_choices.Given.{Over}
-use Rattle.basic_solve.proofs.elimination.all_choices.Goals.{After-deref-in-loop-step}
 use Rattle.basic_solve.proofs.elimination.all_choices.Goals as goal
 
-pub loop-step-init : goal.loop-step-init
-loop-step-init g c =
-    let m = c.args.model.now in
-    let sets = c.args.sets.now in
-    let held = subst (λ w. AreEntriesOf w.nodes w.entries c.in_ok-held.held) c.model.view_is
-    c.in_ok-held.ensures in
-    let none = c.in_ok-waiting.ensures ∙ ap (λ w. replicate w.nodes []) c.model.view_is in
-    subst (λ cs. Eliminated m sets 0 c.in_ok-held.held c.in_ok-waiting.waiting (map all_bits cs))
-    (sym c.empty-choices.ensures)
-    (subst (λ ws. Eliminated m sets 0 c.in_ok-held.held ws []) (sym none)
-    (eliminated_at_first m sets c.in_ok-held.held c.requires.sets held))
+pub choose_all-requires-clause-held : goal.choose_all-requires-clause-held
+choose_all-requires-clause-held g c =
+    subst (λ w. AreEntriesOf w.nodes w.entries c.in_ok-held.held) c.model.view_is
+    c.in_ok-held.ensures
 
--- the node that this step eliminates
-node : (g : Over) (c : After-deref-in-loop-step g)
-    → NextNode c.args.model.now c.model.inside.kind c.args.sets.now c.loop-step.step
-    (map all_bits c.loop-step.choices) c.take_last-entries.new.self c.deref.result.now
-    c.take_last-tables.new.self c.deref-in-loop-step.result.now c.list-set.result.now
-    (c.model.inside.nodes - 1 - c.loop-step.step)
-node g c =
-    next_node _ _ c.requires.sets _ _ _ _ c.loop-step.invariant _ _ _ _
-    (c.take_last-entries.ensures
-    ∙ ap (λ es. c.take_last-entries.new.self ++ es ∷ []) (sym c.deref.ensures.value))
-    (c.take_last-tables.ensures
-    ∙ ap (λ ts. c.take_last-tables.new.self ++ ts ∷ []) (sym c.deref-in-loop-step.ensures.value))
-    _ c.list-set.ensures.listed _
-    (omega (arith, ap (λ w. w.nodes) c.model.view_is, c.loop-step-test.true))
-    _ (ap (λ w. w.kind) c.model.view_is)
-    (subst (λ w. All (IsPlaced w.nodes) w.entries) c.model.view_is c.model.invariant.0.placed)
-
-pub settle-requires-clause-own : goal.settle-requires-clause-own
-settle-requires-clause-own g c =
-    (node g (goal.at.settle-requires-clause-own g c).After-deref-in-loop-step).entries
-
-pub settle-requires-clause-members : goal.settle-requires-clause-members
-settle-requires-clause-members g c =
-    (node g (goal.at.settle-requires-clause-members g c).After-deref-in-loop-step).leads
-
-pub settle-requires-clause-passed : goal.settle-requires-clause-passed
-settle-requires-clause-passed g c =
-    (node g (goal.at.settle-requires-clause-passed g c).After-deref-in-loop-step).passed
-
-pub settle-requires-clause-few : goal.settle-requires-clause-few
-settle-requires-clause-few g c =
-    (node g (goal.at.settle-requires-clause-few g c).After-deref-in-loop-step).few
-
-pub settle-requires-clause-light : goal.settle-requires-clause-light
-settle-requires-clause-light g c =
-    omega (
-      arith,
-      (node g (goal.at.settle-requires-clause-light g c).After-deref-in-loop-step).small,
-      c.model.invariant.1,
-      ap (λ w. weight_total w.entries) c.model.view_is,
-    )
-
-pub settle-requires-clause-small : goal.settle-requires-clause-small
-settle-requires-clause-small g c =
-    omega (
-      arith,
-      (node g (goal.at.settle-requires-clause-small g c).After-deref-in-loop-step).small,
-      c.requires.small,
-    )
-
-pub pass_table-requires : goal.pass_table-requires
-pass_table-requires g c =
-    (node g (goal.at.pass_table-requires g c).After-deref-in-loop-step).within _ _
-    c.in_ok-settle.ensures
-
-pub loop-step-preserved : goal.loop-step-preserved
-loop-step-preserved g c =
-    let bits = all_bits c.settle.new.bytes.items in
-    let pushed : map all_bits c.push.new.self ≡ map all_bits c.loop-step.choices ++ bits ∷ []
-    = ap (map all_bits) c.in_ok-push.ensures.pushed
-    ∙ map-append all_bits c.loop-step.choices (c.deref-in-loop-step-2.result.now ∷ [])
-    ∙ ap (λ b. map all_bits c.loop-step.choices ++ all_bits b ∷ [])
-    c.deref-in-loop-step-2.ensures.value in
-    subst (Eliminated _ _ _ _ _) (sym pushed)
-    ((node g (goal.at.loop-step-preserved g c).After-deref-in-loop-step).next _ bits
-    c.in_ok-settle.ensures _ c.in_ok-pass_table.ensures)
+pub choose_all-requires-clause-waiting : goal.choose_all-requires-clause-waiting
+choose_all-requires-clause-waiting g c =
+    c.in_ok-waiting.ensures ∙ ap (λ w. replicate w.nodes []) c.model.view_is
