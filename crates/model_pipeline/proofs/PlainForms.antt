@@ -155,7 +155,7 @@ formed-plain p admitted =
     let low = plain_monomial p admitted in
     let quad = plain_monomial_flat p admitted in
     formed_by_steps Multilinear Monomial p nodes.0 low.0 quad.0
-    (threshold_within p (upper p) (penalty_admits p admitted).within refl) nodes.1 low.1 quad.1
+    (threshold_within p (upper p) (penalty_admits p admitted) refl) nodes.1 low.1 quad.1
     (omega (
       arith,
       total-multiplied p admitted,
@@ -203,7 +203,7 @@ formed-plain_pairs p admitted =
     let pair = plain_pair p admitted in
     let low = plain_flat p admitted in
     formed_by_steps Multilinear Rosenberg p nodes.0 pair.0 low.0
-    (threshold_within p (upper p) (penalty_admits p admitted).within refl) nodes.1 pair.1 low.1
+    (threshold_within p (upper p) (penalty_admits p admitted) refl) nodes.1 pair.1 low.1
     (omega (arith, pair_total table kept, total-plain p admitted))
     (omega (arith, pair_size table kept, size_within p admitted.within))
 

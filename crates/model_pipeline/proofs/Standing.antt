@@ -188,7 +188,7 @@ module _ (p : ProblemContent) (admitted : Admits p) where
   pub formed_at_once : IsFormed p (quad_by Literal Monomial p) (figures p)
   formed_at_once =
       formed_by_steps Literal Monomial p literal_nodes.0 literal_monomial.0 literal_monomial_flat.0
-      (threshold_within p (upper p) admitted.within refl) literal_nodes.1 literal_monomial.1
+      (threshold_within p (upper p) admitted refl) literal_nodes.1 literal_monomial.1
       literal_monomial_flat.1
       (omega (arith, direct_total p admitted)) (direct_size p admitted)
 
@@ -196,7 +196,7 @@ module _ (p : ProblemContent) (admitted : Admits p) where
   pub formed_by_pairs : IsFormed p (quad_by Literal Rosenberg p) (figures p)
   formed_by_pairs =
       formed_by_steps Literal Rosenberg p literal_nodes.0 literal_pair.0 literal_flat.0
-      (threshold_within p (upper p) admitted.within refl) literal_nodes.1 literal_pair.1 literal_flat.1
+      (threshold_within p (upper p) admitted refl) literal_nodes.1 literal_pair.1 literal_flat.1
       (omega (arith, pair_total table literal_table, image-total p admitted.within))
       (omega (arith, pair_size table literal_table, image_size p admitted))
 

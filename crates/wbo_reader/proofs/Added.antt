@@ -48,6 +48,7 @@ first_rows p xs ys h =
         constraints =
             All-first (IsNormalConstraint p.variables) (p.constraints ++ xs) ys
             (subst (All (IsNormalConstraint p.variables)) (sym joined) h.0.constraints);
+        most = h.0.most;
       },
       omega (
         arith,
@@ -91,6 +92,7 @@ first_products p xs ys h =
             (subst (All (IsNormalProduct p.variables)) (sym joined) h.0.objective);
         clauses = h.0.clauses;
         constraints = h.0.constraints;
+        most = h.0.most;
       },
       omega (
         arith,

@@ -435,6 +435,7 @@ rewritten_is_sound s is =
         constraints =
             All-from_recursion (λ (k : Constraint). All (IsNormalProduct n) k.products)
             (rewritten_constraints s) (to_all n (rewritten_constraints s) all);
+        most = λ m e. absurd cc;
       },
       omega (arith, rewritten_total s, is.small),
     )

@@ -5,7 +5,7 @@ use Rattle.std.specs.List.{slice_get}
 use Rattle.problem_form.specs.declared.terms.Product.{Product}
 use Rattle.problem_form.specs.declared.terms.Constraint.{Constraint}
 use Rattle.problem_form.specs.Problems.{ProblemContent, negated}
-use Rattle.problem_form.specs.Limits.{upper}
+use Rattle.problem_form.specs.Limits.{own_upper}
 use Rattle.problem_form.specs.Fields.{IsSound}
 use Rattle.literal_lists.proofs.LentParts.{drop-at}
 use Rattle.wbo_reader.specs.declared.soft.Soft.{Soft}
@@ -121,7 +121,7 @@ soft_added p q new order rest i hard v j soft s left first at is =
 -- ---- the top
 
 pub top_needed : (p : ProblemContent) (top : ℕ) (ts : List Product) (bound : ℤ)
-    → int_lt (upper p) (pos top) ≡ false → ts ≡ map negated p.objective
+    → int_lt (own_upper p) (pos top) ≡ false → ts ≡ map negated p.objective
     → bound ≡ pos 1 -ℤ pos top
     → record { products = ts; bound = bound; exact = false } ∷ [] ≡ top_row p top
 top_needed p top ts bound reached products is =

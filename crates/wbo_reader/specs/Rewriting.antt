@@ -9,7 +9,7 @@ use Rattle.problem_form.specs.declared.terms.Product.{Product}
 use Rattle.problem_form.specs.declared.terms.Constraint.{Constraint}
 use Rattle.problem_form.specs.Problems.{ProblemContent, fails, negated, problem_cost, problem_size}
 use Rattle.problem_form.specs.Problems as problems
-use Rattle.problem_form.specs.Limits.{positive_total, upper}
+use Rattle.problem_form.specs.Limits.{positive_total, own_upper, upper}
 use Rattle.problem_form.specs.Fields.{IsSound}
 use Rattle.wbo_reader.specs.declared.soft.Soft.{Soft}
 use Rattle.wbo_reader.specs.Wbo.{WboContent, wbo_cost, form_of, IsNormalSource, IsWbo}
@@ -101,7 +101,7 @@ rewritten_constraints s = rows_of s ++ top_rows s.variables s.top s.soft
 -- than the top, where this says anything
 abbrev pub top_row : ProblemContent → ℕ → List Constraint
 top_row p top =
-    if int_lt (upper p) (pos top)
+    if int_lt (own_upper p) (pos top)
     then []
     else record {
       products = map negated p.objective;
@@ -125,6 +125,7 @@ rewritten s = record {
   objective = weighed_bits s.variables s.soft;
   clauses = [];
   constraints = rewritten_constraints s;
+  most = None;
 }
 
 -- the assignment, and which soft constraints fail under it

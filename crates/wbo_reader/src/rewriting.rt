@@ -133,7 +133,7 @@ fn add_top(
     requires sound { IsSound (with_rows problem.old (top_row problem.old top)) }
     ensures { OnOk result (problem.new ≡ with_rows problem.old (top_row problem.old top)) }
 {
-    if problem.upper() < i128::from(top) {
+    if problem.own_upper() < i128::from(top) {
         return Ok(());
     }
     copy_products(&mut written.products, problem.objective.iter(), literals)?;

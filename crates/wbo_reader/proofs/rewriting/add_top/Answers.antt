@@ -2,7 +2,7 @@ use Rattle.std.proofs.Common.{◌≡◌, rules, subst, sym, false, map, pos, ◌
 use Rattle.std.specs.Int.{w128}
 use Rattle.problem_form.specs.declared.terms.Constraint.{Constraint}
 use Rattle.problem_form.specs.Fields.{IsSound}
-use Rattle.problem_form.specs.Limits.{upper}
+use Rattle.problem_form.specs.Limits.{own_upper}
 use Rattle.problem_form.specs.Problems.{negated}
 use Rattle.wbo_reader.specs.Rewriting.{with_rows}
 use Rattle.wbo_reader.proofs.Steps.{top_needed}
@@ -11,7 +11,7 @@ use Rattle.wbo_reader.proofs.rewriting.add_top.Goals as goal
 pub put-requires : goal.put-requires
 put-requires c =
     let p = c.args.problem.now in
-    let reached : int_lt (upper p) (pos c.args.top) ≡ false = search rules in
+    let reached : int_lt (own_upper p) (pos c.args.top) ≡ false = search rules in
     let products : c.negate.new.self ≡ map negated p.objective = search rules in
     let bound : to_z w128 (of_z w128 (pos 1 -ℤ to_z w128 (of_z w128 c.from-2.result)))
     ≡ pos 1 -ℤ pos c.args.top =
