@@ -41,7 +41,8 @@ impl Drop for Plan {
 impl Plan {
     /// The problem of the source, and what the model stands on. All else is let go.
     pub fn into_problem_and_base(self) -> (Problem, Placement)
-        ensures { result ≡ (self.read.problem, self.base) }
+        ensures problem { result.0 ≡ self.read.problem }
+        ensures base { result.1 ≡ self.base }
     {
         let Plan {
             read,
