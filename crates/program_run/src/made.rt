@@ -35,20 +35,10 @@ pub fn model_given(alloc: Global, plan: Plan) -> Result<OutputModel, Status>
     ensures modelled { IfOk result (IsModelled plan) }
     ensures refused { IfErr result (IsUnembedded plan) }
 {
-    let Plan {
-        read,
-        choices,
-        unit,
-        base,
-    } = plan;
-    let Read {
-        problem,
-        variables,
-        names,
-        soft,
-    } = read;
-    drop(names);
-    drop(soft);
+    let variables = plan.read.variables;
+    let choices = plan.choices;
+    let unit = plan.unit;
+    let (problem, base) = plan.into_problem_and_base();
     let mut kept = Keeping::Unwanted;
     model_on(alloc, problem, variables, &choices, unit, &base, &mut kept)
 }

@@ -1,12 +1,12 @@
 -- A file that is cut into words as it comes.
 use Rattle.std.proofs.Common.{◌≡◌, ℕ, ◌+◌, ◌<◌, ◌≤◌, List, [], ◌++◌, length, take, Some, None, Ok, Err, Result, refl, sym, ap, ◌∙◌, subst, append_assoc, arith}
 use Rattle.std.proofs.lemmas.List.{append-nil, length-append, length-take, take-append-le}
-use Rattle.std.specs.Io.KnownBytes.{Consumes}
+use Rattle.std.specs.Io.KnownBytes.{Consumes, IsAtEnd}
 use Rattle.std.specs.Prelude.{IsSomeAnd}
 use Rattle.std.specs.List.{Contains}
 use Rattle.std.proofs.lemmas.List.Elements.{Contains-append_left}
 use Rattle.std.specs.declared.option.Option.{Option}
-use Rattle.edge_io.specs.Held.{NamedFiles, IsFront, IsLonger, WhereTold}
+use Rattle.edge_io.specs.Held.{NamedFiles, IsFront, IsLonger, WhereTold, find_file}
 use Rattle.whole_text.specs.declared.token.Style.{Style}
 use Rattle.whole_text.specs.Tokens.{Word, tokens_of}
 use Rattle.whole_text.specs.Lexing.{LexerState, StandsFor}
@@ -19,17 +19,8 @@ use Rattle.source_texts.proofs.Standing.{words_read}
 use Rattle.run_steps.specs.declared.status.Status.{Status}
 use Rattle.run_steps.specs.declared.status.Status.TheVariants.{Done, Usage, ReadFault, WriteFault, BadText, Limit, NotEmbedded, TooWide, NotProved, NoState, NoMemory}
 use Rattle.run_steps.specs.Steps.{Steps, go_on, ◌>>=◌, ends, gives, taking, text_end, Meets, Refuses}
-use Rattle.run_steps.specs.Cut.{cutting, reading_file}
+use Rattle.run_steps.specs.Cut.{AreWordsOf, IsCut, cutting, reading_file}
 use Rattle.run_steps.proofs.Stepping.{bound, meets_next}
-
--- the lexer of this style stands for the bytes that were taken of the file, of which the rest is left
-pub record IsCut (held : Option NamedFiles) (name : List ℕ) (style : Style) (taken : ℕ)
-    (rest : Option (List ℕ)) (lexer : LexerState) : Type 0 where
-  pub text : List ℕ
-  pub stands : StandsFor lexer text
-  pub styled : lexer.style ≡ style
-  pub counted : length text ≡ taken
-  pub front : IsFront held name text rest
 
 -- the front of a file, with the piece that was taken next
 front_more : (held : Option NamedFiles) (name front piece : List ℕ) (rest left : Option (List ℕ))
@@ -45,19 +36,17 @@ front_more (Some files) name front piece (Some xs) (Some ys) is taken =
     (ys, is.1 ∙ ap Some cut, refl)
 
 -- one piece more, which came in the first bytes of a buffer
-pub cut_more : (held : Option NamedFiles) (name : List ℕ) (style : Style) (taken count : ℕ)
-    (bytes behind : List ℕ) (rest left : Option (List ℕ)) (old new : LexerState)
-    → IsCut held name style taken rest old
+pub cut_more : (held : Option NamedFiles) (name : List ℕ) (taken count : ℕ) (bytes behind : List ℕ)
+    (rest left : Option (List ℕ)) (old new : LexerState) → IsCut held name taken rest old
     → count ≤ length bytes → Consumes rest left (take count bytes)
     → ((text : List ℕ) → StandsFor old text → StandsFor new (text ++ take count (bytes ++ behind)))
-    → new.style ≡ old.style → IsCut held name style (taken + count) left new
-cut_more held name style taken count bytes behind rest left old new cut within consumed fed same =
+    → IsCut held name (taken + count) left new
+cut_more held name taken count bytes behind rest left old new cut within consumed fed =
     let piece = take count bytes in
     record {
       text = cut.text ++ piece;
       stands = subst (λ l. StandsFor new (cut.text ++ l)) (take-append-le count bytes behind within)
           (fed cut.text cut.stands);
-      styled = same ∙ cut.styled;
       counted = omega (arith, length-append cut.text piece, length-take count bytes, cut.counted);
       front = front_more held name cut.text piece rest left cut.front consumed;
     }
@@ -69,6 +58,49 @@ longer None name front limit rest is more = tt
 longer (Some files) name front limit rest is more =
     subst (λ file. IsSomeAnd file (λ bytes. limit < length bytes)) (sym is.1)
     (omega (arith, length-append front is.0, more))
+
+-- a piece that goes beyond the limit
+pub longer_more : (held : Option NamedFiles) (name : List ℕ) (limit taken count : ℕ)
+    (bytes : List ℕ) (rest left : Option (List ℕ)) (lexer : LexerState)
+    → IsCut held name taken rest lexer → count ≤ length bytes
+    → Consumes rest left (take count bytes) → limit < taken + count
+    → WhereTold held (λ h. IsLonger h name limit)
+longer_more held name limit taken count bytes rest left lexer cut within consumed more =
+    let piece = take count bytes in
+    longer held name (cut.text ++ piece) limit left
+    (front_more held name cut.text piece rest left cut.front consumed)
+    (omega (arith, length-append cut.text piece, length-take count bytes, cut.counted))
+
+-- a lexer of no text, at the start of the file
+pub cut_none : (held : Option NamedFiles) (name : List ℕ) (rest : Option (List ℕ))
+    (lexer : LexerState) → IsFront held name [] rest → StandsFor lexer []
+    → IsCut held name 0 rest lexer
+cut_none held name rest lexer front stands =
+    record { text = []; stands = stands; counted = refl; front = front }
+
+-- the words of a lexer that stands for the whole file
+pub words_cut : (held : Option NamedFiles) (name : List ℕ) (limit taken : ℕ) (style : Style)
+    (rest : Option (List ℕ)) (lexer : LexerState) (words : List Word)
+    → IsCut held name taken rest lexer → IsAtEnd rest → taken ≤ limit → lexer.style ≡ style
+    → ((text : List ℕ) → StandsFor lexer text → words ≡ tokens_of lexer.style text)
+    → WhereTold held (λ h. AreWordsOf (find_file h name) limit style words)
+words_cut None name limit taken style rest lexer words cut ended few styled said = tt
+words_cut (Some files) name limit taken style rest lexer words cut ended few styled said =
+    let is = cut.front in
+    let none : is.0 ≡ [] = subst IsAtEnd is.2 ended in
+    let whole : find_file files name ≡ Some cut.text =
+    is.1 ∙ ap Some (ap (λ l. cut.text ++ l) none ∙ append-nil cut.text) in
+    let short : length cut.text ≤ limit = omega (arith, cut.counted, few) in
+    let same : words ≡ tokens_of style cut.text =
+    said cut.text cut.stands ∙ ap (λ s. tokens_of s cut.text) styled in
+    subst (λ file. AreWordsOf file limit style words) (sym whole) (short, same)
+
+-- a file that was begun is held
+pub begun_held : (P : Type 0) (held : Option NamedFiles) (name front : List ℕ)
+    (rest : Option (List ℕ)) → IsFront held name front rest
+    → WhereTold held (λ h. find_file h name ≡ None → P)
+begun_held P None name front rest is = tt
+begun_held P (Some files) name front rest is = λ none. let some = is.1 in absurd cc
 
 -- ---- reading what was cut
 

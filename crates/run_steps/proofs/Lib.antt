@@ -6,6 +6,7 @@ pub mod Sourced
 pub mod Placed
 pub mod Planned
 pub mod Cutting
+pub mod Ended
 pub mod Certified
 pub mod Sampled
 pub mod TakenBytes

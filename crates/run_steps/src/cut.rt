@@ -1,9 +1,10 @@
 //! A file that is cut into words as it comes, so that its text isn't held.
-ghost use Rattle.std.specs.Prelude.{◌≡◌, ◌+◌, ◌^◌, ◌<◌, ◌≤◌, ◌↔◌, length, IfOk, OnOk, IsErrOf, string_bytes};
+ghost use Rattle.std.specs.Prelude.{◌≡◌, ◌+◌, ◌^◌, ◌<◌, ◌≤◌, ◌↔◌, [], length, IfOk, OnOk, IsErrOf, string_bytes};
+ghost use Rattle.std.specs.Io.KnownBytes.{IsAtEnd};
 ghost use Rattle.edge_io.specs.Counts.{count_after, Rose};
-ghost use Rattle.edge_io.specs.Held.{WhereTold, IsLonger, find_file};
+ghost use Rattle.edge_io.specs.Held.{WhereTold, IsFront, IsLonger, find_file};
 ghost use Rattle.whole_text.specs.TokenTexts.{words_of};
-ghost use Rattle.run_steps.specs.Cut.{AreWordsOf};
+ghost use Rattle.run_steps.specs.Cut.{AreWordsOf, HasEnded, IsCut, IsSameBegin};
 
 use edge_io::{Files, ReadAnswer, take_piece};
 use std::alloc::Global;
@@ -11,6 +12,73 @@ use whole_text::{Lexer, Style, TokenText};
 
 /// How many bytes are taken at once, at most; they stand on the stack.
 const PIECE: usize = 65_536;
+
+/// Takes what is left of the begun file, at most `limit` bytes, and feeds a lexer with it.
+fn feed_rest<F: Files>(files: &mut F, lexer: &mut Lexer, limit: usize) -> Result<(), ReadAnswer>
+    requires limit { limit < 2 ^ 32 }
+    requires none_taken { (F.counts files.old).taken ≡ 0 }
+    requires none_empty { (F.counts files.old).empty_reads ≡ 0 }
+    requires cut { IsCut (F.held files.old) (F.counts files.old).name 0 (F.rest files.old) lexer.old }
+    ensures cut { OnOk result (IsCut (F.held files.old) (F.counts files.old).name
+        (F.counts files.new).taken (F.rest files.new) lexer.new) }
+    ensures at_end { OnOk result (IsAtEnd (F.rest files.new)) }
+    ensures style { lexer.new.style ≡ lexer.old.style }
+    ensures end { HasEnded limit (F.counts files.old).faults (F.counts files.new) result }
+    ensures longer { IsErrOf result ReadAnswer.TooLong → WhereTold (F.held files.old) (λ held.
+        IsLonger held (F.counts files.old).name limit) }
+    ensures same { IsSameBegin (F.counts files.old) (F.counts files.new) }
+    ensures held { F.held files.new ≡ F.held files.old }
+{
+    let mut piece = [0u8; PIECE];
+    let mut taken = 0;
+    loop {
+        let room = PIECE.min(limit + 1 - taken);
+        let Ok(count) = take_piece(files, &mut piece[..room]) else {
+            return Err(ReadAnswer::ReadFault);
+        };
+        if count == 0 {
+            return Ok(());
+        }
+        // The length is known before memory is asked for, so `TooLong` does not depend on memory.
+        if taken + count > limit {
+            return Err(ReadAnswer::TooLong);
+        }
+        match lexer.feed(&piece[..count]) {
+            Ok(()) => taken += count,
+            Err(_) => return Err(ReadAnswer::NoMemory),
+        }
+    }
+}
+
+/// The words of the file that was just begun, which has at most `limit` bytes, cut in a style.
+fn cut_begun<F: Files>(
+    alloc: Global,
+    files: &mut F,
+    limit: usize,
+    style: Style,
+) -> Result<TokenText, ReadAnswer>
+    requires limit { limit < 2 ^ 32 }
+    requires none_taken { (F.counts files.old).taken ≡ 0 }
+    requires none_empty { (F.counts files.old).empty_reads ≡ 0 }
+    requires front { IsFront (F.held files.old) (F.counts files.old).name [] (F.rest files.old) }
+    ensures words { IfOk result (λ text. WhereTold (F.held files.old) (λ held.
+        AreWordsOf (find_file held (F.counts files.old).name) limit style (words_of text))) }
+    ensures short { IfOk result (λ text. length text.bytes ≤ limit) }
+    ensures end { HasEnded limit (F.counts files.old).faults (F.counts files.new) result }
+    ensures longer { IsErrOf result ReadAnswer.TooLong → WhereTold (F.held files.old) (λ held.
+        IsLonger held (F.counts files.old).name limit) }
+    ensures same { IsSameBegin (F.counts files.old) (F.counts files.new) }
+    ensures held { F.held files.new ≡ F.held files.old }
+{
+    let mut lexer = Lexer::new(alloc, style);
+    match feed_rest(files, &mut lexer, limit) {
+        Ok(()) => match lexer.finish() {
+            Ok(text) => Ok(text),
+            Err(_) => Err(ReadAnswer::NoMemory),
+        },
+        Err(answer) => Err(answer),
+    }
+}
 
 /// The words of the named file, which has at most `limit` bytes, cut in a style. They take no more
 /// bytes than the file.
@@ -49,30 +117,8 @@ pub fn read_words<F: Files>(
     ensures longer { IsErrOf result ReadAnswer.TooLong →
         WhereTold (F.held files.old) (λ held. IsLonger held (string_bytes name) limit) }
 {
-    if files.begin(name).is_err() {
-        return Err(ReadAnswer::ReadFault);
-    }
-    let mut lexer = Lexer::new(alloc, style);
-    let mut piece = [0u8; PIECE];
-    let mut taken = 0;
-    loop {
-        let room = PIECE.min(limit + 1 - taken);
-        let Ok(count) = take_piece(files, &mut piece[..room]) else {
-            return Err(ReadAnswer::ReadFault);
-        };
-        if count == 0 {
-            return match lexer.finish() {
-                Ok(text) => Ok(text),
-                Err(_) => Err(ReadAnswer::NoMemory),
-            };
-        }
-        // The length is known before memory is asked for, so `TooLong` does not depend on memory.
-        if taken + count > limit {
-            return Err(ReadAnswer::TooLong);
-        }
-        match lexer.feed(&piece[..count]) {
-            Ok(()) => taken += count,
-            Err(_) => return Err(ReadAnswer::NoMemory),
-        }
+    match files.begin(name) {
+        Ok(()) => cut_begun(alloc, files, limit, style),
+        Err(_) => Err(ReadAnswer::ReadFault),
     }
 }

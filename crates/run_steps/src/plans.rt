@@ -14,18 +14,44 @@ use crate::status::Status;
 use base::UnitChoice;
 use command_words::Command;
 use edge_io::Files;
-use problem_form::Choices;
+use problem_form::{Choices, Problem};
 use source_texts::Read;
 use std::alloc::Global;
 
 /// What a model is made of: what its source is read into, how that becomes a model, and what the
 /// model stands on.
-#[derive(Drop)]
 pub struct Plan {
     pub read: Read,
     pub choices: Choices,
     pub unit: UnitChoice,
     pub base: Placement,
+}
+
+impl Drop for Plan {
+    fn drop(self) {
+        let Plan {
+            read: _read,
+            choices: _choices,
+            unit: _unit,
+            base: _base,
+        } = self;
+    }
+}
+
+impl Plan {
+    /// The problem of the source, and what the model stands on. All else is let go.
+    pub fn into_problem_and_base(self) -> (Problem, Placement)
+        ensures problem { result.0 ≡ self.read.problem }
+        ensures base { result.1 ≡ self.base }
+    {
+        let Plan {
+            read,
+            choices: _choices,
+            unit: _unit,
+            base,
+        } = self;
+        (read.into_problem(), base)
+    }
 }
 
 /// Takes the files that the model of a command is made of, and reads them.

@@ -1,7 +1,19 @@
 use Rattle.program_run.proofs.MadeModels.{modelled_by}
 use Rattle.program_run.proofs.made.model_given.Goals as goal
 
+pub model_on-requires-clause-within : goal.model_on-requires-clause-within
+model_on-requires-clause-within c =
+    rw c.into_problem_and_base-problem.ensures.problem c.requires.within
+
 pub returns-clause-modelled : goal.returns-clause-modelled
 returns-clause-modelled c =
-    modelled_by c.args.plan c.model_on.result c.model_on.ensures.model c.model_on.ensures.can_stand
-    c.model_on.ensures.stands c.model_on.ensures.made
+    let kept = c.into_problem_and_base-problem.ensures in
+    let made = c.model_on.ensures in
+    modelled_by c.args.plan c.model_on.result (rw (kept.problem, kept.base) at made.model)
+    (rw (kept.problem, kept.base) at made.can_stand) (rw (kept.problem, kept.base) at made.stands)
+    (rw (kept.problem, kept.base) at made.made)
+
+pub returns-clause-refused : goal.returns-clause-refused
+returns-clause-refused c =
+    let kept = c.into_problem_and_base-problem.ensures in
+    rw (kept.problem, kept.base) at c.model_on.ensures.refused

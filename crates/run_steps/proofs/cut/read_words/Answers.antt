@@ -1,25 +1,39 @@
-use Rattle.std.proofs.Common.{rules, string_bytes, drop}
-use Rattle.run_steps.proofs.Cutting.{cut_more}
+use Rattle.std.proofs.Common.{string_bytes}
+use Rattle.run_steps.proofs.Cutting.{begun_held}
+use Rattle.run_steps.proofs.Ended.{ended_to_end, ended_too_long, ended_fault, ended_taken}
 use Rattle.run_steps.proofs.cut.read_words.Goals as goal
 
--- src/cut.rt:57:5
-pub loop-count-preserved : goal.loop-count-preserved
-loop-count-preserved g c =
-    let i = c.loop-count.invariant in
-    let taken = c.take_piece in
-    let read = c.in-Ok.ensures in
-    let fed = c.in-Ok-feed.ensures in
-    record {
-      within = search rules;
-      counted = search rules;
-      filled = search rules;
-      cut = cut_more (g.F.Files.held c.args.files.now) (string_bytes c.args.name) c.args.style c.loop-count.taken
-          c.in-Ok.count taken.new.into (drop c.min-room.result c.loop-count.piece)
-          (g.F.Files.rest c.loop-count.files) (g.F.Files.rest taken.new.files)
-          c.loop-count.lexer c.feed.new.self i.cut read.bound.0 read.rest.0 fed.fed fed.style;
-      held = search rules;
-      begun = search rules;
-      marked = search rules;
-      named = search rules;
-      later = search rules;
-    }
+pub cut_begun-requires-clause-front : goal.cut_begun-requires-clause-front
+cut_begun-requires-clause-front g c =
+    let begun = c.in-Ok.ensures in
+    rw (begun.held, begun.named) begun.rest
+
+pub returns-in-Ok-clause-words : goal.returns-in-Ok-clause-words
+returns-in-Ok-clause-words g c =
+    let begun = c.in-Ok.ensures in
+    rw (begun.held, begun.named) at c.cut_begun.ensures.words
+
+pub returns-in-Ok-clause-to_end : goal.returns-in-Ok-clause-to_end
+returns-in-Ok-clause-to_end g c = ended_to_end _ _ (g.F.Files.counts c.cut_begun.new.files) _ c.cut_begun.ensures.end
+
+pub returns-in-Ok-clause-no_end : goal.returns-in-Ok-clause-no_end
+returns-in-Ok-clause-no_end g c = ended_too_long _ _ (g.F.Files.counts c.cut_begun.new.files) _ c.cut_begun.ensures.end
+
+pub returns-in-Ok-clause-fault : goal.returns-in-Ok-clause-fault
+returns-in-Ok-clause-fault g c =
+    rw c.in-Ok.ensures.faults at (ended_fault _ _ (g.F.Files.counts c.cut_begun.new.files) _ c.cut_begun.ensures.end)
+
+pub returns-in-Ok-clause-unheld : goal.returns-in-Ok-clause-unheld
+returns-in-Ok-clause-unheld g c =
+    begun_held _ (g.F.Files.held c.args.files.now) (string_bytes c.args.name) _ _ c.in-Ok.ensures.rest
+
+pub returns-in-Ok-clause-at_most : goal.returns-in-Ok-clause-at_most
+returns-in-Ok-clause-at_most g c = (ended_taken _ _ (g.F.Files.counts c.cut_begun.new.files) _ c.cut_begun.ensures.end).0
+
+pub returns-in-Ok-clause-too_long : goal.returns-in-Ok-clause-too_long
+returns-in-Ok-clause-too_long g c = (ended_taken _ _ (g.F.Files.counts c.cut_begun.new.files) _ c.cut_begun.ensures.end).1
+
+pub returns-in-Ok-clause-longer : goal.returns-in-Ok-clause-longer
+returns-in-Ok-clause-longer g c =
+    let begun = c.in-Ok.ensures in
+    rw (begun.held, begun.named) at c.cut_begun.ensures.longer

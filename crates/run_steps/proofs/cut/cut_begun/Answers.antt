@@ -1,0 +1,31 @@
+use Rattle.std.proofs.Common.{arith, ◌∙◌}
+use Rattle.run_steps.proofs.Cutting.{cut_none, words_cut}
+use Rattle.run_steps.proofs.cut.cut_begun.Goals as goal
+
+pub feed_rest-requires-clause-cut : goal.feed_rest-requires-clause-cut
+feed_rest-requires-clause-cut g c =
+    cut_none (g.F.Files.held c.args.files.now) (g.F.Files.counts c.args.files.now).name
+    (g.F.Files.rest c.args.files.now) c.new-lexer.result c.requires.front c.new-lexer.ensures.empty
+
+pub finish-requires : goal.finish-requires
+finish-requires g c =
+    let cut = c.in-Ok.ensures.cut in
+    (cut.text, cut.stands)
+
+pub returns-in-Ok-finish-clause-words : goal.returns-in-Ok-finish-clause-words
+returns-in-Ok-finish-clause-words g c =
+    let fed = c.in-Ok.ensures in
+    let new = c.feed_rest.new.files in
+    words_cut (g.F.Files.held c.args.files.now) (g.F.Files.counts c.args.files.now).name c.args.limit
+    (g.F.Files.counts new).taken c.args.style (g.F.Files.rest new) c.feed_rest.new.lexer _ fed.cut
+    fed.at_end fed.end.0 (fed.style ∙ c.new-lexer.ensures.style) c.in-Ok-finish.ensures.words
+
+pub returns-in-Ok-finish-clause-short : goal.returns-in-Ok-finish-clause-short
+returns-in-Ok-finish-clause-short g c =
+    let cut = c.in-Ok.ensures.cut in
+    omega (
+      arith,
+      cut.counted,
+      c.in-Ok.ensures.end.0,
+      c.in-Ok-finish.ensures.size cut.text cut.stands,
+    )

@@ -1,0 +1,34 @@
+use Rattle.std.proofs.Common.{rules, arith, drop, ◌++◌, ◌∙◌}
+use Rattle.std.proofs.lemmas.List.{length-take}
+use Rattle.run_steps.proofs.Cutting.{cut_more, longer_more}
+use Rattle.run_steps.proofs.cut.feed_rest.Goals as goal
+
+pub feed-requires : goal.feed-requires
+feed-requires g c =
+    let cut = c.loop-count.invariant.cut in
+    let bytes = c.take_piece.new.into ++ drop c.min-room.result c.loop-count.piece in
+    (cut.text, cut.stands, omega (arith, cut.counted, length-take c.in-Ok.count bytes))
+
+pub loop-count-preserved : goal.loop-count-preserved
+loop-count-preserved g c =
+    let i = c.loop-count.invariant in
+    let taken = c.take_piece in
+    let read = c.in-Ok.ensures in
+    let fed = c.in-Ok-feed.ensures in
+    record {
+      within = search rules;
+      counted = search rules;
+      filled = search rules;
+      cut = cut_more (g.F.Files.held c.args.files.now) (g.F.Files.counts c.args.files.now).name
+          c.loop-count.taken c.in-Ok.count taken.new.into (drop c.min-room.result c.loop-count.piece)
+          (g.F.Files.rest c.loop-count.files) (g.F.Files.rest taken.new.files)
+          c.loop-count.lexer c.feed.new.self i.cut read.bound.0 read.rest.0 fed.fed;
+      styled = fed.style ∙ i.styled;
+      same = record {
+        begun = read.begun ∙ i.same.begun;
+        marked = read.mark ∙ i.same.marked;
+        named = read.name ∙ i.same.named;
+        later = omega (arith, read.cause.later, i.same.later);
+      };
+      held = read.held ∙ i.held;
+    }
