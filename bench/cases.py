@@ -10,8 +10,9 @@ block of `stdout`. What differs is printed, and how many cases were worked out. 
 on a graph, `solve` and `prove`, wrong words, and missing or too long files. With --write `stdout` gets
 the blocks that were worked out, and keeps the others.
 
-With PROGRAM, a built program, each case is run on files in a folder of its own, and status, output
-and error line are compared with `stdout`. Exits with 1 where anything differs.
+With PROGRAM, a built program, each case is run on files in a folder of its own, but for one whose file
+has an empty name, and status, output and error line are compared with `stdout`. Exits with 1 where
+anything differs.
 """
 import argparse
 import os
@@ -81,6 +82,10 @@ class Case:
         for byte in (written + ''.join(line for _, _, line in answers)).encode():
             value = (value ^ byte) * PRIME % 2 ** 64
         return f'runs {len(answers)}\ngood {good}\nhash {value}\n'
+
+
+class OfAnotherKind(Exception):
+    """Some run of a case is of another kind."""
 
 
 # ---- by the second program
@@ -182,9 +187,11 @@ def worked_out(words, files):
 def runner(program, folder):
     """Runs a program on files in a folder."""
     def run(words, files):
+        if not all(name for name, _ in files):
+            raise OfAnotherKind
         for name in os.listdir(folder):
             os.remove(os.path.join(folder, name))
-        for name, text in reversed([file for file in files if file[0]]):
+        for name, text in reversed(files):
             with open(os.path.join(folder, name), 'wb') as file:
                 file.write(text)
         done = subprocess.run([program] + words, cwd=folder, capture_output=True, check=False)
@@ -207,10 +214,6 @@ def case_of(name):
     """The case of a name."""
     with open(os.path.join(CRATE, 'data', name), encoding='utf-8', newline='') as file:
         return Case(file.read())
-
-
-class OfAnotherKind(Exception):
-    """Some run of a case is of another kind."""
 
 
 def work_out(words, files):
