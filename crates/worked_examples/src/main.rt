@@ -2,7 +2,7 @@
 //! the run writes, and the error line.
 //!
 //! A case is a file of data/. Its first line has the words of the run. Each part below it begins with
-//! a line of the sign `@` and a name: that of a file, or `lines`. A number behind the name says how
+//! a line of the sign `@` and a name: that of a file, `lines` or `changed`. A number behind it says how
 //! often the text of the part stands in the file, and parts of one name are one file. Of what a case
 //! with `lines` writes, only these lines are printed, where they are there.
 //!
