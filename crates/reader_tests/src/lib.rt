@@ -5,27 +5,11 @@
 #![tactic(auto)]
 
 #[cfg(test)]
-mod changed_texts;
-#[cfg(test)]
 mod command_rows;
-#[cfg(test)]
-mod entry_texts;
 #[cfg(test)]
 mod memory_ends;
 #[cfg(test)]
-mod opb_texts;
-#[cfg(test)]
 mod pieces;
-#[cfg(test)]
-mod plain_entries;
-#[cfg(test)]
-mod plain_opb;
-#[cfg(test)]
-mod plain_poly;
-#[cfg(test)]
-mod plain_reader;
-#[cfg(test)]
-mod poly_texts;
 #[cfg(test)]
 mod real_ends;
 #[cfg(test)]
@@ -33,6 +17,4 @@ mod state_lines;
 #[cfg(test)]
 mod tokens_and_numbers;
 #[cfg(test)]
-mod wbo;
-#[cfg(test)]
-mod wcnf_texts;
+mod whole_texts;

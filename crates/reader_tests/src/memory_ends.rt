@@ -18,7 +18,29 @@ fn three_files(alloc: Global, failing: u64) -> Result<MemoryFiles, Fail> {
     Ok(MemoryFiles::new(FileList::new(files), failing))
 }
 
-/// Whether a file of the three is read whole, or refused, as wanted.
+/// Whether a reading is what is wanted.
+fn is_wanted(read: &Result<Vec<u8>, ReadAnswer>, want: Result<&str, ReadAnswer>) -> bool {
+    match (read, want) {
+        (Ok(all), Ok(want)) => all.as_slice() == want.as_bytes(),
+        (Err(answer), Err(want)) => *answer == want,
+        _ => false,
+    }
+}
+
+/// Whether a file of some is read whole, or refused, as wanted.
+fn is_read_of(
+    alloc: Global,
+    files: &mut MemoryFiles,
+    name: String,
+    limit: usize,
+    want: Result<&str, ReadAnswer>,
+) -> bool
+    requires { limit < 2 ^ 32 }
+{
+    is_wanted(&read_all(alloc, files, name, limit), want)
+}
+
+/// The same of the three files.
 fn is_read(
     alloc: Global,
     name: &str,
@@ -28,13 +50,9 @@ fn is_read(
 ) -> Result<bool, Fail>
     requires { limit < 2 ^ 32 }
 {
-    let mut files = three_files(alloc, failing)?;
     let name = String::from_str(alloc, name)?;
-    match (read_all(alloc, &mut files, name, limit), want) {
-        (Ok(all), Ok(want)) => Ok(all.as_slice() == want.as_bytes()),
-        (Err(answer), Err(want)) => Ok(answer == want),
-        _ => Ok(false),
-    }
+    let mut files = three_files(alloc, failing)?;
+    Ok(is_read_of(alloc, &mut files, name, limit, want))
 }
 
 #[test]

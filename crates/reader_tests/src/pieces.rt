@@ -53,8 +53,8 @@ fn is_cut_before(
     requires small { length text.now ≤ 2 ^ 16 }
 {
     for first in 0..second + 1 {
-        let cut = cut_text(alloc, style, text, first, second)?;
-        if !has_words(&cut, words, bytes) {
+        let alike = has_words(&cut_text(alloc, style, text, first, second)?, words, bytes);
+        if !alike {
             return Ok(false);
         }
     }
@@ -147,6 +147,14 @@ fn an_opb_text_may_be_cut_anywhere(rt: HostRuntime) {
     assert!(rt; is_cut_anywhere(rt.alloc(), Style::Opb, text, OPB, bytes) == Ok(true));
 }
 
+/// What the words of a text say.
+fn read_words(alloc: Global, format: Format, text: &TokenText) -> Result<Read, TextAnswer> {
+    if text.bytes.as_slice().len() > 1 << 24 {
+        return Err(TextAnswer::NoMemory);
+    }
+    read_source_words(alloc, format, text)
+}
+
 /// A text of entries that is cut at two places, by its reader of words.
 fn read_cut(
     alloc: Global,
@@ -160,10 +168,7 @@ fn read_cut(
     requires small { length text.now ≤ 2 ^ 16 }
 {
     let cut = cut_text(alloc, style_of(format), text, first, second)?;
-    if cut.bytes.as_slice().len() > 1 << 24 {
-        return Err(TextAnswer::NoMemory);
-    }
-    read_source_words(alloc, format, &cut)
+    read_words(alloc, format, &cut)
 }
 
 /// What a text says under the assignment that is 1 at the last of two variables, or what is wrong
@@ -263,21 +268,27 @@ fn line_byte(at: usize) -> u8 {
     }
 }
 
-/// Whether so many bytes of the lines come to a sink of one byte a call, of which one call fails.
+/// Whether these are so many bytes of the lines.
+fn are_lines(bytes: &[u8], count: usize) -> bool {
+    bytes.len() == count
+        && bytes
+            .iter()
+            .enumerate()
+            .all(|(i, byte)| *byte == line_byte(i))
+}
+
+/// Whether so many bytes of the lines come to a sink.
+fn come(buffer: &mut LineBuffer, sink: &mut MemorySink, count: usize) -> bool {
+    let whole = put_lines(buffer, sink).is_ok();
+    whole == (count == 5007) && are_lines(sink.bytes(), count)
+}
+
+/// Whether so many come to a sink of one byte a call, of which one call fails.
 fn are_put(alloc: Global, failing: u64, count: usize) -> Result<bool, Fail> {
     let failing = CallList::new(Vec::from_slice(alloc, &[failing])?);
     let mut sink = MemorySink::new(alloc, 1, 6000, failing)?;
     let mut buffer = LineBuffer::new(alloc)?;
-    let whole = put_lines(&mut buffer, &mut sink).is_ok();
-    let bytes = sink.bytes();
-    Ok(
-        whole == (count == 5007)
-            && bytes.len() == count
-            && bytes
-                .iter()
-                .enumerate()
-                .all(|(i, byte)| *byte == line_byte(i)),
-    )
+    Ok(come(&mut buffer, &mut sink, count))
 }
 
 #[test]

@@ -1,0 +1,274 @@
+#!/usr/bin/env python3
+"""Works out the cases of crates/worked_examples by a second program, and looks at what is stored.
+
+    cases.py [--write] [--program PROGRAM] [CASE..]
+
+A case is a file of data/, which its words begin; the program of that crate says how it is laid out.
+Without names all cases of `args` are taken. Of each that is compiled, extended, decoded or sampled to
+a model on nodes, the answer is worked out by readings.py and translation.py, and compared with the
+block of `stdout`. What differs is printed, and how many cases were worked out. The others are models
+on a graph, `solve` and `prove`, wrong words, and missing or too long files. With --write `stdout` gets
+the blocks that were worked out, and keeps the others.
+
+With PROGRAM, a built program, each case is run on files in a folder of its own, but for one whose file
+has an empty name, and status, output and error line are compared with `stdout`. Exits with 1 where
+anything differs.
+"""
+import argparse
+import os
+import re
+import subprocess
+import sys
+import tempfile
+
+from readings import Fault, read_source
+from translation import Limit, Model, cost
+
+CRATE = os.path.join(os.path.dirname(os.path.abspath(__file__)), '..', 'crates', 'worked_examples')
+MOST_BYTES = 2 ** 24
+VALUES = {'normal': ('literal', 'multilinear'), 'high': ('monomial', 'rosenberg'),
+          'unit': ('one', 'reduce')}
+BASIS, PRIME = 14695981039346656037, 1099511628211    # of the hash FNV-1a
+
+
+class Case:
+    """The words of a case, its files, the lines that are printed, and the pieces that are put in."""
+
+    def __init__(self, text):
+        words, *sections = text.split('@')
+        self.words, self.files, self.lines, self.pieces = words.split(), [], None, None
+        for section in sections:
+            head, _, body = section.partition('\n')
+            name, times = ((head.split() or ['']) + ['1'])[:2]
+            if name == 'lines':
+                self.lines = body.splitlines()
+            elif name == 'changed':
+                self.pieces = [bytes(map(int, word.split(','))) for word in body.split()]
+            else:
+                self.add_file(name, body.encode() * int(times))
+
+    def add_file(self, name, text):
+        """A file, or more of the last one."""
+        if self.files and self.files[-1][0] == name:
+            self.files[-1] = (name, self.files[-1][1] + text)
+        else:
+            self.files.append((name, text))
+
+    def texts(self):
+        """The fronts of the first file, and then the file with each piece in the place of each byte."""
+        whole = self.files[0][1]
+        for end in range(len(whole) + 1):
+            yield whole[:end]
+        for piece in self.pieces:
+            for place in range(len(whole)):
+                yield whole[:place] + piece + whole[place + 1:]
+
+    def shown(self, run):
+        """What is printed of the case, where `run` gives status, output and line of words and files."""
+        if self.pieces is not None:
+            name, others = self.files[0][0], self.files[1:]
+            return self.told([run(self.words, [(name, text)] + others) for text in self.texts()])
+        status, out, line = run(self.words, self.files)
+        if self.lines is not None:
+            have = set(out.split('\n'))
+            out = ''.join(each + '\n' for each in self.lines if each in have)
+        return f'status {status}\n{out}{line}'
+
+    def told(self, answers):
+        """How many runs there are, how many of them are good, and the hash of what they write."""
+        good = sum(status == 0 for status, _, _ in answers)
+        written = ''.join(f'{out}status {status}\n' for status, out, _ in answers)
+        value = BASIS
+        for byte in (written + ''.join(line for _, _, line in answers)).encode():
+            value = (value ^ byte) * PRIME % 2 ** 64
+        return f'runs {len(answers)}\ngood {good}\nhash {value}\n'
+
+
+class OfAnotherKind(Exception):
+    """Some run of a case is of another kind."""
+
+
+# ---- by the second program
+
+def keys_of(words):
+    """The keys of a model on nodes, or none where there are other words."""
+    keys = dict(word.split('=', 1) for word in words if '=' in word)
+    good = all(value in VALUES.get(key, ()) for key, value in keys.items())
+    return keys if good and len(keys) == len(words) else None
+
+
+def sample_text(number, clauses):
+    """The text of a sample."""
+    state = 1 + number % 2147483646
+
+    def draw():
+        nonlocal state
+        state = 16807 * state % 2147483647
+        return state
+
+    variables, top = 3 + clauses // 4, 10 * clauses + 1
+    rows = [f'p wcnf {variables} {clauses} {top}']
+    for _ in range(clauses):
+        first = draw()
+        row = [top if first % 8 == 0 else 1 + first % 9]
+        for _ in range(3):
+            variable = 1 + draw() % variables
+            row.append(-variable if draw() % 2 else variable)
+        rows.append(' '.join(map(str, row + [0])))
+    return ('\n'.join(rows) + '\n').encode()
+
+
+def sampled(number, clauses, target, keys):
+    """Status, output and line of `sample`."""
+    good = number.isdigit() and clauses.isdigit() and target in ('qubo', 'ising')
+    if not good or keys is None or int(number) >= 2 ** 64 or int(clauses) > 100_000:
+        return None
+    problem = read_source('wcnf', sample_text(int(number), int(clauses)))
+    return 0, Model(problem, keys, target).summary(), ''
+
+
+def bits_of(text, length):
+    """The first line of a state's file that is one, as bits."""
+    for line in text.split(b'\n'):
+        line = line.strip(b' \t\r')
+        if len(line) == length and not line.strip(b'01+-'):
+            return [int(byte in b'1+') for byte in line]
+    return None
+
+
+def costs(made, bits, energy):
+    """The rows of a cost and an energy."""
+    found = cost(made.problem, bits)
+    return f'cost {"infinite" if found is None else found}\nenergy {energy}\n'
+
+
+def answer(command, made, name, text):
+    """Status, output and line of `decode` or `extend` on the text of a state or an assignment."""
+    count = made.nodes if command == 'decode' else made.source.variables
+    bits = bits_of(text, count)
+    if bits is None:
+        return 8, '', f'{name}: no state of {count} characters\n'
+    if command == 'extend':
+        state = made.extended(bits)
+        out = f'state {"".join(map(str, state))}\n' + costs(made, bits, made.energy(state))
+        return 0, out, ''
+    chosen = bits[:made.source.variables]
+    names = ''.join(f'name {each} {bit}\n' for each, bit in zip(made.problem.names, chosen))
+    out = f'assignment {"".join(map(str, chosen))}\n{names}'
+    return 0, out + costs(made, chosen, made.energy(bits)), ''
+
+
+def worked_out(words, files):
+    """Status, output and line of a run; none where it is of another kind."""
+    found = dict(reversed(files))
+    command, layout, target, name, *rest = (words + [''] * 4)[:max(4, len(words))]
+    if command == 'sample':
+        return sampled(layout, target, name, keys_of(rest))
+    others = rest[:1] if command in ('decode', 'extend') else []
+    keys = keys_of(rest[len(others):])
+    if command not in ('compile', 'decode', 'extend') or target not in ('qubo', 'ising') \
+            or keys is None or any(each not in found for each in [name] + others):
+        return None
+    if any(len(text) > MOST_BYTES for text in found.values()):
+        return None
+    try:
+        made = Model(read_source(layout, found[name]), keys, target)
+    except Fault as fault:
+        return 5, '', f'{name}:{fault.line}: {fault.kind}\n'
+    except Limit as limit:
+        return 6, '', f'{name}: limit {limit.kind} {limit.number}\n'
+    if others:
+        return answer(command, made, others[0], found[others[0]])
+    return 0, made.text(), ''
+
+
+# ---- by a built program
+
+def runner(program, folder):
+    """Runs a program on files in a folder."""
+    def run(words, files):
+        if not all(name for name, _ in files):
+            raise OfAnotherKind
+        for name in os.listdir(folder):
+            os.remove(os.path.join(folder, name))
+        for name, text in reversed(files):
+            with open(os.path.join(folder, name), 'wb') as file:
+                file.write(text)
+        done = subprocess.run([program] + words, cwd=folder, capture_output=True, check=False)
+        return done.returncode, done.stdout.decode(), done.stderr.decode()
+    return run
+
+
+# ---- all cases
+
+def stored():
+    """The names of all cases, and the block of each."""
+    with open(os.path.join(CRATE, 'args'), encoding='utf-8') as file:
+        names = file.read().split()
+    with open(os.path.join(CRATE, 'stdout'), encoding='utf-8') as file:
+        blocks = re.split(r'^> (.*)\n', file.read(), flags=re.M)[1:]
+    return names, dict(zip(blocks[::2], blocks[1::2]))
+
+
+def case_of(name):
+    """The case of a name."""
+    with open(os.path.join(CRATE, 'data', name), encoding='utf-8', newline='') as file:
+        return Case(file.read())
+
+
+def work_out(words, files):
+    """What comes of a run, by the second program."""
+    found = worked_out(words, files)
+    if found is None:
+        raise OfAnotherKind
+    return found
+
+
+def blocks_by(run, names):
+    """The blocks of the cases that a runner answers."""
+    blocks = {}
+    for name in names:
+        try:
+            blocks[name] = case_of(name).shown(run)
+        except OfAnotherKind:
+            pass
+    return blocks
+
+
+def report(title, names, found, blocks):
+    """Prints which blocks differ. Whether any does."""
+    wrong = [name for name in names if name in found and found[name] != blocks.get(name)]
+    for name in wrong:
+        print(f'{title}: {name}\n  {found[name][:400]!r}\n  {blocks.get(name, "")[:400]!r}')
+    print(f'{title}: {len(found)} of {len(names)} cases, {len(wrong)} differ')
+    return bool(wrong)
+
+
+def write(names, blocks):
+    """Stores the blocks of all cases."""
+    with open(os.path.join(CRATE, 'stdout'), 'w', encoding='utf-8') as file:
+        file.write(''.join(f'> {name}\n{blocks[name]}' for name in names))
+
+
+def main():
+    parser = argparse.ArgumentParser(description=__doc__.split('\n', maxsplit=1)[0])
+    parser.add_argument('--write', action='store_true')
+    parser.add_argument('--program')
+    parser.add_argument('cases', nargs='*')
+    options = parser.parse_args()
+    names, blocks = stored()
+    chosen = options.cases or names
+    found = blocks_by(work_out, chosen)
+    if options.write:
+        blocks.update(found)
+        write(names, blocks)
+    wrong = report('worked out', chosen, found, blocks)
+    if options.program:
+        with tempfile.TemporaryDirectory() as folder:
+            by_program = blocks_by(runner(os.path.abspath(options.program), folder), chosen)
+        wrong |= report('run', chosen, by_program, blocks)
+    sys.exit(wrong)
+
+
+if __name__ == '__main__':
+    main()
