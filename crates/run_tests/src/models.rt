@@ -1,6 +1,6 @@
 //! The text of a model as these tests read it, by a small parser of their own: the energies of its
 //! states, and what they decode to.
-use crate::runs::{SOUND, run_words};
+use crate::runs::{Ran, SOUND, run_words};
 use program_run::Status;
 use std::alloc::{AllocError, Global};
 use std::test::Fail;
@@ -33,24 +33,34 @@ fn number(word: &[u8]) -> Option<i64> {
     std::str::from_utf8(word).ok()?.parse().ok()
 }
 
-/// The numbers among the words of a text.
-pub(crate) fn numbers(alloc: Global, text: &[u8]) -> Result<Vec<i64>, AllocError> {
-    let mut numbers = Vec::new(alloc);
+fn push_numbers(numbers: &mut Vec<i64>, text: &[u8]) -> Result<(), AllocError> {
     for word in text.split(|byte| matches!(*byte, b' ' | b'\n')) {
         if let Some(number) = number(word) {
             numbers.push(number)?;
         }
     }
+    Ok(())
+}
+
+/// The numbers among the words of a text.
+pub(crate) fn numbers(alloc: Global, text: &[u8]) -> Result<Vec<i64>, AllocError> {
+    let mut numbers = Vec::new(alloc);
+    push_numbers(&mut numbers, text)?;
     Ok(numbers)
 }
 
-/// The numbers of what a run with these words writes for this text; none where it ends otherwise.
-pub(crate) fn compiled(alloc: Global, words: &[&str], text: &str) -> Result<Vec<i64>, Fail> {
-    let (status, out, _) = run_words(alloc, words, text, SOUND)?;
-    match status {
-        Status::Done => Ok(numbers(alloc, out.bytes())?),
+/// The numbers of what a run writes; none where it ends otherwise.
+pub(crate) fn numbers_of(alloc: Global, ran: &Ran) -> Result<Vec<i64>, AllocError> {
+    match ran.status {
+        Status::Done => numbers(alloc, ran.out.bytes()),
         _ => Ok(Vec::new(alloc)),
     }
+}
+
+/// The numbers of what a run with these words writes for this text.
+pub(crate) fn compiled(alloc: Global, words: &[&str], text: &str) -> Result<Vec<i64>, Fail> {
+    let ran = run_words(alloc, words, text, SOUND)?;
+    Ok(numbers_of(alloc, &ran)?)
 }
 
 /// Whether the bit at a place is 1.

@@ -59,57 +59,6 @@ const CLAUSES: [Source; 10] = [
     ),
 ];
 
-/// Words that ask for a QUBO, and the sources that they are about.
-const RUNS: [(&[&str], &[Source]); 7] = [
-    (&["compile", "wcnf", "qubo", "a"], &CLAUSES),
-    (
-        &[
-            "compile",
-            "poly",
-            "qubo",
-            "a",
-            "normal=literal",
-            "high=monomial",
-        ],
-        &POLYNOMIALS,
-    ),
-    (
-        &[
-            "compile",
-            "poly",
-            "qubo",
-            "a",
-            "normal=literal",
-            "high=rosenberg",
-        ],
-        &POLYNOMIALS,
-    ),
-    (
-        &[
-            "compile",
-            "poly",
-            "qubo",
-            "a",
-            "normal=multilinear",
-            "high=monomial",
-        ],
-        &POLYNOMIALS,
-    ),
-    (
-        &[
-            "compile",
-            "poly",
-            "qubo",
-            "a",
-            "normal=multilinear",
-            "high=rosenberg",
-        ],
-        &POLYNOMIALS,
-    ),
-    (&["compile", "wbo", "qubo", "a", "unit=one"], &SOFT),
-    (&["compile", "wbo", "qubo", "a", "unit=reduce"], &SOFT),
-];
-
 /// Whether the model of a text keeps the costs of its assignments.
 fn keeps(alloc: Global, words: &[&str], text: &str, costs: &[i64]) -> Result<bool, Fail> {
     let numbers = compiled(alloc, words, text)?;
@@ -130,11 +79,40 @@ fn first_other(
     Ok(None)
 }
 
+/// Whether the models of sources keep their costs.
+fn are_kept(alloc: Global, words: &[&str], sources: &[Source]) -> Result<bool, Fail> {
+    let other = first_other(alloc, words, sources)?;
+    Ok(other.is_none())
+}
+
 #[test]
-fn each_least_energy_stands_for_its_cost(rt: HostRuntime) -> Result<(), Fail> {
-    for (words, sources) in RUNS {
-        let other = first_other(rt.alloc(), words, sources)?;
-        assert!(rt; other.is_none(), "{words:?} {other:?}");
+fn each_least_energy_of_clauses_stands_for_its_cost(rt: HostRuntime) -> Result<(), Fail> {
+    assert!(rt; are_kept(rt.alloc(), &["compile", "wcnf", "qubo", "a"], &CLAUSES)?);
+    Ok(())
+}
+
+/// The choices between normal forms, and between new nodes.
+const CHOICES: [[&str; 2]; 4] = [
+    ["normal=literal", "high=monomial"],
+    ["normal=literal", "high=rosenberg"],
+    ["normal=multilinear", "high=monomial"],
+    ["normal=multilinear", "high=rosenberg"],
+];
+
+#[test]
+fn each_least_energy_of_products_stands_for_its_cost(rt: HostRuntime) -> Result<(), Fail> {
+    for [normal, high] in CHOICES {
+        let words = ["compile", "poly", "qubo", "a", normal, high];
+        assert!(rt; are_kept(rt.alloc(), &words, &POLYNOMIALS)?, "{normal} {high}");
+    }
+    Ok(())
+}
+
+#[test]
+fn each_least_energy_of_soft_sums_stands_for_its_cost(rt: HostRuntime) -> Result<(), Fail> {
+    for unit in ["unit=one", "unit=reduce"] {
+        let words = ["compile", "wbo", "qubo", "a", unit];
+        assert!(rt; are_kept(rt.alloc(), &words, &SOFT)?, "{unit}");
     }
     Ok(())
 }
