@@ -140,13 +140,7 @@ fn seen_of_state(
 {
     let wanted = read(alloc, map, y)?;
     let decoded = Chains.decode(alloc, &made.link, y)?;
-    Ok(seen_of_reading(
-        embedded,
-        made,
-        &wanted,
-        &decoded,
-        energy(&made.target, y),
-    ))
+    Ok(seen_of_reading(embedded, made, &wanted, &decoded, energy(&made.target, y)))
 }
 
 /// What is seen of the state of these places with a number.
@@ -294,7 +288,8 @@ fn seen_of_drawn(
 ) -> Result<Outcome, NoMemory> {
     let map = grow_map(alloc, graph, dice, nodes)?;
     Ok(match seen_of_drawn_on(alloc, graph, dice, nodes, &map)? {
-        Outcome::Held(seen) if seen.couplings.wrapping_add(1) < u64::from(nodes) => Outcome::Refused,
+        Outcome::Held(seen) if seen.couplings.wrapping_add(1) < u64::from(nodes) =>
+            Outcome::Refused,
         other => other,
     })
 }

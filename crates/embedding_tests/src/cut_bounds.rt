@@ -111,9 +111,7 @@ fn is_reading_below(
 ) -> Option<bool> {
     let moved = energy(embedded.ising(), &wanted.bits).wrapping_add(made.offset);
     let is_least = found == least;
-    if decoded != wanted.bits.as_slice()
-        || is_least && (wanted.broken != 0 || found != moved)
-    {
+    if decoded != wanted.bits.as_slice() || is_least && (wanted.broken != 0 || found != moved) {
         return None;
     }
     Some(found < moved)

@@ -462,11 +462,7 @@ fn agreed_parts(
 }
 
 /// The same of parts that are drawn.
-fn agreed_on(
-    alloc: Global,
-    shape: (u32, u32, u32),
-    seed: u64,
-) -> Result<Option<u64>, NoMemory> {
+fn agreed_on(alloc: Global, shape: (u32, u32, u32), seed: u64) -> Result<Option<u64>, NoMemory> {
     let Some(graph) = Chimera::new(shape.0, shape.1, shape.2) else {
         return Ok(None);
     };

@@ -13,9 +13,7 @@ use form_steps::Guard;
 use literal_lists::Literal;
 use normal_form::MultilinearForm;
 use penalty_layer::Penalty;
-use problem_form::{
-    Choices, Constraint, High, Normal, Problem, ProductList, check_limits,
-};
+use problem_form::{Choices, Constraint, High, Normal, Problem, ProductList, check_limits};
 use std::alloc::Global;
 use std::test::Fail;
 

@@ -1,6 +1,7 @@
 //! Guards at all states of small problems: the least energy of the states that decode to an
 //! assignment stands for its cost, and the state that it extends to has that energy.
-ghost use Rattle.std.specs.Prelude.{◌≡◌, ◌<◌, ◌^◌};
+ghost use Rattle.std.specs.Prelude.{◌≡◌, ◌<◌, ◌^◌, length};
+ghost use Rattle.base.specs.Costs.{IsOf};
 
 use crate::given::state;
 use base::{Cost, Costed, Figures, NoMemory};
@@ -33,40 +34,55 @@ fn note(least: &mut Least, number: usize, energy: Cost) {
     };
 }
 
-/// The number of the assignment that a state decodes to, and the energy of the state.
+/// The number of the assignment that a state decodes to.
 fn decoded<G: Guard>(
+    alloc: Global,
+    guard: &G,
+    link: &G::Link,
+    y: &[bool],
+) -> Result<usize, NoMemory>
+    requires sound { G.is_sound link.now }
+    requires width { length y.now ≡ (G.decoding link.now).target_width }
+{
+    let x = guard.decode(alloc, link, y)?;
+    Ok(number_of(&x))
+}
+
+/// Notes the state of a number.
+fn note_number<G: Guard>(
     alloc: Global,
     guard: &G,
     source: &G::Source,
     made: &Guarded<G::Target, G::Link>,
     number: u64,
-) -> Result<(usize, Cost), NoMemory>
+    least: &mut Least,
+) -> Result<(), NoMemory>
     requires fits { G.fits made.now.link source.now }
     requires image { made.now.target ≡ G.image source.now }
     requires narrow { (G.Target.form made.now.target).bits < 2 ^ 32 }
 {
     let y = state(alloc, made.target.width(), number)?;
-    let x = guard.decode(alloc, &made.link, &y)?;
-    Ok((number_of(&x), made.target.cost(&y)))
+    let place = decoded(alloc, guard, &made.link, &y)?;
+    note(least, place, made.target.cost(&y));
+    Ok(())
 }
 
-/// The least energy for each assignment, of all states of a form of up to eleven nodes.
-fn least_energies<G: Guard>(
+/// Notes all states of a form of up to eleven nodes.
+fn note_all<G: Guard>(
     alloc: Global,
     guard: &G,
     source: &G::Source,
     made: &Guarded<G::Target, G::Link>,
-) -> Result<Least, NoMemory>
+    least: &mut Least,
+) -> Result<(), NoMemory>
     requires fits { G.fits made.now.link source.now }
     requires image { made.now.target ≡ G.image source.now }
     requires narrow { (G.Target.form made.now.target).bits < 2 ^ 32 }
 {
-    let mut least: Least = [None; 32];
     for number in 0..1 << made.target.width().min(11) {
-        let (place, energy) = decoded(alloc, guard, source, made, number)?;
-        note(&mut least, place, energy);
+        note_number(alloc, guard, source, made, number, least)?;
     }
-    Ok(least)
+    Ok(())
 }
 
 /// Whether a least energy is the cost, scaled and moved, or lies above the threshold of an infinite
@@ -75,6 +91,37 @@ fn stands_for(energy: i128, cost: Cost, figures: &Figures) -> bool {
     match cost {
         Cost::Whole(cost) => figures.scale == 1 && cost.checked_add(figures.offset) == Some(energy),
         Cost::Infinite => figures.threshold < energy,
+    }
+}
+
+/// The energy of the state that an assignment extends to.
+fn extended_energy<G: Guard>(
+    alloc: Global,
+    guard: &G,
+    source: &G::Source,
+    made: &Guarded<G::Target, G::Link>,
+    x: &[bool],
+) -> Result<Cost, NoMemory>
+    requires fits { G.fits made.now.link source.now }
+    requires image { made.now.target ≡ G.image source.now }
+    requires narrow { (G.Target.form made.now.target).bits < 2 ^ 32 }
+    requires width { IsOf (G.Source.form source.now) x.now }
+{
+    let y = guard.extend(alloc, source, &made.link, x)?;
+    Ok(made.target.cost(&y))
+}
+
+/// A cost, where its least energy stands for it, and this is that energy.
+fn cost_if_kept(cost: Cost, energy: Cost, least: Option<i128>, figures: &Figures) -> Option<Cost> {
+    match (energy, least) {
+        (Cost::Whole(energy), Some(least)) => if energy == least
+            && stands_for(least, cost, figures)
+        {
+            Some(cost)
+        } else {
+            None
+        },
+        _ => None,
     }
 }
 
@@ -94,13 +141,8 @@ fn kept_cost<G: Guard>(
     requires narrow_source { (G.Source.form source.now).bits < 2 ^ 32 }
 {
     let x = state(alloc, source.width(), number)?;
-    let y = guard.extend(alloc, source, &made.link, &x)?;
-    let cost = source.cost(&x);
-    Ok(match (made.target.cost(&y), least) {
-        (Cost::Whole(energy), Some(least)) if energy == least
-            && stands_for(least, cost, &made.figures) => Some(cost),
-        _ => None,
-    })
+    let energy = extended_energy(alloc, guard, source, made, &x)?;
+    Ok(cost_if_kept(source.cost(&x), energy, least, &made.figures))
 }
 
 /// How many assignments are kept: those whose cost is whole, and those whose cost is infinite.
@@ -130,6 +172,26 @@ impl Kept {
     }
 }
 
+/// Counts the assignments that are kept.
+fn count_kept<G: Guard>(
+    alloc: Global,
+    guard: &G,
+    source: &G::Source,
+    made: &Guarded<G::Target, G::Link>,
+    least: &Least,
+) -> Result<Kept, NoMemory>
+    requires fits { G.fits made.now.link source.now }
+    requires image { made.now.target ≡ G.image source.now }
+    requires narrow { (G.Target.form made.now.target).bits < 2 ^ 32 }
+    requires narrow_source { (G.Source.form source.now).bits < 2 ^ 32 }
+{
+    let mut kept = Kept::NONE;
+    for number in 0..1_usize << source.width().min(5) {
+        kept.add(kept_cost(alloc, guard, source, made, number as u64, least[number])?);
+    }
+    Ok(kept)
+}
+
 /// How many assignments of a source of up to five variables are kept by what a guard makes of it.
 pub fn kept_by<G: Guard>(
     alloc: Global,
@@ -142,13 +204,10 @@ pub fn kept_by<G: Guard>(
     requires narrow { (G.Target.form made.now.target).bits < 2 ^ 32 }
     requires narrow_source { (G.Source.form source.now).bits < 2 ^ 32 }
 {
-    let least = least_energies(alloc, guard, source, made)?;
-    let mut kept = Kept::NONE;
     if source.width() > 5 || made.target.width() > 11 {
-        return Ok(kept);
+        return Ok(Kept::NONE);
     }
-    for number in 0..1_usize << source.width() {
-        kept.add(kept_cost(alloc, guard, source, made, number as u64, least[number])?);
-    }
-    Ok(kept)
+    let mut least: Least = [None; 32];
+    note_all(alloc, guard, source, made, &mut least)?;
+    count_kept(alloc, guard, source, made, &least)
 }

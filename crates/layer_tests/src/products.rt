@@ -34,6 +34,8 @@ fn is_kept(alloc: Global, source: &Table) -> Result<bool, NoMemory>
     requires size { terms_size source.now.content.terms ≤ 2500 }
 {
     let made = layers().lower(alloc, source)?;
+    // the nodes of a form of spins are numbered in 32 bits
+    let _fields = made.target.fields.as_slice();
     keeps_costs(alloc, &layers(), source, &made)
 }
 

@@ -113,15 +113,19 @@ fn cost(weights: &Weights, number: u32) -> i64 {
         .saturating_add(counted(b && c, high))
 }
 
+fn sum_of_three(first: i8, second: i8, third: i8) -> i64 {
+    i64::from(first)
+        .saturating_add(i64::from(second))
+        .saturating_add(i64::from(third))
+}
+
 /// The mean cost, four times.
 fn four_means(weights: &Weights) -> i64 {
-    let [first, second, third, low, outer, high] = weights.map(i64::from);
-    let nodes = first.saturating_add(second).saturating_add(third);
+    let [first, second, third, low, outer, high] = *weights;
+    let nodes = sum_of_three(first, second, third);
     nodes
         .saturating_mul(2)
-        .saturating_add(low)
-        .saturating_add(outer)
-        .saturating_add(high)
+        .saturating_add(sum_of_three(low, outer, high))
 }
 
 /// The energy of a state: on spins four times the cost, less what all states have in common.

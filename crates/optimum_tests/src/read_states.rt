@@ -111,7 +111,11 @@ fn are_read_there(
         perch: Perch::Map(map_of(alloc, chains)?),
         ties,
     };
-    Ok(are_read_off(model_at(alloc, problem, variables, &site), chains, variables))
+    Ok(are_read_off(
+        model_at(alloc, problem, variables, &site),
+        chains,
+        variables,
+    ))
 }
 
 /// The same of three nodes.
@@ -155,7 +159,10 @@ fn are_first_bits(alloc: Global, target: NodeModel, variables: u64) -> Result<bo
 fn first_bits_are_read(rt: HostRuntime) -> Result<(), Fail> {
     for target in [NodeModel::Qubo, NodeModel::Ising] {
         for variables in 0..4 {
-            assert!(rt; are_first_bits(rt.alloc(), target, variables)?, "{variables}");
+            assert!(rt;
+                are_first_bits(rt.alloc(), target, variables)?,
+                "{variables}"
+            );
         }
     }
     Ok(())

@@ -1,6 +1,6 @@
 //! Every state decoded and every assignment extended, through whole runs, for fifty small sources:
 //! what is written is compared with plain arithmetic on the text of the model.
-use crate::models::{INFINITE, Model, Source, Target, bit, model_in, numbers_of};
+use crate::models::{INFINITE, Model, Target, bit, model_in, numbers, numbers_of, parted};
 use crate::runs::{Named, Ran, SOUND, owned, push_file, push_words, run_over};
 use crate::small_sources::{FORMATS, NAMES};
 use std::alloc::{AllocError, Global};
@@ -8,16 +8,16 @@ use std::test::Fail;
 
 /// A source, and its place among those of its format, which chooses what is asked of it.
 #[derive(Clone, Copy)]
-struct Asked {
+struct Asked<'a> {
     format: &'static str,
-    text: &'static str,
+    text: &'a str,
     index: usize,
 
     /// How many nodes its Ising model has, and so how many qubits are on each side of the cell.
     nodes: u32,
 }
 
-impl Asked {
+impl Asked<'_> {
     fn target(&self) -> Target {
         match self.index % 3 {
             0 => Target::Qubo,
@@ -119,7 +119,7 @@ fn files_of(alloc: Global, asked: &Asked, bits: &str) -> Result<Named, Fail> {
 }
 
 /// What a run of this verb gives.
-fn ran(
+fn run_of(
     alloc: Global,
     verb: &'static str,
     target: Target,
@@ -132,7 +132,7 @@ fn ran(
 
 /// The numbers of the source's model for a target; none where there is no model.
 fn compiled_for(alloc: Global, target: Target, asked: &Asked) -> Result<Vec<i64>, Fail> {
-    let ran = ran(alloc, "compile", target, asked, "")?;
+    let ran = run_of(alloc, "compile", target, asked, "")?;
     Ok(numbers_of(alloc, &ran)?)
 }
 
@@ -232,7 +232,7 @@ fn decodes_bits(
     state: u64,
     bits: &str,
 ) -> Result<bool, Fail> {
-    let ran = ran(alloc, "decode", asked.target(), asked, bits)?;
+    let ran = run_of(alloc, "decode", asked.target(), asked, bits)?;
     is_decoded(alloc, asked, costs, model, state, &ran)
 }
 
@@ -285,7 +285,7 @@ fn extends_bits(
     assignment: u64,
     bits: &str,
 ) -> Result<bool, Fail> {
-    let ran = ran(alloc, "extend", asked.target(), asked, bits)?;
+    let ran = run_of(alloc, "extend", asked.target(), asked, bits)?;
     is_extended(alloc, costs, model, assignment, &ran)
 }
 
@@ -348,22 +348,44 @@ fn nodes_of(alloc: Global, asked: &Asked) -> Result<u32, Fail> {
     Ok(model_in(Target::Ising, &numbers).map_or(0, |model| model.nodes))
 }
 
-/// The first source of a format for which this does not hold.
-fn first_other(
+/// What is asked of a source with a place among those of its format.
+fn asked_of<'a>(
     alloc: Global,
     format: &'static str,
-    sources: &[Source],
-) -> Result<Option<&'static str>, Fail> {
-    for (index, (text, costs)) in sources.iter().enumerate() {
-        let mut asked = Asked {
-            format,
-            text: *text,
-            index,
-            nodes: 0,
-        };
-        asked.nodes = nodes_of(alloc, &asked)?;
-        if !goes_both_ways(alloc, &asked, costs)? {
-            return Ok(Some(*text));
+    text: &'a str,
+    index: usize,
+) -> Result<Asked<'a>, Fail> {
+    let mut asked = Asked {
+        format,
+        text,
+        index,
+        nodes: 0,
+    };
+    asked.nodes = nodes_of(alloc, &asked)?;
+    Ok(asked)
+}
+
+/// Whether this holds for a source with its costs.
+fn source_goes_both_ways(
+    alloc: Global,
+    format: &'static str,
+    source: &[u8],
+    index: usize,
+) -> Result<bool, Fail> {
+    let Some((text, costs)) = parted(source) else {
+        return Ok(false);
+    };
+    let asked = asked_of(alloc, format, text, index)?;
+    let costs = numbers(alloc, costs)?;
+    goes_both_ways(alloc, &asked, &costs)
+}
+
+/// The number of the first source of a format for which it does not.
+fn first_other(alloc: Global, format: &'static str, sources: &str) -> Result<Option<usize>, Fail> {
+    let sources = sources.as_bytes().split(|byte| *byte == b'@');
+    for (index, source) in sources.enumerate() {
+        if !source_goes_both_ways(alloc, format, source, index)? {
+            return Ok(Some(index));
         }
     }
     Ok(None)

@@ -5,11 +5,16 @@ use program_run::Status;
 use std::alloc::{AllocError, Global};
 use std::test::Fail;
 
-/// What an assignment costs that breaks what has to hold.
-pub(crate) const INFINITE: i64 = i64::MAX;
+/// What an assignment costs that breaks what has to hold: more than any other here.
+pub(crate) const INFINITE: i64 = 999;
 
-/// A text, and what each assignment costs, by its number, whose lowest bit is the first variable.
-pub(crate) type Source = (&'static str, &'static [i64]);
+/// The text of a source, and behind a `|` what each assignment costs, by its number, whose lowest bit
+/// is the first variable. Sources are parted by `@`.
+pub(crate) fn parted(source: &[u8]) -> Option<(&str, &[u8])> {
+    let mut parts = source.split(|byte| *byte == b'|');
+    let text = std::str::from_utf8(parts.next()?).ok()?;
+    Some((text, parts.next()?))
+}
 
 /// What a model is for: bits, spins, or the qubits of one cell, where each chain has two.
 #[derive(Clone, Copy, PartialEq, Eq)]

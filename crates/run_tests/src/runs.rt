@@ -138,12 +138,7 @@ fn one_file(alloc: Global, text: &str) -> Result<Named, AllocError> {
 }
 
 /// One run with these words over the file `a` of this text.
-pub(crate) fn run_words(
-    alloc: Global,
-    words: &[&str],
-    text: &str,
-    ends: Ends,
-) -> Result<Ran, Fail>
+pub(crate) fn run_words(alloc: Global, words: &[&str], text: &str, ends: Ends) -> Result<Ran, Fail>
     requires takes { 1 ≤ ends.most }
     requires small { ends.room < 2 ^ 32 }
 {
