@@ -1,3 +1,1 @@
 pub mod SmallForms
-pub mod Cuts
-pub mod laws

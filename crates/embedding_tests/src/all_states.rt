@@ -1,15 +1,15 @@
 //! All states of small embedded forms, against what their chains are read as.
-ghost use Rattle.std.specs.Prelude.{◌≡◌, length, IfOk};
+ghost use Rattle.std.specs.Prelude.{◌≡◌, length, IfOk, IfSome};
 ghost use Rattle.chain_layer.specs.Image.{Fits};
 ghost use Rattle.embedding_tests.specs.SmallForms.{IsSmall};
 
-use crate::arithmetic::{IN_TURN, energy, read, state, ties_cost};
+use crate::arithmetic::{IN_TURN, Reading, energy, read, state, ties_cost};
 use crate::drawn::{draw_form, grow_map};
 use crate::random::Dice;
 use base::NoMemory;
 use chain_layer::{ChainLink, Chains};
 use chain_map::{ChainMap, CheckAnswer, clique_map};
-use chimera_graph::{Chimera, Hardware};
+use chimera_graph::Chimera;
 use embedding_check::{Embedded, check};
 use form_steps::{Layer, Lowered};
 use ising_form::Ising;
@@ -73,6 +73,21 @@ fn is_reached(
     Ok(again.broken == 0 && again.bits.as_slice() == x && energy(&made.target, &y) == moved)
 }
 
+/// Whether this is so for the assignment of a number.
+fn is_reached_at(
+    alloc: Global,
+    embedded: &Embedded,
+    made: &Lowered<Ising, ChainLink>,
+    map: &ChainMap,
+    number: u64,
+) -> Result<bool, NoMemory>
+    requires { Fits made.now.link embedded.now }
+{
+    let width = embedded.ising().fields.as_slice().len();
+    let x = state(alloc, width, &IN_TURN, number)?;
+    is_reached(alloc, embedded, made, map, &x)
+}
+
 /// Whether this is so for all assignments.
 fn are_reached(
     alloc: Global,
@@ -83,20 +98,36 @@ fn are_reached(
     requires { Fits made.now.link embedded.now }
 {
     let width = embedded.ising().fields.as_slice().len();
-    if width > 4 {
-        return Ok(false);
-    }
-    for number in 0..1 << width {
-        let x = state(alloc, width, &IN_TURN, number)?;
-        if x.len() != width || !is_reached(alloc, embedded, made, map, &x)? {
+    for number in 0..1 << width.min(4) {
+        if !is_reached_at(alloc, embedded, made, map, number)? {
             return Ok(false);
         }
     }
-    Ok(true)
+    Ok(width <= 4)
 }
 
-/// What is seen of a state that is decoded to what its chains are read as, and does not lie below
-/// that, moved. Where no chain is broken it has that energy.
+/// What is seen of a state that is decoded to these bits and is to be read in this way: it does not
+/// lie below that, moved, and where no chain is broken it has that energy.
+fn seen_of_reading(
+    embedded: &Embedded,
+    made: &Lowered<Ising, ChainLink>,
+    wanted: &Reading,
+    decoded: &[bool],
+    found: i128,
+) -> Option<Seen> {
+    let moved = energy(embedded.ising(), &wanted.bits).wrapping_add(made.offset);
+    if decoded != wanted.bits.as_slice() || found < moved || wanted.broken == 0 && found != moved {
+        return None;
+    }
+    Some(Seen {
+        models: 0,
+        couplings: 0,
+        broken: if wanted.broken == 0 { 0 } else { 1 },
+        tied: if wanted.tied == 0 { 0 } else { 1 },
+    })
+}
+
+/// What is seen of a state.
 fn seen_of_state(
     alloc: Global,
     embedded: &Embedded,
@@ -109,17 +140,22 @@ fn seen_of_state(
 {
     let wanted = read(alloc, map, y)?;
     let decoded = Chains.decode(alloc, &made.link, y)?;
-    let moved = energy(embedded.ising(), &wanted.bits).wrapping_add(made.offset);
-    let found = energy(&made.target, y);
-    if decoded != wanted.bits || found < moved || wanted.broken == 0 && found != moved {
-        return Ok(None);
-    }
-    Ok(Some(Seen {
-        models: 0,
-        couplings: 0,
-        broken: if wanted.broken == 0 { 0 } else { 1 },
-        tied: if wanted.tied == 0 { 0 } else { 1 },
-    }))
+    Ok(seen_of_reading(embedded, made, &wanted, &decoded, energy(&made.target, y)))
+}
+
+/// What is seen of the state of these places with a number.
+fn seen_of_number(
+    alloc: Global,
+    embedded: &Embedded,
+    made: &Lowered<Ising, ChainLink>,
+    map: &ChainMap,
+    places: &[u64],
+    number: u64,
+) -> Result<Option<Seen>, NoMemory>
+    requires { Fits made.now.link embedded.now }
+{
+    let y = state(alloc, made.link.qubits as usize, places, number)?;
+    seen_of_state(alloc, embedded, made, map, &y)
 }
 
 /// The qubits of all chains.
@@ -142,16 +178,11 @@ fn seen_of_states(
     requires { Fits made.now.link embedded.now }
 {
     let mut seen = NOTHING;
-    let width = made.link.qubits as usize;
     if places.len() > 14 {
         return Ok(Outcome::Refused);
     }
     for number in 0..1 << places.len() {
-        let y = state(alloc, width, places, number)?;
-        if y.len() != width {
-            return Ok(Outcome::Failed);
-        }
-        match seen_of_state(alloc, embedded, made, map, &y)? {
+        match seen_of_number(alloc, embedded, made, map, places, number)? {
             Some(more) => seen.add(more),
             None => return Ok(Outcome::Failed),
         }
@@ -219,17 +250,32 @@ fn seen_of_answer(
     }
 }
 
-/// What is seen of a form on the chains of a map, if the map is valid.
-fn seen_on<H: Hardware>(
+/// What is seen of a drawn form on the chains of a map, if the map is valid.
+fn seen_on(
     alloc: Global,
-    hardware: &H,
-    form: Ising,
+    graph: &Chimera,
+    form: Option<Ising>,
     map: &ChainMap,
 ) -> Result<Outcome, NoMemory>
-    requires { IsSmall form }
+    requires { IfSome form IsSmall }
 {
-    let answer = check(alloc, hardware, form, map);
+    let Some(form) = form else {
+        return Ok(Outcome::Failed);
+    };
+    let answer = check(alloc, graph, form, map);
     seen_of_answer(alloc, answer, map)
+}
+
+/// What is seen of a drawn form on the chains of a map.
+fn seen_of_drawn_on(
+    alloc: Global,
+    graph: &Chimera,
+    dice: &mut Dice,
+    nodes: u32,
+    map: &ChainMap,
+) -> Result<Outcome, NoMemory> {
+    let form = draw_form(alloc, dice, nodes)?;
+    seen_on(alloc, graph, form, map)
 }
 
 /// What is seen of a drawn form on chains that grow. Forms with too few couplings to join all nodes
@@ -241,14 +287,11 @@ fn seen_of_drawn(
     nodes: u32,
 ) -> Result<Outcome, NoMemory> {
     let map = grow_map(alloc, graph, dice, nodes)?;
-    match draw_form(alloc, dice, nodes)? {
-        Some(form) => if form.couplings.len() < nodes.saturating_sub(1) as usize {
-            Ok(Outcome::Refused)
-        } else {
-            seen_on(alloc, graph, form, &map)
-        },
-        None => Ok(Outcome::Failed),
-    }
+    Ok(match seen_of_drawn_on(alloc, graph, dice, nodes, &map)? {
+        Outcome::Held(seen) if seen.couplings.wrapping_add(1) < u64::from(nodes) =>
+            Outcome::Refused,
+        other => other,
+    })
 }
 
 /// What is seen of ten models of one to four nodes on a graph.
@@ -281,7 +324,37 @@ fn all_states_of_drawn_models(rt: HostRuntime) -> Result<(), Fail> {
     Ok(())
 }
 
-/// What is seen of a drawn form that is embedded in the chains of a clique, without a check.
+/// What is seen of a drawn form that is embedded in the chains of a clique, without a check, and are
+/// those of this map.
+fn seen_on_clique(
+    alloc: Global,
+    graph: &Chimera,
+    form: Option<Ising>,
+    map: &ChainMap,
+) -> Result<Outcome, NoMemory>
+    requires { IfSome form IsSmall }
+{
+    let Some(form) = form else {
+        return Ok(Outcome::Failed);
+    };
+    let answer = clique_embedded(alloc, graph, form);
+    seen_of_answer(alloc, answer, map)
+}
+
+/// The same of a form that is drawn.
+fn seen_of_drawn_clique(
+    alloc: Global,
+    graph: &Chimera,
+    map: &ChainMap,
+    nodes: u32,
+    seed: u64,
+) -> Result<Outcome, NoMemory> {
+    let mut dice = Dice { state: seed };
+    let form = draw_form(alloc, &mut dice, nodes)?;
+    seen_on_clique(alloc, graph, form, map)
+}
+
+/// The same on the chains of the clique of so many nodes.
 fn seen_of_clique(
     alloc: Global,
     shape: (u32, u32, u32),
@@ -291,39 +364,34 @@ fn seen_of_clique(
     let Some(graph) = Chimera::new(shape.0, shape.1, shape.2) else {
         return Ok(Outcome::Refused);
     };
-    let mut dice = Dice { state: seed };
-    let Ok(map) = clique_map(alloc, &graph, nodes as usize) else {
-        return Ok(Outcome::Refused);
-    };
-    match draw_form(alloc, &mut dice, nodes)? {
-        Some(form) => {
-            let answer = clique_embedded(alloc, &graph, form);
-            seen_of_answer(alloc, answer, &map)
-        }
-        None => Ok(Outcome::Failed),
+    match clique_map(alloc, &graph, nodes as usize) {
+        Ok(map) => seen_of_drawn_clique(alloc, &graph, &map, nodes, seed),
+        Err(_) => Ok(Outcome::Refused),
     }
 }
 
+/// Graphs, and how many nodes a clique has there.
+const CLIQUES: [((u32, u32, u32), u32); 10] = [
+    ((1, 1, 4), 1),
+    ((1, 1, 4), 2),
+    ((1, 1, 4), 3),
+    ((1, 1, 4), 4),
+    ((2, 2, 1), 2),
+    ((2, 2, 2), 3),
+    ((2, 2, 2), 4),
+    ((2, 3, 2), 4),
+    ((3, 3, 1), 2),
+    ((3, 3, 1), 3),
+];
+
 #[test]
 fn all_states_of_cliques(rt: HostRuntime) -> Result<(), Fail> {
-    let rows = [
-        ((1, 1, 4), 1),
-        ((1, 1, 4), 2),
-        ((1, 1, 4), 3),
-        ((1, 1, 4), 4),
-        ((2, 2, 1), 2),
-        ((2, 2, 2), 3),
-        ((2, 2, 2), 4),
-        ((2, 3, 2), 4),
-        ((3, 3, 1), 2),
-        ((3, 3, 1), 3),
-    ];
-    for (seed, (shape, nodes)) in rows.iter().enumerate() {
+    for (seed, (shape, nodes)) in CLIQUES.iter().enumerate() {
         let outcome = seen_of_clique(rt.alloc(), *shape, *nodes, seed as u64)?;
-        let Outcome::Held(seen) = outcome else {
-            return Err("not as read".into());
-        };
-        assert!(rt; seen.broken > 0, "{seed} {seen:?}");
+        assert!(rt;
+            matches!(outcome, Outcome::Held(seen) if seen.broken > 0),
+            "{seed} {outcome:?}"
+        );
     }
     Ok(())
 }

@@ -1,20 +1,18 @@
 //! States, their energies and what their chains are read as, by plain arithmetic.
+ghost use Rattle.std.specs.Prelude.{◌≡◌, length, IfOk};
+
 use base::NoMemory;
 use chain_map::ChainMap;
 use ising_form::Ising;
 use std::alloc::Global;
 
 /// Nodes or qubits one after another.
-pub const IN_TURN: [u64; 12] = [0, 1, 2, 3, 4, 5, 6, 7, 8, 9, 10, 11];
+pub(crate) const IN_TURN: [u64; 12] = [0, 1, 2, 3, 4, 5, 6, 7, 8, 9, 10, 11];
 
-/// The state in which these places have the lowest bits of a number, and all others 0.
-pub fn state(
-    alloc: Global,
-    width: usize,
-    places: &[u64],
-    number: u64,
-) -> Result<Vec<bool>, NoMemory> {
-    let mut y = vec![in alloc; false; width]?;
+/// Sets the bits at these places to the lowest ones of a number.
+fn set(y: &mut [bool], places: &[u64], number: u64)
+    ensures { length y.new ≡ length y.old }
+{
     let mut rest = number;
     for place in places {
         match y.get_mut(*place as usize) {
@@ -23,6 +21,19 @@ pub fn state(
         }
         rest /= 2;
     }
+}
+
+/// The state in which these places have the lowest bits of a number, and all others 0.
+pub(crate) fn state(
+    alloc: Global,
+    width: usize,
+    places: &[u64],
+    number: u64,
+) -> Result<Vec<bool>, NoMemory>
+    ensures { IfOk result (λ y. length y.items ≡ width) }
+{
+    let mut y = vec![in alloc; false; width]?;
+    set(&mut y, places, number);
     Ok(y)
 }
 
@@ -51,7 +62,7 @@ fn fields_energy(form: &Ising, y: &[bool]) -> i128 {
 }
 
 /// The constant, each field times its spin, and each coupling times both spins.
-pub fn energy(form: &Ising, y: &[bool]) -> i128 {
+pub(crate) fn energy(form: &Ising, y: &[bool]) -> i128 {
     let mut energy = form.constant.wrapping_add(fields_energy(form, y));
     for coupling in form.couplings.iter() {
         let once = turned(y, coupling.first as usize, coupling.weight);
@@ -73,7 +84,7 @@ fn strength(form: &Ising, node: usize, field: i128) -> i128 {
 
 /// The strength of each node times the number of its ties, which is one less than that of its
 /// qubits.
-pub fn ties_cost(form: &Ising, map: &ChainMap) -> i128 {
+pub(crate) fn ties_cost(form: &Ising, map: &ChainMap) -> i128 {
     let mut cost: i128 = 0;
     for (node, field) in form.fields.as_slice().iter().enumerate() {
         if node < map.len() {
@@ -86,7 +97,7 @@ pub fn ties_cost(form: &Ising, map: &ChainMap) -> i128 {
 
 /// What the chains of a state are read as, and how many of them are broken, and how many tied.
 #[derive(Drop)]
-pub struct Reading {
+pub(crate) struct Reading {
     pub bits: Vec<bool>,
     pub broken: u64,
     pub tied: u64,
@@ -120,17 +131,22 @@ impl Reading {
         self.bits.push(ones > zeros || ones == zeros && first)?;
         Ok(())
     }
+
+    fn add_all(&mut self, y: &[bool], map: &ChainMap) -> Result<(), NoMemory> {
+        for node in 0..map.len() {
+            self.add(y, map.chain(node))?;
+        }
+        Ok(())
+    }
 }
 
 /// Reads all chains.
-pub fn read(alloc: Global, map: &ChainMap, y: &[bool]) -> Result<Reading, NoMemory> {
+pub(crate) fn read(alloc: Global, map: &ChainMap, y: &[bool]) -> Result<Reading, NoMemory> {
     let mut reading = Reading {
         bits: Vec::new(alloc),
         broken: 0,
         tied: 0,
     };
-    for node in 0..map.len() {
-        reading.add(y, map.chain(node))?;
-    }
+    reading.add_all(y, map)?;
     Ok(reading)
 }

@@ -4,9 +4,8 @@ ghost use Rattle.std.specs.Prelude.{◌≡◌, length, IfOk, IfSome};
 ghost use Rattle.cut_chains.specs.CutLinks.{Fits};
 ghost use Rattle.embedding_tests.specs.SmallForms.{IsSmall};
 
-use crate::arithmetic::{IN_TURN, energy, read, state};
+use crate::arithmetic::{IN_TURN, Reading, energy, read, state};
 use crate::drawn::{draw_form, grow_map};
-use crate::forms::{Row, map_of, small_form};
 use crate::random::Dice;
 use base::NoMemory;
 use chain_map::{ChainMap, CheckAnswer};
@@ -36,13 +35,16 @@ fn states(form: &Ising) -> u64 {
     1 << form.fields.as_slice().len().min(12)
 }
 
+fn energy_of_number(alloc: Global, form: &Ising, number: u64) -> Result<i128, NoMemory> {
+    let y = state(alloc, form.fields.as_slice().len(), &IN_TURN, number)?;
+    Ok(energy(form, &y))
+}
+
 /// The least energy of a form.
 fn least_energy(alloc: Global, form: &Ising) -> Result<i128, NoMemory> {
-    let width = form.fields.as_slice().len();
     let mut least = i128::MAX;
     for number in 0..states(form) {
-        let y = state(alloc, width, &IN_TURN, number)?;
-        least = least.min(energy(form, &y));
+        least = least.min(energy_of_number(alloc, form, number)?);
     }
     Ok(least)
 }
@@ -65,6 +67,21 @@ fn is_reached(
     Ok(again.broken == 0 && again.bits.as_slice() == x && energy(&made.target, &y) == moved)
 }
 
+/// Whether this is so for the assignment of a number.
+fn is_reached_at(
+    alloc: Global,
+    embedded: &Embedded,
+    made: &Lowered<Ising, CutLink>,
+    map: &ChainMap,
+    number: u64,
+) -> Result<bool, NoMemory>
+    requires { Fits made.now.link embedded.now }
+{
+    let width = embedded.ising().fields.as_slice().len();
+    let x = state(alloc, width, &IN_TURN, number)?;
+    is_reached(alloc, embedded, made, map, &x)
+}
+
 /// Whether this is so for all assignments.
 fn are_reached(
     alloc: Global,
@@ -74,19 +91,33 @@ fn are_reached(
 ) -> Result<bool, NoMemory>
     requires { Fits made.now.link embedded.now }
 {
-    let width = embedded.ising().fields.as_slice().len();
     for number in 0..states(embedded.ising()) {
-        let x = state(alloc, width, &IN_TURN, number)?;
-        if x.len() != width || !is_reached(alloc, embedded, made, map, &x)? {
+        if !is_reached_at(alloc, embedded, made, map, number)? {
             return Ok(false);
         }
     }
     Ok(true)
 }
 
-/// Whether a state lies below what it is read as, moved. There is no answer where it is not decoded
-/// to what its chains are read as, or has this least energy and a broken chain, or another energy
-/// than that.
+/// Whether a state lies below what it is to be read as, moved. There is no answer where it is decoded
+/// to other bits than that, or has this least energy and a broken chain, or another energy than that.
+fn is_reading_below(
+    embedded: &Embedded,
+    made: &Lowered<Ising, CutLink>,
+    wanted: &Reading,
+    decoded: &[bool],
+    least: i128,
+    found: i128,
+) -> Option<bool> {
+    let moved = energy(embedded.ising(), &wanted.bits).wrapping_add(made.offset);
+    let is_least = found == least;
+    if decoded != wanted.bits.as_slice() || is_least && (wanted.broken != 0 || found != moved) {
+        return None;
+    }
+    Some(found < moved)
+}
+
+/// The same of a state.
 fn is_below(
     alloc: Global,
     embedded: &Embedded,
@@ -100,13 +131,23 @@ fn is_below(
 {
     let wanted = read(alloc, map, y)?;
     let decoded = CutChains.decode(alloc, &made.link, y)?;
-    let moved = energy(embedded.ising(), &wanted.bits).wrapping_add(made.offset);
     let found = energy(&made.target, y);
-    let is_least = found == least;
-    if decoded != wanted.bits || is_least && (wanted.broken != 0 || found != moved) {
-        return Ok(None);
-    }
-    Ok(Some(found < moved))
+    Ok(is_reading_below(embedded, made, &wanted, &decoded, least, found))
+}
+
+/// The same of the state of a number.
+fn is_number_below(
+    alloc: Global,
+    embedded: &Embedded,
+    made: &Lowered<Ising, CutLink>,
+    map: &ChainMap,
+    least: i128,
+    number: u64,
+) -> Result<Option<bool>, NoMemory>
+    requires { Fits made.now.link embedded.now }
+{
+    let y = state(alloc, made.link.qubits as usize, &IN_TURN, number)?;
+    is_below(alloc, embedded, made, map, least, &y)
 }
 
 /// What is seen of all states.
@@ -119,14 +160,9 @@ fn seen_of_states(
 ) -> Result<Outcome, NoMemory>
     requires { Fits made.now.link embedded.now }
 {
-    let width = made.link.qubits as usize;
     let mut count: u64 = 0;
     for number in 0..states(&made.target) {
-        let y = state(alloc, width, &IN_TURN, number)?;
-        if y.len() != width {
-            return Ok(Outcome::Failed);
-        }
-        match is_below(alloc, embedded, made, map, least, &y)? {
+        match is_number_below(alloc, embedded, made, map, least, number)? {
             Some(below) => count = count.wrapping_add(below as u64),
             None => return Ok(Outcome::Failed),
         }
@@ -189,6 +225,18 @@ fn seen_of_form(
     }
 }
 
+/// The same of a form that is drawn.
+fn seen_of_drawn_on(
+    alloc: Global,
+    graph: &Chimera,
+    dice: &mut Dice,
+    nodes: u32,
+    map: &ChainMap,
+) -> Result<Outcome, NoMemory> {
+    let form = draw_form(alloc, dice, nodes)?;
+    seen_of_form(alloc, graph, form, map)
+}
+
 /// What is seen of a drawn form on chains that grow.
 fn seen_of_drawn(
     alloc: Global,
@@ -197,8 +245,7 @@ fn seen_of_drawn(
     nodes: u32,
 ) -> Result<Outcome, NoMemory> {
     let map = grow_map(alloc, graph, dice, nodes)?;
-    let form = draw_form(alloc, dice, nodes)?;
-    seen_of_form(alloc, graph, form, &map)
+    seen_of_drawn_on(alloc, graph, dice, nodes, &map)
 }
 
 /// How many states of ten forms of one to three nodes lie below what they are read as.
@@ -234,75 +281,6 @@ fn least_states_have_no_broken_chain(rt: HostRuntime) -> Result<(), Fail> {
     for (seed, shape) in rows {
         let below = below_in_ten(rt.alloc(), shape, seed)?.ok_or("not as read")?;
         assert!(rt; below > 0, "{shape:?}");
-    }
-    Ok(())
-}
-
-/// Whether the couplings of a form are these, in their order.
-fn are_couplings(form: &Ising, rows: &[Row]) -> bool {
-    let mut at: usize = 0;
-    for coupling in form.couplings.iter() {
-        let row = (coupling.first, coupling.second, coupling.weight);
-        if rows.get(at).copied() != Some(row) {
-            return false;
-        }
-        at = at.wrapping_add(1);
-    }
-    at == rows.len()
-}
-
-/// Whether the image of an embedded form has its constant and these couplings.
-fn has_image(alloc: Global, embedded: &Embedded, image: &[Row]) -> Result<bool, NoMemory>
-    requires { IsSmall embedded.now.ising }
-{
-    let constant = embedded.ising().constant;
-    let made = CutChains.lower(alloc, embedded)?;
-    Ok(made.target.constant == constant && are_couplings(&made.target, image))
-}
-
-/// Whether the image of a form on chains in one cell has its constant and these couplings.
-fn has_image_on(
-    alloc: Global,
-    form: Ising,
-    chains: &[&[u64]],
-    image: &[Row],
-) -> Result<bool, NoMemory>
-    requires { IsSmall form }
-{
-    let Some(cell) = Chimera::new(1, 1, 4) else {
-        return Ok(false);
-    };
-    let map = map_of(alloc, chains)?;
-    match check(alloc, &cell, form, &map) {
-        Ok(embedded) => has_image(alloc, &embedded, image),
-        Err(CheckAnswer::Fault(_)) => Ok(false),
-        Err(CheckAnswer::NoMemory) => Err(NoMemory),
-    }
-}
-
-#[test]
-fn ties_by_hand(rt: HostRuntime) -> Result<(), Fail> {
-    let rows: [(&[i128], &[Row], &[&[u64]], &[Row]); 3] = [
-        (&[-2], &[], &[&[0, 4]], &[(0, 4, -2)]),
-        (
-            &[1, 1],
-            &[(0, 1, 1)],
-            &[&[0, 4], &[1, 5]],
-            &[(0, 4, -1), (0, 5, 1), (1, 5, -2)],
-        ),
-        (
-            &[10],
-            &[],
-            &[&[0, 1, 5, 6]],
-            &[(0, 5, -6), (0, 6, -3), (1, 5, -4)],
-        ),
-    ];
-    for (fields, couplings, chains, image) in rows {
-        let form = small_form(rt.alloc(), 14, fields, couplings)?.ok_or("no form")?;
-        assert!(rt;
-            has_image_on(rt.alloc(), form, chains, image)?,
-            "{chains:?}"
-        );
     }
     Ok(())
 }

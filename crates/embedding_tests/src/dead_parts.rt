@@ -1,216 +1,17 @@
-//! Dead parts of graphs: lists by hand, and lists that look random, against a plain search.
-use crate::forms::coupled_form;
-use crate::plain::first_fault;
-use crate::random::Dice;
+//! Dead parts of graphs, cliques and maps on what is left, all of which look random, against a plain
+//! search.
+use crate::forms::{Row, coupled_form};
+use crate::plain::{first_empty, first_fault, parent, place};
+use crate::random::{Dice, random_map};
 use base::NoMemory;
-use chain_map::{ChainMap, CheckAnswer, EmbedFault, read_map};
+use chain_map::{ChainMap, CheckAnswer, EmbedFault};
 use chimera_graph::{Chimera, Hardware};
+use embedding_check::Embedded;
 use std::alloc::Global;
 use std::test::Fail;
-use whole_text::{TextAnswer, TextFault, TextKind};
 use working_graph::{Working, check_working, clique_working, read_dead};
 
-// ---- lists by hand
-
-/// What a dead list is answered, and what stands on the graph that is left.
-#[derive(Clone, Copy, Debug, PartialEq, Eq)]
-enum Answered {
-    Bad(TextKind, u64),
-    Refused(EmbedFault),
-    Taken,
-    OutOfMemory,
-    NoForm,
-}
-
-fn of_text(answer: TextAnswer) -> Answered {
-    match answer {
-        TextAnswer::Bad(TextFault { kind, line }) => Answered::Bad(kind, line),
-        TextAnswer::NoMemory => Answered::OutOfMemory,
-    }
-}
-
-fn of_check(answer: CheckAnswer) -> Answered {
-    match answer {
-        CheckAnswer::Fault(fault) => Answered::Refused(fault),
-        CheckAnswer::NoMemory => Answered::OutOfMemory,
-    }
-}
-
-/// What a clique of so many nodes is answered.
-fn clique_answer(alloc: Global, graph: Chimera, text: &[u8], nodes: usize) -> Answered {
-    match read_dead(alloc, text, graph) {
-        Ok(working) => match clique_working(alloc, &working, nodes) {
-            Ok(_) => Answered::Taken,
-            Err(answer) => of_check(answer),
-        },
-        Err(answer) => of_text(answer),
-    }
-}
-
-#[test]
-fn dead_lists_in_one_cell(rt: HostRuntime) -> Result<(), Fail> {
-    let graph = Chimera::new(1, 1, 4).ok_or("refused")?;
-    let rows: [(&[u8], usize, Answered); 19] = [
-        (b"", 4, Answered::Taken),
-        (b"8\n", 1, Answered::Bad(TextKind::Range, 1)),
-        (b"7\n-1\n", 1, Answered::Bad(TextKind::Range, 2)),
-        (b"c 9\n7\nq\n", 1, Answered::Bad(TextKind::Number, 3)),
-        (b"0.5 q\n", 1, Answered::Bad(TextKind::Number, 1)),
-        (b"0\n0 4\n4 0\n0 4\n", 3, Answered::Taken),
-        (b"0 0\n", 1, Answered::Bad(TextKind::Range, 1)),
-        (b"0 1\n", 1, Answered::Bad(TextKind::Range, 1)),
-        (b"0 8\n", 1, Answered::Bad(TextKind::Range, 1)),
-        (b"0 4 q\n", 1, Answered::Bad(TextKind::Extra, 1)),
-        (b"0 1 5\n", 1, Answered::Bad(TextKind::Range, 1)),
-        (b"0 4\n\n4 8", 1, Answered::Bad(TextKind::Range, 3)),
-        (b"0\n", 4, Answered::Refused(EmbedFault::TooManyNodes(4, 3))),
-        (
-            b"4 0\n",
-            4,
-            Answered::Refused(EmbedFault::TooManyNodes(4, 3)),
-        ),
-        (b"0 5\n", 4, Answered::Taken),
-        (b"0 5\n1 4\n", 3, Answered::Taken),
-        (
-            b"0 5\n1 4\n",
-            4,
-            Answered::Refused(EmbedFault::TooManyNodes(4, 3)),
-        ),
-        (
-            b"0\n1\n2\n3\n",
-            1,
-            Answered::Refused(EmbedFault::TooManyNodes(1, 0)),
-        ),
-        (b"0\n1\n2\n3\n", 0, Answered::Taken),
-    ];
-    for (text, nodes, answer) in rows {
-        assert!(rt; clique_answer(rt.alloc(), graph, text, nodes) == answer);
-    }
-    Ok(())
-}
-
-/// Whether a clique of two nodes stands on these chains.
-fn stands_on(alloc: Global, graph: Chimera, text: &[u8], first: &[u64], second: &[u64]) -> bool {
-    match read_dead(alloc, text, graph) {
-        Ok(working) => match clique_working(alloc, &working, 2) {
-            Ok(map) => map.len() == 2 && map.chain(0) == first && map.chain(1) == second,
-            Err(_) => false,
-        },
-        Err(_) => false,
-    }
-}
-
-#[test]
-fn a_place_that_is_not_taken_parts_no_later_one(rt: HostRuntime) -> Result<(), Fail> {
-    let graph = Chimera::new(1, 1, 4).ok_or("refused")?;
-    let rows: [(&[u8], [u64; 2], [u64; 2]); 5] = [
-        (b"", [0, 4], [1, 5]),
-        (b"0\n", [1, 5], [2, 6]),
-        (b"0 5\n1 4\n", [0, 4], [2, 6]),
-        (b"5 0\n", [0, 4], [1, 5]),
-        (b"0 5\n4 1\n1 6\n5 2\n", [0, 4], [2, 6]),
-    ];
-    for (text, first, second) in rows {
-        assert!(rt; stands_on(rt.alloc(), graph, text, &first, &second));
-    }
-    Ok(())
-}
-
-/// What a map is answered for nodes with these couplings.
-fn map_answer(
-    alloc: Global,
-    working: &Working,
-    nodes: u32,
-    pairs: &[(u32, u32)],
-    map: &ChainMap,
-) -> Answered {
-    match coupled_form(alloc, nodes, pairs) {
-        Ok(Some(ising)) => match check_working(alloc, working, ising, map) {
-            Ok(_) => Answered::Taken,
-            Err(answer) => of_check(answer),
-        },
-        Ok(None) => Answered::NoForm,
-        Err(NoMemory) => Answered::OutOfMemory,
-    }
-}
-
-/// What the text of a map is answered for two nodes with a coupling.
-fn text_answer(alloc: Global, graph: Chimera, text: &[u8], map: &[u8]) -> Answered {
-    match read_dead(alloc, text, graph) {
-        Ok(working) => match read_map(alloc, map) {
-            Ok(map) => map_answer(alloc, &working, 2, &[(0, 1)], &map),
-            Err(answer) => of_text(answer),
-        },
-        Err(answer) => of_text(answer),
-    }
-}
-
-/// Dead lists of two cells, maps of two nodes with a coupling, and what they are answered. A dead
-/// qubit is named before a repeated one, and behind an empty chain or a wrong count.
-const MAPS: [(&[u8], &[u8], Answered); 11] = [
-    (b"", b"0 0\n1 4\n", Answered::Taken),
-    (
-        b"4\n",
-        b"0 0\n1 4\n",
-        Answered::Refused(EmbedFault::NoSuchQubit(1, 4)),
-    ),
-    (
-        b"4\n",
-        b"0 0\n1 0 4\n",
-        Answered::Refused(EmbedFault::NoSuchQubit(1, 4)),
-    ),
-    (
-        b"4\n",
-        b"0 0 0\n1 4\n",
-        Answered::Refused(EmbedFault::NoSuchQubit(1, 4)),
-    ),
-    (
-        b"4\n",
-        b"0 0 0\n1 5 4 5\n",
-        Answered::Refused(EmbedFault::NoSuchQubit(1, 4)),
-    ),
-    (
-        b"4\n",
-        b"0 0 0\n1 5\n",
-        Answered::Refused(EmbedFault::Repeated(0)),
-    ),
-    (
-        b"4\n",
-        b"0 16\n1 4\n",
-        Answered::Refused(EmbedFault::NoSuchQubit(0, 16)),
-    ),
-    (
-        b"4\n",
-        b"0 4\n1\n",
-        Answered::Refused(EmbedFault::EmptyChain(1)),
-    ),
-    (
-        b"4\n",
-        b"0 4\n",
-        Answered::Refused(EmbedFault::ChainCount(1)),
-    ),
-    (
-        b"4 0\n",
-        b"0 0\n1 4\n",
-        Answered::Refused(EmbedFault::NoCoupler(0, 1)),
-    ),
-    (
-        b"0 4\n",
-        b"0 0 4\n1 5\n",
-        Answered::Refused(EmbedFault::Disconnected(0, 4)),
-    ),
-];
-
-#[test]
-fn maps_on_what_is_left(rt: HostRuntime) -> Result<(), Fail> {
-    let graph = Chimera::new(1, 2, 4).ok_or("refused")?;
-    for (text, map, answer) in MAPS {
-        assert!(rt; text_answer(rt.alloc(), graph, text, map) == answer);
-    }
-    Ok(())
-}
-
-// ---- lists that look random
+// ---- dead lists
 
 /// Dead parts of a graph of fewer than 64 qubits: a bit for each qubit, and the couplers.
 #[derive(Drop)]
@@ -279,15 +80,21 @@ fn put_couplers(text: &mut Vec<u8>, parts: &Parts) -> Result<(), NoMemory> {
     Ok(())
 }
 
+/// Adds a line for each coupler and each qubit.
+fn put_parts(text: &mut Vec<u8>, parts: &Parts) -> Result<(), NoMemory> {
+    put_couplers(text, parts)?;
+    for qubit in 0..64 {
+        if parts.names(qubit) {
+            put(text, qubit, b'\n')?;
+        }
+    }
+    Ok(())
+}
+
 /// The dead list that names these parts, the couplers first.
 fn text_of(alloc: Global, parts: &Parts) -> Result<Vec<u8>, NoMemory> {
     let mut text = Vec::new(alloc);
-    put_couplers(&mut text, parts)?;
-    for qubit in 0..64 {
-        if parts.names(qubit) {
-            put(&mut text, qubit, b'\n')?;
-        }
-    }
+    put_parts(&mut text, parts)?;
     Ok(text)
 }
 
@@ -426,43 +233,96 @@ fn are_same(map: &ChainMap, other: &ChainMap) -> bool {
     true
 }
 
-fn refusal(alloc: Global, working: &Working, nodes: usize) -> Answered {
-    match clique_working(alloc, working, nodes) {
-        Ok(_) => Answered::Taken,
-        Err(answer) => of_check(answer),
+fn is_same(answer: &Result<ChainMap, CheckAnswer>, wanted: &ChainMap) -> bool {
+    match answer {
+        Ok(map) => are_same(map, wanted),
+        Err(_) => false,
     }
+}
+
+fn is_refused(answer: &Result<ChainMap, CheckAnswer>, wanted: EmbedFault) -> bool {
+    match answer {
+        Err(CheckAnswer::Fault(fault)) => *fault == wanted,
+        _ => false,
+    }
+}
+
+/// Whether a clique of so many nodes has just these chains.
+fn has_chains(alloc: Global, working: &Working, wanted: &ChainMap) -> bool {
+    let answer = clique_working(alloc, working, wanted.len());
+    is_same(&answer, wanted)
+}
+
+/// Whether a clique of one node more than places are taken is refused.
+fn is_too_large(alloc: Global, working: &Working, taken: usize) -> bool {
+    let more = taken.saturating_add(1);
+    let answer = clique_working(alloc, working, more);
+    is_refused(&answer, EmbedFault::TooManyNodes(more, taken))
 }
 
 /// Whether just these chains are those of taken places.
 fn is_clique(alloc: Global, working: &Working, wanted: &ChainMap) -> bool {
-    let count = wanted.len();
-    let more = count.saturating_add(1);
-    let same = match clique_working(alloc, working, count) {
-        Ok(map) => are_same(&map, wanted),
-        Err(_) => false,
-    };
-    same && refusal(alloc, working, more)
-        == Answered::Refused(EmbedFault::TooManyNodes(more, count))
+    has_chains(alloc, working, wanted) && is_too_large(alloc, working, wanted.len())
+}
+
+/// The same of the chains that a plain search takes.
+fn has_clique(
+    alloc: Global,
+    graph: &Chimera,
+    parts: &Parts,
+    working: &Working,
+) -> Result<bool, NoMemory> {
+    let wanted = plain_clique(alloc, graph, parts)?;
+    Ok(is_clique(alloc, working, &wanted))
 }
 
 // ---- maps
 
-/// Chains of up to three numbers, nearly all of them qubits.
-fn draw_map(alloc: Global, dice: &mut Dice, qubits: u32) -> Result<ChainMap, NoMemory> {
-    let mut map = ChainMap::new(alloc);
-    for _ in 0..2 {
-        let numbers = [
-            dice.roll(u64::from(qubits)),
-            dice.roll(u64::from(qubits)),
-            dice.roll(u64::from(qubits).saturating_add(1)),
-        ];
-        match dice.roll(3) {
-            0 => map.push(&numbers[..1])?,
-            1 => map.push(&numbers[1..])?,
-            _ => map.push(&numbers)?,
+/// Whether these are the parents of a chain, from its second qubit on.
+fn are_parents(working: &Working, chain: &[u64], parents: &[u32]) -> bool {
+    for (at, qubit) in chain.iter().enumerate() {
+        let found = if at == 0 {
+            None
+        } else {
+            parents.get(at - 1).map(|p| *p as u64)
+        };
+        if at > 0 && parent(working, chain, at, *qubit) != found {
+            return false;
         }
     }
-    Ok(map)
+    parents.len() < chain.len()
+}
+
+fn has_parents(working: &Working, map: &ChainMap, embedded: &Embedded) -> bool {
+    for node in 0..map.len() {
+        if embedded.parents().len() <= node {
+            return false;
+        }
+        if !are_parents(working, map.chain(node), embedded.parents().list(node)) {
+            return false;
+        }
+    }
+    true
+}
+
+/// Whether the coupling of a number has its place between two chains.
+fn has_place(working: &Working, first: &[u64], second: &[u64], found: Option<&(u32, u32)>) -> bool {
+    let found = found.map(|p| (p.0 as u64, p.1 as u64));
+    found.is_some() && place(working, first, second) == found
+}
+
+fn has_places(working: &Working, map: &ChainMap, couplings: &[Row], embedded: &Embedded) -> bool {
+    for (k, (first, second, _)) in couplings.iter().enumerate() {
+        let (u, v) = (*first as usize, *second as usize);
+        if u >= map.len() || v >= map.len() {
+            return false;
+        }
+        let found = embedded.places().as_slice().get(k);
+        if !has_place(working, map.chain(u), map.chain(v), found) {
+            return false;
+        }
+    }
+    true
 }
 
 /// The first number of a chain that is none of a qubit that is left.
@@ -485,84 +345,150 @@ fn first_dead(parts: &Parts, qubits: u32, map: &ChainMap) -> Option<EmbedFault> 
     None
 }
 
-/// Whether a map of two nodes with a coupling is answered by its first fault.
-fn map_agrees(alloc: Global, parts: &Parts, working: &Working, map: &ChainMap) -> bool {
-    let wanted = first_dead(parts, working.qubits(), map).or(first_fault(
-        working,
-        2,
-        &[(0, 1)],
-        map,
-    ));
-    let answer = match wanted {
-        Some(fault) => Answered::Refused(fault),
-        None => Answered::Taken,
+/// Whether a map was taken, where this is the fault that a plain search finds; none where the answer
+/// is another.
+fn taken(
+    working: &Working,
+    couplings: &[Row],
+    map: &ChainMap,
+    wanted: Option<EmbedFault>,
+    answer: &Result<Embedded, CheckAnswer>,
+) -> Option<bool> {
+    let (alike, is_taken) = match answer {
+        Ok(embedded) => (
+            wanted.is_none()
+                && has_parents(working, map, embedded)
+                && has_places(working, map, couplings, embedded),
+            true,
+        ),
+        Err(CheckAnswer::Fault(fault)) => (wanted == Some(*fault), false),
+        Err(CheckAnswer::NoMemory) => (false, false),
     };
-    map_answer(alloc, working, 2, &[(0, 1)], map) == answer
+    if alike { Some(is_taken) } else { None }
 }
 
-fn maps_agree(
+/// The couplings of up to three nodes, in a row.
+const IN_A_ROW: [Row; 2] = [(0, 1, 1), (1, 2, 1)];
+
+/// The same of a map of up to three nodes, one after another of which are coupled.
+fn map_taken(
+    alloc: Global,
+    parts: &Parts,
+    working: &Working,
+    nodes: usize,
+    map: &ChainMap,
+) -> Result<Option<bool>, NoMemory> {
+    let couplings = &IN_A_ROW[..nodes.saturating_sub(1).min(2)];
+    let wanted = first_empty(map)
+        .or(first_dead(parts, working.qubits(), map))
+        .or(first_fault(working, nodes, couplings, map));
+    let Some(form) = coupled_form(alloc, nodes, couplings)? else {
+        return Ok(None);
+    };
+    let answer = check_working(alloc, working, form, map);
+    Ok(taken(working, couplings, map, wanted, &answer))
+}
+
+/// The same of a map that is drawn.
+fn drawn_taken(
     alloc: Global,
     dice: &mut Dice,
     parts: &Parts,
     working: &Working,
-) -> Result<bool, NoMemory> {
-    for _ in 0..200 {
-        let map = draw_map(alloc, dice, working.qubits())?;
-        if !map_agrees(alloc, parts, working, &map) {
-            return Ok(false);
+    nodes: usize,
+) -> Result<Option<bool>, NoMemory> {
+    let map = random_map(alloc, dice, nodes, u64::from(working.qubits()))?;
+    map_taken(alloc, parts, working, nodes, &map)
+}
+
+/// How many maps are taken; none where one is answered otherwise.
+fn count_taken(
+    alloc: Global,
+    dice: &mut Dice,
+    parts: &Parts,
+    working: &Working,
+) -> Result<Option<u64>, NoMemory> {
+    let mut count: u64 = 0;
+    for k in 0..300_usize {
+        match drawn_taken(alloc, dice, parts, working, 1 + k % 3)? {
+            Some(true) => count = count.saturating_add(1),
+            Some(false) => {}
+            None => return Ok(None),
         }
     }
-    Ok(true)
+    Ok(Some(count))
 }
 
 // ---- all of it
 
-/// Whether the graph without these parts has the joins, places and faults of a plain search.
-fn agrees(
+/// How many maps are taken on the graph without these parts; none where it has not the joins, places
+/// and faults of a plain search.
+fn agreed(
     alloc: Global,
-    graph: Chimera,
+    graph: &Chimera,
+    dice: &mut Dice,
+    parts: &Parts,
+    working: &Working,
+) -> Result<Option<u64>, NoMemory> {
+    if !all_have_joins(graph, parts, working) || !has_clique(alloc, graph, parts, working)? {
+        return Ok(None);
+    }
+    count_taken(alloc, dice, parts, working)
+}
+
+/// The same of the graph that is read from a dead list.
+fn agreed_text(
+    alloc: Global,
+    graph: &Chimera,
     dice: &mut Dice,
     parts: &Parts,
     text: &[u8],
-) -> Result<bool, NoMemory> {
-    match read_dead(alloc, text, graph) {
-        Ok(working) => {
-            let clique = plain_clique(alloc, &graph, parts)?;
-            Ok(
-                all_have_joins(&graph, parts, &working)
-                    && is_clique(alloc, &working, &clique)
-                    && maps_agree(alloc, dice, parts, &working)?,
-            )
-        }
-        Err(_) => Ok(false),
+) -> Result<Option<u64>, NoMemory> {
+    match read_dead(alloc, text, *graph) {
+        Ok(working) => agreed(alloc, graph, dice, parts, &working),
+        Err(_) => Ok(None),
     }
 }
 
-fn agrees_on(alloc: Global, shape: (u32, u32, u32), seed: u64) -> Result<bool, NoMemory> {
-    match Chimera::new(shape.0, shape.1, shape.2) {
-        Some(graph) => {
-            let mut dice = Dice { state: seed };
-            let parts = draw_parts(alloc, &graph, &mut dice)?;
-            agrees(alloc, graph, &mut dice, &parts, &text_of(alloc, &parts)?)
-        }
-        None => Ok(false),
-    }
+/// The same of the list that names these parts.
+fn agreed_parts(
+    alloc: Global,
+    graph: &Chimera,
+    dice: &mut Dice,
+    parts: &Parts,
+) -> Result<Option<u64>, NoMemory> {
+    let text = text_of(alloc, parts)?;
+    agreed_text(alloc, graph, dice, parts, &text)
 }
 
-/// Whether eight graphs of a shape agree, with parts of their own.
-fn eight_agree(alloc: Global, shape: (u32, u32, u32)) -> Result<bool, NoMemory> {
+/// The same of parts that are drawn.
+fn agreed_on(alloc: Global, shape: (u32, u32, u32), seed: u64) -> Result<Option<u64>, NoMemory> {
+    let Some(graph) = Chimera::new(shape.0, shape.1, shape.2) else {
+        return Ok(None);
+    };
+    let mut dice = Dice { state: seed };
+    let parts = draw_parts(alloc, &graph, &mut dice)?;
+    agreed_parts(alloc, &graph, &mut dice, &parts)
+}
+
+/// How many maps are taken on eight graphs of a shape, with parts of their own.
+fn agreed_on_eight(alloc: Global, shape: (u32, u32, u32)) -> Result<Option<u64>, NoMemory> {
+    let mut count: u64 = 0;
     for seed in 0..8 {
-        if !agrees_on(alloc, shape, seed)? {
-            return Ok(false);
+        match agreed_on(alloc, shape, seed)? {
+            Some(more) => count = count.saturating_add(more),
+            None => return Ok(None),
         }
     }
-    Ok(true)
+    Ok(Some(count))
 }
 
 #[test]
 fn forty_graphs_agree_with_a_plain_search(rt: HostRuntime) -> Result<(), Fail> {
     for shape in [(1, 1, 5), (2, 2, 2), (3, 3, 1), (2, 3, 3), (4, 3, 2)] {
-        assert!(rt; eight_agree(rt.alloc(), shape)?);
+        let count = agreed_on_eight(rt.alloc(), shape)?.ok_or("not as a plain search")?;
+        // some of the maps are taken, and some are not
+        assert!(rt; 0 < count && count < 2400, "{shape:?} {count}");
     }
     Ok(())
 }

@@ -19,24 +19,24 @@ fn draw_weight(dice: &mut Dice) -> i128 {
     dice.roll(9) as i128 - 4
 }
 
-fn draw_fields(alloc: Global, dice: &mut Dice, nodes: u32) -> Result<Vec<i128>, NoMemory> {
-    let mut fields = Vec::new(alloc);
-    for _ in 0..nodes {
-        fields.push(draw_weight(dice))?;
-    }
-    Ok(fields)
+fn draw_fields(dice: &mut Dice) -> [i128; 4] {
+    [
+        draw_weight(dice),
+        draw_weight(dice),
+        draw_weight(dice),
+        draw_weight(dice),
+    ]
 }
 
-/// Couplings of some pairs of nodes.
-fn draw_couplings(alloc: Global, dice: &mut Dice, nodes: u32) -> Result<Vec<Row>, NoMemory> {
-    let mut rows = Vec::new(alloc);
+/// Draws couplings of some pairs of nodes.
+fn draw_couplings(dice: &mut Dice, nodes: u32, rows: &mut Vec<Row>) -> Result<(), NoMemory> {
     for (first, second) in PAIRS {
         let weight = draw_weight(dice);
         if second < nodes && weight != 0 && dice.roll(3) != 0 {
             rows.push((first, second, weight))?;
         }
     }
-    Ok(rows)
+    Ok(())
 }
 
 /// A form of up to four nodes.
@@ -48,9 +48,10 @@ pub(crate) fn draw_form(
     ensures { IfOk result (λ made. IfSome made IsSmall) }
 {
     let constant = draw_weight(dice);
-    let fields = draw_fields(alloc, dice, nodes)?;
-    let rows = draw_couplings(alloc, dice, nodes)?;
-    small_form(alloc, constant, &fields, &rows)
+    let fields = draw_fields(dice);
+    let mut rows = Vec::new(alloc);
+    draw_couplings(dice, nodes, &mut rows)?;
+    small_form(alloc, constant, &fields[..nodes.min(4) as usize], &rows)
 }
 
 /// A chain in place of what the list had: qubits that were free, each joined to one before it.
@@ -76,6 +77,21 @@ fn grow_chain<H: Hardware>(
     Ok(())
 }
 
+fn grow_chains<H: Hardware>(
+    hardware: &H,
+    dice: &mut Dice,
+    map: &mut ChainMap,
+    chain: &mut Vec<u64>,
+    nodes: u32,
+) -> Result<(), NoMemory> {
+    let mut taken: u64 = 0;
+    for _ in 0..nodes {
+        grow_chain(hardware, dice, &mut taken, chain)?;
+        map.push(chain)?;
+    }
+    Ok(())
+}
+
 /// Chains that no two nodes share.
 pub(crate) fn grow_map<H: Hardware>(
     alloc: Global,
@@ -85,10 +101,6 @@ pub(crate) fn grow_map<H: Hardware>(
 ) -> Result<ChainMap, NoMemory> {
     let mut map = ChainMap::new(alloc);
     let mut chain = Vec::new(alloc);
-    let mut taken: u64 = 0;
-    for _ in 0..nodes {
-        grow_chain(hardware, dice, &mut taken, &mut chain)?;
-        map.push(&chain)?;
-    }
+    grow_chains(hardware, dice, &mut map, &mut chain, nodes)?;
     Ok(map)
 }

@@ -1,16 +1,15 @@
-//! Ising forms of given weights, and maps of given chains.
+//! Ising forms of given weights.
 ghost use Rattle.std.specs.Prelude.{◌≡◌, ◌≤◌, ◌^◌, true, All, IfOk, IfSome, length, unsigned_abs};
 ghost use Rattle.embedding_tests.specs.SmallForms.{AreSmallCouplings, IsSmall};
 
 use base::NoMemory;
 use bits_model::{CouplerList, Entry};
-use chain_map::ChainMap;
 use ising_form::Ising;
 use quad_form::NumberList;
 use std::alloc::Global;
 
 /// A coupling: two nodes and a weight.
-pub type Row = (u32, u32, i128);
+pub(crate) type Row = (u32, u32, i128);
 
 /// No weight is greater.
 const GREATEST: u128 = 1 << 20;
@@ -54,7 +53,7 @@ fn are_small(weights: &[i128]) -> bool
 
 /// The form of these weights, or `None` where they are not few and small, or its couplings are not
 /// in ascending order.
-pub fn small_form(
+pub(crate) fn small_form(
     alloc: Global,
     constant: i128,
     fields: &[i128],
@@ -78,25 +77,11 @@ pub fn small_form(
     }
 }
 
-/// The form of so many nodes without fields, with a coupling of 1 for each of these pairs.
-pub fn coupled_form(
+/// The form of up to three nodes without fields, and of these couplings.
+pub(crate) fn coupled_form(
     alloc: Global,
-    nodes: u32,
-    pairs: &[(u32, u32)],
+    nodes: usize,
+    rows: &[Row],
 ) -> Result<Option<Ising>, NoMemory> {
-    let fields = vec![in alloc; 0; nodes as usize]?;
-    let mut rows = Vec::new(alloc);
-    for (first, second) in pairs {
-        rows.push((*first, *second, 1))?;
-    }
-    small_form(alloc, 0, &fields, &rows)
-}
-
-/// The map of these chains.
-pub fn map_of(alloc: Global, chains: &[&[u64]]) -> Result<ChainMap, NoMemory> {
-    let mut map = ChainMap::new(alloc);
-    for chain in chains {
-        map.push(*chain)?;
-    }
-    Ok(map)
+    small_form(alloc, 0, &[0; 3][..nodes.min(3)], rows)
 }

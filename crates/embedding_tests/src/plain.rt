@@ -1,4 +1,5 @@
 //! What a map is on a graph, by a plain search over walks and pairs.
+use crate::forms::Row;
 use chain_map::{ChainMap, EmbedFault};
 use chimera_graph::Hardware;
 
@@ -105,7 +106,7 @@ pub(crate) fn place<H: Hardware>(
     least
 }
 
-fn first_empty(map: &ChainMap) -> Option<EmbedFault> {
+pub(crate) fn first_empty(map: &ChainMap) -> Option<EmbedFault> {
     for node in 0..map.len() {
         if map.chain(node).is_empty() {
             return Some(EmbedFault::EmptyChain(node));
@@ -178,9 +179,9 @@ fn first_unreached<H: Hardware>(hardware: &H, map: &ChainMap) -> Option<EmbedFau
 fn first_uncoupled<H: Hardware>(
     hardware: &H,
     map: &ChainMap,
-    pairs: &[(u32, u32)],
+    couplings: &[Row],
 ) -> Option<EmbedFault> {
-    for (first, second) in pairs {
+    for (first, second, _) in couplings {
         let (u, v) = (*first as usize, *second as usize);
         if u < map.len() && v < map.len() && place(hardware, map.chain(u), map.chain(v)).is_none() {
             return Some(EmbedFault::NoCoupler(u, v));
@@ -193,7 +194,7 @@ fn first_uncoupled<H: Hardware>(
 pub(crate) fn first_fault<H: Hardware>(
     hardware: &H,
     nodes: usize,
-    pairs: &[(u32, u32)],
+    couplings: &[Row],
     map: &ChainMap,
 ) -> Option<EmbedFault> {
     if map.len() != nodes {
@@ -203,5 +204,5 @@ pub(crate) fn first_fault<H: Hardware>(
         .or(first_unknown(map, hardware.qubits()))
         .or(first_repeated(map))
         .or(first_unreached(hardware, map))
-        .or(first_uncoupled(hardware, map, pairs))
+        .or(first_uncoupled(hardware, map, couplings))
 }

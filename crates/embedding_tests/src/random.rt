@@ -1,13 +1,7 @@
-//! Random maps on small graphs with joins taken away, against a plain search.
-use crate::cut::Cut;
-use crate::forms::coupled_form;
-use crate::plain::{first_fault, parent, place};
+//! Numbers and maps that look random.
 use base::NoMemory;
-use chain_map::{ChainMap, CheckAnswer};
-use chimera_graph::{Chimera, Hardware};
-use embedding_check::{Embedded, check};
+use chain_map::ChainMap;
 use std::alloc::Global;
-use std::test::Fail;
 
 /// Numbers that look random.
 #[derive(Drop)]
@@ -48,7 +42,22 @@ fn fill_chain(dice: &mut Dice, qubits: u64, chain: &mut Vec<u64>) -> Result<(), 
     Ok(())
 }
 
-fn random_map(
+fn push_chains(
+    dice: &mut Dice,
+    qubits: u64,
+    map: &mut ChainMap,
+    chain: &mut Vec<u64>,
+    nodes: usize,
+) -> Result<(), NoMemory> {
+    for _ in 0..nodes {
+        fill_chain(dice, qubits, chain)?;
+        map.push(chain)?;
+    }
+    Ok(())
+}
+
+/// A map of so many chains.
+pub(crate) fn random_map(
     alloc: Global,
     dice: &mut Dice,
     nodes: usize,
@@ -56,142 +65,6 @@ fn random_map(
 ) -> Result<ChainMap, NoMemory> {
     let mut map = ChainMap::new(alloc);
     let mut chain = Vec::new(alloc);
-    for _ in 0..nodes {
-        fill_chain(dice, qubits, &mut chain)?;
-        map.push(&chain)?;
-    }
+    push_chains(dice, qubits, &mut map, &mut chain, nodes)?;
     Ok(map)
-}
-
-/// Whether these are the parents of a chain, from its second qubit on.
-fn are_parents<H: Hardware>(hardware: &H, chain: &[u64], parents: &[u32]) -> bool {
-    for (at, qubit) in chain.iter().enumerate() {
-        let found = if at == 0 {
-            None
-        } else {
-            parents.get(at - 1).map(|p| *p as u64)
-        };
-        if at > 0 && parent(hardware, chain, at, *qubit) != found {
-            return false;
-        }
-    }
-    parents.len() < chain.len()
-}
-
-fn has_parents<H: Hardware>(hardware: &H, map: &ChainMap, embedded: &Embedded) -> bool {
-    for node in 0..map.len() {
-        if embedded.parents().len() <= node {
-            return false;
-        }
-        if !are_parents(hardware, map.chain(node), embedded.parents().list(node)) {
-            return false;
-        }
-    }
-    true
-}
-
-fn has_places<H: Hardware>(
-    hardware: &H,
-    map: &ChainMap,
-    pairs: &[(u32, u32)],
-    embedded: &Embedded,
-) -> bool {
-    for (k, (first, second)) in pairs.iter().enumerate() {
-        let (u, v) = (*first as usize, *second as usize);
-        let found = embedded
-            .places()
-            .as_slice()
-            .get(k)
-            .map(|p| (p.0 as u64, p.1 as u64));
-        if u >= map.len()
-            || v >= map.len()
-            || place(hardware, map.chain(u), map.chain(v)) != found
-        {
-            return false;
-        }
-    }
-    true
-}
-
-/// Whether a map was taken, where the check agrees with the plain search.
-fn agreed<H: Hardware>(
-    alloc: Global,
-    hardware: &H,
-    nodes: u32,
-    pairs: &[(u32, u32)],
-    map: &ChainMap,
-) -> Option<bool> {
-    let wanted = first_fault(hardware, nodes as usize, pairs, map);
-    match coupled_form(alloc, nodes, pairs) {
-        Ok(Some(ising)) => match check(alloc, hardware, ising, map) {
-            Ok(embedded) => {
-                let same = wanted.is_none()
-                    && has_parents(hardware, map, &embedded)
-                    && has_places(hardware, map, pairs, &embedded);
-                if same { Some(true) } else { None }
-            }
-            Err(CheckAnswer::Fault(fault)) => if wanted == Some(fault) {
-                Some(false)
-            } else {
-                None
-            },
-            Err(CheckAnswer::NoMemory) => None,
-        },
-        _ => None,
-    }
-}
-
-/// How many of the maps were taken, where the check agrees with the plain search on all.
-fn taken<H: Hardware>(
-    alloc: Global,
-    hardware: &H,
-    nodes: u32,
-    pairs: &[(u32, u32)],
-    seed: u64,
-) -> Result<Option<u64>, NoMemory> {
-    let mut dice = Dice { state: seed };
-    let mut count: u64 = 0;
-    for _ in 0..2000 {
-        let map = random_map(alloc, &mut dice, nodes as usize, hardware.qubits() as u64)?;
-        match agreed(alloc, hardware, nodes, pairs, &map) {
-            Some(true) => count = count.saturating_add(1),
-            Some(false) => {}
-            None => return Ok(None),
-        }
-    }
-    Ok(Some(count))
-}
-
-/// Whether the check agrees with the plain search on maps of every sort on a graph.
-fn agrees_on(
-    alloc: Global,
-    shape: (u32, u32, u32),
-    class: u64,
-    nodes: u32,
-    pairs: &[(u32, u32)],
-) -> Result<bool, NoMemory> {
-    match Chimera::new(shape.0, shape.1, shape.2) {
-        Some(graph) => match taken(alloc, &Cut { graph, class }, nodes, pairs, class)? {
-            Some(count) => Ok(0 < count && count < 2000),
-            None => Ok(false),
-        },
-        None => Ok(false),
-    }
-}
-
-#[test]
-fn random_maps_agree_with_a_plain_search(rt: HostRuntime) -> Result<(), Fail> {
-    let rows: [((u32, u32, u32), u64, u32, &[(u32, u32)]); 7] = [
-        ((1, 1, 4), 0, 1, &[]),
-        ((1, 1, 4), 1, 2, &[(0, 1)]),
-        ((2, 2, 1), 2, 2, &[(0, 1)]),
-        ((2, 1, 2), 3, 2, &[(0, 1)]),
-        ((1, 2, 3), 4, 2, &[(0, 1)]),
-        ((1, 1, 3), 5, 3, &[(0, 1), (1, 2)]),
-        ((2, 2, 2), 1, 2, &[]),
-    ];
-    for (shape, class, nodes, pairs) in rows {
-        assert!(rt; agrees_on(rt.alloc(), shape, class, nodes, pairs)?);
-    }
-    Ok(())
 }

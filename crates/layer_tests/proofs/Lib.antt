@@ -1,5 +1,2 @@
-mod SmallModels
-mod ChainedModels
 mod SixLiterals
 mod SmallTables
-pub mod SmallSums

@@ -1,22 +1,20 @@
 //! All states of small problems of hard and soft clauses, from the problem to its quadratic form.
 ghost use Rattle.std.specs.Prelude.{◌≡◌, ◌+◌, ◌<◌, ◌≤◌, ◌^◌, OnOk};
-ghost use Rattle.form_steps.specs.Links.{HasFirstBits};
+ghost use Rattle.std.specs.Bool.{OnTrue};
 ghost use Rattle.penalty_layer.specs.Penalty.{Admits};
 ghost use Rattle.problem_form.specs.Problems.{problem_total};
-ghost use Rattle.quad_form.specs.Flat.{IsSound};
 
-use crate::given::{A, add_clause, state};
-use crate::penalties::is_admitted;
-use base::{Cost, Costed, Figures, NoMemory};
-use form_steps::{BitsLink, Guard, Then, ThenLink};
+use crate::given::{A, add_clause};
+use crate::guards::{Kept, kept_by};
+use base::NoMemory;
+use form_steps::{Guard, Then};
 use literal_lists::Literal;
 use monomial_layer::Monomials;
 use penalty_layer::Penalty;
-use problem_form::Problem;
-use quad_form::{Flatten, Quad};
+use problem_form::{Choices, High, Normal, Problem, check_limits};
+use quad_form::Flatten;
 use std::alloc::Global;
 use std::test::Fail;
-use term_table::{LowTable, Table};
 
 /// Numbers that look random, each from the one before (Knuth's linear congruential generator).
 fn next(number: u64) -> u64 {
@@ -100,11 +98,22 @@ fn draw_problem(alloc: Global, variables: u64, seed: u64) -> Result<Problem, NoM
     Ok(problem)
 }
 
+const CHOICES: Choices = Choices {
+    normal: Normal::Literal,
+    high: High::Monomial,
+};
+
+/// Whether the guard takes the problem.
+pub fn is_admitted(problem: &Problem) -> bool
+    ensures { OnTrue result (Admits problem.now) }
+{
+    // a problem that is read is in normal form
+    let _variables = problem.variables;
+    check_limits(problem, &CHOICES).is_ok()
+}
+
 /// Penalties, new nodes and multiplying out.
 type Steps = Then<Then<Penalty, Monomials>, Flatten>;
-
-/// Their links, and the forms between.
-type MadeLink = ThenLink<ThenLink<BitsLink, Table, BitsLink>, LowTable, BitsLink>;
 
 fn steps() -> Steps {
     Then {
@@ -116,163 +125,49 @@ fn steps() -> Steps {
     }
 }
 
-/// The number of an assignment, whose bits are its lowest.
-pub fn number_of(x: &[bool]) -> usize {
-    let mut number: usize = 0;
-    for (i, bit) in x.iter().take(5).enumerate() {
-        if *bit {
-            number |= 1 << i;
-        }
-    }
-    number
-}
-
-/// The least energy of the states that decode to each assignment, by its number.
-pub type Least = [Option<i128>; 32];
-
-/// Notes the energy of a state, by the number of the assignment that it decodes to.
-pub fn note(least: &mut Least, number: usize, energy: Cost) {
-    let (Some(place), Cost::Whole(energy)) = (least.get_mut(number), energy) else {
-        return;
-    };
-    *place = match *place {
-        Some(before) if before <= energy => Some(before),
-        _ => Some(energy),
-    };
-}
-
-/// The number of the assignment that a state decodes to, and the energy of the state.
-fn decoded(
-    alloc: Global,
-    link: &MadeLink,
-    quad: &Quad,
-    number: u64,
-) -> Result<Option<(usize, Cost)>, NoMemory>
-    requires first { HasFirstBits link.now.first.first }
-    requires second { HasFirstBits link.now.first.second }
-    requires second_meets { link.now.first.first.target_width ≡ link.now.first.second.source_width }
-    requires third { IsSound link.now.second }
-    requires third_meets { link.now.first.second.target_width ≡ link.now.second.source_width }
-{
-    let y = state(alloc, link.second.target_width, number)?;
-    if quad.diagonal.as_slice().len() != y.len() {
-        return Ok(None);
-    }
-    let x = steps().decode(alloc, link, &y)?;
-    Ok(Some((number_of(&x), quad.cost(&y))))
-}
-
-/// Whether the least energy for each assignment could be noted, of all states of a form.
-fn note_all(
-    alloc: Global,
-    link: &MadeLink,
-    quad: &Quad,
-    least: &mut Least,
-) -> Result<bool, NoMemory>
-    requires first { HasFirstBits link.now.first.first }
-    requires second { HasFirstBits link.now.first.second }
-    requires second_meets { link.now.first.first.target_width ≡ link.now.first.second.source_width }
-    requires third { IsSound link.now.second }
-    requires third_meets { link.now.first.second.target_width ≡ link.now.second.source_width }
-{
-    let nodes = link.second.target_width;
-    if nodes > 11 {
-        return Ok(false);
-    }
-    for number in 0..1 << nodes {
-        match decoded(alloc, link, quad, number)? {
-            Some((place, energy)) => note(least, place, energy),
-            None => return Ok(false),
-        }
-    }
-    Ok(true)
-}
-
-/// The figures of the quadratic form. The least energy for each assignment is noted.
-fn note_least(
-    alloc: Global,
-    problem: &Problem,
-    least: &mut Least,
-) -> Result<Option<Figures>, NoMemory>
-    requires { Admits problem.now }
-{
-    let made = steps().guard(alloc, problem)?;
-    let is_noted = note_all(alloc, &made.link, &made.target, least)?;
-    Ok(if is_noted { Some(made.figures) } else { None })
-}
-
-/// Whether a least energy is the cost, scaled and moved, or lies above the threshold of an infinite
-/// one.
-pub fn stands_for(energy: i128, cost: Cost, figures: &Figures) -> bool {
-    match cost {
-        Cost::Whole(cost) => figures.scale == 1 && cost.checked_add(figures.offset) == Some(energy),
-        Cost::Infinite => figures.threshold < energy,
-    }
-}
-
-/// The cost of the assignment of a number, where its least energy stands for it.
-fn kept_cost(
-    alloc: Global,
-    problem: &Problem,
-    number: u64,
-    figures: &Figures,
-    least: Option<i128>,
-) -> Result<Option<Cost>, NoMemory> {
-    let (Some(energy), 0..=5) = (least, problem.variables) else {
-        return Ok(None);
-    };
-    let x = state(alloc, problem.variables as usize, number)?;
-    let cost = problem.cost(&x);
-    Ok(if stands_for(energy, cost, figures) {
-        Some(cost)
-    } else {
-        None
-    })
-}
-
-/// How many assignments have the least energy that their cost asks for: those whose cost is whole,
-/// and those whose cost is infinite.
-fn kept_costs(alloc: Global, problem: &Problem) -> Result<(u64, u64), NoMemory> {
+/// How many assignments of a problem these steps keep.
+fn kept_by_steps(alloc: Global, problem: &Problem) -> Result<Kept, NoMemory> {
     if !is_admitted(problem) {
-        return Ok((0, 0));
+        return Ok(Kept::NONE);
     }
-    let mut least: Least = [None; 32];
-    let Some(figures) = note_least(alloc, problem, &mut least)? else {
-        return Ok((0, 0));
-    };
-    let mut whole: u64 = 0;
-    let mut infinite: u64 = 0;
-    for number in 0..32 {
-        match kept_cost(alloc, problem, number as u64, &figures, least[number])? {
-            Some(Cost::Whole(_)) => whole = whole.saturating_add(1),
-            Some(Cost::Infinite) => infinite = infinite.saturating_add(1),
-            None => {}
-        }
-    }
-    Ok((whole, infinite))
+    let made = steps().guard(alloc, problem)?;
+    // the nodes of a quadratic form are numbered in 32 bits
+    let _diagonal = made.target.diagonal.as_slice();
+    kept_by(alloc, &steps(), problem, &made)
 }
 
-/// The numbers of kept assignments of a drawn problem.
-fn kept_of_drawn(alloc: Global, variables: u64, seed: u64) -> Result<(u64, u64), NoMemory>
+/// How many of a drawn problem.
+fn kept_of_drawn(alloc: Global, variables: u64, seed: u64) -> Result<Kept, NoMemory>
     requires least { 3 ≤ variables }
     requires most { variables ≤ 5 }
 {
     let problem = draw_problem(alloc, variables, seed)?;
-    kept_costs(alloc, &problem)
+    kept_by_steps(alloc, &problem)
+}
+
+/// How many assignments of infinite cost four drawn problems have; none where one assignment is not
+/// kept.
+fn broken_in_four(alloc: Global, variables: u64) -> Result<Option<u64>, NoMemory>
+    requires least { 3 ≤ variables }
+    requires most { variables ≤ 5 }
+{
+    let mut broken: u64 = 0;
+    for seed in 0..4 {
+        let kept = kept_of_drawn(alloc, variables, seed)?;
+        if kept.all() != 1 << variables {
+            return Ok(None);
+        }
+        broken = broken.saturating_add(kept.infinite);
+    }
+    Ok(Some(broken))
 }
 
 #[test]
 fn least_energies_stand_for_costs(rt: HostRuntime) -> Result<(), Fail> {
     let mut broken: u64 = 0;
-    for (variables, assignments) in [(3, 8), (4, 16), (5, 32)] {
-        for seed in 0..4 {
-            let (whole, infinite) = kept_of_drawn(rt.alloc(), variables, seed)?;
-            assert!(rt;
-                whole.saturating_add(infinite) == assignments,
-                "{variables} {seed}"
-            );
-            broken = broken.saturating_add(infinite);
-        }
+    for variables in 3..6 {
+        let more = broken_in_four(rt.alloc(), variables)?.ok_or("not kept")?;
+        broken = broken.saturating_add(more);
     }
     // some hard clauses were drawn
     assert!(rt; broken > 12);

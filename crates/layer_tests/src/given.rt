@@ -1,11 +1,11 @@
-//! Literals, problems and tables that the tests are given, and what is asked of them.
+//! Literals, and parts of problems, tables and states that the tests are given.
 ghost use Rattle.std.specs.Prelude.{◌≡◌, ◌↔◌, ◌+◌, ◌<◌, ◌≤◌, ◌^◌, All, IsTrue, IfOk, OnOk, length};
 ghost use Rattle.problem_form.specs.Problems.{problem_total};
 ghost use Rattle.term_table.specs.Terms.{terms_total, terms_size};
 
-use base::{Cost, Costed, NoMemory};
+use base::NoMemory;
 use literal_lists::Literal;
-use problem_form::{Choices, High, LimitKind, Normal, Problem, check_limits};
+use problem_form::Problem;
 use std::alloc::Global;
 use term_table::{Table, Terms, is_set};
 
@@ -57,18 +57,6 @@ pub const E: Literal = Literal {
     negated: false,
 };
 
-/// Variable 5.
-pub const F: Literal = Literal {
-    variable: 5,
-    negated: false,
-};
-
-/// Variable 6.
-pub const G: Literal = Literal {
-    variable: 6,
-    negated: false,
-};
-
 // ---- problems
 
 pub fn are_within(literals: &[Literal], variables: u64) -> bool
@@ -95,53 +83,28 @@ pub fn add_clause(
     problem.add_literals(&mut written, weight)
 }
 
-/// Adds clauses, each as its literals and its weight.
-fn add_clauses(
+/// Adds a product, where its variables are those of the problem.
+pub fn add_product(
     alloc: Global,
     problem: &mut Problem,
-    clauses: &[(&[Literal], Option<u64>)],
+    literals: &[Literal],
+    coefficient: i16,
 ) -> Result<(), NoMemory>
-    requires few { length clauses.now < 100 }
-    requires total { problem_total problem.old ≡ 0 }
-    ensures { OnOk result (problem.new.variables ≡ problem.old.variables) }
+    requires { problem_total problem.old < 2 ^ 99 }
+    ensures same { OnOk result (problem.new.variables ≡ problem.old.variables) }
+    ensures total { OnOk result (problem_total problem.new ≤ problem_total problem.old + 2 ^ 16) }
 {
-    for (literals, weight) in clauses {
-        add_clause(alloc, problem, literals, *weight)?;
+    if !are_within(literals, problem.variables) {
+        return Ok(());
     }
-    Ok(())
-}
-
-/// A problem that has clauses alone, each as its literals and its weight.
-pub fn problem_of(
-    alloc: Global,
-    variables: u64,
-    clauses: &[(&[Literal], Option<u64>)],
-) -> Result<Problem, NoMemory>
-    requires { length clauses.now < 100 }
-    ensures { IfOk result (λ p. p.variables ≡ variables) }
-{
-    let mut problem = Problem::new(alloc);
-    problem.widen(variables);
-    add_clauses(alloc, &mut problem, clauses)?;
-    Ok(problem)
-}
-
-/// The first limit that the problem passes, and the number that is counted against it.
-pub fn passed_limit(problem: &Problem, normal: Normal) -> Option<(LimitKind, u128)> {
-    let choices = Choices {
-        normal,
-        high: High::Monomial,
-    };
-    match check_limits(problem, &choices) {
-        Ok(()) => None,
-        Err(fault) => Some((fault.kind, fault.number)),
-    }
+    let mut written = Vec::from_slice(alloc, literals)?;
+    problem.add_term(&mut written, i128::from(coefficient))
 }
 
 // ---- tables
 
 /// Adds a term, where it is a set of at most five literals and its coefficient is small.
-fn add_term(
+pub fn add_term(
     table: &mut Table,
     width: usize,
     literals: &[Literal],
@@ -209,19 +172,7 @@ pub fn are_terms(mut terms: Terms<'_>, rows: &[(&[Literal], i128)]) -> bool {
     terms.next().is_none()
 }
 
-// ---- costs
-
-/// The costs at no variable, a, b and both.
-pub fn costs_of_two<F: Costed>(form: &F) -> [Cost; 4]
-    requires { (F.form form.now).bits ≡ 2 }
-{
-    [
-        form.cost(&[false, false]),
-        form.cost(&[true, false]),
-        form.cost(&[false, true]),
-        form.cost(&[true, true]),
-    ]
-}
+// ---- states
 
 /// The lowest bits of a number, as a state of so many nodes.
 pub fn state(alloc: Global, width: usize, number: u64) -> Result<Vec<bool>, NoMemory>

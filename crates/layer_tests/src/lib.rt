@@ -16,23 +16,13 @@ mod given;
 #[cfg(test)]
 mod graphs;
 #[cfg(test)]
-mod limits;
+mod guards;
+#[cfg(test)]
+mod layers;
 #[cfg(test)]
 mod many_entries;
 #[cfg(test)]
-mod models;
-#[cfg(test)]
-mod multilinear;
-#[cfg(test)]
-mod normal_forms;
-#[cfg(test)]
-mod penalties;
-#[cfg(test)]
 mod products;
-#[cfg(test)]
-mod quadratics;
-#[cfg(test)]
-mod spins;
 #[cfg(test)]
 mod substitutions;
 #[cfg(test)]

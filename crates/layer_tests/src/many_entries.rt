@@ -2,11 +2,12 @@
 ghost use Rattle.std.specs.Prelude.{◌≡◌, ◌+◌, ◌<◌, ◌≤◌, ◌^◌, OnOk};
 ghost use Rattle.term_table.specs.Terms.{terms_total};
 
+use crate::given::add_term;
 use base::NoMemory;
 use literal_lists::Literal;
 use std::alloc::Global;
 use std::collections::BTreeMap;
-use term_table::{Table, is_set};
+use term_table::Table;
 
 /// One draw of the generator of Park and Miller.
 fn draw(state: u64) -> u64
@@ -23,20 +24,6 @@ fn variable(number: u64) -> Literal {
     }
 }
 
-/// Adds a small coefficient, where the literals are a set.
-fn add_small(table: &mut Table, literals: &[Literal], coefficient: i128) -> Result<(), NoMemory>
-    requires width { table.old.content.width ≡ 20 }
-    requires total { terms_total table.old.content.terms ≤ 2 ^ 40 }
-    ensures width { OnOk result (table.new.content.width ≡ 20) }
-    ensures total { OnOk result
-        (terms_total table.new.content.terms ≤ terms_total table.old.content.terms + 1000) }
-{
-    if coefficient.unsigned_abs() > 1000 || !is_set(literals, 20) {
-        return Ok(());
-    }
-    table.add(literals, coefficient)
-}
-
 /// Adds to the coefficient of the set of one or two variables.
 fn add_pair(table: &mut Table, first: u64, second: u64, coefficient: i128) -> Result<(), NoMemory>
     requires width { table.old.content.width ≡ 20 }
@@ -46,10 +33,10 @@ fn add_pair(table: &mut Table, first: u64, second: u64, coefficient: i128) -> Re
         (terms_total table.new.content.terms ≤ terms_total table.old.content.terms + 1000) }
 {
     if first == second {
-        add_small(table, &[variable(first)], coefficient)
+        add_term(table, 20, &[variable(first)], coefficient)
     } else {
         let (low, high) = (first.min(second), first.max(second));
-        add_small(table, &[variable(low), variable(high)], coefficient)
+        add_term(table, 20, &[variable(low), variable(high)], coefficient)
     }
 }
 
@@ -121,10 +108,11 @@ fn are_halving(table: &Table) -> bool {
     true
 }
 
-/// Adds 2,000 entries, and compares after each hundredth.
-fn agrees_with_map(alloc: Global) -> Result<bool, NoMemory> {
-    let mut table = Table::new(alloc, 20);
-    let mut sums = BTreeMap::new(alloc);
+/// Adds 2,000 entries to both, and compares after each hundredth.
+fn stay_alike(table: &mut Table, sums: &mut Sums) -> Result<bool, NoMemory>
+    requires width { table.old.content.width ≡ 20 }
+    requires total { terms_total table.old.content.terms ≡ 0 }
+{
     let mut state = 1;
     for number in 0..2000u64 {
         let first = draw(state);
@@ -132,13 +120,19 @@ fn agrees_with_map(alloc: Global) -> Result<bool, NoMemory> {
         let third = draw(second);
         state = third;
         let coefficient = i128::from(third % 7) - 3;
-        add_pair(&mut table, first % 20, second % 20, coefficient)?;
-        add_to_map(&mut sums, key_of(first % 20, second % 20), coefficient)?;
-        if number % 100 == 99 && !(has_sums(&table, &sums) && are_halving(&table)) {
+        add_pair(table, first % 20, second % 20, coefficient)?;
+        add_to_map(sums, key_of(first % 20, second % 20), coefficient)?;
+        if number % 100 == 99 && !(has_sums(table, sums) && are_halving(table)) {
             return Ok(false);
         }
     }
     Ok(true)
+}
+
+fn agrees_with_map(alloc: Global) -> Result<bool, NoMemory> {
+    let mut table = Table::new(alloc, 20);
+    let mut sums = BTreeMap::new(alloc);
+    stay_alike(&mut table, &mut sums)
 }
 
 #[test]

@@ -1,53 +1,19 @@
-//! Pairs of literals replaced by new nodes: against tables by hand, and at all states of fifty small
-//! tables.
+//! Pairs of literals replaced by new nodes: the pairs in both ways, and fifty small tables at all
+//! states.
 ghost use Rattle.std.specs.Prelude.{◌≡◌, ◌+◌, ◌<◌, ◌≤◌, ◌^◌, IfOk, OnOk, length, unsigned_abs};
-ghost use Rattle.rosenberg_layer.specs.Rosenberg.{image, Fits};
+ghost use Rattle.rosenberg_layer.specs.Rosenberg.{image};
 ghost use Rattle.term_table.specs.Terms.{terms_size, terms_total};
-ghost use Rattle.term_table.specs.Tables.{kept_at_once};
 
 use crate::all_states::draw;
-use crate::given::{A, B, C, D, E, NOT_B, are_terms, state, table_of};
-use base::{Cost, Costed, NoMemory};
-use form_steps::{BitsLink, Layer, Lowered};
+use crate::given::{A, B, C, D, E, NOT_B, table_of};
+use crate::layers::keeps_costs;
+use base::NoMemory;
+use form_steps::Layer;
 use literal_lists::Literal;
 use rosenberg_layer::{Rosenberg, pairs_of, wide_pairs};
 use std::alloc::Global;
 use std::test::Fail;
-use term_table::{LowTable, Table, is_set};
-
-/// d is a b: 5 c d, and 5 (a b - 2 a d - 2 b d + 3 d).
-const OF_THREE: [(&[Literal], i128); 5] = [
-    (&[A, B], 5),
-    (&[A, D], -10),
-    (&[B, D], -10),
-    (&[C, D], 5),
-    (&[D], 15),
-];
-
-/// d is a ~b in both terms, so what is added weighs 2 + 3.
-const OF_TWO: [(&[Literal], i128); 6] = [
-    (&[A, NOT_B], 5),
-    (&[A, E], -10),
-    (&[NOT_B, E], -10),
-    (&[C, E], 2),
-    (&[D, E], -3),
-    (&[E], 15),
-];
-
-/// Whether these terms stand for others.
-fn is_replaced_by(
-    alloc: Global,
-    width: usize,
-    terms: &[(&[Literal], i128)],
-    rows: &[(&[Literal], i128)],
-) -> Result<bool, NoMemory>
-    requires few { length terms.now < 100 }
-    requires narrow { width ≤ 6 }
-{
-    let source = table_of(alloc, width, terms)?;
-    let made = Rosenberg.lower(alloc, &source)?;
-    Ok(are_terms(made.target.terms(), rows))
-}
+use term_table::{Table, is_set};
 
 /// Whether the pairs of a table are the same by codes and as they are defined, and so many.
 fn have_the_same_pairs(
@@ -95,15 +61,6 @@ fn pairs_are_found_in_both_ways(rt: HostRuntime) -> Result<(), Fail> {
     assert!(rt; are_the_same_pairs(rt.alloc(), 3, &three, 1)?);
     assert!(rt; are_the_same_pairs(rt.alloc(), 4, &shared, 1)?);
     assert!(rt; are_the_same_pairs(rt.alloc(), 5, &long, 4)?);
-    Ok(())
-}
-
-#[test]
-fn pairs_are_replaced(rt: HostRuntime) -> Result<(), Fail> {
-    let three = is_replaced_by(rt.alloc(), 3, &[(&[A, B, C], 5)], &OF_THREE)?;
-    let terms: [(&[Literal], i128); 2] = [(&[A, NOT_B, C], 2), (&[A, NOT_B, D], -3)];
-    let two = is_replaced_by(rt.alloc(), 4, &terms, &OF_TWO)?;
-    assert!(rt; three && two);
     Ok(())
 }
 
@@ -163,90 +120,25 @@ fn draw_table(alloc: Global, seed: u64) -> Result<Table, NoMemory>
     Ok(table)
 }
 
-/// Whether one cost is no more than another.
-fn is_within(cost: Cost, energy: Cost) -> bool {
-    match (cost, energy) {
-        (Cost::Whole(cost), Cost::Whole(energy)) => cost <= energy,
-        _ => false,
-    }
-}
-
-/// Whether the state of a number costs no less than the assignment of its first bits.
-fn is_no_less(
-    alloc: Global,
-    source: &Table,
-    made: &Lowered<LowTable, BitsLink>,
-    number: u64,
-) -> Result<bool, NoMemory>
-    requires narrow { source.now.content.width ≡ 6 }
-    requires fits { Fits made.now.link source.now.content }
-    requires image { made.now.target ≡ kept_at_once (image source.now.content) }
-{
-    if made.link.target_width > 15 {
-        return Ok(false);
-    }
-    let y = state(alloc, made.link.target_width, number)?;
-    let x = Rosenberg.decode(alloc, &made.link, &y)?;
-    Ok(is_within(source.cost(&x), made.target.cost(&y)))
-}
-
-/// Whether the extension of the assignment of a number costs as much as it.
-fn is_reached(
-    alloc: Global,
-    source: &Table,
-    made: &Lowered<LowTable, BitsLink>,
-    number: u64,
-) -> Result<bool, NoMemory>
-    requires narrow { source.now.content.width ≡ 6 }
-    requires fits { Fits made.now.link source.now.content }
-    requires image { made.now.target ≡ kept_at_once (image source.now.content) }
-{
-    if made.link.target_width > 15 {
-        return Ok(false);
-    }
-    let x = state(alloc, 6, number)?;
-    let y = Rosenberg.extend(alloc, source, &made.link, &x)?;
-    Ok(made.target.cost(&y) == source.cost(&x))
-}
-
-/// Whether each assignment is reached by its extension.
-fn are_reached(
-    alloc: Global,
-    source: &Table,
-    made: &Lowered<LowTable, BitsLink>,
-) -> Result<bool, NoMemory>
-    requires narrow { source.now.content.width ≡ 6 }
-    requires fits { Fits made.now.link source.now.content }
-    requires image { made.now.target ≡ kept_at_once (image source.now.content) }
-{
-    let mut kept = true;
-    for number in 0..64 {
-        kept = is_reached(alloc, source, made, number)? && kept;
-    }
-    Ok(kept)
-}
-
-/// Whether no state costs less than the assignment of its first bits, and each assignment is reached
-/// by its extension.
-fn keeps_costs(alloc: Global, source: &Table) -> Result<bool, NoMemory>
+/// Whether substitutions keep the costs of a table.
+fn is_kept(alloc: Global, source: &Table) -> Result<bool, NoMemory>
     requires width { source.now.content.width ≡ 6 }
     requires total { terms_total source.now.content.terms ≤ 3000 }
     requires size { terms_size source.now.content.terms ≤ 108 }
 {
     let made = Rosenberg.lower(alloc, source)?;
-    let mut kept = made.link.target_width <= 15 && are_reached(alloc, source, &made)?;
-    for number in 0..1 << made.link.target_width.min(15) {
-        kept = is_no_less(alloc, source, &made, number)? && kept;
-    }
-    Ok(kept)
+    keeps_costs(alloc, &Rosenberg, source, &made)
+}
+
+fn is_drawn_kept(alloc: Global, seed: u64) -> Result<bool, NoMemory> {
+    let source = draw_table(alloc, seed)?;
+    is_kept(alloc, &source)
 }
 
 #[test]
 fn fifty_tables_at_all_states(rt: HostRuntime) -> Result<(), Fail> {
     for seed in 0..50 {
-        let source = draw_table(rt.alloc(), seed)?;
-        let kept = keeps_costs(rt.alloc(), &source)?;
-        assert!(rt; kept, "{seed}");
+        assert!(rt; is_drawn_kept(rt.alloc(), seed)?, "{seed}");
     }
     Ok(())
 }

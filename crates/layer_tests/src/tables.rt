@@ -1,9 +1,9 @@
-//! Tables of a few terms, against lists and costs by hand.
+//! Tables of a few terms, against lists by hand.
 ghost use Rattle.std.specs.Prelude.{◌≡◌, ◌+◌, ◌<◌, ◌≤◌, ◌^◌, IfOk, OnOk, length, unsigned_abs};
 ghost use Rattle.term_table.specs.Terms.{terms_total};
 
-use crate::given::{A, B, C, NOT_A, NOT_B, add_terms, are_terms, costs_of_two, table_of};
-use base::{Cost, Costed, NoMemory};
+use crate::given::{A, B, C, NOT_A, NOT_B, add_terms, are_terms, table_of};
+use base::NoMemory;
 use literal_lists::Literal;
 use std::alloc::Global;
 use term_table::{GatheredTerms, LowTable, Table, is_set, low};
@@ -44,6 +44,37 @@ fn table_at_once(
     Ok(gathered.into_table())
 }
 
+/// The table of terms, which are summed at once where it is asked, and else one by one.
+fn table_in_way(
+    alloc: Global,
+    at_once: bool,
+    terms: &[(&[Literal], i128)],
+) -> Result<Table, NoMemory>
+    requires { length terms.now < 100 }
+    ensures width { IfOk result (λ t. t.content.width ≡ 2) }
+    ensures total { IfOk result (λ t. terms_total t.content.terms ≤ 100000) }
+{
+    if at_once {
+        table_at_once(alloc, 2, terms)
+    } else {
+        table_of(alloc, 2, terms)
+    }
+}
+
+/// Whether a table has these terms once later ones are added.
+fn grows_to(
+    table: &mut Table,
+    later: &[(&[Literal], i128)],
+    rows: &[(&[Literal], i128)],
+) -> Result<bool, NoMemory>
+    requires later { length later.now < 100 }
+    requires width { table.old.content.width ≡ 2 }
+    requires total { terms_total table.old.content.terms ≤ 100000 }
+{
+    add_terms(table, 2, later)?;
+    Ok(are_terms(table.terms(), rows))
+}
+
 /// Whether additions give a table of these terms: the first ones at once where it is asked, and the
 /// later ones one by one.
 fn gives_terms(
@@ -56,13 +87,8 @@ fn gives_terms(
     requires first { length first.now < 100 }
     requires later { length later.now < 100 }
 {
-    let mut table = if at_once {
-        table_at_once(alloc, 2, first)?
-    } else {
-        table_of(alloc, 2, first)?
-    };
-    add_terms(&mut table, 2, later)?;
-    Ok(are_terms(table.terms(), rows))
+    let mut table = table_in_way(alloc, at_once, first)?;
+    grows_to(&mut table, later, rows)
 }
 
 const SOME: [(&[Literal], i128); 7] = [
@@ -139,6 +165,25 @@ fn multiplies_to(
     Ok(are_terms(product.terms(), rows))
 }
 
+/// The same of a table and a list of terms.
+fn multiplies_terms_to(
+    alloc: Global,
+    factor: i128,
+    left: &LowTable,
+    right: &[(&[Literal], i128)],
+    rows: &[(&[Literal], i128)],
+) -> Result<bool, NoMemory>
+    requires factor { unsigned_abs factor ≤ 1000 }
+    requires left { left.now.content.width ≡ 2 }
+    requires left_total { terms_total left.now.content.terms ≤ 100000 }
+    requires right { length right.now < 100 }
+{
+    match low(table_of(alloc, 2, right)?) {
+        Ok(right) => multiplies_to(alloc, factor, left, &right, rows),
+        Err(_) => Ok(false),
+    }
+}
+
 /// The same of two lists of terms.
 fn is_product(
     alloc: Global,
@@ -151,12 +196,9 @@ fn is_product(
     requires left { length left.now < 100 }
     requires right { length right.now < 100 }
 {
-    match (
-        low(table_of(alloc, 2, left)?),
-        low(table_of(alloc, 2, right)?),
-    ) {
-        (Ok(left), Ok(right)) => multiplies_to(alloc, factor, &left, &right, rows),
-        _ => Ok(false),
+    match low(table_of(alloc, 2, left)?) {
+        Ok(left) => multiplies_terms_to(alloc, factor, &left, right, rows),
+        Err(_) => Ok(false),
     }
 }
 
@@ -210,34 +252,6 @@ fn products_of_two_tables(rt: HostRuntime) {
 }
 
 // ---- low tables
-
-/// a ~b - 1 + 4 ~a.
-const LOW: [(&[Literal], i128); 3] = [(&[A, NOT_B], 1), (&[], -1), (&[NOT_A], 4)];
-
-/// Whether a table of two variables has this first term and these costs.
-fn begins_and_costs(table: &LowTable, first: (&[Literal], i128), costs: &[Cost; 4]) -> bool
-    requires { table.now.content.width ≡ 2 }
-{
-    table.width() == 2 && table.terms().next() == Some(first) && costs_of_two(table) == *costs
-}
-
-fn is_low(alloc: Global) -> Result<bool, NoMemory> {
-    let costs = [
-        Cost::Whole(3),
-        Cost::Whole(0),
-        Cost::Whole(3),
-        Cost::Whole(-1),
-    ];
-    match low(table_of(alloc, 2, &LOW)?) {
-        Ok(kept) => Ok(begins_and_costs(&kept, (&[], -1), &costs)),
-        Err(_) => Ok(false),
-    }
-}
-
-#[test]
-fn two_literals_are_low(rt: HostRuntime) {
-    assert!(rt; is_low(rt.alloc()) == Ok(true));
-}
 
 /// Whether a table is refused, and is left with its first term.
 fn is_refused(alloc: Global) -> Result<bool, NoMemory> {

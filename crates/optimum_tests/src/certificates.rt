@@ -1,27 +1,20 @@
 //! Models of three nodes with a certificate that is made of all their states.
-ghost use Rattle.std.specs.Prelude.{◌≡◌, ◌≤◌, ◌^◌, IfSome, length};
+ghost use Rattle.std.specs.Prelude.{◌≡◌, ◌≤◌, ◌^◌, length};
 ghost use Rattle.bits_model.specs.Output.{weight_total};
 ghost use Rattle.posiform_check.specs.Certificates.{AreOfNodes};
 
-use base::UnitChoice;
+use crate::drawn::{Weights, node_model, problem_of_three};
+use base::NoMemory;
 use bits_model::OutputModel;
 use command_words::NodeModel;
-use model_pipeline::{Keeping, model_of};
-use poly_reader::read_poly;
 use posiform_check::{
     Certificate, ProofAnswer, ProofFault, check_certificate, prove, read_certificate,
 };
-use problem_form::{Choices, High, Normal, check_limits};
 use std::alloc::{AllocError, Global};
 use std::test::Fail;
 
 /// The greatest length of a text.
 const MOST_BYTES: usize = 1 << 24;
-
-const CHOICES: Choices = Choices {
-    normal: Normal::Literal,
-    high: High::Monomial,
-};
 
 /// What is said of a certificate.
 #[derive(Clone, Copy, Debug, PartialEq, Eq)]
@@ -62,41 +55,9 @@ fn judged_text(alloc: Global, model: &OutputModel, text: &str, y: &[bool]) -> Ve
     }
 }
 
-/// The model of a polynomial, if it has one.
-fn model_for(alloc: Global, text: &str, target: NodeModel) -> Option<OutputModel>
-    ensures { IfSome result (λ m. weight_total m.entries ≤ 2 ^ 121) }
-{
-    if text.len() > MOST_BYTES {
-        return None;
-    }
-    let problem = read_poly(alloc, text.as_bytes()).ok()?.problem;
-    check_limits(&problem, &CHOICES).ok()?;
-    let variables = problem.variables;
-    let one = UnitChoice::One;
-    let mut kept = Keeping::Unwanted;
-    model_of(alloc, problem, variables, &CHOICES, target, one, &mut kept).ok()
-}
-
-/// What is said of the model of a polynomial.
-fn judged_source(
-    alloc: Global,
-    source: &str,
-    target: NodeModel,
-    text: &str,
-    y: &[bool],
-) -> Verdict {
-    match model_for(alloc, source, target) {
-        Some(model) => judged_text(alloc, &model, text, y),
-        None => Verdict::Nothing,
-    }
-}
-
 fn differs(ours: i128, theirs: i128) -> Verdict {
     Verdict::Fault(ProofFault::Differs(ours, theirs))
 }
-
-/// The weights of three bits, and of their three pairs.
-type Weights = [i64; 6];
 
 const MODELS: [Weights; 30] = [
     [-1, -4, 0, 4, -7, -5],
@@ -136,8 +97,8 @@ fn state_of(number: u32) -> [bool; 3] {
     [number % 2 == 1, number / 2 % 2 == 1, number / 4 % 2 == 1]
 }
 
-fn counted(holds: bool, weight: i64) -> i64 {
-    if holds { weight } else { 0 }
+fn counted(holds: bool, weight: i8) -> i64 {
+    if holds { i64::from(weight) } else { 0 }
 }
 
 /// The sum of the weights whose bits are all 1.
@@ -152,15 +113,19 @@ fn cost(weights: &Weights, number: u32) -> i64 {
         .saturating_add(counted(b && c, high))
 }
 
+fn sum_of_three(first: i8, second: i8, third: i8) -> i64 {
+    i64::from(first)
+        .saturating_add(i64::from(second))
+        .saturating_add(i64::from(third))
+}
+
 /// The mean cost, four times.
 fn four_means(weights: &Weights) -> i64 {
     let [first, second, third, low, outer, high] = *weights;
-    let nodes = first.saturating_add(second).saturating_add(third);
+    let nodes = sum_of_three(first, second, third);
     nodes
         .saturating_mul(2)
-        .saturating_add(low)
-        .saturating_add(outer)
-        .saturating_add(high)
+        .saturating_add(sum_of_three(low, outer, high))
 }
 
 /// The energy of a state: on spins four times the cost, less what all states have in common.
@@ -185,11 +150,6 @@ fn gap(weights: &Weights, target: NodeModel, number: u32) -> i64 {
     energy(weights, target, number).saturating_sub(least_energy(weights, target))
 }
 
-fn source_text(alloc: Global, weights: &Weights) -> Result<String, AllocError> {
-    let [a, b, c, low, outer, high] = *weights;
-    format!(in alloc; "{a} a\n{b} b\n{c} c\n{low} a b\n{outer} a c\n{high} b c\n")
-}
-
 /// Appends the product that is 1 in this state alone.
 fn push_product(text: &mut String, number: u32) -> Result<(), AllocError> {
     for (node, bit) in state_of(number).iter().enumerate() {
@@ -203,38 +163,61 @@ fn push_product(text: &mut String, number: u32) -> Result<(), AllocError> {
     text.push_str("\n")
 }
 
-/// The least energy, and for each state how far it is above that, times the product that is 1 in
-/// this state alone. The number of one of these nine lines, counted from 0, is raised.
+/// A number of a certificate that is raised, and by how much: that of one of its nine lines, counted
+/// from 0.
+type Raised = (u32, i64);
+
+fn raise(number: i64, line: u32, raised: Raised) -> i64 {
+    if line == raised.0 {
+        number.saturating_add(raised.1)
+    } else {
+        number
+    }
+}
+
+/// Appends for each state how far it is above the least energy, times the product that is 1 in this
+/// state alone.
+fn push_gaps(
+    alloc: Global,
+    text: &mut String,
+    weights: &Weights,
+    target: NodeModel,
+    raised: Raised,
+) -> Result<(), AllocError> {
+    for number in 0..8 {
+        let gap = raise(gap(weights, target, number), number + 1, raised);
+        text.push_str(&format!(in alloc; "{gap}")?)?;
+        push_product(text, number)?;
+    }
+    Ok(())
+}
+
+/// The least energy, and the gaps above it, with one number raised.
 fn certificate(
     alloc: Global,
     weights: &Weights,
     target: NodeModel,
-    line: u32,
-    by: i64,
+    raised: Raised,
 ) -> Result<String, AllocError> {
-    let bound = least_energy(weights, target).saturating_add(counted(line == 0, by));
+    let bound = raise(least_energy(weights, target), 0, raised);
     let mut text = format!(in alloc; "{bound}\n")?;
-    for number in 0..8 {
-        let raised = counted(line == number + 1, by);
-        let gap = gap(weights, target, number).saturating_add(raised);
-        text.push_str(&format!(in alloc; "{gap}")?)?;
-        push_product(&mut text, number)?;
-    }
+    push_gaps(alloc, &mut text, weights, target, raised)?;
     Ok(text)
 }
 
-/// What is said of a certificate where the number of a line is raised.
+/// What is said of a certificate where a number is raised.
 fn judged_raised(
     alloc: Global,
+    model: &OutputModel,
     weights: &Weights,
     target: NodeModel,
-    raised: (u32, i64),
+    raised: Raised,
     number: u32,
-) -> Result<Verdict, AllocError> {
-    let (line, by) = raised;
-    let source = source_text(alloc, weights)?;
-    let text = certificate(alloc, weights, target, line, by)?;
-    Ok(judged_source(alloc, &source, target, &text, &state_of(number)))
+) -> Result<Verdict, AllocError>
+    requires { weight_total model.now.entries ≤ 2 ^ 121 }
+{
+    let text = certificate(alloc, weights, target, raised)?;
+    Ok(judged_text(alloc, model, &text, &state_of(number)))
 }
 
 const TARGETS: [NodeModel; 2] = [NodeModel::Qubo, NodeModel::Ising];
@@ -247,26 +230,28 @@ fn expected(weights: &Weights, target: NodeModel, number: u32) -> Verdict {
     }
 }
 
-#[test]
-fn thirty_models_are_proved_at_their_least_states(rt: HostRuntime) -> Result<(), Fail> {
-    for weights in &MODELS {
-        for target in TARGETS {
-            for number in 0..8 {
-                let found = judged_raised(rt.alloc(), weights, target, (0, 0), number)?;
-                assert!(rt;
-                    found == expected(weights, target, number),
-                    "{weights:?}: {found:?}"
-                );
-            }
+/// The first state of which something else is said.
+fn first_other(
+    alloc: Global,
+    model: &OutputModel,
+    weights: &Weights,
+    target: NodeModel,
+) -> Result<Option<u32>, AllocError>
+    requires { weight_total model.now.entries ≤ 2 ^ 121 }
+{
+    for number in 0..8 {
+        let found = judged_raised(alloc, model, weights, target, (0, 0), number)?;
+        if found != expected(weights, target, number) {
+            return Ok(Some(number));
         }
     }
-    Ok(())
+    Ok(None)
 }
 
 /// A number that is raised, and what is said then: the bound and the line of the state of zeros
 /// count in the constant, which is the energy of that state, and the line of the state of ones in no
 /// set but that of all nodes.
-fn changed(weights: &Weights, target: NodeModel) -> [((u32, i64), Verdict); 4] {
+fn changed(weights: &Weights, target: NodeModel) -> [(Raised, Verdict); 4] {
     let constant = i128::from(energy(weights, target, 0));
     let raised = differs(constant, constant.saturating_add(1));
     let below = gap(weights, target, 7).saturating_add(1).saturating_neg();
@@ -278,14 +263,51 @@ fn changed(weights: &Weights, target: NodeModel) -> [((u32, i64), Verdict); 4] {
     ]
 }
 
+/// The first change of which something else is said.
+fn first_other_change(
+    alloc: Global,
+    model: &OutputModel,
+    weights: &Weights,
+    target: NodeModel,
+) -> Result<Option<Raised>, AllocError>
+    requires { weight_total model.now.entries ≤ 2 ^ 121 }
+{
+    for (raised, expected) in changed(weights, target) {
+        if judged_raised(alloc, model, weights, target, raised, 5)? != expected {
+            return Ok(Some(raised));
+        }
+    }
+    Ok(None)
+}
+
+/// Whether what is said of all states, and of all changes, is as expected.
+fn is_judged(
+    alloc: Global,
+    model: &OutputModel,
+    weights: &Weights,
+    target: NodeModel,
+) -> Result<bool, AllocError>
+    requires { weight_total model.now.entries ≤ 2 ^ 121 }
+{
+    let other = first_other(alloc, model, weights, target)?;
+    let change = first_other_change(alloc, model, weights, target)?;
+    Ok(other.is_none() && change.is_none())
+}
+
+/// The same of the model of three nodes.
+fn are_judged(alloc: Global, weights: &Weights, target: NodeModel) -> Result<bool, NoMemory> {
+    let problem = problem_of_three(alloc, weights)?;
+    match node_model(alloc, &problem, 3, target) {
+        Some(model) => Ok(is_judged(alloc, &model, weights, target)?),
+        None => Ok(false),
+    }
+}
+
 #[test]
-fn thirty_models_with_one_number_changed(rt: HostRuntime) -> Result<(), Fail> {
+fn thirty_models_are_proved_at_their_least_states_alone(rt: HostRuntime) -> Result<(), Fail> {
     for weights in &MODELS {
         for target in TARGETS {
-            for (change, expected) in changed(weights, target) {
-                let found = judged_raised(rt.alloc(), weights, target, change, 5)?;
-                assert!(rt; found == expected, "{weights:?}, {change:?}: {found:?}");
-            }
+            assert!(rt; are_judged(rt.alloc(), weights, target)?, "{weights:?}");
         }
     }
     Ok(())

@@ -1,5 +1,6 @@
-//! Small problems that look random, and their models.
-ghost use Rattle.std.specs.Prelude.{◌≡◌, ◌↔◌, ◌+◌, ◌<◌, ◌≤◌, ◌^◌, All, IsTrue, OnOk};
+//! Small problems, of given weights or of weights that look random, and their models.
+ghost use Rattle.std.specs.Prelude.{◌≡◌, ◌↔◌, ◌+◌, ◌<◌, ◌≤◌, ◌^◌, All, IfOk, IfSome, IsTrue, OnOk};
+ghost use Rattle.bits_model.specs.Output.{weight_total};
 ghost use Rattle.problem_form.specs.Problems.{problem_total};
 
 use base::{NoMemory, UnitChoice};
@@ -63,7 +64,8 @@ fn add_weight(
     weight: i8,
 ) -> Result<(), NoMemory>
     requires { problem_total problem.old < 2 ^ 99 }
-    ensures { OnOk result (problem_total problem.new ≤ problem_total problem.old + 2 ^ 7) }
+    ensures same { OnOk result (problem.new.variables ≡ problem.old.variables) }
+    ensures total { OnOk result (problem_total problem.new ≤ problem_total problem.old + 2 ^ 7) }
 {
     let literals = [positive(first), positive(second)];
     if !are_within(&literals, problem.variables) {
@@ -111,12 +113,72 @@ fn draw_weights(
     Ok(())
 }
 
+/// The weights of three nodes, and of their three pairs.
+pub type Weights = [i8; 6];
+
+/// What each of them is a weight of: two nodes, or one where both are the same.
+const OF_WHAT: [(u64, u64); 6] = [(0, 0), (1, 1), (2, 2), (0, 1), (0, 2), (1, 2)];
+
+/// Adds the weights of three nodes.
+fn add_weights(alloc: Global, problem: &mut Problem, weights: &Weights) -> Result<(), NoMemory>
+    requires { problem_total problem.old ≡ 0 }
+    ensures { OnOk result (problem.new.variables ≡ problem.old.variables) }
+{
+    for k in 0..6 {
+        let (first, second) = OF_WHAT[k];
+        add_weight(alloc, problem, first, second, weights[k])?;
+    }
+    Ok(())
+}
+
+/// The problem of these weights.
+pub fn problem_of_three(alloc: Global, weights: &Weights) -> Result<Problem, NoMemory>
+    ensures { IfOk result (λ p. p.variables ≡ 3) }
+{
+    let mut problem = Problem::new(alloc);
+    problem.widen(3);
+    add_weights(alloc, &mut problem, weights)?;
+    Ok(problem)
+}
+
 /// A problem of so many variables, with a weight for each and for each pair.
 pub fn drawn_problem(alloc: Global, dice: &mut Dice, nodes: u32) -> Result<Problem, NoMemory> {
     let mut problem = Problem::new(alloc);
     problem.widen(u64::from(nodes));
     draw_weights(alloc, &mut problem, dice, nodes)?;
     Ok(problem)
+}
+
+/// The model of a problem for bits or spins, if it is within the limits.
+pub fn node_model(
+    alloc: Global,
+    problem: &Problem,
+    variables: u64,
+    target: NodeModel,
+) -> Option<OutputModel>
+    requires { variables ≤ problem.now.variables }
+    ensures { IfSome result (λ m. weight_total m.entries ≤ 2 ^ 121) }
+{
+    check_limits(problem, &CHOICES).ok()?;
+    let one = UnitChoice::One;
+    let mut kept = Keeping::Unwanted;
+    model_of(alloc, problem, variables, &CHOICES, target, one, &mut kept).ok()
+}
+
+/// The model of a problem on the qubits of a graph, if it is within the limits and has its place
+/// there.
+pub fn model_at(
+    alloc: Global,
+    problem: &Problem,
+    variables: u64,
+    site: &Site,
+) -> Option<OutputModel>
+    requires { variables ≤ problem.now.variables }
+{
+    check_limits(problem, &CHOICES).ok()?;
+    let one = UnitChoice::One;
+    let mut kept = Keeping::Unwanted;
+    model_on_qubits(alloc, problem, variables, &CHOICES, one, site, &mut kept).ok()
 }
 
 /// The target of a model.
@@ -128,23 +190,17 @@ pub enum Target {
     Chimera(u32, u32, u32),
 }
 
-/// The model of a problem, if it is within the limits and has its place on the graph.
+/// The model of a problem for a target, if it has one.
 pub fn model_for(alloc: Global, problem: &Problem, target: Target) -> Option<OutputModel> {
-    check_limits(problem, &CHOICES).ok()?;
-    let variables = problem.variables;
-    let one = UnitChoice::One;
-    let mut kept = Keeping::Unwanted;
     match target {
-        Target::Nodes(target) => model_of(
-            alloc, problem, variables, &CHOICES, target, one, &mut kept,
-        ).ok(),
+        Target::Nodes(target) => node_model(alloc, problem, problem.variables, target),
         Target::Chimera(rows, cols, shore) => {
             let site = Site {
                 qubits: Qubits::All(Chimera::new(rows, cols, shore)?),
                 perch: Perch::Clique,
                 ties: Ties::Choi,
             };
-            model_on_qubits(alloc, problem, variables, &CHOICES, one, &site, &mut kept).ok()
+            model_at(alloc, problem, problem.variables, &site)
         }
     }
 }

@@ -1,130 +1,132 @@
-//! What is read off all states of small models of each kind.
-ghost use Rattle.std.specs.Prelude.{◌≤◌, length};
-ghost use Rattle.embedding_tests.specs.SmallForms.{IsSmall};
+//! What is read off all states of the models of three nodes, of each kind.
+ghost use Rattle.std.specs.Prelude.{◌≤◌};
 
-use base::{Figures, NoMemory, UnitChoice};
-use bits_model::{ChainList, Kind, OutputModel};
-use chain_map::{ChainMap, CheckAnswer};
+use crate::drawn::{Weights, model_at, node_model, problem_of_three};
+use crate::solving::{State, state_of};
+use base::NoMemory;
+use bits_model::OutputModel;
+use chain_map::ChainMap;
 use chimera_graph::Chimera;
-use command_words::Ties;
-use embedding_tests::{IN_TURN, Row, map_of, read, small_form, state};
-use ising_form::Ising;
-use model_pipeline::{Perch, Qubits, Site, form_on_qubits};
-use quad_form::Quad;
+use command_words::{NodeModel, Ties};
+use model_pipeline::{Perch, Qubits, Site};
+use problem_form::Problem;
 use std::alloc::Global;
 use std::test::Fail;
 
-const FIGURES: Figures = Figures {
-    scale: 1,
-    offset: 0,
-    threshold: 9,
-};
-
-/// What is read off a state of a model.
-fn read_off(alloc: Global, model: &OutputModel, y: &[bool]) -> Result<Option<Vec<bool>>, NoMemory> {
-    let mut x = vec![in alloc; false; model.variables as usize]?;
-    if x.len() != model.variables as usize || y.len() != model.nodes as usize {
-        return Ok(None);
-    }
-    model.read_off(y, &mut x);
-    Ok(Some(x))
+fn is_one(y: &State, qubit: u64) -> bool {
+    y.get(qubit as usize).copied().unwrap_or(false)
 }
 
-/// Whether the first bits of a state, or of what its chains are read as, are read off it.
-fn is_read(
-    alloc: Global,
-    model: &OutputModel,
-    map: Option<&ChainMap>,
-    y: &[bool],
-) -> Result<bool, NoMemory> {
-    let Some(x) = read_off(alloc, model, y)? else {
-        return Ok(false);
-    };
-    Ok(match map {
-        Some(map) => read(alloc, map, y)?.bits.starts_with(&x),
-        None => y.starts_with(&x),
-    })
+/// How many qubits of a chain are 1.
+fn ones(y: &State, chain: &[u64]) -> usize {
+    let mut ones: usize = 0;
+    for qubit in chain {
+        if is_one(y, *qubit) {
+            ones = ones.saturating_add(1);
+        }
+    }
+    ones
+}
+
+/// What more than half of the qubits of a chain have, and else what its first has.
+fn majority(y: &State, chain: &[u64]) -> bool {
+    let ones = ones(y, chain);
+    let zeros = chain.len().saturating_sub(ones);
+    let first = chain.first().is_some_and(|qubit| is_one(y, *qubit));
+    ones > zeros || ones == zeros && first
+}
+
+/// Whether these bits are what the chains are read as.
+fn are_majorities(y: &State, chains: &[&[u64]], x: &[bool]) -> bool {
+    for (bit, chain) in x.iter().zip(chains) {
+        if *bit != majority(y, chain) {
+            return false;
+        }
+    }
+    x.len() <= chains.len()
+}
+
+/// Whether what the chains of a state are read as is read off it.
+fn is_read(model: &OutputModel, chains: &[&[u64]], number: u32) -> bool {
+    let (nodes, variables) = (model.nodes as usize, model.variables as usize);
+    if nodes > 16 || variables > 3 {
+        return false;
+    }
+    let y = state_of(number, nodes);
+    let mut x = [false; 3];
+    model.read_off(&y[..nodes], &mut x[..variables]);
+    are_majorities(&y, chains, &x[..variables])
 }
 
 /// Whether this is so for all states, and so many bits are read.
-fn are_read(
-    alloc: Global,
-    model: &OutputModel,
-    map: Option<&ChainMap>,
-    variables: u32,
-) -> Result<bool, NoMemory> {
-    if model.nodes > 12 || model.variables != variables {
-        return Ok(false);
+fn are_read(model: &OutputModel, chains: &[&[u64]], variables: u64) -> bool {
+    if model.nodes > 12 || u64::from(model.variables) != variables {
+        return false;
     }
-    for number in 0..1 << model.nodes {
-        let y = state(alloc, model.nodes as usize, &IN_TURN, number)?;
-        if !is_read(alloc, model, map, &y)? {
-            return Ok(false);
+    for number in 0..1_u32 << model.nodes {
+        if !is_read(model, chains, number) {
+            return false;
         }
     }
-    Ok(true)
+    true
 }
 
-/// Whether the states of a form on the chains of a map are read by the majority of each.
-fn are_read_by_chains(
-    alloc: Global,
-    form: Ising,
-    site: &Site,
-    map: &ChainMap,
-    variables: u32,
-) -> Result<bool, NoMemory>
-    requires { IsSmall form }
-{
-    if variables as usize > form.fields.as_slice().len() {
-        return Ok(false);
-    }
-    match form_on_qubits(alloc, form, variables, FIGURES, UnitChoice::One, site) {
-        Ok(model) => are_read(alloc, &model, Some(map), variables),
-        Err(_) => Ok(false),
+/// Over spins the fields 3, -1 and 0, and the couplings -1 and 4.
+const WEIGHTS: Weights = [2, -2, -2, -1, 0, 4];
+
+fn are_read_off(model: Option<OutputModel>, chains: &[&[u64]], variables: u64) -> bool {
+    match model {
+        Some(model) => are_read(&model, chains, variables),
+        None => false,
     }
 }
 
-const FIELDS: [i128; 3] = [3, -2, 0];
+/// A graph, and the chains of three nodes there.
+type Row = ((u32, u32, u32), &'static [&'static [u64]]);
 
-const COUPLINGS: [Row; 2] = [(0, 1, -1), (1, 2, 4)];
+fn map_of(alloc: Global, chains: &[&[u64]]) -> Result<ChainMap, NoMemory> {
+    let mut map = ChainMap::new(alloc);
+    for chain in chains {
+        map.push(*chain)?;
+    }
+    Ok(map)
+}
 
-/// These chains on a graph, tied in one way.
-fn site_of(
+/// Whether all states of a problem on these chains are read by the majority of each.
+fn are_read_there(
     alloc: Global,
-    shape: (u32, u32, u32),
-    chains: &[&[u64]],
+    problem: &Problem,
+    row: Row,
     ties: Ties,
-) -> Result<Option<Site>, NoMemory> {
-    let Some(graph) = Chimera::new(shape.0, shape.1, shape.2) else {
-        return Ok(None);
+    variables: u64,
+) -> Result<bool, NoMemory>
+    requires { variables ≤ problem.now.variables }
+{
+    let ((rows, cols, shore), chains) = row;
+    let Some(graph) = Chimera::new(rows, cols, shore) else {
+        return Ok(false);
     };
-    Ok(Some(Site {
+    let site = Site {
         qubits: Qubits::All(graph),
         perch: Perch::Map(map_of(alloc, chains)?),
         ties,
-    }))
-}
-
-/// Whether all states of three nodes on these chains are read by the majority of each.
-fn are_read_on(
-    alloc: Global,
-    shape: (u32, u32, u32),
-    chains: &[&[u64]],
-    ties: Ties,
-    variables: u32,
-) -> Result<bool, NoMemory> {
-    let map = map_of(alloc, chains)?;
-    let Some(site) = site_of(alloc, shape, chains, ties)? else {
-        return Ok(false);
     };
-    match small_form(alloc, 2, &FIELDS, &COUPLINGS)? {
-        Some(form) => are_read_by_chains(alloc, form, &site, &map, variables),
-        None => Ok(false),
-    }
+    Ok(are_read_off(
+        model_at(alloc, problem, variables, &site),
+        chains,
+        variables,
+    ))
 }
 
-/// The three nodes on chains of a graph.
-const ROWS: [((u32, u32, u32), &[&[u64]]); 4] = [
+/// The same of three nodes.
+fn are_read_on(alloc: Global, row: Row, ties: Ties, variables: u64) -> Result<bool, NoMemory>
+    requires { variables ≤ 3 }
+{
+    let problem = problem_of_three(alloc, &WEIGHTS)?;
+    are_read_there(alloc, &problem, row, ties, variables)
+}
+
+const ROWS: [Row; 4] = [
     ((1, 1, 3), &[&[3, 0], &[1, 4], &[5, 2]]),
     ((1, 1, 4), &[&[1], &[4, 0, 5], &[7, 2, 6, 3]]),
     ((1, 1, 4), &[&[0, 4], &[5, 1], &[2, 6]]),
@@ -133,95 +135,35 @@ const ROWS: [((u32, u32, u32), &[&[u64]]); 4] = [
 
 #[test]
 fn broken_and_tied_chains_are_read(rt: HostRuntime) -> Result<(), Fail> {
-    for (shape, chains) in ROWS {
-        for variables in 0..4 {
-            assert!(rt;
-                are_read_on(rt.alloc(), shape, chains, Ties::Choi, variables)?,
-                "{chains:?}"
-            );
+    for row in ROWS {
+        for ties in [Ties::Choi, Ties::Cut] {
+            for variables in 0..4 {
+                let read = are_read_on(rt.alloc(), row, ties, variables)?;
+                assert!(rt; read, "{row:?} {variables}");
+            }
         }
     }
     Ok(())
 }
 
-#[test]
-fn chains_tied_by_their_lighter_sides_are_read(rt: HostRuntime) -> Result<(), Fail> {
-    for (shape, chains) in ROWS {
-        assert!(rt;
-            are_read_on(rt.alloc(), shape, chains, Ties::Cut, 3)?,
-            "{chains:?}"
-        );
-    }
-    Ok(())
-}
-
-/// The quadratic form with the same weights.
-fn quad_of(form: Ising) -> Quad {
-    let Ising {
-        constant,
-        fields,
-        couplings,
-    } = form;
-    Quad {
-        constant,
-        diagonal: fields,
-        couplers: couplings,
-    }
-}
-
-/// Whether the first bits of each state are read off the model of a form of spins.
-fn are_first_spins(alloc: Global, form: Ising, variables: u32) -> Result<bool, NoMemory>
-    requires narrow { variables ≤ 3 }
-    requires small { IsSmall form }
-{
-    if form.fields.as_slice().len() < variables as usize {
-        return Ok(false);
-    }
-    let model = form.output(
-        alloc,
-        variables,
-        FIGURES,
-        1,
-        Kind::Ising,
-        ChainList::empty(alloc),
-    )?;
-    are_read(alloc, &model, None, variables)
-}
-
-/// Whether the first bits of each state are read off the model of a quadratic form.
-fn are_first_of_quad(alloc: Global, quad: Quad, variables: u32) -> Result<bool, NoMemory>
-    requires narrow { variables ≤ 3 }
-{
-    if quad.diagonal.as_slice().len() < variables as usize {
-        return Ok(false);
-    }
-    let model = quad.output(alloc, variables, FIGURES, 1)?;
-    are_read(alloc, &model, None, variables)
-}
-
-fn are_first_of_spins(alloc: Global, variables: u32) -> Result<bool, NoMemory>
+/// Whether the first bits of all states are read off a model of three nodes.
+fn are_first_bits(alloc: Global, target: NodeModel, variables: u64) -> Result<bool, NoMemory>
     requires { variables ≤ 3 }
 {
-    match small_form(alloc, 2, &FIELDS, &COUPLINGS)? {
-        Some(form) => are_first_spins(alloc, form, variables),
-        None => Ok(false),
-    }
-}
-
-fn are_first_of_bits(alloc: Global, variables: u32) -> Result<bool, NoMemory>
-    requires { variables ≤ 3 }
-{
-    match small_form(alloc, 2, &FIELDS, &COUPLINGS)? {
-        Some(form) => are_first_of_quad(alloc, quad_of(form), variables),
-        None => Ok(false),
-    }
+    let problem = problem_of_three(alloc, &WEIGHTS)?;
+    let model = node_model(alloc, &problem, variables, target);
+    Ok(are_read_off(model, &[&[0], &[1], &[2]], variables))
 }
 
 #[test]
 fn first_bits_are_read(rt: HostRuntime) -> Result<(), Fail> {
-    for variables in 0..4 {
-        assert!(rt; are_first_of_spins(rt.alloc(), variables)?, "{variables}");
-        assert!(rt; are_first_of_bits(rt.alloc(), variables)?, "{variables}");
+    for target in [NodeModel::Qubo, NodeModel::Ising] {
+        for variables in 0..4 {
+            assert!(rt;
+                are_first_bits(rt.alloc(), target, variables)?,
+                "{variables}"
+            );
+        }
     }
     Ok(())
 }

@@ -9,10 +9,10 @@ use command_words::NodeModel;
 use std::alloc::Global;
 
 /// A state of up to 16 nodes.
-type State = [bool; 16];
+pub type State = [bool; 16];
 
 /// The state with a number, whose lowest digit is the bit of the last of so many nodes.
-fn state_of(number: u32, nodes: usize) -> State
+pub fn state_of(number: u32, nodes: usize) -> State
     requires { nodes ≤ 16 }
 {
     let mut y = [false; 16];

@@ -1,25 +1,23 @@
 //! Every state decoded and every assignment extended, through whole runs, for fifty small sources:
 //! what is written is compared with plain arithmetic on the text of the model.
-use crate::models::{INFINITE, Model, Source, Target, bit, model_in, numbers};
-use crate::runs::{Named, SOUND, owned, push_file, push_words, run_over};
+use crate::models::{INFINITE, Model, Target, bit, model_in, numbers, numbers_of, parted};
+use crate::runs::{Named, Ran, SOUND, owned, push_file, push_words, run_over};
 use crate::small_sources::{FORMATS, NAMES};
-use edge_io::MemorySink;
-use program_run::Status;
 use std::alloc::{AllocError, Global};
 use std::test::Fail;
 
 /// A source, and its place among those of its format, which chooses what is asked of it.
 #[derive(Clone, Copy)]
-struct Asked {
+struct Asked<'a> {
     format: &'static str,
-    text: &'static str,
+    text: &'a str,
     index: usize,
 
     /// How many nodes its Ising model has, and so how many qubits are on each side of the cell.
     nodes: u32,
 }
 
-impl Asked {
+impl Asked<'_> {
     fn target(&self) -> Target {
         match self.index % 3 {
             0 => Target::Qubo,
@@ -63,6 +61,23 @@ fn push_cell(alloc: Global, words: &mut Vec<String>, asked: &Asked) -> Result<()
     Ok(())
 }
 
+/// Appends the words behind the verb, the format, the target and the source.
+fn push_keys(
+    alloc: Global,
+    words: &mut Vec<String>,
+    verb: &'static str,
+    target: Target,
+    asked: &Asked,
+) -> Result<(), AllocError> {
+    if verb != "compile" {
+        push_words(alloc, words, &["s"])?;
+    }
+    if target == Target::Cell {
+        push_cell(alloc, words, asked)?;
+    }
+    push_words(alloc, words, &asked.choices())
+}
+
 /// The words of a run of this verb.
 fn words_of(
     alloc: Global,
@@ -71,66 +86,70 @@ fn words_of(
     asked: &Asked,
 ) -> Result<Vec<String>, AllocError> {
     let mut words = owned(alloc, &[verb, asked.format, target.word(), "a"])?;
-    if verb != "compile" {
-        push_words(alloc, &mut words, &["s"])?;
-    }
-    if target == Target::Cell {
-        push_cell(alloc, &mut words, asked)?;
-    }
-    push_words(alloc, &mut words, &asked.choices())?;
+    push_keys(alloc, &mut words, verb, target, asked)?;
     Ok(words)
+}
+
+fn push_chains(map: &mut String, nodes: u32) -> Result<(), Fail> {
+    for node in 0..nodes {
+        writeln!(map, "{node} {} {node}", node.saturating_add(nodes))?;
+    }
+    Ok(())
 }
 
 /// A map whose chains begin on the other side of the cell than those of a clique.
 fn map_text(alloc: Global, nodes: u32) -> Result<String, Fail> {
     let mut map = String::new(alloc);
-    for node in 0..nodes {
-        writeln!(map, "{node} {} {node}", node.saturating_add(nodes))?;
-    }
+    push_chains(&mut map, nodes)?;
     Ok(map)
+}
+
+fn push_files(alloc: Global, files: &mut Named, asked: &Asked, bits: &str) -> Result<(), Fail> {
+    push_file(alloc, files, "a", String::from_str(alloc, asked.text)?)?;
+    push_file(alloc, files, "m", map_text(alloc, asked.nodes)?)?;
+    push_file(alloc, files, "s", String::from_str(alloc, bits)?)?;
+    Ok(())
 }
 
 /// The source, the map, and the state or the assignment.
 fn files_of(alloc: Global, asked: &Asked, bits: &str) -> Result<Named, Fail> {
     let mut files = Vec::new(alloc);
-    push_file(alloc, &mut files, "a", String::from_str(alloc, asked.text)?)?;
-    push_file(alloc, &mut files, "m", map_text(alloc, asked.nodes)?)?;
-    push_file(alloc, &mut files, "s", String::from_str(alloc, bits)?)?;
+    push_files(alloc, &mut files, asked, bits)?;
     Ok(files)
 }
 
-/// The status of a run of this verb, and what it writes.
-fn written(
+/// What a run of this verb gives.
+fn run_of(
     alloc: Global,
     verb: &'static str,
     target: Target,
     asked: &Asked,
     bits: &str,
-) -> Result<(Status, MemorySink), Fail> {
-    let files = files_of(alloc, asked, bits)?;
+) -> Result<Ran, Fail> {
     let words = words_of(alloc, verb, target, asked)?;
-    let (status, out, _) = run_over(alloc, &words, files, SOUND)?;
-    Ok((status, out))
+    run_over(alloc, &words, files_of(alloc, asked, bits)?, SOUND)
 }
 
 /// The numbers of the source's model for a target; none where there is no model.
 fn compiled_for(alloc: Global, target: Target, asked: &Asked) -> Result<Vec<i64>, Fail> {
-    let (status, out) = written(alloc, "compile", target, asked, "")?;
-    match status {
-        Status::Done => Ok(numbers(alloc, out.bytes())?),
-        _ => Ok(Vec::new(alloc)),
-    }
+    let ran = run_of(alloc, "compile", target, asked, "")?;
+    Ok(numbers_of(alloc, &ran)?)
 }
 
-/// Bits as digits, the first one first.
-fn digits(alloc: Global, bits: u64, count: u32) -> Result<String, AllocError> {
-    let mut text = String::new(alloc);
+/// Appends bits as digits, the first one first.
+fn push_digits(text: &mut String, bits: u64, count: u32) -> Result<(), AllocError> {
     for place in 0..count {
         text.push_str(match bit(bits, i64::from(place)) {
             true => "1",
             false => "0",
         })?;
     }
+    Ok(())
+}
+
+fn digits(alloc: Global, bits: u64, count: u32) -> Result<String, AllocError> {
+    let mut text = String::new(alloc);
+    push_digits(&mut text, bits, count)?;
     Ok(text)
 }
 
@@ -172,26 +191,51 @@ fn cost_of(costs: &[i64], assignment: u64) -> i64 {
     costs.get(assignment as usize).copied().unwrap_or(INFINITE)
 }
 
-/// What is to be written for a state that is decoded.
-fn decoding(
+/// Appends what is to be written for a state that is decoded.
+fn push_decoding(
+    text: &mut String,
+    asked: &Asked,
+    costs: &[i64],
+    model: Model,
+    state: u64,
+) -> Result<(), Fail> {
+    let assignment = model.decoded(state);
+    text.push_str("assignment ")?;
+    push_digits(text, assignment, model.variables)?;
+    text.push_str("\n")?;
+    if asked.format == "poly" {
+        push_names(text, assignment)?;
+    }
+    push_last(text, cost_of(costs, assignment), model.energy(state))
+}
+
+/// Whether a run decodes a state as plain arithmetic does.
+fn is_decoded(
     alloc: Global,
     asked: &Asked,
     costs: &[i64],
     model: Model,
     state: u64,
-) -> Result<String, Fail> {
-    let assignment = model.decoded(state);
-    let mut text = String::from_str(alloc, "assignment ")?;
-    text.push_str(&digits(alloc, assignment, model.variables)?)?;
-    text.push_str("\n")?;
-    if asked.format == "poly" {
-        push_names(&mut text, assignment)?;
-    }
-    push_last(&mut text, cost_of(costs, assignment), model.energy(state))?;
-    Ok(text)
+    ran: &Ran,
+) -> Result<bool, Fail> {
+    let mut wanted = String::new(alloc);
+    push_decoding(&mut wanted, asked, costs, model, state)?;
+    Ok(ran.wrote(wanted.as_bytes()))
 }
 
-/// Whether a state is decoded as plain arithmetic does.
+/// Whether a state of these bits is decoded as plain arithmetic does.
+fn decodes_bits(
+    alloc: Global,
+    asked: &Asked,
+    costs: &[i64],
+    model: Model,
+    state: u64,
+    bits: &str,
+) -> Result<bool, Fail> {
+    let ran = run_of(alloc, "decode", asked.target(), asked, bits)?;
+    is_decoded(alloc, asked, costs, model, state, &ran)
+}
+
 fn decodes(
     alloc: Global,
     asked: &Asked,
@@ -200,22 +244,51 @@ fn decodes(
     state: u64,
 ) -> Result<bool, Fail> {
     let bits = digits(alloc, state, model.nodes)?;
-    let (status, out) = written(alloc, "decode", asked.target(), asked, &bits)?;
-    let wanted = decoding(alloc, asked, costs, model, state)?;
-    Ok(status == Status::Done && out.bytes() == wanted.as_bytes())
+    decodes_bits(alloc, asked, costs, model, state, &bits)
 }
 
-/// What is to be written for an assignment of this cost that is extended to a state.
-fn extension(alloc: Global, cost: i64, model: Model, state: u64) -> Result<String, Fail> {
-    let mut text = String::from_str(alloc, "state ")?;
-    text.push_str(&digits(alloc, state, model.nodes)?)?;
+/// Appends what is to be written for an assignment of this cost that is extended to a state.
+fn push_extension(text: &mut String, cost: i64, model: Model, state: u64) -> Result<(), Fail> {
+    text.push_str("state ")?;
+    push_digits(text, state, model.nodes)?;
     text.push_str("\n")?;
-    push_last(&mut text, cost, model.energy(state))?;
-    Ok(text)
+    push_last(text, cost, model.energy(state))
 }
 
-/// Whether an assignment is extended to a state that decodes to it, with the least energy of those
+/// Whether a run extends an assignment to a state that decodes to it, with the least energy of those
 /// that do, which stands for its cost.
+fn is_extended(
+    alloc: Global,
+    costs: &[i64],
+    model: Model,
+    assignment: u64,
+    ran: &Ran,
+) -> Result<bool, Fail> {
+    let state = state_in(ran.out.bytes());
+    let (least, cost) = (model.least(assignment), cost_of(costs, assignment));
+    let mut wanted = String::new(alloc);
+    push_extension(&mut wanted, cost, model, state)?;
+    Ok(
+        ran.wrote(wanted.as_bytes())
+            && model.decoded(state) == assignment
+            && model.energy(state) == least
+            && model.stands_for(least, cost),
+    )
+}
+
+/// The same of an assignment of these bits.
+fn extends_bits(
+    alloc: Global,
+    asked: &Asked,
+    costs: &[i64],
+    model: Model,
+    assignment: u64,
+    bits: &str,
+) -> Result<bool, Fail> {
+    let ran = run_of(alloc, "extend", asked.target(), asked, bits)?;
+    is_extended(alloc, costs, model, assignment, &ran)
+}
+
 fn extends(
     alloc: Global,
     asked: &Asked,
@@ -224,18 +297,7 @@ fn extends(
     assignment: u64,
 ) -> Result<bool, Fail> {
     let bits = digits(alloc, assignment, model.variables)?;
-    let (status, out) = written(alloc, "extend", asked.target(), asked, &bits)?;
-    let state = state_in(out.bytes());
-    let least = model.least(assignment);
-    let cost = cost_of(costs, assignment);
-    let wanted = extension(alloc, cost, model, state)?;
-    Ok(
-        status == Status::Done
-            && out.bytes() == wanted.as_bytes()
-            && model.decoded(state) == assignment
-            && model.energy(state) == least
-            && model.stands_for(least, cost),
-    )
+    extends_bits(alloc, asked, costs, model, assignment, &bits)
 }
 
 fn all_decode(alloc: Global, asked: &Asked, costs: &[i64], model: Model) -> Result<bool, Fail> {
@@ -256,15 +318,27 @@ fn all_extend(alloc: Global, asked: &Asked, costs: &[i64], model: Model) -> Resu
     Ok(true)
 }
 
-/// Whether all states of a source's model are decoded, and all assignments of the source extended,
-/// as plain arithmetic does.
+/// Whether all states of a model are decoded, and all assignments of its source extended, as plain
+/// arithmetic does.
+fn is_model_both_ways(
+    alloc: Global,
+    asked: &Asked,
+    costs: &[i64],
+    model: Model,
+) -> Result<bool, Fail> {
+    Ok(
+        costs.len() as u64 == 1_u64.wrapping_shl(model.variables)
+            && all_decode(alloc, asked, costs, model)?
+            && all_extend(alloc, asked, costs, model)?,
+    )
+}
+
+/// The same of a source.
 fn goes_both_ways(alloc: Global, asked: &Asked, costs: &[i64]) -> Result<bool, Fail> {
     let numbers = compiled_for(alloc, asked.target(), asked)?;
     match model_in(asked.target(), &numbers) {
-        Some(model) if costs.len() as u64 == 1_u64.wrapping_shl(model.variables) => {
-            Ok(all_decode(alloc, asked, costs, model)? && all_extend(alloc, asked, costs, model)?)
-        }
-        _ => Ok(false),
+        Some(model) => is_model_both_ways(alloc, asked, costs, model),
+        None => Ok(false),
     }
 }
 
@@ -274,22 +348,44 @@ fn nodes_of(alloc: Global, asked: &Asked) -> Result<u32, Fail> {
     Ok(model_in(Target::Ising, &numbers).map_or(0, |model| model.nodes))
 }
 
-/// The first source of a format for which this does not hold.
-fn first_other(
+/// What is asked of a source with a place among those of its format.
+fn asked_of<'a>(
     alloc: Global,
     format: &'static str,
-    sources: &[Source],
-) -> Result<Option<&'static str>, Fail> {
-    for (index, (text, costs)) in sources.iter().enumerate() {
-        let mut asked = Asked {
-            format,
-            text: *text,
-            index,
-            nodes: 0,
-        };
-        asked.nodes = nodes_of(alloc, &asked)?;
-        if !goes_both_ways(alloc, &asked, costs)? {
-            return Ok(Some(*text));
+    text: &'a str,
+    index: usize,
+) -> Result<Asked<'a>, Fail> {
+    let mut asked = Asked {
+        format,
+        text,
+        index,
+        nodes: 0,
+    };
+    asked.nodes = nodes_of(alloc, &asked)?;
+    Ok(asked)
+}
+
+/// Whether this holds for a source with its costs.
+fn source_goes_both_ways(
+    alloc: Global,
+    format: &'static str,
+    source: &[u8],
+    index: usize,
+) -> Result<bool, Fail> {
+    let Some((text, costs)) = parted(source) else {
+        return Ok(false);
+    };
+    let asked = asked_of(alloc, format, text, index)?;
+    let costs = numbers(alloc, costs)?;
+    goes_both_ways(alloc, &asked, &costs)
+}
+
+/// The number of the first source of a format for which it does not.
+fn first_other(alloc: Global, format: &'static str, sources: &str) -> Result<Option<usize>, Fail> {
+    let sources = sources.as_bytes().split(|byte| *byte == b'@');
+    for (index, source) in sources.enumerate() {
+        if !source_goes_both_ways(alloc, format, source, index)? {
+            return Ok(Some(index));
         }
     }
     Ok(None)

@@ -1,15 +1,20 @@
 //! The text of a model as these tests read it, by a small parser of their own: the energies of its
 //! states, and what they decode to.
-use crate::runs::{SOUND, run_words};
+use crate::runs::{Ran, SOUND, run_words};
 use program_run::Status;
 use std::alloc::{AllocError, Global};
 use std::test::Fail;
 
-/// What an assignment costs that breaks what has to hold.
-pub(crate) const INFINITE: i64 = i64::MAX;
+/// What an assignment costs that breaks what has to hold: more than any other here.
+pub(crate) const INFINITE: i64 = 999;
 
-/// A text, and what each assignment costs, by its number, whose lowest bit is the first variable.
-pub(crate) type Source = (&'static str, &'static [i64]);
+/// The text of a source, and behind a `|` what each assignment costs, by its number, whose lowest bit
+/// is the first variable. Sources are parted by `@`.
+pub(crate) fn parted(source: &[u8]) -> Option<(&str, &[u8])> {
+    let mut parts = source.split(|byte| *byte == b'|');
+    let text = std::str::from_utf8(parts.next()?).ok()?;
+    Some((text, parts.next()?))
+}
 
 /// What a model is for: bits, spins, or the qubits of one cell, where each chain has two.
 #[derive(Clone, Copy, PartialEq, Eq)]
@@ -33,24 +38,34 @@ fn number(word: &[u8]) -> Option<i64> {
     std::str::from_utf8(word).ok()?.parse().ok()
 }
 
-/// The numbers among the words of a text.
-pub(crate) fn numbers(alloc: Global, text: &[u8]) -> Result<Vec<i64>, AllocError> {
-    let mut numbers = Vec::new(alloc);
+fn push_numbers(numbers: &mut Vec<i64>, text: &[u8]) -> Result<(), AllocError> {
     for word in text.split(|byte| matches!(*byte, b' ' | b'\n')) {
         if let Some(number) = number(word) {
             numbers.push(number)?;
         }
     }
+    Ok(())
+}
+
+/// The numbers among the words of a text.
+pub(crate) fn numbers(alloc: Global, text: &[u8]) -> Result<Vec<i64>, AllocError> {
+    let mut numbers = Vec::new(alloc);
+    push_numbers(&mut numbers, text)?;
     Ok(numbers)
 }
 
-/// The numbers of what a run with these words writes for this text; none where it ends otherwise.
-pub(crate) fn compiled(alloc: Global, words: &[&str], text: &str) -> Result<Vec<i64>, Fail> {
-    let (status, out, _) = run_words(alloc, words, text, SOUND)?;
-    match status {
-        Status::Done => Ok(numbers(alloc, out.bytes())?),
+/// The numbers of what a run writes; none where it ends otherwise.
+pub(crate) fn numbers_of(alloc: Global, ran: &Ran) -> Result<Vec<i64>, AllocError> {
+    match ran.status {
+        Status::Done => numbers(alloc, ran.out.bytes()),
         _ => Ok(Vec::new(alloc)),
     }
+}
+
+/// The numbers of what a run with these words writes for this text.
+pub(crate) fn compiled(alloc: Global, words: &[&str], text: &str) -> Result<Vec<i64>, Fail> {
+    let ran = run_words(alloc, words, text, SOUND)?;
+    Ok(numbers_of(alloc, &ran)?)
 }
 
 /// Whether the bit at a place is 1.

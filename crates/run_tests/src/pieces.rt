@@ -4,7 +4,7 @@ ghost use Rattle.std.specs.Option.{option_map_or};
 ghost use Rattle.edge_io.specs.Held.{after_first};
 ghost use Rattle.edge_io.specs.laws.Begun.{after_first-none};
 
-use crate::runs::{Ends, SOUND, owned, run_words, sink};
+use crate::runs::{Ends, Ran, SOUND, owned, run_words, sink};
 use edge_io::{Failed, Files, MemorySink, Sink};
 use program_run::{Status, run};
 use std::alloc::Global;
@@ -107,27 +107,46 @@ fn push_comments(text: &mut String) -> Result<(), Fail> {
     Ok(())
 }
 
-/// One clause of sixty variables, after comments that are longer than a piece.
-fn long_source(alloc: Global) -> Result<String, Fail> {
-    let mut text = String::new(alloc);
-    push_comments(&mut text)?;
+/// Adds one clause of sixty variables, after comments that are longer than a piece.
+fn push_source(text: &mut String) -> Result<(), Fail> {
+    push_comments(text)?;
     text.push_str("p wcnf 60 1\n1")?;
     for variable in 0..60u64 {
         write!(text, " {}", variable.saturating_add(1))?;
     }
     text.push_str(" 0\n")?;
+    Ok(())
+}
+
+/// The source of that clause.
+fn long_source(alloc: Global) -> Result<String, Fail> {
+    let mut text = String::new(alloc);
+    push_source(&mut text)?;
     Ok(text)
+}
+
+/// One run over the short ends: whether it writes this text.
+fn is_written_over(
+    alloc: Global,
+    words: &[String],
+    mut files: ShortFiles,
+    mut out: ShortSink,
+    mut err: MemorySink,
+    text: &[u8],
+) -> bool {
+    let status = run(alloc, words, &mut files, &mut out, &mut err);
+    status == Status::Done && out.bytes.as_slice() == text
 }
 
 /// Whether a run over the short ends writes the same as one over others.
 fn writes_in_pieces(alloc: Global, source: String, text: &[u8]) -> Result<bool, Fail> {
     let given = owned(alloc, COMPILE)?;
-    let mut err = sink(alloc, 1000, 1000, 0)?;
-    let mut out = ShortSink {
+    let err = sink(alloc, 1000, 1000, 0)?;
+    let out = ShortSink {
         bytes: Vec::new(alloc),
         faults: 0,
     };
-    let mut files = ShortFiles {
+    let files = ShortFiles {
         text: source,
         at: 0,
         name: None,
@@ -137,38 +156,46 @@ fn writes_in_pieces(alloc: Global, source: String, text: &[u8]) -> Result<bool, 
         empty_reads: 0,
         begun: 0,
     };
-    let status = run(alloc, &given, &mut files, &mut out, &mut err);
-    Ok(status == Status::Done && out.bytes.as_slice() == text)
+    Ok(is_written_over(alloc, &given, files, out, err, text))
 }
 
 /// Whether a sink of one byte a call gets the same as another one.
 fn writes_in_bytes(alloc: Global, source: &str, text: &[u8]) -> Result<bool, Fail> {
     let ends = Ends { most: 1, ..SOUND };
-    let (status, out, _) = run_words(alloc, COMPILE, source, ends)?;
-    Ok(status == Status::Done && out.bytes() == text)
+    let ran = run_words(alloc, COMPILE, source, ends)?;
+    Ok(ran.wrote(text))
 }
 
-/// What a run writes for the source, of which no end takes or gives small pieces alone.
-fn whole_text(alloc: Global) -> Result<MemorySink, Fail> {
+/// What a run gives for the source, of which no end takes or gives small pieces alone.
+fn whole_run(alloc: Global, source: &str) -> Result<Ran, Fail> {
+    run_words(alloc, COMPILE, source, SOUND)
+}
+
+/// Whether runs whose ends take and give small pieces alone write this long text.
+fn are_alike(alloc: Global, source: &str, text: &[u8]) -> Result<bool, Fail> {
+    let again = String::from_str(alloc, source)?;
+    Ok(
+        text.len() > 2 * LONGEST_WRITE
+            && writes_in_pieces(alloc, again, text)?
+            && writes_in_bytes(alloc, source, text)?,
+    )
+}
+
+/// Whether they write what a whole run does.
+fn are_like_whole(alloc: Global, source: &str) -> Result<bool, Fail> {
+    let ran = whole_run(alloc, source)?;
+    are_alike(alloc, source, ran.out.bytes())
+}
+
+fn are_all_alike(alloc: Global) -> Result<bool, Fail> {
     let source = long_source(alloc)?;
-    let (_, out, _) = run_words(alloc, COMPILE, &source, SOUND)?;
-    Ok(out)
+    are_like_whole(alloc, &source)
 }
 
 #[test]
-fn no_piece_is_long(rt: HostRuntime) -> Result<(), Fail> {
-    let text = whole_text(rt.alloc())?;
-    let source = long_source(rt.alloc())?;
-    let alike = writes_in_pieces(rt.alloc(), source, text.bytes())?;
-    assert!(rt; alike && text.bytes().len() > 2 * LONGEST_WRITE);
-    Ok(())
-}
-
-#[test]
-fn a_sink_of_one_byte_a_call_gets_the_same(rt: HostRuntime) -> Result<(), Fail> {
-    let text = whole_text(rt.alloc())?;
-    let source = long_source(rt.alloc())?;
-    let alike = writes_in_bytes(rt.alloc(), &source, text.bytes())?;
-    assert!(rt; alike);
+fn no_piece_is_long_and_a_sink_of_one_byte_a_call_gets_the_same(
+    rt: HostRuntime,
+) -> Result<(), Fail> {
+    assert!(rt; are_all_alike(rt.alloc())?);
     Ok(())
 }

@@ -6,7 +6,6 @@ use crate::runs::{SOUND, run_words};
 use base::{Cost, Costed};
 use ising_file::read_ising;
 use problem_form::Problem;
-use program_run::Status;
 use qubo_file::read_qubo;
 use std::alloc::Global;
 use std::test::Fail;
@@ -50,13 +49,21 @@ fn read_back(alloc: Global, target: Target, text: &[u8]) -> Option<Problem> {
     }
 }
 
+/// How many states cost alike in a model and in the problem of its text.
+fn alike_to(alloc: Global, target: Target, text: &[u8], model: Model) -> Option<u64> {
+    match read_back(alloc, target, text) {
+        Some(problem) => alike(&problem, model),
+        None => None,
+    }
+}
+
 /// How many states cost alike in a text and in its problem.
 fn alike_in(alloc: Global, target: Target, text: &[u8]) -> Result<Option<u64>, Fail> {
     let numbers = numbers(alloc, text)?;
-    match (model_in(target, &numbers), read_back(alloc, target, text)) {
-        (Some(model), Some(problem)) => Ok(alike(&problem, model)),
-        _ => Ok(None),
-    }
+    Ok(match model_in(target, &numbers) {
+        Some(model) => alike_to(alloc, target, text, model),
+        None => None,
+    })
 }
 
 /// The same of the text that a run with these words writes.
@@ -66,11 +73,22 @@ fn alike_of(
     words: &[&str],
     text: &str,
 ) -> Result<Option<u64>, Fail> {
-    let (status, out, _) = run_words(alloc, words, text, SOUND)?;
-    match status {
-        Status::Done => alike_in(alloc, target, out.bytes()),
-        _ => Ok(None),
+    let ran = run_words(alloc, words, text, SOUND)?;
+    alike_in(alloc, target, ran.out.bytes())
+}
+
+/// Whether this is so for all states of both models of a source, in both units.
+fn all_alike(alloc: Global, format: &str, text: &str, nodes: u32) -> Result<bool, Fail> {
+    let count = Some(1_u64.wrapping_shl(nodes));
+    for target in [Target::Qubo, Target::Ising] {
+        for unit in ["unit=one", "unit=reduce"] {
+            let words = ["compile", format, target.word(), "a", unit];
+            if alike_of(alloc, target, &words, text)? != count {
+                return Ok(false);
+            }
+        }
     }
+    Ok(true)
 }
 
 /// Sources, their formats, and how many nodes their models have: that of their variables, and one
@@ -99,16 +117,7 @@ const SOURCES: [(&str, &str, u32); 10] = [
 #[test]
 fn what_is_written_is_read_back_and_costs_what_its_rows_give(rt: HostRuntime) -> Result<(), Fail> {
     for (format, text, nodes) in SOURCES {
-        for target in [Target::Qubo, Target::Ising] {
-            for unit in ["unit=one", "unit=reduce"] {
-                let words = ["compile", format, target.word(), "a", unit];
-                let count = alike_of(rt.alloc(), target, &words, text)?;
-                assert!(rt;
-                    count == Some(1_u64.wrapping_shl(nodes)),
-                    "{words:?} {text}"
-                );
-            }
-        }
+        assert!(rt; all_alike(rt.alloc(), format, text, nodes)?, "{text}");
     }
     Ok(())
 }

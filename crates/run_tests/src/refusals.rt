@@ -17,9 +17,9 @@ fn leaves(
     requires takes { 1 ≤ ends.most }
     requires small { ends.room < 2 ^ 32 }
 {
-    let (status, out, err) = run_words(alloc, words, text, ends)?;
+    let ran = run_words(alloc, words, text, ends)?;
     let (number, text, line) = wanted;
-    Ok(status.number() == number && out.bytes() == text && err.bytes() == line)
+    Ok(ran.status.number() == number && ran.out.bytes() == text && ran.err.bytes() == line)
 }
 
 /// The words for a clique on one cell.

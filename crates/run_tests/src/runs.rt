@@ -78,35 +78,70 @@ pub(crate) fn push_file(
     Ok(())
 }
 
-/// One run with these words over these files: its status, and the sinks of its text and line.
+/// What a run gives: its status, and the sinks of its text and its line.
+pub(crate) struct Ran {
+    pub status: Status,
+    pub out: MemorySink,
+    pub err: MemorySink,
+}
+
+impl Drop for Ran {
+    fn drop(self) {
+        let Ran {
+            status: _status,
+            out: _out,
+            err: _err,
+        } = self;
+    }
+}
+
+impl Ran {
+    /// Whether it is done, and wrote this text.
+    pub(crate) fn wrote(&self, text: &[u8]) -> bool {
+        self.status == Status::Done && self.out.bytes() == text
+    }
+}
+
+/// One run with these words over these files and sinks.
+fn run_into(
+    alloc: Global,
+    words: &[String],
+    mut files: MemoryFiles,
+    mut out: MemorySink,
+    mut err: MemorySink,
+) -> Ran {
+    let status = run(alloc, words, &mut files, &mut out, &mut err);
+    Ran { status, out, err }
+}
+
+/// One run with these words over these files.
 pub(crate) fn run_over(
     alloc: Global,
     words: &[String],
     files: Named,
     ends: Ends,
-) -> Result<(Status, MemorySink, MemorySink), Fail>
+) -> Result<Ran, Fail>
     requires takes { 1 ≤ ends.most }
     requires small { ends.room < 2 ^ 32 }
 {
-    let mut files = MemoryFiles::new(FileList::new(files), calls(alloc, ends.read)?);
-    let mut out = sink(alloc, ends.most, ends.room, ends.write)?;
-    let mut err = sink(alloc, 1000, 1000, ends.line)?;
-    let status = run(alloc, words, &mut files, &mut out, &mut err);
-    Ok((status, out, err))
+    let files = MemoryFiles::new(FileList::new(files), calls(alloc, ends.read)?);
+    let out = sink(alloc, ends.most, ends.room, ends.write)?;
+    let err = sink(alloc, 1000, 1000, ends.line)?;
+    Ok(run_into(alloc, words, files, out, err))
+}
+
+/// The file `a` of this text.
+fn one_file(alloc: Global, text: &str) -> Result<Named, AllocError> {
+    let mut files = Vec::new(alloc);
+    push_file(alloc, &mut files, "a", String::from_str(alloc, text)?)?;
+    Ok(files)
 }
 
 /// One run with these words over the file `a` of this text.
-pub(crate) fn run_words(
-    alloc: Global,
-    words: &[&str],
-    text: &str,
-    ends: Ends,
-) -> Result<(Status, MemorySink, MemorySink), Fail>
+pub(crate) fn run_words(alloc: Global, words: &[&str], text: &str, ends: Ends) -> Result<Ran, Fail>
     requires takes { 1 ≤ ends.most }
     requires small { ends.room < 2 ^ 32 }
 {
-    let mut files = Vec::new(alloc);
-    push_file(alloc, &mut files, "a", String::from_str(alloc, text)?)?;
     let given = owned(alloc, words)?;
-    run_over(alloc, &given, files, ends)
+    run_over(alloc, &given, one_file(alloc, text)?, ends)
 }

@@ -1,114 +1,34 @@
 //! Every state of small models, through whole runs: the least energy of each assignment stands for
 //! its cost, so the least states are those of the least assignments.
-use crate::models::{INFINITE, Source, Target, compiled, model_in};
+use crate::models::{Target, compiled, model_in, numbers, parted};
 use crate::polynomials::POLYNOMIALS;
 use crate::soft_sources::SOFT;
 use std::alloc::Global;
 use std::test::Fail;
 
 /// Clauses of up to five literals, hard and soft.
-const CLAUSES: [Source; 10] = [
-    (
-        "p wcnf 2 3 10\n10 1 2 0\n3 -1 0\n4 -2 0\n",
-        &[INFINITE, 3, 4, 7],
-    ),
-    (
-        "p wcnf 2 4\n2 1 -2 0\n3 -1 2 0\n1 -1 -2 0\n5 2 0\n",
-        &[5, 8, 2, 1],
-    ),
-    (
-        "p wcnf 2 3 9\n9 1 0\n9 -1 2 0\n9 -2 0\n",
-        &[INFINITE, INFINITE, INFINITE, INFINITE],
-    ),
-    (
-        "p wcnf 2 5 7\n8 -1 -2 0\n2 1 0\n2 1 0\n3 0\n1 2 -1 2 0\n",
-        &[7, 4, 7, INFINITE],
-    ),
-    (
-        "p wcnf 3 2 9\n9 1 2 3 0\n4 -1 -2 -3 0\n",
-        &[INFINITE, 0, 0, 0, 0, 0, 0, 4],
-    ),
-    (
-        "p wcnf 4 3 20\n20 1 -2 3 -4 0\n7 -1 2 -3 0\n5 2 3 4 0\n",
-        &[5, 5, 0, 0, 0, 7, 0, 0, 0, 0, INFINITE, 0, 0, 7, 0, 0],
-    ),
-    (
-        "p wcnf 4 4\n1 1 2 3 4 0\n2 -1 -2 -3 -4 0\n3 1 -2 3 -4 0\n4 2 0\n",
-        &[5, 4, 0, 0, 4, 4, 0, 0, 4, 4, 3, 0, 4, 4, 0, 2],
-    ),
-    (
-        "p wcnf 5 3 30\n30 -1 -2 -3 -4 -5 0\n11 1 2 3 4 5 0\n2 -5 0\n",
-        &[
-            11, 0, 0, 0, 0, 0, 0, 0, 0, 0, 0, 0, 0, 0, 0, 0, 2, 2, 2, 2, 2, 2, 2, 2, 2, 2, 2, 2, 2,
-            2, 2, INFINITE,
-        ],
-    ),
-    (
-        "p wcnf 5 5 99\n99 1 2 -3 0\n99 -1 4 5 0\n3 -4 -5 2 1 0\n2 3 -2 -1 5 0\n6 -3 -2 0\n",
-        &[
-            0, INFINITE, 0, INFINITE, INFINITE, INFINITE, 6, INFINITE, 0, 0, 0, 2, INFINITE, 0, 6,
-            6, 0, 0, 0, 0, INFINITE, 0, 6, 6, 3, 0, 0, 0, INFINITE, 0, 6, 6,
-        ],
-    ),
-    (
-        "p wcnf 3 8 1\n1 1 2 3 0\n1 1 2 -3 0\n1 1 -2 3 0\n1 1 -2 -3 0\n\
-        1 -1 2 3 0\n1 -1 2 -3 0\n1 -1 -2 3 0\n1 -1 -2 -3 0\n",
-        &[
-            INFINITE, INFINITE, INFINITE, INFINITE, INFINITE, INFINITE, INFINITE, INFINITE,
-        ],
-    ),
-];
-
-/// Words that ask for a QUBO, and the sources that they are about.
-const RUNS: [(&[&str], &[Source]); 7] = [
-    (&["compile", "wcnf", "qubo", "a"], &CLAUSES),
-    (
-        &[
-            "compile",
-            "poly",
-            "qubo",
-            "a",
-            "normal=literal",
-            "high=monomial",
-        ],
-        &POLYNOMIALS,
-    ),
-    (
-        &[
-            "compile",
-            "poly",
-            "qubo",
-            "a",
-            "normal=literal",
-            "high=rosenberg",
-        ],
-        &POLYNOMIALS,
-    ),
-    (
-        &[
-            "compile",
-            "poly",
-            "qubo",
-            "a",
-            "normal=multilinear",
-            "high=monomial",
-        ],
-        &POLYNOMIALS,
-    ),
-    (
-        &[
-            "compile",
-            "poly",
-            "qubo",
-            "a",
-            "normal=multilinear",
-            "high=rosenberg",
-        ],
-        &POLYNOMIALS,
-    ),
-    (&["compile", "wbo", "qubo", "a", "unit=one"], &SOFT),
-    (&["compile", "wbo", "qubo", "a", "unit=reduce"], &SOFT),
-];
+const CLAUSES: &str = "\
+    p wcnf 2 3 10\n10 1 2 0\n3 -1 0\n4 -2 0\n|\
+    999 3 4 7@\
+    p wcnf 2 4\n2 1 -2 0\n3 -1 2 0\n1 -1 -2 0\n5 2 0\n|\
+    5 8 2 1@\
+    p wcnf 2 3 9\n9 1 0\n9 -1 2 0\n9 -2 0\n|\
+    999 999 999 999@\
+    p wcnf 2 5 7\n8 -1 -2 0\n2 1 0\n2 1 0\n3 0\n1 2 -1 2 0\n|\
+    7 4 7 999@\
+    p wcnf 3 2 9\n9 1 2 3 0\n4 -1 -2 -3 0\n|\
+    999 0 0 0 0 0 0 4@\
+    p wcnf 4 3 20\n20 1 -2 3 -4 0\n7 -1 2 -3 0\n5 2 3 4 0\n|\
+    5 5 0 0 0 7 0 0 0 0 999 0 0 7 0 0@\
+    p wcnf 4 4\n1 1 2 3 4 0\n2 -1 -2 -3 -4 0\n3 1 -2 3 -4 0\n4 2 0\n|\
+    5 4 0 0 4 4 0 0 4 4 3 0 4 4 0 2@\
+    p wcnf 5 3 30\n30 -1 -2 -3 -4 -5 0\n11 1 2 3 4 5 0\n2 -5 0\n|\
+    11 0 0 0 0 0 0 0 0 0 0 0 0 0 0 0 2 2 2 2 2 2 2 2 2 2 2 2 2 2 2 999@\
+    p wcnf 5 5 99\n99 1 2 -3 0\n99 -1 4 5 0\n3 -4 -5 2 1 0\n2 3 -2 -1 5 0\n6 -3 -2 0\n|\
+    0 999 0 999 999 999 6 999 0 0 0 2 999 0 6 6 0 0 0 0 999 0 6 6 3 0 0 0 999 0 6 6@\
+    p wcnf 3 8 1\n1 1 2 3 0\n1 1 2 -3 0\n1 1 -2 3 0\n1 1 -2 -3 0\n1 -1 2 3 0\n\
+    1 -1 2 -3 0\n1 -1 -2 3 0\n1 -1 -2 -3 0\n|\
+    999 999 999 999 999 999 999 999";
 
 /// Whether the model of a text keeps the costs of its assignments.
 fn keeps(alloc: Global, words: &[&str], text: &str, costs: &[i64]) -> Result<bool, Fail> {
@@ -116,19 +36,76 @@ fn keeps(alloc: Global, words: &[&str], text: &str, costs: &[i64]) -> Result<boo
     Ok(model_in(Target::Qubo, &numbers).is_some_and(|model| model.keeps(costs)))
 }
 
-/// The first source whose model does not.
-fn first_other(
-    alloc: Global,
-    words: &[&str],
-    sources: &[Source],
-) -> Result<Option<&'static str>, Fail> {
-    for (text, costs) in sources {
-        if !keeps(alloc, words, text, costs)? {
-            return Ok(Some(*text));
+/// The same of the text and the costs of a source.
+fn keeps_source(alloc: Global, words: &[&str], source: &[u8]) -> Result<bool, Fail> {
+    let Some((text, costs)) = parted(source) else {
+        return Ok(false);
+    };
+    let costs = numbers(alloc, costs)?;
+    keeps(alloc, words, text, &costs)
+}
+
+/// The number of the first source whose model does not.
+fn first_other(alloc: Global, words: &[&str], sources: &str) -> Result<Option<usize>, Fail> {
+    let sources = sources.as_bytes().split(|byte| *byte == b'@');
+    for (index, source) in sources.enumerate() {
+        if !keeps_source(alloc, words, source)? {
+            return Ok(Some(index));
         }
     }
     Ok(None)
 }
+
+/// Words that ask for a QUBO, and the sources that they are about.
+const RUNS: [(&[&str], &str); 7] = [
+    (&["compile", "wcnf", "qubo", "a"], CLAUSES),
+    (
+        &[
+            "compile",
+            "poly",
+            "qubo",
+            "a",
+            "normal=literal",
+            "high=monomial",
+        ],
+        POLYNOMIALS,
+    ),
+    (
+        &[
+            "compile",
+            "poly",
+            "qubo",
+            "a",
+            "normal=literal",
+            "high=rosenberg",
+        ],
+        POLYNOMIALS,
+    ),
+    (
+        &[
+            "compile",
+            "poly",
+            "qubo",
+            "a",
+            "normal=multilinear",
+            "high=monomial",
+        ],
+        POLYNOMIALS,
+    ),
+    (
+        &[
+            "compile",
+            "poly",
+            "qubo",
+            "a",
+            "normal=multilinear",
+            "high=rosenberg",
+        ],
+        POLYNOMIALS,
+    ),
+    (&["compile", "wbo", "qubo", "a", "unit=one"], SOFT),
+    (&["compile", "wbo", "qubo", "a", "unit=reduce"], SOFT),
+];
 
 #[test]
 fn each_least_energy_stands_for_its_cost(rt: HostRuntime) -> Result<(), Fail> {

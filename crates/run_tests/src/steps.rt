@@ -1,11 +1,11 @@
-//! The text of a model that the calls of the steps make, by the call for a QUBO alone.
-ghost use Rattle.std.specs.Prelude.{◌≡◌, ◌≤◌, IfSome};
-ghost use Rattle.bits_model.specs.declared.output.Kind.TheVariants.{Qubo};
+//! The texts of models that the calls of the steps make, by the calls for their kinds alone.
+ghost use Rattle.std.specs.Prelude.{◌≤◌};
 
 use crate::runs::CLASH;
 use base::{NoMemory, UnitChoice};
-use bits_model::OutputModel;
+use bits_model::{Kind, OutputModel};
 use command_words::{Format, NodeModel};
+use ising_file::ising_text;
 use model_pipeline::{Keeping, model_of};
 use problem_form::{Choices, High, Normal, Problem, check_limits};
 use qubo_file::qubo_text;
@@ -18,54 +18,64 @@ const CHOICES: Choices = Choices {
 };
 
 /// The model of a problem of so many variables.
-fn model_of_problem(alloc: Global, problem: Problem, variables: u64) -> Option<OutputModel>
-    requires { variables ≤ problem.variables }
-    ensures { IfSome result (λ model. model.kind ≡ Qubo) }
+fn model_of_problem(
+    alloc: Global,
+    problem: &Problem,
+    variables: u64,
+    target: NodeModel,
+) -> Option<OutputModel>
+    requires { variables ≤ problem.now.variables }
 {
-    check_limits(&problem, &CHOICES).ok()?;
+    check_limits(problem, &CHOICES).ok()?;
+    let one = UnitChoice::One;
     let mut kept = Keeping::Unwanted;
-    model_of(
-        alloc,
-        problem,
-        variables,
-        &CHOICES,
-        NodeModel::Qubo,
-        UnitChoice::One,
-        &mut kept,
-    )
-    .ok()
+    model_of(alloc, problem, variables, &CHOICES, target, one, &mut kept).ok()
 }
 
 /// The model of a short text.
-fn model_of_text(alloc: Global, text: &str) -> Option<OutputModel>
-    ensures { IfSome result (λ model. model.kind ≡ Qubo) }
-{
+fn model_of_text(alloc: Global, text: &str, target: NodeModel) -> Option<OutputModel> {
     if text.len() > 100 {
         return None;
     }
     let read = read_source(alloc, Format::Wcnf, text.as_bytes()).ok()?;
-    let variables = read.variables;
-    model_of_problem(alloc, read.into_problem(), variables)
+    model_of_problem(alloc, &read.problem, read.variables, target)
 }
 
-/// Whether this is the text of the model as that of a QUBO.
-fn has_text(alloc: Global, model: &OutputModel, text: &[u8]) -> Result<bool, NoMemory>
-    requires { model.now.kind ≡ Qubo }
-{
-    Ok(qubo_text(alloc, model)?.as_slice() == text)
+/// The text of a model, by the call for its kind alone.
+fn text_of(alloc: Global, model: &OutputModel) -> Result<Vec<u8>, NoMemory> {
+    match model.kind {
+        Kind::Qubo => qubo_text(alloc, model),
+        _ => ising_text(alloc, model),
+    }
 }
 
-/// The same of the model of a text.
-fn is_written(alloc: Global, text: &str, written: &[u8]) -> Result<bool, NoMemory> {
-    match model_of_text(alloc, text) {
+fn has_text(alloc: Global, model: &OutputModel, written: &[u8]) -> Result<bool, NoMemory> {
+    let text = text_of(alloc, model)?;
+    Ok(text.as_slice() == written)
+}
+
+/// Whether this is the text of the model of another text.
+fn is_written(
+    alloc: Global,
+    text: &str,
+    target: NodeModel,
+    written: &[u8],
+) -> Result<bool, NoMemory> {
+    match model_of_text(alloc, text, target) {
         Some(model) => has_text(alloc, &model, written),
         None => Ok(false),
     }
 }
 
+const QUBO_TEXT: &[u8] =
+    b"c scale 1\nc offset -4\nc threshold -1\nc unit 1\nc variables 1\np qubo 0 1 1 0\n0 0 -1\n";
+
+const ISING_TEXT: &[u8] =
+    b"c scale 4\nc offset -14\nc threshold -2\nc unit 1\nc variables 1\np ising 1 1 0\n0 0 -2\n";
+
 #[test]
-fn the_text_of_a_model(rt: HostRuntime) {
-    let written = b"c scale 1\nc offset -4\nc threshold -1\nc unit 1\nc variables 1\n\
-        p qubo 0 1 1 0\n0 0 -1\n";
-    assert!(rt; is_written(rt.alloc(), CLASH, written) == Ok(true));
+fn the_texts_of_models(rt: HostRuntime) {
+    for (target, text) in [(NodeModel::Qubo, QUBO_TEXT), (NodeModel::Ising, ISING_TEXT)] {
+        assert!(rt; is_written(rt.alloc(), CLASH, target, text) == Ok(true));
+    }
 }
