@@ -114,7 +114,8 @@ class _Walk:
         """From a tenth of the greatest rise down to where the least one is rare, by equal
         factors."""
         sizes = list(map(abs, self.weight))
-        most = max((abs(single) + sum(sizes[a:b]) for single, a, b
+        before = list(accumulate(sizes, initial=0))
+        most = max((abs(single) + before[b] - before[a] for single, a, b
                     in zip(self.single, self.start, self.start[1:])), default=1) or 1
         least = min(filter(None, chain(sizes, map(abs, self.single))), default=1)
         hot, cold = most / 10, least / math.log(100)
