@@ -9,7 +9,8 @@ from __future__ import annotations
 import math
 import random
 from itertools import accumulate, chain
-from typing import List, Optional, Sequence
+from operator import add
+from typing import Iterator, List, Optional, Sequence, Tuple
 
 from .errors import PbisingError
 from .models import Model
@@ -20,30 +21,33 @@ State = List[int]
 class _Walk:
     """A state over bits, what the others add to the weight of each bit, and the best state met.
 
-    The couplers of a node stand in two lists, from `start[node]` to `start[node + 1]`.
+    Couplers ascend, so those of a node with greater ones follow each other, from `up[node]` to
+    `up[node + 1]`; those with lesser ones stand in lists of their own, from `down[node]` on.
     """
 
     def __init__(self, model: Model, uniform: random.Random) -> None:
-        _, self.single, couplings = model.over_bits()
-        self.couplers = model.heads, model.tails, couplings
-        self.random = uniform.random
-        degrees = [0] * (model.nodes + 1)
-        for node in chain(model.heads, model.tails):
-            degrees[node] += 1
-        self.start = start = list(accumulate(degrees))
-        self.other, self.weight = [0] * start[-1], [0] * start[-1]
-        other, coupling = self.other, self.weight
-        for i, j, weight in zip(*self.couplers):
-            at = start[i] = start[i] - 1
-            other[at], coupling[at] = j, weight
-            at = start[j] = start[j] - 1
-            other[at], coupling[at] = i, weight
+        _, self.single, self.couplings = model.over_bits()
+        self.heads, self.tails, self.random = model.heads, model.tails, uniform.random
+        self.up, self.down = _starts(model.nodes, self.heads), _starts(model.nodes, self.tails)
+        self.lesser, self.weights = self.heads[:], self.couplings[:]
+        lesser, weights, free = self.lesser, self.weights, self.down[:]
+        for i, j, weight in zip(self.heads, self.tails, self.couplings):
+            at = free[j]
+            free[j] = at + 1
+            lesser[at], weights[at] = i, weight
+
+    def near(self, node: int) -> Iterator[Tuple[int, int]]:
+        """The nodes that are coupled with one, and the weights."""
+        up = slice(self.up[node], self.up[node + 1])
+        down = slice(self.down[node], self.down[node + 1])
+        return chain(zip(self.tails[up], self.couplings[up]),
+                     zip(self.lesser[down], self.weights[down]))
 
     def begin(self, state: State) -> None:
         """Sets a state, and its energy less that of all bits 0."""
         self.state, self.field = state, self.single[:]
         field = self.field
-        for i, j, weight in zip(*self.couplers):
+        for i, j, weight in zip(self.heads, self.tails, self.couplings):
             if state[i]:
                 field[j] += weight
             if state[j]:
@@ -55,14 +59,13 @@ class _Walk:
     def flip(self, node: int) -> int:
         """Turns a bit; gives what the energy rises by."""
         field, state = self.field, self.state
-        ends = slice(self.start[node], self.start[node + 1])
         if state[node]:
             state[node] = 0
-            for j, weight in zip(self.other[ends], self.weight[ends]):
+            for j, weight in self.near(node):
                 field[j] -= weight
             return -field[node]
         state[node] = 1
-        for j, weight in zip(self.other[ends], self.weight[ends]):
+        for j, weight in self.near(node):
             field[j] += weight
         return field[node]
 
@@ -113,13 +116,27 @@ class _Walk:
     def heats(self, sweeps: int) -> List[float]:
         """From a tenth of the greatest rise down to where the least one is rare, by equal
         factors."""
-        sizes = list(map(abs, self.weight))
-        before = list(accumulate(sizes, initial=0))
-        most = max((abs(single) + before[b] - before[a] for single, a, b
-                    in zip(self.single, self.start, self.start[1:])), default=1) or 1
-        least = min(filter(None, chain(sizes, map(abs, self.single))), default=1)
+        most = max(map(add, map(abs, self.single), map(add, _totals(self.up, self.couplings),
+                                                       _totals(self.down, self.weights))),
+                   default=1) or 1
+        sizes = chain(map(abs, self.couplings), map(abs, self.single))
+        least = min(filter(None, sizes), default=1)
         hot, cold = most / 10, least / math.log(100)
         return [hot * (cold / hot) ** (at / max(sweeps - 1, 1)) for at in range(sweeps)]
+
+
+def _starts(nodes: int, ends: Sequence[int]) -> List[int]:
+    """Where the couplers of each node begin, where they stand in the order of these ends."""
+    counts = [0] * (nodes + 1)
+    for node in ends:
+        counts[node + 1] += 1
+    return list(accumulate(counts))
+
+
+def _totals(starts: Sequence[int], weights: Sequence[int]) -> Iterator[int]:
+    """The sum of the sizes of the weights of each node."""
+    before = list(accumulate(map(abs, weights), initial=0))
+    return (before[b] - before[a] for a, b in zip(starts, starts[1:]))
 
 
 def anneal(model: Model, reads: int = 10, sweeps: int = 1000,

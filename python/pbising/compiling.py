@@ -13,10 +13,14 @@ from .models import Model, Size, parse
 from .program import FileWord, Word, run
 from .samples import Sample, states_of, written
 from .sources import Source, bit_of, source_of
-from .texts import PathName, called, read_bytes
+from .texts import PathName, called, read_bytes, text_of
 
 FILE_KEYS = ('map', 'dead', 'order')
 MOST_BYTES = 2 ** 24
+WANTED = {'map=': 'the number of the next node, and its qubits,',
+          'dead=': 'a qubit, or two qubits that are joined,',
+          'order=': 'each node of the model once',
+          '': 'a whole number, and then literals of nodes as 5 and ~5,'}
 
 
 @dataclass
@@ -54,12 +58,11 @@ class Request:
         source = self.source
         keys = {**self.keys, **words_of(keys)}
         words = [command, source.format, self.target, FileWord(source.name, source.data), *files]
+        words += keys.values()
         try:
-            return run([*words, *keys.values()])
+            return run(words)
         except TextError as fault:
-            if fault.name == source.name:
-                source.problem  # its first fault, with the token and what is wanted there
-            raise
+            raise _explained(fault, source, words) from None
 
 
 @dataclass
@@ -150,6 +153,22 @@ class CompiledModel(Model):
                 if words[:1] == ['sample']:
                     told.append((None if words[3] == 'infinite' else int(words[3]), int(words[5])))
         return told
+
+
+def _explained(fault: TextError, source: Source, words: Sequence[Word]) -> TextError:
+    """A fault with the token, or the line, and what was wanted there."""
+    if fault.name == source.name:
+        try:
+            source.problem
+        except TextError as exact:
+            if (exact.line, exact.kind) == (fault.line, fault.kind):
+                return exact
+    for word in words:
+        if isinstance(word, FileWord) and word.called == fault.name and word.before in WANTED:
+            line = text_of(word.data).split('\n')[fault.line - 1].strip()
+            token = None if fault.kind == 'end' else line
+            return TextError(fault.name, fault.line, fault.kind, token, WANTED[word.before])
+    return fault
 
 
 def compile(source: Union[Source, PathName], format: Optional[str] = None, target: str = 'qubo',

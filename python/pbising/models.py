@@ -40,7 +40,11 @@ class Size:
 
 @dataclass
 class Model:
-    """The weights of a model, and what the lines before them say of it."""
+    """The weights of a model, and what the lines before them say of it.
+
+    `fields` has the weight of each node that has a row. The k-th pair is `heads[k]` and `tails[k]`,
+    of the weight `couplings[k]`: each pair once, the lesser node first, ascending.
+    """
 
     kind: str
     nodes: int

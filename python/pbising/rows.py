@@ -23,7 +23,7 @@ KINDS = ('qubo', 'ising')
 
 @dataclass
 class Rows:
-    """Weights of single nodes, and of pairs, each pair once and the lesser node first."""
+    """Weights of single nodes, and of pairs: each pair once, the lesser node first, ascending."""
 
     kind: str
     nodes: int
@@ -99,14 +99,15 @@ def _summed(keys: List, weights: List[int]) -> Dict:
 
 def _merged(nodes: int, heads: List[int], tails: List[int],
             weights: List[int]) -> Tuple[List[int], List[int], List[int]]:
-    """Pairs with the lesser node first; the weights of equal pairs add up."""
+    """Pairs with the lesser node first, ascending; the weights of equal pairs add up."""
     if not all(map(lt, heads, tails)):
         heads, tails = list(map(min, heads, tails)), list(map(max, heads, tails))
     keys = [i * nodes + j for i, j in zip(heads, tails)]
-    if all(map(lt, keys, islice(keys, 1, None))) or len(set(keys)) == len(keys):
+    if all(map(lt, keys, islice(keys, 1, None))):
         return heads, tails, weights
     sums = _summed(keys, weights)
-    return [key // nodes for key in sums], [key % nodes for key in sums], list(sums.values())
+    keys = sorted(sums)
+    return [key // nodes for key in keys], [key % nodes for key in keys], [sums[k] for k in keys]
 
 
 def _by_tokens(name: str, data: bytes, kinds: Tuple[str, ...], beyond: Optional[int]) -> Rows:
