@@ -1,0 +1,6 @@
+"""`python -m pbising`."""
+import sys
+
+from .cli import main
+
+sys.exit(main())

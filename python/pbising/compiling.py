@@ -1,0 +1,250 @@
+"""Compiling a problem, and what the program tells of its model."""
+from __future__ import annotations
+
+import os
+from dataclasses import dataclass, field
+from typing import Any, Dict, List, Mapping, Optional, Sequence, Tuple, Union
+
+from .decoding import Decoded, Decoding, decoded
+from .elimination import certificate
+from .errors import PbisingError, TextError, UsageError
+from .graphs import chain_map
+from .models import Model, Size, parse
+from .program import FileWord, Word, run
+from .samples import Sample, states_of, written
+from .sources import Source, bit_of, source_of
+from .texts import PathName, called, read_bytes, text_of
+
+FILE_KEYS = ('map', 'dead', 'order')
+MOST_BYTES = 2 ** 24
+WANTED = {'map=': 'the number of the next node, and its qubits,',
+          'dead=': 'a qubit, or two qubits that are joined,',
+          'order=': 'each node of the model once',
+          '': 'a whole number, and then literals of nodes as 5 and ~5,'}
+
+
+@dataclass
+class Answer:
+    """What the program wrote of a state: for `solve` and `prove` the cost is the optimum, and None
+    where the problem is infeasible; for `extend` it is that of the assignment."""
+
+    energy: int
+    cost: Optional[int] = None
+    state: Optional[List[int]] = None
+    assignment: Optional[List[int]] = None
+    values: Dict[Any, int] = field(default_factory=dict)
+
+    @property
+    def feasible(self) -> bool:
+        """Whether the cost is finite."""
+        return self.cost is not None
+
+    @property
+    def optimum(self) -> Optional[int]:
+        """The cost, which is the least one of the problem after `solve` and `prove`."""
+        return self.cost
+
+
+@dataclass
+class Request:
+    """What a model is made of: a problem, a target, and keys with the contents of their files."""
+
+    source: Source
+    target: str
+    keys: Dict[str, Word]
+
+    def run(self, command: str, *files: FileWord, **keys: Any) -> bytes:
+        """The output of a command of the program for this model."""
+        source = self.source
+        keys = {**self.keys, **words_of(keys)}
+        words = [command, source.format, self.target, FileWord(source.name, source.data), *files]
+        words += keys.values()
+        try:
+            return run(words)
+        except TextError as fault:
+            raise _explained(fault, source, words) from None
+
+
+@dataclass
+class CompiledModel(Model):
+    """A model that knows what it was made of."""
+
+    request: Request = field(default=None, repr=False)
+
+    @property
+    def source(self) -> Source:
+        """The problem."""
+        return self.request.source
+
+    def decode(self, samples: Any) -> Decoding:
+        """What samples mean.
+
+        They are a dict, a list or an array of bits or spins, many of these, a dimod sample set, or
+        the text that a solver wrote. Cost and energy are those that the program's `evaluate`
+        tells. A program without it confirms the best sample by its `decode`; the package counts the
+        others.
+        """
+        found = decoded(self, self.source, states_of(self, samples))
+        chains = len(self.chains or ())
+        told = self._evaluated(found)
+        if told is None:
+            best = min(range(len(found)), key=lambda at: _rank_at(found, at))
+            _confirm(found[best], *self._decoded(found[best].state))
+            return Decoding(found, chains, 'package')
+        for one, (cost, energy) in zip(found, told):
+            _confirm(one, cost, energy)
+        return Decoding(found, chains, 'program')
+
+    def extend(self, assignment: Union[Mapping[Any, Any], Sequence[Any]]) -> Answer:
+        """The state of the least energy for an assignment: a list of bits, or a dict by names."""
+        bits = self.source.bits(assignment)
+        answer = self._answer(self.request.run('extend', _state_file('assignment', bits)))
+        answer.assignment, answer.values = bits, dict(zip(self.source.names(), bits))
+        return answer
+
+    def solve(self, **keys: Any) -> Answer:
+        """A least state and the optimum, by elimination; `WidthError` where the model is too wide.
+
+        A program that has the key `order=` takes a list of nodes: `solve(order=[..])`.
+        """
+        return self._answer(self.request.run('solve', **keys))
+
+    def prove(self, state: Optional[Sequence[Any]] = None,
+              lines: Optional[str] = None) -> Answer:
+        """The optimum, where a certificate shows that a state is least.
+
+        Without them both are looked for by elimination, which serves for models of small width.
+        """
+        if state is None or lines is None:
+            found = certificate(self)
+            state, lines = found.state, found.text
+        files = (_state_file('state', [bit_of(bit) for bit in state]),
+                 FileWord('certificate', lines.encode()))
+        answer = self._answer(self.request.run('prove', *files))
+        answer.state = [bit_of(bit) for bit in state]
+        return answer
+
+    def _answer(self, output: bytes) -> Answer:
+        rows = dict(_rows(output))
+        cost = rows.get('optimum', rows.get('cost', 'infinite'))
+        bits = _bits(rows.get('assignment'))
+        values = dict(zip(self.source.names(), bits)) if bits is not None else {}
+        return Answer(int(rows['energy']), None if cost == 'infinite' else int(cost),
+                      _bits(rows.get('state')), bits, values)
+
+    def _decoded(self, state: List[int]) -> Tuple[Optional[int], int]:
+        """Cost and energy of a state by the program."""
+        answer = self._answer(self.request.run('decode', _state_file('state', state)))
+        return answer.cost, answer.energy
+
+    def _evaluated(self, found: List[Decoded]) -> Optional[List[Tuple[Optional[int], int]]]:
+        """Cost and energy of each sample by the program, or None where it has no `evaluate`."""
+        told: List[Tuple[Optional[int], int]] = []
+        step = max(1, (MOST_BYTES - 1) // (self.nodes + 1))
+        if self.nodes == 0:
+            return None
+        for start in range(0, len(found), step):
+            lines = ''.join(f'{written(one.state)}\n' for one in found[start:start + step])
+            try:
+                output = self.request.run('evaluate', FileWord('samples', lines.encode()))
+            except UsageError:
+                return None
+            for words in map(str.split, output.decode().split('\n')):
+                if words[:1] == ['sample']:
+                    told.append((None if words[3] == 'infinite' else int(words[3]), int(words[5])))
+        return told
+
+
+def _explained(fault: TextError, source: Source, words: Sequence[Word]) -> TextError:
+    """A fault with the token, or the line, and what was wanted there."""
+    if fault.name == source.name:
+        try:
+            source.problem
+        except TextError as exact:
+            if (exact.line, exact.kind) == (fault.line, fault.kind):
+                return exact
+    for word in words:
+        if isinstance(word, FileWord) and word.called == fault.name and word.before in WANTED:
+            line = text_of(word.data).split('\n')[fault.line - 1].strip()
+            token = None if fault.kind == 'end' else line
+            return TextError(fault.name, fault.line, fault.kind, token, WANTED[word.before])
+    return fault
+
+
+def compile(source: Union[Source, PathName], format: Optional[str] = None, target: str = 'qubo',
+            **keys: Any) -> CompiledModel:
+    """The model of a problem.
+
+    The source is the name of a file, or a text (a str with a line feed in it), or what one of the
+    writers gives. Without a format it is the ending of the file's name. Keys are those of the
+    program, as `high='rosenberg'` or `rows=2`; `map` and `dead` are names of files, texts, or, for
+    `map`, a dict of chains by nodes.
+    """
+    request = _request(source, format, target, keys)
+    model = parse(request.run('compile'))
+    return CompiledModel(**vars(model), request=request)
+
+
+def size(source: Union[Source, PathName], format: Optional[str] = None, target: str = 'qubo',
+         **keys: Any) -> Size:
+    """How large the model of a problem is; a program without `size` makes the model for that."""
+    request = _request(source, format, target, keys)
+    try:
+        rows = dict(_rows(request.run('size')))
+    except UsageError:
+        return parse(request.run('compile')).size()
+    return Size(**{name: int(rows[name]) for name in Size.__dataclass_fields__})
+
+
+def _request(source: Union[Source, PathName], layout: Optional[str], target: str,
+             keys: Mapping[str, Any]) -> Request:
+    return Request(source_of(source, layout), target, words_of(keys))
+
+
+def words_of(keys: Mapping[str, Any]) -> Dict[str, Word]:
+    """The words of keys; what files hold is remembered."""
+    return {key: _file_word(key, value) if key in FILE_KEYS else f'{key}={value}'
+            for key, value in keys.items()}
+
+
+def _file_word(key: str, value: Any) -> FileWord:
+    """The word of a key whose value is a file, a text, a dict of chains, or a list of nodes."""
+    before = f'{key}='
+    if isinstance(value, Mapping):
+        return FileWord(key, chain_map(value).encode(), before)
+    if isinstance(value, (list, tuple)):
+        return FileWord(key, ' '.join(map(str, value)).encode(), before)
+    if isinstance(value, str) and ('\n' in value or not value):
+        return FileWord(key, value.encode(), before)
+    if not isinstance(value, (str, os.PathLike)):
+        raise PbisingError(f'{key}={value!r} is no name of a file, and no text')
+    return FileWord(called(value), read_bytes(value), before)
+
+
+def _state_file(name: str, bits: Sequence[int]) -> FileWord:
+    return FileWord(name, f'{written(bits)}\n'.encode())
+
+
+def _rows(output: bytes) -> List[Tuple[str, str]]:
+    """The rows of an answer: a word, and what follows."""
+    rows = []
+    for line in output.decode().split('\n'):
+        word, _, rest = line.partition(' ')
+        rows.append((word, rest))
+    return rows
+
+
+def _bits(text: Optional[str]) -> Optional[List[int]]:
+    return None if text is None else [int(bit) for bit in text]
+
+
+def _rank_at(found: List[Decoded], at: int) -> Tuple[bool, int, int]:
+    one = found[at]
+    return one.cost is None, one.cost or 0, one.energy
+
+
+def _confirm(one: Decoded, cost: Optional[int], energy: int) -> None:
+    """Refuses an answer of the program that the package does not count too."""
+    if (one.cost, one.energy) != (cost, energy):
+        raise PbisingError(f'the program tells the cost {cost} and the energy {energy} of a '
+                           f'sample, and the package {one.cost} and {one.energy}')

@@ -1,0 +1,147 @@
+"""What samples mean: cost, feasibility and energy, which lines of the file they break, and which
+chains are broken."""
+from __future__ import annotations
+
+from collections import Counter
+from dataclasses import dataclass, field
+from functools import cached_property
+from typing import Any, Dict, Iterable, Iterator, List, Optional, Sequence, Tuple
+
+from .models import Model
+from .problems import Broken, Verdict
+from .samples import Sample, written
+from .sources import Source
+
+
+@dataclass
+class Decoded:
+    """One sample. The cost is None where it is infinite: where a hard clause or constraint is
+    broken, or the weights of broken soft ones reach TOP."""
+
+    state: List[int]
+    assignment: List[int]
+    cost: Optional[int]
+    energy: int
+    occurrences: int
+    broken_chains: List[int]
+    excess: Optional[int]
+    names: List[Any] = field(repr=False)
+    verdict: Verdict = field(repr=False)
+
+    @property
+    def feasible(self) -> bool:
+        """Whether the cost is finite."""
+        return self.cost is not None
+
+    @property
+    def values(self) -> Dict[Any, int]:
+        """The bit of each variable, by its name or label."""
+        return dict(zip(self.names, self.assignment))
+
+    @cached_property
+    def broken(self) -> List[Broken]:
+        """The clauses or constraints that are broken, with their lines in the file."""
+        return self.verdict.broken()
+
+
+class Decoding(Sequence):
+    """All samples, in their order.
+
+    `by` is 'program' where the program itself told cost and energy of each, and 'package' where it
+    has no `evaluate`, and the package counted them.
+    """
+
+    def __init__(self, samples: List[Decoded], chains: int, by: str) -> None:
+        self.samples, self.chains, self.by = samples, chains, by
+
+    def __getitem__(self, at: Any) -> Any:
+        return self.samples[at]
+
+    def __len__(self) -> int:
+        return len(self.samples)
+
+    def __iter__(self) -> Iterator[Decoded]:
+        return iter(self.samples)
+
+    @property
+    def best(self) -> Decoded:
+        """The sample of least cost, a finite one first; of these that of least energy."""
+        return min(self.samples, key=rank)
+
+    @property
+    def feasible(self) -> List[Decoded]:
+        """The samples of finite cost, the least cost first."""
+        return sorted((one for one in self.samples if one.feasible), key=rank)
+
+    def costs(self) -> List[Tuple[Optional[int], int]]:
+        """Each cost with how often it was sampled, the least first and the infinite one last."""
+        counts: Counter = Counter()
+        for one in self.samples:
+            counts[one.cost] += one.occurrences
+        return sorted(counts.items(), key=lambda pair: (pair[0] is None, pair[0] or 0))
+
+    def broken_lines(self) -> List[Tuple[Broken, int]]:
+        """What is broken with how often, the most often first."""
+        counts: Counter = Counter()
+        first: Dict[int, Broken] = {}
+        for one in self.samples:
+            for part in one.broken:
+                counts[part.line] += one.occurrences
+                first.setdefault(part.line, part)
+        return [(first[line], count) for line, count in counts.most_common()]
+
+    def chain_break_fraction(self) -> float:
+        """The part of all chains of all samples that is broken."""
+        total = self.chains * sum(one.occurrences for one in self.samples)
+        broken = sum(len(one.broken_chains) * one.occurrences for one in self.samples)
+        return broken / total if total else 0.0
+
+    def __str__(self) -> str:
+        return '\n'.join(self.table())
+
+    def table(self, most: int = 10) -> Iterator[str]:
+        """How many samples are feasible, each cost, and what is broken most often."""
+        total = sum(one.occurrences for one in self.samples)
+        feasible = sum(one.occurrences for one in self.samples if one.feasible)
+        yield f'samples {total}, feasible {feasible}'
+        for cost, count in self.costs()[:most]:
+            yield f'  cost {"infinite" if cost is None else cost}: {count}'
+        lines = self.broken_lines()
+        for part, count in lines[:most]:
+            kind = 'hard' if part.weight is None else f'weight {part.weight}'
+            yield f'broken in {100 * count / total:.0f} %: line {part.line}, {kind}'
+        if self.chains:
+            yield f'chains broken {100 * self.chain_break_fraction():.1f} %'
+
+
+def rank(one: Decoded) -> Tuple[bool, int, int]:
+    """What the best sample has the least of."""
+    return one.cost is None, one.cost or 0, one.energy
+
+
+def decoded(model: Model, source: Source, samples: Iterable[Sample]) -> List[Decoded]:
+    """The samples by the package's own arithmetic, which is exact."""
+    names, problem = source.names(), source.problem
+    known: Dict[str, Decoded] = {}
+    found = []
+    for state, occurrences in samples:
+        text = written(state)
+        one = known.get(text)
+        if one is None:
+            bits, energy = model.assignment(state), model.energy(state)
+            verdict = problem.judge(bits)
+            one = Decoded(state, bits, verdict.cost, energy, occurrences,
+                          model.broken_chains(state), excess(model, verdict.cost, energy),
+                          names, verdict)
+            known[text] = one
+        else:
+            one = Decoded(**{**one.__dict__, 'occurrences': occurrences})
+        found.append(one)
+    return found
+
+
+def excess(model: Model, cost: Optional[int], energy: int) -> Optional[int]:
+    """How far a state lies above the least one of its assignment, in units of the weights."""
+    if cost is None:
+        return None
+    return model.unit * energy - model.scale * cost - model.offset

@@ -1,0 +1,133 @@
+"""The rows of QUBO files and Ising files, which models are written in too.
+
+A text that is as the program writes it is read at once, as one list of numbers. Any other is read
+token by token, which finds the first fault exactly.
+"""
+from __future__ import annotations
+
+import re
+from dataclasses import dataclass
+from itertools import islice
+from operator import eq, lt
+from typing import Dict, List, Optional, Tuple
+
+from .texts import BEYOND, Cursor, one_of, text_of, tokens_of
+
+FRONT = re.compile(rb'(?:[ \t\r]*(?:c[^\n]*)?\n)*')
+COMMENT = re.compile(rb'^[ \t\r]*c[^\n]*', re.MULTILINE)
+HEADER = re.compile(rb'[ \t\r\n]*p[ \t\r\n]+(?:(qubo)[ \t\r\n]+(?:0|unconstrained)|(ising))'
+                    rb'((?:[ \t\r\n]+[0-9]{1,18}){3})(?=[ \t\r\n]|\Z)')
+PLAIN = b'0123456789+- \t\r\n'
+KINDS = ('qubo', 'ising')
+
+
+@dataclass
+class Rows:
+    """Weights of single nodes, and of pairs: each pair once, the lesser node first, ascending."""
+
+    kind: str
+    nodes: int
+    fields: Dict[int, int]
+    heads: List[int]
+    tails: List[int]
+    couplings: List[int]
+
+
+def read_rows(name: str, data: bytes, kinds: Tuple[str, ...] = KINDS,
+              beyond: Optional[int] = BEYOND) -> Rows:
+    """The rows of a text; no weight has a size of `beyond` or more, where that is given."""
+    rows = _at_once(data, beyond)
+    if rows is None or rows.kind not in kinds:
+        rows = _by_tokens(name, data, kinds, beyond)
+    return rows
+
+
+def front_of(data: bytes) -> List[str]:
+    """The comment lines that stand before the first token."""
+    return text_of(data[:FRONT.match(data).end()]).split('\n')
+
+
+def _at_once(data: bytes, beyond: Optional[int]) -> Optional[Rows]:
+    """The rows where nothing unusual stands in the text, and else None."""
+    rest = data[FRONT.match(data).end():]
+    if b'c' in rest:
+        rest = COMMENT.sub(b'', rest)
+    header = HEADER.match(rest)
+    entries = rest[header.end():] if header else b'none'
+    if entries.translate(None, PLAIN):
+        return None
+    try:
+        numbers = list(map(int, entries.split()))
+    except ValueError:
+        return None
+    kind = (header[1] or header[2]).decode()
+    return _rows(kind, *map(int, header[3].split()), numbers, beyond)
+
+
+def _rows(kind: str, nodes: int, singles: int, pairs: int, numbers: List[int],
+          beyond: Optional[int]) -> Optional[Rows]:
+    """The rows of a list of numbers, or None where they are not as the header says."""
+    if len(numbers) != 3 * (singles + pairs):
+        return None
+    heads, tails, weights = numbers[0::3], numbers[1::3], numbers[2::3]
+    if numbers and not (0 <= min(min(heads), min(tails)) and max(max(heads), max(tails)) < nodes):
+        return None
+    if beyond is not None and weights and max(max(weights), -min(weights)) >= beyond:
+        return None
+    if heads[:singles] != tails[:singles]:
+        at = [n for n, same in enumerate(map(eq, heads, tails)) if same]
+        rest = [n for n, same in enumerate(map(eq, heads, tails)) if not same]
+        heads, tails, weights = ([part[n] for n in at + rest] for part in (heads, tails, weights))
+        if len(at) != singles:
+            return None
+    if any(map(eq, islice(heads, singles, None), islice(tails, singles, None))):
+        return None
+    fields = _summed(heads[:singles], weights[:singles])
+    pairs = (part[singles:] for part in (heads, tails, weights))
+    return Rows(kind, nodes, fields, *_merged(nodes, *pairs))
+
+
+def _summed(keys: List, weights: List[int]) -> Dict:
+    """The sum of the weights of each key."""
+    sums = dict(zip(keys, weights))
+    if len(sums) != len(keys):
+        sums = dict.fromkeys(keys, 0)
+        for key, weight in zip(keys, weights):
+            sums[key] += weight
+    return sums
+
+
+def _merged(nodes: int, heads: List[int], tails: List[int],
+            weights: List[int]) -> Tuple[List[int], List[int], List[int]]:
+    """Pairs with the lesser node first, ascending; the weights of equal pairs add up."""
+    if not all(map(lt, heads, tails)):
+        heads, tails = list(map(min, heads, tails)), list(map(max, heads, tails))
+    keys = [i * nodes + j for i, j in zip(heads, tails)]
+    if all(map(lt, keys, islice(keys, 1, None))):
+        return heads, tails, weights
+    sums = _summed(keys, weights)
+    keys = sorted(sums)
+    return [key // nodes for key in keys], [key % nodes for key in keys], [sums[k] for k in keys]
+
+
+def _by_tokens(name: str, data: bytes, kinds: Tuple[str, ...], beyond: Optional[int]) -> Rows:
+    """The rows of a text, or its first fault."""
+    cursor = Cursor(name, tokens_of(text_of(data)), beyond)
+    cursor.one_of(('p',), one_of([f'`p {kind}`' for kind in kinds]))
+    kind = cursor.one_of(kinds, one_of([f'`{kind}`' for kind in kinds]))
+    if kind == 'qubo':
+        cursor.one_of(('0', 'unconstrained'), 'the topology 0 or `unconstrained`')
+    nodes = cursor.number('the number of nodes, at least 0,', least=0)
+    singles = cursor.number('the number of rows of nodes, at least 0,', least=0)
+    pairs = cursor.number('the number of rows of pairs, at least 0,', least=0)
+    numbers: List[int] = []
+    left = {True: singles, False: pairs}
+    node = f'a node from 0 to {nodes - 1}' if nodes else 'the end of the text (there is no node)'
+    while cursor.peek() is not None or any(left.values()):
+        i = cursor.number(node, 0, nodes - 1)
+        j = cursor.number(node, 0, nodes - 1)
+        if not left[i == j]:
+            cursor.fault('extra', 'the other node of a row that the header counts')
+        left[i == j] -= 1
+        numbers += i, j, cursor.number('a whole weight')
+    return _rows(kind, nodes, singles, pairs, numbers, None)

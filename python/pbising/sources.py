@@ -1,0 +1,99 @@
+"""What is compiled: a file or a text in one of the formats, with what the package knows of it."""
+from __future__ import annotations
+
+import os
+from dataclasses import dataclass
+from functools import cached_property
+from pathlib import Path
+from typing import Any, Hashable, List, Mapping, Optional, Sequence, Union
+
+from .errors import PbisingError
+from .problems import Problem
+from .readers import FORMATS, read_problem
+from .texts import PathName, called, read_bytes
+
+Label = Hashable
+
+
+@dataclass
+class Source:
+    """A problem as the text of a file. The variables of the text may have labels."""
+
+    data: bytes
+    format: str
+    name: str = 'text'
+    labels: Optional[List[Label]] = None
+
+    @cached_property
+    def problem(self) -> Problem:
+        """What the text says; a text that is not in its format is a `TextError`."""
+        return read_problem(self.format, self.data, self.name)
+
+    @property
+    def text(self) -> str:
+        """The text."""
+        return self.data.decode('utf-8', 'replace')
+
+    def names(self) -> List[Label]:
+        """What the variables are called, in their order: by the labels of the problem that was
+        written, or as the format names them."""
+        if self.labels is not None:
+            return self.labels
+        if self.problem.names is not None:
+            return list(self.problem.names)
+        count = range(self.problem.variables)
+        if self.format in ('opb', 'wbo'):
+            return [f'x{number + 1}' for number in count]
+        return [number + 1 for number in count] if self.format == 'wcnf' else list(count)
+
+    def cost(self, assignment: Union[Mapping[Label, Any], Sequence[Any]]) -> Optional[int]:
+        """What an assignment costs, exactly; None where that is infinite.
+
+        It is a list of bits, or a dict by the names of the variables.
+        """
+        return self.problem.cost(self.bits(assignment))
+
+    def bits(self, assignment: Union[Mapping[Label, Any], Sequence[Any]]) -> List[int]:
+        """An assignment as a list of bits; spins are taken too."""
+        if isinstance(assignment, Mapping):
+            missing = [name for name in self.names() if name not in assignment]
+            if missing:
+                raise PbisingError(f'the assignment says nothing of {missing[0]!r}')
+            assignment = [assignment[name] for name in self.names()]
+        if len(assignment) != self.problem.variables:
+            raise PbisingError(f'the assignment has {len(assignment)} values, '
+                               f'and there are {self.problem.variables} variables')
+        return [bit_of(value) for value in assignment]
+
+    def write(self, name: PathName) -> None:
+        """Writes the text to a file."""
+        Path(name).write_bytes(self.data)
+
+
+def bit_of(value: Any) -> int:
+    """The bit of a bit or a spin, whatever type of number or sign it is."""
+    if value in (1, '1', '+', '+1'):
+        return 1
+    if value in (0, -1, '0', '-', '-1'):
+        return 0
+    raise PbisingError(f'{value!r} is no bit and no spin')
+
+
+def source_of(source: Union[Source, PathName], layout: Optional[str] = None) -> Source:
+    """A file, a text or a source as a source.
+
+    A str with a line feed in it is a text, and any other the name of a file, of which the format is
+    the ending where none is given.
+    """
+    if isinstance(source, Source):
+        return source
+    if isinstance(source, str) and '\n' in source:
+        found = Source(source.encode(), layout or '')
+    else:
+        name = os.fspath(source)
+        ending = os.path.splitext(name)[1][1:]
+        found = Source(read_bytes(name), layout or ending, called(name))
+    if found.format not in FORMATS:
+        raise PbisingError(f'{found.name}: the format is one of {", ".join(FORMATS)}, '
+                           f'not {found.format!r}')
+    return found
