@@ -40,7 +40,7 @@ use Rattle.run_steps.specs.Steps.{format_in, planning, last_step}
 use Rattle.program_run.specs.declared.answers.Answer.{Answer}
 use Rattle.program_run.specs.declared.answers.Answer.TheVariants.{Model, Text}
 use Rattle.run_steps.specs.declared.status.Status.{Status}
-use Rattle.run_steps.specs.declared.status.Status.TheVariants.{Done, WriteFault, NoMemory}
+use Rattle.run_steps.specs.declared.status.Status.TheVariants.{Done, WriteFault}
 use Rattle.run_steps.specs.Causes.{WhereHeld}
 use Rattle.program_run.specs.Outcome.{IsComplete}
 
@@ -212,12 +212,10 @@ abbrev pub text_of : Answer → List ℕ
 text_of (Model m) = model_text m
 text_of (Text bytes) = bytes.items
 
--- how a text is delivered to a sink: the whole of it, a front of it where there was a fault, or nothing
--- where memory is wanting
+-- how a text is delivered to a sink: the whole of it, or a front of it where there was a fault
 abbrev pub IsDelivered : Status → Taken → Taken → List ℕ → Type 0
 IsDelivered Done old new text = Takes old new text
 IsDelivered WriteFault old new text = TakesFront old new text
-IsDelivered NoMemory old new text = ⊤
 IsDelivered status old new text = ⊥
 
 -- some text was delivered to a sink, and it answers the words, whatever files may be held

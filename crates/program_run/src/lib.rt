@@ -16,6 +16,6 @@ mod running;
 
 pub use answers::Answer;
 pub use laws::{plans_make_one_model, the_first_wide_node_is_named};
-pub use program::{exit_number, given_words};
+pub use program::{exit_number, finish, given_words};
 pub use run_steps::Status;
-pub use running::run;
+pub use running::{answered, run};

@@ -7,6 +7,8 @@
 #[cfg(test)]
 mod both_ways;
 #[cfg(test)]
+mod counts;
+#[cfg(test)]
 mod endless;
 #[cfg(test)]
 mod models;

@@ -6,7 +6,7 @@ use Rattle.program_run.specs.Answers.{text_of}
 use Rattle.run_steps.proofs.FilesRead.{made_refused, made_then}
 use Rattle.run_steps.proofs.Holding.{may_first, may_next}
 use Rattle.program_run.proofs.Endings.{plan_ends}
-use Rattle.program_run.proofs.Answered.{made_answers}
+use Rattle.program_run.proofs.Answering.{made_answers}
 use Rattle.program_run.proofs.answers.answer_to.Goals as goal
 
 pub returns-in-Err-clause-files : goal.returns-in-Err-clause-files
