@@ -1,9 +1,10 @@
 //! The form on the qubits, with ties that are as strong as the lighter of their sides asks.
-ghost use Rattle.std.specs.Prelude.{◌≡◌, ◌+◌, ◌*◌, ◌≤◌, ◌^◌, ◌++◌, IfOk, length, map};
+ghost use Rattle.std.specs.Prelude.{◌≡◌, ◌+◌, ◌*◌, ◌≤◌, ◌^◌, ◌++◌, IfOk, OnOk, length, map};
 ghost use Rattle.std.specs.List.{range_with_len};
 ghost use Rattle.embedding_check.specs.Embeddings.{IsEmbedding};
 ghost use Rattle.ising_form.specs.Isings.{ising_total};
 ghost use Rattle.chain_layer.specs.Image.{all_shares, field_at, placed};
+ghost use Rattle.cut_chains.specs.Sides.{weight_of};
 ghost use Rattle.cut_chains.specs.CutImage.{cut_cost, cut_image, cut_ties};
 
 use crate::ties::{cost_from, tie_chains};
@@ -15,6 +16,27 @@ use ising_form::Ising;
 use pair_sums::{Pairs, in_order};
 use quad_form::NumberList;
 use std::alloc::Global;
+
+/// Appends the ties of all chains, where these are the weights of the qubits.
+fn add_ties(
+    alloc: Global,
+    made: &mut Pairs,
+    source: &Embedded,
+    sums: &mut [u128],
+) -> Result<(), NoMemory>
+    requires kept { IsEmbedding source.now }
+    requires sums { sums.old ≡ map (weight_of source.now) (range_with_len 0 source.now.qubits) }
+    ensures { OnOk result (made.new ≡ made.old ++ cut_ties source.now) }
+{
+    let qubits = source.qubits() as usize;
+    let mut up = vec![in alloc; 0; qubits]?;
+    let mut seen = vec![in alloc; false; qubits]?;
+    let mut order = Vec::new(alloc);
+    let mut path = Vec::new(alloc);
+    tie_chains(
+        made, source, sums, &mut up, &mut seen, &mut order, &mut path,
+    )
+}
 
 /// The placed couplings and the ties of all chains, and how many are placed.
 fn couplings_of(
@@ -38,14 +60,7 @@ fn couplings_of(
     )?;
     let count = made.len();
     let mut sums = weights_of(alloc, source, fields, &made)?;
-    let qubits = source.qubits() as usize;
-    let mut up = vec![in alloc; 0; qubits]?;
-    let mut seen = vec![in alloc; false; qubits]?;
-    let mut order = Vec::new(alloc);
-    let mut path = Vec::new(alloc);
-    tie_chains(
-        &mut made, source, &mut sums, &mut up, &mut seen, &mut order, &mut path,
-    )?;
+    add_ties(alloc, &mut made, source, &mut sums)?;
     Ok((made, count))
 }
 

@@ -43,13 +43,24 @@ struct Sums {
 
 /// Sets with coefficients, of which a quadratic form is to be made. Those of at most two literals
 /// go at once to the constant, the weights of nodes and the pairs, and longer ones are kept.
-#[derive(Drop)]
 pub struct DirectTerms {
     total: u128,
     constant: i128,
     weights: Vec<i128>,
     pairs: GatheredPairs,
     long: ProductList,
+}
+
+impl Drop for DirectTerms {
+    fn drop(self) {
+        let DirectTerms {
+            total: _total,
+            constant: _constant,
+            weights: _weights,
+            pairs: _pairs,
+            long: _long,
+        } = self;
+    }
 }
 
 impl Model for DirectTerms {
@@ -262,11 +273,11 @@ impl DirectTerms {
     {
         let table = LongTable::of(alloc, self.weights.len(), &self.long)?;
         let DirectTerms {
+            total: _total,
             constant,
             weights,
             pairs,
             long,
-            ..
         } = self;
         drop(long);
         let sums = sums_with(alloc, constant, weights, pairs, &table)?;

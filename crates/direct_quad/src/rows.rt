@@ -5,7 +5,7 @@
 //! of its row. Those with new nodes follow: they are in order, since new nodes are numbered after
 //! all variables, in the order of the terms. See Gustavson, Two fast algorithms for sparse matrices:
 //! multiplication and permuted transposition (1978).
-ghost use Rattle.std.specs.Prelude.{◌≡◌, ◌+◌, ◌*◌, ◌≤◌, ◌<◌, ◌^◌, ◌++◌, All, IfOk, OnOk, length, map, pos, replicate, drop, unsigned_abs};
+ghost use Rattle.std.specs.Prelude.{◌≡◌, ◌+◌, ◌*◌, ◌≤◌, ◌<◌, ◌^◌, ◌++◌, [], All, IfOk, OnOk, length, map, pos, replicate, drop, unsigned_abs};
 ghost use Rattle.std.specs.List.{flat_map};
 ghost use Rattle.bits_model.specs.Output.{weight_total};
 ghost use Rattle.literal_lists.specs.declared.literal.Literal.{Literal};
@@ -16,7 +16,7 @@ ghost use Rattle.direct_quad.specs.Places.{pair_coupler};
 ghost use Rattle.long_terms.specs.Long.{node_count};
 ghost use Rattle.direct_quad.specs.Rows.{row_of, AreRows, AreFromRow, AreAfterRow};
 ghost use Rattle.direct_quad.specs.RowSums.{with_entries, size_of, pair_part, head_of, IsHead, AppendsPlaces};
-ghost use Rattle.long_terms.specs.Occurrences.{places_at, IsOccurrence};
+ghost use Rattle.long_terms.specs.Occurrences.{all_occurrences, places_at, IsOccurrence};
 
 use crate::accumulator::Accumulator;
 use crate::heads::{Head, head_of, push_heads};
@@ -170,6 +170,35 @@ fn push_row(
     Ok(())
 }
 
+/// Appends the rows of all variables, where these are the lists of their terms and all sums are 0.
+fn push_rows(
+    alloc: Global,
+    couplers: &mut CouplerList,
+    sums: &mut Accumulator,
+    pairs: &Pairs,
+    long: &LongTable,
+    occurrences: &Occurrences,
+) -> Result<(), NoMemory>
+    requires ordered { AreFromRow 0 pairs.now }
+    requires pairs { All (IsPair long.now.width) pairs.now }
+    requires small { weight_total pairs.now + terms_total long.now.terms * 2 ^ 24 ≤ 2 ^ 126 }
+    requires occurrences { occurrences.now ≡ all_occurrences long.now }
+    requires zeros { sums.old ≡ replicate long.now.width (pos 0) }
+    requires none { couplers.old ≡ [] }
+    ensures { OnOk result (AreRows (node_count long.now) long.now.width
+        (pairs.now ++ couplers_of_long long.now.terms long.now.width)
+        couplers.new) }
+{
+    let mut heads = Vec::new(alloc);
+    let mut start = 0;
+    for variable in 0..long.width() as u64 {
+        start = add_pairs(sums, pairs, start, variable)?;
+        let own = occurrences.at(variable as usize);
+        push_row(couplers, sums, &mut heads, long, variable, own)?;
+    }
+    Ok(())
+}
+
 /// The couplers of sorted pairs and of long terms, row by row.
 fn rows_of(alloc: Global, pairs: &Pairs, long: &LongTable) -> Result<CouplerList, NoMemory>
     requires ordered { AreFromRow 0 pairs.now }
@@ -181,14 +210,8 @@ fn rows_of(alloc: Global, pairs: &Pairs, long: &LongTable) -> Result<CouplerList
 {
     let occurrences = Occurrences::of(alloc, long)?;
     let mut sums = Accumulator::zeros(alloc, long.width())?;
-    let mut heads = Vec::new(alloc);
     let mut couplers = CouplerList::empty(alloc);
-    let mut start = 0;
-    for variable in 0..long.width() as u64 {
-        start = add_pairs(&mut sums, pairs, start, variable)?;
-        let own = occurrences.at(variable as usize);
-        push_row(&mut couplers, &mut sums, &mut heads, long, variable, own)?;
-    }
+    push_rows(alloc, &mut couplers, &mut sums, pairs, long, &occurrences)?;
     Ok(couplers)
 }
 

@@ -6,7 +6,7 @@
 ghost use Rattle.std.specs.Prelude.{◌≡◌, ◌==◌, count_by, ◌+◌, ◌≤◌, ◌<◌, ℕ, length, All, Some, IfOk, OnOk};
 ghost use Rattle.std.specs.List.Sorted.{IsNonDecreasing, IsPermutation};
 ghost use Rattle.bits_model.specs.Walks.{first_of};
-ghost use Rattle.chain_map.specs.Chains.{chain_of, occurrences};
+ghost use Rattle.chain_map.specs.Chains.{Joins, chain_of, occurrences};
 ghost use Rattle.embedding_check.specs.Reached.{AreFound};
 ghost use Rattle.embedding_check.specs.Search.{
   Found,
@@ -291,6 +291,33 @@ pub(crate) fn sorted_chains(alloc: Global, chains: &ChainList) -> Result<ChainLi
     Ok(sorted)
 }
 
+/// The parents that a search found for a chain's qubits from its second on, or the position of the
+/// first listed one that it did not reach.
+fn found_parents(
+    alloc: Global,
+    chain: &[u32],
+    sorted: &[u32],
+    search: &Search,
+) -> Result<Parents, NoMemory>
+    requires filled { 0 < length chain.now }
+    requires once { (q : ℕ) → count_by (λ p. p == q) chain.now ≤ 1 }
+    requires sorted { IsSortedChain chain.now sorted.now }
+    requires waits { length search.now.waits ≡ length sorted.now }
+    requires parents { length search.now.parents ≡ length sorted.now }
+    ensures { (joined : Joins) → IsSearched joined chain.now sorted.now search.now
+        → IfOk result (AreFound joined chain.now) }
+{
+    let mut parents = Vec::with_capacity(alloc, chain.len() - 1)?;
+    for i in 1..chain.len() {
+        let at = position_in(chain, sorted, i);
+        if search.waiting.has(at) {
+            return Ok(Parents::Unreached(i));
+        }
+        parents.push(search.parents[at])?;
+    }
+    Ok(Parents::All(parents))
+}
+
 /// The parents of a chain's qubits from its second on, or the position of the first listed one
 /// that no walk reaches.
 pub(crate) fn parents_of<H: Hardware>(
@@ -310,15 +337,7 @@ pub(crate) fn parents_of<H: Hardware>(
     }
     let first = position_in(chain, sorted, 0);
     let search = search_chain(alloc, hardware, chain, sorted, first)?;
-    let mut parents = Vec::with_capacity(alloc, chain.len() - 1)?;
-    for i in 1..chain.len() {
-        let at = position_in(chain, sorted, i);
-        if search.waiting.has(at) {
-            return Ok(Parents::Unreached(i));
-        }
-        parents.push(search.parents[at])?;
-    }
-    Ok(Parents::All(parents))
+    found_parents(alloc, chain, sorted, &search)
 }
 
 /// The parents of a chain, or the position of a qubit that was not reached.

@@ -4,7 +4,7 @@ use Rattle.direct_quad.specs.Places.{place_couplers}
 use Rattle.long_terms.specs.Places.{all_places}
 use Rattle.long_terms.specs.Long.{node_count}
 use Rattle.direct_quad.specs.Rows.{row_of, AreRows, AreFromRow}
-use Rattle.direct_quad.proofs.rows.rows_of.Given as goal
+use Rattle.direct_quad.proofs.rows.push_rows.Given as goal
 
 -- the first rows stand, all sums are 0, and the pairs of all later variables are left
 abbrev pub invariant-loop-variable : goal.invariant-loop-variable
