@@ -23,6 +23,13 @@ fn number_of(x: &[bool]) -> usize {
 /// The least energy of the states that decode to each assignment, by its number.
 type Least = [Option<i128>; 32];
 
+fn least_of(least: &Least, number: usize) -> Option<i128> {
+    match least.get(number) {
+        Some(found) => *found,
+        None => None,
+    }
+}
+
 /// Notes the energy of a state, by the number of the assignment that it decodes to.
 fn note(least: &mut Least, number: usize, energy: Cost) {
     let (Some(place), Cost::Whole(energy)) = (least.get_mut(number), energy) else {
@@ -187,7 +194,14 @@ fn count_kept<G: Guard>(
 {
     let mut kept = Kept::NONE;
     for number in 0..1_usize << source.width().min(5) {
-        kept.add(kept_cost(alloc, guard, source, made, number as u64, least[number])?);
+        kept.add(kept_cost(
+            alloc,
+            guard,
+            source,
+            made,
+            number as u64,
+            least_of(least, number),
+        )?);
     }
     Ok(kept)
 }

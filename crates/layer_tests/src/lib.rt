@@ -1,5 +1,5 @@
-//! Tests of the forms and of the steps between them, over values by hand and over all states of
-//! small problems.
+//! Tests of tables, over values by hand and against a plain map, and of guards and layers, at all
+//! states of small problems and tables.
 //!
 //! The crate is a library without items. It stands above what it tests, so that no library is
 //! proved once more with its tests.
