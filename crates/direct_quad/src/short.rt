@@ -38,6 +38,19 @@ fn move_weight(weights: &mut [i128], literal: Literal, other: Literal, coefficie
     }
 }
 
+/// Adds what a pair moves to the weight of each of its literals.
+#[inline(always)]
+fn move_weights(weights: &mut [i128], first: Literal, second: Literal, coefficient: i128)
+    requires first { first.variable < length weights.old }
+    requires second { second.variable < length weights.old }
+    requires small { size_of weights.old + 2 * unsigned_abs coefficient ≤ 2 ^ 126 }
+    ensures { Gain (moved_share first second coefficient ++ moved_share second first coefficient)
+        (2 * unsigned_abs coefficient) weights.old weights.new }
+{
+    move_weight(weights, first, second, coefficient);
+    move_weight(weights, second, first, coefficient);
+}
+
 /// Adds what a term gives to the weights of nodes.
 #[inline(always)]
 pub(crate) fn add_short_shares(weights: &mut [i128], literals: &[Literal], coefficient: i128)
@@ -49,10 +62,7 @@ pub(crate) fn add_short_shares(weights: &mut [i128], literals: &[Literal], coeff
     match literals {
         [] => {}
         [only] => add_alone(weights, *only, coefficient),
-        [first, second, ..] => {
-            move_weight(weights, *first, *second, coefficient);
-            move_weight(weights, *second, *first, coefficient);
-        }
+        [first, second, ..] => move_weights(weights, *first, *second, coefficient),
     }
 }
 
