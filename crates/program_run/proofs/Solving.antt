@@ -1,5 +1,5 @@
 -- A model that is solved, or too wide.
-use Rattle.std.proofs.Common.{◌≡◌, ◌<◌, ◌≤◌, ℕ, zero, suc, Bool, true, false, List, [], Ok, Err, Some, None, refl, ap, subst, arith}
+use Rattle.std.proofs.Common.{◌≡◌, ◌<◌, ◌≤◌, ℕ, zero, suc, Bool, true, false, List, [], Ok, Err, Some, None, refl, ap, subst, arith, inl}
 use Rattle.std.specs.Prelude.{nat_lt}
 use Rattle.std.proofs.lemmas.Bool.{lt-ltb, le-ltb}
 use Rattle.bits_model.specs.Output.{Written}
@@ -81,7 +81,7 @@ pub unsolved_untold : (name : Which → List ℕ) (files : List Which) (status :
     → IsUnsolved status → IsUntold name files status a
 unsolved_untold name files (NotEmbedded fault) a is = record { files = refl; refusal = tt }
 unsolved_untold name files (TooWide node width) a is = record { files = refl; refusal = tt }
-unsolved_untold name files NoMemory a is = record { files = tt; refusal = tt }
+unsolved_untold name files NoMemory a is = record { files = inl refl; refusal = tt }
 unsolved_untold name files Done a is = absurd is
 unsolved_untold name files WriteFault a is = absurd is
 unsolved_untold name files (Usage position) a is = absurd is

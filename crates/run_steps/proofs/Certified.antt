@@ -14,9 +14,9 @@ use Rattle.run_steps.specs.declared.plans.Plan.{Plan}
 use Rattle.run_steps.specs.declared.status.Status.{Status}
 use Rattle.run_steps.specs.declared.status.Status.TheVariants.{Done, Usage, ReadFault, WriteFault, BadText, Limit, NotEmbedded, TooWide, NotProved, NoState, NoMemory}
 use Rattle.run_steps.specs.Steps.{asked_width, Steps, ends, stating, certifying, certified, proving, proof_end, last_step, Refuses}
-use Rattle.run_steps.specs.Statuses.{IsReading}
+use Rattle.run_steps.specs.Statuses.{IsReading, IsUnproved}
 use Rattle.run_steps.specs.Causes.{AreRead, AreRefused, AreFilesOf}
-use Rattle.run_steps.proofs.FilesRead.{read_then, refused_then}
+use Rattle.run_steps.proofs.FilesRead.{read_then, read_wanting, refused_then, wanting_then}
 use Rattle.run_steps.proofs.Stepping.{next_end, refuses_on, refuses_next}
 
 module _ (held : NamedFiles) (name : List ℕ) (m : Written) (bits : List Bool) where
@@ -48,7 +48,7 @@ module _ (held : NamedFiles) (name : List ℕ) (m : Written) (bits : List Bool) 
 pub alone_refused : (name : Which → List ℕ) (files : List Which) (status : Status) (a b : Counts)
     → AreRefused name files status a b → AreFilesOf name [] files status a b
 alone_refused name files (NotProved fault) a b is = absurd is
-alone_refused name files NoMemory a b is = tt
+alone_refused name files NoMemory a b is = is
 alone_refused name files Done a b is = absurd is
 alone_refused name files WriteFault a b is = absurd is
 alone_refused name files (Usage position) a b is = tt
@@ -58,6 +58,21 @@ alone_refused name files (Limit which kind number) a b is = is
 alone_refused name files (NotEmbedded fault) a b is = absurd is
 alone_refused name files (NoState width) a b is = is
 alone_refused name files (TooWide node width) a b is = absurd is
+
+-- a file alone was read, and then its proof has a fault, or memory was wanting
+pub unproved_read : (name : Which → List ℕ) (files : List Which) (status : Status) (a b : Counts)
+    → IsUnproved status → AreRead name files a b → AreFilesOf name [] files status a b
+unproved_read name files (NotProved fault) a b is read = read
+unproved_read name files NoMemory a b is read = read_wanting name files a b read
+unproved_read name files Done a b is read = absurd is
+unproved_read name files WriteFault a b is read = absurd is
+unproved_read name files (Usage position) a b is read = absurd is
+unproved_read name files (ReadFault which) a b is read = absurd is
+unproved_read name files (BadText which kind line) a b is read = absurd is
+unproved_read name files (Limit which kind number) a b is read = absurd is
+unproved_read name files (NotEmbedded fault) a b is read = absurd is
+unproved_read name files (NoState width) a b is read = absurd is
+unproved_read name files (TooWide node width) a b is read = absurd is
 
 -- files were read, and then come others
 pub then_last : (name : Which → List ℕ) (first last : List Which) (status : Status)
@@ -71,7 +86,7 @@ then_last name first last (BadText which kind line) a b c is some at =
     refused_then name first last (BadText which kind line) a b c some at
 then_last name first last (NoState width) a b c is some at =
     refused_then name first last (NoState width) a b c some at
-then_last name first last NoMemory a b c is some at = tt
+then_last name first last NoMemory a b c is some at = wanting_then name first last a b c some at
 then_last name first last (NotProved fault) a b c is some read =
     read_then name first last a b c some read
 then_last name first last Done a b c is some at = absurd is

@@ -1,5 +1,5 @@
 -- What the store of files counts where files are taken, and then others.
-use Rattle.std.proofs.Common.{◌≡◌, ◌≤◌, ℕ, zero, suc, ◌+◌, List, [], ◌∷◌, ◌++◌, length, refl, sym, ap, ◌∙◌, subst, append_assoc, arith}
+use Rattle.std.proofs.Common.{◌≡◌, ◌≤◌, ℕ, zero, suc, ◌+◌, List, [], ◌∷◌, ◌++◌, length, refl, sym, ap, ◌∙◌, subst, append_assoc, arith, inl, inr}
 use Rattle.std.proofs.lemmas.List.{append-nil, length-append}
 use Rattle.edge_io.specs.Counts.{Counts}
 use Rattle.problem_form.specs.declared.limits.LimitKind.{LimitKind}
@@ -8,7 +8,7 @@ use Rattle.command_words.specs.declared.names.Which.{Which}
 use Rattle.command_words.specs.declared.names.Which.TheVariants.{State}
 use Rattle.run_steps.specs.declared.status.Status.{Status}
 use Rattle.run_steps.specs.declared.status.Status.TheVariants.{Done, Usage, ReadFault, WriteFault, BadText, Limit, NotEmbedded, TooWide, NotProved, NoState, NoMemory}
-use Rattle.run_steps.specs.Causes.{AreBegun, IsReadTo, IsTooLong, IsCause, IsLimited, last_of, AreRead, IsAt, AreRefused, AreFilesOf, IsRefusedBy}
+use Rattle.run_steps.specs.Causes.{AreBegun, IsBegun, AreWanting, IsReadTo, IsTooLong, IsCause, IsLimited, last_of, AreRead, IsAt, AreRefused, AreFilesOf, IsRefusedBy}
 
 -- ---- files after others
 
@@ -59,6 +59,12 @@ module _ (n k : ℕ) (a b c : Counts) (some : IsMoved n a b) where
     later = omega (arith, some.later, cause.later);
     named = cause.named;
     begun = begun_more n k a b c some.begun cause.begun;
+  }
+
+  named_more : (name : List ℕ) → IsBegun name (suc k) b c → IsBegun name (n + suc k) a c
+  named_more name is = record {
+    begun = begun_more n k a b c some.begun is.begun;
+    named = is.named;
   }
 
   limited_more : (kind : LimitKind) (number : ℕ) (name : List ℕ)
@@ -122,6 +128,48 @@ read_then name (file ∷ first) (next ∷ files) a b c some read =
     (read_more (suc (length first)) (length files) a b c
     (moved name (file ∷ first) a b some) (name (last_of next files)) read))
 
+-- ---- memory is wanting
+
+-- the last of files stands behind as many as there are before it
+last_split : (file : Which) (files : List Which)
+    → (before : List Which) × (file ∷ files ≡ before ++ last_of file files ∷ [])
+    × (length before ≡ length files)
+last_split file [] = ([], refl, refl)
+last_split file (next ∷ files) =
+    let rest = last_split next files in
+    (file ∷ rest.0, ap (λ l. file ∷ l) rest.1, ap suc rest.2)
+
+-- files that were read are files that were begun
+pub read_wanting : (name : Which → List ℕ) (files : List Which) (a b : Counts)
+    → AreRead name files a b → AreWanting name files a b
+read_wanting name [] a b same = inl same
+read_wanting name (file ∷ files) a b read =
+    let split = last_split file files in
+    let is : IsBegun (name (last_of file files)) (suc (length files)) a b =
+    record { begun = read.begun; named = read.named } in
+    let told = subst (λ n. IsBegun (name (last_of file files)) (suc n) a b) (sym split.2) is in
+    inr (last_of file files, (split.0, [], split.1, told))
+
+-- memory was wanting, whatever files come after
+pub wanting_first : (name : Which → List ℕ) (files more : List Which) (a b : Counts)
+    → AreWanting name files a b → AreWanting name (files ++ more) a b
+wanting_first name files more a b (inl same) = inl same
+wanting_first name files more a b (inr at) =
+    inr (at.0, at_first files more at.0 (λ n. IsBegun (name at.0) n a b) at.1)
+
+-- files were read, and then memory was wanting
+pub wanting_then : (name : Which → List ℕ) (first files : List Which) (a b c : Counts)
+    → AreRead name first a b → AreWanting name files b c → AreWanting name (first ++ files) a c
+wanting_then name first files a b c some (inl same) =
+    subst (λ (n : Counts). AreWanting name (first ++ files) a n) (sym same)
+    (wanting_first name first files a b (read_wanting name first a b some))
+wanting_then name first files a b c some (inr at) =
+    inr (
+      at.0,
+      at_more first files at.0 (λ n. IsBegun (name at.0) n b c) (λ n. IsBegun (name at.0) n a c)
+          (λ k. named_more (length first) k a b c (moved name first a b some) (name at.0)) at.1,
+    )
+
 -- ---- one is refused
 
 -- files were read, and then one was refused
@@ -142,7 +190,7 @@ refused_then name first files (BadText which kind line) a b c some at =
 refused_then name first files (NoState width) a b c some at =
     at_more first files State (λ n. IsReadTo (name State) n b c) (λ n. IsReadTo (name State) n a c)
     (λ k. read_more (length first) k a b c (moved name first a b some) (name State)) at
-refused_then name first files NoMemory a b c some at = tt
+refused_then name first files NoMemory a b c some at = wanting_then name first files a b c some at
 refused_then name first files Done a b c some at = absurd at
 refused_then name first files WriteFault a b c some at = absurd at
 refused_then name first files (Usage position) a b c some at = absurd at
@@ -161,7 +209,7 @@ refused_first name files more (BadText which kind line) a b at =
     at_first files more which (λ n. IsReadTo (name which) n a b) at
 refused_first name files more (NoState width) a b at =
     at_first files more State (λ n. IsReadTo (name State) n a b) at
-refused_first name files more NoMemory a b at = tt
+refused_first name files more NoMemory a b at = wanting_first name files more a b at
 refused_first name files more Done a b at = absurd at
 refused_first name files more WriteFault a b at = absurd at
 refused_first name files more (Usage position) a b at = absurd at
@@ -185,7 +233,9 @@ refused_alone name which called (BadText other kind line) a b same by =
 refused_alone name which called (NoState width) a b same by =
     let P : Which → Type 0 = λ w. IsAt (which ∷ []) w (λ n. IsReadTo (name w) n a b) in
     subst P by.0 ([], [], refl, subst (λ l. IsReadTo l 1 a b) same by.1)
-refused_alone name which called NoMemory a b same by = tt
+refused_alone name which called NoMemory a b same (inl none) = inl none
+refused_alone name which called NoMemory a b same (inr is) =
+    inr (which, ([], [], refl, subst (λ l. IsBegun l 1 a b) same is))
 refused_alone name which called Done a b same by = absurd by
 refused_alone name which called WriteFault a b same by = absurd by
 refused_alone name which called (Usage position) a b same by = absurd by
@@ -205,7 +255,7 @@ made_refused name made last (BadText which kind line) a b at =
     refused_first name made last (BadText which kind line) a b at
 made_refused name made last (NoState width) a b at =
     refused_first name made last (NoState width) a b at
-made_refused name made last NoMemory a b at = tt
+made_refused name made last NoMemory a b at = wanting_first name made last a b at
 made_refused name made last Done a b at = absurd at
 made_refused name made last WriteFault a b at = absurd at
 made_refused name made last (Usage position) a b at = absurd at
@@ -225,7 +275,7 @@ made_then name made last (BadText which kind line) a b c some at =
     refused_then name made last (BadText which kind line) a b c some at
 made_then name made last (NoState width) a b c some at =
     refused_then name made last (NoState width) a b c some at
-made_then name made last NoMemory a b c some at = tt
+made_then name made last NoMemory a b c some at = wanting_then name made last a b c some at
 made_then name made last Done a b c some read = read_then name made last a b c some read
 made_then name made last WriteFault a b c some read = read_then name made last a b c some read
 made_then name made last (Usage position) a b c some at = tt

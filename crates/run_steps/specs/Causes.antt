@@ -1,6 +1,6 @@
 -- Which files were begun, how far the last of them was read, and why one could not be read: by what
 -- the store of files counted before and after.
-use Rattle.std.specs.Prelude.{◌≡◌, ◌≤◌, ℕ, zero, suc, List, [], ◌∷◌, ◌++◌, length, map, String, string_bytes, Result, None, Some, ⊤}
+use Rattle.std.specs.Prelude.{◌≡◌, ◌≤◌, ◌⊎◌, ℕ, zero, suc, List, [], ◌∷◌, ◌++◌, length, map, String, string_bytes, Result, None, Some, ⊤}
 use Rattle.std.specs.declared.option.Option.{Option}
 use Rattle.edge_io.specs.Counts.{Counts, Rose, count_after}
 use Rattle.edge_io.specs.Held.{NamedFiles}
@@ -39,6 +39,11 @@ board_files command = if_named command Dead ++ if_named command Map
 abbrev pub AreBegun : ℕ → Counts → Counts → Type 0
 AreBegun zero old new = new.begun ≡ old.begun
 AreBegun (suc n) old new = new.begun ≡ count_after old.begun (suc n)
+
+-- so many files were begun, the last of them by this name
+pub record IsBegun (name : List ℕ) (count : ℕ) (old new : Counts) : Type 0 where
+  pub begun : AreBegun count old new
+  pub named : new.name ≡ name
 
 -- so many files were begun, the last of them, of this name, was read to its end and no further (one
 -- read gave nothing), and the count of faults did not fall
@@ -87,7 +92,14 @@ abbrev pub IsAt : List Which → Which → (ℕ → Type 0) → Type 0
 IsAt files which P =
     (before after : List Which) × (files ≡ before ++ which ∷ after) × P (suc (length before))
 
--- one of these files was the last that was begun, and refused with this status
+-- nothing was called, or one of these files was the last that was begun
+abbrev pub AreWanting : (Which → List ℕ) → List Which → Counts → Counts → Type 0
+AreWanting name files old new =
+    (new ≡ old)
+    ⊎ ((which : Which) × IsAt files which (λ count. IsBegun (name which) count old new))
+
+-- one of these files was the last that was begun, and refused with this status, or memory was
+-- wanting
 abbrev pub AreRefused : (Which → List ℕ) → List Which → Status → Counts → Counts → Type 0
 AreRefused name files (ReadFault which) old new =
     IsAt files which (λ count. IsCause (name which) count old new)
@@ -97,7 +109,7 @@ AreRefused name files (BadText which kind line) old new =
     IsAt files which (λ count. IsReadTo (name which) count old new)
 AreRefused name files (NoState width) old new =
     IsAt files State (λ count. IsReadTo (name State) count old new)
-AreRefused name files NoMemory old new = ⊤
+AreRefused name files NoMemory old new = AreWanting name files old new
 AreRefused name files status old new = ⊥
 
 -- what files tell at a status, where these are taken for a model, and those after it: one refused, or
@@ -144,5 +156,5 @@ IsRefusedBy which name (Limit other kind number) old new =
 IsRefusedBy which name (BadText other kind line) old new =
     (other ≡ which) × IsReadTo name 1 old new
 IsRefusedBy which name (NoState width) old new = (which ≡ State) × IsReadTo name 1 old new
-IsRefusedBy which name NoMemory old new = ⊤
+IsRefusedBy which name NoMemory old new = (new ≡ old) ⊎ IsBegun name 1 old new
 IsRefusedBy which name status old new = ⊥

@@ -1,5 +1,7 @@
 use Rattle.std.proofs.Common.{map, string_bytes}
+use Rattle.command_words.specs.Names.{name_of, last_files}
 use Rattle.run_steps.specs.Steps.{last_step}
+use Rattle.run_steps.proofs.FilesRead.{read_wanting}
 use Rattle.program_run.proofs.Endings.{last_gives, last_refuses}
 use Rattle.program_run.proofs.MadeModels.{own_variables, small_weights}
 use Rattle.program_run.proofs.SomeText.{told_some}
@@ -33,3 +35,9 @@ pub returns-in-Ok-told-clause-some : goal.returns-in-Ok-told-clause-some
 returns-in-Ok-told-clause-some g c =
     told_some c.args.command.ask c.args.plan.now.read c.args.plan.now.choices c.args.model.now
     c.deref.result.now _ c.in-Ok-told.ensures
+
+pub returns-clause-files : goal.returns-clause-files
+returns-clause-files g c =
+    read_wanting (name_of (map string_bytes c.args.words.now) c.args.command)
+    (last_files c.args.command) (g.F.Files.counts c.args.files.now)
+    (g.F.Files.counts c.take_last.new.files) c.in-Ok.ensures.files
