@@ -1,0 +1,85 @@
+-- Hard clauses that are added to a problem one after another.
+use Rattle.std.proofs.Common.{◌≡◌, ℕ, ◌+◌, ◌<◌, sym, ap, ◌∙◌, arith, List, [], ◌∷◌, ◌++◌, length, map, take, drop, get_or, suc, add-one, append-nil, append_assoc, drop-cons}
+use Rattle.std.specs.List.{flat_map}
+use Rattle.std.proofs.lemmas.List.{map-append, take_more}
+use Rattle.std.proofs.lemmas.List.Concat.{flat_map-append}
+use Rattle.std.proofs.lemmas.List.Sums.{sum_by-append}
+use Rattle.literal_lists.specs.declared.literal.Literal.{Literal}
+use Rattle.problem_form.specs.NormalForm.{kept_clause}
+use Rattle.problem_form.specs.Problems.{ProblemContent, problem_total, soft_weight}
+use Rattle.conflict_clauses.specs.Conflicts.{hard, hard_clauses, pairs_of}
+use Rattle.conflict_clauses.specs.Steps.{alone, with_hard}
+use Rattle.conflict_clauses.proofs.Missing.{hard-weights}
+
+pub with_hard-nil : (p : ProblemContent) → with_hard p [] ≡ p
+with_hard-nil p = λ i. record p { clauses = append-nil p.clauses i }
+
+hard_clauses-append : (as' bs : List (List Literal))
+    → hard_clauses (as' ++ bs) ≡ hard_clauses as' ++ hard_clauses bs
+hard_clauses-append as' bs =
+    ap (flat_map kept_clause) (map-append hard as' bs)
+    ∙ flat_map-append kept_clause (map hard as') (map hard bs)
+
+pub with_hard-append : (p : ProblemContent) (as' bs : List (List Literal))
+    → with_hard (with_hard p as') bs ≡ with_hard p (as' ++ bs)
+with_hard-append p as' bs =
+    λ i. record p {
+      clauses = (append_assoc p.clauses (hard_clauses as') (hard_clauses bs)
+          ∙ ap (λ cs. p.clauses ++ cs) (sym (hard_clauses-append as' bs))) i;
+    }
+
+-- they add nothing to the sizes
+pub with_hard-total : (p : ProblemContent) (lists : List (List Literal))
+    → problem_total (with_hard p lists) ≡ problem_total p
+with_hard-total p lists =
+    omega (arith, sum_by-append soft_weight p.clauses (hard_clauses lists), hard-weights lists)
+
+-- ---- clauses of one literal
+
+pub each-step : (p q q' : ProblemContent) (ls : List Literal) (i : ℕ) (l : Literal)
+    → i < length ls → l ≡ get_or ls i l → q' ≡ with_hard q ((l ∷ []) ∷ [])
+    → q ≡ with_hard p (map alone (take i ls)) → q' ≡ with_hard p (map alone (take (i + 1) ls))
+each-step p q q' ls i l h is added before =
+    let more : map alone (take (i + 1) ls) ≡ map alone (take i ls) ++ (l ∷ []) ∷ [] =
+    ap (map alone) (take_more ls i l h ∙ (λ k. take i ls ++ sym is k ∷ []))
+    ∙ map-append alone (take i ls) (l ∷ []) in
+    added
+    ∙ (λ k. with_hard (before k) ((l ∷ []) ∷ []))
+    ∙ with_hard-append p (map alone (take i ls)) ((l ∷ []) ∷ [])
+    ∙ (λ k. with_hard p (sym more k))
+
+-- ---- clauses of two
+
+-- lists with one more literal in front
+abbrev pub fronted : Literal → List (List Literal) → List (List Literal)
+fronted l lists = map (λ ls. l ∷ ls) lists
+
+pub pairs_with-step : (p q q' : ProblemContent) (f : Literal) (ls : List Literal) (i : ℕ) (l : Literal)
+    → i < length ls → l ≡ get_or ls i l → q' ≡ with_hard q ((f ∷ l ∷ []) ∷ [])
+    → q ≡ with_hard p (fronted f (map alone (take i ls)))
+    → q' ≡ with_hard p (fronted f (map alone (take (i + 1) ls)))
+pairs_with-step p q q' f ls i l h is added before =
+    let more : map alone (take (i + 1) ls) ≡ map alone (take i ls) ++ (l ∷ []) ∷ [] =
+    ap (map alone) (take_more ls i l h ∙ (λ k. take i ls ++ sym is k ∷ []))
+    ∙ map-append alone (take i ls) (l ∷ []) in
+    let longer : fronted f (map alone (take (i + 1) ls))
+    ≡ fronted f (map alone (take i ls)) ++ (f ∷ l ∷ []) ∷ [] =
+    ap (fronted f) more
+    ∙ map-append (λ (m : List Literal). f ∷ m) (map alone (take i ls)) ((l ∷ []) ∷ []) in
+    added
+    ∙ (λ k. with_hard (before k) ((f ∷ l ∷ []) ∷ []))
+    ∙ with_hard-append p (fronted f (map alone (take i ls))) ((f ∷ l ∷ []) ∷ [])
+    ∙ (λ k. with_hard p (sym longer k))
+
+pub pairs-step : (q q' : ProblemContent) (ls rest : List Literal) (i : ℕ) (l : Literal)
+    → i < length ls → l ≡ get_or ls i l → rest ≡ drop (i + 1) ls
+    → q' ≡ with_hard q (fronted l (map alone rest))
+    → with_hard q' (pairs_of (map alone (drop (i + 1) ls)))
+    ≡ with_hard q (pairs_of (map alone (drop i ls)))
+pairs-step q q' ls rest i l h is left added =
+    let first : drop i ls ≡ l ∷ drop (i + 1) ls =
+    rw (add-one i) (drop-cons ls i l h ∙ (λ k. sym is k ∷ drop (suc i) ls)) in
+    let more = map alone (drop (i + 1) ls) in
+    (λ k. with_hard ((added ∙ (λ j. with_hard q (fronted l (map alone (left j))))) k) (pairs_of more))
+    ∙ with_hard-append q (fronted l more) (pairs_of more)
+    ∙ (λ k. with_hard q (pairs_of (map alone (sym first k))))

@@ -1,0 +1,6 @@
+pub mod Added
+pub mod Apart
+pub mod Lists
+pub mod Missing
+pub mod Replaced
+pub mod Taken

@@ -1,0 +1,219 @@
+-- What the products of a conflict lack under an assignment, and that its clauses fail where it does.
+--
+-- The sum of a constraint and the sizes of the products that miss are its greatest sum. So it fails
+-- where those sizes sum to more than the room.
+use Rattle.std.proofs.Common.{◌≡◌, ℕ, ◌+◌, ◌≤◌, Bool, true, false, cond, not, ◌&&◌, ◌||◌, eqb, leb, ltb, refl, sym, ap, ◌∙◌, arith, inl, inr, List, [], ◌∷◌, length, map, None, Some, ℤ, pos, negsuc, ◌+ℤ◌, ◌-ℤ◌, ◌<ℤ◌, ◌≤ℤ◌, unsigned_abs, int_lt}
+use Rattle.std.specs.List.{list_all, list_any, slice_index_or, sum_by}
+use Rattle.std.specs.Ordering.{int_eq}
+use Rattle.std.proofs.lemmas.Bool.{and_parts, cases_lt, eqb-true, false≢true, le-ltb, leb-true, lt-ltb, not-true}
+use Rattle.std.proofs.lemmas.Int.{ints}
+use Rattle.std.proofs.lemmas.List.Folds.{list_any-append}
+use Rattle.std.proofs.lemmas.List.Sums.{sum_by-append, sum_by-cons}
+use Rattle.base.specs.Sums.{if_so, positive_part, total_by}
+use Rattle.base.proofs.Totals.{total_by-append}
+use Rattle.literal_lists.specs.declared.literal.Literal.{Literal}
+use Rattle.literal_lists.specs.Literals.{all_hold, has_clash, holds, literal_set, some_holds}
+use Rattle.problem_form.specs.declared.terms.Product.{Product}
+use Rattle.problem_form.specs.declared.terms.Constraint.{Constraint}
+use Rattle.problem_form.specs.Limits.{positive_total}
+use Rattle.problem_form.specs.NormalForm.{kept_clause}
+use Rattle.problem_form.specs.Problems.{fails, fails_hard, is_violated, product_value, soft_cost, soft_weight, sum_of}
+use Rattle.problem_form.proofs.NormalForms.{list_any-kept}
+use Rattle.conflict_clauses.specs.Conflicts.{are_apart, each_two, hard, hard_clauses, is_conflict, is_single, most_products, needed, others, pairs_of, room, size, wanted, wanted_lists, wanted_literal}
+use Rattle.conflict_clauses.proofs.Lists.{list_any-map, lost, none_of, pairs_of-none, sum_lost, two_pass, two_pass-map}
+
+-- ---- one product
+
+-- no literal is true that the product is wanted for
+abbrev pub misses : List Bool → Product → Bool
+misses x t = none_of (holds x) (wanted t)
+
+holds-turned : (x : List Bool) (l : Literal)
+    → holds x (record l { negated = not l.negated }) ≡ not (holds x l)
+holds-turned x l = go l.negated (slice_index_or x l.variable false)
+  where
+    go : (n v : Bool) → cond (not n) (not v) v ≡ not (cond n (not v) v)
+    go true true = refl
+    go true false = refl
+    go false true = refl
+    go false false = refl
+
+plus : (b : Bool) (n : ℕ)
+    → if_so (b && true) (pos n) +ℤ pos (cond (not (b || false)) (unsigned_abs (pos n)) 0) ≡ pos n
+plus true n = omega (arith, ints)
+plus false n = omega (arith, ints)
+
+minus : (b : Bool) (n : ℕ)
+    → if_so (b && true) (negsuc n) +ℤ pos (cond (not (not b || false)) (unsigned_abs (negsuc n)) 0)
+    ≡ pos 0
+minus true n = omega (arith, ints)
+minus false n = omega (arith, ints)
+
+-- what a product of one literal adds and what it lacks are the positive part of its coefficient
+value : (x : List Bool) (ls : List Literal) (c : ℤ) → eqb (length ls) 1 ≡ true
+    → if_so (all_hold x ls) c
+    +ℤ pos (cond (not (some_holds x (map (wanted_literal c) ls))) (unsigned_abs c) 0)
+    ≡ pos (positive_part c)
+value x [] c single = absurd (false≢true single)
+value x (l ∷ []) (pos n) single = plus (holds x l) n
+value x (l ∷ []) (negsuc n) single =
+    (λ i. if_so (holds x l && true) (negsuc n)
+    +ℤ pos (cond (not (holds-turned x l i || false)) (unsigned_abs (negsuc n)) 0))
+    ∙ minus (holds x l) n
+value x (l ∷ m ∷ ls) c single =
+    absurd (omega (arith, eqb-true (length (l ∷ m ∷ ls)) 1 single))
+
+add_up : (v s : ℤ) (a b p q : ℕ) → v +ℤ pos a ≡ pos p → s +ℤ pos b ≡ pos q
+    → (v +ℤ s) +ℤ pos (a + b) ≡ pos (p + q)
+add_up v s a b p q e f = omega (arith, ints)
+
+sums : (x : List Bool) (ts : List Product) → list_all is_single ts ≡ true
+    → sum_of x ts +ℤ pos (sum_by (lost (misses x) size) ts) ≡ pos (positive_total ts)
+sums x [] single = omega (arith, ints)
+sums x (t ∷ ts) single =
+    let parts = and_parts (is_single t) (list_all is_single ts) single in
+    (λ i. sum_of x (t ∷ ts) +ℤ pos (sum_by-cons (lost (misses x) size) t ts i))
+    ∙ add_up (product_value x t) (sum_of x ts) (lost (misses x) size t)
+    (sum_by (lost (misses x) size) ts) (positive_part t.coefficient) (positive_total ts)
+    (value x t.literals t.coefficient parts.0) (sums x ts parts.1)
+    ∙ ap pos (sym (sum_by-cons (λ u. positive_part u.coefficient) t ts))
+
+-- ---- a sum below its bound
+
+positive_part-is : (z : ℤ) → pos 0 ≤ℤ z → pos (positive_part z) ≡ z
+positive_part-is (pos n) h = refl
+positive_part-is (negsuc n) h = absurd (omega (arith, ints))
+
+not_less : (a b : ℤ) → int_lt b a ≡ false → a ≤ℤ b
+not_less a b e = grind (arith, ints)
+
+pub is_less : (a b : ℤ) → a <ℤ b → int_lt a b ≡ true
+is_less a b h = grind (arith, ints)
+
+pub is_not_less : (a b : ℤ) → b ≤ℤ a → int_lt a b ≡ false
+is_not_less a b h = grind (arith, ints)
+
+below : (s b : ℤ) (l h : ℕ) → s +ℤ pos l ≡ pos h → int_lt (pos h) b ≡ false
+    → int_lt s b ≡ ltb (positive_part (pos h -ℤ b)) l
+below s b l h sum fits =
+    let high : b ≤ℤ pos h = not_less b (pos h) fits in
+    let part : pos (positive_part (pos h -ℤ b)) ≡ pos h -ℤ b =
+    positive_part-is (pos h -ℤ b) (omega (arith, ints)) in
+    go (positive_part (pos h -ℤ b)) part
+  where
+    go : (r : ℕ) → pos r ≡ pos h -ℤ b → int_lt s b ≡ ltb r l
+    go r e = elim (cases_lt r l) [
+      | inl over ↦ is_less s b (omega (arith, ints)) ∙ sym (lt-ltb r l over)
+      | inr within ↦ is_not_less s b (omega (arith, ints)) ∙ sym (le-ltb r l within)
+    ]
+
+-- ---- the room above a bound
+
+pub no_room : (h : ℕ) (b : ℤ) → int_lt (pos h) b ≡ true
+    → None ≡ cond (int_lt (pos h) b) None (Some (positive_part (pos h -ℤ b)))
+no_room h b e = λ i. cond (sym e i) None (Some (positive_part (pos h -ℤ b)))
+
+size-positive : (z : ℤ) → pos 0 ≤ℤ z → unsigned_abs z ≡ positive_part z
+size-positive (pos n) h = refl
+size-positive (negsuc n) h = absurd (omega (arith, ints))
+
+pub some_room : (h : ℕ) (b : ℤ) (r : ℕ) → int_lt (pos h) b ≡ false → r ≡ unsigned_abs (pos h -ℤ b)
+    → Some r ≡ cond (int_lt (pos h) b) None (Some (positive_part (pos h -ℤ b)))
+some_room h b r e is =
+    let high : b ≤ℤ pos h = not_less b (pos h) e in
+    let same : r ≡ positive_part (pos h -ℤ b) =
+    is ∙ size-positive (pos h -ℤ b) (omega (arith, ints)) in
+    ap Some same ∙ (λ i. cond (sym e i) None (Some (positive_part (pos h -ℤ b))))
+
+-- ---- a conflict
+
+pub record Parts (k : Constraint) : Type 0 where
+  pub exact : k.exact ≡ false
+  pub few : length k.products ≤ most_products
+  pub single : list_all is_single k.products ≡ true
+  pub fits : int_lt (pos (positive_total k.products)) k.bound ≡ false
+  pub apart : each_two (are_apart (room k)) k.products ≡ true
+
+pub parts_of : (k : Constraint) → is_conflict k ≡ true → Parts k
+parts_of k h =
+    let a = not k.exact in
+    let b = ltb 0 (length k.products) in
+    let c = leb (length k.products) most_products in
+    let d = list_all is_single k.products in
+    let e = not (int_lt (pos (positive_total k.products)) k.bound) in
+    let f = each_two (are_apart (room k)) k.products in
+    let last = and_parts (a && b && c && d && e) f h in
+    let fit = and_parts (a && b && c && d) e last.0 in
+    let one = and_parts (a && b && c) d fit.0 in
+    let few = and_parts (a && b) c one.0 in
+    let some = and_parts a b few.0 in
+    record {
+      exact = not-true k.exact some.0;
+      few = leb-true (length k.products) most_products few.1;
+      single = one.1;
+      fits = not-true (int_lt (pos (positive_total k.products)) k.bound) fit.1;
+      apart = last.1;
+    }
+
+-- a hard clause of lists of literals fails where no literal of some list is true
+hard-fails : (x : List Bool) (lists : List (List Literal))
+    → list_any (fails_hard x) (hard_clauses lists) ≡ list_any (none_of (holds x)) lists
+hard-fails x lists =
+    list_any-kept x (map hard lists) ∙ list_any-map (fails_hard x) hard lists
+
+wanted-fails : (x : List Bool) (k : Constraint)
+    → list_any (none_of (holds x)) (wanted_lists k)
+    ≡ (list_any (misses x) (needed k) || two_pass (misses x) (others k))
+wanted-fails x k =
+    list_any-append (none_of (holds x)) (map wanted (needed k)) (pairs_of (map wanted (others k)))
+    ∙ (λ i. list_any-map (none_of (holds x)) wanted (needed k) i
+    || (pairs_of-none (holds x) (map wanted (others k))
+    ∙ two_pass-map (none_of (holds x)) wanted (others k)) i)
+
+-- a conflict fails where one of its clauses does
+pub conflict-fails : (x : List Bool) (k : Constraint) → is_conflict k ≡ true
+    → list_any (fails_hard x) (hard_clauses (wanted_lists k)) ≡ fails x k
+conflict-fails x k conflict =
+    let parts = parts_of k conflict in
+    let ts = k.products in
+    let lacks : int_lt (sum_of x ts) k.bound ≡ ltb (room k) (sum_by (lost (misses x) size) ts) =
+    below (sum_of x ts) k.bound (sum_by (lost (misses x) size) ts) (positive_total ts)
+    (sums x ts parts.single) parts.fits in
+    let inexact : fails x k ≡ int_lt (sum_of x ts) k.bound =
+    λ i. cond (parts.exact i) (not (int_eq (sum_of x ts) k.bound)) (int_lt (sum_of x ts) k.bound) in
+    hard-fails x (wanted_lists k)
+    ∙ wanted-fails x k
+    ∙ sym (inexact ∙ lacks ∙ sum_lost (misses x) size (room k) ts parts.apart)
+
+-- ---- hard clauses cost nothing by themselves
+
+hard-cost : (x : List Bool) (ls : List Literal) → total_by (soft_cost x) (kept_clause (hard ls)) ≡ pos 0
+hard-cost x ls = go (has_clash ls || false)
+  where
+    none : (b : Bool) → if_so b (pos 0) +ℤ pos 0 ≡ pos 0
+    none true = refl
+    none false = refl
+
+    go : (b : Bool) → total_by (soft_cost x) (cond b [] (hard (literal_set ls) ∷ [])) ≡ pos 0
+    go true = refl
+    go false = none (is_violated x (hard (literal_set ls)))
+
+pub hard-costs : (x : List Bool) (lists : List (List Literal))
+    → total_by (soft_cost x) (hard_clauses lists) ≡ pos 0
+hard-costs x [] = refl
+hard-costs x (ls ∷ lists) =
+    total_by-append (soft_cost x) (kept_clause (hard ls)) (hard_clauses lists)
+    ∙ (λ i. hard-cost x ls i +ℤ hard-costs x lists i)
+
+hard-weight : (ls : List Literal) → sum_by soft_weight (kept_clause (hard ls)) ≡ 0
+hard-weight ls = go (has_clash ls || false)
+  where
+    go : (b : Bool) → sum_by soft_weight (cond b [] (hard (literal_set ls) ∷ [])) ≡ 0
+    go true = refl
+    go false = sum_by-cons soft_weight (hard (literal_set ls)) []
+
+pub hard-weights : (lists : List (List Literal)) → sum_by soft_weight (hard_clauses lists) ≡ 0
+hard-weights [] = refl
+hard-weights (ls ∷ lists) =
+    sum_by-append soft_weight (kept_clause (hard ls)) (hard_clauses lists)
+    ∙ (λ i. hard-weight ls i + hard-weights lists i)

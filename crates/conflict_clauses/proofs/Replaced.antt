@@ -1,0 +1,181 @@
+-- The problem without its conflicts costs the same; and what the steps of the replacement make.
+use Rattle.std.proofs.Common.{◌≡◌, ℕ, ◌+◌, ◌≤◌, Bool, true, false, cond, not, ◌||◌, leb, refl, ap, ◌∙◌, arith, List, [], ◌∷◌, ◌++◌, length, drop, append_assoc, add-one, zero, suc, ◌<◌, Some, pos, ◌+ℤ◌}
+use Rattle.std.specs.List.{list_any, slice_get, sum_by}
+use Rattle.std.proofs.lemmas.Bool.{and_parts, leb-true}
+use Rattle.std.proofs.lemmas.Int.{ints}
+use Rattle.std.proofs.lemmas.List.Folds.{list_any-append}
+use Rattle.std.proofs.lemmas.List.Sums.{sum_by-append}
+use Rattle.base.specs.declared.costs.Cost.TheVariants.{Infinite, Whole}
+use Rattle.base.specs.Sums.{total_by}
+use Rattle.base.proofs.Totals.{total_by-append}
+use Rattle.problem_form.specs.declared.terms.Constraint.{Constraint}
+use Rattle.problem_form.specs.Limits.{lesser_of, own_upper, positive_total}
+use Rattle.problem_form.specs.NormalForm.{with_marked}
+use Rattle.problem_form.specs.Problems.{ProblemContent, cut_off, fails, fails_hard, products_total, soft_cost, soft_weight, sum_of}
+use Rattle.problem_form.specs.WeighedLists.{marked}
+use Rattle.conflict_clauses.specs.Conflicts.{CostsAlike, clauses_from, clauses_of, constraints_from, hard_clauses, is_conflict, is_replaced, most_pairs, pairs, spent_after, wanted_lists, without_conflicts}
+use Rattle.conflict_clauses.specs.Steps.{staying, with_clauses_from, with_clauses_of}
+use Rattle.conflict_clauses.proofs.Lists.{or-assoc, or-false, or-swap}
+use Rattle.conflict_clauses.proofs.Missing.{conflict-fails, hard-costs, hard-weights}
+
+-- ---- what fails
+
+fails-alike : (x : List Bool) (spent : ℕ) (ks : List Constraint)
+    → (list_any (fails_hard x) (clauses_from spent ks)
+    || list_any (fails x) (constraints_from spent ks))
+    ≡ list_any (fails x) ks
+fails-alike x spent [] = refl
+fails-alike x spent (k ∷ ks) =
+    let cs = clauses_from (spent_after spent k) ks in
+    let rest = constraints_from (spent_after spent k) ks in
+    (λ i. list_any-append (fails_hard x) (clauses_of spent k) cs i
+    || list_any-append (fails x) (cond (is_replaced spent k) [] (k ∷ [])) rest i)
+    ∙ go (is_replaced spent k) refl (list_any (fails_hard x) cs) (list_any (fails x) rest)
+    ∙ ap (λ b. fails x k || b) (fails-alike x (spent_after spent k) ks)
+  where
+    go : (b : Bool) → is_replaced spent k ≡ b → (c d : Bool)
+        → ((list_any (fails_hard x) (cond b (hard_clauses (wanted_lists k)) []) || c)
+        || (list_any (fails x) (cond b [] (k ∷ [])) || d))
+        ≡ (fails x k || (c || d))
+    go true e c d =
+        let conflict = (and_parts (is_conflict k) (leb (spent + pairs k) most_pairs) e).0 in
+        (λ i. (conflict-fails x k conflict i || c) || d) ∙ or-assoc (fails x k) c d
+    go false e c d =
+        (λ i. c || (or-false (fails x k) i || d)) ∙ or-swap c (fails x k) d
+
+-- ---- what is added
+
+from-costs : (x : List Bool) (spent : ℕ) (ks : List Constraint)
+    → total_by (soft_cost x) (clauses_from spent ks) ≡ pos 0
+from-costs x spent [] = refl
+from-costs x spent (k ∷ ks) =
+    total_by-append (soft_cost x) (clauses_of spent k) (clauses_from (spent_after spent k) ks)
+    ∙ (λ i. go (is_replaced spent k) i +ℤ from-costs x (spent_after spent k) ks i)
+  where
+    go : (b : Bool) → total_by (soft_cost x) (cond b (hard_clauses (wanted_lists k)) []) ≡ pos 0
+    go true = hard-costs x (wanted_lists k)
+    go false = refl
+
+from-weights : (spent : ℕ) (ks : List Constraint) → sum_by soft_weight (clauses_from spent ks) ≡ 0
+from-weights spent [] = refl
+from-weights spent (k ∷ ks) =
+    sum_by-append soft_weight (clauses_of spent k) (clauses_from (spent_after spent k) ks)
+    ∙ (λ i. go (is_replaced spent k) i + from-weights (spent_after spent k) ks i)
+  where
+    go : (b : Bool) → sum_by soft_weight (cond b (hard_clauses (wanted_lists k)) []) ≡ 0
+    go true = hard-weights (wanted_lists k)
+    go false = refl
+
+-- ---- the whole
+
+pub without-alike : (p : ProblemContent) → CostsAlike (without_conflicts p) p
+without-alike p = record {
+  variables = refl;
+  most = refl;
+  size = ap (λ n. products_total p.objective + n) weights;
+  own_upper = own;
+  upper = ap (lesser_of p.most) own;
+  costs = λ x. ap (cut_off p.most) (λ i.
+      cond (fail x i) Infinite (Whole (p.constant +ℤ sum_of x p.objective +ℤ soft x i)));
+}
+  where
+    weights : sum_by soft_weight (without_conflicts p).clauses ≡ sum_by soft_weight p.clauses
+    weights =
+        omega (
+          arith,
+          sum_by-append soft_weight p.clauses (clauses_from 0 p.constraints),
+          from-weights 0 p.constraints,
+        )
+
+    own : own_upper (without_conflicts p) ≡ own_upper p
+    own = ap (λ n. p.constant +ℤ pos (positive_total p.objective + n)) weights
+
+    soft : (x : List Bool)
+        → total_by (soft_cost x) (without_conflicts p).clauses ≡ total_by (soft_cost x) p.clauses
+    soft x =
+        omega (
+          arith,
+          ints,
+          total_by-append (soft_cost x) p.clauses (clauses_from 0 p.constraints),
+          from-costs x 0 p.constraints,
+        )
+
+    fail : (x : List Bool)
+        → (list_any (fails_hard x) (without_conflicts p).clauses
+        || list_any (fails x) (without_conflicts p).constraints)
+        ≡ (list_any (fails_hard x) p.clauses || list_any (fails x) p.constraints)
+    fail x =
+        let new = clauses_from 0 p.constraints in
+        let left = constraints_from 0 p.constraints in
+        (λ i. list_any-append (fails_hard x) p.clauses new i || list_any (fails x) left)
+        ∙ or-assoc (list_any (fails_hard x) p.clauses) (list_any (fails_hard x) new)
+        (list_any (fails x) left)
+        ∙ ap (λ b. list_any (fails_hard x) p.clauses || b) (fails-alike x 0 p.constraints)
+
+-- ---- one constraint after another
+
+pub spent_within : (spent : ℕ) (k : Constraint) → spent ≤ most_pairs
+    → spent_after spent k ≤ most_pairs
+spent_within spent k within = go (is_replaced spent k) refl
+  where
+    go : (b : Bool) → is_replaced spent k ≡ b → cond b (spent + pairs k) spent ≤ most_pairs
+    go true e =
+        leb-true (spent + pairs k) most_pairs
+        (and_parts (is_conflict k) (leb (spent + pairs k) most_pairs) e).1
+    go false e = within
+
+pub clauses_from-step : (p : ProblemContent) (spent : ℕ) (k : Constraint) (ks : List Constraint)
+    → with_clauses_from (with_clauses_of p spent k) (spent_after spent k) ks
+    ≡ with_clauses_from p spent (k ∷ ks)
+clauses_from-step p spent k ks =
+    λ i. record p {
+      clauses = append_assoc p.clauses (clauses_of spent k) (clauses_from (spent_after spent k) ks) i;
+    }
+
+pub kept-step : (kept kept' : List Bool) (stays : Bool) (spent : ℕ) (k : Constraint)
+    (ks : List Constraint) → kept' ≡ kept ++ stays ∷ [] → stays ≡ not (is_replaced spent k)
+    → kept' ++ staying (spent_after spent k) ks ≡ kept ++ staying spent (k ∷ ks)
+kept-step kept kept' stays spent k ks pushed is =
+    let left = staying (spent_after spent k) ks in
+    ap (λ marks. marks ++ left) pushed
+    ∙ append_assoc kept (stays ∷ []) left
+    ∙ (λ i. kept ++ (is i ∷ left))
+
+-- the element at a place is the first that is left there
+pub record Place {A : Type 0} (xs : List A) (i : ℕ) : Type 0 where
+  pub element : A
+  pub at : slice_get xs i ≡ Some element
+  pub left : drop i xs ≡ element ∷ drop (i + 1) xs
+
+pub place : {A : Type 0} (xs : List A) (i : ℕ) → i < length xs → Place xs i
+place [] i h = absurd (omega (arith, h))
+place (x ∷ xs) zero h = record { element = x; at = refl; left = refl }
+place (x ∷ xs) (suc i) h =
+    let rest = place xs i (omega (arith, h)) in
+    record { element = rest.element; at = rest.at; left = rw (add-one (suc i)) (rw (add-one i) at rest.left) }
+
+pub length-staying : (spent : ℕ) (ks : List Constraint) → length (staying spent ks) ≡ length ks
+length-staying spent [] = refl
+length-staying spent (k ∷ ks) = ap suc (length-staying (spent_after spent k) ks)
+
+marked-staying : (spent : ℕ) (ks : List Constraint)
+    → marked (staying spent ks) ks ≡ constraints_from spent ks
+marked-staying spent [] = refl
+marked-staying spent (k ∷ ks) =
+    go (is_replaced spent k) (marked (staying (spent_after spent k) ks) ks)
+    ∙ ap (λ left. cond (is_replaced spent k) [] (k ∷ []) ++ left)
+    (marked-staying (spent_after spent k) ks)
+  where
+    go : (b : Bool) (left : List Constraint)
+        → cond (not b) (k ∷ left) left ≡ cond b [] (k ∷ []) ++ left
+    go true left = refl
+    go false left = refl
+
+-- the constraints that stay, beside the clauses of the others
+pub marked-without : (p : ProblemContent)
+    → with_marked (with_clauses_from p 0 p.constraints) (staying 0 p.constraints)
+    ≡ without_conflicts p
+marked-without p = λ i. record p {
+  clauses = p.clauses ++ clauses_from 0 p.constraints;
+  constraints = marked-staying 0 p.constraints i;
+}

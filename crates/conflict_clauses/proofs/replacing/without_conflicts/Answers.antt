@@ -1,0 +1,10 @@
+use Rattle.std.proofs.Common.{sym, subst}
+use Rattle.problem_form.specs.Problems.{ProblemContent}
+use Rattle.conflict_clauses.specs.Conflicts.{CostsAlike}
+use Rattle.conflict_clauses.proofs.Replaced.{without-alike}
+use Rattle.conflict_clauses.proofs.replacing.without_conflicts.Goals as goal
+
+pub returns-clause-alike : goal.returns-clause-alike
+returns-clause-alike c =
+    let Alike : ProblemContent → Type 0 = λ q. CostsAlike q c.args.problem in
+    subst Alike (sym c.in_ok-replace.ensures) (without-alike c.args.problem)

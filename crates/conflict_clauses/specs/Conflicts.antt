@@ -1,0 +1,147 @@
+-- Conflicts: constraints of which no two products may miss. Hard clauses can take their place.
+--
+-- A product misses where a literal that it is wanted for is false: its own where its coefficient is
+-- positive, and the complement where it is negative. A constraint holds where the sizes of those
+-- that miss sum to at most the room that it leaves.
+use Rattle.std.specs.Prelude.{◌≡◌, ℕ, ◌+◌, ◌-◌, ◌*◌, ◌/◌, ℤ, pos, negsuc, ◌-ℤ◌, int_lt, unsigned_abs, Bool, true, not, ◌&&◌, ◌==◌, nat_lt, nat_le, if◌then◌else◌, List, [], ◌∷◌, ◌++◌, length, map, None}
+use Rattle.std.specs.List.{filter, flat_map, list_all}
+use Rattle.base.specs.Sums.{positive_part}
+use Rattle.literal_lists.specs.declared.literal.Literal.{Literal}
+use Rattle.problem_form.specs.declared.terms.Product.{Product}
+use Rattle.problem_form.specs.declared.terms.Clause.{Clause}
+use Rattle.problem_form.specs.declared.terms.Constraint.{Constraint}
+use Rattle.problem_form.specs.Limits.{cost_size, own_upper, positive_total, upper}
+use Rattle.problem_form.specs.NormalForm.{kept_clause}
+use Rattle.problem_form.specs.Problems.{ProblemContent, problem_cost}
+
+-- ---- what a constraint wants
+
+-- the literal that a sum wants, with a coefficient: it or, where that is negative, its complement
+abbrev pub wanted_literal : ℤ → Literal → Literal
+wanted_literal (pos n) l = l
+wanted_literal (negsuc n) l = record l { negated = not l.negated }
+
+-- the literals that a product is wanted for
+abbrev pub wanted : Product → List Literal
+wanted t = map (wanted_literal t.coefficient) t.literals
+
+-- the size of a product: what a sum lacks where the product misses
+abbrev pub size : Product → ℕ
+size t = unsigned_abs t.coefficient
+
+-- how far the greatest sum of a constraint is above its bound
+abbrev pub room : Constraint → ℕ
+room k = positive_part (pos (positive_total k.products) -ℤ k.bound)
+
+-- ---- conflicts
+
+-- each two elements of a list, in their order, pass a test
+abbrev pub each_two : {A : Type 0} → (A → A → Bool) → List A → Bool
+each_two test [] = true
+each_two test (a ∷ as') = list_all (test a) as' && each_two test as'
+
+-- two products that may not both miss
+abbrev pub are_apart : ℕ → Product → Product → Bool
+are_apart room s t = nat_lt room (size s + size t)
+
+-- a product of one literal
+abbrev pub is_single : Product → Bool
+is_single t = length t.literals == 1
+
+-- the most products of a conflict
+abbrev pub most_products : ℕ
+most_products = 1024
+
+-- no equation, of products of one literal each, that can hold and holds where no two miss at most
+abbrev pub is_conflict : Constraint → Bool
+is_conflict k =
+    not k.exact
+    && nat_lt 0 (length k.products)
+    && nat_le (length k.products) most_products
+    && list_all is_single k.products
+    && not (int_lt (pos (positive_total k.products)) k.bound)
+    && each_two (are_apart (room k)) k.products
+
+-- ---- its clauses
+
+-- a product that may not miss at all
+abbrev pub is_needed : ℕ → Product → Bool
+is_needed room t = nat_lt room (size t)
+
+-- the products that may not miss at all
+abbrev pub needed : Constraint → List Product
+needed k = filter (is_needed (room k)) k.products
+
+-- the products that may miss where no other does
+abbrev pub others : Constraint → List Product
+others k = filter (λ t. not (is_needed (room k) t)) k.products
+
+-- each two of these lists, in their order, as one
+abbrev pub pairs_of : {A : Type 0} → List (List A) → List (List A)
+pairs_of [] = []
+pairs_of (as' ∷ others) = map (λ bs. as' ++ bs) others ++ pairs_of others
+
+-- of which literals one is to be true: of each needed product by itself, and of each two others
+abbrev pub wanted_lists : Constraint → List (List Literal)
+wanted_lists k = map wanted (needed k) ++ pairs_of (map wanted (others k))
+
+-- the hard clause of these literals
+abbrev pub hard : List Literal → Clause
+hard ls = record { literals = ls; weight = None }
+
+-- hard clauses in normal form
+abbrev pub hard_clauses : List (List Literal) → List Clause
+hard_clauses lists = flat_map kept_clause (map hard lists)
+
+-- how many pairs there are of so many
+abbrev pub pair_count : ℕ → ℕ
+pair_count n = n * (n - 1) / 2
+
+-- the pairs of a conflict, before any is dropped
+abbrev pub pairs : Constraint → ℕ
+pairs k = pair_count (length (others k))
+
+-- ---- a problem without them
+
+-- the most pairs of all conflicts that are replaced
+abbrev pub most_pairs : ℕ
+most_pairs = 2097152
+
+-- whether a constraint is replaced, after so many pairs
+abbrev pub is_replaced : ℕ → Constraint → Bool
+is_replaced spent k = is_conflict k && nat_le (spent + pairs k) most_pairs
+
+-- the pairs that are spent after a constraint
+abbrev pub spent_after : ℕ → Constraint → ℕ
+spent_after spent k = if is_replaced spent k then spent + pairs k else spent
+
+-- the clauses that take the place of a constraint, where it is replaced
+abbrev pub clauses_of : ℕ → Constraint → List Clause
+clauses_of spent k = if is_replaced spent k then hard_clauses (wanted_lists k) else []
+
+-- the clauses of all that are replaced, after so many pairs
+abbrev pub clauses_from : ℕ → List Constraint → List Clause
+clauses_from spent [] = []
+clauses_from spent (k ∷ ks) = clauses_of spent k ++ clauses_from (spent_after spent k) ks
+
+-- the constraints that stay, after so many pairs
+abbrev pub constraints_from : ℕ → List Constraint → List Constraint
+constraints_from spent [] = []
+constraints_from spent (k ∷ ks) =
+    (if is_replaced spent k then [] else k ∷ []) ++ constraints_from (spent_after spent k) ks
+
+-- the problem with clauses, behind its own, in place of the conflicts that may be replaced
+abbrev pub without_conflicts : ProblemContent → ProblemContent
+without_conflicts p = record p {
+  clauses = p.clauses ++ clauses_from 0 p.constraints;
+  constraints = constraints_from 0 p.constraints;
+}
+
+-- the same variables and bounds of the costs, and the same cost of every assignment
+pub record CostsAlike (p q : ProblemContent) : Type 0 where
+  pub variables : p.variables ≡ q.variables
+  pub most : p.most ≡ q.most
+  pub size : cost_size p ≡ cost_size q
+  pub own_upper : own_upper p ≡ own_upper q
+  pub upper : upper p ≡ upper q
+  pub costs : (x : List Bool) → problem_cost p x ≡ problem_cost q x

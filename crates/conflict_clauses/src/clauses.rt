@@ -1,0 +1,171 @@
+//! The clauses of a conflict.
+ghost use Rattle.std.specs.Prelude.{◌≡◌, ◌<◌, ◌^◌, ◌∷◌, [], not, length, map, OnOk, true};
+ghost use Rattle.std.specs.List.{filter, list_all};
+ghost use Rattle.problem_form.specs.Problems.{problem_total};
+ghost use Rattle.conflict_clauses.specs.Conflicts.{is_needed, is_single, pairs_of, wanted, wanted_literal};
+ghost use Rattle.conflict_clauses.specs.Steps.{AreWithin, alone, with_hard};
+
+use base::NoMemory;
+use problem_form::{Literal, Problem, ProductRef, Products};
+use std::alloc::Global;
+
+/// The literal that a sum wants, with a coefficient.
+fn wanted_literal(coefficient: i128, literal: Literal) -> Literal
+    ensures { result ≡ wanted_literal coefficient literal }
+{
+    if coefficient < 0 {
+        Literal {
+            variable: literal.variable,
+            negated: !literal.negated,
+        }
+    } else {
+        literal
+    }
+}
+
+/// The literal that a product of one is wanted for.
+fn wanted_for(product: ProductRef<'_>) -> Literal
+    requires { length product.literals ≡ 1 }
+    ensures { result ∷ [] ≡ wanted product.entry }
+{
+    let ProductRef {
+        mut literals,
+        coefficient,
+    } = product;
+    match literals.next() {
+        Some(literal) => wanted_literal(coefficient, literal),
+        None => unreachable!(),
+    }
+}
+
+/// Literals that products are wanted for: of those that may not miss at all, and of the others.
+#[derive(Drop)]
+pub(crate) struct Wanted {
+    pub(crate) needed: Vec<Literal>,
+    pub(crate) others: Vec<Literal>,
+    /// The literals of a clause, which are put in order.
+    pub(crate) clause: Vec<Literal>,
+}
+
+impl Wanted {
+    /// No literals. It takes no memory.
+    pub(crate) fn new(alloc: Global) -> Wanted {
+        Wanted {
+            needed: Vec::new(alloc),
+            others: Vec::new(alloc),
+            clause: Vec::new(alloc),
+        }
+    }
+}
+
+/// Puts the literals that products of one literal are wanted for into the lists, in place of what
+/// they have.
+pub(crate) fn take_wanted(
+    lists: &mut Wanted,
+    products: Products<'_>,
+    room: u128,
+) -> Result<(), NoMemory>
+    requires { list_all is_single products ≡ true }
+    ensures needed { OnOk result (map alone lists.new.needed.items
+        ≡ map wanted (filter (is_needed room) products.entry)) }
+    ensures others { OnOk result (map alone lists.new.others.items
+        ≡ map wanted (filter (λ t. not (is_needed room t)) products.entry)) }
+{
+    lists.needed.clear();
+    lists.others.clear();
+    for product in products {
+        let is_needed = room < product.coefficient.unsigned_abs();
+        let literal = wanted_for(product);
+        if is_needed {
+            lists.needed.push(literal)?;
+        } else {
+            lists.others.push(literal)?;
+        }
+    }
+    Ok(())
+}
+
+/// Adds a hard clause of one literal.
+fn add_alone(
+    problem: &mut Problem,
+    clause: &mut Vec<Literal>,
+    literal: Literal,
+) -> Result<(), NoMemory>
+    requires small { problem_total problem.old < 2 ^ 100 }
+    requires within { literal.variable < problem.old.variables }
+    ensures { OnOk result (problem.new ≡ with_hard problem.old ((literal ∷ []) ∷ [])) }
+{
+    clause.clear();
+    clause.push(literal)?;
+    problem.add_literals(clause, None)
+}
+
+/// Adds a hard clause of two literals.
+fn add_pair(
+    problem: &mut Problem,
+    clause: &mut Vec<Literal>,
+    first: Literal,
+    second: Literal,
+) -> Result<(), NoMemory>
+    requires small { problem_total problem.old < 2 ^ 100 }
+    requires first { first.variable < problem.old.variables }
+    requires second { second.variable < problem.old.variables }
+    ensures { OnOk result (problem.new ≡ with_hard problem.old ((first ∷ second ∷ []) ∷ [])) }
+{
+    clause.clear();
+    clause.push(first)?;
+    clause.push(second)?;
+    problem.add_literals(clause, None)
+}
+
+/// Adds a hard clause of each literal.
+pub(crate) fn add_each(
+    problem: &mut Problem,
+    clause: &mut Vec<Literal>,
+    literals: &[Literal],
+) -> Result<(), NoMemory>
+    requires small { problem_total problem.old < 2 ^ 100 }
+    requires within { AreWithin problem.old.variables literals.now }
+    ensures { OnOk result (problem.new ≡ with_hard problem.old (map alone literals.now)) }
+{
+    for literal in literals {
+        add_alone(problem, clause, *literal)?;
+    }
+    Ok(())
+}
+
+/// Adds a hard clause of a literal with each of others.
+fn add_pairs_with(
+    problem: &mut Problem,
+    clause: &mut Vec<Literal>,
+    first: Literal,
+    others: &[Literal],
+) -> Result<(), NoMemory>
+    requires small { problem_total problem.old < 2 ^ 100 }
+    requires first { first.variable < problem.old.variables }
+    requires others { AreWithin problem.old.variables others.now }
+    ensures { OnOk result (problem.new
+        ≡ with_hard problem.old (map (λ ls. first ∷ ls) (map alone others.now))) }
+{
+    for second in others {
+        add_pair(problem, clause, first, *second)?;
+    }
+    Ok(())
+}
+
+/// Adds a hard clause of each two literals.
+pub(crate) fn add_pairs(
+    problem: &mut Problem,
+    clause: &mut Vec<Literal>,
+    literals: &[Literal],
+) -> Result<(), NoMemory>
+    requires small { problem_total problem.old < 2 ^ 100 }
+    requires within { AreWithin problem.old.variables literals.now }
+    ensures { OnOk result (problem.new
+        ≡ with_hard problem.old (pairs_of (map alone literals.now))) }
+{
+    for i in 0..literals.len() {
+        add_pairs_with(problem, clause, literals[i], &literals[i + 1..])?;
+    }
+    Ok(())
+}

@@ -1,0 +1,123 @@
+//! Conflicts of a problem, replaced by clauses.
+ghost use Rattle.std.specs.Prelude.{◌≡◌, ◌<◌, ◌≤◌, ◌^◌, [], not, OnOk, IfOk, Some, MatchOption, false, length, slice_get};
+ghost use Rattle.problem_form.specs.declared.terms.Constraint.{Constraint};
+ghost use Rattle.problem_form.specs.Problems.{problem_total};
+ghost use Rattle.conflict_clauses.specs.Conflicts.{CostsAlike, is_replaced, most_pairs, pair_count, spent_after, without_conflicts};
+ghost use Rattle.conflict_clauses.specs.Steps.{IsTaken, staying, with_clauses_from, with_clauses_of};
+
+use crate::clauses::{Wanted, add_each, add_pairs, take_wanted};
+use crate::conflicts::conflict_room;
+use base::NoMemory;
+use problem_form::Problem;
+use std::alloc::Global;
+
+/// The most pairs of all conflicts that are replaced.
+const MOST_PAIRS: usize = 2_097_152;
+
+/// How many pairs there are of so many.
+fn pair_count(count: usize) -> usize
+    requires { count ≤ 1024 }
+    ensures result { result ≡ pair_count count }
+    ensures small { result ≤ most_pairs }
+{
+    if count == 0 {
+        return 0;
+    }
+    count * (count - 1) / 2
+}
+
+/// Takes what the constraint at a place wants, where it is to be replaced after so many pairs, and
+/// says how many pairs it has.
+fn take_at(
+    lists: &mut Wanted,
+    problem: &Problem,
+    i: usize,
+    spent: usize,
+) -> Result<Option<usize>, NoMemory>
+    requires within { i < length problem.now.constraints }
+    requires spent { spent ≤ most_pairs }
+    ensures small { problem_total problem.now < 2 ^ 100 }
+    ensures taken { IfOk result (λ taken.
+        (k : Constraint) → slice_get problem.now.constraints i ≡ Some k
+        → MatchOption taken (is_replaced spent k ≡ false)
+        (IsTaken problem.now.variables spent k lists.new.needed.items lists.new.others.items)) }
+{
+    let constraint = problem.constraints.at(i);
+    let Some(room) = conflict_room(&constraint) else {
+        return Ok(None);
+    };
+    take_wanted(lists, constraint.products, room)?;
+    let pairs = pair_count(lists.others.len());
+    if spent + pairs > MOST_PAIRS {
+        return Ok(None);
+    }
+    Ok(Some(pairs))
+}
+
+/// Adds the clauses of the constraint at a place, where it is to be replaced after so many pairs,
+/// and says whether it stays.
+fn replace_at(
+    lists: &mut Wanted,
+    problem: &mut Problem,
+    i: usize,
+    spent: &mut usize,
+) -> Result<bool, NoMemory>
+    requires within { i < length problem.old.constraints }
+    requires spent { spent.old ≤ most_pairs }
+    ensures clauses { OnOk result ((k : Constraint) → slice_get problem.old.constraints i ≡ Some k
+        → problem.new ≡ with_clauses_of problem.old spent.old k) }
+    ensures spent { OnOk result ((k : Constraint) → slice_get problem.old.constraints i ≡ Some k
+        → spent.new ≡ spent_after spent.old k) }
+    ensures stays { IfOk result (λ stays. (k : Constraint)
+        → slice_get problem.old.constraints i ≡ Some k → stays ≡ not (is_replaced spent.old k)) }
+    ensures bounded { spent.new ≤ most_pairs }
+{
+    let Some(pairs) = take_at(lists, problem, i, *spent)? else {
+        return Ok(true);
+    };
+    add_each(problem, &mut lists.clause, &lists.needed)?;
+    add_pairs(problem, &mut lists.clause, &lists.others)?;
+    *spent += pairs;
+    Ok(false)
+}
+
+/// Adds the clauses of all constraints that are to be replaced, and marks those that stay.
+fn replace_each(
+    lists: &mut Wanted,
+    problem: &mut Problem,
+    kept: &mut Vec<bool>,
+) -> Result<(), NoMemory>
+    requires { kept.old.items ≡ [] }
+    ensures clauses { OnOk result
+        (problem.new ≡ with_clauses_from problem.old 0 problem.old.constraints) }
+    ensures kept { OnOk result (kept.new.items ≡ staying 0 problem.old.constraints) }
+{
+    let mut spent = 0;
+    for i in 0..problem.constraints.len() {
+        let stays = replace_at(lists, problem, i, &mut spent)?;
+        kept.push(stays)?;
+    }
+    Ok(())
+}
+
+/// Puts clauses in place of the conflicts.
+fn replace(alloc: Global, problem: &mut Problem) -> Result<(), NoMemory>
+    ensures { OnOk result (problem.new ≡ without_conflicts problem.old) }
+{
+    let mut kept = Vec::new(alloc);
+    let mut lists = Wanted::new(alloc);
+    replace_each(&mut lists, problem, &mut kept)?;
+    problem.keep_constraints(&kept);
+    Ok(())
+}
+
+/// The problem with hard clauses, behind its own, in place of its conflicts. Each assignment costs
+/// the same. Beside the clauses it takes a byte for each constraint.
+pub fn without_conflicts(alloc: Global, problem: Problem) -> Result<Problem, NoMemory>
+    ensures exact { IfOk result (λ replaced. replaced ≡ without_conflicts problem) }
+    ensures alike { IfOk result (λ replaced. CostsAlike replaced problem) }
+{
+    let mut problem = problem;
+    replace(alloc, &mut problem)?;
+    Ok(problem)
+}
