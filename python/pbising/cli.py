@@ -24,7 +24,7 @@ from .judging import check_variables, judge, judged_keys, told_model
 from .models import FIGURES, Model, load, parse
 from .program import find_program
 from .readers import FORMATS
-from .samples import (Sample, first_state, states_of, text_assignments, text_samples, written)
+from .samples import Sample, first_state, text_assignments, text_samples, written
 from .search import completed, least_state
 from .sources import Source, source_of
 from .texts import called, read_bytes, text_of
@@ -273,8 +273,8 @@ MODEL_OR_INPUT = Word('MODEL', 'a model; without it the standard input', {'nargs
                                                                           'default': '-'})
 FORMAT = Word('FORMAT', f'the format of FILE: {", ".join(FORMATS)}', {'choices': FORMATS,
                                                                       'metavar': 'FORMAT'})
-KEYS = Word('KEY', 'the keys that the model was made with, as high=rosenberg', {'nargs': '*',
-                                                                               'metavar': 'KEY=VALUE'})
+KEYS = Word('KEY', 'the keys that the model was made with, as high=rosenberg',
+            {'nargs': '*', 'metavar': 'KEY=VALUE'})
 ALL = {'action': 'store_true'}
 
 
@@ -306,12 +306,12 @@ COMMANDS = {
         Word('--all', 'write all samples, a line each, for `evaluate`', ALL))),
     'to-coo': Command('write a model as the COO text that dimod reads', _to_coo, (MODEL,)),
     'to-qpbo': Command('write a model for toulbar2', _to_qpbo, (MODEL,)),
-    'to-dead': Command('write the file of dead parts for dead=, of what works on a chip', _to_dead, (
+    'to-dead': Command('write the file of dead parts for dead=, of what works', _to_dead, (
         Word('ROWS', 'rows of cells', {'type': _count}),
         Word('COLS', 'columns of cells', {'type': _count}),
         Word('SHORE', 'qubits on each side of a cell', {'type': _count}),
         Word('WORKING', 'lists of qubits and couplers, as JSON or Python prints them'))),
-    'to-map': Command('write the file of chains for map=, of a dict as minorminer prints it', _to_map,
+    'to-map': Command('write the file of chains for map=, of a dict of minorminer', _to_map,
                       (Word('CHAINS', 'a dict of chains by nodes: {0: [0, 4], 1: [1]}'),)),
     'certificate': Command('write a certificate of the least energy, for `prove`', _certificate, (
         MODEL_OR_INPUT, Word('--state', 'a file to write a least state to', {'metavar': 'STATE'}))),
@@ -322,7 +322,7 @@ COMMANDS = {
                       (MODEL_OR_INPUT,)),
     'draw': Command('draw a model on a Chimera graph as SVG', _draw, (
         MODEL_OR_INPUT,
-        Word('--state', 'qubits of bit 0 are hollow, broken chains are named', {'metavar': 'STATE'}),
+        Word('--state', 'make qubits of bit 0 hollow, name broken chains', {'metavar': 'STATE'}),
         Word('--dead', 'cross out what is dead', {'metavar': 'LIST'}),
         Word('--strengths', 'each tie is as thick as it is strong', ALL))),
     'info': Command('tell the kind, the size, the figures and the precision of a model', _info,

@@ -5,13 +5,13 @@ import os
 from dataclasses import dataclass, field
 from typing import Any, Dict, List, Mapping, Optional, Sequence, Tuple, Union
 
-from .decoding import Decoded, Decoding, decoded
+from .decoding import Decoded, Decoding, decoded, rank
 from .elimination import certificate
 from .errors import PbisingError, TextError, UsageError
 from .graphs import chain_map
 from .models import Model, Size, parse
 from .program import FileWord, Word, run
-from .samples import Sample, states_of, written
+from .samples import states_of, written
 from .sources import Source, bit_of, source_of
 from .texts import PathName, called, read_bytes, text_of
 
@@ -88,8 +88,8 @@ class CompiledModel(Model):
         chains = len(self.chains or ())
         told = self._evaluated(found)
         if told is None:
-            best = min(range(len(found)), key=lambda at: _rank_at(found, at))
-            _confirm(found[best], *self._decoded(found[best].state))
+            best = min(found, key=rank)
+            _confirm(best, *self._decoded(best.state))
             return Decoding(found, chains, 'package')
         for one, (cost, energy) in zip(found, told):
             _confirm(one, cost, energy)
@@ -236,11 +236,6 @@ def _rows(output: bytes) -> List[Tuple[str, str]]:
 
 def _bits(text: Optional[str]) -> Optional[List[int]]:
     return None if text is None else [int(bit) for bit in text]
-
-
-def _rank_at(found: List[Decoded], at: int) -> Tuple[bool, int, int]:
-    one = found[at]
-    return one.cost is None, one.cost or 0, one.energy
 
 
 def _confirm(one: Decoded, cost: Optional[int], energy: int) -> None:

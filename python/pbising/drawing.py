@@ -4,8 +4,8 @@ Each chain has a colour. Thick lines are the ties of a chain, black ones the cou
 chains, and thin grey ones the joins of the graph that the model leaves alone. With a state the
 qubits of bit 0 are hollow, and a broken chain is named so; dead parts are crossed out.
 
-Side 0 of a cell lies across it, and is joined to the cells above and below; side 1 stands in it, and
-is joined to the cells to the left and right.
+Side 0 of a cell lies across it, and is joined to the cells above and below; side 1 stands in it,
+and is joined to the cells to the left and right.
 """
 from __future__ import annotations
 
@@ -147,6 +147,6 @@ class Picture:
 
 def draw(model: Model, state: Optional[Sequence[int]] = None,
          dead: Sequence[Sequence[int]] = (), strengths: bool = False) -> str:
-    """The picture. With `strengths` each tie is as thick as it is strong, and tells its strength."""
+    """The picture. With `strengths` each tie is as thick as it is strong, and tells it."""
     lines: List[str] = list(Picture(model, state, dead, strengths).lines())
     return ''.join(f'{line}\n' for line in lines)

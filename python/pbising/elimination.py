@@ -8,7 +8,8 @@ from __future__ import annotations
 
 import heapq
 from dataclasses import dataclass
-from typing import Callable, Dict, FrozenSet, Iterator, List, Mapping, Optional, Sequence, Set, Tuple
+from typing import (Callable, Dict, FrozenSet, Iterator, List, Mapping, Optional, Sequence, Set,
+                    Tuple)
 
 from .errors import PbisingError
 from .models import Model
@@ -87,7 +88,8 @@ def _fill(near: Neighbours, node: int) -> int:
     return sum(len(around) - 1 - len(around & near[other]) for other in around) // 2
 
 
-def _greedy(model: Model, key: Callable[[Neighbours, int], int], most: int) -> Tuple[List[int], int]:
+def _greedy(model: Model, key: Callable[[Neighbours, int], int],
+            most: int) -> Tuple[List[int], int]:
     """The order that takes at each turn a node of the least key, as far as it is not too wide."""
     near: Neighbours = {node: set() for node in range(model.nodes)}
     for i, j, _ in model.pairs():

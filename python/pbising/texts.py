@@ -42,7 +42,7 @@ def called(name: PathName) -> str:
 
 
 def whole(word: str, beyond: Optional[int] = BEYOND) -> Optional[int]:
-    """The whole number that a token is, or None; its size is below `beyond`, where that is given."""
+    """The whole number that a token is, or None; `beyond`, where given, is above its size."""
     found = NUMBER.fullmatch(word)
     if not found or len(found[2]) > 1000:
         return None
