@@ -13,7 +13,7 @@ from pbising import ProgramMissing, find_program  # noqa: E402 (the path comes f
 from pbising.cli import main  # noqa: E402
 
 EXAMPLES = ROOT / 'examples'
-CORPUS = ROOT / 'crates' / 'format_examples'
+CORPUS = ROOT / 'crates' / 'worked_examples'
 
 QUBO = """c scale 1
 c offset -6

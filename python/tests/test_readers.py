@@ -78,20 +78,22 @@ class Faults(unittest.TestCase):
 
     @unittest.skipUnless(CORPUS.is_dir(), 'the examples of the formats are not here')
     def test_the_examples_of_the_formats(self):
-        answers = re.split(r'^> ', (CORPUS / 'stdout').read_text(), flags=re.MULTILINE)[1:]
+        blocks = re.split(r'^> ', (CORPUS / 'stdout').read_text(), flags=re.MULTILINE)[1:]
+        answers = [block.split('\n', 2) for block in blocks if block.startswith(('good/', 'bad/'))]
         self.assertGreater(len(answers), 100)
-        for answer in answers:
-            name, line = answer.split('\n')[:2]
-            if ': limit ' in line:
+        for path, status, answer in answers:
+            words, _, data = (CORPUS / 'data' / path).read_bytes().partition(b'@ ')
+            name, _, data = data.partition(b'\n')
+            if status == 'status 6' or b'@' in data or not name.isascii() or b' ' in name:
                 continue
-            data, layout = (CORPUS / 'data' / name).read_bytes(), name.split('.')[-1]
-            with self.subTest(name):
-                if line.startswith('c scale'):
-                    problem = read_problem(layout, data, name)
+            layout = words.split()[1].decode()
+            with self.subTest(path):
+                if status == 'status 0':
+                    problem = read_problem(layout, data, name.decode())
                     self.assertIn(f'c variables {problem.variables}\n', answer)
                 else:
-                    with self.assertRaisesRegex(TextError, '^' + re.escape(line)):
-                        read_problem(layout, data, name)
+                    with self.assertRaisesRegex(TextError, '^' + re.escape(answer.rstrip('\n'))):
+                        read_problem(layout, data, name.decode())
 
 
 if __name__ == '__main__':
