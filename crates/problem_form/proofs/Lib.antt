@@ -1,3 +1,4 @@
+pub mod MarkedLists
 pub mod KeptClauses
 pub mod KeptProducts
 pub mod CountedNumbers

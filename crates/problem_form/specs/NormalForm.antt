@@ -14,6 +14,7 @@ use Rattle.problem_form.specs.declared.terms.Clause.{Clause}
 use Rattle.problem_form.specs.declared.terms.Constraint.{Constraint}
 use Rattle.literal_lists.specs.Literals.{has_clash, literal_set}
 use Rattle.problem_form.specs.Problems.{ProblemContent, problem_cost}
+use Rattle.problem_form.specs.WeighedLists.{marked}
 
 -- a list without elements
 abbrev pub is_empty : {A : Type 0} → List A → Bool
@@ -124,6 +125,10 @@ with_clause p c = record p {
 -- a problem in normal form, with one more constraint as written
 abbrev pub with_constraint : ProblemContent → Constraint → ProblemContent
 with_constraint p k = record p { constraints = p.constraints ++ normal_constraint k ∷ [] }
+
+-- a problem with those of its constraints that are marked
+abbrev pub with_marked : ProblemContent → List Bool → ProblemContent
+with_marked p marks = record p { constraints = marked marks p.constraints }
 
 -- what a source says, one after the other: how many variables there are, and what is added
 pub data Part : Type 0 where

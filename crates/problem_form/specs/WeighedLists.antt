@@ -1,5 +1,5 @@
 -- Clauses and products whose literals and numbers lie apart.
-use Rattle.std.specs.Prelude.{ℕ, zero, suc, ℤ, Option, Some, None, List, [], ◌∷◌}
+use Rattle.std.specs.Prelude.{ℕ, zero, suc, ℤ, Bool, Option, Some, None, List, [], ◌∷◌, if◌then◌else◌}
 use Rattle.literal_lists.specs.declared.literal.Literal.{Literal}
 use Rattle.problem_form.specs.declared.terms.Clause.{Clause}
 use Rattle.problem_form.specs.declared.terms.Product.{Product}
@@ -22,3 +22,9 @@ clause_of ls n = record { literals = ls; weight = weight_of n }
 -- the product of these literals
 abbrev pub product_of : List Literal → ℤ → Product
 product_of ls c = record { literals = ls; coefficient = c }
+
+-- the elements of a list that are marked, as far as there are marks
+abbrev pub marked : {A : Type 0} → List Bool → List A → List A
+marked [] as' = []
+marked (m ∷ ms) [] = []
+marked (m ∷ ms) (a ∷ as') = if m then a ∷ marked ms as' else marked ms as'

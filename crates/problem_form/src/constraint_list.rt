@@ -2,6 +2,7 @@
 ghost use Rattle.std.specs.Prelude.{◌≡◌, ◌<◌, ◌^◌, ◌++◌, ◌∷◌, [], OnOk, OnErr, length, slice_get, Some};
 ghost use Rattle.problem_form.specs.NormalForm.{normal_constraint};
 ghost use Rattle.problem_form.specs.Problems.{constraint_total};
+ghost use Rattle.problem_form.specs.WeighedLists.{marked};
 
 use crate::product_list::{ProductList, Products};
 use crate::products::{keep_products, normal_bound};
@@ -34,6 +35,21 @@ pub(crate) struct Row {
     pub(crate) end: usize,
     pub(crate) bound: i128,
     pub(crate) exact: bool,
+}
+
+/// Leaves the rows that are marked, in their places' order. It needs no memory.
+fn keep_rows(rows: &mut Vec<Row>, kept: &[bool])
+    requires { length kept.now ≡ length rows.old.items }
+    ensures { rows.new.items ≡ marked kept.now rows.old.items }
+{
+    let mut left = 0;
+    for i in 0..rows.len() {
+        if kept[i] {
+            rows[left] = rows[i];
+            left += 1;
+        }
+    }
+    rows.truncate(left);
 }
 
 /// Constraints in normal form, which contracts see as a list. A constraint takes no memory of its
@@ -100,6 +116,15 @@ impl ConstraintList {
             list: self,
             next: 0,
         }
+    }
+
+    /// Leaves the constraints that are marked, in their order. It needs no memory, and gives none of
+    /// their products back.
+    pub fn keep_marked(&mut self, kept: &[bool])
+        requires { length kept.now ≡ length self.old }
+        ensures { self.new ≡ marked kept.now self.old }
+    {
+        keep_rows(&mut self.rows, kept);
     }
 
     /// Appends a constraint as written in normal form. Where memory is refused the list stays as it

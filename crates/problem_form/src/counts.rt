@@ -92,7 +92,7 @@ fn positive_part_of(number: i128) -> u128
     if number < 0 { 0 } else { number.unsigned_abs() }
 }
 
-pub(crate) fn positive_coefficients(products: Products<'_>) -> u128
+pub fn positive_coefficients(products: Products<'_>) -> u128
     requires { positive_total products < 2 ^ 100 }
     ensures { result ≡ positive_total products.entry }
 {

@@ -18,7 +18,7 @@ mod terms;
 pub use clause_list::{ClauseList, ClauseRef, Clauses};
 pub use constraint_list::{ConstraintList, ConstraintRef, Constraints};
 pub use costs::sum_of_products;
-pub use counts::slack_range_of;
+pub use counts::{positive_coefficients, slack_range_of};
 pub use laws::{digits_are_least, normal_form_keeps_costs, parts_add_up};
 pub use limits::{Choices, High, LimitFault, LimitKind, MOST_BYTES, Normal, check_limits};
 pub use literal_lists::{

@@ -1,6 +1,6 @@
 //! A problem in normal form.
-ghost use Rattle.std.specs.Prelude.{◌≡◌, ◌+◌, ◌<◌, ◌≤◌, ◌^◌, All, IfSome, OnOk, OnErr, unsigned_abs, unwrap_or, []};
-ghost use Rattle.problem_form.specs.NormalForm.{blank, with_variables, with_most, with_clause, with_constraint, with_product};
+ghost use Rattle.std.specs.Prelude.{◌≡◌, ◌+◌, ◌<◌, ◌≤◌, ◌^◌, All, IfSome, OnOk, OnErr, length, unsigned_abs, unwrap_or, []};
+ghost use Rattle.problem_form.specs.NormalForm.{blank, with_variables, with_most, with_marked, with_clause, with_constraint, with_product};
 ghost use Rattle.problem_form.specs.Problems.{constraint_total, problem_total};
 
 use crate::clause_list::ClauseList;
@@ -139,5 +139,13 @@ impl Problem {
         ensures unchanged { OnErr result (self.new ≡ self.old) }
     {
         self.constraints.push_normal(constraint)
+    }
+
+    /// Leaves the constraints that are marked, in their order. It needs no memory.
+    pub fn keep_constraints(&mut self, kept: &[bool])
+        requires { length kept.now ≡ length self.old.constraints }
+        ensures { self.new ≡ with_marked self.old kept.now }
+    {
+        self.constraints.keep_marked(kept);
     }
 }

@@ -1,12 +1,11 @@
 -- A file that is cut into words as it comes.
-use Rattle.std.proofs.Common.{◌≡◌, ℕ, ◌+◌, ◌<◌, ◌≤◌, List, [], ◌++◌, length, take, Some, None, Ok, Err, Result, refl, sym, ap, ◌∙◌, subst, append_assoc, arith}
+use Rattle.std.proofs.Common.{◌≡◌, ℕ, ◌+◌, ◌≤◌, List, [], ◌++◌, length, take, Some, None, Ok, Err, Result, refl, sym, ap, ◌∙◌, subst, append_assoc, arith}
 use Rattle.std.proofs.lemmas.List.{append-nil, length-append, length-take, take-append-le}
 use Rattle.std.specs.Io.KnownBytes.{Consumes, IsAtEnd}
-use Rattle.std.specs.Prelude.{IsSomeAnd}
 use Rattle.std.specs.List.{Contains}
 use Rattle.std.proofs.lemmas.List.Elements.{Contains-append_left}
 use Rattle.std.specs.declared.option.Option.{Option}
-use Rattle.edge_io.specs.Held.{NamedFiles, IsFront, IsLonger, WhereTold, find_file}
+use Rattle.edge_io.specs.Held.{NamedFiles, IsFront, WhereTold, find_file}
 use Rattle.whole_text.specs.declared.token.Style.{Style}
 use Rattle.whole_text.specs.Tokens.{Word, tokens_of}
 use Rattle.whole_text.specs.Lexing.{LexerState, StandsFor}
@@ -50,26 +49,6 @@ cut_more held name taken count bytes behind rest left old new cut within consume
       counted = omega (arith, length-append cut.text piece, length-take count bytes, cut.counted);
       front = front_more held name cut.text piece rest left cut.front consumed;
     }
-
-longer : (held : Option NamedFiles) (name front : List ℕ) (limit : ℕ) (rest : Option (List ℕ))
-    → IsFront held name front rest → limit < length front
-    → WhereTold held (λ h. IsLonger h name limit)
-longer None name front limit rest is more = tt
-longer (Some files) name front limit rest is more =
-    subst (λ file. IsSomeAnd file (λ bytes. limit < length bytes)) (sym is.1)
-    (omega (arith, length-append front is.0, more))
-
--- a piece that goes beyond the limit
-pub longer_more : (held : Option NamedFiles) (name : List ℕ) (limit taken count : ℕ)
-    (bytes : List ℕ) (rest left : Option (List ℕ)) (lexer : LexerState)
-    → IsCut held name taken rest lexer → count ≤ length bytes
-    → Consumes rest left (take count bytes) → limit < taken + count
-    → WhereTold held (λ h. IsLonger h name limit)
-longer_more held name limit taken count bytes rest left lexer cut within consumed more =
-    let piece = take count bytes in
-    longer held name (cut.text ++ piece) limit left
-    (front_more held name cut.text piece rest left cut.front consumed)
-    (omega (arith, length-append cut.text piece, length-take count bytes, cut.counted))
 
 -- a lexer of no text, at the start of the file
 pub cut_none : (held : Option NamedFiles) (name : List ℕ) (rest : Option (List ℕ))

@@ -1,6 +1,6 @@
 use Rattle.std.proofs.Common.{rules, arith, drop, ◌++◌, ◌∙◌}
 use Rattle.std.proofs.lemmas.List.{length-take}
-use Rattle.run_steps.proofs.Cutting.{cut_more, longer_more}
+use Rattle.run_steps.proofs.Cutting.{cut_more}
 use Rattle.run_steps.proofs.cut.feed_rest.Goals as goal
 
 pub feed-requires : goal.feed-requires

@@ -1,0 +1,28 @@
+use Rattle.std.proofs.Common.{◌≡◌, ◌<◌, ◌≤◌, ◌^◌, subst, sym, arith, List}
+use Rattle.std.specs.List.{sum_by}
+use Rattle.problem_form.specs.declared.terms.Constraint.{Constraint}
+use Rattle.problem_form.specs.Fields.{IsSound, content_within}
+use Rattle.problem_form.specs.Problems.{IsNormal, IsNormalProduct, ProblemContent, constraint_total, problem_total}
+use Rattle.problem_form.specs.NormalForm.{with_marked}
+use Rattle.problem_form.specs.WeighedLists.{marked}
+use Rattle.std.specs.Prelude.{All, Bool}
+use Rattle.problem_form.proofs.MarkedLists.{All-marked, sum_by-marked}
+use Rattle.problem_form.proofs.problem.Problem.keep_constraints.Goals as goal
+
+marked-sound : (p : ProblemContent) (ms : List Bool) → IsSound p → IsSound (with_marked p ms)
+marked-sound p ms sound =
+    let Normal : Constraint → Type 0 = λ k. All (IsNormalProduct p.variables) k.products in
+    let normal : IsNormal (with_marked p ms) =
+    record {
+      objective = sound.0.objective;
+      clauses = sound.0.clauses;
+      constraints = All-marked Normal ms p.constraints sound.0.constraints;
+      most = sound.0.most;
+    } in
+    (normal, omega (arith, sound.1, sum_by-marked constraint_total ms p.constraints))
+
+pub invariant_of-self : goal.invariant_of-self
+invariant_of-self c =
+    let p = content_within c.self.inside in
+    let With : List Constraint → Type 0 = λ ks. IsSound (record p { constraints = ks }) in
+    subst With (sym c.keep_marked.ensures) (marked-sound p c.args.kept.now c.self.invariant)
