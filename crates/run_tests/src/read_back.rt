@@ -78,7 +78,7 @@ fn alike_of(
 }
 
 /// Whether this is so for all states of both models of a source, in both units.
-fn all_alike(alloc: Global, format: &str, text: &str, nodes: u32) -> Result<bool, Fail> {
+fn all_alike(alloc: Global, format: &'static str, text: &str, nodes: u32) -> Result<bool, Fail> {
     let count = Some(1_u64.wrapping_shl(nodes));
     for target in [Target::Qubo, Target::Ising] {
         for unit in ["unit=one", "unit=reduce"] {
