@@ -1,6 +1,7 @@
 //! The check of a map of chains.
 ghost use Rattle.std.specs.Prelude.{◌≡◌, IfOk, IfErr};
 ghost use Rattle.std.specs.List.{AllZip};
+ghost use Rattle.ising_form.specs.Isings.{IsIsing};
 ghost use Rattle.chain_map.specs.Faults.{IfFault};
 ghost use Rattle.chain_map.specs.Valid.{IsValid};
 ghost use Rattle.embedding_check.specs.Checked.{IsChecked, ArePlaces};
@@ -58,6 +59,7 @@ fn parents_and_places<H: Hardware>(
         AllZip (AreParents (H.joined hardware.now)) chains.now r.0) }
     ensures places { IfOk result (λ r.
         ArePlaces (H.joined hardware.now) chains.now ising.now.couplings r.1) }
+    ensures form { IfOk result (λ _. IsIsing ising.now) }
     ensures fault { IfErr result (λ e. IfFault e
         (IsFault (H.joined hardware.now) (H.qubits hardware.now) ising.now chains.now)) }
 {
@@ -88,6 +90,7 @@ fn laid_out<H: Hardware>(
         AllZip (AreParents (H.joined hardware.now)) map.now l.parents) }
     ensures places { IfOk result (λ l.
         ArePlaces (H.joined hardware.now) map.now ising.now.couplings l.places) }
+    ensures form { IfOk result (λ _. IsIsing ising.now) }
     ensures fault { IfErr result (λ e. IfFault e
         (IsFault (H.joined hardware.now) (H.qubits hardware.now) ising.now map.now)) }
 {

@@ -1,7 +1,6 @@
 use Rattle.std.proofs.Common.{refl, sym, subst, ℕ, List}
 use Rattle.std.specs.List.{AllZip}
 use Rattle.std.proofs.lemmas.Result.{err_from_is_err_and}
-use Rattle.ising_form.specs.Isings.{IsIsing}
 use Rattle.chain_map.specs.Valid.{IsValid}
 use Rattle.embedding_check.specs.Checked.{ArePlaces}
 use Rattle.embedding_check.specs.Distances.{AreParents}
@@ -34,7 +33,7 @@ invariant_of-result g c =
     subst (λ (m : List (List ℕ)). ArePlaces joined m f.couplings layout.places) (sym laid.chains)
     laid.places in
     checked_embeds joined _ f c.args.map.now _ (g.met.H.Hardware.few c.args.hardware.now)
-    (subst IsIsing c.ising.view_is c.ising.invariant) laid.valid
+    laid.form laid.valid
     (record {
       ising = refl;
       chains = laid.chains;
