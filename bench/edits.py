@@ -3,10 +3,10 @@
 
     edits.py [NAME..]
 
-Each file there is an edit as in must-fail/: one line in place of another. It has to be refused by the proof
-of its crate. Without names all crates that have such a folder are tried. The crates are copied with what
-`rt check` or `rt ci` kept of them, the edits of both folders lie in must-fail/ there, and `rt must-fail` tries
-them: so run `rt check` in the crate's folder first. Exits with 1 where one is not refused.
+Each file there is an edit as in must-fail/: one line in place of another, and the proof of its crate has to
+refuse it. Without names all crates that have such a folder are tried. `rt ci NAME` does it, on a copy of the
+crates where the edits lie in must-fail/: what an earlier `rt ci` proved on this machine is not proved again.
+Exits with 1 where one is not refused.
 """
 import os
 import shutil
@@ -15,33 +15,21 @@ import sys
 import tempfile
 
 TOP = os.path.join(os.path.dirname(os.path.abspath(__file__)), '..')
-PROVED = ('.oantt', '.a', '.json', '.rlib')
 
 
 def has_edits(name):
     return os.path.isdir(os.path.join(TOP, 'crates', name, 'edits'))
 
 
-def linked(one, other):
-    """Copies a file, or gives what was proved a second name, since a check replaces it and writes into none."""
-    try:
-        if one.endswith(PROVED):
-            return os.link(one, other)
-    except OSError:
-        pass
-    return shutil.copy2(one, other)
-
-
 def copied(folder, names):
-    """A copy of the repository's crates in which the edits of these lie where they are tried."""
-    shutil.copytree(os.path.join(TOP, 'crates'), os.path.join(folder, 'crates'), copy_function=linked)
+    """A copy of the repository's crates in which the edits of these lie where they are tried, and no others."""
+    leave = shutil.ignore_patterns('out', 'must-fail')
+    shutil.copytree(os.path.join(TOP, 'crates'), os.path.join(folder, 'crates'), ignore=leave)
     for file in ('crates.txt', 'HANDLES'):
         shutil.copy(os.path.join(TOP, file), folder)
     for name in names:
         crate = os.path.join(folder, 'crates', name)
-        os.makedirs(os.path.join(crate, 'must-fail'), exist_ok=True)
-        for edit in os.listdir(os.path.join(crate, 'edits')):
-            os.rename(os.path.join(crate, 'edits', edit), os.path.join(crate, 'must-fail', edit))
+        os.rename(os.path.join(crate, 'edits'), os.path.join(crate, 'must-fail'))
 
 
 def main(names):
@@ -50,9 +38,9 @@ def main(names):
         if name not in known:
             sys.exit(f'edits.py: there is no folder crates/{name}/edits')
     names = names or known
-    with tempfile.TemporaryDirectory(dir=os.path.join(TOP, '.git')) as folder:
+    with tempfile.TemporaryDirectory() as folder:
         copied(folder, names)
-        return subprocess.run(['rt', 'must-fail', *names], cwd=folder).returncode
+        return subprocess.run(['rt', 'ci', *names], cwd=folder, check=False).returncode
 
 
 if __name__ == '__main__':
