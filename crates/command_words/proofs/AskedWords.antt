@@ -38,8 +38,9 @@ use Rattle.command_words.specs.Asked.{EachJobIsAskedFor, EachDecodingIsAskedFor,
 use Rattle.command_words.specs.Commands.{◌>>=◌, after_verb, chosen_target, clauses_of, command_of, drawn, format_of, job_of, named, on_file, sample_of, target_of, valued, verb_of}
 use Rattle.command_words.specs.Keys.{choices_of, chosen_ties, chosen_unit, given, graph_of, keys_from, no_keys, target_by, with_word}
 use Rattle.command_words.specs.Names.{text_at}
-use Rattle.command_words.proofs.CutWords.{cut_rows, cut_cols, cut_shore, cut_map, cut_dead}
+use Rattle.command_words.proofs.CutWords.{cut_bound, cut_rows, cut_cols, cut_shore, cut_map, cut_dead}
 use Rattle.command_words.proofs.Sides.{few_cols, few_rows, few_shore, side_of-digits}
+use Rattle.command_words.proofs.BoundKeys.{bound_of-digits}
 use Rattle.command_words.proofs.Graphs.{graph_with-its, graph_with-larger}
 
 -- ---- the words of a job
@@ -65,6 +66,7 @@ fourth_word_job format target keys = record {
   target = target;
   choices = choices_of keys;
   unit = chosen_unit keys;
+  bound = keys.bound;
 }
 
 -- the sample of these numbers
@@ -75,6 +77,7 @@ sample_with number clauses target keys = record {
   target = target;
   choices = choices_of keys;
   unit = chosen_unit keys;
+  bound = keys.bound;
 }
 
 -- what is chosen step by step
@@ -147,6 +150,10 @@ each_key = record {
   normal = normal;
   high = high;
   unit = unit;
+  bound = λ target keys at value size free said.
+      rw (cut_bound value, free, bound_of-digits value size said) refl;
+  bound_below = λ target keys at value size free said.
+      rw (cut_bound (codes "-" ++ value), free, said) refl;
   rows = λ keys at value side free said some few.
       rw (cut_rows value, free, side_of-digits value side said some few) refl;
   cols = λ keys at value side free said some few.
@@ -285,6 +292,7 @@ no_key_twice = record {
   normal = λ target keys at first given word value named. rw (named, given) refl;
   high = λ target keys at first given word value named. rw (named, given) refl;
   unit = λ target keys at first given word value named. rw (named, given) refl;
+  bound = λ target keys at first given word value named. rw (named, given) refl;
   rows = rows;
   cols = cols;
   shore = shore;
@@ -555,6 +563,7 @@ module _ (words : List (List ℕ)) (keys_at : ℕ) where
         target = target;
         choices = choices_of keys;
         unit = chosen_unit keys;
+        bound = keys.bound;
       })
 
   abbrev with_keys : Format → TargetWord → WordAt → Keys → Result Job ℕ

@@ -1,9 +1,13 @@
--- Where the word of a key of a graph is cut.
+-- Where the word of a key with a number or a name is cut.
 use Rattle.std.proofs.Common.{◌≡◌, ℕ, suc, List, length, Some, refl, arith}
 use Rattle.std.specs.Prelude.{codes}
 use Rattle.std.proofs.lemmas.Bool.{lt-ltb}
-use Rattle.command_words.specs.Asked.{rows_key, cols_key, shore_key, map_key, dead_key}
+use Rattle.command_words.specs.Asked.{bound_key, rows_key, cols_key, shore_key, map_key, dead_key}
 use Rattle.command_words.specs.Keys.{cut}
+
+pub cut_bound : (value : List ℕ) → cut (bound_key value) ≡ Some (codes "bound", value)
+cut_bound value =
+    rw (lt-ltb 5 (suc (suc (suc (suc (suc (suc (length value))))))) (omega arith)) refl
 
 pub cut_rows : (value : List ℕ) → cut (rows_key value) ≡ Some (codes "rows", value)
 cut_rows value = rw (lt-ltb 4 (suc (suc (suc (suc (suc (length value)))))) (omega arith)) refl

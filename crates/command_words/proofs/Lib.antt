@@ -1,5 +1,6 @@
 pub mod Texts
 pub mod CutWords
+pub mod BoundKeys
 pub mod Sides
 pub mod Graphs
 pub mod AskedWords

@@ -3,7 +3,7 @@
 -- The definition of a command goes along the words. Here it is said from the other side: which
 -- words ask for a given command, that every command can be asked for, and that no other words ask
 -- for any.
-use Rattle.std.specs.Prelude.{◌≡◌, ◌<◌, ◌≤◌, ◌+◌, ◌*◌, ◌^◌, List, [], ◌∷◌, ◌++◌, ℕ, codes, length, IfOk, Ok, Err, Option, Some, None}
+use Rattle.std.specs.Prelude.{◌≡◌, ◌<◌, ◌≤◌, ◌+◌, ◌*◌, ◌^◌, true, false, List, [], ◌∷◌, ◌++◌, ℕ, codes, length, IfOk, Ok, Err, Option, Some, None}
 use Rattle.base.specs.declared.unit.UnitChoice.{UnitChoice}
 use Rattle.base.specs.declared.unit.UnitChoice.TheVariants.{One, Reduce}
 use Rattle.problem_form.specs.declared.limits.Normal.{Normal}
@@ -25,6 +25,7 @@ use Rattle.command_words.specs.declared.commands.Chaining.{Chaining}
 use Rattle.command_words.specs.declared.commands.Chaining.TheVariants.{Clique, Map}
 use Rattle.command_words.specs.declared.commands.Ties.{Ties}
 use Rattle.command_words.specs.declared.commands.Ties.TheVariants.{Choi, Cut}
+use Rattle.command_words.specs.declared.commands.Bound.{Bound}
 use Rattle.command_words.specs.declared.commands.WordAt.{WordAt}
 use Rattle.command_words.specs.declared.commands.WordAt.TheVariants.{Whole, Value}
 use Rattle.command_words.specs.declared.commands.Origin.{Origin}
@@ -97,6 +98,7 @@ on_fourth_word format target keys ask = record {
   target = target;
   choices = choices_of keys;
   unit = chosen_unit keys;
+  bound = keys.bound;
   ask = ask;
 }
 
@@ -107,6 +109,7 @@ summary_of number clauses target keys = record {
   target = target;
   choices = choices_of keys;
   unit = chosen_unit keys;
+  bound = keys.bound;
   ask = asks.Summary;
 }
 
@@ -124,6 +127,10 @@ high_key Rosenberg = codes "high=rosenberg"
 abbrev pub unit_key : UnitChoice → List ℕ
 unit_key One = codes "unit=one"
 unit_key Reduce = codes "unit=reduce"
+
+-- the key that gives a bound of the cost, as in `bound=231` and `bound=-7`
+abbrev pub bound_key : List ℕ → List ℕ
+bound_key value = codes "bound=" ++ value
 
 -- The key that gives a number of a graph, the map of chains, the chains of a clique, the list of
 -- dead qubits, or how chains are tied. The value is the digits of the number, as in `rows=16`.
@@ -288,6 +295,14 @@ pub record EachKeyStands : Type 0 where
       → with_word target keys at (high_key high) ≡ Some (record keys { high = Some high })
   pub unit : (target : TargetWord) (keys : Keys) (at : ℕ) (unit : UnitChoice) → keys.unit ≡ None
       → with_word target keys at (unit_key unit) ≡ Some (record keys { unit = Some unit })
+  pub bound : (target : TargetWord) (keys : Keys) (at : ℕ) (value : List ℕ) (size : ℕ)
+      → keys.bound ≡ None → digits_number value ≡ Some size
+      → with_word target keys at (bound_key value)
+      ≡ Some (record keys { bound = Some (record { negative = false; size = size }) })
+  pub bound_below : (target : TargetWord) (keys : Keys) (at : ℕ) (value : List ℕ) (size : ℕ)
+      → keys.bound ≡ None → digits_number value ≡ Some size
+      → with_word target keys at (bound_key (codes "-" ++ value))
+      ≡ Some (record keys { bound = Some (record { negative = true; size = size }) })
   pub rows : (keys : Keys) (at : ℕ) (value : List ℕ) (side : ℕ) → keys.rows ≡ None
       → digits_number value ≡ Some side → 0 < side → side ≤ 2 ^ 20
       → with_word Chimera keys at (rows_key value) ≡ Some (record keys { rows = Some side })
@@ -321,6 +336,8 @@ pub record NoKeyStandsTwice : Type 0 where
       → keys.high ≡ Some first → CannotStand target keys at (codes "high")
   pub unit : (target : TargetWord) (keys : Keys) (at : ℕ) (first : UnitChoice)
       → keys.unit ≡ Some first → CannotStand target keys at (codes "unit")
+  pub bound : (target : TargetWord) (keys : Keys) (at : ℕ) (first : Bound)
+      → keys.bound ≡ Some first → CannotStand target keys at (codes "bound")
   pub rows : (target : TargetWord) (keys : Keys) (at first : ℕ)
       → keys.rows ≡ Some first → CannotStand target keys at (codes "rows")
   pub cols : (target : TargetWord) (keys : Keys) (at first : ℕ)

@@ -90,6 +90,7 @@ job_of words keys_at = do
     target = target;
     choices = choices_of keys;
     unit = chosen_unit keys;
+    bound = keys.bound;
   })
 
 -- A count of clauses in digits, of at most 100,000. More than that would make a text that the
@@ -114,6 +115,7 @@ sample_of words = do
     target = target;
     choices = choices_of keys;
     unit = chosen_unit keys;
+    bound = keys.bound;
   })
 
 -- the words of the verbs
@@ -138,6 +140,7 @@ on_file job ask = record {
   target = job.target;
   choices = job.choices;
   unit = job.unit;
+  bound = job.bound;
   ask = ask;
 }
 
@@ -148,6 +151,7 @@ drawn sample = record {
   target = sample.target;
   choices = sample.choices;
   unit = sample.unit;
+  bound = sample.bound;
   ask = Summary;
 }
 

@@ -13,6 +13,7 @@ use Rattle.problem_form.specs.declared.limits.Normal.TheVariants.{Literal, Multi
 use Rattle.problem_form.specs.declared.limits.High.{High}
 use Rattle.problem_form.specs.declared.limits.High.TheVariants.{Monomial, Rosenberg}
 use Rattle.whole_text.specs.Numbers.{digits_number}
+use Rattle.command_words.specs.declared.commands.Bound.{Bound}
 use Rattle.command_words.specs.declared.commands.WordAt.TheVariants.{Value}
 use Rattle.chimera_graph.specs.declared.chimera.Chimera as graphs
 use Rattle.chimera_graph.specs.Shape.{IsShape}
@@ -33,6 +34,7 @@ no_keys = record {
   normal = None;
   high = None;
   unit = None;
+  bound = None;
   rows = None;
   cols = None;
   shore = None;
@@ -129,6 +131,14 @@ unit_of value =
     then Some One
     else if bytes_eq value (codes "reduce") then Some Reduce else None
 
+-- A bound of the cost: an optional `-` (45), and digits.
+abbrev pub bound_of : List ℕ → Option Bound
+bound_of [] = None
+bound_of (c ∷ cs) =
+    if c == 45
+    then option_map (λ size. record { negative = true; size = size }) (digits_number cs)
+    else option_map (λ size. record { negative = false; size = size }) (digits_number (c ∷ cs))
+
 -- A number of rows, columns or qubits on a side, in digits: from 1 to 2^20. Digits may have zeros
 -- in front of them.
 abbrev pub side_of : List ℕ → Option ℕ
@@ -174,7 +184,7 @@ with_own_pair (Nodes model) keys at name value = None
 with_own_pair Chimera keys at name value = with_graph_pair keys at name value
 
 -- The table of keys: the keys with one more, whose word stands at an index, or none where it cannot
--- stand. Every target has `normal`, `high` and `unit`.
+-- stand. Every target has `normal`, `high`, `unit` and `bound`.
 abbrev pub with_pair : TargetWord → Keys → ℕ → List ℕ → List ℕ → Option Keys
 with_pair target keys at name value =
     if bytes_eq name (codes "normal")
@@ -183,6 +193,8 @@ with_pair target keys at name value =
     then option_map (λ high. record keys { high = Some high }) (once keys.high (high_of value))
     else if bytes_eq name (codes "unit")
     then option_map (λ unit. record keys { unit = Some unit }) (once keys.unit (unit_of value))
+    else if bytes_eq name (codes "bound")
+    then option_map (λ bound. record keys { bound = Some bound }) (once keys.bound (bound_of value))
     else with_own_pair target keys at name value
 
 -- the keys with that of one word more, or none where the word cannot stand

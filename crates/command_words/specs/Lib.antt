@@ -1,4 +1,5 @@
 pub mod laws
+pub mod Bounds
 pub mod Keys
 pub mod Commands
 pub mod Names

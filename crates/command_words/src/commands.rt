@@ -1,4 +1,7 @@
 //! Commands. All of one is `Copy`, since a name stands in it as its place in the words.
+ghost use Rattle.std.specs.Prelude.{◌≡◌, ◌<◌, ◌^◌, IfSome, unsigned_abs};
+ghost use Rattle.command_words.specs.Bounds.{most_of, number_of};
+
 use base::UnitChoice;
 use chimera_graph::Chimera;
 use problem_form::Choices;
@@ -68,6 +71,35 @@ pub enum WordAt {
     Value(usize),
 }
 
+/// A bound of the cost: its size, which is below 2^64, and whether it is negative.
+#[derive(Clone, Copy, Debug, PartialEq, Eq)]
+pub struct Bound {
+    pub negative: bool,
+    pub size: u64,
+}
+
+impl Bound {
+    /// The number that it is.
+    fn number(self) -> i128
+        ensures value { result ≡ number_of self }
+        ensures small { unsigned_abs result < 2 ^ 64 }
+    {
+        let size = i128::from(self.size);
+        if self.negative { -size } else { size }
+    }
+}
+
+/// The most that an assignment may cost, where a bound is given.
+pub fn most_of(bound: Option<Bound>) -> Option<i128>
+    ensures value { result ≡ most_of bound }
+    ensures small { IfSome result (λ most. unsigned_abs most < 2 ^ 64) }
+{
+    match bound {
+        Some(bound) => Some(bound.number()),
+        None => None,
+    }
+}
+
 /// Where a source comes from.
 #[derive(Clone, Copy, Debug, PartialEq, Eq)]
 pub enum Origin {
@@ -95,12 +127,14 @@ pub enum Ask {
     Prove(WordAt, WordAt),
 }
 
-/// What a run does: a source, how it becomes a model, and what is asked of that model.
+/// What a run does: a source, the most that an assignment of it may cost, how it becomes a model, and
+/// what is asked of that model.
 #[derive(Clone, Copy, Debug, PartialEq, Eq)]
 pub struct Command {
     pub origin: Origin,
     pub target: Target,
     pub choices: Choices,
     pub unit: UnitChoice,
+    pub bound: Option<Bound>,
     pub ask: Ask,
 }

@@ -1,8 +1,8 @@
 //! The keys of a command, in any order, each at most once: words of the form `NAME=VALUE`.
 ghost use Rattle.std.specs.Prelude.{◌≡◌, ◌+◌, ◌<◌, ◌^◌, length, map, string_bytes, Some, None, MatchOption};
-ghost use Rattle.command_words.specs.Keys.{chosen_ties, chosen_unit, choices_of, cut, embed_of, graph_of, high_of, keys_from, no_keys, normal_of, once, side_of, target_by, ties_of, unit_of, with_graph_pair, with_pair, with_word};
+ghost use Rattle.command_words.specs.Keys.{bound_of, chosen_ties, chosen_unit, choices_of, cut, embed_of, graph_of, high_of, keys_from, no_keys, normal_of, once, side_of, target_by, ties_of, unit_of, with_graph_pair, with_pair, with_word};
 
-use crate::commands::{Board, Chaining, Target, TargetWord, Ties, WordAt};
+use crate::commands::{Board, Bound, Chaining, Target, TargetWord, Ties, WordAt};
 use base::UnitChoice;
 use chimera_graph::Chimera;
 use problem_form::{Choices, High, Normal};
@@ -17,6 +17,7 @@ pub struct Keys {
     pub normal: Option<Normal>,
     pub high: Option<High>,
     pub unit: Option<UnitChoice>,
+    pub bound: Option<Bound>,
     pub rows: Option<u32>,
     pub cols: Option<u32>,
     pub shore: Option<u32>,
@@ -33,6 +34,7 @@ pub(crate) fn no_keys() -> Keys
         normal: None,
         high: None,
         unit: None,
+        bound: None,
         rows: None,
         cols: None,
         shore: None,
@@ -145,6 +147,30 @@ fn unit_of(value: &str) -> Option<UnitChoice>
     }
 }
 
+/// A bound of the cost: an optional `-`, and digits.
+fn bound_of(value: &str) -> Option<Bound>
+    ensures { result ≡ bound_of value.now }
+{
+    let bytes = value.as_bytes();
+    match bytes {
+        [b'-', rest @ ..] => {
+            let size = digits(rest)?;
+            Some(Bound {
+                negative: true,
+                size,
+            })
+        }
+        [] => None,
+        [_, ..] => {
+            let size = digits(bytes)?;
+            Some(Bound {
+                negative: false,
+                size,
+            })
+        }
+    }
+}
+
 /// A number of rows, columns or qubits on a side, in digits: from 1 to 2^20.
 fn side_of(value: &str) -> Option<u32>
     ensures { result ≡ side_of value.now }
@@ -231,6 +257,10 @@ fn with_pair(target: TargetWord, keys: Keys, at: usize, name: &str, value: &str)
         "unit" => {
             let unit = Some(once(keys.unit, unit_of(value))?);
             Some(Keys { unit, ..keys })
+        }
+        "bound" => {
+            let bound = Some(once(keys.bound, bound_of(value))?);
+            Some(Keys { bound, ..keys })
         }
         _ => match target {
             TargetWord::Nodes(_) => None,

@@ -8,7 +8,7 @@ mod names;
 mod words;
 
 pub use commands::{
-    Ask, Board, Chaining, Command, Format, NodeModel, Origin, Target, Ties, WordAt,
+    Ask, Board, Bound, Chaining, Command, Format, NodeModel, Origin, Target, Ties, WordAt, most_of,
 };
 pub use laws::laws_of_words;
 pub use names::{Which, name_of, text_at};

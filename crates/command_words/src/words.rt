@@ -3,7 +3,7 @@ ghost use Rattle.std.specs.Prelude.{◌≡◌, ◌<◌, ◌≤◌, ◌^◌, IfOk
 ghost use Rattle.whole_text.specs.Numbers.{digits_number};
 ghost use Rattle.command_words.specs.Commands.{HasFewClauses, chosen_target, clauses_of, command_of, drawn, format_of, job_of, named, on_file, sample_of, target_of, valued, verb_of};
 
-use crate::commands::{Ask, Command, Format, NodeModel, Origin, Target, TargetWord, WordAt};
+use crate::commands::{Ask, Bound, Command, Format, NodeModel, Origin, Target, TargetWord, WordAt};
 use crate::keys::{Keys, choices_of, chosen_unit, keys_from, target_by};
 use base::UnitChoice;
 use problem_form::Choices;
@@ -20,6 +20,7 @@ pub struct Job {
     pub target: Target,
     pub choices: Choices,
     pub unit: UnitChoice,
+    pub bound: Option<Bound>,
 }
 
 /// What NUMBER CLAUSES TARGET say, and the keys.
@@ -30,6 +31,7 @@ pub struct Sample {
     pub target: Target,
     pub choices: Choices,
     pub unit: UnitChoice,
+    pub bound: Option<Bound>,
 }
 
 /// What the first word says.
@@ -190,6 +192,7 @@ fn read_job(words: &[String], keys_at: usize) -> Result<Job, usize>
         target,
         choices: choices_of(keys),
         unit: chosen_unit(keys),
+        bound: keys.bound,
     })
 }
 
@@ -209,6 +212,7 @@ fn read_sample(words: &[String]) -> Result<Sample, usize>
         target,
         choices: choices_of(keys),
         unit: chosen_unit(keys),
+        bound: keys.bound,
     })
 }
 
@@ -221,6 +225,7 @@ fn on_file(job: Job, ask: Ask) -> Command
         target: job.target,
         choices: job.choices,
         unit: job.unit,
+        bound: job.bound,
         ask,
     }
 }
@@ -234,6 +239,7 @@ fn drawn(sample: Sample) -> Command
         target: sample.target,
         choices: sample.choices,
         unit: sample.unit,
+        bound: sample.bound,
         ask: Ask::Summary,
     }
 }

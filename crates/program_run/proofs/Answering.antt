@@ -12,7 +12,7 @@ use Rattle.faithful.specs.Faithful.{Demand, Faithful, HasChains}
 use Rattle.form_steps.specs.Least.{IsLeastState}
 use Rattle.faithful.proofs.Told.{least_states_tell, length-read_off}
 use Rattle.problem_form.specs.declared.limits.Choices.{Choices}
-use Rattle.problem_form.specs.Problems.{ProblemContent}
+use Rattle.problem_form.specs.Problems.{ProblemContent, cut_off, own_cost}
 use Rattle.wbo_reader.specs.Wbo.{WboContent}
 use Rattle.problem_form.specs.Problems as problems
 use Rattle.model_text.specs.Rows.{FitsFields, model_text}
@@ -25,10 +25,11 @@ use Rattle.command_words.specs.declared.commands.Ask.{Ask}
 use Rattle.command_words.specs.declared.commands.Ask.TheVariants.{Model, Summary, Solve, Decode, Extend, Prove}
 use Rattle.command_words.specs.declared.commands.Ties.{Ties}
 use Rattle.command_words.specs.declared.commands.Ties.TheVariants.{Choi, Cut}
+use Rattle.command_words.specs.Bounds.{most_of}
 use Rattle.command_words.specs.Names.{text_at}
 use Rattle.command_words.specs.declared.commands.Command.{Command}
 use Rattle.source_texts.specs.declared.reading.Read.{Read}
-use Rattle.source_texts.specs.Sources.{CostsAs, StandsFor, carried, names_of, read_names}
+use Rattle.source_texts.specs.Sources.{CostsAs, StandsFor, bounded, carried, names_of, read_names}
 use Rattle.source_texts.proofs.Standing.{problem_stands, problem_costs}
 use Rattle.model_pipeline.specs.Models as models
 use Rattle.model_pipeline.specs.GraphModels.{ising_of}
@@ -39,7 +40,7 @@ use Rattle.run_steps.specs.declared.plans.Plan.{Plan}
 use Rattle.run_steps.specs.Placements.{ties_of, demand_of}
 use Rattle.run_steps.specs.Plans.{plan_of, nodes_in, StandsOn}
 use Rattle.run_steps.specs.Steps.{◌>>=◌, gives, checking, placing, planning, last_step, format_in}
-use Rattle.program_run.specs.Made.{read_cost, IsExtendedBy, IsModelled, IsSolvedBy, IsTold, IsMadeText}
+use Rattle.program_run.specs.Made.{bounded_cost, read_cost, IsExtendedBy, IsModelled, IsSolvedBy, IsTold, IsMadeText}
 use Rattle.program_run.specs.Answers.{EveryStateStands, Extends, IsAnswer, IsAskedOf, IsDecoded, IsExtended, IsLeastAsked, IsLeastExtension, IsLeastWhereWhole, IsModelFor, IsProved, IsSolved, TellsSource}
 use Rattle.run_steps.proofs.Stepping.{bound}
 use Rattle.program_run.proofs.Taken.{source_is_taken}
@@ -144,9 +145,10 @@ least_where_whole s m x state relaxes extends v whole other w decodes =
     (subst (λ e. e ≤ℤ (m.unit *ℤ energy (form_of m) other)) (sym (extends.scaled v whole)) lies)
 
 module _ (plan : Plan) (s : Source) (m : Written) (names : Option (List (List ℕ)))
-    (made : IsModelled plan m) (stands : StandsFor s plan.read) (costs : CostsAs s plan.read)
+    (made : IsModelled plan m) (most : Option ℤ) (has : plan.read.problem.most ≡ most)
+    (stands : StandsFor (bounded most s) plan.read) (costs : CostsAs s plan.read)
     (named : names ≡ plan.read.names)
-    (its : IsModelFor plan.base plan.unit (nodes_in plan) s m) where
+    (its : IsModelFor plan.base plan.unit (nodes_in plan) (bounded most s) m) where
   own : m.variables ≡ s.form.bits
   own = its.faithful.stated.variables
 
@@ -161,7 +163,15 @@ module _ (plan : Plan) (s : Source) (m : Written) (names : Option (List (List �
       ≡ s.form.cost ((decoding_of m).decoded y)
   decoded_cost y w = costs.same ((decoding_of m).decoded y) (decoded_width y w)
 
-  solved : (text : List ℕ) → IsSolvedBy plan.read m text → IsSolved s names m text
+  -- and with the bound what the bounded source says
+  decoded_bounded : (y : List Bool) → length y ≡ m.nodes
+      → bounded_cost plan.read ((decoding_of m).decoded y)
+      ≡ (bounded most s).form.cost ((decoding_of m).decoded y)
+  decoded_bounded y w =
+      ap (λ n. cut_off n (read_cost plan.read ((decoding_of m).decoded y))) has
+      ∙ ap (cut_off most) (decoded_cost y w)
+
+  solved : (text : List ℕ) → IsSolvedBy plan.read m text → IsSolved s most names m text
   solved text told =
       let x = (decoding_of m).decoded told.state in
       let value = energy (form_of m) told.state in
@@ -169,18 +179,18 @@ module _ (plan : Plan) (s : Source) (m : Written) (names : Option (List (List �
       record {
         state = told.state;
         first = told.first;
-        tells = tells_source s demand m told.state its.faithful told.first.least;
+        tells = tells_source (bounded most s) demand m told.state its.faithful told.first.least;
         said = told.said
             ∙ ap (λ (n : Option (List (List ℕ))). solution_text told.state value x n
-            (read_cost plan.read x)) (sym named)
+            (bounded_cost plan.read x)) (sym named)
             ∙ ap (λ c. solution_text told.state value x names c)
-            (decoded_cost told.state told.first.least.width);
+            (decoded_bounded told.state told.first.least.width);
       }
 
   proved : (bits : List Bool) (text : List ℕ) → IsProvedState m bits
       → text ≡ proof_text (energy (form_of m) bits) ((decoding_of m).decoded bits)
-      plan.read.names (read_cost plan.read ((decoding_of m).decoded bits))
-      → IsProved s names m bits text
+      plan.read.names (bounded_cost plan.read ((decoding_of m).decoded bits))
+      → IsProved s most names m bits text
   proved bits text is told =
       let x = (decoding_of m).decoded bits in
       let value = energy (form_of m) bits in
@@ -188,11 +198,11 @@ module _ (plan : Plan) (s : Source) (m : Written) (names : Option (List (List �
       let least = proved_least m bits is in
       record {
         least = least;
-        tells = tells_source s demand m bits its.faithful least;
+        tells = tells_source (bounded most s) demand m bits its.faithful least;
         said = told
-            ∙ ap (λ (n : Option (List (List ℕ))). proof_text value x n (read_cost plan.read x))
+            ∙ ap (λ (n : Option (List (List ℕ))). proof_text value x n (bounded_cost plan.read x))
             (sym named)
-            ∙ ap (λ c. proof_text value x names c) (decoded_cost bits is.width);
+            ∙ ap (λ c. proof_text value x names c) (decoded_bounded bits is.width);
       }
 
   decoded : (bits : List Bool) (text : List ℕ) → length bits ≡ m.nodes
@@ -212,17 +222,19 @@ module _ (plan : Plan) (s : Source) (m : Written) (names : Option (List (List �
   first_bits : (y : List Bool) → length y ≡ m.nodes
       → (decoding_of m).decoded y
       ≡ take s.form.bits ((models.decoding_to plan.read.problem.variables m).decoded y)
-  first_bits y w = alike plan.unit s plan.read m stands (own ∙ sym stands.variables) y w
+  first_bits y w = alike plan.unit (bounded most s) plan.read m stands (own ∙ sym stands.variables) y w
 
   source_extends : (x state : List Bool) → IsOf s.form x
       → ExtendsTo plan.read.problem.variables (problems.form_of plan.read.problem) m
       (carried plan.read.soft x) state
-      → Extends s m x state
+      → Extends (bounded most s) m x state
   source_extends x state w extends = record {
     width = extends.width;
     decodes = first_bits state extends.width ∙ ap (take s.form.bits) extends.decodes
         ∙ costs.begins x w;
-    scaled = λ v whole. extends.scaled v (costs.same x w ∙ whole);
+    scaled = λ v whole. extends.scaled v
+        (ap (λ n. cut_off n (own_cost plan.read.problem (carried plan.read.soft x))) has
+        ∙ ap (cut_off most) (costs.same x w) ∙ whole);
   }
 
   -- without soft constraints the problem has the source's variables
@@ -237,17 +249,18 @@ module _ (plan : Plan) (s : Source) (m : Written) (names : Option (List (List �
       (ap (λ n. (models.decoding_to n m).decoded other) all ∙ decodes ∙ sym itself)
 
   least_by : (ties : Ties) (soft : Option WboContent) (x state : List Bool) → IsOf s.form x
-      → plan.read.soft ≡ soft → EveryStateStands ties s m → Extends s m x state
+      → plan.read.soft ≡ soft → EveryStateStands ties (bounded most s) m
+      → Extends (bounded most s) m x state
       → (ties ≡ Choi → IsLeastTo plan.read.problem.variables m (carried plan.read.soft x) state)
-      → IsLeastAsked ties soft s m x state
+      → IsLeastAsked ties soft (bounded most s) m x state
   least_by Choi None x state w is every extends least = plain_least x state w is (least refl)
   least_by Choi (Some soft) x state w is every extends least =
-      least_where_whole s m x state every extends
+      least_where_whole (bounded most s) m x state every extends
   least_by Cut None x state w is every extends least = tt
   least_by Cut (Some soft) x state w is every extends least = tt
 
   extended : (x : List Bool) (text : List ℕ) → IsOf s.form x
-      → IsExtendedBy plan.choices plan.read m x text → IsExtended s plan m x text
+      → IsExtendedBy plan.choices plan.read m x text → IsExtended s most plan m x text
   extended x text w told =
       let extends = source_extends x told.state w told.extends in
       record {
@@ -266,7 +279,7 @@ module _ (plan : Plan) (s : Source) (m : Written) (names : Option (List (List �
   asked_of : (words : List (List ℕ)) (held : NamedFiles) (ask : Ask) (bits : List Bool)
       (text : List ℕ) → (last_step words held ask plan m).end ≡ Some (Ok bits)
       → IsTold ask plan.read plan.choices m bits text
-      → IsAskedOf ask s names plan m bits text
+      → IsAskedOf ask s most names plan m bits text
   asked_of words held Model bits text e told =
       let formed = formed_on plan.base plan.choices plan.unit plan.read.variables
       plan.read.problem m made.stands in
@@ -291,11 +304,17 @@ made_answers words held command plan text e made =
     let planned = planned_is words held command plan e in
     let taken = source_is_taken words held command plan.read planned.checked in
     let format = format_in command.origin in
-    let s = problem_stands format taken.text plan.read taken.read in
+    let most = most_of command.bound in
+    let s = problem_stands format taken.text taken.own taken.read in
     let m = made.model in
-    let costs = problem_costs format taken.text plan.read s.0 taken.read s.1 in
-    let named : names_of format taken.text ≡ plan.read.names = ap read_names taken.read in
-    let stands = stands_on plan.base plan.choices plan.unit s.0 plan.read m s.2 made.made.stands in
+    let costs = subst (CostsAs s.0) taken.bounded
+    (problem_costs format taken.text taken.own s.0 most taken.read s.1) in
+    let own_stands = subst (StandsFor (bounded most s.0)) taken.bounded (s.2 most) in
+    let named : names_of format taken.text ≡ plan.read.names =
+    ap read_names taken.read ∙ ap (λ (r : Read). r.names) taken.bounded in
+    let has : plan.read.problem.most ≡ most = sym (ap (λ (r : Read). r.problem.most) taken.bounded) in
+    let stands =
+    stands_on plan.base plan.choices plan.unit (bounded most s.0) plan.read m own_stands made.made.stands in
     record {
       source = s.0;
       from = record { text = taken.text; found = taken.found; says = s.1 };
@@ -303,10 +322,11 @@ made_answers words held command plan text e made =
       planned = e;
       model = m;
       by = made.made.by;
-      stands = subst (λ u. IsModelFor plan.base u (nodes_in plan) s.0 m) planned.unit stands;
+      stands = subst (λ u. IsModelFor plan.base u (nodes_in plan) (bounded most s.0) m) planned.unit
+          stands;
       few = has_few_nodes plan m made.made.can_stand made.made.by made.made.stands;
       bits = made.bits;
       last = made.read;
-      said = asked_of plan s.0 m (names_of format taken.text) made.made s.2 costs named stands
-          words held command.ask made.bits text made.read made.told;
+      said = asked_of plan s.0 m (names_of format taken.text) made.made most has own_stands costs named
+          stands words held command.ask made.bits text made.read made.told;
     }

@@ -1,19 +1,21 @@
 -- What the steps that take a file have found where they succeed.
-use Rattle.std.proofs.Common.{◌≡◌, ℕ, List, Ok, Err, Some, None, Result, subst}
+use Rattle.std.proofs.Common.{◌≡◌, ℕ, List, Ok, Err, Some, None, Result}
 use Rattle.std.specs.declared.option.Option.{Option}
 use Rattle.edge_io.specs.Held.{NamedFiles}
 use Rattle.whole_text.specs.declared.faults.TextFault.{TextFault}
 use Rattle.problem_form.specs.declared.limits.LimitFault.{LimitFault}
+use Rattle.problem_form.specs.NormalForm.{with_most}
 use Rattle.problem_form.specs.Limits.{limit_fault}
 use Rattle.command_words.specs.declared.names.Which.{Which}
 use Rattle.command_words.specs.declared.names.Which.TheVariants.{Source}
 use Rattle.command_words.specs.declared.commands.Origin.{Origin}
 use Rattle.command_words.specs.declared.commands.Origin.TheVariants.{File, Drawn}
 use Rattle.command_words.specs.declared.commands.Command.{Command}
+use Rattle.command_words.specs.Bounds.{most_of}
 use Rattle.command_words.specs.Names.{text_at}
 use Rattle.source_texts.specs.declared.reading.Read.{Read}
-use Rattle.source_texts.specs.Sources.{problem_of}
-use Rattle.run_steps.specs.Steps.{ends, text_end, limits_end, format_in, sourcing, reading, checking}
+use Rattle.source_texts.specs.Sources.{bounded_read, problem_of}
+use Rattle.run_steps.specs.Steps.{ends, text_end, limited, limits_end, format_in, sourcing, reading, checking}
 use Rattle.program_run.specs.Answers.{IsTextIn}
 use Rattle.run_steps.proofs.Stepping.{bound}
 use Rattle.run_steps.proofs.TakenBytes.{taken_is_held}
@@ -35,24 +37,25 @@ sourced_is_held words held (File format at) text e =
     taken_is_held held Source (text_at words at) text e
 sourced_is_held words held (Drawn number clauses) text e = cc
 
--- the source's text is held or drawn, and is read into this problem
-pub record IsTaken (words : List (List ℕ)) (held : NamedFiles) (origin : Origin) (given : Read)
+-- the source's text is held or drawn, and is read into this problem, but for the bound
+pub record IsTaken (words : List (List ℕ)) (held : NamedFiles) (command : Command) (given : Read)
     : Type 0 where
   pub text : List ℕ
-  pub found : IsTextIn words held origin text
-  pub read : problem_of (format_in origin) text ≡ Ok given
+  pub found : IsTextIn words held command.origin text
+  pub own : Read
+  pub read : problem_of (format_in command.origin) text ≡ Ok own
+  pub bounded : bounded_read (most_of command.bound) own ≡ given
 
 pub source_is_taken : (words : List (List ℕ)) (held : NamedFiles) (command : Command) (read : Read)
     → (checking words held command).end ≡ Some (Ok read)
-    → IsTaken words held command.origin read
+    → IsTaken words held command read
 unfolding checking reading
 source_is_taken words held command read e =
     let origin = command.origin in
-    let checked = bound (reading words held origin)
-    (λ r. ends (limits_end Source r (limit_fault command.choices.normal r.problem))) read e in
-    let within : limits_end Source checked.0 (limit_fault command.choices.normal checked.0.problem) ≡ Ok read =
-    let two = checked.2 in cc in
-    let same = limits_keep Source checked.0 read (limit_fault command.choices.normal checked.0.problem)
+    let checked = bound (reading words held origin) (λ r. ends (limited command r)) read e in
+    let within : limited command checked.0 ≡ Ok read = let two = checked.2 in cc in
+    let same = limits_keep Source (bounded_read (most_of command.bound) checked.0) read
+    (limit_fault command.choices.normal (with_most checked.0.problem (most_of command.bound)))
     within in
     let taken = bound (sourcing words held origin)
     (λ text. ends (text_end Source (problem_of (format_in origin) text))) checked.0 checked.1 in
@@ -61,6 +64,7 @@ source_is_taken words held command read e =
     record {
       text = taken.0;
       found = sourced_is_held words held origin taken.0 taken.1;
-      read = subst (λ r. problem_of (format_in origin) taken.0 ≡ Ok r) same
-          (text_is_read Source (problem_of (format_in origin) taken.0) checked.0 said);
+      own = checked.0;
+      read = text_is_read Source (problem_of (format_in origin) taken.0) checked.0 said;
+      bounded = same;
     }

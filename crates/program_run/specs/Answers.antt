@@ -25,9 +25,10 @@ use Rattle.command_words.specs.declared.commands.Ask.{Ask}
 use Rattle.command_words.specs.declared.commands.Ask.TheVariants as asks
 use Rattle.command_words.specs.declared.commands.Command.{Command}
 use Rattle.command_words.specs.Commands.{command_of}
+use Rattle.command_words.specs.Bounds.{most_of}
 use Rattle.command_words.specs.Names.{text_at, files_of}
 use Rattle.command_words.specs.declared.names.Which.{Which}
-use Rattle.source_texts.specs.Sources.{source_of, names_of, carried}
+use Rattle.source_texts.specs.Sources.{source_of, names_of, bounded, carried}
 use Rattle.answer_text.specs.Answers.{decoding_text, extension_text, proof_text, solution_text}
 use Rattle.basic_solve.specs.FirstLeast.{IsFirstLeast}
 use Rattle.faithful.specs.Told.{TellsOptimum, whole_energy}
@@ -113,14 +114,15 @@ IsLeastAsked Choi (Some soft) source model x state = IsLeastWhereWhole source mo
 IsLeastAsked Cut soft source model x state = ⊤
 
 -- the text is the state of the model that extends an assignment of the source, with what the
--- assignment costs the source, and the energy of the state
-pub record IsExtended (source : Source) (plan : Plan) (model : Written) (x : List Bool)
-    (text : List ℕ) : Type 0 where
+-- assignment costs the source, and the energy of the state; the state extends it where the bounded
+-- cost is whole
+pub record IsExtended (source : Source) (most : Option ℤ) (plan : Plan) (model : Written)
+    (x : List Bool) (text : List ℕ) : Type 0 where
   pub state : List Bool
   pub exact : state
       ≡ state_on model (extension_of plan.choices plan.read.problem (carried plan.read.soft x))
-  pub extends : Extends source model x state
-  pub least : IsLeastAsked (ties_of plan.base) plan.read.soft source model x state
+  pub extends : Extends (bounded most source) model x state
+  pub least : IsLeastAsked (ties_of plan.base) plan.read.soft (bounded most source) model x state
   pub said : text ≡ extension_text state (source.form.cost x) (energy (form_of model) state)
 
 -- what a least state of a model tells of the source: where it is not above the threshold, it decodes
@@ -132,45 +134,48 @@ pub record TellsSource (source : Source) (model : Written) (state : List Bool) :
       → ¬ (IsFeasible source.form)
 
 -- the text is the first least state of the model, its energy, and what it decodes to with what that
--- costs the source
-pub record IsSolved (source : Source) (names : Option (List (List ℕ))) (model : Written)
-    (text : List ℕ) : Type 0 where
+-- costs the bounded source, of which the state tells
+pub record IsSolved (source : Source) (most : Option ℤ) (names : Option (List (List ℕ)))
+    (model : Written) (text : List ℕ) : Type 0 where
   pub state : List Bool
   pub first : IsFirstLeast (form_of model) state
-  pub tells : TellsSource source model state
+  pub tells : TellsSource (bounded most source) model state
   pub said : text ≡ solution_text state (energy (form_of model) state)
       ((decoding_of model).decoded state) names
-      (source.form.cost ((decoding_of model).decoded state))
+      ((bounded most source).form.cost ((decoding_of model).decoded state))
 
 -- the text is the energy of a least state of the model, and what the state decodes to with what that
--- costs the source
-pub record IsProved (source : Source) (names : Option (List (List ℕ))) (model : Written)
-    (state : List Bool) (text : List ℕ) : Type 0 where
+-- costs the bounded source, of which the state tells
+pub record IsProved (source : Source) (most : Option ℤ) (names : Option (List (List ℕ)))
+    (model : Written) (state : List Bool) (text : List ℕ) : Type 0 where
   pub least : IsLeastState (form_of model) state
-  pub tells : TellsSource source model state
+  pub tells : TellsSource (bounded most source) model state
   pub said : text ≡ proof_text (energy (form_of model) state)
       ((decoding_of model).decoded state) names
-      (source.form.cost ((decoding_of model).decoded state))
+      ((bounded most source).form.cost ((decoding_of model).decoded state))
 
 -- the text is what is asked: the model's own, its summary, its first least state, what a state
--- decodes to, what an assignment extends to, or what a state that is proved to be least tells
-abbrev pub IsAskedOf : Ask → Source → Option (List (List ℕ)) → Plan → Written → List Bool → List ℕ
-    → Type 0
-IsAskedOf asks.Model source names plan model bits text = IsTextOf model text
-IsAskedOf asks.Summary source names plan model bits text = text ≡ summary_text model
-IsAskedOf asks.Solve source names plan model bits text = IsSolved source names model text
-IsAskedOf (asks.Decode at) source names plan model bits text =
+-- decodes to, what an assignment extends to, or what a state that is proved to be least tells; the
+-- costs of what is decoded or extended are the source's own, and all else is said of the source with
+-- the bound
+abbrev pub IsAskedOf : Ask → Source → Option ℤ → Option (List (List ℕ)) → Plan → Written → List Bool
+    → List ℕ → Type 0
+IsAskedOf asks.Model source most names plan model bits text = IsTextOf model text
+IsAskedOf asks.Summary source most names plan model bits text = text ≡ summary_text model
+IsAskedOf asks.Solve source most names plan model bits text = IsSolved source most names model text
+IsAskedOf (asks.Decode at) source most names plan model bits text =
     IsDecoded source names model bits text
-IsAskedOf (asks.Extend at) source names plan model bits text =
-    IsExtended source plan model bits text
-IsAskedOf (asks.Prove state certificate) source names plan model bits text =
-    IsProved source names model bits text
+IsAskedOf (asks.Extend at) source most names plan model bits text =
+    IsExtended source most plan model bits text
+IsAskedOf (asks.Prove state certificate) source most names plan model bits text =
+    IsProved source most names model bits text
 
 -- ---- the answer
 
 -- the text answers the command: it is what is asked of the model that the command's plan makes of
--- its source, with the bits that are read once the model stands; the model's nodes are at most the
--- problem's variables and the auxiliary bits
+-- its source, with the bits that are read once the model stands; the model stands for the source whose
+-- assignments may cost at most the command's bound, and its nodes are at most the problem's variables
+-- and the auxiliary bits
 pub record IsAnswer (words : List (List ℕ)) (held : NamedFiles) (command : Command) (text : List ℕ)
     : Type 0 where
   pub source : Source
@@ -179,13 +184,14 @@ pub record IsAnswer (words : List (List ℕ)) (held : NamedFiles) (command : Com
   pub planned : (planning words held command).end ≡ Some (Ok plan)
   pub model : Written
   pub by : IsModelBy plan model
-  pub stands : IsModelFor plan.base command.unit (nodes_in plan) source model
+  pub stands : IsModelFor plan.base command.unit (nodes_in plan)
+      (bounded (most_of command.bound) source) model
   pub few : form_nodes model
       ≤ plan.read.problem.variables + auxiliary_bits plan.choices.normal plan.read.problem
   pub bits : List Bool
   pub last : (last_step words held command.ask plan model).end ≡ Some (Ok bits)
-  pub said : IsAskedOf command.ask source (names_of (format_in command.origin) from.text) plan
-      model bits text
+  pub said : IsAskedOf command.ask source (most_of command.bound)
+      (names_of (format_in command.origin) from.text) plan model bits text
 
 -- the text is the answer to a command of the words
 abbrev pub IsAnswerIn : List (List ℕ) → NamedFiles → Result Command ℕ → List ℕ → Type 0

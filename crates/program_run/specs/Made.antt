@@ -4,7 +4,7 @@ use Rattle.base.specs.declared.costs.Cost.{Cost}
 use Rattle.base.specs.Costs.{energy}
 use Rattle.bits_model.specs.Output.{Written, form_of, decoding_of}
 use Rattle.problem_form.specs.declared.limits.Choices.{Choices}
-use Rattle.problem_form.specs.Problems.{ProblemContent}
+use Rattle.problem_form.specs.Problems.{ProblemContent, cut_off, own_cost}
 use Rattle.problem_form.specs.Problems as problems
 use Rattle.model_text.specs.Rows.{model_text}
 use Rattle.model_text.specs.Summary.{summary_text}
@@ -34,9 +34,14 @@ pub record IsModelled (plan : Plan) (m : Written) : Type 0 where
   pub stands : Stands plan m
   pub made : IsMadeOf (ties_of plan.base) plan.read.variables plan.choices plan.read.problem m
 
--- what an assignment of the source costs, in terms of the problem that it was read into
+-- what an assignment of the source costs, in terms of the problem that it was read into, whatever the
+-- most is that it may cost
 abbrev pub read_cost : Read → List Bool → Cost
-read_cost read x = (problems.form_of read.problem).cost (carried read.soft x)
+read_cost read x = own_cost read.problem (carried read.soft x)
+
+-- the same, and infinite above that most
+abbrev pub bounded_cost : Read → List Bool → Cost
+bounded_cost read x = cut_off read.problem.most (read_cost read x)
 
 -- the text is a state of the model that extends an assignment of the problem, with this cost, and the
 -- energy of the state; where ties are those that no state should break, it is a least such state
@@ -54,13 +59,13 @@ IsExtendedBy choices read m x text =
     IsStateText choices read.problem m (carried read.soft x) (read_cost read x) text
 
 -- the text is the first least state of the model, its energy, and what it decodes to with what that
--- costs the problem
+-- costs the problem, infinite above its most
 pub record IsSolvedBy (read : Read) (m : Written) (text : List ℕ) : Type 0 where
   pub state : List Bool
   pub first : IsFirstLeast (form_of m) state
   pub said : text ≡ solution_text state (energy (form_of m) state)
       ((decoding_of m).decoded state) read.names
-      (read_cost read ((decoding_of m).decoded state))
+      (bounded_cost read ((decoding_of m).decoded state))
 
 -- what is written for a state of a model: the assignment that it decodes to, with these names of the
 -- variables, what that costs the source, and the energy of the state
@@ -69,11 +74,12 @@ state_text read m bits =
     decoding_text ((decoding_of m).decoded bits) read.names
     (read_cost read ((decoding_of m).decoded bits)) (energy (form_of m) bits)
 
--- what is written for a state that is proved to be least: the same, with the energy first
+-- what is written for a state that is proved to be least: the same, with the energy first, and with a
+-- cost that is infinite above the most
 abbrev pub least_text : Read → Written → List Bool → List ℕ
 least_text read m bits =
     proof_text (energy (form_of m) bits) ((decoding_of m).decoded bits) read.names
-    (read_cost read ((decoding_of m).decoded bits))
+    (bounded_cost read ((decoding_of m).decoded bits))
 
 -- the text is what is asked of the model
 abbrev pub IsTold : Ask → Read → Choices → Written → List Bool → List ℕ → Type 0

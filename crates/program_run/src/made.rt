@@ -14,7 +14,7 @@ ghost use Rattle.program_run.specs.Unembedded.{IsUnembedded, unsolved};
 ghost use Rattle.run_steps.specs.Statuses.{ended, IsRefusal, IsUnsolved};
 ghost use Rattle.run_steps.specs.Causes.{AreFilesOf, WhereHeld, spelled, named_in};
 
-use crate::decode::{decoded, decoded_text, proved_text};
+use crate::decode::{bounded_cost, decoded, decoded_text, proved_text};
 use crate::extend::extended_text;
 use crate::models::model_on;
 use answer_text::written_solution;
@@ -25,7 +25,7 @@ use command_words::{Ask, Command, WordAt};
 use edge_io::Files;
 use model_pipeline::Keeping;
 use run_steps::{Plan, Status, take_last};
-use source_texts::{Read, cost_of};
+use source_texts::Read;
 use std::alloc::Global;
 
 /// The model of a plan, which is let go. Its problem is, as soon as a form stands in its place.
@@ -120,7 +120,7 @@ fn solved_text(
     ensures { IfOk result (λ text. IsSolvedBy read.now model.now text.items) }
 {
     let x = decoded(alloc, model, state)?;
-    let cost = cost_of(read, &x);
+    let cost = bounded_cost(read, &x);
     let energy = energy_of(model.kind, state, &model.entries);
     written_solution(alloc, state, energy, &x, &read.names, cost)
 }

@@ -38,6 +38,7 @@ fn plain(ask: Ask) -> Command {
             high: High::Monomial,
         },
         unit: UnitChoice::One,
+        bound: None,
         ask,
     }
 }
@@ -52,6 +53,7 @@ fn compile_in(format: Format, target: Target, normal: Normal, unit: UnitChoice) 
             high: High::Monomial,
         },
         unit,
+        bound: None,
         ask: Ask::Model,
     }
 }

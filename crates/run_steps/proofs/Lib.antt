@@ -8,6 +8,7 @@ pub mod Planned
 pub mod Cutting
 pub mod Ended
 pub mod Certified
+pub mod BoundedLimits
 pub mod Sampled
 pub mod TakenBytes
 pub mod StateBits

@@ -11,17 +11,19 @@ use Rattle.sample_text.proofs.EachRead.{each_sample_is_read}
 use Rattle.source_texts.specs.declared.reading.Read.{Read}
 use Rattle.source_texts.specs.Sources.{own, problem_of}
 use Rattle.run_steps.specs.Drawn.{IsDrawnInto}
+use Rattle.source_texts.proofs.WcnfTexts.{wcnf_has_no_most}
+use Rattle.run_steps.proofs.BoundedLimits.{within_bounded}
 
 -- there is something that it is read into
 read_into : (number clauses : ℕ) (normal : Normal) → clauses ≤ 100000
     → (read : Read) × IsDrawnInto number clauses normal read
 read_into number clauses normal few =
-    let law = each_sample_is_read number clauses normal few in (
+    let law = each_sample_is_read number clauses normal few in
+    let from : problem_of Wcnf (sample_text number clauses) ≡ Ok (own law.0) =
+    ap (λ (r : Result ProblemContent TextFault). r >>= λ p. Ok (own p)) law.1 in
+    let free = wcnf_has_no_most (sample_text number clauses) (own law.0) from in (
       own law.0,
-      record {
-        from = ap (λ (r : Result ProblemContent TextFault). r >>= λ p. Ok (own p)) law.1;
-        within = law.2;
-      },
+      record { from = from; within = λ most. within_bounded normal law.0 most free law.2 },
     )
 
 pub drawn_is_read : (number clauses : ℕ) (read : Read) → clauses ≤ 100000

@@ -1,13 +1,14 @@
 -- What the text that a number draws is read into.
-use Rattle.std.specs.Prelude.{◌≡◌, ℕ, Ok, None}
+use Rattle.std.specs.Prelude.{◌≡◌, ℕ, ℤ, Ok, None, Option}
 use Rattle.problem_form.specs.declared.limits.Normal.{Normal}
+use Rattle.problem_form.specs.NormalForm.{with_most}
 use Rattle.problem_form.specs.Limits.{limit_fault}
 use Rattle.command_words.specs.declared.commands.Format.TheVariants.{Wcnf}
 use Rattle.sample_text.specs.Sample.{sample_text}
 use Rattle.source_texts.specs.declared.reading.Read.{Read}
 use Rattle.source_texts.specs.Sources.{problem_of}
 
--- the text is read into this problem, which passes no limit
+-- the text is read into this problem, which passes no limit, whatever its assignments may cost
 pub record IsDrawnInto (number clauses : ℕ) (normal : Normal) (read : Read) : Type 0 where
   pub from : problem_of Wcnf (sample_text number clauses) ≡ Ok read
-  pub within : limit_fault normal read.problem ≡ None
+  pub within : (most : Option ℤ) → limit_fault normal (with_most read.problem most) ≡ None

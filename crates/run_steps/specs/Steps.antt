@@ -7,6 +7,7 @@ use Rattle.bits_model.specs.Output.{Written}
 use Rattle.whole_text.specs.declared.faults.TextFault.{TextFault}
 use Rattle.problem_form.specs.declared.limits.LimitFault.{LimitFault}
 use Rattle.problem_form.specs.declared.limits.LimitKind.TheVariants.{Bytes}
+use Rattle.problem_form.specs.NormalForm.{with_most}
 use Rattle.problem_form.specs.Limits.{limit_fault, most_bytes}
 use Rattle.command_words.specs.declared.names.Which.{Which}
 use Rattle.command_words.specs.declared.names.Which.TheVariants.{Source, Dead, Map, State, Certificate}
@@ -23,6 +24,7 @@ use Rattle.command_words.specs.declared.commands.Ask.{Ask}
 use Rattle.command_words.specs.declared.commands.Ask.TheVariants.{Model, Summary, Solve, Decode, Extend, Prove}
 use Rattle.command_words.specs.declared.commands.WordAt.{WordAt}
 use Rattle.command_words.specs.declared.commands.Command.{Command}
+use Rattle.command_words.specs.Bounds.{most_of}
 use Rattle.command_words.specs.Names.{text_at}
 use Rattle.sample_text.specs.Sample.{sample_text}
 use Rattle.chimera_graph.specs.declared.chimera.Chimera.{Chimera}
@@ -30,7 +32,7 @@ use Rattle.chain_map.specs.Maps as maps
 use Rattle.working_graph.specs.Working.{WorkingGraph}
 use Rattle.working_graph.specs.DeadLists.{working_of}
 use Rattle.source_texts.specs.declared.reading.Read.{Read}
-use Rattle.source_texts.specs.Sources.{problem_of}
+use Rattle.source_texts.specs.Sources.{bounded_read, problem_of}
 use Rattle.state_file.specs.States.{state_of}
 use Rattle.basic_solve.specs.Widths.{width}
 use Rattle.posiform_check.specs.declared.faults.ProofFault.{ProofFault}
@@ -126,11 +128,17 @@ reading words held origin = do
   text ← sourcing words held origin
   ends (text_end Source (problem_of (format_in origin) text))
 
--- and then checking its limits
+-- what is read with the bound of a command, within the limits
+abbrev pub limited : Command → Read → Result Read Status
+limited command read =
+    limits_end Source (bounded_read (most_of command.bound) read)
+    (limit_fault command.choices.normal (with_most read.problem (most_of command.bound)))
+
+-- and then giving it the command's bound, and checking its limits
 unfoldable pub checking : List (List ℕ) → NamedFiles → Command → Steps Read
 checking words held command = do
   read ← reading words held command.origin
-  ends (limits_end Source read (limit_fault command.choices.normal read.problem))
+  ends (limited command read)
 
 -- what a dead list leaves of a graph, read from the file of this name
 unfoldable pub working : NamedFiles → List ℕ → Chimera → Steps WorkingGraph

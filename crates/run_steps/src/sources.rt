@@ -13,7 +13,7 @@ ghost use Rattle.run_steps.specs.Drawn.{IsDrawnInto};
 use crate::status::Status;
 use crate::steps::take_read;
 use base::NoMemory;
-use command_words::{Command, Format, Origin, Which, text_at};
+use command_words::{Command, Format, Origin, Which, most_of, text_at};
 use edge_io::Files;
 use problem_form::check_limits;
 use sample_text::sample_text;
@@ -22,7 +22,7 @@ use std::alloc::Global;
 use whole_text::TextAnswer;
 
 /// What the text that a number draws is read into. It has no fault, and passes no limit.
-#[tactic(auto, using(crate::proofs::Sampled::drawn_is_read, crate::proofs::Sampled::drawn_has_no_fault))]
+#[tactic(auto, using(crate::proofs::Sampled::drawn_has_no_fault))]
 fn read_drawn(alloc: Global, number: u64, clauses: u64) -> Result<Read, NoMemory>
     requires { clauses ≤ 100000 }
     ensures read { IfOk result (λ read. (normal : Normal)
@@ -37,8 +37,8 @@ fn read_drawn(alloc: Global, number: u64, clauses: u64) -> Result<Read, NoMemory
     }
 }
 
-/// What the source of a command is read into, within the limits. A file is taken, and cut into words
-/// as it comes.
+/// What the source of a command is read into, with the command's bound and within the limits. A file
+/// is taken, and cut into words as it comes.
 pub fn take_source<F: Files>(
     alloc: Global,
     words: &[String],
@@ -60,16 +60,21 @@ pub fn take_source<F: Files>(
         (F.counts files.old) (F.counts files.new)) }
     ensures refusal { IfErr result IsRefusal }
 {
+    let most = most_of(command.bound);
     match command.origin {
         Origin::Drawn(number, clauses) => match read_drawn(alloc, number, clauses) {
-            Ok(read) => Ok(read),
+            Ok(mut read) => {
+                read.cut_off(most);
+                Ok(read)
+            }
             Err(_) => Err(Status::NoMemory),
         },
         Origin::File(format, at) => {
-            let read = match take_read(alloc, text_at(words, at), format, files) {
+            let mut read = match take_read(alloc, text_at(words, at), format, files) {
                 Ok(read) => read,
                 Err(status) => return Err(status),
             };
+            read.cut_off(most);
             match check_limits(&read.problem, &command.choices) {
                 Ok(()) => Ok(read),
                 Err(fault) => Err(Status::Limit(Which::Source, fault.kind, fault.number)),

@@ -1,3 +1,4 @@
+pub mod Bounded
 pub mod Readings
 pub mod WcnfTexts
 pub mod OpbTexts

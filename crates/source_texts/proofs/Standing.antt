@@ -6,7 +6,8 @@ use Rattle.command_words.specs.declared.commands.Format.{Format}
 use Rattle.command_words.specs.declared.commands.Format.TheVariants.{Wcnf, Opb, Wbo, Poly, Ising, Qubo}
 use Rattle.entry_reader.specs.declared.layout.Layout.TheVariants as layouts
 use Rattle.source_texts.specs.declared.reading.Read.{Read}
-use Rattle.source_texts.specs.Sources.{source_of, problem_of, StandsFor, CostsAs, WordsAreReadAsTexts}
+use Rattle.source_texts.specs.Sources.{source_of, problem_of, StandsBounded, CostsAs, ProblemsCostAsSources, WordsAreReadAsTexts}
+use Rattle.source_texts.proofs.Bounded.{costs_bounded}
 use Rattle.source_texts.proofs.Readings.{read_stands, read_costs}
 use Rattle.source_texts.proofs.WcnfTexts.{wcnf_read}
 use Rattle.source_texts.proofs.OpbTexts.{opb_read}
@@ -15,7 +16,7 @@ use Rattle.source_texts.proofs.PolyTexts.{poly_read}
 use Rattle.source_texts.proofs.EntryTexts.{entries_read}
 
 pub problem_stands : (format : Format) (text : List ℕ) (r : Read) → problem_of format text ≡ Ok r
-    → (s : Source) × (source_of format text ≡ Ok s) × StandsFor s r
+    → (s : Source) × (source_of format text ≡ Ok s) × StandsBounded s r
 problem_stands Wcnf text r e = read_stands _ _ _ _ _ _ r (wcnf_read text) e
 problem_stands Opb text r e = read_stands _ _ _ _ _ _ r (opb_read text) e
 problem_stands Wbo text r e = read_stands _ _ _ _ _ _ r (wbo_read text) e
@@ -23,16 +24,19 @@ problem_stands Poly text r e = read_stands _ _ _ _ _ _ r (poly_read text) e
 problem_stands Ising text r e = read_stands _ _ _ _ _ _ r (entries_read layouts.Ising text) e
 problem_stands Qubo text r e = read_stands _ _ _ _ _ _ r (entries_read layouts.Qubo text) e
 
-pub problem_costs : (format : Format) (text : List ℕ) (r : Read) (s : Source)
+own_costs : (format : Format) (text : List ℕ) (r : Read) (s : Source)
     → problem_of format text ≡ Ok r → source_of format text ≡ Ok s → CostsAs s r
-problem_costs Wcnf text r s e said = read_costs _ _ _ _ _ _ r s (wcnf_read text) e said
-problem_costs Opb text r s e said = read_costs _ _ _ _ _ _ r s (opb_read text) e said
-problem_costs Wbo text r s e said = read_costs _ _ _ _ _ _ r s (wbo_read text) e said
-problem_costs Poly text r s e said = read_costs _ _ _ _ _ _ r s (poly_read text) e said
-problem_costs Ising text r s e said =
+own_costs Wcnf text r s e said = read_costs _ _ _ _ _ _ r s (wcnf_read text) e said
+own_costs Opb text r s e said = read_costs _ _ _ _ _ _ r s (opb_read text) e said
+own_costs Wbo text r s e said = read_costs _ _ _ _ _ _ r s (wbo_read text) e said
+own_costs Poly text r s e said = read_costs _ _ _ _ _ _ r s (poly_read text) e said
+own_costs Ising text r s e said =
     read_costs _ _ _ _ _ _ r s (entries_read layouts.Ising text) e said
-problem_costs Qubo text r s e said =
+own_costs Qubo text r s e said =
     read_costs _ _ _ _ _ _ r s (entries_read layouts.Qubo text) e said
+
+pub problem_costs : ProblemsCostAsSources
+problem_costs format text r s most e said = costs_bounded s r most (own_costs format text r s e said)
 
 pub words_read : WordsAreReadAsTexts
 words_read Wcnf text = (wcnf_read text).words

@@ -8,13 +8,13 @@ use Rattle.wbo_reader.proofs.ReadCosts.{reading_keeps_costs_of_text}
 use Rattle.wbo_reader.proofs.Rewritten.{carries_assignments}
 use Rattle.wbo_reader.proofs.Standing.{content_is_normal, rewrites_its_text}
 use Rattle.source_texts.specs.Sources as sources
-use Rattle.source_texts.specs.Sources.{eased, StandsFor, CostsAs}
+use Rattle.source_texts.specs.Sources.{eased, StandsBounded, CostsAs}
+use Rattle.source_texts.proofs.Bounded.{rewritten_stand}
 use Rattle.source_texts.proofs.Readings.{IsRead}
 
-rewritten_stands : (t : WboText) → StandsFor (source_of t) (eased (content_of t))
+rewritten_stands : (t : WboText) → StandsBounded (source_of t) (eased (content_of t))
 rewritten_stands t =
-    let rewrites = rewrites_its_text t in
-    record { variables = refl; own = rewrites.more; upper = refl; rewrites = rewrites }
+    rewritten_stand (source_of t) (eased (content_of t)) refl refl (rewrites_its_text t)
 
 rewritten_costs : (t : WboText) → CostsAs (source_of t) (eased (content_of t))
 rewritten_costs t =

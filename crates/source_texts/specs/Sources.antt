@@ -8,8 +8,9 @@ use Rattle.whole_text.specs.declared.token.Style.{Style}
 use Rattle.whole_text.specs.declared.token.Style.TheVariants as styles
 use Rattle.whole_text.specs.Tokens.{Word, tokens_of}
 use Rattle.whole_text.specs.Steps.{◌>>=◌}
-use Rattle.problem_form.specs.Problems.{ProblemContent, form_of}
-use Rattle.problem_form.specs.Limits.{upper}
+use Rattle.problem_form.specs.Problems.{ProblemContent, cut_off, form_of, own_cost}
+use Rattle.problem_form.specs.NormalForm.{with_most}
+use Rattle.problem_form.specs.Limits.{lesser_of, upper}
 use Rattle.command_words.specs.declared.commands.Format.{Format}
 use Rattle.command_words.specs.declared.commands.Format.TheVariants.{Wcnf, Opb, Wbo, Poly, Ising, Qubo}
 use Rattle.wcnf_reader.specs.Wcnf as wcnf
@@ -39,6 +40,14 @@ source_of Ising text =
 source_of Qubo text =
     entries.reading layouts.Qubo text >>= λ s. Ok (entry_cost.source_of layouts.Qubo s)
 
+-- a source whose assignments may cost at most this, where it is given: those that cost more are
+-- infeasible
+abbrev pub bounded : Option ℤ → Source → Source
+bounded most s = record {
+  form = record { bits = s.form.bits; cost = λ x. cut_off most (s.form.cost x) };
+  upper = lesser_of most s.upper;
+}
+
 -- a problem whose variables are all the source's own
 abbrev pub own : ProblemContent → Read
 own p = record { problem = p; variables = p.variables; names = None; soft = None }
@@ -64,6 +73,10 @@ problem_of Wbo text = wbo.normal_reading text >>= λ w. Ok (eased w)
 problem_of Poly text = poly_cost.normal_reading text >>= λ q. Ok (named q)
 problem_of Ising text = entry_problems.normal_reading layouts.Ising text >>= λ p. Ok (own p)
 problem_of Qubo text = entry_problems.normal_reading layouts.Qubo text >>= λ p. Ok (own p)
+
+-- what was read, where assignments may cost at most this
+abbrev pub bounded_read : Option ℤ → Read → Read
+bounded_read most r = record r { problem = with_most r.problem most }
 
 -- the names of what was read
 abbrev pub read_names : Result Read TextFault → Option (List (List ℕ))
@@ -109,10 +122,11 @@ carried None x = x
 carried (Some w) x = extended w x
 
 -- the problem has no variables but the source's, or it is what these soft constraints are rewritten
--- to, and theirs are the source's
+-- to, with some most, and theirs are the source's
 abbrev pub IsRewrittenFrom : Option WboContent → Read → Type 0
 IsRewrittenFrom None r = r.variables ≡ r.problem.variables
-IsRewrittenFrom (Some w) r = (w.variables ≡ r.variables) × (r.problem ≡ rewritten w)
+IsRewrittenFrom (Some w) r =
+    (w.variables ≡ r.variables) × (r.problem ≡ with_most (rewritten w) r.problem.most)
 
 -- the soft constraints of the source are kept beside the problem that they are rewritten to
 abbrev pub KeepsSoft : Read → Type 0
@@ -128,11 +142,15 @@ pub record StandsFor (s : Source) (r : Read) : Type 0 where
   pub upper : upper r.problem ≡ s.upper
   pub rewrites : Rewrites s.form (form_of r.problem)
 
+-- the problem stands for the source, whatever the most is that assignments of both may cost
+abbrev pub StandsBounded : Source → Read → Type 0
+StandsBounded s r = (most : Option ℤ) → StandsFor (bounded most s) (bounded_read most r)
+
 -- where a text is read into a problem, it says a source, for which the problem stands
 abbrev pub ProblemsStandForSources : Type 0
 ProblemsStandForSources =
     (format : Format) (text : List ℕ) (r : Read) → problem_of format text ≡ Ok r
-    → (s : Source) × (source_of format text ≡ Ok s) × StandsFor s r
+    → (s : Source) × (source_of format text ≡ Ok s) × StandsBounded s r
 
 -- what relaxes a problem relaxes the source that it stands for, decoded to the source's variables
 abbrev pub RelaxesStoodFor : Type 0
@@ -144,19 +162,22 @@ RelaxesStoodFor =
 -- ---- what a problem costs
 
 -- each assignment is carried to one of the problem that begins with it, and costs there what it
--- costs in the source; without soft constraints each list of bits costs the same in both
+-- costs in the source, whatever the most is; without soft constraints each list of bits costs the
+-- same in both
 pub record CostsAs (s : Source) (r : Read) : Type 0 where
   pub own : r.variables ≡ s.form.bits
   pub width : (x : List Bool) → IsOf s.form x → length (carried r.soft x) ≡ r.problem.variables
   pub begins : (x : List Bool) → IsOf s.form x → take s.form.bits (carried r.soft x) ≡ x
   pub same : (x : List Bool) → IsOf s.form x
-      → (form_of r.problem).cost (carried r.soft x) ≡ s.form.cost x
-  pub plain : r.soft ≡ None → (x : List Bool) → (form_of r.problem).cost x ≡ s.form.cost x
+      → own_cost r.problem (carried r.soft x) ≡ s.form.cost x
+  pub plain : r.soft ≡ None → (x : List Bool) → own_cost r.problem x ≡ s.form.cost x
 
 -- a problem that a text is read into costs what the source costs that the text says
 abbrev pub ProblemsCostAsSources : Type 0
-ProblemsCostAsSources = (format : Format) (text : List ℕ) (r : Read) (s : Source)
-    → problem_of format text ≡ Ok r → source_of format text ≡ Ok s → CostsAs s r
+ProblemsCostAsSources =
+    (format : Format) (text : List ℕ) (r : Read) (s : Source) (most : Option ℤ)
+    → problem_of format text ≡ Ok r → source_of format text ≡ Ok s
+    → CostsAs s (bounded_read most r)
 
 -- without soft constraints the problem has the source's variables alone
 abbrev pub PlainOwnsAll : Type 0

@@ -1,7 +1,7 @@
 //! Assignments of a source as those of the problem that its text is read into.
 ghost use Rattle.std.specs.Prelude.{◌≡◌, ◌<◌, ◌^◌, length, IfOk};
 ghost use Rattle.base.specs.Costs.{IsOf};
-ghost use Rattle.problem_form.specs.Problems.{form_of, problem_cost};
+ghost use Rattle.problem_form.specs.Problems.{own_cost};
 ghost use Rattle.wbo_reader.specs.Wbo.{form_of as soft_form};
 ghost use Rattle.wbo_reader.specs.Rewriting.{extended, rewritten};
 ghost use Rattle.source_texts.specs.Sources.{carried, KeepsSoft};
@@ -29,7 +29,7 @@ pub fn carried(alloc: Global, read: &Read, x: &[bool]) -> Result<Vec<bool>, NoMe
 fn soft_cost(wbo: &Wbo, x: &[bool]) -> Cost
     requires width { IsOf (soft_form wbo.now) x.now }
     requires narrow { length x.now < 2 ^ 32 }
-    ensures { result ≡ problem_cost (rewritten wbo.now) (extended wbo.now x.now) }
+    ensures { result ≡ own_cost (rewritten wbo.now) (extended wbo.now x.now) }
 {
     // This opens the type, which keeps that all constraints are in normal form.
     let _ = &wbo.soft;
@@ -37,15 +37,15 @@ fn soft_cost(wbo: &Wbo, x: &[bool]) -> Cost
 }
 
 /// What an assignment of the source costs, which is what the one of the problem costs that stands
-/// for it. It takes no memory.
+/// for it, whatever the most is that it may cost. It takes no memory.
 pub fn cost_of(read: &Read, x: &[bool]) -> Cost
     requires kept { KeepsSoft read.now }
     requires width { length x.now ≡ read.now.variables }
     requires narrow { length x.now < 2 ^ 32 }
-    ensures { result ≡ (form_of read.now.problem).cost (carried read.now.soft x.now) }
+    ensures { result ≡ own_cost read.now.problem (carried read.now.soft x.now) }
 {
     match &read.soft {
         Some(wbo) => soft_cost(wbo, x),
-        None => read.problem.cost(x),
+        None => read.problem.own_cost(x),
     }
 }

@@ -1,8 +1,9 @@
 //! The reading of a text in a format.
-ghost use Rattle.std.specs.Prelude.{◌≡◌, ◌≤◌, ◌^◌, length, IfOk};
+ghost use Rattle.std.specs.Prelude.{◌≡◌, ◌<◌, ◌≤◌, ◌^◌, length, unsigned_abs, IfOk, IfSome};
 ghost use Rattle.whole_text.specs.Steps.{Gives};
 ghost use Rattle.whole_text.specs.TokenTexts.{words_of};
 ghost use Rattle.source_texts.specs.Sources.{
+  bounded_read,
   eased,
   KeepsSoft,
   named,
@@ -57,6 +58,15 @@ impl Read {
             soft: _soft,
         } = self;
         problem
+    }
+
+    /// Gives the problem the most that an assignment may cost.
+    pub fn cut_off(&mut self, most: Option<i128>)
+        requires { IfSome most (λ n. unsigned_abs n < 2 ^ 64) }
+        ensures value { self.new ≡ bounded_read most self.old }
+        ensures kept { KeepsSoft self.old → KeepsSoft self.new }
+    {
+        self.problem.cut_off(most);
     }
 }
 

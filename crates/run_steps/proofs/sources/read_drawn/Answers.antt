@@ -1,0 +1,13 @@
+use Rattle.std.proofs.Common.{◌≡◌, sym, ap, ◌∙◌}
+use Rattle.command_words.specs.declared.commands.Format.TheVariants.{Wcnf}
+use Rattle.sample_text.specs.Sample.{sample_text}
+use Rattle.source_texts.specs.Sources.{problem_of}
+use Rattle.run_steps.proofs.Sampled.{drawn_is_read}
+use Rattle.run_steps.proofs.sources.read_drawn.Goals as goal
+
+pub returns-in-Ok-clause-read : goal.returns-in-Ok-clause-read
+returns-in-Ok-clause-read c =
+    let text : c.deref.result.now ≡ sample_text c.args.number c.args.clauses =
+    c.deref.ensures.value ∙ c.in_ok-text.ensures.text in
+    drawn_is_read c.args.number c.args.clauses c.in-Ok.read c.requires
+    (ap (problem_of Wcnf) (sym text) ∙ c.in-Ok.ensures.read)
