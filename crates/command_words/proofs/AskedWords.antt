@@ -32,13 +32,19 @@ use Rattle.command_words.specs.declared.words.Sample.{Sample}
 use Rattle.whole_text.specs.Numbers.{digits_number}
 use Rattle.chimera_graph.specs.declared.chimera.Chimera as graphs
 use Rattle.command_words.specs.declared.keys.Keys.{Keys}
-use Rattle.command_words.specs.declared.words.Verb.{Verb}
-use Rattle.command_words.specs.declared.words.Verb.TheVariants as verbs
-use Rattle.command_words.specs.Asked.{EachJobIsAskedFor, EachDecodingIsAskedFor, EachExtensionIsAskedFor, EachSampleIsAskedFor, EachSolutionIsAskedFor, EachProofIsAskedFor, EachUnitIsAskedFor, EachGraphIsAskedFor, EachKeyStands, CannotStand, NoKeyStandsTwice, NoGraphKeyElsewhere, NoGraphWithout, NoLargerGraph, IsRefusedAfterAll, NoOtherWordsAsk, Say, format_word, high_key, normal_key, on_fourth_word, board_of, board_with, dead_at, target_word, word_of, unit_key, rows_key, cols_key, shore_key, map_key, clique_key, dead_keys, chain_key, job_words, compile_words, decode_words, extend_words, prove_words, sample_words, solve_words}
-use Rattle.command_words.specs.Commands.{◌>>=◌, after_verb, chosen_target, clauses_of, command_of, drawn, format_of, job_of, named, on_file, sample_of, target_of, valued, verb_of}
-use Rattle.command_words.specs.Keys.{choices_of, chosen_ties, chosen_unit, given, graph_of, keys_from, no_keys, target_by, with_word}
+use Rattle.command_words.specs.declared.commands.Slack.{Slack}
+use Rattle.command_words.specs.declared.commands.Slack.TheVariants.{Bits, Pairs}
+use Rattle.command_words.specs.declared.commands.Verb.{Verb}
+use Rattle.command_words.specs.declared.commands.Verb.TheVariants as verbs
+use Rattle.command_words.specs.declared.commands.Notice.{Notice}
+use Rattle.command_words.specs.declared.commands.Notice.TheVariants.{Help, Version}
+use Rattle.command_words.specs.declared.commands.Request.{Request}
+use Rattle.command_words.specs.declared.commands.Request.TheVariants as requests
+use Rattle.command_words.specs.Asked.{EachJobIsAskedFor, EachSizeIsAskedFor, EachDecodingIsAskedFor, EachEvaluationIsAskedFor, EachExtensionIsAskedFor, EachSampleIsAskedFor, EachSolutionIsAskedFor, EachProofIsAskedFor, EachUnitIsAskedFor, EachSlackIsAskedFor, EachOrderIsAskedFor, EachGraphIsAskedFor, EachKeyStands, CannotStand, NoKeyStandsTwice, NoGraphKeyElsewhere, NoOrderElsewhere, NoGraphWithout, NoLargerGraph, IsRefusedAfterAll, format_word, high_key, normal_key, slack_key, order_key, on_fourth_word, board_of, board_with, dead_at, target_word, unit_key, rows_key, cols_key, shore_key, map_key, clique_key, dead_keys, chain_key, compile_words, size_words, decode_words, evaluate_words, extend_words, prove_words, sample_words, solve_words}
+use Rattle.command_words.specs.Commands.{◌>>=◌, ask_of, chosen_target, clauses_of, command_of, drawn, first_key, format_of, on_file, target_of}
+use Rattle.command_words.specs.Keys.{choices_of, chosen_slack, chosen_ties, chosen_unit, given, graph_of, keys_from, no_keys, target_by, with_word}
 use Rattle.command_words.specs.Names.{text_at}
-use Rattle.command_words.proofs.CutWords.{cut_bound, cut_rows, cut_cols, cut_shore, cut_map, cut_dead}
+use Rattle.command_words.proofs.CutWords.{cut_bound, cut_order, cut_rows, cut_cols, cut_shore, cut_map, cut_dead}
 use Rattle.command_words.proofs.Sides.{few_cols, few_rows, few_shore, side_of-digits}
 use Rattle.command_words.proofs.BoundKeys.{bound_of-digits}
 use Rattle.command_words.proofs.Graphs.{graph_with-its, graph_with-larger}
@@ -67,10 +73,12 @@ fourth_word_job format target keys = record {
   choices = choices_of keys;
   unit = chosen_unit keys;
   bound = keys.bound;
+  slack = chosen_slack keys;
+  order = keys.order;
 }
 
 -- the sample of these numbers
-abbrev sample_with : ℕ → ℕ → Target → Keys → Sample
+abbrev pub sample_with : ℕ → ℕ → Target → Keys → Sample
 sample_with number clauses target keys = record {
   number = number;
   clauses = clauses;
@@ -78,65 +86,106 @@ sample_with number clauses target keys = record {
   choices = choices_of keys;
   unit = chosen_unit keys;
   bound = keys.bound;
+  slack = chosen_slack keys;
 }
 
 -- what is chosen step by step
-chain : {A B C : Type 0} (r : Result A ℕ) (f : A → Result B ℕ) (g : A → B → C) {D : Type 0} (h : C → D)
-    → ((r >>= λ x. f x >>= λ y. Ok (g x y)) >>= λ z. Ok (h z))
-    ≡ (r >>= λ x. f x >>= λ y. Ok (h (g x y)))
+chain : {A B C : Type 0} (r : Result A ℕ) (f : A → Result B ℕ) (g : A → B → C) {D : Type 0}
+    (h : C → Result D ℕ)
+    → ((r >>= λ x. f x >>= λ y. Ok (g x y)) >>= h) ≡ (r >>= λ x. f x >>= λ y. h (g x y))
 chain (Err position) f g h = refl
 chain {B = B} (Ok x) f g h = go (f x)
   where
-    go : (s : Result B ℕ) → ((s >>= λ y. Ok (g x y)) >>= λ z. Ok (h z)) ≡ (s >>= λ y. Ok (h (g x y)))
+    go : (s : Result B ℕ) → ((s >>= λ y. Ok (g x y)) >>= h) ≡ (s >>= λ y. h (g x y))
     go (Ok y) = refl
     go (Err position) = refl
+
+-- what a verb asks of the file that the fourth word names, and then of the words after it
+asked_of_fourth : (verb : Verb) (words : List (List ℕ)) (format : Format) (word : TargetWord)
+    (keys : List (List ℕ)) (make : Keys → Ask)
+    → ((given : Keys) → ask_of verb given.order words ≡ Ok (make given))
+    → ((keys_from verb word no_keys (first_key verb) keys
+    >>= λ given. chosen_target words word given
+    >>= λ target. Ok (fourth_word_job format target given))
+    >>= λ job. ask_of verb job.order words >>= λ ask. Ok (on_file job ask))
+    ≡ (keys_from verb word no_keys (first_key verb) keys
+    >>= λ given. chosen_target words word given
+    >>= λ target. Ok (on_fourth_word format target given (make given)))
+asked_of_fourth verb words format word keys make asks =
+    chain (keys_from verb word no_keys (first_key verb) keys) (chosen_target words word)
+    (λ given target. fourth_word_job format target given)
+    (λ job. ask_of verb job.order words >>= λ ask. Ok (on_file job ask))
+    ∙ go (keys_from verb word no_keys (first_key verb) keys)
+  where
+    after : (given : Keys) (s : Result Target ℕ)
+        → (s >>= λ target. ask_of verb given.order words
+        >>= λ ask. Ok (on_fourth_word format target given ask))
+        ≡ (s >>= λ target. Ok (on_fourth_word format target given (make given)))
+    after given (Err position) = refl
+    after given (Ok target) =
+        ap (λ asked. asked >>= λ ask. Ok (on_fourth_word format target given ask)) (asks given)
+
+    go : (r : Result Keys ℕ)
+        → (r >>= λ given. chosen_target words word given
+        >>= λ target. ask_of verb given.order words
+        >>= λ ask. Ok (on_fourth_word format target given ask))
+        ≡ (r >>= λ given. chosen_target words word given
+        >>= λ target. Ok (on_fourth_word format target given (make given)))
+    go (Err position) = refl
+    go (Ok given) = after given (chosen_target words word given)
 
 pub each_job : EachJobIsAskedFor
 each_job format word file keys =
     rw (format_of-format_word format, target_of-target_word word)
-    (chain (keys_from word no_keys 4 keys)
-    (chosen_target (compile_words format word file keys) word)
-    (λ given target. fourth_word_job format target given) (λ job. on_file job asks.Model))
+    (asked_of_fourth verbs.Compile (compile_words format word file keys) format word keys
+    (λ given. asks.Model) (λ given. refl))
+
+pub each_size : EachSizeIsAskedFor
+each_size format word file keys =
+    rw (format_of-format_word format, target_of-target_word word)
+    (asked_of_fourth verbs.Size (size_words format word file keys) format word keys
+    (λ given. asks.Size) (λ given. refl))
 
 pub each_solution : EachSolutionIsAskedFor
 each_solution format word file keys =
     rw (format_of-format_word format, target_of-target_word word)
-    (chain (keys_from word no_keys 4 keys)
-    (chosen_target (solve_words format word file keys) word)
-    (λ given target. fourth_word_job format target given) (λ job. on_file job asks.Solve))
+    (asked_of_fourth verbs.Solve (solve_words format word file keys) format word keys
+    (λ given. asks.Solve given.order) (λ given. refl))
 
 pub each_decoding : EachDecodingIsAskedFor
 each_decoding format word file state keys =
     rw (format_of-format_word format, target_of-target_word word)
-    (chain (keys_from word no_keys 5 keys)
-    (chosen_target (decode_words format word file state keys) word)
-    (λ given target. fourth_word_job format target given) (λ job. on_file job (asks.Decode (Whole 4))))
+    (asked_of_fourth verbs.Decode (decode_words format word file state keys) format word keys
+    (λ given. asks.Decode (Whole 4)) (λ given. refl))
+
+pub each_evaluation : EachEvaluationIsAskedFor
+each_evaluation format word file states keys =
+    rw (format_of-format_word format, target_of-target_word word)
+    (asked_of_fourth verbs.Evaluate (evaluate_words format word file states keys) format word keys
+    (λ given. asks.Evaluate (Whole 4)) (λ given. refl))
 
 pub each_extension : EachExtensionIsAskedFor
 each_extension format word file assignment keys =
     rw (format_of-format_word format, target_of-target_word word)
-    (chain (keys_from word no_keys 5 keys)
-    (chosen_target (extend_words format word file assignment keys) word)
-    (λ given target. fourth_word_job format target given) (λ job. on_file job (asks.Extend (Whole 4))))
+    (asked_of_fourth verbs.Extend (extend_words format word file assignment keys) format word keys
+    (λ given. asks.Extend (Whole 4)) (λ given. refl))
 
 pub each_proof : EachProofIsAskedFor
 each_proof format word file state certificate keys =
     rw (format_of-format_word format, target_of-target_word word)
-    (chain (keys_from word no_keys 6 keys)
-    (chosen_target (prove_words format word file state certificate keys) word)
-    (λ given target. fourth_word_job format target given)
-    (λ job. on_file job (asks.Prove (Whole 4) (Whole 5))))
+    (asked_of_fourth verbs.Prove (prove_words format word file state certificate keys) format word
+    keys (λ given. asks.Prove (Whole 4) (Whole 5)) (λ given. refl))
 
 pub each_sample : EachSampleIsAskedFor
 each_sample number clauses first second word keys one two =
     rw (one, two, target_of-target_word word)
-    (chain (keys_from word no_keys 4 keys)
+    (chain (keys_from verbs.Sample word no_keys 4 keys)
     (chosen_target (sample_words first second word keys) word)
-    (λ given target. sample_with number clauses target given) drawn)
+    (λ given target. sample_with number clauses target given) (λ sample. Ok (drawn sample)))
 
 -- a key for the unit alone
 unit_alone : (model : NodeModel) (unit : UnitChoice)
-    → keys_from (Nodes model) no_keys 4 (unit_key unit ∷ [])
+    → keys_from verbs.Compile (Nodes model) no_keys 4 (unit_key unit ∷ [])
     ≡ Ok (record no_keys { unit = Some unit })
 unit_alone model One = refl
 unit_alone model Reduce = refl
@@ -145,45 +194,71 @@ pub each_unit : EachUnitIsAskedFor
 each_unit format model file unit =
     each_job format (Nodes model) file (unit_key unit ∷ []) ∙ rw (unit_alone model unit) refl
 
+-- a key alone for conditions of which no two may miss
+slack_alone : (model : NodeModel) (slack : Slack)
+    → keys_from verbs.Compile (Nodes model) no_keys 4 (slack_key slack ∷ [])
+    ≡ Ok (record no_keys { slack = Some slack })
+slack_alone model Bits = refl
+slack_alone model Pairs = refl
+
+pub each_slack : EachSlackIsAskedFor
+each_slack format model file slack =
+    each_job format (Nodes model) file (slack_key slack ∷ []) ∙ rw (slack_alone model slack) refl
+
+pub each_order : EachOrderIsAskedFor
+each_order format model file name =
+    each_solution format (Nodes model) file (order_key name ∷ []) ∙ rw (cut_order name) refl
+
 pub each_key : EachKeyStands
 each_key = record {
   normal = normal;
   high = high;
   unit = unit;
-  bound = λ target keys at value size free said.
+  bound = λ verb target keys at value size free said.
       rw (cut_bound value, free, bound_of-digits value size said) refl;
-  bound_below = λ target keys at value size free said.
+  bound_below = λ verb target keys at value size free said.
       rw (cut_bound (codes "-" ++ value), free, said) refl;
-  rows = λ keys at value side free said some few.
+  slack = slack;
+  order = λ target keys at name free. rw (cut_order name, free) refl;
+  rows = λ verb keys at value side free said some few.
       rw (cut_rows value, free, side_of-digits value side said some few) refl;
-  cols = λ keys at value side free said some few.
+  cols = λ verb keys at value side free said some few.
       rw (cut_cols value, free, side_of-digits value side said some few) refl;
-  shore = λ keys at value side free said some few.
+  shore = λ verb keys at value side free said some few.
       rw (cut_shore value, free, side_of-digits value side said some few) refl;
-  clique = λ keys at free. rw free refl;
-  map = λ keys at name free. rw (cut_map name, free) refl;
-  dead = λ keys at name free. rw (cut_dead name, free) refl;
+  clique = λ verb keys at free. rw free refl;
+  map = λ verb keys at name free. rw (cut_map name, free) refl;
+  dead = λ verb keys at name free. rw (cut_dead name, free) refl;
   ties = ties;
 } where
-  ties : (keys : Keys) (at : ℕ) (value : Ties) → keys.ties ≡ None
-      → with_word Chimera keys at (chain_key value) ≡ Some (record keys { ties = Some value })
-  ties keys at Choi free = rw free refl
-  ties keys at Cut free = rw free refl
+  ties : (verb : Verb) (keys : Keys) (at : ℕ) (value : Ties) → keys.ties ≡ None
+      → with_word verb Chimera keys at (chain_key value) ≡ Some (record keys { ties = Some value })
+  ties verb keys at Choi free = rw free refl
+  ties verb keys at Cut free = rw free refl
 
-  normal : (target : TargetWord) (keys : Keys) (at : ℕ) (value : Normal) → keys.normal ≡ None
-      → with_word target keys at (normal_key value) ≡ Some (record keys { normal = Some value })
-  normal target keys at Literal free = rw free refl
-  normal target keys at Multilinear free = rw free refl
+  normal : (verb : Verb) (target : TargetWord) (keys : Keys) (at : ℕ) (value : Normal)
+      → keys.normal ≡ None
+      → with_word verb target keys at (normal_key value) ≡ Some (record keys { normal = Some value })
+  normal verb target keys at Literal free = rw free refl
+  normal verb target keys at Multilinear free = rw free refl
 
-  high : (target : TargetWord) (keys : Keys) (at : ℕ) (value : High) → keys.high ≡ None
-      → with_word target keys at (high_key value) ≡ Some (record keys { high = Some value })
-  high target keys at Monomial free = rw free refl
-  high target keys at Rosenberg free = rw free refl
+  high : (verb : Verb) (target : TargetWord) (keys : Keys) (at : ℕ) (value : High)
+      → keys.high ≡ None
+      → with_word verb target keys at (high_key value) ≡ Some (record keys { high = Some value })
+  high verb target keys at Monomial free = rw free refl
+  high verb target keys at Rosenberg free = rw free refl
 
-  unit : (target : TargetWord) (keys : Keys) (at : ℕ) (value : UnitChoice) → keys.unit ≡ None
-      → with_word target keys at (unit_key value) ≡ Some (record keys { unit = Some value })
-  unit target keys at One free = rw free refl
-  unit target keys at Reduce free = rw free refl
+  unit : (verb : Verb) (target : TargetWord) (keys : Keys) (at : ℕ) (value : UnitChoice)
+      → keys.unit ≡ None
+      → with_word verb target keys at (unit_key value) ≡ Some (record keys { unit = Some value })
+  unit verb target keys at One free = rw free refl
+  unit verb target keys at Reduce free = rw free refl
+
+  slack : (verb : Verb) (target : TargetWord) (keys : Keys) (at : ℕ) (value : Slack)
+      → keys.slack ≡ None
+      → with_word verb target keys at (slack_key value) ≡ Some (record keys { slack = Some value })
+  slack verb target keys at Bits free = rw free refl
+  slack verb target keys at Pairs free = rw free refl
 
 -- the numbers and the chains of a graph
 abbrev graph_given : ℕ → ℕ → ℕ → Chaining → Keys
@@ -200,20 +275,20 @@ graph_keys : (first second third fourth : List ℕ) (others : List (List ℕ)) (
     → digits_number first ≡ Some graph.rows → digits_number second ≡ Some graph.cols
     → digits_number third ≡ Some graph.shore
     → ((keys : Keys) → keys.chains ≡ None
-    → with_word Chimera keys 7 fourth ≡ Some (record keys { chains = Some chains }))
-    → keys_from Chimera no_keys 4
+    → with_word verbs.Compile Chimera keys 7 fourth ≡ Some (record keys { chains = Some chains }))
+    → keys_from verbs.Compile Chimera no_keys 4
     (rows_key first ∷ cols_key second ∷ shore_key third ∷ fourth ∷ others)
-    ≡ keys_from Chimera (graph_given graph.rows graph.cols graph.shore chains) 8 others
+    ≡ keys_from verbs.Compile Chimera (graph_given graph.rows graph.cols graph.shore chains) 8 others
 graph_keys first second third fourth others graph chains r c s last =
     let shape = graph.shape in
     let rows = graph.rows in
     let cols = graph.cols in
     let shore = graph.shore in
     rw (
-      each_key.rows no_keys 4 first rows refl r shape.some_rows (few_rows rows cols shore shape),
-      each_key.cols (record no_keys { rows = Some rows }) 5 second cols refl c shape.some_cols
+      each_key.rows verbs.Compile no_keys 4 first rows refl r shape.some_rows (few_rows rows cols shore shape),
+      each_key.cols verbs.Compile (record no_keys { rows = Some rows }) 5 second cols refl c shape.some_cols
           (few_cols rows cols shore shape),
-      each_key.shore (record no_keys { rows = Some rows; cols = Some cols }) 6 third shore refl s
+      each_key.shore verbs.Compile (record no_keys { rows = Some rows; cols = Some cols }) 6 third shore refl s
           shape.some_shore (few_shore rows cols shore shape),
       last (record no_keys { rows = Some rows; cols = Some cols; shore = Some shore }) refl,
     ) refl
@@ -223,7 +298,7 @@ graph_asked : (format : Format) (file first second third fourth : List ℕ) (gra
     (chains : Chaining) → digits_number first ≡ Some graph.rows
     → digits_number second ≡ Some graph.cols → digits_number third ≡ Some graph.shore
     → ((keys : Keys) → keys.chains ≡ None
-    → with_word Chimera keys 7 fourth ≡ Some (record keys { chains = Some chains }))
+    → with_word verbs.Compile Chimera keys 7 fourth ≡ Some (record keys { chains = Some chains }))
     → command_of (compile_words format Chimera file
     (rows_key first ∷ cols_key second ∷ shore_key third ∷ fourth ∷ []))
     ≡ Ok (on_fourth_word format (board_of graph chains) no_keys asks.Model)
@@ -237,16 +312,16 @@ graph_asked format file first second third fourth graph chains r c s last =
 
 -- the keys of a list of dead qubits and of ties, after those of a graph
 tied_keys : (rows cols shore : ℕ) (chains : Chaining) (dead : Option (List ℕ)) (ties : Ties)
-    → keys_from Chimera (graph_given rows cols shore chains) 8
+    → keys_from verbs.Compile Chimera (graph_given rows cols shore chains) 8
     (dead_keys dead ++ chain_key ties ∷ [])
     ≡ Ok (record (graph_given rows cols shore chains) { dead = dead_at 8 dead; ties = Some ties })
 tied_keys rows cols shore chains None ties =
-    rw (each_key.ties (graph_given rows cols shore chains) 8 ties refl) refl
+    rw (each_key.ties verbs.Compile (graph_given rows cols shore chains) 8 ties refl) refl
 tied_keys rows cols shore chains (Some name) ties =
     let given = graph_given rows cols shore chains in
     rw (
-      each_key.dead given 8 name refl,
-      each_key.ties (record given { dead = Some (Value 8) }) 9 ties refl,
+      each_key.dead verbs.Compile given 8 name refl,
+      each_key.ties verbs.Compile (record given { dead = Some (Value 8) }) 9 ties refl,
     ) refl
 
 -- what is asked of a graph with chains of either kind, with or without a list of dead qubits, and
@@ -256,7 +331,7 @@ tied_asked : (format : Format) (file first second third fourth : List ℕ) (dead
     → digits_number first ≡ Some graph.rows → digits_number second ≡ Some graph.cols
     → digits_number third ≡ Some graph.shore
     → ((keys : Keys) → keys.chains ≡ None
-    → with_word Chimera keys 7 fourth ≡ Some (record keys { chains = Some chains }))
+    → with_word verbs.Compile Chimera keys 7 fourth ≡ Some (record keys { chains = Some chains }))
     → command_of (compile_words format Chimera file
     (rows_key first ∷ cols_key second ∷ shore_key third ∷ fourth
     ∷ dead_keys dead ++ chain_key ties ∷ []))
@@ -275,24 +350,26 @@ pub each_graph : EachGraphIsAskedFor
 each_graph = record {
   clique = λ format file first second third graph r c s.
       graph_asked format file first second third clique_key graph Clique r c s
-      (λ keys free. each_key.clique keys 7 free);
+      (λ keys free. each_key.clique verbs.Compile keys 7 free);
   map = λ format file first second third name graph r c s.
       graph_asked format file first second third (map_key name) graph (Map (Value 7)) r c s
-      (λ keys free. each_key.map keys 7 name free);
+      (λ keys free. each_key.map verbs.Compile keys 7 name free);
   tied_clique = λ format file first second third dead ties graph r c s.
       tied_asked format file first second third clique_key dead ties graph Clique r c s
-      (λ keys free. each_key.clique keys 7 free);
+      (λ keys free. each_key.clique verbs.Compile keys 7 free);
   tied_map = λ format file first second third name dead ties graph r c s.
       tied_asked format file first second third (map_key name) dead ties graph (Map (Value 7)) r c s
-      (λ keys free. each_key.map keys 7 name free);
+      (λ keys free. each_key.map verbs.Compile keys 7 name free);
 }
 
 pub no_key_twice : NoKeyStandsTwice
 no_key_twice = record {
-  normal = λ target keys at first given word value named. rw (named, given) refl;
-  high = λ target keys at first given word value named. rw (named, given) refl;
-  unit = λ target keys at first given word value named. rw (named, given) refl;
-  bound = λ target keys at first given word value named. rw (named, given) refl;
+  normal = λ verb target keys at first given word value named. rw (named, given) refl;
+  high = λ verb target keys at first given word value named. rw (named, given) refl;
+  unit = λ verb target keys at first given word value named. rw (named, given) refl;
+  bound = λ verb target keys at first given word value named. rw (named, given) refl;
+  slack = λ verb target keys at first given word value named. rw (named, given) refl;
+  order = order;
   rows = rows;
   cols = cols;
   shore = shore;
@@ -301,51 +378,60 @@ no_key_twice = record {
   dead = dead;
   ties = ties;
 } where
-  rows : (target : TargetWord) (keys : Keys) (at first : ℕ)
-      → keys.rows ≡ Some first → CannotStand target keys at (codes "rows")
-  rows (Nodes model) keys at first given word value named = rw named refl
-  rows Chimera keys at first given word value named = rw (named, given) refl
+  order : (verb : Verb) (target : TargetWord) (keys : Keys) (at : ℕ) (first : WordAt)
+      → keys.order ≡ Some first → CannotStand verb target keys at (codes "order")
+  order verbs.Solve target keys at first given word value named = rw (named, given) refl
+  order verb target keys at first given word value named = rw named refl
 
-  cols : (target : TargetWord) (keys : Keys) (at first : ℕ)
-      → keys.cols ≡ Some first → CannotStand target keys at (codes "cols")
-  cols (Nodes model) keys at first given word value named = rw named refl
-  cols Chimera keys at first given word value named = rw (named, given) refl
+  rows : (verb : Verb) (target : TargetWord) (keys : Keys) (at first : ℕ)
+      → keys.rows ≡ Some first → CannotStand verb target keys at (codes "rows")
+  rows verb (Nodes model) keys at first given word value named = rw named refl
+  rows verb Chimera keys at first given word value named = rw (named, given) refl
 
-  shore : (target : TargetWord) (keys : Keys) (at first : ℕ)
-      → keys.shore ≡ Some first → CannotStand target keys at (codes "shore")
-  shore (Nodes model) keys at first given word value named = rw named refl
-  shore Chimera keys at first given word value named = rw (named, given) refl
+  cols : (verb : Verb) (target : TargetWord) (keys : Keys) (at first : ℕ)
+      → keys.cols ≡ Some first → CannotStand verb target keys at (codes "cols")
+  cols verb (Nodes model) keys at first given word value named = rw named refl
+  cols verb Chimera keys at first given word value named = rw (named, given) refl
 
-  embed : (target : TargetWord) (keys : Keys) (at : ℕ) (first : Chaining)
-      → keys.chains ≡ Some first → CannotStand target keys at (codes "embed")
-  embed (Nodes model) keys at first given word value named = rw named refl
-  embed Chimera keys at first given word value named = rw (named, given) refl
+  shore : (verb : Verb) (target : TargetWord) (keys : Keys) (at first : ℕ)
+      → keys.shore ≡ Some first → CannotStand verb target keys at (codes "shore")
+  shore verb (Nodes model) keys at first given word value named = rw named refl
+  shore verb Chimera keys at first given word value named = rw (named, given) refl
 
-  map : (target : TargetWord) (keys : Keys) (at : ℕ) (first : Chaining)
-      → keys.chains ≡ Some first → CannotStand target keys at (codes "map")
-  map (Nodes model) keys at first given word value named = rw named refl
-  map Chimera keys at first given word value named = rw (named, given) refl
+  embed : (verb : Verb) (target : TargetWord) (keys : Keys) (at : ℕ) (first : Chaining)
+      → keys.chains ≡ Some first → CannotStand verb target keys at (codes "embed")
+  embed verb (Nodes model) keys at first given word value named = rw named refl
+  embed verb Chimera keys at first given word value named = rw (named, given) refl
 
-  dead : (target : TargetWord) (keys : Keys) (at : ℕ) (first : WordAt)
-      → keys.dead ≡ Some first → CannotStand target keys at (codes "dead")
-  dead (Nodes model) keys at first given word value named = rw named refl
-  dead Chimera keys at first given word value named = rw (named, given) refl
+  map : (verb : Verb) (target : TargetWord) (keys : Keys) (at : ℕ) (first : Chaining)
+      → keys.chains ≡ Some first → CannotStand verb target keys at (codes "map")
+  map verb (Nodes model) keys at first given word value named = rw named refl
+  map verb Chimera keys at first given word value named = rw (named, given) refl
 
-  ties : (target : TargetWord) (keys : Keys) (at : ℕ) (first : Ties)
-      → keys.ties ≡ Some first → CannotStand target keys at (codes "chain")
-  ties (Nodes model) keys at first given word value named = rw named refl
-  ties Chimera keys at first given word value named = rw (named, given) refl
+  dead : (verb : Verb) (target : TargetWord) (keys : Keys) (at : ℕ) (first : WordAt)
+      → keys.dead ≡ Some first → CannotStand verb target keys at (codes "dead")
+  dead verb (Nodes model) keys at first given word value named = rw named refl
+  dead verb Chimera keys at first given word value named = rw (named, given) refl
+
+  ties : (verb : Verb) (target : TargetWord) (keys : Keys) (at : ℕ) (first : Ties)
+      → keys.ties ≡ Some first → CannotStand verb target keys at (codes "chain")
+  ties verb (Nodes model) keys at first given word value named = rw named refl
+  ties verb Chimera keys at first given word value named = rw (named, given) refl
 
 pub no_graph_key_elsewhere : NoGraphKeyElsewhere
 no_graph_key_elsewhere = record {
-  rows = λ model keys at word value named. rw named refl;
-  cols = λ model keys at word value named. rw named refl;
-  shore = λ model keys at word value named. rw named refl;
-  embed = λ model keys at word value named. rw named refl;
-  map = λ model keys at word value named. rw named refl;
-  dead = λ model keys at word value named. rw named refl;
-  ties = λ model keys at word value named. rw named refl;
+  rows = λ verb model keys at word value named. rw named refl;
+  cols = λ verb model keys at word value named. rw named refl;
+  shore = λ verb model keys at word value named. rw named refl;
+  embed = λ verb model keys at word value named. rw named refl;
+  map = λ verb model keys at word value named. rw named refl;
+  dead = λ verb model keys at word value named. rw named refl;
+  ties = λ verb model keys at word value named. rw named refl;
 }
+
+pub no_order_elsewhere : NoOrderElsewhere
+no_order_elsewhere verbs.Solve target keys at other word value named = absurd (other refl)
+no_order_elsewhere verb target keys at other word value named = rw named refl
 
 -- nothing
 abbrev no_graph : Option graphs.Chimera
@@ -363,6 +449,9 @@ no_target_given (Some g) = refl
 refused : (keys : Keys) → target_by Chimera keys ≡ None → IsRefusedAfterAll keys
 refused keys none = record {
   job = λ format file words asked. each_job format Chimera file words ∙ rw (asked, none) refl;
+  size = λ format file words asked. each_size format Chimera file words ∙ rw (asked, none) refl;
+  evaluation = λ format file states words asked.
+      each_evaluation format Chimera file states words ∙ rw (asked, none) refl;
   solution = λ format file words asked.
       each_solution format Chimera file words ∙ rw (asked, none) refl;
   decoding = λ format file state words asked.
@@ -413,337 +502,3 @@ pub no_larger_graph : NoLargerGraph
 no_larger_graph keys rows cols shore r c s larger =
     refused keys (rw (r, c, s, graph_with-larger rows cols shore larger) refl)
 
--- ---- a step, and the next one
-
-next : {A B : Type 0} (r : Result A ℕ) (f : A → Result B ℕ) (Q : A → Type 0) (P : B → Type 0)
-    → IfOk r Q → ((x : A) → Q x → IfOk (f x) P) → IfOk (r >>= f) P
-next (Ok x) f Q P q each = each x q
-next (Err position) f Q P q each = tt
-
-nothing : {A : Type 0} (r : Result A ℕ) → IfOk r (λ _. ⊤)
-nothing (Ok x) = tt
-nothing (Err position) = tt
-
--- ---- a value has its own word
-
--- one line of a table of words, with those below it
-line : {A : Type 0} (word_of : A → List ℕ) (word : List ℕ) (x : A) (below : Option A)
-    → IfSome below (λ y. word ≡ word_of y)
-    → IfSome (if bytes_eq word (word_of x) then Some x else below) (λ y. word ≡ word_of y)
-line {A} word_of word x below others = go (bytes_eq word (word_of x)) refl
-  where
-    go : (b : Bool) → bytes_eq word (word_of x) ≡ b
-        → IfSome (if b then Some x else below) (λ y. word ≡ word_of y)
-    go true e = (bytes_eq-Decides word (word_of x)).0 e
-    go false e = others
-
-format_of-word : (word : List ℕ) → IfSome (format_of word) (λ format. word ≡ format_word format)
-format_of-word word =
-    line format_word word formats.Wcnf _
-    (line format_word word formats.Wbo _
-    (line format_word word formats.Opb _
-    (line format_word word formats.Poly _
-    (line format_word word formats.Ising _ (line format_word word formats.Qubo None tt)))))
-
-target_of-word : (word : List ℕ) → IfSome (target_of word) (λ target. word ≡ target_word target)
-target_of-word word =
-    line target_word word (Nodes Qubo) _
-    (line target_word word (Nodes Ising) _ (line target_word word Chimera None tt))
-
--- the target that is chosen has the word that was said
-chosen_has_word : (words : List (List ℕ)) (word : TargetWord) (keys : Keys)
-    → IfOk (chosen_target words word keys) (λ target. word_of target ≡ word)
-chosen_has_word words (Nodes model) keys = refl
-chosen_has_word words Chimera keys = go (graph_of keys) keys.chains
-  where
-    go : (graph : Option graphs.Chimera) (chains : Option Chaining)
-        → IfOk (ok_or (given graph (λ g. given chains (λ c.
-        Some (board_with g keys.dead c (chosen_ties keys))))) (length words + 1))
-        (λ target. word_of target ≡ Chimera)
-    go None chains = tt
-    go (Some s) None = tt
-    go (Some s) (Some c) = refl
-
-abbrev verb_word : Verb → List ℕ
-verb_word verbs.Compile = codes "compile"
-verb_word verbs.Decode = codes "decode"
-verb_word verbs.Extend = codes "extend"
-verb_word verbs.Sample = codes "sample"
-verb_word verbs.Solve = codes "solve"
-verb_word verbs.Prove = codes "prove"
-
-verb_of-word : (word : List ℕ) → IfSome (verb_of word) (λ verb. word ≡ verb_word verb)
-verb_of-word word =
-    line verb_word word verbs.Compile _
-    (line verb_word word verbs.Decode _
-    (line verb_word word verbs.Extend _
-    (line verb_word word verbs.Sample _
-    (line verb_word word verbs.Solve _ (line verb_word word verbs.Prove None tt)))))
-
--- ---- a word at its place
-
--- the word stands at the index
-abbrev StandsAt : List (List ℕ) → ℕ → List ℕ → Type 0
-StandsAt words i word = drop i words ≡ word ∷ drop (i + 1) words
-
-slice_get-StandsAt : (words : List (List ℕ)) (i : ℕ) (word : List ℕ) → slice_get words i ≡ Some word
-    → StandsAt words i word
-slice_get-StandsAt words i word e =
-    drop_more words i [] (slice_get_within words i word e)
-    ∙ ap (λ w. w ∷ drop (i + 1) words) (get_or_from_slice_get words i word [] e)
-
-valued-word : {A : Type 0} (value : List ℕ → Option A) (word_of : A → List ℕ)
-    → ((word : List ℕ) → IfSome (value word) (λ x. word ≡ word_of x))
-    → (words : List (List ℕ)) (i : ℕ)
-    → IfOk (valued value words i) (λ x. StandsAt words i (word_of x))
-valued-word {A} value word_of each words i = at (slice_get words i) refl
-  where
-    has : (word : List ℕ) → slice_get words i ≡ Some word → (o : Option A)
-        → IfSome o (λ x. word ≡ word_of x)
-        → IfOk (ok_or o (i + 1)) (λ x. StandsAt words i (word_of x))
-    has word e None same = tt
-    has word e (Some x) same =
-        slice_get-StandsAt words i word e ∙ ap (λ w. w ∷ drop (i + 1) words) same
-
-    at : (o : Option (List ℕ)) → slice_get words i ≡ o
-        → IfOk (option_map_or (λ word. ok_or (value word) (i + 1)) o (Err (i + 1)))
-        (λ x. StandsAt words i (word_of x))
-    at None e = tt
-    at (Some word) e = has word e (value word) (each word)
-
--- a word at its place, with its value
-pub record HasValue {A : Type 0} (value : List ℕ → Option A) (words : List (List ℕ)) (i : ℕ) (x : A)
-    : Type 0 where
-  pub word : List ℕ
-  pub stands : StandsAt words i word
-  pub valued : value word ≡ Some x
-
-valued-HasValue : {A : Type 0} (value : List ℕ → Option A) (words : List (List ℕ)) (i : ℕ)
-    → IfOk (valued value words i) (HasValue value words i)
-valued-HasValue {A} value words i = at (slice_get words i) refl
-  where
-    has : (word : List ℕ) → slice_get words i ≡ Some word → (o : Option A) → value word ≡ o
-        → IfOk (ok_or o (i + 1)) (HasValue value words i)
-    has word e None same = tt
-    has word e (Some x) same =
-        record { word = word; stands = slice_get-StandsAt words i word e; valued = same }
-
-    at : (o : Option (List ℕ)) → slice_get words i ≡ o
-        → IfOk (option_map_or (λ word. ok_or (value word) (i + 1)) o (Err (i + 1)))
-        (HasValue value words i)
-    at None e = tt
-    at (Some word) e = has word e (value word) refl
-
-named-word : (words : List (List ℕ)) (i : ℕ)
-    → IfOk (named words i) (λ file. StandsAt words i (text_at words file))
-named-word words i = at (slice_get words i) refl
-  where
-    at : (o : Option (List ℕ)) → slice_get words i ≡ o
-        → IfOk (option_map_or (λ word. Ok (Whole i)) o (Err (i + 1)))
-        (λ file. StandsAt words i (text_at words file))
-    at None e = tt
-    at (Some word) e =
-        slice_get-StandsAt words i word e
-        ∙ ap (λ o. option_map_or (λ w. w) o [] ∷ drop (i + 1) words) (sym e)
-
--- ---- the words in a row
-
--- the second, third and fourth word are those of the job
-abbrev HasJob : List (List ℕ) → Job → Type 0
-HasJob words job =
-    drop 1 words ≡ job_words job.format (word_of job.target) (text_at words job.file) ++ drop 4 words
-
-module _ (words : List (List ℕ)) (keys_at : ℕ) where
-  -- the steps of a job, each with those after it
-  abbrev with_chosen : Format → WordAt → Keys → Target → Result Job ℕ
-  with_chosen format file keys target =
-      Ok (record {
-        format = format;
-        file = file;
-        target = target;
-        choices = choices_of keys;
-        unit = chosen_unit keys;
-        bound = keys.bound;
-      })
-
-  abbrev with_keys : Format → TargetWord → WordAt → Keys → Result Job ℕ
-  with_keys format word file keys =
-      chosen_target words word keys >>= with_chosen format file keys
-
-  abbrev with_file : Format → TargetWord → WordAt → Result Job ℕ
-  with_file format word file =
-      keys_from word no_keys keys_at (drop keys_at words) >>= with_keys format word file
-
-  abbrev with_target : Format → TargetWord → Result Job ℕ
-  with_target format word = named words 3 >>= with_file format word
-
-  abbrev with_format : Format → Result Job ℕ
-  with_format format = valued target_of words 2 >>= with_target format
-
-  job_of-words : IfOk (job_of words keys_at) (HasJob words)
-  job_of-words =
-      next (valued format_of words 1) with_format _ _
-      (valued-word format_of format_word format_of-word words 1)
-      (λ format second.
-      next (valued target_of words 2) (with_target format) _ _
-      (valued-word target_of target_word target_of-word words 2)
-      (λ word third.
-      next (named words 3) (with_file format word) _ _ (named-word words 3)
-      (λ file fourth.
-      next (keys_from word no_keys keys_at (drop keys_at words)) (with_keys format word file)
-      (λ _. ⊤) _ (nothing _)
-      (λ keys _.
-      next (chosen_target words word keys) (with_chosen format file keys) _ _
-      (chosen_has_word words word keys)
-      (λ target same.
-      second
-      ∙ ap (λ rest. format_word format ∷ rest)
-      (third ∙ ap (λ rest. target_word word ∷ rest) fourth)
-      ∙ ap (λ w. format_word format ∷ target_word w ∷ text_at words file ∷ drop 4 words) (sym same))))))
-
--- the words after the first one say this sample
-abbrev HasSample : List (List ℕ) → Sample → Type 0
-HasSample words sample = (first second : List ℕ) × (digits_number first ≡ Some sample.number)
-    × (clauses_of second ≡ Some sample.clauses)
-    × (drop 1 words ≡ first ∷ second ∷ target_word (word_of sample.target) ∷ drop 4 words)
-
-module _ (words : List (List ℕ)) where
-  -- the steps of a sample, each with those after it
-  abbrev sample_chosen : ℕ → ℕ → Keys → Target → Result Sample ℕ
-  sample_chosen number clauses keys target = Ok (sample_with number clauses target keys)
-
-  abbrev sample_keys : ℕ → ℕ → TargetWord → Keys → Result Sample ℕ
-  sample_keys number clauses word keys =
-      chosen_target words word keys >>= sample_chosen number clauses keys
-
-  abbrev sample_target : ℕ → ℕ → TargetWord → Result Sample ℕ
-  sample_target number clauses word =
-      keys_from word no_keys 4 (drop 4 words) >>= sample_keys number clauses word
-
-  abbrev sample_clauses : ℕ → ℕ → Result Sample ℕ
-  sample_clauses number clauses = valued target_of words 3 >>= sample_target number clauses
-
-  abbrev sample_number : ℕ → Result Sample ℕ
-  sample_number number = valued clauses_of words 2 >>= sample_clauses number
-
-  sample_of-words : IfOk (sample_of words) (HasSample words)
-  sample_of-words =
-      next (valued digits_number words 1) sample_number _ _ (valued-HasValue digits_number words 1)
-      (λ number second.
-      next (valued clauses_of words 2) (sample_clauses number) _ _ (valued-HasValue clauses_of words 2)
-      (λ clauses third.
-      next (valued target_of words 3) (sample_target number clauses) _ _
-      (valued-word target_of target_word target_of-word words 3)
-      (λ word fourth.
-      next (keys_from word no_keys 4 (drop 4 words)) (sample_keys number clauses word)
-      (λ _. ⊤) _ (nothing _)
-      (λ keys _.
-      next (chosen_target words word keys) (sample_chosen number clauses keys) _ _
-      (chosen_has_word words word keys)
-      (λ target same. (
-        second.word,
-        third.word,
-        second.valued,
-        third.valued,
-        second.stands
-            ∙ ap (λ rest. second.word ∷ rest) (third.stands ∙ ap (λ rest. third.word ∷ rest) fourth)
-            ∙ ap (λ w. second.word ∷ third.word ∷ target_word w ∷ drop 4 words) (sym same),
-      ))))))
-
--- the words say a command, and then keys
-abbrev IsAsked : List (List ℕ) → Command → Type 0
-IsAsked words command = (keys : List (List ℕ)) × Say words command keys
-
--- the words of a job, of one more file and of keys, after the first word
-abbrev with_file_words : List ℕ → List (List ℕ) → Job → WordAt → List (List ℕ)
-with_file_words first words job at =
-    first ∷ job_words job.format (word_of job.target) (text_at words job.file)
-    ++ text_at words at ∷ drop 5 words
-
--- what a verb asks for that takes one more file
-with_file-words : (words : List (List ℕ)) (first : List ℕ) (make : WordAt → Ask)
-    → words ≡ first ∷ drop 1 words
-    → ((job : Job) (at : WordAt) → words ≡ with_file_words first words job at
-    → IsAsked words (on_file job (make at)))
-    → IfOk (job_of words 5 >>= λ job. named words 4 >>= λ at. Ok (on_file job (make at)))
-    (IsAsked words)
-with_file-words words first make begins asked =
-    next (job_of words 5) (λ job. named words 4 >>= λ at. Ok (on_file job (make at))) (HasJob words)
-    (IsAsked words) (job_of-words words 5)
-    (λ job stands.
-    next (named words 4) (λ at. Ok (on_file job (make at))) (λ at. StandsAt words 4 (text_at words at))
-    (IsAsked words) (named-word words 4)
-    (λ at fifth.
-    asked job at
-    (begins
-    ∙ ap (λ rest. first ∷ rest) stands
-    ∙ ap (λ rest.
-    first ∷ job_words job.format (word_of job.target) (text_at words job.file) ++ rest) fifth)))
-
--- what is asked with a state and a certificate
-module _ (words : List (List ℕ)) where
-  -- the steps of a proof after its job, each with those after it
-  abbrev with_certificate : Job → WordAt → WordAt → Result Command ℕ
-  with_certificate job state certificate = Ok (on_file job (asks.Prove state certificate))
-
-  abbrev with_state : Job → WordAt → Result Command ℕ
-  with_state job state = named words 5 >>= with_certificate job state
-
-  abbrev with_job : Job → Result Command ℕ
-  with_job job = named words 4 >>= with_state job
-
-  proof-words : words ≡ codes "prove" ∷ drop 1 words
-      → IfOk (job_of words 6 >>= with_job) (IsAsked words)
-  proof-words begins =
-      next (job_of words 6) with_job (HasJob words) (IsAsked words) (job_of-words words 6)
-      (λ job stands.
-      let said = job_words job.format (word_of job.target) (text_at words job.file) in
-      next (named words 4) (with_state job) (λ at. StandsAt words 4 (text_at words at))
-      (IsAsked words) (named-word words 4)
-      (λ state fifth.
-      next (named words 5) (with_certificate job state) (λ at. StandsAt words 5 (text_at words at))
-      (IsAsked words) (named-word words 5)
-      (λ certificate sixth. (
-        drop 6 words,
-        begins
-            ∙ ap (λ rest. codes "prove" ∷ rest) stands
-            ∙ ap (λ rest. codes "prove" ∷ said ++ rest)
-            (fifth ∙ ap (λ rest. text_at words state ∷ rest) sixth),
-      ))))
-
-after_verb-words : (words : List (List ℕ)) (verb : Verb) → words ≡ verb_word verb ∷ drop 1 words
-    → IfOk (after_verb verb words) (IsAsked words)
-after_verb-words words verbs.Compile first =
-    next (job_of words 4) (λ job. Ok (on_file job asks.Model)) (HasJob words) (IsAsked words)
-    (job_of-words words 4)
-    (λ job stands. (drop 4 words, first ∙ ap (λ rest. codes "compile" ∷ rest) stands))
-after_verb-words words verbs.Solve first =
-    next (job_of words 4) (λ job. Ok (on_file job asks.Solve)) (HasJob words) (IsAsked words)
-    (job_of-words words 4)
-    (λ job stands. (drop 4 words, first ∙ ap (λ rest. codes "solve" ∷ rest) stands))
-after_verb-words words verbs.Decode first =
-    with_file-words words (codes "decode") asks.Decode first
-    (λ job state stands. (drop 5 words, stands))
-after_verb-words words verbs.Extend first =
-    with_file-words words (codes "extend") asks.Extend first
-    (λ job assignment stands. (drop 5 words, stands))
-after_verb-words words verbs.Prove first = proof-words words first
-after_verb-words words verbs.Sample first =
-    next (sample_of words) (λ sample. Ok (drawn sample)) (HasSample words) (IsAsked words)
-    (sample_of-words words)
-    (λ sample has. (
-      drop 4 words,
-      record {
-        first = has.0;
-        second = has.1;
-        number_said = has.2;
-        clauses_said = has.3;
-        all = first ∙ ap (λ rest. codes "sample" ∷ rest) has.4;
-      },
-    ))
-
-pub no_others : NoOtherWordsAsk
-no_others words =
-    next (valued verb_of words 0) (λ verb. after_verb verb words)
-    (λ verb. words ≡ verb_word verb ∷ drop 1 words) (IsAsked words)
-    (valued-word verb_of verb_word verb_of-word words 0) (after_verb-words words)

@@ -4,3 +4,4 @@ pub mod BoundKeys
 pub mod Sides
 pub mod Graphs
 pub mod AskedWords
+pub mod SaidWords

@@ -3,8 +3,9 @@
 -- words and one.
 --
 -- So `compile wcnf qubo clash.wcnf unit=reduce` asks for a model, `compile wcnf qubo` is refused at
--- position 4, where the file is missing, and `compile wcnf graph clash.wcnf` at position 3.
-use Rattle.std.specs.Prelude.{ℕ, ◌+◌, ◌≤◌, ⊤, List, length, drop, String, string_bytes, map, bytes_eq, codes, nat_le, if◌then◌else◌, Ok, Err, Some, None, Result, Option, slice_get}
+-- position 4, where the file is missing, and `compile wcnf graph clash.wcnf` at position 3. `--help`
+-- asks for a notice, and `--help compile` is refused at position 2.
+use Rattle.std.specs.Prelude.{ℕ, ◌+◌, ◌≤◌, ◌==◌, ◌||◌, ⊤, List, length, drop, String, string_bytes, map, bytes_eq, codes, nat_le, if◌then◌else◌, option_and_then, Ok, Err, Some, None, Result, Option, slice_get}
 use Rattle.std.specs.Option.{option_map_or, ok_or}
 use Rattle.whole_text.specs.Numbers.{digits_number}
 use Rattle.command_words.specs.declared.commands.Format.{Format}
@@ -18,14 +19,18 @@ use Rattle.command_words.specs.declared.commands.WordAt.TheVariants.{Whole}
 use Rattle.command_words.specs.declared.commands.Origin.{Origin}
 use Rattle.command_words.specs.declared.commands.Origin.TheVariants.{File, Drawn}
 use Rattle.command_words.specs.declared.commands.Ask.{Ask}
-use Rattle.command_words.specs.declared.commands.Ask.TheVariants.{Model, Summary, Solve, Decode, Extend, Prove}
+use Rattle.command_words.specs.declared.commands.Ask.TheVariants.{Model, Summary, Size, Solve, Decode, Evaluate, Extend, Prove}
 use Rattle.command_words.specs.declared.commands.Command.{Command}
 use Rattle.command_words.specs.declared.words.Job.{Job}
 use Rattle.command_words.specs.declared.words.Sample.{Sample}
-use Rattle.command_words.specs.declared.words.Verb.{Verb}
-use Rattle.command_words.specs.declared.words.Verb.TheVariants as verbs
+use Rattle.command_words.specs.declared.commands.Verb.{Verb}
+use Rattle.command_words.specs.declared.commands.Verb.TheVariants as verbs
+use Rattle.command_words.specs.declared.commands.Notice.{Notice}
+use Rattle.command_words.specs.declared.commands.Notice.TheVariants.{Help, Version}
+use Rattle.command_words.specs.declared.commands.Request.{Request}
+use Rattle.command_words.specs.declared.commands.Request.TheVariants as requests
 use Rattle.command_words.specs.declared.keys.Keys.{Keys}
-use Rattle.command_words.specs.Keys.{choices_of, chosen_unit, keys_from, no_keys, target_by}
+use Rattle.command_words.specs.Keys.{choices_of, chosen_slack, chosen_unit, keys_from, no_keys, target_by}
 
 -- a step on the words, and the next one with its value; a word that cannot stand ends it, so the
 -- first such word is the one that is told
@@ -74,15 +79,22 @@ target_of word =
 abbrev pub chosen_target : List (List ℕ) → TargetWord → Keys → Result Target ℕ
 chosen_target words target keys = ok_or (target_by target keys) (length words + 1)
 
--- The job of FORMAT TARGET FILE, from the second word on, with the keys from an index on. The keys
--- stand after what the verb has besides: from index 4 on for a model, 5 with a state, 6 with a
--- certificate as well.
-abbrev pub job_of : List (List ℕ) → ℕ → Result Job ℕ
-job_of words keys_at = do
+-- The index of the first key of a verb. The keys stand behind what the verb has besides: a state,
+-- states or an assignment, and to prove a certificate as well.
+abbrev pub first_key : Verb → ℕ
+first_key verbs.Decode = 5
+first_key verbs.Evaluate = 5
+first_key verbs.Extend = 5
+first_key verbs.Prove = 6
+first_key verb = 4
+
+-- the job of FORMAT TARGET FILE, from the second word on, with the keys of a verb
+abbrev pub job_of : Verb → List (List ℕ) → Result Job ℕ
+job_of verb words = do
   format ← valued format_of words 1
   word ← valued target_of words 2
   file ← named words 3
-  keys ← keys_from word no_keys keys_at (drop keys_at words)
+  keys ← keys_from verb word no_keys (first_key verb) (drop (first_key verb) words)
   target ← chosen_target words word keys
   Ok (record {
     format = format;
@@ -91,6 +103,8 @@ job_of words keys_at = do
     choices = choices_of keys;
     unit = chosen_unit keys;
     bound = keys.bound;
+    slack = chosen_slack keys;
+    order = keys.order;
   })
 
 -- A count of clauses in digits, of at most 100,000. More than that would make a text that the
@@ -107,7 +121,7 @@ sample_of words = do
   number ← valued digits_number words 1
   clauses ← valued clauses_of words 2
   word ← valued target_of words 3
-  keys ← keys_from word no_keys 4 (drop 4 words)
+  keys ← keys_from verbs.Sample word no_keys 4 (drop 4 words)
   target ← chosen_target words word keys
   Ok (record {
     number = number;
@@ -116,6 +130,7 @@ sample_of words = do
     choices = choices_of keys;
     unit = chosen_unit keys;
     bound = keys.bound;
+    slack = chosen_slack keys;
   })
 
 -- the words of the verbs
@@ -123,8 +138,12 @@ abbrev pub verb_of : List ℕ → Option Verb
 verb_of word =
     if bytes_eq word (codes "compile")
     then Some verbs.Compile
+    else if bytes_eq word (codes "size")
+    then Some verbs.Size
     else if bytes_eq word (codes "decode")
     then Some verbs.Decode
+    else if bytes_eq word (codes "evaluate")
+    then Some verbs.Evaluate
     else if bytes_eq word (codes "extend")
     then Some verbs.Extend
     else if bytes_eq word (codes "sample")
@@ -141,6 +160,7 @@ on_file job ask = record {
   choices = job.choices;
   unit = job.unit;
   bound = job.bound;
+  slack = job.slack;
   ask = ask;
 }
 
@@ -152,33 +172,40 @@ drawn sample = record {
   choices = sample.choices;
   unit = sample.unit;
   bound = sample.bound;
+  slack = sample.slack;
   ask = Summary;
 }
 
--- what a verb asks for, with the words that stand after it
-abbrev pub after_verb : Verb → List (List ℕ) → Result Command ℕ
-after_verb verbs.Compile words = do
-  job ← job_of words 4
-  Ok (on_file job Model)
-after_verb verbs.Decode words = do
-  job ← job_of words 5
-  state ← named words 4
-  Ok (on_file job (Decode state))
-after_verb verbs.Extend words = do
-  job ← job_of words 5
-  assignment ← named words 4
-  Ok (on_file job (Extend assignment))
-after_verb verbs.Sample words = do
-  sample ← sample_of words
-  Ok (drawn sample)
-after_verb verbs.Solve words = do
-  job ← job_of words 4
-  Ok (on_file job Solve)
-after_verb verbs.Prove words = do
-  job ← job_of words 6
+-- What a verb asks of the model of a source, with the names that stand behind FILE. `solve` takes
+-- an order of elimination, where a key names one.
+abbrev pub ask_of : Verb → Option WordAt → List (List ℕ) → Result Ask ℕ
+ask_of verbs.Compile order words = Ok Model
+ask_of verbs.Size order words = Ok Size
+ask_of verbs.Sample order words = Ok Summary
+ask_of verbs.Solve order words = Ok (Solve order)
+ask_of verbs.Decode order words = named words 4 >>= λ state. Ok (Decode state)
+ask_of verbs.Evaluate order words = named words 4 >>= λ states. Ok (Evaluate states)
+ask_of verbs.Extend order words = named words 4 >>= λ assignment. Ok (Extend assignment)
+ask_of verbs.Prove order words = do
   state ← named words 4
   certificate ← named words 5
-  Ok (on_file job (Prove state certificate))
+  Ok (Prove state certificate)
+
+-- what a verb asks of a source in a file
+abbrev pub asked_of_file : Verb → List (List ℕ) → Result Command ℕ
+asked_of_file verb words = do
+  job ← job_of verb words
+  ask ← ask_of verb job.order words
+  Ok (on_file job ask)
+
+-- what is asked of a source that is drawn
+abbrev pub asked_of_sample : List (List ℕ) → Result Command ℕ
+asked_of_sample words = sample_of words >>= λ sample. Ok (drawn sample)
+
+-- what a verb asks for, with the words that stand after it
+abbrev pub after_verb : Verb → List (List ℕ) → Result Command ℕ
+after_verb verbs.Sample words = asked_of_sample words
+after_verb verb words = asked_of_file verb words
 
 -- all words of a command
 abbrev pub command_of : List (List ℕ) → Result Command ℕ
@@ -186,12 +213,40 @@ command_of words = do
   verb ← valued verb_of words 0
   after_verb verb words
 
+-- the words of the notices, each long or short
+abbrev pub notice_of : List ℕ → Option Notice
+notice_of word =
+    if bytes_eq word (codes "--help") || bytes_eq word (codes "-h")
+    then Some Help
+    else if bytes_eq word (codes "--version") || bytes_eq word (codes "-V")
+    then Some Version
+    else None
+
+-- the notice that the first word names, where it names one
+abbrev pub first_notice : List (List ℕ) → Option Notice
+first_notice words = option_and_then notice_of (slice_get words 0)
+
+-- A notice that the first word names. A further word cannot stand, so the second is told.
+abbrev pub alone : List (List ℕ) → Notice → Result Request ℕ
+alone words notice = if length words == 1 then Ok (requests.Notice notice) else Err 2
+
+-- all words of a request: a notice where the first names one, and else a command
+abbrev pub request_of : List (List ℕ) → Result Request ℕ
+request_of words =
+    option_map_or (alone words) (first_notice words)
+    (command_of words >>= λ command. Ok (requests.Command command))
+
 -- A source with at most 100,000 clauses, where it is drawn. It keeps the text of a drawn source
 -- within its limit.
 abbrev pub HasFewClauses : Origin → Type 0
 HasFewClauses (File format at) = ⊤
 HasFewClauses (Drawn number clauses) = clauses ≤ 100000
 
+-- a request for a source with at most 100,000 clauses, where it asks for one that is drawn
+abbrev pub AsksForFewClauses : Request → Type 0
+AsksForFewClauses (requests.Notice notice) = ⊤
+AsksForFewClauses (requests.Command command) = HasFewClauses command.origin
+
 -- what the given words ask for
-abbrev pub asked : {A : Type 0} → List (String A) → Result Command ℕ
-asked words = command_of (map string_bytes words)
+abbrev pub asked : {A : Type 0} → List (String A) → Result Request ℕ
+asked words = request_of (map string_bytes words)

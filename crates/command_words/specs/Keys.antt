@@ -1,7 +1,7 @@
 -- The keys of a command, in any order, each at most once: words of the form `NAME=VALUE`.
 --
 -- A word is cut at its first `=`, so a name may have another one. A key that stands twice, and a
--- key that a target does not have, are words that cannot stand.
+-- key that a target or a verb does not have, are words that cannot stand.
 use Rattle.std.specs.Prelude.{◌≡◌, refl, ℕ, ◌+◌, ◌^◌, ◌==◌, nat_lt, nat_le, ◌&&◌, List, [], ◌∷◌, take, drop, Bool, true, false, codes, bytes_eq, if◌then◌else◌, Ok, Err, Some, None, Result, Option, option_and_then}
 use Rattle.std.specs.List.{position}
 use Rattle.std.specs.Option.{option_map, option_map_or}
@@ -14,6 +14,10 @@ use Rattle.problem_form.specs.declared.limits.High.{High}
 use Rattle.problem_form.specs.declared.limits.High.TheVariants.{Monomial, Rosenberg}
 use Rattle.whole_text.specs.Numbers.{digits_number}
 use Rattle.command_words.specs.declared.commands.Bound.{Bound}
+use Rattle.command_words.specs.declared.commands.Slack.{Slack}
+use Rattle.command_words.specs.declared.commands.Slack.TheVariants.{Bits, Pairs}
+use Rattle.command_words.specs.declared.commands.Verb.{Verb}
+use Rattle.command_words.specs.declared.commands.Verb.TheVariants as verbs
 use Rattle.command_words.specs.declared.commands.WordAt.TheVariants.{Value}
 use Rattle.chimera_graph.specs.declared.chimera.Chimera as graphs
 use Rattle.chimera_graph.specs.Shape.{IsShape}
@@ -35,6 +39,8 @@ no_keys = record {
   high = None;
   unit = None;
   bound = None;
+  slack = None;
+  order = None;
   rows = None;
   cols = None;
   shore = None;
@@ -54,6 +60,11 @@ choices_of keys = record {
 -- how keys choose the unit, which is usually 1
 abbrev pub chosen_unit : Keys → UnitChoice
 chosen_unit keys = option_map_or (λ value. value) keys.unit One
+
+-- how keys choose what stands for the conditions of which no two may miss, which is usually slack
+-- bits
+abbrev pub chosen_slack : Keys → Slack
+chosen_slack keys = option_map_or (λ value. value) keys.slack Bits
 
 -- how keys choose the ties of chains, which is usually by the simple bound
 abbrev pub chosen_ties : Keys → Ties
@@ -131,6 +142,13 @@ unit_of value =
     then Some One
     else if bytes_eq value (codes "reduce") then Some Reduce else None
 
+-- the words of what stands for the conditions of which no two may miss
+abbrev pub slack_of : List ℕ → Option Slack
+slack_of value =
+    if bytes_eq value (codes "bits")
+    then Some Bits
+    else if bytes_eq value (codes "pairs") then Some Pairs else None
+
 -- A bound of the cost: an optional `-` (45), and digits.
 abbrev pub bound_of : List ℕ → Option Bound
 bound_of [] = None
@@ -183,10 +201,17 @@ abbrev pub with_own_pair : TargetWord → Keys → ℕ → List ℕ → List ℕ
 with_own_pair (Nodes model) keys at name value = None
 with_own_pair Chimera keys at name value = with_graph_pair keys at name value
 
+-- The keys with an order of elimination, whose word stands at an index, or none where it cannot
+-- stand. Only `solve` has an order.
+abbrev pub with_order : Verb → Keys → ℕ → Option Keys
+with_order verbs.Solve keys at =
+    option_map (λ order. record keys { order = Some order }) (once keys.order (Some (Value at)))
+with_order verb keys at = None
+
 -- The table of keys: the keys with one more, whose word stands at an index, or none where it cannot
--- stand. Every target has `normal`, `high`, `unit` and `bound`.
-abbrev pub with_pair : TargetWord → Keys → ℕ → List ℕ → List ℕ → Option Keys
-with_pair target keys at name value =
+-- stand. Every verb and target has `normal`, `high`, `unit`, `bound` and `slack`.
+abbrev pub with_pair : Verb → TargetWord → Keys → ℕ → List ℕ → List ℕ → Option Keys
+with_pair verb target keys at name value =
     if bytes_eq name (codes "normal")
     then option_map (λ normal. record keys { normal = Some normal }) (once keys.normal (normal_of value))
     else if bytes_eq name (codes "high")
@@ -195,16 +220,20 @@ with_pair target keys at name value =
     then option_map (λ unit. record keys { unit = Some unit }) (once keys.unit (unit_of value))
     else if bytes_eq name (codes "bound")
     then option_map (λ bound. record keys { bound = Some bound }) (once keys.bound (bound_of value))
+    else if bytes_eq name (codes "slack")
+    then option_map (λ slack. record keys { slack = Some slack }) (once keys.slack (slack_of value))
+    else if bytes_eq name (codes "order")
+    then with_order verb keys at
     else with_own_pair target keys at name value
 
 -- the keys with that of one word more, or none where the word cannot stand
-abbrev pub with_word : TargetWord → Keys → ℕ → List ℕ → Option Keys
-with_word target keys at word =
-    option_map_or (λ parts. with_pair target keys at parts.0 parts.1) (cut word) None
+abbrev pub with_word : Verb → TargetWord → Keys → ℕ → List ℕ → Option Keys
+with_word verb target keys at word =
+    option_map_or (λ parts. with_pair verb target keys at parts.0 parts.1) (cut word) None
 
 -- the keys of words from an index on, or the position of the first word that cannot stand
-abbrev pub keys_from : TargetWord → Keys → ℕ → List (List ℕ) → Result Keys ℕ
-keys_from target keys at [] = Ok keys
-keys_from target keys at (word ∷ words) =
-    option_map_or (λ more. keys_from target more (at + 1) words) (with_word target keys at word)
-    (Err (at + 1))
+abbrev pub keys_from : Verb → TargetWord → Keys → ℕ → List (List ℕ) → Result Keys ℕ
+keys_from verb target keys at [] = Ok keys
+keys_from verb target keys at (word ∷ words) =
+    option_map_or (λ more. keys_from verb target more (at + 1) words)
+    (with_word verb target keys at word) (Err (at + 1))

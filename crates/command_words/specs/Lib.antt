@@ -3,4 +3,5 @@ pub mod Bounds
 pub mod Keys
 pub mod Commands
 pub mod Names
+pub mod Notices
 pub mod Asked

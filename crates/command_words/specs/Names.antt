@@ -14,10 +14,10 @@ use Rattle.command_words.specs.declared.commands.Chaining.TheVariants as chainin
 use Rattle.command_words.specs.declared.commands.Origin.{Origin}
 use Rattle.command_words.specs.declared.commands.Origin.TheVariants.{File, Drawn}
 use Rattle.command_words.specs.declared.commands.Ask.{Ask}
-use Rattle.command_words.specs.declared.commands.Ask.TheVariants.{Model, Summary, Solve, Decode, Extend, Prove}
+use Rattle.command_words.specs.declared.commands.Ask.TheVariants.{Solve, Decode, Evaluate, Extend, Prove}
 use Rattle.command_words.specs.declared.commands.Command.{Command}
 use Rattle.command_words.specs.declared.names.Which.{Which}
-use Rattle.command_words.specs.declared.names.Which.TheVariants.{Source, Dead, Map, State, Certificate}
+use Rattle.command_words.specs.declared.names.Which.TheVariants.{Source, Dead, Map, State, Certificate, Order}
 use Rattle.command_words.specs.Keys.{cut}
 
 -- what stands after the first `=` of a word
@@ -50,24 +50,24 @@ abbrev pub map_of : Target → Option WordAt
 map_of (targets.Nodes model) = None
 map_of (targets.Chimera board) = map_in board.chains
 
--- The place of the name of a state or an assignment. Decoding and proving take a state of the
--- model, and extending an assignment of the source.
+-- The place of the name of states or of an assignment. Decoding, evaluating and proving take states
+-- of the model, and extending an assignment of the source.
 abbrev pub state_of : Ask → Option WordAt
-state_of Model = None
-state_of Summary = None
-state_of Solve = None
 state_of (Decode state) = Some state
+state_of (Evaluate states) = Some states
 state_of (Extend assignment) = Some assignment
 state_of (Prove state certificate) = Some state
+state_of ask = None
 
 -- the place of the name of a certificate
 abbrev pub certificate_of : Ask → Option WordAt
-certificate_of Model = None
-certificate_of Summary = None
-certificate_of Solve = None
-certificate_of (Decode state) = None
-certificate_of (Extend assignment) = None
 certificate_of (Prove state certificate) = Some certificate
+certificate_of ask = None
+
+-- the place of the name of an order of elimination
+abbrev pub order_of : Ask → Option WordAt
+order_of (Solve order) = order
+order_of ask = None
 
 -- the place of the name of a file, where a command has such a file
 abbrev pub place_of : Command → Which → Option WordAt
@@ -76,6 +76,7 @@ place_of command Dead = dead_of command.target
 place_of command Map = map_of command.target
 place_of command State = state_of command.ask
 place_of command Certificate = certificate_of command.ask
+place_of command Order = order_of command.ask
 
 -- the name of a file of a command, empty where the command has no such file
 abbrev pub name_of : List (List ℕ) → Command → Which → List ℕ
@@ -94,7 +95,8 @@ model_files command =
 -- The files that are taken once the model stands. The source is read first, so a fault in it is
 -- told before one in these.
 abbrev pub last_files : Command → List Which
-last_files command = if_named command State ++ if_named command Certificate
+last_files command =
+    if_named command State ++ if_named command Certificate ++ if_named command Order
 
 -- the files that a command takes, in the order in which it takes them
 abbrev pub files_of : Command → List Which

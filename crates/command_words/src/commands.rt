@@ -71,6 +71,14 @@ pub enum WordAt {
     Value(usize),
 }
 
+/// What stands for the conditions of which no two may miss: slack bits, as for each condition, or
+/// a pair for each two.
+#[derive(Clone, Copy, Debug, PartialEq, Eq)]
+pub enum Slack {
+    Bits,
+    Pairs,
+}
+
 /// A bound of the cost: its size, which is below 2^64, and whether it is negative.
 #[derive(Clone, Copy, Debug, PartialEq, Eq)]
 pub struct Bound {
@@ -109,6 +117,19 @@ pub enum Origin {
     Drawn(u64, u64),
 }
 
+/// What the first word of a command says.
+#[derive(Clone, Copy, Debug, PartialEq, Eq)]
+pub enum Verb {
+    Compile,
+    Size,
+    Decode,
+    Evaluate,
+    Extend,
+    Sample,
+    Solve,
+    Prove,
+}
+
 /// What is asked of the model of a source.
 #[derive(Clone, Copy, Debug, PartialEq, Eq)]
 pub enum Ask {
@@ -116,10 +137,15 @@ pub enum Ask {
     Model,
     /// Its summary.
     Summary,
-    /// Its first least state, and what that tells of the source.
-    Solve,
+    /// Its summary, the variables of the source, and the sizes of its weights.
+    Size,
+    /// Its first least state, and what that tells of the source; by the order of elimination in the
+    /// file of this name, where there is one.
+    Solve(Option<WordAt>),
     /// The assignment of the source that a state of it, in the file of this name, stands for.
     Decode(WordAt),
+    /// What each of the states of it, in the file of this name, stands for, and the best of them.
+    Evaluate(WordAt),
     /// The state of it that an assignment of the source, in the file of this name, extends to.
     Extend(WordAt),
     /// Whether a state of it, in the file of the first name, is a least one, by the certificate in
@@ -127,8 +153,8 @@ pub enum Ask {
     Prove(WordAt, WordAt),
 }
 
-/// What a run does: a source, the most that an assignment of it may cost, how it becomes a model, and
-/// what is asked of that model.
+/// What a run does: a source, the most that an assignment of it may cost, what stands for its
+/// conditions, how it becomes a model, and what is asked of that model.
 #[derive(Clone, Copy, Debug, PartialEq, Eq)]
 pub struct Command {
     pub origin: Origin,
@@ -136,5 +162,20 @@ pub struct Command {
     pub choices: Choices,
     pub unit: UnitChoice,
     pub bound: Option<Bound>,
+    pub slack: Slack,
     pub ask: Ask,
+}
+
+/// What the program tells of itself: its help, or its version.
+#[derive(Clone, Copy, Debug, PartialEq, Eq)]
+pub enum Notice {
+    Help,
+    Version,
+}
+
+/// What the words of a run ask for.
+#[derive(Clone, Copy, Debug, PartialEq, Eq)]
+pub enum Request {
+    Notice(Notice),
+    Command(Command),
 }

@@ -1,8 +1,8 @@
 //! The keys of a command, in any order, each at most once: words of the form `NAME=VALUE`.
 ghost use Rattle.std.specs.Prelude.{◌≡◌, ◌+◌, ◌<◌, ◌^◌, length, map, string_bytes, Some, None, MatchOption};
-ghost use Rattle.command_words.specs.Keys.{bound_of, chosen_ties, chosen_unit, choices_of, cut, embed_of, graph_of, high_of, keys_from, no_keys, normal_of, once, side_of, target_by, ties_of, unit_of, with_graph_pair, with_pair, with_word};
+ghost use Rattle.command_words.specs.Keys.{bound_of, chosen_ties, chosen_unit, choices_of, cut, embed_of, graph_of, high_of, keys_from, no_keys, normal_of, once, side_of, slack_of, chosen_slack, target_by, ties_of, unit_of, with_graph_pair, with_order, with_pair, with_word};
 
-use crate::commands::{Board, Bound, Chaining, Target, TargetWord, Ties, WordAt};
+use crate::commands::{Board, Bound, Chaining, Slack, Target, TargetWord, Ties, Verb, WordAt};
 use base::UnitChoice;
 use chimera_graph::Chimera;
 use problem_form::{Choices, High, Normal};
@@ -18,6 +18,8 @@ pub struct Keys {
     pub high: Option<High>,
     pub unit: Option<UnitChoice>,
     pub bound: Option<Bound>,
+    pub slack: Option<Slack>,
+    pub order: Option<WordAt>,
     pub rows: Option<u32>,
     pub cols: Option<u32>,
     pub shore: Option<u32>,
@@ -35,6 +37,8 @@ pub(crate) fn no_keys() -> Keys
         high: None,
         unit: None,
         bound: None,
+        slack: None,
+        order: None,
         rows: None,
         cols: None,
         shore: None,
@@ -59,6 +63,13 @@ pub(crate) fn chosen_unit(keys: Keys) -> UnitChoice
     ensures { result ≡ chosen_unit keys }
 {
     keys.unit.unwrap_or(UnitChoice::One)
+}
+
+/// What stands for the conditions of which no two may miss, which is usually slack bits.
+pub(crate) fn chosen_slack(keys: Keys) -> Slack
+    ensures { result ≡ chosen_slack keys }
+{
+    keys.slack.unwrap_or(Slack::Bits)
 }
 
 /// How the qubits of a chain are tied, which is usually by the simple bound.
@@ -143,6 +154,16 @@ fn unit_of(value: &str) -> Option<UnitChoice>
     match value {
         "one" => Some(UnitChoice::One),
         "reduce" => Some(UnitChoice::Reduce),
+        _ => None,
+    }
+}
+
+fn slack_of(value: &str) -> Option<Slack>
+    ensures { result ≡ slack_of value.now }
+{
+    match value {
+        "bits" => Some(Slack::Bits),
+        "pairs" => Some(Slack::Pairs),
         _ => None,
     }
 }
@@ -240,10 +261,31 @@ fn with_graph_pair(keys: Keys, at: usize, name: &str, value: &str) -> Option<Key
     }
 }
 
+/// The keys with an order of elimination, whose word stands at the index `at`, or none where it
+/// cannot stand: `solve` alone takes one.
+fn with_order(verb: Verb, keys: Keys, at: usize) -> Option<Keys>
+    ensures { result ≡ with_order verb keys at }
+{
+    match verb {
+        Verb::Solve => {
+            let order = Some(once(keys.order, Some(WordAt::Value(at)))?);
+            Some(Keys { order, ..keys })
+        }
+        _ => None,
+    }
+}
+
 /// The table of keys: the keys with one more, whose word stands at the index `at`, or none where
-/// it cannot stand. A graph has keys of its own.
-fn with_pair(target: TargetWord, keys: Keys, at: usize, name: &str, value: &str) -> Option<Keys>
-    ensures { result ≡ with_pair target keys at name.now value.now }
+/// it cannot stand. `solve` has a key of its own, and so has a graph.
+fn with_pair(
+    verb: Verb,
+    target: TargetWord,
+    keys: Keys,
+    at: usize,
+    name: &str,
+    value: &str,
+) -> Option<Keys>
+    ensures { result ≡ with_pair verb target keys at name.now value.now }
 {
     match name {
         "normal" => {
@@ -262,6 +304,11 @@ fn with_pair(target: TargetWord, keys: Keys, at: usize, name: &str, value: &str)
             let bound = Some(once(keys.bound, bound_of(value))?);
             Some(Keys { bound, ..keys })
         }
+        "slack" => {
+            let slack = Some(once(keys.slack, slack_of(value))?);
+            Some(Keys { slack, ..keys })
+        }
+        "order" => with_order(verb, keys, at),
         _ => match target {
             TargetWord::Nodes(_) => None,
             TargetWord::Chimera => with_graph_pair(keys, at, name, value),
@@ -270,24 +317,29 @@ fn with_pair(target: TargetWord, keys: Keys, at: usize, name: &str, value: &str)
 }
 
 /// The keys with that of one word more, or none where the word cannot stand.
-fn with_word(target: TargetWord, keys: Keys, at: usize, word: &str) -> Option<Keys>
-    ensures { result ≡ with_word target keys at word.now }
+fn with_word(verb: Verb, target: TargetWord, keys: Keys, at: usize, word: &str) -> Option<Keys>
+    ensures { result ≡ with_word verb target keys at word.now }
 {
     let (name, value) = cut(word)?;
-    with_pair(target, keys, at, name, value)
+    with_pair(verb, target, keys, at, name, value)
 }
 
 /// The keys of words of which the first stands at the index `first`, or the position of the first
 /// word that cannot stand, counted from 1.
-pub(crate) fn keys_from(target: TargetWord, first: usize, words: &[String]) -> Result<Keys, usize>
+pub(crate) fn keys_from(
+    verb: Verb,
+    target: TargetWord,
+    first: usize,
+    words: &[String],
+) -> Result<Keys, usize>
     requires { first + length words.now < 2 ^ 64 }
-    ensures { result ≡ keys_from target no_keys first (map string_bytes words.now) }
+    ensures { result ≡ keys_from verb target no_keys first (map string_bytes words.now) }
 {
     let mut keys = no_keys();
     let mut at = first;
     let mut left = words;
     while let [word, rest @ ..] = left {
-        match with_word(target, keys, at, word.as_str()) {
+        match with_word(verb, target, keys, at, word.as_str()) {
             Some(more) => keys = more,
             None => return Err(at + 1),
         }

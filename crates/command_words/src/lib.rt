@@ -5,11 +5,14 @@ mod commands;
 mod keys;
 mod laws;
 mod names;
+mod notices;
 mod words;
 
 pub use commands::{
-    Ask, Board, Bound, Chaining, Command, Format, NodeModel, Origin, Target, Ties, WordAt, most_of,
+    Ask, Board, Bound, Chaining, Command, Format, NodeModel, Notice, Origin, Request, Slack, Target,
+    Ties, WordAt, most_of,
 };
 pub use laws::laws_of_words;
 pub use names::{Which, name_of, text_at};
-pub use words::command;
+pub use notices::notice_text;
+pub use words::request;

@@ -1,12 +1,12 @@
 //! The files that a command names.
 ghost use Rattle.std.specs.Prelude.{◌≡◌, map, string_bytes};
-ghost use Rattle.command_words.specs.Names.{certificate_of, dead_of, file_of, map_of, name_of, place_of, state_of, text_at, value_of};
+ghost use Rattle.command_words.specs.Names.{certificate_of, dead_of, file_of, map_of, name_of, order_of, place_of, state_of, text_at, value_of};
 
 use crate::commands::{Ask, Chaining, Command, Origin, Target, WordAt};
 use crate::keys::cut;
 
 /// A file that a command names: the source, the list of dead qubits and couplers, the map of
-/// chains, the state or assignment, or the certificate.
+/// chains, the states or the assignment, the certificate, or the order of elimination.
 #[derive(Clone, Copy, Debug, PartialEq, Eq)]
 pub enum Which {
     Source,
@@ -14,6 +14,7 @@ pub enum Which {
     Map,
     State,
     Certificate,
+    Order,
 }
 
 /// What stands after the first `=` of a word.
@@ -75,13 +76,13 @@ fn map_of(target: Target) -> Option<WordAt>
     }
 }
 
-/// The place of the name of a state or an assignment.
+/// The place of the name of states or of an assignment.
 fn state_of(ask: Ask) -> Option<WordAt>
     ensures { result ≡ state_of ask }
 {
     match ask {
-        Ask::Decode(at) | Ask::Extend(at) | Ask::Prove(at, _) => Some(at),
-        Ask::Model | Ask::Summary | Ask::Solve => None,
+        Ask::Decode(at) | Ask::Evaluate(at) | Ask::Extend(at) | Ask::Prove(at, _) => Some(at),
+        Ask::Model | Ask::Summary | Ask::Size | Ask::Solve(_) => None,
     }
 }
 
@@ -91,7 +92,17 @@ fn certificate_of(ask: Ask) -> Option<WordAt>
 {
     match ask {
         Ask::Prove(_, at) => Some(at),
-        Ask::Model | Ask::Summary | Ask::Solve | Ask::Decode(_) | Ask::Extend(_) => None,
+        _ => None,
+    }
+}
+
+/// The place of the name of an order of elimination.
+fn order_of(ask: Ask) -> Option<WordAt>
+    ensures { result ≡ order_of ask }
+{
+    match ask {
+        Ask::Solve(order) => order,
+        _ => None,
     }
 }
 
@@ -105,6 +116,7 @@ fn place_of(command: Command, which: Which) -> Option<WordAt>
         Which::Map => map_of(command.target),
         Which::State => state_of(command.ask),
         Which::Certificate => certificate_of(command.ask),
+        Which::Order => order_of(command.ask),
     }
 }
 

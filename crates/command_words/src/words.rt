@@ -1,10 +1,13 @@
 //! The words of a command, one after another. Nothing here takes memory.
 ghost use Rattle.std.specs.Prelude.{◌≡◌, ◌<◌, ◌≤◌, ◌^◌, IfOk, IfSome, length, map, drop, string_bytes};
 ghost use Rattle.whole_text.specs.Numbers.{digits_number};
-ghost use Rattle.command_words.specs.Commands.{HasFewClauses, chosen_target, clauses_of, command_of, drawn, format_of, job_of, named, on_file, sample_of, target_of, valued, verb_of};
+ghost use Rattle.command_words.specs.Commands.{HasFewClauses, AsksForFewClauses, alone, ask_of, asked_of_file, asked_of_sample, chosen_target, clauses_of, command_of, drawn, first_key, first_notice, format_of, job_of, named, notice_of, on_file, request_of, sample_of, target_of, valued, verb_of};
 
-use crate::commands::{Ask, Bound, Command, Format, NodeModel, Origin, Target, TargetWord, WordAt};
-use crate::keys::{Keys, choices_of, chosen_unit, keys_from, target_by};
+use crate::commands::{
+    Ask, Bound, Command, Format, NodeModel, Notice, Origin, Request, Slack, Target, TargetWord, Verb,
+    WordAt,
+};
+use crate::keys::{Keys, choices_of, chosen_slack, chosen_unit, keys_from, target_by};
 use base::UnitChoice;
 use problem_form::Choices;
 use whole_text::digits;
@@ -21,6 +24,8 @@ pub struct Job {
     pub choices: Choices,
     pub unit: UnitChoice,
     pub bound: Option<Bound>,
+    pub slack: Slack,
+    pub order: Option<WordAt>,
 }
 
 /// What NUMBER CLAUSES TARGET say, and the keys.
@@ -32,17 +37,7 @@ pub struct Sample {
     pub choices: Choices,
     pub unit: UnitChoice,
     pub bound: Option<Bound>,
-}
-
-/// What the first word says.
-#[derive(Clone, Copy, Debug, PartialEq, Eq)]
-pub enum Verb {
-    Compile,
-    Decode,
-    Extend,
-    Sample,
-    Solve,
-    Prove,
+    pub slack: Slack,
 }
 
 fn verb_of(word: &str) -> Option<Verb>
@@ -50,7 +45,9 @@ fn verb_of(word: &str) -> Option<Verb>
 {
     match word {
         "compile" => Some(Verb::Compile),
+        "size" => Some(Verb::Size),
         "decode" => Some(Verb::Decode),
+        "evaluate" => Some(Verb::Evaluate),
         "extend" => Some(Verb::Extend),
         "sample" => Some(Verb::Sample),
         "solve" => Some(Verb::Solve),
@@ -176,15 +173,27 @@ fn chosen_target(words: &[String], target: TargetWord, keys: Keys) -> Result<Tar
     target_by(target, keys).ok_or(words.len() + 1)
 }
 
-/// The job of FORMAT TARGET FILE, from the second word on, with the keys from an index on.
-fn read_job(words: &[String], keys_at: usize) -> Result<Job, usize>
-    requires { keys_at < 2 ^ 32 }
-    ensures { result ≡ job_of (map string_bytes words.now) keys_at }
+/// The index of the first key of a verb.
+fn first_key(verb: Verb) -> usize
+    ensures index { result ≡ first_key verb }
+    ensures small { result < 2 ^ 32 }
+{
+    match verb {
+        Verb::Compile | Verb::Size | Verb::Sample | Verb::Solve => 4,
+        Verb::Decode | Verb::Evaluate | Verb::Extend => 5,
+        Verb::Prove => 6,
+    }
+}
+
+/// The job of FORMAT TARGET FILE, from the second word on, with the keys of a verb.
+fn read_job(verb: Verb, words: &[String]) -> Result<Job, usize>
+    ensures { result ≡ job_of verb (map string_bytes words.now) }
 {
     let format = format_word(words)?;
     let word = target_word(words, 2)?;
     let file = named(words, 3)?;
-    let keys = keys_from(word, keys_at, words_from(words, keys_at))?;
+    let first = first_key(verb);
+    let keys = keys_from(verb, word, first, words_from(words, first))?;
     let target = chosen_target(words, word, keys)?;
     Ok(Job {
         format,
@@ -193,6 +202,8 @@ fn read_job(words: &[String], keys_at: usize) -> Result<Job, usize>
         choices: choices_of(keys),
         unit: chosen_unit(keys),
         bound: keys.bound,
+        slack: chosen_slack(keys),
+        order: keys.order,
     })
 }
 
@@ -204,7 +215,7 @@ fn read_sample(words: &[String]) -> Result<Sample, usize>
     let number = number_word(words)?;
     let clauses = clauses_word(words)?;
     let word = target_word(words, 3)?;
-    let keys = keys_from(word, 4, words_from(words, 4))?;
+    let keys = keys_from(Verb::Sample, word, 4, words_from(words, 4))?;
     let target = chosen_target(words, word, keys)?;
     Ok(Sample {
         number,
@@ -213,6 +224,7 @@ fn read_sample(words: &[String]) -> Result<Sample, usize>
         choices: choices_of(keys),
         unit: chosen_unit(keys),
         bound: keys.bound,
+        slack: chosen_slack(keys),
     })
 }
 
@@ -226,6 +238,7 @@ fn on_file(job: Job, ask: Ask) -> Command
         choices: job.choices,
         unit: job.unit,
         bound: job.bound,
+        slack: job.slack,
         ask,
     }
 }
@@ -240,33 +253,100 @@ fn drawn(sample: Sample) -> Command
         choices: sample.choices,
         unit: sample.unit,
         bound: sample.bound,
+        slack: sample.slack,
         ask: Ask::Summary,
+    }
+}
+
+/// What a verb asks of the model of a source, with the names that stand behind FILE.
+fn ask_of(verb: Verb, order: Option<WordAt>, words: &[String]) -> Result<Ask, usize>
+    ensures { result ≡ ask_of verb order (map string_bytes words.now) }
+{
+    match verb {
+        Verb::Compile => Ok(Ask::Model),
+        Verb::Size => Ok(Ask::Size),
+        Verb::Sample => Ok(Ask::Summary),
+        Verb::Solve => Ok(Ask::Solve(order)),
+        Verb::Decode => Ok(Ask::Decode(named(words, 4)?)),
+        Verb::Evaluate => Ok(Ask::Evaluate(named(words, 4)?)),
+        Verb::Extend => Ok(Ask::Extend(named(words, 4)?)),
+        Verb::Prove => {
+            let state = named(words, 4)?;
+            Ok(Ask::Prove(state, named(words, 5)?))
+        }
+    }
+}
+
+/// What a verb asks of a source in a file.
+fn asked_of_file(verb: Verb, words: &[String]) -> Result<Command, usize>
+    ensures { result ≡ asked_of_file verb (map string_bytes words.now) }
+{
+    let job = read_job(verb, words)?;
+    let ask = ask_of(verb, job.order, words)?;
+    Ok(on_file(job, ask))
+}
+
+/// What is asked of a source that is drawn.
+fn asked_of_sample(words: &[String]) -> Result<Command, usize>
+    ensures asked { result ≡ asked_of_sample (map string_bytes words.now) }
+    ensures few { IfOk result (λ command. HasFewClauses command.origin) }
+{
+    Ok(drawn(read_sample(words)?))
+}
+
+/// The command of the words, or the position of the first word that cannot stand, counted from 1;
+/// where no word is wrong but one is missing, or the graph were too large, it is the number of
+/// words and one.
+fn command(words: &[String]) -> Result<Command, usize>
+    ensures asked { result ≡ command_of (map string_bytes words.now) }
+    ensures few { IfOk result (λ command. HasFewClauses command.origin) }
+{
+    match verb_word(words)? {
+        Verb::Sample => asked_of_sample(words),
+        verb => asked_of_file(verb, words),
+    }
+}
+
+fn notice_of(word: &str) -> Option<Notice>
+    ensures { result ≡ notice_of word.now }
+{
+    match word {
+        "--help" | "-h" => Some(Notice::Help),
+        "--version" | "-V" => Some(Notice::Version),
+        _ => None,
+    }
+}
+
+/// The notice that the first word names, where it names one.
+fn first_notice(words: &[String]) -> Option<Notice>
+    ensures { result ≡ first_notice (map string_bytes words.now) }
+{
+    match words.first() {
+        Some(word) => notice_of(word.as_str()),
+        None => None,
+    }
+}
+
+/// A notice that the first word names. A further word cannot stand.
+fn alone(words: &[String], notice: Notice) -> Result<Request, usize>
+    ensures { result ≡ alone (map string_bytes words.now) notice }
+{
+    if words.len() == 1 {
+        Ok(Request::Notice(notice))
+    } else {
+        Err(2)
     }
 }
 
 /// What the words ask for, or the position of the first word that cannot stand, counted from 1;
 /// where no word is wrong but one is missing, or the graph were too large, it is the number of
 /// words and one.
-pub fn command(words: &[String]) -> Result<Command, usize>
-    ensures asked { result ≡ command_of (map string_bytes words.now) }
-    ensures few { IfOk result (λ command. HasFewClauses command.origin) }
+pub fn request(words: &[String]) -> Result<Request, usize>
+    ensures asked { result ≡ request_of (map string_bytes words.now) }
+    ensures few { IfOk result AsksForFewClauses }
 {
-    match verb_word(words)? {
-        Verb::Compile => Ok(on_file(read_job(words, 4)?, Ask::Model)),
-        Verb::Decode => {
-            let job = read_job(words, 5)?;
-            Ok(on_file(job, Ask::Decode(named(words, 4)?)))
-        }
-        Verb::Extend => {
-            let job = read_job(words, 5)?;
-            Ok(on_file(job, Ask::Extend(named(words, 4)?)))
-        }
-        Verb::Sample => Ok(drawn(read_sample(words)?)),
-        Verb::Solve => Ok(on_file(read_job(words, 4)?, Ask::Solve)),
-        Verb::Prove => {
-            let job = read_job(words, 6)?;
-            let state = named(words, 4)?;
-            Ok(on_file(job, Ask::Prove(state, named(words, 5)?)))
-        }
+    match first_notice(words) {
+        Some(notice) => alone(words, notice),
+        None => Ok(Request::Command(command(words)?)),
     }
 }
