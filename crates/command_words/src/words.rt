@@ -279,7 +279,8 @@ fn ask_of(verb: Verb, order: Option<WordAt>, words: &[String]) -> Result<Ask, us
 
 /// What a verb asks of a source in a file.
 fn asked_of_file(verb: Verb, words: &[String]) -> Result<Command, usize>
-    ensures { result ≡ asked_of_file verb (map string_bytes words.now) }
+    ensures asked { result ≡ asked_of_file verb (map string_bytes words.now) }
+    ensures few { IfOk result (λ command. HasFewClauses command.origin) }
 {
     let job = read_job(verb, words)?;
     let ask = ask_of(verb, job.order, words)?;

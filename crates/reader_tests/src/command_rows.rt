@@ -2,8 +2,8 @@
 use base::UnitChoice;
 use chimera_graph::Chimera;
 use command_words::{
-    Ask, Board, Chaining, Command, Format, NodeModel, Origin, Target, Ties, Which, WordAt, command,
-    name_of,
+    Ask, Board, Chaining, Command, Format, NodeModel, Notice, Origin, Request, Slack, Target, Ties,
+    Which, WordAt, name_of, notice_text, request,
 };
 use problem_form::{Choices, High, Normal};
 use std::alloc::{AllocError, Global};
@@ -23,9 +23,9 @@ fn owned(alloc: Global, words: &[&str]) -> Result<Vec<String>, AllocError> {
 }
 
 /// What the words ask for.
-fn asked(alloc: Global, words: &[&str]) -> Result<Result<Command, usize>, AllocError> {
+fn asked(alloc: Global, words: &[&str]) -> Result<Result<Request, usize>, AllocError> {
     let words = owned(alloc, words)?;
-    Ok(command(&words))
+    Ok(request(&words))
 }
 
 /// What is asked of the file that the fourth word names, with the usual keys.
@@ -39,6 +39,7 @@ fn plain(ask: Ask) -> Command {
         },
         unit: UnitChoice::One,
         bound: None,
+        slack: Slack::Bits,
         ask,
     }
 }
@@ -54,6 +55,7 @@ fn compile_in(format: Format, target: Target, normal: Normal, unit: UnitChoice) 
         },
         unit,
         bound: None,
+        slack: Slack::Bits,
         ask: Ask::Model,
     }
 }
@@ -61,11 +63,17 @@ fn compile_in(format: Format, target: Target, normal: Normal, unit: UnitChoice) 
 const POSITIONS: &[(&[&str], Result<Ask, usize>)] = &[
     (&["compile", "wcnf", "qubo", "FILE"], Ok(Ask::Model)),
     (&["compile", "wcnf", "qubo", "compile"], Ok(Ask::Model)),
-    (&["solve", "wcnf", "qubo", "FILE"], Ok(Ask::Solve)),
+    (&["solve", "wcnf", "qubo", "FILE"], Ok(Ask::Solve(None))),
     (&["solve", "wcnf", "qubo", "FILE", "STATE"], Err(5)),
+    (&["size", "wcnf", "qubo", "FILE"], Ok(Ask::Size)),
+    (&["size", "wcnf", "qubo", "FILE", "STATE"], Err(5)),
     (
         &["decode", "wcnf", "qubo", "FILE", "STATE"],
         Ok(Ask::Decode(WordAt::Whole(4))),
+    ),
+    (
+        &["evaluate", "wcnf", "qubo", "FILE", "STATES", "unit=one"],
+        Ok(Ask::Evaluate(WordAt::Whole(4))),
     ),
     (
         &["extend", "wcnf", "qubo", "FILE", "high=", "unit=one"],
@@ -80,6 +88,8 @@ const POSITIONS: &[(&[&str], Result<Ask, usize>)] = &[
     // a missing word
     (&["prove", "wcnf", "qubo", "FILE", "STATE"], Err(6)),
     (&["decode", "wcnf", "qubo", "FILE"], Err(5)),
+    (&["evaluate", "wcnf", "qubo", "FILE"], Err(5)),
+    (&["size", "wcnf", "qubo"], Err(4)),
     (&["extend", "wcnf", "chimera", "FILE", "STATE"], Err(6)),
     (
         &["extend", "wcnf", "qubo", "FILE", "STATE", "STATE"],
@@ -119,7 +129,7 @@ fn are_asked(
     wanted: &Result<Ask, usize>,
 ) -> Result<bool, AllocError> {
     let wanted = match *wanted {
-        Ok(ask) => Ok(plain(ask)),
+        Ok(ask) => Ok(Request::Command(plain(ask))),
         Err(position) => Err(position),
     };
     Ok(asked(alloc, words)? == wanted)
@@ -144,7 +154,8 @@ fn are_compiled(
     normal: Normal,
     unit: UnitChoice,
 ) -> Result<bool, AllocError> {
-    Ok(asked(alloc, words)? == Ok(compile_in(format, target, normal, unit)))
+    let wanted = compile_in(format, target, normal, unit);
+    Ok(asked(alloc, words)? == Ok(Request::Command(wanted)))
 }
 
 const FORMATS: &[(&[&str], Format, NodeModel, UnitChoice)] = &[
@@ -332,7 +343,7 @@ fn normal_forms_and_units_in_any_order(rt: HostRuntime) {
 fn are_wrong_at(alloc: Global, keys: &[&str], position: usize) -> Result<bool, AllocError> {
     let mut words = owned(alloc, &["compile", "wcnf", "qubo", "FILE"])?;
     push_owned(alloc, &mut words, keys)?;
-    Ok(command(&words) == Err(position))
+    Ok(request(&words) == Err(position))
 }
 
 const KEYS: &[(&[&str], usize)] = &[
@@ -373,9 +384,9 @@ fn are_chosen(
 ) -> Result<bool, AllocError> {
     let mut words = owned(alloc, &["compile", "wcnf", "qubo", "FILE"])?;
     push_owned(alloc, &mut words, keys)?;
-    match command(&words) {
-        Ok(command) => Ok(command.choices == Choices { normal, high }),
-        Err(_) => Ok(false),
+    match request(&words) {
+        Ok(Request::Command(command)) => Ok(command.choices == Choices { normal, high }),
+        _ => Ok(false),
     }
 }
 
@@ -404,27 +415,238 @@ fn ways_to_replace_long_terms(rt: HostRuntime) {
     }
 }
 
-/// Whether this is the name of a file of the command.
-fn is_named(alloc: Global, words: &[&str], which: Which, name: &str) -> Result<bool, AllocError> {
-    let words = owned(alloc, words)?;
-    Ok(name_of(&words, plain(Ask::Model), which) == name)
+/// Whether the words ask for this notice, or have this position.
+fn are_noticed(
+    alloc: Global,
+    words: &[&str],
+    wanted: Result<Notice, usize>,
+) -> Result<bool, AllocError> {
+    let wanted = match wanted {
+        Ok(notice) => Ok(Request::Notice(notice)),
+        Err(position) => Err(position),
+    };
+    Ok(asked(alloc, words)? == wanted)
 }
 
-const NAMES: &[(&[&str], Which, &str)] = &[
-    (&["compile", "wcnf", "qubo", "FILE"], Which::Source, "FILE"),
-    (&["compile", "wcnf", "qubo", "a=b"], Which::Source, "a=b"),
-    (&["compile", "wcnf", "qubo", ""], Which::Source, ""),
-    (&["compile", "wcnf", "qubo", "FILE"], Which::Map, ""),
-    (&["compile", "wcnf", "qubo", "FILE"], Which::State, ""),
-    (&["compile", "wcnf", "qubo", "FILE"], Which::Dead, ""),
-    (&["compile", "wcnf", "qubo", "FILE"], Which::Certificate, ""),
+const NOTICES: &[(&[&str], Result<Notice, usize>)] = &[
+    (&["--help"], Ok(Notice::Help)),
+    (&["-h"], Ok(Notice::Help)),
+    (&["--version"], Ok(Notice::Version)),
+    (&["-V"], Ok(Notice::Version)),
+    (&["--help", "compile"], Err(2)),
+    (&["-V", ""], Err(2)),
+    (&["-h", "-h", "-h"], Err(2)),
+    // words that are near to them
+    (&["help"], Err(1)),
+    (&["-H"], Err(1)),
+    (&["-v"], Err(1)),
+    (&["--version="], Err(1)),
+    (&["compile", "--help"], Err(2)),
+];
+
+#[test]
+fn help_and_version_stand_alone(rt: HostRuntime) {
+    for (words, wanted) in NOTICES {
+        assert!(rt;
+            are_noticed(rt.alloc(), words, *wanted) == Ok(true),
+            "{words:?}"
+        );
+    }
+}
+
+/// How many lines a text has, and how many bytes the longest of them.
+fn lines_and_columns(text: &str) -> (usize, usize) {
+    let mut lines = 0;
+    let mut longest = 0;
+    for line in text.lines() {
+        lines += 1;
+        longest = longest.max(line.len());
+    }
+    (lines, longest)
+}
+
+#[test]
+fn the_help_fits_a_screen_and_the_version_a_line(rt: HostRuntime) {
+    let (lines, longest) = lines_and_columns(notice_text(Notice::Help));
+    assert!(rt; 0 < lines && lines <= 60 && longest <= 100, "{lines} {longest}");
+    assert!(rt; lines_and_columns(notice_text(Notice::Version)).0 == 1);
+}
+
+/// Whether the words have these conditions, or this position.
+fn are_slack(
+    alloc: Global,
+    words: &[&str],
+    wanted: Result<Slack, usize>,
+) -> Result<bool, AllocError> {
+    Ok(match (asked(alloc, words)?, wanted) {
+        (Ok(Request::Command(command)), Ok(slack)) => command.slack == slack,
+        (Err(position), Err(wanted)) => position == wanted,
+        _ => false,
+    })
+}
+
+const SLACKS: &[(&[&str], Result<Slack, usize>)] = &[
+    (&["compile", "opb", "qubo", "FILE"], Ok(Slack::Bits)),
+    (
+        &["compile", "opb", "qubo", "FILE", "slack=bits"],
+        Ok(Slack::Bits),
+    ),
+    (
+        &["solve", "wbo", "ising", "FILE", "unit=one", "slack=pairs"],
+        Ok(Slack::Pairs),
+    ),
+    (&["sample", "1", "2", "qubo", "slack=pairs"], Ok(Slack::Pairs)),
+    (&["sample", "1", "2", "qubo"], Ok(Slack::Bits)),
+    (
+        &[
+            "prove",
+            "opb",
+            "chimera",
+            "FILE",
+            "STATE",
+            "PROOF",
+            "rows=1",
+            "slack=pairs",
+            "cols=1",
+            "shore=4",
+            "embed=clique",
+        ],
+        Ok(Slack::Pairs),
+    ),
+    (&["compile", "opb", "qubo", "FILE", "slack=pair"], Err(5)),
+    (&["compile", "opb", "qubo", "FILE", "slack="], Err(5)),
+    (&["sample", "1", "2", "qubo", "slack=Bits"], Err(5)),
+    (
+        &["size", "opb", "qubo", "FILE", "slack=bits", "slack=pairs"],
+        Err(6),
+    ),
+];
+
+#[test]
+fn slack_bits_and_pairs(rt: HostRuntime) {
+    for (words, wanted) in SLACKS {
+        assert!(rt;
+            are_slack(rt.alloc(), words, *wanted) == Ok(true),
+            "{words:?}"
+        );
+    }
+}
+
+/// Whether the words ask for a solution by this order, or have this position.
+fn are_ordered(
+    alloc: Global,
+    words: &[&str],
+    wanted: Result<Option<WordAt>, usize>,
+) -> Result<bool, AllocError> {
+    Ok(match (asked(alloc, words)?, wanted) {
+        (Ok(Request::Command(command)), Ok(order)) => command.ask == Ask::Solve(order),
+        (Err(position), Err(wanted)) => position == wanted,
+        _ => false,
+    })
+}
+
+const ORDERS: &[(&[&str], Result<Option<WordAt>, usize>)] = &[
+    (&["solve", "poly", "qubo", "FILE"], Ok(None)),
+    (
+        &["solve", "poly", "qubo", "FILE", "order=NAME"],
+        Ok(Some(WordAt::Value(4))),
+    ),
+    (
+        &["solve", "poly", "ising", "FILE", "high=monomial", "order="],
+        Ok(Some(WordAt::Value(5))),
+    ),
+    (
+        &[
+            "solve",
+            "wcnf",
+            "chimera",
+            "FILE",
+            "rows=1",
+            "cols=1",
+            "order=a=b",
+            "shore=4",
+            "embed=clique",
+        ],
+        Ok(Some(WordAt::Value(6))),
+    ),
+    (&["solve", "poly", "qubo", "FILE", "order"], Err(5)),
+    (
+        &["solve", "poly", "qubo", "FILE", "order=a", "order=a"],
+        Err(6),
+    ),
+    // with other verbs
+    (&["compile", "poly", "qubo", "FILE", "order=a"], Err(5)),
+    (&["size", "poly", "qubo", "FILE", "order=a"], Err(5)),
+    (&["decode", "poly", "qubo", "FILE", "STATE", "order=a"], Err(6)),
+    (&["evaluate", "poly", "qubo", "FILE", "S", "order=a"], Err(6)),
+    (&["extend", "poly", "qubo", "FILE", "S", "order=a"], Err(6)),
+    (&["prove", "poly", "qubo", "FILE", "S", "P", "order=a"], Err(7)),
+    (&["sample", "1", "2", "qubo", "unit=one", "order=a"], Err(6)),
+];
+
+#[test]
+fn an_order_stands_with_solve_alone(rt: HostRuntime) {
+    for (words, wanted) in ORDERS {
+        assert!(rt;
+            are_ordered(rt.alloc(), words, *wanted) == Ok(true),
+            "{words:?}"
+        );
+    }
+}
+
+/// Whether this is the name of a file of the command.
+fn is_named(
+    alloc: Global,
+    words: &[&str],
+    ask: Ask,
+    which: Which,
+    name: &str,
+) -> Result<bool, AllocError> {
+    let words = owned(alloc, words)?;
+    Ok(name_of(&words, plain(ask), which) == name)
+}
+
+const NAMES: &[(&[&str], Ask, Which, &str)] = &[
+    (&["compile", "wcnf", "qubo", "FILE"], Ask::Model, Which::Source, "FILE"),
+    (&["compile", "wcnf", "qubo", "a=b"], Ask::Model, Which::Source, "a=b"),
+    (&["compile", "wcnf", "qubo", ""], Ask::Model, Which::Source, ""),
+    (&["compile", "wcnf", "qubo", "FILE"], Ask::Model, Which::Map, ""),
+    (&["compile", "wcnf", "qubo", "FILE"], Ask::Model, Which::State, ""),
+    (&["compile", "wcnf", "qubo", "FILE"], Ask::Model, Which::Dead, ""),
+    (&["compile", "wcnf", "qubo", "FILE"], Ask::Model, Which::Certificate, ""),
+    (&["compile", "wcnf", "qubo", "FILE"], Ask::Model, Which::Order, ""),
+    (&["size", "wcnf", "qubo", "FILE"], Ask::Size, Which::State, ""),
+    (
+        &["evaluate", "wcnf", "qubo", "FILE", "STATES"],
+        Ask::Evaluate(WordAt::Whole(4)),
+        Which::State,
+        "STATES",
+    ),
+    (
+        &["solve", "wcnf", "qubo", "FILE", "order=a=b"],
+        Ask::Solve(Some(WordAt::Value(4))),
+        Which::Order,
+        "a=b",
+    ),
+    (
+        &["solve", "wcnf", "qubo", "FILE", "order="],
+        Ask::Solve(Some(WordAt::Value(4))),
+        Which::Order,
+        "",
+    ),
+    (
+        &["solve", "wcnf", "qubo", "FILE", "order=a"],
+        Ask::Solve(Some(WordAt::Value(4))),
+        Which::State,
+        "",
+    ),
 ];
 
 #[test]
 fn the_names_of_the_files(rt: HostRuntime) {
-    for (words, which, name) in NAMES {
+    for (words, ask, which, name) in NAMES {
         assert!(rt;
-            is_named(rt.alloc(), words, *which, name) == Ok(true),
+            is_named(rt.alloc(), words, *ask, *which, name) == Ok(true),
             "{words:?} {which:?}"
         );
     }
