@@ -1,10 +1,6 @@
 -- Words that ask for a command, by the words at their places.
-use Rattle.std.proofs.Common.{◌≡◌, ℕ, ◌+◌, Bool, true, false, List, [], ◌∷◌, ◌++◌, length, drop, Option, Some, None, Result, Ok, Err, refl, ap, sym, ◌∙◌}
-use Rattle.std.specs.Prelude.{IfOk, IfSome, bytes_eq, codes, slice_get, if◌then◌else◌, ⊤}
-use Rattle.std.specs.Option.{option_map_or, ok_or}
-use Rattle.std.proofs.lemmas.List.{drop_more}
-use Rattle.std.proofs.lemmas.Option.{slice_get_within, get_or_from_slice_get}
-use Rattle.std.proofs.lemmas.Slice.Eq.{bytes_eq-Decides}
+use Rattle.std.proofs.Common.{◌≡◌, ℕ, List, [], ◌∷◌, ◌++◌, Option, Some, None, Result, Ok, Err, refl, ap, ◌∙◌}
+use Rattle.std.specs.Prelude.{codes}
 use Rattle.base.specs.declared.unit.UnitChoice.{UnitChoice}
 use Rattle.base.specs.declared.unit.UnitChoice.TheVariants.{One, Reduce}
 use Rattle.problem_form.specs.declared.limits.Normal.{Normal}
@@ -26,7 +22,6 @@ use Rattle.command_words.specs.declared.commands.WordAt.{WordAt}
 use Rattle.command_words.specs.declared.commands.WordAt.TheVariants.{Whole, Value}
 use Rattle.command_words.specs.declared.commands.Ask.{Ask}
 use Rattle.command_words.specs.declared.commands.Ask.TheVariants as asks
-use Rattle.command_words.specs.declared.commands.Command.{Command}
 use Rattle.command_words.specs.declared.words.Job.{Job}
 use Rattle.command_words.specs.declared.words.Sample.{Sample}
 use Rattle.whole_text.specs.Numbers.{digits_number}
@@ -36,14 +31,9 @@ use Rattle.command_words.specs.declared.commands.Slack.{Slack}
 use Rattle.command_words.specs.declared.commands.Slack.TheVariants.{Bits, Pairs}
 use Rattle.command_words.specs.declared.commands.Verb.{Verb}
 use Rattle.command_words.specs.declared.commands.Verb.TheVariants as verbs
-use Rattle.command_words.specs.declared.commands.Notice.{Notice}
-use Rattle.command_words.specs.declared.commands.Notice.TheVariants.{Help, Version}
-use Rattle.command_words.specs.declared.commands.Request.{Request}
-use Rattle.command_words.specs.declared.commands.Request.TheVariants as requests
 use Rattle.command_words.specs.Asked.{EachJobIsAskedFor, EachSizeIsAskedFor, EachDecodingIsAskedFor, EachEvaluationIsAskedFor, EachExtensionIsAskedFor, EachSampleIsAskedFor, EachSolutionIsAskedFor, EachProofIsAskedFor, EachUnitIsAskedFor, EachSlackIsAskedFor, EachOrderIsAskedFor, EachGraphIsAskedFor, EachKeyStands, CannotStand, NoKeyStandsTwice, NoGraphKeyElsewhere, NoOrderElsewhere, NoGraphWithout, NoLargerGraph, IsRefusedAfterAll, format_word, high_key, normal_key, slack_key, order_key, on_fourth_word, board_of, board_with, dead_at, target_word, unit_key, rows_key, cols_key, shore_key, map_key, clique_key, dead_keys, chain_key, compile_words, size_words, decode_words, evaluate_words, extend_words, prove_words, sample_words, solve_words}
-use Rattle.command_words.specs.Commands.{◌>>=◌, ask_of, chosen_target, clauses_of, command_of, drawn, first_key, format_of, on_file, target_of}
+use Rattle.command_words.specs.Commands.{◌>>=◌, ask_of, chosen_target, command_of, drawn, first_key, format_of, on_file, target_of}
 use Rattle.command_words.specs.Keys.{choices_of, chosen_slack, chosen_ties, chosen_unit, given, graph_of, keys_from, no_keys, target_by, with_word}
-use Rattle.command_words.specs.Names.{text_at}
 use Rattle.command_words.proofs.CutWords.{cut_bound, cut_order, cut_rows, cut_cols, cut_shore, cut_map, cut_dead}
 use Rattle.command_words.proofs.Sides.{few_cols, few_rows, few_shore, side_of-digits}
 use Rattle.command_words.proofs.BoundKeys.{bound_of-digits}
@@ -501,4 +491,3 @@ no_graph_without = record {
 pub no_larger_graph : NoLargerGraph
 no_larger_graph keys rows cols shore r c s larger =
     refused keys (rw (r, c, s, graph_with-larger rows cols shore larger) refl)
-

@@ -9,8 +9,8 @@ mod notices;
 mod words;
 
 pub use commands::{
-    Ask, Board, Bound, Chaining, Command, Format, NodeModel, Notice, Origin, Request, Slack, Target,
-    Ties, WordAt, most_of,
+    Ask, Board, Bound, Chaining, Command, Format, NodeModel, Notice, Origin, Request, Slack,
+    Target, Ties, WordAt, most_of,
 };
 pub use laws::laws_of_words;
 pub use names::{Which, name_of, text_at};

@@ -4,8 +4,8 @@ ghost use Rattle.whole_text.specs.Numbers.{digits_number};
 ghost use Rattle.command_words.specs.Commands.{HasFewClauses, AsksForFewClauses, alone, ask_of, asked_of_file, asked_of_sample, chosen_target, clauses_of, command_of, drawn, first_key, first_notice, format_of, job_of, named, notice_of, on_file, request_of, sample_of, target_of, valued, verb_of};
 
 use crate::commands::{
-    Ask, Bound, Command, Format, NodeModel, Notice, Origin, Request, Slack, Target, TargetWord, Verb,
-    WordAt,
+    Ask, Bound, Command, Format, NodeModel, Notice, Origin, Request, Slack, Target, TargetWord,
+    Verb, WordAt,
 };
 use crate::keys::{Keys, choices_of, chosen_slack, chosen_unit, keys_from, target_by};
 use base::UnitChoice;
