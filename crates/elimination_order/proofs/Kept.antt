@@ -1,12 +1,13 @@
 -- What entries keep by new numbers: nodes are nodes, couplers are couplers, and all are placed.
-use Rattle.std.proofs.Common.{◌≡◌, ◌≢◌, ℕ, ◌<◌, min, max, sym, ap, subst, ◌∙◌, arith, List, [], ◌∷◌, ◌++◌, map, All, IfOk, Ok, Err, Result}
+use Rattle.std.proofs.Common.{◌≡◌, ◌≢◌, ℕ, ◌<◌, ◌≤◌, min, max, sym, ap, subst, ◌∙◌, arith, inl, inr, List, [], ◌∷◌, ◌++◌, map, All, IfOk, Ok, Err, Result}
 use Rattle.std.specs.List.{AllByRecursion}
 use Rattle.std.specs.List.Sorted.{IsPermutation}
+use Rattle.std.proofs.lemmas.Bool.{cases_eq, le-ltb, lt-ltb}
 use Rattle.std.proofs.lemmas.List.{map-append}
 use Rattle.std.proofs.lemmas.List.Elements.{All-from_recursion, recursion_from_All}
 use Rattle.std.proofs.lemmas.List.Sorted.{All-permutation, IsPermutation-append}
 use Rattle.bits_model.specs.declared.output.Entry.{Entry}
-use Rattle.bits_model.specs.Output.{IsPlaced}
+use Rattle.bits_model.specs.Output.{IsPlaced, is_coupler}
 use Rattle.elimination_order.specs.Renumbered.{AreNumbers, at_place, renumbered}
 
 -- what each entry keeps, all keep, in whatever order they come to stand
@@ -16,7 +17,7 @@ kept_by_all : (numbers : List ℕ) (P Q : Entry → Type 0)
 kept_by_all numbers P Q one [] all = tt
 kept_by_all numbers P Q one (e ∷ es) all = (one e all.0, kept_by_all numbers P Q one es all.1)
 
-shuffled_kept : (numbers : List ℕ) (P Q : Entry → Type 0)
+pub shuffled_kept : (numbers : List ℕ) (P Q : Entry → Type 0)
     → ((e : Entry) → P e → Q (renumbered numbers e)) → (es fs : List Entry) → All P es
     → IsPermutation (map (renumbered numbers) es) fs → All Q fs
 shuffled_kept numbers P Q one es fs all moved =
@@ -74,6 +75,28 @@ pub all_shuffled_by : (numbers : List ℕ) (ns es ms fs : List Entry)
 all_shuffled_by numbers ns es ms fs p q =
     subst (λ xs. IsPermutation xs (ms ++ fs)) (sym (map-append (renumbered numbers) ns es))
     (IsPermutation-append (map (renumbered numbers) ns) ms (map (renumbered numbers) es) fs p q)
+
+-- a coupler is one by new numbers, and a node is none
+pub coupler_same : (n : ℕ) (names numbers : List ℕ) (e : Entry) → AreNumbers n names numbers
+    → IsPlaced n e → is_coupler (renumbered numbers e) ≡ is_coupler e
+coupler_same n names numbers e are placed =
+    let a = at_place numbers e.first in
+    let b = at_place numbers e.second in
+    let low : e.first < n = omega (arith, placed.upward, placed.within) in
+    elim (cases_eq e.first e.second) [
+      | inl same ↦
+          let one : a ≡ b = ap (at_place numbers) same in
+          let even : max a b ≤ min a b = omega (arith, one) in
+          le-ltb (min a b) (max a b) even ∙ sym (le-ltb e.first e.second (omega (arith, same)))
+      | inr other ↦
+          let apart : a ≢ b =
+          λ one. other (sym (are.named e.first low)
+          ∙ ap (at_place names) one
+          ∙ are.named e.second placed.within) in
+          let rising : min a b < max a b = omega (arith, apart) in
+          let up : e.first < e.second = omega (arith, placed.upward, other) in
+          lt-ltb (min a b) (max a b) rising ∙ sym (lt-ltb e.first e.second up)
+    ]
 
 -- the entries by new numbers are placed
 pub placed_kept : (n : ℕ) (names numbers : List ℕ) (es fs : List Entry)

@@ -6,3 +6,8 @@ pub mod Weighed
 pub mod Shuffled
 pub mod Widths
 pub mod Kept
+pub mod Apart
+pub mod Rising
+pub mod FirstWide
+pub mod Usual
+pub mod Formed

@@ -1,7 +1,7 @@
 -- The widths of nodes by new numbers are their widths in the order.
-use Rattle.std.proofs.Common.{◌≡◌, ◌≢◌, ℕ, zero, suc, ◌+◌, ◌-◌, ◌<◌, ◌≤◌, min, max, Bool, true, false, cond, not, ◌&&◌, ◌||◌, eqb, refl, sym, ap, subst, ◌∙◌, arith, inl, inr, List, [], ◌∷◌, ◌++◌, length, take, map, reverse, get_or, sum_by, count_by}
+use Rattle.std.proofs.Common.{◌≡◌, ℕ, zero, suc, ◌+◌, ◌-◌, ◌<◌, ◌≤◌, min, max, Bool, true, false, cond, not, ◌&&◌, ◌||◌, eqb, refl, sym, ap, subst, ◌∙◌, arith, inl, inr, List, [], ◌∷◌, ◌++◌, length, take, map, reverse, get_or, sum_by, count_by, Some, None}
 use Rattle.std.specs.List.{AllByRecursion, IsDistinct, list_any, range_with_len}
-use Rattle.std.proofs.lemmas.Bool.{cases_eq, cases_lt, eq-eqb, ne_eqb, le-ltb, lt-ltb}
+use Rattle.std.proofs.lemmas.Bool.{cases_eq, cases_lt, eq-eqb, ne_eqb}
 use Rattle.std.proofs.lemmas.List.{length-map, get_or-map, ext_get_or, take_more, length-reverse, get_or-reverse}
 use Rattle.std.proofs.lemmas.List.Elements.{recursion_from_All}
 use Rattle.std.proofs.lemmas.List.FromFn.{length-range_with_len}
@@ -9,10 +9,12 @@ use Rattle.std.proofs.lemmas.List.Sums.{sum_by-cons}
 use Rattle.std.proofs.lemmas.List.Sorted.{list_any-IsPermutation, sum_by-IsPermutation}
 use Rattle.std.proofs.lemmas.Map.Keys.{IsDistinct-from_apart}
 use Rattle.bits_model.specs.declared.output.Entry.{Entry}
-use Rattle.bits_model.specs.Output.{Written, IsPlaced, IsWellFormed, is_coupler}
-use Rattle.basic_solve.specs.Widths.{IsFirstWider, after, coupled, names_both, width, without}
+use Rattle.bits_model.specs.Output.{Written, IsPlaced, IsWellFormed}
+use Rattle.basic_solve.specs.Widths.{IsFirstWider, IsWithinWidth, after, coupled, names_both, width, without}
 use Rattle.elimination_order.specs.Renumbered.{AreNumbers, IsRenumbered, at_place, renumbered}
-use Rattle.elimination_order.specs.Widths.{IsFirstWiderIn, after_nodes, width_after}
+use Rattle.elimination_order.specs.Widths.{after_nodes, first_wide, width_after}
+use Rattle.elimination_order.proofs.FirstWide.{none_wide, some_wide}
+use Rattle.elimination_order.proofs.Kept.{coupler_same}
 use Rattle.elimination_order.proofs.Shuffled.{at_range, shuffled_range}
 
 -- ---- numbers
@@ -57,27 +59,6 @@ turned_or false false false false = refl
 -- two numbers are these two
 abbrev are_both : ℕ → ℕ → ℕ → ℕ → Bool
 are_both a b u w = (eqb a u && eqb b w) || (eqb a w && eqb b u)
-
-coupler_same : (n : ℕ) (names numbers : List ℕ) (e : Entry) → AreNumbers n names numbers
-    → IsPlaced n e → is_coupler (renumbered numbers e) ≡ is_coupler e
-coupler_same n names numbers e are placed =
-    let a = at_place numbers e.first in
-    let b = at_place numbers e.second in
-    let low : e.first < n = omega (arith, placed.upward, placed.within) in
-    elim (cases_eq e.first e.second) [
-      | inl same ↦
-          let one : a ≡ b = ap (at_place numbers) same in
-          let even : max a b ≤ min a b = omega (arith, one) in
-          le-ltb (min a b) (max a b) even ∙ sym (le-ltb e.first e.second (omega (arith, same)))
-      | inr other ↦
-          let apart : a ≢ b =
-          λ one. other (sym (are.named e.first low)
-          ∙ ap (at_place names) one
-          ∙ are.named e.second placed.within) in
-          let rising : min a b < max a b = omega (arith, apart) in
-          let up : e.first < e.second = omega (arith, placed.upward, other) in
-          lt-ltb (min a b) (max a b) rising ∙ sym (lt-ltb e.first e.second up)
-    ]
 
 both_same : (n : ℕ) (names numbers : List ℕ) (u w : ℕ) (e : Entry) → AreNumbers n names numbers
     → u < n → w < n → IsPlaced n e
@@ -257,28 +238,48 @@ width-renumbered names numbers m r j formed are same h =
     ap (λ n. count_by (λ u. after n f (n - suc j) u j) (range_with_len 0 n)) same.nodes
     ∙ width_same m.nodes names numbers f (coupled m.entries) j are start h
 
+-- the width at a place of the order is that of the node's new number
+narrow_at : (most : ℕ) (names numbers : List ℕ) (m r : Written) (p : ℕ) → IsWellFormed m
+    → AreNumbers m.nodes names numbers → IsRenumbered numbers m r → p < m.nodes
+    → width r (m.nodes - suc p) ≤ most
+    → width_after m (take p (reverse names)) (at_place (reverse names) p) ≤ most
+narrow_at most names numbers m r p formed are same h low =
+    let u = m.nodes - suc p in
+    let again : m.nodes - suc u ≡ p = omega (arith, h) in
+    let wide = width-renumbered names numbers m r u formed are same (omega (arith, h)) in
+    let there = turned_at m.nodes names numbers p are h in
+    subst (λ x. x ≤ most)
+    (wide ∙ (λ i. width_after m (take (again i) (reverse names)) (sym there i)))
+    low
+
 pub first_wider-named : (most : ℕ) (names numbers : List ℕ) (m r : Written) (v w : ℕ)
     → IsWellFormed m → AreNumbers m.nodes names numbers → IsRenumbered numbers m r
-    → IsFirstWider most r v w → IsFirstWiderIn most m (reverse names) (at_place names v) w
+    → IsFirstWider most r v w → first_wide most m [] (reverse names) ≡ Some (at_place names v, w)
 first_wider-named most names numbers m r v w formed are same found =
     let n = m.nodes in
+    let order = reverse names in
     let low : v < n = omega (arith, found.node, same.nodes) in
     let place = n - suc v in
     let back : n - suc place ≡ v = omega (arith, low) in
-    record {
-      place = place;
-      within = omega (arith, low, length-reverse names, are.count);
-      node = turned_at n names numbers place are (omega (arith, low)) ∙ ap (at_place names) back;
-      has = sym (width-renumbered names numbers m r v formed are same low) ∙ found.has;
-      wide = found.wide;
-      first = λ p less.
-          let u = n - suc p in
-          let here : u < n = omega (arith, less, low) in
-          let again : n - suc u ≡ p = omega (arith, less, low) in
-          let wide = width-renumbered names numbers m r u formed are same here in
-          let there = turned_at n names numbers p are (omega (arith, less, low)) in
-          subst (λ x. x ≤ most)
-          (wide
-          ∙ (λ i. width_after m (take (again i) (reverse names)) (sym there i)))
-          (found.first u (omega (arith, less, low)) (omega (arith, here, same.nodes)));
-    }
+    let node : at_place order place ≡ at_place names v =
+    turned_at n names numbers place are (omega (arith, low)) ∙ ap (at_place names) back in
+    let has : width_after m (take place order) (at_place names v) ≡ w =
+    sym (width-renumbered names numbers m r v formed are same low) ∙ found.has in
+    let there : width_after m (take place order) (at_place order place) ≡ w =
+    ap (width_after m (take place order)) node ∙ has in
+    some_wide most m [] order place (omega (arith, low, length-reverse names, are.count))
+    (subst (λ x. most < x) (sym there) found.wide)
+    (λ p less.
+    narrow_at most names numbers m r p formed are same (omega (arith, less, low))
+    (found.first (n - suc p) (omega (arith, less, low)) (omega (arith, less, low, same.nodes))))
+    ∙ (λ i. Some (node i, there i))
+
+pub none_wider-named : (most : ℕ) (names numbers : List ℕ) (m r : Written)
+    → IsWellFormed m → AreNumbers m.nodes names numbers → IsRenumbered numbers m r
+    → IsWithinWidth most r → first_wide most m [] (reverse names) ≡ None
+none_wider-named most names numbers m r formed are same narrow =
+    none_wide most m [] (reverse names)
+    (λ p h.
+    let low : p < m.nodes = omega (arith, h, length-reverse names, are.count) in
+    narrow_at most names numbers m r p formed are same low
+    (narrow (m.nodes - suc p) (omega (arith, low, same.nodes))))

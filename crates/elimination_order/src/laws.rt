@@ -1,6 +1,6 @@
 //! Laws of models by new numbers, as functions without code: each contract is a statement of
 //! `specs/`.
-ghost use Rattle.elimination_order.specs.Stated.{NumbersKeepEnergies, NumbersKeepFirst, NumbersKeepWidths, NumbersTakeBack, OrdersNameAll};
+ghost use Rattle.elimination_order.specs.Stated.{NumbersKeepEnergies, NumbersKeepFirst, NumbersKeepNarrow, NumbersKeepWidths, NumbersTakeBack, OrderFromLastIsUsual, OrdersNameAll};
 
 /// What new numbers do to states and their energies.
 pub fn laws_of_numbers()
@@ -8,9 +8,11 @@ pub fn laws_of_numbers()
     ensures back { NumbersTakeBack }
     ensures first { NumbersKeepFirst }
     ensures widths { NumbersKeepWidths }
+    ensures narrow { NumbersKeepNarrow }
 {}
 
-/// What the reading of an order says of it.
+/// What the reading of an order says of it, and what the usual order says of states.
 pub fn laws_of_orders()
-    ensures { OrdersNameAll }
+    ensures read { OrdersNameAll }
+    ensures usual { OrderFromLastIsUsual }
 {}

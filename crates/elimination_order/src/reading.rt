@@ -2,7 +2,7 @@
 ghost use Rattle.std.specs.Prelude.{◌≡◌, ◌<◌, ◌^◌, List, ℕ, [], length, IfOk};
 ghost use Rattle.whole_text.specs.TokenTexts.{word_of, words_of};
 ghost use Rattle.whole_text.specs.Steps.{Gives, GivesAlways};
-ghost use Rattle.elimination_order.specs.Orders.{AreMarks, after_front, new_node, nodes_at, order_of};
+ghost use Rattle.elimination_order.specs.Orders.{AreMarks, AreNodes, after_front, new_node, nodes_at, order_of};
 
 use std::alloc::Global;
 use whole_text::{TextAnswer, TextFault, TextKind, TokenText, WordRef, Words, fault, natural_word};
@@ -41,7 +41,8 @@ fn read_words(
 
 /// The order that a text says for so many nodes, or the first fault of the text.
 pub fn read_order(alloc: Global, text: &TokenText, nodes: usize) -> Result<Vec<u64>, TextAnswer>
-    ensures { Gives (λ order. order.items) result (order_of nodes (words_of text.now)) }
+    ensures read { Gives (λ order. order.items) result (order_of nodes (words_of text.now)) }
+    ensures nodes { IfOk result (λ order. AreNodes nodes order.items) }
 {
     let mut marks = vec![in alloc; false; nodes]?;
     let mut order = Vec::with_capacity(alloc, nodes)?;

@@ -1,7 +1,7 @@
 //! The entries of a model by new numbers of its nodes, in order again.
-ghost use Rattle.std.specs.Prelude.{◌≡◌, All, IfOk, length, map};
-ghost use Rattle.std.specs.List.Sorted.{IsPermutation, IsNonDecreasingBy};
-ghost use Rattle.bits_model.specs.Output.{IsPlaced};
+ghost use Rattle.std.specs.Prelude.{◌≡◌, ◌≤◌, ◌^◌, All, IfOk, length, map};
+ghost use Rattle.std.specs.List.Sorted.{IsPermutation, IsNonDecreasingBy, IsStrictlySortedBy};
+ghost use Rattle.bits_model.specs.Output.{IsPlaced, entry_cmp};
 ghost use Rattle.bits_model.specs.PairNumbers.{pair_number};
 ghost use Rattle.elimination_order.specs.Renumbered.{AreNumbers, at_place, renumbered};
 
@@ -91,6 +91,8 @@ pub fn entries_by(
     ensures same { IfOk result (IsPermutation
         (map (renumbered numbering.now.numbers.items) entries.now)) }
     ensures placed { IfOk result (All (IsPlaced (length numbering.now.numbers.items))) }
+    ensures ordered { length numbering.now.numbers.items ≤ 2 ^ 32
+        → IsStrictlySortedBy entry_cmp entries.now → IfOk result (IsStrictlySortedBy entry_cmp) }
 {
     let sorted = nodes_by(alloc, &entries.nodes, &numbering.numbers)?;
     let nodes = weights_of(alloc, &sorted)?;

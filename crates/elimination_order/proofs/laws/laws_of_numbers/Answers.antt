@@ -1,5 +1,5 @@
 use Rattle.elimination_order.proofs.Carried.{energy-carried, taken_back, first-taken_back}
-use Rattle.elimination_order.proofs.Widths.{first_wider-named}
+use Rattle.elimination_order.proofs.Widths.{first_wider-named, none_wider-named}
 use Rattle.elimination_order.proofs.laws.laws_of_numbers.Goals as goal
 
 pub returns-clause-energies : goal.returns-clause-energies
@@ -13,3 +13,6 @@ returns-clause-first c = first-taken_back
 
 pub returns-clause-widths : goal.returns-clause-widths
 returns-clause-widths c = first_wider-named
+
+pub returns-clause-narrow : goal.returns-clause-narrow
+returns-clause-narrow c = none_wider-named
