@@ -1,0 +1,117 @@
+-- What entries keep by new numbers: nodes are nodes, couplers are couplers, and all are placed.
+use Rattle.std.proofs.Common.{◌≡◌, ◌≢◌, ℕ, ◌<◌, ◌≤◌, min, max, sym, ap, subst, ◌∙◌, arith, inl, inr, List, [], ◌∷◌, ◌++◌, map, All, IfOk, Ok, Err, Result}
+use Rattle.std.specs.List.{AllByRecursion}
+use Rattle.std.specs.List.Sorted.{IsPermutation}
+use Rattle.std.proofs.lemmas.Bool.{cases_eq, le-ltb, lt-ltb}
+use Rattle.std.proofs.lemmas.List.{map-append}
+use Rattle.std.proofs.lemmas.List.Elements.{All-from_recursion, recursion_from_All}
+use Rattle.std.proofs.lemmas.List.Sorted.{All-permutation, IsPermutation-append}
+use Rattle.bits_model.specs.declared.output.Entry.{Entry}
+use Rattle.bits_model.specs.Output.{IsPlaced, is_coupler}
+use Rattle.elimination_order.specs.Renumbered.{AreNumbers, at_place, renumbered}
+
+-- what each entry keeps, all keep, in whatever order they come to stand
+kept_by_all : (numbers : List ℕ) (P Q : Entry → Type 0)
+    → ((e : Entry) → P e → Q (renumbered numbers e)) → (es : List Entry) → AllByRecursion P es
+    → AllByRecursion Q (map (renumbered numbers) es)
+kept_by_all numbers P Q one [] all = tt
+kept_by_all numbers P Q one (e ∷ es) all = (one e all.0, kept_by_all numbers P Q one es all.1)
+
+pub shuffled_kept : (numbers : List ℕ) (P Q : Entry → Type 0)
+    → ((e : Entry) → P e → Q (renumbered numbers e)) → (es fs : List Entry) → All P es
+    → IsPermutation (map (renumbered numbers) es) fs → All Q fs
+shuffled_kept numbers P Q one es fs all moved =
+    All-permutation Q (map (renumbered numbers) es) fs moved
+    (All-from_recursion Q (map (renumbered numbers) es)
+    (kept_by_all numbers P Q one es (recursion_from_All P es all)))
+
+pub nodes_kept : (numbers : List ℕ) (es fs : List Entry) → All (λ e. e.first ≡ e.second) es
+    → IsPermutation (map (renumbered numbers) es) fs → All (λ e. e.first ≡ e.second) fs
+nodes_kept numbers es fs all moved =
+    shuffled_kept numbers (λ e. e.first ≡ e.second) (λ e. e.first ≡ e.second)
+    (λ e same.
+    let one : at_place numbers e.first ≡ at_place numbers e.second = ap (at_place numbers) same in
+    omega (arith, one))
+    es fs all moved
+
+-- a coupler of nodes below n
+abbrev IsCouplerBelow : ℕ → Entry → Type 0
+IsCouplerBelow n e = (e.first < e.second) × (e.second < n)
+
+coupler_kept : (n : ℕ) (names numbers : List ℕ) (e : Entry) → AreNumbers n names numbers
+    → IsCouplerBelow n e
+    → min (at_place numbers e.first) (at_place numbers e.second)
+    < max (at_place numbers e.first) (at_place numbers e.second)
+coupler_kept n names numbers e are pair =
+    let low : e.first < n = omega (arith, pair.0, pair.1) in
+    let apart : at_place numbers e.first ≢ at_place numbers e.second =
+    λ one.
+    let same : e.first ≡ e.second =
+    sym (are.named e.first low) ∙ ap (at_place names) one ∙ are.named e.second pair.1 in
+    absurd (omega (arith, pair.0, same)) in
+    omega (arith, apart)
+
+pairs_below : (n : ℕ) (ns es : List Entry) → AllByRecursion (IsPlaced n) (ns ++ es)
+    → AllByRecursion (λ e. e.first < e.second) es → AllByRecursion (IsCouplerBelow n) es
+pairs_below n (m ∷ ns) es placed up = pairs_below n ns es placed.1 up
+pairs_below n [] [] placed up = tt
+pairs_below n [] (e ∷ es) placed up = ((up.0, placed.0.within), pairs_below n [] es placed.1 up.1)
+
+pub couplers_kept : (n : ℕ) (names numbers : List ℕ) (ns es fs : List Entry)
+    → AreNumbers n names numbers → All (IsPlaced n) (ns ++ es) → All (λ e. e.first < e.second) es
+    → IsPermutation (map (renumbered numbers) es) fs → All (λ e. e.first < e.second) fs
+couplers_kept n names numbers ns es fs are placed up moved =
+    shuffled_kept numbers (IsCouplerBelow n) (λ e. e.first < e.second)
+    (λ e pair. coupler_kept n names numbers e are pair)
+    es fs
+    (All-from_recursion (IsCouplerBelow n) es
+    (pairs_below n ns es (recursion_from_All (IsPlaced n) (ns ++ es) placed)
+    (recursion_from_All (λ e. e.first < e.second) es up)))
+    moved
+
+pub all_shuffled_by : (numbers : List ℕ) (ns es ms fs : List Entry)
+    → IsPermutation (map (renumbered numbers) ns) ms → IsPermutation (map (renumbered numbers) es) fs
+    → IsPermutation (map (renumbered numbers) (ns ++ es)) (ms ++ fs)
+all_shuffled_by numbers ns es ms fs p q =
+    subst (λ xs. IsPermutation xs (ms ++ fs)) (sym (map-append (renumbered numbers) ns es))
+    (IsPermutation-append (map (renumbered numbers) ns) ms (map (renumbered numbers) es) fs p q)
+
+-- a coupler is one by new numbers, and a node is none
+pub coupler_same : (n : ℕ) (names numbers : List ℕ) (e : Entry) → AreNumbers n names numbers
+    → IsPlaced n e → is_coupler (renumbered numbers e) ≡ is_coupler e
+coupler_same n names numbers e are placed =
+    let a = at_place numbers e.first in
+    let b = at_place numbers e.second in
+    let low : e.first < n = omega (arith, placed.upward, placed.within) in
+    elim (cases_eq e.first e.second) [
+      | inl same ↦
+          let one : a ≡ b = ap (at_place numbers) same in
+          let even : max a b ≤ min a b = omega (arith, one) in
+          le-ltb (min a b) (max a b) even ∙ sym (le-ltb e.first e.second (omega (arith, same)))
+      | inr other ↦
+          let apart : a ≢ b =
+          λ one. other (sym (are.named e.first low)
+          ∙ ap (at_place names) one
+          ∙ are.named e.second placed.within) in
+          let rising : min a b < max a b = omega (arith, apart) in
+          let up : e.first < e.second = omega (arith, placed.upward, other) in
+          lt-ltb (min a b) (max a b) rising ∙ sym (lt-ltb e.first e.second up)
+    ]
+
+-- the entries by new numbers are placed
+pub placed_kept : (n : ℕ) (names numbers : List ℕ) (es fs : List Entry)
+    → AreNumbers n names numbers → All (IsPlaced n) es
+    → IsPermutation (map (renumbered numbers) es) fs → All (IsPlaced n) fs
+placed_kept n names numbers es fs are placed moved =
+    shuffled_kept numbers (IsPlaced n) (IsPlaced n)
+    (λ e at.
+    let low : e.first < n = omega (arith, at.upward, at.within) in
+    let one = are.below e.first low in
+    let two = are.below e.second at.within in
+    record { upward = omega arith; within = omega (arith, one, two) })
+    es fs placed moved
+
+pub ok_weaker : {T E : Type 0} (P Q : T → Type 0) (r : Result T E) → ((x : T) → P x → Q x)
+    → IfOk r P → IfOk r Q
+ok_weaker P Q (Ok x) f h = f x h
+ok_weaker P Q (Err e) f h = h

@@ -1,0 +1,136 @@
+-- An order that was read names each node once.
+use Rattle.std.proofs.Common.{◌≡◌, ℕ, ◌<◌, Bool, true, false, not, ◌&&◌, ◌||◌, eqb, refl, sym, ap, subst, ◌∙◌, arith, inl, inr, List, [], ◌∷◌, ◌++◌, length, reverse, append_assoc, append-nil, Ok, Err, is_ok, nat_lt, ◌==◌, if◌then◌else◌}
+use Rattle.std.specs.Prelude.{Result}
+use Rattle.std.specs.List.{AllByRecursion, IsDistinct, list_any}
+use Rattle.std.specs.Cmp.{nat_eq_equiv}
+use Rattle.std.proofs.lemmas.Bool.{cases_lt, cases_eq, eq-eqb, ne_eqb, eqb-true, le-ltb, false≢true}
+use Rattle.std.proofs.lemmas.List.Elements.{All-from_recursion}
+use Rattle.std.proofs.lemmas.Map.Keys.{IsDistinct-push, IsDistinct-from_apart, IsDistinct-IsPermutation}
+use Rattle.std.proofs.lemmas.List.{length-reverse}
+use Rattle.std.proofs.lemmas.List.Sorted.{IsPermutation-reverse, All-permutation}
+use Rattle.bits_model.specs.Walks.{is_in}
+use Rattle.whole_text.specs.declared.faults.TextKind.TheVariants as kinds
+use Rattle.whole_text.specs.declared.faults.TextFault.{TextFault}
+use Rattle.whole_text.specs.Tokens.{Word}
+use Rattle.whole_text.specs.Steps.{◌>>=◌, end_line, fault, natural_at}
+use Rattle.elimination_order.specs.Orders.{AreNodes, all_named, new_node, nodes_at, order_of}
+
+-- the value of a result, or another
+abbrev value_or : {A : Type 0} → A → Result A TextFault → A
+value_or d (Ok x) = x
+value_or d (Err f) = d
+
+test_passed : {A : Type 0} (b : Bool) (x y : A) (f : TextFault) → (if b then Ok x else Err f) ≡ Ok y
+    → (b ≡ true) × (x ≡ y)
+test_passed true x y f is = (refl, ap (value_or x) is)
+test_passed false x y f is = absurd (false≢true (ap is_ok is))
+
+both_passed : (a b : Bool) → (a && not b) ≡ true → (a ≡ true) × (b ≡ false)
+both_passed true true is = absurd (false≢true is)
+both_passed true false is = (refl, refl)
+both_passed false b is = absurd (false≢true is)
+
+lower : (k n : ℕ) → nat_lt k n ≡ true → k < n
+lower k n is = elim (cases_lt k n) [
+  | inl h ↦ h
+  | inr h ↦ absurd (false≢true (sym (le-ltb k n h) ∙ is))
+]
+
+-- a node that was read is one of them, and new
+new_facts : (n : ℕ) (named : List ℕ) (w : Word) (m : ℕ) → new_node n named w ≡ Ok m
+    → (m < n) × (is_in named m ≡ false)
+new_facts n named w m read = go (natural_at 0 w) read
+  where
+    go : (r : Result ℕ TextFault)
+        → (r >>= (λ k. if nat_lt k n && not (is_in named k)
+        then Ok k
+        else Err (fault kinds.Range w.line))) ≡ Ok m
+        → (m < n) × (is_in named m ≡ false)
+    go (Err f) is = absurd (false≢true (ap is_ok is))
+    go (Ok k) is =
+        let t = test_passed (nat_lt k n && not (is_in named k)) k m (fault kinds.Range w.line) is in
+        let b = both_passed (nat_lt k n) (is_in named k) t.0 in (
+          subst (λ v. v < n) t.1 (lower k n b.0),
+          subst (λ v. is_in named v ≡ false) t.1 b.1,
+        )
+
+pub eqb_flips : (m x : ℕ) → eqb m x ≡ eqb x m
+eqb_flips m x = elim (cases_eq m x) [
+  | inl same ↦ eq-eqb m x same ∙ sym (eq-eqb x m (sym same))
+  | inr other ↦ ne_eqb m x other ∙ sym (ne_eqb x m (λ same. other (sym same)))
+]
+
+pub in_flips : (xs : List ℕ) (m : ℕ) → list_any (eqb m) xs ≡ is_in xs m
+in_flips [] m = refl
+in_flips (x ∷ xs) m = λ i. eqb_flips m x i || in_flips xs m i
+
+low_push : (n : ℕ) (us : List ℕ) (m : ℕ) → AllByRecursion (λ v. v < n) us → m < n
+    → AllByRecursion (λ v. v < n) (us ++ m ∷ [])
+low_push n [] m low h = (h, tt)
+low_push n (u ∷ us) m low h = (low.0, low_push n us m low.1 h)
+
+-- nodes, each of them once
+abbrev Once : ℕ → List ℕ → Type 0
+Once n us = IsDistinct eqb us × AllByRecursion (λ v. v < n) us
+
+-- what the words after the next node name
+abbrev Later : ℕ → List ℕ → List Word → Type 0
+Later n named ws =
+    (m : ℕ) (us : List ℕ) → nodes_at n (named ++ m ∷ []) ws ≡ Ok us → Once n (named ++ m ∷ [])
+    → Once n ((named ++ m ∷ []) ++ us)
+
+nodes_once : (n : ℕ) (named : List ℕ) (ws : List Word) (vs : List ℕ) → nodes_at n named ws ≡ Ok vs
+    → Once n named → Once n (named ++ vs)
+unfolding nodes_at
+nodes_once n named [] vs read once =
+    let none : [] ≡ vs = ap (value_or []) read in
+    subst (λ us. Once n (named ++ us)) none (subst (Once n) (sym (append-nil named)) once)
+nodes_once n named (w ∷ ws) vs read once =
+    first (λ m us said all. nodes_once n (named ++ m ∷ []) ws us said all)
+    (new_node n named w) refl read
+  where
+    rest : Later n named ws → (m : ℕ) → new_node n named w ≡ Ok m → (r : Result (List ℕ) TextFault)
+        → nodes_at n (named ++ m ∷ []) ws ≡ r → (r >>= (λ others. Ok (m ∷ others))) ≡ Ok vs
+        → Once n (named ++ vs)
+    rest later m new (Err f) said is = absurd (false≢true (ap is_ok is))
+    rest later m new (Ok us) said is =
+        let f = new_facts n named w m new in
+        let more = later m us said (
+          IsDistinct-push nat_eq_equiv named m once.0 (in_flips named m ∙ f.1),
+          low_push n named m once.1 f.0,
+        ) in
+        let all : m ∷ us ≡ vs = ap (value_or []) is in
+        subst (λ us. Once n (named ++ us)) all
+        (subst (Once n) (append_assoc named (m ∷ []) us) more)
+
+    first : Later n named ws → (r : Result ℕ TextFault) → new_node n named w ≡ r
+        → (r >>= (λ m. nodes_at n (named ++ m ∷ []) ws >>= (λ others. Ok (m ∷ others)))) ≡ Ok vs
+        → Once n (named ++ vs)
+    first later (Err f) new is = absurd (false≢true (ap is_ok is))
+    first later (Ok m) new is = rest later m new (nodes_at n (named ++ m ∷ []) ws) refl is
+
+pub nodes-reversed : (n : ℕ) (order : List ℕ) → AreNodes n order → AreNodes n (reverse order)
+nodes-reversed n order are =
+    let moved = IsPermutation-reverse order in record {
+      count = length-reverse order ∙ are.count;
+      below = All-permutation (λ v. v < n) order (reverse order) moved are.below;
+      apart = IsDistinct-IsPermutation eqb eqb_flips order (reverse order) moved are.apart;
+    }
+
+pub order-once : (n : ℕ) (ws : List Word) (order : List ℕ) → order_of n ws ≡ Ok order
+    → AreNodes n order
+order-once n ws order read = go (nodes_at n [] ws) refl read
+  where
+    go : (r : Result (List ℕ) TextFault) → nodes_at n [] ws ≡ r
+        → (r >>= (λ us. all_named n (end_line ws) us)) ≡ Ok order → AreNodes n order
+    go (Err f) said is = absurd (false≢true (ap is_ok is))
+    go (Ok us) said is =
+        let none : IsDistinct eqb [] =
+        IsDistinct-from_apart eqb [] (λ i j d a b. absurd (omega (arith, a, b))) in
+        let once = nodes_once n [] ws us said (none, tt) in
+        let t = test_passed (length us == n) us order (fault kinds.End (end_line ws)) is in
+        subst (AreNodes n) t.1 (record {
+          count = eqb-true (length us) n t.0;
+          below = All-from_recursion _ _ once.1;
+          apart = once.0;
+        })

@@ -1,0 +1,89 @@
+-- The numbers of nodes, where each node has a number.
+use Rattle.std.proofs.Common.{◌≡◌, ◌≢◌, ℕ, suc, ◌+◌, ◌<◌, ◌≤◌, Bool, true, false, ◌||◌, eqb, refl, sym, ap, subst, ◌∙◌, arith, inl, inr, List, [], ◌∷◌, length, set, get_or-set_other, get_or-set_same}
+use Rattle.std.specs.List.{AllByRecursion, list_any}
+use Rattle.std.proofs.lemmas.Bool.{cases_eq, eqb-false, ne_eqb, false≢true}
+use Rattle.std.proofs.lemmas.List.Elements.{All-from_recursion, recursion_from_All}
+use Rattle.std.proofs.lemmas.Map.Keys.{IsDistinct-cons, apart_from_distinct}
+use Rattle.std.proofs.lemmas.Map.Steps.{length-le_from_distinct_below}
+use Rattle.elimination_order.specs.Orders.{AreNodes}
+use Rattle.elimination_order.specs.Renumbered.{AreNumbers, at_place}
+
+-- a place of a number
+pub record Place (v : ℕ) (xs : List ℕ) : Type 0 where
+  pub at : ℕ
+  pub within : at < length xs
+  pub is : at_place xs at ≡ v
+
+found : (v : ℕ) (xs : List ℕ) → list_any (eqb v) xs ≡ true → Place v xs
+found v [] e = absurd (false≢true e)
+found v (x ∷ xs) e = elim (cases_eq v x) [
+  | inl same ↦ record { at = 0; within = omega arith; is = sym same }
+  | inr other ↦
+      let f = found v xs (sym (ap (λ b. b || list_any (eqb v) xs) (ne_eqb v x other)) ∙ e) in
+      record { at = suc f.at; within = omega (arith, f.within); is = f.is }
+]
+
+neither : (a b : Bool) → (a || b) ≡ false → (a ≡ false) × (b ≡ false)
+neither true b is = absurd (false≢true (sym is))
+neither false b is = (refl, is)
+
+absent : (v : ℕ) (xs : List ℕ) → list_any (eqb v) xs ≡ false
+    → AllByRecursion (λ x. eqb v x ≡ false) xs
+absent v [] e = tt
+absent v (x ∷ xs) e =
+    let n = neither (eqb v x) (list_any (eqb v) xs) e in (n.0, absent v xs n.1)
+
+-- each node has a place: where one had none, there would be too many nodes
+pub placed : (n : ℕ) (names : List ℕ) (v : ℕ) → AreNodes n names → v < n → Place v names
+placed n names v are h = go (list_any (eqb v) names) refl
+  where
+    more : list_any (eqb v) names ≡ false → suc (length names) ≤ n
+    more none =
+        let all = All-from_recursion (λ u. u < n) (v ∷ names) (h, recursion_from_All _ _ are.below) in
+        length-le_from_distinct_below (v ∷ names) n
+        (IsDistinct-cons eqb v names (absent v names none) are.apart)
+        (λ q has. let p = found q (v ∷ names) has in subst (λ u. u < n) p.is (all p.at 0 p.within))
+
+    go : (b : Bool) → list_any (eqb v) names ≡ b → Place v names
+    go true e = found v names e
+    go false e = absurd (omega (arith, more e, are.count))
+
+pub numbers_complete : (n : ℕ) (names numbers : List ℕ) → AreNodes n names → length numbers ≡ n
+    → ((k : ℕ) → k < n → at_place numbers (at_place names k) ≡ k) → AreNumbers n names numbers
+numbers_complete n names numbers are long each = record {
+  count = are.count;
+  counted = long;
+  below = λ v h.
+      let p = placed n names v are h in
+      subst (λ k. k < n) (sym (number v h)) (omega (arith, p.within, are.count));
+  named = λ v h. ap (at_place names) (number v h) ∙ (placed n names v are h).is;
+  within = λ k h. are.below k 0 (omega (arith, h, are.count));
+  numbered = each;
+}
+  where
+    number : (v : ℕ) (h : v < n) → at_place numbers v ≡ (placed n names v are h).at
+    number v h =
+        let p = placed n names v are h in
+        ap (at_place numbers) (sym p.is) ∙ each p.at (omega (arith, p.within, are.count))
+
+-- one node more has its number
+pub numbers_more : (n : ℕ) (names numbers : List ℕ) (k : ℕ) → AreNodes n names
+    → length numbers ≡ n → k < n
+    → ((j : ℕ) → j < k → at_place numbers (at_place names j) ≡ j)
+    → (j : ℕ) → j < k + 1 → at_place (set numbers (at_place names k) k) (at_place names j) ≡ j
+numbers_more n names numbers k are long h so_far j l =
+    let here : at_place names k < length numbers =
+    omega (arith, long, are.below k 0 (omega (arith, h, are.count))) in
+    elim (cases_eq j k) [
+      | inl same ↦
+          ap (λ i. at_place (set numbers (at_place names k) k) (at_place names i)) same
+          ∙ get_or-set_same numbers (at_place names k) k 0 here
+          ∙ sym same
+      | inr other ↦
+          let before : j < k = omega (arith, l, other) in
+          let apart : at_place names j ≢ at_place names k =
+          eqb-false (at_place names j) (at_place names k)
+          (apart_from_distinct eqb names j k 0 are.apart before (omega (arith, h, are.count))) in
+          get_or-set_other numbers (at_place names k) (at_place names j) k 0 apart
+          ∙ so_far j before
+    ]

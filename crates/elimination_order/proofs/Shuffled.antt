@@ -1,0 +1,129 @@
+-- Nodes, each once, in any order: they are the numbers from 0 on, shuffled.
+use Rattle.std.proofs.Common.{◌≡◌, ℕ, suc, ◌+◌, ◌<◌, ◌≤◌, Bool, true, false, ◌||◌, eqb, refl, sym, ap, subst, ◌∙◌, arith, inl, inr, List, [], ◌∷◌, length, get_or, remove}
+use Rattle.std.specs.List.{AllByRecursion, IsDistinct, list_any, range_with_len}
+use Rattle.std.specs.List.Sorted.{IsPermutation}
+use Rattle.std.proofs.lemmas.Bool.{cases_eq, cases_lt, eq-eqb, ne_eqb, false≢true}
+use Rattle.std.proofs.lemmas.List.FromFn.{length-range_with_len, get_or-range_with_len}
+use Rattle.std.proofs.lemmas.List.Folds.{list_any_at}
+use Rattle.std.proofs.lemmas.List.Sorted.{IsPermutation-refl, IsPermutation-cons, IsPermutation-sym, IsPermutation-trans, IsPermutation-remove, list_any-IsPermutation}
+use Rattle.std.proofs.lemmas.Map.Keys.{IsDistinct-IsPermutation, IsDistinct-from_apart}
+use Rattle.elimination_order.proofs.NodesOnce.{eqb_flips}
+
+-- a place of a number, whatever stands past the end
+pub record At (v : ℕ) (xs : List ℕ) : Type 0 where
+  pub at : ℕ
+  pub within : at < length xs
+  pub is : (d : ℕ) → get_or xs at d ≡ v
+
+pub member_at : (v : ℕ) (xs : List ℕ) → list_any (eqb v) xs ≡ true → At v xs
+member_at v [] e = absurd (false≢true e)
+member_at v (x ∷ xs) e = elim (cases_eq v x) [
+  | inl same ↦ record { at = 0; within = omega arith; is = λ d. sym same }
+  | inr other ↦
+      let f = member_at v xs (sym (ap (λ b. b || list_any (eqb v) xs) (ne_eqb v x other)) ∙ e) in
+      record { at = suc f.at; within = omega (arith, f.within); is = f.is }
+]
+
+-- no number of a list is v
+none_is : (v : ℕ) (xs : List ℕ) → AllByRecursion (λ x. eqb v x ≡ false) xs
+    → list_any (eqb v) xs ≡ false
+none_is v [] all = refl
+none_is v (x ∷ xs) all = λ i. (all.0 i || none_is v xs all.1 i)
+
+distinct_head : (x : ℕ) (xs : List ℕ) → IsDistinct eqb (x ∷ xs) → list_any (eqb x) xs ≡ false
+unfolding IsDistinct
+distinct_head x xs d = none_is x xs d.0
+
+distinct_tail : (x : ℕ) (xs : List ℕ) → IsDistinct eqb (x ∷ xs) → IsDistinct eqb xs
+unfolding IsDistinct
+distinct_tail x xs d = d.1
+
+-- the same numbers are members
+abbrev AreAlike : List ℕ → List ℕ → Type 0
+AreAlike xs ys = (q : ℕ) → list_any (eqb q) xs ≡ list_any (eqb q) ys
+
+alike_rest : (x : ℕ) (xs rest : List ℕ) → AreAlike (x ∷ xs) (x ∷ rest)
+    → list_any (eqb x) xs ≡ false → list_any (eqb x) rest ≡ false → AreAlike xs rest
+alike_rest x xs rest alike none gone q = elim (cases_eq q x) [
+  | inl same ↦
+      subst (λ v. list_any (eqb v) xs ≡ list_any (eqb v) rest) (sym same) (none ∙ sym gone)
+  | inr other ↦
+      let no = ne_eqb q x other in
+      sym (ap (λ b. b || list_any (eqb q) xs) no)
+      ∙ alike q
+      ∙ ap (λ b. b || list_any (eqb q) rest) no
+]
+
+pub shuffled_alike : (xs ys : List ℕ) → IsDistinct eqb xs → IsDistinct eqb ys → AreAlike xs ys
+    → IsPermutation xs ys
+shuffled_alike [] [] d e alike = IsPermutation-refl []
+shuffled_alike [] (y ∷ ys) d e alike =
+    absurd (false≢true (alike y ∙ ap (λ b. b || list_any (eqb y) ys) (eq-eqb y y refl)))
+shuffled_alike (x ∷ xs) ys d e alike =
+    let has : list_any (eqb x) ys ≡ true =
+    sym (alike x) ∙ ap (λ b. b || list_any (eqb x) xs) (eq-eqb x x refl) in
+    let p = member_at x ys has in
+    let rest = remove ys p.at in
+    let moved : IsPermutation ys (x ∷ rest) =
+    IsPermutation-remove ys p.at x p.within (sym (p.is x)) in
+    let apart = IsDistinct-IsPermutation eqb eqb_flips ys (x ∷ rest) moved e in
+    let here : AreAlike (x ∷ xs) (x ∷ rest) =
+    λ q. alike q ∙ list_any-IsPermutation (eqb q) ys (x ∷ rest) moved in
+    IsPermutation-trans (x ∷ xs) (x ∷ rest) ys
+    (IsPermutation-cons x xs rest
+    (shuffled_alike xs rest (distinct_tail x xs d) (distinct_tail x rest apart)
+    (alike_rest x xs rest here (distinct_head x xs d) (distinct_head x rest apart))))
+    (IsPermutation-sym ys (x ∷ rest) moved)
+
+-- ---- the numbers from 0 on
+
+pub at_range : (n i d : ℕ) → i < n → get_or (range_with_len 0 n) i d ≡ i
+at_range n i d h =
+    let start : 0 + i ≡ i = omega arith in get_or-range_with_len 0 n i d h ∙ start
+
+range_distinct : (n : ℕ) → IsDistinct eqb (range_with_len 0 n)
+range_distinct n =
+    IsDistinct-from_apart eqb (range_with_len 0 n)
+    (λ i j d less within.
+    let long = length-range_with_len 0 n in
+    let one = at_range n i d (omega (arith, less, within, long)) in
+    let two = at_range n j d (omega (arith, within, long)) in
+    (λ k. eqb (one k) (two k)) ∙ ne_eqb i j (λ same. absurd (omega (arith, same, less))))
+
+-- a list of numbers below n, all of them
+abbrev IsAll : ℕ → List ℕ → Type 0
+IsAll n xs =
+    (length xs ≡ n) × ((k d : ℕ) → k < n → get_or xs k d < n)
+    × ((v : ℕ) → v < n → At v xs)
+
+member : (n : ℕ) (xs : List ℕ) (q : ℕ) → IsAll n xs → q < n → list_any (eqb q) xs ≡ true
+member n xs q all h =
+    let p = all.2 q h in
+    list_any_at (eqb q) xs p.at 0 p.within (ap (eqb q) (p.is 0) ∙ eq-eqb q q refl)
+
+no_member : (n : ℕ) (xs : List ℕ) (q : ℕ) → IsAll n xs → n ≤ q → list_any (eqb q) xs ≡ false
+no_member n xs q all h = go (list_any (eqb q) xs) refl
+  where
+    go : (b : Bool) → list_any (eqb q) xs ≡ b → list_any (eqb q) xs ≡ false
+    go false e = e
+    go true e =
+        let p = member_at q xs e in
+        absurd (omega (arith, h, all.1 p.at 0 (omega (arith, p.within, all.0)), p.is 0))
+
+pub shuffled_range : (n : ℕ) (xs : List ℕ) → IsDistinct eqb xs → IsAll n xs
+    → IsPermutation (range_with_len 0 n) xs
+shuffled_range n xs apart all =
+    let range : IsAll n (range_with_len 0 n) = (
+      length-range_with_len 0 n,
+      λ k d h. omega (arith, h, at_range n k d h),
+      λ v h. record {
+        at = v;
+        within = omega (arith, h, length-range_with_len 0 n);
+        is = λ d. at_range n v d h;
+      },
+    ) in
+    shuffled_alike (range_with_len 0 n) xs (range_distinct n) apart
+    (λ q. elim (cases_lt q n) [
+      | inl h ↦ member n (range_with_len 0 n) q range h ∙ sym (member n xs q all h)
+      | inr h ↦ no_member n (range_with_len 0 n) q range h ∙ sym (no_member n xs q all h)
+    ])

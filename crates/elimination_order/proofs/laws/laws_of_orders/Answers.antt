@@ -1,0 +1,9 @@
+use Rattle.elimination_order.proofs.NodesOnce.{order-once}
+use Rattle.elimination_order.proofs.Usual.{usual_order}
+use Rattle.elimination_order.proofs.laws.laws_of_orders.Goals as goal
+
+pub returns-clause-read : goal.returns-clause-read
+returns-clause-read c = order-once
+
+pub returns-clause-usual : goal.returns-clause-usual
+returns-clause-usual c = usual_order

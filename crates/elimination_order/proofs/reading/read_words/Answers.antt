@@ -1,0 +1,46 @@
+use Rattle.std.proofs.Common.{◌≡◌, [], ◌∷◌, ◌++◌, Bool, length, length-set, set, true, sym, ap, subst, ◌∙◌, arith}
+use Rattle.std.proofs.lemmas.Result.{err_from_is_err_and}
+use Rattle.whole_text.specs.TokenTexts.{word_of}
+use Rattle.elimination_order.specs.Orders.{AreMarks, after_front, nodes_at}
+use Rattle.elimination_order.proofs.Named.{named_more, named_fault, named_end, marks_more}
+use Rattle.elimination_order.proofs.reading.read_words.Goals as goal
+
+pub returns-in_err-node : goal.returns-in_err-node
+returns-in_err-node c =
+    let front = c.loop-word.order.items in
+    let nodes = length c.loop-word.marks in
+    let p = err_from_is_err_and c.from_residual.result c.from_residual.ensures.1 in
+    rw (p.1, p.2)
+    (sym c.loop-word.invariant.read
+    ∙ ap (λ ws. after_front front (nodes_at nodes front ws)) c.in-Some.ensures
+    ∙ named_fault nodes front (word_of c.in-Some.word) c.next.new.self _
+    (c.in_err-node.ensures.read front c.loop-word.invariant.marks))
+
+pub bounds-marks-node : goal.bounds-marks-node
+bounds-marks-node c = c.in_ok-node.ensures.below
+
+pub loop-word-preserved : goal.loop-word-preserved
+loop-word-preserved c =
+    let front = c.loop-word.order.items in
+    let marks = c.loop-word.marks in
+    let n = c.in_ok-node.node in
+    let long : length (set marks n true) ≡ length marks = omega (arith, length-set {A = Bool}) in
+    let pushed : c.push.new.self.items ≡ front ++ n ∷ [] = c.in_ok-push.ensures.items in
+    let more = named_more (length marks) front (word_of c.in-Some.word) c.next.new.self n
+    (c.in_ok-node.ensures.read front c.loop-word.invariant.marks) in
+    record {
+      read = (λ i. after_front (pushed i) (nodes_at (long i) (pushed i) c.next.new.self))
+          ∙ sym more
+          ∙ ap (λ ws. after_front front (nodes_at (length marks) front ws)) (sym c.in-Some.ensures)
+          ∙ c.loop-word.invariant.read;
+      marks = subst (AreMarks (length (set marks n true)) (set marks n true)) (sym pushed)
+          (marks_more marks front n c.in_ok-node.ensures.below c.loop-word.invariant.marks);
+    }
+
+pub returns : goal.returns
+returns c =
+    let front = c.loop-word.order.items in
+    let nodes = length c.loop-word.marks in
+    sym c.loop-word.invariant.read
+    ∙ ap (λ ws. after_front front (nodes_at nodes front ws)) c.in_default.ensures.0
+    ∙ named_end nodes front

@@ -1,0 +1,4 @@
+pub mod Orders
+pub mod Renumbered
+pub mod Stated
+pub mod Widths
