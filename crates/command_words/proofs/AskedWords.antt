@@ -184,7 +184,7 @@ pub each_unit : EachUnitIsAskedFor
 each_unit format model file unit =
     each_job format (Nodes model) file (unit_key unit ∷ []) ∙ rw (unit_alone model unit) refl
 
--- a key alone for conditions of which no two may miss
+-- a key alone for conflicts
 slack_alone : (model : NodeModel) (slack : Slack)
     → keys_from verbs.Compile (Nodes model) no_keys 4 (slack_key slack ∷ [])
     ≡ Ok (record no_keys { slack = Some slack })
@@ -268,18 +268,20 @@ graph_keys : (first second third fourth : List ℕ) (others : List (List ℕ)) (
     → with_word verbs.Compile Chimera keys 7 fourth ≡ Some (record keys { chains = Some chains }))
     → keys_from verbs.Compile Chimera no_keys 4
     (rows_key first ∷ cols_key second ∷ shore_key third ∷ fourth ∷ others)
-    ≡ keys_from verbs.Compile Chimera (graph_given graph.rows graph.cols graph.shore chains) 8 others
+    ≡ keys_from verbs.Compile Chimera (graph_given graph.rows graph.cols graph.shore chains) 8
+    others
 graph_keys first second third fourth others graph chains r c s last =
     let shape = graph.shape in
     let rows = graph.rows in
     let cols = graph.cols in
     let shore = graph.shore in
     rw (
-      each_key.rows verbs.Compile no_keys 4 first rows refl r shape.some_rows (few_rows rows cols shore shape),
-      each_key.cols verbs.Compile (record no_keys { rows = Some rows }) 5 second cols refl c shape.some_cols
-          (few_cols rows cols shore shape),
-      each_key.shore verbs.Compile (record no_keys { rows = Some rows; cols = Some cols }) 6 third shore refl s
-          shape.some_shore (few_shore rows cols shore shape),
+      each_key.rows verbs.Compile no_keys 4 first rows refl r shape.some_rows
+          (few_rows rows cols shore shape),
+      each_key.cols verbs.Compile (record no_keys { rows = Some rows }) 5 second cols refl c
+          shape.some_cols (few_cols rows cols shore shape),
+      each_key.shore verbs.Compile (record no_keys { rows = Some rows; cols = Some cols }) 6 third
+          shore refl s shape.some_shore (few_shore rows cols shore shape),
       last (record no_keys { rows = Some rows; cols = Some cols; shore = Some shore }) refl,
     ) refl
 

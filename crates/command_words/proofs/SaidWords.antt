@@ -464,7 +464,8 @@ each_notice = record {
 -- what words ask for that begin with a notice, or with none
 abbrev request_with : List (List ℕ) → Option Notice → Result Request ℕ
 request_with words first =
-    option_map_or (alone words) first (command_of words >>= λ command. Ok (requests.Command command))
+    option_map_or (alone words) first
+    (command_of words >>= λ command. Ok (requests.Command command))
 
 pub each_command : EachCommandIsAskedFor
 each_command = record {

@@ -147,7 +147,7 @@ abbrev pub unit_key : UnitChoice → List ℕ
 unit_key One = codes "unit=one"
 unit_key Reduce = codes "unit=reduce"
 
--- the key that chooses what stands for the conditions of which no two may miss
+-- the key that chooses how conflicts enter the model
 abbrev pub slack_key : Slack → List ℕ
 slack_key Bits = codes "slack=bits"
 slack_key Pairs = codes "slack=pairs"
@@ -274,8 +274,7 @@ EachUnitIsAskedFor = (format : Format) (model : NodeModel) (file : List ℕ) (un
     ≡ Ok (on_fourth_word format (targets.Nodes model) (record no_keys { unit = Some unit })
     asks.Model)
 
--- both ways to do with conditions of which no two may miss can be asked for, with every format, file
--- and model on nodes
+-- both ways of conflicts into the model can be asked for, with every format, file and model on nodes
 abbrev pub EachSlackIsAskedFor : Type 0
 EachSlackIsAskedFor = (format : Format) (model : NodeModel) (file : List ℕ) (slack : Slack)
     → command_of (compile_words format (Nodes model) file (slack_key slack ∷ []))
@@ -351,17 +350,20 @@ pub record EachGraphIsAskedFor : Type 0 where
 pub record EachKeyStands : Type 0 where
   pub normal : (verb : Verb) (target : TargetWord) (keys : Keys) (at : ℕ) (normal : Normal)
       → keys.normal ≡ None
-      → with_word verb target keys at (normal_key normal) ≡ Some (record keys { normal = Some normal })
-  pub high : (verb : Verb) (target : TargetWord) (keys : Keys) (at : ℕ) (high : High) → keys.high ≡ None
+      → with_word verb target keys at (normal_key normal)
+      ≡ Some (record keys { normal = Some normal })
+  pub high : (verb : Verb) (target : TargetWord) (keys : Keys) (at : ℕ) (high : High)
+      → keys.high ≡ None
       → with_word verb target keys at (high_key high) ≡ Some (record keys { high = Some high })
-  pub unit : (verb : Verb) (target : TargetWord) (keys : Keys) (at : ℕ) (unit : UnitChoice) → keys.unit ≡ None
+  pub unit : (verb : Verb) (target : TargetWord) (keys : Keys) (at : ℕ) (unit : UnitChoice)
+      → keys.unit ≡ None
       → with_word verb target keys at (unit_key unit) ≡ Some (record keys { unit = Some unit })
   pub bound : (verb : Verb) (target : TargetWord) (keys : Keys) (at : ℕ) (value : List ℕ) (size : ℕ)
       → keys.bound ≡ None → digits_number value ≡ Some size
       → with_word verb target keys at (bound_key value)
       ≡ Some (record keys { bound = Some (record { negative = false; size = size }) })
-  pub bound_below : (verb : Verb) (target : TargetWord) (keys : Keys) (at : ℕ) (value : List ℕ) (size : ℕ)
-      → keys.bound ≡ None → digits_number value ≡ Some size
+  pub bound_below : (verb : Verb) (target : TargetWord) (keys : Keys) (at : ℕ) (value : List ℕ)
+      (size : ℕ) → keys.bound ≡ None → digits_number value ≡ Some size
       → with_word verb target keys at (bound_key (codes "-" ++ value))
       ≡ Some (record keys { bound = Some (record { negative = true; size = size }) })
   pub slack : (verb : Verb) (target : TargetWord) (keys : Keys) (at : ℕ) (slack : Slack)
@@ -385,14 +387,16 @@ pub record EachKeyStands : Type 0 where
       → with_word verb Chimera keys at (map_key name)
       ≡ Some (record keys { chains = Some (Map (Value at)) })
   pub dead : (verb : Verb) (keys : Keys) (at : ℕ) (name : List ℕ) → keys.dead ≡ None
-      → with_word verb Chimera keys at (dead_key name) ≡ Some (record keys { dead = Some (Value at) })
+      → with_word verb Chimera keys at (dead_key name)
+      ≡ Some (record keys { dead = Some (Value at) })
   pub ties : (verb : Verb) (keys : Keys) (at : ℕ) (ties : Ties) → keys.ties ≡ None
       → with_word verb Chimera keys at (chain_key ties) ≡ Some (record keys { ties = Some ties })
 
 -- No word of this name can stand. Whatever its value is, the word is refused at its position.
 abbrev pub CannotStand : Verb → TargetWord → Keys → ℕ → List ℕ → Type 0
 CannotStand verb target keys at name =
-    (word value : List ℕ) → cut word ≡ Some (name, value) → with_word verb target keys at word ≡ None
+    (word value : List ℕ) → cut word ≡ Some (name, value)
+    → with_word verb target keys at word ≡ None
 
 -- no key stands twice, and with the chains of a clique no map can stand, nor the other way round.
 -- `embed` and `map` both choose the chains, so one of them keeps out the other.

@@ -3,8 +3,8 @@
 -- words and one.
 --
 -- So `compile wcnf qubo clash.wcnf unit=reduce` asks for a model, `compile wcnf qubo` is refused at
--- position 4, where the file is missing, and `compile wcnf graph clash.wcnf` at position 3. `--help`
--- asks for a notice, and `--help compile` is refused at position 2.
+-- position 4, where the file is missing, and `compile wcnf graph clash.wcnf` at position 3.
+-- `--help` asks for a notice, and `--help compile` is refused at position 2.
 use Rattle.std.specs.Prelude.{ℕ, ◌+◌, ◌≤◌, ◌==◌, ◌||◌, ⊤, List, length, drop, String, string_bytes, map, bytes_eq, codes, nat_le, if◌then◌else◌, option_and_then, Ok, Err, Some, None, Result, Option, slice_get}
 use Rattle.std.specs.Option.{option_map_or, ok_or}
 use Rattle.whole_text.specs.Numbers.{digits_number}

@@ -61,8 +61,7 @@ choices_of keys = record {
 abbrev pub chosen_unit : Keys → UnitChoice
 chosen_unit keys = option_map_or (λ value. value) keys.unit One
 
--- how keys choose what stands for the conditions of which no two may miss, which is usually slack
--- bits
+-- how keys choose that conflicts enter the model, which is usually with slack bits
 abbrev pub chosen_slack : Keys → Slack
 chosen_slack keys = option_map_or (λ value. value) keys.slack Bits
 
@@ -142,7 +141,7 @@ unit_of value =
     then Some One
     else if bytes_eq value (codes "reduce") then Some Reduce else None
 
--- the words of what stands for the conditions of which no two may miss
+-- the words of the ways of conflicts into the model
 abbrev pub slack_of : List ℕ → Option Slack
 slack_of value =
     if bytes_eq value (codes "bits")

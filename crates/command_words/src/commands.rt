@@ -71,8 +71,8 @@ pub enum WordAt {
     Value(usize),
 }
 
-/// What stands for the conditions of which no two may miss: slack bits, as for each condition, or
-/// a pair for each two.
+/// How conflicts, the constraints of which no two products may miss, enter a model: with slack
+/// bits, as other constraints do, or as clauses of pairs.
 #[derive(Clone, Copy, Debug, PartialEq, Eq)]
 pub enum Slack {
     Bits,
@@ -153,8 +153,8 @@ pub enum Ask {
     Prove(WordAt, WordAt),
 }
 
-/// What a run does: a source, the most that an assignment of it may cost, what stands for its
-/// conditions, how it becomes a model, and what is asked of that model.
+/// What a run does: a source, the most that an assignment of it may cost, how it becomes a model,
+/// and what is asked of that model.
 #[derive(Clone, Copy, Debug, PartialEq, Eq)]
 pub struct Command {
     pub origin: Origin,

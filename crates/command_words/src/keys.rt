@@ -65,7 +65,7 @@ pub(crate) fn chosen_unit(keys: Keys) -> UnitChoice
     keys.unit.unwrap_or(UnitChoice::One)
 }
 
-/// What stands for the conditions of which no two may miss, which is usually slack bits.
+/// How conflicts enter the model, which is usually with slack bits.
 pub(crate) fn chosen_slack(keys: Keys) -> Slack
     ensures { result ≡ chosen_slack keys }
 {

@@ -361,6 +361,17 @@ const KEYS: &[(&[&str], usize)] = &[
     (&["unit=one", "unit=one"], 6),
     (&["unit=reduce", "unit=one"], 6),
     (&["unit=reduce", "FILE"], 6),
+    (&["bound="], 5),
+    (&["bound=-"], 5),
+    (&["bound=+3"], 5),
+    (&["bound=--3"], 5),
+    (&["bound=18446744073709551616"], 5),
+    (&["bound=-18446744073709551615", "bound=3"], 6),
+    (&["slack"], 5),
+    (&["slack=none"], 5),
+    (&["slack=pairs", "unit=one", "slack=bits"], 7),
+    (&["order=NAME"], 5),
+    (&["unit=one", "order="], 6),
     (&["dead=list"], 5),
     (&["chain=cut"], 5),
 ];
@@ -468,7 +479,10 @@ fn lines_and_columns(text: &str) -> (usize, usize) {
 #[test]
 fn the_help_fits_a_screen_and_the_version_a_line(rt: HostRuntime) {
     let (lines, longest) = lines_and_columns(notice_text(Notice::Help));
-    assert!(rt; 0 < lines && lines <= 60 && longest <= 100, "{lines} {longest}");
+    assert!(rt;
+        0 < lines && lines <= 60 && longest <= 100,
+        "{lines} {longest}"
+    );
     assert!(rt; lines_and_columns(notice_text(Notice::Version)).0 == 1);
 }
 
@@ -495,7 +509,10 @@ const SLACKS: &[(&[&str], Result<Slack, usize>)] = &[
         &["solve", "wbo", "ising", "FILE", "unit=one", "slack=pairs"],
         Ok(Slack::Pairs),
     ),
-    (&["sample", "1", "2", "qubo", "slack=pairs"], Ok(Slack::Pairs)),
+    (
+        &["sample", "1", "2", "qubo", "slack=pairs"],
+        Ok(Slack::Pairs),
+    ),
     (&["sample", "1", "2", "qubo"], Ok(Slack::Bits)),
     (
         &[
@@ -577,10 +594,19 @@ const ORDERS: &[(&[&str], Result<Option<WordAt>, usize>)] = &[
     // with other verbs
     (&["compile", "poly", "qubo", "FILE", "order=a"], Err(5)),
     (&["size", "poly", "qubo", "FILE", "order=a"], Err(5)),
-    (&["decode", "poly", "qubo", "FILE", "STATE", "order=a"], Err(6)),
-    (&["evaluate", "poly", "qubo", "FILE", "S", "order=a"], Err(6)),
+    (
+        &["decode", "poly", "qubo", "FILE", "STATE", "order=a"],
+        Err(6),
+    ),
+    (
+        &["evaluate", "poly", "qubo", "FILE", "S", "order=a"],
+        Err(6),
+    ),
     (&["extend", "poly", "qubo", "FILE", "S", "order=a"], Err(6)),
-    (&["prove", "poly", "qubo", "FILE", "S", "P", "order=a"], Err(7)),
+    (
+        &["prove", "poly", "qubo", "FILE", "S", "P", "order=a"],
+        Err(7),
+    ),
     (&["sample", "1", "2", "qubo", "unit=one", "order=a"], Err(6)),
 ];
 
@@ -607,15 +633,60 @@ fn is_named(
 }
 
 const NAMES: &[(&[&str], Ask, Which, &str)] = &[
-    (&["compile", "wcnf", "qubo", "FILE"], Ask::Model, Which::Source, "FILE"),
-    (&["compile", "wcnf", "qubo", "a=b"], Ask::Model, Which::Source, "a=b"),
-    (&["compile", "wcnf", "qubo", ""], Ask::Model, Which::Source, ""),
-    (&["compile", "wcnf", "qubo", "FILE"], Ask::Model, Which::Map, ""),
-    (&["compile", "wcnf", "qubo", "FILE"], Ask::Model, Which::State, ""),
-    (&["compile", "wcnf", "qubo", "FILE"], Ask::Model, Which::Dead, ""),
-    (&["compile", "wcnf", "qubo", "FILE"], Ask::Model, Which::Certificate, ""),
-    (&["compile", "wcnf", "qubo", "FILE"], Ask::Model, Which::Order, ""),
-    (&["size", "wcnf", "qubo", "FILE"], Ask::Size, Which::State, ""),
+    (
+        &["compile", "wcnf", "qubo", "FILE"],
+        Ask::Model,
+        Which::Source,
+        "FILE",
+    ),
+    (
+        &["compile", "wcnf", "qubo", "a=b"],
+        Ask::Model,
+        Which::Source,
+        "a=b",
+    ),
+    (
+        &["compile", "wcnf", "qubo", ""],
+        Ask::Model,
+        Which::Source,
+        "",
+    ),
+    (
+        &["compile", "wcnf", "qubo", "FILE"],
+        Ask::Model,
+        Which::Map,
+        "",
+    ),
+    (
+        &["compile", "wcnf", "qubo", "FILE"],
+        Ask::Model,
+        Which::State,
+        "",
+    ),
+    (
+        &["compile", "wcnf", "qubo", "FILE"],
+        Ask::Model,
+        Which::Dead,
+        "",
+    ),
+    (
+        &["compile", "wcnf", "qubo", "FILE"],
+        Ask::Model,
+        Which::Certificate,
+        "",
+    ),
+    (
+        &["compile", "wcnf", "qubo", "FILE"],
+        Ask::Model,
+        Which::Order,
+        "",
+    ),
+    (
+        &["size", "wcnf", "qubo", "FILE"],
+        Ask::Size,
+        Which::State,
+        "",
+    ),
     (
         &["evaluate", "wcnf", "qubo", "FILE", "STATES"],
         Ask::Evaluate(WordAt::Whole(4)),
