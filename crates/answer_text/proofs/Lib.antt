@@ -1,1 +1,2 @@
 pub mod AnswerRows
+pub mod Levels

@@ -1,4 +1,5 @@
-//! The texts that answer for one assignment or one state: its bits, its cost and its energy.
+//! The texts that answer for one assignment or one state, its bits, its cost and its energy, or for a
+//! model's size.
 //!
 //! An assignment has the bits of a source's variables, a state those of a model's nodes or qubits.
 //! All texts are rows of words with one space between two words, and each row ends in a line feed.
@@ -16,6 +17,10 @@
 //! `optimum` with the cost of what the state stands for, or `infeasible` where that is infinite. The
 //! text of one that is proved to be least has the same rows but `state`.
 //!
+//! The text of a model's size is its summary, and the rows `variables`, with how many its source has,
+//! `least` and `greatest`, with the least and the greatest size of a weight that is not 0, both 0
+//! where there is none.
+//!
 //! For the assignment 111 of the variables x, y and z, of cost -5, and a state of energy -5:
 //!
 //! ```text
@@ -30,5 +35,7 @@
 
 mod answers;
 mod rows;
+mod sizes;
 
 pub use answers::{written_decoding, written_extension, written_proof, written_solution};
+pub use sizes::written_size;

@@ -1,5 +1,6 @@
 -- What the steps of the replacement make: clauses that are added, and marks of the constraints.
-use Rattle.std.specs.Prelude.{◌≡◌, ℕ, ◌<◌, Bool, true, not, List, [], ◌∷◌, ◌++◌, map, All}
+use Rattle.std.specs.Prelude.{◌≡◌, ℕ, ◌<◌, Bool, true, false, not, List, [], ◌∷◌, ◌++◌, map, All, Option, Some, MatchOption}
+use Rattle.std.specs.List.{slice_get}
 use Rattle.literal_lists.specs.declared.literal.Literal.{Literal}
 use Rattle.problem_form.specs.declared.terms.Constraint.{Constraint}
 use Rattle.problem_form.specs.Problems.{ProblemContent}
@@ -38,3 +39,10 @@ pub record IsTaken (variables spent : ℕ) (k : Constraint) (alones others : Lis
   pub lists : map alone alones ++ pairs_of (map alone others) ≡ wanted_lists k
   pub alones_within : AreWithin variables alones
   pub others_within : AreWithin variables others
+
+-- what was taken of the constraint at a place, after so many pairs: nothing where it stays, and else
+-- its pairs and the literals that it wants
+abbrev pub IsTakenAt : ProblemContent → ℕ → ℕ → List Literal → List Literal → Option ℕ → Type 0
+IsTakenAt p i spent alones others taken =
+    (k : Constraint) → slice_get p.constraints i ≡ Some k
+    → MatchOption taken (is_replaced spent k ≡ false) (IsTaken p.variables spent k alones others)

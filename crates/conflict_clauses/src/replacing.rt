@@ -1,9 +1,9 @@
 //! Conflicts of a problem, replaced by clauses.
-ghost use Rattle.std.specs.Prelude.{◌≡◌, ◌<◌, ◌≤◌, ◌^◌, [], not, OnOk, IfOk, Some, MatchOption, false, length, slice_get};
+ghost use Rattle.std.specs.Prelude.{◌≡◌, ◌<◌, ◌≤◌, ◌^◌, [], not, OnOk, IfOk, Some, length, slice_get};
 ghost use Rattle.problem_form.specs.declared.terms.Constraint.{Constraint};
 ghost use Rattle.problem_form.specs.Problems.{problem_total};
 ghost use Rattle.conflict_clauses.specs.Conflicts.{CostsAlike, is_replaced, most_pairs, pair_count, spent_after, without_conflicts};
-ghost use Rattle.conflict_clauses.specs.Steps.{IsTaken, staying, with_clauses_from, with_clauses_of};
+ghost use Rattle.conflict_clauses.specs.Steps.{IsTakenAt, staying, with_clauses_from, with_clauses_of};
 
 use crate::clauses::{Wanted, add_each, add_pairs, take_wanted};
 use crate::conflicts::conflict_room;
@@ -37,10 +37,8 @@ fn take_at(
     requires within { i < length problem.now.constraints }
     requires spent { spent ≤ most_pairs }
     ensures small { problem_total problem.now < 2 ^ 100 }
-    ensures taken { IfOk result (λ taken.
-        (k : Constraint) → slice_get problem.now.constraints i ≡ Some k
-        → MatchOption taken (is_replaced spent k ≡ false)
-        (IsTaken problem.now.variables spent k lists.new.needed.items lists.new.others.items)) }
+    ensures taken { IfOk result
+        (IsTakenAt problem.now i spent lists.new.needed.items lists.new.others.items) }
 {
     let constraint = problem.constraints.at(i);
     let Some(room) = conflict_room(&constraint) else {

@@ -7,7 +7,6 @@ use Rattle.base.specs.declared.costs.Cost.TheVariants.{Whole, Infinite}
 use Rattle.base.specs.Costs.{Form, Source}
 use Rattle.form_steps.specs.Relations.{Rewrites}
 use Rattle.problem_form.specs.Problems.{ProblemContent, cut_off, own_cost}
-use Rattle.problem_form.specs.NormalForm.{with_most}
 use Rattle.problem_form.specs.Limits.{lesser_of, own_upper}
 use Rattle.wbo_reader.specs.Wbo.{WboContent}
 use Rattle.source_texts.specs.declared.reading.Read.{Read}
@@ -84,7 +83,7 @@ keeps_bounded most r kept = go r.soft kept
     go : (soft : Option WboContent) → IsRewrittenFrom soft r
         → IsRewrittenFrom soft (bounded_read most r)
     go None h = h
-    go (Some w) h = (h.0, ap (λ (p : ProblemContent). with_most p most) h.1)
+    go (Some w) h = record { own = h.own; variables = h.variables; costs = h.costs }
 
 -- its own costs do not ask for the most
 pub costs_bounded : (s : Source) (r : Read) (most : Option ℤ) → CostsAs s r

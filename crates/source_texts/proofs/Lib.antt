@@ -1,4 +1,5 @@
 pub mod Bounded
+pub mod Cleared
 pub mod Readings
 pub mod WcnfTexts
 pub mod OpbTexts

@@ -10,6 +10,7 @@ use Rattle.whole_text.specs.Tokens.{Word, tokens_of}
 use Rattle.whole_text.specs.Steps.{◌>>=◌}
 use Rattle.problem_form.specs.Problems.{ProblemContent, cut_off, form_of, own_cost}
 use Rattle.problem_form.specs.NormalForm.{with_most}
+use Rattle.conflict_clauses.specs.Conflicts.{without_conflicts}
 use Rattle.problem_form.specs.Limits.{lesser_of, upper}
 use Rattle.command_words.specs.declared.commands.Format.{Format}
 use Rattle.command_words.specs.declared.commands.Format.TheVariants.{Wcnf, Opb, Wbo, Poly, Ising, Qubo}
@@ -78,6 +79,10 @@ problem_of Qubo text = entry_problems.normal_reading layouts.Qubo text >>= λ p.
 abbrev pub bounded_read : Option ℤ → Read → Read
 bounded_read most r = record r { problem = with_most r.problem most }
 
+-- what was read, with clauses in place of the conflicts of its problem
+abbrev pub cleared_read : Read → Read
+cleared_read r = record r { problem = without_conflicts r.problem }
+
 -- the names of what was read
 abbrev pub read_names : Result Read TextFault → Option (List (List ℕ))
 read_names (Ok r) = r.names
@@ -121,12 +126,21 @@ abbrev pub carried : Option WboContent → List Bool → List Bool
 carried None x = x
 carried (Some w) x = extended w x
 
--- the problem has no variables but the source's, or it is what these soft constraints are rewritten
--- to, with some most, and theirs are the source's
+-- the problem has the variables and the costs of what these soft constraints are rewritten to,
+-- whatever the most is that they may be
+pub record IsEasedFrom (w : WboContent) (r : Read) : Type 0 where
+  -- the variables of the soft constraints are the source's own
+  pub own : w.variables ≡ r.variables
+  -- the problem has them first, and then the bits of the soft constraints
+  pub variables : r.problem.variables ≡ (rewritten w).variables
+  -- each assignment costs in the problem what it costs in what they are rewritten to
+  pub costs : (x : List Bool) → own_cost r.problem x ≡ own_cost (rewritten w) x
+
+-- the problem has no variables but the source's, or those and the costs of what these soft
+-- constraints are rewritten to
 abbrev pub IsRewrittenFrom : Option WboContent → Read → Type 0
 IsRewrittenFrom None r = r.variables ≡ r.problem.variables
-IsRewrittenFrom (Some w) r =
-    (w.variables ≡ r.variables) × (r.problem ≡ with_most (rewritten w) r.problem.most)
+IsRewrittenFrom (Some w) r = IsEasedFrom w r
 
 -- the soft constraints of the source are kept beside the problem that they are rewritten to
 abbrev pub KeepsSoft : Read → Type 0
@@ -183,3 +197,19 @@ ProblemsCostAsSources =
 abbrev pub PlainOwnsAll : Type 0
 PlainOwnsAll =
     (s : Source) (r : Read) → CostsAs s r → r.soft ≡ None → r.problem.variables ≡ s.form.bits
+
+-- ---- without conflicts
+
+-- what stands for a source stands for it still with clauses in place of conflicts
+abbrev pub ClearedStandsForSources : Type 0
+ClearedStandsForSources =
+    (s : Source) (r : Read) → StandsBounded s r → StandsBounded s (cleared_read r)
+
+-- and it costs what it did
+abbrev pub ClearedCostsAsSources : Type 0
+ClearedCostsAsSources = (s : Source) (r : Read) → CostsAs s r → CostsAs s (cleared_read r)
+
+-- a weighted CNF has no constraints, and so no conflicts
+abbrev pub ClausesHaveNoConflicts : Type 0
+ClausesHaveNoConflicts =
+    (text : List ℕ) (r : Read) → problem_of Wcnf text ≡ Ok r → cleared_read r ≡ r

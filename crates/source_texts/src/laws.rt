@@ -1,5 +1,8 @@
 //! Laws, as functions without code: each contract is a statement of `specs/`.
 ghost use Rattle.source_texts.specs.Sources.{
+  ClausesHaveNoConflicts,
+  ClearedCostsAsSources,
+  ClearedStandsForSources,
   PlainOwnsAll,
   ProblemsCostAsSources,
   ProblemsStandForSources,
@@ -24,4 +27,12 @@ pub fn problems_cost_as_sources()
 /// In each format the words of a text are read as the text is, however it was cut into pieces.
 pub fn words_are_read_as_texts()
     ensures { WordsAreReadAsTexts }
+{}
+
+/// A problem with clauses in place of its conflicts stands for the source, and costs what it does,
+/// as the problem did; and the problem of a weighted CNF has none.
+pub fn clearing_keeps_sources()
+    ensures stands { ClearedStandsForSources }
+    ensures costs { ClearedCostsAsSources }
+    ensures clauses { ClausesHaveNoConflicts }
 {}

@@ -4,6 +4,7 @@ ghost use Rattle.whole_text.specs.Steps.{Gives};
 ghost use Rattle.whole_text.specs.TokenTexts.{words_of};
 ghost use Rattle.source_texts.specs.Sources.{
   bounded_read,
+  cleared_read,
   eased,
   KeepsSoft,
   named,
@@ -15,6 +16,7 @@ ghost use Rattle.source_texts.specs.Sources.{
 
 use base::NoMemory;
 use command_words::Format;
+use conflict_clauses::without_conflicts;
 use ising_file::read_ising_tokens;
 use opb_reader::read_opb_tokens;
 use poly_reader::{Names, Polynomial, read_poly_tokens};
@@ -67,6 +69,27 @@ impl Read {
         ensures kept { KeepsSoft self.old → KeepsSoft self.new }
     {
         self.problem.cut_off(most);
+    }
+
+    /// The same with clauses in place of the conflicts of the problem, which costs what it did. The
+    /// soft constraints are kept beside it.
+    pub fn without_conflicts(self, alloc: Global) -> Result<Read, NoMemory>
+        ensures value { IfOk result (λ read. read ≡ cleared_read self) }
+        ensures kept { KeepsSoft self → IfOk result KeepsSoft }
+    {
+        let Read {
+            problem,
+            variables,
+            names,
+            soft,
+        } = self;
+        let problem = without_conflicts(alloc, problem)?;
+        Ok(Read {
+            problem,
+            variables,
+            names,
+            soft,
+        })
     }
 }
 

@@ -1,0 +1,12 @@
+use Rattle.std.proofs.Common.{◌≡◌}
+use Rattle.std.specs.Prelude.{fold, max}
+use Rattle.answer_text.specs.Sizes.{least_of, sizes}
+use Rattle.answer_text.proofs.Levels.{least_from}
+use Rattle.answer_text.proofs.sizes.levels_of.Given as goal
+
+-- the levels so far, and those of the entries that are left, are those of all
+abbrev pub invariant-loop-entry : goal.invariant-loop-entry
+invariant-loop-entry l = record {
+  least : least_from l.levels.least (sizes l.entry-iterator) ≡ least_of (sizes l.entries);
+  greatest : fold max l.levels.greatest (sizes l.entry-iterator) ≡ fold max 0 (sizes l.entries);
+}
