@@ -1,17 +1,18 @@
 -- Steps of the additions that stand for a term: what is left fits, and makes up the rest.
 use Rattle.std.proofs.Common.{◌≡◌, ℕ, Bool, ◌+◌, ◌-◌, ◌*◌, ◌<◌, ◌≤◌, List, [], ◌∷◌, ◌++◌, length, take, drop, get_or, ℤ, pos, ◌*ℤ◌, neg_ℤ, sym, ap, ◌∙◌, arith}
-use Rattle.std.specs.Prelude.{All, Result, Ok, Err, IfOk}
+use Rattle.std.specs.Prelude.{All, Result, Ok, Err, IfOk, OnOk}
 use Rattle.std.specs.List.{flat_map, sum_by}
 use Rattle.std.proofs.lemmas.List.{append_assoc, drop_more, take_rest}
 use Rattle.std.proofs.lemmas.List.Sums.{sum_by-cons}
 use Rattle.std.proofs.lemmas.List.Elements.{All-same}
+use Rattle.std.proofs.lemmas.Result.{on_ok_weaker}
 use Rattle.literal_lists.specs.declared.literal.Literal.{Literal}
 use Rattle.literal_lists.specs.Literals.{IsLiteralSet}
 use Rattle.term_table.specs.Terms.{Term, terms_total}
 use Rattle.term_table.specs.Tables.{TableContent, with_appended, with_more}
 use Rattle.term_table.proofs.Additions.{terms_total-append}
 use Rattle.term_table.proofs.SmallSets.{IsLiteralSet-ascends, below_after}
-use Rattle.term_table.proofs.Loops.{fits_after, total-with_more}
+use Rattle.term_table.proofs.Loops.{fits_after, total-with_more, with_more-append}
 use Rattle.monomial_layer.specs.Monomials.{node, with_each, each_with, pair_terms, factor, node_term, node_terms, negative_terms, new_nodes, new_terms, new_bits, all_new_terms}
 use Rattle.monomial_layer.proofs.Sizes.{total-more_nodes}
 
@@ -96,6 +97,32 @@ negative_fits_more start now ls w next c head n number weight made small =
     λ i. (number i ∷ [], weight i) ∷ each_with ls (number i) c in
     fits_after start now (own ∷ []) (each_with ls w c) n made
     (omega (arith, small, ap terms_total same))
+
+-- the own weight and the pairs, added one after the other, are the node's terms
+pub node_added : {T E : Type 0} (r : Result T E) (start now after : TableContent) (ls : List Literal)
+    (w : Literal) (k : ℕ) (c head pair : ℤ) → head ≡ c *ℤ pos (factor (length ls) k * (2 * k + 2) - 1)
+    → pair ≡ neg_ℤ (c *ℤ pos (factor (length ls) k)) → now ≡ with_appended start (w ∷ []) head
+    → OnOk r (after ≡ with_more now (each_with ls w pair))
+    → OnOk r (after ≡ with_more start (node_term ls c w k))
+node_added r start now after ls w k c head pair weight tail made =
+    let own : Term = (w ∷ [], head) in
+    let same : own ∷ each_with ls w pair ≡ node_term ls c w k =
+    λ i. (w ∷ [], weight i) ∷ each_with ls w (tail i) in
+    on_ok_weaker r λ more.
+    with_more-append start now after (own ∷ []) (each_with ls w pair) made more
+    ∙ ap (with_more start) same
+
+pub negative_added : {T E : Type 0} (r : Result T E) (start now after : TableContent) (ls : List Literal)
+    (w : Literal) (next : ℕ) (c head : ℤ) → w ≡ node next → head ≡ neg_ℤ (c *ℤ pos (length ls - 1))
+    → now ≡ with_appended start (w ∷ []) head → OnOk r (after ≡ with_more now (each_with ls w c))
+    → OnOk r (after ≡ with_more start (negative_terms ls c next))
+negative_added r start now after ls w next c head number weight made =
+    let own : Term = (w ∷ [], head) in
+    let same : own ∷ each_with ls w c ≡ negative_terms ls c next =
+    λ i. (number i ∷ [], weight i) ∷ each_with ls (number i) c in
+    on_ok_weaker r λ more.
+    with_more-append start now after (own ∷ []) (each_with ls w c) made more
+    ∙ ap (with_more start) same
 
 -- the terms of the next node fit where those of all nodes do
 pub nodes_fit : (start now : TableContent) (ls : List Literal) (w : Literal) (next k nodes : ℕ) (c : ℤ)

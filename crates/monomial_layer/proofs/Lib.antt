@@ -1,3 +1,4 @@
 pub mod Sets
 pub mod Sizes
 pub mod Adding
+mod Weights

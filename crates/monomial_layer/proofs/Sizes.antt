@@ -75,6 +75,30 @@ pair_weight-fits ls c w k before n small =
       mul-le-mul_left (unsigned_abs c) (factor-le f k (factor_cases (length ls) k)),
     )
 
+pub node_weight-fits : (ls : List Literal) (c head : ℤ) (w : Literal) (k before n : ℕ)
+    → head ≡ c *ℤ pos (factor (length ls) k * (2 * k + 2) - 1)
+    → before + terms_total (node_term ls c w k) ≤ n → before + unsigned_abs head ≤ n
+node_weight-fits ls c head w k before n weight small =
+    omega (
+      arith,
+      small,
+      ap unsigned_abs weight,
+      terms_total-cons (w ∷ [], c *ℤ pos (factor (length ls) k * (2 * k + 2) - 1))
+          (each_with ls w (neg_ℤ (c *ℤ pos (factor (length ls) k)))),
+    )
+
+pub negative_weight-fits : (ls : List Literal) (c head : ℤ) (next before n : ℕ)
+    → head ≡ neg_ℤ (c *ℤ pos (length ls - 1))
+    → before + terms_total (negative_terms ls c next) ≤ n → before + unsigned_abs head ≤ n
+negative_weight-fits ls c head next before n weight small =
+    omega (
+      arith,
+      small,
+      ap unsigned_abs weight,
+      terms_total-cons (node next ∷ [], neg_ℤ (c *ℤ pos (length ls - 1)))
+          (each_with ls (node next) c),
+    )
+
 -- what one node of factor f adds to the bound at k, where x is the coefficient's size and d the
 -- degree
 one_more : (x f k d : ℕ) → (f ≡ 1) ⊎ (f ≡ 2)
