@@ -4,7 +4,7 @@ use Rattle.std.proofs.lemmas.Int.{ints, by_lt_z}
 use Rattle.std.specs.declared.option.Option.{Option}
 use Rattle.edge_io.specs.Held.{NamedFiles}
 use Rattle.base.specs.declared.unit.UnitChoice.{UnitChoice}
-use Rattle.base.specs.Costs.{IsOf, Source, energy}
+use Rattle.base.specs.Costs.{Form, IsOf, Source, energy}
 use Rattle.base.proofs.Products.{times-lt}
 use Rattle.form_steps.specs.Relations.{Relaxes}
 use Rattle.bits_model.specs.Output.{Written, IsWellFormed, form_of, decoding_of}
@@ -22,7 +22,8 @@ use Rattle.answer_text.specs.Answers.{decoding_text, extension_text, proof_text,
 use Rattle.command_words.specs.declared.commands.NodeModel.{NodeModel}
 use Rattle.command_words.specs.declared.commands.NodeModel.TheVariants.{Qubo, Ising}
 use Rattle.command_words.specs.declared.commands.Ask.{Ask}
-use Rattle.command_words.specs.declared.commands.Ask.TheVariants.{Model, Summary, Solve, Decode, Extend, Prove}
+use Rattle.command_words.specs.declared.commands.Ask.TheVariants.{Model, Summary, Size, Solve, Decode, Extend, Prove}
+use Rattle.command_words.specs.declared.commands.WordAt.{WordAt}
 use Rattle.command_words.specs.declared.commands.Ties.{Ties}
 use Rattle.command_words.specs.declared.commands.Ties.TheVariants.{Choi, Cut}
 use Rattle.command_words.specs.Bounds.{most_of}
@@ -39,10 +40,11 @@ use Rattle.run_steps.specs.declared.placements.Placement.TheVariants.{Nodes, Qub
 use Rattle.run_steps.specs.declared.plans.Plan.{Plan}
 use Rattle.run_steps.specs.Placements.{ties_of, demand_of}
 use Rattle.run_steps.specs.Plans.{plan_of, nodes_in, StandsOn}
-use Rattle.run_steps.specs.Steps.{◌>>=◌, gives, checking, placing, planning, last_step, format_in}
-use Rattle.program_run.specs.Made.{bounded_cost, read_cost, IsExtendedBy, IsModelled, IsSolvedBy, IsTold, IsMadeText}
-use Rattle.program_run.specs.Answers.{EveryStateStands, Extends, IsAnswer, IsAskedOf, IsDecoded, IsExtended, IsLeastAsked, IsLeastExtension, IsLeastWhereWhole, IsModelFor, IsProved, IsSolved, TellsSource}
-use Rattle.run_steps.proofs.Stepping.{bound}
+use Rattle.run_steps.specs.Steps.{◌>>=◌, Last, Nothing, Bits, InOrder, bits_step, gives, checking, placing, planning, last_step, format_in}
+use Rattle.program_run.specs.Made.{bounded_cost, read_cost, IsExtendedBy, IsModelled, IsModelText, IsOfModel, IsSolvedBy, IsTold, IsMadeText}
+use Rattle.program_run.specs.Answers.{EveryStateStands, IsFirstBy, Extends, IsAnswer, IsAskedOf, IsDecoded, IsExtended, IsLeastAsked, IsLeastExtension, IsLeastWhereWhole, IsModelFor, IsProved, IsSolved, TellsSource}
+use Rattle.run_steps.proofs.Stepping.{bits_were, bound}
+use Rattle.program_run.proofs.Wanted.{costs_wanted, stands_wanted, wanted_names}
 use Rattle.program_run.proofs.Taken.{source_is_taken}
 use Rattle.program_run.proofs.Widths.{has_few_nodes}
 use Rattle.program_run.proofs.Asked.{IsProvedState, stated_width, proved_is, proved_least}
@@ -135,6 +137,12 @@ unscaled-le : (a v w : ℤ) → pos 1 ≤ℤ a → (a *ℤ v) ≤ℤ (a *ℤ w) 
 unscaled-le a v w p h =
     by_lt_z w v (λ lt. absurd (omega (arith, ints, times-lt a w v p lt, h))) (λ le. le)
 
+-- a first least state is a least one, whatever the order
+first_is_least : (order : Option (List ℕ)) (g : Form) (y : List Bool) → IsFirstBy order g y
+    → IsLeastState g y
+first_is_least None g y first = first.least
+first_is_least (Some order) g y first = first.least
+
 -- where every state stands for the source, one whose energy is the whole cost is a least one
 least_where_whole : (s : Source) (m : Written) (x state : List Bool)
     → Relaxes s.form (form_of m) (decoding_of m) m.unit m.figures → Extends s m x state
@@ -171,20 +179,22 @@ module _ (plan : Plan) (s : Source) (m : Written) (names : Option (List (List �
       ap (λ n. cut_off n (read_cost plan.read ((decoding_of m).decoded y))) has
       ∙ ap (cut_off most) (decoded_cost y w)
 
-  solved : (text : List ℕ) → IsSolvedBy plan.read m text → IsSolved s most names m text
-  solved text told =
+  solved : (order : Option (List ℕ)) (text : List ℕ) → IsSolvedBy order plan.read m text
+      → IsSolved order s most names m text
+  solved order text told =
       let x = (decoding_of m).decoded told.state in
       let value = energy (form_of m) told.state in
       let demand = demand_of plan.unit plan.base (nodes_in plan) in
+      let least = first_is_least order (form_of m) told.state told.first in
       record {
         state = told.state;
         first = told.first;
-        tells = tells_source (bounded most s) demand m told.state its.faithful told.first.least;
+        tells = tells_source (bounded most s) demand m told.state its.faithful least;
         said = told.said
             ∙ ap (λ (n : Option (List (List ℕ))). solution_text told.state value x n
             (bounded_cost plan.read x)) (sym named)
             ∙ ap (λ c. solution_text told.state value x names c)
-            (decoded_bounded told.state told.first.least.width);
+            (decoded_bounded told.state least.width);
       }
 
   proved : (bits : List Bool) (text : List ℕ) → IsProvedState m bits
@@ -276,23 +286,84 @@ module _ (plan : Plan) (s : Source) (m : Written) (names : Option (List (List �
             (costs.same x w);
       }
 
-  asked_of : (words : List (List ℕ)) (held : NamedFiles) (ask : Ask) (bits : List Bool)
-      (text : List ℕ) → (last_step words held ask plan m).end ≡ Some (Ok bits)
-      → IsTold ask plan.read plan.choices m bits text
-      → IsAskedOf ask s most names plan m bits text
-  asked_of words held Model bits text e told =
+  model_asked : (ask : Ask) (last : Last) (text : List ℕ) → IsModelText ask m text
+      → IsAskedOf ask s most names plan m last text
+  model_asked Model last text told =
       let formed = formed_on plan.base plan.choices plan.unit plan.read.variables
       plan.read.problem m made.stands in
       subst (λ t. IsTextOf m t) (sym told) (text_is_its m formed.0 formed.1)
-  asked_of words held Summary bits text e told = told
-  asked_of words held Solve bits text e told = solved text told
-  asked_of words held (Decode at) bits text e told =
+  model_asked Summary last text told = told
+  model_asked Size last text told = told
+  model_asked (Solve order) last text told = absurd told
+  model_asked (Decode at) last text told = absurd told
+  model_asked (Extend at) last text told = absurd told
+  model_asked (Prove state certificate) last text told = absurd told
+
+  bits_asked : (words : List (List ℕ)) (held : NamedFiles) (ask : Ask) (bits : List Bool)
+      (text : List ℕ) → (bits_step words held ask plan m).end ≡ Some (Ok bits)
+      → IsTold ask plan.read plan.choices m (Bits bits) text
+      → IsAskedOf ask s most names plan m (Bits bits) text
+  bits_asked words held Model bits text e told = absurd told
+  bits_asked words held Summary bits text e told = absurd told
+  bits_asked words held Size bits text e told = absurd told
+  bits_asked words held (Solve order) bits text e told = absurd told
+  bits_asked words held (Decode at) bits text e told =
       decoded bits text (stated_width held (text_at words at) m.nodes bits e) told
-  asked_of words held (Extend at) bits text e told =
+  bits_asked words held (Extend at) bits text e told =
       extended bits text
       (stated_width held (text_at words at) plan.read.variables bits e ∙ stands.variables) told
-  asked_of words held (Prove state certificate) bits text e told =
+  bits_asked words held (Prove state certificate) bits text e told =
       proved bits text (proved_is words held state certificate m bits e) told
+
+  -- what the step that reads bits gives
+  stepped : (words : List (List ℕ)) (held : NamedFiles) (ask : Ask) (last : Last) (text : List ℕ)
+      → (bits_step words held ask plan m >>= λ bits. gives (Bits bits)).end ≡ Some (Ok last)
+      → IsTold ask plan.read plan.choices m last text
+      → IsAskedOf ask s most names plan m last text
+  stepped words held ask last text e told =
+      let were = bits_were (bits_step words held ask plan m) last e in
+      subst (λ l. IsAskedOf ask s most names plan m l text) were.2
+      (bits_asked words held ask were.0 text were.1
+      (subst (λ l. IsTold ask plan.read plan.choices m l text) (sym were.2) told))
+
+  solved_asked : (order : Option WordAt) (last : Last) (text : List ℕ)
+      → IsTold (Solve order) plan.read plan.choices m last text
+      → IsAskedOf (Solve order) s most names plan m last text
+  solved_asked order Nothing text told = solved None text told
+  solved_asked order (InOrder nodes) text told = solved (Some nodes) text told
+  solved_asked order (Bits bits) text told = absurd told
+
+  alone_asked : (ask : Ask) (last : Last) (text : List ℕ) → IsOfModel ask → Nothing ≡ last
+      → IsTold ask plan.read plan.choices m last text
+      → IsAskedOf ask s most names plan m last text
+  alone_asked ask last text is nothing told =
+      subst (λ l. IsAskedOf ask s most names plan m l text) nothing
+      (model_asked ask Nothing text (told_alone ask is
+      (subst (λ l. IsTold ask plan.read plan.choices m l text) (sym nothing) told)))
+    where
+      told_alone : (a : Ask) → IsOfModel a → IsTold a plan.read plan.choices m Nothing text
+          → IsModelText a m text
+      told_alone Model is t = t
+      told_alone Summary is t = t
+      told_alone Size is t = t
+      told_alone (Solve order) is t = absurd is
+      told_alone (Decode at) is t = absurd is
+      told_alone (Extend at) is t = absurd is
+      told_alone (Prove state certificate) is t = absurd is
+
+  asked_of : (words : List (List ℕ)) (held : NamedFiles) (ask : Ask) (last : Last)
+      (text : List ℕ) → (last_step words held ask plan m).end ≡ Some (Ok last)
+      → IsTold ask plan.read plan.choices m last text
+      → IsAskedOf ask s most names plan m last text
+  asked_of words held Model last text e told = alone_asked Model last text tt (let two = e in cc) told
+  asked_of words held Summary last text e told =
+      alone_asked Summary last text tt (let two = e in cc) told
+  asked_of words held Size last text e told = alone_asked Size last text tt (let two = e in cc) told
+  asked_of words held (Solve order) last text e told = solved_asked order last text told
+  asked_of words held (Decode at) last text e told = stepped words held (Decode at) last text e told
+  asked_of words held (Extend at) last text e told = stepped words held (Extend at) last text e told
+  asked_of words held (Prove state certificate) last text e told =
+      stepped words held (Prove state certificate) last text e told
 
 -- ---- the answer
 
@@ -307,12 +378,15 @@ made_answers words held command plan text e made =
     let most = most_of command.bound in
     let s = problem_stands format taken.text taken.own taken.read in
     let m = made.model in
-    let costs = subst (CostsAs s.0) taken.bounded
-    (problem_costs format taken.text taken.own s.0 most taken.read s.1) in
-    let own_stands = subst (StandsFor (bounded most s.0)) taken.bounded (s.2 most) in
+    let costs = subst (CostsAs s.0) taken.given
+    (costs_wanted s.0 command taken.own
+    (λ bound. problem_costs format taken.text taken.own s.0 bound taken.read s.1)) in
+    let own_stands = subst (StandsFor (bounded most s.0)) taken.given
+    (stands_wanted s.0 command taken.own s.2) in
     let named : names_of format taken.text ≡ plan.read.names =
-    ap read_names taken.read ∙ ap (λ (r : Read). r.names) taken.bounded in
-    let has : plan.read.problem.most ≡ most = sym (ap (λ (r : Read). r.problem.most) taken.bounded) in
+    ap read_names taken.read ∙ sym (wanted_names command taken.own)
+    ∙ ap (λ (r : Read). r.names) taken.given in
+    let has : plan.read.problem.most ≡ most = sym (ap (λ (r : Read). r.problem.most) taken.given) in
     let stands =
     stands_on plan.base plan.choices plan.unit (bounded most s.0) plan.read m own_stands made.made.stands in
     record {
@@ -325,8 +399,8 @@ made_answers words held command plan text e made =
       stands = subst (λ u. IsModelFor plan.base u (nodes_in plan) (bounded most s.0) m) planned.unit
           stands;
       few = has_few_nodes plan m made.made.can_stand made.made.by made.made.stands;
-      bits = made.bits;
-      last = made.read;
+      last = made.last;
+      read = made.read;
       said = asked_of plan s.0 m (names_of format taken.text) made.made most has own_stands costs named
-          stands words held command.ask made.bits text made.read made.told;
+          stands words held command.ask made.last text made.read made.told;
     }

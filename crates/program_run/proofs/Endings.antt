@@ -5,13 +5,14 @@ use Rattle.bits_model.specs.Output.{Written}
 use Rattle.edge_io.specs.Counts.{Counts, Rose}
 use Rattle.edge_io.specs.Held.{NamedFiles}
 use Rattle.command_words.specs.declared.names.Which.{Which}
-use Rattle.command_words.specs.declared.commands.Command.{Command}
+use Rattle.command_words.specs.declared.commands.Request.{Request}
+use Rattle.command_words.specs.declared.commands.Request.TheVariants as requests
 use Rattle.run_steps.specs.declared.plans.Plan.{Plan}
 use Rattle.run_steps.specs.declared.status.Status.{Status}
 use Rattle.run_steps.specs.declared.status.Status.TheVariants.{Done, Usage, ReadFault, WriteFault, BadText, Limit, NotEmbedded, TooWide, NotProved, NoState, NoMemory}
-use Rattle.run_steps.specs.Statuses.{IsReading, IsDoneOrWant}
-use Rattle.run_steps.specs.Steps.{Steps, Refuses, planning, last_step}
-use Rattle.program_run.specs.Outcome.{OfModel, IsEndOf, IsEnd, Ends, IsOutcomeOf, MeetsOutcomeOf}
+use Rattle.run_steps.specs.Statuses.{IsReading, IsDoneOrWant, IsWriting}
+use Rattle.run_steps.specs.Steps.{Steps, Last, Refuses, planning, last_step}
+use Rattle.program_run.specs.Outcome.{AreFilesAsked, OfModel, IsEndOf, IsEnd, Ends, IsOutcomeOf, MeetsOutcomeOf}
 use Rattle.program_run.specs.Made.{IsModelled, EndsOf}
 use Rattle.run_steps.specs.Causes.{AreFiles}
 use Rattle.program_run.proofs.OneModel.{one_model}
@@ -19,7 +20,7 @@ use Rattle.program_run.proofs.OneModel.{one_model}
 -- ---- of a plan
 
 -- its last step refuses
-pub last_refuses : (status : Status) (plan : Plan) (last : Written → Steps (List Bool))
+pub last_refuses : (status : Status) (plan : Plan) (last : Written → Steps Last)
     (m : Written) → IsModelled plan m → IsReading status → Refuses status (last m)
     → EndsOf status plan last
 last_refuses (ReadFault which) plan last m made refusal is = (made.can_stand, (m, made.by, is))
@@ -38,14 +39,14 @@ last_refuses (NotProved fault) plan last m made refusal is =
     (made.can_stand, (m, made.by, is))
 
 -- all is done
-pub last_gives : (plan : Plan) (last : Written → Steps (List Bool)) (m : Written)
-    (bits : List Bool) → IsModelled plan m → (last m).end ≡ Some (Ok bits) → EndsOf Done plan last
-last_gives plan last m bits made e = (made.can_stand, (m, made.by, (bits, e)))
+pub last_gives : (plan : Plan) (last : Written → Steps Last) (m : Written)
+    (x : Last) → IsModelled plan m → (last m).end ≡ Some (Ok x) → EndsOf Done plan last
+last_gives plan last m x made e = (made.can_stand, (m, made.by, (x, e)))
 
 -- ---- of all steps
 
 -- the plan stands, and its end is that of all
-pub plan_ends : (status : Status) (plans : Steps Plan) (last : Plan → Written → Steps (List Bool))
+pub plan_ends : (status : Status) (plans : Steps Plan) (last : Plan → Written → Steps Last)
     (plan : Plan) → plans.end ≡ Some (Ok plan) → EndsOf status plan (last plan)
     → Ends status plans last
 plan_ends (ReadFault which) plans last plan e is = inr (rw e is)
@@ -66,19 +67,19 @@ both : {A : Type 0} (step : Option (Result A Status)) (x : A) (status : Status)
     → step ≡ Some (Ok x) → step ≡ Some (Err status) → ⊥
 both step x status e f = let same = sym e ∙ f in absurd cc
 
--- a plan's last step gives bits or refuses
-gives_or_refuses : (plan : Plan) (last : Written → Steps (List Bool)) (status : Status)
-    → OfModel plan (λ m. (bits : List Bool) × ((last m).end ≡ Some (Ok bits)))
+-- a plan's last step gives something or refuses
+gives_or_refuses : (plan : Plan) (last : Written → Steps Last) (status : Status)
+    → OfModel plan (λ m. (x : Last) × ((last m).end ≡ Some (Ok x)))
     → OfModel plan (λ m. (last m).end ≡ Some (Err status)) → ⊥
 gives_or_refuses plan last status done refused =
     let m = done.1.0 in
     let n = refused.1.0 in
     let same : m ≡ n = one_model plan m n done.1.1 refused.1.1 in
-    let bits = done.1.2.0 in
-    both (last n).end bits status
-    (subst (λ (w : Written). (last w).end ≡ Some (Ok bits)) same done.1.2.1) refused.1.2
+    let x = done.1.2.0 in
+    both (last n).end x status
+    (subst (λ (w : Written). (last w).end ≡ Some (Ok x)) same done.1.2.1) refused.1.2
 
-plan_done : (plan : Plan) (last : Written → Steps (List Bool)) (status : Status)
+plan_done : (plan : Plan) (last : Written → Steps Last) (status : Status)
     → IsEndOf plan last Done → IsEndOf plan last status → status ≡ Done
 plan_done plan last Done done is = refl
 plan_done plan last (NotEmbedded fault) done is = absurd (is.1 done.0)
@@ -100,14 +101,14 @@ plan_done plan last (NotProved fault) done is =
     absurd (gives_or_refuses plan last (NotProved fault) done is)
 
 -- where all is done, there is no other end
-pub one_end : (end : Option (Result Plan Status)) (last : Plan → Written → Steps (List Bool))
+pub one_end : (end : Option (Result Plan Status)) (last : Plan → Written → Steps Last)
     (status : Status) → IsEnd end last Done → IsEnd end last status → status ≡ Done
 one_end None last status done is = absurd done
 one_end (Some (Err refusal)) last status done is = is ∙ sym done
 one_end (Some (Ok plan)) last status done is = plan_done plan (last plan) status done is
 
 -- a status that is neither a fault nor want of memory is Done where all is done
-pub done_is_met : (plans : Steps Plan) (last : Plan → Written → Steps (List Bool))
+pub done_is_met : (plans : Steps Plan) (last : Plan → Written → Steps Last)
     (status : Status) → IsEnd plans.end last Done → Ends status plans last
     → ((which : Which) → status ≡ ReadFault which → ⊥) → (status ≡ WriteFault → ⊥)
     → IsDoneOrWant status
@@ -134,13 +135,28 @@ rose_since : (a b n : ℕ) → a ≤ b → Rose b n → Rose a n
 rose_since a b n le rose = omega (arith, le, rose)
 
 -- where no count of faults rose, the status is Done where the outcome is
-pub done_is_complete : (words : List (List ℕ)) (held : NamedFiles) (said : Result Command ℕ)
+pub done_is_complete : (words : List (List ℕ)) (held : NamedFiles) (said : Result Request ℕ)
     (status : Status) (old new : Counts) → MeetsOutcomeOf words held said status
-    → IfOk said (λ command. AreFiles words command status old new)
+    → IfOk said (λ request. AreFilesAsked words request status old new)
     → ¬ (Rose old.faults new.faults) → (status ≡ WriteFault → ⊥)
     → IsOutcomeOf words held said Done → IsDoneOrWant status
 done_is_complete words held (Err position) status old new meets files calm quiet done = absurd cc
-done_is_complete words held (Ok command) status old new meets files calm quiet done =
+done_is_complete words held (Ok (requests.Notice notice)) status old new meets files calm quiet done =
+    written status meets quiet
+  where
+    written : (s : Status) → IsWriting s → (s ≡ WriteFault → ⊥) → IsDoneOrWant s
+    written Done is no = tt
+    written WriteFault is no = absurd (no refl)
+    written NoMemory is no = absurd is
+    written (Usage position) is no = absurd is
+    written (ReadFault which) is no = absurd is
+    written (BadText which kind line) is no = absurd is
+    written (Limit which kind number) is no = absurd is
+    written (NotEmbedded fault) is no = absurd is
+    written (NoState width) is no = absurd is
+    written (TooWide node width) is no = absurd is
+    written (NotProved fault) is no = absurd is
+done_is_complete words held (Ok (requests.Command command)) status old new meets files calm quiet done =
     done_is_met (planning words held command) (last_step words held command.ask) status done meets
     (λ which is. let cause = subst (λ s. AreFiles words command s old new) is files in
     calm (rose_since old.faults new.faults_at_begin new.faults cause.3.later cause.3.rose)) quiet

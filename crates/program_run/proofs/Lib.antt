@@ -6,6 +6,7 @@ pub mod Embedded
 pub mod MadeModels
 pub mod Widths
 pub mod Stood
+pub mod Wanted
 pub mod Answering
 pub mod Asked
 pub mod Said

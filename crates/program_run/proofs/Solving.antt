@@ -1,5 +1,5 @@
 -- A model that is solved, or too wide.
-use Rattle.std.proofs.Common.{◌≡◌, ◌<◌, ◌≤◌, ℕ, zero, suc, Bool, true, false, List, [], Ok, Err, Some, None, refl, ap, subst, arith, inl}
+use Rattle.std.proofs.Common.{◌≡◌, ◌<◌, ◌≤◌, ℕ, zero, suc, Bool, true, false, List, [], Ok, Err, Some, None, refl, sym, ap, ◌∙◌, subst, arith, inl}
 use Rattle.std.specs.Prelude.{nat_lt}
 use Rattle.std.proofs.lemmas.Bool.{lt-ltb, le-ltb}
 use Rattle.bits_model.specs.Output.{Written}
@@ -8,14 +8,19 @@ use Rattle.edge_io.specs.Counts.{Counts}
 use Rattle.command_words.specs.declared.names.Which.{Which}
 use Rattle.run_steps.specs.declared.status.Status.{Status}
 use Rattle.run_steps.specs.declared.status.Status.TheVariants.{Done, Usage, ReadFault, WriteFault, BadText, Limit, NotEmbedded, TooWide, NotProved, NoState, NoMemory}
-use Rattle.run_steps.specs.Causes.{AreFilesOf}
+use Rattle.run_steps.specs.Causes.{AreFilesOf, AreRead}
 use Rattle.basic_solve.specs.declared.answer.SolveAnswer.{SolveAnswer}
 use Rattle.basic_solve.specs.declared.answer.SolveAnswer.TheVariants as solving
 use Rattle.run_steps.specs.declared.plans.Plan.{Plan}
 use Rattle.run_steps.specs.Statuses.{IsRefusal, IsUnsolved}
 use Rattle.program_run.specs.Made.{IsModelled, EndsOf}
 use Rattle.program_run.specs.Unembedded.{unsolved}
-use Rattle.run_steps.specs.Steps.{ends, wide_below, width_end}
+use Rattle.edge_io.specs.Held.{NamedFiles}
+use Rattle.command_words.specs.declared.commands.WordAt.{WordAt}
+use Rattle.command_words.specs.Names.{text_at}
+use Rattle.elimination_order.specs.Widths.{first_wide}
+use Rattle.run_steps.proofs.Stepping.{next_end, refuses_on}
+use Rattle.run_steps.specs.Steps.{Steps, Last, Nothing, InOrder, Refuses, ends, ordered, wide_below, width_end, solving as solving_steps}
 use Rattle.program_run.specs.Widths.{TheFirstWideNodeIsNamed}
 
 -- no node below this one is too wide
@@ -52,20 +57,55 @@ first_wide_node = record {
 }
 
 pub narrow_ends : (m : Written) → IsWithinWidth 16 m
-    → width_end (wide_below m m.nodes) ≡ Ok []
-narrow_ends m narrow = ap width_end (first_wide_node.none m narrow)
+    → (solving_steps [] [] None m).end ≡ Some (Ok Nothing)
+narrow_ends m narrow = ap (λ wide. Some (width_end Nothing wide)) (first_wide_node.none m narrow)
 
-pub wide_ends : (m : Written) (v w : ℕ) → IsFirstWider 16 m v w
-    → width_end (wide_below m m.nodes) ≡ Err (TooWide v w)
-wide_ends m v w wide = ap width_end (first_wide_node.first m v w wide)
+wide_ends : (m : Written) (v w : ℕ) → IsFirstWider 16 m v w
+    → (solving_steps [] [] None m).end ≡ Some (Err (TooWide v w))
+wide_ends m v w wide = ap (λ node. Some (width_end Nothing node)) (first_wide_node.first m v w wide)
 
 -- a model that is not solved ends the plan
-pub unsolved_ends : (plan : Plan) (m : Written) (answer : SolveAnswer) → IsModelled plan m
+pub unsolved_ends : (plan : Plan) (m : Written) (answer : SolveAnswer) (steps : Written → Steps Last)
+    → IsModelled plan m
+    → ((v w : ℕ) → answer ≡ solving.TooWide v w → (steps m).end ≡ Some (Err (TooWide v w)))
+    → EndsOf (unsolved answer) plan steps
+unsolved_ends plan m (solving.TooWide v w) steps made wide =
+    (made.can_stand, (m, made.by, wide v w refl))
+unsolved_ends plan m solving.NoMemory steps made wide = tt
+
+-- in the usual order
+pub unsolved_usually : (plan : Plan) (m : Written) (answer : SolveAnswer) → IsModelled plan m
     → ((v w : ℕ) → answer ≡ solving.TooWide v w → IsFirstWider 16 m v w)
-    → EndsOf (unsolved answer) plan (λ m. ends (width_end (wide_below m m.nodes)))
-unsolved_ends plan m (solving.TooWide v w) made wide =
-    (made.can_stand, (m, made.by, ap Some (wide_ends m v w (wide v w refl))))
-unsolved_ends plan m solving.NoMemory made wide = tt
+    → EndsOf (unsolved answer) plan (solving_steps [] [] None)
+unsolved_usually plan m answer made wide =
+    unsolved_ends plan m answer (solving_steps [] [] None) made
+    (λ v w is. wide_ends m v w (wide v w is))
+
+-- ---- in the order of a file
+
+module _ (words : List (List ℕ)) (held : NamedFiles) (at : WordAt) (m : Written) where
+  abbrev rest : List ℕ → Steps Last
+  rest order = ends (width_end (InOrder order) (first_wide 16 m [] order))
+
+  pub order_refuses : (status : Status)
+      → Refuses status (ordered held (text_at words at) m.nodes)
+      → Refuses status (solving_steps words held (Some at) m)
+  order_refuses status refused =
+      refuses_on status (ordered held (text_at words at) m.nodes) rest refused
+
+  module _ (order : List ℕ)
+      (e : (ordered held (text_at words at) m.nodes).end ≡ Some (Ok order)) where
+    pub order_gives : first_wide 16 m [] order ≡ None
+        → (solving_steps words held (Some at) m).end ≡ Some (Ok (InOrder order))
+    order_gives narrow =
+        next_end (ordered held (text_at words at) m.nodes) rest order e
+        ∙ ap (λ wide. Some (width_end (InOrder order) wide)) narrow
+
+    pub order_is_wide : (v w : ℕ) → first_wide 16 m [] order ≡ Some (v, w)
+        → (solving_steps words held (Some at) m).end ≡ Some (Err (TooWide v w))
+    order_is_wide v w wide =
+        next_end (ordered held (text_at words at) m.nodes) rest order e
+        ∙ ap (λ node. Some (width_end (InOrder order) node)) wide
 
 pub unsolved_is : (answer : SolveAnswer) → IsUnsolved (unsolved answer)
 unsolved_is (solving.TooWide v w) = tt
@@ -78,15 +118,16 @@ pub record IsUntold (name : Which → List ℕ) (taken : List Which) (status : S
   pub refusal : IsRefusal status
 
 pub unsolved_untold : (name : Which → List ℕ) (files : List Which) (status : Status) (a : Counts)
-    → IsUnsolved status → IsUntold name files status a
-unsolved_untold name files (NotEmbedded fault) a is = record { files = refl; refusal = tt }
-unsolved_untold name files (TooWide node width) a is = record { files = refl; refusal = tt }
-unsolved_untold name files NoMemory a is = record { files = inl refl; refusal = tt }
-unsolved_untold name files Done a is = absurd is
-unsolved_untold name files WriteFault a is = absurd is
-unsolved_untold name files (Usage position) a is = absurd is
-unsolved_untold name files (ReadFault which) a is = absurd is
-unsolved_untold name files (BadText which kind line) a is = absurd is
-unsolved_untold name files (Limit which kind number) a is = absurd is
-unsolved_untold name files (NoState width) a is = absurd is
-unsolved_untold name files (NotProved fault) a is = absurd is
+    → files ≡ [] → IsUnsolved status → IsUntold name files status a
+unsolved_untold name files (NotEmbedded fault) a none is = record { files = refl; refusal = tt }
+unsolved_untold name files (TooWide node width) a none is =
+    record { files = subst (λ l. AreRead name l a a) (sym none) refl; refusal = tt }
+unsolved_untold name files NoMemory a none is = record { files = inl refl; refusal = tt }
+unsolved_untold name files Done a none is = absurd is
+unsolved_untold name files WriteFault a none is = absurd is
+unsolved_untold name files (Usage position) a none is = absurd is
+unsolved_untold name files (ReadFault which) a none is = absurd is
+unsolved_untold name files (BadText which kind line) a none is = absurd is
+unsolved_untold name files (Limit which kind number) a none is = absurd is
+unsolved_untold name files (NoState width) a none is = absurd is
+unsolved_untold name files (NotProved fault) a none is = absurd is

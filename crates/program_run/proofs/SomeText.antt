@@ -1,5 +1,5 @@
 -- No answer is empty.
-use Rattle.std.proofs.Common.{◌≡◌, ◌≢◌, ℕ, Bool, List, [], ◌∷◌, ◌++◌, length, length-append, map, ℤ, pos, Option, sym, ap, ◌∙◌, arith}
+use Rattle.std.proofs.Common.{◌≡◌, ◌≢◌, ℕ, Bool, List, [], ◌∷◌, ◌++◌, length, length-append, map, ℤ, pos, Option, refl, sym, ap, ◌∙◌, arith}
 use Rattle.std.specs.Prelude.{codes, count_by}
 use Rattle.std.specs.List.{join_with_byte}
 use Rattle.base.specs.declared.costs.Cost.{Cost}
@@ -8,10 +8,12 @@ use Rattle.problem_form.specs.declared.limits.Choices.{Choices}
 use Rattle.model_text.specs.Rows.{Row, rows_text, figure_row, graph_rows, header_row, entry_row, model_text}
 use Rattle.model_text.specs.Summary.{summary_row, summary_text}
 use Rattle.answer_text.specs.Answers.{assignment_row, cost_row, decoding_text, energy_row, extension_text, name_rows, optimum_rows, proof_text, solution_text, state_row}
+use Rattle.answer_text.specs.Sizes.{greatest_size, least_size, size_rows, size_text}
 use Rattle.command_words.specs.declared.commands.Ask.{Ask}
-use Rattle.command_words.specs.declared.commands.Ask.TheVariants.{Model, Summary, Solve, Decode, Extend, Prove}
+use Rattle.command_words.specs.declared.commands.Ask.TheVariants.{Model, Summary, Size, Solve, Decode, Evaluate, Extend, Prove}
 use Rattle.source_texts.specs.declared.reading.Read.{Read}
-use Rattle.program_run.specs.Made.{IsTold}
+use Rattle.run_steps.specs.Steps.{Bits}
+use Rattle.program_run.specs.Made.{IsModelText, IsSolvedBy, IsTold}
 
 -- a row ends with a line feed
 some_rows : (row : Row) (rows : List Row) → rows_text (row ∷ rows) ≢ []
@@ -66,12 +68,41 @@ proof_some : (energy : ℤ) (x : List Bool) (names : Option (List (List ℕ))) (
     → proof_text energy x names cost ≢ []
 proof_some energy x names cost = some_rows (energy_row energy) (optimum_rows x names cost)
 
+-- a text begins with nothing where it is empty
+empty_front : (front rest : List ℕ) → front ++ rest ≡ [] → front ≡ []
+empty_front [] rest none = refl
+empty_front (byte ∷ front) rest none = absurd cc
+
+size_some : (m : Written) → size_text m ≢ []
+size_some m none =
+    summary_some m
+    (empty_front (summary_text m)
+    (rows_text (size_rows m.variables (least_size m.entries) (greatest_size m.entries))) none)
+
+-- what a model alone tells is some text
+pub model_text_some : (ask : Ask) (m : Written) (text : List ℕ) → IsModelText ask m text → text ≢ []
+model_text_some Model m text is = same_some text _ is (model_some m)
+model_text_some Summary m text is = same_some text _ is (summary_some m)
+model_text_some Size m text is = same_some text _ is (size_some m)
+model_text_some (Solve order) m text is = absurd is
+model_text_some (Decode at) m text is = absurd is
+model_text_some (Evaluate at) m text is = absurd is
+model_text_some (Extend at) m text is = absurd is
+model_text_some (Prove state certificate) m text is = absurd is
+
 -- what is asked of a model is told in some rows
-pub told_some : (ask : Ask) (read : Read) (choices : Choices) (m : Written) (bits : List Bool)
-    (text : List ℕ) → IsTold ask read choices m bits text → text ≢ []
-told_some Model read choices m bits text is = same_some text _ is (model_some m)
-told_some Summary read choices m bits text is = same_some text _ is (summary_some m)
-told_some Solve read choices m bits text is = same_some text _ is.said (solution_some _ _ _ _ _)
-told_some (Decode at) read choices m bits text is = same_some text _ is (decoding_some _ _ _ _)
-told_some (Extend at) read choices m bits text is = same_some text _ is.said (extension_some _ _ _)
-told_some (Prove state certificate) read choices m bits text is = same_some text _ is (proof_some _ _ _ _)
+pub solved_some : (order : Option (List ℕ)) (read : Read) (m : Written) (text : List ℕ)
+    → IsSolvedBy order read m text → text ≢ []
+solved_some order read m text is = same_some text _ is.said (solution_some _ _ _ _ _)
+
+pub bits_some : (ask : Ask) (read : Read) (choices : Choices) (m : Written) (bits : List Bool)
+    (text : List ℕ) → IsTold ask read choices m (Bits bits) text → text ≢ []
+bits_some Model read choices m bits text is = absurd is
+bits_some Summary read choices m bits text is = absurd is
+bits_some Size read choices m bits text is = absurd is
+bits_some (Solve order) read choices m bits text is = absurd is
+bits_some (Evaluate at) read choices m bits text is = absurd is
+bits_some (Decode at) read choices m bits text is = same_some text _ is (decoding_some _ _ _ _)
+bits_some (Extend at) read choices m bits text is = same_some text _ is.said (extension_some _ _ _)
+bits_some (Prove state certificate) read choices m bits text is =
+    same_some text _ is (proof_some _ _ _ _)

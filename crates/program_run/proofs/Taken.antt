@@ -4,18 +4,16 @@ use Rattle.std.specs.declared.option.Option.{Option}
 use Rattle.edge_io.specs.Held.{NamedFiles}
 use Rattle.whole_text.specs.declared.faults.TextFault.{TextFault}
 use Rattle.problem_form.specs.declared.limits.LimitFault.{LimitFault}
-use Rattle.problem_form.specs.NormalForm.{with_most}
 use Rattle.problem_form.specs.Limits.{limit_fault}
 use Rattle.command_words.specs.declared.names.Which.{Which}
 use Rattle.command_words.specs.declared.names.Which.TheVariants.{Source}
 use Rattle.command_words.specs.declared.commands.Origin.{Origin}
 use Rattle.command_words.specs.declared.commands.Origin.TheVariants.{File, Drawn}
 use Rattle.command_words.specs.declared.commands.Command.{Command}
-use Rattle.command_words.specs.Bounds.{most_of}
 use Rattle.command_words.specs.Names.{text_at}
 use Rattle.source_texts.specs.declared.reading.Read.{Read}
-use Rattle.source_texts.specs.Sources.{bounded_read, problem_of}
-use Rattle.run_steps.specs.Steps.{ends, text_end, limited, limits_end, format_in, sourcing, reading, checking}
+use Rattle.source_texts.specs.Sources.{problem_of}
+use Rattle.run_steps.specs.Steps.{ends, text_end, limited, limits_end, format_in, sourcing, reading, checking, wanted}
 use Rattle.program_run.specs.Answers.{IsTextIn}
 use Rattle.run_steps.proofs.Stepping.{bound}
 use Rattle.run_steps.proofs.TakenBytes.{taken_is_held}
@@ -37,14 +35,14 @@ sourced_is_held words held (File format at) text e =
     taken_is_held held Source (text_at words at) text e
 sourced_is_held words held (Drawn number clauses) text e = cc
 
--- the source's text is held or drawn, and is read into this problem, but for the bound
-pub record IsTaken (words : List (List ℕ)) (held : NamedFiles) (command : Command) (given : Read)
+-- the source's text is held or drawn, and what it is read into is this as the command wants it
+pub record IsTaken (words : List (List ℕ)) (held : NamedFiles) (command : Command) (made : Read)
     : Type 0 where
   pub text : List ℕ
   pub found : IsTextIn words held command.origin text
   pub own : Read
   pub read : problem_of (format_in command.origin) text ≡ Ok own
-  pub bounded : bounded_read (most_of command.bound) own ≡ given
+  pub given : wanted command own ≡ made
 
 pub source_is_taken : (words : List (List ℕ)) (held : NamedFiles) (command : Command) (read : Read)
     → (checking words held command).end ≡ Some (Ok read)
@@ -54,9 +52,8 @@ source_is_taken words held command read e =
     let origin = command.origin in
     let checked = bound (reading words held origin) (λ r. ends (limited command r)) read e in
     let within : limited command checked.0 ≡ Ok read = let two = checked.2 in cc in
-    let same = limits_keep Source (bounded_read (most_of command.bound) checked.0) read
-    (limit_fault command.choices.normal (with_most checked.0.problem (most_of command.bound)))
-    within in
+    let same = limits_keep Source (wanted command checked.0) read
+    (limit_fault command.choices.normal (wanted command checked.0).problem) within in
     let taken = bound (sourcing words held origin)
     (λ text. ends (text_end Source (problem_of (format_in origin) text))) checked.0 checked.1 in
     let said : text_end Source (problem_of (format_in origin) taken.0) ≡ Ok checked.0 =
@@ -66,5 +63,5 @@ source_is_taken words held command read e =
       found = sourced_is_held words held origin taken.0 taken.1;
       own = checked.0;
       read = text_is_read Source (problem_of (format_in origin) taken.0) checked.0 said;
-      bounded = same;
+      given = same;
     }

@@ -1,10 +1,10 @@
 -- What a command answers of the held files, and how the answer is delivered.
-use Rattle.std.specs.Prelude.{◌≡◌, ◌≢◌, ℕ, ◌+◌, ◌≤◌, ℤ, ◌+ℤ◌, ◌*ℤ◌, ◌≤ℤ◌, ◌<ℤ◌, Bool, List, [], length, Ok, Err, Some, None, Result, ⊤}
+use Rattle.std.specs.Prelude.{◌≡◌, ◌≢◌, ℕ, ◌+◌, ◌≤◌, ℤ, ◌+ℤ◌, ◌*ℤ◌, ◌≤ℤ◌, ◌<ℤ◌, Bool, List, [], length, reverse, Ok, Err, Some, None, Result, ⊤}
 use Rattle.std.specs.declared.option.Option.{Option}
 use Rattle.edge_io.specs.Held.{NamedFiles, find_file}
 use Rattle.edge_io.specs.Sinks.{Taken, Takes, TakesFront}
 use Rattle.base.specs.declared.unit.UnitChoice.{UnitChoice}
-use Rattle.base.specs.Costs.{Source, energy}
+use Rattle.base.specs.Costs.{Form, Source, energy}
 use Rattle.base.specs.declared.costs.Cost.TheVariants.{Whole}
 use Rattle.form_steps.specs.Relations.{Relaxes}
 use Rattle.bits_model.specs.Output.{Written, form_of, decoding_of}
@@ -24,20 +24,25 @@ use Rattle.command_words.specs.declared.commands.Origin.TheVariants.{File, Drawn
 use Rattle.command_words.specs.declared.commands.Ask.{Ask}
 use Rattle.command_words.specs.declared.commands.Ask.TheVariants as asks
 use Rattle.command_words.specs.declared.commands.Command.{Command}
-use Rattle.command_words.specs.Commands.{command_of}
+use Rattle.command_words.specs.declared.commands.Request.{Request}
+use Rattle.command_words.specs.declared.commands.Request.TheVariants as requests
+use Rattle.command_words.specs.Notices.{notice_text}
+use Rattle.command_words.specs.Commands.{request_of}
 use Rattle.command_words.specs.Bounds.{most_of}
 use Rattle.command_words.specs.Names.{text_at, files_of}
 use Rattle.command_words.specs.declared.names.Which.{Which}
 use Rattle.source_texts.specs.Sources.{source_of, names_of, bounded, carried}
 use Rattle.answer_text.specs.Answers.{decoding_text, extension_text, proof_text, solution_text}
+use Rattle.answer_text.specs.Sizes.{size_text}
 use Rattle.basic_solve.specs.FirstLeast.{IsFirstLeast}
+use Rattle.elimination_order.specs.Renumbered.{IsFirstLeastBy}
 use Rattle.faithful.specs.Told.{TellsOptimum, whole_energy}
 use Rattle.model_pipeline.specs.Extensions.{form_nodes, extension_of, state_on}
 use Rattle.run_steps.specs.declared.placements.Placement.{Placement}
 use Rattle.run_steps.specs.declared.plans.Plan.{Plan}
 use Rattle.run_steps.specs.Placements.{kind_of, ties_of, demand_of}
 use Rattle.run_steps.specs.Plans.{nodes_in, IsModelBy}
-use Rattle.run_steps.specs.Steps.{format_in, planning, last_step}
+use Rattle.run_steps.specs.Steps.{Last, Nothing, Bits, InOrder, format_in, planning, last_step}
 use Rattle.program_run.specs.declared.answers.Answer.{Answer}
 use Rattle.program_run.specs.declared.answers.Answer.TheVariants.{Model, Text}
 use Rattle.run_steps.specs.declared.status.Status.{Status}
@@ -133,12 +138,18 @@ pub record TellsSource (source : Source) (model : Written) (state : List Bool) :
   pub infeasible : model.figures.threshold <ℤ whole_energy model state
       → ¬ (IsFeasible source.form)
 
+-- the state is the first least one, where states are compared from node 0 on or, with an order, from
+-- its last node on
+abbrev pub IsFirstBy : Option (List ℕ) → Form → List Bool → Type 0
+IsFirstBy None g y = IsFirstLeast g y
+IsFirstBy (Some order) g y = IsFirstLeastBy (reverse order) g y
+
 -- the text is the first least state of the model, its energy, and what it decodes to with what that
 -- costs the bounded source, of which the state tells
-pub record IsSolved (source : Source) (most : Option ℤ) (names : Option (List (List ℕ)))
-    (model : Written) (text : List ℕ) : Type 0 where
+pub record IsSolved (order : Option (List ℕ)) (source : Source) (most : Option ℤ)
+    (names : Option (List (List ℕ))) (model : Written) (text : List ℕ) : Type 0 where
   pub state : List Bool
-  pub first : IsFirstLeast (form_of model) state
+  pub first : IsFirstBy order (form_of model) state
   pub tells : TellsSource (bounded most source) model state
   pub said : text ≡ solution_text state (energy (form_of model) state)
       ((decoding_of model).decoded state) names
@@ -154,26 +165,31 @@ pub record IsProved (source : Source) (most : Option ℤ) (names : Option (List 
       ((decoding_of model).decoded state) names
       ((bounded most source).form.cost ((decoding_of model).decoded state))
 
--- the text is what is asked: the model's own, its summary, its first least state, what a state
--- decodes to, what an assignment extends to, or what a state that is proved to be least tells; the
+-- the text is what is asked: the model's own, its summary, its size, its first least state, what a
+-- state decodes to, what an assignment extends to, or what a state that is proved to be least tells; the
 -- costs of what is decoded or extended are the source's own, and all else is said of the source with
 -- the bound
-abbrev pub IsAskedOf : Ask → Source → Option ℤ → Option (List (List ℕ)) → Plan → Written → List Bool
+abbrev pub IsAskedOf : Ask → Source → Option ℤ → Option (List (List ℕ)) → Plan → Written → Last
     → List ℕ → Type 0
-IsAskedOf asks.Model source most names plan model bits text = IsTextOf model text
-IsAskedOf asks.Summary source most names plan model bits text = text ≡ summary_text model
-IsAskedOf asks.Solve source most names plan model bits text = IsSolved source most names model text
-IsAskedOf (asks.Decode at) source most names plan model bits text =
+IsAskedOf asks.Model source most names plan model last text = IsTextOf model text
+IsAskedOf asks.Summary source most names plan model last text = text ≡ summary_text model
+IsAskedOf asks.Size source most names plan model last text = text ≡ size_text model
+IsAskedOf (asks.Solve at) source most names plan model Nothing text =
+    IsSolved None source most names model text
+IsAskedOf (asks.Solve at) source most names plan model (InOrder order) text =
+    IsSolved (Some order) source most names model text
+IsAskedOf (asks.Decode at) source most names plan model (Bits bits) text =
     IsDecoded source names model bits text
-IsAskedOf (asks.Extend at) source most names plan model bits text =
+IsAskedOf (asks.Extend at) source most names plan model (Bits bits) text =
     IsExtended source most plan model bits text
-IsAskedOf (asks.Prove state certificate) source most names plan model bits text =
+IsAskedOf (asks.Prove state certificate) source most names plan model (Bits bits) text =
     IsProved source most names model bits text
+IsAskedOf ask source most names plan model last text = ⊥
 
 -- ---- the answer
 
 -- the text answers the command: it is what is asked of the model that the command's plan makes of
--- its source, with the bits that are read once the model stands; the model stands for the source whose
+-- its source, with what is read once the model stands; the model stands for the source whose
 -- assignments may cost at most the command's bound, and its nodes are at most the problem's variables
 -- and the auxiliary bits
 pub record IsAnswer (words : List (List ℕ)) (held : NamedFiles) (command : Command) (text : List ℕ)
@@ -188,28 +204,30 @@ pub record IsAnswer (words : List (List ℕ)) (held : NamedFiles) (command : Com
       (bounded (most_of command.bound) source) model
   pub few : form_nodes model
       ≤ plan.read.problem.variables + auxiliary_bits plan.choices.normal plan.read.problem
-  pub bits : List Bool
-  pub last : (last_step words held command.ask plan model).end ≡ Some (Ok bits)
+  pub last : Last
+  pub read : (last_step words held command.ask plan model).end ≡ Some (Ok last)
   pub said : IsAskedOf command.ask source (most_of command.bound)
-      (names_of (format_in command.origin) from.text) plan model bits text
+      (names_of (format_in command.origin) from.text) plan model last text
 
--- the text is the answer to a command of the words
-abbrev pub IsAnswerIn : List (List ℕ) → NamedFiles → Result Command ℕ → List ℕ → Type 0
-IsAnswerIn words held (Ok command) text = IsAnswer words held command text
+-- the text is the answer to what is asked: what a notice says, or the answer to a command
+abbrev pub IsAnswerIn : List (List ℕ) → NamedFiles → Result Request ℕ → List ℕ → Type 0
+IsAnswerIn words held (Ok (requests.Notice notice)) text = text ≡ notice_text notice
+IsAnswerIn words held (Ok (requests.Command command)) text = IsAnswer words held command text
 IsAnswerIn words held (Err position) text = ⊥
 
 -- the text is the answer to the words
 abbrev pub IsAnswered : List (List ℕ) → NamedFiles → List ℕ → Type 0
-IsAnswered words held text = IsAnswerIn words held (command_of words) text
+IsAnswered words held text = IsAnswerIn words held (request_of words) text
 
--- the files that a command of the words takes
-abbrev pub files_asked : Result Command ℕ → List Which
-files_asked (Ok command) = files_of command
+-- the files that what is asked takes
+abbrev pub files_asked : Result Request ℕ → List Which
+files_asked (Ok (requests.Notice notice)) = []
+files_asked (Ok (requests.Command command)) = files_of command
 files_asked (Err position) = []
 
--- the files that the command of the words takes, or none where they ask for no command
+-- the files that what the words ask for takes
 abbrev pub files_in : List (List ℕ) → List Which
-files_in words = files_asked (command_of words)
+files_in words = files_asked (request_of words)
 
 -- ---- its delivery
 

@@ -4,14 +4,14 @@ use Rattle.std.specs.declared.option.Option.{Option}
 use Rattle.edge_io.specs.Counts.{Counts, Rose, none_yet}
 use Rattle.edge_io.specs.Held.{NamedFiles}
 use Rattle.edge_io.specs.Sinks.{Taken}
-use Rattle.command_words.specs.Commands.{command_of}
-use Rattle.run_steps.specs.Causes.{AreFiles, WhereHeld}
+use Rattle.command_words.specs.Commands.{request_of}
+use Rattle.run_steps.specs.Causes.{WhereHeld}
 use Rattle.run_steps.specs.declared.status.Status.{Status}
 use Rattle.run_steps.specs.declared.status.Status.TheVariants.{WriteFault}
 use Rattle.run_steps.specs.Statuses.{exit_number, IsUntaken, IsUsageOf, OnDone, OnWriting}
 use Rattle.program_run.specs.Answers.{files_in, Completes, DeliversAnswer, WritesText}
 use Rattle.program_run.specs.Lines.{error_line, name_said, IsSaid}
-use Rattle.program_run.specs.Outcome.{MeetsOutcome, NoFault}
+use Rattle.program_run.specs.Outcome.{AreFilesAsked, MeetsOutcome, NoFault}
 
 -- what the ends of a run tell: what the store of files counted, and of the output and the error
 -- output what they took and how often they failed
@@ -26,9 +26,9 @@ pub record Ends : Type 0 where
 -- before and after
 pub record IsRun (words : List (List ℕ)) (held : Option NamedFiles) (status : Status)
     (old new : Ends) : Type 0 where
-  pub usage : IsUsageOf status (command_of words)
-  pub files : IfOk (command_of words) (λ command.
-      AreFiles words command status old.files new.files)
+  pub usage : IsUsageOf status (request_of words)
+  pub files : IfOk (request_of words) (λ request.
+      AreFilesAsked words request status old.files new.files)
   pub outcome : WhereHeld held (files_in words) (λ held. MeetsOutcome words held status)
   pub complete : NoFault old.files new.files → ¬ (Rose old.out_faults new.out_faults)
       → Completes words held status

@@ -12,10 +12,11 @@ use Rattle.problem_form.specs.declared.limits.LimitKind.{LimitKind}
 use Rattle.problem_form.specs.declared.limits.LimitKind.TheVariants.{Bytes, Variables, Degree, Negations, Pairs, Weight}
 use Rattle.command_words.specs.declared.names.Which.{Which}
 use Rattle.command_words.specs.declared.names.Which.TheVariants.{Source, State}
-use Rattle.command_words.specs.declared.commands.Command.{Command}
+use Rattle.command_words.specs.declared.commands.Request.{Request}
+use Rattle.command_words.specs.declared.commands.Request.TheVariants as requests
 use Rattle.posiform_check.specs.declared.faults.ProofFault.{ProofFault}
 use Rattle.posiform_check.specs.declared.faults.ProofFault.TheVariants.{Negative, Differs, NotZero}
-use Rattle.command_words.specs.Commands.{command_of}
+use Rattle.command_words.specs.Commands.{request_of}
 use Rattle.command_words.specs.Names.{name_of}
 use Rattle.run_steps.specs.declared.status.Status.{Status}
 use Rattle.run_steps.specs.declared.status.Status.TheVariants.{Done, Usage, ReadFault, WriteFault, BadText, Limit, NotEmbedded, TooWide, NotProved, NoState, NoMemory}
@@ -28,14 +29,15 @@ file_in (Limit which kind number) = which
 file_in (NoState length) = State
 file_in _ = Source
 
--- the file's name in the line for a status of a command of the words
-abbrev pub name_in : List (List ℕ) → Result Command ℕ → Status → List ℕ
-name_in words (Ok command) status = name_of words command (file_in status)
+-- the file's name in the line for a status of what is asked
+abbrev pub name_in : List (List ℕ) → Result Request ℕ → Status → List ℕ
+name_in words (Ok (requests.Command command)) status = name_of words command (file_in status)
+name_in words (Ok (requests.Notice notice)) status = []
 name_in words (Err position) status = []
 
--- the same, for the command that the words ask for
+-- the same, for what the words ask for
 abbrev pub name_said : List (List ℕ) → Status → List ℕ
-name_said words status = name_in words (command_of words) status
+name_said words status = name_in words (request_of words) status
 
 -- the end of the line for a bad text
 abbrev pub kind_end : TextKind → List ℕ

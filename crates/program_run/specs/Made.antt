@@ -1,5 +1,5 @@
 -- What is answered once the model of a plan is made, in terms of the problem that was read.
-use Rattle.std.specs.Prelude.{◌≡◌, ℕ, Bool, List, Ok, Some, Contains, ⊤}
+use Rattle.std.specs.Prelude.{◌≡◌, ℕ, Bool, List, Ok, Option, Some, None, Contains, ⊤}
 use Rattle.base.specs.declared.costs.Cost.{Cost}
 use Rattle.base.specs.Costs.{energy}
 use Rattle.bits_model.specs.Output.{Written, form_of, decoding_of}
@@ -9,13 +9,13 @@ use Rattle.problem_form.specs.Problems as problems
 use Rattle.model_text.specs.Rows.{model_text}
 use Rattle.model_text.specs.Summary.{summary_text}
 use Rattle.answer_text.specs.Answers.{decoding_text, extension_text, proof_text, solution_text}
-use Rattle.basic_solve.specs.FirstLeast.{IsFirstLeast}
+use Rattle.answer_text.specs.Sizes.{size_text}
 use Rattle.model_pipeline.specs.declared.kept.Keeping.{Keeping}
 use Rattle.model_pipeline.specs.declared.kept.Keeping.TheVariants.{Unwanted, Wanted}
 use Rattle.model_pipeline.specs.Extensions.{extension_of, state_on, ExtendsTo, IsLeastTo, IsMadeOf}
 use Rattle.command_words.specs.declared.commands.Ties.TheVariants.{Choi}
 use Rattle.command_words.specs.declared.commands.Ask.{Ask}
-use Rattle.command_words.specs.declared.commands.Ask.TheVariants.{Model, Summary, Solve, Decode, Extend, Prove}
+use Rattle.command_words.specs.declared.commands.Ask.TheVariants.{Model, Summary, Size, Solve, Decode, Extend, Prove}
 use Rattle.source_texts.specs.declared.reading.Read.{Read}
 use Rattle.source_texts.specs.Sources.{carried}
 use Rattle.run_steps.specs.declared.plans.Plan.{Plan}
@@ -23,8 +23,9 @@ use Rattle.run_steps.specs.declared.status.Status.{Status}
 use Rattle.run_steps.specs.declared.status.Status.TheVariants.{Done, ReadFault, WriteFault, NoMemory}
 use Rattle.run_steps.specs.Placements.{ties_of}
 use Rattle.run_steps.specs.Plans.{CanStand, IsModelBy, Stands}
-use Rattle.run_steps.specs.Steps.{Steps, last_step}
+use Rattle.run_steps.specs.Steps.{Steps, Last, Nothing, Bits, InOrder, last_step}
 use Rattle.program_run.specs.Outcome.{OfModel, IsEndOf}
+use Rattle.program_run.specs.Answers.{IsFirstBy}
 use Rattle.edge_io.specs.Held.{NamedFiles}
 
 -- the model is that of the plan, which can stand, and stands for its problem, of which it was made
@@ -60,9 +61,10 @@ IsExtendedBy choices read m x text =
 
 -- the text is the first least state of the model, its energy, and what it decodes to with what that
 -- costs the problem, infinite above its most
-pub record IsSolvedBy (read : Read) (m : Written) (text : List ℕ) : Type 0 where
+pub record IsSolvedBy (order : Option (List ℕ)) (read : Read) (m : Written) (text : List ℕ)
+    : Type 0 where
   pub state : List Bool
-  pub first : IsFirstLeast (form_of m) state
+  pub first : IsFirstBy order (form_of m) state
   pub said : text ≡ solution_text state (energy (form_of m) state)
       ((decoding_of m).decoded state) read.names
       (bounded_cost read ((decoding_of m).decoded state))
@@ -81,36 +83,57 @@ least_text read m bits =
     proof_text (energy (form_of m) bits) ((decoding_of m).decoded bits) read.names
     (bounded_cost read ((decoding_of m).decoded bits))
 
--- the text is what is asked of the model
-abbrev pub IsTold : Ask → Read → Choices → Written → List Bool → List ℕ → Type 0
-IsTold Model read choices m bits text = text ≡ model_text m
-IsTold Summary read choices m bits text = text ≡ summary_text m
-IsTold Solve read choices m bits text = IsSolvedBy read m text
-IsTold (Decode at) read choices m bits text = text ≡ state_text read m bits
-IsTold (Extend at) read choices m bits text = IsExtendedBy choices read m bits text
-IsTold (Prove state certificate) read choices m bits text = text ≡ least_text read m bits
+-- what asks for the model, or for what the model alone tells
+abbrev pub IsOfModel : Ask → Type 0
+IsOfModel Model = ⊤
+IsOfModel Summary = ⊤
+IsOfModel Size = ⊤
+IsOfModel ask = ⊥
+
+-- the text of a model, its summary, or its size
+abbrev pub IsModelText : Ask → Written → List ℕ → Type 0
+IsModelText Model m text = text ≡ model_text m
+IsModelText Summary m text = text ≡ summary_text m
+IsModelText Size m text = text ≡ size_text m
+IsModelText ask m text = ⊥
+
+-- the text is what is asked of the model, with what is read last
+abbrev pub IsTold : Ask → Read → Choices → Written → Last → List ℕ → Type 0
+IsTold (Solve at) read choices m Nothing text = IsSolvedBy None read m text
+IsTold (Solve at) read choices m (InOrder order) text = IsSolvedBy (Some order) read m text
+IsTold (Decode at) read choices m (Bits bits) text = text ≡ state_text read m bits
+IsTold (Extend at) read choices m (Bits bits) text = IsExtendedBy choices read m bits text
+IsTold (Prove state certificate) read choices m (Bits bits) text = text ≡ least_text read m bits
+IsTold ask read choices m Nothing text = IsModelText ask m text
+IsTold ask read choices m last text = ⊥
 
 -- the steps of the model's form are wanted where an assignment is to be extended
 abbrev pub keeping_for : Ask → Keeping
 keeping_for (Extend at) = Wanted
 keeping_for ask = Unwanted
 
--- the text is what is asked of the plan's model, with the bits that are read last
-pub record IsMadeText (ask : Ask) (plan : Plan) (last : Written → Steps (List Bool))
+-- the text is what is asked of the plan's model alone
+pub record IsTextOfModelled (ask : Ask) (plan : Plan) (text : List ℕ) : Type 0 where
+  pub model : Written
+  pub made : IsModelled plan model
+  pub told : IsModelText ask model text
+
+-- the text is what is asked of the plan's model, with what is read last
+pub record IsMadeText (ask : Ask) (plan : Plan) (steps : Written → Steps Last)
     (text : List ℕ) : Type 0 where
   pub model : Written
   pub made : IsModelled plan model
-  pub bits : List Bool
-  pub read : (last model).end ≡ Some (Ok bits)
-  pub told : IsTold ask plan.read plan.choices model bits text
+  pub last : Last
+  pub read : (steps model).end ≡ Some (Ok last)
+  pub told : IsTold ask plan.read plan.choices model last text
 
--- the same, with the bits that a command of these words reads once the model of its plan stands
+-- the same, with what a command of these words reads once the model of its plan stands
 abbrev pub IsMadeTextOf : List (List ℕ) → NamedFiles → Ask → Plan → List ℕ → Type 0
 IsMadeTextOf words held ask plan text =
     IsMadeText ask plan (last_step words held ask plan) text
 
 -- the status is how a plan ends, unless it is a fault or want of memory
-abbrev pub EndsOf : Status → Plan → (Written → Steps (List Bool)) → Type 0
+abbrev pub EndsOf : Status → Plan → (Written → Steps Last) → Type 0
 EndsOf (ReadFault which) plan last = OfModel plan (λ m. Contains (last m).taken which)
 EndsOf NoMemory plan last = ⊤
 EndsOf WriteFault plan last = IsEndOf plan last Done

@@ -6,12 +6,15 @@ ghost use Rattle.command_words.specs.Names.{files_of, last_files};
 ghost use Rattle.source_texts.specs.Sources.{KeepsSoft};
 ghost use Rattle.run_steps.specs.Steps.{last_step};
 ghost use Rattle.program_run.specs.Outcome.{MeetsOutcomeOf};
-ghost use Rattle.program_run.specs.Made.{EndsOf, IsMadeTextOf};
+ghost use Rattle.program_run.specs.Made.{EndsOf, IsMadeTextOf, IsModelText, IsOfModel, IsTextOfModelled};
+ghost use Rattle.program_run.specs.Unembedded.{IsUnembedded};
 ghost use Rattle.run_steps.specs.Statuses.{ended, IsRefusal};
 ghost use Rattle.program_run.specs.Answers.{text_of, IsAnswer};
 ghost use Rattle.run_steps.specs.Causes.{AreFiles, AreFilesOf, WhereHeld, spelled, named_in};
 
-use crate::made::{answer_solved, answer_state, model_given};
+use crate::made::{answer_in_order, answer_solved, answer_state, model_given};
+use answer_text::written_size;
+use base::NoMemory;
 use bits_model::OutputModel;
 use command_words::{Ask, Command};
 use edge_io::Files;
@@ -24,6 +27,37 @@ use std::alloc::Global;
 pub enum Answer {
     Model(OutputModel),
     Text(Vec<u8>),
+}
+
+/// The text of a model or of what it tells, as an answer.
+fn told_of(alloc: Global, ask: Ask, model: OutputModel) -> Result<Answer, NoMemory>
+    requires { IsOfModel ask }
+    ensures told { IfOk result (λ answer. IsModelText ask model (text_of answer)) }
+    ensures some { IfOk result (λ answer. text_of answer ≢ []) }
+{
+    match ask {
+        Ask::Summary => Ok(Answer::Text(written_summary(alloc, &model)?)),
+        Ask::Size => Ok(Answer::Text(written_size(alloc, &model)?)),
+        _ => Ok(Answer::Model(model)),
+    }
+}
+
+/// What a command answers that asks for the model of its plan, or for what the model alone tells.
+fn answer_model(alloc: Global, ask: Ask, plan: Plan) -> Result<Answer, Status>
+    requires asked { IsOfModel ask }
+    requires within { limit_fault plan.choices.normal plan.read.problem ≡ None }
+    requires kept { KeepsSoft plan.read }
+    ensures made { IfOk result (λ answer. IsTextOfModelled ask plan (text_of answer)) }
+    ensures some { IfOk result (λ answer. text_of answer ≢ []) }
+    ensures refused { IfErr result (IsUnembedded plan) }
+{
+    match model_given(alloc, plan) {
+        Ok(model) => match told_of(alloc, ask, model) {
+            Ok(answer) => Ok(answer),
+            Err(_) => Err(Status::NoMemory),
+        },
+        Err(status) => Err(status),
+    }
 }
 
 /// What a command answers of the model of its plan.
@@ -46,22 +80,25 @@ fn answer_by<F: Files>(
     ensures refusal { IfErr result IsRefusal }
 {
     match command.ask {
-        Ask::Model => match model_given(alloc, plan) {
-            Ok(model) => Ok(Answer::Model(model)),
-            Err(status) => Err(status),
-        },
-        Ask::Summary => match model_given(alloc, plan) {
-            Ok(model) => match written_summary(alloc, &model) {
-                Ok(text) => Ok(Answer::Text(text)),
-                Err(_) => Err(Status::NoMemory),
-            },
-            Err(status) => Err(status),
-        },
-        Ask::Solve => {
+        Ask::Model | Ask::Summary | Ask::Size => {
+            match answer_model(alloc, command.ask, plan) {
+                Ok(answer) => Ok(answer),
+                Err(status) => Err(status),
+            }
+        }
+        Ask::Solve(None) => {
             let solved = answer_solved(alloc, &plan);
             // dropped in each arm, since others move it: else each end would ask whether it is there
             drop(plan);
             match solved {
+                Ok(text) => Ok(Answer::Text(text)),
+                Err(status) => Err(status),
+            }
+        }
+        Ask::Solve(Some(at)) => {
+            let ordered = answer_in_order(alloc, words, command, at, &plan, files);
+            drop(plan);
+            match ordered {
                 Ok(text) => Ok(Answer::Text(text)),
                 Err(status) => Err(status),
             }

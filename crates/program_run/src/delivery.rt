@@ -26,7 +26,7 @@ fn deliver_model<O: Sink>(model: &OutputModel, buffer: &mut LineBuffer, out: &mu
 }
 
 /// Writes a text that stands.
-fn deliver_text<O: Sink>(text: &[u8], out: &mut O) -> Status
+pub fn deliver_text<O: Sink>(text: &[u8], out: &mut O) -> Status
     ensures delivered { IsDelivered result (O.taken out.old) (O.taken out.new) text.now }
     ensures fault { result ≡ Status.WriteFault → Rose (O.faults out.old) (O.faults out.new) }
     ensures refused { OnRefusal result (out.new ≡ out.old) }

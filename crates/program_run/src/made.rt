@@ -1,14 +1,14 @@
 //! The answer of a command from the plan of its model: the model alone, or a state of it.
-ghost use Rattle.std.specs.Prelude.{◌≡◌, ◌≢◌, [], None, Some, length, IfOk, IfErr, OnOk};
+ghost use Rattle.std.specs.Prelude.{◌≡◌, ◌≢◌, ℕ, List, [], Option, None, Some, length, IfOk, IfErr, OnOk};
 ghost use Rattle.problem_form.specs.Limits.{limit_fault};
 ghost use Rattle.bits_model.specs.Output.{form_of};
-ghost use Rattle.basic_solve.specs.FirstLeast.{IsFirstLeast};
-ghost use Rattle.command_words.specs.Names.{last_files, state_of};
+ghost use Rattle.command_words.specs.Names.{last_files};
 ghost use Rattle.model_pipeline.specs.Extensions.{IsMade, IsMadeOf};
 ghost use Rattle.model_pipeline.specs.Kept.{Keeps};
 ghost use Rattle.source_texts.specs.Sources.{KeepsSoft};
 ghost use Rattle.run_steps.specs.Placements.{ties_of};
-ghost use Rattle.run_steps.specs.Steps.{ends, last_step, wide_below, width_end, asked_width};
+ghost use Rattle.run_steps.specs.Steps.{Bits, asked_width, bits_at, last_step, solving};
+ghost use Rattle.program_run.specs.Answers.{IsFirstBy};
 ghost use Rattle.program_run.specs.Made.{EndsOf, IsMadeText, IsModelled, IsSolvedBy, IsTold, IsMadeTextOf, keeping_for};
 ghost use Rattle.program_run.specs.Unembedded.{IsUnembedded, unsolved};
 ghost use Rattle.run_steps.specs.Statuses.{ended, IsRefusal, IsUnsolved};
@@ -23,8 +23,9 @@ use basic_solve::{SolveAnswer, solve};
 use bits_model::{OutputModel, energy_of};
 use command_words::{Ask, Command, WordAt};
 use edge_io::Files;
+use elimination_order::solve_by;
 use model_pipeline::Keeping;
-use run_steps::{Plan, Status, take_last};
+use run_steps::{Plan, Status, take_last, take_order};
 use source_texts::Read;
 use std::alloc::Global;
 
@@ -85,7 +86,7 @@ fn told(
     kept: &Keeping,
     bits: &[bool],
 ) -> Result<Vec<u8>, NoMemory>
-    requires asked { state_of ask ≡ None → ⊥ }
+    requires asked { bits_at ask ≡ None → ⊥ }
     requires within { limit_fault plan.now.choices.normal plan.now.read.problem ≡ None }
     requires soft { KeepsSoft plan.now.read }
     requires variables { model.now.variables ≡ plan.now.read.variables }
@@ -93,7 +94,7 @@ fn told(
     requires kept { Keeps plan.now.choices plan.now.read.problem (keeping_for ask) kept.now }
     requires width { length bits.now ≡ asked_width ask plan.now.read.variables model.now }
     ensures { IfOk result (λ text.
-        IsTold ask plan.now.read plan.now.choices model.now bits.now text.items) }
+        IsTold ask plan.now.read plan.now.choices model.now (Bits bits.now) text.items) }
 {
     match ask {
         Ask::Decode(_) => decoded_text(alloc, &plan.read, model, bits),
@@ -102,7 +103,7 @@ fn told(
             Keeping::Unwanted | Keeping::Wanted => unreachable!(),
         },
         Ask::Prove(..) => proved_text(alloc, &plan.read, model, bits),
-        Ask::Model | Ask::Summary | Ask::Solve => unreachable!(),
+        Ask::Model | Ask::Summary | Ask::Size | Ask::Solve(_) | Ask::Evaluate(_) => unreachable!(),
     }
 }
 
@@ -113,11 +114,12 @@ fn solved_text(
     model: &OutputModel,
     state: &[bool],
 ) -> Result<Vec<u8>, NoMemory>
-    requires state { IsFirstLeast (form_of model.now) state.now }
     requires width { length state.now ≡ model.now.nodes }
     requires variables { model.now.variables ≡ read.now.variables }
     requires kept { KeepsSoft read.now }
-    ensures { IfOk result (λ text. IsSolvedBy read.now model.now text.items) }
+    ensures { IfOk result (λ text. (order : Option (List ℕ))
+        → IsFirstBy order (form_of model.now) state.now
+        → IsSolvedBy order read.now model.now text.items) }
 {
     let x = decoded(alloc, model, state)?;
     let cost = bounded_cost(read, &x);
@@ -139,9 +141,9 @@ fn unsolved(answer: SolveAnswer) -> Status
 fn solved(alloc: Global, plan: &Plan, model: &OutputModel) -> Result<Vec<u8>, Status>
     requires kept { KeepsSoft plan.now.read }
     requires modelled { IsModelled plan.now model.now }
-    ensures step { EndsOf (ended result) plan.now (λ m. ends (width_end (wide_below m m.nodes))) }
-    ensures answer { IfOk result (λ text. IsMadeText Ask.Solve plan.now
-        (λ m. ends (width_end (wide_below m m.nodes))) text.items) }
+    ensures step { EndsOf (ended result) plan.now (solving [] [] None) }
+    ensures answer { IfOk result (λ text. IsMadeText (Ask.Solve None) plan.now
+        (solving [] [] None) text.items) }
     ensures some { IfOk result (λ text. text.items ≢ []) }
     ensures refusal { IfErr result IsUnsolved }
 {
@@ -159,15 +161,83 @@ fn solved(alloc: Global, plan: &Plan, model: &OutputModel) -> Result<Vec<u8>, St
 pub fn answer_solved(alloc: Global, plan: &Plan) -> Result<Vec<u8>, Status>
     requires within { limit_fault plan.now.choices.normal plan.now.read.problem ≡ None }
     requires kept { KeepsSoft plan.now.read }
-    ensures step { EndsOf (ended result) plan.now (λ m. ends (width_end (wide_below m m.nodes))) }
-    ensures answer { IfOk result (λ text. IsMadeText Ask.Solve plan.now
-        (λ m. ends (width_end (wide_below m m.nodes))) text.items) }
+    ensures step { EndsOf (ended result) plan.now (solving [] [] None) }
+    ensures answer { IfOk result (λ text. IsMadeText (Ask.Solve None) plan.now
+        (solving [] [] None) text.items) }
     ensures some { IfOk result (λ text. text.items ≢ []) }
     ensures refusal { IfErr result IsUnsolved }
 {
     let mut kept = Keeping::Unwanted;
     match model_lent(alloc, plan, &mut kept) {
         Ok(model) => solved(alloc, plan, &model),
+        Err(status) => Err(status),
+    }
+}
+
+/// Solves a model of a plan in the order of the file of this name, and says what its first least state
+/// tells.
+fn solved_in_order<F: Files>(
+    alloc: Global,
+    words: &[String],
+    command: Command,
+    at: WordAt,
+    plan: &Plan,
+    model: &OutputModel,
+    files: &mut F,
+) -> Result<Vec<u8>, Status>
+    requires asked { command.ask ≡ Ask.Solve (Some at) }
+    requires kept { KeepsSoft plan.now.read }
+    requires modelled { IsModelled plan.now model.now }
+    ensures step { WhereHeld (F.held files.old) (last_files command) (λ held.
+        EndsOf (ended result) plan.now
+        (last_step (spelled words.now) held command.ask plan.now)) }
+    ensures files { AreFilesOf (named_in words.now command) []
+        (last_files command) (ended result) (F.counts files.old) (F.counts files.new) }
+    ensures answer { IfOk result (λ text. WhereHeld (F.held files.old) (last_files command) (λ held.
+        IsMadeTextOf (spelled words.now) held command.ask plan.now text.items)) }
+    ensures some { IfOk result (λ text. text.items ≢ []) }
+    ensures refusal { IfErr result IsRefusal }
+{
+    let order = match take_order(alloc, words, command, at, model.nodes as usize, files) {
+        Ok(order) => order,
+        Err(status) => return Err(status),
+    };
+    let state = match solve_by(alloc, model, &order) {
+        Ok(state) => state,
+        Err(answer) => return Err(unsolved(answer)),
+    };
+    match solved_text(alloc, &plan.read, model, &state) {
+        Ok(text) => Ok(text),
+        Err(_) => Err(Status::NoMemory),
+    }
+}
+
+/// Solves the model of a plan in the order of the file of this name, and says what its first least
+/// state tells.
+pub fn answer_in_order<F: Files>(
+    alloc: Global,
+    words: &[String],
+    command: Command,
+    at: WordAt,
+    plan: &Plan,
+    files: &mut F,
+) -> Result<Vec<u8>, Status>
+    requires asked { command.ask ≡ Ask.Solve (Some at) }
+    requires within { limit_fault plan.now.choices.normal plan.now.read.problem ≡ None }
+    requires kept { KeepsSoft plan.now.read }
+    ensures step { WhereHeld (F.held files.old) (last_files command) (λ held.
+        EndsOf (ended result) plan.now
+        (last_step (spelled words.now) held command.ask plan.now)) }
+    ensures files { AreFilesOf (named_in words.now command) []
+        (last_files command) (ended result) (F.counts files.old) (F.counts files.new) }
+    ensures answer { IfOk result (λ text. WhereHeld (F.held files.old) (last_files command) (λ held.
+        IsMadeTextOf (spelled words.now) held command.ask plan.now text.items)) }
+    ensures some { IfOk result (λ text. text.items ≢ []) }
+    ensures refusal { IfErr result IsRefusal }
+{
+    let mut kept = Keeping::Unwanted;
+    match model_lent(alloc, plan, &mut kept) {
+        Ok(model) => solved_in_order(alloc, words, command, at, plan, &model, files),
         Err(status) => Err(status),
     }
 }
@@ -184,7 +254,7 @@ fn state_told<F: Files>(
     kept: &Keeping,
     files: &mut F,
 ) -> Result<Vec<u8>, Status>
-    requires asked { state_of command.ask ≡ Some at }
+    requires asked { bits_at command.ask ≡ Some at }
     requires within { limit_fault plan.now.choices.normal plan.now.read.problem ≡ None }
     requires soft { KeepsSoft plan.now.read }
     requires modelled { IsModelled plan.now model.now }
@@ -220,7 +290,7 @@ pub fn answer_state<F: Files>(
     plan: &Plan,
     files: &mut F,
 ) -> Result<Vec<u8>, Status>
-    requires asked { state_of command.ask ≡ Some at }
+    requires asked { bits_at command.ask ≡ Some at }
     requires within { limit_fault plan.now.choices.normal plan.now.read.problem ≡ None }
     requires kept { KeepsSoft plan.now.read }
     ensures step { WhereHeld (F.held files.old) (last_files command) (λ held.

@@ -1,17 +1,19 @@
 //! One run: the answer to a command, its delivery, and the line for the status.
 ghost use Rattle.std.specs.Prelude.{◌≡◌, ℕ, Ok, Err, IfOk, IfErr};
 ghost use Rattle.edge_io.specs.Counts.{Rose};
+ghost use Rattle.command_words.specs.declared.commands.Request.TheVariants as requests;
 ghost use Rattle.command_words.specs.Commands.{asked, HasFewClauses};
+ghost use Rattle.command_words.specs.Notices.{notice_text};
 ghost use Rattle.run_steps.specs.Statuses.{IsUsageOf, OnUsage, OnWriting, OnDone, OnRefusal};
-ghost use Rattle.program_run.specs.Outcome.{MeetsOutcome, NoFault};
-ghost use Rattle.run_steps.specs.Causes.{AreFiles, WhereHeld, spelled};
-ghost use Rattle.program_run.specs.Answers.{files_in, Completes, DeliversAnswer, WritesText};
+ghost use Rattle.program_run.specs.Outcome.{AreFilesAsked, MeetsOutcome, NoFault};
+ghost use Rattle.run_steps.specs.Causes.{WhereHeld, spelled};
+ghost use Rattle.program_run.specs.Answers.{files_in, Completes, DeliversAnswer, IsDelivered, WritesText};
 ghost use Rattle.program_run.specs.Lines.{error_line, name_in, name_said, file_in, IsSaid};
 
 use crate::answers::answer_to;
-use crate::delivery::deliver;
+use crate::delivery::{deliver, deliver_text};
 use crate::lines::say;
-use command_words::{Command, Which, command, name_of};
+use command_words::{Command, Notice, Request, Which, name_of, notice_text, request};
 use edge_io::{Files, LineBuffer, Sink};
 use run_steps::Status;
 use std::alloc::Global;
@@ -28,27 +30,38 @@ fn file_in(status: Status) -> Which
 }
 
 /// The file's name in the line for a status.
-fn name_in(words: &[String], asked: Result<Command, usize>, status: Status) -> &str
+fn name_in(words: &[String], asked: Result<Request, usize>, status: Status) -> &str
     ensures { result.now ≡ name_in (spelled words.now) asked status }
 {
     match asked {
-        Ok(command) => name_of(words, command, file_in(status)),
-        Err(_) => "",
+        Ok(Request::Command(command)) => name_of(words, command, file_in(status)),
+        Ok(Request::Notice(_)) | Err(_) => "",
     }
 }
 
-/// The command of the words, or the status of a usage fault. No allocator is at hand, so a usage
-/// fault takes no memory.
-fn command_asked(words: &[String]) -> Result<Command, Status>
-    ensures command { IfOk result (λ command. asked words.now ≡ Ok command) }
-    ensures few { IfOk result (λ command. HasFewClauses command.origin) }
+/// What the words ask for, or the status of a usage fault. No allocator is at hand, so a usage fault
+/// takes no memory.
+fn request_asked(words: &[String]) -> Result<Request, Status>
+    ensures request { IfOk result (λ request. asked words.now ≡ Ok request) }
+    ensures few { (command : Command) → result ≡ Ok (requests.Command command)
+        → HasFewClauses command.origin }
     ensures usage { IfErr result (λ status.
         (at : ℕ) × (status ≡ Status.Usage at) × (asked words.now ≡ Err at)) }
 {
-    match command(words) {
-        Ok(command) => Ok(command),
+    match request(words) {
+        Ok(request) => Ok(request),
         Err(position) => Err(Status::Usage(position)),
     }
+}
+
+/// Writes what a notice says. It takes no memory and no file.
+fn noticed<O: Sink>(notice: Notice, out: &mut O) -> Status
+    ensures delivered { IsDelivered result (O.taken out.old) (O.taken out.new)
+        (notice_text notice) }
+    ensures fault { result ≡ Status.WriteFault → Rose (O.faults out.old) (O.faults out.new) }
+    ensures refused { OnRefusal result (out.new ≡ out.old) }
+{
+    deliver_text(notice_text(notice).as_bytes(), out)
 }
 
 /// How a command of the words ends, with its answer written to `out`, before which the whole answer
@@ -60,12 +73,12 @@ fn carried_out<F: Files, O: Sink>(
     files: &mut F,
     out: &mut O,
 ) -> Status
-    requires same { asked words.now ≡ Ok command }
+    requires same { asked words.now ≡ Ok (requests.Command command) }
     requires few { HasFewClauses command.origin }
     ensures usage { IsUsageOf result (asked words.now) }
     ensures no_call { OnUsage result (files.new ≡ files.old) }
-    ensures files { IfOk (asked words.now) (λ command.
-        AreFiles (spelled words.now) command result
+    ensures files { IfOk (asked words.now) (λ request.
+        AreFilesAsked (spelled words.now) request result
         (F.counts files.old) (F.counts files.new)) }
     ensures write_fault { result ≡ Status.WriteFault
         → Rose (O.faults out.old) (O.faults out.new) }
@@ -101,8 +114,8 @@ pub fn answered<F: Files, O: Sink>(
     ensures no_call { OnUsage result (files.new ≡ files.old) }
 
     // Why a file was not read, how many were begun, and that no more was read.
-    ensures files { IfOk (asked words.now) (λ command.
-        AreFiles (spelled words.now) command result
+    ensures files { IfOk (asked words.now) (λ request.
+        AreFilesAsked (spelled words.now) request result
         (F.counts files.old) (F.counts files.new)) }
     ensures write_fault { result ≡ Status.WriteFault
         → Rose (O.faults out.old) (O.faults out.new) }
@@ -120,8 +133,9 @@ pub fn answered<F: Files, O: Sink>(
     ensures written { OnDone result (WritesText (O.taken out.old) (O.taken out.new)) }
     ensures refused { OnRefusal result (out.new ≡ out.old) }
 {
-    match command_asked(words) {
-        Ok(command) => carried_out(alloc, words, command, files, out),
+    match request_asked(words) {
+        Ok(Request::Command(command)) => carried_out(alloc, words, command, files, out),
+        Ok(Request::Notice(notice)) => noticed(notice, out),
         Err(status) => status,
     }
 }
@@ -138,8 +152,8 @@ pub fn run<F: Files, O: Sink, E: Sink>(
     ensures no_call { OnUsage result (files.new ≡ files.old) }
 
     // Why a file was not read, how many were begun, and that no more was read.
-    ensures files { IfOk (asked words.now) (λ command.
-        AreFiles (spelled words.now) command result
+    ensures files { IfOk (asked words.now) (λ request.
+        AreFilesAsked (spelled words.now) request result
         (F.counts files.old) (F.counts files.new)) }
     ensures write_fault { result ≡ Status.WriteFault
         → Rose (O.faults out.old) (O.faults out.new) }
@@ -162,6 +176,6 @@ pub fn run<F: Files, O: Sink, E: Sink>(
     ensures silent { OnDone result (err.new ≡ err.old) }
 {
     let status = answered(alloc, words, files, out);
-    say(status, name_in(words, command(words), status), err);
+    say(status, name_in(words, request(words), status), err);
     status
 }

@@ -1,5 +1,5 @@
 -- A certificate that is read, and a state that it proves or does not; the last step of a command.
-use Rattle.std.proofs.Common.{◌≡◌, ℕ, Bool, List, [], ◌++◌, Ok, Some, Result, sym, ap, ◌∙◌, subst}
+use Rattle.std.proofs.Common.{◌≡◌, ℕ, Bool, List, [], ◌++◌, Ok, Some, Result, refl, sym, ap, ◌∙◌, subst}
 use Rattle.edge_io.specs.Held.{NamedFiles}
 use Rattle.edge_io.specs.Counts.{Counts}
 use Rattle.bits_model.specs.Output.{Written}
@@ -8,16 +8,16 @@ use Rattle.posiform_check.specs.FirstFaults.{proof_fault}
 use Rattle.command_words.specs.declared.names.Which.{Which}
 use Rattle.command_words.specs.declared.commands.WordAt.{WordAt}
 use Rattle.command_words.specs.declared.commands.Ask.{Ask}
-use Rattle.command_words.specs.declared.commands.Ask.TheVariants.{Model, Summary, Solve, Decode, Extend, Prove}
-use Rattle.command_words.specs.Names.{state_of, text_at}
+use Rattle.command_words.specs.declared.commands.Ask.TheVariants.{Model, Summary, Size, Solve, Decode, Evaluate, Extend, Prove}
+use Rattle.command_words.specs.Names.{text_at}
 use Rattle.run_steps.specs.declared.plans.Plan.{Plan}
 use Rattle.run_steps.specs.declared.status.Status.{Status}
 use Rattle.run_steps.specs.declared.status.Status.TheVariants.{Done, Usage, ReadFault, WriteFault, BadText, Limit, NotEmbedded, TooWide, NotProved, NoState, NoMemory}
-use Rattle.run_steps.specs.Steps.{asked_width, Steps, ends, stating, certifying, certified, proving, proof_end, last_step, Refuses}
+use Rattle.run_steps.specs.Steps.{asked_width, bits_at, Steps, ends, stating, certifying, certified, proving, proof_end, ◌>>=◌, Last, Bits, bits_step, gives, last_step, Meets, Refuses}
 use Rattle.run_steps.specs.Statuses.{IsReading, IsUnproved}
 use Rattle.run_steps.specs.Causes.{AreRead, AreRefused, AreFilesOf}
 use Rattle.run_steps.proofs.FilesRead.{read_then, read_wanting, refused_then, wanting_then}
-use Rattle.run_steps.proofs.Stepping.{next_end, refuses_on, refuses_next}
+use Rattle.run_steps.proofs.Stepping.{bits_meet, next_end, refuses_on, refuses_next}
 
 module _ (held : NamedFiles) (name : List ℕ) (m : Written) (bits : List Bool) where
   abbrev pub judged : CertificateContent → Steps (List Bool)
@@ -95,7 +95,7 @@ then_last name first last (Usage position) a b c is some at = absurd is
 then_last name first last (NotEmbedded fault) a b c is some at = absurd is
 then_last name first last (TooWide node width) a b c is some at = absurd is
 
--- ---- the last step
+-- ---- the bits of a command
 
 module _ (words : List (List ℕ)) (held : NamedFiles) (plan : Plan) (m : Written) where
   abbrev pub rest : WordAt → List Bool → Steps (List Bool)
@@ -129,12 +129,14 @@ module _ (words : List (List ℕ)) (held : NamedFiles) (plan : Plan) (m : Writte
   proof_refuses_first state certificate status refused =
       refuses_on status (stating held (text_at words state) m.nodes) (rest certificate) refused
 
-  -- what refuses the bits refuses the last step
-  pub bits_refuse : (ask : Ask) (at : WordAt) (status : Status) → state_of ask ≡ Some at
-      → Refuses status (asked ask at) → Refuses status (last_step words held ask plan m)
+  -- what refuses the bits refuses the step that reads them
+  pub bits_refuse : (ask : Ask) (at : WordAt) (status : Status) → bits_at ask ≡ Some at
+      → Refuses status (asked ask at) → Refuses status (bits_step words held ask plan m)
   bits_refuse Model at status is refused = absurd cc
   bits_refuse Summary at status is refused = absurd cc
-  bits_refuse Solve at status is refused = absurd cc
+  bits_refuse Size at status is refused = absurd cc
+  bits_refuse (Solve order) at status is refused = absurd cc
+  bits_refuse (Evaluate states) at status is refused = absurd cc
   bits_refuse (Decode other) at status is refused =
       let same : at ≡ other = cc in
       subst (λ a. Refuses status (stating held (text_at words a) m.nodes)) same refused
@@ -148,10 +150,10 @@ module _ (words : List (List ℕ)) (held : NamedFiles) (plan : Plan) (m : Writte
 
   -- the bits were read, and a certificate is asked for
   module _ (ask : Ask) (at state certificate : WordAt) (is : ask ≡ Prove state certificate)
-      (from : state_of ask ≡ Some at) (bits : List Bool)
+      (from : bits_at ask ≡ Some at) (bits : List Bool)
       (e : (asked ask at).end ≡ Some (Ok bits)) where
     state_is : at ≡ state
-    state_is = let both = sym from ∙ ap state_of is in cc
+    state_is = let both = sym from ∙ ap bits_at is in cc
 
     given : (stating held (text_at words state) m.nodes).end ≡ Some (Ok bits)
     given =
@@ -160,14 +162,36 @@ module _ (words : List (List ℕ)) (held : NamedFiles) (plan : Plan) (m : Writte
 
     pub proof_gives : (end : Result (List Bool) Status)
         → (certified held (text_at words certificate) m bits).end ≡ Some end
-        → (last_step words held ask plan m).end ≡ Some end
+        → (bits_step words held ask plan m).end ≡ Some end
     proof_gives end f =
-        subst (λ k. (last_step words held k plan m).end ≡ Some end) (sym is)
+        subst (λ k. (bits_step words held k plan m).end ≡ Some end) (sym is)
         (proof_end_is state certificate bits end given f)
 
     pub proof_refused : (status : Status)
         → Refuses status (certified held (text_at words certificate) m bits)
-        → Refuses status (last_step words held ask plan m)
+        → Refuses status (bits_step words held ask plan m)
     proof_refused status refused =
-        subst (λ k. Refuses status (last_step words held k plan m)) (sym is)
+        subst (λ k. Refuses status (bits_step words held k plan m)) (sym is)
         (proof_refuses_next state certificate bits status given refused)
+
+  -- ---- what is read last
+
+  -- a command that asks for a state or an assignment reads its bits last
+  last_is : (ask : Ask) (at : WordAt) → bits_at ask ≡ Some at
+      → (bits_step words held ask plan m >>= λ bits. gives (Bits bits)) ≡ last_step words held ask plan m
+  last_is Model at is = absurd cc
+  last_is Summary at is = absurd cc
+  last_is Size at is = absurd cc
+  last_is (Solve order) at is = absurd cc
+  last_is (Evaluate states) at is = absurd cc
+  last_is (Decode other) at is = refl
+  last_is (Extend other) at is = refl
+  last_is (Prove other certificate) at is = refl
+
+  pub last_meets : {X : Type 0} (ask : Ask) (at : WordAt) → bits_at ask ≡ Some at
+      → (view : X → List Bool) (result : Result X Status)
+      → Meets view result (bits_step words held ask plan m)
+      → Meets (λ x. Bits (view x)) result (last_step words held ask plan m)
+  last_meets ask at is view result meets =
+      subst (λ (steps : Steps Last). Meets (λ x. Bits (view x)) result steps) (last_is ask at is)
+      (bits_meet view result (bits_step words held ask plan m) meets)

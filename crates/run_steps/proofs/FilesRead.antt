@@ -281,7 +281,7 @@ made_then name made last WriteFault a b c some read = read_then name made last a
 made_then name made last (Usage position) a b c some at = tt
 made_then name made last (NotEmbedded fault) a b c some same =
     subst (λ (n : Counts). AreRead name made a n) (sym same) some
-made_then name made last (TooWide node width) a b c some same =
-    subst (λ (n : Counts). AreRead name made a n) (sym same) some
+made_then name made last (TooWide node width) a b c some read =
+    read_then name made last a b c some read
 made_then name made last (NotProved fault) a b c some read =
     read_then name made last a b c some read

@@ -1,10 +1,10 @@
 -- Which files a store may hold.
-use Rattle.std.proofs.Common.{◌≡◌, ℕ, List, [], ◌∷◌, ◌++◌, append_assoc, Some, None, refl, sym, subst}
+use Rattle.std.proofs.Common.{◌≡◌, ℕ, List, [], ◌∷◌, ◌++◌, append_assoc, Some, None, refl, sym, ap, ◌∙◌, subst}
 use Rattle.std.specs.declared.option.Option.{Option}
 use Rattle.edge_io.specs.Held.{NamedFiles, WhereTold}
 use Rattle.edge_io.specs.Counts.{Counts}
 use Rattle.command_words.specs.declared.names.Which.{Which}
-use Rattle.command_words.specs.declared.names.Which.TheVariants.{Source, Dead, Map, State, Certificate}
+use Rattle.command_words.specs.declared.names.Which.TheVariants.{Source, Dead, Map, State, Certificate, Order}
 use Rattle.command_words.specs.declared.commands.Format.{Format}
 use Rattle.command_words.specs.declared.commands.WordAt.{WordAt}
 use Rattle.command_words.specs.declared.commands.Board.{Board}
@@ -12,9 +12,11 @@ use Rattle.command_words.specs.declared.commands.Origin.TheVariants.{File}
 use Rattle.command_words.specs.declared.commands.Target.TheVariants.{Chimera}
 use Rattle.command_words.specs.declared.commands.Chaining.TheVariants as chainings
 use Rattle.command_words.specs.declared.commands.Command.{Command}
-use Rattle.command_words.specs.Names.{text_at, name_of, state_of, certificate_of, if_named, model_files}
+use Rattle.command_words.specs.declared.commands.Ask.{Ask}
+use Rattle.command_words.specs.declared.commands.Ask.TheVariants.{Model, Summary, Size, Solve, Decode, Evaluate, Extend, Prove}
+use Rattle.command_words.specs.Names.{text_at, name_of, state_of, certificate_of, order_of, if_named, model_files, last_files}
 use Rattle.run_steps.specs.declared.status.Status.{Status}
-use Rattle.run_steps.specs.Causes.{MayHold, WhereHeld, AreRefused, IsRefusedBy, board_files}
+use Rattle.run_steps.specs.Causes.{MayHold, WhereHeld, AreRefused, IsRefusedBy, board_files, state_files}
 use Rattle.run_steps.proofs.FilesRead.{refused_alone}
 
 -- what may be held where all files are taken may be where the first ones are
@@ -95,6 +97,26 @@ pub has_certificate : (words : List (List ℕ)) (command : Command) (at : WordAt
     → (if_named command Certificate ≡ Certificate ∷ [])
     × (text_at words at ≡ name_of words command Certificate)
 has_certificate words command at is = (rw is refl, rw is refl)
+
+pub has_order : (words : List (List ℕ)) (command : Command) (at : WordAt)
+    → order_of command.ask ≡ Some at
+    → (if_named command Order ≡ Order ∷ []) × (text_at words at ≡ name_of words command Order)
+has_order words command at is = (rw is refl, rw is refl)
+
+-- a command that takes a state takes no order
+pub state_files_are : (command : Command) (at : WordAt) → state_of command.ask ≡ Some at
+    → state_files command ≡ last_files command
+state_files_are command at is = go command.ask refl
+  where
+    go : (ask : Ask) → command.ask ≡ ask → state_files command ≡ last_files command
+    go Model e = let none = sym is ∙ ap state_of e in absurd cc
+    go Summary e = let none = sym is ∙ ap state_of e in absurd cc
+    go Size e = let none = sym is ∙ ap state_of e in absurd cc
+    go (Solve order) e = let none = sym is ∙ ap state_of e in absurd cc
+    go (Decode state) e = rw e refl
+    go (Evaluate states) e = rw e refl
+    go (Extend assignment) e = rw e refl
+    go (Prove state certificate) e = rw e refl
 
 -- what is told of a file alone that a command takes
 pub of_named : (told : Option NamedFiles) (which : Which) (files : List Which)

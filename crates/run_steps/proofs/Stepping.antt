@@ -1,12 +1,12 @@
 -- Steps that are taken one after another.
-use Rattle.std.proofs.Common.{◌≡◌, List, Ok, Err, Some, None, Result, refl, ◌∙◌}
+use Rattle.std.proofs.Common.{◌≡◌, Bool, List, Ok, Err, Some, None, Result, refl, ◌∙◌}
 use Rattle.std.specs.declared.option.Option.{Option}
 use Rattle.std.specs.List.{Contains}
 use Rattle.std.proofs.lemmas.List.Elements.{Contains-append_left, Contains-append_right}
 use Rattle.command_words.specs.declared.names.Which.{Which}
 use Rattle.run_steps.specs.declared.status.Status.{Status}
 use Rattle.run_steps.specs.declared.status.Status.TheVariants.{Done, Usage, ReadFault, WriteFault, BadText, Limit, NotEmbedded, TooWide, NotProved, NoState, NoMemory}
-use Rattle.run_steps.specs.Steps.{Steps, go_on, ◌>>=◌, Meets, Refuses}
+use Rattle.run_steps.specs.Steps.{Steps, Last, Bits, go_on, gives, ◌>>=◌, Meets, Refuses}
 
 bound_on : {A B : Type 0} (taken : List Which) (end : Option (Result A Status)) (f : A → Steps B)
     (b : B) → (go_on taken end f).end ≡ Some (Ok b)
@@ -82,3 +82,19 @@ pub meets_next : {A B : Type 0} (result : Result B Status) (m : Steps A) (f : A 
     → m.end ≡ Some (Ok a) → Meets (λ b. b) result (f a) → Meets (λ b. b) result (m >>= f)
 meets_next (Ok x) m f a e meets = next_end m f a e ∙ meets
 meets_next (Err status) m f a e refused = refuses_next status m f a e refused
+
+-- ---- bits that are read last
+
+-- what is bits of a step is what is read last
+pub bits_meet : {X : Type 0} (view : X → List Bool) (result : Result X Status) (m : Steps (List Bool))
+    → Meets view result m → Meets (λ x. Bits (view x)) result (m >>= λ bits. gives (Bits bits))
+bits_meet view (Ok x) m meets = next_end m (λ bits. gives (Bits bits)) (view x) meets
+bits_meet view (Err status) m refused = refuses_on status m (λ bits. gives (Bits bits)) refused
+
+-- and what is read last is bits of the step
+pub bits_were : (m : Steps (List Bool)) (last : Last)
+    → (m >>= λ bits. gives (Bits bits)).end ≡ Some (Ok last)
+    → (bits : List Bool) × (m.end ≡ Some (Ok bits)) × (Bits bits ≡ last)
+bits_were m last e =
+    let two = bound m (λ bits. gives (Bits bits)) last e in
+    (two.0, two.1, let same = two.2 in cc)

@@ -7,7 +7,7 @@ use Rattle.edge_io.specs.Held.{NamedFiles}
 use Rattle.problem_form.specs.declared.limits.LimitKind.{LimitKind}
 use Rattle.problem_form.specs.declared.limits.LimitKind.TheVariants.{Bytes}
 use Rattle.command_words.specs.declared.names.Which.{Which}
-use Rattle.command_words.specs.declared.names.Which.TheVariants.{State, Dead, Map}
+use Rattle.command_words.specs.declared.names.Which.TheVariants.{Certificate, Dead, Map, State}
 use Rattle.command_words.specs.declared.commands.Command.{Command}
 use Rattle.command_words.specs.declared.commands.WordAt.{WordAt}
 use Rattle.command_words.specs.Names.{name_of, if_named, text_at, model_files, last_files}
@@ -32,6 +32,11 @@ named_in words command = name_of (spelled words) command
 -- the files that a command names for a graph: what of it is dead, and where chains stand
 abbrev pub board_files : Command → List Which
 board_files command = if_named command Dead ++ if_named command Map
+
+-- the files that a command takes once the model stands, but for an order: of a state or an assignment,
+-- and of a certificate
+abbrev pub state_files : Command → List Which
+state_files command = if_named command State ++ if_named command Certificate
 
 -- ---- one file
 
@@ -113,12 +118,12 @@ AreRefused name files NoMemory old new = AreWanting name files old new
 AreRefused name files status old new = ⊥
 
 -- what files tell at a status, where these are taken for a model, and those after it: one refused, or
--- those of the model were read where it is not embedded or too wide, and else all
+-- those of the model were read where it is not embedded, and else all
 abbrev pub AreFilesOf : (Which → List ℕ) → List Which → List Which → Status → Counts → Counts → Type 0
 AreFilesOf name made last Done old new = AreRead name (made ++ last) old new
 AreFilesOf name made last WriteFault old new = AreRead name (made ++ last) old new
 AreFilesOf name made last (NotEmbedded fault) old new = AreRead name made old new
-AreFilesOf name made last (TooWide node width) old new = AreRead name made old new
+AreFilesOf name made last (TooWide node width) old new = AreRead name (made ++ last) old new
 AreFilesOf name made last (NotProved fault) old new = AreRead name (made ++ last) old new
 AreFilesOf name made last (Usage position) old new = ⊤
 AreFilesOf name made last status old new = AreRefused name (made ++ last) status old new

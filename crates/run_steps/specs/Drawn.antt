@@ -4,11 +4,19 @@ use Rattle.problem_form.specs.declared.limits.Normal.{Normal}
 use Rattle.problem_form.specs.NormalForm.{with_most}
 use Rattle.problem_form.specs.Limits.{limit_fault}
 use Rattle.command_words.specs.declared.commands.Format.TheVariants.{Wcnf}
+use Rattle.command_words.specs.declared.commands.Command.{Command}
 use Rattle.sample_text.specs.Sample.{sample_text}
 use Rattle.source_texts.specs.declared.reading.Read.{Read}
 use Rattle.source_texts.specs.Sources.{problem_of}
+use Rattle.run_steps.specs.Steps.{wanted}
 
 -- the text is read into this problem, which passes no limit, whatever its assignments may cost
 pub record IsDrawnInto (number clauses : ℕ) (normal : Normal) (read : Read) : Type 0 where
   pub from : problem_of Wcnf (sample_text number clauses) ≡ Ok read
   pub within : (most : Option ℤ) → limit_fault normal (with_most read.problem most) ≡ None
+
+-- the problem is what a command wants of the one that the text is read into
+pub record IsDrawnFor (number clauses : ℕ) (command : Command) (read : Read) : Type 0 where
+  pub own : Read
+  pub from : problem_of Wcnf (sample_text number clauses) ≡ Ok own
+  pub given : read ≡ wanted command own

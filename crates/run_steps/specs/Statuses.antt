@@ -1,15 +1,15 @@
 -- What holds at one status.
 use Rattle.std.specs.Prelude.{◌≡◌, ℕ, Ok, Err, Result, ⊤}
-use Rattle.command_words.specs.declared.commands.Command.{Command}
+use Rattle.command_words.specs.declared.commands.Request.{Request}
 use Rattle.command_words.specs.declared.names.Which.{Which}
 use Rattle.run_steps.specs.declared.status.Status.{Status}
 use Rattle.run_steps.specs.declared.status.Status.TheVariants.{Done, Usage, ReadFault, WriteFault, BadText, Limit, NotEmbedded, TooWide, NotProved, NoState, NoMemory}
 
--- `Usage` comes exactly where the words are no command, and has the position
-abbrev pub IsUsageOf : Status → Result Command ℕ → Type 0
-IsUsageOf (Usage position) (Ok command) = ⊥
+-- `Usage` comes exactly where the words ask for nothing, and has the position
+abbrev pub IsUsageOf : Status → Result Request ℕ → Type 0
+IsUsageOf (Usage position) (Ok request) = ⊥
 IsUsageOf (Usage position) (Err at) = position ≡ at
-IsUsageOf status (Ok command) = ⊤
+IsUsageOf status (Ok request) = ⊤
 IsUsageOf status (Err at) = ⊥
 
 -- what holds at a usage fault
@@ -40,6 +40,12 @@ IsRefusal Done = ⊥
 IsRefusal WriteFault = ⊥
 IsRefusal (Usage position) = ⊥
 IsRefusal _ = ⊤
+
+-- the writing has begun
+abbrev pub IsWriting : Status → Type 0
+IsWriting Done = ⊤
+IsWriting WriteFault = ⊤
+IsWriting _ = ⊥
 
 -- the whole text was written, or memory was refused
 abbrev pub IsDoneOrWant : Status → Type 0

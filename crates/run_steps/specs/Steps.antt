@@ -5,12 +5,14 @@ use Rattle.std.specs.Option.{option_map_or}
 use Rattle.edge_io.specs.Held.{NamedFiles, find_file}
 use Rattle.bits_model.specs.Output.{Written}
 use Rattle.whole_text.specs.declared.faults.TextFault.{TextFault}
+use Rattle.whole_text.specs.declared.token.Style.{Style}
+use Rattle.whole_text.specs.declared.token.Style.TheVariants.{Plain}
+use Rattle.whole_text.specs.Tokens.{Word, tokens_of}
 use Rattle.problem_form.specs.declared.limits.LimitFault.{LimitFault}
 use Rattle.problem_form.specs.declared.limits.LimitKind.TheVariants.{Bytes}
-use Rattle.problem_form.specs.NormalForm.{with_most}
 use Rattle.problem_form.specs.Limits.{limit_fault, most_bytes}
 use Rattle.command_words.specs.declared.names.Which.{Which}
-use Rattle.command_words.specs.declared.names.Which.TheVariants.{Source, Dead, Map, State, Certificate}
+use Rattle.command_words.specs.declared.names.Which.TheVariants.{Source, Dead, Map, State, Certificate, Order}
 use Rattle.command_words.specs.declared.commands.Format.{Format}
 use Rattle.command_words.specs.declared.commands.Format.TheVariants.{Wcnf}
 use Rattle.command_words.specs.declared.commands.Origin.{Origin}
@@ -21,7 +23,9 @@ use Rattle.command_words.specs.declared.commands.Chaining.TheVariants as chainin
 use Rattle.command_words.specs.declared.commands.Target.{Target}
 use Rattle.command_words.specs.declared.commands.Target.TheVariants as targets
 use Rattle.command_words.specs.declared.commands.Ask.{Ask}
-use Rattle.command_words.specs.declared.commands.Ask.TheVariants.{Model, Summary, Solve, Decode, Extend, Prove}
+use Rattle.command_words.specs.declared.commands.Ask.TheVariants.{Model, Summary, Size, Solve, Decode, Evaluate, Extend, Prove}
+use Rattle.command_words.specs.declared.commands.Slack.{Slack}
+use Rattle.command_words.specs.declared.commands.Slack.TheVariants as slacks
 use Rattle.command_words.specs.declared.commands.WordAt.{WordAt}
 use Rattle.command_words.specs.declared.commands.Command.{Command}
 use Rattle.command_words.specs.Bounds.{most_of}
@@ -32,9 +36,11 @@ use Rattle.chain_map.specs.Maps as maps
 use Rattle.working_graph.specs.Working.{WorkingGraph}
 use Rattle.working_graph.specs.DeadLists.{working_of}
 use Rattle.source_texts.specs.declared.reading.Read.{Read}
-use Rattle.source_texts.specs.Sources.{bounded_read, problem_of}
-use Rattle.state_file.specs.States.{state_of}
+use Rattle.source_texts.specs.Sources.{bounded_read, cleared_read, problem_of}
+use Rattle.state_file.specs.States.{StateLine, state_of, states_of}
 use Rattle.basic_solve.specs.Widths.{width}
+use Rattle.elimination_order.specs.Orders.{order_of}
+use Rattle.elimination_order.specs.Widths.{first_wide}
 use Rattle.posiform_check.specs.declared.faults.ProofFault.{ProofFault}
 use Rattle.posiform_check.specs.BitForms.{CertificateContent}
 use Rattle.posiform_check.specs.Certificates.{certificate_fault}
@@ -95,6 +101,12 @@ taking held which name = record {
   end = option_map_or (λ bytes. Some (not_too_long which bytes)) (find_file held name) None;
 }
 
+-- and then its words in a style
+unfoldable pub cutting : NamedFiles → Which → List ℕ → Style → Steps (List Word)
+cutting held which name style = do
+  bytes ← taking held which name
+  gives (tokens_of style bytes)
+
 -- what a text is read into, or its fault
 abbrev pub text_end : {A : Type 0} → Which → Result A TextFault → Result A Status
 text_end which (Ok x) = Ok x
@@ -128,13 +140,22 @@ reading words held origin = do
   text ← sourcing words held origin
   ends (text_end Source (problem_of (format_in origin) text))
 
--- what is read with the bound of a command, within the limits
+-- what is read, with clauses in place of its conflicts where they shall not need slack bits
+abbrev pub slacked : Slack → Read → Read
+slacked slacks.Bits read = read
+slacked slacks.Pairs read = cleared_read read
+
+-- what is read as a command wants it: with or without conflicts, and with the command's bound
+abbrev pub wanted : Command → Read → Read
+wanted command read = bounded_read (most_of command.bound) (slacked command.slack read)
+
+-- the same, within the limits
 abbrev pub limited : Command → Read → Result Read Status
 limited command read =
-    limits_end Source (bounded_read (most_of command.bound) read)
-    (limit_fault command.choices.normal (with_most read.problem (most_of command.bound)))
+    limits_end Source (wanted command read)
+    (limit_fault command.choices.normal (wanted command read).problem)
 
--- and then giving it the command's bound, and checking its limits
+-- and then making it what the command wants, and checking its limits
 unfoldable pub checking : List (List ℕ) → NamedFiles → Command → Steps Read
 checking words held command = do
   read ← reading words held command.origin
@@ -193,16 +214,6 @@ stating held name width = do
   bytes ← taking held State name
   ends (state_end width (state_of width bytes))
 
--- the first node to be eliminated that is too wide, of the nodes below this one, with its width
-abbrev pub wide_below : Written → ℕ → Option (ℕ × ℕ)
-wide_below m zero = None
-wide_below m (suc v) = if nat_lt 16 (width m v) then Some (v, width m v) else wide_below m v
-
--- no node is too wide, or the first one that is
-abbrev pub width_end : Option (ℕ × ℕ) → Result (List Bool) Status
-width_end None = Ok []
-width_end (Some node) = Err (TooWide node.0 node.1)
-
 -- a certificate within its limits, for a model of so many nodes, read from the file of this name
 unfoldable pub certifying : NamedFiles → List ℕ → ℕ → Steps CertificateContent
 certifying held name nodes = do
@@ -227,15 +238,75 @@ proving words held state certificate m = do
   bits ← stating held (text_at words state) m.nodes
   certified held (text_at words certificate) m bits
 
--- what is read once the model stands: a state of it, an assignment of the source, or nothing; a
--- model to be solved may be too wide, and a state that is to be proved may not be
-abbrev pub last_step : List (List ℕ) → NamedFiles → Ask → Plan → Written → Steps (List Bool)
-last_step words held Model plan m = gives []
-last_step words held Summary plan m = gives []
-last_step words held Solve plan m = ends (width_end (wide_below m m.nodes))
-last_step words held (Decode at) plan m = stating held (text_at words at) m.nodes
-last_step words held (Extend at) plan m = stating held (text_at words at) plan.read.variables
-last_step words held (Prove state certificate) plan m = proving words held state certificate m
+-- the place of the name of a file of one state or of an assignment, whose bits are read once the model
+-- stands
+abbrev pub bits_at : Ask → Option WordAt
+bits_at (Decode at) = Some at
+bits_at (Extend at) = Some at
+bits_at (Prove state certificate) = Some state
+bits_at ask = None
+
+-- the bits that are read once the model stands: of a state of it, which a certificate may have to
+-- prove, or of an assignment of the source
+abbrev pub bits_step : List (List ℕ) → NamedFiles → Ask → Plan → Written → Steps (List Bool)
+bits_step words held (Decode at) plan m = stating held (text_at words at) m.nodes
+bits_step words held (Extend at) plan m = stating held (text_at words at) plan.read.variables
+bits_step words held (Prove state certificate) plan m = proving words held state certificate m
+bits_step words held ask plan m = gives []
+
+-- an order of so many nodes, read from the file of this name
+unfoldable pub ordered : NamedFiles → List ℕ → ℕ → Steps (List ℕ)
+ordered held name nodes = do
+  ws ← cutting held Order name Plain
+  ends (text_end Order (order_of nodes ws))
+
+-- the first node to be eliminated that is too wide, of the nodes below this one, with its width
+abbrev pub wide_below : Written → ℕ → Option (ℕ × ℕ)
+wide_below m zero = None
+wide_below m (suc v) = if nat_lt 16 (width m v) then Some (v, width m v) else wide_below m v
+
+-- what is read once the model stands: nothing, bits, an order of its nodes, or states with the numbers
+-- of their lines
+pub data Last : Type 0 where
+  Nothing : Last
+  Bits : List Bool → Last
+  InOrder : List ℕ → Last
+  Several : List StateLine → Last
+
+-- no node is too wide, or the first one that is
+abbrev pub width_end : Last → Option (ℕ × ℕ) → Result Last Status
+width_end last None = Ok last
+width_end last (Some node) = Err (TooWide node.0 node.1)
+
+-- a model to be solved is not too wide, in the order from the last node to the first or in that of the
+-- file that is named
+abbrev pub solving : List (List ℕ) → NamedFiles → Option WordAt → Written → Steps Last
+solving words held None m = ends (width_end Nothing (wide_below m m.nodes))
+solving words held (Some at) m = do
+  order ← ordered held (text_at words at) m.nodes
+  ends (width_end (InOrder order) (first_wide 16 m [] order))
+
+-- all states that a text has, or that it has none
+abbrev pub states_end : ℕ → List StateLine → Result Last Status
+states_end width [] = Err (NoState width)
+states_end width (state ∷ states) = Ok (Several (state ∷ states))
+
+-- all states of so many bits, read from the file of this name
+unfoldable pub scanning : NamedFiles → List ℕ → ℕ → Steps Last
+scanning held name width = do
+  bytes ← taking held State name
+  ends (states_end width (states_of width bytes))
+
+-- what is read once the model stands
+abbrev pub last_step : List (List ℕ) → NamedFiles → Ask → Plan → Written → Steps Last
+last_step words held Model plan m = gives Nothing
+last_step words held Summary plan m = gives Nothing
+last_step words held Size plan m = gives Nothing
+last_step words held (Solve order) plan m = solving words held order m
+last_step words held (Evaluate at) plan m = scanning held (text_at words at) m.nodes
+last_step words held ask plan m = do
+  bits ← bits_step words held ask plan m
+  gives (Bits bits)
 
 -- how many bits are read of a state or of an assignment
 abbrev pub asked_width : Ask → ℕ → Written → ℕ

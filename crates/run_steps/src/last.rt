@@ -2,10 +2,10 @@
 //! assignment of its source.
 ghost use Rattle.std.specs.Prelude.{◌≡◌, ◌≤◌, ◌^◌, [], Some, length, IfOk, IfErr};
 ghost use Rattle.bits_model.specs.Output.{weight_total};
-ghost use Rattle.command_words.specs.Names.{last_files, state_of};
-ghost use Rattle.run_steps.specs.Steps.{last_step, asked_width};
+ghost use Rattle.command_words.specs.Names.{last_files};
+ghost use Rattle.run_steps.specs.Steps.{Bits, asked_width, bits_at, bits_step, last_step};
 ghost use Rattle.run_steps.specs.Statuses.{ended, IsReading};
-ghost use Rattle.run_steps.specs.Causes.{AreFilesOf, MeetsHeld, named_in, spelled};
+ghost use Rattle.run_steps.specs.Causes.{AreFilesOf, MeetsHeld, named_in, spelled, state_files};
 
 use crate::certificates::take_proof;
 use crate::plans::Plan;
@@ -27,8 +27,9 @@ fn width_of(ask: Ask, read: &Read, model: &OutputModel) -> usize
     }
 }
 
-/// Takes the files that come after a model, and reads the bits that a command asks for.
-pub fn take_last<F: Files>(
+/// Takes the files of a state or an assignment and of a certificate, and reads the bits that a command
+/// asks for.
+fn take_asked<F: Files>(
     alloc: Global,
     words: &[String],
     command: Command,
@@ -37,15 +38,15 @@ pub fn take_last<F: Files>(
     model: &OutputModel,
     files: &mut F,
 ) -> Result<Vec<bool>, Status>
-    requires asked { state_of command.ask ≡ Some at }
+    requires asked { bits_at command.ask ≡ Some at }
     requires small { weight_total model.now.entries ≤ 2 ^ 121 }
-    ensures step { MeetsHeld (F.held files.old) (last_files command)
+    ensures step { MeetsHeld (F.held files.old) (state_files command)
         (λ bits. bits.items) result
-        (λ held. last_step (spelled words.now) held command.ask plan.now model.now) }
+        (λ held. bits_step (spelled words.now) held command.ask plan.now model.now) }
     ensures width { IfOk result (λ bits.
         length bits.items ≡ asked_width command.ask plan.now.read.variables model.now) }
     ensures files { AreFilesOf (named_in words.now command) []
-        (last_files command) (ended result) (F.counts files.old) (F.counts files.new) }
+        (state_files command) (ended result) (F.counts files.old) (F.counts files.new) }
     ensures refusal { IfErr result IsReading }
 {
     let width = width_of(command.ask, &plan.read, model);
@@ -59,5 +60,32 @@ pub fn take_last<F: Files>(
             Err(status) => Err(status),
         },
         _ => Ok(bits),
+    }
+}
+
+/// Takes the files that come after a model, and reads the bits that a command asks for.
+pub fn take_last<F: Files>(
+    alloc: Global,
+    words: &[String],
+    command: Command,
+    at: WordAt,
+    plan: &Plan,
+    model: &OutputModel,
+    files: &mut F,
+) -> Result<Vec<bool>, Status>
+    requires asked { bits_at command.ask ≡ Some at }
+    requires small { weight_total model.now.entries ≤ 2 ^ 121 }
+    ensures step { MeetsHeld (F.held files.old) (last_files command)
+        (λ bits. Bits bits.items) result
+        (λ held. last_step (spelled words.now) held command.ask plan.now model.now) }
+    ensures width { IfOk result (λ bits.
+        length bits.items ≡ asked_width command.ask plan.now.read.variables model.now) }
+    ensures files { AreFilesOf (named_in words.now command) []
+        (last_files command) (ended result) (F.counts files.old) (F.counts files.new) }
+    ensures refusal { IfErr result IsReading }
+{
+    match take_asked(alloc, words, command, at, plan, model, files) {
+        Ok(bits) => Ok(bits),
+        Err(status) => Err(status),
     }
 }

@@ -4,6 +4,7 @@
 mod certificates;
 mod cut;
 mod last;
+mod orders;
 mod placements;
 mod plans;
 mod sources;
@@ -12,6 +13,8 @@ mod status;
 mod steps;
 
 pub use last::take_last;
+pub use orders::take_order;
 pub use placements::Placement;
 pub use plans::{Plan, take_plan};
+pub use states::take_states;
 pub use status::Status;

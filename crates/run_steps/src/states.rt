@@ -1,8 +1,9 @@
 //! A state of a model or an assignment of a source, read from a file.
-ghost use Rattle.std.specs.Prelude.{◌≡◌, Some, length, IfOk, OnOk, IfErr};
+ghost use Rattle.std.specs.Prelude.{◌≡◌, ◌≤◌, ◌^◌, Some, length, IfOk, OnOk, IfErr};
+ghost use Rattle.command_words.specs.declared.commands.Ask.TheVariants as asks;
 ghost use Rattle.edge_io.specs.Held.{WhereTold};
-ghost use Rattle.command_words.specs.Names.{if_named, state_of, text_at};
-ghost use Rattle.run_steps.specs.Steps.{Meets, stating, EndsState};
+ghost use Rattle.command_words.specs.Names.{if_named, last_files, state_of, text_at};
+ghost use Rattle.run_steps.specs.Steps.{Meets, stating, taking, EndsState};
 ghost use Rattle.run_steps.specs.Statuses.{IsReading, IsStateRefusal};
 ghost use Rattle.run_steps.specs.Causes.{AreRead, AreRefused, IsReadTo, IsRefusedBy, MeetsHeld, named_in, spelled_at};
 
@@ -72,6 +73,32 @@ pub fn take_state<F: Files>(
 {
     match take_bits(alloc, text_at(words, at), width, files) {
         Ok(bits) => Ok(bits),
+        Err(status) => Err(status),
+    }
+}
+
+/// Takes the bytes of the file of a command's states.
+pub fn take_states<F: Files>(
+    alloc: Global,
+    words: &[String],
+    command: Command,
+    at: WordAt,
+    files: &mut F,
+) -> Result<Vec<u8>, Status>
+    requires { command.ask ≡ asks.Evaluate at }
+    ensures step { MeetsHeld (F.held files.old) (last_files command)
+        (λ bytes. bytes.items) result
+        (λ held. taking held Which.State (spelled_at words.now at)) }
+    ensures short { IfOk result (λ bytes. length bytes.items ≤ 2 ^ 24) }
+    ensures passed { OnOk result (AreRead (named_in words.now command)
+        (last_files command) (F.counts files.old) (F.counts files.new)) }
+    ensures refused { IfErr result (λ status. AreRefused
+        (named_in words.now command) (last_files command) status
+        (F.counts files.old) (F.counts files.new)) }
+    ensures refusal { IfErr result IsReading }
+{
+    match take_bytes(alloc, text_at(words, at), Which::State, files) {
+        Ok(bytes) => Ok(bytes),
         Err(status) => Err(status),
     }
 }

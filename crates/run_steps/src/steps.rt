@@ -6,9 +6,9 @@ ghost use Rattle.whole_text.specs.TokenTexts.{words_of};
 ghost use Rattle.whole_text.specs.Steps.{Gives};
 ghost use Rattle.source_texts.specs.declared.reading.Read.{Read};
 ghost use Rattle.source_texts.specs.Sources.{KeepsSoft};
-ghost use Rattle.run_steps.specs.Steps.{Meets, ends, text_end, taking};
+ghost use Rattle.run_steps.specs.Steps.{Meets, cutting, ends, text_end, taking};
 ghost use Rattle.run_steps.specs.Statuses.{IsTextRefusal};
-ghost use Rattle.run_steps.specs.Cut.{cutting, reading_file};
+ghost use Rattle.run_steps.specs.Cut.{reading_file};
 ghost use Rattle.run_steps.specs.Causes.{IsReadTo, IsRefusedBy};
 
 use crate::cut::read_words;
@@ -21,8 +21,8 @@ use std::alloc::Global;
 use whole_text::{Style, TextAnswer, TokenText};
 
 /// Takes a file of this name, and cuts it into words as it comes, in a style.
-#[tactic(auto, unfolding(crate::specs::Cut::cutting))]
-fn take_words<F: Files>(
+#[tactic(auto, unfolding(crate::specs::Steps::cutting))]
+pub fn take_words<F: Files>(
     alloc: Global,
     name: &str,
     which: Which,

@@ -1,16 +1,15 @@
-use Rattle.std.proofs.Common.{[], Err, Some, ap}
-use Rattle.command_words.specs.declared.commands.Ask.TheVariants.{Solve}
-use Rattle.run_steps.specs.Steps.{ends, wide_below, width_end}
+use Rattle.std.proofs.Common.{[], Err, None, ap}
+use Rattle.run_steps.specs.Steps.{Nothing, solving}
 use Rattle.program_run.proofs.Endings.{last_gives}
 use Rattle.program_run.proofs.MadeModels.{own_variables}
-use Rattle.program_run.proofs.Solving.{narrow_ends, unsolved_ends, unsolved_is}
-use Rattle.program_run.proofs.SomeText.{told_some}
+use Rattle.program_run.proofs.Solving.{narrow_ends, unsolved_is, unsolved_usually}
+use Rattle.program_run.proofs.SomeText.{solved_some}
 use Rattle.program_run.proofs.made.solved.Goals as goal
 
 pub returns-in-Err-clause-step : goal.returns-in-Err-clause-step
 returns-in-Err-clause-step c =
     rw c.unsolved.ensures
-    (unsolved_ends c.args.plan.now c.args.model.now c.in-Err.answer c.requires.modelled
+    (unsolved_usually c.args.plan.now c.args.model.now c.in-Err.answer c.requires.modelled
     (λ v w is. c.in-Err.ensures.wide v w (ap Err is)))
 
 pub returns-in-Err-clause-refusal : goal.returns-in-Err-clause-refusal
@@ -23,20 +22,20 @@ solved_text-requires-clause-variables c =
 pub returns-in-Ok-solved_text-clause-step : goal.returns-in-Ok-solved_text-clause-step
 returns-in-Ok-solved_text-clause-step c =
     let m = c.args.model.now in
-    last_gives c.args.plan.now (λ m. ends (width_end (wide_below m m.nodes))) m []
-    c.requires.modelled (ap Some (narrow_ends m c.in-Ok.ensures.narrow))
+    last_gives c.args.plan.now (solving [] [] None) m Nothing c.requires.modelled
+    (narrow_ends m c.in-Ok.ensures.narrow)
 
 pub returns-in-Ok-solved_text-clause-answer : goal.returns-in-Ok-solved_text-clause-answer
 returns-in-Ok-solved_text-clause-answer c =
     let m = c.args.model.now in record {
       model = m;
       made = c.requires.modelled;
-      bits = [];
-      read = ap Some (narrow_ends m c.in-Ok.ensures.narrow);
-      told = c.in-Ok-solved_text.ensures;
+      last = Nothing;
+      read = narrow_ends m c.in-Ok.ensures.narrow;
+      told = c.in-Ok-solved_text.ensures None c.in-Ok.ensures.state;
     }
 
 pub returns-in-Ok-solved_text-clause-some : goal.returns-in-Ok-solved_text-clause-some
 returns-in-Ok-solved_text-clause-some c =
-    told_some Solve c.args.plan.now.read c.args.plan.now.choices c.args.model.now [] _
-    c.in-Ok-solved_text.ensures
+    solved_some None c.args.plan.now.read c.args.model.now _
+    (c.in-Ok-solved_text.ensures None c.in-Ok.ensures.state)

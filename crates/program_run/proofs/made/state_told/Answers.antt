@@ -1,10 +1,10 @@
 use Rattle.std.proofs.Common.{map, string_bytes}
 use Rattle.command_words.specs.Names.{name_of, last_files}
-use Rattle.run_steps.specs.Steps.{last_step}
+use Rattle.run_steps.specs.Steps.{Bits, last_step}
 use Rattle.run_steps.proofs.FilesRead.{read_wanting}
 use Rattle.program_run.proofs.Endings.{last_gives, last_refuses}
 use Rattle.program_run.proofs.MadeModels.{own_variables, small_weights}
-use Rattle.program_run.proofs.SomeText.{told_some}
+use Rattle.program_run.proofs.SomeText.{bits_some}
 use Rattle.program_run.proofs.made.state_told.Goals as goal
 
 pub take_last-requires-clause-small : goal.take_last-requires-clause-small
@@ -28,12 +28,12 @@ returns-in-Ok-told-clause-step g c = λ held may.
     let words = map string_bytes c.args.words.now in
     let plan = c.args.plan.now in
     last_gives plan (last_step words held c.args.command.ask plan) c.args.model.now
-    c.in-Ok.bits.items c.requires.modelled
+    (Bits c.in-Ok.bits.items) c.requires.modelled
     (c.in-Ok.ensures.step held may)
 
 pub returns-in-Ok-told-clause-some : goal.returns-in-Ok-told-clause-some
 returns-in-Ok-told-clause-some g c =
-    told_some c.args.command.ask c.args.plan.now.read c.args.plan.now.choices c.args.model.now
+    bits_some c.args.command.ask c.args.plan.now.read c.args.plan.now.choices c.args.model.now
     c.deref.result.now _ c.in-Ok-told.ensures
 
 pub returns-clause-files : goal.returns-clause-files
