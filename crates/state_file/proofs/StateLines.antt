@@ -1,9 +1,10 @@
 -- The lines of a text that are states: the first of them, how many there are, and where lines are cut.
 use Rattle.std.proofs.Common.{◌≡◌, ℕ, ◌+◌, ◌<◌, ◌≤◌, Bool, true, false, List, [], ◌∷◌, ◌++◌, length, map, take, drop, get_or, set, cond, not, arith, refl, sym, ap, ◌∙◌}
 use Rattle.std.specs.Prelude.{find, slice_get, Some}
-use Rattle.std.specs.List.{slice_split, onto_first, position_or_len, filter, enumerate_from}
+use Rattle.std.specs.List.{All, slice_split, onto_first, position_or_len, filter, enumerate_from}
 use Rattle.std.specs.Option.{option_map}
 use Rattle.std.proofs.lemmas.List.{take_more, take_more_set, take_all, map-append, length-map}
+use Rattle.std.proofs.lemmas.List.Elements.{All-cons, All-nil}
 use Rattle.std.proofs.lemmas.List.FromFn.{length-enumerate_from}
 use Rattle.std.proofs.lemmas.List.Sums.{length-filter, count_by-le-length}
 use Rattle.std.proofs.lemmas.List.Splits.{length-slice_split, slice_split_first}
@@ -34,6 +35,21 @@ few_states width number lines =
     let fits = λ (l : ℕ × List ℕ). is_state width l.1 in
     let numbered = enumerate_from number lines in
     omega (arith, length-map (filter fits numbered) state_line, length-filter fits numbered, count_by-le-length fits numbered, length-enumerate_from number lines)
+
+-- the number of a state is that of one of the lines
+pub numbered_states : (top width number : ℕ) (lines : List (List ℕ)) → number + length lines ≤ top
+    → All (λ (state : StateLine). state.0 < top) (states_from width number lines)
+numbered_states top width number [] room = All-nil (λ (state : StateLine). state.0 < top)
+numbered_states top width number (line ∷ lines) room =
+    let below = λ (state : StateLine). state.0 < top in
+    let fits = λ (l : ℕ × List ℕ). is_state width l.1 in
+    let later = filter fits (enumerate_from (number + 1) lines) in
+    let others : All below (states_from width (number + 1) lines) =
+    numbered_states top width (number + 1) lines (omega arith) in
+    let this : number < top = omega arith in
+    elim (is_state width line) as (λ fits.
+    All below (map state_line (cond fits ((number, line) ∷ later) later)))
+    [ true ↦ All-cons below (number, map is_one line) (map state_line later) this others | false ↦ others ]
 
 -- ---- where lines are cut
 

@@ -2,7 +2,7 @@
 //!
 //! A line is judged where it stands in the text, and a state's bits go into a buffer that is lent, so
 //! nothing here takes memory.
-ghost use Rattle.std.specs.Prelude.{◌≡◌, ◌+◌, ◌≤◌, ◌<◌, ◌^◌, ◌∷◌, [], length, map, IfSome, MatchOption, option_copied};
+ghost use Rattle.std.specs.Prelude.{◌≡◌, ◌+◌, ◌≤◌, ◌<◌, ◌^◌, ◌∷◌, [], All, length, map, IfSome, MatchOption, option_copied};
 ghost use Rattle.std.specs.List.{position_or_len};
 ghost use Rattle.state_file.specs.States.{is_feed, is_one, lines_left, lines_of, states_of, trimmed_line};
 
@@ -68,6 +68,7 @@ impl<'a> States<'a> {
         ensures width { result.width ≡ width }
         ensures states { result.states ≡ states_of width text.now }
         ensures few { length result.states ≤ length text.now + 1 }
+        ensures numbers { All (λ state. state.0 ≤ length text.now + 1) result.states }
     {
         States {
             rest: Some(text),
