@@ -42,7 +42,7 @@ fn is_zero(byte: u8) -> bool
     byte == b'0' || byte == b'-'
 }
 
-fn is_one(byte: u8) -> bool
+pub(crate) fn is_one(byte: u8) -> bool
     ensures { result ≡ is_one byte }
 {
     byte == b'1' || byte == b'+'
@@ -65,7 +65,7 @@ fn blanks_at_end(line: &[u8]) -> usize
         .count()
 }
 
-fn trimmed_line(line: &[u8]) -> &[u8]
+pub(crate) fn trimmed_line(line: &[u8]) -> &[u8]
     ensures { result.now ≡ trimmed_line line.now }
 {
     let rest = &line[blanks_in_front(line)..];
@@ -85,7 +85,7 @@ fn are_bits(bytes: &[u8]) -> bool
 }
 
 /// Whether a trimmed line is a state of this many bits.
-fn is_state(line: &[u8], width: usize) -> bool
+pub(crate) fn is_state(line: &[u8], width: usize) -> bool
     ensures { result ≡ is_state width line.now }
 {
     line.len() == width && are_bits(line)

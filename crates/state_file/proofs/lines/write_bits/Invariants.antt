@@ -1,0 +1,7 @@
+use Rattle.std.proofs.Common.{◌≡◌, map, take}
+use Rattle.state_file.specs.States.{is_one}
+use Rattle.state_file.proofs.lines.write_bits.Given as goal
+
+-- the bits before this one were written
+abbrev pub invariant-loop-i : goal.invariant-loop-i
+invariant-loop-i l = take l.i l.bits ≡ map is_one (take l.i l.state)

@@ -1,0 +1,191 @@
+-- The best of the states so far: each state before it is worse, and none after it is better.
+use Rattle.std.proofs.Common.{◌≡◌, Bool, true, false, List, [], ◌∷◌, ◌++◌, not, cond, refl, sym, ap, ◌∙◌, subst, append_assoc, arith}
+use Rattle.std.proofs.lemmas.List.{map-append}
+use Rattle.std.proofs.lemmas.List.Elements.{All-tail}
+use Rattle.std.proofs.Math.Bool.{or-true}
+use Rattle.std.specs.Prelude.{find, Some, map, if◌then◌else◌, ◌<◌, ◌^◌}
+use Rattle.std.specs.List.{All, AllByRecursion, list_any}
+use Rattle.state_file.specs.States.{StateLine}
+use Rattle.state_scores.specs.declared.worth.Score.{Score}
+use Rattle.state_scores.specs.Scores.{IsEvaluation, Judgement, best_of, has_better, is_better, score_of}
+use Rattle.state_scores.proofs.Orders.{better_asym, better_over, better_self}
+
+-- whether a state is better than another
+abbrev wins : Judgement → StateLine → StateLine → Bool
+wins j state other = is_better (score_of j state) (score_of j other)
+
+-- each state before it is worse, and none after it is better
+pub record IsBest (j : Judgement) (states : List StateLine) (best : StateLine) : Type 0 where
+  pub before : List StateLine
+  pub after : List StateLine
+  pub split : states ≡ before ++ best ∷ after
+  pub worse : AllByRecursion (λ state. wins j best state ≡ true) before
+  pub no_better : AllByRecursion (λ state. wins j state best ≡ false) after
+
+-- ---- one state more
+
+all_weaker : {X : Type 0} (P Q : X → Type 0) → ((x : X) → P x → Q x) → (xs : List X)
+    → AllByRecursion P xs → AllByRecursion Q xs
+all_weaker P Q f [] h = tt
+all_weaker P Q f (x ∷ xs) h = (f x h.0, all_weaker P Q f xs h.1)
+
+all_append : {X : Type 0} (P : X → Type 0) (xs ys : List X) → AllByRecursion P xs
+    → AllByRecursion P ys → AllByRecursion P (xs ++ ys)
+all_append P [] ys h k = k
+all_append P (x ∷ xs) ys h k = (h.0, all_append P xs ys h.1 k)
+
+-- the first state is the best
+pub best_first : (j : Judgement) (state : StateLine) → IsBest j (state ∷ []) state
+best_first j state = record { before = []; after = []; split = refl; worse = tt; no_better = tt }
+
+-- a state that is better than the best is better than all
+best_changes : (j : Judgement) (states : List StateLine) (best state : StateLine)
+    → wins j state best ≡ true → IsBest j states best → IsBest j (states ++ state ∷ []) state
+best_changes j states best state better so_far =
+    let beaten = λ (s : StateLine). wins j state s ≡ true in
+    let first : AllByRecursion beaten so_far.before =
+    all_weaker (λ (s : StateLine). wins j best s ≡ true) beaten
+    (λ s worse. better_over (score_of j state) (score_of j best) (score_of j s) better
+    (better_asym (score_of j best) (score_of j s) worse)) so_far.before so_far.worse in
+    let last : AllByRecursion beaten so_far.after =
+    all_weaker (λ (s : StateLine). wins j s best ≡ false) beaten
+    (λ s no_better. better_over (score_of j state) (score_of j best) (score_of j s) better no_better)
+    so_far.after so_far.no_better in
+    record {
+      before = states;
+      after = [];
+      split = refl;
+      worse = subst (AllByRecursion beaten) (sym so_far.split)
+          (all_append beaten so_far.before (best ∷ so_far.after) first (better, last));
+      no_better = tt;
+    }
+
+-- the best stays so where the next state is no better
+best_stays : (j : Judgement) (states : List StateLine) (best state : StateLine)
+    → wins j state best ≡ false → IsBest j states best → IsBest j (states ++ state ∷ []) best
+best_stays j states best state no_better so_far = record {
+  before = so_far.before;
+  after = so_far.after ++ state ∷ [];
+  split = ap (λ (s : List StateLine). s ++ state ∷ []) so_far.split
+      ∙ append_assoc so_far.before (best ∷ so_far.after) (state ∷ []);
+  worse = so_far.worse;
+  no_better = all_append (λ (s : StateLine). wins j s best ≡ false) so_far.after (state ∷ []) so_far.no_better (no_better, tt);
+}
+
+-- ---- the first state that none is better than
+
+find_first : {X : Type 0} (p : X → Bool) (before : List X) (x : X) (after : List X)
+    → AllByRecursion (λ y. p y ≡ false) before → p x ≡ true
+    → find p (before ++ x ∷ after) ≡ Some x
+find_first p [] x after none is = ap (λ (b : Bool). cond b (Some x) (find p after)) is
+find_first p (y ∷ before) x after none is =
+    ap (λ (b : Bool). cond b (Some y) (find p (before ++ x ∷ after))) none.0
+    ∙ find_first p before x after none.1 is
+
+any_none : {X : Type 0} (p : X → Bool) (xs : List X) → AllByRecursion (λ x. p x ≡ false) xs
+    → list_any p xs ≡ false
+any_none p [] none = refl
+any_none p (x ∷ xs) none = rw none.0 (any_none p xs none.1)
+
+any_some : {X : Type 0} (p : X → Bool) (before : List X) (x : X) (after : List X) → p x ≡ true
+    → list_any p (before ++ x ∷ after) ≡ true
+any_some p [] x after is = rw is refl
+any_some p (y ∷ before) x after is = rw (any_some p before x after is) (or-true (p y))
+
+-- none is better than the best, and the best is better than each before it
+pub best_found : (j : Judgement) (states : List StateLine) (best : StateLine)
+    → IsBest j states best → best_of j states ≡ Some best
+best_found j states best so_far =
+    let all = so_far.before ++ best ∷ so_far.after in
+    let lost = λ (s : StateLine). wins j s best ≡ false in
+    let first : AllByRecursion lost so_far.before =
+    all_weaker (λ (s : StateLine). wins j best s ≡ true) lost
+    (λ s worse. better_asym (score_of j best) (score_of j s) worse) so_far.before so_far.worse in
+    let none : has_better j all best ≡ false =
+    any_none (λ (s : StateLine). wins j s best) all
+    (all_append lost so_far.before (best ∷ so_far.after) first (better_self (score_of j best), so_far.no_better)) in
+    let passed = λ (s : StateLine). not (has_better j all s) in
+    let some : AllByRecursion (λ (s : StateLine). passed s ≡ false) so_far.before =
+    all_weaker (λ (s : StateLine). wins j best s ≡ true) (λ (s : StateLine). passed s ≡ false)
+    (λ s worse. ap not (any_some (λ (t : StateLine). wins j t s) so_far.before best so_far.after worse))
+    so_far.before so_far.worse in
+    ap (best_of j) so_far.split ∙ find_first passed so_far.before best so_far.after some (ap not none)
+
+-- ---- scores of states
+
+-- the scores of states, and the score and the bits of the best of them
+pub record IsJudged (j : Judgement) (states : List StateLine) (scores : List Score) (best : Score) (bits : List Bool) : Type 0 where
+  pub listed : scores ≡ map (score_of j) states
+  pub first : IsBest j states (best.line, bits)
+  pub worth : best ≡ score_of j (best.line, bits)
+
+-- one state
+pub judged_first : (j : Judgement) (scores : List Score) (best : Score) (bits : List Bool)
+    → scores ≡ best ∷ [] → best ≡ score_of j (best.line, bits)
+    → IsJudged j ((best.line, bits) ∷ []) scores best bits
+judged_first j scores best bits one worth = record {
+  listed = one ∙ ap (λ (s : Score). s ∷ []) worth;
+  first = best_first j (best.line, bits);
+  worth = worth;
+}
+
+-- the score and the bits of the better one of the best so far and one state more
+better_one : (j : Judgement) (states : List StateLine) (best new : Score) (bits others : List Bool)
+    (state : StateLine) (better : Bool) → is_better (score_of j state) best ≡ better
+    → IsBest j states (best.line, bits) → best ≡ score_of j (best.line, bits)
+    → new ≡ (if better then score_of j state else best)
+    → others ≡ (if better then state.1 else bits)
+    → IsBest j (states ++ state ∷ []) (new.line, others) × (new ≡ score_of j (new.line, others))
+better_one j states best new bits others state true won so_far worth taken kept =
+    let same : state ≡ (new.line, others) = λ k. ((sym taken k).line, sym kept k) in
+    let beats = ap (is_better (score_of j state)) (sym worth) ∙ won in
+    let changed = best_changes j states (best.line, bits) state beats so_far in
+    (subst (IsBest j (states ++ state ∷ [])) same changed, taken ∙ ap (score_of j) same)
+better_one j states best new bits others state false lost so_far worth taken kept =
+    let was : StateLine = (best.line, bits) in
+    let same : was ≡ (new.line, others) = λ k. ((sym taken k).line, sym kept k) in
+    let loses = ap (is_better (score_of j state)) (sym worth) ∙ lost in
+    let stayed = best_stays j states was state loses so_far in
+    (subst (IsBest j (states ++ state ∷ [])) same stayed, taken ∙ worth ∙ ap (score_of j) same)
+
+-- one state more
+pub judged_more : (j now : Judgement) (states : List StateLine) (scores more : List Score)
+    (best new : Score) (bits others : List Bool) (state : StateLine) → now ≡ j
+    → IsJudged j states scores best bits → more ≡ scores ++ score_of now state ∷ []
+    → new ≡ (if is_better (score_of now state) best then score_of now state else best)
+    → others ≡ (if is_better (score_of now state) best then state.1 else bits)
+    → IsJudged j (states ++ state ∷ []) more new others
+judged_more j now states scores more best new bits others state same so_far listed taken kept =
+    let score = λ (k : Judgement). score_of k state in
+    let row = subst (λ (k : Judgement). more ≡ scores ++ score k ∷ []) same listed in
+    let one = better_one j states best new bits others state (is_better (score j) best) refl so_far.first so_far.worth
+    (subst (λ (k : Judgement). new ≡ (if is_better (score k) best then score k else best)) same taken)
+    (subst (λ (k : Judgement). others ≡ (if is_better (score k) best then state.1 else bits)) same kept) in
+    record {
+      listed = row ∙ ap (λ (l : List Score). l ++ score j ∷ []) so_far.listed
+          ∙ sym (map-append (score_of j) states (state ∷ []));
+      first = one.0;
+      worth = one.1;
+    }
+
+-- all states
+pub judged_all : (j : Judgement) (states : List StateLine) (scores : List Score) (best : Score)
+    (bits : List Bool) → IsJudged j states scores best bits → IsEvaluation j states scores best bits
+judged_all j states scores best bits judged = record {
+  listed = judged.listed;
+  first = best_found j states (best.line, bits) judged.first;
+  worth = judged.worth;
+}
+
+-- ---- the numbers of the states that are left
+
+pub first_number : (states rest : List StateLine) (state : StateLine) → states ≡ state ∷ rest
+    → All (λ s. s.0 < 2 ^ 32) states → state.0 < 2 ^ 32
+first_number states rest state cut low =
+    subst (λ (l : List StateLine). All (λ s. s.0 < 2 ^ 32) l) cut low 0 state (omega arith)
+
+pub later_numbers : (states rest : List StateLine) (state : StateLine) → states ≡ state ∷ rest
+    → All (λ s. s.0 < 2 ^ 32) states → All (λ s. s.0 < 2 ^ 32) rest
+later_numbers states rest state cut low =
+    All-tail (λ (s : StateLine). s.0 < 2 ^ 32) state rest
+    (subst (λ (l : List StateLine). All (λ s. s.0 < 2 ^ 32) l) cut low)
