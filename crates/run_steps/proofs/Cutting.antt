@@ -17,8 +17,8 @@ use Rattle.source_texts.specs.Sources.{problem_of, problem_of_words, style_of}
 use Rattle.source_texts.proofs.Standing.{words_read}
 use Rattle.run_steps.specs.declared.status.Status.{Status}
 use Rattle.run_steps.specs.declared.status.Status.TheVariants.{Done, Usage, ReadFault, WriteFault, BadText, Limit, NotEmbedded, TooWide, NotProved, NoState, NoMemory}
-use Rattle.run_steps.specs.Steps.{Steps, go_on, ◌>>=◌, ends, gives, taking, text_end, Meets, Refuses}
-use Rattle.run_steps.specs.Cut.{AreWordsOf, IsCut, cutting, reading_file}
+use Rattle.run_steps.specs.Steps.{Steps, cutting, go_on, ◌>>=◌, ends, gives, taking, text_end, Meets, Refuses}
+use Rattle.run_steps.specs.Cut.{AreWordsOf, IsCut, reading_file}
 use Rattle.run_steps.proofs.Stepping.{bound, meets_next}
 
 -- the front of a file, with the piece that was taken next

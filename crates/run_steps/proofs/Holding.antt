@@ -16,6 +16,7 @@ use Rattle.command_words.specs.declared.commands.Ask.{Ask}
 use Rattle.command_words.specs.declared.commands.Ask.TheVariants.{Model, Summary, Size, Solve, Decode, Evaluate, Extend, Prove}
 use Rattle.command_words.specs.Names.{text_at, name_of, state_of, certificate_of, order_of, if_named, model_files, last_files}
 use Rattle.run_steps.specs.declared.status.Status.{Status}
+use Rattle.run_steps.specs.Steps.{bits_at}
 use Rattle.run_steps.specs.Causes.{MayHold, WhereHeld, AreRefused, IsRefusedBy, board_files, state_files}
 use Rattle.run_steps.proofs.FilesRead.{refused_alone}
 
@@ -103,20 +104,31 @@ pub has_order : (words : List (List ℕ)) (command : Command) (at : WordAt)
     → (if_named command Order ≡ Order ∷ []) × (text_at words at ≡ name_of words command Order)
 has_order words command at is = (rw is refl, rw is refl)
 
--- a command that takes a state takes no order
-pub state_files_are : (command : Command) (at : WordAt) → state_of command.ask ≡ Some at
+pub has_states : (words : List (List ℕ)) (command : Command) (at : WordAt)
+    → command.ask ≡ Evaluate at
+    → (last_files command ≡ State ∷ []) × (text_at words at ≡ name_of words command State)
+has_states words command at is = (rw is refl, rw is refl)
+
+-- a command that reads bits last takes their file, that of a certificate, and no order
+pub state_files_are : (command : Command) (at : WordAt) → bits_at command.ask ≡ Some at
     → state_files command ≡ last_files command
 state_files_are command at is = go command.ask refl
   where
     go : (ask : Ask) → command.ask ≡ ask → state_files command ≡ last_files command
-    go Model e = let none = sym is ∙ ap state_of e in absurd cc
-    go Summary e = let none = sym is ∙ ap state_of e in absurd cc
-    go Size e = let none = sym is ∙ ap state_of e in absurd cc
-    go (Solve order) e = let none = sym is ∙ ap state_of e in absurd cc
+    go Model e = let none = sym is ∙ ap bits_at e in absurd cc
+    go Summary e = let none = sym is ∙ ap bits_at e in absurd cc
+    go Size e = let none = sym is ∙ ap bits_at e in absurd cc
+    go (Solve order) e = let none = sym is ∙ ap bits_at e in absurd cc
+    go (Evaluate states) e = let none = sym is ∙ ap bits_at e in absurd cc
     go (Decode state) e = rw e refl
-    go (Evaluate states) e = rw e refl
     go (Extend assignment) e = rw e refl
     go (Prove state certificate) e = rw e refl
+
+-- what a store tells holds of more where it holds of less
+pub told_then : (told : Option NamedFiles) (P Q : NamedFiles → Type 0)
+    → ((held : NamedFiles) → P held → Q held) → WhereTold told P → WhereTold told Q
+told_then None P Q more is = tt
+told_then (Some held) P Q more is = more held is
 
 -- what is told of a file alone that a command takes
 pub of_named : (told : Option NamedFiles) (which : Which) (files : List Which)
