@@ -174,17 +174,11 @@ ties_of value =
     then Some Choi
     else if bytes_eq value (codes "cut") then Some Cut else None
 
--- The keys of a graph: the keys with one more, whose word stands at an index, or none where it
--- cannot stand. They are `rows`, `cols`, `shore`, `embed`, `map`, `dead` and `chain`.
-abbrev pub with_graph_pair : Keys → ℕ → List ℕ → List ℕ → Option Keys
-with_graph_pair keys at name value =
-    if bytes_eq name (codes "rows")
-    then option_map (λ rows. record keys { rows = Some rows }) (once keys.rows (side_of value))
-    else if bytes_eq name (codes "cols")
-    then option_map (λ cols. record keys { cols = Some cols }) (once keys.cols (side_of value))
-    else if bytes_eq name (codes "shore")
-    then option_map (λ shore. record keys { shore = Some shore }) (once keys.shore (side_of value))
-    else if bytes_eq name (codes "embed")
+-- The keys of the chains of a graph, `embed`, `map`, `dead` and `chain`: the keys with one more,
+-- whose word stands at an index, or none where it cannot stand.
+abbrev pub with_chain_pair : Keys → ℕ → List ℕ → List ℕ → Option Keys
+with_chain_pair keys at name value =
+    if bytes_eq name (codes "embed")
     then option_map (λ chains. record keys { chains = Some chains }) (once keys.chains (embed_of value))
     else if bytes_eq name (codes "map")
     then option_map (λ chains. record keys { chains = Some chains })
@@ -194,6 +188,18 @@ with_graph_pair keys at name value =
     else if bytes_eq name (codes "chain")
     then option_map (λ ties. record keys { ties = Some ties }) (once keys.ties (ties_of value))
     else None
+
+-- The keys of a graph: the keys with one more, whose word stands at an index, or none where it
+-- cannot stand. They are its numbers, `rows`, `cols` and `shore`, and those of its chains.
+abbrev pub with_graph_pair : Keys → ℕ → List ℕ → List ℕ → Option Keys
+with_graph_pair keys at name value =
+    if bytes_eq name (codes "rows")
+    then option_map (λ rows. record keys { rows = Some rows }) (once keys.rows (side_of value))
+    else if bytes_eq name (codes "cols")
+    then option_map (λ cols. record keys { cols = Some cols }) (once keys.cols (side_of value))
+    else if bytes_eq name (codes "shore")
+    then option_map (λ shore. record keys { shore = Some shore }) (once keys.shore (side_of value))
+    else with_chain_pair keys at name value
 
 -- The keys that a target has of its own. A model on nodes has none.
 abbrev pub with_own_pair : TargetWord → Keys → ℕ → List ℕ → List ℕ → Option Keys

@@ -1,6 +1,6 @@
 //! The keys of a command, in any order, each at most once: words of the form `NAME=VALUE`.
 ghost use Rattle.std.specs.Prelude.{◌≡◌, ◌+◌, ◌<◌, ◌^◌, length, map, string_bytes, Some, None, MatchOption};
-ghost use Rattle.command_words.specs.Keys.{bound_of, chosen_ties, chosen_unit, choices_of, cut, embed_of, graph_of, high_of, keys_from, no_keys, normal_of, once, side_of, slack_of, chosen_slack, target_by, ties_of, unit_of, with_graph_pair, with_order, with_pair, with_word};
+ghost use Rattle.command_words.specs.Keys.{bound_of, chosen_ties, chosen_unit, choices_of, cut, embed_of, graph_of, high_of, keys_from, no_keys, normal_of, once, side_of, slack_of, chosen_slack, target_by, ties_of, unit_of, with_chain_pair, with_graph_pair, with_order, with_pair, with_word};
 
 use crate::commands::{Board, Bound, Chaining, Slack, Target, TargetWord, Ties, Verb, WordAt};
 use base::UnitChoice;
@@ -223,6 +223,32 @@ fn ties_of(value: &str) -> Option<Ties>
     }
 }
 
+/// The keys of the chains of a graph: the keys with one more, whose word stands at the index `at`,
+/// or none where it cannot stand.
+fn with_chain_pair(keys: Keys, at: usize, name: &str, value: &str) -> Option<Keys>
+    ensures { result ≡ with_chain_pair keys at name.now value.now }
+{
+    match name {
+        "embed" => {
+            let chains = Some(once(keys.chains, embed_of(value))?);
+            Some(Keys { chains, ..keys })
+        }
+        "map" => {
+            let chains = Some(once(keys.chains, Some(Chaining::Map(WordAt::Value(at))))?);
+            Some(Keys { chains, ..keys })
+        }
+        "dead" => {
+            let dead = Some(once(keys.dead, Some(WordAt::Value(at)))?);
+            Some(Keys { dead, ..keys })
+        }
+        "chain" => {
+            let ties = Some(once(keys.ties, ties_of(value))?);
+            Some(Keys { ties, ..keys })
+        }
+        _ => None,
+    }
+}
+
 /// The keys of a graph: the keys with one more, whose word stands at the index `at`, or none where
 /// it cannot stand.
 fn with_graph_pair(keys: Keys, at: usize, name: &str, value: &str) -> Option<Keys>
@@ -241,23 +267,7 @@ fn with_graph_pair(keys: Keys, at: usize, name: &str, value: &str) -> Option<Key
             let shore = Some(once(keys.shore, side_of(value))?);
             Some(Keys { shore, ..keys })
         }
-        "embed" => {
-            let chains = Some(once(keys.chains, embed_of(value))?);
-            Some(Keys { chains, ..keys })
-        }
-        "map" => {
-            let chains = Some(once(keys.chains, Some(Chaining::Map(WordAt::Value(at))))?);
-            Some(Keys { chains, ..keys })
-        }
-        "dead" => {
-            let dead = Some(once(keys.dead, Some(WordAt::Value(at)))?);
-            Some(Keys { dead, ..keys })
-        }
-        "chain" => {
-            let ties = Some(once(keys.ties, ties_of(value))?);
-            Some(Keys { ties, ..keys })
-        }
-        _ => None,
+        _ => with_chain_pair(keys, at, name, value),
     }
 }
 

@@ -1,4 +1,5 @@
-//! What a list of words asks for: the command, its format, target and keys, and the files' names.
+//! What a list of words asks for: a notice, or a command, its format, target and keys, and the
+//! files' names.
 #![tactic(auto)]
 
 mod commands;

@@ -467,13 +467,8 @@ fn help_and_version_stand_alone(rt: HostRuntime) {
 
 /// How many lines a text has, and how many bytes the longest of them.
 fn lines_and_columns(text: &str) -> (usize, usize) {
-    let mut lines = 0;
-    let mut longest = 0;
-    for line in text.lines() {
-        lines += 1;
-        longest = longest.max(line.len());
-    }
-    (lines, longest)
+    let longest = text.lines().map(|line| line.len()).max();
+    (text.lines().count(), longest.unwrap_or(0))
 }
 
 #[test]
