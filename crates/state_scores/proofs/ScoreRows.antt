@@ -1,0 +1,66 @@
+-- The pieces of each row are its text.
+use Rattle.std.proofs.Common.{◌≡◌, ℕ, ◌+◌, ◌<◌, List, [], ◌∷◌, ◌++◌, length, map, drop, get_or, refl, sym, ap, ◌∙◌, append-nil, append_assoc}
+use Rattle.std.specs.Prelude.{codes}
+use Rattle.std.specs.Fmt.{decimal, signed_decimal}
+use Rattle.std.proofs.lemmas.List.{drop_more}
+use Rattle.std.proofs.lemmas.List.Concat.{flat_map-append}
+use Rattle.base.specs.declared.costs.Cost.{Cost}
+use Rattle.base.specs.declared.costs.Cost.TheVariants.{Whole, Infinite}
+use Rattle.model_text.specs.Rows.{Row, row_text, rows_text}
+use Rattle.answer_text.specs.Answers.{cost_row, energy_row}
+use Rattle.state_scores.specs.declared.worth.Score.{Score}
+use Rattle.state_scores.specs.Texts.{best_row, cost_word, score_row, scores_text}
+
+-- ---- a score
+
+-- the words of a score, without the spaces between
+abbrev pub score_pieces : List ℕ → List ℕ → List ℕ → List ℕ
+score_pieces line cost energy =
+    codes "sample " ++ (line ++ (codes " cost " ++ (cost ++ (codes " energy " ++ (energy ++ 10 ∷ [])))))
+
+score_words : (line cost energy : List ℕ)
+    → score_pieces line cost energy
+    ≡ row_text (codes "sample" ∷ line ∷ codes "cost" ∷ cost ∷ codes "energy" ∷ energy ∷ [])
+score_words line cost energy = simp append_assoc
+
+cost_words : (cost : Cost) → codes "cost" ∷ cost_word cost ∷ [] ≡ cost_row cost
+cost_words (Whole value) = refl
+cost_words Infinite = refl
+
+pub score_text : (s : Score) (line cost energy : List ℕ) → line ≡ decimal s.line
+    → cost ≡ cost_word s.cost → energy ≡ signed_decimal s.energy
+    → score_pieces line cost energy ≡ row_text (score_row s)
+score_text s line cost energy l c e =
+    (λ k. score_pieces (l k) (c k) (e k))
+    ∙ score_words (decimal s.line) (cost_word s.cost) (signed_decimal s.energy)
+    ∙ ap (λ (words : Row). row_text (codes "sample" ∷ decimal s.line ∷ words ++ energy_row s.energy))
+    (cost_words s.cost)
+
+-- the rows of the scores from a place on begin with the row of that place
+pub scores_left : (scores : List Score) (i : ℕ) (score : Score) → i < length scores
+    → get_or scores i score ≡ score
+    → rows_text (map score_row (drop i scores))
+    ≡ row_text (score_row score) ++ rows_text (map score_row (drop (i + 1) scores))
+scores_left scores i score within is =
+    ap (λ (s : List Score). rows_text (map score_row s)) (drop_more scores i score within)
+    ∙ ap (λ (s : Score). row_text (score_row s) ++ rows_text (map score_row (drop (i + 1) scores))) is
+
+-- ---- the best state
+
+pub best_text : (line : ℕ) (number tail : List ℕ) → number ≡ decimal line
+    → codes "best " ++ (number ++ 10 ∷ (tail ++ [])) ≡ row_text (best_row line) ++ tail
+best_text line number tail is =
+    (λ k. codes "best " ++ (is k ++ 10 ∷ append-nil tail k))
+    ∙ ap (λ (l : List ℕ). codes "best " ++ l) (sym (append_assoc (decimal line) (10 ∷ []) tail))
+
+-- ---- the whole text
+
+pub text_parts : (scores : List Score) (best : ℕ) (tail : List ℕ)
+    → scores_text scores best tail
+    ≡ rows_text (map score_row scores) ++ (row_text (best_row best) ++ tail)
+text_parts scores best tail =
+    let row = best_row best in
+    ap (λ (l : List ℕ). l ++ tail)
+    (flat_map-append row_text (map score_row scores) (row ∷ [])
+    ∙ ap (λ (l : List ℕ). rows_text (map score_row scores) ++ l) (append-nil (row_text row)))
+    ∙ append_assoc (rows_text (map score_row scores)) (row_text row) tail
