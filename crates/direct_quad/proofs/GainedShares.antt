@@ -1,5 +1,5 @@
 -- Shares that are added to weights one after another: what is added so far, and what is left.
-use Rattle.std.proofs.Common.{◌≡◌, ℕ, zero, suc, ◌+◌, ◌-◌, ◌*◌, ◌<◌, ◌≤◌, ◌^◌, arith, sym, subst, ap, ◌∙◌, append_assoc, append-nil, get_or, List, [], ◌∷◌, ◌++◌, length, ℤ, pos, ◌-ℤ◌, ◌*ℤ◌, ◌+ℤ◌, unsigned_abs}
+use Rattle.std.proofs.Common.{◌≡◌, ℕ, zero, suc, ◌+◌, ◌-◌, ◌*◌, ◌<◌, ◌≤◌, ◌^◌, arith, refl, sym, subst, ap, ◌∙◌, append_assoc, append-nil, get_or, List, [], ◌∷◌, ◌++◌, length, ℤ, pos, ◌-ℤ◌, ◌*ℤ◌, ◌+ℤ◌, unsigned_abs}
 use Rattle.std.specs.Prelude.{Some, slice_get, take}
 use Rattle.std.specs.List.{sum_by}
 use Rattle.std.proofs.lemmas.List.{take_more}
@@ -8,7 +8,7 @@ use Rattle.std.proofs.lemmas.Option.{slice_get_within, get_or_from_slice_get}
 use Rattle.base.specs.Sums.{total_by}
 use Rattle.base.proofs.Totals.{total_by_more}
 use Rattle.std.proofs.Math.Nat.{mul-le-mul}
-use Rattle.std.proofs.lemmas.Int.{unsigned_abs-mul}
+use Rattle.std.proofs.lemmas.Int.{ints, unsigned_abs-mul}
 use Rattle.std.proofs.lemmas.List.Sums.{sum_by-cons, sum_by-append, sum_by-take-le, get_or-le-sum_by}
 use Rattle.term_table.specs.Terms.{Term, IsTermSet, terms_total}
 use Rattle.term_table.specs.Tables.{TableContent}
@@ -47,6 +47,25 @@ gain-weaker s m k a b low gain = record {
   weights = gain.weights;
   small = omega (arith, low, gain.small);
 }
+
+-- nothing is added
+pub gain-none : (w : List ℤ) → Gain [] 0 w w
+gain-none w = record {
+  width = refl;
+  weights = λ i within. omega (arith, ints);
+  small = omega arith;
+}
+
+pub gaining-first : (start now : List ℤ) (left rest all : List Share) (s : Share) (z : ℤ)
+    → left ≡ s ∷ rest → z ≡ s.1 → Gaining start now left all → size_of now + unsigned_abs z ≤ 2 ^ 126
+gaining-first start now left rest all s z step is before =
+    omega (
+      arith,
+      before.small,
+      ap unsigned_abs is,
+      ap shares_total step,
+      sum_by-cons (λ (u : Share). unsigned_abs u.1) s rest,
+    )
 
 pub gaining-more : (start now next : List ℤ) (left rest all : List Share) (s : Share)
     → left ≡ s ∷ rest → Gain (s ∷ []) (unsigned_abs s.1) now next → Gaining start now left all
@@ -137,6 +156,9 @@ module _ (t : TableContent) (i : ℕ) (u : Term) (kept : AreLong t) (at : slice_
 
   pub constant-term : total_by long_constant (take (i + 1) t.terms) ≡ total_by long_constant (take i t.terms) +ℤ long_constant u
   constant-term = total_by_more long_constant t.terms i u in' ∙ ap (λ v. total_by long_constant (take i t.terms) +ℤ long_constant v) is
+
+  pub long-fits : 3 ≤ length u.0
+  long-fits = subst (λ (v : Term). 3 ≤ length v.0) is (kept.long i u in')
 
   -- the sets are not too long
   lengths : (k : ℕ) → AreShort (take k t.terms)

@@ -1,17 +1,53 @@
-use Rattle.std.proofs.Common.{rules, ◌≡◌, ◌+◌, ◌∷◌, [], ◌∙◌, subst, ℤ, pos, ◌-ℤ◌, ◌*ℤ◌, to_z, of_z, unsigned_abs}
+use Rattle.std.proofs.Common.{rules, arith, ◌≡◌, ◌+◌, ◌≤◌, ◌∷◌, [], ◌∙◌, ap, subst, ℕ, ℤ, pos, ◌-ℤ◌, ◌*ℤ◌, FitsSigned, to_z, of_z, unsigned_abs}
 use Rattle.std.specs.Int.{w128}
-use Rattle.std.proofs.lemmas.Int.{to_z-of_z}
+use Rattle.std.proofs.lemmas.Int.{ints, to_z-of_z, fits_signed_from_abs}
 use Rattle.direct_quad.specs.Held.{Gain}
 use Rattle.direct_quad.proofs.shares.add_negative.Goals as goal
 
+-- how often the coefficient counts, with e complements among d literals
+taken : (e d : ℕ) → e ≤ d → d ≤ 2048 → to_z w128 (e + 1) -ℤ to_z w128 d ≡ pos (e + 1) -ℤ pos d
+taken e d few short = omega (arith, ints, few, short)
+
+times_fits : (e d : ℕ) → e ≤ d → d ≤ 2048 → FitsSigned w128 (pos (e + 1) -ℤ pos d)
+times_fits e d few short = fits_signed_from_abs w128 _ (omega (arith, ints, few, short))
+
+counted : (e d : ℕ) → e ≤ d → d ≤ 2048
+    → to_z w128 (of_z w128 (to_z w128 (e + 1) -ℤ to_z w128 d)) ≡ pos (e + 1) -ℤ pos d
+counted e d few short =
+    ap (λ z. to_z w128 (of_z w128 z)) (taken e d few short) ∙ to_z-of_z w128 _ (times_fits e d few short)
+
+-- what the code adds is the share
+share_is : (z p : ℤ) (e d : ℕ) → e ≤ d → d ≤ 2048 → FitsSigned w128 z → FitsSigned w128 p
+    → p ≡ to_z w128 (of_z w128 z) *ℤ to_z w128 (of_z w128 (to_z w128 (e + 1) -ℤ to_z w128 d))
+    → to_z w128 (of_z w128 p) ≡ z *ℤ (pos (e + 1) -ℤ pos d)
+share_is z p e d few short fits more is =
+    to_z-of_z w128 p more ∙ is ∙ (λ i. to_z-of_z w128 z fits i *ℤ counted e d few short i)
+
+pub overflow_sub-negated : goal.overflow_sub-negated
+overflow_sub-negated c =
+    rw (taken c.args.negated c.args.degree c.requires.negated c.requires.degree)
+    (times_fits c.args.negated c.args.degree c.requires.negated c.requires.degree)
+
+pub product-share-requires-clause-coefficient : goal.product-share-requires-clause-coefficient
+product-share-requires-clause-coefficient c =
+    omega (arith, ap unsigned_abs (to_z-of_z w128 c.args.coefficient (search rules)), c.requires.coefficient)
+
+pub product-share-requires-clause-count : goal.product-share-requires-clause-count
+product-share-requires-clause-count c =
+    rw (counted c.args.negated c.args.degree c.requires.negated c.requires.degree)
+    (omega (arith, ints, c.requires.negated, c.requires.degree))
+
+pub add_share-requires-clause-small : goal.add_share-requires-clause-small
+add_share-requires-clause-small c =
+    let share =
+    share_is c.args.coefficient c.product-share.result c.args.negated c.args.degree c.requires.negated
+    c.requires.degree (search rules) (search rules) c.product-share.ensures.value in
+    omega (arith, ap unsigned_abs share, c.requires.small)
+
 pub returns : goal.returns
 returns c =
-    let count : ℤ = pos (c.args.negated + 1) -ℤ pos c.args.degree in
-    let counted : to_z w128 (of_z w128 (to_z w128 (c.args.negated + 1) -ℤ to_z w128 c.args.degree)) ≡ count =
-    search (rules, c.requires.negated, c.requires.degree) in
-    let value : to_z w128 (of_z w128 c.product-share.result) ≡ c.args.coefficient *ℤ count =
-    to_z-of_z w128 c.product-share.result (search rules)
-    ∙ c.product-share.ensures.value
-    ∙ (λ i. to_z-of_z w128 c.args.coefficient (search rules) i *ℤ counted i) in
-    subst (λ (w : ℤ). Gain ((c.args.node, w) ∷ []) (unsigned_abs w) c.args.weights.now c.add_share.new.weights) value
+    let share =
+    share_is c.args.coefficient c.product-share.result c.args.negated c.args.degree c.requires.negated
+    c.requires.degree (search rules) (search rules) c.product-share.ensures.value in
+    subst (λ (w : ℤ). Gain ((c.args.node, w) ∷ []) (unsigned_abs w) c.args.weights.now c.add_share.new.weights) share
     c.add_share.ensures

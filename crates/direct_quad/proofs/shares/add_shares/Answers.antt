@@ -1,12 +1,14 @@
-use Rattle.std.proofs.Common.{rules, ◌≡◌, ◌+◌, ◌∙◌, ap, subst, sym, arith, take, ◌+ℤ◌, to_z, of_z, unsigned_abs}
+use Rattle.std.proofs.Common.{rules, ◌≡◌, ◌+◌, ◌∙◌, ap, refl, subst, sym, arith, length, take, ◌+ℤ◌, to_z, of_z, unsigned_abs}
 use Rattle.std.specs.Int.{w128}
 use Rattle.std.proofs.lemmas.Int.{to_z-of_z}
+use Rattle.std.proofs.lemmas.List.{take_all}
 use Rattle.std.proofs.lemmas.Option.{get_or_from_slice_get}
 use Rattle.base.specs.Sums.{total_by}
 use Rattle.term_table.specs.Terms.{Term}
-use Rattle.direct_quad.specs.Places.{complements, term_shares, long_constant}
+use Rattle.term_table.proofs.SmallSets.{IsTermSet-wider}
+use Rattle.direct_quad.specs.Places.{all_shares, complements, term_shares, long_constant}
 use Rattle.direct_quad.specs.Held.{Gain, shares_total}
-use Rattle.direct_quad.proofs.GainedShares.{shares-fit, constant-term, constant-fits, coefficient-fits, set-fits, gain-term}
+use Rattle.direct_quad.proofs.GainedShares.{gain-none, long-fits, shares-fit, constant-term, constant-fits, coefficient-fits, set-fits, gain-term}
 use Rattle.long_terms.proofs.LongPlaces.{nodes_below}
 use Rattle.direct_quad.proofs.PartSizes.{complements-le}
 use Rattle.direct_quad.proofs.shares.add_shares.Goals.{After-at-term, After-long_constant-constant}
@@ -15,6 +17,14 @@ use Rattle.direct_quad.proofs.shares.add_shares.Goals as goal
 -- the term of this step
 abbrev here : (c : After-at-term) → Term
 here c = (c.at-term.result.literals, c.at-term.result.coefficient)
+
+-- it is read twice
+read_again : (c : After-at-term) → (c.at.result.literals, c.at.result.coefficient) ≡ here c
+read_again c =
+    let ts = c.args.long.now.terms in
+    let first : Term = (c.at.result.literals, c.at.result.coefficient) in
+    sym (get_or_from_slice_get ts c.loop-i.i first (here c) c.at.ensures.term)
+    ∙ get_or_from_slice_get ts c.loop-i.i (here c) (here c) c.at-term.ensures.term
 
 -- with its part of the constant, the constant is that of the terms up to it
 constant_more : (c : After-long_constant-constant)
@@ -106,3 +116,41 @@ loop-i-preserved c =
           ∙ to_z-of_z w128 (total_by long_constant (take (i + 1) t.terms))
           (search (rules, fits, c.requires.small));
     }
+
+pub loop-i-init : goal.loop-i-init
+loop-i-init c = record { gain = gain-none c.args.weights.now; constant = refl }
+
+pub add_term_shares-requires-clause-set : goal.add_term_shares-requires-clause-set
+add_term_shares-requires-clause-set c =
+    let at = (goal.at.add_term_shares-requires-clause-set c).After-at-term in
+    let t = c.args.long.now in
+    let term = c.at-term.ensures in
+    IsTermSet-wider t.width (length c.loop-i.weights) c.at-term.result.literals
+    (omega (arith, c.requires.nodes, c.loop-i.auto.weights))
+    (set-fits t c.loop-i.i (here at) term.kept term.term)
+
+pub add_term_shares-requires-clause-long : goal.add_term_shares-requires-clause-long
+add_term_shares-requires-clause-long c =
+    let at = (goal.at.add_term_shares-requires-clause-long c).After-at-term in
+    let term = c.at-term.ensures in
+    long-fits c.args.long.now c.loop-i.i (here at) term.kept term.term
+
+pub add_term_shares-requires-clause-negated : goal.add_term_shares-requires-clause-negated
+add_term_shares-requires-clause-negated c =
+    let at = (goal.at.add_term_shares-requires-clause-negated c).After-at-term in
+    c.complements-negated.ensures ∙ ap (λ (v : Term). complements v.0) (read_again at)
+
+pub returns-clause-weights : goal.returns-clause-weights
+returns-clause-weights c =
+    let t = c.args.long.now in
+    let all = take_all c.loop-i.i t.terms (omega (arith, c.loop-i-test.false, c.len-i-end.ensures.count)) in
+    subst (λ ts. Gain (all_shares ts t.width) (shares_total (all_shares ts t.width)) c.args.weights.now c.loop-i.weights)
+    all c.loop-i.invariant.gain
+
+pub returns-clause-constant : goal.returns-clause-constant
+returns-clause-constant c =
+    let ts = c.args.long.now.terms in
+    let all = take_all c.loop-i.i ts (omega (arith, c.loop-i-test.false, c.len-i-end.ensures.count)) in
+    let so_far : to_z w128 c.loop-i.constant-bits ≡ total_by long_constant (take c.loop-i.i ts) =
+    search (rules, c.loop-i.invariant.constant) in
+    so_far ∙ ap (total_by long_constant) all

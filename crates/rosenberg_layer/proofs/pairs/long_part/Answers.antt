@@ -1,12 +1,13 @@
-use Rattle.std.proofs.Common.{◌≡◌, ◌++◌, ◌∙◌, ◌∷◌, [], ap, sym, rules}
+use Rattle.std.proofs.Common.{◌≡◌, ◌++◌, ◌∙◌, ◌∷◌, [], All, ap, sym, subst, unsigned_abs, rules, arith}
 use Rattle.std.specs.Int.{w128}
 use Rattle.std.specs.List.{filter}
 use Rattle.std.proofs.lemmas.Int.{to_z-of_z}
 use Rattle.std.proofs.lemmas.List.{append-nil}
-use Rattle.std.proofs.lemmas.List.Elements.{All-filter, All-rest}
+use Rattle.std.proofs.lemmas.List.Elements.{All-filter, All-head, All-rest, All-same}
 use Rattle.std.proofs.lemmas.Map.Iter.{rest_all, rest_more}
-use Rattle.term_table.specs.Terms.{Term, with_additions, IsTermSet}
+use Rattle.term_table.specs.Terms.{Term, terms_total, with_additions, IsTermSet}
 use Rattle.term_table.specs.Tables.{kept_at_once, TableContent}
+use Rattle.term_table.proofs.Additions.{terms_total-cons}
 use Rattle.term_table.proofs.KeptTerms.{IsNonzero}
 use Rattle.rosenberg_layer.specs.Rosenberg.{is_long}
 use Rattle.rosenberg_layer.proofs.LongParts.{passed_more, total_more, total-long}
@@ -52,3 +53,46 @@ returns-clause-long c =
     (All-filter is_long IsNonzero t.terms kept.nonzero) in
     c.into_table.ensures
     ∙ (λ i. kept_at_once (record { width = c.loop-literals.invariant.width i; terms = sums i }))
+
+pub loop-literals-init : goal.loop-literals-init
+loop-literals-init c =
+    let t = c.args.table.now.content in
+    let kept = c.terms-literals-items.ensures.kept in
+    let none = c.as_wide_as-terms.ensures in
+    let all = c.into_iter-literals-iterator.ensures.into_iter_gives ∙ c.terms-literals-items.ensures.terms in
+    record {
+      width = ap (λ (u : TableContent). u.width) none;
+      whole = (λ i. (none i).terms ++ filter is_long (all i));
+      sets = subst (All (λ (u : Term). IsTermSet t.width u.0)) (sym all) kept.terms.sets;
+      small = omega (arith, kept.small, ap (λ (u : TableContent). terms_total u.terms) none, ap terms_total all);
+    }
+
+pub gather_long-requires-clause-set : goal.gather_long-requires-clause-set
+gather_long-requires-clause-set c =
+    let P : Term → Type 0 = λ (u : Term). IsTermSet c.args.table.now.content.width u.0 in
+    let left =
+    rest_more _ c.loop-literals.literals-iterator c.next.new.self c.next.result
+    (c.in-Some.literals, c.in-Some.coefficient) c.in-Some.is c.next.ensures.steps in
+    subst (λ n. IsTermSet n c.in-Some.literals.now) (sym c.loop-literals.invariant.width)
+    (All-head P _ _ (All-same P _ _ (sym left) c.loop-literals.invariant.sets))
+
+pub gather_long-requires-clause-small : goal.gather_long-requires-clause-small
+gather_long-requires-clause-small c =
+    let t : Term = (c.in-Some.literals.now, c.in-Some.coefficient) in
+    let left =
+    rest_more _ c.loop-literals.literals-iterator c.next.new.self c.next.result
+    (c.in-Some.literals, c.in-Some.coefficient) c.in-Some.is c.next.ensures.steps in
+    let back = to_z-of_z w128 c.in-Some.coefficient (search rules) in
+    omega (
+      arith,
+      c.loop-literals.invariant.small,
+      ap terms_total left,
+      terms_total-cons t c.next.new.self,
+      ap unsigned_abs back,
+    )
+
+pub returns-in_err-gather_long-clause-kept : goal.returns-in_err-gather_long-clause-kept
+returns-in_err-gather_long-clause-kept c = c.terms-literals-items.ensures.kept
+
+pub returns-clause-kept : goal.returns-clause-kept
+returns-clause-kept c = c.terms-literals-items.ensures.kept

@@ -1,12 +1,14 @@
-use Rattle.std.proofs.Common.{◌≡◌, ◌+◌, ◌∙◌, ◌∷◌, [], ap, sym, subst, rules, true, ℤ}
+use Rattle.std.proofs.Common.{◌≡◌, ◌+◌, ◌++◌, ◌∙◌, ◌∷◌, [], All, ap, sym, subst, rules, arith, true, unsigned_abs, ℤ}
 use Rattle.std.specs.Int.{w128}
 use Rattle.std.specs.List.{AllByRecursion}
 use Rattle.std.proofs.lemmas.Int.{to_z-of_z}
+use Rattle.std.proofs.lemmas.List.{append-nil}
 use Rattle.std.proofs.lemmas.List.Elements.{All-head, All-rest, All-same, recursion_from_All}
-use Rattle.std.proofs.lemmas.Map.Iter.{rest_more}
+use Rattle.std.proofs.lemmas.Map.Iter.{rest_all, rest_more}
 use Rattle.literal_lists.specs.declared.literal.Literal.{Literal}
-use Rattle.term_table.specs.Terms.{Term, IsTermSet}
-use Rattle.term_table.specs.Tables.{TableContent}
+use Rattle.term_table.specs.Terms.{Term, terms_total, with_additions, IsTermSet}
+use Rattle.term_table.specs.Tables.{kept_at_once, TableContent}
+use Rattle.term_table.proofs.Additions.{terms_total-cons}
 use Rattle.term_table.proofs.KeptTerms.{OfSet}
 use Rattle.rosenberg_layer.specs.Rosenberg.{is_long, new_term, node}
 use Rattle.rosenberg_layer.specs.LongParts.{long_after}
@@ -62,3 +64,53 @@ loop-literals-preserved c =
           total_more old.terms _ (long_after c.args.pair w (t ∷ [])) t _ _ left more
           (total-after c.args.pair w t) c.loop-literals.invariant.small;
     }
+
+pub loop-literals-init : goal.loop-literals-init
+loop-literals-init c =
+    let kept = c.terms-literals-items.ensures.kept in
+    let none = c.new-terms.ensures in
+    let w = node c.args.number in
+    let all = c.into_iter-literals-iterator.ensures.into_iter_gives ∙ c.terms-literals-items.ensures.terms in
+    record {
+      width = ap (λ (u : TableContent). u.width) none;
+      whole = (λ i. (none i).terms ++ long_after c.args.pair w (all i));
+      sets =
+          subst (All (λ (u : Term). IsTermSet c.args.number u.0)) (sym all)
+          (subst (λ m. All (λ (u : Term). IsTermSet m u.0) c.args.long.now.content.terms) (sym c.requires.number)
+          kept.terms.sets);
+      high = subst (All (λ (u : Term). is_long u ≡ true)) (sym all) c.requires.long;
+      small = omega (arith, kept.small, ap (λ (u : TableContent). terms_total u.terms) none, ap terms_total all);
+    }
+
+pub gather_replaced-requires-clause-small : goal.gather_replaced-requires-clause-small
+gather_replaced-requires-clause-small c =
+    let t : Term = (c.in-Some.literals.now, c.in-Some.coefficient) in
+    let left =
+    rest_more _ c.loop-literals.literals-iterator c.next.new.self c.next.result
+    (c.in-Some.literals, c.in-Some.coefficient) c.in-Some.is c.next.ensures.steps in
+    let back = to_z-of_z w128 c.in-Some.coefficient (search rules) in
+    omega (
+      arith,
+      c.loop-literals.invariant.small,
+      ap terms_total left,
+      terms_total-cons t c.next.new.self,
+      ap unsigned_abs back,
+    )
+
+pub returns : goal.returns
+returns c =
+    let t = c.args.long.now.content in
+    let terms = c.loop-literals.terms in
+    let w = node c.args.number in
+    let none =
+    rest_all _ c.loop-literals.literals-iterator c.next.new.self c.next.result c.in-None.is
+    c.next.ensures.steps in
+    let all : terms.terms ≡ long_after c.args.pair w t.terms =
+    sym (append-nil terms.terms)
+    ∙ sym (ap (λ us. terms.terms ++ long_after c.args.pair w us) none)
+    ∙ c.loop-literals.invariant.whole in
+    c.into_table.ensures
+    ∙ (λ i. kept_at_once
+    (record { width = c.loop-literals.invariant.width i; terms = with_additions [] (all i) }))
+    ∙ ap (λ n. kept_at_once (record { width = n + 1; terms = with_additions [] (long_after c.args.pair (node n) t.terms) }))
+    c.requires.number
