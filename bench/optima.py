@@ -1,0 +1,51 @@
+"""Finds and proves least states of small models by trying all: a second program beside the solver.
+
+    first_least(made), certified(made, state, text)      # made is a Model of translation.py
+"""
+from itertools import product
+
+from readings import lines_of, value_of
+from translation import add, multiplied_out
+
+MOST_NODES = 12
+
+
+def first_least(made):
+    """The first least state, states being compared from node 0 on; none of a model too large."""
+    if made.nodes > MOST_NODES:
+        return None
+    return min(product((0, 1), repeat=made.nodes), key=made.energy)
+
+
+def over_bits(made):
+    """The energy as a sum of products of nodes: of spins, each is 2x - 1."""
+    table = {}
+    if made.target == 'qubo':
+        weighed = [((node,), weight) for node, weight in enumerate(made.linear)]
+        weighed += list(made.couplers.items())
+        for nodes, weight in weighed:
+            add(table, tuple((node, False) for node in nodes), weight)
+        return table
+    for node, weight in enumerate(made.linear):
+        add(table, ((node, False),), 2 * weight)
+        add(table, (), -weight)
+    for (i, j), weight in made.couplers.items():
+        add(table, ((i, False), (j, False)), 4 * weight)
+        add(table, ((i, False),), -2 * weight)
+        add(table, ((j, False),), -2 * weight)
+        add(table, (), weight)
+    return table
+
+
+def certified(made, state, text):
+    """Whether a good text proves a state: no line is negative, and the bound is reached."""
+    table = {}
+    for _, words in lines_of(text, 'plain'):
+        coefficient = value_of(words[0])
+        literals = {(int(word.lstrip(b'~')), word[:1] == b'~') for word in words[1:]}
+        if literals and coefficient < 0:
+            return False
+        if len({node for node, _ in literals}) == len(literals):
+            add(table, tuple(sorted(literals)), coefficient)
+    bound = table.get((), 0)
+    return multiplied_out(table) == over_bits(made) and made.energy(state) == bound
