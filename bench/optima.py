@@ -6,9 +6,9 @@ import re
 from itertools import product
 
 from readings import lines_of, value_of
-from translation import add, multiplied_out
+from translation import add, complements, multiplied_out
 
-MOST_NODES, MOST_LITERALS = 12, 8
+MOST_NODES, MOST_LITERALS, MOST_PRODUCTS = 12, 8, 2 ** 24
 LITERAL = re.compile(rb'(~?)([0-9]+)')
 
 
@@ -53,10 +53,10 @@ def line_of(made, words):
 def certified(made, state, text):
     """Whether a good text proves a state: no line is negative, and the bound is reached."""
     table = {}
-    for line in [line_of(made, words) for _, words in lines_of(text, 'plain')]:
-        if line is None:
-            return False
-        coefficient, literals = line
+    rows = [line_of(made, words) for _, words in lines_of(text, 'plain')]
+    if None in rows or sum(2 ** complements(literals) for _, literals in rows) > MOST_PRODUCTS:
+        return False
+    for coefficient, literals in rows:
         if literals and coefficient < 0:
             return False
         if len({node for node, _ in literals}) == len(literals):
