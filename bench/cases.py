@@ -4,11 +4,11 @@
     cases.py [--write] [--program PROGRAM] [CASE..]
 
 A case is a file of data/, which its words begin; the program of that crate says how it is laid out.
-Without names all cases of `args` are taken. Of each that is compiled, extended, decoded or sampled to
-a model on nodes, the answer is worked out by readings.py and translation.py, and compared with the
-block of `stdout`. What differs is printed, and how many cases were worked out. The others are models
-on a graph, `solve` and `prove`, wrong words, and missing or too long files. With --write `stdout` gets
-the blocks that were worked out, and keeps the others.
+Without names all cases of `args` are taken. Of each that asks for a model on nodes the answer is
+worked out by readings.py, translation.py, conflicts.py and optima.py, and compared with the block of
+`stdout`. What differs is printed, and how many cases were worked out. The others are models on a
+graph, `solve` of a model that is not small, what `prove` refuses, wrong words in front, and missing
+or too long files. With --write `stdout` gets the blocks that were worked out, and keeps the others.
 
 With PROGRAM, a built program, each case is run on files in a folder of its own, but for one whose file
 has an empty name, and status, output and error line are compared with `stdout`. Exits with 1 where
@@ -21,13 +21,15 @@ import subprocess
 import sys
 import tempfile
 
-from readings import Fault, read_source
+from optima import certified, first_least
+from readings import READERS, Fault, read_source
 from translation import Limit, Model, cost
 
 CRATE = os.path.join(os.path.dirname(os.path.abspath(__file__)), '..', 'crates', 'worked_examples')
 MOST_BYTES = 2 ** 24
 VALUES = {'normal': ('literal', 'multilinear'), 'high': ('monomial', 'rosenberg'),
-          'unit': ('one', 'reduce')}
+          'unit': ('one', 'reduce'), 'slack': ('bits', 'pairs')}
+OTHERS = {'compile': 0, 'size': 0, 'solve': 0, 'decode': 1, 'extend': 1, 'prove': 2}
 BASIS, PRIME = 14695981039346656037, 1099511628211    # of the hash FNV-1a
 
 
@@ -88,13 +90,28 @@ class OfAnotherKind(Exception):
     """Some run of a case is of another kind."""
 
 
+class Usage(Exception):
+    """The number of the first word that asks for nothing."""
+
+
 # ---- by the second program
 
-def keys_of(words):
-    """The keys of a model on nodes, or none where there are other words."""
-    keys = dict(word.split('=', 1) for word in words if '=' in word)
-    good = all(value in VALUES.get(key, ()) for key, value in keys.items())
-    return keys if good and len(keys) == len(words) else None
+def is_good(key, value):
+    """Whether a key of a model on nodes has this value."""
+    if key == 'bound':
+        return re.fullmatch('-?[0-9]+', value, re.A) is not None and abs(int(value)) < 2 ** 64
+    return value in VALUES.get(key, ())
+
+
+def keys_of(words, first):
+    """The keys of a model on nodes, of the words from a number on."""
+    keys = {}
+    for number, word in enumerate(words, first):
+        key, _, value = word.partition('=')
+        if key in keys or not is_good(key, value):
+            raise Usage(number)
+        keys[key] = value
+    return keys
 
 
 def sample_text(number, clauses):
@@ -121,10 +138,10 @@ def sample_text(number, clauses):
 def sampled(number, clauses, target, keys):
     """Status, output and line of `sample`."""
     good = number.isdigit() and clauses.isdigit() and target in ('qubo', 'ising')
-    if not good or keys is None or int(number) >= 2 ** 64 or int(clauses) > 100_000:
-        return None
+    if not good or int(number) >= 2 ** 64 or int(clauses) > 100_000:
+        raise OfAnotherKind
     problem = read_source('wcnf', sample_text(int(number), int(clauses)))
-    return 0, Model(problem, keys, target).summary(), ''
+    return 0, Model(problem, keys_of(keys, 5), target).summary(), ''
 
 
 def bits_of(text, length):
@@ -142,44 +159,89 @@ def costs(made, bits, energy):
     return f'cost {"infinite" if found is None else found}\nenergy {energy}\n'
 
 
-def answer(command, made, name, text):
-    """Status, output and line of `decode` or `extend` on the text of a state or an assignment."""
-    count = made.nodes if command == 'decode' else made.source.variables
-    bits = bits_of(text, count)
+def told(made, chosen):
+    """The rows of an assignment."""
+    names = ''.join(f'name {each} {bit}\n' for each, bit in zip(made.problem.names, chosen))
+    return f'assignment {"".join(map(str, chosen))}\n{names}'
+
+
+def optimum(made, state):
+    """The rows of a state that is least: its energy, and the optimum or that there is none."""
+    chosen = state[:made.source.variables]
+    found = cost(made.problem, chosen)
+    out = f'energy {made.energy(state)}\n'
+    if found is None or made.problem.most is not None and found > made.problem.most:
+        return out + 'infeasible\n'
+    return f'{out}{told(made, chosen)}optimum {found}\n'
+
+
+def solved(made):
+    """What `solve` writes for a small model."""
+    state = first_least(made)
+    if state is None:
+        raise OfAnotherKind
+    return f'state {"".join(map(str, state))}\n{optimum(made, state)}'
+
+
+def proved(made, state, text):
+    """What `prove` writes where a certificate proves a state."""
+    if not certified(made, state, text):
+        raise OfAnotherKind
+    return optimum(made, state)
+
+
+def answer(command, made, names, texts):
+    """Status, output and line of a command that reads files of these names behind the source."""
+    count = made.source.variables if command == 'extend' else made.nodes
+    bits = bits_of(texts[0], count)
     if bits is None:
-        return 8, '', f'{name}: no state of {count} characters\n'
+        return 8, '', f'{names[0]}: no state of {count} characters\n'
+    if command == 'prove':
+        return 0, proved(made, bits, texts[1]), ''
     if command == 'extend':
         state = made.extended(bits)
         out = f'state {"".join(map(str, state))}\n' + costs(made, bits, made.energy(state))
         return 0, out, ''
     chosen = bits[:made.source.variables]
-    names = ''.join(f'name {each} {bit}\n' for each, bit in zip(made.problem.names, chosen))
-    out = f'assignment {"".join(map(str, chosen))}\n{names}'
-    return 0, out + costs(made, chosen, made.energy(bits)), ''
+    return 0, told(made, chosen) + costs(made, chosen, made.energy(bits)), ''
 
 
-def worked_out(words, files):
-    """Status, output and line of a run; none where it is of another kind."""
-    found = dict(reversed(files))
-    command, layout, target, name, *rest = (words + [''] * 4)[:max(4, len(words))]
-    if command == 'sample':
-        return sampled(layout, target, name, keys_of(rest))
-    others = rest[:1] if command in ('decode', 'extend') else []
-    keys = keys_of(rest[len(others):])
-    if command not in ('compile', 'decode', 'extend') or target not in ('qubo', 'ising') \
-            or keys is None or any(each not in found for each in [name] + others):
-        return None
+def of_model(command, made, names, found):
+    """The same of each command."""
+    if names:
+        return answer(command, made, names, [found[each] for each in names])
+    return 0, {'compile': made.text, 'size': made.size}.get(command, lambda: solved(made))(), ''
+
+
+def of_source(words, found):
+    """The same of the words of a command with a source, and of its files by name."""
+    command, layout, target, name, *rest = words
+    names = rest[:OTHERS[command]]
+    keys = keys_of(rest[len(names):], 5 + len(names))
+    if any(each not in found for each in [name] + names):
+        raise OfAnotherKind
     if any(len(text) > MOST_BYTES for text in found.values()):
-        return None
+        raise OfAnotherKind
     try:
         made = Model(read_source(layout, found[name]), keys, target)
     except Fault as fault:
         return 5, '', f'{name}:{fault.line}: {fault.kind}\n'
     except Limit as limit:
         return 6, '', f'{name}: limit {limit.kind} {limit.number}\n'
-    if others:
-        return answer(command, made, others[0], found[others[0]])
-    return 0, made.text(), ''
+    return of_model(command, made, names, found)
+
+
+def work_out(words, files):
+    """Status, output and line of a run."""
+    try:
+        if words[:1] == ['sample'] and len(words) > 3:
+            return sampled(words[1], words[2], words[3], words[4:])
+        if words[:1] and words[0] in OTHERS and len(words) >= 4 + OTHERS[words[0]] \
+                and words[1] in READERS and words[2] in ('qubo', 'ising'):
+            return of_source(words, dict(reversed(files)))
+    except Usage as usage:
+        return 2, '', f'usage: word {usage.args[0]}\n'
+    raise OfAnotherKind
 
 
 # ---- by a built program
@@ -214,14 +276,6 @@ def case_of(name):
     """The case of a name."""
     with open(os.path.join(CRATE, 'data', name), encoding='utf-8', newline='') as file:
         return Case(file.read())
-
-
-def work_out(words, files):
-    """What comes of a run, by the second program."""
-    found = worked_out(words, files)
-    if found is None:
-        raise OfAnotherKind
-    return found
 
 
 def blocks_by(run, names):

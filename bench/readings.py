@@ -44,6 +44,7 @@ class Problem:
         self.objective, self.clauses, self.constraints = [], [], []
         self.names = []             # of a polynomial
         self.source = None          # of a WBO file: what it was rewritten from
+        self.most = None            # what costs more is infeasible
 
     def add_product(self, coefficient, literals):
         """A product of the objective, in normal form."""

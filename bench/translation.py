@@ -9,9 +9,11 @@ dictionary, and takes no step of the program. Models on a graph are none of its 
 from itertools import combinations
 from math import gcd
 
+from conflicts import without_conflicts
+
 MOST = {'variables': 2 ** 20, 'degree': 1024, 'negations': 8, 'pairs': 2 ** 24,
         'weight': 2 ** 64 - 1}
-USUAL = {'normal': 'literal', 'high': 'monomial', 'unit': 'one'}
+USUAL = {'normal': 'literal', 'high': 'monomial', 'unit': 'one', 'slack': 'bits', 'bound': None}
 
 
 class Limit(Exception):
@@ -57,6 +59,26 @@ def gain(problem):
             + sum(weight or 0 for weight, _ in problem.clauses))
 
 
+def own_upper(problem):
+    """No whole cost is greater, whatever the bound."""
+    return (problem.constant + sum(max(c, 0) for c, _ in problem.objective)
+            + sum(weight or 0 for weight, _ in problem.clauses))
+
+
+def upper(problem):
+    """No bounded cost is greater."""
+    return min(own_upper(problem), problem.most) if problem.most is not None else own_upper(problem)
+
+
+def penalty(problem):
+    """What a broken part adds at least: it lifts the least cost above all that count."""
+    most = gain(problem)
+    if problem.most is None:
+        return most + 1
+    least = own_upper(problem) - most
+    return max(1, min(most + 1, problem.most - least + 1))
+
+
 def pairs_of(constraint, factor):
     """What a constraint adds to the number of pairs."""
     degree = max((len(literals) for _, literals in constraint.terms), default=1)
@@ -77,12 +99,12 @@ def counted(problem, multilinear):
         sum(len(p) ** 2 * (2 ** complements(p) if multilinear else 1) for p in products)
         + sum(pairs_of(c, 2 ** k if multilinear else 1)
               for c, k in zip(problem.constraints, twice)))
-    most = gain(problem)
+    lift = penalty(problem)
     hard = sum(weight is None for weight, _ in problem.clauses)
     spread = [sum(abs(k) for k, _ in c.terms) + abs(c.bound) + reach(c)
               for c in problem.constraints]
-    yield 'weight', (abs(problem.constant) + most + hard * (most + 1)
-                     + sum((most + 1) * d ** 2 for d in spread))
+    yield 'weight', (abs(problem.constant) + gain(problem) + hard * lift
+                     + sum(lift * d ** 2 for d in spread))
 
 
 def check_limits(problem, multilinear):
@@ -111,13 +133,13 @@ def union(left, right):
 
 def penalties(problem):
     """The table of a problem, how many nodes it has, and its slack bits by constraint."""
-    penalty, nodes, table, slacks = gain(problem) + 1, problem.variables, {}, []
+    lift, nodes, table, slacks = penalty(problem), problem.variables, {}, []
     add(table, (), problem.constant)
     for coefficient, literals in problem.objective:
         add(table, literals, coefficient)
     for weight, literals in problem.clauses:
         broken = tuple((variable, not negated) for variable, negated in literals)
-        add(table, broken, penalty if weight is None else weight)
+        add(table, broken, lift if weight is None else weight)
     for constraint in problem.constraints:
         weights = slack_weights(constraint)
         terms = (constraint.terms + [(-constraint.bound, ())]
@@ -126,7 +148,7 @@ def penalties(problem):
             for right, other in terms:
                 both = union(one, other)
                 if both is not None:
-                    add(table, both, penalty * left * right)
+                    add(table, both, lift * left * right)
         nodes += len(weights)
         slacks.append(weights)
     return table, nodes, slacks
@@ -201,6 +223,9 @@ class Model:
     def __init__(self, problem, keys, target):
         keys = {**USUAL, **keys}
         multilinear = keys['normal'] == 'multilinear'
+        if keys['slack'] == 'pairs':
+            problem = without_conflicts(problem)
+        problem.most = None if keys['bound'] is None else int(keys['bound'])
         check_limits(problem, multilinear)
         self.problem, self.target = problem, target
         table, self.first, self.slacks = penalties(problem)
@@ -211,11 +236,9 @@ class Model:
         self.more = lower(table, self.first)
         self.nodes = self.first + len(self.more)
         self.source = problem.source or problem
-        upper = (problem.constant + sum(max(c, 0) for c, _ in problem.objective)
-                 + sum(weight or 0 for weight, _ in problem.clauses))
-        self.figure(multiplied_out(table), upper, keys['unit'] == 'reduce')
+        self.figure(multiplied_out(table), keys['unit'] == 'reduce')
 
-    def figure(self, table, upper, reduced):
+    def figure(self, table, reduced):
         """The weights and the figures, of a table of at most two variables a term."""
         constant = table.pop((), 0)
         linear, self.couplers = [0] * self.nodes, {}
@@ -234,7 +257,7 @@ class Model:
                 linear[i] += weight
                 linear[j] += weight
         self.linear = linear
-        self.offset, self.threshold = -constant, self.scale * upper - constant
+        self.offset, self.threshold = -constant, self.scale * upper(self.problem) - constant
         self.unit = (gcd(*self.linear, *self.couplers.values()) or 1) if reduced else 1
         self.linear = [weight // self.unit for weight in self.linear]
         self.couplers = {pair: weight // self.unit for pair, weight in self.couplers.items()}
@@ -254,6 +277,12 @@ class Model:
         """The six numbers of a sample."""
         return (f'nodes {self.nodes}\ncouplers {len(self.couplers)}\nscale {self.scale}\n'
                 f'offset {self.offset}\nthreshold {self.threshold}\nunit {self.unit}\n')
+
+    def size(self):
+        """The nine numbers of a size."""
+        sizes = [abs(weight) for weight in [*self.linear, *self.couplers.values()] if weight]
+        return (f'{self.summary()}variables {self.source.variables}\n'
+                f'least {min(sizes, default=0)}\ngreatest {max(sizes, default=0)}\n')
 
     def energy(self, bits):
         """The energy of a state."""

@@ -1,0 +1,65 @@
+"""Finds and proves least states of small models by trying all: a second program beside the solver.
+
+    first_least(made), certified(made, state, text)      # made is a Model of translation.py
+"""
+import re
+from itertools import product
+
+from readings import lines_of, value_of
+from translation import add, complements, multiplied_out
+
+MOST_NODES, MOST_LITERALS, MOST_PRODUCTS = 12, 8, 2 ** 24
+LITERAL = re.compile(rb'(~?)([0-9]+)')
+
+
+def first_least(made):
+    """The first least state, states being compared from node 0 on; none of a model too large."""
+    if made.nodes > MOST_NODES:
+        return None
+    return min(product((0, 1), repeat=made.nodes), key=made.energy)
+
+
+def over_bits(made):
+    """The energy as a sum of products of nodes: of spins, each is 2x - 1."""
+    table = {}
+    if made.target == 'qubo':
+        weighed = [((node,), weight) for node, weight in enumerate(made.linear)]
+        weighed += list(made.couplers.items())
+        for nodes, weight in weighed:
+            add(table, tuple((node, False) for node in nodes), weight)
+        return table
+    for node, weight in enumerate(made.linear):
+        add(table, ((node, False),), 2 * weight)
+        add(table, (), -weight)
+    for (i, j), weight in made.couplers.items():
+        add(table, ((i, False), (j, False)), 4 * weight)
+        add(table, ((i, False),), -2 * weight)
+        add(table, ((j, False),), -2 * weight)
+        add(table, (), weight)
+    return table
+
+
+def line_of(made, words):
+    """The coefficient of a line of a certificate and its literals, or none where it is not good."""
+    found = [LITERAL.fullmatch(word) for word in words[1:]]
+    coefficient = value_of(words[0])
+    if coefficient is None or None in found:
+        return None
+    literals = {(int(each.group(2)), bool(each.group(1))) for each in found}
+    within = all(node < made.nodes for node, _ in literals)
+    return (coefficient, literals) if within and len(literals) <= MOST_LITERALS else None
+
+
+def certified(made, state, text):
+    """Whether a good text proves a state: no line is negative, and the bound is reached."""
+    table = {}
+    rows = [line_of(made, words) for _, words in lines_of(text, 'plain')]
+    if None in rows or sum(2 ** complements(literals) for _, literals in rows) > MOST_PRODUCTS:
+        return False
+    for coefficient, literals in rows:
+        if literals and coefficient < 0:
+            return False
+        if len({node for node, _ in literals}) == len(literals):
+            add(table, tuple(sorted(literals)), coefficient)
+    bound = table.get((), 0)
+    return multiplied_out(table) == over_bits(made) and made.energy(state) == bound
