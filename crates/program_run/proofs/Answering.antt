@@ -22,7 +22,7 @@ use Rattle.answer_text.specs.Answers.{decoding_text, extension_text, proof_text,
 use Rattle.command_words.specs.declared.commands.NodeModel.{NodeModel}
 use Rattle.command_words.specs.declared.commands.NodeModel.TheVariants.{Qubo, Ising}
 use Rattle.command_words.specs.declared.commands.Ask.{Ask}
-use Rattle.command_words.specs.declared.commands.Ask.TheVariants.{Model, Summary, Size, Solve, Decode, Extend, Prove}
+use Rattle.command_words.specs.declared.commands.Ask.TheVariants.{Model, Summary, Size, Solve, Decode, Evaluate, Extend, Prove}
 use Rattle.command_words.specs.declared.commands.WordAt.{WordAt}
 use Rattle.command_words.specs.declared.commands.Ties.{Ties}
 use Rattle.command_words.specs.declared.commands.Ties.TheVariants.{Choi, Cut}
@@ -40,10 +40,13 @@ use Rattle.run_steps.specs.declared.placements.Placement.TheVariants.{Nodes, Qub
 use Rattle.run_steps.specs.declared.plans.Plan.{Plan}
 use Rattle.run_steps.specs.Placements.{ties_of, demand_of}
 use Rattle.run_steps.specs.Plans.{plan_of, nodes_in, StandsOn}
-use Rattle.run_steps.specs.Steps.{◌>>=◌, Last, Nothing, Bits, InOrder, bits_step, gives, checking, placing, planning, last_step, format_in}
-use Rattle.program_run.specs.Made.{bounded_cost, read_cost, IsExtendedBy, IsModelled, IsModelText, IsOfModel, IsSolvedBy, IsTold, IsMadeText}
-use Rattle.program_run.specs.Answers.{EveryStateStands, IsFirstBy, Extends, IsAnswer, IsAskedOf, IsDecoded, IsExtended, IsLeastAsked, IsLeastExtension, IsLeastWhereWhole, IsModelFor, IsProved, IsSolved, TellsSource}
+use Rattle.run_steps.specs.Steps.{◌>>=◌, Last, Nothing, Bits, InOrder, Several, bits_step, gives, checking, placing, planning, last_step, format_in}
+use Rattle.state_scores.specs.Scores.{IsSmall}
+use Rattle.program_run.specs.Made.{bounded_cost, judgement_by, read_cost, IsExtendedBy, IsModelled, IsModelText, IsOfModel, IsSolvedBy, IsTold, IsMadeText}
+use Rattle.program_run.specs.Answers.{EveryStateStands, judgement_of, IsFirstBy, Extends, IsAnswer, IsAskedOf, IsDecoded, IsExtended, IsLeastAsked, IsLeastExtension, IsLeastWhereWhole, IsModelFor, IsProved, IsSolved, TellsSource}
 use Rattle.run_steps.proofs.Stepping.{bits_were, bound}
+use Rattle.program_run.proofs.Scored.{alike_where_wide, scanned_widths, scored_alike}
+use Rattle.program_run.proofs.SmallCosts.{cost_is_small}
 use Rattle.program_run.proofs.Wanted.{costs_wanted, stands_wanted, wanted_names}
 use Rattle.program_run.proofs.Taken.{source_is_taken}
 use Rattle.program_run.proofs.Widths.{has_few_nodes}
@@ -296,6 +299,7 @@ module _ (plan : Plan) (s : Source) (m : Written) (names : Option (List (List �
   model_asked Size last text told = told
   model_asked (Solve order) last text told = absurd told
   model_asked (Decode at) last text told = absurd told
+  model_asked (Evaluate at) last text told = absurd told
   model_asked (Extend at) last text told = absurd told
   model_asked (Prove state certificate) last text told = absurd told
 
@@ -307,6 +311,7 @@ module _ (plan : Plan) (s : Source) (m : Written) (names : Option (List (List �
   bits_asked words held Summary bits text e told = absurd told
   bits_asked words held Size bits text e told = absurd told
   bits_asked words held (Solve order) bits text e told = absurd told
+  bits_asked words held (Evaluate at) bits text e told = absurd told
   bits_asked words held (Decode at) bits text e told =
       decoded bits text (stated_width held (text_at words at) m.nodes bits e) told
   bits_asked words held (Extend at) bits text e told =
@@ -332,6 +337,21 @@ module _ (plan : Plan) (s : Source) (m : Written) (names : Option (List (List �
   solved_asked order Nothing text told = solved None text told
   solved_asked order (InOrder nodes) text told = solved (Some nodes) text told
   solved_asked order (Bits bits) text told = absurd told
+  solved_asked order (Several states) text told = absurd told
+
+  -- the states that are read have the model's width
+  scored_asked : (words : List (List ℕ)) (held : NamedFiles) (at : WordAt) (last : Last)
+      (text : List ℕ) → (last_step words held (Evaluate at) plan m).end ≡ Some (Ok last)
+      → IsTold (Evaluate at) plan.read plan.choices m last text
+      → IsAskedOf (Evaluate at) s most names plan m last text
+  scored_asked words held at Nothing text e told = absurd told
+  scored_asked words held at (Bits bits) text e told = absurd told
+  scored_asked words held at (InOrder order) text e told = absurd told
+  scored_asked words held at (Several states) text e told =
+      let wide = scanned_widths held (text_at words at) m.nodes states e in
+      scored_alike (judgement_by plan.read m) (judgement_of s m) m plan.read.names names states text
+      (sym named) (alike_where_wide m.nodes (judgement_by plan.read m) (judgement_of s m) states wide
+      (λ y w. decoded_cost y w) (λ y. refl)) told
 
   alone_asked : (ask : Ask) (last : Last) (text : List ℕ) → IsOfModel ask → Nothing ≡ last
       → IsTold ask plan.read plan.choices m last text
@@ -348,6 +368,7 @@ module _ (plan : Plan) (s : Source) (m : Written) (names : Option (List (List �
       told_alone Size is t = t
       told_alone (Solve order) is t = absurd is
       told_alone (Decode at) is t = absurd is
+      told_alone (Evaluate at) is t = absurd is
       told_alone (Extend at) is t = absurd is
       told_alone (Prove state certificate) is t = absurd is
 
@@ -360,6 +381,7 @@ module _ (plan : Plan) (s : Source) (m : Written) (names : Option (List (List �
       alone_asked Summary last text tt (let two = e in cc) told
   asked_of words held Size last text e told = alone_asked Size last text tt (let two = e in cc) told
   asked_of words held (Solve order) last text e told = solved_asked order last text told
+  asked_of words held (Evaluate at) last text e told = scored_asked words held at last text e told
   asked_of words held (Decode at) last text e told = stepped words held (Decode at) last text e told
   asked_of words held (Extend at) last text e told = stepped words held (Extend at) last text e told
   asked_of words held (Prove state certificate) last text e told =
@@ -398,6 +420,9 @@ made_answers words held command plan text e made =
       by = made.made.by;
       stands = subst (λ u. IsModelFor plan.base u (nodes_in plan) (bounded most s.0) m) planned.unit
           stands;
+      small = λ x wide.
+          subst IsSmall (costs.same x wide)
+          (cost_is_small command.choices.normal plan.read.problem (carried plan.read.soft x) taken.within);
       few = has_few_nodes plan m made.made.can_stand made.made.by made.made.stands;
       last = made.last;
       read = made.read;

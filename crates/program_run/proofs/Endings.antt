@@ -1,5 +1,5 @@
 -- How the steps of a command end.
-use Rattle.std.proofs.Common.{◌≡◌, ℕ, ◌≤◌, IfOk, arith, inr, Bool, List, Ok, Err, Some, None, Result, refl, sym, ◌∙◌, subst}
+use Rattle.std.proofs.Common.{◌≡◌, ℕ, ◌≤◌, IfOk, arith, inl, inr, Bool, List, Ok, Err, Some, None, Result, refl, sym, ◌∙◌, subst}
 use Rattle.std.specs.declared.option.Option.{Option}
 use Rattle.bits_model.specs.Output.{Written}
 use Rattle.edge_io.specs.Counts.{Counts, Rose}
@@ -10,7 +10,7 @@ use Rattle.command_words.specs.declared.commands.Request.TheVariants as requests
 use Rattle.run_steps.specs.declared.plans.Plan.{Plan}
 use Rattle.run_steps.specs.declared.status.Status.{Status}
 use Rattle.run_steps.specs.declared.status.Status.TheVariants.{Done, Usage, ReadFault, WriteFault, BadText, Limit, NotEmbedded, TooWide, NotProved, NoState, NoMemory}
-use Rattle.run_steps.specs.Statuses.{IsReading, IsDoneOrWant, IsWriting}
+use Rattle.run_steps.specs.Statuses.{IsReading, IsRefusal, IsDoneOrWant, IsWriting}
 use Rattle.run_steps.specs.Steps.{Steps, Last, Refuses, planning, last_step}
 use Rattle.program_run.specs.Outcome.{AreFilesAsked, OfModel, IsEndOf, IsEnd, Ends, IsOutcomeOf, MeetsOutcomeOf}
 use Rattle.program_run.specs.Made.{IsModelled, EndsOf}
@@ -60,6 +60,21 @@ plan_ends (Limit which kind number) plans last plan e is = rw e is
 plan_ends (NoState width) plans last plan e is = rw e is
 plan_ends (TooWide node width) plans last plan e is = rw e is
 plan_ends (NotProved fault) plans last plan e is = rw e is
+
+-- the plan is refused
+pub plan_refused : (status : Status) (plans : Steps Plan) (last : Plan → Written → Steps Last)
+    → IsRefusal status → Refuses status plans → Ends status plans last
+plan_refused (ReadFault which) plans last refusal is = inl is
+plan_refused NoMemory plans last refusal is = tt
+plan_refused Done plans last refusal is = absurd refusal
+plan_refused WriteFault plans last refusal is = absurd refusal
+plan_refused (Usage position) plans last refusal is = absurd refusal
+plan_refused (NotEmbedded fault) plans last refusal is = rw is refl
+plan_refused (BadText which kind line) plans last refusal is = rw is refl
+plan_refused (Limit which kind number) plans last refusal is = rw is refl
+plan_refused (NoState width) plans last refusal is = rw is refl
+plan_refused (TooWide node width) plans last refusal is = rw is refl
+plan_refused (NotProved fault) plans last refusal is = rw is refl
 
 -- ---- there is one end
 
@@ -145,17 +160,17 @@ done_is_complete words held (Ok (requests.Notice notice)) status old new meets f
     written status meets quiet
   where
     written : (s : Status) → IsWriting s → (s ≡ WriteFault → ⊥) → IsDoneOrWant s
-    written Done is no = tt
-    written WriteFault is no = absurd (no refl)
-    written NoMemory is no = absurd is
-    written (Usage position) is no = absurd is
-    written (ReadFault which) is no = absurd is
-    written (BadText which kind line) is no = absurd is
-    written (Limit which kind number) is no = absurd is
-    written (NotEmbedded fault) is no = absurd is
-    written (NoState width) is no = absurd is
-    written (TooWide node width) is no = absurd is
-    written (NotProved fault) is no = absurd is
+    written Done is never = tt
+    written WriteFault is never = absurd (never refl)
+    written NoMemory is never = absurd is
+    written (Usage position) is never = absurd is
+    written (ReadFault which) is never = absurd is
+    written (BadText which kind line) is never = absurd is
+    written (Limit which kind number) is never = absurd is
+    written (NotEmbedded fault) is never = absurd is
+    written (NoState width) is never = absurd is
+    written (TooWide node width) is never = absurd is
+    written (NotProved fault) is never = absurd is
 done_is_complete words held (Ok (requests.Command command)) status old new meets files calm quiet done =
     done_is_met (planning words held command) (last_step words held command.ask) status done meets
     (λ which is. let cause = subst (λ s. AreFiles words command s old new) is files in

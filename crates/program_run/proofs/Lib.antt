@@ -2,11 +2,14 @@ pub mod Taken
 pub mod OneModel
 pub mod Endings
 pub mod Solving
+pub mod Evaluating
 pub mod Embedded
 pub mod MadeModels
 pub mod Widths
 pub mod Stood
 pub mod Wanted
+pub mod Scored
+pub mod SmallCosts
 pub mod Answering
 pub mod Asked
 pub mod Said

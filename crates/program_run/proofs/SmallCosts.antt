@@ -9,7 +9,7 @@ use Rattle.problem_form.specs.declared.limits.Normal.{Normal}
 use Rattle.problem_form.specs.declared.limits.Normal.TheVariants.{Literal, Multilinear}
 use Rattle.problem_form.specs.Problems.{ProblemContent, fails, fails_hard, own_cost, soft_cost, sum_of}
 use Rattle.problem_form.specs.Limits.{limit_fault, weight}
-use Rattle.problem_form.proofs.CostSizes.{cost_parts}
+use Rattle.problem_form.proofs.CostSizes.{soft_costs-size, sum_of-size}
 use Rattle.penalty_layer.proofs.Bounds.{within_limits}
 use Rattle.normal_form.proofs.Limits as multilinear
 use Rattle.state_scores.specs.Scores.{IsSmall}
@@ -29,4 +29,10 @@ cost_is_small normal p x none =
 
     go : (b : Bool) → IsSmall (if b then Infinite else Whole value)
     go true = tt
-    go false = omega (arith, ints, cost_parts p x, weight_is_small normal p none)
+    go false = omega (
+      arith,
+      ints,
+      sum_of-size x p.objective,
+      soft_costs-size x p.clauses,
+      weight_is_small normal p none,
+    )

@@ -13,6 +13,11 @@ use Rattle.command_words.specs.declared.commands.Ask.{Ask}
 use Rattle.command_words.specs.declared.commands.Ask.TheVariants.{Model, Summary, Size, Solve, Decode, Evaluate, Extend, Prove}
 use Rattle.source_texts.specs.declared.reading.Read.{Read}
 use Rattle.run_steps.specs.Steps.{Bits}
+use Rattle.state_file.specs.States.{StateLine}
+use Rattle.state_scores.specs.declared.worth.Score.{Score}
+use Rattle.state_scores.specs.Scores.{Judgement, score_of}
+use Rattle.state_scores.specs.Texts.{best_row, score_row}
+use Rattle.program_run.specs.Answers.{IsScored}
 use Rattle.program_run.specs.Made.{IsModelText, IsSolvedBy, IsTold}
 
 -- a row ends with a line feed
@@ -106,3 +111,15 @@ bits_some (Decode at) read choices m bits text is = same_some text _ is (decodin
 bits_some (Extend at) read choices m bits text is = same_some text _ is.said (extension_some _ _ _)
 bits_some (Prove state certificate) read choices m bits text is =
     same_some text _ is (proof_some _ _ _ _)
+
+-- the scores of states have a row for the best of them
+pub scored_some : (j : Judgement) (names : Option (List (List ℕ))) (m : Written)
+    (states : List StateLine) (text : List ℕ) → IsScored j names m states text → text ≢ []
+scored_some j names m states text is =
+    same_some text _ is.said
+    (λ none. go (map (score_of j) states) (score_of j is.best).line (empty_front _ _ none))
+  where
+    go : (scores : List Score) (line : ℕ) → rows_text (map score_row scores ++ best_row line ∷ []) ≢ []
+    go [] line = some_rows (best_row line) []
+    go (score ∷ scores) line =
+        some_rows (score_row score) (map score_row scores ++ best_row line ∷ [])

@@ -1,5 +1,5 @@
 -- What the steps that take a file have found where they succeed.
-use Rattle.std.proofs.Common.{◌≡◌, ℕ, List, Ok, Err, Some, None, Result}
+use Rattle.std.proofs.Common.{◌≡◌, ℕ, List, Ok, Err, Some, None, Result, refl, subst}
 use Rattle.std.specs.declared.option.Option.{Option}
 use Rattle.edge_io.specs.Held.{NamedFiles}
 use Rattle.whole_text.specs.declared.faults.TextFault.{TextFault}
@@ -23,9 +23,9 @@ pub text_is_read : {A : Type 0} (which : Which) (read : Result A TextFault) (x :
 text_is_read which (Ok y) x e = cc
 text_is_read which (Err fault) x e = absurd cc
 
-limits_keep : {A : Type 0} (which : Which) (x y : A) (fault : Option LimitFault) → limits_end which x fault ≡ Ok y
-    → x ≡ y
-limits_keep which x y None e = cc
+limits_keep : {A : Type 0} (which : Which) (x y : A) (fault : Option LimitFault)
+    → limits_end which x fault ≡ Ok y → (x ≡ y) × (fault ≡ None)
+limits_keep which x y None e = (cc, refl)
 limits_keep which x y (Some fault) e = absurd cc
 
 sourced_is_held : (words : List (List ℕ)) (held : NamedFiles) (origin : Origin) (text : List ℕ)
@@ -43,6 +43,7 @@ pub record IsTaken (words : List (List ℕ)) (held : NamedFiles) (command : Comm
   pub own : Read
   pub read : problem_of (format_in command.origin) text ≡ Ok own
   pub given : wanted command own ≡ made
+  pub within : limit_fault command.choices.normal made.problem ≡ None
 
 pub source_is_taken : (words : List (List ℕ)) (held : NamedFiles) (command : Command) (read : Read)
     → (checking words held command).end ≡ Some (Ok read)
@@ -63,5 +64,6 @@ source_is_taken words held command read e =
       found = sourced_is_held words held origin taken.0 taken.1;
       own = checked.0;
       read = text_is_read Source (problem_of (format_in origin) taken.0) checked.0 said;
-      given = same;
+      given = same.0;
+      within = subst (λ (r : Read). limit_fault command.choices.normal r.problem ≡ None) same.0 same.1;
     }

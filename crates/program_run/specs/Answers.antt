@@ -1,10 +1,10 @@
 -- What a command answers of the held files, and how the answer is delivered.
-use Rattle.std.specs.Prelude.{◌≡◌, ◌≢◌, ℕ, ◌+◌, ◌≤◌, ℤ, ◌+ℤ◌, ◌*ℤ◌, ◌≤ℤ◌, ◌<ℤ◌, Bool, List, [], length, reverse, Ok, Err, Some, None, Result, ⊤}
+use Rattle.std.specs.Prelude.{◌≡◌, ◌≢◌, ℕ, ◌+◌, ◌≤◌, ℤ, ◌+ℤ◌, ◌*ℤ◌, ◌≤ℤ◌, ◌<ℤ◌, Bool, List, [], length, map, reverse, Ok, Err, Some, None, Result, ⊤}
 use Rattle.std.specs.declared.option.Option.{Option}
 use Rattle.edge_io.specs.Held.{NamedFiles, find_file}
 use Rattle.edge_io.specs.Sinks.{Taken, Takes, TakesFront}
 use Rattle.base.specs.declared.unit.UnitChoice.{UnitChoice}
-use Rattle.base.specs.Costs.{Form, Source, energy}
+use Rattle.base.specs.Costs.{Form, IsOf, Source, energy}
 use Rattle.base.specs.declared.costs.Cost.TheVariants.{Whole}
 use Rattle.form_steps.specs.Relations.{Relaxes}
 use Rattle.bits_model.specs.Output.{Written, form_of, decoding_of}
@@ -34,6 +34,9 @@ use Rattle.command_words.specs.declared.names.Which.{Which}
 use Rattle.source_texts.specs.Sources.{source_of, names_of, bounded, carried}
 use Rattle.answer_text.specs.Answers.{decoding_text, extension_text, proof_text, solution_text}
 use Rattle.answer_text.specs.Sizes.{size_text}
+use Rattle.state_file.specs.States.{StateLine}
+use Rattle.state_scores.specs.Scores.{IsSmall, Judgement, best_of, score_of}
+use Rattle.state_scores.specs.Texts.{evaluation_text}
 use Rattle.basic_solve.specs.FirstLeast.{IsFirstLeast}
 use Rattle.elimination_order.specs.Renumbered.{IsFirstLeastBy}
 use Rattle.faithful.specs.Told.{TellsOptimum, whole_energy}
@@ -42,9 +45,9 @@ use Rattle.run_steps.specs.declared.placements.Placement.{Placement}
 use Rattle.run_steps.specs.declared.plans.Plan.{Plan}
 use Rattle.run_steps.specs.Placements.{kind_of, ties_of, demand_of}
 use Rattle.run_steps.specs.Plans.{nodes_in, IsModelBy}
-use Rattle.run_steps.specs.Steps.{Last, Nothing, Bits, InOrder, format_in, planning, last_step}
+use Rattle.run_steps.specs.Steps.{Last, Nothing, Bits, InOrder, Several, format_in, planning, last_step}
 use Rattle.program_run.specs.declared.answers.Answer.{Answer}
-use Rattle.program_run.specs.declared.answers.Answer.TheVariants.{Model, Text}
+use Rattle.program_run.specs.declared.answers.Answer.TheVariants.{Model, Scores, Text}
 use Rattle.run_steps.specs.declared.status.Status.{Status}
 use Rattle.run_steps.specs.declared.status.Status.TheVariants.{Done, WriteFault}
 use Rattle.run_steps.specs.Causes.{WhereHeld}
@@ -165,9 +168,26 @@ pub record IsProved (source : Source) (most : Option ℤ) (names : Option (List 
       ((decoding_of model).decoded state) names
       ((bounded most source).form.cost ((decoding_of model).decoded state))
 
+-- how the states of a model are judged: by what they cost the source, and by their energies
+abbrev pub judgement_of : Source → Written → Judgement
+judgement_of source model = record {
+  width = model.nodes;
+  cost = λ y. source.form.cost ((decoding_of model).decoded y);
+  energy = energy (form_of model);
+}
+
+-- the text says what each state of the model is worth, which is the best of them, and what that one
+-- decodes to, with these names of the variables
+pub record IsScored (j : Judgement) (names : Option (List (List ℕ))) (model : Written)
+    (states : List StateLine) (text : List ℕ) : Type 0 where
+  pub best : StateLine
+  pub first : best_of j states ≡ Some best
+  pub said : text ≡ evaluation_text (map (score_of j) states) (score_of j best)
+      ((decoding_of model).decoded best.1) names
+
 -- the text is what is asked: the model's own, its summary, its size, its first least state, what a
--- state decodes to, what an assignment extends to, or what a state that is proved to be least tells; the
--- costs of what is decoded or extended are the source's own, and all else is said of the source with
+-- state decodes to, what states are worth, what an assignment extends to, or what a state that is proved
+-- to be least tells; the costs of what is decoded or extended are the source's own, and all else is said of the source with
 -- the bound
 abbrev pub IsAskedOf : Ask → Source → Option ℤ → Option (List (List ℕ)) → Plan → Written → Last
     → List ℕ → Type 0
@@ -180,6 +200,8 @@ IsAskedOf (asks.Solve at) source most names plan model (InOrder order) text =
     IsSolved (Some order) source most names model text
 IsAskedOf (asks.Decode at) source most names plan model (Bits bits) text =
     IsDecoded source names model bits text
+IsAskedOf (asks.Evaluate at) source most names plan model (Several states) text =
+    IsScored (judgement_of source model) names model states text
 IsAskedOf (asks.Extend at) source most names plan model (Bits bits) text =
     IsExtended source most plan model bits text
 IsAskedOf (asks.Prove state certificate) source most names plan model (Bits bits) text =
@@ -190,8 +212,8 @@ IsAskedOf ask source most names plan model last text = ⊥
 
 -- the text answers the command: it is what is asked of the model that the command's plan makes of
 -- its source, with what is read once the model stands; the model stands for the source whose
--- assignments may cost at most the command's bound, and its nodes are at most the problem's variables
--- and the auxiliary bits
+-- assignments may cost at most the command's bound, whole costs of the source are below 2 ^ 64 in size,
+-- and the model's nodes are at most the problem's variables and the auxiliary bits
 pub record IsAnswer (words : List (List ℕ)) (held : NamedFiles) (command : Command) (text : List ℕ)
     : Type 0 where
   pub source : Source
@@ -202,6 +224,7 @@ pub record IsAnswer (words : List (List ℕ)) (held : NamedFiles) (command : Com
   pub by : IsModelBy plan model
   pub stands : IsModelFor plan.base command.unit (nodes_in plan)
       (bounded (most_of command.bound) source) model
+  pub small : (x : List Bool) → IsOf source.form x → IsSmall (source.form.cost x)
   pub few : form_nodes model
       ≤ plan.read.problem.variables + auxiliary_bits plan.choices.normal plan.read.problem
   pub last : Last
@@ -234,6 +257,7 @@ files_in words = files_asked (request_of words)
 -- the text of an answer
 abbrev pub text_of : Answer → List ℕ
 text_of (Model m) = model_text m
+text_of (Scores text) = text
 text_of (Text bytes) = bytes.items
 
 -- how a text is delivered to a sink: the whole of it, or a front of it where there was a fault

@@ -1,11 +1,13 @@
 -- What is answered once the model of a plan is made, in terms of the problem that was read.
-use Rattle.std.specs.Prelude.{◌≡◌, ℕ, Bool, List, Ok, Option, Some, None, Contains, ⊤}
+use Rattle.std.specs.Prelude.{◌≡◌, ◌<◌, ◌^◌, ℕ, Bool, List, length, Ok, Option, Some, None, Contains, ⊤}
 use Rattle.base.specs.declared.costs.Cost.{Cost}
 use Rattle.base.specs.Costs.{energy}
 use Rattle.bits_model.specs.Output.{Written, form_of, decoding_of}
 use Rattle.problem_form.specs.declared.limits.Choices.{Choices}
+use Rattle.problem_form.specs.declared.limits.Normal.{Normal}
 use Rattle.problem_form.specs.Problems.{ProblemContent, cut_off, own_cost}
 use Rattle.problem_form.specs.Problems as problems
+use Rattle.problem_form.specs.Limits.{limit_fault}
 use Rattle.model_text.specs.Rows.{model_text}
 use Rattle.model_text.specs.Summary.{summary_text}
 use Rattle.answer_text.specs.Answers.{decoding_text, extension_text, proof_text, solution_text}
@@ -15,17 +17,18 @@ use Rattle.model_pipeline.specs.declared.kept.Keeping.TheVariants.{Unwanted, Wan
 use Rattle.model_pipeline.specs.Extensions.{extension_of, state_on, ExtendsTo, IsLeastTo, IsMadeOf}
 use Rattle.command_words.specs.declared.commands.Ties.TheVariants.{Choi}
 use Rattle.command_words.specs.declared.commands.Ask.{Ask}
-use Rattle.command_words.specs.declared.commands.Ask.TheVariants.{Model, Summary, Size, Solve, Decode, Extend, Prove}
+use Rattle.command_words.specs.declared.commands.Ask.TheVariants.{Model, Summary, Size, Solve, Decode, Evaluate, Extend, Prove}
 use Rattle.source_texts.specs.declared.reading.Read.{Read}
-use Rattle.source_texts.specs.Sources.{carried}
+use Rattle.source_texts.specs.Sources.{KeepsSoft, carried}
+use Rattle.state_scores.specs.Scores.{Judgement}
 use Rattle.run_steps.specs.declared.plans.Plan.{Plan}
 use Rattle.run_steps.specs.declared.status.Status.{Status}
 use Rattle.run_steps.specs.declared.status.Status.TheVariants.{Done, ReadFault, WriteFault, NoMemory}
 use Rattle.run_steps.specs.Placements.{ties_of}
 use Rattle.run_steps.specs.Plans.{CanStand, IsModelBy, Stands}
-use Rattle.run_steps.specs.Steps.{Steps, Last, Nothing, Bits, InOrder, last_step}
+use Rattle.run_steps.specs.Steps.{Steps, Last, Nothing, Bits, InOrder, Several, last_step}
 use Rattle.program_run.specs.Outcome.{OfModel, IsEndOf}
-use Rattle.program_run.specs.Answers.{IsFirstBy}
+use Rattle.program_run.specs.Answers.{IsFirstBy, IsScored}
 use Rattle.edge_io.specs.Held.{NamedFiles}
 
 -- the model is that of the plan, which can stand, and stands for its problem, of which it was made
@@ -83,6 +86,31 @@ least_text read m bits =
     proof_text (energy (form_of m) bits) ((decoding_of m).decoded bits) read.names
     (bounded_cost read ((decoding_of m).decoded bits))
 
+-- how the states of a model are judged: by the costs of what they decode to, and by their energies
+abbrev pub judgement_by : Read → Written → Judgement
+judgement_by read m = record {
+  width = m.nodes;
+  cost = λ y. read_cost read ((decoding_of m).decoded y);
+  energy = energy (form_of m);
+}
+
+-- the problem is within the limits of some normal form
+abbrev pub IsWithin : ProblemContent → Type 0
+IsWithin p = (normal : Normal) × (limit_fault normal p ≡ None)
+
+-- a model whose states are judged, and what was read of its source
+pub record Judged : Type 0 where
+  pub read : Read
+  pub model : Written
+
+-- states of the model can be judged, with this room for what they decode to
+pub record CanJudge (read : Read) (m : Written) (x : List Bool) : Type 0 where
+  pub within : IsWithin read.problem
+  pub kept : KeepsSoft read
+  pub variables : m.variables ≡ read.variables
+  pub room : length x ≡ m.variables
+  pub narrow : m.variables < 2 ^ 32
+
 -- what asks for the model, or for what the model alone tells
 abbrev pub IsOfModel : Ask → Type 0
 IsOfModel Model = ⊤
@@ -102,6 +130,8 @@ abbrev pub IsTold : Ask → Read → Choices → Written → Last → List ℕ �
 IsTold (Solve at) read choices m Nothing text = IsSolvedBy None read m text
 IsTold (Solve at) read choices m (InOrder order) text = IsSolvedBy (Some order) read m text
 IsTold (Decode at) read choices m (Bits bits) text = text ≡ state_text read m bits
+IsTold (Evaluate at) read choices m (Several states) text =
+    IsScored (judgement_by read m) read.names m states text
 IsTold (Extend at) read choices m (Bits bits) text = IsExtendedBy choices read m bits text
 IsTold (Prove state certificate) read choices m (Bits bits) text = text ≡ least_text read m bits
 IsTold ask read choices m Nothing text = IsModelText ask m text

@@ -1,6 +1,7 @@
 //! What a command answers.
 ghost use Rattle.std.specs.Prelude.{◌≡◌, ◌≢◌, [], None, IfOk, IfErr, Ok};
 ghost use Rattle.problem_form.specs.Limits.{limit_fault};
+ghost use Rattle.command_words.specs.declared.commands.Request.TheVariants as requests;
 ghost use Rattle.command_words.specs.Commands.{HasFewClauses};
 ghost use Rattle.command_words.specs.Names.{files_of, last_files};
 ghost use Rattle.source_texts.specs.Sources.{KeepsSoft};
@@ -12,7 +13,7 @@ ghost use Rattle.run_steps.specs.Statuses.{ended, IsRefusal};
 ghost use Rattle.program_run.specs.Answers.{text_of, IsAnswer};
 ghost use Rattle.run_steps.specs.Causes.{AreFiles, AreFilesOf, WhereHeld, spelled, named_in};
 
-use crate::made::{answer_in_order, answer_solved, answer_state, model_given};
+use crate::made::{answer_evaluated, answer_in_order, answer_solved, answer_state, model_given};
 use answer_text::written_size;
 use base::NoMemory;
 use bits_model::OutputModel;
@@ -20,25 +21,29 @@ use command_words::{Ask, Command};
 use edge_io::Files;
 use model_text::written_summary;
 use run_steps::{Plan, Status, take_plan};
+use state_scores::EvaluationText;
 use std::alloc::Global;
 
-/// What is written for a command: a model, whose text is written row by row, or a text.
+/// What is written for a command: a model or scores, whose text is written row by row, or a text.
 #[derive(Drop)]
 pub enum Answer {
     Model(OutputModel),
+    Scores(EvaluationText),
     Text(Vec<u8>),
 }
 
 /// The text of a model or of what it tells, as an answer.
 fn told_of(alloc: Global, ask: Ask, model: OutputModel) -> Result<Answer, NoMemory>
     requires { IsOfModel ask }
-    ensures told { IfOk result (λ answer. IsModelText ask model (text_of answer)) }
-    ensures some { IfOk result (λ answer. text_of answer ≢ []) }
+    ensures { IfOk result (λ answer. IsModelText ask model (text_of answer)) }
 {
     match ask {
         Ask::Summary => Ok(Answer::Text(written_summary(alloc, &model)?)),
         Ask::Size => Ok(Answer::Text(written_size(alloc, &model)?)),
-        _ => Ok(Answer::Model(model)),
+        Ask::Model => Ok(Answer::Model(model)),
+        Ask::Solve(_) | Ask::Decode(_) | Ask::Evaluate(_) | Ask::Extend(_) | Ask::Prove(..) => {
+            unreachable!()
+        }
     }
 }
 
@@ -48,7 +53,6 @@ fn answer_model(alloc: Global, ask: Ask, plan: Plan) -> Result<Answer, Status>
     requires within { limit_fault plan.choices.normal plan.read.problem ≡ None }
     requires kept { KeepsSoft plan.read }
     ensures made { IfOk result (λ answer. IsTextOfModelled ask plan (text_of answer)) }
-    ensures some { IfOk result (λ answer. text_of answer ≢ []) }
     ensures refused { IfErr result (IsUnembedded plan) }
 {
     match model_given(alloc, plan) {
@@ -86,20 +90,30 @@ fn answer_by<F: Files>(
                 Err(status) => Err(status),
             }
         }
-        Ask::Solve(None) => {
-            let solved = answer_solved(alloc, &plan);
-            // dropped in each arm, since others move it: else each end would ask whether it is there
-            drop(plan);
-            match solved {
-                Ok(text) => Ok(Answer::Text(text)),
-                Err(status) => Err(status),
+        Ask::Solve(order) => match order {
+            None => {
+                let solved = answer_solved(alloc, &plan);
+                // dropped in each arm, since others move it: else each end would ask whether it is there
+                drop(plan);
+                match solved {
+                    Ok(text) => Ok(Answer::Text(text)),
+                    Err(status) => Err(status),
+                }
             }
-        }
-        Ask::Solve(Some(at)) => {
-            let ordered = answer_in_order(alloc, words, command, at, &plan, files);
+            Some(at) => {
+                let ordered = answer_in_order(alloc, words, command, at, &plan, files);
+                drop(plan);
+                match ordered {
+                    Ok(text) => Ok(Answer::Text(text)),
+                    Err(status) => Err(status),
+                }
+            }
+        },
+        Ask::Evaluate(at) => {
+            let evaluated = answer_evaluated(alloc, words, command, at, &plan, files);
             drop(plan);
-            match ordered {
-                Ok(text) => Ok(Answer::Text(text)),
+            match evaluated {
+                Ok(text) => Ok(Answer::Scores(text)),
                 Err(status) => Err(status),
             }
         }
@@ -123,7 +137,7 @@ pub fn answer_to<F: Files>(
 ) -> Result<Answer, Status>
     requires { HasFewClauses command.origin }
     ensures step { WhereHeld (F.held files.old) (files_of command) (λ held.
-        MeetsOutcomeOf (spelled words.now) held (Ok command) (ended result)) }
+        MeetsOutcomeOf (spelled words.now) held (Ok (requests.Command command)) (ended result)) }
     ensures files { AreFiles (spelled words.now) command (ended result)
         (F.counts files.old) (F.counts files.new) }
     ensures answer { IfOk result (λ answer. WhereHeld (F.held files.old) (files_of command)

@@ -10,6 +10,7 @@ use bits_model::OutputModel;
 use edge_io::{LineBuffer, Sink, write_pieces};
 use model_text::write_text;
 use run_steps::Status;
+use state_scores::EvaluationText;
 
 /// Writes the text of a model row by row, through a buffer.
 fn deliver_model<O: Sink>(model: &OutputModel, buffer: &mut LineBuffer, out: &mut O) -> Status
@@ -20,6 +21,23 @@ fn deliver_model<O: Sink>(model: &OutputModel, buffer: &mut LineBuffer, out: &mu
     ensures refused { OnRefusal result (out.new ≡ out.old) }
 {
     match write_text(model, buffer, out) {
+        Ok(()) => Status::Done,
+        Err(_) => Status::WriteFault,
+    }
+}
+
+/// Writes the text of an evaluation row by row, through a buffer.
+fn deliver_scores<O: Sink>(
+    text: &EvaluationText,
+    buffer: &mut LineBuffer,
+    out: &mut O,
+) -> Status
+    requires unused { buffer.old ≡ [] }
+    ensures delivered { IsDelivered result (O.taken out.old) (O.taken out.new) text.now }
+    ensures fault { result ≡ Status.WriteFault → Rose (O.faults out.old) (O.faults out.new) }
+    ensures refused { OnRefusal result (out.new ≡ out.old) }
+{
+    match text.write(buffer, out) {
         Ok(()) => Status::Done,
         Err(_) => Status::WriteFault,
     }
@@ -47,6 +65,7 @@ pub fn deliver<O: Sink>(answer: &Answer, buffer: &mut LineBuffer, out: &mut O) -
 {
     match answer {
         Answer::Model(model) => deliver_model(model, buffer, out),
+        Answer::Scores(text) => deliver_scores(text, buffer, out),
         Answer::Text(text) => deliver_text(text, out),
     }
 }

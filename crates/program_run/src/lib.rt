@@ -5,6 +5,7 @@
 mod answers;
 mod decode;
 mod delivery;
+mod evaluate;
 mod extend;
 mod laws;
 mod lines;

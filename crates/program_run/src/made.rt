@@ -15,6 +15,7 @@ ghost use Rattle.run_steps.specs.Statuses.{ended, IsRefusal, IsUnsolved};
 ghost use Rattle.run_steps.specs.Causes.{AreFilesOf, WhereHeld, spelled, named_in};
 
 use crate::decode::{bounded_cost, decoded, decoded_text, proved_text};
+use crate::evaluate::states_evaluated;
 use crate::extend::extended_text;
 use crate::models::model_on;
 use answer_text::written_solution;
@@ -27,6 +28,7 @@ use elimination_order::solve_by;
 use model_pipeline::Keeping;
 use run_steps::{Plan, Status, take_last, take_order};
 use source_texts::Read;
+use state_scores::EvaluationText;
 use std::alloc::Global;
 
 /// The model of a plan, which is let go. Its problem is, as soon as a form stands in its place.
@@ -127,6 +129,13 @@ fn solved_text(
     written_solution(alloc, state, energy, &x, &read.names, cost)
 }
 
+/// How many nodes a model has.
+pub fn nodes_of(model: &OutputModel) -> usize
+    ensures { result ≡ model.now.nodes }
+{
+    model.nodes as usize
+}
+
 /// The status where a model isn't solved.
 fn unsolved(answer: SolveAnswer) -> Status
     ensures { result ≡ unsolved answer }
@@ -198,7 +207,8 @@ fn solved_in_order<F: Files>(
     ensures some { IfOk result (λ text. text.items ≢ []) }
     ensures refusal { IfErr result IsRefusal }
 {
-    let order = match take_order(alloc, words, command, at, model.nodes as usize, files) {
+    let nodes = nodes_of(model);
+    let order = match take_order(alloc, words, command, at, nodes, files) {
         Ok(order) => order,
         Err(status) => return Err(status),
     };
@@ -238,6 +248,36 @@ pub fn answer_in_order<F: Files>(
     let mut kept = Keeping::Unwanted;
     match model_lent(alloc, plan, &mut kept) {
         Ok(model) => solved_in_order(alloc, words, command, at, plan, &model, files),
+        Err(status) => Err(status),
+    }
+}
+
+/// Takes states of the plan's model from the file of this name, and says what each is worth, which is
+/// the best, and what that one decodes to.
+pub fn answer_evaluated<F: Files>(
+    alloc: Global,
+    words: &[String],
+    command: Command,
+    at: WordAt,
+    plan: &Plan,
+    files: &mut F,
+) -> Result<EvaluationText, Status>
+    requires asked { command.ask ≡ Ask.Evaluate at }
+    requires within { limit_fault plan.now.choices.normal plan.now.read.problem ≡ None }
+    requires kept { KeepsSoft plan.now.read }
+    ensures step { WhereHeld (F.held files.old) (last_files command) (λ held.
+        EndsOf (ended result) plan.now
+        (last_step (spelled words.now) held command.ask plan.now)) }
+    ensures files { AreFilesOf (named_in words.now command) []
+        (last_files command) (ended result) (F.counts files.old) (F.counts files.new) }
+    ensures answer { IfOk result (λ text. WhereHeld (F.held files.old) (last_files command) (λ held.
+        IsMadeTextOf (spelled words.now) held command.ask plan.now text)) }
+    ensures some { IfOk result (λ text. text ≢ []) }
+    ensures refusal { IfErr result IsRefusal }
+{
+    let mut kept = Keeping::Unwanted;
+    match model_lent(alloc, plan, &mut kept) {
+        Ok(model) => states_evaluated(alloc, words, command, at, plan, &model, files),
         Err(status) => Err(status),
     }
 }

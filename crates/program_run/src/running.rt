@@ -2,7 +2,7 @@
 ghost use Rattle.std.specs.Prelude.{◌≡◌, ℕ, Ok, Err, IfOk, IfErr};
 ghost use Rattle.edge_io.specs.Counts.{Rose};
 ghost use Rattle.command_words.specs.declared.commands.Request.TheVariants as requests;
-ghost use Rattle.command_words.specs.Commands.{asked, HasFewClauses};
+ghost use Rattle.command_words.specs.Commands.{asked, AsksForFewClauses, HasFewClauses};
 ghost use Rattle.command_words.specs.Notices.{notice_text};
 ghost use Rattle.run_steps.specs.Statuses.{IsUsageOf, OnUsage, OnWriting, OnDone, OnRefusal};
 ghost use Rattle.program_run.specs.Outcome.{AreFilesAsked, MeetsOutcome, NoFault};
@@ -43,8 +43,7 @@ fn name_in(words: &[String], asked: Result<Request, usize>, status: Status) -> &
 /// takes no memory.
 fn request_asked(words: &[String]) -> Result<Request, Status>
     ensures request { IfOk result (λ request. asked words.now ≡ Ok request) }
-    ensures few { (command : Command) → result ≡ Ok (requests.Command command)
-        → HasFewClauses command.origin }
+    ensures few { IfOk result AsksForFewClauses }
     ensures usage { IfErr result (λ status.
         (at : ℕ) × (status ≡ Status.Usage at) × (asked words.now ≡ Err at)) }
 {

@@ -5,9 +5,18 @@ use Rattle.run_steps.specs.Steps.{planning, last_step}
 use Rattle.program_run.specs.Answers.{text_of}
 use Rattle.run_steps.proofs.FilesRead.{made_refused, made_then}
 use Rattle.run_steps.proofs.Holding.{may_first, may_next}
-use Rattle.program_run.proofs.Endings.{plan_ends}
+use Rattle.program_run.proofs.Endings.{plan_ends, plan_refused}
 use Rattle.program_run.proofs.Answering.{made_answers}
 use Rattle.program_run.proofs.answers.answer_to.Goals as goal
+
+pub returns-in-Err-clause-step : goal.returns-in-Err-clause-step
+returns-in-Err-clause-step g c = λ held may.
+    let words = map string_bytes c.args.words.now in
+    let command = c.args.command in
+    plan_refused c.in-Err.status (planning words held command) (last_step words held command.ask)
+    c.in-Err.ensures.refusal
+    (c.in-Err.ensures.step held
+    (may_first (g.F.Files.held c.args.files.now) (model_files command) (last_files command) held may))
 
 pub returns-in-Err-clause-files : goal.returns-in-Err-clause-files
 returns-in-Err-clause-files g c =

@@ -1,4 +1,6 @@
-use Rattle.std.proofs.Common.{[], Err, None, ap}
+use Rattle.std.proofs.Common.{[], Err, None, sym, ap, subst}
+use Rattle.bits_model.specs.Output.{form_of}
+use Rattle.basic_solve.specs.FirstLeast.{IsFirstLeast}
 use Rattle.run_steps.specs.Steps.{Nothing, solving}
 use Rattle.program_run.proofs.Endings.{last_gives}
 use Rattle.program_run.proofs.MadeModels.{own_variables}
@@ -32,10 +34,13 @@ returns-in-Ok-solved_text-clause-answer c =
       made = c.requires.modelled;
       last = Nothing;
       read = narrow_ends m c.in-Ok.ensures.narrow;
-      told = c.in-Ok-solved_text.ensures None c.in-Ok.ensures.state;
+      told = c.in-Ok-solved_text.ensures None
+          (subst (IsFirstLeast (form_of m)) (sym c.deref.ensures.value) c.in-Ok.ensures.state);
     }
 
 pub returns-in-Ok-solved_text-clause-some : goal.returns-in-Ok-solved_text-clause-some
 returns-in-Ok-solved_text-clause-some c =
     solved_some None c.args.plan.now.read c.args.model.now _
-    (c.in-Ok-solved_text.ensures None c.in-Ok.ensures.state)
+    (c.in-Ok-solved_text.ensures None
+    (subst (IsFirstLeast (form_of c.args.model.now)) (sym c.deref.ensures.value)
+    c.in-Ok.ensures.state))

@@ -1,12 +1,12 @@
 use Rattle.std.proofs.Common.{map, string_bytes}
-use Rattle.command_words.specs.Commands.{command_of}
+use Rattle.command_words.specs.Commands.{request_of}
 use Rattle.program_run.proofs.Endings.{done_is_complete}
 use Rattle.program_run.proofs.running.answered.Goals as goal
 
-pub returns-in-Ok-clause-complete : goal.returns-in-Ok-clause-complete
-returns-in-Ok-clause-complete g c = λ calm quiet held may done.
+pub returns-in-Ok-Command-clause-complete : goal.returns-in-Ok-Command-clause-complete
+returns-in-Ok-Command-clause-complete g c = λ calm quiet held may done.
     let words = map string_bytes c.args.words.now in
     let ends = c.carried_out.ensures in
-    done_is_complete words held (command_of words) c.carried_out.result
+    done_is_complete words held (request_of words) c.carried_out.result
     (g.F.Files.counts c.args.files.now) (g.F.Files.counts c.carried_out.new.files)
     (ends.outcome held may) ends.files calm (λ is. quiet (ends.write_fault is)) done

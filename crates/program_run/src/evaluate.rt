@@ -1,0 +1,171 @@
+//! The states of a file, each judged by the cost of what it decodes to and by its energy.
+ghost use Rattle.std.specs.Prelude.{◌≡◌, ◌≢◌, ◌+◌, ◌<◌, ◌^◌, [], None, length, IfOk, IfErr, IsErrOf};
+ghost use Rattle.problem_form.specs.Limits.{limit_fault};
+ghost use Rattle.command_words.specs.declared.commands.Ask.TheVariants as asks;
+ghost use Rattle.command_words.specs.Names.{last_files};
+ghost use Rattle.state_file.specs.States.{states_of};
+ghost use Rattle.source_texts.specs.Sources.{KeepsSoft};
+ghost use Rattle.run_steps.specs.Steps.{last_step};
+ghost use Rattle.run_steps.specs.Statuses.{ended, IsRefusal};
+ghost use Rattle.run_steps.specs.Causes.{AreFilesOf, WhereHeld, spelled, named_in};
+ghost use Rattle.state_scores.specs.Scores.{IsEvaluation, IsSmall};
+ghost use Rattle.program_run.specs.Answers.{IsScored};
+ghost use Rattle.program_run.specs.Made.{EndsOf, IsMadeTextOf, IsModelled, IsWithin, judgement_by, read_cost};
+
+use crate::decode::decoded;
+use crate::made::nodes_of;
+use base::{Cost, NoMemory};
+use bits_model::{OutputModel, energy_of};
+use command_words::{Command, WordAt};
+use edge_io::Files;
+use run_steps::{Plan, Status, take_states};
+use source_texts::{Read, cost_of};
+use state_file::StateAnswer;
+use state_scores::{Evaluation, EvaluationText, Judge, evaluate};
+use std::alloc::Global;
+use std::marker::Model;
+
+/// What an assignment costs, whose size is below 2^64.
+fn small_cost(read: &Read, x: &[bool]) -> Cost
+    requires within { IsWithin read.now.problem }
+    requires kept { KeepsSoft read.now }
+    requires width { length x.now ≡ read.now.variables }
+    requires narrow { length x.now < 2 ^ 32 }
+    ensures cost { result ≡ read_cost read.now x.now }
+    ensures small { IsSmall result }
+{
+    cost_of(read, x)
+}
+
+/// Who judges the states of a model: by its source, and with room for what a state decodes to.
+#[derive(Drop)]
+struct ModelJudge<'a> {
+    read: &'a Read,
+    model: &'a OutputModel,
+    x: Vec<bool>,
+}
+
+impl<'a> Model for ModelJudge<'a> {
+    ghost use Rattle.program_run.specs.Made.{CanJudge, Judged};
+
+    ghost Value = { Judged };
+
+    ghost view = { λ judge. record { read = judge.read.now; model = judge.model.now } };
+
+    ghost invariant = { λ judge. CanJudge judge.read.now judge.model.now judge.x.items };
+}
+
+impl ModelJudge<'_> {
+    /// The judge of a model of this source.
+    fn new<'a>(
+        alloc: Global,
+        read: &'a Read,
+            model: &'a OutputModel,
+    ) -> Result<ModelJudge<'a>, NoMemory>
+        requires within { IsWithin read.now.problem }
+        requires kept { KeepsSoft read.now }
+        requires variables { model.now.variables ≡ read.now.variables }
+        ensures { IfOk result (λ judge. judge ≡ record { read = read.now; model = model.now }) }
+    {
+        let mut x = Vec::new(alloc);
+        x.resize(model.variables as usize, false)?;
+        Ok(ModelJudge {
+            read,
+            model,
+            x,
+        })
+    }
+}
+
+impl Judge for ModelJudge<'_> {
+    ghost judgement = { λ judge. judgement_by judge.read judge.model };
+
+    fn cost(&mut self, state: &[bool]) -> Cost {
+        let read = self.read;
+        let model = self.model;
+        model.read_off(state, &mut self.x);
+        small_cost(read, &self.x)
+    }
+
+    fn energy(&self, state: &[bool]) -> i128 {
+        let model = self.model;
+        energy_of(model.kind, state, &model.entries)
+    }
+}
+
+/// What the states of a text are worth, and the best of them.
+fn judged(
+    alloc: Global,
+    read: &Read,
+    model: &OutputModel,
+    text: &[u8],
+) -> Result<Evaluation, StateAnswer>
+    requires within { IsWithin read.now.problem }
+    requires kept { KeepsSoft read.now }
+    requires variables { model.now.variables ≡ read.now.variables }
+    requires short { length text.now + 1 < 2 ^ 32 }
+    ensures evaluated { IfOk result (λ found. IsEvaluation (judgement_by read.now model.now)
+        (states_of model.now.nodes text.now) found.scores found.best found.state.items) }
+    ensures no_state { IsErrOf result StateAnswer.NoState
+        → states_of model.now.nodes text.now ≡ [] }
+{
+    let mut judge = ModelJudge::new(alloc, read, model)?;
+    evaluate(alloc, text, model.nodes as usize, &mut judge)
+}
+
+/// What is written for the states of a text.
+fn evaluated_text(
+    alloc: Global,
+    read: &Read,
+    model: &OutputModel,
+    text: &[u8],
+) -> Result<EvaluationText, StateAnswer>
+    requires within { IsWithin read.now.problem }
+    requires kept { KeepsSoft read.now }
+    requires variables { model.now.variables ≡ read.now.variables }
+    requires short { length text.now + 1 < 2 ^ 32 }
+    ensures told { IfOk result (IsScored (judgement_by read.now model.now) read.now.names model.now
+        (states_of model.now.nodes text.now)) }
+    ensures no_state { IsErrOf result StateAnswer.NoState
+        → states_of model.now.nodes text.now ≡ [] }
+{
+    let evaluation = judged(alloc, read, model, text)?;
+    let x = decoded(alloc, model, &evaluation.state)?;
+    Ok(EvaluationText::new(alloc, evaluation, &x, &read.names)?)
+}
+
+/// Takes states of a model of a plan from the file of this name, and says what each is worth, which is
+/// the best, and what that one decodes to.
+pub fn states_evaluated<F: Files>(
+    alloc: Global,
+    words: &[String],
+    command: Command,
+    at: WordAt,
+    plan: &Plan,
+    model: &OutputModel,
+    files: &mut F,
+) -> Result<EvaluationText, Status>
+    requires asked { command.ask ≡ asks.Evaluate at }
+    requires within { limit_fault plan.now.choices.normal plan.now.read.problem ≡ None }
+    requires kept { KeepsSoft plan.now.read }
+    requires modelled { IsModelled plan.now model.now }
+    ensures step { WhereHeld (F.held files.old) (last_files command) (λ held.
+        EndsOf (ended result) plan.now
+        (last_step (spelled words.now) held command.ask plan.now)) }
+    ensures files { AreFilesOf (named_in words.now command) []
+        (last_files command) (ended result) (F.counts files.old) (F.counts files.new) }
+    ensures answer { IfOk result (λ text. WhereHeld (F.held files.old) (last_files command) (λ held.
+        IsMadeTextOf (spelled words.now) held command.ask plan.now text)) }
+    ensures some { IfOk result (λ text. text ≢ []) }
+    ensures refusal { IfErr result IsRefusal }
+{
+    let bytes = match take_states(alloc, words, command, at, files) {
+        Ok(bytes) => bytes,
+        Err(status) => return Err(status),
+    };
+    match evaluated_text(alloc, &plan.read, model, &bytes) {
+        Ok(text) => Ok(text),
+        Err(StateAnswer::NoState) => Err(Status::NoState(nodes_of(model))),
+        Err(StateAnswer::NoMemory) => Err(Status::NoMemory),
+    }
+}
