@@ -54,11 +54,11 @@ fn found_by(alloc: Global, model: &OutputModel, text: &TokenText) -> Outcome {
     }
 }
 
-fn words_of(alloc: Global, text: &str) -> Result<TokenText, NoMemory>
+fn words_of(alloc: Global, text: &[u8]) -> Result<TokenText, NoMemory>
     requires { length text.now ≤ 2 ^ 24 }
 {
     let mut lexer = Lexer::new(alloc, Style::Plain);
-    lexer.feed(text.as_bytes())?;
+    lexer.feed(text)?;
     lexer.finish()
 }
 
@@ -66,7 +66,7 @@ fn found(alloc: Global, model: &OutputModel, text: &str) -> Outcome {
     if text.len() > MOST_BYTES {
         return Outcome::Nothing;
     }
-    match words_of(alloc, text) {
+    match words_of(alloc, text.as_bytes()) {
         Ok(text) => found_by(alloc, model, &text),
         Err(NoMemory) => Outcome::Nothing,
     }
