@@ -1,8 +1,9 @@
 //! Orders in which the nodes of a model are eliminated.
 //!
-//! A text of words goes in, and out comes the order, which names each node once, or the first fault.
-//! With an order a model goes in, and out comes its first least state, compared from the node that is
-//! eliminated last on, or the first node in the order that has too many neighbours by then.
+//! A text of words goes in, and out comes the order, which names each node once, or the first
+//! fault. With an order a model goes in, and out comes its first least state, compared from the
+//! node that is eliminated last on, or the first node in the order that has too many neighbours by
+//! then.
 #![tactic(auto)]
 
 mod laws;

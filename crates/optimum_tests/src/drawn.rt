@@ -56,7 +56,7 @@ fn are_within(literals: &[Literal], variables: u64) -> bool
 }
 
 /// Adds a weight of two nodes, or of one where both are the same, if the problem has them.
-fn add_weight(
+pub fn add_weight(
     alloc: Global,
     problem: &mut Problem,
     first: u64,

@@ -9,6 +9,8 @@ mod certificates;
 #[cfg(test)]
 mod drawn;
 #[cfg(test)]
+mod orders;
+#[cfg(test)]
 mod read_states;
 #[cfg(test)]
 mod solving;

@@ -67,7 +67,7 @@ fn target_of(seed: u32) -> (Target, u32) {
     }
 }
 
-fn drawn_model(alloc: Global, seed: u32) -> Result<Option<OutputModel>, NoMemory> {
+pub fn drawn_model(alloc: Global, seed: u32) -> Result<Option<OutputModel>, NoMemory> {
     let (target, nodes) = target_of(seed);
     let mut dice = Dice {
         state: u64::from(seed),
