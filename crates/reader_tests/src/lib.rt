@@ -7,6 +7,8 @@
 #[cfg(test)]
 mod command_rows;
 #[cfg(test)]
+mod judged_lines;
+#[cfg(test)]
 mod memory_ends;
 #[cfg(test)]
 mod pieces;
