@@ -8,6 +8,7 @@
 mod command_rows;
 #[cfg(test)]
 mod conflicts;
+mod judged_lines;
 #[cfg(test)]
 mod memory_ends;
 #[cfg(test)]

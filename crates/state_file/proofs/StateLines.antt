@@ -1,14 +1,16 @@
 -- The lines of a text that are states: the first of them, how many there are, and where lines are cut.
-use Rattle.std.proofs.Common.{◌≡◌, ℕ, ◌+◌, ◌<◌, ◌≤◌, Bool, true, false, List, [], ◌∷◌, ◌++◌, length, map, take, drop, get_or, set, cond, not, arith, refl, sym, ap, ◌∙◌}
+use Rattle.std.proofs.Common.{◌≡◌, ℕ, ◌+◌, ◌<◌, ◌≤◌, Bool, true, false, ◌&&◌, List, [], ◌∷◌, ◌++◌, length, map, take, drop, get_or, set, cond, not, arith, refl, sym, ap, ◌∙◌}
 use Rattle.std.specs.Prelude.{find, slice_get, Some}
-use Rattle.std.specs.List.{All, slice_split, onto_first, position_or_len, filter, enumerate_from}
+use Rattle.std.specs.List.{All, list_all, slice_split, onto_first, position_or_len, filter, enumerate_from}
 use Rattle.std.specs.Option.{option_map}
 use Rattle.std.proofs.lemmas.List.{take_more, take_more_set, take_all, map-append, length-map}
 use Rattle.std.proofs.lemmas.List.Elements.{All-cons, All-nil}
+use Rattle.std.proofs.Math.Bool.{and-true}
+use Rattle.std.proofs.lemmas.List.Folds.{list_all-append}
 use Rattle.std.proofs.lemmas.List.FromFn.{length-enumerate_from}
 use Rattle.std.proofs.lemmas.List.Sums.{length-filter, count_by-le-length}
 use Rattle.std.proofs.lemmas.List.Splits.{length-slice_split, slice_split_first}
-use Rattle.state_file.specs.States.{StateLine, is_feed, is_one, is_state, lines_of, states_from, trimmed_line}
+use Rattle.state_file.specs.States.{StateLine, is_bit, is_feed, is_one, is_state, lines_of, states_from, trimmed_line}
 
 -- ---- the states among lines
 
@@ -90,6 +92,16 @@ first_line text line end counted within trimmed =
     ∙ ap (λ (t : List ℕ). t ∷ lines_of (drop (end + 1) text)) (sym trimmed)
 
 -- ---- the bits of a line
+
+-- one byte more was looked at
+pub bytes_more : (bytes : List ℕ) (i : ℕ) → i < length bytes
+    → list_all is_bit (take (i + 1) bytes)
+    ≡ (list_all is_bit (take i bytes) && is_bit (get_or bytes i 0))
+bytes_more bytes i within =
+    let byte = get_or bytes i 0 in
+    ap (list_all is_bit) (take_more bytes i 0 within)
+    ∙ list_all-append is_bit (take i bytes) (byte ∷ [])
+    ∙ ap (λ (bit : Bool). list_all is_bit (take i bytes) && bit) (and-true (is_bit byte))
 
 -- one bit more was written
 pub bits_more : (bits : List Bool) (state : List ℕ) (i : ℕ) (bit : Bool) → i < length bits

@@ -78,10 +78,15 @@ fn is_bit(byte: u8) -> bool
     is_zero(byte) || is_one(byte)
 }
 
+/// Whether each byte stands for a bit. All are looked at, so that many are at once.
 fn are_bits(bytes: &[u8]) -> bool
     ensures { result ≡ list_all is_bit bytes.now }
 {
-    bytes.iter().all(|byte| is_bit(*byte))
+    let mut all = true;
+    for byte in bytes {
+        all &= is_bit(*byte);
+    }
+    all
 }
 
 /// Whether a trimmed line is a state of this many bits.

@@ -127,6 +127,7 @@ impl Evaluation {
         ensures filled { let first : StateLine = (self.old.best.line, self.old.state.items) in
             OnOk result (IsEvaluation (J.judgement judge.old) (first ∷ states.old.states)
             self.new.scores self.new.best self.new.state.items) }
+        ensures kept { length self.new.state.items ≡ length self.old.state.items }
         ensures same { J.judgement judge.new ≡ J.judgement judge.old }
     {
         while let Some(line) = states.next_into(bits) {
@@ -149,6 +150,7 @@ impl Evaluation {
         requires lines { All (λ state. state.0 < 2 ^ 32) states.old.states }
         ensures filled { OnOk result (IsEvaluation (J.judgement judge.old) states.old.states
             self.new.scores self.new.best self.new.state.items) }
+        ensures kept { length self.new.state.items ≡ length self.old.state.items }
         ensures no_state { IsErrOf result StateAnswer.NoState → states.old.states ≡ [] }
         ensures same { J.judgement judge.new ≡ J.judgement judge.old }
     {
@@ -172,6 +174,7 @@ fn evaluated<J: Judge>(
     requires short { length text.now + 1 < 2 ^ 32 }
     ensures evaluated { IfOk result (λ found. IsEvaluation (J.judgement judge.old)
         (states_of (length bits.old) text.now) found.scores found.best found.state.items) }
+    ensures width { IfOk result (λ found. length found.state.items ≡ length bits.old) }
     ensures no_state { IsErrOf result StateAnswer.NoState →
         states_of (length bits.old) text.now ≡ [] }
     ensures same { J.judgement judge.new ≡ J.judgement judge.old }
@@ -197,6 +200,7 @@ pub fn evaluate<J: Judge>(
     requires short { length text.now + 1 < 2 ^ 32 }
     ensures evaluated { IfOk result (λ found. IsEvaluation (J.judgement judge.old)
         (states_of width text.now) found.scores found.best found.state.items) }
+    ensures width { IfOk result (λ found. length found.state.items ≡ width) }
     ensures no_state { IsErrOf result StateAnswer.NoState → states_of width text.now ≡ [] }
     ensures same { J.judgement judge.new ≡ J.judgement judge.old }
 {
