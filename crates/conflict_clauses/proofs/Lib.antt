@@ -1,5 +1,6 @@
 pub mod Added
 pub mod Apart
+pub mod Finding
 pub mod Lists
 pub mod Missing
 pub mod Replaced

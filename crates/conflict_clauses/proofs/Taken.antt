@@ -1,17 +1,17 @@
 -- A constraint that is taken to be replaced: what it wants, and of which variables.
-use Rattle.std.proofs.Common.{◌≡◌, ℕ, zero, suc, ◌+◌, ◌<◌, ◌≤◌, Bool, true, false, cond, not, leb, refl, sym, ap, ◌∙◌, arith, subst, List, [], ◌∷◌, ◌++◌, length, map, Some, None, ℤ, pos, negsuc}
+use Rattle.std.proofs.Common.{◌≡◌, ℕ, zero, suc, ◌+◌, ◌<◌, ◌≤◌, Bool, true, false, cond, not, leb, refl, sym, ap, ◌∙◌, arith, subst, List, [], ◌∷◌, ◌++◌, map, Some, ℤ, pos, negsuc}
 use Rattle.std.specs.Prelude.{All}
-use Rattle.std.specs.List.{filter, slice_get, sum_by}
-use Rattle.std.proofs.lemmas.Bool.{and_from, and_parts, le-leb, leb-true}
-use Rattle.std.proofs.lemmas.List.{length-map}
+use Rattle.std.specs.List.{filter, list_all, slice_get, sum_by}
+use Rattle.std.proofs.lemmas.Bool.{and_parts, leb-true}
 use Rattle.std.proofs.lemmas.List.Elements.{All-cons, All-head, All-map, All-nil, All-tail, All-weaker}
 use Rattle.std.proofs.lemmas.List.Sums.{sum_by-cons}
 use Rattle.literal_lists.specs.declared.literal.Literal.{Literal}
 use Rattle.problem_form.specs.declared.terms.Product.{Product}
 use Rattle.problem_form.specs.declared.terms.Constraint.{Constraint}
 use Rattle.problem_form.specs.Problems.{IsNormalProduct}
-use Rattle.conflict_clauses.specs.Conflicts.{is_conflict, is_needed, most_pairs, most_products, others, pair_count, pairs, pairs_of, room, wanted, wanted_literal}
-use Rattle.conflict_clauses.specs.Steps.{AreWithin, IsTaken, alone}
+use Rattle.conflict_clauses.specs.Conflicts.{is_conflict, is_needed, is_single, most_pairs, pairs, pairs_of, wanted, wanted_literal}
+use Rattle.conflict_clauses.specs.declared.conflicts.Found.{Found}
+use Rattle.conflict_clauses.specs.Steps.{AreWithin, IsFound, IsTaken, alone}
 use Rattle.conflict_clauses.proofs.Missing.{parts_of}
 
 -- ---- an element at a place
@@ -82,48 +82,6 @@ literals_within variables ls q ts normal same =
 
 -- ---- the answers
 
--- what the room of a conflict says
-pub record Found (k : Constraint) (r : ℕ) : Type 0 where
-  pub conflict : is_conflict k ≡ true
-  pub room : r ≡ room k
-
-pub found : (k : Constraint) (r : ℕ) → Some r ≡ cond (is_conflict k) (Some (room k)) None → Found k r
-found k r some = go (is_conflict k) refl some
-  where
-    go : (b : Bool) → is_conflict k ≡ b → Some r ≡ cond b (Some (room k)) None → Found k r
-    go true e some = record { conflict = e; room = cc }
-    go false e some = cc
-
-counted : (k : Constraint) (r : ℕ) (ls : List Literal) → r ≡ room k
-    → map alone ls ≡ map wanted (filter (λ t. not (is_needed r t)) k.products)
-    → length ls ≡ length (others k)
-counted k r ls e same =
-    sym (length-map ls alone)
-    ∙ ap length same
-    ∙ length-map (filter (λ t. not (is_needed r t)) k.products) wanted
-    ∙ ap (λ n. length (filter (λ t. not (is_needed n t)) k.products)) e
-
-filter_short : {A : Type 0} (q : A → Bool) (xs : List A) → length (filter q xs) ≤ length xs
-filter_short q [] = omega arith
-filter_short q (x ∷ xs) = go (q x) (filter_short q xs)
-  where
-    go : (b : Bool) → length (filter q xs) ≤ length xs
-        → length (cond b (x ∷ filter q xs) (filter q xs)) ≤ length (x ∷ xs)
-    go true h = omega (arith, h)
-    go false h = omega (arith, h)
-
-pub few_others : (k : Constraint) (r : ℕ) (os : List Literal) → Found k r
-    → map alone os ≡ map wanted (filter (λ t. not (is_needed r t)) k.products)
-    → length os ≤ most_products
-few_others k r os f same =
-    let parts = parts_of k f.conflict in
-    omega (
-      arith,
-      counted k r os f.room same,
-      filter_short (λ t. not (is_needed (room k) t)) k.products,
-      parts.few,
-    )
-
 pub taken-bound : (variables spent : ℕ) (k : Constraint) (as' os : List Literal) (n : ℕ)
     → IsTaken variables spent k as' os n → spent + n ≤ most_pairs
 taken-bound variables spent k as' os n t =
@@ -131,22 +89,24 @@ taken-bound variables spent k as' os n t =
     (and_parts (is_conflict k) (leb (spent + pairs k) most_pairs) t.replaced).1 in
     omega (arith, within, t.counted)
 
-pub taken : (variables spent : ℕ) (k : Constraint) (r n : ℕ) (as' os : List Literal) → Found k r
-    → All (IsNormalProduct variables) k.products
-    → map alone as' ≡ map wanted (filter (is_needed r) k.products)
-    → map alone os ≡ map wanted (filter (λ t. not (is_needed r t)) k.products)
-    → n ≡ pair_count (length os) → spent + n ≤ most_pairs
-    → IsTaken variables spent k as' os n
-taken variables spent k r n as' os f normal alones pairs' count within =
-    let all : n ≡ pairs k = count ∙ ap pair_count (counted k r os f.room pairs') in
-    record {
-      replaced = and_from (is_conflict k) (leb (spent + pairs k) most_pairs) f.conflict
-          (le-leb (spent + pairs k) most_pairs (omega (arith, within, all)));
-      counted = all;
-      lists = (λ i. alones i ++ pairs_of (pairs' i))
-          ∙ ap (λ m. map wanted (filter (is_needed m) k.products)
-          ++ pairs_of (map wanted (filter (λ t. not (is_needed m t)) k.products))) f.room;
-      alones_within = literals_within variables as' (is_needed r) k.products normal alones;
-      others_within =
-          literals_within variables os (λ t. not (is_needed r t)) k.products normal pairs';
-    }
+pub taken : (variables spent : ℕ) (k : Constraint) (f : Found) (as' os : List Literal)
+    → IsFound spent k f → All (IsNormalProduct variables) k.products
+    → map alone as' ≡ map wanted (filter (is_needed f.room) k.products)
+    → map alone os ≡ map wanted (filter (λ t. not (is_needed f.room t)) k.products)
+    → IsTaken variables spent k as' os f.pairs
+taken variables spent k f as' os h normal alones pairs' = record {
+  replaced = h.replaced;
+  counted = h.pairs;
+  lists = (λ i. alones i ++ pairs_of (pairs' i))
+      ∙ ap (λ m. map wanted (filter (is_needed m) k.products)
+      ++ pairs_of (map wanted (filter (λ t. not (is_needed m t)) k.products))) h.room;
+  alones_within = literals_within variables as' (is_needed f.room) k.products normal alones;
+  others_within =
+      literals_within variables os (λ t. not (is_needed f.room t)) k.products normal pairs';
+}
+
+-- its products are of one literal each
+pub found_single : (spent : ℕ) (k : Constraint) (f : Found) → IsFound spent k f
+    → list_all is_single k.products ≡ true
+found_single spent k f h =
+    (parts_of k (and_parts (is_conflict k) (leb (spent + pairs k) most_pairs) h.replaced).0).single

@@ -1,10 +1,12 @@
 -- What the steps of the replacement make: clauses that are added, and marks of the constraints.
-use Rattle.std.specs.Prelude.{◌≡◌, ℕ, ◌<◌, Bool, true, false, not, List, [], ◌∷◌, ◌++◌, map, All, Option, Some, MatchOption}
+use Rattle.std.specs.Prelude.{◌≡◌, ℕ, ◌<◌, pos, int_lt, nat_lt, nat_le, Bool, true, false, not, ◌&&◌, List, [], ◌∷◌, ◌++◌, length, map, All, Option, Some, MatchOption}
 use Rattle.std.specs.List.{slice_get}
 use Rattle.literal_lists.specs.declared.literal.Literal.{Literal}
 use Rattle.problem_form.specs.declared.terms.Constraint.{Constraint}
+use Rattle.problem_form.specs.Limits.{positive_total}
 use Rattle.problem_form.specs.Problems.{ProblemContent}
-use Rattle.conflict_clauses.specs.Conflicts.{clauses_from, clauses_of, hard_clauses, is_replaced, pairs, pairs_of, spent_after, wanted_lists}
+use Rattle.conflict_clauses.specs.Conflicts.{clauses_from, clauses_of, hard_clauses, is_replaced, most_products, pairs, pairs_of, room, spent_after, wanted_lists}
+use Rattle.conflict_clauses.specs.declared.conflicts.Found.{Found}
 
 -- the list of one literal
 abbrev pub alone : Literal → List Literal
@@ -46,3 +48,18 @@ abbrev pub IsTakenAt : ProblemContent → ℕ → ℕ → List Literal → List 
 IsTakenAt p i spent alones others taken =
     (k : Constraint) → slice_get p.constraints i ≡ Some k
     → MatchOption taken (is_replaced spent k ≡ false) (IsTaken p.variables spent k alones others)
+
+-- a constraint that may be a conflict: no equation, with products that are not too many, that can
+-- hold
+abbrev pub may_conflict : Constraint → Bool
+may_conflict k =
+    not k.exact
+    && nat_lt 0 (length k.products)
+    && nat_le (length k.products) most_products
+    && not (int_lt (pos (positive_total k.products)) k.bound)
+
+-- a constraint that is replaced after so many pairs, with its room and its pairs
+pub record IsFound (spent : ℕ) (k : Constraint) (f : Found) : Type 0 where
+  pub replaced : is_replaced spent k ≡ true
+  pub room : f.room ≡ room k
+  pub pairs : f.pairs ≡ pairs k

@@ -1,15 +1,19 @@
 //! Which constraints are conflicts.
-ghost use Rattle.std.specs.Prelude.{◌≡◌, ◌<◌, ◌^◌, pos, ◌-ℤ◌, int_lt, unsigned_abs, if◌then◌else◌, IfSome, Some, None};
+ghost use Rattle.std.specs.Prelude.{◌≡◌, ◌<◌, ◌≤◌, ◌^◌, ◌&&◌, pos, ◌-ℤ◌, int_lt, unsigned_abs, not, count_by, length, if◌then◌else◌, IfSome, IsSome, MatchOption, Some, None, false};
 ghost use Rattle.base.specs.Sums.{positive_part};
 ghost use Rattle.std.specs.List.{list_all};
 ghost use Rattle.problem_form.specs.Limits.{positive_total};
 ghost use Rattle.problem_form.specs.Problems.{constraint_total, products_total};
-ghost use Rattle.conflict_clauses.specs.Conflicts.{are_apart, each_two, is_conflict, is_single, room};
+ghost use Rattle.conflict_clauses.specs.Conflicts.{are_apart, each_two, is_needed, is_replaced, is_single, most_pairs, pair_count, room};
+ghost use Rattle.conflict_clauses.specs.Steps.{IsFound, may_conflict};
 
 use problem_form::{ConstraintRef, ProductRef, Products, positive_coefficients};
 
 /// The most products of a conflict.
 const MOST_PRODUCTS: usize = 1024;
+
+/// The most pairs of all conflicts that are replaced.
+const MOST_PAIRS: usize = 2_097_152;
 
 fn is_single(product: ProductRef<'_>) -> bool
     ensures { result ≡ is_single product.entry }
@@ -55,22 +59,75 @@ fn room_above(products: Products<'_>, bound: i128) -> Option<u128>
     Some((most - bound).unsigned_abs())
 }
 
-/// The room of a constraint, where it is a conflict.
-pub(crate) fn conflict_room(constraint: &ConstraintRef<'_>) -> Option<u128>
+/// The room of a constraint that may be a conflict: no equation, with products that are not too
+/// many, that can hold.
+fn room_of(constraint: &ConstraintRef<'_>) -> Option<u128>
     requires { constraint_total constraint.now < 2 ^ 100 }
-    ensures { result ≡ (if is_conflict constraint.now then Some (room constraint.now) else None) }
+    ensures room { result
+        ≡ (if may_conflict constraint.now then Some (room constraint.now) else None) }
+    ensures few { IsSome result → length constraint.now.products ≤ 1024 }
+    ensures small { IfSome result (λ room. room < 2 ^ 101) }
 {
     let count = constraint.products.len();
     if constraint.exact || count == 0 || count > MOST_PRODUCTS {
         return None;
     }
-    if !all_single(constraint.products.again()) {
+    room_above(constraint.products.again(), constraint.bound)
+}
+
+/// How many products may miss where no other does.
+fn count_others(products: Products<'_>, room: u128) -> usize
+    ensures { result ≡ count_by (λ t. not (is_needed room t)) products.entry }
+{
+    products
+        .filter(|product| product.coefficient.unsigned_abs() <= room)
+        .count()
+}
+
+/// How many pairs there are of so many.
+fn pair_count(count: usize) -> usize
+    requires { count ≤ 1024 }
+    ensures result { result ≡ pair_count count }
+    ensures small { result ≤ most_pairs }
+{
+    if count == 0 {
+        return 0;
+    }
+    count * (count - 1) / 2
+}
+
+/// Whether all products are of one literal, and no two may miss.
+fn are_conflicting(products: Products<'_>, room: u128) -> bool
+    requires small { products_total products < 2 ^ 100 }
+    requires room { room < 2 ^ 101 }
+    ensures { result
+        ≡ (list_all is_single products.entry && each_two (are_apart room) products.entry) }
+{
+    all_single(products.again()) && all_apart(products, room)
+}
+
+/// A conflict that is to be replaced: its room, and its pairs.
+#[derive(Clone, Copy)]
+pub(crate) struct Found {
+    pub(crate) room: u128,
+    pub(crate) pairs: usize,
+}
+
+/// A constraint, where it is to be replaced after so many pairs. Whether there is room for its own
+/// pairs is looked at first, since that tells most of those that stay.
+pub(crate) fn find_conflict(constraint: &ConstraintRef<'_>, spent: usize) -> Option<Found>
+    requires small { constraint_total constraint.now < 2 ^ 100 }
+    requires spent { spent ≤ most_pairs }
+    ensures { MatchOption result (is_replaced spent constraint.now ≡ false)
+        (IsFound spent constraint.now) }
+{
+    let room = room_of(constraint)?;
+    let pairs = pair_count(count_others(constraint.products.again(), room));
+    if spent + pairs > MOST_PAIRS {
         return None;
     }
-    let room = room_above(constraint.products.again(), constraint.bound)?;
-    if all_apart(constraint.products.again(), room) {
-        Some(room)
-    } else {
-        None
+    if !are_conflicting(constraint.products.again(), room) {
+        return None;
     }
+    Some(Found { room, pairs })
 }

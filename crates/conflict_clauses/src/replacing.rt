@@ -2,29 +2,14 @@
 ghost use Rattle.std.specs.Prelude.{◌≡◌, ◌<◌, ◌≤◌, ◌^◌, [], not, OnOk, IfOk, Some, length, slice_get};
 ghost use Rattle.problem_form.specs.declared.terms.Constraint.{Constraint};
 ghost use Rattle.problem_form.specs.Problems.{problem_total};
-ghost use Rattle.conflict_clauses.specs.Conflicts.{CostsAlike, is_replaced, most_pairs, pair_count, spent_after, without_conflicts};
+ghost use Rattle.conflict_clauses.specs.Conflicts.{CostsAlike, is_replaced, most_pairs, spent_after, without_conflicts};
 ghost use Rattle.conflict_clauses.specs.Steps.{IsTakenAt, staying, with_clauses_from, with_clauses_of};
 
 use crate::clauses::{Wanted, add_each, add_pairs, take_wanted};
-use crate::conflicts::conflict_room;
+use crate::conflicts::{Found, find_conflict};
 use base::NoMemory;
 use problem_form::Problem;
 use std::alloc::Global;
-
-/// The most pairs of all conflicts that are replaced.
-const MOST_PAIRS: usize = 2_097_152;
-
-/// How many pairs there are of so many.
-fn pair_count(count: usize) -> usize
-    requires { count ≤ 1024 }
-    ensures result { result ≡ pair_count count }
-    ensures small { result ≤ most_pairs }
-{
-    if count == 0 {
-        return 0;
-    }
-    count * (count - 1) / 2
-}
 
 /// Takes what the constraint at a place wants, where it is to be replaced after so many pairs, and
 /// says how many pairs it has.
@@ -41,14 +26,10 @@ fn take_at(
         (IsTakenAt problem.now i spent lists.new.needed.items lists.new.others.items) }
 {
     let constraint = problem.constraints.at(i);
-    let Some(room) = conflict_room(&constraint) else {
+    let Some(Found { room, pairs }) = find_conflict(&constraint, spent) else {
         return Ok(None);
     };
     take_wanted(lists, constraint.products, room)?;
-    let pairs = pair_count(lists.others.len());
-    if spent + pairs > MOST_PAIRS {
-        return Ok(None);
-    }
     Ok(Some(pairs))
 }
 

@@ -1,7 +1,7 @@
 -- A problem with clauses in place of its conflicts stands for what it stood for, and costs what it
 -- did: its own costs are the same, and so are its variables and its upper bound.
-use Rattle.std.proofs.Common.{◌≡◌, ℤ, Bool, List, Option, Some, None, sym, subst, ◌∙◌}
-use Rattle.base.specs.Costs.{Form, Source}
+use Rattle.std.proofs.Common.{◌≡◌, Bool, List, Option, Some, None, sym, subst, ◌∙◌}
+use Rattle.base.specs.Costs.{Form}
 use Rattle.form_steps.specs.Relations.{Rewrites}
 use Rattle.problem_form.specs.Problems.{ProblemContent, cut_off, form_of, own_cost}
 use Rattle.problem_form.specs.NormalForm.{with_most}
