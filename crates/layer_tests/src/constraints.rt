@@ -1,6 +1,6 @@
 //! All states of small problems of a sum with a bound, a clause and products, under penalties and in
 //! the multilinear form.
-ghost use Rattle.std.specs.Prelude.{◌≡◌, ◌+◌, ◌<◌, ◌≤◌, ◌^◌, [], All, IfOk, OnOk, unsigned_abs};
+ghost use Rattle.std.specs.Prelude.{◌≡◌, ◌+◌, ◌<◌, ◌≤◌, ◌^◌, [], All, IfOk, IfSome, OnOk, unsigned_abs};
 ghost use Rattle.std.specs.Bool.{OnTrue};
 ghost use Rattle.normal_form.specs.Multilinear.{Admits};
 ghost use Rattle.problem_form.specs.Problems.{constraint_total, problem_total, products_total};
@@ -90,11 +90,23 @@ fn add_drawn(alloc: Global, problem: &mut Problem, seed: &mut u64) -> Result<(),
     add_constraint(alloc, problem, seed)
 }
 
-/// An objective of two products, a clause, which is hard once in two times, and a constraint.
+/// The most that an assignment may cost: none once in four times, and else a number from -9 to 9.
+fn draw_most(seed: &mut u64) -> Option<i128>
+    ensures { IfSome result (λ n. unsigned_abs n ≤ 9) }
+{
+    match draw(seed, 4) {
+        0 => None,
+        _ => Some(i128::from(draw_coefficient(seed)) * 3),
+    }
+}
+
+/// An objective of two products, a clause, which is hard once in two times, and a constraint; and
+/// the most that an assignment may cost, or none.
 fn draw_problem(alloc: Global, seed: u64) -> Result<Problem, NoMemory> {
     let mut seed = seed;
     let mut problem = Problem::new(alloc);
     problem.widen(3);
+    problem.cut_off(draw_most(&mut seed));
     add_drawn(alloc, &mut problem, &mut seed)?;
     Ok(problem)
 }
@@ -148,14 +160,14 @@ fn kept_by_both(alloc: Global, problem: &Problem) -> Result<[Kept; 2], NoMemory>
 fn least_energies_stand_for_sums_with_bounds(rt: HostRuntime) -> Result<(), Fail> {
     let mut met: u64 = 0;
     let mut broken: u64 = 0;
-    for seed in 0..50 {
+    for seed in 0..60 {
         for kept in kept_of_drawn(rt.alloc(), seed)? {
             assert!(rt; kept.all() == 8, "{seed}");
             met = met.saturating_add(kept.whole);
             broken = broken.saturating_add(kept.infinite);
         }
     }
-    // many assignments hold to the sum, and many break it
+    // many assignments hold to the sum and to the bound, and many do not
     assert!(rt; met > 100 && broken > 100);
     Ok(())
 }

@@ -92,11 +92,13 @@ fn note_all<G: Guard>(
     Ok(())
 }
 
-/// Whether a least energy is the cost, scaled and moved, or lies above the threshold of an infinite
-/// one.
+/// Whether a least energy is the cost, scaled and moved, and not above the threshold, or lies above it
+/// for an infinite one.
 fn stands_for(energy: i128, cost: Cost, figures: &Figures) -> bool {
     match cost {
-        Cost::Whole(cost) => figures.scale == 1 && cost.checked_add(figures.offset) == Some(energy),
+        Cost::Whole(cost) => figures.scale == 1
+            && cost.checked_add(figures.offset) == Some(energy)
+            && energy <= figures.threshold,
         Cost::Infinite => figures.threshold < energy,
     }
 }

@@ -1,6 +1,7 @@
-//! Every state decoded and every assignment extended, through whole runs, for fifty small sources:
-//! what is written is compared with plain arithmetic on the text of the model.
-use crate::models::{INFINITE, Model, Target, bit, model_in, numbers, numbers_of, parted};
+//! Every state decoded, every assignment extended and the model solved, through whole runs, for sixty
+//! small sources, without a bound and with some: what is written is compared with plain arithmetic on
+//! the text of the model.
+use crate::models::{INFINITE, Model, Target, bit, bounded, model_in, numbers, numbers_of, parted};
 use crate::runs::{Named, Ran, SOUND, owned, push_file, push_words, run_over};
 use crate::small_sources::{FORMATS, NAMES};
 use std::alloc::{AllocError, Global};
@@ -12,6 +13,9 @@ struct Asked<'a> {
     format: &'static str,
     text: &'a str,
     index: usize,
+
+    /// The most that an assignment may cost: no bound where it is `INFINITE`.
+    most: i64,
 
     /// How many nodes its Ising model has, and so how many qubits are on each side of the cell.
     nodes: u32,
@@ -69,8 +73,11 @@ fn push_keys(
     target: Target,
     asked: &Asked,
 ) -> Result<(), AllocError> {
-    if verb != "compile" {
+    if matches!(verb, "decode" | "extend") {
         push_words(alloc, words, &["s"])?;
+    }
+    if asked.most != INFINITE {
+        words.push(format!(in alloc; "bound={}", asked.most)?)?;
     }
     if target == Target::Cell {
         push_cell(alloc, words, asked)?;
@@ -191,6 +198,22 @@ fn cost_of(costs: &[i64], assignment: u64) -> i64 {
     costs.get(assignment as usize).copied().unwrap_or(INFINITE)
 }
 
+/// Appends the rows of an assignment.
+fn push_assignment(
+    text: &mut String,
+    asked: &Asked,
+    model: Model,
+    assignment: u64,
+) -> Result<(), Fail> {
+    text.push_str("assignment ")?;
+    push_digits(text, assignment, model.variables)?;
+    text.push_str("\n")?;
+    if asked.format == "poly" {
+        push_names(text, assignment)?;
+    }
+    Ok(())
+}
+
 /// Appends what is to be written for a state that is decoded.
 fn push_decoding(
     text: &mut String,
@@ -200,12 +223,7 @@ fn push_decoding(
     state: u64,
 ) -> Result<(), Fail> {
     let assignment = model.decoded(state);
-    text.push_str("assignment ")?;
-    push_digits(text, assignment, model.variables)?;
-    text.push_str("\n")?;
-    if asked.format == "poly" {
-        push_names(text, assignment)?;
-    }
+    push_assignment(text, asked, model, assignment)?;
     push_last(text, cost_of(costs, assignment), model.energy(state))
 }
 
@@ -256,9 +274,11 @@ fn push_extension(text: &mut String, cost: i64, model: Model, state: u64) -> Res
 }
 
 /// Whether a run extends an assignment to a state that decodes to it, with the least energy of those
-/// that do, which stands for its cost.
+/// that do, which stands for its cost. With soft constraints the energy may be greater where the cost
+/// is infinite.
 fn is_extended(
     alloc: Global,
+    asked: &Asked,
     costs: &[i64],
     model: Model,
     assignment: u64,
@@ -266,13 +286,15 @@ fn is_extended(
 ) -> Result<bool, Fail> {
     let state = state_in(ran.out.bytes());
     let (least, cost) = (model.least(assignment), cost_of(costs, assignment));
+    let counted = bounded(cost, asked.most);
+    let is_free = asked.format == "wbo" && counted == INFINITE;
     let mut wanted = String::new(alloc);
     push_extension(&mut wanted, cost, model, state)?;
     Ok(
         ran.wrote(wanted.as_bytes())
             && model.decoded(state) == assignment
-            && model.energy(state) == least
-            && model.stands_for(least, cost),
+            && (is_free || model.energy(state) == least)
+            && model.stands_for(least, counted),
     )
 }
 
@@ -286,7 +308,7 @@ fn extends_bits(
     bits: &str,
 ) -> Result<bool, Fail> {
     let ran = run_of(alloc, "extend", asked.target(), asked, bits)?;
-    is_extended(alloc, costs, model, assignment, &ran)
+    is_extended(alloc, asked, costs, model, assignment, &ran)
 }
 
 fn extends(
@@ -318,18 +340,75 @@ fn all_extend(alloc: Global, asked: &Asked, costs: &[i64], model: Model) -> Resu
     Ok(true)
 }
 
-/// Whether all states of a model are decoded, and all assignments of its source extended, as plain
-/// arithmetic does.
+/// Appends what is to be written for a least state: the optimum, or that there is none.
+fn push_solution(
+    text: &mut String,
+    asked: &Asked,
+    costs: &[i64],
+    model: Model,
+    state: u64,
+) -> Result<(), Fail> {
+    let assignment = model.decoded(state);
+    let cost = bounded(cost_of(costs, assignment), asked.most);
+    text.push_str("state ")?;
+    push_digits(text, state, model.nodes)?;
+    writeln!(text, "\nenergy {}", model.energy(state))?;
+    if cost == INFINITE {
+        text.push_str("infeasible\n")?;
+        return Ok(());
+    }
+    push_assignment(text, asked, model, assignment)?;
+    writeln!(text, "optimum {cost}")?;
+    Ok(())
+}
+
+/// The least of the costs under a bound.
+fn least_cost(costs: &[i64], most: i64) -> i64 {
+    let mut least = INFINITE;
+    for cost in costs {
+        least = least.min(bounded(*cost, most));
+    }
+    least
+}
+
+/// Whether a run finds a state of the least energy, which decodes to an assignment of the least cost.
+fn is_solved(
+    alloc: Global,
+    asked: &Asked,
+    costs: &[i64],
+    model: Model,
+    ran: &Ran,
+) -> Result<bool, Fail> {
+    let state = state_in(ran.out.bytes());
+    let found = bounded(cost_of(costs, model.decoded(state)), asked.most);
+    let mut wanted = String::new(alloc);
+    push_solution(&mut wanted, asked, costs, model, state)?;
+    Ok(
+        ran.wrote(wanted.as_bytes())
+            && model.energy(state) == model.least_of_all()
+            && found == least_cost(costs, asked.most),
+    )
+}
+
+fn solves(alloc: Global, asked: &Asked, costs: &[i64], model: Model) -> Result<bool, Fail> {
+    let ran = run_of(alloc, "solve", asked.target(), asked, "")?;
+    is_solved(alloc, asked, costs, model, &ran)
+}
+
+/// Whether all states of a model are decoded, all assignments of its source extended, and its optimum
+/// found, as plain arithmetic does. Under a bound a model of many nodes is not decoded again.
 fn is_model_both_ways(
     alloc: Global,
     asked: &Asked,
     costs: &[i64],
     model: Model,
 ) -> Result<bool, Fail> {
+    let is_known = asked.most != INFINITE && model.nodes > 8;
     Ok(
-        costs.len() as u64 == 1_u64.wrapping_shl(model.variables)
-            && all_decode(alloc, asked, costs, model)?
-            && all_extend(alloc, asked, costs, model)?,
+        model.keeps(costs, asked.most)
+            && (is_known || all_decode(alloc, asked, costs, model)?)
+            && all_extend(alloc, asked, costs, model)?
+            && solves(alloc, asked, costs, model)?,
     )
 }
 
@@ -354,11 +433,13 @@ fn asked_of<'a>(
     format: &'static str,
     text: &'a str,
     index: usize,
+    most: i64,
 ) -> Result<Asked<'a>, Fail> {
     let mut asked = Asked {
         format,
         text,
         index,
+        most,
         nodes: 0,
     };
     asked.nodes = nodes_of(alloc, &asked)?;
@@ -371,31 +452,42 @@ fn source_goes_both_ways(
     format: &'static str,
     source: &[u8],
     index: usize,
+    most: i64,
 ) -> Result<bool, Fail> {
     let Some((text, costs)) = parted(source) else {
         return Ok(false);
     };
-    let asked = asked_of(alloc, format, text, index)?;
+    let asked = asked_of(alloc, format, text, index, most)?;
     let costs = numbers(alloc, costs)?;
     goes_both_ways(alloc, &asked, &costs)
 }
 
 /// The number of the first source of a format for which it does not.
-fn first_other(alloc: Global, format: &'static str, sources: &str) -> Result<Option<usize>, Fail> {
+fn first_other(
+    alloc: Global,
+    format: &'static str,
+    sources: &str,
+    most: i64,
+) -> Result<Option<usize>, Fail> {
     let sources = sources.as_bytes().split(|byte| *byte == b'@');
     for (index, source) in sources.enumerate() {
-        if !source_goes_both_ways(alloc, format, source, index)? {
+        if !source_goes_both_ways(alloc, format, source, index, most)? {
             return Ok(Some(index));
         }
     }
     Ok(None)
 }
 
+/// No bound, and bounds below, between and above what the sources cost.
+const MOSTS: [i64; 5] = [INFINITE, -9, -1, 1, 3];
+
 #[test]
 fn each_state_is_decoded_and_each_assignment_extended(rt: HostRuntime) -> Result<(), Fail> {
     for (format, sources) in FORMATS {
-        let other = first_other(rt.alloc(), format, sources)?;
-        assert!(rt; other.is_none(), "{format} {other:?}");
+        for most in MOSTS {
+            let other = first_other(rt.alloc(), format, sources, most)?;
+            assert!(rt; other.is_none(), "{format} {most} {other:?}");
+        }
     }
     Ok(())
 }

@@ -8,6 +8,12 @@ use std::test::Fail;
 /// What an assignment costs that breaks what has to hold: more than any other here.
 pub(crate) const INFINITE: i64 = 999;
 
+/// What an assignment costs where one that costs more than a bound is infeasible. No cost is above
+/// `INFINITE`, so this is no bound.
+pub(crate) fn bounded(cost: i64, most: i64) -> i64 {
+    if cost > most { INFINITE } else { cost }
+}
+
 /// The text of a source, and behind a `|` what each assignment costs, by its number, whose lowest bit
 /// is the first variable. Sources are parted by `@`.
 pub(crate) fn parted(source: &[u8]) -> Option<(&str, &[u8])> {
@@ -184,6 +190,15 @@ impl Model<'_> {
         least
     }
 
+    /// The least energy of all states.
+    pub(crate) fn least_of_all(&self) -> i64 {
+        let mut least = i64::MAX;
+        for state in 0..1_u64.wrapping_shl(self.nodes) {
+            least = least.min(self.energy(state));
+        }
+        least
+    }
+
     /// Whether an energy stands for a cost: it is the cost, scaled and moved, and lies above the
     /// threshold exactly where the cost is infinite.
     pub(crate) fn stands_for(&self, energy: i64, cost: i64) -> bool {
@@ -195,10 +210,10 @@ impl Model<'_> {
         counted == moved && counted <= self.threshold
     }
 
-    /// Whether the least energy of each assignment stands for its cost.
-    pub(crate) fn keeps(&self, costs: &[i64]) -> bool {
+    /// Whether the least energy of each assignment stands for its cost under a bound.
+    pub(crate) fn keeps(&self, costs: &[i64], most: i64) -> bool {
         for (assignment, cost) in costs.iter().enumerate() {
-            if !self.stands_for(self.least(assignment as u64), *cost) {
+            if !self.stands_for(self.least(assignment as u64), bounded(*cost, most)) {
                 return false;
             }
         }

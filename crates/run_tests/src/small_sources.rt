@@ -5,8 +5,9 @@
 pub(crate) const NAMES: [(&str, i64); 3] = [("b", 0), ("a", 1), ("c", 2)];
 
 /// The formats, and ten sources of each.
-pub(crate) const FORMATS: [(&str, &str); 5] = [
+pub(crate) const FORMATS: [(&str, &str); 6] = [
     ("wcnf", CLAUSES),
+    ("wbo", SOFT),
     ("poly", PRODUCTS),
     ("opb", BOUNDED),
     ("qubo", BITS),
@@ -35,6 +36,29 @@ const CLAUSES: &str = "\
     999 999 1 1 999 999 3 1@\
     p wcnf 3 3 9\n9 -1 -2 3 0\n9 1 2 -3 0\n1 1 2 0\n|\
     1 0 0 999 999 0 0 0";
+
+/// Two constraints, hard or soft.
+const SOFT: &str = "\
+    soft: 7 ;\n[1] -1 ~x1 1 ~x3 >= 0 ;\n[4] 1 x1 1 ~x2 >= 0 ;\n|\
+    0 0 0 0 1 0 1 0@\
+    soft: 4 ;\n[1] 1 ~x2 1 ~x3 = 2 ;\n1 x1 -1 x2 >= 0 ;\n|\
+    0 0 999 1 1 1 999 1@\
+    soft: ;\n1 x1 -1 x3 = 0 ;\n[4] 1 x2 1 ~x3 >= 1 ;\n|\
+    0 999 0 999 999 4 999 0@\
+    soft: ;\n1 x1 -1 ~x2 >= 0 ;\n[2] 2 x2 1 x3 = 0 ;\n|\
+    999 0 2 2 999 2 2 2@\
+    soft: 4 ;\n[3] 2 x2 1 ~x3 >= 0 ;\n-1 ~x1 1 ~x2 = 1 ;\n|\
+    999 0 999 999 999 0 999 999@\
+    soft: 5 ;\n1 ~x1 2 x2 = 2 ;\n[3] 2 x2 1 x3 >= 1 ;\n|\
+    999 999 999 0 999 999 999 0@\
+    soft: 5 ;\n[3] 1 ~x2 -1 x3 >= 2 ;\n[1] 1 x1 -1 x2 >= 1 ;\n|\
+    4 3 4 4 4 3 4 4@\
+    soft: 5 ;\n[2] 2 x2 1 ~x3 >= 2 ;\n[1] 1 x1 -1 x3 >= 1 ;\n|\
+    3 2 1 0 3 3 1 1@\
+    soft: 7 ;\n2 ~x1 1 ~x3 = 1 ;\n[2] -1 x1 1 x2 >= 0 ;\n|\
+    999 2 999 0 999 999 999 999@\
+    soft: ;\n2 x2 2 x3 >= 1 ;\n[4] -1 x1 1 x3 >= 0 ;\n|\
+    999 999 0 4 0 0 0 0";
 
 /// Polynomials. The first line numbers the variables.
 const PRODUCTS: &str = "\
