@@ -4,11 +4,11 @@
     cases.py [--write] [--program PROGRAM] [CASE..]
 
 A case is a file of data/, which its words begin; the program of that crate says how it is laid out.
-Without names all cases of `args` are taken. Of each that asks for a model on nodes the answer is worked
-out by readings.py, translation.py, conflicts.py and optima.py, and compared with the block of `stdout`.
-What differs is printed, and how many cases were worked out. The others are models on a graph, `solve`
-of a model that is not small, what `prove` refuses, wrong words in front, and missing or too long
-files. With --write `stdout` gets the blocks that were worked out, and keeps the others.
+Without names all cases of `args` are taken. Of each that asks for a model on nodes the answer is
+worked out by readings.py, translation.py, conflicts.py and optima.py, and compared with the block of
+`stdout`. What differs is printed, and how many cases were worked out. The others are models on a
+graph, `solve` of a model that is not small, what `prove` refuses, wrong words in front, and missing
+or too long files. With --write `stdout` gets the blocks that were worked out, and keeps the others.
 
 With PROGRAM, a built program, each case is run on files in a folder of its own, but for one whose file
 has an empty name, and status, output and error line are compared with `stdout`. Exits with 1 where

@@ -3,10 +3,10 @@
 
     further_cases.py [--with KEY,..]
 
-The cases of BOUND are there. Those of LATER stand in this script until the program takes their key or
-command, and are added where --with names it. What is to come is then worked out by
+The cases of BOUND are there. Those of LATER stand in this script until the program takes their key
+or command, and are added where --with names it. What is to come is then worked out by
 `cases.py --write NAME ..` with the names that this script prints, but for a model on a graph, whose
-block is worked by hand. A case that is there already stays as it is.
+block is worked by hand and stands in `stdout` before. A case that is there stays as it is.
 """
 import argparse
 import os

@@ -2,12 +2,14 @@
 
     first_least(made), certified(made, state, text)      # made is a Model of translation.py
 """
+import re
 from itertools import product
 
 from readings import lines_of, value_of
-from translation import add, multiplied_out
+from translation import add, complements, multiplied_out
 
-MOST_NODES = 12
+MOST_NODES, MOST_LITERALS, MOST_PRODUCTS = 12, 8, 2 ** 24
+LITERAL = re.compile(rb'(~?)([0-9]+)')
 
 
 def first_least(made):
@@ -37,12 +39,24 @@ def over_bits(made):
     return table
 
 
+def line_of(made, words):
+    """The coefficient of a line of a certificate and its literals, or none where it is not good."""
+    found = [LITERAL.fullmatch(word) for word in words[1:]]
+    coefficient = value_of(words[0])
+    if coefficient is None or None in found:
+        return None
+    literals = {(int(each.group(2)), bool(each.group(1))) for each in found}
+    within = all(node < made.nodes for node, _ in literals)
+    return (coefficient, literals) if within and len(literals) <= MOST_LITERALS else None
+
+
 def certified(made, state, text):
     """Whether a good text proves a state: no line is negative, and the bound is reached."""
     table = {}
-    for _, words in lines_of(text, 'plain'):
-        coefficient = value_of(words[0])
-        literals = {(int(word.lstrip(b'~')), word[:1] == b'~') for word in words[1:]}
+    rows = [line_of(made, words) for _, words in lines_of(text, 'plain')]
+    if None in rows or sum(2 ** complements(literals) for _, literals in rows) > MOST_PRODUCTS:
+        return False
+    for coefficient, literals in rows:
         if literals and coefficient < 0:
             return False
         if len({node for node, _ in literals}) == len(literals):
