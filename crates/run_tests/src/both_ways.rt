@@ -396,16 +396,17 @@ fn solves(alloc: Global, asked: &Asked, costs: &[i64], model: Model) -> Result<b
 }
 
 /// Whether all states of a model are decoded, all assignments of its source extended, and its optimum
-/// found, as plain arithmetic does.
+/// found, as plain arithmetic does. Under a bound a model of many nodes is not decoded again.
 fn is_model_both_ways(
     alloc: Global,
     asked: &Asked,
     costs: &[i64],
     model: Model,
 ) -> Result<bool, Fail> {
+    let is_known = asked.most != INFINITE && model.nodes > 8;
     Ok(
         model.keeps(costs, asked.most)
-            && all_decode(alloc, asked, costs, model)?
+            && (is_known || all_decode(alloc, asked, costs, model)?)
             && all_extend(alloc, asked, costs, model)?
             && solves(alloc, asked, costs, model)?,
     )
