@@ -1,4 +1,4 @@
-use Rattle.std.proofs.Common.{◌≡◌, ◌≤◌, ◌∙◌, ℤ, List, length, ap, sym, subst, arith, rules}
+use Rattle.std.proofs.Common.{◌≤◌, ◌∙◌, ℤ, List, length, ap, sym, subst, arith, rules}
 use Rattle.std.specs.Int.{w128}
 use Rattle.std.proofs.lemmas.Int.{to_z-of_z}
 use Rattle.long_terms.specs.Long.{node_count}
