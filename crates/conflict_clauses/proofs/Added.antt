@@ -1,5 +1,5 @@
 -- Hard clauses that are added to a problem one after another.
-use Rattle.std.proofs.Common.{◌≡◌, ℕ, ◌+◌, ◌<◌, sym, ap, ◌∙◌, arith, List, [], ◌∷◌, ◌++◌, length, map, take, drop, get_or, suc, add-one, append-nil, append_assoc, drop-cons}
+use Rattle.std.proofs.Common.{◌≡◌, ℕ, zero, ◌+◌, ◌<◌, refl, sym, ap, ◌∙◌, arith, List, [], ◌∷◌, ◌++◌, length, map, take, drop, get_or, suc, add-one, append-nil, append_assoc, drop-cons}
 use Rattle.std.specs.List.{flat_map}
 use Rattle.std.proofs.lemmas.List.{map-append, take_more}
 use Rattle.std.proofs.lemmas.List.Concat.{flat_map-append}
@@ -35,6 +35,12 @@ with_hard-total p lists =
     omega (arith, sum_by-append soft_weight p.clauses (hard_clauses lists), hard-weights lists)
 
 -- ---- clauses of one literal
+
+-- what is read there does not depend on what stands for none
+pub here_again : (ls : List Literal) (i : ℕ) (d : Literal) → i < length ls → get_or ls i d ≡ get_or ls i (get_or ls i d)
+here_again [] i d inside = absurd (omega (arith, inside))
+here_again (l ∷ ls) zero d inside = refl
+here_again (l ∷ ls) (suc i) d inside = here_again ls i d (omega (arith, inside))
 
 pub each-step : (p q q' : ProblemContent) (ls : List Literal) (i : ℕ) (l : Literal)
     → i < length ls → l ≡ get_or ls i l → q' ≡ with_hard q ((l ∷ []) ∷ [])

@@ -13,3 +13,4 @@ pub mod WordsAgain
 pub mod LexerSteps
 pub mod LexerFields
 pub mod Rows
+pub mod Cursors

@@ -1,10 +1,48 @@
-use Rattle.std.proofs.Common.{◌≡◌, ◌∷◌, [], ◌++◌, ◌+◌, neg_ℤ, ◌*ℤ◌, pos, to_z, of_z, ap, sym, ◌∙◌, append_assoc, rules}
+use Rattle.std.proofs.Common.{◌≡◌, ◌≤◌, ◌^◌, ◌∷◌, [], ◌++◌, ◌+◌, ℕ, zero, suc, ℤ, neg_ℤ, ◌*ℤ◌, pos, unsigned_abs, FitsSigned, to_z, of_z, ap, sym, ◌∙◌, append_assoc, arith, rules}
 use Rattle.std.specs.Int.{w128}
-use Rattle.std.proofs.lemmas.Int.{to_z-of_z}
+use Rattle.std.proofs.lemmas.Int.{ints, to_z-of_z, fits_signed_from_abs}
 use Rattle.monomial_layer.specs.Monomials.{factor}
 use Rattle.direct_quad.specs.Places.{signed, node_couplers}
 use Rattle.direct_quad.proofs.KeyLists.{node_couplers-more, factor-low, factor-le, turned}
 use Rattle.direct_quad.proofs.heads.push_nodes.Goals as goal
+
+-- the coefficient counts once or twice, so its product fits
+times_fits : (c f : ℤ) (m : ℕ) → f ≡ pos m → m ≤ 2 → unsigned_abs c ≤ 2 ^ 124
+    → FitsSigned w128 (to_z w128 (of_z w128 c) *ℤ to_z w128 (of_z w128 f))
+times_fits c f zero is le small = rw is (fits_signed_from_abs w128 _ (omega (arith, ints, small)))
+times_fits c f (suc zero) is le small = rw is (fits_signed_from_abs w128 _ (omega (arith, ints, small)))
+times_fits c f (suc (suc zero)) is le small =
+    rw is (fits_signed_from_abs w128 _ (omega (arith, ints, small)))
+times_fits c f (suc (suc (suc m))) is le small = absurd (omega (arith, le))
+
+small_turned : (c : ℤ) (m : ℕ) → m ≤ 2 → unsigned_abs c ≤ 2 ^ 124
+    → unsigned_abs (neg_ℤ (c *ℤ pos m)) ≤ 2 ^ 125
+small_turned c zero le small = omega (arith, ints, small)
+small_turned c (suc zero) le small = omega (arith, ints, small)
+small_turned c (suc (suc zero)) le small = omega (arith, ints, small)
+small_turned c (suc (suc (suc m))) le small = absurd (omega (arith, le))
+
+pub overflow_mul-coefficient : goal.overflow_mul-coefficient
+overflow_mul-coefficient c =
+    let d = c.args.degree in
+    let i = c.loop-k.k in
+    times_fits c.args.coefficient c.from.result (factor d i) (c.from.ensures ∙ ap pos c.factor.ensures)
+    (factor-le d i) c.requires.small
+
+pub signed-weight-requires : goal.signed-weight-requires
+signed-weight-requires c =
+    let d = c.args.degree in
+    let i = c.loop-k.k in
+    let is = c.from.ensures ∙ ap pos c.factor.ensures in
+    omega (
+      arith,
+      ap unsigned_abs (turned c.args.coefficient c.from.result (factor d i) is (factor-low d i) (factor-le d i) c.requires.small),
+      small_turned c.args.coefficient (factor d i) (factor-le d i) c.requires.small,
+    )
+
+pub overflow_add-first_node : goal.overflow_add-first_node
+overflow_add-first_node c =
+    omega (arith, c.loop-k-test.true, c.nodes_for-k-end.ensures, c.requires.nodes)
 
 pub loop-k-preserved : goal.loop-k-preserved
 loop-k-preserved c =

@@ -1,12 +1,13 @@
-use Rattle.std.proofs.Common.{◌≡◌, ◌+◌, ◌++◌, ◌∙◌, [], ap, arith, refl, rules}
+use Rattle.std.proofs.Common.{◌≡◌, ◌+◌, ◌++◌, ◌∙◌, [], ap, arith, refl, sym, rules}
 use Rattle.std.specs.Int.{w128}
 use Rattle.std.specs.List.{sum_by}
 use Rattle.std.proofs.lemmas.Int.{to_z-of_z}
-use Rattle.std.proofs.lemmas.Map.Iter.{rest_more}
+use Rattle.std.proofs.lemmas.Map.Iter.{rest_all, rest_more}
+use Rattle.std.proofs.lemmas.List.{append-nil}
 use Rattle.std.proofs.lemmas.List.Elements.{All-rest, All-same}
 use Rattle.std.proofs.lemmas.List.Sums.{sum_by-cons}
-use Rattle.term_table.specs.Terms.{Term, terms_total, IsTermSet}
-use Rattle.term_table.specs.Tables.{TableContent, with_more}
+use Rattle.term_table.specs.Terms.{Term, terms_total, with_additions, IsTermSet}
+use Rattle.term_table.specs.Tables.{kept_at_once, TableContent, with_more}
 use Rattle.term_table.proofs.SmallSets.{IsTermSet-wider}
 use Rattle.term_table.proofs.Steps.{first_left}
 use Rattle.monomial_layer.specs.Monomials.{new_nodes, new_terms, all_new_terms}
@@ -106,3 +107,24 @@ loop-literals-preserved c =
       sets = All-rest (λ (u : Term). IsTermSet c.args.table.now.content.width u.0) _ _ _ left c.loop-literals.invariant.sets;
       small = replaced_fit_more now after t _ _ next _ _ left number made c.loop-literals.invariant.small;
     }
+
+pub returns-in_err-add_replaced-clause-kept : goal.returns-in_err-add_replaced-clause-kept
+returns-in_err-add_replaced-clause-kept c = c.terms-literals-items.ensures.kept
+
+pub returns-clause-made : goal.returns-clause-made
+returns-clause-made c =
+    let t = c.args.table.now.content in
+    let terms = c.loop-literals.quadratic.terms in
+    let none =
+    rest_all _ c.loop-literals.literals-iterator c.next.new.self c.next.result c.in-None.is
+    c.next.ensures.steps in
+    let all : terms ≡ all_new_terms t.terms t.width =
+    sym (append-nil terms)
+    ∙ sym (ap (λ us. terms ++ all_new_terms us c.loop-literals.next) none)
+    ∙ c.loop-literals.invariant.whole in
+    c.into_table.ensures
+    ∙ (λ i. kept_at_once
+    (record { width = c.loop-literals.invariant.width i; terms = with_additions [] (all i) }))
+
+pub returns-clause-kept : goal.returns-clause-kept
+returns-clause-kept c = c.terms-literals-items.ensures.kept

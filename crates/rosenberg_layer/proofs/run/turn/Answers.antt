@@ -1,11 +1,132 @@
-use Rattle.std.proofs.Common.{◌≡◌, ◌+◌, ◌∙◌, rules, refl, sym, subst, length, Some}
-use Rattle.std.specs.List.{filter}
-use Rattle.rosenberg_layer.specs.Rosenberg.{is_long, node}
+use Rattle.std.proofs.Common.{◌≡◌, ◌+◌, ◌<◌, ◌∙◌, ◌∷◌, [], List, inl, inr, rules, arith, refl, ap, sym, subst, length, length-append, Some}
+use Rattle.std.specs.List.{filter, AllByRecursion}
+use Rattle.std.proofs.lemmas.Bool.{cases_lt}
+use Rattle.std.proofs.lemmas.List.{drop_all}
+use Rattle.std.proofs.lemmas.Result.{IfOk-from_err}
+use Rattle.term_table.specs.Terms.{Term, IsTermSet}
+use Rattle.rosenberg_layer.specs.Rosenberg.{is_long, node, Pair}
+use Rattle.rosenberg_layer.specs.declared.waiting.Waiting.{Waiting}
 use Rattle.rosenberg_layer.specs.Steps.{IsStep}
 use Rattle.rosenberg_layer.specs.Waiting.{first_pair, keys_left, AreWaiting}
 use Rattle.rosenberg_layer.proofs.PartlyTerms.{first_none, none-long}
 use Rattle.rosenberg_layer.proofs.WaitingTerms.{wait_end}
 use Rattle.rosenberg_layer.proofs.run.turn.Goals as goal
+
+-- where there is a pair, a key is left
+some_left : (ts : List Term) (w : Waiting) (pair : Pair) → first_pair ts (keys_left w) ≡ Some pair
+    → w.at < length w.keys.items
+some_left ts w pair is = elim (cases_lt w.at (length w.keys.items)) [
+  | inl inside ↦ inside
+  | inr after ↦
+      let none : first_pair ts (keys_left w) ≡ first_pair ts [] =
+      ap (first_pair ts) (drop_all w.at w.keys.items after) in
+      absurd cc
+]
+
+pub overflow_add-number : goal.overflow_add-number
+overflow_add-number c =
+    omega (arith, c.requires.narrow, c.len.ensures, c.args.made.now.pairs.ok.0)
+
+pub substitute-requires-clause-wait : goal.substitute-requires-clause-wait
+substitute-requires-clause-wait c = c.in_ok-next_pair.ensures.wait
+
+pub substitute-requires-clause-some : goal.substitute-requires-clause-some
+substitute-requires-clause-some c =
+    some_left c.args.long.now c.next_pair.new.self c.in-Some.pair
+    (sym c.in_ok-next_pair.ensures.pair ∙ c.in-Some.is)
+
+pub substitute-requires-clause-lists : goal.substitute-requires-clause-lists
+substitute-requires-clause-lists c =
+    omega (
+      arith,
+      c.in_ok-next_pair.ensures.lists,
+      c.requires.lists,
+      c.len.ensures,
+      c.args.made.now.pairs.ok.0,
+    )
+
+pub substitute-requires-clause-narrow : goal.substitute-requires-clause-narrow
+substitute-requires-clause-narrow c =
+    omega (arith, c.requires.narrow, c.len.ensures, c.args.made.now.pairs.ok.0)
+
+pub substitute-requires-clause-sets : goal.substitute-requires-clause-sets
+substitute-requires-clause-sets c =
+    let number : c.args.width + length c.args.made.now.pairs.items ≡ c.args.width + c.len.result =
+    omega (arith, c.len.ensures, c.args.made.now.pairs.ok.0) in
+    subst (λ n. AllByRecursion (λ (t : Term). IsTermSet n t.0) (filter is_long c.args.long.now)) number
+    c.requires.sets
+
+pub returns-in-None-clause-wait : goal.returns-in-None-clause-wait
+returns-in-None-clause-wait c = c.in_ok-next_pair.ensures.wait
+
+pub returns-in-None-clause-lists : goal.returns-in-None-clause-lists
+returns-in-None-clause-lists c = c.in_ok-next_pair.ensures.lists ∙ c.requires.lists
+
+pub returns-in_ok-push-in-Some-2-clause-wait : goal.returns-in_ok-push-in-Some-2-clause-wait
+returns-in_ok-push-in-Some-2-clause-wait c = c.in_ok-weight-in-Some.ensures.wait
+
+pub returns-in_ok-push-in-Some-2-clause-lists : goal.returns-in_ok-push-in-Some-2-clause-lists
+returns-in_ok-push-in-Some-2-clause-lists c =
+    let pairs = c.args.made.now.pairs in
+    omega (
+      arith,
+      c.in_ok-weight-in-Some.ensures.lists,
+      c.len.ensures,
+      pairs.ok.0,
+      ap length c.in_ok-push-in-Some.ensures.items,
+      length-append pairs.items (c.in-Some.pair ∷ []),
+    )
+
+pub returns-in_ok-push-in-Some-2-clause-few : goal.returns-in_ok-push-in-Some-2-clause-few
+returns-in_ok-push-in-Some-2-clause-few c = c.in_ok-weight-in-Some.ensures.count
+
+pub returns-in_err-next_pair-clause-wait : goal.returns-in_err-next_pair-clause-wait
+returns-in_err-next_pair-clause-wait c = IfOk-from_err _ _ c.from_residual.ensures.0
+
+pub returns-in_err-next_pair-clause-lists : goal.returns-in_err-next_pair-clause-lists
+returns-in_err-next_pair-clause-lists c = IfOk-from_err _ _ c.from_residual.ensures.0
+
+pub returns-in_err-next_pair-clause-few : goal.returns-in_err-next_pair-clause-few
+returns-in_err-next_pair-clause-few c = IfOk-from_err _ _ c.from_residual.ensures.0
+
+pub returns-in_err-next_pair-clause-turn : goal.returns-in_err-next_pair-clause-turn
+returns-in_err-next_pair-clause-turn c = IfOk-from_err _ _ c.from_residual.ensures.0
+
+pub returns-in_err-weight-in-Some-clause-wait : goal.returns-in_err-weight-in-Some-clause-wait
+returns-in_err-weight-in-Some-clause-wait c = IfOk-from_err _ _ c.from_residual-in_err-weight-in-Some.ensures.0
+
+pub returns-in_err-weight-in-Some-clause-lists : goal.returns-in_err-weight-in-Some-clause-lists
+returns-in_err-weight-in-Some-clause-lists c = IfOk-from_err _ _ c.from_residual-in_err-weight-in-Some.ensures.0
+
+pub returns-in_err-weight-in-Some-clause-few : goal.returns-in_err-weight-in-Some-clause-few
+returns-in_err-weight-in-Some-clause-few c = IfOk-from_err _ _ c.from_residual-in_err-weight-in-Some.ensures.0
+
+pub returns-in_err-weight-in-Some-clause-turn : goal.returns-in_err-weight-in-Some-clause-turn
+returns-in_err-weight-in-Some-clause-turn c = IfOk-from_err _ _ c.from_residual-in_err-weight-in-Some.ensures.0
+
+pub returns-in_err-push-in-Some-clause-wait : goal.returns-in_err-push-in-Some-clause-wait
+returns-in_err-push-in-Some-clause-wait c = IfOk-from_err _ _ c.from_residual-in_err-push-in-Some.ensures.0
+
+pub returns-in_err-push-in-Some-clause-lists : goal.returns-in_err-push-in-Some-clause-lists
+returns-in_err-push-in-Some-clause-lists c = IfOk-from_err _ _ c.from_residual-in_err-push-in-Some.ensures.0
+
+pub returns-in_err-push-in-Some-clause-few : goal.returns-in_err-push-in-Some-clause-few
+returns-in_err-push-in-Some-clause-few c = IfOk-from_err _ _ c.from_residual-in_err-push-in-Some.ensures.0
+
+pub returns-in_err-push-in-Some-clause-turn : goal.returns-in_err-push-in-Some-clause-turn
+returns-in_err-push-in-Some-clause-turn c = IfOk-from_err _ _ c.from_residual-in_err-push-in-Some.ensures.0
+
+pub returns-in_err-push-in-Some-2-clause-wait : goal.returns-in_err-push-in-Some-2-clause-wait
+returns-in_err-push-in-Some-2-clause-wait c = IfOk-from_err _ _ c.from_residual-in_err-push-in-Some-2.ensures.0
+
+pub returns-in_err-push-in-Some-2-clause-lists : goal.returns-in_err-push-in-Some-2-clause-lists
+returns-in_err-push-in-Some-2-clause-lists c = IfOk-from_err _ _ c.from_residual-in_err-push-in-Some-2.ensures.0
+
+pub returns-in_err-push-in-Some-2-clause-few : goal.returns-in_err-push-in-Some-2-clause-few
+returns-in_err-push-in-Some-2-clause-few c = IfOk-from_err _ _ c.from_residual-in_err-push-in-Some-2.ensures.0
+
+pub returns-in_err-push-in-Some-2-clause-turn : goal.returns-in_err-push-in-Some-2-clause-turn
+returns-in_err-push-in-Some-2-clause-turn c = IfOk-from_err _ _ c.from_residual-in_err-push-in-Some-2.ensures.0
 
 pub returns-in-None-clause-turn : goal.returns-in-None-clause-turn
 returns-in-None-clause-turn c =

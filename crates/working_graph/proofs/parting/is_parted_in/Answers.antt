@@ -1,13 +1,83 @@
-use Rattle.std.proofs.Common.{◌≡◌, ℕ, ◌+◌, ◌*◌, ◌-◌, ◌/◌, ◌<◌, true, length, get_or, sym, ap, subst, ◌∙◌, arith}
+use Rattle.std.proofs.Common.{◌≡◌, ℕ, ◌+◌, ◌*◌, ◌-◌, ◌/◌, ◌<◌, ◌≤◌, true, length, get_or, sym, ap, subst, ◌∙◌, arith, mod-lt}
 use Rattle.chimera_graph.specs.declared.chimera.Chimera.{Chimera}
 use Rattle.chain_map.specs.Cliques.{diagonal_of, clique_places}
 use Rattle.chain_map.proofs.CliqueChains.{cell_of}
 use Rattle.working_graph.specs.Working.{pair_number}
 use Rattle.working_graph.specs.Places.{first_across, is_marked, IsParted}
 use Rattle.working_graph.proofs.Barriers.{HasPassed, passed_more}
+use Rattle.working_graph.proofs.EmptyForm.{few_places}
 use Rattle.working_graph.proofs.FreePlaces.{BarsIn, place_below, unbarred}
 use Rattle.working_graph.proofs.parting.is_parted_in.Goals.{At-loop-k}
 use Rattle.working_graph.proofs.parting.is_parted_in.Goals as goal
+
+-- the row is one of the diagonal
+row_low : (graph : Chimera) (row place : ℕ) → row ≤ place / graph.shore → place < clique_places graph
+    → row < diagonal_of graph
+row_low graph row place low within = omega (arith, low, cell_of graph place within)
+
+pub qubit_at-requires-clause-row : goal.qubit_at-requires-clause-row
+qubit_at-requires-clause-row c =
+    let graph = c.args.working.now.graph in
+    subst (λ (h : Chimera). c.args.row < h.rows) (sym c.graph-graph.ensures)
+    (omega (arith, row_low graph c.args.row c.args.place c.requires.row c.requires.place))
+
+pub qubit_at-requires-clause-col : goal.qubit_at-requires-clause-col
+qubit_at-requires-clause-col c =
+    let graph = c.args.working.now.graph in
+    subst (λ (h : Chimera). c.args.place / h.shore < h.cols) (sym c.graph-graph.ensures)
+    (omega (arith, cell_of graph c.args.place c.requires.place))
+
+pub qubit_at-requires-clause-at : goal.qubit_at-requires-clause-at
+qubit_at-requires-clause-at c = mod-lt c.args.place c.graph-graph.result.shape.some_shore
+
+pub qubit_at-requires-2-clause-row : goal.qubit_at-requires-2-clause-row
+qubit_at-requires-2-clause-row c =
+    let graph = c.args.working.now.graph in
+    subst (λ (h : Chimera). c.args.row < h.rows) (sym c.graph-graph.ensures)
+    (omega (arith, row_low graph c.args.row c.args.place c.requires.row c.requires.place))
+
+pub qubit_at-requires-2-clause-col : goal.qubit_at-requires-2-clause-col
+qubit_at-requires-2-clause-col c =
+    let graph = c.args.working.now.graph in
+    subst (λ (h : Chimera). c.args.place / h.shore < h.cols) (sym c.graph-graph.ensures)
+    (omega (arith, cell_of graph c.args.place c.requires.place))
+
+pub loop-k-init : goal.loop-k-init
+loop-k-init c =
+    let found = c.first_from-k.ensures in
+    record {
+      after = found.after;
+      passed = λ i other low is bars. absurd (omega (arith, found.before i low, is));
+    }
+
+pub overflow_sub-cuts : goal.overflow_sub-cuts
+overflow_sub-cuts c = c.loop-k.invariant.after c.loop-k.k (omega arith) c.loop-k-test.true
+
+pub overflow_sub-cuts-in-loop-k : goal.overflow_sub-cuts-in-loop-k
+overflow_sub-cuts-in-loop-k c = c.loop-k.invariant.after c.loop-k.k (omega arith) c.loop-k-test.true
+
+pub overflow_mul-row : goal.overflow_mul-row
+overflow_mul-row c =
+    let graph = c.args.working.now.graph in
+    let row = c.args.row in
+    let same = ap (λ (h : Chimera). row * h.shore) c.graph-graph.ensures in
+    let low = row_low graph row c.args.place c.requires.row c.requires.place in
+    omega (arith, same, few_places graph, place_below graph row 0 low graph.shape.some_shore)
+
+pub overflow_add-row : goal.overflow_add-row
+overflow_add-row c =
+    let graph = c.args.working.now.graph in
+    let row = c.args.row in
+    let other = get_or c.cuts-cuts.result.now c.loop-k.k 0 - c.pair_number-from.result in
+    let shore = ap (λ (h : Chimera). h.shore) c.graph-graph.ensures in
+    let same = ap (λ (h : Chimera). row * h.shore) c.graph-graph.ensures in
+    let low = row_low graph row c.args.place c.requires.row c.requires.place in
+    omega (
+      arith,
+      same,
+      few_places graph,
+      place_below graph row other low (omega (arith, c.if-cuts-k.true, c.from.ensures, shore)),
+    )
 
 pub is_barred-requires-clause-other : goal.is_barred-requires-clause-other
 is_barred-requires-clause-other c =

@@ -1,11 +1,27 @@
 use Rattle.std.proofs.Common.{◌≡◌, ◌+◌, ◌<◌, ◌≤◌, ◌^◌, pos, ◌+ℤ◌, to_z, of_z, unsigned_abs, ℕ, length, get_or, set, List, ℤ, sym, ap, ◌∙◌, subst, arith}
 use Rattle.std.specs.Int.{w128}
-use Rattle.std.proofs.lemmas.Int.{ints}
+use Rattle.std.proofs.lemmas.Int.{ints, fits_signed_from_abs}
 use Rattle.std.proofs.lemmas.List.{get_or_default}
+use Rattle.std.proofs.lemmas.List.Sums.{get_or-le-sum_by}
 use Rattle.direct_quad.specs.RowSums.{with_weight, size_of, AreTouched}
 use Rattle.direct_quad.proofs.SummedRows.{size-one, touched_before, touched_now}
 use Rattle.direct_quad.proofs.accumulator.Accumulator.add.Goals as goal
 use Rattle.direct_quad.proofs.accumulator.Accumulator.add.Goals.{then-sum-eq0+in_ok-push, else-sum-eq0}
+
+pub index-sum-requires : goal.index-sum-requires
+index-sum-requires c =
+    let wide : length c.self.inside.sums.items ≡ length c.args.self.now = ap length c.self.view_is in
+    omega (arith, c.requires.within, wide, c.self.inside.sums.ok.0)
+
+pub overflow_add-sum : goal.overflow_add-sum
+overflow_add-sum c =
+    let sums = c.self.inside.sums.items in
+    let s = c.index-sum.result.now in
+    let wide : length sums ≡ length c.args.self.now = ap length c.self.view_is in
+    let size : size_of sums ≡ size_of c.args.self.now = ap size_of c.self.view_is in
+    let low = get_or-le-sum_by unsigned_abs sums c.args.second s (omega (arith, c.requires.within, wide)) in
+    fits_signed_from_abs w128 _
+    (omega (arith, ints, ap unsigned_abs c.index-sum.ensures, low, size, c.requires.small))
 
 pub invariant_of-self-2 : goal.invariant_of-self-2
 invariant_of-self-2 c =
