@@ -1,5 +1,5 @@
 -- How the steps of a command end.
-use Rattle.std.proofs.Common.{◌≡◌, ℕ, ◌≤◌, IfOk, arith, inl, inr, Bool, List, Ok, Err, Some, None, Result, refl, sym, ◌∙◌, subst}
+use Rattle.std.proofs.Common.{◌≡◌, ℕ, ◌≤◌, IfOk, arith, inl, inr, List, Ok, Err, Some, None, Result, refl, sym, ◌∙◌, subst}
 use Rattle.std.specs.declared.option.Option.{Option}
 use Rattle.bits_model.specs.Output.{Written}
 use Rattle.edge_io.specs.Counts.{Counts, Rose}

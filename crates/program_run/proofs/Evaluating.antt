@@ -1,6 +1,5 @@
 -- The states of a file, where it has some or none, and the order of one.
 use Rattle.std.proofs.Common.{◌≡◌, ℕ, Bool, List, [], ◌∷◌, reverse, Ok, Err, Some, None, refl, sym, ap, subst, ◌∙◌}
-use Rattle.std.specs.declared.option.Option.{Option}
 use Rattle.base.specs.Costs.{Form}
 use Rattle.bits_model.specs.Output.{Written}
 use Rattle.elimination_order.specs.Renumbered.{IsFirstLeastBy}
@@ -95,9 +94,12 @@ pub none_read : (name : Which → List ℕ) (command : Command) (at : WordAt) (w
     → command.ask ≡ asks.Evaluate at → AreRead name (last_files command) a b
     → AreFilesOf name [] (last_files command) (NoState width) a b
 none_read name command at width a b is read =
-    subst (λ files. AreFilesOf name [] files (NoState width) a b) (states_alone command at is)
-    ([], [], refl,
-    subst (λ files. AreRead name files a b) (sym (states_alone command at is)) read)
+    subst (λ files. AreFilesOf name [] files (NoState width) a b) (states_alone command at is) (
+      [],
+      [],
+      refl,
+      subst (λ files. AreRead name files a b) (sym (states_alone command at is)) read,
+    )
 
 -- ---- a first least state
 

@@ -1,6 +1,5 @@
 -- What states are worth to two judges who agree on them.
-use Rattle.std.proofs.Common.{◌≡◌, ℕ, ◌+◌, ◌==◌, Bool, true, false, not, ◌&&◌, ◌||◌, cond, List, [], ◌∷◌, length, map, find, Ok, Some, Option, refl, sym, ap, subst, ◌∙◌}
-use Rattle.std.specs.Prelude.{Result}
+use Rattle.std.proofs.Common.{◌≡◌, ℕ, ◌+◌, ◌==◌, Bool, true, false, not, ◌&&◌, ◌||◌, cond, List, [], ◌∷◌, length, map, find, Ok, Some, Option, refl, sym, subst, ◌∙◌}
 use Rattle.std.specs.List.{AllByRecursion, enumerate_from, filter, list_all}
 use Rattle.std.proofs.lemmas.List.{length-map}
 use Rattle.std.proofs.lemmas.Bool.{eqb-true}
@@ -11,8 +10,7 @@ use Rattle.state_file.specs.States.{StateLine, is_bit, is_one, is_state, lines_o
 use Rattle.state_scores.specs.declared.worth.Score.{Score}
 use Rattle.state_scores.specs.Scores.{IsEvaluation, Judgement, best_of, has_better, is_better, score_of}
 use Rattle.state_scores.specs.Texts.{evaluation_text}
-use Rattle.run_steps.specs.declared.status.Status.{Status}
-use Rattle.run_steps.specs.Steps.{Last, Several, ends, scanning, states_end, taking}
+use Rattle.run_steps.specs.Steps.{Several, ends, scanning, states_end, taking}
 use Rattle.run_steps.proofs.Stepping.{bound}
 use Rattle.program_run.specs.Answers.{IsScored}
 

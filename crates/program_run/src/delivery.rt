@@ -27,11 +27,7 @@ fn deliver_model<O: Sink>(model: &OutputModel, buffer: &mut LineBuffer, out: &mu
 }
 
 /// Writes the text of an evaluation row by row, through a buffer.
-fn deliver_scores<O: Sink>(
-    text: &EvaluationText,
-    buffer: &mut LineBuffer,
-    out: &mut O,
-) -> Status
+fn deliver_scores<O: Sink>(text: &EvaluationText, buffer: &mut LineBuffer, out: &mut O) -> Status
     requires unused { buffer.old ≡ [] }
     ensures delivered { IsDelivered result (O.taken out.old) (O.taken out.new) text.now }
     ensures fault { result ≡ Status.WriteFault → Rose (O.faults out.old) (O.faults out.new) }

@@ -60,7 +60,7 @@ impl ModelJudge<'_> {
     fn new<'a>(
         alloc: Global,
         read: &'a Read,
-            model: &'a OutputModel,
+        model: &'a OutputModel,
     ) -> Result<ModelJudge<'a>, NoMemory>
         requires within { IsWithin read.now.problem }
         requires kept { KeepsSoft read.now }
@@ -69,11 +69,7 @@ impl ModelJudge<'_> {
     {
         let mut x = Vec::new(alloc);
         x.resize(model.variables as usize, false)?;
-        Ok(ModelJudge {
-            read,
-            model,
-            x,
-        })
+        Ok(ModelJudge { read, model, x })
     }
 }
 

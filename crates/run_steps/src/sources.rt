@@ -63,12 +63,7 @@ fn wanted(alloc: Global, command: Command, read: Read) -> Result<Read, NoMemory>
 }
 
 /// What the text that a number draws is read into, as a command wants it. It passes no limit.
-fn take_drawn(
-    alloc: Global,
-    number: u64,
-    clauses: u64,
-    command: Command,
-) -> Result<Read, NoMemory>
+fn take_drawn(alloc: Global, number: u64, clauses: u64, command: Command) -> Result<Read, NoMemory>
     requires { clauses ≤ 100000 }
     ensures drawn { IfOk result (IsDrawnFor number clauses command) }
     ensures within { IfOk result (λ read.
@@ -138,7 +133,13 @@ pub fn take_source<F: Files>(
             Ok(read) => Ok(read),
             Err(_) => Err(Status::NoMemory),
         },
-        Origin::File(format, at) => match take_file(alloc, text_at(words, at), format, command, files) {
+        Origin::File(format, at) => match take_file(
+            alloc,
+            text_at(words, at),
+            format,
+            command,
+            files,
+        ) {
             Ok(read) => Ok(read),
             Err(status) => Err(status),
         },

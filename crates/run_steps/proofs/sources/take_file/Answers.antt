@@ -1,9 +1,8 @@
 use Rattle.std.proofs.Common.{◌≡◌, Ok, Err, Some}
-use Rattle.edge_io.specs.Held.{NamedFiles}
 use Rattle.command_words.specs.declared.names.Which.TheVariants.{Source}
 use Rattle.run_steps.specs.declared.status.Status.TheVariants.{Limit}
 use Rattle.run_steps.specs.Cut.{checking_file, reading_file}
-use Rattle.run_steps.specs.Steps.{Meets, Refuses}
+use Rattle.run_steps.specs.Steps.{Refuses}
 use Rattle.run_steps.proofs.Holding.{told_then}
 use Rattle.run_steps.proofs.Sourced.{file_ends, file_refuses, limited_is, limited_not}
 use Rattle.run_steps.proofs.sources.take_file.Goals as goal
