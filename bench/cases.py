@@ -21,7 +21,7 @@ import subprocess
 import sys
 import tempfile
 
-from optima import certified, first_least
+from optima import certified, first_least, first_least_by, first_wide, read_order
 from readings import READERS, Fault, read_source
 from translation import Limit, Model, cost
 
@@ -29,7 +29,7 @@ CRATE = os.path.join(os.path.dirname(os.path.abspath(__file__)), '..', 'crates',
 MOST_BYTES = 2 ** 24
 VALUES = {'normal': ('literal', 'multilinear'), 'high': ('monomial', 'rosenberg'),
           'unit': ('one', 'reduce'), 'slack': ('bits', 'pairs')}
-OTHERS = {'compile': 0, 'size': 0, 'solve': 0, 'decode': 1, 'extend': 1, 'prove': 2}
+OTHERS = {'compile': 0, 'size': 0, 'solve': 0, 'decode': 1, 'evaluate': 1, 'extend': 1, 'prove': 2}
 BASIS, PRIME = 14695981039346656037, 1099511628211    # of the hash FNV-1a
 
 
@@ -103,12 +103,13 @@ def is_good(key, value):
     return value in VALUES.get(key, ())
 
 
-def keys_of(words, first):
-    """The keys of a model on nodes, of the words from a number on."""
+def keys_of(words, first, command=''):
+    """The keys of a model on nodes, of the words of a command from a number on."""
     keys = {}
     for number, word in enumerate(words, first):
-        key, _, value = word.partition('=')
-        if key in keys or not is_good(key, value):
+        key, sign, value = word.partition('=')
+        ordered = command == 'solve' and key == 'order' and sign
+        if key in keys or not (ordered or is_good(key, value)):
             raise Usage(number)
         keys[key] = value
     return keys
@@ -175,12 +176,43 @@ def optimum(made, state):
     return f'{out}{told(made, chosen)}optimum {found}\n'
 
 
-def solved(made):
+def solved(made, order=None):
     """What `solve` writes for a small model."""
-    state = first_least(made)
+    state = first_least(made) if order is None else first_least_by(made, order)
     if state is None:
         raise OfAnotherKind
     return f'state {"".join(map(str, state))}\n{optimum(made, state)}'
+
+
+def solved_by(made, name, text):
+    """Status, output and line of `solve` with the order of a file."""
+    try:
+        order = read_order(made, text)
+    except Fault as fault:
+        return 5, '', f'{name}:{fault.line}: {fault.kind}\n'
+    wide = first_wide(made, order)
+    if wide:
+        return 11, '', f'too wide: node {wide[0]} has {wide[1]} neighbours\n'
+    return 0, solved(made, order), ''
+
+
+def evaluated(made, name, text):
+    """Status, output and line of `evaluate`."""
+    rows, best = [], None
+    for number, line in enumerate(text.split(b'\n'), 1):
+        bits = bits_of(line, made.nodes)
+        if bits is not None:
+            found, energy = cost(made.problem, bits[:made.source.variables]), made.energy(bits)
+            rows.append(f'sample {number} cost {"infinite" if found is None else found} energy {energy}\n')
+            score = (found is None, found or 0, energy)
+            if best is None or score < best[0]:
+                best = score, number, bits
+    if best is None:
+        return 8, '', f'{name}: no state of {made.nodes} characters\n'
+    _, number, bits = best
+    chosen = bits[:made.source.variables]
+    return 0, ''.join(rows) + f'best {number}\n' + told(made, chosen) \
+        + costs(made, chosen, made.energy(bits)), ''
 
 
 def proved(made, state, text):
@@ -208,6 +240,10 @@ def answer(command, made, names, texts):
 
 def of_model(command, made, names, found):
     """The same of each command."""
+    if command == 'evaluate':
+        return evaluated(made, names[0], found[names[0]])
+    if command == 'solve' and names:
+        return solved_by(made, names[0], found[names[0]])
     if names:
         return answer(command, made, names, [found[each] for each in names])
     return 0, {'compile': made.text, 'size': made.size}.get(command, lambda: solved(made))(), ''
@@ -217,7 +253,9 @@ def of_source(words, found):
     """The same of the words of a command with a source, and of its files by name."""
     command, layout, target, name, *rest = words
     names = rest[:OTHERS[command]]
-    keys = keys_of(rest[len(names):], 5 + len(names))
+    keys = keys_of(rest[len(names):], 5 + len(names), command)
+    if 'order' in keys:
+        names = names + [keys.pop('order')]
     if any(each not in found for each in [name] + names):
         raise OfAnotherKind
     if any(len(text) > MOST_BYTES for text in found.values()):

@@ -5,7 +5,7 @@
 import re
 from itertools import product
 
-from readings import lines_of, value_of
+from readings import Tokens, lines_of, value_of
 from translation import add, complements, multiplied_out
 
 MOST_NODES, MOST_LITERALS, MOST_PRODUCTS = 12, 8, 2 ** 24
@@ -17,6 +17,48 @@ def first_least(made):
     if made.nodes > MOST_NODES:
         return None
     return min(product((0, 1), repeat=made.nodes), key=made.energy)
+
+
+def read_order(made, text):
+    """The nodes of a model as a text orders their elimination."""
+    tokens, order = Tokens(text, 'plain'), []
+    while tokens.next()[0] is not None:
+        node = tokens.number()
+        if node not in range(made.nodes) or node in order:
+            tokens.refuse('range')
+        order.append(node)
+    if len(order) < made.nodes:
+        tokens.take()
+    return order
+
+
+def first_wide(made, order):
+    """The first node of an order that has over 16 neighbours when it goes, and how many; or none."""
+    near = {node: set() for node in range(made.nodes)}
+    for i, j in made.couplers:
+        near[i].add(j)
+        near[j].add(i)
+    for node in order:
+        around = near.pop(node)
+        if len(around) > 16:
+            return node, len(around)
+        for each in around:
+            near[each] |= around - {each}
+            near[each].discard(node)
+    return None
+
+
+def first_least_by(made, order):
+    """The first least state, states being compared from the last node of an order on."""
+    if made.nodes > MOST_NODES:
+        return None
+
+    def by_order(bits):
+        state = [0] * made.nodes
+        for node, bit in zip(reversed(order), bits):
+            state[node] = bit
+        return state
+    return min(map(by_order, product((0, 1), repeat=made.nodes)), key=made.energy)
 
 
 def over_bits(made):
