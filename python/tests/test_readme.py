@@ -1,23 +1,43 @@
-"""The Python block of the README prints what stands there."""
+"""The Python blocks of the documents print what stands there."""
 import contextlib
+import importlib.util
 import io
+import os
 import re
 import unittest
 
 from helper import ROOT, needs_program
 
+DOCUMENTS = ('python/README.md', 'README.md', 'docs/GUIDE.md')
+BLOCK = re.compile(r'```python\n(.*?)```\n+```output\n(.*?)```', re.DOTALL)
+
+
+def missing(code):
+    """Whether a block imports a module that is not installed."""
+    modules = re.findall(r'^(?:import|from) +(\w+)', code, re.MULTILINE)
+    return any(importlib.util.find_spec(name) is None for name in modules)
+
 
 @needs_program
-class Readme(unittest.TestCase):
-    def test_the_block(self):
-        text = (ROOT / 'python' / 'README.md').read_text()
-        blocks = re.findall(r'```python\n(.*?)```\n+```output\n(.*?)```', text, re.DOTALL)
-        self.assertEqual(len(blocks), 1)
-        for code, wanted in blocks:
-            out = io.StringIO()
-            with contextlib.redirect_stdout(out):
-                exec(code, {})
-            self.assertEqual(out.getvalue(), wanted)
+class Documents(unittest.TestCase):
+    def setUp(self):
+        self.addCleanup(os.chdir, os.getcwd())
+        os.chdir(ROOT)
+
+    def test_each_block(self):
+        for name in DOCUMENTS:
+            text = (ROOT / name).read_text(encoding='utf-8')
+            blocks = BLOCK.findall(text)
+            self.assertEqual(len(blocks), text.count('```python\n'), name)
+            self.assertGreater(len(blocks), 0, name)
+            for code, wanted in blocks:
+                if missing(code):
+                    continue
+                with self.subTest(document=name, code=code):
+                    out = io.StringIO()
+                    with contextlib.redirect_stdout(out):
+                        exec(code, {})
+                    self.assertEqual(out.getvalue(), wanted)
 
 
 if __name__ == '__main__':

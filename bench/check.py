@@ -1,19 +1,21 @@
 #!/usr/bin/env python3
-"""Runs the commands of README.md and docs/GUIDE.md on a built program, and follows all links.
+"""Runs the commands of the documents for users on a built program, and follows all links.
 
     check.py PROGRAM [DOCUMENT ..]
 
-A block ```sh holds commands. They are run by `sh -e` at the top of a scratch tree, one for each
-document, which has links to all that the repository has but no build/, and with PROGRAM on the PATH
-as compile_program. They have to end with 0, and to leave files in build/ alone. A block ```output
-behind it says what they write to both outputs; a line `...` there stands for any lines. Blocks of
-other words are not run. A block that calls rt, or a tool that is not there, is skipped with a line
-that says so, and so is one that needs a file of such a block.
+A block ```sh holds commands, which `sh -e` runs; a block ```python holds a program of its own. Both
+run at the top of a scratch tree, one for each document, which has links to all that the repository
+has but no build/, with PROGRAM on the PATH as compile_program, and with the package pbising. They
+have to end with 0, and to leave files in build/ alone. A block ```output behind one says what it
+writes to both outputs; a line `...` there stands for any lines. Blocks of other words are not run.
+A block that calls rt, a tool or a module that is not there, is skipped with a line that says so, and
+so is one that needs a file of such a block.
 
 Each relative link of each document, *.md in any folder, has to lead to a file, and to a heading of
 it where it names one. The status is 0 where all holds.
 """
 import difflib
+import importlib.util
 import os
 import re
 import shutil
@@ -22,10 +24,8 @@ import sys
 import tempfile
 from pathlib import Path
 
-from models import command
-
 ROOT = Path(__file__).resolve().parent.parent
-DOCUMENTS = ('README.md', 'docs/GUIDE.md')
+DOCUMENTS = ('README.md', 'docs/GUIDE.md', 'docs/REFERENCE.md', 'python/README.md')
 FENCE = re.compile(r'^```(\w*)[^\n]*\n(.*?)^```[ \t]*$', re.M | re.S)
 HERE = re.compile(r"<<-?\s*['\"]?(\w+)['\"]?([^\n]*)\n.*?^\1$", re.M | re.S)
 BEFORE = {'do', 'then', 'else', 'if', 'elif', 'while', 'until', '!', 'time', 'nice', 'exec'}
@@ -37,6 +37,19 @@ class Step:
 
     def __init__(self, line, commands):
         self.line, self.commands, self.output = line, commands, None
+
+    def words(self):
+        """The words that run it."""
+        return ['sh', '-e', '-c', self.commands]
+
+    def missing(self, env):
+        """A tool that is not to be run or not there, or None."""
+        for tool in self.tools():
+            there = subprocess.run(['sh', '-c', 'command -v "$1"', 'sh', tool], env=env,
+                                   stdout=subprocess.DEVNULL, check=False).returncode == 0
+            if tool == 'rt' or not there:
+                return tool
+        return None
 
     def tools(self):
         """The first word of each command."""
@@ -56,6 +69,22 @@ class Step:
                 set(re.findall(r'>\s*(' + name + ')', self.commands)))
 
 
+class PythonStep(Step):
+    """A program in Python."""
+
+    def words(self):
+        return [sys.executable, '-c', self.commands]
+
+    def missing(self, env):
+        """A module that is not there, or None. The package is always there."""
+        modules = re.findall(r'^(?:import|from) +(\w+)', self.commands, re.M)
+        return next((name for name in modules
+                     if name != 'pbising' and importlib.util.find_spec(name) is None), None)
+
+
+KINDS = {'sh': Step, 'python': PythonStep}
+
+
 def steps_of(text):
     """The steps of a document."""
     steps, last = [], None
@@ -66,9 +95,9 @@ def steps_of(text):
             raise ValueError(f'line {line}: no commands stand before this output')
         if word == 'output':
             last.output, last = inside, None
-        elif word in ('sh', 'console'):
-            last = Step(line, inside)
-            steps += [last] if word == 'sh' else []
+        elif word in KINDS or word == 'console':
+            last = KINDS.get(word, Step)(line, inside)
+            steps += [last] if word in KINDS else []
     return steps
 
 
@@ -79,24 +108,15 @@ def scratch(top, program):
             (top / 'tree' / entry.name).symlink_to(entry)
     (top / 'bin' / 'compile_program').symlink_to(program)
     path = f"{top / 'bin'}{os.pathsep}{os.environ.get('PATH', os.defpath)}"
-    env = {**os.environ, 'PATH': path, 'PYTHONDONTWRITEBYTECODE': '1', 'LC_ALL': 'C.UTF-8'}
+    env = {**os.environ, 'PATH': path, 'PYTHONDONTWRITEBYTECODE': '1', 'LC_ALL': 'C.UTF-8',
+           'PYTHONPATH': str(ROOT / 'python'), 'PBISING_PROGRAM': str(program)}
     env.pop('PYTHONUNBUFFERED', None)
     return env
 
 
-def missing_tool(step, env):
-    """A tool of a step that is not to be run or not there, or None."""
-    for tool in step.tools():
-        there = subprocess.run(['sh', '-c', 'command -v "$1"', 'sh', tool], env=env,
-                               stdout=subprocess.DEVNULL, check=False).returncode == 0
-        if tool == 'rt' or not there:
-            return tool
-    return None
-
-
 def run(step, tree, env):
     """What a step wrote, and its status."""
-    done = subprocess.run(['sh', '-e', '-c', step.commands], cwd=tree, env=env, check=False,
+    done = subprocess.run(step.words(), cwd=tree, env=env, check=False,
                           stdin=subprocess.DEVNULL, stdout=subprocess.PIPE,
                           stderr=subprocess.STDOUT)
     return done.stdout.decode('utf-8', 'replace'), done.returncode
@@ -124,7 +144,7 @@ def check_steps(name, steps, tree, env):
     faults, skipped, lost = 0, 0, set()
     for step in steps:
         used, written = step.files()
-        tool = missing_tool(step, env)
+        tool = step.missing(env)
         needed = {file for file in lost & used - written if not (tree / file).exists()}
         if tool or needed:
             skipped += 1
@@ -216,4 +236,8 @@ def main():
 
 
 if __name__ == '__main__':
-    command(main)
+    try:
+        sys.exit(main())
+    except (ValueError, OSError) as fault:
+        print(fault, file=sys.stderr)
+        sys.exit(2)
