@@ -19,6 +19,7 @@ VARTYPE = re.compile(r'#\s*vartype\s*=\s*(\w+)')
 COMMENT = re.compile(r'[ \t\r]*\*')
 OPB_TOKEN = re.compile(r'[ \t\r]+|[;\[\]]|[<>=]+|[^ \t\r;<>=:\[\]]*:|[^ \t\r;<>=:\[\]]+')
 OPB_LITERAL = re.compile(r'([+-]?)(~?x[0-9]+)')
+OPB_WORD = re.compile(r'min|min:|soft:|:|;|[][]|[<>=]+|[+-]')
 MOST_NODES = 2 ** 20
 Edge = Tuple[int, int]
 
@@ -72,7 +73,8 @@ def from_rudy(source: PathName) -> Source:
 
 def from_opb(source: PathName) -> Source:
     """An OPB file with what some tools write: a `*` between a number and a literal, and literals
-    without a number, which is 1 then. What is wrong beside that is told by `compile`."""
+    without a number, which is 1 then. A word of no OPB file is refused; what else is wrong is told by
+    `compile`."""
     name, text = _read(source)
     numbered = _Numbered(name)
     lines = [line if COMMENT.match(line) else ''.join(numbered.pieces(number, line))
@@ -96,6 +98,9 @@ class _Numbered:
                 self.given = True
             elif literal and after_literal and self.given:
                 raise TextError(self.name, number, 'word', piece, 'a sign, a number or an operator')
+            elif not (literal or piece.isspace() or whole(piece) is not None
+                      or OPB_WORD.fullmatch(piece)):
+                raise TextError(self.name, number, 'word', piece, 'a term, an operator, `min:` or `;`')
             else:
                 yield piece
                 self.given = self.given and not piece.strip()
