@@ -1,24 +1,12 @@
 -- Hard clauses that are added to a problem one after another.
-use Rattle.std.proofs.Common.{◌≡◌, ℕ, zero, ◌+◌, ◌<◌, refl, sym, ap, ◌∙◌, arith, List, [], ◌∷◌, ◌++◌, length, map, take, drop, get_or, suc, add-one, append-nil, append_assoc, drop-cons}
-use Rattle.std.specs.List.{flat_map}
-use Rattle.std.proofs.lemmas.List.{map-append, take_more}
-use Rattle.std.proofs.lemmas.List.Concat.{flat_map-append}
-use Rattle.std.proofs.lemmas.List.Sums.{sum_by-append}
-use Rattle.literal_lists.specs.declared.literal.Literal.{Literal}
-use Rattle.problem_form.specs.NormalForm.{kept_clause}
-use Rattle.problem_form.specs.Problems.{ProblemContent, problem_total, soft_weight}
-use Rattle.conflict_clauses.specs.Conflicts.{hard, hard_clauses, pairs_of}
-use Rattle.conflict_clauses.specs.Steps.{alone, with_hard}
-use Rattle.conflict_clauses.proofs.Missing.{hard-weights}
+use Rattle.conflict_clauses.proofs.Common.{nat_tests, ◌≡◌, ℕ, zero, ◌+◌, ◌<◌, refl, sym, ap, ◌∙◌, arith, List, [], ◌∷◌, ◌++◌, length, map, take, drop, get_or, suc, add-one, append-nil, append_assoc, drop-cons, map-append, take_more, flat_map-append, Literal, ProblemContent, hard_clauses, pairs_of, alone, with_hard}
 
 pub with_hard-nil : (p : ProblemContent) → with_hard p [] ≡ p
 with_hard-nil p = λ i. record p { clauses = append-nil p.clauses i }
 
 hard_clauses-append : (as' bs : List (List Literal))
     → hard_clauses (as' ++ bs) ≡ hard_clauses as' ++ hard_clauses bs
-hard_clauses-append as' bs =
-    ap (flat_map kept_clause) (map-append hard as' bs)
-    ∙ flat_map-append kept_clause (map hard as') (map hard bs)
+hard_clauses-append as' bs = grind (arith, nat_tests, map-append, flat_map-append)
 
 pub with_hard-append : (p : ProblemContent) (as' bs : List (List Literal))
     → with_hard (with_hard p as') bs ≡ with_hard p (as' ++ bs)
@@ -27,12 +15,6 @@ with_hard-append p as' bs =
       clauses = (append_assoc p.clauses (hard_clauses as') (hard_clauses bs)
           ∙ ap (λ cs. p.clauses ++ cs) (sym (hard_clauses-append as' bs))) i;
     }
-
--- they add nothing to the sizes
-pub with_hard-total : (p : ProblemContent) (lists : List (List Literal))
-    → problem_total (with_hard p lists) ≡ problem_total p
-with_hard-total p lists =
-    omega (arith, sum_by-append soft_weight p.clauses (hard_clauses lists), hard-weights lists)
 
 -- ---- clauses of one literal
 

@@ -1,10 +1,5 @@
 -- Sizes of which each two sum to more than a limit, seen in one walk with the least size so far.
-use Rattle.std.proofs.Common.{◌≡◌, ℕ, ◌+◌, ◌<◌, ◌≤◌, Bool, true, false, ◌&&◌, ltb, min, refl, sym, ap, ◌∙◌, arith, List, [], ◌∷◌}
-use Rattle.std.specs.List.{list_all}
-use Rattle.std.proofs.lemmas.Bool.{le-ltb, lt-ltb}
-use Rattle.std.proofs.lemmas.Bool.Decides.{nat_tests}
-use Rattle.problem_form.specs.declared.terms.Product.{Product}
-use Rattle.conflict_clauses.specs.Conflicts.{are_apart, each_two, size}
+use Rattle.conflict_clauses.proofs.Common.{◌≡◌, ℕ, ◌+◌, ◌<◌, ◌≤◌, Bool, true, false, ◌&&◌, ltb, min, refl, sym, ap, ◌∙◌, arith, List, [], ◌∷◌, list_all, le-ltb, lt-ltb, nat_tests, Product, are_apart, each_two, size}
 
 -- products that are apart from one another, and from one of this size
 abbrev pub apart_beside : ℕ → ℕ → List Product → Bool
@@ -28,18 +23,13 @@ all-beside room least (t ∷ ts) over =
 -- a size above the room lets all pass
 pub beside-none : (room : ℕ) (ts : List Product)
     → each_two (are_apart room) ts ≡ apart_beside room (room + 1) ts
-beside-none room ts =
-    and-true (each_two (are_apart room) ts)
-    ∙ ap (λ b. each_two (are_apart room) ts && b) (sym (all-beside room (room + 1) ts (omega arith)))
+beside-none room ts = grind (arith, nat_tests, and-true, all-beside)
 
 lesser : (room a b c : ℕ) → (ltb room (a + c) && ltb room (b + c)) ≡ ltb room (min a b + c)
 lesser room a b c = grind (arith, nat_tests)
 
 regroup : (a b c d : Bool) → ((a && b) && (c && d)) ≡ (b && ((a && c) && d))
-regroup true true c d = refl
-regroup true false c d = refl
-regroup false true c d = refl
-regroup false false c d = refl
+regroup a b c d = grind (arith, nat_tests)
 
 all-lesser : (room a b : ℕ) (ts : List Product)
     → (list_all (λ t. ltb room (a + size t)) ts && list_all (λ t. ltb room (b + size t)) ts)

@@ -1,33 +1,12 @@
 -- Whether a constraint is replaced, seen by its parts: those first that take the least to see.
-use Rattle.std.proofs.Common.{◌≡◌, ℕ, ◌+◌, ◌<◌, ◌≤◌, Bool, true, false, cond, not, ◌&&◌, leb, ltb, refl, sym, ap, ◌∙◌, arith, length, Some, None, pos, int_lt}
-use Rattle.std.specs.Prelude.{count_by}
-use Rattle.std.specs.List.{list_all}
-use Rattle.std.proofs.lemmas.Bool.{and_from, le-leb}
-use Rattle.std.proofs.lemmas.Bool.Decides.{nat_tests}
-use Rattle.std.proofs.lemmas.List.Sums.{length-filter}
-use Rattle.problem_form.specs.declared.terms.Constraint.{Constraint}
-use Rattle.problem_form.specs.Limits.{positive_total}
-use Rattle.conflict_clauses.specs.Conflicts.{are_apart, each_two, is_conflict, is_needed, is_replaced, is_single, most_pairs, most_products, pair_count, pairs, room}
-use Rattle.conflict_clauses.specs.Steps.{IsFound, may_conflict}
+use Rattle.conflict_clauses.proofs.Common.{◌≡◌, ℕ, ◌+◌, ◌<◌, ◌≤◌, Bool, true, false, cond, not, ◌&&◌, leb, refl, sym, ap, ◌∙◌, arith, Some, None, count_by, list_all, and_from, le-leb, nat_tests, length-filter, Constraint, are_apart, each_two, is_conflict, is_needed, is_replaced, is_single, most_pairs, pair_count, pairs, room, IsFound, may_conflict}
 
 -- no two products of one literal each may miss
 abbrev conflicting : ℕ → Constraint → Bool
 conflicting r k = list_all is_single k.products && each_two (are_apart r) k.products
 
 conflict-parts : (k : Constraint) → is_conflict k ≡ (may_conflict k && conflicting (room k) k)
-conflict-parts k =
-    regroup (not k.exact) (ltb 0 (length k.products)) (leb (length k.products) most_products)
-    (list_all is_single k.products) (not (int_lt (pos (positive_total k.products)) k.bound))
-    (each_two (are_apart (room k)) k.products)
-  where
-    regroup : (a b c d e f : Bool) → (a && b && c && d && e && f) ≡ ((a && b && c && e) && (d && f))
-    regroup false b c d e f = refl
-    regroup true false c d e f = refl
-    regroup true true false d e f = refl
-    regroup true true true false false f = refl
-    regroup true true true false true f = refl
-    regroup true true true true false f = refl
-    regroup true true true true true f = refl
+conflict-parts k = grind (arith, nat_tests)
 
 and-false : (a : Bool) → (a && false) ≡ false
 and-false true = refl
@@ -43,21 +22,7 @@ pub record IsSeen (k : Constraint) (r n : ℕ) : Type 0 where
 
 pub seen : (k : Constraint) (r m n : ℕ) → Some r ≡ cond (may_conflict k) (Some (room k)) None
     → m ≡ count_by (λ t. not (is_needed r t)) k.products → n ≡ pair_count m → IsSeen k r n
-seen k r m n some counted paired = go (may_conflict k) refl some
-  where
-    go : (b : Bool) → may_conflict k ≡ b → Some r ≡ cond b (Some (room k)) None → IsSeen k r n
-    go true e some =
-        let same : r ≡ room k = cc in
-        record {
-          may = e;
-          room = same;
-          pairs = paired
-              ∙ ap pair_count
-              (counted
-              ∙ ap (λ s. count_by (λ t. not (is_needed s t)) k.products) same
-              ∙ sym (length-filter (λ t. not (is_needed (room k) t)) k.products));
-        }
-    go false e some = absurd cc
+seen k r m n some counted paired = grind (arith, nat_tests, length-filter)
 
 -- ---- what stays
 

@@ -1,10 +1,5 @@
 -- Tests of each two elements of a list, and numbers of which each two are more than a limit.
-use Rattle.std.proofs.Common.{◌≡◌, ℕ, ◌+◌, ◌<◌, ◌≤◌, Bool, true, false, cond, not, ◌&&◌, ◌||◌, ltb, refl, sym, ap, ◌∙◌, arith, List, [], ◌∷◌, ◌++◌, map}
-use Rattle.std.specs.List.{filter, list_all, list_any, sum_by}
-use Rattle.std.proofs.lemmas.Bool.{and_parts, false≢true, le-ltb, lt-ltb, ltb-false, ltb-true}
-use Rattle.std.proofs.lemmas.List.Folds.{list_any-append}
-use Rattle.std.proofs.lemmas.List.Sums.{sum_by-cons}
-use Rattle.conflict_clauses.specs.Conflicts.{each_two, pairs_of}
+use Rattle.conflict_clauses.proofs.Common.{nat_tests, elements, ◌≡◌, ℕ, ◌+◌, ◌<◌, ◌≤◌, Bool, true, false, cond, not, ◌&&◌, ◌||◌, ltb, refl, sym, ap, ◌∙◌, arith, List, [], ◌∷◌, ◌++◌, map, filter, list_all, list_any, sum_by, and_parts, false≢true, le-ltb, lt-ltb, ltb-false, ltb-true, list_any-append, sum_by-cons, each_two, pairs_of}
 
 -- ---- tests
 
@@ -15,10 +10,6 @@ and-false false = refl
 pub or-false : (a : Bool) → (a || false) ≡ a
 or-false true = refl
 or-false false = refl
-
-or-true : (a : Bool) → (a || true) ≡ true
-or-true true = refl
-or-true false = refl
 
 and-or : (a b c : Bool) → ((a && b) || (a && c)) ≡ (a && (b || c))
 and-or true b c = refl
@@ -33,9 +24,7 @@ or-assoc true b c = refl
 or-assoc false b c = refl
 
 pub or-swap : (a b c : Bool) → (a || (b || c)) ≡ (b || (a || c))
-or-swap true true c = refl
-or-swap true false c = refl
-or-swap false b c = refl
+or-swap a b c = grind (arith, nat_tests, elements)
 
 pub list_any-map : {A B : Type 0} (p : B → Bool) (f : A → B) (xs : List A)
     → list_any p (map f xs) ≡ list_any (λ x. p (f x)) xs
@@ -111,20 +100,11 @@ two-filter {A = A} p q x xs = go (q x)
     go true = refl
     go false = refl
 
-either : (b p n s : Bool) → (p || (n || s)) ≡ (((b && p) || n) || ((not b && p) || s))
-either true true n s = refl
-either true false n s = refl
-either false true n s = sym (or-true n)
-either false false n s = refl
-
 -- what passes is among what a second test keeps, or among what it leaves out
 any-parts : {A : Type 0} (p q : A → Bool) (xs : List A)
     → list_any p xs ≡ (list_any p (filter q xs) || list_any p (filter (λ x. not (q x)) xs))
 any-parts p q [] = refl
-any-parts p q (x ∷ xs) =
-    ap (λ b. p x || b) (any-parts p q xs)
-    ∙ either (q x) (p x) (list_any p (filter q xs)) (list_any p (filter (λ y. not (q y)) xs))
-    ∙ (λ i. sym (any-filter p q x xs) i || sym (any-filter p (λ y. not (q y)) x xs) i)
+any-parts p q (x ∷ xs) = grind (arith, nat_tests, any-parts p q xs)
 
 -- ---- sums of sizes, of which each two are above a limit
 
@@ -155,16 +135,7 @@ finish : (most n l : ℕ) (p c f s q : Bool) → ltb most l ≡ (f || q)
     → (c ≡ false → ltb most (n + l) ≡ (f || s)) → (c ≡ true → ltb most (n + l) ≡ true)
     → (s ≡ false → q ≡ false)
     → ltb most (cond p n 0 + l) ≡ (((c && p) || f) || ((not c && (p && s)) || q))
-finish most n l false true f s q rest alone great few =
-    let same : 0 + l ≡ l = omega arith in
-    ap (ltb most) same ∙ rest
-finish most n l false false f s q rest alone great few =
-    let same : 0 + l ≡ l = omega arith in
-    ap (ltb most) same ∙ rest
-finish most n l true true f s q rest alone great few = great refl
-finish most n l true false f true q rest alone great few = alone refl
-finish most n l true false f false q rest alone great few =
-    alone refl ∙ (λ i. f || sym (few refl) i)
+finish most n l p c f s q rest alone great few = grind (arith, nat_tests)
 
 -- the sum of what is lost is too much where one that is too much by itself is lost, or two others are
 pub sum_lost : {A : Type 0} (p : A → Bool) (size : A → ℕ) (most : ℕ) (xs : List A)

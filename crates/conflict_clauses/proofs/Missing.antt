@@ -2,24 +2,7 @@
 --
 -- The sum of a constraint and the sizes of the products that miss are its greatest sum. So it fails
 -- where those sizes sum to more than the room.
-use Rattle.std.proofs.Common.{◌≡◌, ℕ, ◌+◌, ◌≤◌, Bool, true, false, cond, not, ◌&&◌, ◌||◌, eqb, leb, ltb, refl, sym, ap, ◌∙◌, arith, inl, inr, List, [], ◌∷◌, length, map, None, Some, ℤ, pos, negsuc, ◌+ℤ◌, ◌-ℤ◌, ◌<ℤ◌, ◌≤ℤ◌, unsigned_abs, int_lt}
-use Rattle.std.specs.List.{list_all, list_any, slice_index_or, sum_by}
-use Rattle.std.specs.Ordering.{int_eq}
-use Rattle.std.proofs.lemmas.Bool.{and_parts, cases_lt, eqb-true, false≢true, le-ltb, leb-true, lt-ltb, not-true}
-use Rattle.std.proofs.lemmas.Int.{ints}
-use Rattle.std.proofs.lemmas.List.Folds.{list_any-append}
-use Rattle.std.proofs.lemmas.List.Sums.{sum_by-append, sum_by-cons}
-use Rattle.base.specs.Sums.{if_so, positive_part, total_by}
-use Rattle.base.proofs.Totals.{total_by-append}
-use Rattle.literal_lists.specs.declared.literal.Literal.{Literal}
-use Rattle.literal_lists.specs.Literals.{all_hold, has_clash, holds, literal_set, some_holds}
-use Rattle.problem_form.specs.declared.terms.Product.{Product}
-use Rattle.problem_form.specs.declared.terms.Constraint.{Constraint}
-use Rattle.problem_form.specs.Limits.{positive_total}
-use Rattle.problem_form.specs.NormalForm.{kept_clause}
-use Rattle.problem_form.specs.Problems.{fails, fails_hard, is_violated, product_value, soft_cost, soft_weight, sum_of}
-use Rattle.problem_form.proofs.NormalForms.{list_any-kept}
-use Rattle.conflict_clauses.specs.Conflicts.{are_apart, each_two, hard, hard_clauses, is_conflict, is_single, most_products, needed, others, pairs_of, room, size, wanted, wanted_lists, wanted_literal}
+use Rattle.conflict_clauses.proofs.Common.{nat_tests, ◌≡◌, ℕ, ◌+◌, ◌≤◌, Bool, true, false, cond, not, ◌&&◌, ◌||◌, eqb, leb, ltb, refl, sym, ap, ◌∙◌, arith, List, [], ◌∷◌, length, map, None, Some, ℤ, pos, negsuc, ◌+ℤ◌, ◌-ℤ◌, ◌<ℤ◌, ◌≤ℤ◌, unsigned_abs, int_lt, list_all, list_any, sum_by, int_eq, and_parts, eqb-true, false≢true, leb-true, not-true, ints, list_any-append, sum_by-append, sum_by-cons, if_so, positive_part, total_by, total_by-append, Literal, all_hold, holds, some_holds, Product, Constraint, positive_total, kept_clause, fails, fails_hard, product_value, soft_cost, soft_weight, sum_of, list_any-kept, are_apart, each_two, hard, hard_clauses, is_conflict, is_single, most_products, needed, others, room, size, wanted, wanted_lists, wanted_literal}
 use Rattle.conflict_clauses.proofs.Lists.{list_any-map, lost, none_of, pairs_of-none, sum_lost, two_pass, two_pass-map}
 
 -- ---- one product
@@ -30,13 +13,7 @@ misses x t = none_of (holds x) (wanted t)
 
 holds-turned : (x : List Bool) (l : Literal)
     → holds x (record l { negated = not l.negated }) ≡ not (holds x l)
-holds-turned x l = go l.negated (slice_index_or x l.variable false)
-  where
-    go : (n v : Bool) → cond (not n) (not v) v ≡ not (cond n (not v) v)
-    go true true = refl
-    go true false = refl
-    go false true = refl
-    go false false = refl
+holds-turned x l = grind (arith, nat_tests)
 
 plus : (b : Bool) (n : ℕ)
     → if_so (b && true) (pos n) +ℤ pos (cond (not (b || false)) (unsigned_abs (pos n)) 0) ≡ pos n
@@ -80,13 +57,6 @@ sums x (t ∷ ts) single =
 
 -- ---- a sum below its bound
 
-positive_part-is : (z : ℤ) → pos 0 ≤ℤ z → pos (positive_part z) ≡ z
-positive_part-is (pos n) h = refl
-positive_part-is (negsuc n) h = absurd (omega (arith, ints))
-
-not_less : (a b : ℤ) → int_lt b a ≡ false → a ≤ℤ b
-not_less a b e = grind (arith, ints)
-
 pub is_less : (a b : ℤ) → a <ℤ b → int_lt a b ≡ true
 is_less a b h = grind (arith, ints)
 
@@ -95,17 +65,7 @@ is_not_less a b h = grind (arith, ints)
 
 below : (s b : ℤ) (l h : ℕ) → s +ℤ pos l ≡ pos h → int_lt (pos h) b ≡ false
     → int_lt s b ≡ ltb (positive_part (pos h -ℤ b)) l
-below s b l h sum fits =
-    let high : b ≤ℤ pos h = not_less b (pos h) fits in
-    let part : pos (positive_part (pos h -ℤ b)) ≡ pos h -ℤ b =
-    positive_part-is (pos h -ℤ b) (omega (arith, ints)) in
-    go (positive_part (pos h -ℤ b)) part
-  where
-    go : (r : ℕ) → pos r ≡ pos h -ℤ b → int_lt s b ≡ ltb r l
-    go r e = elim (cases_lt r l) [
-      | inl over ↦ is_less s b (omega (arith, ints)) ∙ sym (lt-ltb r l over)
-      | inr within ↦ is_not_less s b (omega (arith, ints)) ∙ sym (le-ltb r l within)
-    ]
+below s b l h sum fits = grind (arith, nat_tests, ints)
 
 -- ---- the room above a bound
 
@@ -113,17 +73,9 @@ pub no_room : (h : ℕ) (b : ℤ) → int_lt (pos h) b ≡ true
     → None ≡ cond (int_lt (pos h) b) None (Some (positive_part (pos h -ℤ b)))
 no_room h b e = λ i. cond (sym e i) None (Some (positive_part (pos h -ℤ b)))
 
-size-positive : (z : ℤ) → pos 0 ≤ℤ z → unsigned_abs z ≡ positive_part z
-size-positive (pos n) h = refl
-size-positive (negsuc n) h = absurd (omega (arith, ints))
-
 pub some_room : (h : ℕ) (b : ℤ) (r : ℕ) → int_lt (pos h) b ≡ false → r ≡ unsigned_abs (pos h -ℤ b)
     → Some r ≡ cond (int_lt (pos h) b) None (Some (positive_part (pos h -ℤ b)))
-some_room h b r e is =
-    let high : b ≤ℤ pos h = not_less b (pos h) e in
-    let same : r ≡ positive_part (pos h -ℤ b) =
-    is ∙ size-positive (pos h -ℤ b) (omega (arith, ints)) in
-    ap Some same ∙ (λ i. cond (sym e i) None (Some (positive_part (pos h -ℤ b))))
+some_room h b r e is = grind (arith, nat_tests, ints)
 
 -- ---- a conflict
 
@@ -165,10 +117,7 @@ wanted-fails : (x : List Bool) (k : Constraint)
     → list_any (none_of (holds x)) (wanted_lists k)
     ≡ (list_any (misses x) (needed k) || two_pass (misses x) (others k))
 wanted-fails x k =
-    list_any-append (none_of (holds x)) (map wanted (needed k)) (pairs_of (map wanted (others k)))
-    ∙ (λ i. list_any-map (none_of (holds x)) wanted (needed k) i
-    || (pairs_of-none (holds x) (map wanted (others k))
-    ∙ two_pass-map (none_of (holds x)) wanted (others k)) i)
+    grind (arith, nat_tests, list_any-append, none_of, list_any-map, pairs_of-none, two_pass-map)
 
 -- a conflict fails where one of its clauses does
 pub conflict-fails : (x : List Bool) (k : Constraint) → is_conflict k ≡ true
@@ -188,15 +137,7 @@ conflict-fails x k conflict =
 -- ---- hard clauses cost nothing by themselves
 
 hard-cost : (x : List Bool) (ls : List Literal) → total_by (soft_cost x) (kept_clause (hard ls)) ≡ pos 0
-hard-cost x ls = go (has_clash ls || false)
-  where
-    none : (b : Bool) → if_so b (pos 0) +ℤ pos 0 ≡ pos 0
-    none true = refl
-    none false = refl
-
-    go : (b : Bool) → total_by (soft_cost x) (cond b [] (hard (literal_set ls) ∷ [])) ≡ pos 0
-    go true = refl
-    go false = none (is_violated x (hard (literal_set ls)))
+hard-cost x ls = grind (arith, nat_tests)
 
 pub hard-costs : (x : List Bool) (lists : List (List Literal))
     → total_by (soft_cost x) (hard_clauses lists) ≡ pos 0
@@ -206,11 +147,7 @@ hard-costs x (ls ∷ lists) =
     ∙ (λ i. hard-cost x ls i +ℤ hard-costs x lists i)
 
 hard-weight : (ls : List Literal) → sum_by soft_weight (kept_clause (hard ls)) ≡ 0
-hard-weight ls = go (has_clash ls || false)
-  where
-    go : (b : Bool) → sum_by soft_weight (cond b [] (hard (literal_set ls) ∷ [])) ≡ 0
-    go true = refl
-    go false = sum_by-cons soft_weight (hard (literal_set ls)) []
+hard-weight ls = grind (arith, nat_tests)
 
 pub hard-weights : (lists : List (List Literal)) → sum_by soft_weight (hard_clauses lists) ≡ 0
 hard-weights [] = refl

@@ -1,20 +1,6 @@
 -- The problem without its conflicts costs the same; and what the steps of the replacement make.
-use Rattle.std.proofs.Common.{◌≡◌, ℕ, ◌+◌, ◌≤◌, Bool, true, false, cond, not, ◌||◌, leb, refl, ap, ◌∙◌, arith, List, [], ◌∷◌, ◌++◌, length, drop, append_assoc, add-one, zero, suc, ◌<◌, Some, pos, ◌+ℤ◌}
-use Rattle.std.specs.List.{list_any, slice_get, sum_by}
-use Rattle.std.proofs.lemmas.Bool.{and_parts, leb-true}
-use Rattle.std.proofs.lemmas.Int.{ints}
-use Rattle.std.proofs.lemmas.List.Folds.{list_any-append}
-use Rattle.std.proofs.lemmas.List.Sums.{sum_by-append}
+use Rattle.conflict_clauses.proofs.Common.{nat_tests, ◌≡◌, ℕ, ◌+◌, ◌≤◌, Bool, true, false, cond, not, ◌||◌, leb, refl, ap, ◌∙◌, arith, List, [], ◌∷◌, ◌++◌, length, drop, append_assoc, add-one, zero, suc, ◌<◌, Some, pos, ◌+ℤ◌, list_any, slice_get, sum_by, and_parts, ints, list_any-append, sum_by-append, total_by, total_by-append, Constraint, lesser_of, own_upper, positive_total, with_marked, ProblemContent, cut_off, fails, fails_hard, products_total, soft_cost, soft_weight, sum_of, marked, CostsAlike, clauses_from, clauses_of, constraints_from, hard_clauses, is_conflict, is_replaced, most_pairs, pairs, spent_after, wanted_lists, without_conflicts, staying, with_clauses_from, with_clauses_of}
 use Rattle.base.specs.declared.costs.Cost.TheVariants.{Infinite, Whole}
-use Rattle.base.specs.Sums.{total_by}
-use Rattle.base.proofs.Totals.{total_by-append}
-use Rattle.problem_form.specs.declared.terms.Constraint.{Constraint}
-use Rattle.problem_form.specs.Limits.{lesser_of, own_upper, positive_total}
-use Rattle.problem_form.specs.NormalForm.{with_marked}
-use Rattle.problem_form.specs.Problems.{ProblemContent, cut_off, fails, fails_hard, products_total, soft_cost, soft_weight, sum_of}
-use Rattle.problem_form.specs.WeighedLists.{marked}
-use Rattle.conflict_clauses.specs.Conflicts.{CostsAlike, clauses_from, clauses_of, constraints_from, hard_clauses, is_conflict, is_replaced, most_pairs, pairs, spent_after, wanted_lists, without_conflicts}
-use Rattle.conflict_clauses.specs.Steps.{staying, with_clauses_from, with_clauses_of}
 use Rattle.conflict_clauses.proofs.Lists.{or-assoc, or-false, or-swap}
 use Rattle.conflict_clauses.proofs.Missing.{conflict-fails, hard-costs, hard-weights}
 
@@ -116,13 +102,7 @@ without-alike p = record {
 
 pub spent_within : (spent : ℕ) (k : Constraint) → spent ≤ most_pairs
     → spent_after spent k ≤ most_pairs
-spent_within spent k within = go (is_replaced spent k) refl
-  where
-    go : (b : Bool) → is_replaced spent k ≡ b → cond b (spent + pairs k) spent ≤ most_pairs
-    go true e =
-        leb-true (spent + pairs k) most_pairs
-        (and_parts (is_conflict k) (leb (spent + pairs k) most_pairs) e).1
-    go false e = within
+spent_within spent k within = grind (arith, nat_tests)
 
 pub clauses_from-step : (p : ProblemContent) (spent : ℕ) (k : Constraint) (ks : List Constraint)
     → with_clauses_from (with_clauses_of p spent k) (spent_after spent k) ks
@@ -135,11 +115,7 @@ clauses_from-step p spent k ks =
 pub kept-step : (kept kept' : List Bool) (stays : Bool) (spent : ℕ) (k : Constraint)
     (ks : List Constraint) → kept' ≡ kept ++ stays ∷ [] → stays ≡ not (is_replaced spent k)
     → kept' ++ staying (spent_after spent k) ks ≡ kept ++ staying spent (k ∷ ks)
-kept-step kept kept' stays spent k ks pushed is =
-    let left = staying (spent_after spent k) ks in
-    ap (λ marks. marks ++ left) pushed
-    ∙ append_assoc kept (stays ∷ []) left
-    ∙ (λ i. kept ++ (is i ∷ left))
+kept-step kept kept' stays spent k ks pushed is = grind (arith, nat_tests, append_assoc)
 
 -- the element at a place is the first that is left there
 pub record Place {A : Type 0} (xs : List A) (i : ℕ) : Type 0 where
@@ -161,15 +137,7 @@ length-staying spent (k ∷ ks) = ap suc (length-staying (spent_after spent k) k
 marked-staying : (spent : ℕ) (ks : List Constraint)
     → marked (staying spent ks) ks ≡ constraints_from spent ks
 marked-staying spent [] = refl
-marked-staying spent (k ∷ ks) =
-    go (is_replaced spent k) (marked (staying (spent_after spent k) ks) ks)
-    ∙ ap (λ left. cond (is_replaced spent k) [] (k ∷ []) ++ left)
-    (marked-staying (spent_after spent k) ks)
-  where
-    go : (b : Bool) (left : List Constraint)
-        → cond (not b) (k ∷ left) left ≡ cond b [] (k ∷ []) ++ left
-    go true left = refl
-    go false left = refl
+marked-staying spent (k ∷ ks) = grind (arith, nat_tests, marked-staying (spent_after spent k) ks)
 
 -- the constraints that stay, beside the clauses of the others
 pub marked-without : (p : ProblemContent)

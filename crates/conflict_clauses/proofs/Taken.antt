@@ -1,17 +1,5 @@
 -- A constraint that is taken to be replaced: what it wants, and of which variables.
-use Rattle.std.proofs.Common.{◌≡◌, ℕ, zero, suc, ◌+◌, ◌<◌, ◌≤◌, Bool, true, false, cond, not, leb, refl, sym, ap, ◌∙◌, arith, subst, List, [], ◌∷◌, ◌++◌, map, Some, ℤ, pos, negsuc}
-use Rattle.std.specs.Prelude.{All}
-use Rattle.std.specs.List.{filter, list_all, slice_get, sum_by}
-use Rattle.std.proofs.lemmas.Bool.{and_parts, leb-true}
-use Rattle.std.proofs.lemmas.List.Elements.{All-cons, All-head, All-map, All-nil, All-tail, All-weaker}
-use Rattle.std.proofs.lemmas.List.Sums.{sum_by-cons}
-use Rattle.literal_lists.specs.declared.literal.Literal.{Literal}
-use Rattle.problem_form.specs.declared.terms.Product.{Product}
-use Rattle.problem_form.specs.declared.terms.Constraint.{Constraint}
-use Rattle.problem_form.specs.Problems.{IsNormalProduct}
-use Rattle.conflict_clauses.specs.Conflicts.{is_conflict, is_needed, is_single, most_pairs, pairs, pairs_of, wanted, wanted_literal}
-use Rattle.conflict_clauses.specs.declared.conflicts.Found.{Found}
-use Rattle.conflict_clauses.specs.Steps.{AreWithin, IsFound, IsTaken, alone}
+use Rattle.conflict_clauses.proofs.Common.{nat_tests, ◌≡◌, ℕ, zero, suc, ◌+◌, ◌<◌, ◌≤◌, Bool, true, false, cond, not, leb, refl, sym, ap, ◌∙◌, arith, subst, List, [], ◌∷◌, ◌++◌, map, Some, ℤ, pos, negsuc, All, filter, list_all, slice_get, sum_by, and_parts, All-cons, All-head, All-map, All-nil, All-tail, All-weaker, sum_by-cons, Literal, Product, Constraint, IsNormalProduct, is_conflict, is_needed, is_single, most_pairs, pairs, pairs_of, wanted, wanted_literal, Found, AreWithin, IsFound, IsTaken, alone}
 use Rattle.conflict_clauses.proofs.Missing.{parts_of}
 
 -- ---- an element at a place
@@ -26,9 +14,7 @@ at_place P (y ∷ xs) (suc i) x at h = at_place P xs i x at (All-tail P y xs h)
 pub size_at_place : {A : Type 0} (f : A → ℕ) (xs : List A) (i : ℕ) (x : A) → slice_get xs i ≡ Some x
     → f x ≤ sum_by f xs
 size_at_place f [] i x at = cc
-size_at_place f (y ∷ xs) zero x at =
-    let same : f y ≡ f x = let e : y ≡ x = cc in ap f e in
-    omega (arith, same, sum_by-cons f y xs)
+size_at_place f (y ∷ xs) zero x at = grind (arith, nat_tests, sum_by-cons)
 size_at_place f (y ∷ xs) (suc i) x at =
     omega (arith, size_at_place f xs i x at, sum_by-cons f y xs)
 
@@ -84,10 +70,7 @@ literals_within variables ls q ts normal same =
 
 pub taken-bound : (variables spent : ℕ) (k : Constraint) (as' os : List Literal) (n : ℕ)
     → IsTaken variables spent k as' os n → spent + n ≤ most_pairs
-taken-bound variables spent k as' os n t =
-    let within = leb-true (spent + pairs k) most_pairs
-    (and_parts (is_conflict k) (leb (spent + pairs k) most_pairs) t.replaced).1 in
-    omega (arith, within, t.counted)
+taken-bound variables spent k as' os n t = grind (arith, nat_tests)
 
 pub taken : (variables spent : ℕ) (k : Constraint) (f : Found) (as' os : List Literal)
     → IsFound spent k f → All (IsNormalProduct variables) k.products

@@ -1,7 +1,6 @@
 //! The clauses of a conflict.
-ghost use Rattle.std.specs.Prelude.{◌≡◌, ◌<◌, ◌^◌, ◌∷◌, [], not, length, map, OnOk, true};
+ghost use Rattle.std.specs.Prelude.{◌≡◌, ◌<◌, ◌∷◌, [], not, length, map, OnOk, true};
 ghost use Rattle.std.specs.List.{filter, list_all};
-ghost use Rattle.problem_form.specs.Problems.{problem_total};
 ghost use Rattle.conflict_clauses.specs.Conflicts.{is_needed, is_single, pairs_of, wanted, wanted_literal};
 ghost use Rattle.conflict_clauses.specs.Steps.{AreWithin, alone, with_hard};
 
@@ -43,8 +42,6 @@ fn wanted_for(product: ProductRef<'_>) -> Literal
 pub(crate) struct Wanted {
     pub(crate) needed: Vec<Literal>,
     pub(crate) others: Vec<Literal>,
-    /// The literals of a clause, which are put in order.
-    pub(crate) clause: Vec<Literal>,
 }
 
 impl Wanted {
@@ -53,7 +50,6 @@ impl Wanted {
         Wanted {
             needed: Vec::new(alloc),
             others: Vec::new(alloc),
-            clause: Vec::new(alloc),
         }
     }
 }
@@ -86,86 +82,55 @@ pub(crate) fn take_wanted(
 }
 
 /// Adds a hard clause of one literal.
-fn add_alone(
-    problem: &mut Problem,
-    clause: &mut Vec<Literal>,
-    literal: Literal,
-) -> Result<(), NoMemory>
-    requires small { problem_total problem.old < 2 ^ 100 }
-    requires within { literal.variable < problem.old.variables }
+fn add_alone(problem: &mut Problem, literal: Literal) -> Result<(), NoMemory>
+    requires { literal.variable < problem.old.variables }
     ensures { OnOk result (problem.new ≡ with_hard problem.old ((literal ∷ []) ∷ [])) }
 {
-    clause.clear();
-    clause.push(literal)?;
-    problem.add_literals(clause, None)
+    problem.add_literal(literal)
 }
 
 /// Adds a hard clause of two literals.
-fn add_pair(
-    problem: &mut Problem,
-    clause: &mut Vec<Literal>,
-    first: Literal,
-    second: Literal,
-) -> Result<(), NoMemory>
-    requires small { problem_total problem.old < 2 ^ 100 }
+#[inline(always)]
+fn add_pair(problem: &mut Problem, first: Literal, second: Literal) -> Result<(), NoMemory>
     requires first { first.variable < problem.old.variables }
     requires second { second.variable < problem.old.variables }
     ensures { OnOk result (problem.new ≡ with_hard problem.old ((first ∷ second ∷ []) ∷ [])) }
 {
-    clause.clear();
-    clause.push(first)?;
-    clause.push(second)?;
-    problem.add_literals(clause, None)
+    problem.add_pair(first, second)
 }
 
 /// Adds a hard clause of each literal.
-pub(crate) fn add_each(
-    problem: &mut Problem,
-    clause: &mut Vec<Literal>,
-    literals: &[Literal],
-) -> Result<(), NoMemory>
-    requires small { problem_total problem.old < 2 ^ 100 }
-    requires within { AreWithin problem.old.variables literals.now }
+pub(crate) fn add_each(problem: &mut Problem, literals: &[Literal]) -> Result<(), NoMemory>
+    requires { AreWithin problem.old.variables literals.now }
     ensures { OnOk result (problem.new ≡ with_hard problem.old (map alone literals.now)) }
 {
     for literal in literals {
-        add_alone(problem, clause, *literal)?;
+        add_alone(problem, *literal)?;
     }
     Ok(())
 }
 
 /// Adds a hard clause of a literal with each of others.
-fn add_pairs_with(
-    problem: &mut Problem,
-    clause: &mut Vec<Literal>,
-    first: Literal,
-    others: &[Literal],
-) -> Result<(), NoMemory>
-    requires small { problem_total problem.old < 2 ^ 100 }
+fn add_pairs_with(problem: &mut Problem, first: Literal, others: &[Literal]) -> Result<(), NoMemory>
     requires first { first.variable < problem.old.variables }
     requires others { AreWithin problem.old.variables others.now }
     ensures { OnOk result (problem.new
         ≡ with_hard problem.old (map (λ ls. first ∷ ls) (map alone others.now))) }
 {
     for second in others {
-        add_pair(problem, clause, first, *second)?;
+        add_pair(problem, first, *second)?;
     }
     Ok(())
 }
 
 /// Adds a hard clause of each two literals.
-pub(crate) fn add_pairs(
-    problem: &mut Problem,
-    clause: &mut Vec<Literal>,
-    literals: &[Literal],
-) -> Result<(), NoMemory>
-    requires small { problem_total problem.old < 2 ^ 100 }
-    requires within { AreWithin problem.old.variables literals.now }
+pub(crate) fn add_pairs(problem: &mut Problem, literals: &[Literal]) -> Result<(), NoMemory>
+    requires { AreWithin problem.old.variables literals.now }
     ensures { OnOk result (problem.new
         ≡ with_hard problem.old (pairs_of (map alone literals.now))) }
 {
     for i in 0..literals.len() {
-        add_pairs_with(problem, clause, literals[i], &literals[i + 1..])?;
+        add_pairs_with(problem, literals[i], &literals[i + 1..])?;
     }
     Ok(())
 }

@@ -1,5 +1,5 @@
 //! Which constraints are conflicts.
-ghost use Rattle.std.specs.Prelude.{◌≡◌, ◌<◌, ◌≤◌, ◌^◌, ◌&&◌, pos, ◌-ℤ◌, int_lt, unsigned_abs, not, count_by, length, if◌then◌else◌, IfSome, IsSome, MatchOption, Some, None, false};
+ghost use Rattle.std.specs.Prelude.{◌≡◌, ◌<◌, ◌≤◌, ◌^◌, ◌&&◌, pos, ◌-ℤ◌, int_lt, nat_lt, unsigned_abs, not, count_by, length, if◌then◌else◌, IfSome, IsSome, MatchOption, Some, None, false};
 ghost use Rattle.base.specs.Sums.{positive_part};
 ghost use Rattle.std.specs.List.{list_all};
 ghost use Rattle.problem_form.specs.Limits.{positive_total};
@@ -75,13 +75,21 @@ fn room_of(constraint: &ConstraintRef<'_>) -> Option<u128>
     room_above(constraint.products.again(), constraint.bound)
 }
 
+/// How many numbers are of no more than a size.
+fn count_within(numbers: &[i128], room: u128) -> usize
+    ensures { result ≡ count_by (λ z. not (nat_lt room (unsigned_abs z))) numbers.now }
+{
+    numbers
+        .iter()
+        .filter(|number| (**number).unsigned_abs() <= room)
+        .count()
+}
+
 /// How many products may miss where no other does.
 fn count_others(products: Products<'_>, room: u128) -> usize
     ensures { result ≡ count_by (λ t. not (is_needed room t)) products.entry }
 {
-    products
-        .filter(|product| product.coefficient.unsigned_abs() <= room)
-        .count()
+    count_within(products.coefficients(), room)
 }
 
 /// How many pairs there are of so many.

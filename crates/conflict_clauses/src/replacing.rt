@@ -54,8 +54,8 @@ fn replace_at(
     let Some(pairs) = take_at(lists, problem, i, *spent)? else {
         return Ok(true);
     };
-    add_each(problem, &mut lists.clause, &lists.needed)?;
-    add_pairs(problem, &mut lists.clause, &lists.others)?;
+    add_each(problem, &lists.needed)?;
+    add_pairs(problem, &lists.others)?;
     *spent += pairs;
     Ok(false)
 }

@@ -9,3 +9,4 @@ pub mod AddedParts
 pub mod WeighedParts
 pub mod LeftSums
 pub mod HeldConstraints
+pub mod KeptPairs

@@ -19,6 +19,12 @@ weight_of (suc n) = Some (suc n)
 abbrev pub clause_of : List Literal → ℕ → Clause
 clause_of ls n = record { literals = ls; weight = weight_of n }
 
+-- the clauses of these lists, with the weights that numbers stand for: those past the numbers are hard
+abbrev pub weighed_clauses : List (List Literal) → List ℕ → List Clause
+weighed_clauses [] ns = []
+weighed_clauses (ls ∷ lists) [] = clause_of ls 0 ∷ weighed_clauses lists []
+weighed_clauses (ls ∷ lists) (n ∷ ns) = clause_of ls n ∷ weighed_clauses lists ns
+
 -- the product of these literals
 abbrev pub product_of : List Literal → ℤ → Product
 product_of ls c = record { literals = ls; coefficient = c }

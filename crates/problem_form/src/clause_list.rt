@@ -1,5 +1,6 @@
 //! Clauses that lie flat.
-ghost use Rattle.std.specs.Prelude.{◌≡◌, ◌≢◌, ◌<◌, ◌++◌, ◌∷◌, [], OnOk, OnErr, length, slice_get, Some, None};
+ghost use Rattle.std.specs.Prelude.{◌≡◌, ◌≢◌, ◌<◌, ◌≤◌, ◌-◌, ◌++◌, ◌∷◌, [], OnOk, OnErr, length, replicate, slice_get, Some, None};
+ghost use Rattle.std.specs.List.{slice_index_or};
 ghost use Rattle.problem_form.specs.WeighedLists.{weight_of};
 
 use base::NoMemory;
@@ -22,25 +23,26 @@ impl<'a> Model for ClauseRef<'a> {
     ghost view = { λ a. record { literals = a.literals; weight = a.weight } };
 }
 
-/// Clauses, which contracts see as a list. A clause takes no memory of its own.
+/// Clauses, which contracts see as a list. A clause takes no memory of its own, and a hard one that
+/// no soft one follows none for a weight.
 #[derive(Drop)]
 pub struct ClauseList {
     lists: LiteralLists,
-    /// The weight of each, where 0 stands for a hard clause.
+    /// The weights of the first clauses, where 0 stands for a hard one. All others are hard.
     weights: Vec<u64>,
 }
 
 impl Model for ClauseList {
-    ghost use Rattle.std.specs.Prelude.{◌≡◌, List, length};
+    ghost use Rattle.std.specs.Prelude.{◌≤◌, List, length};
     ghost use Rattle.problem_form.specs.declared.terms.Clause.{Clause};
 
     ghost Value = { List Clause };
 
-    ghost use Rattle.problem_form.specs.WeighedLists.{clause_of, zip_with};
+    ghost use Rattle.problem_form.specs.WeighedLists.{weighed_clauses};
 
-    ghost view = { λ a. zip_with clause_of a.lists a.weights.items };
+    ghost view = { λ a. weighed_clauses a.lists a.weights.items };
 
-    ghost invariant = { λ a. length a.lists ≡ length a.weights.items };
+    ghost invariant = { λ a. length a.weights.items ≤ length a.lists };
 }
 
 /// The weight that a number stands for.
@@ -48,6 +50,34 @@ fn weight_of(number: u64) -> Option<u64>
     ensures { result ≡ weight_of number }
 {
     if number == 0 { None } else { Some(number) }
+}
+
+/// The weight of the clause at a place. One past the numbers is hard.
+fn weight_at(numbers: &[u64], i: usize) -> Option<u64>
+    ensures { result ≡ weight_of (slice_index_or numbers.now i 0) }
+{
+    match numbers.get(i) {
+        Some(number) => weight_of(*number),
+        None => None,
+    }
+}
+
+/// Appends a weight behind the numbers of so many clauses, of which those that have none are hard.
+/// Where memory is refused the numbers stay as they were.
+#[inline(always)]
+fn push_weight(numbers: &mut Vec<u64>, count: usize, weight: u64) -> Result<(), NoMemory>
+    requires { length numbers.old.items ≤ count }
+    ensures pushed { OnOk result (numbers.new.items ≡ (numbers.old.items
+        ++ replicate (count - length numbers.old.items) 0) ++ weight ∷ []) }
+    ensures unchanged { OnErr result (numbers.new.items ≡ numbers.old.items) }
+{
+    let start = numbers.len();
+    numbers.resize(count, 0)?;
+    if numbers.push(weight).is_err() {
+        numbers.truncate(start);
+        return Err(NoMemory);
+    }
+    Ok(())
 }
 
 impl ClauseList {
@@ -65,7 +95,7 @@ impl ClauseList {
     pub fn len(&self) -> usize
         ensures { result ≡ length self.now }
     {
-        self.weights.len()
+        self.lists.len()
     }
 
     /// The clause at a place.
@@ -75,7 +105,7 @@ impl ClauseList {
     {
         ClauseRef {
             literals: self.lists.at(i),
-            weight: weight_of(self.weights[i]),
+            weight: weight_at(&self.weights, i),
         }
     }
 
@@ -89,6 +119,33 @@ impl ClauseList {
         }
     }
 
+    /// Appends a hard clause. Where memory is refused the list stays as it was.
+    #[inline(always)]
+    pub(crate) fn push_hard(&mut self, literals: &[Literal]) -> Result<(), NoMemory>
+        ensures pushed { OnOk result (self.new
+            ≡ self.old ++ record { literals = literals.now; weight = None } ∷ []) }
+        ensures unchanged { OnErr result (self.new ≡ self.old) }
+    {
+        self.lists.push(literals)
+    }
+
+    /// Appends a clause with a weight. Where memory is refused the list stays as it was.
+    #[inline(always)]
+    fn push_soft(&mut self, literals: &[Literal], weight: u64) -> Result<(), NoMemory>
+        requires { weight ≢ 0 }
+        ensures pushed { OnOk result (self.new
+            ≡ self.old ++ record { literals = literals.now; weight = Some weight } ∷ []) }
+        ensures unchanged { OnErr result (self.new ≡ self.old) }
+    {
+        let start = self.weights.len();
+        push_weight(&mut self.weights, self.lists.len(), weight)?;
+        if self.lists.push(literals).is_err() {
+            self.weights.truncate(start);
+            return Err(NoMemory);
+        }
+        Ok(())
+    }
+
     /// Appends a clause, which is hard or has a weight above 0. Where memory is refused the list
     /// stays as it was.
     #[inline(always)]
@@ -98,13 +155,10 @@ impl ClauseList {
             ≡ self.old ++ record { literals = literals.now; weight = weight } ∷ []) }
         ensures unchanged { OnErr result (self.new ≡ self.old) }
     {
-        let count = self.weights.len();
-        self.weights.push(weight.unwrap_or(0))?;
-        if self.lists.push(literals).is_err() {
-            self.weights.truncate(count);
-            return Err(NoMemory);
+        match weight {
+            Some(weight) => self.push_soft(literals, weight),
+            None => self.push_hard(literals),
         }
-        Ok(())
     }
 }
 

@@ -1,5 +1,6 @@
 //! Clauses in normal form.
-ghost use Rattle.std.specs.Prelude.{◌≡◌, ◌++◌, pos, OnOk, OnErr};
+ghost use Rattle.std.specs.Prelude.{◌≡◌, ◌≢◌, ◌++◌, ◌∷◌, [], None, pos, OnOk, OnErr};
+ghost use Rattle.literal_lists.specs.Literals.{literal_set};
 ghost use Rattle.problem_form.specs.NormalForm.{is_plain_cost, kept_clause, weight_constant};
 
 use crate::clause_list::ClauseList;
@@ -46,4 +47,59 @@ pub(crate) fn keep_clause(
         return Ok(());
     }
     clauses.push(literals, weight)
+}
+
+/// Appends the hard clause of one literal. Where memory is refused the list stays as it was.
+#[inline(always)]
+pub(crate) fn keep_literal(clauses: &mut ClauseList, literal: Literal) -> Result<(), NoMemory>
+    ensures kept { OnOk result (clauses.new ≡ clauses.old
+        ++ kept_clause (record { literals = literal ∷ []; weight = None })) }
+    ensures unchanged { OnErr result (clauses.new ≡ clauses.old) }
+{
+    clauses.push_hard(&[literal])
+}
+
+/// Appends the hard clause of two literals of one variable, where they are not opposite.
+fn keep_alike(clauses: &mut ClauseList, first: Literal, second: Literal) -> Result<(), NoMemory>
+    requires { first.variable ≡ second.variable }
+    ensures kept { OnOk result (clauses.new ≡ clauses.old
+        ++ kept_clause (record { literals = first ∷ second ∷ []; weight = None })) }
+    ensures unchanged { OnErr result (clauses.new ≡ clauses.old) }
+{
+    if first.negated != second.negated {
+        return Ok(());
+    }
+    clauses.push_hard(&[first])
+}
+
+/// Two literals of two variables in order.
+#[inline(always)]
+fn in_order(first: Literal, second: Literal) -> (Literal, Literal)
+    requires { first.variable ≢ second.variable }
+    ensures { result.0 ∷ result.1 ∷ [] ≡ literal_set (first ∷ second ∷ []) }
+{
+    if first.variable < second.variable {
+        (first, second)
+    } else {
+        (second, first)
+    }
+}
+
+/// Appends the hard clause of two literals in normal form, where it is kept. Where memory is refused
+/// the list stays as it was.
+#[inline(always)]
+pub(crate) fn keep_pair(
+    clauses: &mut ClauseList,
+    first: Literal,
+    second: Literal,
+) -> Result<(), NoMemory>
+    ensures kept { OnOk result (clauses.new ≡ clauses.old
+        ++ kept_clause (record { literals = first ∷ second ∷ []; weight = None })) }
+    ensures unchanged { OnErr result (clauses.new ≡ clauses.old) }
+{
+    if first.variable == second.variable {
+        return keep_alike(clauses, first, second);
+    }
+    let (low, high) = in_order(first, second);
+    clauses.push_hard(&[low, high])
 }

@@ -92,13 +92,19 @@ fn positive_part_of(number: i128) -> u128
     if number < 0 { 0 } else { number.unsigned_abs() }
 }
 
+fn sum_of_positive(numbers: &[i128]) -> u128
+    requires { sum_by positive_part numbers.now < 2 ^ 100 }
+    ensures { result ≡ sum_by positive_part numbers.now }
+{
+    numbers.iter().map(|number| positive_part_of(*number)).sum()
+}
+
+/// The sum of the coefficients that are above 0.
 pub fn positive_coefficients(products: Products<'_>) -> u128
     requires { positive_total products < 2 ^ 100 }
     ensures { result ≡ positive_total products.entry }
 {
-    products
-        .map(|product| positive_part_of(product.coefficient))
-        .sum()
+    sum_of_positive(products.coefficients())
 }
 
 /// How far the sum of a constraint can lie above its bound, and 0 where it is exact.

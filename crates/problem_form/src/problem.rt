@@ -1,10 +1,10 @@
 //! A problem in normal form.
-ghost use Rattle.std.specs.Prelude.{◌≡◌, ◌+◌, ◌<◌, ◌≤◌, ◌^◌, All, IfSome, OnOk, OnErr, length, unsigned_abs, unwrap_or, []};
+ghost use Rattle.std.specs.Prelude.{◌≡◌, ◌+◌, ◌<◌, ◌≤◌, ◌^◌, ◌∷◌, All, IfSome, None, OnOk, OnErr, length, unsigned_abs, unwrap_or, []};
 ghost use Rattle.problem_form.specs.NormalForm.{blank, with_variables, with_most, with_marked, with_clause, with_constraint, with_product};
 ghost use Rattle.problem_form.specs.Problems.{constraint_total, problem_total};
 
 use crate::clause_list::ClauseList;
-use crate::clauses::{keep_clause, weight_constant};
+use crate::clauses::{keep_clause, keep_literal, keep_pair, weight_constant};
 use crate::constraint_list::ConstraintList;
 use crate::product_list::ProductList;
 use crate::products::{coefficient_constant, keep_product};
@@ -126,6 +126,30 @@ impl Problem {
         kept?;
         self.constant += i128::from(constant);
         Ok(())
+    }
+
+    /// Adds the hard clause of one literal. Where memory is refused the problem stays as it was.
+    #[inline(always)]
+    pub fn add_literal(&mut self, literal: Literal) -> Result<(), NoMemory>
+        requires { literal.variable < self.old.variables }
+        ensures added { OnOk result (self.new ≡ with_clause self.old
+            (record { literals = literal ∷ []; weight = None })) }
+        ensures unchanged { OnErr result (self.new ≡ self.old) }
+    {
+        keep_literal(&mut self.clauses, literal)
+    }
+
+    /// Adds the hard clause of two literals, in normal form. Where memory is refused the problem
+    /// stays as it was.
+    #[inline(always)]
+    pub fn add_pair(&mut self, first: Literal, second: Literal) -> Result<(), NoMemory>
+        requires first { first.variable < self.old.variables }
+        requires second { second.variable < self.old.variables }
+        ensures added { OnOk result (self.new ≡ with_clause self.old
+            (record { literals = first ∷ second ∷ []; weight = None })) }
+        ensures unchanged { OnErr result (self.new ≡ self.old) }
+    {
+        keep_pair(&mut self.clauses, first, second)
     }
 
     /// Adds a constraint as written, in normal form. Its products are copied, so that one list of

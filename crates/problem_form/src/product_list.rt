@@ -39,6 +39,16 @@ fn negate_all(numbers: &mut Vec<i128>)
     }
 }
 
+/// The numbers from a place to before another.
+#[inline(always)]
+fn lent_numbers(numbers: &[i128], start: usize, end: usize) -> &[i128]
+    requires ordered { start ≤ end }
+    requires within { end ≤ length numbers.now }
+    ensures { result.now ≡ slice_range numbers.now start end }
+{
+    &numbers[start..end]
+}
+
 /// Products, which contracts see as a list. A product takes no memory of its own.
 #[derive(Drop)]
 pub struct ProductList {
@@ -108,6 +118,16 @@ impl ProductList {
         }
     }
 
+    /// The coefficients of the products from a place to before another.
+    #[inline(always)]
+    fn lent_coefficients(&self, start: usize, end: usize) -> &[i128]
+        requires ordered { start ≤ end }
+        requires within { end ≤ length self.now }
+        ensures { result.now ≡ map (λ t. t.coefficient) (slice_range self.now start end) }
+    {
+        lent_numbers(&self.coefficients, start, end)
+    }
+
     /// Takes all products out. The memory is kept for others.
     pub fn clear(&mut self)
         ensures { self.new ≡ [] }
@@ -166,6 +186,14 @@ impl<'a> Products<'a> {
         ensures { result ≡ length self.now }
     {
         self.end - self.next
+    }
+
+    /// The coefficients of those that are left.
+    #[inline(always)]
+    pub fn coefficients(&self) -> &'a [i128]
+        ensures { result.now ≡ map (λ t. t.coefficient) self.now }
+    {
+        self.list.lent_coefficients(self.next, self.end)
     }
 
     /// Those that are left, for a walk of their own.

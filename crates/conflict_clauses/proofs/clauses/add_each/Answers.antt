@@ -1,26 +1,13 @@
-use Rattle.std.proofs.Common.{◌≡◌, ℕ, ◌<◌, ◌∙◌, ap, sym, subst, arith, false, map, take, get_or}
-use Rattle.std.proofs.lemmas.List.{take_all}
-use Rattle.literal_lists.specs.declared.literal.Literal.{Literal}
-use Rattle.problem_form.specs.Problems.{ProblemContent, problem_total}
-use Rattle.conflict_clauses.specs.Steps.{alone, with_hard}
-use Rattle.conflict_clauses.proofs.Added.{each-step, here_again, with_hard-total}
+use Rattle.conflict_clauses.proofs.Common.{◌<◌, ◌∙◌, ap, sym, subst, false, map, get_or, take_all, Literal, ProblemContent, alone, with_hard}
+use Rattle.conflict_clauses.proofs.Added.{each-step, here_again}
 use Rattle.conflict_clauses.proofs.clauses.add_each.Goals as goal
 
-pub add_alone-requires-clause-small : goal.add_alone-requires-clause-small
-add_alone-requires-clause-small c =
-    let p = c.args.problem.now in
-    let total : ProblemContent → ℕ = problem_total in
-    let same : problem_total c.loop-literal.problem ≡ problem_total p =
-    ap total c.loop-literal.invariant
-    ∙ with_hard-total p (map alone (take c.loop-literal.literal-index c.args.literals.now)) in
-    omega (arith, same, c.requires.small)
-
-pub add_alone-requires-clause-within : goal.add_alone-requires-clause-within
-add_alone-requires-clause-within c =
+pub add_alone-requires : goal.add_alone-requires
+add_alone-requires c =
     let none : Literal = record { variable = 0; negated = false } in
     let i = c.loop-literal.literal-index in
     subst (λ (q : ProblemContent). (get_or c.args.literals.now i none).variable < q.variables)
-    (sym c.loop-literal.invariant) (c.requires.within i none c.loop-literal-test.true)
+    (sym c.loop-literal.invariant) (c.requires i none c.loop-literal-test.true)
 
 pub loop-literal-preserved : goal.loop-literal-preserved
 loop-literal-preserved c =

@@ -1,5 +1,4 @@
-use Rattle.std.proofs.Common.{◌≡◌, map, take}
-use Rattle.conflict_clauses.specs.Steps.{alone, with_hard}
+use Rattle.conflict_clauses.proofs.Common.{◌≡◌, map, take, alone, with_hard}
 use Rattle.conflict_clauses.proofs.clauses.add_each.Given as goal
 
 -- the clauses of the literals so far are added

@@ -1,6 +1,4 @@
-use Rattle.std.proofs.Common.{◌≡◌, map, drop}
-use Rattle.conflict_clauses.specs.Conflicts.{pairs_of}
-use Rattle.conflict_clauses.specs.Steps.{alone, with_hard}
+use Rattle.conflict_clauses.proofs.Common.{◌≡◌, map, drop, pairs_of, alone, with_hard}
 use Rattle.conflict_clauses.proofs.clauses.add_pairs.Given as goal
 
 -- the problem so far, and the pairs of the literals that are left, are the whole

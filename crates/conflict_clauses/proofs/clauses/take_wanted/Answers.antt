@@ -1,13 +1,4 @@
-use Rattle.std.proofs.Common.{◌≡◌, Bool, true, false, cond, not, List, [], ◌∷◌, ◌++◌, map, sym, ap, ◌∙◌, arith}
-use Rattle.std.specs.List.{filter, list_all}
-use Rattle.std.proofs.lemmas.Bool.{and_parts}
-use Rattle.std.proofs.lemmas.Bool.Decides.{nat_tests}
-use Rattle.std.proofs.lemmas.Int.{ints}
-use Rattle.std.proofs.lemmas.List.{append_assoc, map-append}
-use Rattle.literal_lists.specs.declared.literal.Literal.{Literal}
-use Rattle.problem_form.specs.declared.terms.Product.{Product}
-use Rattle.conflict_clauses.specs.Conflicts.{is_needed, is_single, wanted}
-use Rattle.conflict_clauses.specs.Steps.{alone}
+use Rattle.conflict_clauses.proofs.Common.{◌≡◌, Bool, true, false, cond, not, List, [], ◌∷◌, ◌++◌, map, sym, ap, ◌∙◌, arith, filter, list_all, and_parts, nat_tests, ints, append_assoc, map-append, Literal, Product, is_needed, is_single, wanted, alone}
 use Rattle.conflict_clauses.proofs.clauses.take_wanted.Goals as goal
 
 -- what a test keeps of the products that are left, by what it says of the first

@@ -1,7 +1,4 @@
-use Rattle.std.proofs.Common.{◌≡◌, ◌++◌, map, not, true}
-use Rattle.std.specs.List.{filter, list_all}
-use Rattle.conflict_clauses.specs.Conflicts.{is_needed, is_single, wanted}
-use Rattle.conflict_clauses.specs.Steps.{alone}
+use Rattle.conflict_clauses.proofs.Common.{◌≡◌, ◌++◌, map, not, true, filter, list_all, is_needed, is_single, wanted, alone}
 use Rattle.conflict_clauses.proofs.clauses.take_wanted.Given as goal
 
 -- the literals so far, and those that the products that are left are wanted for, are all

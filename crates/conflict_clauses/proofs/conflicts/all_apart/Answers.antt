@@ -1,8 +1,4 @@
-use Rattle.std.proofs.Common.{rules, ◌≡◌, ◌+◌, ◌∷◌, ◌∙◌, ap, sym, min, arith, unsigned_abs}
-use Rattle.std.proofs.lemmas.List.Sums.{sum_by-cons}
-use Rattle.problem_form.specs.declared.terms.Product.{Product}
-use Rattle.problem_form.specs.Problems.{products_total}
-use Rattle.conflict_clauses.specs.Conflicts.{size}
+use Rattle.conflict_clauses.proofs.Common.{rules, ◌≡◌, ◌+◌, ◌∷◌, ◌∙◌, ap, sym, min, arith, unsigned_abs, sum_by-cons, Product, products_total, size}
 use Rattle.conflict_clauses.proofs.Apart.{apart_beside, beside-none, beside-step}
 use Rattle.conflict_clauses.proofs.conflicts.all_apart.Goals as goal
 

@@ -1,7 +1,5 @@
-use Rattle.std.proofs.Common.{◌≡◌, ◌+◌, ◌<◌, ◌≤◌, ◌^◌}
-use Rattle.problem_form.specs.Problems.{products_total}
+use Rattle.conflict_clauses.proofs.Common.{◌≡◌, ◌+◌, ◌<◌, ◌≤◌, ◌^◌, products_total, are_apart, each_two}
 use Rattle.conflict_clauses.proofs.Apart.{apart_beside}
-use Rattle.conflict_clauses.specs.Conflicts.{are_apart, each_two}
 use Rattle.conflict_clauses.proofs.conflicts.all_apart.Given as goal
 
 -- the products that are left are apart, also from the least one before them

@@ -1,7 +1,4 @@
-use Rattle.std.proofs.Common.{rules, tests, refl}
-use Rattle.std.proofs.lemmas.Iterator.Search.{all_from_yields_List}
-use Rattle.std.proofs.lemmas.Iterator.Consumers.{YieldsList-from_first}
-use Rattle.conflict_clauses.specs.Conflicts.{is_single}
+use Rattle.conflict_clauses.proofs.Common.{rules, tests, refl, all_from_yields_List, YieldsList-from_first, is_single}
 use Rattle.conflict_clauses.proofs.conflicts.all_single.Goals as goal
 
 pub returns : goal.returns

@@ -1,9 +1,4 @@
-use Rattle.std.proofs.Common.{◌≡◌, ◌&&◌, ◌∙◌, List, ap, sym, not, true}
-use Rattle.std.specs.Prelude.{count_by}
-use Rattle.std.specs.List.{list_all}
-use Rattle.problem_form.specs.declared.terms.Constraint.{Constraint}
-use Rattle.problem_form.specs.declared.terms.Product.{Product}
-use Rattle.conflict_clauses.specs.Conflicts.{are_apart, each_two, is_needed, is_single}
+use Rattle.conflict_clauses.proofs.Common.{◌≡◌, ◌&&◌, ◌∙◌, List, ap, sym, not, true, count_by, list_all, Constraint, Product, are_apart, each_two, is_needed, is_single}
 use Rattle.conflict_clauses.proofs.Finding.{is_found, seen, stays_beyond}
 use Rattle.conflict_clauses.proofs.conflicts.find_conflict.Goals as goal
 

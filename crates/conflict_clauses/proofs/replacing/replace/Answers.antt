@@ -1,15 +1,11 @@
-use Rattle.std.proofs.Common.{◌≡◌, ◌∙◌, ap, sym, length}
-use Rattle.problem_form.specs.NormalForm.{with_marked}
-use Rattle.problem_form.specs.Problems.{ProblemContent}
-use Rattle.conflict_clauses.specs.Steps.{staying}
+use Rattle.conflict_clauses.proofs.Common.{◌≡◌, ◌∙◌, ap, sym, length, with_marked, ProblemContent, staying}
 use Rattle.conflict_clauses.proofs.Replaced.{length-staying, marked-without}
 use Rattle.conflict_clauses.proofs.replacing.replace.Goals as goal
 
 pub keep_constraints-requires : goal.keep_constraints-requires
 keep_constraints-requires c =
-    let p = c.args.problem.now in
     ap length (c.deref.ensures.value ∙ c.in_ok-replace_each.ensures.kept)
-    ∙ length-staying 0 p.constraints
+    ∙ length-staying 0 c.args.problem.now.constraints
     ∙ ap (λ (q : ProblemContent). length q.constraints) (sym c.in_ok-replace_each.ensures.clauses)
 
 pub returns : goal.returns

@@ -1,8 +1,4 @@
-use Rattle.std.proofs.Common.{◌≡◌, ◌+◌, ◌++◌, ◌∙◌, ap, sym, arith, drop, length, Some}
-use Rattle.std.specs.List.{slice_get}
-use Rattle.problem_form.specs.Problems.{ProblemContent}
-use Rattle.conflict_clauses.specs.Conflicts.{spent_after}
-use Rattle.conflict_clauses.specs.Steps.{staying, with_clauses_from, with_clauses_of}
+use Rattle.conflict_clauses.proofs.Common.{◌≡◌, ◌+◌, ◌++◌, ◌∙◌, ap, sym, arith, drop, length, Some, slice_get, ProblemContent, spent_after, staying, with_clauses_from, with_clauses_of}
 use Rattle.conflict_clauses.proofs.Replaced.{clauses_from-step, kept-step, place}
 use Rattle.conflict_clauses.proofs.replacing.replace_each.Goals as goal
 

@@ -1,6 +1,4 @@
-use Rattle.std.proofs.Common.{◌≡◌, ◌≤◌, ◌++◌, drop}
-use Rattle.conflict_clauses.specs.Conflicts.{most_pairs}
-use Rattle.conflict_clauses.specs.Steps.{staying, with_clauses_from}
+use Rattle.conflict_clauses.proofs.Common.{◌≡◌, ◌≤◌, ◌++◌, drop, most_pairs, staying, with_clauses_from}
 use Rattle.conflict_clauses.proofs.replacing.replace_each.Given as goal
 
 -- the problem so far, and what becomes of the constraints that are left, are the whole

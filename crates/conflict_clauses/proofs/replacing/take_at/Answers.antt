@@ -1,11 +1,4 @@
-use Rattle.std.proofs.Common.{◌≡◌, ℕ, ◌∙◌, ap, sym, subst, arith, not, map, All, Some, List}
-use Rattle.std.specs.List.{filter, list_all, slice_get}
-use Rattle.problem_form.specs.declared.terms.Constraint.{Constraint}
-use Rattle.problem_form.specs.declared.terms.Product.{Product}
-use Rattle.problem_form.specs.Problems.{IsNormalProduct, ProblemContent, constraint_total}
-use Rattle.conflict_clauses.specs.Conflicts.{is_needed, is_single, wanted}
-use Rattle.conflict_clauses.specs.Steps.{IsTaken, alone}
-use Rattle.conflict_clauses.specs.declared.conflicts.Found.{Found}
+use Rattle.conflict_clauses.proofs.Common.{constraint_total, ◌≡◌, ℕ, ◌∙◌, ap, sym, subst, arith, not, map, All, Some, List, filter, list_all, slice_get, Constraint, Product, IsNormalProduct, ProblemContent, is_needed, is_single, wanted, IsTaken, alone, Found}
 use Rattle.conflict_clauses.proofs.Taken.{at_place, found_single, size_at_place, taken}
 use Rattle.conflict_clauses.proofs.replacing.take_at.Goals as goal
 

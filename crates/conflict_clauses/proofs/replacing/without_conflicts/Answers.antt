@@ -1,6 +1,4 @@
-use Rattle.std.proofs.Common.{sym, subst}
-use Rattle.problem_form.specs.Problems.{ProblemContent}
-use Rattle.conflict_clauses.specs.Conflicts.{CostsAlike}
+use Rattle.conflict_clauses.proofs.Common.{sym, subst, ProblemContent, CostsAlike}
 use Rattle.conflict_clauses.proofs.Replaced.{without-alike}
 use Rattle.conflict_clauses.proofs.replacing.without_conflicts.Goals as goal
 
