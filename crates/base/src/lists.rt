@@ -40,10 +40,19 @@ fn part<'a, T>(items: &'a [T], ends: &[usize], i: usize) -> &'a [T]
 
 /// Items one after another, and where each list ends. Contracts see a list of lists. A list takes 8
 /// bytes beside its items and no memory of its own, and is lent as it lies.
-#[derive(Drop)]
 pub struct Lists<T> {
     items: Vec<T>,
     ends: Vec<usize>,
+}
+
+// an owner's end lets both go by one call
+impl<T: Drop> Drop for Lists<T> {
+    fn drop(self) {
+        let Lists {
+            items: _items,
+            ends: _ends,
+        } = self;
+    }
 }
 
 impl<T> Model for Lists<T> {

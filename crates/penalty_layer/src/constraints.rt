@@ -12,6 +12,7 @@ use crate::parts::Parts;
 use crate::slack::slack_bits_of;
 use crate::squares::add_square;
 use base::NoMemory;
+use literal_lists::Literal;
 use problem_form::{ConstraintList, Problem};
 use std::alloc::Global;
 use term_table::Gather;
@@ -27,6 +28,34 @@ pub fn node_count(problem: &Problem) -> usize
         count += slack_bits_of(&constraint);
     }
     count
+}
+
+/// Adds a factor times the squares of constraints, whose slack bits are numbered on from a first
+/// node. The parts and the list serve for each constraint.
+fn add_squares<T: Gather>(
+    terms: &mut T,
+    parts: &mut Parts,
+    set: &mut Vec<Literal>,
+    factor: u128,
+    first: usize,
+    constraints: &ConstraintList,
+) -> Result<(), NoMemory>
+    requires sets { All (λ k. All (λ t. IsSet t.literals) k.products) constraints.now }
+    requires narrow { first + sum_by slack_bits constraints.now ≤ 2 ^ 26 }
+    requires totals { sum_by constraint_total constraints.now < 2 ^ 100 }
+    requires factor { factor ≤ 2 ^ 100 }
+    requires small { sum_by (λ k. factor * reach k ^ 2) constraints.now ≤ 2 ^ 97 }
+    requires room { HasRoomFor T.takes terms.old (constraint_terms factor first constraints.now) }
+    ensures { OnOk result (Fills T.takes T.holds terms.old terms.new
+        (constraint_terms factor first constraints.now)) }
+{
+    let mut next = first;
+    for constraint in constraints.iter() {
+        parts.fill(set, next, &constraint)?;
+        add_square(terms, set, factor, parts)?;
+        next += slack_bits_of(&constraint);
+    }
+    Ok(())
 }
 
 /// Adds a factor times the squares of constraints, whose slack bits are numbered on from a first
@@ -49,11 +78,5 @@ pub(crate) fn add_constraints<T: Gather>(
 {
     let mut parts = Parts::empty(alloc);
     let mut set = Vec::new(alloc);
-    let mut next = first;
-    for constraint in constraints.iter() {
-        parts.fill(&mut set, next, &constraint)?;
-        add_square(terms, &mut set, factor, &parts)?;
-        next += slack_bits_of(&constraint);
-    }
-    Ok(())
+    add_squares(terms, &mut parts, &mut set, factor, first, constraints)
 }

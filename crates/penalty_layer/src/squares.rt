@@ -75,8 +75,8 @@ fn add_union<T: Gather>(
     ensures { OnOk result (Fills T.takes T.holds terms.old terms.new
         (union_terms ls.now ks.now coefficient)) }
 {
-    if let ([l], [k]) = (ls, ks) {
-        return add_pair(terms, *l, *k, coefficient);
+    if ls.len() == 1 && ks.len() == 1 {
+        return add_pair(terms, ls[0], ks[0], coefficient);
     }
     if ks.is_empty() {
         return terms.gather(ls, coefficient);

@@ -13,9 +13,15 @@ pub enum Left<'a> {
 }
 
 /// Terms in order, which contracts see as the list of those that are left.
-#[derive(Drop)]
 pub struct Terms<'a> {
     pub(crate) left: Left<'a>,
+}
+
+// an owner's end lets it go by one call, and does not ask which form it has
+impl Drop for Terms<'_> {
+    fn drop(self) {
+        let Terms { left: _left } = self;
+    }
 }
 
 impl<'a> Model for Terms<'a> {

@@ -1,11 +1,20 @@
 use Rattle.std.proofs.Common.{rules, ◌≡◌, ◌+◌, ◌*◌, ◌^◌, ◌∙◌, ap, sym, drop, unsigned_abs, arith, to_z, of_z, ◌*ℤ◌}
 use Rattle.std.specs.Int.{w128}
 use Rattle.std.proofs.lemmas.Int.{to_z-of_z}
+use Rattle.std.proofs.lemmas.List.{drop_all}
 use Rattle.term_table.specs.Terms.{Term}
 use Rattle.term_table.specs.Products.{products_with, union_terms}
-use Rattle.term_table.proofs.Filling.{fills_same, rest_more, rest_room, room_same}
+use Rattle.term_table.proofs.Filling.{fills_same, rest_all, rest_more, rest_none, rest_room, room_same}
 use Rattle.penalty_layer.proofs.SquareSteps.{part_at, row_step, row_small}
 use Rattle.penalty_layer.proofs.squares.add_row.Goals as goal
+
+pub loop-j-init : goal.loop-j-init
+loop-j-init g c = record {
+  rest =
+      rest_none g.T.Gather.takes g.T.Gather.holds c.args.terms.now
+      (products_with (c.args.ls.now, c.args.coefficient.now) (drop c.args.start c.args.parts.now));
+  small = c.requires.small;
+}
 
 pub times-requires : goal.times-requires
 times-requires g c =
@@ -66,3 +75,12 @@ loop-j-preserved g c =
             row_small (unsigned_abs a) us j (ks, b) (2 ^ 97) c.at-other.ensures c.loop-j.invariant.small,
           );
     }
+
+pub returns : goal.returns
+returns g c =
+    let t : Term = (c.args.ls.now, c.args.coefficient.now) in
+    let us = c.args.parts.now in
+    rest_all g.T.Gather.takes g.T.Gather.holds c.args.terms.now c.loop-j.terms (products_with t (drop c.loop-j.j us))
+    (products_with t (drop c.args.start us))
+    (ap (products_with t) (drop_all c.loop-j.j us (omega (arith, c.len-j-end.ensures, c.loop-j-test.false))))
+    c.loop-j.invariant.rest

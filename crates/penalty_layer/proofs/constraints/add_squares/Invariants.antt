@@ -5,7 +5,7 @@ use Rattle.problem_form.specs.Limits.{reach, slack_bits}
 use Rattle.penalty_layer.specs.Sets.{IsSet}
 use Rattle.penalty_layer.specs.Squares.{constraint_terms}
 use Rattle.term_table.proofs.Filling.{Rest}
-use Rattle.penalty_layer.proofs.constraints.add_constraints.Given as goal
+use Rattle.penalty_layer.proofs.constraints.add_squares.Given as goal
 
 -- the squares so far were added, and those of the constraints that are left are small
 abbrev pub invariant-loop-constraint : goal.invariant-loop-constraint

@@ -1,4 +1,4 @@
-use Rattle.std.proofs.Common.{◌≡◌, ◌+◌, ◌*◌, ◌^◌, ◌∙◌, ◌++◌, ap, subst, sym, arith, ℕ, List, All}
+use Rattle.std.proofs.Common.{◌≡◌, ◌+◌, ◌*◌, ◌^◌, ◌∙◌, ◌++◌, ap, subst, sym, rules, arith, ℕ, List, All}
 use Rattle.std.specs.List.{sum_by}
 use Rattle.std.proofs.lemmas.List.Elements.{All-head, All-tail}
 use Rattle.std.proofs.lemmas.List.Sums.{sum_by-cons}
@@ -8,10 +8,36 @@ use Rattle.problem_form.specs.Limits.{reach, slack_bits}
 use Rattle.term_table.specs.Terms.{Term, terms_total}
 use Rattle.penalty_layer.specs.Sets.{IsSet}
 use Rattle.penalty_layer.specs.Squares.{square_terms, slack_form, constraint_terms}
-use Rattle.term_table.proofs.Filling.{fills_same, rest_more, rest_room, room_same}
+use Rattle.term_table.proofs.Filling.{fills_same, rest_all, rest_more, rest_none, rest_room, room_same, Rest}
 use Rattle.penalty_layer.proofs.Sets.{slack_form-sets}
 use Rattle.penalty_layer.proofs.Sums.{slack_form-total}
-use Rattle.penalty_layer.proofs.constraints.add_constraints.Goals as goal
+use Rattle.penalty_layer.proofs.constraints.add_squares.Goals as goal
+
+pub loop-constraint-init : goal.loop-constraint-init
+loop-constraint-init g c =
+    let Takes = g.T.Gather.takes in
+    let Holds = g.T.Gather.holds in
+    let n = c.args.factor in
+    let start = c.args.terms.now in
+    let all = constraint_terms n c.args.first c.args.constraints.now in
+    let items : c.into_iter-constraint-iterator.result ≡ c.args.constraints.now = search rules in
+    record {
+      rest = subst (λ ks. Rest Takes Holds start start (constraint_terms n c.args.first ks) all)
+          (sym items) (rest_none Takes Holds start all);
+      small = rw items c.requires.small;
+      place = ap (λ (ks : List Constraint). c.args.first + sum_by slack_bits ks) items;
+      sets = rw items c.requires.sets;
+      totals = rw items c.requires.totals;
+    }
+
+pub fill-requires-clause-small : goal.fill-requires-clause-small
+fill-requires-clause-small g c =
+    omega (
+      arith,
+      c.loop-constraint.invariant.totals,
+      ap (sum_by constraint_total) c.in-Some.ensures.steps,
+      sum_by-cons constraint_total c.in-Some.constraint c.next.new.self,
+    )
 
 pub add_square-requires-clause-parts : goal.add_square-requires-clause-parts
 add_square-requires-clause-parts g c =
@@ -48,6 +74,26 @@ add_square-requires-clause-room g c =
     (constraint_terms n (next + slack_bits k) c.next.new.self)
     (constraint_terms n c.args.first c.args.constraints.now) (square_terms n (slack_form next k))
     (ap (constraint_terms n next) c.in-Some.ensures.steps) c.loop-constraint.invariant.rest c.requires.room)
+
+pub slack_bits_of-next-requires : goal.slack_bits_of-next-requires
+slack_bits_of-next-requires g c =
+    omega (
+      arith,
+      c.loop-constraint.invariant.totals,
+      ap (sum_by constraint_total) c.in-Some.ensures.steps,
+      sum_by-cons constraint_total c.in-Some.constraint c.next.new.self,
+    )
+
+pub overflow_add-next : goal.overflow_add-next
+overflow_add-next g c =
+    omega (
+      arith,
+      c.requires.narrow,
+      c.slack_bits_of-next.ensures,
+      c.loop-constraint.invariant.place,
+      ap (sum_by slack_bits) c.in-Some.ensures.steps,
+      sum_by-cons slack_bits c.in-Some.constraint c.next.new.self,
+    )
 
 pub loop-constraint-preserved : goal.loop-constraint-preserved
 loop-constraint-preserved g c =
@@ -100,3 +146,10 @@ loop-constraint-preserved g c =
             sum_by-cons constraint_total k rest,
           );
     }
+
+pub returns : goal.returns
+returns g c =
+    rest_all g.T.Gather.takes g.T.Gather.holds c.args.terms.now c.loop-constraint.terms
+    (constraint_terms c.args.factor c.loop-constraint.next c.loop-constraint.constraint-iterator)
+    (constraint_terms c.args.factor c.args.first c.args.constraints.now)
+    (ap (constraint_terms c.args.factor c.loop-constraint.next) c.in-None.ensures.steps.0) c.loop-constraint.invariant.rest
