@@ -1,14 +1,16 @@
 -- The form of what a run adds is that of the image of the run: the additions are all short, so no
 -- term of them is replaced, and their sums give the image.
-use Rattle.std.proofs.Common.{◌≡◌, ℕ, ◌+◌, ◌*◌, ◌^◌, ◌<◌, ◌≤◌, Bool, true, false, not, cond, int_lt, arith, refl, ap, ◌∙◌, subst, pos, List, [], ◌∷◌, ◌++◌, length, sum_by}
+use Rattle.std.proofs.Common.{◌≡◌, ℕ, ◌+◌, ◌*◌, ◌^◌, ◌<◌, ◌≤◌, Bool, true, false, not, cond, arith, refl, ap, ◌∙◌, subst, List, [], ◌∷◌, ◌++◌, length, sum_by}
 use Rattle.std.specs.List.{AllByRecursion}
 use Rattle.std.proofs.lemmas.Bool.Decides.{nat_tests}
 use Rattle.std.proofs.lemmas.List.Elements.{All-from_recursion, recursion_from_All}
 use Rattle.std.proofs.lemmas.List.Sums.{sum_by-cons}
 use Rattle.term_table.specs.Terms.{Term, terms_total, with_additions, IsTermSet}
 use Rattle.term_table.specs.Tables.{TableContent, IsLow, IsTable, AreAdditions, table_size}
-use Rattle.monomial_layer.specs.Monomials.{all_new_terms, is_low, negative_terms, new_nodes, new_terms, nodes_for, positive_terms}
+use Rattle.term_table.proofs.KeptTerms.{OfSet}
+use Rattle.monomial_layer.specs.Monomials.{all_new_terms, is_low, new_nodes}
 use Rattle.monomial_layer.specs.Monomials as monomials
+use Rattle.monomial_layer.proofs.Sets.{IsShort, new_nodes-one, new_terms-one}
 use Rattle.rosenberg_layer.specs.Rosenberg.{excess, pairs_of, run}
 use Rattle.rosenberg_layer.specs.Rosenberg as rosenberg
 use Rattle.rosenberg_layer.specs.Parts.{weights, AreParts, NoneLong}
@@ -28,32 +30,12 @@ use Rattle.direct_quad.specs.ByPairs.{image}
 
 -- ---- short terms are not replaced
 
-abbrev IsShort : Term → Type 0
-IsShort t = length t.0 ≤ 2
-
-short-low : (t : Term) → IsShort t → is_low t ≡ true
-short-low t few = go (is_low t) refl
-  where
-    go : (b : Bool) → is_low t ≡ b → b ≡ true
-    go true e = refl
-    go false e = absurd (grind (arith, nat_tests))
-
-new_terms-one : (t : Term) (n : ℕ) → IsShort t → new_terms t n ≡ t ∷ []
-new_terms-one t n few =
-    ap
-    (λ b. cond b (t ∷ []) (cond (int_lt t.1 (pos 0)) (negative_terms t.0 t.1 n) (positive_terms t.0 t.1 n)))
-    (short-low t few)
-
-new_nodes-one : (t : Term) → IsShort t → new_nodes t ≡ 0
-new_nodes-one t few =
-    ap (λ b. cond b 0 (cond (int_lt t.1 (pos 0)) 1 (nodes_for (length t.0)))) (short-low t few)
-
-all_new_terms-short : (ts : List Term) (n : ℕ) → AllByRecursion IsShort ts → all_new_terms ts n ≡ ts
+all_new_terms-short : (ts : List Term) (n : ℕ) → AllByRecursion (OfSet IsShort) ts → all_new_terms ts n ≡ ts
 all_new_terms-short [] n short = refl
 all_new_terms-short (t ∷ ts) n short =
     (λ i. new_terms-one t n short.0 i ++ all_new_terms-short ts (n + new_nodes t) short.1 i)
 
-new_nodes-short : (ts : List Term) → AllByRecursion IsShort ts → sum_by new_nodes ts ≡ 0
+new_nodes-short : (ts : List Term) → AllByRecursion (OfSet IsShort) ts → sum_by new_nodes ts ≡ 0
 new_nodes-short [] short = refl
 new_nodes-short (t ∷ ts) short =
     omega (
@@ -66,7 +48,7 @@ new_nodes-short (t ∷ ts) short =
 -- a table without terms of degree 3 or more stays
 pub low-stays : (t : TableContent) → IsTable t → IsLow t → monomials.image t ≡ t
 low-stays t table low =
-    let short = recursion_from_All IsShort t.terms low in
+    let short = recursion_from_All (OfSet IsShort) t.terms low in
     let width : t.width + sum_by new_nodes t.terms ≡ t.width = omega (arith, new_nodes-short t.terms short) in
     let same : with_additions [] (all_new_terms t.terms t.width) ≡ with_additions [] t.terms =
     ap (with_additions []) (all_new_terms-short t.terms t.width short) in

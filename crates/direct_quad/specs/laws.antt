@@ -1,3 +1,2 @@
 -- Laws with their proofs. Nothing here has to be believed.
-pub mod NewSets
 pub mod Between

@@ -1,7 +1,9 @@
 //! The layer that makes an Ising form of a quadratic form.
 //!
 //! A bit is half of its spin and 1, so four times a quadratic form is an Ising form with whole weights.
-ghost use Rattle.std.specs.Prelude.{◌≡◌, IfOk};
+ghost use Rattle.std.specs.Prelude.{◌≡◌, ◌+◌, ◌*◌, ◌≤◌, ◌^◌, IfOk};
+ghost use Rattle.quad_form.specs.Quads.{IsQuad, quad_total};
+ghost use Rattle.ising_form.specs.Spins.{image};
 
 use crate::ising::Ising;
 use crate::spins::spins_of;
@@ -93,5 +95,24 @@ impl Layer for ToSpins {
         x: &[bool],
     ) -> Result<Vec<bool>, NoMemory> {
         Ok(x.to_vec(alloc)?)
+    }
+}
+
+impl Ising {
+    /// The Ising form of a quadratic form that is given up: its couplers become the couplings, where
+    /// they lie. `ToSpins` makes the same of a form that stays.
+    pub fn from_quad(alloc: Global, quad: Quad) -> Result<Ising, NoMemory>
+        requires { (quad_total quad + 1) * 2 ^ 2 ≤ 2 ^ 124 }
+        ensures image { IfOk result (λ made. made ≡ image quad) }
+
+        // What the laws of the layer rest on.
+        ensures kept { IsQuad quad }
+    {
+        let spins = spins_of(alloc, &quad)?;
+        Ok(Ising {
+            constant: spins.constant,
+            fields: NumberList::new(spins.fields),
+            couplings: quad.into_couplers(),
+        })
     }
 }

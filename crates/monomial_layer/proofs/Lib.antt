@@ -1,3 +1,4 @@
+pub mod NewSets
 pub mod Sets
 pub mod Sizes
 pub mod Adding

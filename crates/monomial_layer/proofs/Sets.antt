@@ -1,40 +1,20 @@
--- The sets of the terms that stand for a term: its pairs, and its literals with a new node above
--- them.
-use Rattle.std.proofs.Common.{◌≡◌, ℕ, zero, suc, ◌+◌, ◌<◌, ◌≤◌, Bool, true, false, cond, leb, int_lt, List, [], ◌∷◌, length, get_or, ℤ, pos, refl, arith}
+-- No set of the terms that stand for a term has more than two literals, and such terms are not
+-- replaced.
+use Rattle.std.proofs.Common.{◌≡◌, ap, ℕ, zero, suc, ◌+◌, ◌≤◌, Bool, true, false, cond, leb, int_lt, List, [], ◌∷◌, length, ℤ, pos, refl, arith}
 use Rattle.std.specs.Prelude.{All}
 use Rattle.std.proofs.lemmas.Bool.Decides.{nat_tests}
-use Rattle.std.proofs.lemmas.List.Elements.{All-nil, All-cons, All-append, All-get_or}
+use Rattle.std.proofs.lemmas.List.Elements.{All-nil, All-cons, All-append}
 use Rattle.literal_lists.specs.declared.literal.Literal.{Literal}
-use Rattle.term_table.specs.Terms.{Term, IsTermSet}
+use Rattle.term_table.specs.Terms.{Term}
 use Rattle.term_table.specs.Tables.{TableContent, IsLow}
 use Rattle.term_table.proofs.KeptTerms.{OfSet, All-with_additions}
-use Rattle.term_table.proofs.SmallSets.{IsTermSet-two}
-use Rattle.monomial_layer.specs.Monomials.{node, with_each, each_with, pair_terms, node_term, node_terms, nodes_for, positive_terms, negative_terms, new_nodes, new_terms, all_new_terms, image}
-
--- a literal, and one of a list above it
-pub IsTermSet-after : (width start : ℕ) (l : Literal) (ls : List Literal) (i : ℕ) (d : Literal)
-    → i < length ls → start ≡ width → All (λ k. l.variable < k.variable) ls
-    → All (λ k. k.variable < start) ls → IsTermSet width (l ∷ get_or ls i d ∷ [])
-IsTermSet-after width start l ls i d inside same above within =
-    let up = All-get_or (λ k. l.variable < k.variable) ls i d inside above in
-    let in' = All-get_or (λ k. k.variable < start) ls i d inside within in
-    IsTermSet-two width l (get_or ls i d) up (omega arith)
-
--- one of a list, and a literal above it
-pub IsTermSet-before : (width : ℕ) (l : Literal) (ls : List Literal) (i : ℕ) (d : Literal)
-    → i < length ls → All (λ k. k.variable < l.variable) ls → l.variable < width
-    → IsTermSet width (get_or ls i d ∷ l ∷ [])
-IsTermSet-before width l ls i d inside below within =
-    let up = All-get_or (λ k. k.variable < l.variable) ls i d inside below in
-    IsTermSet-two width (get_or ls i d) l up within
-
--- ---- no set has more than two literals
+use Rattle.monomial_layer.specs.Monomials.{node, with_each, each_with, pair_terms, node_term, node_terms, nodes_for, positive_terms, negative_terms, is_low, new_nodes, new_terms, all_new_terms, image}
 
 -- at most two literals
-abbrev IsShort : List Literal → Type 0
+abbrev pub IsShort : List Literal → Type 0
 IsShort ls = length ls ≤ 2
 
-abbrev AreShort : List Term → Type 0
+abbrev pub AreShort : List Term → Type 0
 AreShort ts = All (OfSet IsShort) ts
 
 short-with_each : (l : Literal) (c : ℤ) (ks : List Literal) → AreShort (with_each l c ks)
@@ -73,7 +53,7 @@ short-new_terms t n = go (leb (length t.0) 2) (int_lt t.1 (pos 0)) (λ e. grind 
         (short-pair_terms t.0 t.1)
         (short-node_terms t.0 t.1 n (nodes_for (length t.0)))
 
-short-all_new_terms : (ts : List Term) (n : ℕ) → AreShort (all_new_terms ts n)
+pub short-all_new_terms : (ts : List Term) (n : ℕ) → AreShort (all_new_terms ts n)
 short-all_new_terms [] n = All-nil (OfSet IsShort)
 short-all_new_terms (t ∷ ts) n =
     All-append (OfSet IsShort) (new_terms t n) (all_new_terms ts (n + new_nodes t)) (short-new_terms t n)
@@ -82,3 +62,24 @@ short-all_new_terms (t ∷ ts) n =
 pub IsLow-image : (t : TableContent) → IsLow (image t)
 IsLow-image t =
     All-with_additions IsShort (all_new_terms t.terms t.width) (short-all_new_terms t.terms t.width)
+
+-- ---- terms of at most two literals
+
+short-low : (t : Term) → OfSet IsShort t → is_low t ≡ true
+short-low t few = go (is_low t) refl
+  where
+    go : (b : Bool) → is_low t ≡ b → b ≡ true
+    go true e = refl
+    go false e = absurd (grind (arith, nat_tests))
+
+-- they stand for themselves
+pub new_terms-one : (t : Term) (n : ℕ) → OfSet IsShort t → new_terms t n ≡ t ∷ []
+new_terms-one t n few =
+    ap
+    (λ b. cond b (t ∷ []) (cond (int_lt t.1 (pos 0)) (negative_terms t.0 t.1 n) (positive_terms t.0 t.1 n)))
+    (short-low t few)
+
+-- without new nodes
+pub new_nodes-one : (t : Term) → OfSet IsShort t → new_nodes t ≡ 0
+new_nodes-one t few =
+    ap (λ b. cond b 0 (cond (int_lt t.1 (pos 0)) 1 (nodes_for (length t.0)))) (short-low t few)

@@ -1,12 +1,12 @@
-//! Quadratic terms in place of terms of degree 3 or more.
+//! Quadratic terms in place of terms of degree 3 or more, wherever they are added.
 //!
 //! For a negative coefficient: D. Freedman and P. Drineas, Energy minimization via graph cuts:
 //! settling what is possible, 2005. For a positive one: H. Ishikawa, Transformation of general
 //! binary MRF minimization to the first-order case, 2011.
-ghost use Rattle.std.specs.Prelude.{◌≡◌, ◌+◌, ◌-◌, ◌*◌, ◌<◌, ◌≤◌, ◌^◌, All, IfOk, OnOk, length};
-ghost use Rattle.literal_lists.specs.Literals.{IsLiteralSet};
-ghost use Rattle.term_table.specs.Terms.{terms_total, IsTermSet};
-ghost use Rattle.term_table.specs.Tables.{kept_at_once, table_size, with_more, IsTable};
+ghost use Rattle.std.specs.Prelude.{◌≡◌, ◌+◌, ◌*◌, ◌<◌, ◌≤◌, ◌^◌, IfOk, OnOk, length};
+ghost use Rattle.term_table.specs.Terms.{terms_total};
+ghost use Rattle.term_table.specs.Tables.{kept_at_once, table_size, IsTable};
+ghost use Rattle.term_table.specs.Rooms.{Fills, HasRoomFor};
 ghost use Rattle.monomial_layer.specs.Monomials.{
   each_with,
   image,
@@ -27,87 +27,77 @@ use crate::nodes::{
 use base::{Costed, NoMemory};
 use literal_lists::Literal;
 use std::alloc::Global;
-use term_table::{GatheredTerms, Table};
+use term_table::{Gather, GatheredTerms, Table};
 
-/// Adds each literal times another, which lies above them all.
-fn add_each_with(
-    quadratic: &mut GatheredTerms,
+/// Adds each literal times another.
+fn add_each_with<G: Gather>(
+    terms: &mut G,
     literals: &[Literal],
     last: Literal,
     coefficient: i128,
 ) -> Result<(), NoMemory>
-    requires above { All (λ l. l.variable < last.variable) literals.now }
-    requires within { last.variable < quadratic.old.width }
-    requires small { terms_total quadratic.old.terms
-        + terms_total (each_with literals.now last coefficient) ≤ 2 ^ 124 }
-    ensures { OnOk result
-        (quadratic.new ≡ with_more quadratic.old (each_with literals.now last coefficient)) }
+    requires { HasRoomFor G.takes terms.old (each_with literals.now last coefficient) }
+    ensures { OnOk result (Fills G.takes G.holds terms.old terms.new
+        (each_with literals.now last coefficient)) }
 {
     for literal in literals {
-        quadratic.add(&[*literal, last], coefficient)?;
+        terms.gather(&[*literal, last], coefficient)?;
     }
     Ok(())
 }
 
-/// Adds a literal times each of others, which lie above it.
-fn add_with_each(
-    quadratic: &mut GatheredTerms,
+/// Adds a literal times each of others.
+fn add_with_each<G: Gather>(
+    terms: &mut G,
     first: Literal,
     literals: &[Literal],
     coefficient: i128,
 ) -> Result<(), NoMemory>
-    requires above { All (λ l. first.variable < l.variable) literals.now }
-    requires within { All (λ l. l.variable < quadratic.old.width) literals.now }
-    requires small { terms_total quadratic.old.terms
-        + terms_total (with_each first coefficient literals.now) ≤ 2 ^ 124 }
-    ensures { OnOk result
-        (quadratic.new ≡ with_more quadratic.old (with_each first coefficient literals.now)) }
+    requires { HasRoomFor G.takes terms.old (with_each first coefficient literals.now) }
+    ensures { OnOk result (Fills G.takes G.holds terms.old terms.new
+        (with_each first coefficient literals.now)) }
 {
     for literal in literals {
-        quadratic.add(&[first, *literal], coefficient)?;
+        terms.gather(&[first, *literal], coefficient)?;
     }
     Ok(())
 }
 
 /// Adds the products of all pairs.
-fn add_pairs(
-    quadratic: &mut GatheredTerms,
+fn add_pairs<G: Gather>(
+    terms: &mut G,
     literals: &[Literal],
     coefficient: i128,
 ) -> Result<(), NoMemory>
-    requires set { IsLiteralSet quadratic.old.width literals.now }
-    requires small { terms_total quadratic.old.terms
-        + terms_total (pair_terms literals.now coefficient) ≤ 2 ^ 124 }
-    ensures { OnOk result
-        (quadratic.new ≡ with_more quadratic.old (pair_terms literals.now coefficient)) }
+    requires { HasRoomFor G.takes terms.old (pair_terms literals.now coefficient) }
+    ensures { OnOk result (Fills G.takes G.holds terms.old terms.new
+        (pair_terms literals.now coefficient)) }
 {
     for i in 0..literals.len() {
-        add_with_each(quadratic, literals[i], &literals[i + 1..], coefficient)?;
+        add_with_each(terms, literals[i], &literals[i + 1..], coefficient)?;
     }
     Ok(())
 }
 
 /// Adds the terms of the new node after so many others.
-fn add_node(
-    quadratic: &mut GatheredTerms,
+fn add_node<G: Gather>(
+    terms: &mut G,
     literals: &[Literal],
     new_node: Literal,
     place: usize,
     coefficient: i128,
 ) -> Result<(), NoMemory>
     requires place { place < 2 ^ 32 }
-    requires above { All (λ l. l.variable < new_node.variable) literals.now }
-    requires within { new_node.variable < quadratic.old.width }
-    requires small { terms_total quadratic.old.terms
-        + terms_total (node_term literals.now coefficient new_node place) ≤ 2 ^ 124 }
-    ensures { OnOk result
-        (quadratic.new ≡ with_more quadratic.old
+    requires room { HasRoomFor G.takes terms.old
+        (node_term literals.now coefficient new_node place) }
+    requires small { terms_total (node_term literals.now coefficient new_node place) ≤ 2 ^ 124 }
+    ensures { OnOk result (Fills G.takes G.holds terms.old terms.new
         (node_term literals.now coefficient new_node place)) }
 {
     let degree = literals.len();
-    quadratic.add(&[new_node], node_weight(&coefficient, degree, place))?;
+    terms.gather(&[new_node], node_weight(&coefficient, degree, place))?;
     add_each_with(
-        quadratic,
+        terms,
         literals,
         new_node,
         pair_weight(&coefficient, degree, place),
@@ -115,87 +105,80 @@ fn add_node(
 }
 
 /// Adds the terms of all new nodes of a positive term.
-fn add_nodes(
-    quadratic: &mut GatheredTerms,
+fn add_nodes<G: Gather>(
+    terms: &mut G,
     literals: &[Literal],
     coefficient: i128,
     next: usize,
 ) -> Result<(), NoMemory>
-    requires narrow { quadratic.old.width ≤ 2 ^ 32 }
-    requires above { All (λ l. l.variable < next) literals.now }
-    requires within { next + nodes_for (length literals.now) ≤ quadratic.old.width }
-    requires small { terms_total quadratic.old.terms
-        + terms_total (node_terms literals.now coefficient next (nodes_for (length literals.now)))
-        ≤ 2 ^ 124 }
-    ensures { OnOk result (quadratic.new ≡ with_more quadratic.old
+    requires narrow { next + nodes_for (length literals.now) ≤ 2 ^ 32 }
+    requires room { HasRoomFor G.takes terms.old
+        (node_terms literals.now coefficient next (nodes_for (length literals.now))) }
+    requires small { terms_total
+        (node_terms literals.now coefficient next (nodes_for (length literals.now))) ≤ 2 ^ 124 }
+    ensures { OnOk result (Fills G.takes G.holds terms.old terms.new
         (node_terms literals.now coefficient next (nodes_for (length literals.now)))) }
 {
     for place in 0..nodes_for(literals.len()) {
-        add_node(quadratic, literals, node(next + place), place, coefficient)?;
+        add_node(terms, literals, node(next + place), place, coefficient)?;
     }
     Ok(())
 }
 
 /// Adds what stands for a term with a positive coefficient.
-fn add_positive(
-    quadratic: &mut GatheredTerms,
+fn add_positive<G: Gather>(
+    terms: &mut G,
     literals: &[Literal],
     coefficient: i128,
     next: usize,
 ) -> Result<(), NoMemory>
-    requires narrow { quadratic.old.width ≤ 2 ^ 32 }
-    requires set { IsTermSet next literals.now }
-    requires within { next + nodes_for (length literals.now) ≤ quadratic.old.width }
-    requires small { terms_total quadratic.old.terms
-        + terms_total (positive_terms literals.now coefficient next) ≤ 2 ^ 124 }
-    ensures { OnOk result
-        (quadratic.new ≡ with_more quadratic.old (positive_terms literals.now coefficient next)) }
+    requires narrow { next + nodes_for (length literals.now) ≤ 2 ^ 32 }
+    requires room { HasRoomFor G.takes terms.old (positive_terms literals.now coefficient next) }
+    requires small { terms_total (positive_terms literals.now coefficient next) ≤ 2 ^ 124 }
+    ensures { OnOk result (Fills G.takes G.holds terms.old terms.new
+        (positive_terms literals.now coefficient next)) }
 {
-    add_pairs(quadratic, literals, coefficient)?;
-    add_nodes(quadratic, literals, coefficient, next)
+    add_pairs(terms, literals, coefficient)?;
+    add_nodes(terms, literals, coefficient, next)
 }
 
 /// Adds what stands for a term with a negative coefficient.
-fn add_negative(
-    quadratic: &mut GatheredTerms,
+fn add_negative<G: Gather>(
+    terms: &mut G,
     literals: &[Literal],
     coefficient: i128,
     next: usize,
 ) -> Result<(), NoMemory>
     requires some { 1 ≤ length literals.now }
-    requires above { All (λ l. l.variable < next) literals.now }
-    requires within { next < quadratic.old.width }
-    requires small { terms_total quadratic.old.terms
-        + terms_total (negative_terms literals.now coefficient next) ≤ 2 ^ 124 }
-    ensures { OnOk result
-        (quadratic.new ≡ with_more quadratic.old (negative_terms literals.now coefficient next)) }
+    requires room { HasRoomFor G.takes terms.old (negative_terms literals.now coefficient next) }
+    requires small { terms_total (negative_terms literals.now coefficient next) ≤ 2 ^ 124 }
+    ensures { OnOk result (Fills G.takes G.holds terms.old terms.new
+        (negative_terms literals.now coefficient next)) }
 {
     let new_node = node(next);
-    quadratic.add(&[new_node], negative_weight(&coefficient, literals.len()))?;
-    add_each_with(quadratic, literals, new_node, coefficient)
+    terms.gather(&[new_node], negative_weight(&coefficient, literals.len()))?;
+    add_each_with(terms, literals, new_node, coefficient)
 }
 
 /// Adds what stands for a term, whose new nodes are numbered from `next` on.
-fn add_replaced(
-    quadratic: &mut GatheredTerms,
+fn add_replaced<G: Gather>(
+    terms: &mut G,
     literals: &[Literal],
     coefficient: i128,
     next: usize,
 ) -> Result<(), NoMemory>
-    requires narrow { quadratic.old.width ≤ 2 ^ 32 }
-    requires set { IsTermSet next literals.now }
-    requires within { next + new_nodes (literals.now, coefficient) ≤ quadratic.old.width }
-    requires small { terms_total quadratic.old.terms
-        + terms_total (new_terms (literals.now, coefficient) next) ≤ 2 ^ 124 }
-    ensures { OnOk result
-        (quadratic.new ≡ with_more quadratic.old (new_terms (literals.now, coefficient) next)) }
+    requires narrow { next + new_nodes (literals.now, coefficient) ≤ 2 ^ 32 }
+    requires room { HasRoomFor G.takes terms.old (new_terms (literals.now, coefficient) next) }
+    requires small { terms_total (new_terms (literals.now, coefficient) next) ≤ 2 ^ 124 }
+    ensures { OnOk result (Fills G.takes G.holds terms.old terms.new
+        (new_terms (literals.now, coefficient) next)) }
 {
     if literals.len() <= 2 {
-        quadratic.add(literals, coefficient)
+        terms.gather(literals, coefficient)
     } else if coefficient < 0 {
-        add_negative(quadratic, literals, coefficient, next)
+        add_negative(terms, literals, coefficient, next)
     } else {
-        add_positive(quadratic, literals, coefficient, next)
+        add_positive(terms, literals, coefficient, next)
     }
 }
 

@@ -2,7 +2,7 @@
 --
 -- Each measure of a form grows, where a term is placed, by at most that of the term. The couplers
 -- are the entries of the pairs, in the order of the table.
-use Rattle.std.proofs.Common.{◌≡◌, ◌≢◌, ℕ, zero, suc, ◌+◌, ◌*◌, ◌<◌, ◌≤◌, ◌^◌, Bool, true, false, eqb, ℤ, pos, ◌+ℤ◌, unsigned_abs, List, [], ◌∷◌, ◌++◌, length, get_or, replicate, All, sum_by, fold, refl, sym, ◌∙◌, arith, if◌then◌else◌, append_assoc, append-nil}
+use Rattle.std.proofs.Common.{◌≡◌, ◌≢◌, ℕ, zero, suc, ◌+◌, ◌*◌, ◌<◌, ◌≤◌, ◌^◌, Bool, true, false, eqb, ℤ, pos, ◌+ℤ◌, unsigned_abs, List, [], ◌∷◌, ◌++◌, length, replicate, All, sum_by, fold, refl, sym, ◌∙◌, arith, if◌then◌else◌, append_assoc, append-nil}
 use Rattle.std.specs.List.{AllByRecursion, slice_index_or}
 use Rattle.std.specs.List.Sorted.{IsStrictlySortedBy}
 use Rattle.std.specs.Prelude.{slice_set}
@@ -25,8 +25,6 @@ use Rattle.term_table.proofs.KeptTerms.{OfSet, Under}
 use Rattle.quad_form.specs.Quads.{QuadContent, node_entries, quad_total, quad_size, IsCoupler, IsQuad}
 use Rattle.quad_form.specs.Flat.{pair_entry, with_term, zero_quad, quad_of, image, IsFlat}
 use Rattle.quad_form.specs.laws.Flattened.{length-fold, length-image}
-use Rattle.bits_model.proofs.Energies.{weights-append}
-use Rattle.quad_form.proofs.NodeEnergies.{weights_within}
 use Rattle.quad_form.proofs.FlatSums.{form_size, terms_total-contributions, form_size-contributions}
 
 -- ---- the sum of the sizes
@@ -284,24 +282,3 @@ IsQuad-of width ts narrow flat terms small =
       narrow = omega (arith, width_of width ts);
       small = omega (arith, quad_total-of width ts);
     }
-
--- ---- one more term
-
--- a term of one literal grows the weight of its node
-pub placed_one : (q : QuadContent) (ls : List Literal) (c : ℤ) (d : Literal) → 1 ≤ length ls
-    → length ls < 2
-    → with_term q (ls, c)
-    ≡ record q { diagonal = slice_set q.diagonal (get_or ls 0 d).variable (slice_index_or q.diagonal (get_or ls 0 d).variable (pos 0) +ℤ c) }
-placed_one q [] c d low high = absurd (omega arith)
-placed_one q (l ∷ []) c d low high = refl
-placed_one q (l ∷ k ∷ ls) c d low high = absurd (omega arith)
-
--- a node's weight is within the sum of the sizes
-pub weight_within : (q : QuadContent) (i : ℕ) (d : ℤ) → i < length q.diagonal
-    → unsigned_abs (get_or q.diagonal i d) ≤ quad_total q
-weight_within q i d in' =
-    omega (
-      arith,
-      weights_within q.diagonal i d in',
-      weights-append (node_entries 0 q.diagonal) q.couplers,
-    )

@@ -20,16 +20,7 @@ form_size [] = 1
 form_size (l ∷ []) = 0
 form_size (l ∷ k ∷ ls) = 4
 
--- a term of one literal grows to at most twice as much
-pub total-one : (l : Literal) (c : ℤ)
-    → terms_total (plain_terms (l ∷ []) c) ≤ 2 * unsigned_abs c
-total-one l c =
-    omega (
-      arith,
-      plain_terms-grow 1 (l ∷ []) c (count_by-le-length (λ (k : Literal). k.negated) (l ∷ [])),
-    )
-
-pub terms_total-plain_terms : (ls : List Literal) (c : ℤ) → length ls ≤ 2
+terms_total-plain_terms : (ls : List Literal) (c : ℤ) → length ls ≤ 2
     → terms_total (plain_terms ls c) ≤ 4 * unsigned_abs c
 terms_total-plain_terms ls c short =
     let few : complements ls ≤ 2 =

@@ -4,8 +4,11 @@ pub mod WrittenModels
 pub mod FlatSets
 pub mod FlatSums
 pub mod FlatForms
-pub mod FlatParts
 pub mod UniqueForms
 pub mod Divisors
 pub mod UnitEntries
 pub mod ReducedForms
+pub mod Additive
+pub mod ShortTerms
+pub mod SummedForms
+pub mod HeldSums

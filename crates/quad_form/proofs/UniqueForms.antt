@@ -9,7 +9,7 @@ use Rattle.std.specs.declared.cmp.Ordering.{Ordering}
 use Rattle.std.specs.declared.cmp.Ordering.TheVariants.{Less, Equal, Greater}
 use Rattle.std.proofs.lemmas.Int.{ints}
 use Rattle.std.proofs.lemmas.Bool.Decides.{nat_tests, Decides-eqb}
-use Rattle.std.proofs.lemmas.List.{same_lists, get_or_default, get_or-set_same, get_or-set_other, length-replicate}
+use Rattle.std.proofs.lemmas.List.{get_or-set_same, get_or-set_other}
 use Rattle.std.proofs.lemmas.List.Elements.{All-weaker, recursion_from_All}
 use Rattle.base.specs.Sums.{if_so}
 use Rattle.base.proofs.Totals.{total_by_push}
@@ -19,13 +19,13 @@ use Rattle.literal_lists.specs.Literals.{literal_cmp}
 use Rattle.term_table.specs.Terms.{Term, set_cmp, coefficient_of, with_additions, terms_total}
 use Rattle.term_table.specs.Tables.{TableContent, IsTable, IsLow}
 use Rattle.term_table.specs.MultipliedOut.{contributions}
-use Rattle.term_table.proofs.Additions.{coefficient_of-with_additions, terms_total-with_additions}
+use Rattle.term_table.proofs.Additions.{terms_total-with_additions}
 use Rattle.term_table.proofs.KeptTerms.{OfSet, AreTerms-with_additions}
-use Rattle.quad_form.specs.Quads.{QuadContent, IsCoupler, IsQuad, IsSettled}
-use Rattle.quad_form.specs.Flat.{pair_entry, with_term, zero_quad, quad_of, image, IsFlat}
+use Rattle.quad_form.specs.Quads.{QuadContent, IsCoupler, IsQuad}
+use Rattle.quad_form.specs.Flat.{pair_entry, with_term, image, IsFlat}
 use Rattle.quad_form.specs.laws.Flattened.{length-with_term, flat_sets, flat_contributions}
 use Rattle.pair_sums.specs.Pairs.{IsNonzero, weight_for, weight_at}
-use Rattle.quad_form.proofs.FlatForms.{width_of, IsQuad-of}
+use Rattle.quad_form.proofs.FlatForms.{IsQuad-of}
 use Rattle.quad_form.proofs.FlatSets.{IsTermSet-flat}
 use Rattle.quad_form.proofs.FlatSums.{terms_total-contributions}
 use Rattle.pair_sums.proofs.UniqueSums.{same_entries}
@@ -149,52 +149,6 @@ pair-fold q i j width (t ∷ ts) flat =
       pair-with_term q i j width t.0 t.1 flat.0,
     )
 
--- ---- terms and the table of their sums
-
-constants_agree : (width : ℕ) (ts : List Term)
-    → (quad_of width ts).constant ≡ (quad_of width (with_additions [] ts)).constant
-constants_agree width ts =
-    omega (
-      arith,
-      ints,
-      constant-fold (zero_quad width) ts,
-      constant-fold (zero_quad width) (with_additions [] ts),
-      coefficient_of-with_additions [] ts,
-    )
-
-nodes_agree : (width i : ℕ) (ts : List Term) → AreFlat width ts → AreFlat width (with_additions [] ts)
-    → get_or (quad_of width ts).diagonal i (pos 0)
-    ≡ get_or (quad_of width (with_additions [] ts)).diagonal i (pos 0)
-nodes_agree width i ts flat sums =
-    omega (
-      arith,
-      ints,
-      node-fold (zero_quad width) width i ts (length-replicate width (pos 0)) flat,
-      node-fold (zero_quad width) width i (with_additions [] ts) (length-replicate width (pos 0)) sums,
-      coefficient_of-with_additions (node i ∷ []) ts,
-    )
-
-diagonals_agree : (width : ℕ) (ts : List Term) → AreFlat width ts → AreFlat width (with_additions [] ts)
-    → (quad_of width ts).diagonal ≡ (quad_of width (with_additions [] ts)).diagonal
-diagonals_agree width ts flat sums =
-    let lengths = width_of width ts ∙ sym (width_of width (with_additions [] ts)) in
-    same_lists _ _ lengths (λ k d in'.
-    get_or_default (quad_of width ts).diagonal k d (pos 0) in'
-    ∙ nodes_agree width k ts flat sums
-    ∙ get_or_default (quad_of width (with_additions [] ts)).diagonal k (pos 0) d (subst (λ n. k < n) lengths in'))
-
-pairs_agree : (width i j : ℕ) (ts : List Term) → AreFlat width ts → AreFlat width (with_additions [] ts)
-    → weight_at i j (quad_of width ts).couplers
-    ≡ weight_at i j (quad_of width (with_additions [] ts)).couplers
-pairs_agree width i j ts flat sums =
-    omega (
-      arith,
-      ints,
-      pair-fold (zero_quad width) i j width ts flat,
-      pair-fold (zero_quad width) i j width (with_additions [] ts) sums,
-      coefficient_of-with_additions (node i ∷ node j ∷ []) ts,
-    )
-
 -- ---- the image
 
 pub couplers_are_pairs : (n : ℕ) (es : List Entry) → n < 2 ^ 32 → AllByRecursion (IsCoupler n) es → ArePairs es
@@ -208,7 +162,7 @@ pub nonzero_couplers : (n : ℕ) (es : List Entry) → AllByRecursion (IsCoupler
 nonzero_couplers n [] all = tt
 nonzero_couplers n (e ∷ es) all = (all.0.nonzero, nonzero_couplers n es all.1)
 
-same_couplers : (q r : QuadContent) → IsQuad q → IsQuad r
+pub same_couplers : (q r : QuadContent) → IsQuad q → IsQuad r
     → ((i j : ℕ) → weight_at i j q.couplers ≡ weight_at i j r.couplers)
     → q.couplers ≡ r.couplers
 same_couplers q r a b same =
@@ -230,20 +184,3 @@ IsQuad-image t table low narrow small =
     IsQuad-of t.width (with_additions [] ts) narrow (flat_sets t table low)
     (AreTerms-with_additions t.width ts (All-weaker _ _ (λ (u : Term) h. IsTermSet-flat t.width u.0 h) ts flat))
     (omega (arith, terms_total-with_additions ts, terms_total-contributions t.terms short))
-
--- what the terms of a table place, each pair once, is the table's image
-pub settled_is_image : (t : TableContent) (q r : QuadContent) → IsTable t → IsLow t → t.width < 2 ^ 32
-    → 4 * terms_total t.terms ≤ 2 ^ 124
-    → q ≡ quad_of t.width (contributions t.terms) → IsSettled q r → IsQuad r → r ≡ image t
-settled_is_image t q r table low narrow small made settled kept =
-    let ts = contributions t.terms in
-    let flat = recursion_from_All _ _ (flat_contributions t.width t.terms (recursion_from_All _ _ table.terms.sets) (recursion_from_All _ _ low)) in
-    let sums = recursion_from_All _ _ (flat_sets t table low) in
-    let constant : r.constant ≡ (image t).constant =
-    settled.constant ∙ ap (λ (p : QuadContent). p.constant) made ∙ constants_agree t.width ts in
-    let diagonal : r.diagonal ≡ (image t).diagonal =
-    settled.diagonal ∙ ap (λ (p : QuadContent). p.diagonal) made ∙ diagonals_agree t.width ts flat sums in
-    let couplers : r.couplers ≡ (image t).couplers =
-    same_couplers r (image t) kept (IsQuad-image t table low narrow small)
-    (λ i j. settled.sums i j ∙ ap (λ (p : QuadContent). weight_at i j p.couplers) made ∙ pairs_agree t.width i j ts flat sums) in
-    λ k. record { constant = constant k; diagonal = diagonal k; couplers = couplers k }

@@ -3,3 +3,5 @@ pub mod Flat
 pub mod laws
 pub mod Units
 pub mod Stated
+pub mod Short
+pub mod Sums

@@ -1,5 +1,5 @@
 -- Quadratic forms: a constant, a weight for each node, and couplers.
-use Rattle.std.specs.Prelude.{◌≡◌, ◌≢◌, ℕ, ◌+◌, ◌≤◌, ◌<◌, ◌^◌, ℤ, pos, neg_ℤ, ◌+ℤ◌, unsigned_abs, Bool, List, [], ◌++◌, length, All, if◌then◌else◌}
+use Rattle.std.specs.Prelude.{◌≢◌, ℕ, ◌+◌, ◌≤◌, ◌<◌, ◌^◌, ℤ, pos, neg_ℤ, ◌+ℤ◌, unsigned_abs, Bool, List, [], ◌++◌, length, All, if◌then◌else◌}
 use Rattle.std.specs.List.{sum_by}
 use Rattle.std.specs.List.Sorted.{IsStrictlySortedBy}
 use Rattle.std.specs.Ordering.{int_eq}
@@ -12,7 +12,6 @@ use Rattle.base.specs.Costs.{Form}
 use Rattle.base.specs.Figures.{figures_moved}
 pub use Rattle.bits_model.specs.Entries.{node_entries}
 use Rattle.bits_model.specs.Output.{Written, entry_cmp, bits_energy, weight_total, entry_size}
-use Rattle.pair_sums.specs.Pairs.{weight_at}
 
 -- What a quadratic form says. The weights of nodes stand in a list by their numbers, 0 where a node
 -- has none; couplers are kept where they are not 0.
@@ -80,9 +79,3 @@ written_of q variables figures unit = record {
   entries = entries_of q;
   chains = [];
 }
-
--- a form with the same constant, the same weights of nodes, and the same sum for each pair
-pub record IsSettled (q r : QuadContent) : Type 0 where
-  pub constant : r.constant ≡ q.constant
-  pub diagonal : r.diagonal ≡ q.diagonal
-  pub sums : (i j : ℕ) → weight_at i j r.couplers ≡ weight_at i j q.couplers

@@ -1,135 +1,48 @@
 //! The layer that makes a quadratic form of a table of low terms.
 //!
-//! Each complement is replaced by 1 less its variable. What that gives goes to its place at once:
-//! to the constant, to a node's weight, or among the couplers, of which a pair may have several. In
-//! the end they are sorted, so that each pair has one coupler, and a pair whose sum is 0 has none.
-ghost use Rattle.std.specs.Prelude.{◌≡◌, ◌+◌, ◌*◌, ◌<◌, ◌≤◌, ◌^◌, [], ◌∷◌, false, IfOk, OnOk, fold, length, unsigned_abs};
-ghost use Rattle.literal_lists.specs.Literals.{IsLiteralSet};
+//! Its terms are added to sums, and the form is made of these.
+ghost use Rattle.std.specs.Prelude.{◌≤◌, ◌<◌, ◌^◌, IfOk, OnOk};
 ghost use Rattle.term_table.specs.Terms.{terms_total};
 ghost use Rattle.term_table.specs.Tables.{IsTable, IsLow};
-ghost use Rattle.quad_form.specs.Quads.{quad_total};
-ghost use Rattle.term_table.specs.MultipliedOut.{plain, with_front, plain_terms, contributions};
-ghost use Rattle.quad_form.specs.Flat.{with_term, quad_of};
+ghost use Rattle.term_table.specs.Rooms.{Fills, HasRoomFor};
+ghost use Rattle.quad_form.specs.Sums.{AreSummed};
 
-use crate::parts::Parts;
 use crate::quad::Quad;
+use crate::sums::QuadSums;
 use base::{Costed, NoMemory};
 use form_steps::{BitsLink, Layer, Lowered};
-use literal_lists::Literal;
 use std::alloc::Global;
-use term_table::LowTable;
+use term_table::{Gather, LowTable, Terms};
 
 /// The layer that multiplies out. It adds no nodes, and states are assignments.
 #[derive(Drop)]
 pub struct Flatten;
 
-/// The variable of a literal, as a literal.
-fn plain(literal: &Literal) -> Literal
-    ensures { result ≡ plain literal.now }
+/// Adds terms, one after another.
+fn add_terms<T: Gather>(sums: &mut T, terms: Terms<'_>) -> Result<(), NoMemory>
+    requires { HasRoomFor T.takes sums.old terms }
+    ensures { OnOk result (Fills T.takes T.holds sums.old sums.new terms.entry) }
 {
-    Literal {
-        variable: literal.variable,
-        negated: false,
+    for (literals, coefficient) in terms {
+        sums.gather(literals, coefficient)?;
     }
+    Ok(())
 }
 
-/// Places a term of one literal, multiplied out.
-fn place_one(parts: &mut Parts, literal: &Literal, coefficient: i128) -> Result<(), NoMemory>
-    requires within { literal.now.variable < length parts.old.diagonal }
-    requires narrow { length parts.old.diagonal < 2 ^ 32 }
-    requires small { quad_total parts.old + 2 * unsigned_abs coefficient ≤ 2 ^ 124 }
-    ensures { OnOk result
-        (parts.new ≡ fold with_term parts.old (plain_terms (literal.now ∷ []) coefficient)) }
-{
-    let variable = plain(literal);
-    if literal.negated {
-        parts.place(&[], coefficient)?;
-        parts.place(&[variable], -coefficient)
-    } else {
-        parts.place(&[variable], coefficient)
-    }
-}
-
-/// Places a variable times a term of one literal, multiplied out.
-fn place_after(
-    parts: &mut Parts,
-    variable: Literal,
-    literal: &Literal,
-    coefficient: i128,
-) -> Result<(), NoMemory>
-    requires variable { variable.negated ≡ false }
-    requires ordered { variable.variable < literal.now.variable }
-    requires within { literal.now.variable < length parts.old.diagonal }
-    requires narrow { length parts.old.diagonal < 2 ^ 32 }
-    requires small { quad_total parts.old + 2 * unsigned_abs coefficient ≤ 2 ^ 124 }
-    ensures { OnOk result (parts.new ≡ fold with_term parts.old
-        (with_front variable (plain_terms (literal.now ∷ []) coefficient))) }
-{
-    let second = plain(literal);
-    if literal.negated {
-        parts.place(&[variable], coefficient)?;
-        parts.place(&[variable, second], -coefficient)
-    } else {
-        parts.place(&[variable, second], coefficient)
-    }
-}
-
-/// Places a term of two literals, multiplied out.
-fn place_two(
-    parts: &mut Parts,
-    first: &Literal,
-    second: &Literal,
-    coefficient: i128,
-) -> Result<(), NoMemory>
-    requires ordered { first.now.variable < second.now.variable }
-    requires within { second.now.variable < length parts.old.diagonal }
-    requires narrow { length parts.old.diagonal < 2 ^ 32 }
-    requires small { quad_total parts.old + 4 * unsigned_abs coefficient ≤ 2 ^ 124 }
-    ensures { OnOk result (parts.new ≡ fold with_term parts.old
-        (plain_terms (first.now ∷ second.now ∷ []) coefficient)) }
-{
-    let variable = plain(first);
-    if first.negated {
-        place_one(parts, second, coefficient)?;
-        place_after(parts, variable, second, -coefficient)
-    } else {
-        place_after(parts, variable, second, coefficient)
-    }
-}
-
-/// Places a term of at most two literals, multiplied out.
-fn place_term(parts: &mut Parts, literals: &[Literal], coefficient: i128) -> Result<(), NoMemory>
-    requires set { IsLiteralSet (length parts.old.diagonal) literals.now }
-    requires low { length literals.now ≤ 2 }
-    requires narrow { length parts.old.diagonal < 2 ^ 32 }
-    requires small { quad_total parts.old + 4 * unsigned_abs coefficient ≤ 2 ^ 124 }
-    ensures { OnOk result
-        (parts.new ≡ fold with_term parts.old (plain_terms literals.now coefficient)) }
-{
-    match literals {
-        [] => parts.place(literals, coefficient),
-        [only] => place_one(parts, only, coefficient),
-        [first, second, ..] => place_two(parts, first, second, coefficient),
-    }
-}
-
-/// What the terms are multiplied out to, each in its place.
-fn parts_of(alloc: Global, table: &LowTable) -> Result<Parts, NoMemory>
+/// The sums of a table's terms.
+fn sums_of(alloc: Global, table: &LowTable) -> Result<QuadSums, NoMemory>
     requires narrow { table.now.content.width < 2 ^ 32 }
-    requires total { (terms_total table.now.content.terms + 1) * 2 ^ 2 ≤ 2 ^ 124 }
-    ensures placed { IfOk result (λ parts.
-        parts ≡ quad_of table.now.content.width (contributions table.now.content.terms)) }
+    requires total { terms_total table.now.content.terms ≤ 2 ^ 122 }
+    ensures summed { IfOk result (AreSummed table.now.content) }
 
     // What the laws of the layer rest on.
     ensures kept { IsTable table.now.content }
     ensures low { IsLow table.now.content }
 {
     let terms = table.terms();
-    let mut parts = Parts::zero(alloc, table.width())?;
-    for (literals, coefficient) in terms {
-        place_term(&mut parts, literals, coefficient)?;
-    }
-    Ok(parts)
+    let mut sums = QuadSums::new(alloc, table.width())?;
+    add_terms(&mut sums, terms)?;
+    Ok(sums)
 }
 
 impl Layer for Flatten {
@@ -181,9 +94,9 @@ impl Layer for Flatten {
 
     fn lower(&self, alloc: Global, source: &LowTable) -> Result<Lowered<Quad, BitsLink>, NoMemory> {
         let width = source.width();
-        let parts = parts_of(alloc, source)?;
+        let sums = sums_of(alloc, source)?;
         Ok(Lowered {
-            target: parts.into_quad()?,
+            target: sums.into_quad()?,
             link: BitsLink {
                 source_width: width,
                 target_width: width,

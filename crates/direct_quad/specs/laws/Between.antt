@@ -9,10 +9,10 @@ use Rattle.term_table.proofs.Additions.{terms_total-with_additions}
 use Rattle.term_table.proofs.KeptTerms.{AreTerms-with_additions}
 use Rattle.monomial_layer.specs.Monomials.{all_new_terms}
 use Rattle.monomial_layer.specs.Monomials as monomials
+use Rattle.monomial_layer.proofs.NewSets.{sets-all_new_terms}
 use Rattle.monomial_layer.proofs.Sizes.{total-image}
 use Rattle.long_terms.specs.Apart.{table_of}
 use Rattle.long_terms.proofs.Apart.{IsTable-table_of}
-use Rattle.direct_quad.specs.laws.NewSets.{sets-all_new_terms}
 
 -- the table of quadratic terms
 abbrev pub low_of : TableContent → TableContent

@@ -1,31 +1,36 @@
-use Rattle.std.proofs.Common.{◌∷◌, [], arith, ap}
+use Rattle.std.proofs.Common.{false, ◌∷◌, ◌+◌, [], drop, map, get_or, refl}
 use Rattle.std.specs.Int.{w128}
 use Rattle.std.proofs.lemmas.Int.{to_z-of_z}
 use Rattle.literal_lists.specs.declared.literal.Literal.{Literal}
 use Rattle.term_table.specs.Terms.{Term}
-use Rattle.term_table.specs.Tables.{TableContent}
-use Rattle.term_table.proofs.Loops.{made_more, fits_next}
-use Rattle.monomial_layer.proofs.Sets.{IsTermSet-before}
+use Rattle.term_table.proofs.Filling.{fills_as, rest_more, rest_room}
+use Rattle.monomial_layer.proofs.Adding.{map_left}
 use Rattle.monomial_layer.proofs.replace.add_each_with.Goals as goal
 
-pub add-requires-clause-set : goal.add-requires-clause-set
-add-requires-clause-set c =
-    let width = ap (λ (t : TableContent). t.width) c.loop-literal.invariant in
-    IsTermSet-before c.loop-literal.quadratic.width c.args.last c.args.literals.now c.loop-literal.literal-index _ c.loop-literal-test.true c.requires.above (omega (arith, width, c.requires.within))
-
-pub add-requires-clause-small : goal.add-requires-clause-small
-add-requires-clause-small c =
+pub gather-requires : goal.gather-requires
+gather-requires g c =
     let f : Literal → Term = λ l. (l ∷ c.args.last ∷ [], c.args.coefficient) in
+    let ls = c.args.literals.now in
+    let i = c.loop-literal.literal-index in
+    let none : Literal = record { variable = 0; negated = false } in
     let back = to_z-of_z w128 c.args.coefficient c.ranges.coefficient in
     let so_far = rw back at c.loop-literal.invariant in
     rw back
-    (fits_next f c.args.quadratic.now c.loop-literal.quadratic c.args.literals.now c.loop-literal.literal-index c.args.last _ c.loop-literal-test.true so_far c.requires.small)
+    (rest_room g.G.Gather.takes g.G.Gather.holds c.args.terms.now c.loop-literal.terms (map f (drop i ls))
+    (map f (drop (i + 1) ls)) (map f ls) (f (get_or ls i none) ∷ [])
+    (map_left f ls i none c.loop-literal-test.true) so_far c.requires)
 
 pub loop-literal-preserved : goal.loop-literal-preserved
-loop-literal-preserved c =
+loop-literal-preserved g c =
     let f : Literal → Term = λ l. (l ∷ c.args.last ∷ [], c.args.coefficient) in
+    let ls = c.args.literals.now in
+    let i = c.loop-literal.literal-index in
+    let none : Literal = record { variable = 0; negated = false } in
     let back = to_z-of_z w128 c.args.coefficient c.ranges.coefficient in
     let so_far = rw back at c.loop-literal.invariant in
-    let added = rw back at c.in_ok-add.ensures.added in
+    let one = fills_as g.G.Gather.takes g.G.Gather.holds c.loop-literal.terms c.gather.new.self _ _ _ _ refl back
+    c.in_ok-gather.ensures.added c.in_ok-gather.ensures.takes in
     rw back
-    (made_more f c.args.quadratic.now c.loop-literal.quadratic c.add.new.self c.args.literals.now c.loop-literal.literal-index _ c.loop-literal-test.true so_far added)
+    (rest_more g.G.Gather.takes g.G.Gather.holds c.args.terms.now c.loop-literal.terms c.gather.new.self
+    (map f (drop i ls)) (map f (drop (i + 1) ls)) (map f ls) _
+    (map_left f ls i none c.loop-literal-test.true) one so_far)

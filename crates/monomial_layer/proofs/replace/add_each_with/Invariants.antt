@@ -1,10 +1,11 @@
-use Rattle.std.proofs.Common.{◌≡◌, take}
-use Rattle.term_table.specs.Tables.{with_more}
+use Rattle.std.proofs.Common.{drop}
+use Rattle.term_table.proofs.Filling.{Rest}
 use Rattle.monomial_layer.specs.Monomials.{each_with}
 use Rattle.monomial_layer.proofs.replace.add_each_with.Given as goal
 
 -- the products of the literals so far were added
 abbrev pub invariant-loop-literal : goal.invariant-loop-literal
-invariant-loop-literal l =
-    l.quadratic
-    ≡ with_more l.fn.quadratic (each_with (take l.literal-index l.literals) l.fn.last l.fn.coefficient)
+invariant-loop-literal g l =
+    Rest g.G.Gather.takes g.G.Gather.holds l.fn.terms l.terms
+    (each_with (drop l.literal-index l.literals) l.fn.last l.fn.coefficient)
+    (each_with l.literals l.fn.last l.fn.coefficient)

@@ -1,57 +1,52 @@
-use Rattle.std.proofs.Common.{◌+◌, ◌-◌, ◌*◌, ◌<◌, ◌*ℤ◌, ◌∙◌, ap, sym, subst, pos, length, arith, rules}
+use Rattle.std.proofs.Common.{◌∷◌, ◌*◌, ◌+◌, ◌-◌, ◌^◌, ◌*ℤ◌, ◌∙◌, [], ap, refl, sym, pos, length, arith, rules}
 use Rattle.std.specs.Int.{w128}
 use Rattle.std.proofs.lemmas.Int.{to_z-of_z}
-use Rattle.term_table.specs.Tables.{TableContent}
-use Rattle.term_table.proofs.SmallSets.{IsTermSet-one}
-use Rattle.monomial_layer.specs.Monomials.{factor}
+use Rattle.std.proofs.lemmas.Result.{on_ok_weaker}
+use Rattle.term_table.proofs.Filling.{fills_same, room_same}
+use Rattle.monomial_layer.specs.Monomials.{each_with, factor}
+use Rattle.monomial_layer.proofs.Adding.{others_room, own_and_others, own_room}
 use Rattle.monomial_layer.proofs.Sizes.{node_weight-fits, pair_weight-fits}
-use Rattle.monomial_layer.proofs.Adding.{node_fits_more, node_added}
 use Rattle.monomial_layer.proofs.replace.add_node.Goals as goal
 
-pub add-requires-clause-set : goal.add-requires-clause-set
-add-requires-clause-set c =
-    IsTermSet-one c.args.quadratic.now.width c.args.new_node c.requires.within
-
-pub pair_weight-requires-clause-small : goal.pair_weight-requires-clause-small
-pair_weight-requires-clause-small c =
-    let back = to_z-of_z w128 c.args.coefficient c.ranges.coefficient in
-    rw back
-    (pair_weight-fits c.args.literals.now c.args.coefficient c.args.new_node c.args.place _ _ c.requires.small)
-
-pub add_each_with-requires-clause-small : goal.add_each_with-requires-clause-small
-add_each_with-requires-clause-small c =
-    let back = to_z-of_z w128 c.args.coefficient c.ranges.coefficient in
-    let weight = to_z-of_z w128 c.node_weight.result (search rules) ∙ rw back at c.node_weight.ensures in
-    let pair = to_z-of_z w128 c.pair_weight.result (search rules) ∙ rw back at c.pair_weight.ensures in
-    node_fits_more c.args.quadratic.now c.add.new.self c.args.literals.now c.args.new_node c.args.place c.args.coefficient _ _ _ weight pair c.in_ok-add.ensures.added c.requires.small
-
 pub node_weight-requires-clause-small : goal.node_weight-requires-clause-small
-node_weight-requires-clause-small c =
-    let fits = node_weight-fits c.args.literals.now c.args.coefficient _ c.args.new_node c.args.place _ _
+node_weight-requires-clause-small g c =
+    let fits = node_weight-fits c.args.literals.now c.args.coefficient _ c.args.new_node c.args.place 0 (2 ^ 124)
     (ap (λ z. z *ℤ pos (factor (length c.args.literals.now) c.args.place * (2 * c.args.place + 2) - 1))
-    (to_z-of_z w128 c.args.coefficient c.ranges.coefficient)) c.requires.small in
+    (to_z-of_z w128 c.args.coefficient c.ranges.coefficient)) (omega (arith, c.requires.small)) in
     omega (arith, fits)
 
-pub add-requires-clause-small : goal.add-requires-clause-small
-add-requires-clause-small c =
+pub pair_weight-requires-clause-small : goal.pair_weight-requires-clause-small
+pair_weight-requires-clause-small g c =
+    let back = to_z-of_z w128 c.args.coefficient c.ranges.coefficient in
+    rw back
+    (pair_weight-fits c.args.literals.now c.args.coefficient c.args.new_node c.args.place 0 (2 ^ 124) (omega (arith, c.requires.small)))
+
+pub gather-requires : goal.gather-requires
+gather-requires g c =
     let back = to_z-of_z w128 c.args.coefficient c.ranges.coefficient in
     let weight = to_z-of_z w128 c.node_weight.result (search rules) ∙ rw back at c.node_weight.ensures in
-    node_weight-fits c.args.literals.now c.args.coefficient _ c.args.new_node c.args.place _ _ weight
-    c.requires.small
+    own_room g.G.Gather.takes g.G.Gather.holds c.args.terms.now (c.args.new_node ∷ []) _ _ _ _ refl weight
+    c.requires.room
 
-pub add_each_with-requires-clause-above : goal.add_each_with-requires-clause-above
-add_each_with-requires-clause-above c = c.requires.above
-
-pub add_each_with-requires-clause-within : goal.add_each_with-requires-clause-within
-add_each_with-requires-clause-within c =
-    subst (λ (table : TableContent). c.args.new_node.variable < table.width) (sym c.in_ok-add.ensures.added)
-    c.requires.within
-
-pub returns : goal.returns
-returns c =
+pub add_each_with-requires : goal.add_each_with-requires
+add_each_with-requires g c =
     let back = to_z-of_z w128 c.args.coefficient c.ranges.coefficient in
     let weight = to_z-of_z w128 c.node_weight.result (search rules) ∙ rw back at c.node_weight.ensures in
     let pair = to_z-of_z w128 c.pair_weight.result (search rules) ∙ rw back at c.pair_weight.ensures in
-    node_added c.add_each_with.result c.args.quadratic.now c.add.new.self c.add_each_with.new.quadratic
-    c.args.literals.now c.args.new_node c.args.place c.args.coefficient _ _ weight pair
-    c.in_ok-add.ensures.added c.add_each_with.ensures
+    room_same g.G.Gather.takes c.gather.new.self _ _
+    (ap (λ z. each_with c.args.literals.now c.args.new_node z) (sym pair))
+    (others_room g.G.Gather.takes g.G.Gather.holds c.args.terms.now c.gather.new.self (c.args.new_node ∷ []) _ _ _ _
+    refl weight c.in_ok-gather.ensures.added c.in_ok-gather.ensures.takes c.requires.room)
+
+pub returns : goal.returns
+returns g c =
+    let Takes = g.G.Gather.takes in
+    let Holds = g.G.Gather.holds in
+    let back = to_z-of_z w128 c.args.coefficient c.ranges.coefficient in
+    let weight = to_z-of_z w128 c.node_weight.result (search rules) ∙ rw back at c.node_weight.ensures in
+    let pair = to_z-of_z w128 c.pair_weight.result (search rules) ∙ rw back at c.pair_weight.ensures in
+    own_and_others Takes Holds c.add_each_with.result c.args.terms.now c.gather.new.self c.add_each_with.new.terms
+    (c.args.new_node ∷ []) _ _ _ _ refl weight c.in_ok-gather.ensures.added c.in_ok-gather.ensures.takes
+    (on_ok_weaker c.add_each_with.result
+    (λ more. fills_same Takes Holds _ _ _ _ (ap (λ z. each_with c.args.literals.now c.args.new_node z) pair) more)
+    c.add_each_with.ensures)

@@ -1,10 +1,9 @@
-use Rattle.std.proofs.Common.{◌≡◌}
-use Rattle.term_table.specs.Tables.{with_more}
+use Rattle.term_table.specs.Rooms.{Fills}
 use Rattle.monomial_layer.specs.Monomials.{node_terms}
 use Rattle.monomial_layer.proofs.replace.add_nodes.Given as goal
 
 -- the terms of the nodes so far were added
 abbrev pub invariant-loop-place : goal.invariant-loop-place
-invariant-loop-place l =
-    l.quadratic
-    ≡ with_more l.fn.quadratic (node_terms l.literals l.fn.coefficient l.fn.next l.place)
+invariant-loop-place g l =
+    Fills g.G.Gather.takes g.G.Gather.holds l.fn.terms l.terms
+    (node_terms l.literals l.fn.coefficient l.fn.next l.place)

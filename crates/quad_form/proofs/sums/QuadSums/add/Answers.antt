@@ -1,0 +1,161 @@
+use Rattle.std.proofs.Common.{rules, ◌≡◌, ◌+◌, ◌*◌, ◌≤◌, ◌^◌, ◌∙◌, take, drop, ap, sym, subst, length, ℤ, ◌+ℤ◌, unsigned_abs, to_z, of_z, ◌++◌, List, Result, Ok, Err, OnErr, arith}
+use Rattle.std.specs.Int.{w128}
+use Rattle.std.proofs.lemmas.Int.{ints, to_z-of_z, fits_signed_from_abs}
+use Rattle.std.proofs.Math.Seq.{take-append_seam}
+use Rattle.std.proofs.lemmas.Result.{IfOk-from_err}
+use Rattle.bits_model.specs.declared.output.Entry.{Entry}
+use Rattle.term_table.specs.Terms.{IsTermSet}
+use Rattle.term_table.specs.Tables.{with_appended}
+use Rattle.quad_form.specs.Short.{short_shares}
+use Rattle.quad_form.specs.Sums.{SumsContent, AreSummed, Gain, IsSums, size_of}
+use Rattle.quad_form.proofs.HeldSums.{Added, few-more, fits-more, held-more}
+use Rattle.quad_form.proofs.ShortTerms.{short_constant-size}
+use Rattle.quad_form.proofs.sums.QuadSums.add.Goals.{After-unsigned_abs}
+use Rattle.quad_form.proofs.sums.QuadSums.add.Goals as goal
+
+on_err : {T E P : Type 0} (r : Result T E) → P → OnErr r P
+on_err (Ok x) p = tt
+on_err (Err e) p = p
+
+pub push_short-requires-clause-narrow : goal.push_short-requires-clause-narrow
+push_short-requires-clause-narrow c =
+    let wide = ap (λ (k : SumsContent). length k.weights) c.self.view_is in
+    λ k d inside. omega (arith, c.requires.set.set.within k d inside, c.self.invariant.narrow, wide)
+
+pub push_short-requires-clause-small : goal.push_short-requires-clause-small
+push_short-requires-clause-small c =
+    omega (arith, c.requires.small, ap unsigned_abs (to_z-of_z w128 c.args.coefficient (search rules)))
+
+pub invariant_of-self : goal.invariant_of-self
+invariant_of-self c =
+    subst (λ ps. IsSums (record { total = c.self.inside.total; constant = c.self.inside.constant; weights = c.self.inside.weights.items; pairs = ps }))
+    (sym c.in_err-push_short.ensures.unchanged) c.self.invariant
+
+pub returns-in_err-push_short-clause-added : goal.returns-in_err-push_short-clause-added
+returns-in_err-push_short-clause-added c t held = IfOk-from_err _ _ c.from_residual.ensures.0
+
+pub returns-in_err-push_short-clause-width : goal.returns-in_err-push_short-clause-width
+returns-in_err-push_short-clause-width c = IfOk-from_err _ _ c.from_residual.ensures.0
+
+pub returns-in_err-push_short-clause-total : goal.returns-in_err-push_short-clause-total
+returns-in_err-push_short-clause-total c = IfOk-from_err _ _ c.from_residual.ensures.0
+
+pub returns-in_err-push_short-clause-pairs : goal.returns-in_err-push_short-clause-pairs
+returns-in_err-push_short-clause-pairs c = IfOk-from_err _ _ c.from_residual.ensures.0
+
+pub returns-in_err-push_short-clause-unchanged : goal.returns-in_err-push_short-clause-unchanged
+returns-in_err-push_short-clause-unchanged c =
+    let held : List Entry → SumsContent = λ ps. record { total = c.self.inside.total; constant = c.self.inside.constant; weights = c.self.inside.weights.items; pairs = ps } in
+    on_err c.from_residual.result (ap held c.in_err-push_short.ensures.unchanged ∙ c.self.view_is)
+
+pub add_short_shares-requires-clause-within : goal.add_short_shares-requires-clause-within
+add_short_shares-requires-clause-within c =
+    let wide = ap (λ (k : SumsContent). length k.weights) c.self.view_is in
+    λ k d inside. omega (arith, c.requires.set.set.within k d inside, ap length c.deref_mut.ensures.value, wide)
+
+pub add_short_shares-requires-clause-small : goal.add_short_shares-requires-clause-small
+add_short_shares-requires-clause-small c =
+    omega (
+      arith,
+      c.requires.small,
+      ap unsigned_abs (to_z-of_z w128 c.args.coefficient (search rules)),
+      ap (λ (k : SumsContent). k.total) c.self.view_is,
+      c.self.invariant.weights,
+      ap size_of c.deref_mut.ensures.value,
+    )
+
+pub overflow_add-self : goal.overflow_add-self
+overflow_add-self c =
+    let z : ℤ = to_z w128 (of_z w128 c.args.coefficient) in
+    let is : z ≡ c.args.coefficient = to_z-of_z w128 c.args.coefficient (search rules) in
+    let low : c.self.inside.total + unsigned_abs z ≤ 2 ^ 122 =
+    omega (arith, c.requires.small, ap unsigned_abs is, ap (λ (k : SumsContent). k.total) c.self.view_is) in
+    fits_signed_from_abs w128 _
+    (omega (arith, ints, c.constant_of.ensures, short_constant-size (c.args.literals.now, z), c.self.invariant.constant, low))
+
+-- ---- what was added
+
+module _ (c : After-unsigned_abs) where
+  abbrev z : ℤ
+  z = to_z w128 (of_z w128 c.args.coefficient)
+
+  is : z ≡ c.args.coefficient
+  is = to_z-of_z w128 c.args.coefficient (search rules)
+
+  abbrev before : SumsContent
+  before = record { total = c.self.inside.total; constant = c.self.inside.constant; weights = c.self.inside.weights.items; pairs = c.self.inside.pairs }
+
+  abbrev after : List ℤ → SumsContent
+  after ws = record {
+    total = c.self.inside.total + c.unsigned_abs.result;
+    constant = to_z w128 (of_z w128 (to_z w128 (of_z w128 c.self.inside.constant) +ℤ to_z w128 (of_z w128 c.constant_of.result)));
+    weights = ws;
+    pairs = c.push_short.new.pairs;
+  }
+
+  low : before.total + unsigned_abs z ≤ 2 ^ 122
+  low = omega (arith, c.requires.small, ap unsigned_abs is, ap (λ (k : SumsContent). k.total) c.self.view_is)
+
+  gain : Gain (short_shares (c.args.literals.now, z)) (2 * unsigned_abs z) before.weights c.add_short_shares.new.weights
+  gain =
+      subst (λ (xs : List ℤ). Gain (short_shares (c.args.literals.now, z)) (2 * unsigned_abs z) xs c.add_short_shares.new.weights)
+      c.deref_mut.ensures.value c.add_short_shares.ensures
+
+  added : Added before (after c.add_short_shares.new.weights) c.args.literals.now z
+  added = record {
+    total = ap (λ n. c.self.inside.total + n) c.unsigned_abs.ensures.value;
+    constant = omega (arith, ints, c.constant_of.ensures, short_constant-size (c.args.literals.now, z), c.self.invariant.constant, low);
+    gain = gain;
+    pairs = c.in_ok-push_short.ensures.pushed;
+  }
+
+  set : IsTermSet (length before.weights) c.args.literals.now
+  set = subst (λ (k : SumsContent). IsTermSet (length k.weights) c.args.literals.now) (sym c.self.view_is) c.requires.set
+
+  -- the weights, as the code has them
+  whole : take c.self.inside.weights.len (c.add_short_shares.new.weights ++ drop (length c.add_short_shares.new.weights) c.self.inside.weights.items)
+      ≡ c.add_short_shares.new.weights
+  whole =
+      let ys = c.add_short_shares.new.weights in
+      let all : c.self.inside.weights.len ≡ length ys =
+      omega (arith, gain.width, c.deref_mut.ensures.len, ap length c.deref_mut.ensures.value) in
+      ap (λ n. take n (ys ++ drop (length ys) c.self.inside.weights.items)) all
+      ∙ take-append_seam ys (drop (length ys) c.self.inside.weights.items)
+
+pub returns-clause-width : goal.returns-clause-width
+returns-clause-width c =
+    let d = (goal.at.returns-clause-width c).After-unsigned_abs in
+    ap length (whole d) ∙ (gain d).width ∙ ap (λ (k : SumsContent). length k.weights) c.self.view_is
+
+pub returns-clause-total : goal.returns-clause-total
+returns-clause-total c =
+    let d = (goal.at.returns-clause-total c).After-unsigned_abs in
+    omega (
+      arith,
+      ap unsigned_abs (is d),
+      ap (λ (k : SumsContent). k.total) c.self.view_is,
+      c.unsigned_abs.ensures.value,
+    )
+
+pub returns-clause-pairs : goal.returns-clause-pairs
+returns-clause-pairs c =
+    let d = (goal.at.returns-clause-pairs c).After-unsigned_abs in
+    omega (
+      arith,
+      few-more (before d) (after d c.add_short_shares.new.weights) c.args.literals.now (z d) (set d) (added d) c.requires.short,
+      ap (λ (k : SumsContent). length k.pairs) c.self.view_is,
+    )
+
+pub invariant_of-self-2 : goal.invariant_of-self-2
+invariant_of-self-2 c =
+    let d = (goal.at.invariant_of-self-2 c).After-unsigned_abs in
+    rw (whole d)
+    (fits-more (before d) (after d c.add_short_shares.new.weights) c.args.literals.now (z d) (set d) (added d)
+    c.self.invariant (low d))
+
+pub returns-clause-added : goal.returns-clause-added
+returns-clause-added c t held =
+    let d = (goal.at.returns-clause-added c).After-unsigned_abs in
+    subst (λ xs. AreSummed (with_appended t c.args.literals.now c.args.coefficient) (after d xs)) (sym (whole d))
+    (held-more (before d) (after d c.add_short_shares.new.weights) c.args.literals.now (z d) (set d) (added d) t
+    c.args.coefficient (is d) c.requires.short (subst (AreSummed t) (sym c.self.view_is) held))
