@@ -250,3 +250,38 @@ taken_by_set {A} items lists place none is lt =
   where
     inside : place < length (map items lists)
     inside = omega (arith, lt, length-map lists items)
+
+-- ---- a list that changes, and one at the end that is taken out
+
+-- a list of a node changes, and no other
+pub heads_with : {A X : Type 0} (items : X → List A) (heads : List ℕ) (lists : List X) (place : ℕ)
+    (has : X) → AreHeads heads (map items lists) → 0 < place
+    → AreHeads heads (map items (set lists place has))
+heads_with items heads lists place has are some =
+    subst (AreHeads heads) (sym (map-set items lists place has))
+    (heads_set heads (map items lists) place (items has) are some)
+
+-- a list is taken out at the end
+pub taken_by_pop : {A X : Type 0} (items : X → List A) (lists rest : List X) (last : X) (place : ℕ)
+    → lists ≡ rest ++ last ∷ [] → place ≡ length rest → 0 < place
+    → IsTaken place (map items lists) (map items rest)
+taken_by_pop items lists rest last place is at some = record {
+  some = omega (arith, some, at, length-map rest items);
+  gone = get_or_past (map items rest) place [] (omega (arith, at, length-map rest items));
+  kept = λ k n l.
+      let low : k < length (map items rest) =
+      omega (
+        arith,
+        l,
+        n,
+        at,
+        length-map lists items,
+        length-map rest items,
+        ap length is,
+        length-append rest (last ∷ []),
+      ) in (
+        low,
+        sym (ap (λ ls. get_or ls k []) (ap (map items) is ∙ map-append items rest (last ∷ []))
+            ∙ get_or_append_left (map items rest) (items last ∷ []) [] k low),
+      );
+}

@@ -18,6 +18,7 @@ use crate::tables::{take_lesser, write_choices, write_doubled};
 use base::Lists;
 use bits_model::{ChainList, Entry, Kind, NoMemory, OutputModel};
 use std::alloc::Global;
+use std::mem;
 
 /// Makes so many steps of 0.
 fn begin_steps(into: &mut Vec<i128>, count: usize) -> Result<(), NoMemory>
@@ -126,9 +127,13 @@ fn settle<T: Number>(
     Ok(())
 }
 
-/// Memory that is used again for each node: that of its tables, and its bytes.
+/// What is taken up for one node at a time: its entries and the tables that were passed to it, its
+/// own tables and bytes, and memory that is used again.
 struct Scratch<T: Number> {
     room: Room,
+    entries: Vec<Entry>,
+    tables: Vec<Table<T>>,
+    values: Vec<T>,
     ones: Vec<T>,
     bytes: Vec<u8>,
 }
@@ -137,6 +142,9 @@ impl<T: Number> Drop for Scratch<T> {
     fn drop(self) {
         let Scratch {
             room: _room,
+            entries: _entries,
+            tables: _tables,
+            values: _values,
             ones: _ones,
             bytes: _bytes,
         } = self;
@@ -151,6 +159,9 @@ impl<T: Number> Scratch<T> {
                 steps: Vec::new(alloc),
                 places: Places::empty(alloc),
             },
+            entries: Vec::new(alloc),
+            tables: Vec::new(alloc),
+            values: Vec::new(alloc),
             ones: Vec::new(alloc),
             bytes: Vec::new(alloc),
         }
@@ -161,6 +172,7 @@ impl<T: Number> Scratch<T> {
 /// the highest of its neighbours.
 fn choose_all<T: Number>(
     alloc: Global,
+    scratch: &mut Scratch<T>,
     model: &OutputModel,
     sets: &ChainList,
     held: &mut Buckets<Entry>,
@@ -176,25 +188,24 @@ fn choose_all<T: Number>(
         sets.now (map all_bits choices.new)) }
 {
     let nodes = model.nodes as usize;
-    let mut scratch = Scratch::empty(alloc);
     for step in 0..nodes {
         let set = sets.list(step);
         let node = nodes - 1 - step;
-        let entries = held.take_last();
-        let tables: Vec<Table<T>> = waiting.take_last();
-        let mut values: Vec<T> = Vec::new(alloc);
+        scratch.entries = held.take_last();
+        scratch.tables = waiting.take_last();
         settle(
             &mut scratch.room,
-            &mut values,
+            &mut scratch.values,
             &mut scratch.ones,
             &mut scratch.bytes,
             model.kind,
             node,
             set,
-            &entries,
-            &tables,
+            &scratch.entries,
+            &scratch.tables,
         )?;
         choices.push(&scratch.bytes)?;
+        let values = mem::replace(&mut scratch.values, Vec::new(alloc));
         pass_table(alloc, waiting, set, values)?;
     }
     Ok(())
@@ -214,7 +225,16 @@ pub(crate) fn all_choices<T: Number>(
     let nodes = model.nodes as usize;
     let mut held = entries_of_nodes(alloc, nodes, &model.entries)?;
     let mut waiting: Buckets<Table<T>> = Buckets::empty(alloc, nodes)?;
+    let mut scratch = Scratch::empty(alloc);
     let mut choices = Lists::empty(alloc);
-    choose_all(alloc, model, sets, &mut held, &mut waiting, &mut choices)?;
+    choose_all(
+        alloc,
+        &mut scratch,
+        model,
+        sets,
+        &mut held,
+        &mut waiting,
+        &mut choices,
+    )?;
     Ok(choices)
 }

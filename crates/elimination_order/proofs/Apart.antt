@@ -1,16 +1,6 @@
 -- Entries of different pairs have different pairs by new numbers.
-use Rattle.std.proofs.Common.{◌≡◌, ◌≢◌, ℕ, ◌<◌, ◌≤◌, ◌^◌, min, max, Bool, true, false, refl, sym, ap, ◌∙◌, arith, List, [], ◌∷◌, ◌++◌, map}
-use Rattle.std.specs.Prelude.{⊤}
-use Rattle.std.specs.List.{AllByRecursion}
-use Rattle.std.specs.List.Sorted.{IsStrictlySortedBy}
-use Rattle.std.specs.declared.cmp.Ordering.TheVariants.{Less, Equal}
-use Rattle.std.specs.Ordering.{nat_cmp, bool_cmp, ordering_then}
-use Rattle.std.specs.Cmp.{nat_cmp_is}
-use Rattle.bits_model.specs.declared.output.Entry.{Entry}
-use Rattle.bits_model.specs.Output.{IsPlaced, entry_cmp, is_coupler}
-use Rattle.bits_model.specs.PairNumbers.{pair_number}
-use Rattle.pair_sums.proofs.PairOrder.{same_pair}
-use Rattle.elimination_order.specs.Renumbered.{AreNumbers, at_place, renumbered}
+use Rattle.elimination_order.proofs.Common.{nat_tests, ◌≡◌, ◌≢◌, ℕ, ◌≤◌, ◌^◌, arith, List, [], ◌∷◌, ◌++◌, map, ⊤, AllByRecursion, IsStrictlySortedBy, Entry, IsPlaced, entry_cmp, pair_number, AreNumbers, renumbered}
+use Rattle.std.specs.declared.cmp.Ordering.TheVariants.{Less}
 
 -- two entries are not of one pair
 abbrev pub Differ : Entry → Entry → Type 0
@@ -28,26 +18,8 @@ AreApart (e ∷ es) = AllByRecursion (λ f. pair_number e ≢ pair_number f) es 
 
 -- ---- entries in order differ
 
-same_cmp : (n : ℕ) → nat_cmp n n ≡ Equal
-same_cmp n = sym (nat_cmp_is n n Equal refl)
-
-self_cmp : (e : Entry) → entry_cmp e e ≡ Equal
-self_cmp e =
-    (λ i. ordering_then (bool_same (is_coupler e) i)
-    (ordering_then (same_cmp e.first i) (same_cmp e.second i)))
-  where
-    bool_same : (b : Bool) → bool_cmp b b ≡ Equal
-    bool_same true = refl
-    bool_same false = refl
-
 less_differ : (e f : Entry) → entry_cmp e f ≡ Less → Differ e f
-less_differ e f less one two =
-    let same : entry_cmp e f ≡ entry_cmp f f =
-    λ i. ordering_then
-    (bool_cmp (is_coupler (record f { first = one i; second = two i })) (is_coupler f))
-    (ordering_then (nat_cmp (one i) f.first) (nat_cmp (two i) f.second)) in
-    let equal : Less ≡ Equal = sym less ∙ same ∙ self_cmp f in
-    cc
+less_differ e f less one two = grind (arith, nat_tests)
 
 all_less_differ : (e : Entry) (fs : List Entry) → AllByRecursion (λ f. entry_cmp e f ≡ Less) fs
     → AllByRecursion (Differ e) fs
@@ -61,45 +33,14 @@ sorted_differ (e ∷ es) sorted = (all_less_differ e es sorted.0, sorted_differ 
 
 -- ---- by new numbers
 
-turned : (a b c d : ℕ) → min a b ≡ min c d → max a b ≡ max c d → (a ≡ c → b ≢ d) → (a ≡ d) × (b ≡ c)
-turned a b c d low high apart = (grind arith, grind arith)
-
-renumbered_differ : (n : ℕ) (names numbers : List ℕ) (e f : Entry) → AreNumbers n names numbers
-    → n ≤ 2 ^ 32 → IsPlaced n e → IsPlaced n f → Differ e f
-    → pair_number (renumbered numbers e) ≢ pair_number (renumbered numbers f)
-renumbered_differ n names numbers e f are few here there differ same =
-    let e_low : e.first < n = omega (arith, here.upward, here.within) in
-    let f_low : f.first < n = omega (arith, there.upward, there.within) in
-    let a = at_place numbers e.first in
-    let b = at_place numbers e.second in
-    let c = at_place numbers f.first in
-    let d = at_place numbers f.second in
-    let a_low : a < n = are.below e.first e_low in
-    let b_low : b < n = are.below e.second here.within in
-    let c_low : c < n = are.below f.first f_low in
-    let d_low : d < n = are.below f.second there.within in
-    let pair = same_pair (min a b) (max a b) (min c d) (max c d) (omega (arith, a_low, b_low, few))
-    (omega (arith, c_low, d_low, few)) same in
-    let cross = turned a b c d pair.0 pair.1
-    (λ one two. differ (back e.first f.first e_low f_low one) (back e.second f.second here.within there.within two)) in
-    let first : e.first ≡ f.second = back e.first f.second e_low there.within cross.0 in
-    let second : e.second ≡ f.first = back e.second f.first here.within f_low cross.1 in
-    differ (omega (arith, first, second, here.upward, there.upward))
-    (omega (arith, first, second, here.upward, there.upward))
-  where
-    back : (u v : ℕ) → u < n → v < n → at_place numbers u ≡ at_place numbers v → u ≡ v
-    back u v h k one = sym (are.named u h) ∙ ap (at_place names) one ∙ are.named v k
-
 head_apart : (n : ℕ) (names numbers : List ℕ) (e : Entry) (fs : List Entry)
     → AreNumbers n names numbers → n ≤ 2 ^ 32 → IsPlaced n e → AllByRecursion (IsPlaced n) fs
     → AllByRecursion (Differ e) fs
     → AllByRecursion (λ f. pair_number (renumbered numbers e) ≢ pair_number f)
     (map (renumbered numbers) fs)
 head_apart n names numbers e [] are few here all differ = tt
-head_apart n names numbers e (f ∷ fs) are few here all differ = (
-  renumbered_differ n names numbers e f are few here all.0 differ.0,
-  head_apart n names numbers e fs are few here all.1 differ.1,
-)
+head_apart n names numbers e (f ∷ fs) are few here all differ =
+    grind (arith, nat_tests, head_apart n names numbers e fs are few here all.1 differ.1)
 
 pub renumbered_apart : (n : ℕ) (names numbers : List ℕ) (es : List Entry)
     → AreNumbers n names numbers → n ≤ 2 ^ 32 → AllByRecursion (IsPlaced n) es → AllDiffer es

@@ -1,22 +1,7 @@
 -- States by new numbers, and their energies.
-use Rattle.std.proofs.Common.{◌≡◌, ◌≢◌, ℕ, ◌<◌, ◌≤ℤ◌, ℤ, ◌+ℤ◌, min, max, Bool, true, false, ◌&&◌, cond, refl, sym, ap, subst, ◌∙◌, arith, inl, inr, List, [], ◌∷◌, length, map}
-use Rattle.std.proofs.lemmas.Bool.{cases_lt, cases_eq, eq-eqb, ne_eqb}
-use Rattle.std.proofs.lemmas.List.{length-map, get_or-map, ext_get_or}
-use Rattle.std.proofs.lemmas.List.Elements.{recursion_from_All}
-use Rattle.std.specs.List.{AllByRecursion}
-use Rattle.base.specs.Costs.{energy}
-use Rattle.base.specs.Sums.{if_so, total_by}
-use Rattle.base.proofs.Totals.{total_by-map, total_by-IsPermutation}
-use Rattle.form_steps.specs.Least.{IsLeastState}
-use Rattle.std.specs.Ordering.{bool_cmp}
-use Rattle.std.specs.Cmp.Lexicographic.{slice_cmp}
+use Rattle.elimination_order.proofs.Common.{ints, eqb-true, nat_tests, ◌≡◌, ℕ, ◌<◌, ℤ, ◌+ℤ◌, Bool, true, false, ◌&&◌, cond, refl, sym, ap, subst, ◌∙◌, arith, List, [], ◌∷◌, length, map, cases_lt, length-map, get_or-map, ext_get_or, recursion_from_All, AllByRecursion, energy, if_so, total_by, total_by-map, total_by-IsPermutation, IsLeastState, bool_cmp, slice_cmp, Entry, Kind, Written, IsPlaced, IsWellFormed, bit_at, entry_energy, form_of, is_node, times_spin, IsFirstLeast, AreNumbers, IsRenumbered, IsFirstLeastBy, at_place, bits_by, renumbered}
 use Rattle.std.specs.declared.cmp.Ordering.TheVariants.{Greater}
-use Rattle.bits_model.specs.declared.output.Entry.{Entry}
-use Rattle.bits_model.specs.declared.output.Kind.{Kind}
 use Rattle.bits_model.specs.declared.output.Kind.TheVariants.{Qubo, Ising, Chimera}
-use Rattle.bits_model.specs.Output.{Written, IsPlaced, IsWellFormed, bit_at, entry_energy, form_of, is_node, times_spin}
-use Rattle.basic_solve.specs.FirstLeast.{IsFirstLeast}
-use Rattle.elimination_order.specs.Renumbered.{AreNumbers, IsRenumbered, IsFirstLeastBy, at_place, bits_by, renumbered}
 
 -- ---- bits
 
@@ -24,9 +9,7 @@ use Rattle.elimination_order.specs.Renumbered.{AreNumbers, IsRenumbered, IsFirst
 pub bit-carried : (n : ℕ) (names numbers : List ℕ) (y : List Bool) (v : ℕ)
     → AreNumbers n names numbers → v < n
     → bit_at (bits_by names y) (at_place numbers v) ≡ bit_at y v
-bit-carried n names numbers y v are h =
-    let low : at_place numbers v < length names = omega (arith, are.below v h, are.count) in
-    get_or-map (bit_at y) names (at_place numbers v) 0 false low ∙ ap (bit_at y) (are.named v h)
+bit-carried n names numbers y v are h = grind (arith, nat_tests, get_or-map)
 
 pub taken_back : (n : ℕ) (names numbers : List ℕ) (y : List Bool)
     → AreNumbers n names numbers → length y ≡ n → bits_by numbers (bits_by names y) ≡ y
@@ -63,54 +46,17 @@ pair_energy (Chimera rows cols shore) node p q w =
 entry-pair : (kind : Kind) (y : List Bool) (e : Entry)
     → entry_energy kind y e
     ≡ pair_energy kind (is_node e) (bit_at y e.first) (bit_at y e.second) e.weight
-entry-pair Qubo y e = refl
-entry-pair Ising y e = refl
-entry-pair (Chimera rows cols shore) y e = refl
-
-spins-turned : (node p q : Bool) (w : ℤ) → (node ≡ true → p ≡ q)
-    → cond node (times_spin p w) (times_spin p (times_spin q w))
-    ≡ cond node (times_spin q w) (times_spin q (times_spin p w))
-spins-turned true p q w same = ap (λ b. times_spin b w) (same refl)
-spins-turned false true true w same = refl
-spins-turned false true false w same = refl
-spins-turned false false true w same = refl
-spins-turned false false false w same = refl
-
-bits-turned : (p q : Bool) (w : ℤ) → if_so (p && q) w ≡ if_so (q && p) w
-bits-turned true true w = refl
-bits-turned true false w = refl
-bits-turned false true w = refl
-bits-turned false false w = refl
+entry-pair kind y e = grind (arith, nat_tests)
 
 pair-turned : (kind : Kind) (node p q : Bool) (w : ℤ) → (node ≡ true → p ≡ q)
     → pair_energy kind node p q w ≡ pair_energy kind node q p w
-pair-turned Qubo node p q w same = bits-turned p q w
-pair-turned Ising node p q w same = spins-turned node p q w same
-pair-turned (Chimera rows cols shore) node p q w same = spins-turned node p q w same
-
-false-true : false ≢ true
-false-true e = absurd cc
+pair-turned kind node p q w same = grind (arith, nat_tests, ints)
 
 -- new numbers are equal where the nodes are
 node-renumbered : (n : ℕ) (names numbers : List ℕ) (e : Entry) → AreNumbers n names numbers
     → IsPlaced n e → is_node (renumbered numbers e) ≡ is_node e
 node-renumbered n names numbers e are placed =
-    let a = at_place numbers e.first in
-    let b = at_place numbers e.second in
-    let low : e.first < n = omega (arith, placed.upward, placed.within) in
-    elim (cases_eq e.first e.second) [
-      | inl same ↦
-          let one : a ≡ b = ap (at_place numbers) same in
-          let even : min a b ≡ max a b = omega (arith, one) in
-          eq-eqb (min a b) (max a b) even ∙ sym (eq-eqb e.first e.second same)
-      | inr other ↦
-          let apart : a ≢ b =
-          λ one. other (sym (are.named e.first low)
-          ∙ ap (at_place names) one
-          ∙ are.named e.second placed.within) in
-          let uneven : min a b ≢ max a b = λ even. apart (omega (arith, even)) in
-          ne_eqb (min a b) (max a b) uneven ∙ sym (ne_eqb e.first e.second other)
-    ]
+    grind (arith, nat_tests, are.named e.second placed.within)
 
 pub entry-carried : (kind : Kind) (n : ℕ) (names numbers : List ℕ) (y : List Bool) (e : Entry)
     → AreNumbers n names numbers → IsPlaced n e
@@ -124,30 +70,7 @@ entry-carried kind n names numbers y e are placed =
     let one : bit_at z a ≡ bit_at y e.first = bit-carried n names numbers y e.first are low in
     let two : bit_at z b ≡ bit_at y e.second =
     bit-carried n names numbers y e.second are placed.within in
-    elim (cases_lt a b) [
-      | inl h ↦
-          let first : min a b ≡ a = omega (arith, h) in
-          let second : max a b ≡ b = omega (arith, h) in
-          entry-pair kind z (renumbered numbers e)
-          ∙ (λ i. pair_energy kind (node i) ((ap (bit_at z) first ∙ one) i)
-          ((ap (bit_at z) second ∙ two) i) e.weight)
-          ∙ sym (entry-pair kind y e)
-      | inr h ↦
-          let first : min a b ≡ b = omega (arith, h) in
-          let second : max a b ≡ a = omega (arith, h) in
-          entry-pair kind z (renumbered numbers e)
-          ∙ (λ i. pair_energy kind (node i) ((ap (bit_at z) first ∙ two) i)
-          ((ap (bit_at z) second ∙ one) i) e.weight)
-          ∙ pair-turned kind (is_node e) (bit_at y e.second) (bit_at y e.first) e.weight
-          (λ is. ap (bit_at y) (sym (same-node e is)))
-          ∙ sym (entry-pair kind y e)
-    ]
-  where
-    same-node : (f : Entry) → is_node f ≡ true → f.first ≡ f.second
-    same-node f is = elim (cases_eq f.first f.second) [
-      | inl same ↦ same
-      | inr other ↦ absurd (false-true (sym (ne_eqb f.first f.second other) ∙ is))
-    ]
+    grind (arith, nat_tests, cases_lt, entry-pair, pair-turned, eqb-true)
 
 entries-carried : (kind : Kind) (n : ℕ) (names numbers : List ℕ) (y : List Bool)
     → AreNumbers n names numbers → (es : List Entry) → AllByRecursion (IsPlaced n) es
@@ -184,9 +107,8 @@ least-carried names numbers m r y formed are same least = record {
       let fits : length back ≡ m.nodes = length-map numbers (bit_at x) ∙ are.counted in
       let here = energy-carried names numbers m r y formed are same least.width in
       let there = energy-carried names numbers m r back formed are same fits in
-      subst (λ v. v ≤ℤ energy (form_of r) x) (sym here)
-      (subst (λ v. energy (form_of m) y ≤ℤ v) (sym there ∙ ap (energy (form_of r)) again)
-      (least.least back fits));
+      let low = least.least back fits in
+      omega (arith, ints, ap (energy (form_of r)) again);
 }
 
 -- the first least state by new numbers, taken back
@@ -205,11 +127,9 @@ first-taken_back names numbers m r x formed are same found =
         width = fits;
         least = λ y wide.
             let here = energy-carried names numbers m r y formed are same wide in
-            let long : length (bits_by names y) ≡ r.nodes =
-            length-map names (bit_at y) ∙ are.count ∙ sym same.nodes in
-            subst (λ v. v ≤ℤ energy (form_of m) y) there
-            (subst (λ v. energy (form_of r) x ≤ℤ v) here
-            (found.least.least (bits_by names y) long));
+            let low = found.least.least (bits_by names y)
+            (length-map names (bit_at y) ∙ are.count ∙ sym same.nodes) in
+            omega (arith, ints);
       };
       first = λ y least greater.
           found.first (bits_by names y)

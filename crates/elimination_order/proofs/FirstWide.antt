@@ -1,16 +1,10 @@
 -- The first node of an order that is too wide, by its place.
-use Rattle.std.proofs.Common.{◌≡◌, ℕ, zero, suc, ◌<◌, ◌≤◌, cond, sym, ap, subst, ◌∙◌, arith, List, [], ◌∷◌, ◌++◌, length, take, append_assoc, append-nil, Some, None, refl}
-use Rattle.std.proofs.lemmas.Bool.{le-ltb, lt-ltb}
-use Rattle.bits_model.specs.Output.{Written}
-use Rattle.elimination_order.specs.Renumbered.{at_place}
-use Rattle.elimination_order.specs.Widths.{first_wide, width_after}
+use Rattle.elimination_order.proofs.Common.{nat_tests, ◌≡◌, ℕ, zero, suc, ◌<◌, ◌≤◌, sym, ap, subst, ◌∙◌, arith, List, [], ◌∷◌, ◌++◌, length, take, append_assoc, append-nil, Some, None, refl, Written, at_place, first_wide, width_after}
 
 -- a node that is not too wide is passed
 passed : (most : ℕ) (m : Written) (before vs : List ℕ) (v : ℕ) → width_after m before v ≤ most
     → first_wide most m before (v ∷ vs) ≡ first_wide most m (before ++ v ∷ []) vs
-passed most m before vs v low =
-    ap (λ b. cond b (Some (v, width_after m before v)) (first_wide most m (before ++ v ∷ []) vs))
-    (le-ltb most (width_after m before v) low)
+passed most m before vs v low = grind (arith, nat_tests)
 
 -- no node is too wide
 pub none_wide : (most : ℕ) (m : Written) (before vs : List ℕ)
@@ -33,11 +27,7 @@ pub some_wide : (most : ℕ) (m : Written) (before vs : List ℕ) (place : ℕ) 
     → first_wide most m before vs
     ≡ Some (at_place vs place, width_after m (before ++ take place vs) (at_place vs place))
 some_wide most m before [] place within wide narrow = absurd (omega (arith, within))
-some_wide most m before (v ∷ vs) zero within wide narrow =
-    let same : before ++ [] ≡ before = append-nil before in
-    ap (λ b. cond b (Some (v, width_after m before v)) (first_wide most m (before ++ v ∷ []) vs))
-    (lt-ltb most (width_after m before v) (subst (λ us. most < width_after m us v) same wide))
-    ∙ ap (λ us. Some (v, width_after m us v)) (sym same)
+some_wide most m before (v ∷ vs) zero within wide narrow = grind (arith, nat_tests, append-nil)
 some_wide most m before (v ∷ vs) (suc place) within wide narrow =
     let moved : (p : ℕ) → (before ++ v ∷ []) ++ take p vs ≡ before ++ (v ∷ take p vs) =
     λ p. append_assoc before (v ∷ []) (take p vs) in

@@ -1,17 +1,6 @@
 -- A model by new numbers is well formed, and its weights have the same sizes.
-use Rattle.std.proofs.Common.{◌≡◌, ◌≢◌, ℕ, ◌<◌, ◌==◌, Bool, true, false, ◌&&◌, ◌||◌, pos, unsigned_abs, refl, sym, ap, subst, ◌∙◌, arith, List, [], ◌∷◌, ◌++◌, map, min, max, ◌+◌}
-use Rattle.std.specs.Prelude.{All, IsTrue}
-use Rattle.std.specs.List.{AllByRecursion}
-use Rattle.std.specs.List.Sorted.{IsPermutation}
-use Rattle.std.proofs.lemmas.Bool.{and_from, and_parts, eq-eqb, eqb-true, false_from_ne_true}
-use Rattle.std.proofs.lemmas.List.Elements.{All-from_recursion, recursion_from_All}
-use Rattle.std.proofs.lemmas.List.Sorted.{list_any-IsPermutation, sum_by-IsPermutation}
-use Rattle.std.proofs.lemmas.List.Sums.{sum_by-cons}
-use Rattle.bits_model.specs.declared.output.Entry.{Entry}
-use Rattle.bits_model.specs.declared.output.Kind.{Kind}
+use Rattle.elimination_order.proofs.Common.{nat_tests, ◌≡◌, ◌≢◌, ℕ, ◌<◌, ◌==◌, Bool, true, false, ◌&&◌, ◌||◌, pos, refl, sym, ap, subst, ◌∙◌, arith, List, [], ◌∷◌, ◌++◌, map, ◌+◌, All, IsTrue, AllByRecursion, IsPermutation, All-from_recursion, recursion_from_All, list_any-IsPermutation, sum_by-IsPermutation, sum_by-cons, Entry, Kind, Written, FitsKind, IsPlaced, IsPlain, IsWellFormed, has_node, is_chained, is_coupler, weight_total, AreChainsOf, AreNumbers, FitChains, at_place, lone_chains, renumbered}
 use Rattle.bits_model.specs.declared.output.Kind.TheVariants.{Qubo, Ising, Chimera}
-use Rattle.bits_model.specs.Output.{Written, FitsKind, IsPlaced, IsPlain, IsWellFormed, has_node, is_chained, is_coupler, weight_total}
-use Rattle.elimination_order.specs.Renumbered.{AreChainsOf, AreNumbers, FitChains, at_place, lone_chains, renumbered}
 use Rattle.elimination_order.proofs.Kept.{coupler_same, shuffled_kept}
 
 -- ---- sizes
@@ -19,16 +8,11 @@ use Rattle.elimination_order.proofs.Kept.{coupler_same, shuffled_kept}
 sizes_kept : (numbers : List ℕ) (es : List Entry)
     → weight_total (map (renumbered numbers) es) ≡ weight_total es
 sizes_kept numbers [] = refl
-sizes_kept numbers (e ∷ es) =
-    sum_by-cons (λ (f : Entry). unsigned_abs f.weight) (renumbered numbers e) (map (renumbered numbers) es)
-    ∙ ap (λ n. unsigned_abs e.weight + n) (sizes_kept numbers es)
-    ∙ sym (sum_by-cons (λ (f : Entry). unsigned_abs f.weight) e es)
+sizes_kept numbers (e ∷ es) = let rest = sizes_kept numbers es in simp sum_by-cons (grind arith)
 
 pub total_kept : (numbers : List ℕ) (es fs : List Entry)
     → IsPermutation (map (renumbered numbers) es) fs → weight_total fs ≡ weight_total es
-total_kept numbers es fs moved =
-    sum_by-IsPermutation (λ (f : Entry). unsigned_abs f.weight) (map (renumbered numbers) es) fs moved
-    ∙ sizes_kept numbers es
+total_kept numbers es fs moved = grind (arith, nat_tests, sum_by-IsPermutation, sizes_kept)
 
 -- ---- entries of nodes
 
@@ -36,41 +20,11 @@ total_kept numbers es fs moved =
 abbrev is_of : ℕ → Entry → Bool
 is_of q e = (e.first == q) && (e.second == q)
 
--- two tests that pass together
-same_test : (b c : Bool) → (b ≡ true → c ≡ true) → (c ≡ true → b ≡ true) → b ≡ c
-same_test true c f g = sym (f refl)
-same_test false true f g = g refl
-same_test false false f g = refl
-
 -- an entry is of a node where its renumbered one is of the node's number
 of_same : (n : ℕ) (names numbers : List ℕ) (i : ℕ) (e : Entry) → AreNumbers n names numbers → i < n
     → IsPlaced n e → is_of i (renumbered numbers e) ≡ is_of (at_place names i) e
 of_same n names numbers i e are h placed =
-    let a = at_place numbers e.first in
-    let b = at_place numbers e.second in
-    let v = at_place names i in
-    let low : e.first < n = omega (arith, placed.upward, placed.within) in
-    let one : (a ≡ i) → e.first ≡ v = λ is. sym (are.named e.first low) ∙ ap (at_place names) is in
-    let two : (b ≡ i) → e.second ≡ v = λ is. sym (are.named e.second placed.within) ∙ ap (at_place names) is in
-    let back_one : e.first ≡ v → a ≡ i = λ is. ap (at_place numbers) is ∙ are.numbered i h in
-    let back_two : e.second ≡ v → b ≡ i = λ is. ap (at_place numbers) is ∙ are.numbered i h in
-    both (min a b) (max a b) e.first e.second i v
-    (λ x y. one (omega (arith, x, y))) (λ x y. two (omega (arith, x, y)))
-    (λ x y. let p = back_one x in let q = back_two y in omega (arith, p, q))
-    (λ x y. let p = back_one x in let q = back_two y in omega (arith, p, q))
-  where
-    both : (a b c d i v : ℕ) → (a ≡ i → b ≡ i → c ≡ v) → (a ≡ i → b ≡ i → d ≡ v)
-        → (c ≡ v → d ≡ v → a ≡ i) → (c ≡ v → d ≡ v → b ≡ i)
-        → ((a == i) && (b == i)) ≡ ((c == v) && (d == v))
-    both a b c d i v p q r s = same_test ((a == i) && (b == i)) ((c == v) && (d == v))
-        (λ is. let x = and_parts _ _ is in
-        let one = eqb-true a i x.0 in
-        let two = eqb-true b i x.1 in
-        and_from _ _ (eq-eqb c v (p one two)) (eq-eqb d v (q one two)))
-        (λ is. let x = and_parts _ _ is in
-        let one = eqb-true c v x.0 in
-        let two = eqb-true d v x.1 in
-        and_from _ _ (eq-eqb a i (r one two)) (eq-eqb b i (s one two)))
+    grind (arith, nat_tests, are.named e.second placed.within, are.numbered i h)
 
 of_listed : (n : ℕ) (names numbers : List ℕ) (i : ℕ) → AreNumbers n names numbers → i < n
     → (es : List Entry) → AllByRecursion (IsPlaced n) es
@@ -97,11 +51,7 @@ lone_filled (e ∷ es) = (λ none. absurd cc, lone_filled es)
 lone_listed : (q : ℕ) (es : List Entry) → AllByRecursion (λ e. e.first ≡ e.second) es
     → has_node es q ≡ is_chained (lone_chains es) q
 lone_listed q [] all = refl
-lone_listed q (e ∷ es) all = λ i. one (e.first == q) (e.second == q) (λ k. all.0 k == q) i || lone_listed q es all.1 i
-  where
-    one : (a b : Bool) → a ≡ b → (a && b) ≡ (a || false)
-    one true b same = sym same
-    one false b same = refl
+lone_listed q (e ∷ es) all = grind (arith, nat_tests, lone_listed q es all.1)
 
 -- nodes that are chains by themselves
 pub lone_chains_of : (es : List Entry) → All (λ e. e.first ≡ e.second) es
@@ -114,15 +64,7 @@ lone_chains_of es nodes = record {
 couplers_unlisted : (q : ℕ) (es : List Entry) → AllByRecursion (λ e. e.first < e.second) es
     → has_node es q ≡ false
 couplers_unlisted q [] all = refl
-couplers_unlisted q (e ∷ es) all =
-    (λ i. none i || couplers_unlisted q es all.1 i)
-  where
-    none : is_of q e ≡ false
-    none = false_from_ne_true _ (λ is.
-        let x = and_parts _ _ is in
-        let one = eqb-true e.first q x.0 in
-        let two = eqb-true e.second q x.1 in
-        absurd (omega (arith, one, two, all.0)))
+couplers_unlisted q (e ∷ es) all = grind (arith, nat_tests, couplers_unlisted q es all.1)
 
 listed_before : (q : ℕ) (ns es : List Entry) → has_node es q ≡ false
     → has_node (ns ++ es) q ≡ has_node ns q
@@ -138,8 +80,7 @@ IsSound n e = IsPlaced n e × (is_coupler e ≡ true → e.weight ≢ pos 0)
 sound_from : (n : ℕ) (es : List Entry) → AllByRecursion (IsPlaced n) es
     → AllByRecursion (λ e. is_coupler e ≡ true → e.weight ≢ pos 0) es → AllByRecursion (IsSound n) es
 sound_from n [] placed nonzero = tt
-sound_from n (e ∷ es) placed nonzero =
-    ((placed.0, nonzero.0), sound_from n es placed.1 nonzero.1)
+sound_from n (e ∷ es) placed nonzero = grind (arith, nat_tests, sound_from n es placed.1 nonzero.1)
 
 nonzero_kept : (n : ℕ) (names numbers : List ℕ) (es fs : List Entry) → AreNumbers n names numbers
     → All (IsPlaced n) es → All (λ e. is_coupler e ≡ true → e.weight ≢ pos 0) es

@@ -1,14 +1,5 @@
 -- What entries keep by new numbers: nodes are nodes, couplers are couplers, and all are placed.
-use Rattle.std.proofs.Common.{◌≡◌, ◌≢◌, ℕ, ◌<◌, ◌≤◌, min, max, sym, ap, subst, ◌∙◌, arith, inl, inr, List, [], ◌∷◌, ◌++◌, map, All, IfOk, Ok, Err, Result}
-use Rattle.std.specs.List.{AllByRecursion}
-use Rattle.std.specs.List.Sorted.{IsPermutation}
-use Rattle.std.proofs.lemmas.Bool.{cases_eq, le-ltb, lt-ltb}
-use Rattle.std.proofs.lemmas.List.{map-append}
-use Rattle.std.proofs.lemmas.List.Elements.{All-from_recursion, recursion_from_All}
-use Rattle.std.proofs.lemmas.List.Sorted.{All-permutation, IsPermutation-append}
-use Rattle.bits_model.specs.declared.output.Entry.{Entry}
-use Rattle.bits_model.specs.Output.{IsPlaced, is_coupler}
-use Rattle.elimination_order.specs.Renumbered.{AreNumbers, at_place, renumbered}
+use Rattle.elimination_order.proofs.Common.{nat_tests, ◌≡◌, ℕ, ◌<◌, min, max, sym, ap, subst, arith, List, [], ◌∷◌, ◌++◌, map, All, IfOk, Result, AllByRecursion, IsPermutation, map-append, All-from_recursion, recursion_from_All, All-permutation, IsPermutation-append, Entry, IsPlaced, is_coupler, AreNumbers, at_place, renumbered}
 
 -- what each entry keeps, all keep, in whatever order they come to stand
 kept_by_all : (numbers : List ℕ) (P Q : Entry → Type 0)
@@ -43,13 +34,7 @@ coupler_kept : (n : ℕ) (names numbers : List ℕ) (e : Entry) → AreNumbers n
     → min (at_place numbers e.first) (at_place numbers e.second)
     < max (at_place numbers e.first) (at_place numbers e.second)
 coupler_kept n names numbers e are pair =
-    let low : e.first < n = omega (arith, pair.0, pair.1) in
-    let apart : at_place numbers e.first ≢ at_place numbers e.second =
-    λ one.
-    let same : e.first ≡ e.second =
-    sym (are.named e.first low) ∙ ap (at_place names) one ∙ are.named e.second pair.1 in
-    absurd (omega (arith, pair.0, same)) in
-    omega (arith, apart)
+    grind (arith, nat_tests, are.named e.first (omega (arith, pair.0, pair.1)), are.named e.second pair.1)
 
 pairs_below : (n : ℕ) (ns es : List Entry) → AllByRecursion (IsPlaced n) (ns ++ es)
     → AllByRecursion (λ e. e.first < e.second) es → AllByRecursion (IsCouplerBelow n) es
@@ -80,23 +65,7 @@ all_shuffled_by numbers ns es ms fs p q =
 pub coupler_same : (n : ℕ) (names numbers : List ℕ) (e : Entry) → AreNumbers n names numbers
     → IsPlaced n e → is_coupler (renumbered numbers e) ≡ is_coupler e
 coupler_same n names numbers e are placed =
-    let a = at_place numbers e.first in
-    let b = at_place numbers e.second in
-    let low : e.first < n = omega (arith, placed.upward, placed.within) in
-    elim (cases_eq e.first e.second) [
-      | inl same ↦
-          let one : a ≡ b = ap (at_place numbers) same in
-          let even : max a b ≤ min a b = omega (arith, one) in
-          le-ltb (min a b) (max a b) even ∙ sym (le-ltb e.first e.second (omega (arith, same)))
-      | inr other ↦
-          let apart : a ≢ b =
-          λ one. other (sym (are.named e.first low)
-          ∙ ap (at_place names) one
-          ∙ are.named e.second placed.within) in
-          let rising : min a b < max a b = omega (arith, apart) in
-          let up : e.first < e.second = omega (arith, placed.upward, other) in
-          lt-ltb (min a b) (max a b) rising ∙ sym (lt-ltb e.first e.second up)
-    ]
+    grind (arith, nat_tests, are.named e.second placed.within)
 
 -- the entries by new numbers are placed
 pub placed_kept : (n : ℕ) (names numbers : List ℕ) (es fs : List Entry)
@@ -113,5 +82,4 @@ placed_kept n names numbers es fs are placed moved =
 
 pub ok_weaker : {T E : Type 0} (P Q : T → Type 0) (r : Result T E) → ((x : T) → P x → Q x)
     → IfOk r P → IfOk r Q
-ok_weaker P Q (Ok x) f h = f x h
-ok_weaker P Q (Err e) f h = h
+ok_weaker P Q r f h = grind (arith, nat_tests)

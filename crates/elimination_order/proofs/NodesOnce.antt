@@ -1,19 +1,6 @@
 -- An order that was read names each node once.
-use Rattle.std.proofs.Common.{◌≡◌, ℕ, ◌<◌, Bool, true, false, not, ◌&&◌, ◌||◌, eqb, refl, sym, ap, subst, ◌∙◌, arith, inl, inr, List, [], ◌∷◌, ◌++◌, length, reverse, append_assoc, append-nil, Ok, Err, is_ok, nat_lt, ◌==◌, if◌then◌else◌}
-use Rattle.std.specs.Prelude.{Result}
-use Rattle.std.specs.List.{AllByRecursion, IsDistinct, list_any}
-use Rattle.std.specs.Cmp.{nat_eq_equiv}
-use Rattle.std.proofs.lemmas.Bool.{cases_lt, cases_eq, eq-eqb, ne_eqb, eqb-true, le-ltb, false≢true}
-use Rattle.std.proofs.lemmas.List.Elements.{All-from_recursion}
-use Rattle.std.proofs.lemmas.Map.Keys.{IsDistinct-push, IsDistinct-from_apart, IsDistinct-IsPermutation}
-use Rattle.std.proofs.lemmas.List.{length-reverse}
-use Rattle.std.proofs.lemmas.List.Sorted.{IsPermutation-reverse, All-permutation}
-use Rattle.bits_model.specs.Walks.{is_in}
+use Rattle.elimination_order.proofs.Common.{nat_tests, ◌≡◌, ℕ, ◌<◌, Bool, true, false, ◌||◌, eqb, refl, ap, subst, ◌∙◌, arith, List, [], ◌∷◌, ◌++◌, length, reverse, append_assoc, append-nil, Ok, Err, is_ok, ◌==◌, if◌then◌else◌, Result, AllByRecursion, IsDistinct, list_any, nat_eq_equiv, eqb-true, false≢true, All-from_recursion, IsDistinct-push, IsDistinct-from_apart, IsDistinct-IsPermutation, length-reverse, IsPermutation-reverse, All-permutation, is_in, TextFault, Word, ◌>>=◌, end_line, fault, AreNodes, all_named, new_node, nodes_at, order_of}
 use Rattle.whole_text.specs.declared.faults.TextKind.TheVariants as kinds
-use Rattle.whole_text.specs.declared.faults.TextFault.{TextFault}
-use Rattle.whole_text.specs.Tokens.{Word}
-use Rattle.whole_text.specs.Steps.{◌>>=◌, end_line, fault, natural_at}
-use Rattle.elimination_order.specs.Orders.{AreNodes, all_named, new_node, nodes_at, order_of}
 
 -- the value of a result, or another
 abbrev value_or : {A : Type 0} → A → Result A TextFault → A
@@ -22,43 +9,15 @@ value_or d (Err f) = d
 
 test_passed : {A : Type 0} (b : Bool) (x y : A) (f : TextFault) → (if b then Ok x else Err f) ≡ Ok y
     → (b ≡ true) × (x ≡ y)
-test_passed true x y f is = (refl, ap (value_or x) is)
-test_passed false x y f is = absurd (false≢true (ap is_ok is))
-
-both_passed : (a b : Bool) → (a && not b) ≡ true → (a ≡ true) × (b ≡ false)
-both_passed true true is = absurd (false≢true is)
-both_passed true false is = (refl, refl)
-both_passed false b is = absurd (false≢true is)
-
-lower : (k n : ℕ) → nat_lt k n ≡ true → k < n
-lower k n is = elim (cases_lt k n) [
-  | inl h ↦ h
-  | inr h ↦ absurd (false≢true (sym (le-ltb k n h) ∙ is))
-]
+test_passed b x y f is = grind (arith, nat_tests)
 
 -- a node that was read is one of them, and new
 new_facts : (n : ℕ) (named : List ℕ) (w : Word) (m : ℕ) → new_node n named w ≡ Ok m
     → (m < n) × (is_in named m ≡ false)
-new_facts n named w m read = go (natural_at 0 w) read
-  where
-    go : (r : Result ℕ TextFault)
-        → (r >>= (λ k. if nat_lt k n && not (is_in named k)
-        then Ok k
-        else Err (fault kinds.Range w.line))) ≡ Ok m
-        → (m < n) × (is_in named m ≡ false)
-    go (Err f) is = absurd (false≢true (ap is_ok is))
-    go (Ok k) is =
-        let t = test_passed (nat_lt k n && not (is_in named k)) k m (fault kinds.Range w.line) is in
-        let b = both_passed (nat_lt k n) (is_in named k) t.0 in (
-          subst (λ v. v < n) t.1 (lower k n b.0),
-          subst (λ v. is_in named v ≡ false) t.1 b.1,
-        )
+new_facts n named w m read = grind (arith, nat_tests)
 
 pub eqb_flips : (m x : ℕ) → eqb m x ≡ eqb x m
-eqb_flips m x = elim (cases_eq m x) [
-  | inl same ↦ eq-eqb m x same ∙ sym (eq-eqb x m (sym same))
-  | inr other ↦ ne_eqb m x other ∙ sym (ne_eqb x m (λ same. other (sym same)))
-]
+eqb_flips m x = grind (arith, nat_tests)
 
 pub in_flips : (xs : List ℕ) (m : ℕ) → list_any (eqb m) xs ≡ is_in xs m
 in_flips [] m = refl
@@ -82,9 +41,7 @@ Later n named ws =
 nodes_once : (n : ℕ) (named : List ℕ) (ws : List Word) (vs : List ℕ) → nodes_at n named ws ≡ Ok vs
     → Once n named → Once n (named ++ vs)
 unfolding nodes_at
-nodes_once n named [] vs read once =
-    let none : [] ≡ vs = ap (value_or []) read in
-    subst (λ us. Once n (named ++ us)) none (subst (Once n) (sym (append-nil named)) once)
+nodes_once n named [] vs read once = grind (arith, nat_tests, append-nil)
 nodes_once n named (w ∷ ws) vs read once =
     first (λ m us said all. nodes_once n (named ++ m ∷ []) ws us said all)
     (new_node n named w) refl read

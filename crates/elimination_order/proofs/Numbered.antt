@@ -1,12 +1,5 @@
 -- The numbers of nodes, where each node has a number.
-use Rattle.std.proofs.Common.{◌≡◌, ◌≢◌, ℕ, suc, ◌+◌, ◌<◌, ◌≤◌, Bool, true, false, ◌||◌, eqb, refl, sym, ap, subst, ◌∙◌, arith, inl, inr, List, [], ◌∷◌, length, set, get_or-set_other, get_or-set_same}
-use Rattle.std.specs.List.{AllByRecursion, list_any}
-use Rattle.std.proofs.lemmas.Bool.{cases_eq, eqb-false, ne_eqb, false≢true}
-use Rattle.std.proofs.lemmas.List.Elements.{All-from_recursion, recursion_from_All}
-use Rattle.std.proofs.lemmas.Map.Keys.{IsDistinct-cons, apart_from_distinct}
-use Rattle.std.proofs.lemmas.Map.Steps.{length-le_from_distinct_below}
-use Rattle.elimination_order.specs.Orders.{AreNodes}
-use Rattle.elimination_order.specs.Renumbered.{AreNumbers, at_place}
+use Rattle.elimination_order.proofs.Common.{nat_tests, ◌≡◌, ◌≢◌, ℕ, suc, ◌+◌, ◌<◌, ◌≤◌, Bool, true, false, ◌||◌, eqb, refl, sym, ap, subst, ◌∙◌, arith, inl, inr, List, [], ◌∷◌, length, set, get_or-set_other, get_or-set_same, AllByRecursion, list_any, cases_eq, ne_eqb, false≢true, All-from_recursion, recursion_from_All, IsDistinct-cons, apart_from_distinct, length-le_from_distinct_below, AreNodes, AreNumbers, at_place}
 
 -- a place of a number
 pub record Place (v : ℕ) (xs : List ℕ) : Type 0 where
@@ -24,8 +17,7 @@ found v (x ∷ xs) e = elim (cases_eq v x) [
 ]
 
 neither : (a b : Bool) → (a || b) ≡ false → (a ≡ false) × (b ≡ false)
-neither true b is = absurd (false≢true (sym is))
-neither false b is = (refl, is)
+neither a b is = (grind arith, grind arith)
 
 absent : (v : ℕ) (xs : List ℕ) → list_any (eqb v) xs ≡ false
     → AllByRecursion (λ x. eqb v x ≡ false) xs
@@ -72,18 +64,10 @@ pub numbers_more : (n : ℕ) (names numbers : List ℕ) (k : ℕ) → AreNodes n
     → ((j : ℕ) → j < k → at_place numbers (at_place names j) ≡ j)
     → (j : ℕ) → j < k + 1 → at_place (set numbers (at_place names k) k) (at_place names j) ≡ j
 numbers_more n names numbers k are long h so_far j l =
-    let here : at_place names k < length numbers =
-    omega (arith, long, are.below k 0 (omega (arith, h, are.count))) in
-    elim (cases_eq j k) [
-      | inl same ↦
-          ap (λ i. at_place (set numbers (at_place names k) k) (at_place names i)) same
-          ∙ get_or-set_same numbers (at_place names k) k 0 here
-          ∙ sym same
-      | inr other ↦
-          let before : j < k = omega (arith, l, other) in
-          let apart : at_place names j ≢ at_place names k =
-          eqb-false (at_place names j) (at_place names k)
-          (apart_from_distinct eqb names j k 0 are.apart before (omega (arith, h, are.count))) in
-          get_or-set_other numbers (at_place names k) (at_place names j) k 0 apart
-          ∙ so_far j before
-    ]
+    let low = are.below k 0 (omega (arith, h, are.count)) in
+    let apart : j < k → eqb (at_place names j) (at_place names k) ≡ false =
+    λ less. apart_from_distinct eqb names j k 0 are.apart less (omega (arith, h, are.count)) in
+    let same = get_or-set_same numbers (at_place names k) k 0 in
+    let other = get_or-set_other numbers (at_place names k) (at_place names j) k 0 in
+    let before = so_far j in
+    grind (arith, nat_tests)

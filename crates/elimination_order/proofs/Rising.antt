@@ -1,20 +1,6 @@
 -- Entries that are sorted, no two of them of one pair, are in order: those of nodes, and then couplers.
-use Rattle.std.proofs.Common.{◌≡◌, ◌≢◌, ℕ, suc, ◌+◌, ◌<◌, ◌≤◌, ◌^◌, Bool, true, false, cond, refl, sym, ap, subst, ◌∙◌, arith, inl, inr, List, [], ◌∷◌, ◌++◌, map}
-use Rattle.std.specs.Prelude.{All, ◌==◌, count_by}
-use Rattle.std.specs.List.{AllByRecursion}
-use Rattle.std.specs.List.Sorted.{IsPermutation, IsNonDecreasingBy, IsStrictlySortedBy}
-use Rattle.std.specs.Cmp.{nat_cmp_is}
-use Rattle.std.specs.Ordering.{nat_cmp, ordering_then}
+use Rattle.elimination_order.proofs.Common.{nat_tests, ◌≡◌, ◌≢◌, ℕ, suc, ◌+◌, ◌<◌, ◌≤◌, ◌^◌, cond, refl, subst, arith, inl, inr, List, [], ◌∷◌, ◌++◌, map, All, ◌==◌, count_by, AllByRecursion, IsPermutation, IsNonDecreasingBy, IsStrictlySortedBy, cases_eq, All-from_recursion, recursion_from_All, sum_by-IsPermutation, sum_by-cons, Entry, IsPlaced, entry_cmp, pair_number, ArePairs, Before, Rises, ordered_from_rising, AreNumbers, renumbered}
 use Rattle.std.specs.declared.cmp.Ordering.TheVariants.{Less}
-use Rattle.std.proofs.lemmas.Bool.{cases_eq, eq-eqb, ne_eqb, lt-ltb, le-ltb}
-use Rattle.std.proofs.lemmas.List.Elements.{All-from_recursion, recursion_from_All}
-use Rattle.std.proofs.lemmas.List.Sorted.{sum_by-IsPermutation}
-use Rattle.std.proofs.lemmas.List.Sums.{sum_by-cons}
-use Rattle.bits_model.specs.declared.output.Entry.{Entry}
-use Rattle.bits_model.specs.Output.{IsPlaced, entry_cmp}
-use Rattle.bits_model.specs.PairNumbers.{pair_number}
-use Rattle.pair_sums.proofs.PairOrder.{ArePairs, Before, Rises, ordered_from_rising}
-use Rattle.elimination_order.specs.Renumbered.{AreNumbers, renumbered}
 use Rattle.elimination_order.proofs.Kept.{placed_kept}
 use Rattle.elimination_order.proofs.Apart.{AreApart, all_front, all_rest, differ_front, differ_rest, renumbered_apart, sorted_differ}
 
@@ -28,69 +14,32 @@ numbered-cons : (n : ℕ) (e : Entry) (es : List Entry)
     → numbered n (e ∷ es) ≡ cond (pair_number e == n) 1 0 + numbered n es
 numbered-cons n e es = sum_by-cons (λ f. cond (pair_number f == n) 1 0) e es
 
-one_more : (b : Bool) (m : ℕ) → b ≡ true → cond b 1 0 + m ≡ suc m
-one_more true m is = omega arith
-one_more false m is = absurd cc
-
-no_more : (b : Bool) (m : ℕ) → b ≡ false → cond b 1 0 + m ≡ m
-no_more true m is = absurd cc
-no_more false m is = omega arith
-
 none_numbered : (n : ℕ) (es : List Entry) → AllByRecursion (λ f. n ≢ pair_number f) es
     → numbered n es ≡ 0
 none_numbered n [] all = refl
-none_numbered n (e ∷ es) all =
-    numbered-cons n e es
-    ∙ no_more (pair_number e == n) (numbered n es)
-    (ne_eqb (pair_number e) n (λ same. all.0 (sym same)))
-    ∙ none_numbered n es all.1
+none_numbered n (e ∷ es) all = grind (arith, nat_tests, none_numbered n es all.1)
 
 -- entries of different pairs have each number at most once
 few_numbered : (es : List Entry) → AreApart es → (n : ℕ) → numbered n es ≤ 1
 few_numbered [] apart n = omega arith
-few_numbered (e ∷ es) apart n = elim (cases_eq (pair_number e) n) [
-  | inl same ↦
-      omega (
-        arith,
-        numbered-cons n e es,
-        one_more (pair_number e == n) (numbered n es) (eq-eqb (pair_number e) n same),
-        none_numbered n es (subst (λ m. AllByRecursion (λ f. m ≢ pair_number f) es) same apart.0),
-      )
-  | inr other ↦
-      omega (
-        arith,
-        numbered-cons n e es,
-        no_more (pair_number e == n) (numbered n es) (ne_eqb (pair_number e) n other),
-        few_numbered es apart.1 n,
-      )
-]
+few_numbered (e ∷ es) apart n =
+    let cons = numbered-cons n e es in
+    let few = few_numbered es apart.1 n in
+    elim (cases_eq (pair_number e) n) [
+      | inl same ↦
+          let none = none_numbered n es
+          (subst (λ m. AllByRecursion (λ f. m ≢ pair_number f) es) same apart.0) in
+          grind (arith, nat_tests)
+      | inr other ↦ grind (arith, nat_tests)
+    ]
 
 -- a number that none of them has, and that is not above theirs, is below theirs
 below_all : (n : ℕ) (es : List Entry) → AllByRecursion (λ f. n ≤ pair_number f) es
     → numbered n es ≡ 0 → AllByRecursion (λ f. n < pair_number f) es
 below_all n [] up none = tt
-below_all n (e ∷ es) up none = elim (cases_eq (pair_number e) n) [
-  | inl same ↦
-      absurd (omega (
-        arith,
-        none,
-        numbered-cons n e es,
-        one_more (pair_number e == n) (numbered n es) (eq-eqb (pair_number e) n same),
-      ))
-  | inr other ↦ (
-    less n (pair_number e) up.0 other,
-    below_all n es up.1
-        (omega (
-          arith,
-          none,
-          numbered-cons n e es,
-          no_more (pair_number e == n) (numbered n es) (ne_eqb (pair_number e) n other),
-        )),
-  )
-]
-  where
-    less : (m n : ℕ) → m ≤ n → (n ≢ m) → m < n
-    less m n le other = grind arith
+below_all n (e ∷ es) up none =
+    let cons = numbered-cons n e es in
+    let low = up.0 in (grind (arith, nat_tests), below_all n es up.1 (grind (arith, nat_tests)))
 
 -- sorted entries of different pairs rise
 rises_from_sorted : (es : List Entry) → IsNonDecreasingBy pair_number es
@@ -98,24 +47,15 @@ rises_from_sorted : (es : List Entry) → IsNonDecreasingBy pair_number es
 rises_from_sorted [] sorted few = tt
 rises_from_sorted (e ∷ es) sorted few =
     let n = pair_number e in
-    let none : numbered n es ≡ 0 =
-    omega (
-      arith,
-      few n,
-      numbered-cons n e es,
-      one_more (n == n) (numbered n es) (eq-eqb n n refl),
-    ) in (
+    let cons = numbered-cons n e es in
+    let once = few n in (
       below_all n es
           (recursion_from_All _ es (λ k d in'. sorted 0 (suc k) d (omega arith) (omega (arith, in'))))
-          none,
+          (grind (arith, nat_tests)),
       rises_from_sorted es
           (λ i j d le in'. sorted (suc i) (suc j) d (omega (arith, le)) (omega (arith, in')))
-          (λ m. fewer (pair_number e == m) (numbered m es) (numbered m (e ∷ es)) (numbered-cons m e es) (few m)),
+          (λ m. omega (arith, numbered-cons m e es, few m)),
     )
-  where
-    fewer : (b : Bool) (m n : ℕ) → n ≡ cond b 1 0 + m → n ≤ 1 → m ≤ 1
-    fewer true m n is few = omega (arith, is, few)
-    fewer false m n is few = omega (arith, is, few)
 
 -- sorted anew, entries of different pairs rise
 pub shuffled_rises : (es fs : List Entry) → AreApart es → IsPermutation es fs
@@ -139,15 +79,11 @@ AreCouplers es = AllByRecursion (λ e. e.first < e.second) es
 -- a node is before a node with a greater number
 node_before : (e f : Entry) → e.first ≡ e.second → f.first ≡ f.second
     → pair_number e < pair_number f → entry_cmp e f ≡ Less
-node_before e f one two less =
-    let rising : e.first < f.first = omega (arith, one, two, less) in
-    rw (le-ltb e.first e.second (omega (arith, one)), le-ltb f.first f.second (omega (arith, two)))
-    (ap (λ o. ordering_then o (nat_cmp e.second f.second)) (sym (nat_cmp_is e.first f.first Less rising)))
+node_before e f one two less = grind (arith, nat_tests)
 
 -- .. and before a coupler
 coupler_after : (e f : Entry) → e.first ≡ e.second → f.first < f.second → entry_cmp e f ≡ Less
-coupler_after e f one up =
-    rw (le-ltb e.first e.second (omega (arith, one)), lt-ltb f.first f.second up) refl
+coupler_after e f one up = grind (arith, nat_tests)
 
 before_couplers : (e : Entry) (fs : List Entry) → e.first ≡ e.second → AreCouplers fs
     → AllByRecursion (λ f. entry_cmp e f ≡ Less) fs
@@ -170,9 +106,7 @@ nodes_then (e ∷ es) fs nodes up rises sorted =
 pairs_from : (n : ℕ) (fs : List Entry) → n ≤ 2 ^ 32 → AreCouplers fs
     → AllByRecursion (IsPlaced n) fs → ArePairs fs
 pairs_from n [] few up all = tt
-pairs_from n (f ∷ fs) few up all =
-    let within = all.0.within in
-    (record { upward = up.0; within = omega (arith, within, few) }, pairs_from n fs few up.1 all.1)
+pairs_from n (f ∷ fs) few up all = grind (arith, nat_tests, pairs_from n fs few up.1 all.1)
 
 -- ---- by new numbers
 

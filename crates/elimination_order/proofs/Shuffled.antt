@@ -1,12 +1,5 @@
 -- Nodes, each once, in any order: they are the numbers from 0 on, shuffled.
-use Rattle.std.proofs.Common.{◌≡◌, ℕ, suc, ◌+◌, ◌<◌, ◌≤◌, Bool, true, false, ◌||◌, eqb, refl, sym, ap, subst, ◌∙◌, arith, inl, inr, List, [], ◌∷◌, length, get_or, remove}
-use Rattle.std.specs.List.{AllByRecursion, IsDistinct, list_any, range_with_len}
-use Rattle.std.specs.List.Sorted.{IsPermutation}
-use Rattle.std.proofs.lemmas.Bool.{cases_eq, cases_lt, eq-eqb, ne_eqb, false≢true}
-use Rattle.std.proofs.lemmas.List.FromFn.{length-range_with_len, get_or-range_with_len}
-use Rattle.std.proofs.lemmas.List.Folds.{list_any_at}
-use Rattle.std.proofs.lemmas.List.Sorted.{IsPermutation-refl, IsPermutation-cons, IsPermutation-sym, IsPermutation-trans, IsPermutation-remove, list_any-IsPermutation}
-use Rattle.std.proofs.lemmas.Map.Keys.{IsDistinct-IsPermutation, IsDistinct-from_apart}
+use Rattle.elimination_order.proofs.Common.{false_from_ne_true, nat_tests, ◌≡◌, ℕ, suc, ◌<◌, ◌≤◌, true, false, ◌||◌, eqb, refl, sym, ap, ◌∙◌, arith, inl, inr, List, [], ◌∷◌, length, get_or, remove, AllByRecursion, IsDistinct, list_any, range_with_len, IsPermutation, cases_eq, cases_lt, eq-eqb, ne_eqb, false≢true, length-range_with_len, get_or-range_with_len, list_any_at, IsPermutation-refl, IsPermutation-cons, IsPermutation-sym, IsPermutation-trans, IsPermutation-remove, list_any-IsPermutation, IsDistinct-IsPermutation, IsDistinct-from_apart}
 use Rattle.elimination_order.proofs.NodesOnce.{eqb_flips}
 
 -- a place of a number, whatever stands past the end
@@ -44,21 +37,12 @@ AreAlike xs ys = (q : ℕ) → list_any (eqb q) xs ≡ list_any (eqb q) ys
 
 alike_rest : (x : ℕ) (xs rest : List ℕ) → AreAlike (x ∷ xs) (x ∷ rest)
     → list_any (eqb x) xs ≡ false → list_any (eqb x) rest ≡ false → AreAlike xs rest
-alike_rest x xs rest alike none gone q = elim (cases_eq q x) [
-  | inl same ↦
-      subst (λ v. list_any (eqb v) xs ≡ list_any (eqb v) rest) (sym same) (none ∙ sym gone)
-  | inr other ↦
-      let no = ne_eqb q x other in
-      sym (ap (λ b. b || list_any (eqb q) xs) no)
-      ∙ alike q
-      ∙ ap (λ b. b || list_any (eqb q) rest) no
-]
+alike_rest x xs rest alike none gone q = let at = alike q in grind (arith, nat_tests)
 
 pub shuffled_alike : (xs ys : List ℕ) → IsDistinct eqb xs → IsDistinct eqb ys → AreAlike xs ys
     → IsPermutation xs ys
 shuffled_alike [] [] d e alike = IsPermutation-refl []
-shuffled_alike [] (y ∷ ys) d e alike =
-    absurd (false≢true (alike y ∙ ap (λ b. b || list_any (eqb y) ys) (eq-eqb y y refl)))
+shuffled_alike [] (y ∷ ys) d e alike = grind (arith, nat_tests, eq-eqb y y refl)
 shuffled_alike (x ∷ xs) ys d e alike =
     let has : list_any (eqb x) ys ≡ true =
     sym (alike x) ∙ ap (λ b. b || list_any (eqb x) xs) (eq-eqb x x refl) in
@@ -78,8 +62,7 @@ shuffled_alike (x ∷ xs) ys d e alike =
 -- ---- the numbers from 0 on
 
 pub at_range : (n i d : ℕ) → i < n → get_or (range_with_len 0 n) i d ≡ i
-at_range n i d h =
-    let start : 0 + i ≡ i = omega arith in get_or-range_with_len 0 n i d h ∙ start
+at_range n i d h = grind (arith, nat_tests, get_or-range_with_len)
 
 range_distinct : (n : ℕ) → IsDistinct eqb (range_with_len 0 n)
 range_distinct n =
@@ -102,13 +85,9 @@ member n xs q all h =
     list_any_at (eqb q) xs p.at 0 p.within (ap (eqb q) (p.is 0) ∙ eq-eqb q q refl)
 
 no_member : (n : ℕ) (xs : List ℕ) (q : ℕ) → IsAll n xs → n ≤ q → list_any (eqb q) xs ≡ false
-no_member n xs q all h = go (list_any (eqb q) xs) refl
-  where
-    go : (b : Bool) → list_any (eqb q) xs ≡ b → list_any (eqb q) xs ≡ false
-    go false e = e
-    go true e =
-        let p = member_at q xs e in
-        absurd (omega (arith, h, all.1 p.at 0 (omega (arith, p.within, all.0)), p.is 0))
+no_member n xs q all h = false_from_ne_true _ (λ e.
+    let p = member_at q xs e in
+    omega (arith, h, all.1 p.at 0 (omega (arith, p.within, all.0)), p.is 0))
 
 pub shuffled_range : (n : ℕ) (xs : List ℕ) → IsDistinct eqb xs → IsAll n xs
     → IsPermutation (range_with_len 0 n) xs

@@ -1,35 +1,15 @@
 -- The widths of nodes by new numbers are their widths in the order.
-use Rattle.std.proofs.Common.{◌≡◌, ℕ, zero, suc, ◌+◌, ◌-◌, ◌<◌, ◌≤◌, min, max, Bool, true, false, cond, not, ◌&&◌, ◌||◌, eqb, refl, sym, ap, subst, ◌∙◌, arith, inl, inr, List, [], ◌∷◌, ◌++◌, length, take, map, reverse, get_or, sum_by, count_by, Some, None}
-use Rattle.std.specs.List.{AllByRecursion, IsDistinct, list_any, range_with_len}
-use Rattle.std.proofs.lemmas.Bool.{cases_eq, cases_lt, eq-eqb, ne_eqb}
-use Rattle.std.proofs.lemmas.List.{length-map, get_or-map, ext_get_or, take_more, length-reverse, get_or-reverse}
-use Rattle.std.proofs.lemmas.List.Elements.{recursion_from_All}
-use Rattle.std.proofs.lemmas.List.FromFn.{length-range_with_len}
-use Rattle.std.proofs.lemmas.List.Sums.{sum_by-cons}
-use Rattle.std.proofs.lemmas.List.Sorted.{list_any-IsPermutation, sum_by-IsPermutation}
-use Rattle.std.proofs.lemmas.Map.Keys.{IsDistinct-from_apart}
-use Rattle.bits_model.specs.declared.output.Entry.{Entry}
-use Rattle.bits_model.specs.Output.{Written, IsPlaced, IsWellFormed}
-use Rattle.basic_solve.specs.Widths.{IsFirstWider, IsWithinWidth, after, coupled, names_both, width, without}
-use Rattle.elimination_order.specs.Renumbered.{AreNumbers, IsRenumbered, at_place, renumbered}
-use Rattle.elimination_order.specs.Widths.{after_nodes, first_wide, width_after}
+use Rattle.elimination_order.proofs.Common.{nat_tests, ◌≡◌, ℕ, zero, suc, ◌+◌, ◌-◌, ◌<◌, ◌≤◌, min, max, Bool, cond, not, ◌&&◌, ◌||◌, eqb, refl, sym, ap, subst, ◌∙◌, arith, List, [], ◌∷◌, ◌++◌, length, take, map, reverse, get_or, sum_by, count_by, Some, None, AllByRecursion, IsDistinct, list_any, range_with_len, ne_eqb, length-map, get_or-map, ext_get_or, take_more, length-reverse, get_or-reverse, recursion_from_All, length-range_with_len, sum_by-cons, list_any-IsPermutation, sum_by-IsPermutation, IsDistinct-from_apart, Entry, Written, IsPlaced, IsWellFormed, IsFirstWider, IsWithinWidth, after, coupled, names_both, width, without, AreNumbers, IsRenumbered, at_place, renumbered, after_nodes, first_wide, width_after}
 use Rattle.elimination_order.proofs.FirstWide.{none_wide, some_wide}
 use Rattle.elimination_order.proofs.Kept.{coupler_same}
 use Rattle.elimination_order.proofs.Shuffled.{at_range, shuffled_range}
 
 -- ---- numbers
 
+-- new numbers are the same exactly where the nodes are
 number_same : (n : ℕ) (names numbers : List ℕ) (u w : ℕ) → AreNumbers n names numbers
     → u < n → w < n → eqb (at_place numbers u) (at_place numbers w) ≡ eqb u w
-number_same n names numbers u w are h k = elim (cases_eq u w) [
-  | inl same ↦
-      eq-eqb (at_place numbers u) (at_place numbers w) (ap (at_place numbers) same)
-      ∙ sym (eq-eqb u w same)
-  | inr other ↦
-      ne_eqb (at_place numbers u) (at_place numbers w)
-      (λ one. other (sym (are.named u h) ∙ ap (at_place names) one ∙ are.named w k))
-      ∙ sym (ne_eqb u w other)
-]
+number_same n names numbers u w are h k = grind (arith, nat_tests, are.named u h, are.named w k)
 
 default_any : (xs : List ℕ) (i d e : ℕ) → i < length xs → get_or xs i d ≡ get_or xs i e
 default_any [] i d e h = absurd (omega (arith, h))
@@ -37,24 +17,6 @@ default_any (x ∷ xs) zero d e h = refl
 default_any (x ∷ xs) (suc i) d e h = default_any xs i d e (omega (arith, h))
 
 -- ---- couplers
-
-turned_or : (p q r s : Bool) → ((p && q) || (r && s)) ≡ ((s && r) || (q && p))
-turned_or true true true true = refl
-turned_or true true true false = refl
-turned_or true true false true = refl
-turned_or true true false false = refl
-turned_or true false true true = refl
-turned_or true false true false = refl
-turned_or true false false true = refl
-turned_or true false false false = refl
-turned_or false true true true = refl
-turned_or false true true false = refl
-turned_or false true false true = refl
-turned_or false true false false = refl
-turned_or false false true true = refl
-turned_or false false true false = refl
-turned_or false false false true = refl
-turned_or false false false false = refl
 
 -- two numbers are these two
 abbrev are_both : ℕ → ℕ → ℕ → ℕ → Bool
@@ -74,21 +36,8 @@ both_same n names numbers u w e are h k placed =
     let fw = number_same n names numbers e.first w are low k in
     let su = number_same n names numbers e.second u are placed.within h in
     let sw = number_same n names numbers e.second w are placed.within k in
-    let plain : are_both a b uu ww ≡ are_both e.first e.second u w =
-    λ i. (fu i && sw i) || (fw i && su i) in
-    let either : are_both (min a b) (max a b) uu ww ≡ are_both e.first e.second u w =
-    elim (cases_lt a b) [
-      | inl l ↦
-          let first : min a b ≡ a = omega (arith, l) in
-          let second : max a b ≡ b = omega (arith, l) in
-          (λ i. are_both (first i) (second i) uu ww) ∙ plain
-      | inr l ↦
-          let first : min a b ≡ b = omega (arith, l) in
-          let second : max a b ≡ a = omega (arith, l) in
-          (λ i. are_both (first i) (second i) uu ww)
-          ∙ turned_or (eqb b uu) (eqb a ww) (eqb b ww) (eqb a uu)
-          ∙ plain
-    ] in
+    let either : are_both (min a b) (max a b) uu ww ≡ are_both e.first e.second u w
+    = grind (arith, nat_tests) in
     λ i. coupler_same n names numbers e are placed i && either i
 
 any_same : (n : ℕ) (names numbers : List ℕ) (u w : ℕ) → AreNumbers n names numbers
@@ -125,9 +74,7 @@ after_push (x ∷ xs) v g = after_push xs v (without x g)
 -- the node at a place of the order
 turned_at : (n : ℕ) (names numbers : List ℕ) (k : ℕ) → AreNumbers n names numbers → k < n
     → at_place (reverse names) k ≡ at_place names (n - suc k)
-turned_at n names numbers k are h =
-    let place : length names - 1 - k ≡ n - suc k = omega (arith, h, are.count) in
-    get_or-reverse names k 0 (omega (arith, h, are.count)) ∙ ap (at_place names) place
+turned_at n names numbers k are h = grind (arith, nat_tests, get_or-reverse)
 
 after_same : (n : ℕ) (names numbers : List ℕ) (f g : ℕ → ℕ → Bool)
     → AreNumbers n names numbers → AreSame n numbers f g → (k : ℕ) → k ≤ n
@@ -248,9 +195,7 @@ narrow_at most names numbers m r p formed are same h low =
     let again : m.nodes - suc u ≡ p = omega (arith, h) in
     let wide = width-renumbered names numbers m r u formed are same (omega (arith, h)) in
     let there = turned_at m.nodes names numbers p are h in
-    subst (λ x. x ≤ most)
-    (wide ∙ (λ i. width_after m (take (again i) (reverse names)) (sym there i)))
-    low
+    grind (arith, nat_tests)
 
 pub first_wider-named : (most : ℕ) (names numbers : List ℕ) (m r : Written) (v w : ℕ)
     → IsWellFormed m → AreNumbers m.nodes names numbers → IsRenumbered numbers m r

@@ -1,22 +1,8 @@
 -- What the guard makes of a problem that it admits.
-use Rattle.std.proofs.Common.{◌≡◌, ◌+◌, ◌≤◌, ◌^◌, pos, sym, ap, subst, arith, All}
-use Rattle.std.proofs.lemmas.List.Elements.{All-from_recursion, recursion_from_All}
-use Rattle.base.specs.declared.costs.Figures.{Figures}
-use Rattle.form_steps.specs.declared.layer.BitsLink.{BitsLink}
-use Rattle.form_steps.specs.Links.{first_bits}
-use Rattle.form_steps.specs.Relations.{Relaxes}
-use Rattle.problem_form.specs.Problems.{ProblemContent}
+use Rattle.normal_form.proofs.Common.{nat_tests, ◌≡◌, ◌+◌, ◌≤◌, ◌^◌, pos, sym, ap, subst, arith, All, All-from_recursion, recursion_from_All, Figures, BitsLink, first_bits, Relaxes, ProblemContent, Term, terms_total, KeptTable, kept_at_once, table_size, complements, contributions, terms_total-with_additions, All-with_additions, contributions-grow, expanded, image, Admits, multilinear_relaxes}
 use Rattle.problem_form.specs.Problems as problems
-use Rattle.term_table.specs.Terms.{Term, terms_total}
-use Rattle.term_table.specs.Tables.{KeptTable, kept_at_once, table_size}
 use Rattle.term_table.specs.Tables as tables
-use Rattle.term_table.specs.MultipliedOut.{complements, contributions}
-use Rattle.term_table.proofs.Additions.{terms_total-with_additions}
-use Rattle.term_table.proofs.KeptTerms.{All-with_additions}
-use Rattle.term_table.proofs.PlainSums.{contributions-grow}
 use Rattle.penalty_layer.specs.Penalty as penalty
-use Rattle.normal_form.specs.Multilinear.{expanded, image, Admits}
-use Rattle.normal_form.specs.laws.Relaxing.{multilinear_relaxes}
 use Rattle.normal_form.proofs.Limits.{within_limits}
 use Rattle.normal_form.proofs.Complements.{few-contributions}
 use Rattle.normal_form.proofs.Sizes.{size_within}
@@ -49,10 +35,7 @@ pub relaxes-made : (link : BitsLink) (p : ProblemContent) (made : KeptTable) (n 
     → penalty.Fits link p → made ≡ kept_at_once (image p) → n ≡ penalty.figures p
     → Relaxes (problems.form_of p) (tables.form_of made.content) (first_bits link) (pos 1) n
 relaxes-made link p made n fits same figures =
-    let Q : KeptTable → Figures → Type 0 =
-    λ t m. Relaxes (problems.form_of p) (tables.form_of t.content) (first_bits link) (pos 1) m in
-    subst (λ t. Q t n) (sym same)
-    (subst (λ m. Q (kept_at_once (image p)) m) (sym figures) (multilinear_relaxes link p fits))
+    grind (arith, nat_tests, multilinear_relaxes link p fits)
 
 pub size-made : (p : ProblemContent) (made : KeptTable) → Admits p
     → made ≡ kept_at_once (image p) → table_size made.content ≤ 2 ^ 26

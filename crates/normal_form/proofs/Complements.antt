@@ -2,31 +2,11 @@
 --
 -- A union has no more than both sets together, so the square of a constraint has at most twice as
 -- many as its products.
-use Rattle.std.proofs.Common.{◌≡◌, ℕ, suc, ◌+◌, ◌*◌, ◌≤◌, Bool, true, false, not, cond, pos, ◌*ℤ◌, List, [], ◌∷◌, ◌++◌, map, fold, max, count_by, refl, sym, subst, arith}
-use Rattle.std.specs.Prelude.{if◌then◌else◌}
-use Rattle.std.specs.List.{AllByRecursion}
-use Rattle.std.specs.Ordering.{match_ordering}
-use Rattle.std.specs.declared.cmp.Ordering.{Ordering}
+use Rattle.normal_form.proofs.Common.{nat_tests, ◌≡◌, ℕ, suc, ◌+◌, ◌*◌, ◌≤◌, not, cond, pos, List, [], ◌∷◌, ◌++◌, map, fold, max, count_by, refl, sym, subst, arith, AllByRecursion, match_ordering, Ordering, append-nil, sum_by-cons, sum_by-append, Literal, Product, Clause, Constraint, literal_cmp, with_literal, literal_set, ProblemContent, clause_complements, most_complements, negations, penalty, slack_range, slack_bits, Term, union, scaled, product_terms, products_with, complements, AreFew, complements-cons, opposite, clause_term, slack_weights, product_term, square_terms, node, slack_terms, slack_form, constraint_terms, AtMost, most_of, of_map, raised}
 use Rattle.std.specs.declared.cmp.Ordering.TheVariants.{Less, Equal, Greater}
-use Rattle.std.proofs.lemmas.List.{append-nil}
-use Rattle.std.proofs.lemmas.List.Sums.{sum_by-cons, sum_by-append}
-use Rattle.literal_lists.specs.declared.literal.Literal.{Literal}
 use Rattle.problem_form.specs.declared.limits.Normal.TheVariants as normals
-use Rattle.problem_form.specs.declared.terms.Product.{Product}
-use Rattle.problem_form.specs.declared.terms.Clause.{Clause}
-use Rattle.problem_form.specs.declared.terms.Constraint.{Constraint}
-use Rattle.literal_lists.specs.Literals.{literal_cmp, has_clash, with_literal, literal_set}
-use Rattle.problem_form.specs.Problems.{ProblemContent}
 use Rattle.problem_form.specs.Limits as limits
-use Rattle.problem_form.specs.Limits.{clause_complements, most_complements, negations, penalty, slack_range, slack_bits}
-use Rattle.term_table.specs.Terms.{Term}
-use Rattle.term_table.specs.Products.{union, scaled, product_terms, products_with}
-use Rattle.term_table.specs.MultipliedOut.{complements}
-use Rattle.term_table.proofs.PlainSums.{AreFew, complements-cons}
-use Rattle.penalty_layer.specs.Penalty.{opposite, clause_term, plain_terms, contributions}
-use Rattle.penalty_layer.specs.Slack.{slack_weights}
-use Rattle.penalty_layer.specs.Squares.{product_term, square_terms, node, slack_terms, slack_form, constraint_terms}
-use Rattle.penalty_layer.proofs.Bounds.{AtMost, most_of, of_map, raised}
+use Rattle.penalty_layer.specs.Penalty.{plain_terms, contributions}
 
 -- ---- unions
 
@@ -45,33 +25,18 @@ complements-with_literal l (k ∷ ks) = go (literal_cmp l k) (complements-with_l
 complements-literal_set : (ls : List Literal) → complements (literal_set ls) ≤ complements ls
 complements-literal_set [] = omega arith
 complements-literal_set (l ∷ ls) =
-    omega (
-      arith,
-      complements-with_literal l (literal_set ls),
-      complements-literal_set ls,
-      complements-cons l ls,
-    )
+    omega (arith, complements-with_literal, complements-literal_set ls, complements-cons)
 
 complements-union : (ls ks : List Literal)
     → complements (union ls ks) ≤ complements ls + complements ks
-complements-union ls ks =
-    omega (
-      arith,
-      complements-literal_set (ls ++ ks),
-      sum_by-append (λ (l : Literal). cond l.negated 1 0) ls ks,
-    )
+complements-union ls ks = omega (arith, complements-literal_set, sum_by-append)
 
 -- the complements of a clause's literals are complements where the literals are not
 pub complements-opposites : (ls : List Literal)
     → complements (map opposite ls) ≡ count_by (λ l. not l.negated) ls
 complements-opposites [] = refl
 complements-opposites (l ∷ ls) =
-    omega (
-      arith,
-      complements-opposites ls,
-      complements-cons (opposite l) (map opposite ls),
-      sum_by-cons (λ (k : Literal). cond (not k.negated) 1 0) l ls,
-    )
+    omega (arith, complements-opposites ls, complements-cons, sum_by-cons)
 
 -- ---- lists of terms
 
@@ -100,12 +65,7 @@ few-slack most first (w ∷ ws) =
 
 few-product : (one most : ℕ) (t u : Term) → 2 * one ≤ most → complements t.0 ≤ one
     → complements u.0 ≤ one → AreFew most (product_terms t u)
-few-product one most t u twice h k = go (has_clash (union t.0 u.0))
-  where
-    go : (clash : Bool)
-        → AreFew most (if clash then [] else (union t.0 u.0, t.1 *ℤ u.1) ∷ [])
-    go true = tt
-    go false = (omega (arith, twice, h, k, complements-union t.0 u.0), tt)
+few-product one most t u twice h k = grind (arith, nat_tests, complements-union)
 
 few-products_with : (one most : ℕ) (t : Term) (us : List Term) → 2 * one ≤ most
     → complements t.0 ≤ one → AreFew one us → AreFew most (products_with t us)

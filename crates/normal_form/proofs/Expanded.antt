@@ -1,16 +1,5 @@
 -- A table, multiplied out: what is gathered fits, term by term, and no complement is left.
-use Rattle.std.proofs.Common.{◌≡◌, ◌+◌, ◌*◌, ◌≤◌, ◌^◌, List, [], ◌∷◌, refl, sym, ap, ◌∙◌, subst, arith, All}
-use Rattle.std.proofs.lemmas.List.Elements.{recursion_from_All}
-use Rattle.literal_lists.specs.declared.literal.Literal.{Literal}
-use Rattle.term_table.specs.Terms.{Term, terms_total, IsTermSet}
-use Rattle.term_table.specs.Tables.{TableContent, IsTable, AreAdditions, with_more}
-use Rattle.term_table.specs.MultipliedOut.{complements, ArePlain, plain_terms, contributions}
-use Rattle.term_table.proofs.KeptTerms.{OfSet, All-with_additions}
-use Rattle.term_table.proofs.Loops.{with_more-append}
-use Rattle.term_table.proofs.PlainSums.{contributions-grow}
-use Rattle.term_table.proofs.PlainSets.{contributions-sets, contributions-plain}
-use Rattle.normal_form.specs.Behind.{behind}
-use Rattle.normal_form.specs.Multilinear.{multiplied, expanded, IsMultilinear}
+use Rattle.normal_form.proofs.Common.{nat_tests, ◌≡◌, ◌+◌, ◌*◌, ◌≤◌, ◌^◌, List, [], ◌∷◌, sym, ap, ◌∙◌, subst, arith, All, recursion_from_All, Literal, Term, terms_total, IsTermSet, TableContent, IsTable, AreAdditions, with_more, complements, ArePlain, plain_terms, contributions, OfSet, All-with_additions, with_more-append, contributions-grow, contributions-sets, contributions-plain, behind, multiplied, expanded, IsMultilinear}
 use Rattle.normal_form.proofs.PlainSteps.{behind-nothing, additions_first}
 
 pub AreAdditions-multiplied : (t : TableContent) → IsTable t
@@ -51,9 +40,4 @@ pub next_whole : (now next all : TableContent) (list : List Literal) (t : Term) 
     → next ≡ with_more now (behind list (plain_terms t.0 t.1))
     → with_more next (contributions rest) ≡ all
 next_whole now next all list t left rest e empty whole made =
-    let term : behind list (plain_terms t.0 t.1) ≡ plain_terms t.0 t.1 =
-    ap (λ ls. behind ls (plain_terms t.0 t.1)) empty ∙ behind-nothing (plain_terms t.0 t.1) in
-    with_more-append now next (with_more next (contributions rest)) (plain_terms t.0 t.1) (contributions rest)
-    (made ∙ ap (with_more now) term) refl
-    ∙ ap (λ ts. with_more now (contributions ts)) (sym e)
-    ∙ whole
+    grind (arith, nat_tests, behind-nothing, with_more-append)

@@ -1,14 +1,5 @@
 -- Terms that are multiplied out as they come.
-use Rattle.std.proofs.Common.{◌≡◌, ℕ, ◌≤◌, ℤ, List, [], ◌∷◌, ◌++◌, length, take, refl, subst, sym, ap, ◌∙◌}
-use Rattle.std.proofs.lemmas.List.{append-nil, take_all}
-use Rattle.std.proofs.lemmas.List.Concat.{flat_map-append}
-use Rattle.literal_lists.specs.declared.literal.Literal.{Literal}
-use Rattle.term_table.specs.Terms.{Term}
-use Rattle.term_table.specs.Tables.{TableContent, with_appended, with_more}
-use Rattle.term_table.specs.MultipliedOut.{ArePlain, plain_terms, contributions}
-use Rattle.term_table.specs.Rooms.{HasRoomFor, Fills}
-use Rattle.normal_form.specs.Behind.{behind}
-use Rattle.normal_form.specs.Multilinear.{multiplied}
+use Rattle.normal_form.proofs.Common.{nat_tests, ints, arith, ◌≡◌, ℕ, ◌≤◌, ℤ, List, [], ◌∷◌, ◌++◌, length, take, refl, subst, sym, ap, ◌∙◌, append-nil, take_all, flat_map-append, Literal, Term, TableContent, with_appended, with_more, ArePlain, plain_terms, contributions, HasRoomFor, Fills, behind, multiplied}
 use Rattle.normal_form.proofs.PlainSteps.{behind-nothing, last_terms}
 
 behind-empty : (list : List Literal) (ts : List Term) → list ≡ [] → behind list ts ≡ ts
@@ -31,8 +22,7 @@ room-multiplied takes s list ls c more empty room =
 pub multiplied-appended : (t : TableContent) (list ls : List Literal) (c : ℤ) → list ≡ []
     → with_more (multiplied t) (behind list (plain_terms ls c)) ≡ multiplied (with_appended t ls c)
 multiplied-appended t list ls c empty =
-    ap (λ us. record t { terms = contributions t.terms ++ us }) (behind-empty list (plain_terms ls c) empty ∙ sym (append-nil (plain_terms ls c)))
-    ∙ ap (λ us. record t { terms = us }) (sym (flat_map-append (λ (u : Term). plain_terms u.0 u.1) t.terms ((ls, c) ∷ [])))
+    grind (arith, nat_tests, ints, behind-empty, append-nil, flat_map-append)
 
 -- what was gathered elsewhere is the term, multiplied out
 module _ {S : Type 0} (takes : S → List Term → Type 0) (holds : S → TableContent → Type 0) (old new : S)
@@ -41,9 +31,7 @@ module _ {S : Type 0} (takes : S → List Term → Type 0) (holds : S → TableC
   held-multiplied t held = subst (holds new) (multiplied-appended t list ls c empty) (fills.held (multiplied t) held)
 
   pub takes-multiplied : (more : List Term) → takes old (contributions ((ls, c) ∷ more)) → takes new (contributions more)
-  takes-multiplied more room =
-      fills.room (contributions more)
-      (subst (λ ts. takes old (ts ++ contributions more)) (sym (behind-empty list (plain_terms ls c) empty)) room)
+  takes-multiplied more room = grind (arith, nat_tests, behind-empty)
 
 -- a term without complements was gathered elsewhere
 module _ {S : Type 0} (takes : S → List Term → Type 0) (holds : S → TableContent → Type 0)
@@ -62,6 +50,4 @@ module _ {S : Type 0} (takes : S → List Term → Type 0) (holds : S → TableC
 
   pub takes-alone : (old new : S) → ((more : List Term) → takes old ((ls, c) ∷ more) → takes new more)
       → (more : List Term) → takes old (contributions ((ls, c) ∷ more)) → takes new (contributions more)
-  takes-alone old new takes_more more room =
-      takes_more (contributions more)
-      (subst (λ ts. takes old (ts ++ contributions more)) (plain_alone ls n c short none) room)
+  takes-alone old new takes_more more room = grind (arith, nat_tests, plain_alone ls n c short none)

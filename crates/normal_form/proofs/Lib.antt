@@ -1,3 +1,4 @@
+pub mod Common
 pub mod PlainSteps
 pub mod Expanded
 pub mod Limits

@@ -1,25 +1,9 @@
 -- What the limits of the multilinear form say of a problem: they are no wider than those of the
 -- literal form.
-use Rattle.std.proofs.Common.{◌≡◌, ℕ, ◌+◌, ◌-◌, ◌*◌, ◌^◌, ◌<◌, ◌≤◌, min, Bool, true, false, cond, ltb, Some, None, List, [], ◌∷◌, refl, ap, ◌∙◌, arith}
-use Rattle.std.specs.Prelude.{nat_le}
-use Rattle.std.specs.Bool.{Decides}
-use Rattle.std.specs.List.{sum_by}
-use Rattle.std.proofs.Math.Nat.{mul-le-mul_right}
-use Rattle.std.proofs.lemmas.Bool.Decides.{Decides-ltb}
-use Rattle.std.proofs.lemmas.List.Sums.{sum_by-cons}
-use Rattle.std.proofs.lemmas.Nat.{pow-add}
-use Rattle.form_steps.proofs.Growth.{one_le_pow}
-use Rattle.problem_form.specs.declared.limits.LimitFault.{LimitFault}
+use Rattle.normal_form.proofs.Common.{nat_tests, ◌≡◌, ℕ, ◌+◌, ◌-◌, ◌*◌, ◌^◌, ◌≤◌, None, List, [], ◌∷◌, ap, ◌∙◌, arith, nat_le, sum_by, mul-le-mul_right, sum_by-cons, pow-add, one_le_pow, Constraint, ProblemContent, Counted, limit_fault, degree, negations, pairs, constraint_pairs, constraint_degree, most_complements, summands, weight, most_degree, within_first, spread, square_is, Admits}
 use Rattle.problem_form.specs.declared.limits.LimitKind.TheVariants.{Variables, Degree, Negations, Pairs, Weight}
 use Rattle.problem_form.specs.declared.limits.Normal.TheVariants as normals
-use Rattle.problem_form.specs.declared.terms.Constraint.{Constraint}
-use Rattle.problem_form.specs.Problems.{ProblemContent}
-use Rattle.problem_form.specs.Limits.{Counted, first_passed, limit_fault, degree, negations, pairs, product_pairs, clause_pairs, constraint_pairs, constraint_degree, most_complements, summands, weight, most_degree}
 use Rattle.penalty_layer.specs.Penalty as penalty
-use Rattle.penalty_layer.proofs.Bounds.{within_first}
-use Rattle.penalty_layer.proofs.Sizes.{spread}
-use Rattle.penalty_layer.proofs.Sums.{square_is}
-use Rattle.normal_form.specs.Multilinear.{Admits}
 
 -- the counted numbers are within their limits
 pub record IsWithin (p : ProblemContent) : Type 0 where
@@ -48,19 +32,6 @@ within_limits p none =
       pairs = fourth.0;
       weight = fifth.0;
     }
-
--- a number within its limit is not passed
-none_passed : (c : Counted) (cs : List Counted) → c.number ≤ c.most → first_passed cs ≡ None
-    → first_passed (c ∷ cs) ≡ None
-none_passed c cs within rest = go (ltb c.most c.number) (Decides-ltb c.most c.number)
-  where
-    fault : LimitFault
-    fault = record { kind = c.kind; number = min c.number (2 ^ 128 - 1) }
-
-    go : (b : Bool) → Decides b (c.most < c.number)
-        → cond b (Some fault) (first_passed cs) ≡ None
-    go true d = let over = d.0 refl in absurd (omega arith)
-    go false d = rest
 
 -- ---- pairs
 
@@ -92,42 +63,17 @@ constraint_pairs-scaled k =
 
 constraint_pairs-le : (k : Constraint)
     → constraint_pairs normals.Literal k ≤ constraint_pairs normals.Multilinear k
-constraint_pairs-le k =
-    omega (
-      arith,
-      constraint_pairs-scaled k,
-      factor_adds (2 * most_complements k) (constraint_pairs normals.Literal k),
-    )
+constraint_pairs-le k = grind (arith, nat_tests, constraint_pairs-scaled, factor_adds)
 
 pairs-le : (p : ProblemContent) → pairs normals.Literal p ≤ pairs normals.Multilinear p
-pairs-le p =
-    omega (
-      arith,
-      sums-le (product_pairs normals.Literal) (product_pairs normals.Multilinear) p.objective
-          (λ t. factor_adds _ _),
-      sums-le (clause_pairs normals.Literal) (clause_pairs normals.Multilinear) p.clauses
-          (λ c. factor_adds _ _),
-      sums-le (constraint_pairs normals.Literal) (constraint_pairs normals.Multilinear) p.constraints
-          constraint_pairs-le,
-    )
+pairs-le p = grind (arith, nat_tests, sums-le, factor_adds, constraint_pairs-le)
 
 -- ---- what the penalty method admits
 
+-- with literals as they stand there are no more pairs
 pub literal_within : (p : ProblemContent) → limit_fault normals.Multilinear p ≡ None
     → limit_fault normals.Literal p ≡ None
-literal_within p none =
-    let limits = within_limits p none in
-    let variables : Counted = record { kind = Variables; number = p.variables; most = 2 ^ 20 } in
-    let degrees : Counted = record { kind = Degree; number = degree p; most = most_degree } in
-    let complements : Counted = record { kind = Negations; number = 0; most = 8 } in
-    let all_pairs : Counted = record { kind = Pairs; number = pairs normals.Literal p; most = 2 ^ 24 } in
-    let weights : Counted = record { kind = Weight; number = weight p; most = 2 ^ 64 - 1 } in
-    let low : 0 ≤ 8 = omega arith in
-    let few : pairs normals.Literal p ≤ 2 ^ 24 = omega (arith, pairs-le p, limits.pairs) in
-    none_passed variables (degrees ∷ complements ∷ all_pairs ∷ weights ∷ []) limits.variables
-    (none_passed degrees (complements ∷ all_pairs ∷ weights ∷ []) limits.degree
-    (none_passed complements (all_pairs ∷ weights ∷ []) low
-    (none_passed all_pairs (weights ∷ []) few (none_passed weights [] limits.weight refl))))
+literal_within p none = grind (arith, nat_tests, within_limits p none, pairs-le p)
 
 pub penalty_admits : (p : ProblemContent) → Admits p → penalty.Admits p
 penalty_admits p admitted =

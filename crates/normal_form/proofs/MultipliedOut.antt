@@ -1,18 +1,6 @@
 -- What a problem contributes, multiplied out as it comes, is small.
-use Rattle.std.proofs.Common.{◌+◌, ◌≤◌, ◌^◌, ℕ, List, [], ◌∷◌, arith, All}
-use Rattle.std.proofs.lemmas.List.Elements.{All-cons, All-nil, recursion_from_All}
-use Rattle.problem_form.specs.Problems.{ProblemContent}
-use Rattle.term_table.specs.Terms.{Term, terms_total, IsTermSet}
-use Rattle.term_table.specs.Tables.{TableContent, AreAdditions}
-use Rattle.term_table.specs.MultipliedOut.{contributions}
-use Rattle.term_table.proofs.Additions.{terms_total-cons}
-use Rattle.term_table.proofs.KeptTerms.{OfSet}
-use Rattle.term_table.proofs.PlainSets.{contributions-sets}
-use Rattle.term_table.proofs.PlainSums.{AreFew, contributions-grow}
+use Rattle.normal_form.proofs.Common.{nat_tests, ◌+◌, ◌≤◌, ◌^◌, ℕ, List, [], ◌∷◌, arith, All, All-nil, recursion_from_All, ProblemContent, Term, terms_total, IsTermSet, AreAdditions, contributions, terms_total-cons, OfSet, contributions-sets, AreFew, contributions-grow, contribution_sets, contributions-total, multiplied, Admits, IsSmall}
 use Rattle.penalty_layer.specs.Penalty as penalty
-use Rattle.penalty_layer.proofs.Sets.{contribution_sets}
-use Rattle.penalty_layer.proofs.Sums.{contributions-total}
-use Rattle.normal_form.specs.Multilinear.{multiplied, Admits, IsSmall}
 use Rattle.normal_form.proofs.Complements.{few-contributions}
 use Rattle.normal_form.proofs.Limits.{within_limits, penalty_admits}
 
@@ -44,8 +32,7 @@ AreAdditions-multiplied_out p admitted =
 small-all : (most : ℕ) (ts : List Term) → terms_total ts ≤ most → most ≤ 2 ^ 124 → All IsSmall ts
 small-all most [] total high = All-nil IsSmall
 small-all most (t ∷ ts) total high =
-    All-cons IsSmall t ts (omega (arith, total, high, terms_total-cons t ts))
-    (small-all most ts (omega (arith, total, terms_total-cons t ts)) high)
+    grind (arith, nat_tests, small-all most ts (omega (arith, total, terms_total-cons t ts)) high, terms_total-cons)
 
 pub small-additions : (p : ProblemContent) → Admits p → All IsSmall (penalty.contributions p)
 small-additions p admitted =

@@ -1,23 +1,6 @@
 -- Steps that multiply a term out: what stands before its first complement stays in front, and the
 -- complement gives what is left without it, and with its variable and the other sign.
-use Rattle.std.proofs.Common.{◌≡◌, ℕ, suc, ◌+◌, ◌<◌, ◌≤◌, ◌^◌, Bool, true, false, ℤ, neg_ℤ, unsigned_abs, List, [], ◌∷◌, ◌++◌, length, take, drop, get_or, refl, sym, ap, ◌∙◌, subst, arith}
-use Rattle.std.specs.Prelude.{if◌then◌else◌}
-use Rattle.std.specs.List.{AllByRecursion}
-use Rattle.std.proofs.Math.Nat.{mul-le-mul_right}
-use Rattle.std.proofs.Math.Seq.{drop-cons}
-use Rattle.std.proofs.lemmas.List.{append_assoc, append-nil, map-append, take_all, take-append-drop}
-use Rattle.std.proofs.lemmas.List.Elements.{All-from_recursion, recursion_from_All}
-use Rattle.form_steps.proofs.Growth.{one_le_pow}
-use Rattle.literal_lists.specs.declared.literal.Literal.{Literal}
-use Rattle.term_table.specs.Terms.{Term, terms_total, IsTermSet}
-use Rattle.term_table.specs.Tables.{TableContent, with_more, AreAdditions}
-use Rattle.term_table.specs.MultipliedOut.{complements, ArePlain, plain, with_front, plain_terms}
-use Rattle.term_table.proofs.Additions.{terms_total-append, terms_total-cons}
-use Rattle.term_table.proofs.KeptTerms.{OfSet}
-use Rattle.term_table.proofs.Loops.{with_more-append}
-use Rattle.term_table.proofs.PlainSums.{terms_total-plain_terms}
-use Rattle.term_table.specs.Rooms.{HasRoomFor}
-use Rattle.normal_form.specs.Behind.{behind}
+use Rattle.normal_form.proofs.Common.{nat_tests, ints, ◌≡◌, ℕ, suc, ◌+◌, ◌<◌, ◌≤◌, ◌^◌, Bool, true, false, ℤ, neg_ℤ, unsigned_abs, List, [], ◌∷◌, ◌++◌, length, take, drop, get_or, refl, sym, ap, ◌∙◌, subst, arith, if◌then◌else◌, AllByRecursion, mul-le-mul_right, drop-cons, append_assoc, append-nil, map-append, take_all, take-append-drop, All-from_recursion, recursion_from_All, one_le_pow, Literal, Term, terms_total, IsTermSet, TableContent, with_more, AreAdditions, complements, ArePlain, plain, with_front, plain_terms, terms_total-append, terms_total-cons, OfSet, with_more-append, terms_total-plain_terms, HasRoomFor, behind}
 
 -- ---- terms behind literals
 
@@ -64,17 +47,7 @@ plain_front (f ∷ fs) ls c h =
 -- a complement is 1 less its variable
 at_complement : (l : Literal) (ls : List Literal) (c : ℤ) → l.negated ≡ true
     → plain_terms (l ∷ ls) c ≡ plain_terms ls c ++ with_front (plain l) (plain_terms ls (neg_ℤ c))
-at_complement l ls c is = go l.negated is
-  where
-    rest : List Term
-    rest = plain_terms ls c
-
-    less : List Term
-    less = with_front (plain l) (plain_terms ls (neg_ℤ c))
-
-    go : (n : Bool) → n ≡ true → (if n then rest ++ less else with_front (plain l) rest) ≡ rest ++ less
-    go true is = refl
-    go false is = cc
+at_complement l ls c is = grind (arith, nat_tests, ints)
 
 -- a term without complements, behind literals
 pub last_terms : (fs ls : List Literal) (n : ℕ) (c : ℤ) → length ls ≤ n → ArePlain (take n ls)
@@ -132,13 +105,7 @@ coefficient_small t fs ls c h =
   where
     total-behind : (gs : List Literal) (ts : List Term) → terms_total (behind gs ts) ≡ terms_total ts
     total-behind gs [] = refl
-    total-behind gs (u ∷ us) =
-        omega (
-          arith,
-          total-behind gs us,
-          terms_total-cons u us,
-          terms_total-cons (gs ++ u.0, u.1) (behind gs us),
-        )
+    total-behind gs (u ∷ us) = omega (arith, total-behind gs us, terms_total-cons)
 
 -- ---- additions
 
@@ -173,9 +140,7 @@ additions_first t us vs ws e h =
 -- and the second, after the first
 pub additions_second : (t now : TableContent) (us vs ws : List Term) → ws ≡ us ++ vs
     → now ≡ with_more t us → AreAdditions (with_more t ws) → AreAdditions (with_more now vs)
-additions_second t now us vs ws e made h =
-    let both : AreAdditions (with_more t (us ++ vs)) = subst (λ ts. AreAdditions (with_more t ts)) e h in
-    subst AreAdditions (sym (with_more-append t now (with_more now vs) us vs made refl)) both
+additions_second t now us vs ws e made h = grind (arith, nat_tests, with_more-append)
 
 -- both were made
 pub both_made : (t now next : TableContent) (us vs ws : List Term) → ws ≡ us ++ vs

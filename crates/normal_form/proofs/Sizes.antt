@@ -3,34 +3,11 @@
 -- A set with k complements is multiplied out to 2^k sets of no more literals. The counted pairs have
 -- the same factor: 2^k for a product or a clause, and for a constraint, whose products of two have
 -- twice the complements, its square.
-use Rattle.std.proofs.Common.{◌≡◌, ℕ, ◌+◌, ◌*◌, ◌^◌, ◌≤◌, List, [], ◌∷◌, ◌++◌, length, map, ap, arith}
-use Rattle.std.specs.Prelude.{None}
-use Rattle.std.specs.List.{sum_by}
-use Rattle.std.proofs.Math.Nat.{mul-le-mul_left, mul-le-mul_right}
-use Rattle.std.proofs.Math.Pow.{pow_mono}
-use Rattle.std.proofs.lemmas.List.Sums.{sum_by-cons, sum_by-append}
-use Rattle.form_steps.proofs.Growth.{one_le_pow}
-use Rattle.literal_lists.specs.declared.literal.Literal.{Literal}
-use Rattle.problem_form.specs.declared.terms.Product.{Product}
-use Rattle.problem_form.specs.declared.terms.Clause.{Clause}
-use Rattle.problem_form.specs.declared.terms.Constraint.{Constraint}
+use Rattle.normal_form.proofs.Common.{nat_tests, ◌≡◌, ℕ, ◌+◌, ◌*◌, ◌^◌, ◌≤◌, List, [], ◌∷◌, ◌++◌, length, map, ap, arith, None, sum_by, mul-le-mul_left, mul-le-mul_right, pow_mono, sum_by-cons, sum_by-append, one_le_pow, Literal, Product, Clause, Constraint, ProblemContent, penalty, product_pairs, clause_pairs, constraint_pairs, most_complements, slack_bits, limit_fault, Term, table_size, complements, sets_sum, sets_sum-cons, sets_sum-with_additions, Ascends-with_additions, AreFew, sets_sum-contributions, terms_size-once, opposite, clause_term, product_term, square_terms, slack_form, constraint_terms, opposites_length, square, square-mono, constraint-size, image}
 use Rattle.problem_form.specs.declared.limits.Normal.TheVariants as normals
-use Rattle.problem_form.specs.Problems.{ProblemContent}
-use Rattle.problem_form.specs.Limits.{penalty, product_pairs, clause_pairs, constraint_pairs, most_complements, slack_bits, limit_fault}
-use Rattle.term_table.specs.Terms.{Term}
-use Rattle.term_table.specs.Tables.{table_size}
-use Rattle.term_table.specs.MultipliedOut.{complements}
 use Rattle.term_table.specs.MultipliedOut as multiplied
-use Rattle.term_table.proofs.Additions.{sets_sum, sets_sum-cons, sets_sum-with_additions}
-use Rattle.term_table.proofs.KeptTerms.{Ascends-with_additions}
-use Rattle.term_table.proofs.PlainSums.{AreFew, sets_sum-contributions}
-use Rattle.term_table.proofs.SetSizes.{terms_size-once}
-use Rattle.penalty_layer.specs.Penalty.{opposite, clause_term, plain_terms, contributions}
+use Rattle.penalty_layer.specs.Penalty.{plain_terms, contributions}
 use Rattle.penalty_layer.specs.Penalty as penalty_method
-use Rattle.penalty_layer.specs.Squares.{product_term, square_terms, slack_form, constraint_terms}
-use Rattle.penalty_layer.proofs.OppositeSets.{opposites_length}
-use Rattle.penalty_layer.proofs.Sizes.{square, square-mono, constraint-size}
-use Rattle.normal_form.specs.Multilinear.{image}
 use Rattle.normal_form.proofs.Limits.{within_limits, constraint_pairs-scaled}
 use Rattle.normal_form.proofs.Complements.{complements-opposites, few-square, few-slack_form}
 
@@ -59,13 +36,7 @@ grown-few most (t ∷ ts) few =
 products-grown : (ts : List Product)
     → sets_sum grown (map product_term ts) ≡ sum_by (product_pairs normals.Multilinear) ts
 products-grown [] = omega arith
-products-grown (t ∷ ts) =
-    omega (
-      arith,
-      products-grown ts,
-      sets_sum-cons grown (product_term t) (map product_term ts),
-      sum_by-cons (product_pairs normals.Multilinear) t ts,
-    )
+products-grown (t ∷ ts) = omega (arith, products-grown ts, sets_sum-cons, sum_by-cons)
 
 clauses-grown : (n : ℕ) (cs : List Clause)
     → sets_sum grown (map (clause_term n) cs) ≡ sum_by (clause_pairs normals.Multilinear) cs
@@ -114,16 +85,7 @@ constraints-grown n first (k ∷ ks) =
 
 plain-grown : (p : ProblemContent) → sets_sum grown (plain_terms p)
     ≡ sum_by (product_pairs normals.Multilinear) p.objective + sum_by (clause_pairs normals.Multilinear) p.clauses
-plain-grown p =
-    let products = map product_term p.objective in
-    let clauses = map (clause_term (penalty p)) p.clauses in
-    omega (
-      arith,
-      sets_sum-cons grown ([], p.constant) (products ++ clauses),
-      grown-append products clauses,
-      products-grown p.objective,
-      clauses-grown (penalty p) p.clauses,
-    )
+plain-grown p = grind (arith, nat_tests, sets_sum-cons, grown-append, products-grown, clauses-grown)
 
 pub size_within : (p : ProblemContent) → limit_fault normals.Multilinear p ≡ None
     → table_size (image p) ≤ 2 ^ 26

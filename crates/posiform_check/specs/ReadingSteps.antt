@@ -1,5 +1,5 @@
 -- What the steps of the reader give.
-use Rattle.std.specs.Prelude.{ℕ, pos, ◌+ℤ◌, List, [], ◌++◌, fold, Result, Ok}
+use Rattle.std.specs.Prelude.{ℕ, ℤ, pos, ◌+ℤ◌, List, [], ◌++◌, fold, Result, Ok}
 use Rattle.whole_text.specs.declared.faults.TextFault.{TextFault}
 use Rattle.whole_text.specs.Tokens.{Word}
 use Rattle.whole_text.specs.Steps.{◌>>=◌, integer_at}
@@ -20,6 +20,10 @@ abbrev pub line_read : ℕ → Word → List Word → Result (Line × List Word)
 line_read nodes w ws =
     integer_at w >>= λ c. literals_read nodes w.line [] ws
     >>= λ x. Ok (written x.0 c w.line, x.1)
+
+-- the certificate of this bound and these lines
+abbrev pub certificate_of : ℤ → List Line → CertificateContent
+certificate_of bound lines = record { bound = bound; lines = lines }
 
 -- a certificate with one more line
 abbrev pub with_line : CertificateContent → Line → CertificateContent

@@ -8,6 +8,7 @@ ghost use Rattle.term_table.specs.Tables.{with_more, AreAdditions};
 ghost use Rattle.posiform_check.specs.BitForms.{
   bit_sets,
   certificate_list,
+  certificate_terms,
   coupling_sets,
   entry_constant,
   entry_sets,
@@ -192,6 +193,33 @@ pub(crate) fn model_table(
     Ok(terms.into_table())
 }
 
+/// Adds the bound and all lines, multiplied out, to terms of which there are none. Both lists serve
+/// for each line.
+fn add_all(
+    terms: &mut GatheredTerms,
+    line: &mut Vec<Literal>,
+    list: &mut Vec<Literal>,
+    certificate: &Certificate,
+) -> Result<(), NoMemory>
+    requires few { certificate_fault certificate.now ≡ None }
+    requires nodes { AreOfNodes terms.old.width certificate.now }
+    requires none { terms.old.terms ≡ [] }
+    requires list { list.old.items ≡ [] }
+    ensures { OnOk result (terms.new
+        ≡ record { width = terms.old.width; terms = certificate_terms certificate.now }) }
+{
+    add(terms, &[], certificate.bound)?;
+    for LineRef {
+        literals,
+        coefficient,
+        ..
+    } in certificate.lines.iter() {
+        literals.copy_into(line)?;
+        add_plain_terms(terms, list, line, &coefficient)?;
+    }
+    Ok(())
+}
+
 /// The bit form of a certificate: its bound, and its lines multiplied out, summed set by set.
 pub(crate) fn certificate_table(
     alloc: Global,
@@ -206,14 +234,6 @@ pub(crate) fn certificate_table(
     let mut terms = GatheredTerms::new(alloc, nodes);
     let mut line = Vec::new(alloc);
     let mut list = Vec::new(alloc);
-    add(&mut terms, &[], certificate.bound)?;
-    for LineRef {
-        literals,
-        coefficient,
-        ..
-    } in certificate.lines.iter() {
-        literals.copy_into(&mut line)?;
-        add_plain_terms(&mut terms, &mut list, &line, &coefficient)?;
-    }
+    add_all(&mut terms, &mut line, &mut list, certificate)?;
     Ok(terms.into_table())
 }

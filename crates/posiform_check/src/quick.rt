@@ -156,6 +156,33 @@ fn add_line(
     Ok(())
 }
 
+/// Adds all lines, multiplied out: those of more than two literals to the gathered terms, of which
+/// there are none before. Both lists serve for each line.
+fn add_each_line(
+    sums: &mut SetSums,
+    long: &mut GatheredTerms,
+    line: &mut Vec<Literal>,
+    list: &mut Vec<Literal>,
+    certificate: &Certificate,
+) -> Result<(), Unsettled>
+    requires few { certificate_fault certificate.now ≡ None }
+    requires nodes { AreOfNodes long.old.width certificate.now }
+    requires none { long.old.terms ≡ [] }
+    requires list { list.old.items ≡ [] }
+    ensures { OnOk result (HasMore sums.old (flat_map line_terms certificate.now.lines)
+        (sums.new ++ long.new.terms)) }
+{
+    for LineRef {
+        literals,
+        coefficient,
+        ..
+    } in certificate.lines.iter() {
+        literals.copy_into(line)?;
+        add_line(sums, long, list, line, coefficient)?;
+    }
+    Ok(())
+}
+
 /// Adds all lines, multiplied out. Those of more than two literals are summed in a table first, for
 /// most sets of three nodes cancel.
 fn add_lines(
@@ -171,16 +198,26 @@ fn add_lines(
     let mut long = GatheredTerms::new(alloc, nodes);
     let mut line = Vec::new(alloc);
     let mut list = Vec::new(alloc);
-    for LineRef {
-        literals,
-        coefficient,
-        ..
-    } in certificate.lines.iter() {
-        literals.copy_into(&mut line)?;
-        add_line(sums, &mut long, &mut list, &line, coefficient)?;
-    }
-    add_table(sums, &long.into_table())?;
-    Ok(())
+    add_each_line(sums, &mut long, &mut line, &mut list, certificate)?;
+    add_table(sums, &long.into_table())
+}
+
+/// Adds the form of a certificate to no sums, and takes away that of a model.
+fn add_difference(
+    alloc: Global,
+    sums: &mut SetSums,
+    model: &OutputModel,
+    certificate: &Certificate,
+) -> Result<(), Unsettled>
+    requires none { HasNone sums.old }
+    requires accepted { certificate_fault certificate.now ≡ None }
+    requires nodes { AreOfNodes model.now.nodes certificate.now }
+    ensures { OnOk result
+        (HasMore sums.new (model_terms model.now) (certificate_terms certificate.now)) }
+{
+    sums.add_constant(certificate.bound)?;
+    add_lines(alloc, sums, model.nodes as usize, certificate)?;
+    take_entries(sums, model.kind, &model.entries)
 }
 
 /// Ends well only where the model and the certificate have one form.
@@ -194,11 +231,8 @@ pub(crate) fn find_same(
     ensures { IfOk result
         (λ _. AreSameForms (model_terms model.now) (certificate_terms certificate.now)) }
 {
-    let nodes = model.nodes as usize;
-    let mut sums = SetSums::new(alloc, nodes)?;
-    sums.add_constant(certificate.bound)?;
-    add_lines(alloc, &mut sums, nodes, certificate)?;
-    take_entries(&mut sums, model.kind, &model.entries)?;
+    let mut sums = SetSums::new(alloc, model.nodes as usize)?;
+    add_difference(alloc, &mut sums, model, certificate)?;
     if sums.cancel()? {
         Ok(())
     } else {

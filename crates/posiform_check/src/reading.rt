@@ -1,32 +1,52 @@
 //! A certificate's text.
-ghost use Rattle.std.specs.Prelude.{◌≡◌, ◌≤◌, ◌^◌, length, OnOk, IfOk};
+ghost use Rattle.std.specs.Prelude.{◌≡◌, ◌≤◌, ◌^◌, [], length, IfOk};
 ghost use Rattle.whole_text.specs.TokenTexts.{words_of};
 ghost use Rattle.whole_text.specs.Steps.{Gives};
-ghost use Rattle.posiform_check.specs.Certificates.{AreOfNodes};
+ghost use Rattle.posiform_check.specs.Certificates.{AreOfNodes, IsCertificate};
+ghost use Rattle.posiform_check.specs.ReadingSteps.{certificate_of};
 ghost use Rattle.posiform_check.specs.Texts.{reading, reading_of_words};
 
 use crate::certificate::Certificate;
 use crate::lines::LineList;
 use crate::listed::{added, keep_line, line, plus};
+use literal_lists::Literal;
 use std::alloc::Global;
 use whole_text::{Lexer, Style, TextAnswer, TokenText, Words};
 
+/// Puts all lines into a list that is empty, and answers with their bound.
+fn read_lines<'a>(
+    mut words: Words<'a>,
+    nodes: u64,
+    lines: &mut LineList,
+    literals: &mut Vec<Literal>,
+) -> Result<i128, TextAnswer>
+    requires short { length words ≤ 2 ^ 24 }
+    requires none { lines.old ≡ [] }
+    ensures read { Gives (λ bound. certificate_of bound lines.new) result
+        (reading_of_words nodes words.entry) }
+    ensures kept { IfOk result (λ bound. IsCertificate (certificate_of bound lines.new)) }
+    ensures nodes { IfOk result (λ bound. AreOfNodes nodes (certificate_of bound lines.new)) }
+{
+    let mut bound: i128 = 0;
+    let mut next = words.next();
+    while let Some(first) = next {
+        let (coefficient, after) = line(first, &mut words, nodes, literals)?;
+        bound = plus(bound, added(literals, coefficient));
+        keep_line(lines, literals, coefficient, first.line)?;
+        next = after;
+    }
+    Ok(bound)
+}
+
 /// The certificate of all lines.
-fn lines<'a>(alloc: Global, mut words: Words<'a>, nodes: u64) -> Result<Certificate, TextAnswer>
+fn lines<'a>(alloc: Global, words: Words<'a>, nodes: u64) -> Result<Certificate, TextAnswer>
     requires { length words ≤ 2 ^ 24 }
     ensures read { Gives (λ c. c) result (reading_of_words nodes words.entry) }
     ensures nodes { IfOk result (AreOfNodes nodes) }
 {
-    let mut bound: i128 = 0;
     let mut lines = LineList::empty(alloc);
     let mut literals = Vec::new(alloc);
-    let mut next = words.next();
-    while let Some(first) = next {
-        let (coefficient, after) = line(first, &mut words, nodes, &mut literals)?;
-        bound = plus(bound, added(&literals, coefficient));
-        keep_line(&mut lines, &mut literals, coefficient, first.line)?;
-        next = after;
-    }
+    let bound = read_lines(words, nodes, &mut lines, &mut literals)?;
     Ok(Certificate { bound, lines })
 }
 

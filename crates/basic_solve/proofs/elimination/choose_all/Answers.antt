@@ -2,6 +2,7 @@ use Rattle.std.proofs.Common.{◌≡◌, ◌-◌, ◌∙◌, ◌∷◌, ◌++◌
 use Rattle.std.proofs.lemmas.List.{map-append}
 use Rattle.bits_model.specs.Output.{IsPlaced, weight_total}
 use Rattle.basic_solve.specs.Bits.{all_bits}
+use Rattle.basic_solve.specs.Tables.{IsHandedOn}
 use Rattle.basic_solve.proofs.Eliminated.{Eliminated, NextNode, eliminated_at_first, next_node}
 use Rattle.basic_solve.proofs.elimination.choose_all.Given.{Over}
 use Rattle.basic_solve.proofs.elimination.choose_all.Goals.{After-deref-in-loop-step}
@@ -19,15 +20,15 @@ loop-step-init g c =
 -- the node that this step eliminates
 node : (g : Over) (c : After-deref-in-loop-step g)
     → NextNode c.args.model.now c.model.inside.kind c.args.sets.now c.loop-step.step
-    (map all_bits c.loop-step.choices) c.take_last-entries.new.self c.deref.result.now
-    c.take_last-tables.new.self c.deref-in-loop-step.result.now c.list-set.result.now
+    (map all_bits c.loop-step.choices) c.take_last.new.self c.deref.result.now
+    c.take_last-in-loop-step.new.self c.deref-in-loop-step.result.now c.list-set.result.now
     (c.model.inside.nodes - 1 - c.loop-step.step)
 node g c =
     next_node _ _ c.requires.sets _ _ _ _ c.loop-step.invariant _ _ _ _
-    (c.take_last-entries.ensures
-    ∙ ap (λ es. c.take_last-entries.new.self ++ es ∷ []) (sym c.deref.ensures.value))
-    (c.take_last-tables.ensures
-    ∙ ap (λ ts. c.take_last-tables.new.self ++ ts ∷ []) (sym c.deref-in-loop-step.ensures.value))
+    (c.take_last.ensures
+    ∙ ap (λ es. c.take_last.new.self ++ es ∷ []) (sym c.deref.ensures.value))
+    (c.take_last-in-loop-step.ensures
+    ∙ ap (λ ts. c.take_last-in-loop-step.new.self ++ ts ∷ []) (sym c.deref-in-loop-step.ensures.value))
     _ c.list-set.ensures.listed _
     (omega (arith, ap (λ w. w.nodes) c.model.view_is, c.loop-step-test.true))
     _ (ap (λ w. w.kind) c.model.view_is)
@@ -79,6 +80,12 @@ loop-step-preserved g c =
     ∙ map-append all_bits c.loop-step.choices (c.deref-in-loop-step-2.result.now ∷ [])
     ∙ ap (λ b. map all_bits c.loop-step.choices ++ all_bits b ∷ [])
     c.deref-in-loop-step-2.ensures.value in
+    let handed =
+    subst
+    (λ vs. IsHandedOn (record { nodes = c.list-set.result.now; values = vs })
+    c.take_last-in-loop-step.new.self c.pass_table.new.waiting)
+    (λ i. map g.T.Number.value (c.replace-values.ensures.value i).items)
+    c.in_ok-pass_table.ensures in
     subst (Eliminated _ _ _ _ _) (sym pushed)
     ((node g (goal.at.loop-step-preserved g c).After-deref-in-loop-step).next _ bits
-    c.in_ok-settle.ensures _ c.in_ok-pass_table.ensures)
+    c.in_ok-settle.ensures _ handed)

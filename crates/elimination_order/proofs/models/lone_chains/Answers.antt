@@ -1,5 +1,4 @@
-use Rattle.std.proofs.Common.{◌≡◌, sym, subst, rules}
-use Rattle.elimination_order.specs.Renumbered.{AreChainsOf, lone_chains}
+use Rattle.elimination_order.proofs.Common.{◌≡◌, sym, subst, rules, AreChainsOf, lone_chains}
 use Rattle.elimination_order.proofs.Formed.{lone_chains_of}
 use Rattle.elimination_order.proofs.models.lone_chains.Goals as goal
 

@@ -1,5 +1,4 @@
-use Rattle.std.proofs.Common.{◌≡◌, ◌++◌}
-use Rattle.elimination_order.specs.Renumbered.{lone_chains}
+use Rattle.elimination_order.proofs.Common.{◌≡◌, ◌++◌, lone_chains}
 use Rattle.elimination_order.proofs.models.lone_chains.Given as goal
 
 -- the chains so far, and then those of the entries that are left, are all of them

@@ -1,7 +1,4 @@
-use Rattle.std.proofs.Common.{◌≡◌, ◌≤◌, ◌^◌, ◌∙◌, All, pos, sym, ap, subst, refl, arith}
-use Rattle.std.proofs.lemmas.Int.{ints}
-use Rattle.bits_model.specs.Output.{Written, IsPlaced}
-use Rattle.elimination_order.specs.Renumbered.{AreNumbers}
+use Rattle.elimination_order.proofs.Common.{◌≡◌, ◌≤◌, ◌^◌, ◌∙◌, All, pos, sym, ap, subst, refl, arith, ints, Written, IsPlaced, AreNumbers}
 use Rattle.elimination_order.proofs.Formed.{kind_kept, total_kept}
 use Rattle.elimination_order.proofs.models.model_by.Goals as goal
 
@@ -44,9 +41,5 @@ invariant_of-result c =
             ns es formed are refl counted refl (sym c.entries.view_is) made.same c.entries.invariant
             c.in_ok-chains.ensures;
       },
-      omega (
-        arith,
-        total_kept numbers m.entries c.in_ok-entries.entries made.same,
-        c.model.invariant.1,
-      ),
+      omega (arith, total_kept),
     )

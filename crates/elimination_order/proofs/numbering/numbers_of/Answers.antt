@@ -1,5 +1,4 @@
-use Rattle.std.proofs.Common.{length, length-set, ◌∙◌, arith}
-use Rattle.elimination_order.specs.Renumbered.{at_place}
+use Rattle.elimination_order.proofs.Common.{nat_tests, length, length-set, ◌∙◌, arith, at_place}
 use Rattle.elimination_order.proofs.Numbered.{numbers_complete, numbers_more}
 use Rattle.elimination_order.proofs.numbering.numbers_of.Goals as goal
 
@@ -15,8 +14,4 @@ loop-k-preserved c =
     }
 
 pub returns : goal.returns
-returns c =
-    let so_far = c.loop-k.invariant in
-    numbers_complete (length c.args.names.now) c.args.names.now c.loop-k.numbers.items
-    c.requires.nodes so_far.long
-    (λ k h. so_far.so_far k (omega (arith, h, c.loop-k-test.false)))
+returns c = grind (arith, nat_tests, numbers_complete)

@@ -1,5 +1,4 @@
-use Rattle.std.proofs.Common.{◌≡◌, ◌<◌, ℕ, length}
-use Rattle.elimination_order.specs.Renumbered.{at_place}
+use Rattle.elimination_order.proofs.Common.{◌≡◌, ◌<◌, ℕ, length, at_place}
 use Rattle.elimination_order.proofs.numbering.numbers_of.Given as goal
 
 -- the nodes so far have their numbers

@@ -1,7 +1,4 @@
-use Rattle.std.proofs.Common.{◌≡◌, [], ◌∷◌, ◌++◌, Bool, length, length-set, set, true, sym, ap, subst, ◌∙◌, arith}
-use Rattle.std.proofs.lemmas.Result.{err_from_is_err_and}
-use Rattle.whole_text.specs.TokenTexts.{word_of}
-use Rattle.elimination_order.specs.Orders.{AreMarks, after_front, nodes_at}
+use Rattle.elimination_order.proofs.Common.{nat_tests, ◌≡◌, [], ◌∷◌, ◌++◌, Bool, length, length-set, set, true, sym, ap, subst, ◌∙◌, arith, err_from_is_err_and, word_of, AreMarks, after_front, nodes_at}
 use Rattle.elimination_order.proofs.Named.{named_more, named_fault, named_end, marks_more}
 use Rattle.elimination_order.proofs.reading.read_words.Goals as goal
 
@@ -38,9 +35,4 @@ loop-word-preserved c =
     }
 
 pub returns : goal.returns
-returns c =
-    let front = c.loop-word.order.items in
-    let nodes = length c.loop-word.marks in
-    sym c.loop-word.invariant.read
-    ∙ ap (λ ws. after_front front (nodes_at nodes front ws)) c.in_default.ensures.0
-    ∙ named_end nodes front
+returns c = grind (arith, nat_tests, named_end)

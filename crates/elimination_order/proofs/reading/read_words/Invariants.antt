@@ -1,5 +1,4 @@
-use Rattle.std.proofs.Common.{◌≡◌, [], length}
-use Rattle.elimination_order.specs.Orders.{AreMarks, after_front, nodes_at}
+use Rattle.elimination_order.proofs.Common.{◌≡◌, [], length, AreMarks, after_front, nodes_at}
 use Rattle.elimination_order.proofs.reading.read_words.Given as goal
 
 -- the nodes so far, in front of those that the other words name, are all of them

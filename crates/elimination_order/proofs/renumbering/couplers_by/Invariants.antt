@@ -1,5 +1,4 @@
-use Rattle.std.proofs.Common.{◌≡◌, ◌++◌, map}
-use Rattle.elimination_order.specs.Renumbered.{renumbered}
+use Rattle.elimination_order.proofs.Common.{◌≡◌, ◌++◌, map, renumbered}
 use Rattle.elimination_order.proofs.renumbering.couplers_by.Given as goal
 
 -- the couplers so far, and then those that are left, are all of them

@@ -1,7 +1,4 @@
-use Rattle.std.proofs.Common.{◌≡◌, ◌++◌, All, length, map, sym, subst, rules}
-use Rattle.std.specs.List.Sorted.{IsPermutation, IsStrictlySortedBy}
-use Rattle.bits_model.specs.Output.{IsPlaced, entry_cmp}
-use Rattle.elimination_order.specs.Renumbered.{renumbered}
+use Rattle.elimination_order.proofs.Common.{arith, nat_tests, ◌≡◌, ◌++◌, All, length, map, sym, subst, rules, IsPermutation, IsStrictlySortedBy, IsPlaced, entry_cmp, renumbered}
 use Rattle.elimination_order.proofs.Kept.{all_shuffled_by, couplers_kept, placed_kept}
 use Rattle.elimination_order.proofs.Rising.{renumbered_ordered}
 use Rattle.elimination_order.proofs.renumbering.entries_by.Goals as goal
@@ -20,22 +17,7 @@ invariant_of-result c =
     (subst (All (IsPlaced (length numbers))) view c.requires.placed) c.entries.invariant moved
 
 pub returns-clause-same : goal.returns-clause-same
-returns-clause-same c =
-    let numbers = c.args.numbering.now.numbers.items in
-    let ns = c.entries.inside.nodes in
-    let es = c.entries.inside.couplers in
-    let view : c.args.entries.now ≡ ns ++ es = search rules in
-    let one : c.deref.result.now ≡ numbers = search rules in
-    let two : c.deref-2.result.now ≡ numbers = search rules in
-    let held : c.in_ok-nodes.nodes ≡ c.in_ok-sorted.sorted = search rules in
-    let nodes = subst (λ xs. IsPermutation (map (renumbered xs) ns) c.in_ok-sorted.sorted) one
-    c.in_ok-sorted.ensures.same in
-    let couplers = subst (λ xs. IsPermutation (map (renumbered xs) es) c.in_ok-couplers.couplers) two
-    c.in_ok-couplers.ensures.same in
-    subst (λ xs. IsPermutation (map (renumbered numbers) xs) (c.in_ok-nodes.nodes ++ c.in_ok-couplers.couplers))
-    (sym view)
-    (all_shuffled_by numbers ns es c.in_ok-nodes.nodes c.in_ok-couplers.couplers
-    (subst (IsPermutation (map (renumbered numbers) ns)) (sym held) nodes) couplers)
+returns-clause-same c = grind (arith, nat_tests, all_shuffled_by)
 
 pub returns-clause-placed : goal.returns-clause-placed
 returns-clause-placed c =

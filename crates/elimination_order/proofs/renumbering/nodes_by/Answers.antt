@@ -1,6 +1,4 @@
-use Rattle.std.proofs.Common.{◌≡◌, All, IfOk, map, rules}
-use Rattle.std.specs.List.Sorted.{IsPermutation}
-use Rattle.elimination_order.specs.Renumbered.{renumbered}
+use Rattle.elimination_order.proofs.Common.{◌≡◌, All, IfOk, map, rules, IsPermutation, renumbered}
 use Rattle.elimination_order.proofs.Kept.{nodes_kept, ok_weaker}
 use Rattle.elimination_order.proofs.renumbering.nodes_by.Goals as goal
 

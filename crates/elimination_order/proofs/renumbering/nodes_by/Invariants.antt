@@ -1,5 +1,4 @@
-use Rattle.std.proofs.Common.{◌≡◌, ◌++◌, map}
-use Rattle.elimination_order.specs.Renumbered.{renumbered}
+use Rattle.elimination_order.proofs.Common.{◌≡◌, ◌++◌, map, renumbered}
 use Rattle.elimination_order.proofs.renumbering.nodes_by.Given as goal
 
 -- the entries so far, and then those that are left, are all of them

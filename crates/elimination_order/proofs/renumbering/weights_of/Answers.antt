@@ -1,6 +1,4 @@
-use Rattle.std.proofs.Common.{◌≡◌, ◌++◌, ◌∷◌, [], length, sym, ap, subst, ◌∙◌, arith, rules, length-append}
-use Rattle.std.specs.List.{AllByRecursion}
-use Rattle.bits_model.specs.Entries.{listed_entries}
+use Rattle.elimination_order.proofs.Common.{◌≡◌, ◌++◌, ◌∷◌, [], length, sym, ap, subst, ◌∙◌, arith, rules, length-append, AllByRecursion, listed_entries}
 use Rattle.elimination_order.proofs.Weighed.{all-push}
 use Rattle.elimination_order.proofs.renumbering.weights_of.Goals as goal
 

@@ -1,6 +1,4 @@
-use Rattle.std.proofs.Common.{◌≡◌, ◌++◌, length}
-use Rattle.bits_model.specs.Entries.{listed_entries}
-use Rattle.std.specs.List.{AllByRecursion}
+use Rattle.elimination_order.proofs.Common.{◌≡◌, ◌++◌, length, listed_entries, AllByRecursion}
 use Rattle.elimination_order.proofs.renumbering.weights_of.Given as goal
 
 -- the entries so far, and then those that are left, are all of them

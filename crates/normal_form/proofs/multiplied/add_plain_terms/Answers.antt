@@ -1,4 +1,3 @@
-use Rattle.std.proofs.Common.{refl}
 use Rattle.normal_form.proofs.PlainSteps.{coefficient_small, room-additions}
 use Rattle.normal_form.proofs.multiplied.add_plain_terms.Goals as goal
 

@@ -1,12 +1,4 @@
-use Rattle.std.proofs.Common.{rules, ◌≡◌, ap, sym, ◌∙◌, subst}
-use Rattle.std.specs.Int.{w128}
-use Rattle.std.proofs.lemmas.Int.{to_z-of_z}
-use Rattle.std.proofs.lemmas.Map.Iter.{rest_more}
-use Rattle.term_table.specs.Terms.{terms_cost}
-use Rattle.term_table.specs.Tables.{KeptTable, kept_at_once, with_more}
-use Rattle.term_table.specs.MultipliedOut.{contributions}
-use Rattle.normal_form.specs.Multilinear.{expanded, multiplied, IsMultilinear}
-use Rattle.normal_form.specs.laws.Relaxing.{cost_expanded}
+use Rattle.normal_form.proofs.Common.{rules, ◌≡◌, ap, sym, ◌∙◌, subst, w128, to_z-of_z, rest_more, terms_cost, KeptTable, kept_at_once, with_more, contributions, expanded, multiplied, IsMultilinear, cost_expanded}
 use Rattle.normal_form.proofs.Expanded.{AreAdditions-multiplied, multilinear-expanded, next_additions, next_whole}
 use Rattle.normal_form.proofs.multiplied.expand.Goals as goal
 

@@ -1,7 +1,4 @@
-use Rattle.std.proofs.Common.{◌≡◌, []}
-use Rattle.term_table.specs.Tables.{AreAdditions, with_more}
-use Rattle.term_table.specs.MultipliedOut.{contributions}
-use Rattle.normal_form.specs.Multilinear.{multiplied}
+use Rattle.normal_form.proofs.Common.{◌≡◌, [], AreAdditions, with_more, contributions, multiplied}
 use Rattle.normal_form.proofs.multiplied.expand.Given as goal
 
 -- what the terms that are left are multiplied out to makes up the rest, and all of it fits

@@ -1,6 +1,4 @@
-use Rattle.std.proofs.lemmas.List.Elements.{All-more}
-use Rattle.literal_lists.specs.declared.literal.Literal.{Literal}
-use Rattle.std.proofs.Common.{rules, ◌≡◌, false}
+use Rattle.normal_form.proofs.Common.{All-more, Literal, rules, ◌≡◌, false}
 use Rattle.normal_form.proofs.multiplied.first_complement.Goals as goal
 
 pub loop-place-preserved : goal.loop-place-preserved

@@ -1,5 +1,4 @@
-use Rattle.std.proofs.Common.{take}
-use Rattle.term_table.specs.MultipliedOut.{ArePlain}
+use Rattle.normal_form.proofs.Common.{take, ArePlain}
 use Rattle.normal_form.proofs.multiplied.first_complement.Given as goal
 
 -- the literals so far are no complements

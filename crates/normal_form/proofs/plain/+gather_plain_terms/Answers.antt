@@ -1,12 +1,4 @@
-use Rattle.std.proofs.Common.{rules, ◌≡◌, ◌+◌, ◌-◌, ◌++◌, [], ◌∷◌, length, take, drop, get_or, neg_ℤ, unsigned_abs, false, subst, arith, ◌∙◌, ap, sym, to_z, of_z}
-use Rattle.std.specs.Int.{w128}
-use Rattle.std.proofs.lemmas.Int.{ints, to_z-of_z}
-use Rattle.std.proofs.lemmas.List.{take_all, length-drop}
-use Rattle.literal_lists.specs.declared.literal.Literal.{Literal}
-use Rattle.term_table.specs.MultipliedOut.{plain, plain_terms}
-use Rattle.term_table.specs.Rooms.{Fills}
-use Rattle.term_table.proofs.Filling.{fills_as, fills_more, fills_same, room_as, room_first, room_next, room_same}
-use Rattle.normal_form.specs.Behind.{behind}
+use Rattle.normal_form.proofs.Common.{rules, ◌≡◌, ◌+◌, ◌-◌, ◌++◌, [], ◌∷◌, length, take, drop, get_or, neg_ℤ, unsigned_abs, false, subst, arith, ◌∙◌, ap, sym, to_z, of_z, w128, ints, to_z-of_z, take_all, length-drop, Literal, plain, plain_terms, Fills, fills_as, fills_more, fills_same, room_as, room_first, room_next, room_same, behind}
 use Rattle.normal_form.proofs.PlainSteps.{last_terms, more_terms}
 use Rattle.normal_form.proofs.plain.+gather_plain_terms.Goals as goal
 use Rattle.normal_form.proofs.plain.+gather_plain_terms.Goals.{then-place-literals+in_ok-gather, else-place-literals+in_ok-gather_plain_terms+in_ok-push+in_ok-gather_plain_terms-2}

@@ -1,70 +1,14 @@
-use Rattle.std.proofs.Common.{rules, ◌≡◌, ◌∙◌, ap, [], ◌∷◌, to_z, of_z}
-use Rattle.std.specs.Int.{w128}
-use Rattle.std.specs.List.{flat_map}
-use Rattle.term_table.specs.Tables.{with_more}
-use Rattle.posiform_check.specs.declared.lines.Line.{Line}
-use Rattle.posiform_check.specs.BitForms.{line_terms}
-use Rattle.posiform_check.specs.Certificates.{IsCertificate}
-use Rattle.posiform_check.proofs.Gathering.{certificate_fits, bound_fits, bound_left, behind_fits, behind_left}
+use Rattle.std.proofs.Common.{sym, subst}
+use Rattle.posiform_check.specs.Certificates.{AreOfNodes}
 use Rattle.posiform_check.proofs.forms.certificate_table.Goals as goal
 
-pub add-requires : goal.add-requires
-add-requires c =
-    let cert = c.args.certificate.now in
-    let is : IsCertificate cert = search rules in
-    let bound : to_z w128 (of_z w128 c.certificate.inside.bound) ≡ cert.bound = search rules in
-    rw bound
-    (rw c.new-terms.ensures
-    (bound_fits c.args.nodes cert
-    (certificate_fits c.args.nodes cert is c.requires.few c.requires.nodes)))
+pub add_all-requires-clause-nodes : goal.add_all-requires-clause-nodes
+add_all-requires-clause-nodes c =
+    subst (λ n. AreOfNodes n c.args.certificate.now) (λ i. (sym c.new-terms.ensures i).width)
+    c.requires.nodes
 
-pub loop-literals-init : goal.loop-literals-init
-loop-literals-init c =
-    let cert = c.args.certificate.now in
-    let is : IsCertificate cert = search rules in
-    let bound : to_z w128 (of_z w128 c.certificate.inside.bound) ≡ cert.bound = search rules in
-    let items : c.into_iter-literals-iterator.result ≡ cert.lines = search rules in
-    let made =
-    c.in_ok-add.ensures ∙ (λ i. with_more (c.new-terms.ensures i) (([], bound i) ∷ [])) in
-    record {
-      whole = (λ i. with_more c.add.new.terms (flat_map line_terms (items i)))
-          ∙ bound_left c.args.nodes cert c.add.new.terms made;
-      fits = certificate_fits c.args.nodes cert is c.requires.few c.requires.nodes;
-      list = c.new-list.ensures.items;
-    }
+pub add_all-requires-clause-none : goal.add_all-requires-clause-none
+add_all-requires-clause-none c = λ i. (c.new-terms.ensures i).terms
 
-pub add_plain_terms-requires : goal.add_plain_terms-requires
-add_plain_terms-requires c =
-    let h = c.loop-literals.invariant in
-    let l : Line = c.in-Some.field-0 in
-    let parts = c.literals.inside in
-    let set : c.deref.result.now ≡ l.literals =
-    c.deref.ensures.value ∙ c.in_ok-copy_into.ensures
-    ∙ ap (λ (k : Line). k.literals) c.literals.view_is in
-    let whole : to_z w128 (of_z w128 parts.coefficient) ≡ parts.coefficient = search rules in
-    let coefficient : to_z w128 (of_z w128 parts.coefficient) ≡ l.coefficient =
-    whole ∙ ap (λ (k : Line). k.coefficient) c.literals.view_is in
-    rw (set, coefficient)
-    (behind_fits c.loop-literals.terms _ c.loop-literals.list.items l
-    c.loop-literals.literals-iterator c.next.new.self c.in-Some.ensures.steps h.list h.whole h.fits)
-
-pub loop-literals-preserved : goal.loop-literals-preserved
-loop-literals-preserved c =
-    let h = c.loop-literals.invariant in
-    let l : Line = c.in-Some.field-0 in
-    let parts = c.literals.inside in
-    let set : c.deref.result.now ≡ l.literals =
-    c.deref.ensures.value ∙ c.in_ok-copy_into.ensures
-    ∙ ap (λ (k : Line). k.literals) c.literals.view_is in
-    let whole : to_z w128 (of_z w128 parts.coefficient) ≡ parts.coefficient = search rules in
-    let coefficient : to_z w128 (of_z w128 parts.coefficient) ≡ l.coefficient =
-    whole ∙ ap (λ (k : Line). k.coefficient) c.literals.view_is in
-    let made = rw (set, coefficient) at c.in_ok-add_plain_terms.ensures.added in
-    record {
-      whole =
-          behind_left c.loop-literals.terms c.add_plain_terms.new.terms _
-          c.loop-literals.list.items l c.loop-literals.literals-iterator c.next.new.self
-          c.in-Some.ensures.steps h.list h.whole made;
-      fits = h.fits;
-      list = c.in_ok-add_plain_terms.ensures.kept ∙ h.list;
-    }
+pub add_all-requires-clause-list : goal.add_all-requires-clause-list
+add_all-requires-clause-list c = c.new-list.ensures.items

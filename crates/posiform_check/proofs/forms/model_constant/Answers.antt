@@ -1,6 +1,6 @@
 use Rattle.std.proofs.Common.{◌≡◌, ◌+ℤ◌, ap, to_z, of_z, arith}
 use Rattle.std.specs.Int.{w128}
-use Rattle.std.proofs.lemmas.Int.{ints}
+use Rattle.std.proofs.lemmas.Int.{ints, fits_signed_from_abs}
 use Rattle.std.proofs.lemmas.Map.Iter.{rest_more}
 use Rattle.base.specs.Sums.{total_by}
 use Rattle.base.proofs.Totals.{size-plus}
@@ -31,3 +31,29 @@ loop-entry-preserved c =
       so_far = rw value (omega (arith, ints, total, h.so_far));
       small = rw value (omega (arith, size, small, size-plus sum k, h.small));
     }
+
+pub constant_of-sum-requires : goal.constant_of-sum-requires
+constant_of-sum-requires c =
+    let left =
+    rest_more _ c.loop-entry.entry-iterator c.next.new.self c.next.result c.in-Some.entry
+    c.in-Some.is c.next.ensures.steps in
+    omega (
+      arith,
+      weight_left c.loop-entry.entry-iterator c.next.new.self c.in-Some.entry left,
+      c.loop-entry.invariant.small,
+    )
+
+pub overflow_add-sum : goal.overflow_add-sum
+overflow_add-sum c =
+    let left =
+    rest_more _ c.loop-entry.entry-iterator c.next.new.self c.next.result c.in-Some.entry
+    c.in-Some.is c.next.ensures.steps in
+    fits_signed_from_abs w128 _
+    (omega (
+      arith,
+      ints,
+      c.constant_of-sum.ensures,
+      weight_left c.loop-entry.entry-iterator c.next.new.self c.in-Some.entry left,
+      constant-size c.args.kind c.in-Some.entry,
+      c.loop-entry.invariant.small,
+    ))

@@ -1,94 +1,36 @@
-use Rattle.std.proofs.Common.{rules, ◌≡◌, ◌∙◌, ap, [], to_z, of_z, arith}
-use Rattle.std.specs.Int.{w128}
-use Rattle.std.specs.List.{flat_map}
+use Rattle.std.proofs.Common.{ap, sym, subst, arith}
 use Rattle.std.proofs.lemmas.Int.{ints}
+use Rattle.std.proofs.lemmas.Result.{on_ok_weaker}
 use Rattle.term_table.specs.Terms.{coefficient_of}
 use Rattle.term_table.specs.Tables.{KeptTable}
 use Rattle.term_table.proofs.Additions.{coefficient_of-with_additions}
-use Rattle.posiform_check.specs.declared.lines.Line.{Line}
-use Rattle.posiform_check.specs.BitForms.{line_terms}
-use Rattle.posiform_check.specs.Certificates.{IsCertificate}
+use Rattle.posiform_check.specs.Certificates.{AreOfNodes}
 use Rattle.posiform_check.proofs.Sums.{coefficients-append}
-use Rattle.posiform_check.proofs.SumLines.{lines_fit, next_line_fits, split_lines}
 use Rattle.posiform_check.proofs.quick.add_lines.Goals as goal
 
-pub loop-literals-init : goal.loop-literals-init
-loop-literals-init c =
-    let cert = c.args.certificate.now in
-    let is : IsCertificate cert = search rules in
-    let items : c.into_iter-literals-iterator.result ≡ cert.lines = search rules in
-    let empty = c.new-long.ensures in
-    let none : c.new-long.result.terms ≡ [] = λ i. (empty i).terms in
-    record {
-      whole = λ set.
-          omega (
-            arith,
-            ints,
-            coefficients-append set c.args.sums.now c.new-long.result.terms,
-            ap (coefficient_of set) none,
-            ap (λ ls. coefficient_of set (flat_map line_terms ls)) items,
-          );
-      fits = rw (empty, items) (lines_fit c.args.nodes cert is c.requires.few c.requires.nodes);
-      list = c.new-list.ensures.items;
-    }
+pub add_each_line-requires-clause-nodes : goal.add_each_line-requires-clause-nodes
+add_each_line-requires-clause-nodes c =
+    subst (λ n. AreOfNodes n c.args.certificate.now) (λ i. (sym c.new-long.ensures i).width)
+    c.requires.nodes
 
-pub add_line-requires-clause-fits : goal.add_line-requires-clause-fits
-add_line-requires-clause-fits c =
-    let l : Line = c.in-Some.field-0 in
-    let parts = c.literals.inside in
-    let set : c.deref.result.now ≡ l.literals =
-    c.deref.ensures.value ∙ c.in_ok-copy_into.ensures
-    ∙ ap (λ (k : Line). k.literals) c.literals.view_is in
-    let whole : to_z w128 (of_z w128 parts.coefficient) ≡ parts.coefficient = search rules in
-    let coefficient : to_z w128 (of_z w128 parts.coefficient) ≡ l.coefficient =
-    whole ∙ ap (λ (k : Line). k.coefficient) c.literals.view_is in
-    rw (set, coefficient)
-    (next_line_fits c.loop-literals.long l c.loop-literals.literals-iterator c.next.new.self
-    c.in-Some.ensures.steps c.loop-literals.invariant.fits)
+pub add_each_line-requires-clause-none : goal.add_each_line-requires-clause-none
+add_each_line-requires-clause-none c = λ i. (c.new-long.ensures i).terms
 
-pub loop-literals-preserved : goal.loop-literals-preserved
-loop-literals-preserved c =
-    let h = c.loop-literals.invariant in
-    let l : Line = c.in-Some.field-0 in
-    let parts = c.literals.inside in
-    let set : c.deref.result.now ≡ l.literals =
-    c.deref.ensures.value ∙ c.in_ok-copy_into.ensures
-    ∙ ap (λ (k : Line). k.literals) c.literals.view_is in
-    let whole : to_z w128 (of_z w128 parts.coefficient) ≡ parts.coefficient = search rules in
-    let coefficient : to_z w128 (of_z w128 parts.coefficient) ≡ l.coefficient =
-    whole ∙ ap (λ (k : Line). k.coefficient) c.literals.view_is in
-    let steps = c.in-Some.ensures.steps in
-    let left = c.loop-literals.literals-iterator in
-    let rest = c.next.new.self in
-    let added = rw (set, coefficient) at c.in_ok-add_line.ensures.added in
-    let kept = rw (set, coefficient) at c.in_ok-add_line.ensures.left in
-    record {
-      whole = λ ks.
-          omega (
-            arith,
-            ints,
-            h.whole ks,
-            ap (λ ls. coefficient_of ks (flat_map line_terms ls)) steps,
-            coefficients-append ks (line_terms l) (flat_map line_terms rest),
-            added ks,
-          );
-      fits = kept (flat_map line_terms rest)
-          (split_lines c.loop-literals.long l left rest steps h.fits);
-      list = c.in_ok-add_line.ensures.list;
-    }
+pub add_each_line-requires-clause-list : goal.add_each_line-requires-clause-list
+add_each_line-requires-clause-list c = c.new-list.ensures.items
 
 pub returns : goal.returns
 returns c =
-    let h = c.loop-literals.invariant in
-    let made = c.into_table.ensures in
-    λ set.
+    let long = c.add_each_line.new.long.terms in
+    on_ok_weaker c.add_table.result
+    (λ more set.
     omega (
       arith,
       ints,
-      h.whole set,
-      ap (λ ls. coefficient_of set (flat_map line_terms ls)) c.in-None.ensures.steps.0,
-      coefficients-append set c.loop-literals.sums c.loop-literals.long.terms,
-      c.in_ok-add_table.ensures set,
-      ap (λ (t : KeptTable). coefficient_of set t.content.terms) made,
-      coefficient_of-with_additions set c.loop-literals.long.terms,
-    )
+      c.in_ok-add_each_line.ensures set,
+      coefficients-append set c.add_each_line.new.sums long,
+      more set,
+      ap (λ (t : KeptTable). coefficient_of set t.content.terms) c.into_table.ensures,
+      coefficient_of-with_additions set long,
+    ))
+    c.add_table.ensures

@@ -1,12 +1,6 @@
-use Rattle.std.proofs.Common.{List, Bool, subst, sym}
-use Rattle.std.proofs.lemmas.Result.{IfOk-weaker}
-use Rattle.form_steps.specs.Links.{first_bits}
-use Rattle.form_steps.specs.Relations.{ExtendsLeast}
+use Rattle.normal_form.proofs.Common.{List, Bool, subst, sym, IfOk-weaker, first_bits, ExtendsLeast, figures, image, multilinear_extends}
 use Rattle.problem_form.specs.Problems as problems
 use Rattle.term_table.specs.Tables as tables
-use Rattle.penalty_layer.specs.Penalty.{figures}
-use Rattle.normal_form.specs.Multilinear.{image}
-use Rattle.normal_form.specs.laws.Relaxing.{multilinear_extends}
 use Rattle.normal_form.proofs.multilinear.MultilinearFormGuard.extend.Goals as goal
 
 pub returns-clause-least : goal.returns-clause-least

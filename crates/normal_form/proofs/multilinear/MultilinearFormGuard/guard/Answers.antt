@@ -1,6 +1,4 @@
-use Rattle.std.proofs.Common.{◌≡◌, ap, ◌∙◌}
-use Rattle.term_table.specs.Tables.{KeptTable, kept_at_once}
-use Rattle.normal_form.specs.Multilinear.{expanded, image}
+use Rattle.normal_form.proofs.Common.{◌≡◌, ap, ◌∙◌, KeptTable, kept_at_once, expanded, image}
 use Rattle.normal_form.proofs.Limits.{penalty_admits}
 use Rattle.normal_form.proofs.Admitted.{few-image, total-expanded, relaxes-made, size-made}
 use Rattle.normal_form.proofs.multilinear.MultilinearFormGuard.guard.Goals as goal

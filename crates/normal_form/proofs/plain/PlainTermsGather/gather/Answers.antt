@@ -1,13 +1,4 @@
-use Rattle.std.proofs.Common.{rules, ◌∷◌, refl, subst, sym, to_z, of_z}
-use Rattle.std.specs.Int.{w128}
-use Rattle.std.proofs.lemmas.Int.{to_z-of_z}
-use Rattle.std.proofs.lemmas.List.Elements.{All-head, All-tail}
-use Rattle.std.proofs.lemmas.Result.{on_ok_weaker}
-use Rattle.term_table.specs.Tables.{with_appended}
-use Rattle.term_table.specs.MultipliedOut.{contributions}
-use Rattle.term_table.proofs.Filled.{fills_if_ok}
-use Rattle.term_table.proofs.Filling.{room_as}
-use Rattle.normal_form.specs.Multilinear.{IsSmall, multiplied}
+use Rattle.normal_form.proofs.Common.{rules, ◌∷◌, refl, subst, sym, to_z, of_z, w128, to_z-of_z, All-head, All-tail, on_ok_weaker, with_appended, contributions, fills_if_ok, room_as, IsSmall, multiplied}
 use Rattle.normal_form.proofs.Gathered.{held-alone, held-multiplied, room-alone, room-multiplied, takes-alone, takes-multiplied}
 use Rattle.normal_form.proofs.plain.PlainTermsGather.gather.Goals as goal
 
@@ -62,13 +53,12 @@ gather_plain_terms-requires-clause-small g c =
 pub returns-clause-added : goal.returns-clause-added
 returns-clause-added g c t held =
     let ls = c.args.literals.now in
-    let k = c.args.coefficient in
-    let back = to_z-of_z w128 k (search rules) in
+    let back = to_z-of_z w128 c.args.coefficient (search rules) in
     let new = c.gather_plain_terms.new.terms in
     on_ok_weaker c.gather_plain_terms.result
     (λ fills. subst (λ z. g.T.Gather.holds new (multiplied (with_appended t ls z))) back
     (held-multiplied g.T.Gather.takes g.T.Gather.holds _ _ c.clear.new.self.items ls
-    (to_z w128 (of_z w128 k)) (search rules) fills t held))
+    (to_z w128 (of_z w128 c.args.coefficient)) (search rules) fills t held))
     c.gather_plain_terms.ensures.gathered
 
 pub returns-clause-takes : goal.returns-clause-takes

@@ -12,7 +12,7 @@ use Rattle.posiform_check.specs.Texts.{written, bound_of, kept_line}
 use Rattle.posiform_check.specs.ReadingSteps.{with_line, lines_put}
 use Rattle.posiform_check.proofs.ReadSteps.{line_goes_on, line_fails, lines_end, lines_all, next_left}
 use Rattle.posiform_check.proofs.KeptLines.{more_good, more_within, with_line-total}
-use Rattle.posiform_check.proofs.reading.lines.Goals as goal
+use Rattle.posiform_check.proofs.reading.read_lines.Goals as goal
 
 abbrev so_far : ℤ → List Line → CertificateContent
 so_far bound lines = record { bound = bound; lines = lines }
@@ -66,12 +66,12 @@ loop-next-init c =
     let next = c.next-next.result in
     let whole : left next c.next-next.new.self ≡ c.args.words =
     next_left next c.args.words c.next-next.new.self c.next-next.ensures in
-    let empty : c.empty-lines.result ≡ [] = c.empty-lines.ensures in
+    let empty = c.requires.none in
     record {
       read = (λ i. lines_put c.args.nodes (so_far (pos 0) (empty i)) (whole i))
           ∙ lines_all c.args.nodes c.args.words;
       lines = rw empty (All-nil IsLine);
-      small = rw (empty, whole) (omega (arith, c.requires));
+      small = rw (empty, whole) (omega (arith, c.requires.short));
       nodes = rw empty (All-nil _);
     }
 

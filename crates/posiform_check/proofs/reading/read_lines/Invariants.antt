@@ -3,7 +3,7 @@ use Rattle.whole_text.specs.Rows.{left}
 use Rattle.posiform_check.specs.Certificates.{IsLine, certificate_total, AreOfNodes}
 use Rattle.posiform_check.specs.Texts.{reading_of_words}
 use Rattle.posiform_check.specs.ReadingSteps.{lines_put}
-use Rattle.posiform_check.proofs.reading.lines.Given as goal
+use Rattle.posiform_check.proofs.reading.read_lines.Given as goal
 
 -- the certificate so far, with the lines that are left, is that of all; and each took a word at
 -- least, and added less than 2 ^ 64 to its numbers

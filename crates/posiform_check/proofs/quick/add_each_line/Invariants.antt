@@ -4,7 +4,7 @@ use Rattle.literal_lists.specs.declared.literal.Literal.{Literal}
 use Rattle.term_table.specs.Terms.{coefficient_of}
 use Rattle.term_table.specs.Tables.{AreAdditions, with_more}
 use Rattle.posiform_check.specs.BitForms.{line_terms}
-use Rattle.posiform_check.proofs.quick.add_lines.Given as goal
+use Rattle.posiform_check.proofs.quick.add_each_line.Given as goal
 
 -- the sums, the gathered terms and those of the lines that are left are the sums at first and all
 -- lines; and what is left fits
