@@ -1,28 +1,6 @@
 -- Steps of the layer's loops, over plain lists.
-use Rattle.std.proofs.Common.{◌≡◌, ◌≢◌, inl, inr, ℕ, zero, suc, ◌+◌, ◌*◌, ◌<◌, ◌≤◌, ◌^◌, Bool, true, false, cond, ◌||◌, List, [], ◌∷◌, ◌++◌, map, length, take, drop, get_or, set, replicate, fold, ℤ, pos, negsuc, ◌+ℤ◌, unsigned_abs, neg_ℤ, div-le_self, refl, sym, ap, subst, ◌∙◌, arith, append_assoc, append-nil, map-id, sum_by, flat_map}
-use Rattle.std.specs.Prelude.{◌==◌, All}
-use Rattle.std.specs.List.{AllByRecursion, AllZip, list_any, range_with_len}
-use Rattle.std.specs.Int.{int_div_euclid, int_rem_euclid}
-use Rattle.std.proofs.lemmas.Int.{ints}
-use Rattle.std.proofs.lemmas.Bool.{eq-eqb, ne_eqb, cases_eq, cases_lt, or_from}
-use Rattle.std.proofs.lemmas.List.{drop_more, drop_all, take_all, flat_map_more, get_or_past, get_or-set_same, get_or-set_other, length-set, length-map, length-replicate, get_or-replicate}
-use Rattle.std.proofs.lemmas.List.FromFn.{fill_by_all, get_or-map-range_with_len, length-map-range_with_len, map-range_with_len_more}
-use Rattle.std.proofs.lemmas.List.Sums.{sum_by-cons, sum_by_push, sum_by-append, fold-append}
-use Rattle.base.specs.Sums.{if_so}
-use Rattle.base.proofs.Totals.{total_by_push}
-use Rattle.bits_model.specs.declared.output.Entry.{Entry}
-use Rattle.bits_model.specs.Output.{weight_total}
-use Rattle.quad_form.specs.Quads.{node_entries, IsCoupler}
-use Rattle.quad_form.proofs.NodeEnergies.{weights_within}
-use Rattle.embedding_check.specs.Embeddings.{Embedding}
-use Rattle.chain_map.specs.Chains.{chain_of}
+use Rattle.chain_layer.proofs.Common.{nat_tests, elements, ◌≡◌, ◌≢◌, inl, inr, ℕ, zero, suc, ◌+◌, ◌*◌, ◌<◌, ◌≤◌, ◌^◌, Bool, cond, ◌||◌, List, [], ◌∷◌, ◌++◌, map, length, take, drop, get_or, set, replicate, fold, ℤ, pos, ◌+ℤ◌, unsigned_abs, neg_ℤ, sym, ap, subst, ◌∙◌, arith, append_assoc, append-nil, map-id, sum_by, flat_map, ◌==◌, All, AllByRecursion, AllZip, list_any, range_with_len, int_div_euclid, int_rem_euclid, ints, cases_eq, drop_more, drop_all, take_all, flat_map_more, get_or_past, get_or-set_same, get_or-set_other, length-set, length-map, length-replicate, get_or-replicate, fill_by_all, get_or-map-range_with_len, length-map-range_with_len, map-range_with_len_more, sum_by-cons, sum_by_push, sum_by-append, fold-append, if_so, total_by_push, Entry, weight_total, node_entries, IsCoupler, weights_within, Embedding, chain_of, nodes_of, field_of, strength, coupling_entry, field_at, equal_shares, shares, placed, ties, couplings_at, recursion_from_All, All-from_recursion, IsNode, shares_size, weights_of_equal, added, AllZip-long, list_any-append, get_or-map}
 use Rattle.chain_layer.proofs.Ordered.{ties_at}
-use Rattle.chain_layer.specs.Image.{nodes_of, field_of, strength, coupling_entry, field_at, equal_shares, shares, placed, ties, couplings_at}
-use Rattle.std.proofs.lemmas.List.{length-drop}
-use Rattle.std.proofs.lemmas.List.Elements.{length_all_zip, recursion_from_All, All-from_recursion}
-use Rattle.chain_layer.specs.laws.Aligned.{IsNode}
-use Rattle.chain_layer.specs.laws.NodeEnergies.{shares_size, weights_of_equal, filled_length}
-use Rattle.chain_layer.specs.Steps.{added}
 
 -- ---- fields
 
@@ -30,8 +8,7 @@ pub length-added : (fields : List ℤ) (e : Entry) → length (added fields e) �
 length-added fields e = length-set fields e.first _
 
 quotient_small : (h : ℤ) (n : ℕ) → 0 < n → unsigned_abs (int_div_euclid h (pos n)) ≤ unsigned_abs h
-quotient_small (pos a) n some = omega (arith, div-le_self a n)
-quotient_small (negsuc a) n some = omega (arith, div-le_self a n)
+quotient_small h n some = grind (arith, nat_tests)
 
 -- the parts of a split field, as the code has them
 pub record IsSplit (chain : List ℕ) (h share : ℤ) (front back : List ℕ) : Type 0 where
@@ -41,8 +18,7 @@ pub record IsSplit (chain : List ℕ) (h share : ℤ) (front back : List ℕ) : 
 
 split_shares : (chain : List ℕ) (h share : ℤ) (front back : List ℕ) → IsSplit chain h share front back
     → shares chain h ≡ equal_shares front (share +ℤ pos 1) ++ equal_shares back share
-split_shares chain h share front back split =
-    λ k. equal_shares (sym split.front_is k) (sym split.quotient k +ℤ pos 1) ++ equal_shares (sym split.back_is k) (sym split.quotient k)
+split_shares chain h share front back split = grind (arith, nat_tests)
 
 -- the shares have the size of the field
 pub split_weights : (chain : List ℕ) (h share : ℤ) (front back : List ℕ) → (chain ≢ [])
@@ -52,16 +28,14 @@ split_weights chain h share front back filled split =
     omega (
       arith,
       ap weight_total (split_shares chain h share front back split),
-      sum_by-append (λ (e : Entry). unsigned_abs e.weight) (equal_shares front (share +ℤ pos 1)) (equal_shares back share),
-      weights_of_equal front (share +ℤ pos 1),
-      weights_of_equal back share,
-      shares_size chain h filled,
+      sum_by-append,
+      weights_of_equal,
+      shares_size,
     )
 
 pub share_small : (chain : List ℕ) (h share : ℤ) (front back : List ℕ) → (chain ≢ [])
     → IsSplit chain h share front back → unsigned_abs share ≤ unsigned_abs h
-share_small chain h share front back filled split =
-    omega (arith, ap unsigned_abs split.quotient, quotient_small h (length chain) (filled_length chain filled))
+share_small chain h share front back filled split = grind (arith, nat_tests)
 
 -- both parts, added one after the other
 pub split_added : (fields : List ℤ) (chain : List ℕ) (h share : ℤ) (front back : List ℕ)
@@ -82,27 +56,13 @@ added_more : (n : ℕ) (es : List Entry) (e : Entry) → e.first < n
 added_more n es e within =
     let old = map (field_at es) (range_with_len 0 n) in
     let size : length old ≡ n = length-map-range_with_len (field_at es) 0 n in
-    let here : get_or old e.first (pos 0) ≡ field_at es e.first =
-    get_or-map-range_with_len (field_at es) 0 n e.first e.first (pos 0) within (omega arith) in
     fill_by_all (field_at (es ++ e ∷ [])) (added old e) n (pos 0) (length-added old e ∙ size)
-    (λ k l. elim (cases_eq k e.first) [
-      | inl same ↦
-          ap (λ i. get_or (added old e) i (pos 0)) same
-          ∙ get_or-set_same old e.first _ (pos 0) (omega (arith, size, within))
-          ∙ one e.first here (eq-eqb e.first e.first refl)
-          ∙ ap (field_at (es ++ e ∷ [])) (sym same)
-      | inr other ↦
-          get_or-set_other old e.first k _ (pos 0) other
-          ∙ get_or-map-range_with_len (field_at es) 0 n k k (pos 0) l (omega arith)
-          ∙ two k (ne_eqb k e.first other)
-    ])
-  where
-    one : (i : ℕ) → get_or (map (field_at es) (range_with_len 0 n)) e.first (pos 0) ≡ field_at es i → (i == e.first) ≡ true
-        → get_or (map (field_at es) (range_with_len 0 n)) e.first (pos 0) +ℤ e.weight ≡ field_at (es ++ e ∷ []) i
-    one i here test = omega (arith, ints, here, field_at-push es e i, ap (λ b. if_so b e.weight) test)
-
-    two : (k : ℕ) → (k == e.first) ≡ false → field_at es k ≡ field_at (es ++ e ∷ []) k
-    two k test = omega (arith, ints, field_at-push es e k, ap (λ b. if_so b e.weight) test)
+    (λ k l.
+    let here = get_or-map-range_with_len (field_at es) 0 n k k (pos 0) l (omega arith) in
+    let same = get_or-set_same old e.first (get_or old e.first (pos 0) +ℤ e.weight) (pos 0) in
+    let other = get_or-set_other old e.first k (get_or old e.first (pos 0) +ℤ e.weight) (pos 0) in
+    let push = field_at-push es e k in
+    grind (arith, nat_tests, ints))
 
 fold_added : (n : ℕ) (es ds : List Entry) → AllByRecursion (λ e. e.first < n) ds
     → fold added (map (field_at es) (range_with_len 0 n)) ds ≡ map (field_at (es ++ ds)) (range_with_len 0 n)
@@ -126,37 +86,7 @@ fields_are_sums n ds h =
 pub raised_both : (xs : List ℕ) (a b m i : ℕ) → a < length xs → b < length xs → a < b → i < length xs
     → get_or (set (set xs a (get_or xs a 0 + m)) b (get_or (set xs a (get_or xs a 0 + m)) b 0 + m)) i 0
     ≡ get_or xs i 0 + cond ((i == a) || (i == b)) m 0
-raised_both xs a b m i a_in b_in less i_in =
-    let once = set xs a (get_or xs a 0 + m) in
-    let b_once : b < length once = omega (arith, b_in, length-set xs a (get_or xs a 0 + m)) in
-    elim (cases_eq i b) [
-      | inl last ↦
-          let apart : b ≢ a = λ e. omega (arith, e, less) in
-          ap (λ k. get_or (set once b (get_or once b 0 + m)) k 0) last
-          ∙ get_or-set_same once b (get_or once b 0 + m) 0 b_once
-          ∙ ap (λ v. v + m) (get_or-set_other xs a b (get_or xs a 0 + m) 0 apart)
-          ∙ ap (λ t. get_or xs b 0 + cond t m 0) (sym (second (b == a) (b == b) (eq-eqb b b refl)))
-          ∙ ap (λ k. get_or xs k 0 + cond ((k == a) || (k == b)) m 0) (sym last)
-      | inr other ↦
-          get_or-set_other once b i (get_or once b 0 + m) 0 other
-          ∙ elim (cases_eq i a) [
-            | inl first ↦
-                ap (λ k. get_or once k 0) first
-                ∙ get_or-set_same xs a (get_or xs a 0 + m) 0 a_in
-                ∙ ap (λ t. get_or xs a 0 + cond (t || (a == b)) m 0) (sym (eq-eqb a a refl))
-                ∙ ap (λ k. get_or xs k 0 + cond ((k == a) || (k == b)) m 0) (sym first)
-            | inr neither ↦
-                get_or-set_other xs a i (get_or xs a 0 + m) 0 neither
-                ∙ none (get_or xs i 0) ((i == a) || (i == b)) (or_from (i == a) (i == b) (ne_eqb i a neither) (ne_eqb i b other))
-          ]
-    ]
-  where
-    second : (s t : Bool) → t ≡ true → (s || t) ≡ true
-    second true t h = refl
-    second false t h = h
-
-    none : (v : ℕ) (t : Bool) → t ≡ false → v ≡ v + cond t m 0
-    none v t e = omega (arith, ap (λ b. cond {A = ℕ} b m 0) e)
+raised_both xs a b m i a_in b_in less i_in = grind (arith, nat_tests, elements)
 
 -- ---- couplings
 
@@ -174,13 +104,13 @@ placed_more made whole c cs ps i p d p_in is h =
 
 -- one more tie
 pub ties_more : (made whole : List Entry) (chain ps : List ℕ) (i n : ℕ) → i + 1 < length chain
-    → i < length ps → made ++ ties (drop (i + 1) chain) (drop i ps) n ≡ whole
+    → i < length ps → made ++ ties (λ _. n) (drop (i + 1) chain) (drop i ps) ≡ whole
     → (made ++ coupling_entry (get_or chain (i + 1) 0) (get_or ps i 0) (neg_ℤ (pos n)) ∷ [])
-    ++ ties (drop (i + 1 + 1) chain) (drop (i + 1) ps) n
+    ++ ties (λ _. n) (drop (i + 1 + 1) chain) (drop (i + 1) ps)
     ≡ whole
 ties_more made whole chain ps i n q_in p_in h =
     append_assoc made _ _
-    ∙ sym ((λ k. made ++ ties (drop_more chain (i + 1) 0 q_in k) (drop_more ps i 0 p_in k) n))
+    ∙ sym ((λ k. made ++ ties (λ _. n) (drop_more chain (i + 1) 0 q_in k) (drop_more ps i 0 p_in k)))
     ∙ h
 
 -- the numbers up to one more
@@ -204,16 +134,15 @@ pub sum_within : (f : ℕ → ℕ) (k n : ℕ) → k ≤ n
 sum_within f k zero h =
     let same : k ≡ 0 = omega arith in omega (arith, ap (λ m. sum_by f (range_with_len 0 m)) same)
 sum_within f k (suc n) h =
-    elim (cases_eq k (n + 1)) [
-      | inl same ↦ let up : k ≡ suc n = omega (arith, same) in omega (arith, ap (λ m. sum_by f (range_with_len 0 m)) up)
+    let up : suc n ≡ n + 1 = omega arith in
+    let rest = sum_within f k n in
+    let more = sum_range f n in
+    elim (cases_eq k (suc n)) [
+      | inl same ↦ omega (arith, ap (λ m. sum_by f (range_with_len 0 m)) same)
       | inr other ↦
-          let low : k ≤ n = below k n h other in
-          let up : suc n ≡ n + 1 = omega arith in
-          omega (arith, sum_within f k n low, sum_range f n, ap (λ m. sum_by f (range_with_len 0 m)) up)
+          let whole = ap (λ m. sum_by f (range_with_len 0 m)) up in
+          grind arith
     ]
-  where
-    below : (k n : ℕ) → k ≤ suc n → (k ≢ n + 1) → k ≤ n
-    below k n h other = grind arith
 
 -- ---- node by node
 
@@ -254,27 +183,16 @@ strength_at e xs i same within =
 
 pub at_map : (f : ℤ → ℕ) (hs : List ℤ) (i : ℕ) → i < length hs
     → get_or (map f hs) i 0 ≡ f (get_or hs i (pos 0))
-at_map f [] i h = absurd (omega arith)
-at_map f (x ∷ xs) zero h = refl
-at_map f (x ∷ xs) (suc i) h = at_map f xs i (omega arith)
+at_map f hs i h = get_or-map f hs i (pos 0) 0 h
 
 pub first_strength : (hs : List ℤ) (xs : List ℕ) (i : ℕ) → xs ≡ map (λ h. unsigned_abs h + 1) hs
     → get_or xs i 0 ≤ weight_total (node_entries 0 hs) + 1
-first_strength hs xs i same = elim (cases_lt i (length hs)) [
-  | inl within ↦
-      omega (
-        arith,
-        ap (λ l. get_or l i 0) same,
-        at_map (λ h. unsigned_abs h + 1) hs i within,
-        weights_within hs i (pos 0) within,
-      )
-  | inr past ↦
-      omega (
-        arith,
-        ap (λ l. get_or l i 0) same,
-        get_or_past (map (λ h. unsigned_abs h + 1) hs) i 0 (omega (arith, past, length-map hs (λ (h : ℤ). unsigned_abs h + 1))),
-      )
-]
+first_strength hs xs i same =
+    let past = get_or_past (map (λ h. unsigned_abs h + 1) hs) i 0 in
+    let long = length-map hs (λ (h : ℤ). unsigned_abs h + 1) in
+    let here = at_map (λ h. unsigned_abs h + 1) hs i in
+    let within = weights_within hs i (pos 0) in
+    rw same (grind arith)
 
 -- a list after its items were changed as those of a slice
 pub changed : {X : Type 0} (xs ys : List X) (n : ℕ) → length xs ≡ n → length ys ≡ n
@@ -294,13 +212,7 @@ all_strengths e xs ys cs same listed size sums =
     let wide : length xs ≡ length hs = ap length same ∙ length-map hs (λ (h : ℤ). unsigned_abs h + 1) in
     fill_by_all (strength e) ys (length hs) 0 (size ∙ wide)
     (λ k l.
-    omega (
-      arith,
-      sums k (omega (arith, l, wide)),
-      ap (λ s. get_or s k 0) same,
-      at_map (λ h. unsigned_abs h + 1) hs k l,
-      ap (couplings_at k) listed,
-    ))
+    omega (arith, ap (λ s. get_or s k 0) same, at_map, ap (couplings_at k) listed))
 
 -- ---- fields by steps
 
@@ -308,14 +220,7 @@ pub split_from : (chain : List ℕ) (h share rest H L R : ℤ) (front back : Lis
     → L ≡ pos (length chain) → R ≡ rest → share ≡ int_div_euclid H L → rest ≡ int_rem_euclid H L
     → front ≡ take (unsigned_abs R) chain → back ≡ drop (unsigned_abs R) chain
     → IsSplit chain h share front back
-split_from chain h share rest H L R front back same_h same_l same_r quotient remainder front_is back_is =
-    let whole : R ≡ int_rem_euclid h (pos (length chain)) =
-    same_r ∙ remainder ∙ (λ k. int_rem_euclid (same_h k) (same_l k)) in
-    record {
-      quotient = quotient ∙ (λ k. int_div_euclid (same_h k) (same_l k));
-      front_is = front_is ∙ ap (λ z. take (unsigned_abs z) chain) whole;
-      back_is = back_is ∙ ap (λ z. drop (unsigned_abs z) chain) whole;
-    }
+split_from chain h share rest H L R front back same_h same_l same_r quotient remainder front_is back_is = grind (arith, nat_tests)
 
 -- ---- strengths by steps
 
@@ -330,14 +235,7 @@ pub can_raise : (n : ℕ) (xs : List ℕ) (left : List Entry) (e : Entry) (es : 
     → left ≡ e ∷ es → length xs ≡ n → All (IsCoupler n) left
     → ((i : ℕ) → i < n → get_or xs i 0 + weight_total left < 2 ^ 127)
     → m ≡ unsigned_abs e.weight → CanRaise xs e es m
-can_raise n xs left e es m is size within small same =
-    let couplers : AllByRecursion (IsCoupler n) (e ∷ es) =
-    recursion_from_All (IsCoupler n) (e ∷ es) (subst (All (IsCoupler n)) is within) in
-    record {
-      coupler = subst (λ k. IsCoupler k e) (sym size) couplers.0;
-      small = λ i l. omega (arith, small i (omega (arith, l, size)), ap weight_total is);
-      size = same;
-    }
+can_raise n xs left e es m is size within small same = grind (arith, nat_tests)
 
 -- the weight of the next coupling is within the bound of all
 pub next_small : (n : ℕ) (xs : List ℕ) (left : List Entry) (e : Entry) (es : List Entry)
@@ -345,35 +243,19 @@ pub next_small : (n : ℕ) (xs : List ℕ) (left : List Entry) (e : Entry) (es :
     → ((i : ℕ) → i < n → get_or xs i 0 + weight_total left < 2 ^ 127)
     → unsigned_abs e.weight < 2 ^ 127
 next_small n xs left e es is within small =
-    let couplers : AllByRecursion (IsCoupler n) (e ∷ es) =
-    recursion_from_All (IsCoupler n) (e ∷ es) (subst (All (IsCoupler n)) is within) in
-    omega (
-      arith,
-      small e.second couplers.0.within,
-      ap weight_total is,
-      sum_by-cons (λ (f : Entry). unsigned_abs f.weight) e es,
-    )
+    let first = recursion_from_All (IsCoupler n) (e ∷ es) (subst (All (IsCoupler n)) is within) in
+    omega (arith, small e.second first.0.within, ap weight_total is, sum_by-cons)
 
 pub first_fits : (xs : List ℕ) (e : Entry) (es : List Entry) (m : ℕ) → CanRaise xs e es m
     → get_or xs e.first 0 + m < 2 ^ 127
-first_fits xs e es m can =
-    omega (
-      arith,
-      can.size,
-      can.small e.first (omega (arith, can.coupler.upward, can.coupler.within)),
-      sum_by-cons (λ (f : Entry). unsigned_abs f.weight) e es,
-    )
+first_fits xs e es m can = omega (arith, sum_by-cons)
 
 pub second_fits : (xs : List ℕ) (e : Entry) (es : List Entry) (m v : ℕ) → CanRaise xs e es m
     → get_or (set xs e.first v) e.second 0 + m < 2 ^ 127
 second_fits xs e es m v can =
-    omega (
-      arith,
-      get_or-set_other xs e.first e.second v 0 (λ same. omega (arith, same, can.coupler.upward)),
-      can.size,
-      can.small e.second can.coupler.within,
-      sum_by-cons (λ (f : Entry). unsigned_abs f.weight) e es,
-    )
+    let up = can.coupler.upward in
+    let other = get_or-set_other xs e.first e.second v 0 (λ same. omega arith) in
+    omega (arith, sum_by-cons)
 
 -- both nodes of the next coupling are raised
 pub record AreRaised (xs zs : List ℕ) (e : Entry) (es : List Entry) : Type 0 where
@@ -392,31 +274,19 @@ raised_more xs ys zs e es m can once twice =
     let one = set xs e.first (get_or xs e.first 0 + m) in
     let both : zs ≡ set one e.second (get_or one e.second 0 + m) =
     twice ∙ ap (λ l. set l e.second (get_or l e.second 0 + m)) once in
+    let raised = raised_both xs e.first e.second m in
+    let size = can.size in
     record {
       same_length = ap length both ∙ length-set one e.second _ ∙ length-set xs e.first _;
       small = λ i l.
-          omega (
-            arith,
-            ap (λ z. get_or z i 0) both,
-            raised_both xs e.first e.second m i first_in second_in up l,
-            at_most ((i == e.first) || (i == e.second)) m,
-            can.size,
-            can.small i l,
-            sum_by-cons (λ (f : Entry). unsigned_abs f.weight) e es,
-          );
+          let here = raised i first_in second_in up l in
+          let fits = can.small i l in
+          let total = sum_by-cons (λ (f : Entry). unsigned_abs f.weight) e es in
+          rw both (grind (arith, nat_tests));
       sums = λ i l.
-          omega (
-            arith,
-            ap (λ z. get_or z i 0) both,
-            raised_both xs e.first e.second m i first_in second_in up l,
-            sum_by-cons (λ (f : Entry). cond ((i == f.first) || (i == f.second)) (unsigned_abs f.weight) 0) e es,
-            ap (λ n. cond {A = ℕ} ((i == e.first) || (i == e.second)) n 0) can.size,
-          );
+          let here = raised i first_in second_in up l in
+          rw both (simp sum_by-cons (grind (arith, nat_tests)));
     }
-  where
-    at_most : (b : Bool) (n : ℕ) → cond b n 0 ≤ n
-    at_most true n = omega arith
-    at_most false n = omega arith
 
 -- with the sizes of the couplings that are left, the strengths are what all couplings lead to
 pub record AreLeft (old xs : List ℕ) (all left : List Entry) : Type 0 where
@@ -445,34 +315,16 @@ left_more old xs zs all left e es is so_far raised =
 -- a chain has one qubit more than parents
 pub filled_lengths : (e : Embedding) (i : ℕ) → IsNode e i
     → length (chain_of e.chains i) ≡ length (chain_of e.parents i) + 1
-filled_lengths e i node =
-    omega (
-      arith,
-      length_all_zip _ _ _ node.tree.ties,
-      length-drop 1 (chain_of e.chains i),
-      filled_length (chain_of e.chains i) node.filled,
-    )
+filled_lengths e i node = grind (arith, nat_tests, elements)
 
 pub zip_lengths : {A B : Type 0} (R : A → B → Type 0) (xs : List A) (ys : List B) → AllZip R xs ys
     → length xs ≡ length ys
-zip_lengths R [] [] all = refl
-zip_lengths R [] (y ∷ ys) all = absurd all
-zip_lengths R (x ∷ xs) [] all = absurd all
-zip_lengths R (x ∷ xs) (y ∷ ys) all = ap suc (zip_lengths R xs ys all.1)
+zip_lengths R xs ys all = sym (AllZip-long R xs ys all)
 
 -- ---- states by steps
 
 any_push : (p : ℕ → Bool) (is : List ℕ) (i : ℕ) → list_any p (is ++ i ∷ []) ≡ (list_any p is || p i)
-any_push p [] i = or_false (p i)
-  where
-    or_false : (b : Bool) → (b || false) ≡ b
-    or_false true = refl
-    or_false false = refl
-any_push p (j ∷ js) i = ap (λ b. p j || b) (any_push p js i) ∙ assoc (p j) (list_any p js) (p i)
-  where
-    assoc : (a b c : Bool) → (a || (b || c)) ≡ ((a || b) || c)
-    assoc true b c = refl
-    assoc false b c = refl
+any_push p is i = let both = list_any-append p is (i ∷ []) in grind (arith, nat_tests)
 
 -- one more node
 pub any_range : (p : ℕ → Bool) (n : ℕ)

@@ -3,33 +3,7 @@
 -- A placed coupling has its ends in the two chains of its nodes, a tie in one chain, and a qubit is in
 -- one chain at most. So only two ties of one chain could have one pair. Then each of two qubits would
 -- be the parent of the other, and steps to the parent would never lead to the chain's first qubit.
-use Rattle.std.proofs.Common.{◌≡◌, ◌≢◌, ◌⊎◌, inl, inr, ℕ, zero, suc, ◌+◌, ◌*◌, ◌<◌, ◌≤◌, ◌^◌, Bool, true, false, cond, ◌&&◌, ◌||◌, List, [], ◌∷◌, ◌++◌, length, drop, ℤ, pos, neg_ℤ, refl, sym, ap, subst, ◌∙◌, arith}
-use Rattle.std.specs.Prelude.{All, ◌==◌, nat_lt, count_by, ⊤}
-use Rattle.std.specs.List.{AllByRecursion, AllZip, range_with_len, flat_map}
-use Rattle.std.proofs.lemmas.Int.{ints}
-use Rattle.std.specs.List.Sorted.{IsPermutation, IsNonDecreasingBy}
-use Rattle.std.proofs.lemmas.List.Sorted.{All-permutation, sum_by-IsPermutation}
-use Rattle.base.proofs.Totals.{total_by-IsPermutation}
-use Rattle.std.proofs.lemmas.Bool.{eq-eqb, ne_eqb, cases_eq, ltb-true, ltb-false, or_cases, and_parts, and_from, or_left, false_from_ne_true}
-use Rattle.std.proofs.lemmas.List.Elements.{recursion_from_All, All-from_recursion, length_all_zip}
-use Rattle.std.proofs.lemmas.List.FromFn.{length-map-range_with_len}
-use Rattle.std.proofs.lemmas.List.Sums.{sum_by-cons}
-use Rattle.bits_model.specs.declared.output.Entry.{Entry}
-use Rattle.quad_form.specs.Quads.{IsCoupler}
-use Rattle.bits_model.specs.PairNumbers.{pair_number}
-use Rattle.pair_sums.specs.Pairs.{IsPair, weight_for, weight_at}
-use Rattle.pair_sums.proofs.PairOrder.{ArePairs, Before, Rises, same_pair, ordered_from_rising, rising_from_ordered}
-use Rattle.pair_sums.proofs.UniqueSums.{Before-further, same_entries}
-use Rattle.chain_layer.specs.laws.SpinSums.{all_append, total_by-in_order}
-use Rattle.ising_form.specs.Isings.{IsIsing, ising_total}
-use Rattle.bits_model.specs.Walks.{is_in, first_of}
-use Rattle.embedding_check.specs.Embeddings.{Embedding, IsEmbedding, IsTie, parent_in, climbed}
-use Rattle.chain_map.specs.Chains.{IsBetween, chain_of}
-use Rattle.chain_layer.specs.Image.{strength, coupling_entry, ties, all_shares, all_ties, placed, field_at, inserted, in_order, image}
-use Rattle.chain_layer.specs.laws.Whole.{in_first, in_rest}
-use Rattle.chain_layer.specs.laws.Aligned.{node_at}
-use Rattle.chain_layer.specs.laws.Kept.{each_of_range, chain_within, one_chain, each_at, rest_in}
-use Rattle.chain_layer.specs.laws.OnceChains.{Once, chain_once, AreOwn, apart_qubits, own_parents}
+use Rattle.chain_layer.proofs.Common.{◌≡◌, ◌≢◌, ◌⊎◌, inl, inr, ℕ, zero, suc, ◌+◌, ◌*◌, ◌<◌, ◌≤◌, ◌^◌, Bool, true, false, cond, ◌&&◌, ◌||◌, List, [], ◌∷◌, ◌++◌, length, drop, ℤ, pos, neg_ℤ, refl, sym, ap, subst, ◌∙◌, arith, All, ◌==◌, nat_lt, count_by, ⊤, AllByRecursion, AllZip, range_with_len, flat_map, ints, nat_tests, IsPermutation, IsNonDecreasingBy, All-permutation, sum_by-IsPermutation, total_by-IsPermutation, cases_eq, ltb-true, ltb-false, or_cases, and_parts, false_from_ne_true, recursion_from_All, All-from_recursion, length_all_zip, length-map-range_with_len, sum_by-cons, Entry, IsCoupler, pair_number, IsPair, weight_for, weight_at, ArePairs, Before, Rises, same_pair, ordered_from_rising, rising_from_ordered, Before-further, same_entries, all_append, total_by-in_order, IsIsing, ising_total, is_in, first_of, Embedding, IsEmbedding, IsTie, parent_in, climbed, IsBetween, chain_of, strength, coupling_entry, ties, all_shares, all_ties, placed, field_at, inserted, in_order, image, in_first, in_rest, node_at, each_of_range, chain_within, one_chain, each_at, rest_in, Once, chain_once, AreOwn, apart_qubits, own_parents}
 use Rattle.chain_layer.proofs.Sizes.{total_grows}
 
 -- ---- entries of different pairs, in order
@@ -63,16 +37,15 @@ rises_inserted e (f ∷ fs) apart rises =
     go (nat_lt (pair_number f) (pair_number e)) (ltb-true _ _) (ltb-false _ _)
     (rises_inserted e fs apart.1 rises.1)
   where
-    less : (m n : ℕ) → m ≤ n → (m ≢ n) → m < n
-    less m n le other = grind arith
-
     go : (b : Bool) → (b ≡ true → pair_number f < pair_number e)
         → (b ≡ false → pair_number e ≤ pair_number f) → Rises (inserted e fs)
         → Rises (cond b (f ∷ inserted e fs) (e ∷ f ∷ fs))
     go true lt ge later =
         (all_inserted (λ g. pair_number f < pair_number g) e fs (lt refl) rises.0, later)
     go false lt ge later =
-        let before = less (pair_number e) (pair_number f) (ge refl) apart.0 in
+        let other = apart.0 in
+        let up = ge refl in
+        let before : pair_number e < pair_number f = grind arith in
         ((before, Before-further e f fs before rises.0), rises)
 
 pub rises_in_order : (es : List Entry) → AreApart es → Rises (in_order es)
@@ -107,38 +80,21 @@ one_owner e kept q i j i_in j_in here there =
 same_nodes : (e : Embedding) → IsEmbedding e → (i j k l : ℕ) (f g : Entry) → IsOf e i j f → IsOf e k l g
     → f.first ≡ g.first → f.second ≡ g.second → (i ≡ k) × (j ≡ l)
 same_nodes e kept i j k l f g of_f of_g first second =
+    let on_f = of_f.on in
+    let on_g = of_g.on in
     let i_in : i < length e.ising.fields = omega (arith, of_f.ordered, of_f.within) in
     let k_in : k < length e.ising.fields = omega (arith, of_g.ordered, of_g.within) in
-    let moved : IsOn e.chains k l f =
-    subst (λ q. ((is_in (chain_of e.chains k) q && is_in (chain_of e.chains l) f.second) || (is_in (chain_of e.chains l) q && is_in (chain_of e.chains k) f.second)) ≡ true) (sym first)
-    (subst (λ q. ((is_in (chain_of e.chains k) g.first && is_in (chain_of e.chains l) q) || (is_in (chain_of e.chains l) g.first && is_in (chain_of e.chains k) q)) ≡ true) (sym second) of_g.on) in
-    go (or_cases _ _ of_f.on) (or_cases _ _ moved) i_in k_in
-  where
-    go : ((is_in (chain_of e.chains i) f.first && is_in (chain_of e.chains j) f.second) ≡ true)
-        ⊎ ((is_in (chain_of e.chains j) f.first && is_in (chain_of e.chains i) f.second) ≡ true)
-        → ((is_in (chain_of e.chains k) f.first && is_in (chain_of e.chains l) f.second) ≡ true)
-        ⊎ ((is_in (chain_of e.chains l) f.first && is_in (chain_of e.chains k) f.second) ≡ true)
-        → i < length e.ising.fields → k < length e.ising.fields → (i ≡ k) × (j ≡ l)
-    go (inl p) (inl r) i_in k_in =
-        let a = and_parts _ _ p in
-        let b = and_parts _ _ r in
-        (one_owner e kept f.first i k i_in k_in a.0 b.0, one_owner e kept f.second j l of_f.within of_g.within a.1 b.1)
-    go (inl p) (inr r) i_in k_in =
-        let a = and_parts _ _ p in
-        let b = and_parts _ _ r in
-        let one = one_owner e kept f.first i l i_in of_g.within a.0 b.0 in
-        let two = one_owner e kept f.second j k of_f.within k_in a.1 b.1 in
-        (omega (arith, one, two, of_f.ordered, of_g.ordered), omega (arith, one, two, of_f.ordered, of_g.ordered))
-    go (inr p) (inl r) i_in k_in =
-        let a = and_parts _ _ p in
-        let b = and_parts _ _ r in
-        let one = one_owner e kept f.first j k of_f.within k_in a.0 b.0 in
-        let two = one_owner e kept f.second i l i_in of_g.within a.1 b.1 in
-        (omega (arith, one, two, of_f.ordered, of_g.ordered), omega (arith, one, two, of_f.ordered, of_g.ordered))
-    go (inr p) (inr r) i_in k_in =
-        let a = and_parts _ _ p in
-        let b = and_parts _ _ r in
-        (one_owner e kept f.second i k i_in k_in a.1 b.1, one_owner e kept f.first j l of_f.within of_g.within a.0 b.0)
+    let ik = one_owner e kept f.first i k i_in k_in in
+    let il = one_owner e kept f.first i l i_in of_g.within in
+    let jk = one_owner e kept f.first j k of_f.within k_in in
+    let jl = one_owner e kept f.first j l of_f.within of_g.within in
+    let ik2 = one_owner e kept f.second i k i_in k_in in
+    let il2 = one_owner e kept f.second i l i_in of_g.within in
+    let jk2 = one_owner e kept f.second j k of_f.within k_in in
+    let jl2 = one_owner e kept f.second j l of_f.within of_g.within in
+    let up_f = of_f.ordered in
+    let up_g = of_g.ordered in
+    (grind (arith, nat_tests), grind (arith, nat_tests))
 
 -- entries of one number are of one pair of nodes
 numbers_apart : (e : Embedding) → IsEmbedding e → (i j k l : ℕ) (f g : Entry) → IsOf e i j f
@@ -151,8 +107,7 @@ numbers_apart e kept i j k l f g of_f of_g other same =
 apart-append : (es fs : List Entry) → AreApart es → AreApart fs
     → AllByRecursion (λ e. Apart e fs) es → AreApart (es ++ fs)
 apart-append [] fs p q cross = q
-apart-append (e ∷ es) fs p q cross =
-    (both e es p.0 cross.0, apart-append es fs p.1 q cross.1)
+apart-append (e ∷ es) fs p q cross = (both e es p.0 cross.0, apart-append es fs p.1 q cross.1)
   where
     both : (e : Entry) (es : List Entry) → Apart e es → Apart e fs → Apart e (es ++ fs)
     both e [] p q = q
@@ -183,14 +138,11 @@ placed_of : (e : Embedding) → IsEmbedding e → (c : Entry) (p : ℕ × ℕ)
     → IsOf e c.first c.second (record { first = p.0; second = p.1; weight = c.weight })
 placed_of e kept c p coupler between =
     let first_in : c.first < length e.ising.fields = omega (arith, coupler.upward, coupler.within) in
+    let ends = between.ends in
+    let second_below = qubit_below e kept c.second p.1 coupler.within in
+    let first_below = qubit_below e kept c.first p.1 first_in in
     record {
-      pair = record {
-        upward = between.upward;
-        within = elim (ends_cases (is_in (chain_of e.chains c.first) p.0) (is_in (chain_of e.chains c.second) p.1) (is_in (chain_of e.chains c.second) p.0) (is_in (chain_of e.chains c.first) p.1) between.ends) [
-          | inl ends ↦ qubit_below e kept c.second p.1 coupler.within ends.1
-          | inr ends ↦ qubit_below e kept c.first p.1 first_in ends.1
-        ];
-      };
+      pair = record { upward = between.upward; within = grind (arith, nat_tests) };
       on = between.ends;
       ordered = omega (arith, coupler.upward);
       within = coupler.within;
@@ -252,38 +204,24 @@ tie_of : (e : Embedding) → IsEmbedding e → (i q p : ℕ) (w : ℤ) → i < l
     → is_in (chain_of e.chains i) q ≡ true → is_in (chain_of e.chains i) p ≡ true → (q ≢ p)
     → IsOf e i i (coupling_entry q p w)
 tie_of e kept i q p w within q_in p_in apart =
-    go (nat_lt q p) (ltb-true q p) (ltb-false q p)
-  where
-    other : (m n : ℕ) → m ≤ n → (n ≢ m) → m < n
-    other m n le ne = grind arith
-
-    one : (a b : ℕ) → is_in (chain_of e.chains i) a ≡ true → is_in (chain_of e.chains i) b ≡ true → a < b
-        → IsOf e i i (record { first = a; second = b; weight = w })
-    one a b a_in b_in less = record {
-      pair = record { upward = less; within = qubit_below e kept i b within b_in };
-      on = or_left _ _ (and_from _ _ a_in b_in);
+    let q_below = qubit_below e kept i q within q_in in
+    let p_below = qubit_below e kept i p within p_in in
+    record {
+      pair = record { upward = grind (arith, nat_tests); within = grind (arith, nat_tests) };
+      on = grind (arith, nat_tests);
       ordered = omega arith;
       within = within;
     }
 
-    go : (b : Bool) → (b ≡ true → q < p) → (b ≡ false → p ≤ q)
-        → IsOf e i i (cond b (record { first = q; second = p; weight = w }) (record { first = p; second = q; weight = w }))
-    go true lt ge = one q p q_in p_in (lt refl)
-    go false lt ge = one p q p_in q_in (other p q (ge refl) apart)
-
 tie_weight : (q p : ℕ) (w : ℤ) → (coupling_entry q p w).weight ≡ w
-tie_weight q p w = go (nat_lt q p)
-  where
-    go : (b : Bool) → (cond {A = Entry} b (record { first = q; second = p; weight = w }) (record { first = p; second = q; weight = w })).weight ≡ w
-    go true = refl
-    go false = refl
+tie_weight q p w = grind (arith, nat_tests)
 
 negative : (n : ℕ) → neg_ℤ (pos (n + 1)) ≢ pos 0
 negative n same = omega (arith, ints, same)
 
 ties_of_node : (e : Embedding) → IsEmbedding e → (i : ℕ) → i < length e.ising.fields
     → (qs ps : List ℕ) (n : ℕ) → AllByRecursion (λ q. is_in (chain_of e.chains i) q ≡ true) qs
-    → AllZip (IsTie (chain_of e.chains i)) qs ps → AllByRecursion (IsTied e i) (ties qs ps (n + 1))
+    → AllZip (IsTie (chain_of e.chains i)) qs ps → AllByRecursion (IsTied e i) (ties (λ _. n + 1) qs ps)
 ties_of_node e kept i within [] ps n ins all = tt
 ties_of_node e kept i within (q ∷ qs) [] n ins all = tt
 ties_of_node e kept i within (q ∷ qs) (p ∷ ps) n ins all = (
@@ -310,18 +248,7 @@ round cs ds (suc n) q p up down =
 same_ties : (q p r t : ℕ) (w : ℤ) → (coupling_entry q p w).first ≡ (coupling_entry r t w).first
     → (coupling_entry q p w).second ≡ (coupling_entry r t w).second
     → ((q ≡ r) × (p ≡ t)) ⊎ ((q ≡ t) × (p ≡ r))
-same_ties q p r t w = go (nat_lt q p) (nat_lt r t)
-  where
-    go : (a b : Bool)
-        → (cond {A = Entry} a (record { first = q; second = p; weight = w }) (record { first = p; second = q; weight = w })).first
-        ≡ (cond {A = Entry} b (record { first = r; second = t; weight = w }) (record { first = t; second = r; weight = w })).first
-        → (cond {A = Entry} a (record { first = q; second = p; weight = w }) (record { first = p; second = q; weight = w })).second
-        ≡ (cond {A = Entry} b (record { first = r; second = t; weight = w }) (record { first = t; second = r; weight = w })).second
-        → ((q ≡ r) × (p ≡ t)) ⊎ ((q ≡ t) × (p ≡ r))
-    go true true first second = inl (first, second)
-    go true false first second = inr (first, second)
-    go false true first second = inr (second, first)
-    go false false first second = inl (second, first)
+same_ties q p r t w first second = grind (arith, nat_tests)
 
 -- what is used of a chain: its qubits after the first are different from it, and all lead to it
 record IsRooted (first : ℕ) (cs ds : List ℕ) : Type 0 where
@@ -343,7 +270,7 @@ one_tie_apart : (e : Embedding) → IsEmbedding e → (i first : ℕ) (cs ds : L
     → (q p n : ℕ) → is_in cs q ≡ true → parent_in cs ds q ≡ p → IsTie (chain_of e.chains i) q p
     → (qs ps : List ℕ) → ((r : ℕ) → is_in qs r ≡ true → is_in cs r ≡ true) → is_in qs q ≡ false
     → AreOwn cs ds qs ps → AllZip (IsTie (chain_of e.chains i)) qs ps
-    → Apart (coupling_entry q p (neg_ℤ (pos n))) (ties qs ps n)
+    → Apart (coupling_entry q p (neg_ℤ (pos n))) (ties (λ _. n) qs ps)
 one_tie_apart e kept i first cs ds root within inside q p n q_in own tie [] ps ins out owns all = tt
 one_tie_apart e kept i first cs ds root within inside q p n q_in own tie (r ∷ rs) [] ins out owns all = tt
 one_tie_apart e kept i first cs ds root within inside q p n q_in own tie (r ∷ rs) (t ∷ ts) ins out owns all = (
@@ -371,7 +298,7 @@ ties_apart : (e : Embedding) → IsEmbedding e → (i first : ℕ) (cs ds : List
     → i < length e.ising.fields
     → ((q : ℕ) → is_in cs q ≡ true → is_in (chain_of e.chains i) q ≡ true)
     → (n : ℕ) (qs ps : List ℕ) → ((r : ℕ) → is_in qs r ≡ true → is_in cs r ≡ true) → Once qs
-    → AreOwn cs ds qs ps → AllZip (IsTie (chain_of e.chains i)) qs ps → AreApart (ties qs ps n)
+    → AreOwn cs ds qs ps → AllZip (IsTie (chain_of e.chains i)) qs ps → AreApart (ties (λ _. n) qs ps)
 ties_apart e kept i first cs ds root within inside n [] ps ins once owns all = tt
 ties_apart e kept i first cs ds root within inside n (q ∷ qs) [] ins once owns all = tt
 ties_apart e kept i first cs ds root within inside n (q ∷ qs) (p ∷ ps) ins once owns all = (
@@ -394,7 +321,7 @@ rest_inside [] q in' = in'
 rest_inside (p ∷ ps) q in' = in_rest p q ps in'
 
 node_ties_apart : (e : Embedding) → IsEmbedding e → (i : ℕ) → i < length e.ising.fields
-    → AreApart (ties (drop 1 (chain_of e.chains i)) (chain_of e.parents i) (strength e i))
+    → AreApart (ties (λ _. strength e i) (drop 1 (chain_of e.chains i)) (chain_of e.parents i))
 node_ties_apart e kept i within =
     let node = node_at e kept i within in
     let chain = chain_of e.chains i in
@@ -414,7 +341,7 @@ node_ties_apart e kept i within =
 
 -- the ties of a node
 abbrev pub ties_at : Embedding → ℕ → List Entry
-ties_at e i = ties (drop 1 (chain_of e.chains i)) (chain_of e.parents i) (strength e i)
+ties_at e i = ties (λ _. strength e i) (drop 1 (chain_of e.chains i)) (chain_of e.parents i)
 
 tied_node : (e : Embedding) → IsEmbedding e → (i : ℕ) → i < length e.ising.fields
     → AllByRecursion (IsTied e i) (ties_at e i)
@@ -523,70 +450,36 @@ numbered n es = count_by (λ e. pair_number e == n) es
 
 numbered-cons : (n : ℕ) (e : Entry) (es : List Entry)
     → numbered n (e ∷ es) ≡ cond (pair_number e == n) 1 0 + numbered n es
-numbered-cons n e es = sum_by-cons (λ f. cond (pair_number f == n) 1 0) e es
-
-one_more : (b : Bool) (m : ℕ) → b ≡ true → cond b 1 0 + m ≡ suc m
-one_more true m is = omega arith
-one_more false m is = absurd cc
-
-no_more : (b : Bool) (m : ℕ) → b ≡ false → cond b 1 0 + m ≡ m
-no_more true m is = absurd cc
-no_more false m is = omega arith
+numbered-cons n e es = simp sum_by-cons
 
 none_numbered : (n : ℕ) (es : List Entry) → AllByRecursion (λ f. n ≢ pair_number f) es
     → numbered n es ≡ 0
 none_numbered n [] all = refl
 none_numbered n (e ∷ es) all =
-    numbered-cons n e es
-    ∙ no_more (pair_number e == n) (numbered n es) (ne_eqb (pair_number e) n (λ same. all.0 (sym same)))
-    ∙ none_numbered n es all.1
+    let rest = none_numbered n es all.1 in
+    let here = all.0 in
+    simp sum_by-cons (grind (arith, nat_tests))
 
 -- entries of different pairs have each number at most once
 pub few_numbered : (es : List Entry) → AreApart es → (n : ℕ) → numbered n es ≤ 1
 few_numbered [] apart n = omega arith
 few_numbered (e ∷ es) apart n = elim (cases_eq (pair_number e) n) [
   | inl same ↦
-      omega (
-        arith,
-        numbered-cons n e es,
-        one_more (pair_number e == n) (numbered n es) (eq-eqb (pair_number e) n same),
-        none_numbered n es (subst (λ m. AllByRecursion (λ f. m ≢ pair_number f) es) same apart.0),
-      )
-  | inr other ↦
-      omega (
-        arith,
-        numbered-cons n e es,
-        no_more (pair_number e == n) (numbered n es) (ne_eqb (pair_number e) n other),
-        few_numbered es apart.1 n,
-      )
+      let none = none_numbered n es (rw same at apart.0) in
+      simp sum_by-cons (grind (arith, nat_tests))
+  | inr other ↦ let rest = few_numbered es apart.1 n in simp sum_by-cons (grind (arith, nat_tests))
 ]
 
 -- a number that none of them has, and that is not above theirs, is below theirs
 below_all : (n : ℕ) (es : List Entry) → AllByRecursion (λ f. n ≤ pair_number f) es
     → numbered n es ≡ 0 → AllByRecursion (λ f. n < pair_number f) es
 below_all n [] up none = tt
-below_all n (e ∷ es) up none = elim (cases_eq (pair_number e) n) [
-  | inl same ↦
-      absurd (omega (
-        arith,
-        none,
-        numbered-cons n e es,
-        one_more (pair_number e == n) (numbered n es) (eq-eqb (pair_number e) n same),
-      ))
-  | inr other ↦ (
-    less n (pair_number e) up.0 other,
-    below_all n es up.1
-        (omega (
-          arith,
-          none,
-          numbered-cons n e es,
-          no_more (pair_number e == n) (numbered n es) (ne_eqb (pair_number e) n other),
-        )),
-  )
-]
-  where
-    less : (m n : ℕ) → m ≤ n → (n ≢ m) → m < n
-    less m n le other = grind arith
+below_all n (e ∷ es) up none =
+    let here = up.0 in
+    let parts : (cond {A = ℕ} (pair_number e == n) 1 0 ≡ 0) × (numbered n es ≡ 0) =
+    (omega (arith, numbered-cons n e es), omega (arith, numbered-cons n e es)) in
+    let other = parts.0 in
+    (grind (arith, nat_tests), below_all n es up.1 parts.1)
 
 -- sorted entries of different pairs rise
 pub rises_from_sorted : (es : List Entry) → IsNonDecreasingBy pair_number es
@@ -594,24 +487,16 @@ pub rises_from_sorted : (es : List Entry) → IsNonDecreasingBy pair_number es
 rises_from_sorted [] sorted few = tt
 rises_from_sorted (e ∷ es) sorted few =
     let n = pair_number e in
+    let at_most = few n in
     let none : numbered n es ≡ 0 =
-    omega (
-      arith,
-      few n,
-      numbered-cons n e es,
-      one_more (n == n) (numbered n es) (eq-eqb n n refl),
-    ) in (
+    let cons = numbered-cons n e es in grind (arith, nat_tests) in (
       below_all n es
           (recursion_from_All _ es (λ k d in'. sorted 0 (suc k) d (omega arith) (omega (arith, in'))))
           none,
       rises_from_sorted es
           (λ i j d le in'. sorted (suc i) (suc j) d (omega (arith, le)) (omega (arith, in')))
-          (λ m. fewer (pair_number e == m) (numbered m es) (numbered m (e ∷ es)) (numbered-cons m e es) (few m)),
+          (λ m. omega (arith, numbered-cons m e es, few m)),
     )
-  where
-    fewer : (b : Bool) (m n : ℕ) → n ≡ cond b 1 0 + m → n ≤ 1 → m ≤ 1
-    fewer true m n is few = omega (arith, is, few)
-    fewer false m n is few = omega (arith, is, few)
 
 -- sorted, they are those of the image
 pub sorted_is_image : (e : Embedding) → IsEmbedding e → (from to : List Entry)

@@ -2,34 +2,7 @@
 --
 -- The shares of a field have its size together, and a placed coupling has that of its coupling. A tie is
 -- at most one more than the total, and there are fewer ties than qubits, since no qubit occurs twice.
-use Rattle.std.proofs.Common.{◌≡◌, ℕ, zero, suc, ◌+◌, ◌-◌, ◌*◌, ◌<◌, ◌≤◌, ◌^◌, Bool, true, false, cond, ◌||◌, List, [], ◌∷◌, ◌++◌, map, length, drop, ℤ, pos, neg_ℤ, ◌+ℤ◌, ◌≤ℤ◌, unsigned_abs, refl, sym, ap, ◌∙◌, inl, inr, arith, mul-le-mul_left, mul-le-mul}
-use Rattle.std.specs.Prelude.{All, ◌==◌, nat_lt, if◌then◌else◌, count_by}
-use Rattle.std.specs.List.{AllByRecursion, range_with_len, slice_index_or, sum_by, flat_map, concat}
-use Rattle.std.specs.Ordering.{int_eq}
-use Rattle.std.specs.Bool.{Decides}
-use Rattle.std.proofs.lemmas.Int.{ints}
-use Rattle.std.proofs.lemmas.Bool.{eq-eqb, ne_eqb, cases_eq}
-use Rattle.std.proofs.lemmas.Bool.Decides.{Decides-int_eq}
-use Rattle.std.proofs.lemmas.List.{length-drop}
-use Rattle.std.proofs.lemmas.List.Elements.{recursion_from_All}
-use Rattle.std.proofs.lemmas.List.Concat.{length-flat_map}
-use Rattle.std.proofs.lemmas.List.FromFn.{fill_by_all, length-map-range_with_len}
-use Rattle.std.proofs.lemmas.List.Sums.{sum_by-cons, sum_by-append, sum_by-le-sum_by}
-use Rattle.base.specs.Sums.{total_by, if_so}
-use Rattle.base.proofs.Totals.{total_by-plus, total_by-same, total_by-map}
-use Rattle.bits_model.specs.declared.output.Entry.{Entry}
-use Rattle.bits_model.specs.Output.{weight_total, entry_size, is_node}
-use Rattle.quad_form.specs.Quads.{node_entries, IsCoupler}
-use Rattle.bits_model.proofs.Energies.{weights-append}
-use Rattle.quad_form.proofs.NodeEnergies.{weights_within}
-use Rattle.ising_form.specs.Isings.{ising_total, ising_size}
-use Rattle.embedding_check.specs.Embeddings.{Embedding, IsEmbedding, embedding_size}
-use Rattle.chain_map.specs.Chains.{chain_of, occurrences}
-use Rattle.chain_layer.specs.Image.{nodes_of, field_of, couplings_at, strength, coupling_entry, field_entry, shares, ties, all_shares, all_ties, placed, field_at, in_order, image, ties_cost, offset}
-use Rattle.chain_layer.specs.laws.SpinSums.{range-le, range-zero, hit, total_by-in_order}
-use Rattle.chain_layer.specs.laws.NodeEnergies.{shares_size}
-use Rattle.chain_layer.specs.laws.Aligned.{node_at, node_cost, couplers_of}
-use Rattle.chain_layer.specs.laws.Kept.{shares_within}
+use Rattle.chain_layer.proofs.Common.{nat_tests, ◌≡◌, ℕ, zero, suc, ◌+◌, ◌-◌, ◌*◌, ◌<◌, ◌≤◌, ◌^◌, cond, List, [], ◌∷◌, ◌++◌, map, length, drop, ℤ, pos, neg_ℤ, ◌+ℤ◌, ◌≤ℤ◌, unsigned_abs, refl, sym, ap, ◌∙◌, arith, mul-le-mul_left, mul-le-mul, All, ◌==◌, count_by, AllByRecursion, range_with_len, slice_index_or, sum_by, flat_map, concat, ints, length-drop, recursion_from_All, length-flat_map, fill_by_all, length-map-range_with_len, sum_by-cons, sum_by-append, sum_by-le-sum_by, total_by, if_so, total_by-plus, total_by-same, total_by-map, Entry, weight_total, entry_size, node_entries, IsCoupler, weights-append, weights_within, ising_total, ising_size, Embedding, IsEmbedding, embedding_size, chain_of, occurrences, nodes_of, field_of, couplings_at, strength, coupling_entry, shares, ties, ties_by, cost_by, by_node, all_shares, placed, field_at, in_order, image, ties_cost, offset, range-le, range-zero, hit, total_by-in_order, shares_size, node_at, costs_same, couplers_of, shares_within}
 
 -- ---- sums of naturals
 
@@ -47,25 +20,14 @@ weights-in_order es =
 pub weights-flat_map : (f : ℕ → List Entry) (is : List ℕ)
     → weight_total (flat_map f is) ≡ sum_by (λ i. weight_total (f i)) is
 weights-flat_map f [] = refl
-weights-flat_map f (i ∷ is) =
-    omega (
-      arith,
-      weights-append (f i) (flat_map f is),
-      weights-flat_map f is,
-      sum_by-cons (λ j. weight_total (f j)) i is,
-    )
+weights-flat_map f (i ∷ is) = omega (arith, weights-append, weights-flat_map f is, sum_by-cons)
 
 sums_same : (f g : ℕ → ℕ) (a n : ℕ) → ((i : ℕ) → i < a + n → f i ≡ g i)
     → sum_by f (range_with_len a n) ≡ sum_by g (range_with_len a n)
 sums_same f g a zero h = refl
 sums_same f g a (suc n) h =
-    omega (
-      arith,
-      h a (omega arith),
-      sum_by-cons f a (range_with_len (a + 1) n),
-      sum_by-cons g a (range_with_len (a + 1) n),
-      sums_same f g (a + 1) n (λ i l. h i (omega (arith, l))),
-    )
+    let rest = sums_same f g (a + 1) n (λ i l. h i (omega (arith, l))) in
+    simp sum_by-cons (grind (arith, nat_tests, ints))
 
 -- ---- fields
 
@@ -74,12 +36,8 @@ weights_of_nodes : (f : ℕ → ℤ) (a b n : ℕ)
     ≡ sum_by (λ q. unsigned_abs (f q)) (range_with_len b n)
 weights_of_nodes f a b zero = refl
 weights_of_nodes f a b (suc n) =
-    omega (
-      arith,
-      sum_by-cons size (field_entry a (f b)) (node_entries (suc a) (map f (range_with_len (b + 1) n))),
-      sum_by-cons (λ q. unsigned_abs (f q)) b (range_with_len (b + 1) n),
-      weights_of_nodes f (suc a) (b + 1) n,
-    )
+    let rest = weights_of_nodes f (suc a) (b + 1) n in
+    simp sum_by-cons (grind (arith, nat_tests, ints))
 
 weights_of_fields : (hs : List ℤ)
     → weight_total (node_entries 0 hs)
@@ -101,16 +59,11 @@ fields_small n (e ∷ es) h =
       arith,
       ints,
       range-le (λ q. pos (unsigned_abs (field_at (e ∷ es) q))) (λ q. first q +ℤ rest q) 0 n
-          (λ q l. parts (q == e.first) e.weight (field_at es q)),
+          (λ q l. grind (arith, nat_tests, ints)),
       total_by-plus first rest (range_with_len 0 n),
       hit (λ q. pos (size e)) e.first 0 n (omega arith) (omega (arith, h.0)),
       fields_small n es h.1,
     )
-  where
-    parts : (b : Bool) (w v : ℤ)
-        → pos (unsigned_abs (if_so b w +ℤ v)) ≤ℤ (if_so b (pos (unsigned_abs w)) +ℤ pos (unsigned_abs v))
-    parts true w v = omega (arith, ints)
-    parts false w v = omega (arith, ints)
 
 -- all shares together have the sizes of the fields
 pub weights_of_shares : (e : Embedding) → IsEmbedding e
@@ -127,11 +80,11 @@ weights_of_image_fields e kept =
     omega (
       arith,
       ints,
-      weights_of_nodes (field_at (all_shares e)) 0 0 e.qubits,
+      weights_of_nodes,
       sum_is (λ q. unsigned_abs (field_at (all_shares e) q)) (range_with_len 0 e.qubits),
       fields_small e.qubits (all_shares e) (shares_within e kept),
       sum_is size (all_shares e),
-      weights_of_shares e kept,
+      weights_of_shares,
     )
 
 -- ---- couplings and ties
@@ -140,82 +93,58 @@ pub weights_placed : (cs : List Entry) (ps : List (ℕ × ℕ)) → weight_total
 weights_placed [] ps = omega arith
 weights_placed (c ∷ cs) [] = omega arith
 weights_placed (c ∷ cs) (p ∷ ps) =
-    omega (
-      arith,
-      sum_by-cons size (record { first = p.0; second = p.1; weight = c.weight }) (placed cs ps),
-      sum_by-cons size c cs,
-      weights_placed cs ps,
-    )
+    let rest = weights_placed cs ps in
+    simp sum_by-cons (grind (arith, nat_tests, ints))
 
 pub weight_of_tie : (q p n : ℕ) → size (coupling_entry q p (neg_ℤ (pos n))) ≡ n
-weight_of_tie q p n = go (nat_lt q p)
-  where
-    go : (b : Bool)
-        → size (cond b (record { first = q; second = p; weight = neg_ℤ (pos n) }) (record { first = p; second = q; weight = neg_ℤ (pos n) }))
-        ≡ n
-    go true = omega (arith, ints)
-    go false = omega (arith, ints)
+weight_of_tie q p n = grind (arith, nat_tests)
 
-weights_of_ties : (qs ps : List ℕ) (n : ℕ) → weight_total (ties qs ps n) ≤ n * length qs
-weights_of_ties [] ps n = omega arith
-weights_of_ties (q ∷ qs) [] n = omega arith
-weights_of_ties (q ∷ qs) (p ∷ ps) n =
-    omega (
-      arith,
-      sum_by-cons size (coupling_entry q p (neg_ℤ (pos n))) (ties qs ps n),
-      weight_of_tie q p n,
-      weights_of_ties qs ps n,
-    )
+weights_of_ties : (strong : ℕ → ℕ) (qs ps : List ℕ)
+    → weight_total (ties strong qs ps) ≤ sum_by strong qs
+weights_of_ties strong [] ps = omega arith
+weights_of_ties strong (q ∷ qs) [] = omega arith
+weights_of_ties strong (q ∷ qs) (p ∷ ps) =
+    let rest = weights_of_ties strong qs ps in
+    simp sum_by-cons (grind (arith, nat_tests, ints))
 
 pub sums_le : (f g : ℕ → ℕ) (a n : ℕ) → ((i : ℕ) → i < a + n → f i ≤ g i)
     → sum_by f (range_with_len a n) ≤ sum_by g (range_with_len a n)
 sums_le f g a zero h = omega arith
 sums_le f g a (suc n) h =
-    omega (
-      arith,
-      h a (omega arith),
-      sum_by-cons f a (range_with_len (a + 1) n),
-      sum_by-cons g a (range_with_len (a + 1) n),
-      sums_le f g (a + 1) n (λ i l. h i (omega (arith, l))),
-    )
+    let rest = sums_le f g (a + 1) n (λ i l. h i (omega (arith, l))) in
+    simp sum_by-cons (grind (arith, nat_tests, ints))
 
-weights_of_all_ties : (e : Embedding) → weight_total (all_ties e) ≤ ties_cost e
-weights_of_all_ties e =
-    let f : ℕ → List Entry = λ i. ties (drop 1 (chain_of e.chains i)) (chain_of e.parents i) (strength e i) in
+-- however strong they are, the ties weigh no more than they cost
+pub weights_of_ties_by : (strong : ℕ → ℕ → ℕ) (e : Embedding)
+    → weight_total (ties_by strong e) ≤ cost_by strong e
+weights_of_ties_by strong e =
+    let f : ℕ → List Entry =
+    λ i. ties (strong i) (drop 1 (chain_of e.chains i)) (chain_of e.parents i) in
     omega (
       arith,
       weights-flat_map f (nodes_of e),
-      sums_le (λ i. weight_total (f i)) (node_cost e) 0 (length e.ising.fields)
-          (λ i l. omega (
-            arith,
-            weights_of_ties (drop 1 (chain_of e.chains i)) (chain_of e.parents i) (strength e i),
-            ap (λ n. strength e i * n) (length-drop 1 (chain_of e.chains i)),
-          )),
+      sums_le (λ i. weight_total (f i)) (λ i. sum_by (strong i) (drop 1 (chain_of e.chains i))) 0
+          (length e.ising.fields)
+          (λ i l. weights_of_ties (strong i) (drop 1 (chain_of e.chains i)) (chain_of e.parents i)),
     )
 
 -- the image's total is that of the form and the ties
 pub total_of_image : (e : Embedding) → IsEmbedding e
     → ising_total (image e) ≤ ising_total e.ising + ties_cost e
 total_of_image e kept =
-    let pairs = placed e.ising.couplings e.places in
     omega (
       arith,
-      weights-append (node_entries 0 (image e).fields) (in_order (pairs ++ all_ties e)),
-      weights-append (node_entries 0 e.ising.fields) e.ising.couplings,
-      weights-in_order (pairs ++ all_ties e),
-      weights-append pairs (all_ties e),
-      weights_placed e.ising.couplings e.places,
-      weights_of_all_ties e,
-      weights_of_image_fields e kept,
+      weights-append,
+      weights-in_order,
+      weights_placed,
+      weights_of_ties_by (by_node e) e,
+      weights_of_image_fields,
     )
 
 -- ---- how many ties there are
 
 pub eqb-comm : (a b : ℕ) → (a == b) ≡ (b == a)
-eqb-comm a b = elim (cases_eq a b) [
-  | inl same ↦ eq-eqb a b same ∙ sym (eq-eqb b a (sym same))
-  | inr other ↦ ne_eqb a b other ∙ sym (ne_eqb b a (λ e. other (sym e)))
-]
+eqb-comm a b = grind (arith, nat_tests)
 
 -- a chain's qubits, counted one number at a time
 chain_counted : (n : ℕ) (chain : List ℕ) → AllByRecursion (λ q. q < n) chain
@@ -229,17 +158,12 @@ chain_counted n (p ∷ ps) h =
       ints,
       total_by-same (λ q. pos (count_by (λ r. r == q) (p ∷ ps))) (λ q. first q +ℤ rest q)
           (range_with_len 0 n)
-          (λ q. ap pos (sum_by-cons (λ r. cond (r == q) 1 0) p ps)
-          ∙ ap (λ b. pos (cond b 1 0 + count_by (λ r. r == q) ps)) (eqb-comm p q)
-          ∙ one (q == p) (count_by (λ r. r == q) ps)),
+          (λ q.
+          let next = sum_by-cons (λ r. cond (r == q) 1 0) p ps in grind (arith, nat_tests, ints)),
       total_by-plus first rest (range_with_len 0 n),
       hit (λ q. pos 1) p 0 n (omega arith) (omega (arith, h.0)),
       chain_counted n ps h.1,
     )
-  where
-    one : (b : Bool) (m : ℕ) → pos (cond b 1 0 + m) ≡ if_so b (pos 1) +ℤ pos m
-    one true m = omega (arith, ints)
-    one false m = omega (arith, ints)
 
 occurrences-cons : (q : ℕ) (c : List ℕ) (cs : List (List ℕ))
     → occurrences q (c ∷ cs) ≡ count_by (λ p. p == q) c + occurrences q cs
@@ -259,7 +183,7 @@ chains_counted n (c ∷ cs) h =
       total_by-plus first rest (range_with_len 0 n),
       chain_counted n c h.0,
       chains_counted n cs h.1,
-      sum_by-cons length c cs,
+      sum_by-cons,
     )
 
 ones_of : (a n : ℕ) → total_by (λ q. pos 1) (range_with_len a n) ≡ pos n
@@ -295,7 +219,6 @@ lengths_of chains =
       arith,
       ints,
       ap (total_by (λ (c : List ℕ). pos (length c))) listed,
-      mapped,
       sum_is (λ (c : List ℕ). length c) chains,
       sum_is (λ i. length (f i)) (range_with_len 0 (length chains)),
     )
@@ -307,41 +230,27 @@ few_qubits e kept =
     omega (
       arith,
       ap (λ n. sum_by (λ i. length (chain_of e.chains i)) (range_with_len 0 n)) (sym kept.counted),
-      lengths_of e.chains,
+      lengths_of,
       few_in_chains e.qubits e.chains (all_within e.qubits e.chains (recursion_from_All _ _ kept.within)) kept.once,
     )
 
 -- ---- how strong they are
 
 pub couplings_at-le : (i : ℕ) (cs : List Entry) → couplings_at i cs ≤ weight_total cs
-couplings_at-le i cs = sum_by-le-sum_by _ size cs (λ c. below ((i == c.first) || (i == c.second)) (size c))
-  where
-    below : (b : Bool) (n : ℕ) → cond b n 0 ≤ n
-    below true n = omega arith
-    below false n = omega arith
+couplings_at-le i cs = sum_by-le-sum_by _ size cs (λ c. grind (arith, nat_tests))
 
 pub strength-le : (e : Embedding) (i : ℕ) → i < length e.ising.fields
     → strength e i ≤ ising_total e.ising + 1
-strength-le e i within =
-    omega (
-      arith,
-      weights_within e.ising.fields i (pos 0) within,
-      couplings_at-le i e.ising.couplings,
-      weights-append (node_entries 0 e.ising.fields) e.ising.couplings,
-    )
+strength-le e i within = omega (arith, weights_within, couplings_at-le, weights-append)
 
 costs_below : (most : ℕ) (f g : ℕ → ℕ) (a n : ℕ) → ((i : ℕ) → i < a + n → f i ≤ most)
     → sum_by (λ i. f i * (g i - 1)) (range_with_len a n) ≤ most * sum_by g (range_with_len a n)
 costs_below most f g a zero h = omega arith
 costs_below most f g a (suc n) h =
     let less : g a - 1 ≤ g a = omega arith in
-    omega (
-      arith,
-      mul-le-mul (h a (omega arith)) less,
-      sum_by-cons (λ i. f i * (g i - 1)) a (range_with_len (a + 1) n),
-      ap (λ m. most * m) (sum_by-cons g a (range_with_len (a + 1) n)),
-      costs_below most f g (a + 1) n (λ i l. h i (omega (arith, l))),
-    )
+    let here = mul-le-mul (h a (omega arith)) less in
+    let rest = costs_below most f g (a + 1) n (λ i l. h i (omega (arith, l))) in
+    simp sum_by-cons (grind (arith, nat_tests))
 
 pub ties_cost-le : (e : Embedding) → IsEmbedding e → ties_cost e ≤ (ising_total e.ising + 1) * 2 ^ 20
 ties_cost-le e kept =
@@ -350,6 +259,7 @@ ties_cost-le e kept =
     omega (arith, few_qubits e kept, kept.few) in
     omega (
       arith,
+      costs_same e,
       costs_below most (strength e) (λ i. length (chain_of e.chains i)) 0 (length e.ising.fields)
           (λ i l. strength-le e i (omega (arith, l))),
       mul-le-mul_left most few,
@@ -370,13 +280,8 @@ offset_small e kept = omega (arith, ints, ties_cost-le e kept)
 pub sizes-append : (es ds : List Entry) → sum_by entry_size (es ++ ds) ≡ sum_by entry_size es + sum_by entry_size ds
 sizes-append es ds = sum_by-append entry_size es ds
 
-most_4 : (zero node : Bool) → (if zero then 0 else (if node then 1 else 4)) ≤ 4
-most_4 true node = omega arith
-most_4 false true = omega arith
-most_4 false false = omega arith
-
 entry_size-le : (e : Entry) → entry_size e ≤ 4
-entry_size-le e = most_4 (int_eq e.weight (pos 0)) (is_node e)
+entry_size-le e = grind (arith, nat_tests)
 
 pub sizes-le : (es : List Entry) → sum_by entry_size es ≤ 4 * length es
 sizes-le [] = omega arith
@@ -387,38 +292,35 @@ pub sizes_of_couplers : (n : ℕ) (cs : List Entry) → AllByRecursion (IsCouple
     → sum_by entry_size cs ≡ 4 * length cs
 sizes_of_couplers n [] h = refl
 sizes_of_couplers n (c ∷ cs) h =
-    let two : is_node c ≡ false = ne_eqb c.first c.second (λ same. omega (arith, same, h.0.upward)) in
-    let some : int_eq c.weight (pos 0) ≡ false = nonzero (int_eq c.weight (pos 0)) (Decides-int_eq c.weight (pos 0)) in
-    let four : entry_size c ≡ 4 = rw (some, two) refl in
-    omega (arith, sum_by-cons entry_size c cs, four, sizes_of_couplers n cs h.1)
-  where
-    nonzero : (b : Bool) → Decides b (c.weight ≡ pos 0) → b ≡ false
-    nonzero true d = absurd (h.0.nonzero (d.0 refl))
-    nonzero false d = refl
+    let rest = sizes_of_couplers n cs h.1 in
+    simp sum_by-cons (grind (arith, nat_tests, ints))
 
 pub length-placed : (cs : List Entry) (ps : List (ℕ × ℕ)) → length (placed cs ps) ≤ length cs
 length-placed [] ps = omega arith
 length-placed (c ∷ cs) [] = omega arith
 length-placed (c ∷ cs) (p ∷ ps) = omega (arith, length-placed cs ps)
 
-length-ties : (qs ps : List ℕ) (n : ℕ) → length (ties qs ps n) ≤ length qs
-length-ties [] ps n = omega arith
-length-ties (q ∷ qs) [] n = omega arith
-length-ties (q ∷ qs) (p ∷ ps) n = omega (arith, length-ties qs ps n)
+length-ties : (strong : ℕ → ℕ) (qs ps : List ℕ) → length (ties strong qs ps) ≤ length qs
+length-ties strong [] ps = omega arith
+length-ties strong (q ∷ qs) [] = omega arith
+length-ties strong (q ∷ qs) (p ∷ ps) =
+    let rest = length-ties strong qs ps in omega (arith, rest)
 
-length-all_ties : (e : Embedding) → IsEmbedding e → length (all_ties e) ≤ e.qubits
-length-all_ties e kept =
-    let f : ℕ → List Entry = λ i. ties (drop 1 (chain_of e.chains i)) (chain_of e.parents i) (strength e i) in
+pub length-ties_by : (strong : ℕ → ℕ → ℕ) (e : Embedding) → IsEmbedding e
+    → length (ties_by strong e) ≤ e.qubits
+length-ties_by strong e kept =
+    let f : ℕ → List Entry =
+    λ i. ties (strong i) (drop 1 (chain_of e.chains i)) (chain_of e.parents i) in
     omega (
       arith,
-      length-flat_map f (nodes_of e),
+      length-flat_map,
       sums_le (λ i. length (f i)) (λ i. length (chain_of e.chains i)) 0 (length e.ising.fields)
           (λ i l. omega (
             arith,
-            length-ties (drop 1 (chain_of e.chains i)) (chain_of e.parents i) (strength e i),
+            length-ties (strong i) (drop 1 (chain_of e.chains i)) (chain_of e.parents i),
             length-drop 1 (chain_of e.chains i),
           )),
-      few_qubits e kept,
+      few_qubits,
     )
 
 pub sizes-in_order : (es : List Entry) → sum_by entry_size (in_order es) ≡ sum_by entry_size es
@@ -435,33 +337,19 @@ sizes-in_order es =
 pub sizes_of_nodes : (ws : List ℤ) (n : ℕ) → sum_by entry_size (node_entries n ws) ≤ length ws
 sizes_of_nodes [] n = omega arith
 sizes_of_nodes (w ∷ ws) n =
-    let node : is_node (field_entry n w) ≡ true = eq-eqb n n refl in
-    let one : entry_size (field_entry n w) ≤ 1 = rw node (most_1 (int_eq w (pos 0))) in
-    omega (
-      arith,
-      sum_by-cons entry_size (field_entry n w) (node_entries (suc n) ws),
-      one,
-      sizes_of_nodes ws (suc n),
-    )
-  where
-    most_1 : (zero : Bool) → (if zero then 0 else 1) ≤ 1
-    most_1 true = omega arith
-    most_1 false = omega arith
+    let rest = sizes_of_nodes ws (suc n) in
+    simp sum_by-cons (grind (arith, nat_tests, ints))
 
 pub size_grows : (e : Embedding) → IsEmbedding e → ising_size (image e) ≤ embedding_size e * 2
 size_grows e kept =
-    let pairs = placed e.ising.couplings e.places in
     omega (
       arith,
-      length-map-range_with_len (field_at (all_shares e)) 0 e.qubits,
-      sizes-append (node_entries 0 (image e).fields) (in_order (pairs ++ all_ties e)),
-      sizes_of_nodes (image e).fields 0,
-      sizes-in_order (pairs ++ all_ties e),
-      sizes-append pairs (all_ties e),
-      sizes-le pairs,
-      length-placed e.ising.couplings e.places,
+      length-map-range_with_len,
+      sizes-append,
+      sizes_of_nodes,
+      sizes-in_order,
+      sizes-le,
+      length-placed,
       sizes_of_couplers (length e.ising.fields) e.ising.couplings (couplers_of e kept),
-      sizes-le (all_ties e),
-      length-all_ties e kept,
-      sizes-append (node_entries 0 e.ising.fields) e.ising.couplings,
+      length-ties_by (by_node e) e kept,
     )

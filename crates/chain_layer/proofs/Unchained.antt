@@ -1,18 +1,5 @@
 -- A qubit in no chain has the field 0.
-use Rattle.std.proofs.Common.{◌≡◌, ℕ, zero, suc, ◌<◌, false, List, [], ◌∷◌, length, pos, refl, ap, ◌∙◌, arith}
-use Rattle.std.specs.Prelude.{◌==◌}
-use Rattle.std.specs.List.{AllByRecursion}
-use Rattle.std.proofs.lemmas.Int.{ints}
-use Rattle.std.proofs.lemmas.Bool.{or_parts}
-use Rattle.base.specs.Sums.{if_so}
-use Rattle.bits_model.specs.declared.output.Entry.{Entry}
-use Rattle.bits_model.specs.Output.{is_chained}
-use Rattle.bits_model.specs.Walks.{is_in}
-use Rattle.embedding_check.specs.Embeddings.{Embedding, IsEmbedding}
-use Rattle.chain_map.specs.Chains.{chain_of}
-use Rattle.chain_layer.specs.Image.{field_of, field_at, shares, all_shares}
-use Rattle.chain_layer.specs.laws.NodeEnergies.{shares_of}
-use Rattle.chain_layer.specs.laws.Kept.{each_of_range}
+use Rattle.chain_layer.proofs.Common.{◌≡◌, ℕ, zero, suc, ◌<◌, false, List, [], ◌∷◌, length, pos, refl, ap, ◌∙◌, arith, ◌==◌, AllByRecursion, ints, or_parts, if_so, Entry, is_chained, is_in, Embedding, IsEmbedding, chain_of, field_of, field_at, shares, all_shares, shares_of, each_of_range}
 use Rattle.chain_layer.proofs.Sizes.{eqb-comm}
 
 not_in : (chains : List (List ℕ)) (q i : ℕ) → is_chained chains q ≡ false → i < length chains

@@ -1,21 +1,5 @@
 -- What a model on the qubits of a graph asks of an image.
-use Rattle.std.proofs.Common.{◌≡◌, inl, inr, ℕ, ◌<◌, Bool, true, false, cond, List, [], ◌∷◌, ◌++◌, length, drop, All, pos, neg_ℤ, ℤ, sym, subst, ◌∙◌, arith}
-use Rattle.std.specs.Prelude.{nat_lt}
-use Rattle.std.specs.List.{AllByRecursion, AllZip, slice_index_or}
-use Rattle.std.proofs.lemmas.Bool.{cases_lt}
-use Rattle.std.proofs.lemmas.List.{get_or_past, take-map}
-use Rattle.std.proofs.lemmas.List.Elements.{All-from_recursion, AllZip-get_or}
-use Rattle.std.proofs.lemmas.List.FromFn.{length-map-range_with_len, get_or-map-range_with_len}
-use Rattle.bits_model.specs.declared.output.Entry.{Entry}
-use Rattle.bits_model.specs.Output.{majority, is_chained}
-use Rattle.chain_map.specs.Chains.{Joins, chain_of}
-use Rattle.embedding_check.specs.Embeddings.{Embedding, IsEmbedding}
-use Rattle.embedding_check.specs.Distances.{IsParent, AreParents}
-use Rattle.embedding_check.specs.Checked.{IsPlaceOf}
-use Rattle.chain_layer.specs.Image.{strength, coupling_entry, ties, all_ties, all_shares, placed, field_at, image}
-use Rattle.chain_layer.specs.Stated.{ImageFitsOutput, ImageIsJoined, ReadOffTheChains}
-use Rattle.chain_layer.specs.laws.SpinSums.{all_append}
-use Rattle.chain_layer.specs.laws.Kept.{each_of_range}
+use Rattle.chain_layer.proofs.Common.{◌≡◌, inl, inr, ℕ, ◌<◌, Bool, true, false, cond, List, [], ◌∷◌, ◌++◌, length, drop, All, pos, neg_ℤ, ℤ, sym, subst, ◌∙◌, arith, nat_lt, AllByRecursion, AllZip, slice_index_or, cases_lt, get_or_past, take-map, All-from_recursion, AllZip-get_or, length-map-range_with_len, get_or-map-range_with_len, Entry, majority, is_chained, Joins, chain_of, Embedding, IsEmbedding, IsParent, AreParents, IsPlaceOf, strength, coupling_entry, ties, all_ties, all_shares, placed, field_at, image, ImageFitsOutput, ImageIsJoined, ReadOffTheChains, all_append, each_of_range}
 use Rattle.chain_layer.proofs.Ordered.{ties_at, all_in_order}
 use Rattle.chain_layer.proofs.Unchained.{unchained_field}
 
@@ -69,7 +53,7 @@ tie_joined joined both_ways q p w linked = go (nat_lt q p)
 
 ties_joined : (joined : Joins) → ((a b : ℕ) → joined a b ≡ joined b a) → (chain qs ps : List ℕ)
     → (strong : ℕ) → AllZip (IsParent joined chain) qs ps
-    → AllByRecursion (IsJoined joined) (ties qs ps strong)
+    → AllByRecursion (IsJoined joined) (ties (λ _. strong) qs ps)
 ties_joined joined both_ways chain [] ps strong all = tt
 ties_joined joined both_ways chain (q ∷ qs) [] strong all = tt
 ties_joined joined both_ways chain (q ∷ qs) (p ∷ ps) strong all = (
@@ -89,7 +73,7 @@ node_joined joined both_ways e parents i = elim (cases_lt i (length e.chains)) [
       (AllZip-get_or (AreParents joined) e.chains e.parents i [] [] parents within)
   | inr past ↦
       subst
-      (λ chain. AllByRecursion (IsJoined joined) (ties (drop 1 chain) (chain_of e.parents i) (strength e i)))
+      (λ chain. AllByRecursion (IsJoined joined) (ties (λ _. strength e i) (drop 1 chain) (chain_of e.parents i)))
       (sym (get_or_past e.chains i [] past))
       tt
 ]

@@ -1,13 +1,13 @@
 -- An embedded Ising form, as an Ising form on the qubits.
 --
 -- Each field is split over its chain, each coupling is placed on one joined pair of qubits, and
--- each qubit of a chain but the first is tied to its parent, so strongly that a broken tie never
--- pays.
+-- each qubit of a chain but the first is tied to its parent. Ties as strong as a node asks are so
+-- strong that a broken one never pays.
 --
 -- A node with field 5 on the chain 4, 7, 9 gives the qubits 4 and 7 the field 2 each and 9 the
 -- field 1. If it has the couplings 3 and -1 with other nodes, its strength is 5 + 3 + 1 + 1 = 10:
 -- the two ties have the coupling -10 each.
-use Rattle.std.specs.Prelude.{◌≡◌, ◌≢◌, ℕ, ◌+◌, ◌-◌, ◌*◌, ◌<◌, ◌==◌, ℤ, pos, neg_ℤ, ◌+ℤ◌, unsigned_abs, Bool, ◌&&◌, ◌||◌, List, [], ◌∷◌, ◌++◌, map, length, take, drop, All, sum_by, flat_map, nat_lt, if◌then◌else◌}
+use Rattle.std.specs.Prelude.{◌≡◌, ◌≢◌, ℕ, ◌+◌, ◌<◌, ◌==◌, ℤ, pos, neg_ℤ, ◌+ℤ◌, unsigned_abs, Bool, ◌&&◌, ◌||◌, List, [], ◌∷◌, ◌++◌, map, length, take, drop, All, sum_by, flat_map, nat_lt, if◌then◌else◌}
 use Rattle.std.specs.List.{list_any, range_with_len, slice_index_or}
 use Rattle.std.specs.Int.{int_div_euclid, int_rem_euclid}
 use Rattle.base.specs.Sums.{total_by, if_so}
@@ -71,12 +71,14 @@ shares chain h =
     let rest = unsigned_abs (int_rem_euclid h (pos (length chain))) in
     equal_shares (take rest chain) (share +ℤ pos 1) ++ equal_shares (drop rest chain) share
 
--- The couplings of these qubits with their parents. A coupling of -F, where F is the strength: it
--- costs -F where qubit and parent agree, and F where they don't.
-abbrev pub ties : List ℕ → List ℕ → ℕ → List Entry
-ties (q ∷ qs) (p ∷ ps) strong = coupling_entry q p (neg_ℤ (pos strong)) ∷ ties qs ps strong
-ties (q ∷ qs) [] strong = []
-ties [] ps strong = []
+-- The couplings of these qubits with their parents, each of -F, where F is the strength of the
+-- qubit's tie: it costs -F where qubit and parent agree, and F where they don't. The qubits 7 and 9
+-- with the parents 4 and 7 and the strengths 4 and 2 give the couplings (4, 7) of -4 and (7, 9) of
+-- -2.
+abbrev pub ties : (ℕ → ℕ) → List ℕ → List ℕ → List Entry
+ties strong (q ∷ qs) (p ∷ ps) = coupling_entry q p (neg_ℤ (pos (strong q))) ∷ ties strong qs ps
+ties strong (q ∷ qs) [] = []
+ties strong [] ps = []
 
 -- ---- what all have
 
@@ -84,11 +86,12 @@ ties [] ps strong = []
 abbrev pub all_shares : Embedding → List Entry
 all_shares e = flat_map (λ node. shares (chain_of e.chains node) (field_of e node)) (nodes_of e)
 
--- The ties of all chains. Each chain's ties are as strong as its own node asks.
-abbrev pub all_ties : Embedding → List Entry
-all_ties e =
+-- The ties of all chains, by how strong the tie of a node's qubit is. A chain of n qubits has n - 1
+-- of them.
+abbrev pub ties_by : (ℕ → ℕ → ℕ) → Embedding → List Entry
+ties_by strong e =
     flat_map
-    (λ node. ties (drop 1 (chain_of e.chains node)) (chain_of e.parents node) (strength e node))
+    (λ node. ties (strong node) (drop 1 (chain_of e.chains node)) (chain_of e.parents node))
     (nodes_of e)
 
 -- Each coupling on its pair of qubits. The pair of qubits of a coupling is joined in the graph, and
@@ -118,20 +121,43 @@ in_order (e ∷ es) = inserted e (in_order es)
 
 -- The split fields, the placed couplings, the ties, and the same constant. A model of it has a
 -- field for each qubit of the graph: 0 for those that are in no chain.
-abbrev pub image : Embedding → IsingContent
-image e = record {
+abbrev pub image_by : (ℕ → ℕ → ℕ) → Embedding → IsingContent
+image_by strong e = record {
   constant = e.ising.constant;
   fields = map (field_at (all_shares e)) (range_with_len 0 e.qubits);
-  couplings = in_order (placed e.ising.couplings e.places ++ all_ties e);
+  couplings = in_order (placed e.ising.couplings e.places ++ ties_by strong e);
 }
 
--- What the ties cost where none is broken. A chain of n qubits has n - 1 ties of one strength.
-abbrev pub ties_cost : Embedding → ℕ
-ties_cost e = sum_by (λ node. strength e node * (length (chain_of e.chains node) - 1)) (nodes_of e)
+-- what the ties cost where none is broken: the sum of their strengths
+abbrev pub cost_by : (ℕ → ℕ → ℕ) → Embedding → ℕ
+cost_by strong e =
+    sum_by (λ node. sum_by (strong node) (drop 1 (chain_of e.chains node))) (nodes_of e)
 
 -- so much lower are all energies: with no tie broken each tie adds minus its strength
+abbrev pub offset_by : (ℕ → ℕ → ℕ) → Embedding → ℤ
+offset_by strong e = neg_ℤ (pos (cost_by strong e))
+
+-- ---- with ties that are as strong as their nodes ask
+
+-- all ties of a chain are as strong as its node asks
+abbrev pub by_node : Embedding → ℕ → ℕ → ℕ
+by_node e = λ node q. strength e node
+
+-- the ties of all chains
+abbrev pub all_ties : Embedding → List Entry
+all_ties e = ties_by (by_node e) e
+
+-- the form on the qubits
+abbrev pub image : Embedding → IsingContent
+image e = image_by (by_node e) e
+
+-- what the ties cost where none is broken
+abbrev pub ties_cost : Embedding → ℕ
+ties_cost e = cost_by (by_node e) e
+
+-- so much lower are all energies
 abbrev pub offset : Embedding → ℤ
-offset e = neg_ℤ (pos (ties_cost e))
+offset e = offset_by (by_node e) e
 
 -- ---- the link
 

@@ -71,7 +71,7 @@ fn push_ties(
     requires matched { length chain.now ≡ length parents.now + 1 }
     requires small { strength < 2 ^ 127 }
     ensures { OnOk result (couplings.new
-        ≡ couplings.old ++ ties (drop 1 chain.now) parents.now strength) }
+        ≡ couplings.old ++ ties (λ _. strength) (drop 1 chain.now) parents.now) }
 {
     for i in 0..parents.len() {
         couplings.push(coupling(chain[i + 1], parents[i], -(strength as i128)))?;

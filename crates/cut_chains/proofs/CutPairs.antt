@@ -1,29 +1,7 @@
 -- The couplings of the image are in order, and none of them has the pair of another.
 --
 -- They have the pairs of the layer of chains, whose ties are of the same qubits.
-use Rattle.std.proofs.Common.{◌≡◌, ◌≢◌, ℕ, ◌+◌, ◌*◌, ◌<◌, ◌≤◌, ◌^◌, Bool, true, false, cond, List, [], ◌∷◌, ◌++◌, length, drop, ℤ, pos, neg_ℤ, refl, sym, subst, ◌∙◌, arith}
-use Rattle.std.specs.Prelude.{◌==◌, nat_lt, flat_map}
-use Rattle.std.specs.List.{AllByRecursion, AllZip}
-use Rattle.std.specs.List.Sorted.{IsPermutation, IsNonDecreasingBy}
-use Rattle.std.proofs.lemmas.Int.{ints}
-use Rattle.std.proofs.lemmas.List.Sorted.{All-permutation, sum_by-IsPermutation}
-use Rattle.std.proofs.lemmas.List.Elements.{recursion_from_All, All-from_recursion}
-use Rattle.base.proofs.Totals.{total_by-IsPermutation}
-use Rattle.bits_model.specs.declared.output.Entry.{Entry}
-use Rattle.quad_form.specs.Quads.{IsCoupler}
-use Rattle.bits_model.specs.PairNumbers.{pair_number}
-use Rattle.pair_sums.specs.Pairs.{IsPair, weight_for}
-use Rattle.pair_sums.proofs.PairOrder.{ArePairs, Rises}
-use Rattle.pair_sums.proofs.UniqueSums.{same_entries}
-use Rattle.embedding_check.specs.Embeddings.{Embedding, IsEmbedding}
-use Rattle.chain_map.specs.Chains.{chain_of}
-use Rattle.chain_layer.specs.Image.{nodes_of, strength, coupling_entry, ties, all_ties, placed, in_order}
-use Rattle.chain_layer.specs.laws.SpinSums.{all_append, total_by-in_order}
-use Rattle.chain_layer.specs.laws.Kept.{each_of_range}
-use Rattle.chain_layer.proofs.Ordered.{Apart, AreApart, each, ties_at, all_in_order, rises_in_order, couplings_apart, all_couplers, numbered, few_numbered, rises_from_sorted}
-use Rattle.cut_chains.specs.Sides.{cut_strength}
-use Rattle.cut_chains.specs.CutImage.{ties_of, cut_ties}
-use Rattle.cut_chains.specs.laws.Mended.{node_ties, all_parts, couplers_placed}
+use Rattle.cut_chains.proofs.Common.{◌≡◌, ◌≢◌, ℕ, ◌+◌, ◌*◌, ◌≤◌, ◌^◌, cond, List, [], ◌∷◌, ◌++◌, length, drop, ℤ, pos, neg_ℤ, refl, sym, ◌∙◌, arith, ◌==◌, flat_map, AllByRecursion, AllZip, IsPermutation, IsNonDecreasingBy, ints, nat_tests, All-permutation, sum_by-IsPermutation, recursion_from_All, All-from_recursion, total_by-IsPermutation, Entry, IsCoupler, pair_number, IsPair, weight_for, ArePairs, Rises, same_entries, Embedding, IsEmbedding, chain_of, nodes_of, strength, coupling_entry, ties, all_ties, placed, in_order, all_append, total_by-in_order, each_of_range, Apart, AreApart, each, ties_at, all_in_order, rises_in_order, couplings_apart, all_couplers, numbered, few_numbered, rises_from_sorted, cut_strength, cut_ties, node_ties, all_parts, couplers_placed}
 
 -- ---- entries of the same pairs
 
@@ -54,19 +32,10 @@ each_alike f g (i ∷ is) h =
     append_alike (f i) (g i) (flat_map f is) (flat_map g is) (h i) (each_alike f g is h)
 
 tie_alike : (q p : ℕ) (v w : ℤ) → IsAlike (coupling_entry q p v) (coupling_entry q p w)
-tie_alike q p v w = go (nat_lt q p)
-  where
-    go : (b : Bool)
-        → IsAlike
-        (cond b (record { first = q; second = p; weight = v })
-        (record { first = p; second = q; weight = v }))
-        (cond b (record { first = q; second = p; weight = w })
-        (record { first = p; second = q; weight = w }))
-    go true = record { first = refl; second = refl }
-    go false = record { first = refl; second = refl }
+tie_alike q p v w = record { first = grind (arith, nat_tests); second = grind (arith, nat_tests) }
 
 ties_alike : (n : ℕ) (strong : ℕ → ℕ) (qs ps : List ℕ)
-    → AreAlike (ties qs ps n) (ties_of strong qs ps)
+    → AreAlike (ties (λ _. n) qs ps) (ties strong qs ps)
 ties_alike n strong [] ps = tt
 ties_alike n strong (q ∷ qs) [] = tt
 ties_alike n strong (q ∷ qs) (p ∷ ps) =
@@ -94,10 +63,10 @@ apart_alike (e ∷ es) (d ∷ ds) alike apart =
     one [] [] p q = tt
     one [] (g ∷ gs) p q = absurd p
     one (f ∷ fs) [] p q = absurd p
-    one (f ∷ fs) (g ∷ gs) p q = (
-      λ same. q.0 (same_number e d alike.0 ∙ same ∙ sym (same_number f g p.0)),
-      one fs gs p.1 q.1,
-    )
+    one (f ∷ fs) (g ∷ gs) p q =
+        let here = same_number e d alike.0 in
+        let there = same_number f g p.0 in
+        (λ same. q.0 cc, one fs gs p.1 q.1)
 
 couplers_alike : (n : ℕ) (es ds : List Entry) → AreAlike es ds
     → AllByRecursion (λ (d : Entry). d.weight ≢ pos 0) ds → AllByRecursion (IsCoupler n) es
@@ -105,31 +74,21 @@ couplers_alike : (n : ℕ) (es ds : List Entry) → AreAlike es ds
 couplers_alike n [] [] alike nonzero all = tt
 couplers_alike n [] (d ∷ ds) alike nonzero all = absurd alike
 couplers_alike n (e ∷ es) [] alike nonzero all = absurd alike
-couplers_alike n (e ∷ es) (d ∷ ds) alike nonzero all = (
-  record {
-    upward =
-        subst (λ m. m < d.second) alike.0.first
-        (subst (λ m. e.first < m) alike.0.second all.0.upward);
-    within = subst (λ m. m < n) alike.0.second all.0.within;
-    nonzero = nonzero.0;
-  },
-  couplers_alike n es ds alike.1 nonzero.1 all.1,
-)
+couplers_alike n (e ∷ es) (d ∷ ds) alike nonzero all =
+    let first = alike.0.first in
+    let second = alike.0.second in
+    let one = all.0 in (
+      record { upward = grind arith; within = grind arith; nonzero = nonzero.0 },
+      couplers_alike n es ds alike.1 nonzero.1 all.1,
+    )
 
 -- ---- no tie is 0
 
 tie_nonzero : (q p n : ℕ) → (coupling_entry q p (neg_ℤ (pos (n + 1)))).weight ≢ pos 0
-tie_nonzero q p n = go (nat_lt q p)
-  where
-    go : (b : Bool)
-        → (cond {A = Entry} b (record { first = q; second = p; weight = neg_ℤ (pos (n + 1)) })
-        (record { first = p; second = q; weight = neg_ℤ (pos (n + 1)) })).weight
-        ≢ pos 0
-    go true = λ same. omega (arith, ints, same)
-    go false = λ same. omega (arith, ints, same)
+tie_nonzero q p n = grind (arith, ints, nat_tests)
 
 ties_nonzero : (weak : ℕ → ℕ) (qs ps : List ℕ)
-    → AllByRecursion (λ (d : Entry). d.weight ≢ pos 0) (ties_of (λ q. weak q + 1) qs ps)
+    → AllByRecursion (λ (d : Entry). d.weight ≢ pos 0) (ties (λ q. weak q + 1) qs ps)
 ties_nonzero weak [] ps = tt
 ties_nonzero weak (q ∷ qs) [] = tt
 ties_nonzero weak (q ∷ qs) (p ∷ ps) = (tie_nonzero q p (weak q), ties_nonzero weak qs ps)

@@ -1,39 +1,15 @@
 -- How much each qubit weighs, and that it is small.
-use Rattle.chain_layer.proofs.Added.{at_map}
-use Rattle.std.proofs.Common.{◌≡◌, inl, inr, Bool, true, false, replicate, ℕ, ◌+◌, ◌<◌, ◌≤◌, ◌^◌, List, map, length, get_or, ℤ, pos, unsigned_abs, sym, ap, subst, ◌∙◌, arith}
-use Rattle.std.specs.List.{range_with_len}
-use Rattle.std.specs.Prelude.{All}
-use Rattle.std.proofs.lemmas.Bool.{cases_lt}
-use Rattle.std.proofs.lemmas.List.Elements.{All-from_recursion}
-use Rattle.std.proofs.lemmas.List.{get_or_past, length-map, get_or-replicate}
-use Rattle.std.proofs.lemmas.List.FromFn.{fill_by_all, get_or-map-range_with_len, length-map-range_with_len}
-use Rattle.bits_model.specs.declared.output.Entry.{Entry}
-use Rattle.bits_model.specs.Output.{weight_total}
-use Rattle.quad_form.specs.Quads.{node_entries, IsCoupler}
-use Rattle.bits_model.proofs.Energies.{weights-append}
-use Rattle.quad_form.proofs.NodeEnergies.{weights_within}
-use Rattle.bits_model.specs.Walks.{is_in}
-use Rattle.chain_map.specs.Chains.{chain_of}
-use Rattle.chain_layer.specs.laws.Kept.{each_at, chain_within}
-use Rattle.embedding_check.specs.Embeddings.{Embedding, IsEmbedding}
-use Rattle.chain_layer.specs.Image.{all_shares, field_at, placed, couplings_at}
-use Rattle.chain_layer.proofs.Sizes.{weights_of_image_fields, weights_placed}
-use Rattle.cut_chains.specs.Sides.{weight_of}
-use Rattle.cut_chains.specs.laws.Mended.{couplers_placed}
+use Rattle.cut_chains.proofs.Common.{at_map, ◌≡◌, Bool, true, false, replicate, ℕ, ◌+◌, ◌<◌, ◌≤◌, ◌^◌, List, map, length, get_or, ℤ, pos, unsigned_abs, sym, ap, subst, ◌∙◌, arith, range_with_len, All, All-from_recursion, get_or_past, length-map, get_or-replicate, fill_by_all, get_or-map-range_with_len, length-map-range_with_len, Entry, weight_total, node_entries, IsCoupler, weights-append, weights_within, is_in, chain_of, each_at, chain_within, Embedding, IsEmbedding, all_shares, field_at, placed, couplings_at, weights_of_image_fields, weights_placed, weight_of, couplers_placed}
 
 -- a field weighs at most what all fields do
 field_within : (hs : List ℤ) (i : ℕ)
     → get_or (map (λ h. unsigned_abs h) hs) i 0 ≤ weight_total (node_entries 0 hs)
-field_within hs i = elim (cases_lt i (length hs)) [
-  | inl within ↦
-      omega (arith, at_map (λ h. unsigned_abs h) hs i within, weights_within hs i (pos 0) within)
-  | inr past ↦
-      omega (
-        arith,
-        get_or_past (map (λ h. unsigned_abs h) hs) i 0
-            (omega (arith, past, length-map hs (λ (h : ℤ). unsigned_abs h))),
-      )
-]
+field_within hs i =
+    let here = at_map (λ h. unsigned_abs h) hs i in
+    let within = weights_within hs i (pos 0) in
+    let past = get_or_past (map (λ h. unsigned_abs h) hs) i 0 in
+    let long = length-map hs (λ (h : ℤ). unsigned_abs h) in
+    grind arith
 
 -- the size of a field, and of all couplings that are placed
 pub first_small : (e : Embedding) → IsEmbedding e → (xs : List ℕ) (cs : List Entry)
@@ -41,16 +17,10 @@ pub first_small : (e : Embedding) → IsEmbedding e → (xs : List ℕ) (cs : Li
     → cs ≡ placed e.ising.couplings e.places
     → (i : ℕ) → get_or xs i 0 + weight_total cs < 2 ^ 127
 first_small e kept xs cs same listed i =
-    omega (
-      arith,
-      ap (λ l. get_or l i 0) same,
-      ap weight_total listed,
-      field_within (map (field_at (all_shares e)) (range_with_len 0 e.qubits)) i,
-      weights_of_image_fields e kept,
-      weights_placed e.ising.couplings e.places,
-      weights-append (node_entries 0 e.ising.fields) e.ising.couplings,
-      kept.ising.small,
-    )
+    let hs = map (field_at (all_shares e)) (range_with_len 0 e.qubits) in
+    let fields = weights_of_image_fields e kept in
+    let small = kept.ising.small in
+    rw (same, listed) (omega (arith, field_within hs i, weights_placed, weights-append))
 
 -- the sizes of the fields, raised by those of the couplings, are the weights
 pub all_weights : (e : Embedding) (xs ys : List ℕ) (cs : List Entry)

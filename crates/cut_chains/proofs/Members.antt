@@ -1,23 +1,13 @@
 -- Lists of qubits that others are appended to: which qubits are in them, and that none is twice.
-use Rattle.std.proofs.Common.{◌≡◌, ℕ, ◌+◌, ◌<◌, false, ◌||◌, List, [], ◌∷◌, ◌++◌, length, take, get_or, refl, sym, ap, ◌∙◌}
-use Rattle.std.specs.Prelude.{◌==◌, reverse}
-use Rattle.std.proofs.Math.Bool.{or_assoc, or_comm, or-false}
-use Rattle.std.proofs.lemmas.Bool.{eq-eqb, ne_eqb, or_from, or_parts, both_ways}
-use Rattle.std.proofs.lemmas.List.{reverse-append, take_more}
-use Rattle.bits_model.specs.Walks.{is_in}
-use Rattle.chain_layer.specs.laws.OnceChains.{Once}
+use Rattle.cut_chains.proofs.Common.{◌≡◌, ℕ, ◌+◌, ◌<◌, false, ◌||◌, List, [], ◌∷◌, ◌++◌, length, take, get_or, refl, ap, ◌∙◌, ◌==◌, reverse, or_comm, or-false, reverse-append, take_more, is_in, Once, list_any-append, arith, nat_tests}
 
 -- ---- which qubits are in a list
 
 pub is_in-append : (qs rs : List ℕ) (q : ℕ) → is_in (qs ++ rs) q ≡ (is_in qs q || is_in rs q)
-is_in-append [] rs q = refl
-is_in-append (p ∷ ps) rs q =
-    ap (λ b. (p == q) || b) (is_in-append ps rs q)
-    ∙ sym (or_assoc (p == q) (is_in ps q) (is_in rs q))
+is_in-append qs rs q = list_any-append (λ p. p == q) qs rs
 
 pub is_in-push : (qs : List ℕ) (p q : ℕ) → is_in (qs ++ p ∷ []) q ≡ (is_in qs q || (p == q))
-is_in-push qs p q =
-    is_in-append qs (p ∷ []) q ∙ ap (λ b. is_in qs q || b) (or-false (p == q))
+is_in-push qs p q = is_in-append qs (p ∷ []) q ∙ ap (λ b. is_in qs q || b) (or-false (p == q))
 
 is_in-reverse : (qs : List ℕ) (q : ℕ) → is_in (reverse qs) q ≡ is_in qs q
 is_in-reverse [] q = refl
@@ -45,9 +35,6 @@ in_more order i q within =
 pub once_more : (qs : List ℕ) (q : ℕ) → Once qs → is_in qs q ≡ false → Once (qs ++ q ∷ [])
 once_more [] q once out = (refl, tt)
 once_more (r ∷ rs) q once out =
-    let parts = or_parts (r == q) (is_in rs q) out in
-    let other : (q == r) ≡ false =
-    ne_eqb q r (λ same. both_ways (r == q) parts.0 (eq-eqb r q (sym same))) in (
-      is_in-push rs q r ∙ or_from (is_in rs r) (q == r) once.0 other,
-      once_more rs q once.1 parts.1,
-    )
+    let first = once.0 in
+    let pushed = is_in-push rs q r in
+    (grind (arith, nat_tests), once_more rs q once.1 (grind (arith, nat_tests)))

@@ -1,45 +1,20 @@
 -- The ties of one node, from the sums over its chain.
-use Rattle.std.proofs.Common.{◌≡◌, inl, inr, ℕ, ◌+◌, ◌-◌, ◌<◌, ◌≤◌, ◌^◌, true, not, List, [], ◌∷◌, length, drop, get_or, All, pos, neg_ℤ, refl, sym, ap, subst, ◌∙◌, arith}
-use Rattle.std.specs.Prelude.{◌==◌, min, sum_by}
-use Rattle.std.proofs.lemmas.Int.{ints}
-use Rattle.std.proofs.lemmas.Bool.{eqb-true, or_cases}
-use Rattle.std.proofs.lemmas.List.Elements.{All-from_recursion}
-use Rattle.std.proofs.lemmas.List.Sums.{sum_by-cons}
-use Rattle.bits_model.specs.Walks.{is_in, first_of}
-use Rattle.embedding_check.specs.Embeddings.{Embedding, IsEmbedding}
-use Rattle.chain_map.specs.Chains.{chain_of}
-use Rattle.chain_layer.specs.Image.{coupling_entry}
-use Rattle.chain_layer.specs.laws.Whole.{in_first, in_rest, each_in}
-use Rattle.chain_layer.specs.laws.Kept.{chain_within}
-use Rattle.cut_chains.specs.Sides.{is_below, weight_of, side_weight, cut_strength}
-use Rattle.cut_chains.specs.CutImage.{ties_of}
-use Rattle.cut_chains.specs.Steps.{strength_in}
-use Rattle.cut_chains.specs.laws.Mended.{IsOnceTree, node_ties, once_tree}
-use Rattle.chain_layer.specs.laws.OnceChains.{chain_once}
+use Rattle.cut_chains.proofs.Common.{◌≡◌, ℕ, ◌+◌, ◌-◌, ◌<◌, ◌≤◌, ◌^◌, true, not, List, [], ◌∷◌, length, drop, get_or, All, refl, sym, ap, subst, ◌∙◌, arith, min, sum_by, ints, nat_tests, All-from_recursion, is_in, first_of, Embedding, IsEmbedding, chain_of, in_rest, each_in, chain_within, is_below, weight_of, side_weight, cut_strength, ties, strength_in, IsOnceTree, node_ties, once_tree, chain_once}
 use Rattle.cut_chains.proofs.Subtrees.{same_held}
 use Rattle.cut_chains.proofs.CutSizes.{both_sides, chain_weighs, all_weigh}
 
 -- the same sums over a chain of the same weights
 same_sums : (v w : ℕ → ℕ) (qs : List ℕ) → ((q : ℕ) → is_in qs q ≡ true → v q ≡ w q)
     → sum_by v qs ≡ sum_by w qs
-same_sums v w [] same = refl
-same_sums v w (q ∷ qs) same =
-    omega (
-      arith,
-      sum_by-cons v q qs,
-      sum_by-cons w q qs,
-      same q (in_first q qs),
-      same_sums v w qs (λ r in'. same r (in_rest q r qs in')),
-    )
+same_sums v w qs same = same_held (λ q. true) w v qs same
 
 pub same_ties : (v w : ℕ → ℕ) (qs ps : List ℕ) → ((q : ℕ) → is_in qs q ≡ true → v q ≡ w q)
-    → ties_of v qs ps ≡ ties_of w qs ps
+    → ties v qs ps ≡ ties w qs ps
 same_ties v w [] ps same = refl
 same_ties v w (q ∷ qs) [] same = refl
 same_ties v w (q ∷ qs) (p ∷ ps) same =
-    let here = same q (in_first q qs) in
     let rest = same_ties v w qs ps (λ r in'. same r (in_rest q r qs in')) in
-    λ k. coupling_entry q p (neg_ℤ (pos (here k))) ∷ rest k
+    grind (arith, nat_tests)
 
 -- a chain weighs little
 pub chain_small : (e : Embedding) → IsEmbedding e → (i : ℕ) → i < length e.ising.fields
@@ -112,15 +87,10 @@ module _ (e : Embedding) (i : ℕ) (old chain parents : List ℕ)
             → ((r : ℕ) → is_in (drop 1 qs) r ≡ true → get_or new r 0 ≤ get_or new (first_of qs) 0)
             → get_or new q 0 ≤ get_or new (first_of qs) 0
         split [] q in' part = absurd cc
-        split (c ∷ cs) q in' part = elim (or_cases (c == q) (is_in cs q) in') [
-          | inl same ↦ omega (arith, ap (λ r. get_or new r 0) (eqb-true c q same))
-          | inr later ↦ part q later
-        ]
+        split (c ∷ cs) q in' part = let later = part q in grind (arith, nat_tests)
 
     at_node : AreSummed old new (chain_of e.chains i) (chain_of e.parents i)
-    at_node =
-        subst (λ qs. AreSummed old new qs (chain_of e.parents i)) next.chain_is
-        (subst (AreSummed old new chain) next.parents_is sums)
+    at_node = grind (arith, nat_tests)
 
     same_strength : (q : ℕ) → is_in (drop 1 (chain_of e.chains i)) q ≡ true
         → strength_in new (first_of (chain_of e.chains i)) q ≡ cut_strength e i q
@@ -141,10 +111,10 @@ module _ (e : Embedding) (i : ℕ) (old chain parents : List ℕ)
         ) in
         λ k. min (under k) (over k) + 1
 
-    pub node_made : ties_of (strength_in new (first_of chain)) (drop 1 chain) parents
+    pub node_made : ties (strength_in new (first_of chain)) (drop 1 chain) parents
         ≡ node_ties e i
     node_made =
-        (λ k. ties_of (strength_in new (first_of (next.chain_is k))) (drop 1 (next.chain_is k))
+        (λ k. ties (strength_in new (first_of (next.chain_is k))) (drop 1 (next.chain_is k))
         (next.parents_is k))
         ∙ same_ties (strength_in new (first_of (chain_of e.chains i))) (cut_strength e i)
         (drop 1 (chain_of e.chains i)) (chain_of e.parents i) same_strength

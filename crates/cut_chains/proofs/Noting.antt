@@ -1,22 +1,5 @@
 -- The parents that are noted for a chain, and what the walks and sums over it ask.
-use Rattle.std.proofs.Common.{◌≡◌, inl, inr, ℕ, ◌+◌, ◌<◌, ◌^◌, Bool, true, false, cond, ◌||◌, List, [], ◌∷◌, length, take, drop, get_or, All, refl, sym, ap, subst, ◌∙◌, arith}
-use Rattle.std.specs.Prelude.{◌==◌, sum_by}
-use Rattle.std.specs.List.{AllByRecursion, AllZip}
-use Rattle.std.proofs.lemmas.Bool.{cases_eq, eqb-true, or_cases}
-use Rattle.std.proofs.lemmas.List.{get_or-drop, get_or-set_same, get_or-set_other, length-drop}
-use Rattle.std.proofs.lemmas.List.Elements.{AllZip-get_or, recursion_from_All, All-from_recursion, length_all_zip}
-use Rattle.std.proofs.Math.ListN.{set, length-set}
-use Rattle.bits_model.specs.Walks.{is_in, first_of}
-use Rattle.embedding_check.specs.Embeddings.{IsTie, parent_in}
-use Rattle.chain_layer.specs.laws.Whole.{in_first, in_rest}
-use Rattle.chain_layer.specs.laws.Kept.{each_at}
-use Rattle.cut_chains.specs.Sides.{is_below, side_weight}
-use Rattle.cut_chains.specs.laws.Trees.{IsRooted, is_below_first}
-use Rattle.chain_layer.specs.laws.OnceChains.{Once, own_parents}
-use Rattle.cut_chains.specs.laws.Mended.{IsOnceTree, rooted_tree}
-use Rattle.std.proofs.lemmas.List.Sums.{sum_by-cons}
-use Rattle.cut_chains.specs.Orders.{IsOrder}
-use Rattle.cut_chains.specs.Steps.{Climbable, Sinkable}
+use Rattle.cut_chains.proofs.Common.{ints, elements, ◌≡◌, inl, inr, ℕ, ◌+◌, ◌<◌, ◌^◌, Bool, true, false, List, [], ◌∷◌, length, take, drop, get_or, All, refl, sym, ap, subst, ◌∙◌, arith, ◌==◌, sum_by, AllByRecursion, AllZip, nat_tests, eqb-true, or_cases, get_or-drop, get_or-set_same, get_or-set_other, length-drop, AllZip-get_or, recursion_from_All, All-from_recursion, set, length-set, is_in, first_of, IsTie, parent_in, in_rest, each_at, is_below, side_weight, IsRooted, is_below_first, Once, own_parents, IsOnceTree, rooted_tree, sum_by-cons, IsOrder, Climbable, Sinkable}
 use Rattle.cut_chains.proofs.Reaching.{chain_parts}
 use Rattle.cut_chains.proofs.Members.{in_more}
 
@@ -48,35 +31,18 @@ noted_more before up next chain parents i matched i_in once inside noted stored 
     record {
       sized = ap length stored ∙ length-set up at value ∙ noted.sized;
       own = λ q q_in.
-          ap (λ xs. get_or xs q 0) stored
-          ∙ elim (cases_eq q at) [
-            | inl same ↦
-                ap (λ r. get_or (set up at value) r 0) same
-                ∙ get_or-set_same up at value 0 at_in
-                ∙ sym own
-                ∙ ap (parent_in cs parents) (here ∙ sym same)
-            | inr other ↦
-                get_or-set_other up at q value 0 other
-                ∙ noted.own q (elim (or_cases (is_in (take i cs) q) (get_or cs i 0 == q)
-                (sym (in_more cs i q (omega (arith, counted, i_in))) ∙ q_in)) [
-                  | inl before ↦ before
-                  | inr last ↦ absurd (other (sym (sym here ∙ eqb-true (get_or cs i 0) q last)))
-                ])
-          ];
+          let more = in_more cs i q (omega (arith, counted, i_in)) in
+          let old = noted.own q in
+          let same = get_or-set_same up at value 0 at_in in
+          let other = get_or-set_other up at q value 0 in
+          rw stored (grind (arith, nat_tests));
       within = λ n old all k d k_in.
-          let k_up : k < length up =
-          omega (arith, ap length stored, length-set up at value, k_in) in
-          subst (λ m. m < n) (sym (ap (λ xs. get_or xs k d) stored))
-          (elim (cases_eq k at) [
-            | inl same ↦
-                subst (λ m. m < n)
-                (sym (ap (λ r. get_or (set up at value) r d) same
-                ∙ get_or-set_same up at value d at_in))
-                (all i 0 i_in)
-            | inr other ↦
-                subst (λ m. m < n) (sym (get_or-set_other up at k value d other))
-                (noted.within n old all k d k_up)
-          ]);
+          let size = length-set up at value in
+          let first = all i 0 i_in in
+          let before = noted.within n old all k d in
+          let same = get_or-set_same up at value d at_in in
+          let other = get_or-set_other up at k value d in
+          rw stored (grind (arith, nat_tests));
     }
 
 -- a parent is in the chain
@@ -85,24 +51,17 @@ parent_in_chain : (chain cs ps : List ℕ) (q : ℕ) → AllZip (IsTie chain) cs
 parent_in_chain chain [] ps q ties in' = absurd cc
 parent_in_chain chain (c ∷ cs) [] q ties in' = absurd ties
 parent_in_chain chain (c ∷ cs) (p ∷ ps) q ties in' =
-    go (c == q) in' (parent_in_chain chain cs ps q ties.1)
-  where
-    go : (b : Bool) → (b || is_in cs q) ≡ true
-        → (is_in cs q ≡ true → is_in chain (parent_in cs ps q) ≡ true)
-        → is_in chain (cond b p (parent_in cs ps q)) ≡ true
-    go true h later = ties.0.inside
-    go false h later = later h
+    let rest = parent_in_chain chain cs ps q ties.1 in
+    grind (arith, nat_tests)
 
 -- ---- a chain, as its first qubit and the others
 
 pub chain_root : (chain parents : List ℕ) → IsOnceTree chain parents
     → IsRooted (first_of chain) (drop 1 chain) parents
-chain_root [] parents t = absurd (t.filled refl)
-chain_root (first ∷ cs) parents t = rooted_tree first cs parents t
+chain_root chain parents t = grind (arith, nat_tests)
 
 pub chain_different : (chain parents : List ℕ) → IsOnceTree chain parents → Once (drop 1 chain)
-chain_different [] parents t = absurd (t.filled refl)
-chain_different (first ∷ cs) parents t = t.once.1
+chain_different chain parents t = grind (arith, nat_tests)
 
 pub chain_all : (P : ℕ → Type 0) (chain parents : List ℕ) → IsOnceTree chain parents → All P chain
     → AllByRecursion P (first_of chain ∷ drop 1 chain)
@@ -131,9 +90,7 @@ parents_within n chain cs ps ties inside = All-from_recursion (λ q. q < n) ps (
 
 pub tree_lengths : (chain parents : List ℕ) → IsOnceTree chain parents
     → length chain ≡ length parents + 1
-tree_lengths [] parents t = absurd (t.filled refl)
-tree_lengths (first ∷ cs) parents t =
-    omega (arith, length_all_zip (IsTie (first ∷ cs)) cs parents t.tree.ties)
+tree_lengths chain parents t = grind (arith, nat_tests, elements)
 
 -- all qubits of a chain are below the first
 pub all_below : (weight : ℕ → ℕ) (chain parents : List ℕ) → IsOnceTree chain parents
@@ -153,13 +110,8 @@ all_below weight (first ∷ cs) parents t =
         → side_weight weight qs (is_below (first ∷ cs) parents first) ≡ sum_by weight qs
     every [] all = refl
     every (q ∷ qs) all =
-        omega (
-          arith,
-          sum_by-cons (λ r. cond (is_below (first ∷ cs) parents first r) (weight r) 0) q qs,
-          sum_by-cons weight q qs,
-          ap (λ b. cond b (weight q) 0) (all q (in_first q qs)),
-          every qs (λ r in'. all r (in_rest q r qs in')),
-        )
+        let rest = every qs (λ r in'. all r (in_rest q r qs in')) in
+        simp sum_by-cons (grind (arith, nat_tests, ints))
 
 -- ---- what walks and sums ask
 

@@ -1,18 +1,7 @@
 -- How an order comes about: a walk from a qubit to its parents, up to one that is listed, is
 -- appended from its end on.
-use Rattle.std.proofs.Common.{◌≡◌, inl, inr, ℕ, ◌<◌, ◌≤◌, Bool, true, false, ◌||◌, List, [], ◌∷◌, ◌++◌, length, take, get_or, refl, sym, ap, subst, ◌∙◌, arith, append_assoc, length-append}
-use Rattle.std.specs.Prelude.{◌==◌, reverse, All}
-use Rattle.std.specs.List.{AllByRecursion}
-use Rattle.std.proofs.lemmas.Bool.{cases_lt, cases_eq, eq-eqb, ne_eqb, or_left, or_right, or_parts, or_from}
-use Rattle.std.proofs.lemmas.List.{take-append-le, get_or_append_left, append-nil, reverse-append, get_or-set_same, get_or-set_other}
-use Rattle.std.proofs.lemmas.List.Elements.{All-append, All-from_recursion}
-use Rattle.std.proofs.Math.ListN.{set, length-set}
-use Rattle.std.proofs.Math.Seq.{take-append_seam, get_or-append_seam}
-use Rattle.std.proofs.Math.Bool.{or-false}
-use Rattle.bits_model.specs.Walks.{is_in}
-use Rattle.cut_chains.specs.Orders.{IsClimb}
-use Rattle.chain_layer.specs.laws.OnceChains.{Once}
-use Rattle.cut_chains.proofs.Members.{is_in-append, is_in-listed, once_more}
+use Rattle.cut_chains.proofs.Common.{◌≡◌, inl, inr, ℕ, ◌<◌, Bool, true, false, ◌||◌, List, [], ◌∷◌, ◌++◌, length, take, get_or, refl, sym, ap, subst, ◌∙◌, arith, append_assoc, length-append, ◌==◌, reverse, All, AllByRecursion, nat_tests, cases_lt, or_parts, or_from, take-append-le, get_or_append_left, append-nil, reverse-append, get_or-set_same, get_or-set_other, All-append, All-from_recursion, set, length-set, take-append_seam, get_or-append_seam, is_in, IsClimb, Once}
+use Rattle.cut_chains.proofs.Members.{is_in-push, is_in-listed, once_more}
 
 -- each qubit of the list stands after its parent, or its parent is the first, and none stands twice
 pub record IsReached (first : ℕ) (up : ℕ → ℕ) (order : List ℕ) : Type 0 where
@@ -31,41 +20,27 @@ pub reached_more : (first : ℕ) (up : ℕ → ℕ) (order : List ℕ) (p : ℕ)
     → is_in (first ∷ order) (up p) ≡ true → is_in (first ∷ order) p ≡ false
     → IsReached first up (order ++ p ∷ [])
 reached_more first up order p reached listed new = record {
-  after = λ j in'. elim (cases_lt j (length order)) [
-    | inl less ↦
-        ap (λ qs. is_in (first ∷ qs) (up (get_or (order ++ p ∷ []) j 0)))
-        (take-append-le j order (p ∷ []) (weaker j less))
-        ∙ ap (λ q. is_in (first ∷ take j order) (up q)) (get_or_append_left order (p ∷ []) 0 j less)
-        ∙ reached.after j less
-    | inr more ↦
-        let last : j ≡ length order = omega (arith, more, in', length-append order (p ∷ [])) in
-        subst
-        (λ k. is_in (first ∷ take k (order ++ p ∷ [])) (up (get_or (order ++ p ∷ []) k 0)) ≡ true)
-        (sym last)
-        (ap (λ qs. is_in (first ∷ qs) (up (get_or (order ++ p ∷ []) (length order) 0)))
-        (take-append_seam order (p ∷ []))
-        ∙ ap (λ q. is_in (first ∷ order) (up q)) (get_or-append_seam order p [] 0)
-        ∙ listed)
-  ];
-  once = λ j in'. elim (cases_lt j (length order)) [
-    | inl less ↦
-        ap (λ qs. is_in (first ∷ qs) (get_or (order ++ p ∷ []) j 0))
-        (take-append-le j order (p ∷ []) (weaker j less))
-        ∙ ap (λ q. is_in (first ∷ take j order) q) (get_or_append_left order (p ∷ []) 0 j less)
-        ∙ reached.once j less
-    | inr more ↦
-        let last : j ≡ length order = omega (arith, more, in', length-append order (p ∷ [])) in
-        subst (λ k. is_in (first ∷ take k (order ++ p ∷ [])) (get_or (order ++ p ∷ []) k 0) ≡ false)
-        (sym last)
-        (ap (λ qs. is_in (first ∷ qs) (get_or (order ++ p ∷ []) (length order) 0))
-        (take-append_seam order (p ∷ []))
-        ∙ ap (λ q. is_in (first ∷ order) q) (get_or-append_seam order p [] 0)
-        ∙ new)
-  ];
+  after = step up true reached.after listed;
+  once = step (λ q. q) false reached.once new;
 }
   where
-    weaker : (j : ℕ) → j < length order → j ≤ length order
-    weaker j less = omega arith
+    step : (f : ℕ → ℕ) (b : Bool)
+        → ((j : ℕ) → j < length order → is_in (first ∷ take j order) (f (get_or order j 0)) ≡ b)
+        → is_in (first ∷ order) (f p) ≡ b → (j : ℕ) → j < length (order ++ p ∷ [])
+        → is_in (first ∷ take j (order ++ p ∷ [])) (f (get_or (order ++ p ∷ []) j 0)) ≡ b
+    step f b before here j in' = elim (cases_lt j (length order)) [
+      | inl less ↦
+          let fewer = take-append-le j order (p ∷ []) (omega (arith, less)) in
+          let same = get_or_append_left order (p ∷ []) 0 j less in
+          (λ k. is_in (first ∷ fewer k) (f (same k))) ∙ before j less
+      | inr more ↦
+          let last : length order ≡ j = omega (arith, length-append order (p ∷ [])) in
+          let whole = take-append_seam order (p ∷ []) in
+          let end = get_or-append_seam order p [] 0 in
+          subst
+          (λ i. is_in (first ∷ take i (order ++ p ∷ [])) (f (get_or (order ++ p ∷ []) i 0)) ≡ b)
+          last ((λ k. is_in (first ∷ whole k) (f (end k))) ∙ here)
+    ]
 
 -- ---- a path, listed from its end on
 
@@ -90,14 +65,11 @@ reached_path first up order (p ∷ ps) from q reached climb listed new different
   where
     next : (rs : List ℕ) → IsClimb up rs (up p) q → is_in (first ∷ order) q ≡ true
         → is_in (first ∷ (order ++ reverse rs)) (up p) ≡ true
-    next [] climb listed =
-        ap (λ qs. is_in (first ∷ qs) (up p)) (append-nil order) ∙ ap (is_in (first ∷ order)) climb
-        ∙ listed
+    next [] climb listed = (λ k. is_in (first ∷ append-nil order k) (climb k)) ∙ listed
     next (r ∷ rs) climb listed =
-        or_right (first == up p) (is_in (order ++ reverse (r ∷ rs)) (up p))
-        (is_in-listed order (r ∷ rs) (up p)
-        ∙ or_right (is_in order (up p)) (is_in (r ∷ rs) (up p))
-        (or_left (r == up p) (is_in rs (up p)) (eq-eqb r (up p) (sym climb.0))))
+        let both = is_in-listed order (r ∷ rs) (up p) in
+        let same = climb.0 in
+        grind (arith, nat_tests)
 
 -- ---- a walk that marks its qubits
 
@@ -128,22 +100,9 @@ walking_more up before now next from q path walking fresh inside stored =
           (All-from_recursion (λ p. get_or before p true ≡ false) (q ∷ []) (parts.0, tt));
       different = once_more path q walking.different parts.1;
       marked = λ r within.
-          ap (λ xs. get_or xs r true) stored
-          ∙ elim (cases_eq r q) [
-            | inl same ↦
-                ap (λ i. get_or (set now q true) i true) same
-                ∙ get_or-set_same now q true true (omega (arith, walking.bound, walking.sized))
-                ∙ sym (or_right (get_or before r true) (is_in (path ++ q ∷ []) r)
-                (is_in-append path (q ∷ []) r
-                ∙ or_right (is_in path r) (is_in (q ∷ []) r)
-                (or_left (q == r) false (eq-eqb q r (sym same)))))
-            | inr other ↦
-                get_or-set_other now q r true true other
-                ∙ walking.marked r within
-                ∙ ap (λ b. get_or before r true || b)
-                (sym (is_in-append path (q ∷ []) r
-                ∙ ap (λ b. is_in path r || b)
-                (or_from (q == r) false (ne_eqb q r (λ e. other (sym e))) refl)
-                ∙ or-false (is_in path r)))
-          ];
+          let old = walking.marked r within in
+          let pushed = is_in-push path q r in
+          let here = get_or-set_same now q true true (omega (arith, walking.bound, walking.sized)) in
+          let other = get_or-set_other now q r true true in
+          rw stored (grind (arith, nat_tests));
     }

@@ -2,20 +2,7 @@
 --
 -- No walk comes back to a qubit of its own, since steps to the parent lead to the chain's first
 -- qubit. So each ends at a qubit that was listed before.
-use Rattle.std.proofs.Common.{◌≡◌, ◌≢◌, inl, inr, ℕ, ◌<◌, Bool, true, false, ◌||◌, List, [], ◌∷◌, ◌++◌, length, take, drop, get_or, refl, sym, ap, subst, ◌∙◌, arith}
-use Rattle.std.specs.Prelude.{◌==◌, reverse}
-use Rattle.std.specs.List.{AllByRecursion}
-use Rattle.std.proofs.lemmas.Bool.{cases_lt, eq-eqb, eqb-true, or_cases, or_left, or_right, or_parts, or_from, both_ways, false_from_ne_true}
-use Rattle.std.proofs.lemmas.List.{append-nil, get_or_past}
-use Rattle.std.proofs.lemmas.List.Elements.{recursion_from_All}
-use Rattle.std.proofs.Math.Bool.{or-false}
-use Rattle.bits_model.specs.Walks.{is_in, first_of}
-use Rattle.chain_map.proofs.Paths.{is_in_at}
-use Rattle.embedding_check.specs.Embeddings.{parent_in, climbed}
-use Rattle.chain_layer.specs.laws.Kept.{each_at}
-use Rattle.cut_chains.specs.Orders.{IsOrder, IsClimb, IsClimbed}
-use Rattle.cut_chains.specs.Steps.{Climbable}
-use Rattle.cut_chains.specs.laws.Trees.{same_answer, not_again}
+use Rattle.cut_chains.proofs.Common.{◌≡◌, ◌≢◌, inl, inr, ℕ, ◌<◌, Bool, true, false, ◌||◌, List, [], ◌∷◌, ◌++◌, length, take, drop, get_or, refl, sym, ap, ◌∙◌, arith, ◌==◌, reverse, AllByRecursion, nat_tests, eqb-true, or_cases, or_right, or_parts, append-nil, get_or_past, recursion_from_All, is_in, first_of, is_in_at, parent_in, climbed, each_at, IsOrder, IsClimb, IsClimbed, Climbable, not_again}
 use Rattle.cut_chains.proofs.Members.{is_in-push, is_in-listed}
 use Rattle.cut_chains.proofs.Paths.{IsReached, reached_path}
 
@@ -46,10 +33,7 @@ module _ (up : List ℕ) (before : List Bool) (first : ℕ) (cs : List ℕ)
   path_inside [] from q climb in' others = (tt, ap (is_in (first ∷ cs)) (sym climb) ∙ in')
   path_inside (p ∷ ps) from q climb in' others =
       let p_in : is_in cs p ≡ true =
-      elim (or_cases (first == p) (is_in cs p) (ap (is_in (first ∷ cs)) (sym climb.0) ∙ in')) [
-        | inl same ↦ absurd (both_ways (first == p) others.0 same)
-        | inr later ↦ later
-      ] in
+      let same = climb.0 in let out = others.0 in grind (arith, nat_tests) in
       let rest = path_inside ps (parent_at p) q climb.1
       (ap (is_in (first ∷ cs)) (parent_same p p_in) ∙ t.closed p p_in) others.1 in
       ((p_in, rest.0), rest.1)
@@ -79,13 +63,7 @@ module _ (up : List ℕ) (before : List Bool) (first : ℕ) (cs : List ℕ)
 
   -- what is not marked is a qubit
   fresh_within : (seen : List Bool) (q : ℕ) → get_or seen q true ≡ false → q < length seen
-  fresh_within seen q fresh = elim (cases_lt q (length seen)) [
-    | inl less ↦ less
-    | inr past ↦
-        let beyond = get_or_past seen q true past in
-        let both : true ≡ false = sym beyond ∙ fresh in
-        absurd cc
-  ]
+  fresh_within seen q fresh = let past = get_or_past seen q true in grind (arith, nat_tests)
 
   -- and is not listed
   fresh_path : (seen : List Bool) (order done path : List ℕ) → IsReaching seen order done
@@ -120,70 +98,43 @@ module _ (up : List ℕ) (before : List Bool) (first : ℕ) (cs : List ℕ)
       (not_first order path fresh) in
       let within : q < length before = omega (arith, walk.walk.2, reaching.sized) in
       let listed : is_in (first ∷ order) q ≡ true =
-      elim (or_cases (get_or seen q true) (is_in path q) walk.walk.3) [
-        | inr again ↦ absurd (no_round path from q climb sides.0 again)
-        | inl seen_before ↦
-            elim (or_cases (get_or before q true) (is_in (first ∷ order) q)
-            (sym (reaching.marked q within) ∙ seen_before)) [
-              | inr here ↦ here
-              | inl marked ↦
-                  absurd (both_ways (get_or before q true)
-                  (each_at (λ p. get_or before p true ≡ false) (first ∷ cs) q t.unseen sides.1)
-                  marked)
-            ]
-      ] in
+      let found = walk.walk.3 in
+      let old = reaching.marked q within in
+      let none = no_round path from q climb sides.0 in
+      let unseen =
+      each_at (λ p. get_or before p true ≡ false) (first ∷ cs) q t.unseen sides.1 in
+      grind (arith, nat_tests) in
       record {
         sized = walk.sized ∙ reaching.sized;
         reached =
             reached_path first parent_at order path from q reaching.reached climb listed fresh
             walk.different;
         marked = λ r r_within.
-            walk.marked r (omega (arith, r_within, reaching.sized))
-            ∙ ap (λ b. b || is_in path r) (reaching.marked r r_within)
-            ∙ regroup (get_or before r true) (first == r) (is_in order r) (is_in path r)
-            ∙ sym (ap (λ b. get_or before r true || ((first == r) || b))
-            (is_in-listed order path r));
+            let now = walk.marked r (omega (arith, r_within, reaching.sized)) in
+            let old = reaching.marked r r_within in
+            let both = is_in-listed order path r in
+            grind (arith, nat_tests);
         inside = λ r in'.
-            elim (or_cases (is_in order r) (is_in path r)
-            (sym (is_in-listed order path r) ∙ in')) [
-              | inl old ↦ reaching.inside r old
-              | inr new ↦ each_at (λ p. is_in cs p ≡ true) path r sides.0 new
-            ];
+            let both = is_in-listed order path r in
+            let old = reaching.inside r in
+            let new = each_at (λ p. is_in cs p ≡ true) path r sides.0 in
+            grind (arith, nat_tests);
         walked = λ r in'.
-            elim (or_cases (is_in done r) (from == r) (sym (is_in-push done from r) ∙ in')) [
-              | inl old ↦ wider r (reaching.walked r old)
-              | inr same ↦
-                  subst (λ s. is_in (first ∷ (order ++ reverse path)) s ≡ true)
-                  (eqb-true from r same)
-                  (begun path climb listed)
-            ];
+            let both = is_in-push done from r in
+            let old = reaching.walked r in
+            let more = is_in-listed order path r in
+            let new = begun path climb listed in
+            grind (arith, nat_tests);
       }
     where
-      regroup : (a b c d : Bool) → ((a || (b || c)) || d) ≡ (a || (b || (c || d)))
-      regroup true b c d = refl
-      regroup false true c d = refl
-      regroup false false c d = refl
-
-      wider : (r : ℕ) → is_in (first ∷ order) r ≡ true
-          → is_in (first ∷ (order ++ reverse path)) r ≡ true
-      wider r in' = elim (or_cases (first == r) (is_in order r) in') [
-        | inl same ↦ or_left (first == r) (is_in (order ++ reverse path) r) same
-        | inr old ↦
-            or_right (first == r) (is_in (order ++ reverse path) r)
-            (is_in-listed order path r ∙ or_left (is_in order r) (is_in path r) old)
-      ]
-
       begun : (ps : List ℕ) → IsClimb parent_at ps from walk.walk.0
           → is_in (first ∷ order) walk.walk.0 ≡ true
           → is_in (first ∷ (order ++ reverse ps)) from ≡ true
-      begun [] climb listed =
-          ap (λ qs. is_in (first ∷ qs) from) (append-nil order) ∙ ap (is_in (first ∷ order)) climb
-          ∙ listed
+      begun [] climb listed = (λ k. is_in (first ∷ append-nil order k) (climb k)) ∙ listed
       begun (p ∷ ps) climb listed =
-          or_right (first == from) (is_in (order ++ reverse (p ∷ ps)) from)
-          (is_in-listed order (p ∷ ps) from
-          ∙ or_right (is_in order from) (is_in (p ∷ ps) from)
-          (or_left (p == from) (is_in ps from) (eq-eqb p from (sym climb.0))))
+          let both = is_in-listed order (p ∷ ps) from in
+          let same = climb.0 in
+          grind (arith, nat_tests)
 
   -- ---- the end
 
@@ -196,25 +147,19 @@ module _ (up : List ℕ) (before : List Bool) (first : ℕ) (cs : List ℕ)
         (reaching.inside (get_or order j 0) (is_in_at order j (get_or order j 0) within refl))))
         ∙ reaching.reached.after j within;
     once = reaching.reached.once;
-    all = λ q. same_answer (is_in order q) (is_in cs q) (reaching.inside q) (λ in'.
-        elim (or_cases (first == q) (is_in order q) (reaching.walked q in')) [
-          | inl same ↦
-              absurd (both_ways (is_in cs q)
-              (ap (is_in cs) (sym (eqb-true first q same)) ∙ t.root.apart) in')
-          | inr here ↦ here
-        ]);
+    all = λ q.
+        let inside = reaching.inside q in
+        let walked = reaching.walked q in
+        let apart = t.root.apart in
+        grind (arith, nat_tests);
   }
 
   pub reach_others : (seen : List Bool) (order done : List ℕ) → IsReaching seen order done → (q : ℕ)
       → q < length before → is_in (first ∷ cs) q ≡ false → get_or seen q true ≡ get_or before q true
   reach_others seen order done reaching q within out =
-      let parts = or_parts (first == q) (is_in cs q) out in
-      reaching.marked q within
-      ∙ ap (λ b. get_or before q true || b)
-      (or_from (first == q) (is_in order q) parts.0
-      (false_from_ne_true (is_in order q)
-      (λ in'. both_ways (is_in cs q) parts.1 (reaching.inside q in'))))
-      ∙ or-false (get_or before q true)
+      let now = reaching.marked q within in
+      let inside = reaching.inside q in
+      grind (arith, nat_tests)
 
 -- a chain is its first qubit and the others
 pub chain_parts : (chain : List ℕ) → (chain ≢ []) → (first_of chain ∷ drop 1 chain) ≡ chain

@@ -1,33 +1,14 @@
 -- One step of the sums of subtrees, on lists.
-use Rattle.std.proofs.Common.{◌≡◌, inl, inr, ℕ, suc, ◌+◌, ◌<◌, ◌≤◌, ◌^◌, Bool, true, false, cond, List, [], ◌∷◌, length, get_or, refl, sym, ap, subst, ◌∙◌, arith}
-use Rattle.std.specs.Prelude.{◌==◌, sum_by}
-use Rattle.std.proofs.lemmas.Bool.{eq-eqb, eqb-true, or_cases, or_left, or_right, both_ways}
-use Rattle.std.proofs.lemmas.List.{get_or-set_same, get_or-set_other}
-use Rattle.std.proofs.lemmas.List.Sums.{sum_by-cons}
-use Rattle.std.proofs.Math.ListN.{set}
-use Rattle.bits_model.specs.Walks.{is_in}
-use Rattle.embedding_check.specs.Embeddings.{parent_in}
-use Rattle.chain_layer.specs.laws.Kept.{each_at}
-use Rattle.cut_chains.specs.Sides.{is_below, side_weight}
-use Rattle.cut_chains.specs.Steps.{Sinkable, held_below}
-use Rattle.cut_chains.specs.laws.Trees.{tied_below}
+use Rattle.cut_chains.proofs.Common.{◌≡◌, ℕ, suc, ◌+◌, ◌<◌, ◌≤◌, ◌^◌, Bool, true, false, cond, List, [], ◌∷◌, length, get_or, sym, ap, ◌∙◌, arith, sum_by, nat_tests, both_ways, get_or-set_same, get_or-set_other, sum_by-le-sum_by, set, is_in, parent_in, each_at, side_weight, Sinkable, held_below}
 use Rattle.cut_chains.proofs.Subtrees.{IsSinking, order_inside, front_inside, giving_small, sink_one, starts_sinking}
 
 side_weight-le : (weight : ℕ → ℕ) (qs : List ℕ) (is_on : ℕ → Bool)
     → side_weight weight qs is_on ≤ sum_by weight qs
-side_weight-le weight [] is_on = omega arith
-side_weight-le weight (q ∷ qs) is_on =
-    omega (
-      arith,
-      sum_by-cons (λ r. cond (is_on r) (weight r) 0) q qs,
-      sum_by-cons weight q qs,
-      some (is_on q) (weight q),
-      side_weight-le weight qs is_on,
-    )
+side_weight-le weight qs is_on =
+    sum_by-le-sum_by (λ r. cond (is_on r) (weight r) 0) weight qs (λ r. some (is_on r) (weight r))
   where
     some : (b : Bool) (n : ℕ) → cond b n 0 ≤ n
-    some true n = omega arith
-    some false n = omega arith
+    some b n = grind arith
 
 module _ (up sums order xs : List ℕ) (t : Sinkable up sums order) where
   -- what is kept, for the qubits from the i-th on
@@ -54,48 +35,33 @@ module _ (up sums order xs : List ℕ) (t : Sinkable up sums order) where
 
     parent_inside : is_in (t.first ∷ t.cs) (parent_in t.cs t.ps (get_or order a 0)) ≡ true
     parent_inside =
-        elim (front_inside t.first t.cs t.ps order t.root t.ordered a
+        let there =
+        front_inside t.first t.cs t.ps order t.root t.ordered a
         (parent_in t.cs t.ps (get_or order a 0)) (omega (arith, within))
-        (t.ordered.after a within)) [
-          | inl here ↦
-              or_left (t.first == parent_in t.cs t.ps (get_or order a 0)) _ (eq-eqb _ _ (sym here))
-          | inr there ↦ or_right (t.first == parent_in t.cs t.ps (get_or order a 0)) _ there
-        ]
+        (t.ordered.after a within) in
+        grind (arith, nat_tests)
 
     pub giver_below : get_or order a 0 < length xs
     giver_below =
-        omega (
-          arith,
-          same,
-          inside_of (get_or order a 0)
-              (or_right (t.first == get_or order a 0) _ giver_in),
-        )
+        let giver = giver_in in
+        let inside = inside_of (get_or order a 0) in
+        grind (arith, nat_tests)
 
     pub giver_known : get_or order a 0 < length up
     giver_known = each_at (λ p. p < length up) t.cs (get_or order a 0) t.known giver_in
 
     pub parent_below : get_or up (get_or order a 0) 0 < length xs
     parent_below =
-        omega (
-          arith,
-          same,
-          parent_is,
-          inside_of (parent_in t.cs t.ps (get_or order a 0))
-              parent_inside,
-        )
+        omega (arith, parent_is, inside_of (parent_in t.cs t.ps (get_or order a 0)) parent_inside)
 
     pub step_fits : Sinks xs (a + 1)
         → get_or xs (get_or up (get_or order a 0) 0) 0 + get_or xs (get_or order a 0) 0 < 2 ^ 127
     step_fits sinking =
-        omega (
-          arith,
-          ap (λ r. get_or xs r 0) parent_is,
-          giving_small t.first t.cs t.ps order t.root t.ordered (λ q. get_or sums q 0)
-              (λ q. get_or xs q 0) a within sinking,
-          side_weight-le (λ q. get_or sums q 0) (t.first ∷ t.cs)
-              (is_below (t.first ∷ t.cs) t.ps (parent_in t.cs t.ps (get_or order a 0))),
-          t.small,
-        )
+        let moved = ap (λ r. get_or xs r 0) parent_is in
+        let small =
+        giving_small t.first t.cs t.ps order t.root t.ordered (λ q. get_or sums q 0)
+        (λ q. get_or xs q 0) a within sinking in
+        omega (arith, side_weight-le)
 
     pub step_next : Sinks xs (a + 1)
         → Sinks
@@ -136,21 +102,9 @@ module _ (up sums order xs : List ℕ) (t : Sinkable up sums order) where
           → is_in qs q ≡ true → get_or xs q 0 ≡ held_below t q
       found [] each in'' = absurd cc
       found (r ∷ rs) each in'' =
-          elim (or_cases (r == q) (is_in rs q) in'') [
-            | inl same ↦
-                subst (λ s. get_or xs s 0 ≡ held_below t s) (eqb-true r q same)
-                (each 0 (omega arith))
-            | inr later ↦ found rs (λ j l. each (suc j) (omega (arith, l))) later
-          ]
+          let here = each 0 (omega arith) in
+          let rest = found rs (λ j l. each (suc j) (omega (arith, l))) in
+          grind (arith, nat_tests)
 
   pub ends_all : Sinks xs 0 → get_or xs t.first 0 ≡ held_below t t.first
-  ends_all sinking =
-      let below = is_below (t.first ∷ t.cs) t.ps t.first in
-      let all =
-      sinking.left t.first (or_left (t.first == t.first) false (eq-eqb t.first t.first refl)) in
-      omega (
-        arith,
-        all,
-        sum_by-cons (λ r. cond (below r) (get_or xs r 0) 0) t.first [],
-        ap (λ b. cond b (get_or xs t.first 0) 0) (tied_below t.first t.cs t.ps t.root t.first),
-      )
+  ends_all sinking = grind (arith, nat_tests)

@@ -3,26 +3,14 @@
 --
 -- What the qubits that have not given yet hold below a qubit is always the weight below it. The
 -- next one to give has none of the others below it, so it holds the weight below it.
-use Rattle.std.proofs.Common.{◌≡◌, ◌≢◌, ◌⊎◌, inl, inr, ℕ, zero, suc, ◌+◌, ◌<◌, ◌≤◌, Bool, true, false, cond, ◌||◌, List, [], ◌∷◌, length, take, get_or, refl, sym, ap, subst, ◌∙◌, arith}
-use Rattle.std.specs.Prelude.{◌==◌, ℤ, pos, ◌+ℤ◌}
-use Rattle.std.specs.List.{AllByRecursion, range_with_len}
-use Rattle.std.proofs.lemmas.Int.{ints}
-use Rattle.std.proofs.lemmas.Bool.{cases_eq, eq-eqb, eqb-true, ne_eqb, or_cases, or_left, or_right, or_parts, false_from_ne_true, both_ways, or_from}
-use Rattle.std.proofs.lemmas.List.{take_more}
-use Rattle.std.proofs.Math.Seq.{take-length}
-use Rattle.std.proofs.lemmas.List.Sums.{sum_by-cons, sum_by_more}
-use Rattle.base.specs.Sums.{total_by, if_so}
-use Rattle.base.proofs.Totals.{total_by-plus}
-use Rattle.bits_model.specs.Walks.{is_in}
-use Rattle.chain_map.proofs.Paths.{is_in_at}
-use Rattle.embedding_check.specs.Embeddings.{parent_in, climbed}
-use Rattle.chain_layer.specs.laws.SpinSums.{range-zero, range-same, hit}
-use Rattle.chain_layer.specs.laws.Kept.{each_at}
-use Rattle.cut_chains.specs.Sides.{is_below, side_weight}
-use Rattle.cut_chains.specs.Orders.{IsOrder}
-use Rattle.cut_chains.specs.laws.Trees.{IsRooted, parent_outside, same_side, tied_below, is_below_first, found_in_range}
-use Rattle.chain_layer.specs.laws.OnceChains.{Once}
+use Rattle.cut_chains.proofs.Common.{◌≡◌, ◌≢◌, ◌⊎◌, inl, inr, ℕ, zero, suc, ◌+◌, ◌<◌, ◌≤◌, Bool, true, false, cond, ◌||◌, List, [], ◌∷◌, length, take, get_or, refl, sym, ap, subst, ◌∙◌, arith, ◌==◌, ℤ, pos, ◌+ℤ◌, AllByRecursion, range_with_len, ints, nat_tests, cases_eq, eq-eqb, eqb-true, or_cases, or_left, or_right, false_from_ne_true, both_ways, take_more, take-length, take-suc, sum_by-cons, sum_by_more, total_by, if_so, total_by-plus, is_in, is_in_at, parent_in, climbed, range-zero, range-same, hit, each_at, is_below, side_weight, IsOrder, IsRooted, parent_outside, same_side, tied_below, is_below_first, found_in_range, Once}
 use Rattle.cut_chains.proofs.Members.{is_in-push, once_more}
+
+is_in-first : (q : ℕ) (qs : List ℕ) → is_in (q ∷ qs) q ≡ true
+is_in-first q qs = grind (arith, nat_tests)
+
+is_in-rest : (q : ℕ) (qs : List ℕ) (r : ℕ) → is_in qs r ≡ true → is_in (q ∷ qs) r ≡ true
+is_in-rest q qs r i = grind (arith, nat_tests)
 
 -- ---- sums over lists of different qubits
 
@@ -32,86 +20,42 @@ pub same_held : (is_on : ℕ → Bool) (held next : ℕ → ℕ) (qs : List ℕ)
     → side_weight next qs is_on ≡ side_weight held qs is_on
 same_held is_on held next [] same = refl
 same_held is_on held next (q ∷ qs) same =
-    omega (
-      arith,
-      sum_by-cons (λ r. cond (is_on r) (next r) 0) q qs,
-      sum_by-cons (λ r. cond (is_on r) (held r) 0) q qs,
-      ap (λ n. cond (is_on q) n 0) (same q (or_left (q == q) (is_in qs q) (eq-eqb q q refl))),
-      same_held is_on held next qs (λ r in'. same r (or_right (q == r) (is_in qs r) in')),
-    )
+    let here = same q (is_in-first q qs) in
+    let rest = same_held is_on held next qs (λ r i. same r (is_in-rest q qs r i)) in
+    simp sum_by-cons (grind arith)
 
 -- one qubit of the list gets more
 pub more_held : (is_on : ℕ → Bool) (held next : ℕ → ℕ) (p more : ℕ) (qs : List ℕ) → Once qs
     → is_in qs p ≡ true → next p ≡ held p + more
     → ((r : ℕ) → (r ≢ p) → next r ≡ held r)
     → side_weight next qs is_on ≡ side_weight held qs is_on + cond (is_on p) more 0
-more_held is_on held next p more [] once in' gets keeps = absurd cc
-more_held is_on held next p more (q ∷ qs) once in' gets keeps =
-    elim (cases_eq q p) [
-      | inl same ↦
-          let others = same_held is_on held next qs
-          (λ r r_in. keeps r (λ e. both_ways (is_in qs r) (ap (is_in qs) (e ∙ sym same) ∙ once.0)
-          r_in)) in
-          omega (
-            arith,
-            sum_by-cons (λ r. cond (is_on r) (next r) 0) q qs,
-            sum_by-cons (λ r. cond (is_on r) (held r) 0) q qs,
-            ap (λ r. cond (is_on r) (next r) 0) same,
-            ap (λ r. cond (is_on r) (held r) 0) same,
-            ap (λ n. cond (is_on p) n 0) gets,
-            split (is_on p) (held p),
-            others,
-          )
-      | inr other ↦
-          omega (
-            arith,
-            sum_by-cons (λ r. cond (is_on r) (next r) 0) q qs,
-            sum_by-cons (λ r. cond (is_on r) (held r) 0) q qs,
-            ap (λ n. cond (is_on q) n 0) (keeps q other),
-            more_held is_on held next p more qs once.1 (later (q == p) (ne_eqb q p other) in') gets
-                keeps,
-          )
-    ]
-  where
-    split : (b : Bool) (m : ℕ) → cond b (m + more) 0 ≡ cond b m 0 + cond b more 0
-    split true m = omega arith
-    split false m = omega arith
-
-    later : (b : Bool) → b ≡ false → (b || is_in qs p) ≡ true → is_in qs p ≡ true
-    later true out h = absurd cc
-    later false out h = h
+more_held is_on held next p more [] once in' gets keeps = grind arith
+more_held is_on held next p more (q ∷ qs) once in' gets keeps = elim (cases_eq q p) [
+  | inl same ↦
+      let first = once.0 in
+      let others = same_held is_on held next qs (λ r i. keeps r (λ e. cc)) in
+      simp sum_by-cons (grind (arith, nat_tests))
+  | inr other ↦
+      let here = keeps q other in
+      let rest = more_held is_on held next p more qs once.1 (grind (arith, nat_tests)) gets keeps in
+      simp sum_by-cons (grind (arith, nat_tests))
+]
 
 -- one element of a sum is no more than it
 pub one_held : (is_on : ℕ → Bool) (held : ℕ → ℕ) (p : ℕ) (qs : List ℕ) → is_in qs p ≡ true
     → is_on p ≡ true → held p ≤ side_weight held qs is_on
-one_held is_on held p [] in' on = absurd cc
+one_held is_on held p [] in' on = grind arith
 one_held is_on held p (q ∷ qs) in' on =
-    elim (or_cases (q == p) (is_in qs p) in') [
-      | inl same ↦
-          let here : cond (is_on q) (held q) 0 ≡ held p =
-          ap (λ r. cond (is_on r) (held r) 0) (eqb-true q p same)
-          ∙ ap (λ b. cond b (held p) 0) on in
-          omega (arith, here, sum_by-cons (λ r. cond (is_on r) (held r) 0) q qs)
-      | inr later ↦
-          omega (
-            arith,
-            one_held is_on held p qs later on,
-            sum_by-cons
-                (λ r. cond (is_on r) (held r) 0) q qs,
-          )
-    ]
+    let rest = one_held is_on held p qs in simp sum_by-cons (grind (arith, nat_tests))
 
 -- nothing is held where nobody is on the side
 none_held : (is_on : ℕ → Bool) (held : ℕ → ℕ) (qs : List ℕ)
     → ((r : ℕ) → is_in qs r ≡ true → is_on r ≡ false) → side_weight held qs is_on ≡ 0
 none_held is_on held [] none = refl
 none_held is_on held (q ∷ qs) none =
-    omega (
-      arith,
-      sum_by-cons (λ r. cond (is_on r) (held r) 0) q qs,
-      ap (λ b. cond b (held q) 0) (none q (or_left (q == q) (is_in qs q) (eq-eqb q q refl))),
-      none_held is_on held qs (λ r in'. none r (or_right (q == r) (is_in qs r) in')),
-    )
+    let here = none q (is_in-first q qs) in
+    let rest = none_held is_on held qs (λ r i. none r (is_in-rest q qs r i)) in
+    simp sum_by-cons (grind arith)
 
 -- ---- in an order
 
@@ -128,6 +72,13 @@ module _ (first : ℕ) (cs ps order : List ℕ) (root : IsRooted first cs ps)
       ap (λ qs. is_in (first ∷ qs) q) (take_more order i 0 within)
       ∙ is_in-push (front first order i) (get_or order i 0) q
 
+  in_front_suc : (i q : ℕ) → i < length order
+      → is_in (front first order (suc i)) q
+      ≡ (is_in (front first order i) q || (get_or order i 0 == q))
+  in_front_suc i q within =
+      ap (λ qs. is_in (first ∷ qs) q) (take-suc order i 0 within)
+      ∙ is_in-push (front first order i) (get_or order i 0) q
+
   first_in_front : (i : ℕ) → is_in (front first order i) first ≡ true
   first_in_front i = or_left (first == first) (is_in (take i order) first) (eq-eqb first first refl)
 
@@ -135,33 +86,20 @@ module _ (first : ℕ) (cs ps order : List ℕ) (root : IsRooted first cs ps)
   parent_in_front : (i q : ℕ) → i ≤ length order → is_in (front first order i) q ≡ true
       → is_in (front first order i) (parent_in cs ps q) ≡ true
   parent_in_front zero q few in' =
-      elim (or_cases (first == q) false in') [
-        | inl same ↦
-            subst (λ r. is_in (front first order 0) r ≡ true)
-            (eqb-true first q same
-            ∙ sym (parent_outside cs ps q
-            (ap (is_in cs) (sym (eqb-true first q same)) ∙ root.apart)))
-            (first_in_front 0)
-        | inr none ↦ absurd cc
-      ]
+      let out = parent_outside cs ps q in
+      let apart = root.apart in
+      grind (arith, nat_tests)
   parent_in_front (suc i) q few in' =
-      let within : i < length order = omega (arith, few) in
-      let one : suc i ≡ i + 1 = omega arith in
-      let here : is_in (front first order (i + 1)) q ≡ true =
-      ap (λ n. is_in (front first order n) q) (sym one) ∙ in' in
-      let up : is_in (front first order i) (parent_in cs ps q) ≡ true =
-      elim (or_cases (is_in (front first order i) q) (get_or order i 0 == q)
-      (sym (in_front_more i q within) ∙ here)) [
-        | inl before ↦ parent_in_front i q (omega (arith, few)) before
+      let here = in_front_suc i q few in
+      let p = parent_in cs ps q in
+      let up : is_in (front first order i) p ≡ true =
+      elim (or_cases (is_in (front first order i) q) (get_or order i 0 == q) (sym here ∙ in')) [
+        | inl old ↦ parent_in_front i q (omega arith) old
         | inr same ↦
-            ap (λ r. is_in (front first order i) (parent_in cs ps r))
-            (sym (eqb-true (get_or order i 0) q same))
-            ∙ ordered.after i within
+            subst (λ r. is_in (front first order i) (parent_in cs ps r) ≡ true)
+            (eqb-true (get_or order i 0) q same) (ordered.after i few)
       ] in
-      ap (λ n. is_in (front first order n) (parent_in cs ps q)) one
-      ∙ in_front_more i (parent_in cs ps q) within
-      ∙ or_left (is_in (front first order i) (parent_in cs ps q))
-      (get_or order i 0 == parent_in cs ps q) up
+      in_front_suc i p few ∙ or_left (is_in (front first order i) p) (get_or order i 0 == p) up
 
   climbed_in_front : (i n q : ℕ) → i ≤ length order → is_in (front first order i) q ≡ true
       → is_in (front first order i) (climbed cs ps n q) ≡ true
@@ -188,21 +126,12 @@ module _ (first : ℕ) (cs ps order : List ℕ) (root : IsRooted first cs ps)
 
   pub front_inside : (i q : ℕ) → i ≤ length order → is_in (front first order i) q ≡ true
       → (q ≡ first) ⊎ (is_in cs q ≡ true)
-  front_inside zero q few in' =
-      elim (or_cases (first == q) false in') [
-        | inl same ↦ inl (sym (eqb-true first q same))
-        | inr none ↦ absurd cc
-      ]
+  front_inside zero q few in' = grind (arith, nat_tests)
   front_inside (suc i) q few in' =
-      let within : i < length order = omega (arith, few) in
-      let one : suc i ≡ i + 1 = omega arith in
-      let here : is_in (front first order (i + 1)) q ≡ true =
-      ap (λ n. is_in (front first order n) q) (sym one) ∙ in' in
       elim (or_cases (is_in (front first order i) q) (get_or order i 0 == q)
-      (sym (in_front_more i q within) ∙ here)) [
-        | inl before ↦ front_inside i q (omega (arith, few)) before
-        | inr same ↦
-            inr (ap (is_in cs) (sym (eqb-true (get_or order i 0) q same)) ∙ order_inside i within)
+      (sym (in_front_suc i q few) ∙ in')) [
+        | inl old ↦ front_inside i q (omega arith) old
+        | inr same ↦ inr (rw (← eqb-true (get_or order i 0) q same) (order_inside i few))
       ]
 
   -- the next one is below just those that its parent is below
@@ -243,13 +172,7 @@ module _ (first : ℕ) (cs ps order : List ℕ) (root : IsRooted first cs ps)
       ≡ side_weight held (front first order i) is_on
       + cond (is_on (get_or order i 0)) (held (get_or order i 0)) 0
   held_more is_on held i within =
-      let f : ℕ → ℕ = λ r. cond (is_on r) (held r) 0 in
-      omega (
-        arith,
-        sum_by-cons f first (take (i + 1) order),
-        sum_by-cons f first (take i order),
-        sum_by_more f order i 0 within,
-      )
+      simp sum_by-cons (omega (arith, sum_by_more (λ r. cond (is_on r) (held r) 0) order i 0 within))
 
   -- the weight below a qubit
   abbrev pub below_weight : (ℕ → ℕ) → ℕ → ℕ
@@ -277,13 +200,10 @@ module _ (first : ℕ) (cs ps order : List ℕ) (root : IsRooted first cs ps)
       in_front_more i p within ∙ or_left (is_in (front first order i) p) (q == p) p_in in
       let itself = tied_below first cs ps root p in
       let q_below : below q ≡ true = below_alike i p within p_in ∙ itself in
-      omega (
-        arith,
-        sinking.left p p_in_more,
-        held_more below held i within,
-        one_held below held p (front first order i) p_in itself,
-        ap (λ b. cond b (held q) 0) q_below,
-      )
+      let whole = sinking.left p p_in_more in
+      let more = held_more below held i within in
+      let part = one_held below held p (front first order i) p_in itself in
+      omega (arith, ap (λ b. cond b (held q) 0) q_below)
 
   pub sink_one : (weight held next : ℕ → ℕ) (i : ℕ) → i < length order
       → IsSinking weight held (i + 1)
@@ -299,8 +219,7 @@ module _ (first : ℕ) (cs ps order : List ℕ) (root : IsRooted first cs ps)
       in_front_more i q within
       ∙ or_right (is_in (front first order i) q) (q == q) (eq-eqb q q refl) in
       let kept : (r : ℕ) → is_in (front first order i) r ≡ false → next r ≡ held r = λ r out.
-      keeps r (λ e. both_ways (is_in (front first order i) r) out
-      (ap (is_in (front first order i)) e ∙ p_in)) in
+      keeps r (λ e. cc) in
       record {
         left = λ x x_in.
             let below = is_below (first ∷ cs) ps x in
@@ -344,12 +263,9 @@ module _ (first : ℕ) (cs ps order : List ℕ) (root : IsRooted first cs ps)
       later_out : (i j : ℕ) → i + 1 ≤ j → j < length order
           → is_in (front first order i) (get_or order j 0) ≡ false
       later_out i j more in' =
-          let out =
-          or_parts (first == get_or order j 0) (is_in (take j order) (get_or order j 0))
-          (ordered.once j in') in
-          or_from (first == get_or order j 0) (is_in (take i order) (get_or order j 0)) out.0
-          (false_from_ne_true _ (λ here. both_ways (is_in (take j order) (get_or order j 0)) out.1
-          (wider order i j (get_or order j 0) (omega (arith, more)) here)))
+          let out = ordered.once j in' in
+          let earlier = wider order i j (get_or order j 0) (omega (arith, more)) in
+          grind (arith, nat_tests)
         where
           wider : (qs : List ℕ) (i j q : ℕ) → i ≤ j → is_in (take i qs) q ≡ true
               → is_in (take j qs) q ≡ true
@@ -357,17 +273,12 @@ module _ (first : ℕ) (cs ps order : List ℕ) (root : IsRooted first cs ps)
           wider [] (suc i) j q le here = absurd cc
           wider (r ∷ rs) (suc i) zero q le here = absurd (omega (arith, le))
           wider (r ∷ rs) (suc i) (suc j) q le here =
-              elim (or_cases (r == q) (is_in (take i rs) q) here) [
-                | inl same ↦ or_left (r == q) (is_in (take j rs) q) same
-                | inr later ↦
-                    or_right (r == q) (is_in (take j rs) q)
-                    (wider rs i j q (omega (arith, le)) later)
-              ]
+              let rest = wider rs i j q in grind (arith, nat_tests)
 
 -- ---- the start
 
 -- different qubits, as some of the first n
-once_spread : (is_on : ℕ → Bool) (held : ℕ → ℕ) (n : ℕ) (qs : List ℕ) → Once qs
+pub once_spread : (is_on : ℕ → Bool) (held : ℕ → ℕ) (n : ℕ) (qs : List ℕ) → Once qs
     → AllByRecursion (λ q. q < n) qs
     → pos (side_weight held qs is_on)
     ≡ total_by (λ q. if_so (is_in qs q) (pos (cond (is_on q) (held q) 0))) (range_with_len 0 n)
@@ -380,26 +291,12 @@ once_spread is_on held n (c ∷ cs) once within =
       arith,
       ints,
       range-same (λ q. here q +ℤ rest q) (λ q. if_so (is_in (c ∷ cs) q) (pos (f q))) 0 n
-          (λ q l. one (q == c) (c == q) (is_in cs q) (f q) (turned q c) (turned c q)
-          (λ e. ap (is_in cs) (sym (eqb-true c q e)) ∙ once.0)),
+          (λ q l. let out = once.0 in grind (arith, nat_tests, ints)),
       total_by-plus here rest (range_with_len 0 n),
       hit (λ q. pos (f q)) c 0 n (omega arith) (omega (arith, within.0)),
       once_spread is_on held n cs once.1 within.1,
       sum_by-cons f c cs,
     )
-  where
-    turned : (a b : ℕ) → (a == b) ≡ true → (b == a) ≡ true
-    turned a b h = eq-eqb b a (sym (eqb-true a b h))
-
-    one : (a b i : Bool) (w : ℕ) → (a ≡ true → b ≡ true) → (b ≡ true → a ≡ true)
-        → (b ≡ true → i ≡ false)
-        → if_so a (pos w) +ℤ if_so i (pos w) ≡ if_so (b || i) (pos w)
-    one true true true w to from out = absurd (let both : true ≡ false = out refl in cc)
-    one true true false w to from out = omega (arith, ints)
-    one true false i w to from out = absurd (let both : false ≡ true = to refl in cc)
-    one false true i w to from out = absurd (let both : false ≡ true = from refl in cc)
-    one false false true w to from out = omega (arith, ints)
-    one false false false w to from out = omega (arith, ints)
 
 -- lists of the same different qubits hold the same
 pub same_qubits : (is_on : ℕ → Bool) (held : ℕ → ℕ) (n : ℕ) (qs rs : List ℕ) → Once qs → Once rs
@@ -420,8 +317,8 @@ within_alike : (n : ℕ) (qs rs : List ℕ) → AllByRecursion (λ q. q < n) rs
     → ((q : ℕ) → is_in qs q ≡ true → is_in rs q ≡ true) → AllByRecursion (λ q. q < n) qs
 within_alike n [] rs within inside = tt
 within_alike n (q ∷ qs) rs within inside = (
-  each_at (λ p. p < n) rs q within (inside q (or_left (q == q) (is_in qs q) (eq-eqb q q refl))),
-  within_alike n qs rs within (λ r in'. inside r (or_right (q == r) (is_in qs r) in')),
+  each_at (λ p. p < n) rs q within (inside q (is_in-first q qs)),
+  within_alike n qs rs within (λ r in'. inside r (is_in-rest q qs r in')),
 )
 
 -- at the start each holds its own weight

@@ -5,7 +5,8 @@ ghost use Rattle.bits_model.specs.Output.{weight_total};
 ghost use Rattle.bits_model.specs.Walks.{is_in, first_of};
 ghost use Rattle.chain_map.specs.Chains.{chain_of};
 ghost use Rattle.embedding_check.specs.Embeddings.{IsEmbedding};
-ghost use Rattle.cut_chains.specs.CutImage.{cut_ties, ties_of};
+ghost use Rattle.chain_layer.specs.Image.{ties};
+ghost use Rattle.cut_chains.specs.CutImage.{cut_ties};
 ghost use Rattle.cut_chains.specs.Sides.{weight_of};
 ghost use Rattle.cut_chains.specs.Steps.{strength_in};
 
@@ -40,7 +41,7 @@ pub fn push_ties(
         ≤ slice_index_or sums.now (first_of chain.now) 0) chain.now }
     requires small { slice_index_or sums.now (first_of chain.now) 0 < 2 ^ 127 }
     ensures { OnOk result (couplings.new ≡ couplings.old
-        ++ ties_of (strength_in sums.now (first_of chain.now)) (drop 1 chain.now) parents.now) }
+        ++ ties (strength_in sums.now (first_of chain.now)) (drop 1 chain.now) parents.now) }
 {
     let all = sums[chain[0] as usize];
     for i in 0..parents.len() {

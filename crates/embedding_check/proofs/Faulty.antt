@@ -19,7 +19,7 @@ use Rattle.embedding_check.specs.Checked.{IsPlace}
 use Rattle.embedding_check.specs.Search.{qubit_at, IsSortedChain}
 use Rattle.embedding_check.specs.Least.{IsPlaceIn}
 use Rattle.chain_map.specs.Faults.{IfFault}
-use Rattle.embedding_check.specs.Faults.{IsFault, IsFirstAt, Exists, IsNew, IsReachedAt, IsUncoupled, number_at, IsInside, IsApart, AreSearchable, IsLinked}
+use Rattle.embedding_check.specs.Faults.{IsFault, IsFaultAmong, IsFirstAt, Exists, IsNew, IsReachedAt, IsUncoupled, number_at, IsInside, IsApart, AreSearchable, IsLinked}
 use Rattle.std.specs.Prelude.{Option}
 use Rattle.embedding_check.proofs.Noting.{least_pair_same}
 use Rattle.embedding_check.proofs.Sorting.{is_in_at, at_of_in, same_test}
@@ -86,26 +86,26 @@ all_of_places map P all = λ k d h.
 pub is_inside : (qubits : ℕ) (f : IsingContent) (map : List (List ℕ)) → length map ≡ length f.fields
     → ((u : ℕ) → u < length map → chain_of map u ≢ [])
     → ((u : ℕ) → u < length map → (j : ℕ) → j < length (chain_of map u) → Exists qubits map u j)
-    → IsInside qubits f map
+    → IsInside (λ q. q < qubits) f map
 is_inside qubits f map counted filled within = record {
   listed = record { listed = record { counted = counted }; filled = is_filled map filled };
   within = all_of_places map (λ chain q. q < qubits) within;
 }
 
-pub is_apart : (qubits : ℕ) (f : IsingContent) (map : List (List ℕ)) → IsInside qubits f map
-    → ((q : ℕ) → occurrences q map ≤ 1) → IsApart qubits f map
-is_apart qubits f map inside once = record { inside = inside; once = once }
+pub is_apart : (IsQubit : ℕ → Type 0) (f : IsingContent) (map : List (List ℕ)) → IsInside IsQubit f map
+    → ((q : ℕ) → occurrences q map ≤ 1) → IsApart IsQubit f map
+is_apart IsQubit f map inside once = record { inside = inside; once = once }
 
-pub is_linked : (joined : Joins) (qubits : ℕ) (f : IsingContent) (map : List (List ℕ)) → IsApart qubits f map
+pub is_linked : (joined : Joins) (IsQubit : ℕ → Type 0) (f : IsingContent) (map : List (List ℕ)) → IsApart IsQubit f map
     → ((u : ℕ) → u < length map → (j : ℕ) → j < length (chain_of map u) → IsReachedAt joined map u j)
-    → IsLinked joined qubits f map
-is_linked joined qubits f map apart reached = record {
+    → IsLinked joined IsQubit f map
+is_linked joined IsQubit f map apart reached = record {
   apart = apart;
   connected = all_of_places map (IsReached joined) reached;
 }
 
 pub is_valid : (joined : Joins) (qubits : ℕ) (f : IsingContent) (map : List (List ℕ)) (places : List (ℕ × ℕ))
-    → IsLinked joined qubits f map
+    → IsLinked joined (λ q. q < qubits) f map
     → AllZip (λ (c : Entry) place. IsPlace joined (chain_of map c.first) (chain_of map c.second) place) f.couplings places
     → IsValid joined qubits f map
 is_valid joined qubits f map places linked placed = record {
@@ -127,7 +127,7 @@ if_fault (Fault f) P Q weaker p = weaker f p
 if_fault NoMemory P Q weaker p = tt
 
 pub repeated_fault : (joined : Joins) (qubits : ℕ) (f : IsingContent) (map : List (List ℕ)) (e : CheckAnswer)
-    → IsInside qubits f map
+    → IsInside (λ q. q < qubits) f map
     → IfFault e (λ x. (v : ℕ) × (k : ℕ) × IsFirstAt map (IsNew map) v k × (x ≡ Repeated (number_at map v k)))
     → IfFault e (IsFault joined qubits f map)
 repeated_fault joined qubits f map e inside h =
@@ -135,7 +135,7 @@ repeated_fault joined qubits f map e inside h =
     (λ x p. subst (IsFault joined qubits f map) (sym p.3) (inside, (p.0, p.1, p.2, refl))) h
 
 pub uncoupled_fault : (joined : Joins) (qubits : ℕ) (f : IsingContent) (map : List (List ℕ)) (e : CheckAnswer)
-    → IsLinked joined qubits f map
+    → IsLinked joined (λ q. q < qubits) f map
     → IfFault e (λ x. (u : ℕ) × (v : ℕ) × (k : ℕ) × IsUncoupled joined f.couplings map u v k × (x ≡ NoCoupler u v))
     → IfFault e (IsFault joined qubits f map)
 uncoupled_fault joined qubits f map e connected h =
@@ -174,7 +174,7 @@ some_of_full [] full = absurd (full refl)
 some_of_full (q ∷ chain) full = omega arith
 
 -- chains that are apart can be searched
-pub searchable : (qubits : ℕ) (f : IsingContent) (map : List (List ℕ)) → IsApart qubits f map
+pub searchable : (qubits : ℕ) (f : IsingContent) (map : List (List ℕ)) → IsApart (λ q. q < qubits) f map
     → AreSearchable qubits map
 searchable qubits f map apart = record {
   filled = λ u below. some_of_full (chain_of map u) (apart.inside.listed.filled u [] below);
@@ -198,17 +198,24 @@ new_of_once map once u below j low =
       ap {B = ℕ} (λ (b : Bool). if b then 1 else 0) (same_test q q refl),
     )
 
-pub fault_invalid : (joined : Joins) (qubits : ℕ) (f : IsingContent) (map : List (List ℕ)) (x : EmbedFault)
-    → IsFault joined qubits f map x → IsValid joined qubits f map → ⊥
-fault_invalid joined qubits f map (ChainCount n) h valid = h.1 valid.counted
-fault_invalid joined qubits f map (EmptyChain v) h valid = h.1.bad (valid.filled v [] h.1.below)
-fault_invalid joined qubits f map (NoSuchQubit v q) h valid =
-    h.1.1.place.bad (places_of_all map (λ chain p. p < qubits) valid.within v h.1.1.chain.below h.1.0 h.1.1.place.below)
-fault_invalid joined qubits f map (Repeated q) h valid =
+pub fault_among_invalid : (joined : Joins) (qubits : ℕ) (IsQubit : ℕ → Type 0) (f : IsingContent) (map : List (List ℕ))
+    (x : EmbedFault) → IsFaultAmong joined IsQubit f map x → IsValid joined qubits f map
+    → All (λ chain. All IsQubit chain) map → ⊥
+fault_among_invalid joined qubits IsQubit f map (ChainCount n) h valid all = h.1 valid.counted
+fault_among_invalid joined qubits IsQubit f map (EmptyChain v) h valid all =
+    h.1.bad (valid.filled v [] h.1.below)
+fault_among_invalid joined qubits IsQubit f map (NoSuchQubit v q) h valid all =
+    h.1.1.place.bad (places_of_all map (λ chain p. IsQubit p) all v h.1.1.chain.below h.1.0 h.1.1.place.below)
+fault_among_invalid joined qubits IsQubit f map (Repeated q) h valid all =
     h.1.2.place.bad (new_of_once map valid.once h.1.0 h.1.2.chain.below h.1.1 h.1.2.place.below)
-fault_invalid joined qubits f map (Disconnected v q) h valid =
+fault_among_invalid joined qubits IsQubit f map (Disconnected v q) h valid all =
     h.1.1.place.bad (places_of_all map (IsReached joined) valid.connected v h.1.1.chain.below h.1.0 h.1.1.place.below)
-fault_invalid joined qubits f map (NoCoupler u v) h valid =
+fault_among_invalid joined qubits IsQubit f map (NoCoupler u v) h valid all =
     let e : Entry = record { first = 0; second = 0; weight = pos 0 } in
     h.1.1.bad e (valid.coupled h.1.0 e h.1.1.below)
-fault_invalid joined qubits f map (TooManyNodes n m) h valid = h
+fault_among_invalid joined qubits IsQubit f map (TooManyNodes n m) h valid all = h
+
+pub fault_invalid : (joined : Joins) (qubits : ℕ) (f : IsingContent) (map : List (List ℕ)) (x : EmbedFault)
+    → IsFault joined qubits f map x → IsValid joined qubits f map → ⊥
+fault_invalid joined qubits f map x h valid =
+    fault_among_invalid joined qubits (λ q. q < qubits) f map x h valid valid.within

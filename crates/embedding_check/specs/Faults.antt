@@ -55,18 +55,18 @@ pub record IsFilled (f : IsingContent) (map : List (List ℕ)) : Type 0 where
   pub filled : All (λ chain. chain ≢ []) map
 
 -- .. and all their qubits exist
-pub record IsInside (qubits : ℕ) (f : IsingContent) (map : List (List ℕ)) : Type 0 where
+pub record IsInside (IsQubit : ℕ → Type 0) (f : IsingContent) (map : List (List ℕ)) : Type 0 where
   pub listed : IsFilled f map
-  pub within : All (λ chain. All (λ q. q < qubits) chain) map
+  pub within : All (λ chain. All IsQubit chain) map
 
 -- .. and no qubit is listed twice
-pub record IsApart (qubits : ℕ) (f : IsingContent) (map : List (List ℕ)) : Type 0 where
-  pub inside : IsInside qubits f map
+pub record IsApart (IsQubit : ℕ → Type 0) (f : IsingContent) (map : List (List ℕ)) : Type 0 where
+  pub inside : IsInside IsQubit f map
   pub once : (q : ℕ) → occurrences q map ≤ 1
 
 -- .. and each chain is connected: a walk inside it leads from its first qubit to each of its own
-pub record IsLinked (joined : Joins) (qubits : ℕ) (f : IsingContent) (map : List (List ℕ)) : Type 0 where
-  pub apart : IsApart qubits f map
+pub record IsLinked (joined : Joins) (IsQubit : ℕ → Type 0) (f : IsingContent) (map : List (List ℕ)) : Type 0 where
+  pub apart : IsApart IsQubit f map
   pub connected : All (λ chain. All (IsReached joined chain) chain) map
 
 -- what the searches ask of chains: none is empty, all their qubits exist, and none is listed twice
@@ -97,19 +97,25 @@ abbrev pub NamesUncoupled : Joins → List Entry → List (List ℕ) → EmbedFa
 NamesUncoupled joined couplings map f =
     (u : ℕ) × (v : ℕ) × (k : ℕ) × IsUncoupled joined couplings map u v k × (f ≡ NoCoupler u v)
 
--- the map breaks what the fault names, first at its place, and keeps all that is asked before that
-abbrev pub IsFault : Joins → ℕ → IsingContent → List (List ℕ) → EmbedFault → Type 0
-IsFault joined qubits f map (ChainCount n) = (n ≡ length map) × (length map ≢ length f.fields)
-IsFault joined qubits f map (EmptyChain v) =
+-- the map breaks what the fault names, first at its place, and keeps all that is asked before that,
+-- where these qubits exist and these are joined
+abbrev pub IsFaultAmong : Joins → (ℕ → Type 0) → IsingContent → List (List ℕ) → EmbedFault → Type 0
+IsFaultAmong joined IsQubit f map (ChainCount n) = (n ≡ length map) × (length map ≢ length f.fields)
+IsFaultAmong joined IsQubit f map (EmptyChain v) =
     IsCounted f map × IsFirstBad (length map) (λ u. chain_of map u ≢ []) v
-IsFault joined qubits f map (NoSuchQubit v q) =
-    IsFilled f map × ((k : ℕ) × IsFirstAt map (Exists qubits map) v k × (number_at map v k ≡ q))
-IsFault joined qubits f map (Repeated q) =
-    IsInside qubits f map
+IsFaultAmong joined IsQubit f map (NoSuchQubit v q) =
+    IsFilled f map
+    × ((k : ℕ) × IsFirstAt map (λ u j. IsQubit (number_at map u j)) v k × (number_at map v k ≡ q))
+IsFaultAmong joined IsQubit f map (Repeated q) =
+    IsInside IsQubit f map
     × ((v : ℕ) × (k : ℕ) × IsFirstAt map (IsNew map) v k × (number_at map v k ≡ q))
-IsFault joined qubits f map (Disconnected v q) =
-    IsApart qubits f map
+IsFaultAmong joined IsQubit f map (Disconnected v q) =
+    IsApart IsQubit f map
     × ((k : ℕ) × IsFirstAt map (IsReachedAt joined map) v k × (number_at map v k ≡ q))
-IsFault joined qubits f map (NoCoupler u v) =
-    IsLinked joined qubits f map × ((k : ℕ) × IsUncoupled joined f.couplings map u v k)
-IsFault joined qubits f map (TooManyNodes n m) = ⊥
+IsFaultAmong joined IsQubit f map (NoCoupler u v) =
+    IsLinked joined IsQubit f map × ((k : ℕ) × IsUncoupled joined f.couplings map u v k)
+IsFaultAmong joined IsQubit f map (TooManyNodes n m) = ⊥
+
+-- the same, where all numbers below this one are those of qubits
+abbrev pub IsFault : Joins → ℕ → IsingContent → List (List ℕ) → EmbedFault → Type 0
+IsFault joined qubits f map fault = IsFaultAmong joined (λ q. q < qubits) f map fault

@@ -1,5 +1,5 @@
 //! The check of a map of chains.
-ghost use Rattle.std.specs.Prelude.{◌≡◌, IfOk, IfErr};
+ghost use Rattle.std.specs.Prelude.{◌≡◌, ◌<◌, IfOk, IfErr};
 ghost use Rattle.std.specs.List.{AllZip};
 ghost use Rattle.ising_form.specs.Isings.{IsIsing};
 ghost use Rattle.chain_map.specs.Faults.{IfFault};
@@ -27,7 +27,8 @@ fn check_apart<H: Hardware>(
     ising: &Ising,
     map: &ChainMap,
 ) -> Result<(), CheckAnswer>
-    ensures apart { IfOk result (λ _. IsApart (H.qubits hardware.now) ising.now map.now) }
+    ensures apart { IfOk result (λ _.
+        IsApart (λ q. q < H.qubits hardware.now) ising.now map.now) }
     ensures fault { IfErr result (λ e. IfFault e
         (IsFault (H.joined hardware.now) (H.qubits hardware.now) ising.now map.now)) }
 {
@@ -51,7 +52,7 @@ fn parents_and_places<H: Hardware>(
     chains: &ChainList,
     sorted: &ChainList,
 ) -> Result<(ChainList, PairList), CheckAnswer>
-    requires apart { IsApart (H.qubits hardware.now) ising.now chains.now }
+    requires apart { IsApart (λ q. q < H.qubits hardware.now) ising.now chains.now }
     requires sorted { AreSorted chains.now sorted.now }
     ensures valid { IfOk result (λ _.
         IsValid (H.joined hardware.now) (H.qubits hardware.now) ising.now chains.now) }

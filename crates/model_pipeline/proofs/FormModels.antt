@@ -37,7 +37,8 @@ use Rattle.ising_form.specs.Reduction.{ising_unit}
 use Rattle.ising_form.specs.Reduction as reduction
 use Rattle.ising_form.proofs.ReducedForms as reduced_isings
 use Rattle.ising_form.proofs.WrittenModels as written_isings
-use Rattle.model_pipeline.specs.Models.{IsModelOf, ising_model, qubo_model}
+use Rattle.model_pipeline.specs.Models.{IsModelOf, qubo_model}
+use Rattle.model_pipeline.specs.QubitModels.{chained_model}
 use Rattle.model_pipeline.specs.Formed.{Stands}
 
 -- ---- what stands for a problem
@@ -227,7 +228,7 @@ module _ (p : ProblemContent) (own : ℕ) (d : Decoding) where
   pub ising_stands : (choice : UnitChoice) (f : IsingContent) (n : Figures) → IsIsing f
       → own ≤ p.variables → p.variables ≤ length f.fields → ising_total f < 2 ^ 121
       → HasFigures (pos 4) p n (2 ^ 121) → Stands p (isings.form_of f) d (pos 1) n
-      → IsModelOf p own Ising choice (ising_model choice f own n)
+      → IsModelOf p own Ising choice (chained_model choice f own n kinds.Ising [])
   ising_stands One f n ising few enough small has stands =
       ising_in One f (pos 1) n ising few enough (inl refl) small (omega (arith, ints))
       (figures_within (pos 4) p n _ _ (omega arith) has) stands refl

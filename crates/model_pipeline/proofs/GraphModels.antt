@@ -21,11 +21,10 @@ use Rattle.command_words.specs.declared.commands.Ties.{Ties}
 use Rattle.working_graph.specs.Fabrics.{Fabric}
 use Rattle.model_pipeline.specs.declared.site.Site.{Site}
 use Rattle.model_pipeline.specs.Sites.{chains_of, fabric_in, graph_in, CanStandBy}
-use Rattle.model_pipeline.specs.QubitModels.{IsModelByCheck}
 use Rattle.model_pipeline.specs.QubitStanding.{AreSmall, IsQubitModelOf}
 use Rattle.model_pipeline.specs.Models.{ising_figures}
 use Rattle.model_pipeline.specs.Formed.{IsFormed, IsSpun}
-use Rattle.model_pipeline.specs.GraphModels.{ising_of, site_chains, IsGraphModelOf, IsModelAt, IsOnQubits}
+use Rattle.model_pipeline.specs.GraphModels.{ising_of, site_chains, IsGraphModelOf, IsFormAt, IsOnQubits}
 use Rattle.model_pipeline.specs.Extensions.{IsMadeOf}
 use Rattle.model_pipeline.proofs.Sites.{site_valid}
 use Rattle.model_pipeline.proofs.Standing.{ising_figures_are_stated, spins_stand}
@@ -104,12 +103,6 @@ pub if_ok-by_two : {T E : Type 0} (r : Result T E) {P Q R : T → Type 0} → If
 if_ok-by_two (Ok y) p q f = f y p q
 if_ok-by_two (Err e) p q f = tt
 
--- a model of the form, on the chains that a site has for it
-abbrev IsFormAt : Site → UnitChoice → ℕ → Written → IsingContent → Figures → Type 0
-IsFormAt site unit own m f n =
-    IsModelByCheck unit site.ties (graph_in site.qubits) (fabric_in site.qubits) f
-    (chains_of site.qubits site.perch (length f.fields)) own n m
-
 -- it stands for what the form relaxes
 abbrev FormStandsAt : Site → UnitChoice → ℕ → Written → IsingContent → Figures → Type 0
 FormStandsAt site unit own m f n =
@@ -119,23 +112,23 @@ FormStandsAt site unit own m f n =
 module _ (site : Site) (choices : Choices) (unit : UnitChoice) (own : ℕ) (p : ProblemContent) where
   -- of the problem's form it is the problem's
   pub form_at_site : (m : Written) (f : IsingContent) (n : Figures) → f ≡ ising_of choices p
-      → IsSpun p f n → IsFormAt site unit own m f n → FormStandsAt site unit own m f n
+      → IsSpun p f n → IsFormAt site unit f own n m → FormStandsAt site unit own m f n
       → IsOnQubits site choices unit own p m
   form_at_site m f n form spun by stands =
-      let at = IsFormAt site unit own m in
       let graph = graph_in site.qubits in
       let fabric = fabric_in site.qubits in
       let chains = λ (g : IsingContent). chains_of site.qubits site.perch (length g.fields) in
       record {
-        by = subst (λ g. at g (ising_figures (figures p))) form
-            (subst (λ r. at f r) spun.figures by);
+        by = subst (λ g. IsFormAt site unit g own (ising_figures (figures p)) m) form
+            (subst (λ r. IsFormAt site unit f own r m) spun.figures by);
         stands =
             subst (λ g. IsGraphModelOf p own unit site.ties graph fabric (chains g) m) form
             (graph_model p own unit site.ties graph fabric (chains f) m f n spun stands);
       }
 
   pub made_at_site : (m : Written) → IsIsing (ising_of choices p) → own ≤ p.variables
-      → CanStandBy site (ising_of choices p) → IsModelAt site choices unit own p m
+      → CanStandBy site (ising_of choices p)
+      → IsFormAt site unit (ising_of choices p) own (ising_figures (figures p)) m
       → IsMadeOf site.ties own choices p m
   made_at_site m ising few can by = (
     few,

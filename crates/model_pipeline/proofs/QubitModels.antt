@@ -33,7 +33,7 @@ use Rattle.embedding_check.specs.Checked.{IsChecked}
 use Rattle.chain_layer.specs.Image as chains
 use Rattle.chain_layer.proofs.Written.{read_off_the_chains}
 use Rattle.working_graph.specs.Fabrics.{Fabric, AllExist, IsValidOn}
-use Rattle.model_pipeline.specs.QubitModels.{kind_of, chained_figures, image_by, offset_by, qubit_model}
+use Rattle.model_pipeline.specs.QubitModels.{kind_of, chained_figures, image_tied, offset_tied, qubit_model}
 use Rattle.model_pipeline.specs.QubitStanding.{HasChainRoom, IsQubitModelOf, StandsForWhat}
 use Rattle.model_pipeline.proofs.OnChains.{AreEndsJoined, reduced_fits, reduced_joined, written_joined, unit_low}
 use Rattle.model_pipeline.proofs.Tied.{link_of, tied_fits_output, tied_is_ising, tied_is_joined, tied_offset, tied_stands, tied_total}
@@ -78,7 +78,7 @@ moved_within n r most more h are = record {
 -- what the ties of a form with room for the layer cost
 offset_within : (ties : Ties) (e : Embedding) → IsEmbedding e
     → (ising_total e.ising + 1) * 2 ^ 21 ≤ 2 ^ 124
-    → unsigned_abs (offset_by ties e) ≤ 2 ^ 123
+    → unsigned_abs (offset_tied ties e) ≤ 2 ^ 123
 offset_within ties e kept small = omega (arith, tied_offset e kept ties, small)
 
 -- a figure, moved by it
@@ -91,13 +91,13 @@ tied_low z b h k =
 -- the same with what the ties of an embedded form give
 pub tied_figure : (ties : Ties) (e : Embedding) (z b : ℤ) → IsEmbedding e
     → (ising_total e.ising + 1) * 2 ^ 21 ≤ 2 ^ 124 → unsigned_abs z < 2 ^ 122
-    → b ≡ offset_by ties e → unsigned_abs (pos 1 *ℤ z +ℤ b) < 2 ^ 124
+    → b ≡ offset_tied ties e → unsigned_abs (pos 1 *ℤ z +ℤ b) < 2 ^ 124
 tied_figure ties e z b kept small low tied =
-    rw tied (tied_low z (offset_by ties e) low (offset_within ties e kept small))
+    rw tied (tied_low z (offset_tied ties e) low (offset_within ties e kept small))
 
 pub tied_fits : (ties : Ties) (e : Embedding) (z b : ℤ) → IsEmbedding e
     → (ising_total e.ising + 1) * 2 ^ 21 ≤ 2 ^ 124 → unsigned_abs z < 2 ^ 122
-    → b ≡ offset_by ties e → FitsSigned w128 (pos 1 *ℤ z +ℤ b)
+    → b ≡ offset_tied ties e → FitsSigned w128 (pos 1 *ℤ z +ℤ b)
 tied_fits ties e z b kept small low tied =
     fits_signed_from_abs w128 (pos 1 *ℤ z +ℤ b)
     (omega (arith, tied_figure ties e z b kept small low tied))
@@ -109,7 +109,7 @@ pub moved_by_ties : (ties : Ties) (n : Figures) (e : Embedding) → IsEmbedding 
     → AreMoved n (chained_figures ties e n) (2 ^ 124)
 moved_by_ties ties n e kept small offset_low threshold_low =
     let tied = offset_within ties e kept small in
-    let b = offset_by ties e in
+    let b = offset_tied ties e in
     record {
       scale = omega (arith, ints);
       threshold = omega (arith, ints);
@@ -234,7 +234,7 @@ module _ (f : IsingContent) (n : Figures) (own : ℕ) (ties : Ties) (graph : Chi
   -- ---- the image
 
   abbrev tied : IsingContent
-  tied = image_by ties e
+  tied = image_tied ties e
 
   tied_on_chains : FitsOutput (kind_of graph) e.chains own tied
   tied_on_chains =
@@ -250,10 +250,10 @@ module _ (f : IsingContent) (n : Figures) (own : ℕ) (ties : Ties) (graph : Chi
 
   -- a figure on chains, without the constant
   figure_low : HasChainRoom f n → (z : ℤ) → unsigned_abs z < 2 ^ 122
-      → unsigned_abs (pos 1 *ℤ z +ℤ offset_by ties e +ℤ neg_ℤ tied.constant) < 2 ^ 124
+      → unsigned_abs (pos 1 *ℤ z +ℤ offset_tied ties e +ℤ neg_ℤ tied.constant) < 2 ^ 124
   figure_low room z low =
       let light = image_low room in
-      let b = offset_by ties e in
+      let b = offset_tied ties e in
       let once : pos 1 *ℤ z +ℤ b ≡ z +ℤ b = omega (arith, ints) in
       let small : unsigned_abs b ≤ 2 ^ 120 =
       omega (arith, tied_offset e kept ties, ap ising_total checked.ising, room.total) in

@@ -14,12 +14,13 @@ use Rattle.embedding_check.specs.Faults.{Exists, IsFault, IsFirstAt}
 use Rattle.working_graph.specs.Fabrics.{AllExist, IsValidOn}
 use Rattle.working_graph.specs.Faults.{ExistsAt, IsFaultOn}
 use Rattle.working_graph.specs.laws.WorkingJoins.{joined_in-comm}
+use Rattle.working_graph.proofs.FaultsOn.{inside_on, apart_on, linked_on}
 use Rattle.working_graph.proofs.WorkingCliques.{working_clique_valid}
 use Rattle.model_pipeline.specs.declared.site.Qubits.{Qubits}
 use Rattle.model_pipeline.specs.declared.site.Qubits.TheVariants as which
 use Rattle.model_pipeline.specs.declared.site.Perch.{Perch}
 use Rattle.model_pipeline.specs.declared.site.Perch.TheVariants.{Clique, Map}
-use Rattle.model_pipeline.specs.Sites.{chains_of, clique_in, fabric_in, graph_in, joins_of, places_in, whole_fabric, CanStandAt}
+use Rattle.model_pipeline.specs.Sites.{chains_of, clique_in, fabric_in, graph_in, places_in, whole_fabric, CanStandAt}
 
 -- ---- the qubits
 
@@ -50,7 +51,7 @@ all_below graph map within = λ v c h j d l. below_is _ (qubits_of graph) (withi
 
 -- a valid map is one of qubits that there are
 pub whole_valid : (graph : Chimera) (f : IsingContent) (map : List (List ℕ))
-    → IsValid (joins_of graph) (qubits_of graph) f map → IsValidOn (whole_fabric graph) f map
+    → IsValid (whole_fabric graph).joined (qubits_of graph) f map → IsValidOn (whole_fabric graph) f map
 whole_valid graph f map valid = (valid, all_below graph map valid.within)
 
 -- the first number that is too great is the first one of no qubit
@@ -73,14 +74,17 @@ first_missing graph map v k first = record {
 
 -- so a fault is the same there
 pub whole_fault : (graph : Chimera) (f : IsingContent) (map : List (List ℕ)) (x : EmbedFault)
-    → IsFault (joins_of graph) (qubits_of graph) f map x → IsFaultOn (whole_fabric graph) f map x
+    → IsFault (whole_fabric graph).joined (qubits_of graph) f map x → IsFaultOn (whole_fabric graph) f map x
 whole_fault graph f map (ChainCount n) h = h
 whole_fault graph f map (EmptyChain v) h = h
 whole_fault graph f map (NoSuchQubit v q) h =
     (h.0, (h.1.0, first_missing graph map v h.1.0 h.1.1, h.1.2))
-whole_fault graph f map (Repeated q) h = (h, all_below graph map h.0.within)
-whole_fault graph f map (Disconnected v q) h = (h, all_below graph map h.0.inside.within)
-whole_fault graph f map (NoCoupler u v) h = (h, all_below graph map h.0.apart.inside.within)
+whole_fault graph f map (Repeated q) h =
+    (inside_on (whole_fabric graph) f map (all_below graph map h.0.within) h.0, h.1)
+whole_fault graph f map (Disconnected v q) h =
+    (apart_on (whole_fabric graph) f map (all_below graph map h.0.inside.within) h.0, h.1)
+whole_fault graph f map (NoCoupler u v) h =
+    (linked_on (whole_fabric graph) f map (all_below graph map h.0.apart.inside.within) h.0, h.1)
 whole_fault graph f map (TooManyNodes n m) h = h
 
 -- ---- chains that can stand

@@ -30,31 +30,31 @@ use Rattle.cut_chains.specs.declared.link.CutLink.{CutLink}
 use Rattle.cut_chains.specs.laws.LeastStates.{cut_keeps, cut_reaches}
 use Rattle.cut_chains.proofs.CutSizes.{cut_is_ising, cut_offset_small, cut_total_grows}
 use Rattle.cut_chains.proofs.Joined.{cut_fits_output, cut_is_joined}
-use Rattle.model_pipeline.specs.QubitModels.{chained_figures, image_by, offset_by}
+use Rattle.model_pipeline.specs.QubitModels.{chained_figures, image_tied, offset_tied}
 use Rattle.model_pipeline.specs.QubitStanding.{LeastStandBy, StandsBy}
 
 -- ---- the form on the qubits
 
 module _ (e : Embedding) (kept : IsEmbedding e) where
   pub tied_is_ising : (ties : Ties) → (ising_total e.ising + 1) * 2 ^ 21 ≤ 2 ^ 124
-      → IsIsing (image_by ties e)
+      → IsIsing (image_tied ties e)
   tied_is_ising Choi small = choi.image_is_ising e kept small
   tied_is_ising Cut small = cut_is_ising e kept small
 
   pub tied_total : (ties : Ties)
-      → ising_total (image_by ties e) + 1 ≤ (ising_total e.ising + 1) * 2 ^ 21
+      → ising_total (image_tied ties e) + 1 ≤ (ising_total e.ising + 1) * 2 ^ 21
   tied_total Choi = choi_sizes.total_grows e kept
   tied_total Cut = cut_total_grows e kept
 
   pub tied_offset : (ties : Ties)
-      → unsigned_abs (offset_by ties e) ≤ (ising_total e.ising + 1) * 2 ^ 20
+      → unsigned_abs (offset_tied ties e) ≤ (ising_total e.ising + 1) * 2 ^ 20
   tied_offset Choi = choi_sizes.offset_small e kept
   tied_offset Cut = cut_offset_small e kept
 
   -- a model of it can be written on its chains
   pub tied_fits_output : (ties : Ties) (rows cols shore variables : ℕ)
       → e.qubits ≡ 2 * rows * cols * shore → variables ≤ length e.chains
-      → FitsOutput (Chimera rows cols shore) e.chains variables (image_by ties e)
+      → FitsOutput (Chimera rows cols shore) e.chains variables (image_tied ties e)
   tied_fits_output Choi rows cols shore variables same enough =
       choi_written.image_fits_output e rows cols shore variables kept same enough
   tied_fits_output Cut rows cols shore variables same enough =
@@ -64,14 +64,14 @@ module _ (e : Embedding) (kept : IsEmbedding e) where
 pub tied_is_joined : (ties : Ties) (joined : Joins) (n : ℕ) (f : IsingContent)
     (map : List (List ℕ)) (e : Embedding) → ((a b : ℕ) → joined a b ≡ joined b a)
     → IsChecked joined n f map e
-    → All (λ c. joined c.first c.second ≡ true) (image_by ties e).couplings
+    → All (λ c. joined c.first c.second ≡ true) (image_tied ties e).couplings
 tied_is_joined Choi joined n f map e both_ways checked =
     choi_written.image_is_joined joined n f map e both_ways checked
 tied_is_joined Cut joined n f map e both_ways checked =
     cut_is_joined joined n f map e both_ways checked
 
 -- it has a field for each qubit
-pub tied_width : (ties : Ties) (e : Embedding) → length (image_by ties e).fields ≡ e.qubits
+pub tied_width : (ties : Ties) (e : Embedding) → length (image_tied ties e).fields ≡ e.qubits
 tied_width Choi e = length-map-range_with_len (chains.field_at (chains.all_shares e)) 0 e.qubits
 tied_width Cut e = length-map-range_with_len (chains.field_at (chains.all_shares e)) 0 e.qubits
 
@@ -90,7 +90,7 @@ link_fits e kept = record { chains = refl; qubits = refl; kept = kept }
 -- whatever the embedded form relaxes, it stands for
 pub tied_stands : (ties : Ties) (e : Embedding) → IsEmbedding e → (source : Form) (d : Decoding)
     (n : Figures) → Relaxes source (isings.form_of e.ising) d (pos 1) n
-    → StandsBy ties source (isings.form_of (image_by ties e))
+    → StandsBy ties source (isings.form_of (image_tied ties e))
     (decoding_after d (chains.decoding (link_of e))) (pos 1) (chained_figures ties e n)
 tied_stands Choi e kept source d n relaxed =
     keeps_after_relaxes relaxed (chains_keep (link_of e) e (link_fits e kept))
@@ -101,8 +101,8 @@ tied_stands Cut e kept source d n relaxed =
 -- the state on all qubits reaches an assignment of the nodes
 pub tied_reach : (ties : Ties) (e : Embedding) (x : List Bool) → IsEmbedding e
     → length x ≡ length e.ising.fields
-    → Extends (isings.form_of e.ising) (isings.form_of (image_by ties e))
-    (chains.decoding (link_of e)) (pos 1) (offset_by ties e) x (chains.extension e x)
+    → Extends (isings.form_of e.ising) (isings.form_of (image_tied ties e))
+    (chains.decoding (link_of e)) (pos 1) (offset_tied ties e) x (chains.extension e x)
 tied_reach Choi e x kept width = chains_reach (link_of e) e x (link_fits e kept) width
 tied_reach Cut e x kept width = cut_reaches (cut_link_of e) e x (link_fits e kept) width
 

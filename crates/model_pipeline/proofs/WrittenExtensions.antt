@@ -39,7 +39,7 @@ use Rattle.chain_layer.proofs.Written.{read_off_the_chains}
 use Rattle.working_graph.specs.Fabrics.{IsValidOn}
 use Rattle.model_pipeline.specs.declared.site.Qubits.{Qubits}
 use Rattle.model_pipeline.specs.Sites.{fabric_in, graph_in}
-use Rattle.model_pipeline.specs.QubitModels.{chained_figures, image_by, kind_of, offset_by, qubit_model}
+use Rattle.model_pipeline.specs.QubitModels.{chained_figures, image_tied, kind_of, offset_tied, qubit_model}
 use Rattle.model_pipeline.specs.Models.{ising_figures, model, quad_of}
 use Rattle.model_pipeline.specs.Formed.{HasRoom}
 use Rattle.model_pipeline.specs.GraphModels.{ising_of}
@@ -153,14 +153,14 @@ module _ (choices : Choices) (p : ProblemContent) (room : HasRoom (quad_of choic
           (spun_least x y least)
 
       chained_follows :
-          Follows source (isings.form_of (image_by ties e)) after_chains tied_figures x z
+          Follows source (isings.form_of (image_tied ties e)) after_chains tied_figures x z
       chained_follows =
-          follows_on source (isings.form_of e.ising) (isings.form_of (image_by ties e)) after_spins
-          (chains.decoding (link_of e)) spun_figures (offset_by ties e) x y z
+          follows_on source (isings.form_of e.ising) (isings.form_of (image_tied ties e)) after_spins
+          (chains.decoding (link_of e)) spun_figures (offset_tied ties e) x y z
           (least_follows source (isings.form_of e.ising) after_spins spun_figures x y embedded_least)
           (tied_reach ties e y kept wide)
 
-      on_graph : FitsOutput (kind_of graph) e.chains own (image_by ties e)
+      on_graph : FitsOutput (kind_of graph) e.chains own (image_tied ties e)
       on_graph =
           tied_fits_output e kept ties graph.rows graph.cols graph.shore own sized
           (omega (arith, kept.counted, wide, least.width, enough, few))
@@ -170,21 +170,21 @@ module _ (choices : Choices) (p : ProblemContent) (room : HasRoom (quad_of choic
       reads w = sym (read_off_the_chains (link_of e) graph.rows graph.cols graph.shore p.variables w)
 
       counts : (unit : UnitChoice)
-          → Counts p.variables (isings.form_of (image_by ties e)) tied_figures after_chains
+          → Counts p.variables (isings.form_of (image_tied ties e)) tied_figures after_chains
           (qubit_model unit ties e own spun_figures (kind_of graph))
       counts One =
-          ising_counts (image_by ties e) own p.variables tied_figures (kind_of graph) e.chains
+          ising_counts (image_tied ties e) own p.variables tied_figures (kind_of graph) e.chains
           after_chains reads on_graph
       counts Reduce =
-          reduced_counts (image_by ties e) own p.variables tied_figures (kind_of graph) e.chains
+          reduced_counts (image_tied ties e) own p.variables tied_figures (kind_of graph) e.chains
           after_chains reads
-          (reduced_fits graph.rows graph.cols graph.shore own e.chains (image_by ties e) on_graph)
+          (reduced_fits graph.rows graph.cols graph.shore own e.chains (image_tied ties e) on_graph)
 
       model_width : (unit : UnitChoice)
           → (qubit_model unit ties e own spun_figures (kind_of graph)).nodes ≡ e.qubits
       model_width One = tied_width ties e
       model_width Reduce =
-          length-map (image_by ties e).fields (counted_in (ising_unit (image_by ties e)))
+          length-map (image_tied ties e).fields (counted_in (ising_unit (image_tied ties e)))
           ∙ tied_width ties e
 
       -- the state on the qubits is the extension
@@ -199,7 +199,7 @@ module _ (choices : Choices) (p : ProblemContent) (room : HasRoom (quad_of choic
       on_chains unit =
           let m = qubit_model unit ties e own spun_figures (kind_of graph) in
           subst (ExtendsTo p.variables source m x) (sym (state_is unit))
-          (extends_written p.variables source (isings.form_of (image_by ties e)) after_chains
+          (extends_written p.variables source (isings.form_of (image_tied ties e)) after_chains
           tied_figures m (counts unit) x z chained_follows)
 
       fits_chains : (unit : UnitChoice)

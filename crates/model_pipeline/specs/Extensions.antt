@@ -26,10 +26,10 @@ use Rattle.quad_form.specs.Quads as quads
 use Rattle.chain_layer.specs.Image.{on_chains}
 use Rattle.working_graph.specs.Fabrics.{IsValidOn}
 use Rattle.model_pipeline.specs.declared.site.Qubits.{Qubits}
+use Rattle.model_pipeline.specs.declared.site.Perch.TheVariants.{Map}
 use Rattle.model_pipeline.specs.Models.{terms_of, quad_by, ising_figures, model, decoding_to}
-use Rattle.model_pipeline.specs.Sites.{fabric_in, graph_in}
-use Rattle.model_pipeline.specs.QubitModels.{IsModelByCheck}
-use Rattle.model_pipeline.specs.GraphModels.{ising_of}
+use Rattle.model_pipeline.specs.Sites.{fabric_in}
+use Rattle.model_pipeline.specs.GraphModels.{ising_of, IsFormAt}
 
 -- ---- the bits
 
@@ -38,13 +38,14 @@ abbrev pub low_extension : High → TableContent → List Bool → List Bool
 low_extension Monomial t x = monomials.extension x t.terms
 low_extension Rosenberg t x = rosenberg.extension x t
 
--- an assignment of a problem's variables, and the bits of all nodes that these steps add
-abbrev pub extension_by : Normal → High → ProblemContent → List Bool → List Bool
-extension_by normal high p x = low_extension high (terms_of normal p) (penalty.extension p x)
-
 -- an assignment of a problem's variables, and the bits of all nodes that the steps add
 abbrev pub extension_of : Choices → ProblemContent → List Bool → List Bool
-extension_of choices p x = extension_by choices.normal choices.high p x
+extension_of choices p x =
+    low_extension choices.high (terms_of choices.normal p) (penalty.extension p x)
+
+-- the same, by these steps
+abbrev pub extension_by : Normal → High → ProblemContent → List Bool → List Bool
+extension_by normal high p x = extension_of (record { normal = normal; high = high }) p x
 
 -- ---- what it promises
 
@@ -71,9 +72,8 @@ IsLeastExtension choices p x y = ExtendsLeastBy choices.normal choices.high p x 
 -- the bits of a model's nodes, from those of its form's nodes: the same, or on a graph the bit of
 -- each qubit
 abbrev pub state_by : Kind → Written → List Bool → List Bool
-state_by Qubo m x = x
-state_by Ising m x = x
 state_by (Chimera rows cols shore) m x = on_chains m.chains m.nodes x
+state_by kind m x = x
 
 -- the same, by the model's own kind
 abbrev pub state_on : Written → List Bool → List Bool
@@ -93,9 +93,8 @@ FitsState m x = FitsNodes m.kind m x
 
 -- how many nodes a model's form has: as many as the model, or on a graph one for each chain
 abbrev pub form_nodes_by : Kind → Written → ℕ
-form_nodes_by Qubo m = m.nodes
-form_nodes_by Ising m = m.nodes
 form_nodes_by (Chimera rows cols shore) m = length m.chains
+form_nodes_by kind m = m.nodes
 
 -- the same, by the model's own kind
 abbrev pub form_nodes : Written → ℕ
@@ -115,8 +114,8 @@ abbrev pub IsMadeOnChains : Ties → ℕ → Choices → ProblemContent → Writ
 IsMadeOnChains ties own choices p m =
     (unit : UnitChoice) × (qubits : Qubits) × (map : List (List ℕ))
     × IsValidOn (fabric_in qubits) (ising_of choices p) map
-    × IsModelByCheck unit ties (graph_in qubits) (fabric_in qubits) (ising_of choices p) map own
-    (ising_figures (penalty.figures p)) m
+    × IsFormAt (record { qubits = qubits; perch = Map map; ties = ties }) unit (ising_of choices p)
+    own (ising_figures (penalty.figures p)) m
 
 -- the model of a problem, with so many of the problem's variables; where it stands on chains, they
 -- are tied so

@@ -16,11 +16,13 @@ use Rattle.penalty_layer.specs.Penalty as penalty
 use Rattle.ising_form.specs.Isings.{IsingContent}
 use Rattle.ising_form.specs.Spins as spins
 use Rattle.chimera_graph.specs.declared.chimera.Chimera.{Chimera}
+use Rattle.embedding_check.specs.Embeddings.{Embedding}
+use Rattle.embedding_check.specs.Checked.{IsChecked}
 use Rattle.working_graph.specs.Fabrics.{Fabric}
 use Rattle.model_pipeline.specs.declared.site.Site.{Site}
 use Rattle.model_pipeline.specs.Models.{quad_of, decoding_to, ising_figures}
 use Rattle.model_pipeline.specs.Sites.{chains_of, fabric_in, graph_in}
-use Rattle.model_pipeline.specs.QubitModels.{kind_of, IsModelByCheck}
+use Rattle.model_pipeline.specs.QubitModels.{kind_of, qubit_model}
 use Rattle.model_pipeline.specs.QubitStanding.{demand_of, StandsBy, IsQubitModelOf}
 
 -- the Ising form of a problem, as a command chooses its steps
@@ -48,23 +50,19 @@ pub record IsGraphModelOf (p : ProblemContent) (own : ℕ) (choice : UnitChoice)
 abbrev pub site_chains : Site → Choices → ProblemContent → List (List ℕ)
 site_chains site choices p = chains_of site.qubits site.perch (length (ising_of choices p).fields)
 
--- the model of an Ising form at a site, as a check puts it on the site's chains; so many of its
+-- the model of an Ising form at a site, as a check embeds it on the site's chains; so many of its
 -- variables are the source's own
 abbrev pub IsFormAt : Site → UnitChoice → IsingContent → ℕ → Figures → Written → Type 0
 IsFormAt site unit form own figures m =
-    IsModelByCheck unit site.ties (graph_in site.qubits) (fabric_in site.qubits) form
-    (chains_of site.qubits site.perch (length form.fields)) own figures m
+    (e : Embedding) × IsChecked (fabric_in site.qubits).joined (fabric_in site.qubits).qubits form
+    (chains_of site.qubits site.perch (length form.fields)) e
+    × (m ≡ qubit_model unit site.ties e own figures (kind_of (graph_in site.qubits)))
 
 -- the same, as a model that stands for the form as the site's ties allow
 abbrev pub StandsForForm : Site → UnitChoice → IsingContent → ℕ → Figures → Written → Type 0
 StandsForForm site unit form own figures m =
     IsQubitModelOf form figures own unit site.ties (graph_in site.qubits) (fabric_in site.qubits)
     (chains_of site.qubits site.perch (length form.fields)) m
-
--- the model of the Ising form of a problem at a site
-abbrev pub IsModelAt : Site → Choices → UnitChoice → ℕ → ProblemContent → Written → Type 0
-IsModelAt site choices unit variables p m =
-    IsFormAt site unit (ising_of choices p) variables (ising_figures (penalty.figures p)) m
 
 -- a model at a site that stands for the problem
 abbrev pub StandsAt : Site → Choices → UnitChoice → ℕ → ProblemContent → Written → Type 0
@@ -75,5 +73,5 @@ StandsAt site choices unit variables p m =
 -- the model of a problem at a site, which stands for the problem
 pub record IsOnQubits (site : Site) (choices : Choices) (unit : UnitChoice) (variables : ℕ)
     (p : ProblemContent) (m : Written) : Type 0 where
-  pub by : IsModelAt site choices unit variables p m
+  pub by : IsFormAt site unit (ising_of choices p) variables (ising_figures (penalty.figures p)) m
   pub stands : StandsAt site choices unit variables p m

@@ -1,5 +1,5 @@
 -- What is kept of a form while its model is made: the steps by which it was made, and its new nodes.
-use Rattle.std.specs.Prelude.{◌≡◌, ⊤, Bool, List}
+use Rattle.std.specs.Prelude.{◌≡◌, Bool, List}
 use Rattle.problem_form.specs.declared.limits.Choices.{Choices}
 use Rattle.problem_form.specs.declared.limits.Normal.{Normal}
 use Rattle.problem_form.specs.declared.limits.High.{High}
@@ -39,8 +39,8 @@ HasSteps choices p Unwanted = ⊥
 HasSteps choices p Wanted = ⊥
 HasSteps choices p (Kept steps) = AreSteps choices p steps
 
--- where they are wanted, it has them once the form stands
+-- where they are wanted, it has them once the form stands, and else nothing
 abbrev pub Keeps : Choices → ProblemContent → Keeping → Keeping → Type 0
-Keeps choices p Unwanted new = ⊤
+Keeps choices p Unwanted new = new ≡ Unwanted
 Keeps choices p Wanted new = HasSteps choices p new
 Keeps choices p (Kept earlier) new = HasSteps choices p new

@@ -30,10 +30,8 @@ use Rattle.quad_form.specs.Quads.{QuadContent}
 use Rattle.quad_form.specs.Quads as quads
 use Rattle.quad_form.specs.Units as units
 use Rattle.quad_form.specs.Flat as flat
-use Rattle.ising_form.specs.Isings.{IsingContent}
 use Rattle.ising_form.specs.Spins as spins
-use Rattle.ising_form.specs.Outputs as isings
-use Rattle.ising_form.specs.Reduction as reduction
+use Rattle.model_pipeline.specs.QubitModels.{chained_model}
 
 -- ---- the steps
 
@@ -48,13 +46,13 @@ abbrev pub low_terms_of : High → TableContent → TableContent
 low_terms_of Monomial t = monomials.image t
 low_terms_of Rosenberg t = rosenberg.image t
 
--- the quadratic form of a problem, by these steps
-abbrev pub quad_by : Normal → High → ProblemContent → QuadContent
-quad_by normal high p = flat.image (low_terms_of high (terms_of normal p))
-
 -- the quadratic form of a problem, as a command chooses its steps
 abbrev pub quad_of : Choices → ProblemContent → QuadContent
-quad_of choices p = quad_by choices.normal choices.high p
+quad_of choices p = flat.image (low_terms_of choices.high (terms_of choices.normal p))
+
+-- the same, by these steps
+abbrev pub quad_by : Normal → High → ProblemContent → QuadContent
+quad_by normal high p = quad_of (record { normal = normal; high = high }) p
 
 -- how the energies of an Ising form stand for costs: four times those of its quadratic form do
 abbrev pub ising_figures : Figures → Figures
@@ -69,19 +67,11 @@ qubo_model Reduce q variables figures =
     quads.written_of (units.reduced q) variables (figures_moved figures (neg_ℤ q.constant))
     (units.quad_unit q)
 
--- the model of an Ising form: as it is, or counted in its greatest unit without the constant
-abbrev pub ising_model : UnitChoice → IsingContent → ℕ → Figures → Written
-ising_model One f variables figures =
-    isings.written_of f variables figures (pos 1) kinds.Ising []
-ising_model Reduce f variables figures =
-    isings.written_of (reduction.reduced f) variables
-    (figures_moved figures (neg_ℤ f.constant)) (reduction.ising_unit f) kinds.Ising []
-
 -- the model for a target: of the quadratic form itself, or of its Ising form
 abbrev pub form_model : NodeModel → UnitChoice → QuadContent → ℕ → Figures → Written
 form_model Qubo unit q variables figures = qubo_model unit q variables figures
 form_model Ising unit q variables figures =
-    ising_model unit (spins.image q) variables (ising_figures figures)
+    chained_model unit (spins.image q) variables (ising_figures figures) kinds.Ising []
 
 -- the model of a problem, of which so many variables are the source's own
 abbrev pub model : Choices → NodeModel → UnitChoice → ℕ → ProblemContent → Written

@@ -1,5 +1,5 @@
 -- The model of an Ising form on the qubits of a graph, built of the images of the steps.
-use Rattle.std.specs.Prelude.{◌≡◌, ℕ, ℤ, pos, neg_ℤ, List}
+use Rattle.std.specs.Prelude.{ℕ, ℤ, pos, neg_ℤ, List}
 use Rattle.base.specs.declared.costs.Figures.{Figures}
 use Rattle.bits_model.specs.declared.output.Kind.{Kind}
 use Rattle.bits_model.specs.declared.output.Kind.TheVariants as kinds
@@ -14,10 +14,8 @@ use Rattle.ising_form.specs.Outputs as isings
 use Rattle.ising_form.specs.Reduction as reduction
 use Rattle.chimera_graph.specs.declared.chimera.Chimera.{Chimera}
 use Rattle.embedding_check.specs.Embeddings.{Embedding}
-use Rattle.embedding_check.specs.Checked.{IsChecked}
 use Rattle.chain_layer.specs.Image as chains
-use Rattle.cut_chains.specs.CutImage.{cut_image, cut_offset}
-use Rattle.working_graph.specs.Fabrics.{Fabric}
+use Rattle.cut_chains.specs.Sides.{cut_strength}
 
 -- the kind of the models on the qubits of a graph
 abbrev pub kind_of : Chimera → Kind
@@ -25,23 +23,26 @@ kind_of graph = kinds.Chimera graph.rows graph.cols graph.shore
 
 -- ---- the ties
 
--- an embedded form on the qubits: each chain is tied so strongly that no broken tie pays, or each
--- tie is as strong as its lighter side asks
-abbrev pub image_by : Ties → Embedding → IsingContent
-image_by Choi e = chains.image e
-image_by Cut e = cut_image e
+-- how strong the tie of a node's qubit is: so strong that no broken tie pays, or as strong as its
+-- lighter side asks
+abbrev pub strength_by : Ties → Embedding → ℕ → ℕ → ℕ
+strength_by Choi e = λ node q. chains.strength e node
+strength_by Cut e = cut_strength e
+
+-- an embedded form on the qubits, with these ties
+abbrev pub image_tied : Ties → Embedding → IsingContent
+image_tied ties e = chains.image_by (strength_by ties e) e
 
 -- what the ties give where none is broken
-abbrev pub offset_by : Ties → Embedding → ℤ
-offset_by Choi e = chains.offset e
-offset_by Cut e = cut_offset e
-
--- ---- a model
+abbrev pub offset_tied : Ties → Embedding → ℤ
+offset_tied ties e = chains.offset_by (strength_by ties e) e
 
 -- how the energies on chains stand for costs: as those of the embedded form do, but lower by what
 -- the ties give
 abbrev pub chained_figures : Ties → Embedding → Figures → Figures
-chained_figures ties e figures = figures_after figures (pos 1) (offset_by ties e)
+chained_figures ties e figures = figures_after figures (pos 1) (offset_tied ties e)
+
+-- ---- a model
 
 -- the model of a form on chains of qubits: as it is, or counted in its greatest unit without the
 -- constant
@@ -52,15 +53,9 @@ chained_model Reduce f variables figures kind chains =
     isings.written_of (reduction.reduced f) variables
     (figures_moved figures (neg_ℤ f.constant)) (reduction.ising_unit f) kind chains
 
--- the model of an embedded Ising form on the qubits of a graph
+-- the model of an embedded Ising form on the qubits of a graph: its energies are lower than those of
+-- the embedded form by what the ties give
 abbrev pub qubit_model : UnitChoice → Ties → Embedding → ℕ → Figures → Kind → Written
 qubit_model unit ties e variables figures kind =
-    chained_model unit (image_by ties e) variables (chained_figures ties e figures) kind e.chains
-
--- the model of an Ising form that is embedded in a graph by these chains, as a check on the qubits
--- that there are does it
-abbrev pub IsModelByCheck : UnitChoice → Ties → Chimera → Fabric → IsingContent → List (List ℕ)
-    → ℕ → Figures → Written → Type 0
-IsModelByCheck unit ties graph fabric f map variables figures m =
-    (e : Embedding) × IsChecked fabric.joined fabric.qubits f map e
-    × (m ≡ qubit_model unit ties e variables figures (kind_of graph))
+    chained_model unit (chains.image_by (strength_by ties e) e) variables
+    (figures_after figures (pos 1) (chains.offset_by (strength_by ties e) e)) kind e.chains

@@ -1,6 +1,6 @@
 -- Where chains stand: the qubits that there are, the chains on them, and whether a form has a place
 -- there.
-use Rattle.std.specs.Prelude.{◌≡◌, ℕ, ◌<◌, ◌≤◌, Bool, List, length, nat_lt}
+use Rattle.std.specs.Prelude.{◌≡◌, ℕ, ◌<◌, ◌≤◌, List, length, nat_lt}
 use Rattle.ising_form.specs.Isings.{IsingContent}
 use Rattle.chimera_graph.specs.declared.chimera.Chimera.{Chimera}
 use Rattle.chimera_graph.specs.Graph.{qubits_of, place_of}
@@ -20,16 +20,12 @@ use Rattle.model_pipeline.specs.declared.site.Site.{Site}
 
 -- ---- the qubits
 
--- which two qubits of a graph are joined
-abbrev pub joins_of : Chimera → ℕ → ℕ → Bool
-joins_of graph a b = are_joined (place_of graph a) (place_of graph b)
-
 -- all qubits of a graph, and their joins
 abbrev pub whole_fabric : Chimera → Fabric
 whole_fabric graph = record {
   qubits = qubits_of graph;
   exists = λ q. nat_lt q (qubits_of graph);
-  joined = joins_of graph;
+  joined = λ a b. are_joined (place_of graph a) (place_of graph b);
 }
 
 -- the graph that they are qubits of

@@ -6,9 +6,9 @@ ghost use Rattle.chimera_graph.specs.Graph.{qubits_of};
 ghost use Rattle.embedding_check.specs.Embeddings.{IsEmbedding};
 ghost use Rattle.model_pipeline.specs.QubitModels.{
   chained_model,
-  image_by,
+  image_tied,
   kind_of,
-  offset_by,
+  offset_tied,
   qubit_model,
 };
 
@@ -77,9 +77,9 @@ struct TiedForm {
 fn tied(alloc: Global, embedded: &Embedded, ties: Ties) -> Result<TiedForm, NoMemory>
     requires total { (ising_total embedded.now.ising + 1) * 2 ^ 21 ≤ 2 ^ 124 }
     requires size { (ising_size embedded.now.ising + 4 * embedded.now.qubits) * 2 ^ 1 ≤ 2 ^ 32 }
-    ensures form { IfOk result (λ made. made.form ≡ image_by ties embedded.now) }
+    ensures form { IfOk result (λ made. made.form ≡ image_tied ties embedded.now) }
     ensures chains { IfOk result (λ made. made.chains ≡ embedded.now.chains) }
-    ensures offset { IfOk result (λ made. made.offset ≡ offset_by ties embedded.now) }
+    ensures offset { IfOk result (λ made. made.offset ≡ offset_tied ties embedded.now) }
 
     // What the laws of the model rest on.
     ensures kept { IfOk result (λ _. IsEmbedding embedded.now) }

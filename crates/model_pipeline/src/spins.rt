@@ -12,8 +12,7 @@ use crate::forms::formed;
 use crate::held::Held;
 use crate::kept::Keeping;
 use base::{Figures, NoMemory};
-use form_steps::Layer;
-use ising_form::{Ising, ToSpins};
+use ising_form::Ising;
 use problem_form::Choices;
 use quad_form::Quad;
 use std::alloc::Global;
@@ -25,7 +24,7 @@ pub struct FiguredIsing {
     pub figures: Figures,
 }
 
-/// The Ising form of a quadratic form, which is let go.
+/// The Ising form of a quadratic form that is given up.
 pub fn spun_quad(alloc: Global, quad: Quad, figures: Figures) -> Result<FiguredIsing, NoMemory>
     requires total { (quad_total quad + 1) * 2 ^ 2 ≤ 2 ^ 124 }
     requires size { quad_size quad * 2 ^ 1 ≤ 2 ^ 32 }
@@ -36,12 +35,10 @@ pub fn spun_quad(alloc: Global, quad: Quad, figures: Figures) -> Result<FiguredI
     // What the laws of the form rest on.
     ensures kept { IsQuad quad }
 {
-    let made = ToSpins.lower(alloc, &quad)?;
-    drop(quad);
-    let figures = figures.after(made.scale, made.offset);
+    let ising = Ising::from_quad(alloc, quad)?;
     Ok(FiguredIsing {
-        ising: made.target,
-        figures,
+        ising,
+        figures: figures.after(4, 0),
     })
 }
 

@@ -1,9 +1,10 @@
 //! The models of forms, in the unit that is chosen. Reducing is the last step before a model is
 //! written, and is done in the form's own memory.
-ghost use Rattle.std.specs.Prelude.{◌≡◌, ◌≤◌, ◌<◌, ◌+◌, ◌*◌, ◌^◌, ◌≤ℤ◌, pos, length, unsigned_abs, IfOk};
+ghost use Rattle.std.specs.Prelude.{◌≡◌, ◌≤◌, ◌<◌, ◌+◌, ◌*◌, ◌^◌, ◌≤ℤ◌, pos, length, unsigned_abs, [], IfOk};
 ghost use Rattle.quad_form.specs.Quads.{IsQuad, quad_size, quad_total};
 ghost use Rattle.ising_form.specs.Spins.{image};
-ghost use Rattle.model_pipeline.specs.Models.{form_model, ising_figures, ising_model, qubo_model};
+ghost use Rattle.model_pipeline.specs.Models.{form_model, ising_figures, qubo_model};
+ghost use Rattle.model_pipeline.specs.QubitModels.{chained_model};
 ghost use Rattle.model_pipeline.specs.Formed.{HaveRoom};
 
 use crate::spins::{FiguredIsing, spun_quad};
@@ -53,7 +54,8 @@ pub fn ising_model(
     requires scale { pos 1 ≤ℤ figures.scale }
     requires offset { unsigned_abs figures.offset < 2 ^ 124 }
     requires threshold { unsigned_abs figures.threshold < 2 ^ 124 }
-    ensures { IfOk result (λ m. m ≡ ising_model unit form variables figures) }
+    ensures { IfOk result (λ m.
+        m ≡ chained_model unit form variables figures Kind.Ising []) }
 {
     let chains = ChainList::empty(alloc);
     match unit {
@@ -80,7 +82,7 @@ pub fn spins_model(
     requires size { quad_size quad * 2 ^ 1 ≤ 2 ^ 32 }
     requires figures { HaveRoom figures }
     ensures model { IfOk result (λ m.
-        m ≡ ising_model unit (image quad) variables (ising_figures figures)) }
+        m ≡ chained_model unit (image quad) variables (ising_figures figures) Kind.Ising []) }
 
     // What the laws of the model rest on.
     ensures kept { IsQuad quad }

@@ -6,8 +6,8 @@ use Rattle.chimera_graph.specs.Graph.{qubits_of}
 use Rattle.chain_map.specs.declared.faults.EmbedFault.{EmbedFault}
 use Rattle.chain_map.specs.declared.faults.EmbedFault.TheVariants.{ChainCount, EmptyChain, NoSuchQubit, Repeated, Disconnected, NoCoupler, TooManyNodes}
 use Rattle.chain_map.specs.Chains.{chain_of}
-use Rattle.embedding_check.specs.Faults.{IsFault, Exists}
-use Rattle.embedding_check.proofs.Faulty.{all_of_places, fault_invalid}
+use Rattle.embedding_check.specs.Faults.{IsFault, IsInside, IsApart, IsLinked, Exists}
+use Rattle.embedding_check.proofs.Faulty.{all_of_places, fault_among_invalid}
 use Rattle.working_graph.specs.Fabrics.{Fabric, AllExist, IsValidOn}
 use Rattle.working_graph.specs.Working.{WorkingGraph, exists_in}
 use Rattle.working_graph.specs.Faults.{ExistsAt, IsFaultOn}
@@ -21,7 +21,23 @@ pub all_exist : (fabric : Fabric) (map : List (List ℕ))
     → AllExist fabric map
 all_exist fabric map existing = all_of_places map (λ chain q. fabric.exists q ≡ true) existing
 
--- where all numbers are those of qubits that exist, a fault on the joins is one here
+-- where all numbers are those of qubits that exist, what comes before a fault is the same
+pub inside_on : (fabric : Fabric) (f : IsingContent) (map : List (List ℕ)) → AllExist fabric map
+    → IsInside (λ q. q < fabric.qubits) f map → IsInside (λ q. fabric.exists q ≡ true) f map
+inside_on fabric f map all inside = record { listed = inside.listed; within = all }
+
+pub apart_on : (fabric : Fabric) (f : IsingContent) (map : List (List ℕ)) → AllExist fabric map
+    → IsApart (λ q. q < fabric.qubits) f map → IsApart (λ q. fabric.exists q ≡ true) f map
+apart_on fabric f map all apart =
+    record { inside = inside_on fabric f map all apart.inside; once = apart.once }
+
+pub linked_on : (fabric : Fabric) (f : IsingContent) (map : List (List ℕ)) → AllExist fabric map
+    → IsLinked fabric.joined (λ q. q < fabric.qubits) f map
+    → IsLinked fabric.joined (λ q. fabric.exists q ≡ true) f map
+linked_on fabric f map all linked =
+    record { apart = apart_on fabric f map all linked.apart; connected = linked.connected }
+
+-- so a fault on the joins is one here
 pub fault_on : (fabric : Fabric) (f : IsingContent) (map : List (List ℕ)) (x : EmbedFault)
     → AllExist fabric map
     → ((u : ℕ) → u < length map → (j : ℕ) → j < length (chain_of map u)
@@ -31,25 +47,14 @@ fault_on fabric f map (ChainCount n) all within h = h
 fault_on fabric f map (EmptyChain v) all within h = h
 fault_on fabric f map (NoSuchQubit v q) all within h =
     absurd (h.1.1.place.bad (within v h.1.1.chain.below h.1.0 h.1.1.place.below))
-fault_on fabric f map (Repeated q) all within h = (h, all)
-fault_on fabric f map (Disconnected v q) all within h = (h, all)
-fault_on fabric f map (NoCoupler u v) all within h = (h, all)
+fault_on fabric f map (Repeated q) all within h = (inside_on fabric f map all h.0, h.1)
+fault_on fabric f map (Disconnected v q) all within h = (apart_on fabric f map all h.0, h.1)
+fault_on fabric f map (NoCoupler u v) all within h = (linked_on fabric f map all h.0, h.1)
 fault_on fabric f map (TooManyNodes n m) all within h = h
 
 -- a fault makes a map invalid
 pub fault_on_invalid : (fabric : Fabric) (f : IsingContent) (map : List (List ℕ)) (x : EmbedFault)
     → IsFaultOn fabric f map x → IsValidOn fabric f map → ⊥
-fault_on_invalid fabric f map (ChainCount n) h valid =
-    fault_invalid fabric.joined fabric.qubits f map (ChainCount n) h valid.0
-fault_on_invalid fabric f map (EmptyChain v) h valid =
-    fault_invalid fabric.joined fabric.qubits f map (EmptyChain v) h valid.0
-fault_on_invalid fabric f map (NoSuchQubit v q) h valid =
-    h.1.1.place.bad (valid.1 v _ h.1.1.chain.below h.1.0 0 h.1.1.place.below)
-fault_on_invalid fabric f map (Repeated q) h valid =
-    fault_invalid fabric.joined fabric.qubits f map (Repeated q) h.0 valid.0
-fault_on_invalid fabric f map (Disconnected v q) h valid =
-    fault_invalid fabric.joined fabric.qubits f map (Disconnected v q) h.0 valid.0
-fault_on_invalid fabric f map (NoCoupler u v) h valid =
-    fault_invalid fabric.joined fabric.qubits f map (NoCoupler u v) h.0 valid.0
-fault_on_invalid fabric f map (TooManyNodes n m) h valid =
-    fault_invalid fabric.joined fabric.qubits f map (TooManyNodes n m) h valid.0
+fault_on_invalid fabric f map x h valid =
+    fault_among_invalid fabric.joined fabric.qubits (λ q. fabric.exists q ≡ true) f map x h valid.0
+    valid.1

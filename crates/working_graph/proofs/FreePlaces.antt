@@ -1,5 +1,5 @@
 -- Which place may be taken next, by what the code asks.
-use Rattle.std.proofs.Common.{◌≡◌, ℕ, suc, ◌+◌, ◌-◌, ◌*◌, ◌/◌, ◌%◌, ◌<◌, ◌≤◌, ◌==◌, inl, inr, Bool, true, false, not, ◌&&◌, ◌||◌, List, [], ◌∷◌, ◌++◌, length, map, take, set, min, max, if◌then◌else◌, get_or, refl, sym, ap, subst, ◌∙◌, arith, mod-lt}
+use Rattle.std.proofs.Common.{◌≡◌, ℕ, suc, ◌+◌, ◌-◌, ◌*◌, ◌/◌, ◌%◌, ◌<◌, ◌≤◌, ◌^◌, ◌==◌, inl, inr, Bool, true, false, not, ◌&&◌, ◌||◌, List, [], ◌∷◌, ◌++◌, length, map, take, set, min, max, if◌then◌else◌, get_or, refl, sym, ap, subst, ◌∙◌, arith, mod-lt}
 use Rattle.std.specs.List.{list_all}
 use Rattle.std.proofs.lemmas.Bool.{cases_eq, eqb-true}
 use Rattle.std.proofs.lemmas.List.Folds.{list_all_at, list_any-append}
@@ -7,13 +7,15 @@ use Rattle.std.proofs.lemmas.List.{get_or-set_same, get_or-set_other, length-map
 use Rattle.std.proofs.lemmas.Nat.{mul-add-lt, div-add-mod'}
 use Rattle.bits_model.specs.Walks.{is_in}
 use Rattle.chimera_graph.specs.declared.chimera.Chimera.{Chimera}
+use Rattle.chimera_graph.proofs.Numbering.{index_below}
 use Rattle.chain_map.specs.Chains.{Joins}
+use Rattle.chain_map.proofs.CliqueChains.{cell_of}
 use Rattle.chain_map.specs.Cliques.{diagonal_of, clique_places, down_qubit, along_qubit, clique_chain}
 use Rattle.embedding_check.proofs.Sorting.{same_test, is_in_at, at_of_in}
 use Rattle.working_graph.specs.Fabrics.{Fabric}
-use Rattle.working_graph.specs.Working.{WorkingGraph, pair_number, joined_in, fabric_of}
-use Rattle.working_graph.specs.Numbers.{AreRising}
-use Rattle.working_graph.specs.Places.{first_across, AreTaken, AreMarked, IsParted, are_linked, are_coupled, is_whole, is_free, is_marked, taken_next, taken_of, taken_places, working_clique}
+use Rattle.working_graph.specs.Working.{WorkingGraph, joined_in, fabric_of}
+use Rattle.working_graph.specs.Index.{pair_number, has_pair, AreRising}
+use Rattle.working_graph.specs.Places.{first_across, is_cut, AreTaken, AreMarked, IsParted, are_linked, are_coupled, is_whole, is_free, is_marked, taken_next, taken_of, taken_places, working_clique}
 use Rattle.working_graph.proofs.TakenPlaces.{taken_front}
 use Rattle.working_graph.proofs.Pairs.{is_other, number_of_ordered}
 use Rattle.working_graph.proofs.WorkingCliques.{any_of}
@@ -165,18 +167,36 @@ BarsIn w marks place row at =
     (is_marked marks u ≡ true) × IsParted w place u
 
 pub unbarred : (w : WorkingGraph) (place row k : ℕ) (cuts : List ℕ) (from : ℕ) (marks : List Bool)
-    → cuts ≡ w.cut → from ≡ first_across w.graph place row → AreRising cuts
+    → place < clique_places w.graph → row ≤ place / w.graph.shore
+    → ((p q : ℕ) → p < 2 ^ 32 → q < 2 ^ 32 → has_pair cuts p q ≡ is_cut w p q)
+    → from ≡ first_across w.graph place row → AreRising cuts
     → HasPassed cuts from k (BarsIn w marks place row)
     → (k < length cuts → get_or cuts k 0 - from < w.graph.shore → ⊥)
     → (u : ℕ) → u / w.graph.shore ≡ row → is_marked marks u ≡ true → IsParted w place u → ⊥
-unbarred w place row k cuts from marks is_cuts is_from rising inv done u e marked parted =
+unbarred w place row k cuts from marks below high said is_from rising inv done u e marked parted =
     let T = w.graph.shore in
     let some = w.graph.shape.some_shore in
     let a = down_qubit w.graph (place / T) (place % T) (u / T) in
     let b = along_qubit w.graph (u / T) (u % T) (place / T) in
-    let found = any_of (λ n. n == pair_number (min a b) (max a b)) w.cut parted.down in
-    let in_cuts = subst (λ ns. is_in ns found.0 ≡ true) (sym is_cuts) found.1 in
-    let at = at_of_in cuts found.0 in_cuts in
+    let cell = cell_of w.graph place below in
+    let low_a = index_below w.graph (record { row = u / T; col = place / T; side = 0; at = place % T })
+    (record {
+      row_below = omega (arith, e, high, cell);
+      col_below = omega (arith, cell);
+      side_below = omega arith;
+      at_below = mod-lt place some;
+    }) in
+    let low_b = index_below w.graph (record { row = u / T; col = place / T; side = 1; at = u % T })
+    (record {
+      row_below = omega (arith, e, high, cell);
+      col_below = omega (arith, cell);
+      side_below = omega arith;
+      at_below = mod-lt u some;
+    }) in
+    let listed = said a b (omega (arith, low_a, w.graph.shape.few)) (omega
+    (arith, low_b, w.graph.shape.few)) in
+    let found = any_of (λ n. n == pair_number (min a b) (max a b)) cuts (listed ∙ parted.down) in
+    let at = at_of_in cuts found.0 found.1 in
     let order : a ≤ b = omega (arith, mod-lt place some) in
     let number : found.0 ≡ pair_number a b = eqb-true found.0 _ found.2
     ∙ number_of_ordered a b order in

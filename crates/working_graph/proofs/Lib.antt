@@ -9,10 +9,7 @@ pub mod FaultsOn
 pub mod LineRows
 pub mod PartRows
 pub mod LineParts
-pub mod RisingNumbers
-pub mod LeftParts
-pub mod NamedParts
-pub mod NotedLists
+pub mod IndexedParts
 pub mod PathParents
 pub mod CliquePaths
 pub mod LeastMeetings

@@ -20,8 +20,8 @@ use Rattle.chain_map.specs.Cliques.{diagonal_of, clique_places, down_qubit, alon
 use Rattle.chain_map.proofs.CliqueChains.{down_place, along_place, place_again, down_in, along_in, path_len, path_down, path_along, cell_joined, cell_of, cells_rise}
 use Rattle.embedding_check.proofs.Sorting.{is_in_at, at_of_in}
 use Rattle.working_graph.specs.Fabrics.{Fabric}
-use Rattle.working_graph.specs.Working.{WorkingGraph, exists_in, is_cut, joined_in, fabric_of}
-use Rattle.working_graph.specs.Places.{are_coupled, is_whole, is_cut_at, IsParted}
+use Rattle.working_graph.specs.Working.{WorkingGraph, exists_in, joined_in, fabric_of}
+use Rattle.working_graph.specs.Places.{are_coupled, is_whole, is_cut, is_cut_at, IsParted}
 use Rattle.working_graph.specs.laws.WorkingJoins.{joined_in-comm, joined_in-plain}
 use Rattle.working_graph.proofs.WorkingCliques.{any_of, whole_exists}
 

@@ -3,8 +3,7 @@ use Rattle.std.proofs.Common.{◌≡◌, ◌≢◌, ℕ, ◌<◌, ◌≤◌, ◌
 use Rattle.std.specs.List.Sorted.{IsPartitionedBy, IsPartitionPoint}
 use Rattle.std.proofs.lemmas.Bool.Decides.{nat_tests}
 use Rattle.std.proofs.lemmas.Grind.{get_or_default_zero}
-use Rattle.working_graph.specs.Working.{pair_number}
-use Rattle.working_graph.specs.Numbers.{AreRising}
+use Rattle.working_graph.specs.Index.{pair_number, AreRising}
 
 pub is_other : (a b : ℕ) → a ≢ b → (a == b) ≡ false
 is_other a b e = grind (arith, nat_tests)

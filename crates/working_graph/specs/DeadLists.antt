@@ -1,6 +1,5 @@
 -- The text of a dead list: each line with words names a dead qubit or a dead coupler.
-use Rattle.std.specs.Prelude.{◌≡◌, ℕ, ◌<◌, ◌==◌, Bool, false, ◌&&◌, ◌||◌, List, [], ◌∷◌, map, Result, Ok, Err, nat_lt, min, max, if◌then◌else◌}
-use Rattle.std.specs.List.{list_any, flat_map, range_with_len}
+use Rattle.std.specs.Prelude.{ℕ, ◌<◌, List, [], ◌∷◌, Result, Ok, Err, nat_lt, if◌then◌else◌}
 use Rattle.whole_text.specs.declared.faults.TextKind.TheVariants as kinds
 use Rattle.whole_text.specs.declared.faults.TextFault.{TextFault}
 use Rattle.whole_text.specs.declared.token.Style.TheVariants.{Plain}
@@ -12,8 +11,7 @@ use Rattle.chimera_graph.specs.Graph.{qubits_of, place_of}
 use Rattle.chimera_graph.specs.Places.{are_joined}
 use Rattle.working_graph.specs.declared.parts.DeadPart.{DeadPart}
 use Rattle.working_graph.specs.declared.parts.DeadPart.TheVariants.{Qubit, Coupler}
-use Rattle.working_graph.specs.Working.{WorkingGraph, pair_number, is_dead, is_cut}
-use Rattle.working_graph.specs.Numbers.{rising}
+use Rattle.working_graph.specs.Working.{WorkingGraph}
 
 -- ---- the reading
 
@@ -25,12 +23,9 @@ qubit_at graph w =
 
 -- the number of one that the graph joins to another one
 unfoldable pub joined_at : Chimera → ℕ → Word → Result ℕ TextFault
-joined_at graph a w =
-    qubit_at graph w
-    >>= λ b.
-    if are_joined (place_of graph a) (place_of graph b)
-    then Ok b
-    else Err (fault kinds.Range w.line)
+joined_at graph a w = do
+  b ← qubit_at graph w
+  if are_joined (place_of graph a) (place_of graph b) then Ok b else Err (fault kinds.Range w.line)
 
 -- what follows the number of a qubit on its line: nothing, and the qubit is dead, or the number of
 -- a joined one, and their coupler is; a third word is too much
@@ -58,46 +53,7 @@ IsPartOf graph (Coupler a b) = (a < qubits_of graph) × (b < qubits_of graph)
 
 -- ---- what is left
 
--- it is this dead qubit
-abbrev pub is_qubit : ℕ → DeadPart → Bool
-is_qubit q (Qubit a) = a == q
-is_qubit q (Coupler a b) = false
-
--- it is the dead coupler of these two, in either order
-abbrev pub is_coupler : ℕ → ℕ → DeadPart → Bool
-is_coupler p q (Qubit a) = false
-is_coupler p q (Coupler a b) = ((a == p) && (b == q)) || ((a == q) && (b == p))
-
--- what is left of a graph without these parts
-pub record IsWithout (graph : Chimera) (parts : List DeadPart) (w : WorkingGraph) : Type 0 where
-  pub whole : w.graph ≡ graph
-  pub qubits : (q : ℕ) → is_dead w q ≡ list_any (is_qubit q) parts
-  pub couplers : (p q : ℕ) → p < qubits_of graph → q < qubits_of graph
-      → is_cut w p q ≡ list_any (is_coupler p q) parts
-
--- the number of a part, where it is a coupler
-abbrev pub coupler_number : DeadPart → List ℕ
-coupler_number (Qubit a) = []
-coupler_number (Coupler a b) = pair_number (min a b) (max a b) ∷ []
-
--- the numbers of the couplers among these parts, in the order of the parts
-abbrev pub numbers_of : List DeadPart → List ℕ
-numbers_of parts = flat_map coupler_number parts
-
--- what is left of a graph without these parts: a mark for each of its qubits, and the numbers of
--- the dead couplers in order
-abbrev pub left_of : Chimera → List DeadPart → WorkingGraph
-left_of graph parts = record {
-  graph = graph;
-  dead = map (λ q. list_any (is_qubit q) parts) (range_with_len 0 (qubits_of graph));
-  cut = rising (numbers_of parts);
-}
-
 -- the working graph that a text leaves, or the text's first fault
 abbrev pub working_of : Chimera → List ℕ → Result WorkingGraph TextFault
-working_of graph text = dead_parts graph text >>= λ parts. Ok (left_of graph parts)
-
--- what is left of a graph without the parts that a text names
-abbrev pub IsLeftBy : Chimera → List ℕ → WorkingGraph → Type 0
-IsLeftBy graph text w =
-    (parts : List DeadPart) × (dead_parts graph text ≡ Ok parts) × IsWithout graph parts w
+working_of graph text =
+    dead_parts graph text >>= λ parts. Ok (record { graph = graph; parts = parts })

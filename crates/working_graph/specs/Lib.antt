@@ -1,10 +1,8 @@
 pub mod Fabrics
 pub mod Working
-pub mod Numbers
+pub mod Index
 pub mod laws
 pub mod Places
 pub mod Faults
 pub mod DeadLists
-pub mod NotedParts
-pub mod Stated
 pub mod CliquePlaces

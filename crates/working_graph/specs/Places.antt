@@ -7,7 +7,8 @@ use Rattle.chain_map.specs.Chains.{Joins}
 use Rattle.chain_map.specs.Cliques.{clique_places, down_qubit, along_qubit, clique_chain}
 use Rattle.working_graph.specs.Fabrics.{Fabric, IsValidOn}
 use Rattle.chimera_graph.specs.declared.chimera.Chimera.{Chimera}
-use Rattle.working_graph.specs.Working.{WorkingGraph, pair_number, is_cut, fabric_of}
+use Rattle.working_graph.specs.Working.{WorkingGraph, is_coupler, fabric_of}
+use Rattle.working_graph.specs.Index.{pair_number}
 
 -- each next two are joined
 abbrev pub are_linked : Joins → List ℕ → Bool
@@ -53,6 +54,10 @@ IsForWorkingClique w nodes chains =
     (f : IsingContent) → IsIsing f → length f.fields ≡ nodes → IsValidOn (fabric_of w) f chains
 
 -- ---- where two places meet
+
+-- the coupler of two qubits is dead
+abbrev pub is_cut : WorkingGraph → ℕ → ℕ → Bool
+is_cut w p q = list_any (is_coupler p q) w.parts
 
 -- the coupler is dead where the first place goes down its column through the row of the second
 abbrev pub is_cut_at : WorkingGraph → ℕ → ℕ → Bool

@@ -1,5 +1,5 @@
 //! The places that are taken for a clique.
-ghost use Rattle.std.specs.Prelude.{◌≡◌, ◌<◌, ℕ, true, length, IfOk};
+ghost use Rattle.std.specs.Prelude.{◌≡◌, ◌<◌, ℕ, true, false, [], length, replicate, IfOk, OnOk};
 ghost use Rattle.std.specs.List.{slice_index_or, list_all};
 ghost use Rattle.chimera_graph.specs.Graph.{qubits_of};
 ghost use Rattle.chain_map.specs.Cliques.{clique_places, clique_chain};
@@ -88,6 +88,35 @@ fn is_free(
     Ok(!is_parted(working, marks, place))
 }
 
+/// Appends the chains of the places that are taken to no chains, where none is marked yet. Both
+/// lists serve for each place.
+fn take_places(
+    working: &Working,
+    nodes: usize,
+    marks: &mut [bool],
+    chain: &mut Vec<u32>,
+    wide: &mut Vec<u64>,
+    taken: &mut ChainMap,
+) -> Result<(), NoMemory>
+    requires marks { marks.old ≡ replicate (clique_places working.now.graph) false }
+    requires none { taken.old ≡ [] }
+    ensures { OnOk result (taken.new ≡ working_clique working.now nodes) }
+{
+    let graph = working.graph();
+    let places = clique_places(&graph);
+    for place in 0..places {
+        if taken.len() == nodes {
+            return Ok(());
+        }
+        let free = is_free(working, marks, place, chain)?;
+        if free {
+            marks[place as usize] = true;
+            taken.push_qubits(chain, wide)?;
+        }
+    }
+    Ok(())
+}
+
 /// The chains of the places that are taken, from 0 upwards; no more of them than are asked for.
 pub(crate) fn taken_chains(
     alloc: Global,
@@ -96,21 +125,13 @@ pub(crate) fn taken_chains(
 ) -> Result<ChainMap, NoMemory>
     ensures { IfOk result (λ m. m ≡ working_clique working.now nodes) }
 {
-    let graph = working.graph();
-    let places = clique_places(&graph);
+    let places = clique_places(&working.graph());
     let mut marks = vec![in alloc; false; places as usize]?;
     let mut chain = Vec::new(alloc);
     let mut wide = Vec::new(alloc);
     let mut taken = ChainMap::new(alloc);
-    for place in 0..places {
-        if taken.len() == nodes {
-            return Ok(taken);
-        }
-        let free = is_free(working, &marks, place, &mut chain)?;
-        if free {
-            marks[place as usize] = true;
-            taken.push_qubits(&chain, &mut wide)?;
-        }
-    }
+    take_places(
+        working, nodes, &mut marks, &mut chain, &mut wide, &mut taken,
+    )?;
     Ok(taken)
 }

@@ -1,37 +1,38 @@
 //! What is left of a Chimera graph.
-ghost use Rattle.std.specs.Prelude.{◌≡◌};
-ghost use Rattle.working_graph.specs.Working.{pair_number};
+ghost use Rattle.std.specs.Prelude.{◌≡◌, ◌==◌, false};
+ghost use Rattle.std.specs.List.{list_any, slice_index_or};
+ghost use Rattle.working_graph.specs.Index.{pair_number, AreRising};
 
+use crate::index::{marks_of, numbers_of};
+use crate::parts::DeadPart;
 use base::NoMemory;
-use chimera_graph::Chimera;
+use chimera_graph::{Chimera, Hardware};
 use radix_sort::sorted_keys;
 use std::alloc::Global;
+use std::cmp::{max, min};
 use std::marker::Model;
 
 /// A Chimera graph of which some qubits and couplers are dead. Contracts see which of them.
 ///
-/// `dead` says of each qubit whether it is dead; where it is too short, the qubit is not. `cut` has
-/// the numbers of the dead couplers, ascending.
+/// `dead` and `cut` are the index of these parts: `dead` says of each qubit whether it is dead; where
+/// it is too short, the qubit is not. `cut` has the numbers of the dead couplers, ascending.
 #[derive(Drop)]
 pub struct Working {
     graph: Chimera,
+    parts: Vec<DeadPart>,
     dead: Vec<bool>,
     cut: Vec<u64>,
 }
 
 impl Model for Working {
     ghost use Rattle.working_graph.specs.Working.{WorkingGraph};
-    ghost use Rattle.working_graph.specs.Numbers.{AreRising};
+    ghost use Rattle.working_graph.specs.Index.{IsIndex};
 
     ghost Value = { WorkingGraph };
 
-    ghost view = { λ w. record {
-      graph = w.graph;
-      dead = w.dead.items;
-      cut = w.cut.items;
-    } };
+    ghost view = { λ w. record { graph = w.graph; parts = w.parts.items } };
 
-    ghost invariant = { λ w. AreRising w.cut.items };
+    ghost invariant = { λ w. IsIndex w.parts.items w.dead.items w.cut.items };
 }
 
 /// The number of a pair.
@@ -41,37 +42,67 @@ pub(crate) fn pair_number(low: u32, high: u32) -> u64
     u64::from(low) * (1 << 32) + u64::from(high)
 }
 
+/// Whether a qubit is marked; where there are too few marks, it is not.
+fn is_marked(marks: &[bool], qubit: u32) -> bool
+    ensures { result ≡ slice_index_or marks.now qubit false }
+{
+    match marks.get(qubit as usize) {
+        Some(mark) => *mark,
+        None => false,
+    }
+}
+
+/// Whether a number is one of numbers in order.
+fn has_number(numbers: &[u64], number: u64) -> bool
+    requires { AreRising numbers.now }
+    ensures { result ≡ list_any (λ n. n == number) numbers.now }
+{
+    if numbers.is_empty() {
+        return false;
+    }
+    match numbers.binary_search(&number) {
+        Ok(_) => true,
+        Err(_) => false,
+    }
+}
+
 impl Working {
-    ghost use Rattle.std.specs.Prelude.{◌<◌, ◌≤◌, IfOk};
+    ghost use Rattle.std.specs.Prelude.{◌<◌, ◌^◌, ℕ, All, IfOk};
     ghost use Rattle.chimera_graph.specs.Graph.{qubits_of};
-    ghost use Rattle.working_graph.specs.Numbers.{AreRising, rising};
-    ghost use Rattle.working_graph.specs.Working.{exists_in, is_cut, whole_graph};
+    ghost use Rattle.working_graph.specs.Index.{has_pair};
+    ghost use Rattle.working_graph.specs.DeadLists.{IsPartOf};
+    ghost use Rattle.working_graph.specs.Places.{is_cut};
+    ghost use Rattle.working_graph.specs.Working.{exists_in, whole_graph};
     /// The whole graph: nothing of it is dead.
     pub fn whole(alloc: Global, graph: Chimera) -> Working
         ensures { result ≡ whole_graph graph }
     {
         Working {
             graph,
+            parts: Vec::new(alloc),
             dead: Vec::new(alloc),
             cut: Vec::new(alloc),
         }
     }
 
-    /// What is left where these qubits are marked as dead and the couplers with these numbers are.
-    pub(crate) fn of(
+    /// What is left of a graph without these parts of it.
+    pub(crate) fn without(
         alloc: Global,
         graph: Chimera,
-        dead: Vec<bool>,
-        cut: Vec<u64>,
+        parts: Vec<DeadPart>,
     ) -> Result<Working, NoMemory>
-        ensures { IfOk result (λ w. w ≡ record {
-          graph = graph;
-          dead = dead.items;
-          cut = rising cut.items;
-        }) }
+        requires { All (IsPartOf graph) parts.items }
+        ensures { IfOk result (λ w. w ≡ record { graph = graph; parts = parts.items }) }
     {
-        let cut = sorted_keys(alloc, cut, 0, 0)?;
-        Ok(Working { graph, dead, cut })
+        let dead = marks_of(alloc, &graph, &parts)?;
+        let numbers = numbers_of(alloc, &parts)?;
+        let cut = sorted_keys(alloc, numbers, 0, 0)?;
+        Ok(Working {
+            graph,
+            parts,
+            dead,
+            cut,
+        })
     }
 
     /// The graph of which it is what is left.
@@ -86,29 +117,20 @@ impl Working {
         requires { qubit < qubits_of self.now.graph }
         ensures { result ≡ exists_in self.now qubit }
     {
-        match self.dead.get(qubit as usize) {
-            Some(dead) => !*dead,
-            None => true,
-        }
+        !is_marked(&self.dead, qubit)
     }
 
-    /// Whether a dead coupler names the two, the lesser one first.
-    pub(crate) fn is_cut(&self, low: u32, high: u32) -> bool
-        requires { low ≤ high }
-        ensures { result ≡ is_cut self.now low high }
+    /// Whether the coupler of two qubits is dead.
+    pub(crate) fn is_cut(&self, a: u32, b: u32) -> bool
+        ensures { result ≡ is_cut self.now a b }
     {
-        if self.cut.is_empty() {
-            return false;
-        }
-        match self.cut.binary_search(&pair_number(low, high)) {
-            Ok(_) => true,
-            Err(_) => false,
-        }
+        has_number(&self.cut, pair_number(min(a, b), max(a, b)))
     }
 
     /// The numbers of the dead couplers.
     pub(crate) fn cuts(&self) -> &[u64]
-        ensures numbers { result.now ≡ self.now.cut }
+        ensures numbers { (p q : ℕ) → p < 2 ^ 32 → q < 2 ^ 32
+            → has_pair result.now p q ≡ is_cut self.now p q }
         ensures rising { AreRising result.now }
     {
         &self.cut

@@ -20,7 +20,7 @@ use Rattle.quad_form.specs.Quads.{IsCoupler}
 use Rattle.bits_model.specs.Walks.{is_in}
 use Rattle.embedding_check.specs.Embeddings.{Embedding, IsEmbedding, IsTree}
 use Rattle.chain_map.specs.Chains.{IsBetween, chain_of}
-use Rattle.chain_layer.specs.Image.{nodes_of, field_of, couplings_at, strength, shares, ties, placed, offset}
+use Rattle.chain_layer.specs.Image.{nodes_of, field_of, couplings_at, strength, shares, ties, ties_cost, placed, offset}
 use Rattle.chain_layer.specs.laws.SpinSums.{spin_energy, pair_energy, range-le, range-same, times_spin-comm, marked_ends}
 use Rattle.chain_layer.specs.laws.Whole.{is_whole, HasBit}
 use Rattle.chain_layer.specs.laws.NodeEnergies.{ties_whole, ties_broken, shares_whole, shares_size, spins_low}
@@ -58,7 +58,7 @@ abbrev pub node_energy : Embedding → (ℕ → Bool) → ℕ → ℤ
 node_energy e s i =
     total_by (spin_energy s) (shares (chain_of e.chains i) (field_of e i))
     +ℤ total_by (pair_energy s)
-    (ties (drop 1 (chain_of e.chains i)) (chain_of e.parents i) (strength e i))
+    (ties (λ _. strength e i) (drop 1 (chain_of e.chains i)) (chain_of e.parents i))
 
 -- by so much the ties of a node's chain lower the energy where none of them is broken: the
 -- strength, times the number of qubits after the first
@@ -80,6 +80,18 @@ ties_matched e i node = length_all_zip _ _ _ node.tree.ties
 same_cost : (e : Embedding) (i : ℕ)
     → strength e i * length (drop 1 (chain_of e.chains i)) ≡ node_cost e i
 same_cost e i = ap (λ n. strength e i * n) (length-drop 1 (chain_of e.chains i))
+
+-- one strength for each of these qubits
+one_strength : (n : ℕ) (qs : List ℕ) → sum_by (λ _. n) qs ≡ n * length qs
+one_strength n [] = omega arith
+one_strength n (q ∷ qs) = omega (arith, sum_by-cons (λ _. n) q qs, one_strength n qs)
+
+-- and what all ties save is what those of each node do
+pub costs_same : (e : Embedding) → ties_cost e ≡ sum_by (node_cost e) (nodes_of e)
+costs_same e =
+    λ k. sum_by
+    (λ i. (one_strength (strength e i) (drop 1 (chain_of e.chains i)) ∙ same_cost e i) k)
+    (nodes_of e)
 
 -- a chain with no broken tie costs what the field costs at its bit, less the strength of its ties
 pub node_equal : (e : Embedding) (s : ℕ → Bool) (i : ℕ) (b : Bool) → IsNode e i
@@ -280,6 +292,7 @@ chains_low e kept s x reads =
       total_by-plus field (λ i. cost i +ℤ due i) (nodes_of e),
       total_by-plus cost due (nodes_of e),
       costs_add_up (node_cost e) (nodes_of e),
+      costs_same e,
       marked_ends (λ i. not (whole_at e s i)) n e.ising.couplings (couplers_of e kept),
       placed_low e s x reads e.ising.couplings e.places (couplers_of e kept) kept.placed,
     )
@@ -302,5 +315,6 @@ chains_equal e kept s x whole has =
           node_equal e s i (x i) (node_at e kept i within) (whole i within) (has i within)),
       total_by-plus field cost (nodes_of e),
       costs_add_up (node_cost e) (nodes_of e),
+      costs_same e,
       placed_equal e s x has e.ising.couplings e.places (couplers_of e kept) kept.placed,
     )

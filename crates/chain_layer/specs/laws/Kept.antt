@@ -62,7 +62,7 @@ shares_within e kept =
 pub all_ties_upward : (e : Embedding) → IsEmbedding e → AllByRecursion IsUpward (all_ties e)
 all_ties_upward e kept =
     each_of_range IsUpward
-    (λ i. ties (drop 1 (chain_of e.chains i)) (chain_of e.parents i) (strength e i))
+    (λ i. ties (λ _. strength e i) (drop 1 (chain_of e.chains i)) (chain_of e.parents i))
     0
     (length e.ising.fields)
     (λ i a l. ties_upward (chain_of e.chains i) _ _ (strength e i) (node_at e kept i (omega (arith, l))).tree.ties)
@@ -103,7 +103,7 @@ image_value e kept y =
     let pairs = placed e.ising.couplings e.places in
     let of_shares : ℕ → ℤ = λ i. total_by (spin_energy s) (shares (chain_of e.chains i) (field_of e i)) in
     let of_ties : ℕ → ℤ =
-    λ i. total_by (pair_energy s) (ties (drop 1 (chain_of e.chains i)) (chain_of e.parents i) (strength e i)) in
+    λ i. total_by (pair_energy s) (ties (λ _. strength e i) (drop 1 (chain_of e.chains i)) (chain_of e.parents i)) in
     omega (
       arith,
       ints,
@@ -116,7 +116,7 @@ image_value e kept y =
       couplings_energy y (all_ties e) (all_ties_upward e kept),
       total_by-flat_map (spin_energy s) (λ i. shares (chain_of e.chains i) (field_of e i)) (nodes_of e),
       total_by-flat_map (pair_energy s)
-          (λ i. ties (drop 1 (chain_of e.chains i)) (chain_of e.parents i) (strength e i))
+          (λ i. ties (λ _. strength e i) (drop 1 (chain_of e.chains i)) (chain_of e.parents i))
           (nodes_of e),
       total_by-plus of_shares of_ties (nodes_of e),
     )

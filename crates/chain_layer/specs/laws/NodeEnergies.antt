@@ -45,7 +45,7 @@ coupling_upward q p w apart = go (nat_lt q p) (λ e. ltb-true q p e) (λ e. ltb-
 
 -- each tie of a qubit to its parent is of two different qubits, the lesser one first
 pub ties_upward : (chain qs ps : List ℕ) (strong : ℕ) → AllZip (IsTie chain) qs ps
-    → AllByRecursion IsUpward (ties qs ps strong)
+    → AllByRecursion IsUpward (ties (λ _. strong) qs ps)
 ties_upward chain [] ps strong h = tt
 ties_upward chain (q ∷ qs) [] strong h = tt
 ties_upward chain (q ∷ qs) (p ∷ ps) strong h =
@@ -62,7 +62,7 @@ tie_energy false false n = omega (arith, ints)
 -- where no tie is broken, each one lowers the energy by its strength
 pub ties_whole : (s : ℕ → Bool) (qs ps : List ℕ) (n : ℕ) → length qs ≡ length ps
     → is_whole s qs ps ≡ true
-    → total_by (pair_energy s) (ties qs ps n) ≡ neg_ℤ (pos (n * length qs))
+    → total_by (pair_energy s) (ties (λ _. n) qs ps) ≡ neg_ℤ (pos (n * length qs))
 ties_whole s [] ps n same h = omega (arith, ints)
 ties_whole s (q ∷ qs) [] n same h = absurd (omega (arith, same))
 ties_whole s (q ∷ qs) (p ∷ ps) n same h =
@@ -74,7 +74,7 @@ ties_whole s (q ∷ qs) (p ∷ ps) n same h =
 
 -- whatever the spins are, ties lower the energy at most by their strengths
 ties_low : (s : ℕ → Bool) (qs ps : List ℕ) (n : ℕ) → length qs ≡ length ps
-    → neg_ℤ (pos (n * length qs)) ≤ℤ total_by (pair_energy s) (ties qs ps n)
+    → neg_ℤ (pos (n * length qs)) ≤ℤ total_by (pair_energy s) (ties (λ _. n) qs ps)
 ties_low s [] ps n same = omega (arith, ints)
 ties_low s (q ∷ qs) [] n same = absurd (omega (arith, same))
 ties_low s (q ∷ qs) (p ∷ ps) n same =
@@ -88,7 +88,7 @@ ties_low s (q ∷ qs) (p ∷ ps) n same =
 -- one of them is broken: then they cost at least twice the strength more than where none is
 pub ties_broken : (s : ℕ → Bool) (qs ps : List ℕ) (n : ℕ) → length qs ≡ length ps
     → is_whole s qs ps ≡ false
-    → (neg_ℤ (pos (n * length qs)) +ℤ pos (2 * n)) ≤ℤ total_by (pair_energy s) (ties qs ps n)
+    → (neg_ℤ (pos (n * length qs)) +ℤ pos (2 * n)) ≤ℤ total_by (pair_energy s) (ties (λ _. n) qs ps)
 ties_broken s [] ps n same h = absurd (cc)
 ties_broken s (q ∷ qs) [] n same h = absurd (omega (arith, same))
 ties_broken s (q ∷ qs) (p ∷ ps) n same h =
@@ -97,14 +97,14 @@ ties_broken s (q ∷ qs) (p ∷ ps) n same h =
     (ties_broken s qs ps n (omega (arith, same)))
   where
     rest : ℤ
-    rest = total_by (pair_energy s) (ties qs ps n)
+    rest = total_by (pair_energy s) (ties (λ _. n) qs ps)
 
     go : (t u : Bool) → (t && u) ≡ false
         → pair_energy s (coupling_entry q p (neg_ℤ (pos n))) ≡ cond t (neg_ℤ (pos n)) (pos n)
-        → neg_ℤ (pos (n * length qs)) ≤ℤ total_by (pair_energy s) (ties qs ps n)
-        → (u ≡ false → (neg_ℤ (pos (n * length qs)) +ℤ pos (2 * n)) ≤ℤ total_by (pair_energy s) (ties qs ps n))
+        → neg_ℤ (pos (n * length qs)) ≤ℤ total_by (pair_energy s) (ties (λ _. n) qs ps)
+        → (u ≡ false → (neg_ℤ (pos (n * length qs)) +ℤ pos (2 * n)) ≤ℤ total_by (pair_energy s) (ties (λ _. n) qs ps))
         → (neg_ℤ (pos (n * suc (length qs))) +ℤ pos (2 * n))
-        ≤ℤ (pair_energy s (coupling_entry q p (neg_ℤ (pos n))) +ℤ total_by (pair_energy s) (ties qs ps n))
+        ≤ℤ (pair_energy s (coupling_entry q p (neg_ℤ (pos n))) +ℤ total_by (pair_energy s) (ties (λ _. n) qs ps))
     go true true h e low broken = absurd (cc)
     go true false h e low broken = omega (arith, ints, e, broken refl)
     go false u h e low broken = omega (arith, ints, e, low)

@@ -17,11 +17,10 @@ use Rattle.bits_model.specs.declared.output.Entry.{Entry}
 use Rattle.bits_model.specs.Output.{times_spin}
 use Rattle.bits_model.specs.Walks.{is_in}
 use Rattle.quad_form.specs.Quads.{IsCoupler}
-use Rattle.chain_layer.specs.Image.{couplings_at}
+use Rattle.chain_layer.specs.Image.{couplings_at, ties}
 use Rattle.chain_layer.specs.laws.SpinSums.{pair_energy, range-le, range-zero, hit, marked_ends}
 use Rattle.chain_layer.specs.laws.Whole.{are_same, is_whole}
 use Rattle.cut_chains.specs.Sides.{side_weight}
-use Rattle.cut_chains.specs.CutImage.{ties_of}
 use Rattle.chain_layer.specs.laws.OnceChains.{Once}
 
 -- The spins with those of a side turned over. A side is a test of qubits. Bits are spins: 1 is up,
@@ -187,8 +186,8 @@ AreKept side qs ps = AllZip (λ q p. side q ≡ side p) qs ps
 
 -- then the ties cost what they cost before the side was flipped
 pub ties_kept : (side s : ℕ → Bool) (strong : ℕ → ℕ) (qs ps : List ℕ) → AreKept side qs ps
-    → total_by (pair_energy (flipped side s)) (ties_of strong qs ps)
-    ≡ total_by (pair_energy s) (ties_of strong qs ps)
+    → total_by (pair_energy (flipped side s)) (ties strong qs ps)
+    ≡ total_by (pair_energy s) (ties strong qs ps)
 ties_kept side s strong [] ps kept = refl
 ties_kept side s strong (q ∷ qs) [] kept = refl
 ties_kept side s strong (q ∷ qs) (p ∷ ps) kept =
@@ -228,8 +227,8 @@ kept_of_cut side s c (q ∷ qs) (p ∷ ps) out cuts =
 -- of the broken one
 pub ties_mended : (side s : ℕ → Bool) (strong : ℕ → ℕ) (c : ℕ) (qs ps : List ℕ) → Once qs
     → is_in qs c ≡ true → AllZip (IsCut side s c) qs ps
-    → total_by (pair_energy (flipped side s)) (ties_of strong qs ps) +ℤ pos (2 * strong c)
-    ≡ total_by (pair_energy s) (ties_of strong qs ps)
+    → total_by (pair_energy (flipped side s)) (ties strong qs ps) +ℤ pos (2 * strong c)
+    ≡ total_by (pair_energy s) (ties strong qs ps)
 ties_mended side s strong c [] ps once in' cuts = absurd cc
 ties_mended side s strong c (q ∷ qs) [] once in' cuts = absurd cuts
 ties_mended side s strong c (q ∷ qs) (p ∷ ps) once in' cuts =

@@ -18,14 +18,13 @@ use Rattle.bits_model.specs.Walks.{is_in}
 use Rattle.quad_form.specs.Quads.{IsCoupler}
 use Rattle.chain_map.specs.Chains.{chain_of}
 use Rattle.embedding_check.specs.Embeddings.{Embedding, IsEmbedding, IsTie, IsTree, parent_in}
-use Rattle.chain_layer.specs.Image.{nodes_of, couplings_at, all_shares, all_ties, field_at, placed}
+use Rattle.chain_layer.specs.Image.{nodes_of, couplings_at, all_shares, ties, all_ties, field_at, placed}
 use Rattle.chain_layer.proofs.Ordered.{all_couplers}
 use Rattle.chain_layer.specs.laws.SpinSums.{pair_energy, range-same, hit}
 use Rattle.chain_layer.specs.laws.Whole.{are_same, in_first, in_rest}
 use Rattle.chain_layer.specs.laws.Aligned.{node_at, whole_at}
 use Rattle.chain_layer.specs.laws.Kept.{chain_within, each_at, one_chain, rest_in}
 use Rattle.cut_chains.specs.Sides.{is_below, weight_of, side_weight, tie_strength, cut_strength}
-use Rattle.cut_chains.specs.CutImage.{ties_of}
 use Rattle.cut_chains.specs.laws.Trees.{IsRooted, same_side, tied_below, parent_above}
 use Rattle.chain_layer.specs.laws.OnceChains.{Once, AreOwn, own_parents, chain_once}
 use Rattle.cut_chains.specs.laws.Flips.{flipped, fields_flip, couplings_flip, side_counted, AreKept, ties_kept, IsCut, ties_mended, broken_tie}
@@ -42,7 +41,7 @@ free_energy e s =
 -- The ties of a node's chain. Each qubit of the chain after the first is tied to its parent by the
 -- strength of its own tie.
 abbrev pub node_ties : Embedding → ℕ → List Entry
-node_ties e i = ties_of (cut_strength e i) (drop 1 (chain_of e.chains i)) (chain_of e.parents i)
+node_ties e i = ties (cut_strength e i) (drop 1 (chain_of e.chains i)) (chain_of e.parents i)
 
 -- what the ties of a node's chain cost for these spins
 abbrev pub tied_energy : Embedding → (ℕ → Bool) → ℕ → ℤ

@@ -22,14 +22,14 @@ use Rattle.ising_form.specs.Isings.{ising_value}
 use Rattle.ising_form.specs.Isings as isings
 use Rattle.embedding_check.specs.Embeddings.{Embedding, IsEmbedding, IsTie}
 use Rattle.chain_map.specs.Chains.{chain_of}
-use Rattle.chain_layer.specs.Image.{nodes_of, field_of, coupling_entry, shares, all_shares, placed, field_at, in_order}
+use Rattle.chain_layer.specs.Image.{nodes_of, field_of, coupling_entry, ties, shares, all_shares, placed, field_at, in_order}
 use Rattle.chain_layer.specs.laws.SpinSums.{spin_energy, pair_energy, range-same, shares_spread, nodes_energy, IsUpward, couplings_energy, total_by-in_order}
 use Rattle.chain_layer.specs.laws.Whole.{are_same, is_whole, HasBit}
 use Rattle.chain_layer.specs.laws.NodeEnergies.{coupling_energy, coupling_upward, tie_energy, shares_whole}
 use Rattle.chain_layer.specs.laws.Aligned.{node_at, whole_at, couplers_of, placed_equal, costs_add_up, read_energy}
 use Rattle.chain_layer.specs.laws.Kept.{each_of_range, chain_within, each_at, shares_within, placed_upward}
 use Rattle.cut_chains.specs.Sides.{cut_strength}
-use Rattle.cut_chains.specs.CutImage.{ties_of, cut_ties, cut_image, cut_offset}
+use Rattle.cut_chains.specs.CutImage.{cut_ties, cut_image, cut_offset}
 use Rattle.cut_chains.specs.laws.Flips.{flipped}
 use Rattle.cut_chains.specs.laws.Mended.{node_ties, tied_energy, free_energy, cut_energy, on_chain, flip_lowers}
 
@@ -37,7 +37,7 @@ use Rattle.cut_chains.specs.laws.Mended.{node_ties, tied_energy, free_energy, cu
 
 -- each tie is of two different qubits, the lesser one first
 ties_of_upward : (chain qs ps : List ℕ) (strong : ℕ → ℕ) → AllZip (IsTie chain) qs ps
-    → AllByRecursion IsUpward (ties_of strong qs ps)
+    → AllByRecursion IsUpward (ties strong qs ps)
 ties_of_upward chain [] ps strong h = tt
 ties_of_upward chain (q ∷ qs) [] strong h = tt
 ties_of_upward chain (q ∷ qs) (p ∷ ps) strong h =
@@ -132,7 +132,7 @@ least_is_whole e kept y least i within = elim (cases_Bool (whole_at e (bit_at y)
 -- where no tie is broken the ties cost minus the sum of their strengths
 ties_of_whole : (s : ℕ → Bool) (strong : ℕ → ℕ) (qs ps : List ℕ) → length qs ≡ length ps
     → is_whole s qs ps ≡ true
-    → total_by (pair_energy s) (ties_of strong qs ps) ≡ neg_ℤ (pos (sum_by strong qs))
+    → total_by (pair_energy s) (ties strong qs ps) ≡ neg_ℤ (pos (sum_by strong qs))
 ties_of_whole s strong [] ps same h = refl
 ties_of_whole s strong (q ∷ qs) [] same h = absurd (omega (arith, same))
 ties_of_whole s strong (q ∷ qs) (p ∷ ps) same h =

@@ -1,8 +1,4 @@
-use Rattle.std.proofs.Common.{◌≡◌, to_z, of_z, subst, sym, ap, ◌∙◌, rules}
-use Rattle.std.specs.Int.{w128}
-use Rattle.std.proofs.lemmas.Int.{to_z-of_z}
-use Rattle.ising_form.specs.Isings.{IsingContent, IsIsing}
-use Rattle.chain_layer.specs.Image.{image}
+use Rattle.chain_layer.proofs.Common.{◌≡◌, to_z, of_z, subst, sym, ap, ◌∙◌, rules, w128, to_z-of_z, IsingContent, IsIsing, image}
 use Rattle.chain_layer.proofs.Ordered.{sorted_is_image, image_is_ising}
 use Rattle.chain_layer.proofs.chains.image_of.Goals as goal
 

@@ -1,10 +1,4 @@
-use Rattle.std.proofs.Common.{◌≡◌, ◌&&◌, ◌||◌, false, length, get_or, ap, sym, ◌∙◌, arith}
-use Rattle.std.specs.List.{list_any, range_with_len}
-use Rattle.std.proofs.lemmas.List.FromFn.{fill_by_all}
-use Rattle.bits_model.specs.Output.{bit_at}
-use Rattle.bits_model.specs.Walks.{is_in}
-use Rattle.chain_map.specs.Chains.{chain_of}
-use Rattle.chain_layer.specs.Image.{bit_on}
+use Rattle.chain_layer.proofs.Common.{◌≡◌, ◌&&◌, ◌||◌, false, length, get_or, ap, sym, ◌∙◌, arith, list_any, range_with_len, fill_by_all, bit_at, is_in, chain_of, bit_on}
 use Rattle.chain_layer.proofs.Added.{changed, any_range}
 use Rattle.chain_layer.proofs.extending.on_chains.Goals as goal
 
@@ -18,8 +12,8 @@ loop-i-preserved c =
     let wide : length c.deref_mut.result.now ≡ c.args.qubits = ap length value ∙ c.loop-i.invariant.wide in
     let same =
     changed c.loop-i.y.items next c.loop-i.y.len
-    (omega (arith, ap length value, c.deref_mut.ensures.len))
-    (omega (arith, c.mark_where.ensures.length, c.deref_mut.ensures.len)) in
+    (omega (arith, ap length value))
+    (omega arith) in
     record {
       wide = ap length same ∙ c.mark_where.ensures.length ∙ wide;
       bits = λ q l.
@@ -34,7 +28,7 @@ pub returns : goal.returns
 returns c =
     let chains = c.args.chains.now in
     let x = c.args.x.now in
-    let all : c.loop-i.i ≡ length chains = omega (arith, c.requires.width, c.loop-i-test.false, c.loop-i.auto.i-end) in
+    let all : c.loop-i.i ≡ length chains = omega arith in
     fill_by_all (bit_on chains x) c.loop-i.y.items c.args.qubits false c.loop-i.invariant.wide
     (λ q l. c.loop-i.invariant.bits q l
     ∙ ap (λ n. list_any (λ j. bit_at x j && is_in (chain_of chains j) q) (range_with_len 0 n)) all)

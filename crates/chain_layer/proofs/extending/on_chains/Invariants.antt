@@ -1,8 +1,4 @@
-use Rattle.std.proofs.Common.{◌≡◌, ◌<◌, ◌&&◌, ℕ, false, length, get_or}
-use Rattle.std.specs.List.{list_any, range_with_len}
-use Rattle.bits_model.specs.Output.{bit_at}
-use Rattle.bits_model.specs.Walks.{is_in}
-use Rattle.chain_map.specs.Chains.{chain_of}
+use Rattle.chain_layer.proofs.Common.{◌≡◌, ◌<◌, ◌&&◌, ℕ, false, length, get_or, list_any, range_with_len, bit_at, is_in, chain_of}
 use Rattle.chain_layer.proofs.extending.on_chains.Given as goal
 
 -- the chains of the nodes so far that are 1 are set

@@ -1,6 +1,4 @@
-use Rattle.std.proofs.Common.{◌≡◌, ◌+◌, ◌*◌, ◌≤◌, fold, length, drop, unsigned_abs}
-use Rattle.chain_layer.specs.Image.{equal_shares}
-use Rattle.chain_layer.specs.Steps.{added, sizes_of}
+use Rattle.chain_layer.proofs.Common.{◌≡◌, ◌+◌, ◌*◌, ◌≤◌, fold, length, drop, unsigned_abs, equal_shares, added, sizes_of}
 use Rattle.chain_layer.proofs.shares.add_each.Given as goal
 
 -- the shares that are left lead to the same fields, and each of those so far is within the size of one

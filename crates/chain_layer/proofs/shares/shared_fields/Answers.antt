@@ -1,16 +1,4 @@
-use Rattle.std.proofs.Common.{◌≡◌, ◌≤◌, ◌^◌, pos, to_z, of_z, fold, flat_map, length, replicate, get_or, unsigned_abs, ap, ◌∙◌, arith}
-use Rattle.std.specs.Int.{w128}
-use Rattle.std.specs.List.{range_with_len}
-use Rattle.std.proofs.lemmas.Int.{ints}
-use Rattle.bits_model.specs.Output.{weight_total}
-use Rattle.quad_form.specs.Quads.{node_entries}
-use Rattle.bits_model.proofs.Energies.{weights-append}
-use Rattle.quad_form.proofs.NodeEnergies.{weights_within, weights_more}
-use Rattle.ising_form.specs.Isings.{IsingContent}
-use Rattle.chain_map.specs.Chains.{chain_of}
-use Rattle.chain_layer.specs.Image.{all_shares, field_of, shares}
-use Rattle.chain_layer.specs.Steps.{added, sizes_of}
-use Rattle.chain_layer.specs.laws.Kept.{shares_within}
+use Rattle.chain_layer.proofs.Common.{◌≡◌, ◌≤◌, ◌^◌, pos, to_z, of_z, fold, flat_map, length, replicate, get_or, unsigned_abs, ap, ◌∙◌, arith, w128, range_with_len, ints, weight_total, node_entries, weights-append, weights_within, weights_more, IsingContent, chain_of, all_shares, field_of, shares, added, sizes_of, shares_within}
 use Rattle.chain_layer.proofs.Added.{shares_at, fields_more, fields_are_sums, changed}
 use Rattle.chain_layer.proofs.shares.shared_fields.Goals as goal
 
@@ -24,14 +12,12 @@ add_shares-requires-clause-small c =
       arith,
       ap (λ ws. weight_total (node_entries 0 ws)) c.as_slice-field-items.ensures,
       weights-append (node_entries 0 inside.fields) inside.couplings,
-      c.behind-source.invariant.small,
     ) in
     omega (
       arith,
       ints,
       small,
       weights_within hs i (pos 0) c.loop-i-test.true,
-      c.loop-i.invariant.sizes,
       ap sizes_of c.deref_mut.ensures.value,
     )
 
@@ -47,7 +33,6 @@ loop-i-preserved c =
       arith,
       ap (λ ws. weight_total (node_entries 0 ws)) c.as_slice-field-items.ensures,
       weights-append (node_entries 0 inside.fields) inside.couplings,
-      c.behind-source.invariant.small,
     ) in
     let back : to_z w128 (of_z w128 (get_or hs i (pos 0))) ≡ get_or hs i (pos 0) =
     omega (arith, ints, small, weights_within hs i (pos 0) c.loop-i-test.true) in
@@ -57,8 +42,8 @@ loop-i-preserved c =
     let value = c.deref_mut.ensures.value in
     let same =
     changed c.loop-i.fields.items next c.loop-i.fields.len
-    (omega (arith, ap length value, c.deref_mut.ensures.len))
-    (omega (arith, c.add_shares.ensures.length, c.deref_mut.ensures.len)) in
+    (omega (arith, ap length value))
+    (omega arith) in
     let step : next ≡ fold added c.loop-i.fields.items (shares_at e i) =
     c.add_shares.ensures.added ∙ (λ k. fold added (value k) (shares (chain k) (field k))) in
     record {
@@ -66,9 +51,7 @@ loop-i-preserved c =
       sizes =
           rw same (omega (
             arith,
-            c.add_shares.ensures.sizes,
             ap sizes_of value,
-            c.loop-i.invariant.sizes,
             ap unsigned_abs back,
             weights_more hs i (pos 0) c.loop-i-test.true,
           ));
@@ -79,7 +62,7 @@ pub returns : goal.returns
 returns c =
     let e = c.args.source.now in
     let listed = c.as_slice-field-items.ensures ∙ ap (λ (f : IsingContent). f.fields) (c.behind-source.view_is ∙ c.ising.ensures.form) in
-    let all : c.loop-i.i ≡ length e.ising.fields = omega (arith, ap length listed, c.loop-i-test.false, c.loop-i.auto.i-end) in
+    let all : c.loop-i.i ≡ length e.ising.fields = omega (arith, ap length listed) in
     c.loop-i.invariant.so_far
     ∙ ap (λ n. fold added (replicate e.qubits (pos 0)) (flat_map (shares_at e) (range_with_len 0 n))) all
     ∙ fields_are_sums e.qubits (all_shares e) (shares_within e c.ising.ensures.kept)

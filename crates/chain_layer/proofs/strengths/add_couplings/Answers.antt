@@ -1,5 +1,4 @@
-use Rattle.std.proofs.Common.{◌≡◌, length, unsigned_abs, arith}
-use Rattle.std.proofs.lemmas.Int.{ints}
+use Rattle.chain_layer.proofs.Common.{◌≡◌, length, unsigned_abs, arith, ints}
 use Rattle.chain_layer.proofs.Added.{CanRaise, next_small, can_raise, first_fits, second_fits, raised_more, AreLeft, left_more}
 use Rattle.chain_layer.proofs.strengths.add_couplings.Goals.{After-unsigned_abs-size}
 use Rattle.chain_layer.proofs.strengths.add_couplings.Goals as goal
@@ -16,7 +15,7 @@ can c =
     let steps = c.in-Some.ensures.steps in
     let small = next_small n xs _ e _ steps so_far.within so_far.small in
     let same : c.unsigned_abs-size.result ≡ unsigned_abs e.weight =
-    omega (arith, ints, c.unsigned_abs-size.ensures.value, small) in
+    omega (arith, ints, small) in
     can_raise n xs _ e _ _ steps so_far.same_length so_far.within so_far.small same
 
 pub raise-requires-clause-small : goal.raise-requires-clause-small

@@ -1,7 +1,4 @@
-use Rattle.std.proofs.Common.{◌≡◌, ◌+◌, ◌<◌, ◌^◌, ℕ, length, get_or, All}
-use Rattle.bits_model.specs.Output.{weight_total}
-use Rattle.quad_form.specs.Quads.{IsCoupler}
-use Rattle.chain_layer.specs.Image.{couplings_at}
+use Rattle.chain_layer.proofs.Common.{◌≡◌, ◌+◌, ◌<◌, ◌^◌, ℕ, length, get_or, All, weight_total, IsCoupler, couplings_at}
 use Rattle.chain_layer.proofs.strengths.add_couplings.Given as goal
 
 -- with the sizes of the couplings that are left, the strengths are what all couplings lead to

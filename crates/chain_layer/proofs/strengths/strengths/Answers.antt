@@ -1,7 +1,4 @@
-use Rattle.std.proofs.Common.{◌≡◌, ◌∙◌, ap, length, map, ◌+◌, unsigned_abs, arith}
-use Rattle.quad_form.specs.Quads.{node_entries}
-use Rattle.bits_model.proofs.Energies.{weights-append}
-use Rattle.ising_form.specs.Isings.{IsingContent}
+use Rattle.chain_layer.proofs.Common.{◌≡◌, ◌∙◌, ap, length, map, ◌+◌, unsigned_abs, arith, node_entries, weights-append, IsingContent}
 use Rattle.chain_layer.proofs.Added.{first_strength, changed, all_strengths}
 use Rattle.chain_layer.proofs.strengths.strengths.Goals as goal
 
@@ -13,7 +10,6 @@ add_couplings-requires-clause-small c i =
       arith,
       first_strength hs c.deref_mut.result.now i xs,
       weights-append (node_entries 0 hs) c.form.inside.couplings,
-      c.form.invariant.small,
     )
 
 pub returns-clause-strengths : goal.returns-clause-strengths
@@ -24,8 +20,8 @@ returns-clause-strengths c =
     let xs = c.deref_mut.ensures.value ∙ c.in_ok-strengths.ensures ∙ ap (λ fs. map (λ h. unsigned_abs h + 1) fs) fields in
     let size = ap length c.deref_mut.ensures.value in
     changed c.in_ok-strengths.strengths.items c.add_couplings.new.strengths c.in_ok-strengths.strengths.len
-    (omega (arith, size, c.deref_mut.ensures.len))
-    (omega (arith, c.add_couplings.ensures.length, c.deref_mut.ensures.len))
+    (omega (arith, size))
+    (omega arith)
     ∙ all_strengths c.args.source.now c.deref_mut.result.now c.add_couplings.new.strengths c.form.inside.couplings xs couplings
     c.add_couplings.ensures.length
     c.add_couplings.ensures.sums

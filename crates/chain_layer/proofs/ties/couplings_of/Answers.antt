@@ -1,11 +1,4 @@
-use Rattle.std.proofs.Common.{◌≡◌, ◌++◌, length, drop, flat_map, ap, sym, ◌∙◌, arith}
-use Rattle.std.specs.List.{range_with_len}
-use Rattle.std.proofs.lemmas.List.Elements.{length_all_zip}
-use Rattle.std.proofs.lemmas.List.FromFn.{length-map-range_with_len}
-use Rattle.ising_form.specs.Isings.{IsingContent}
-use Rattle.chain_map.specs.Chains.{chain_of}
-use Rattle.chain_layer.specs.Image.{strength, placed, ties}
-use Rattle.chain_layer.specs.laws.Aligned.{node_at}
+use Rattle.chain_layer.proofs.Common.{◌≡◌, ◌++◌, length, drop, flat_map, ap, sym, ◌∙◌, arith, range_with_len, length_all_zip, length-map-range_with_len, IsingContent, chain_of, strength, placed, ties, node_at}
 use Rattle.chain_layer.proofs.Ordered.{ties_at}
 use Rattle.chain_layer.proofs.Sizes.{strength-le}
 use Rattle.chain_layer.proofs.Added.{strength_at, ties_more_nodes, filled_lengths, zip_lengths}
@@ -21,12 +14,12 @@ placed-requires c =
 pub list-requires : goal.list-requires
 list-requires c =
     let at = strength_at c.args.source.now c.args.strengths.now c.loop-i.i c.requires.strengths c.loop-i-test.true in
-    omega (arith, at.0, c.requires.kept.counted, ap length c.chains.ensures)
+    omega (arith, at.0, ap length c.chains.ensures)
 
 pub list-requires-in-loop-i : goal.list-requires-in-loop-i
 list-requires-in-loop-i c =
     let at = strength_at c.args.source.now c.args.strengths.now c.loop-i.i c.requires.strengths c.loop-i-test.true in
-    omega (arith, at.0, c.requires.kept.counted, length_all_zip _ _ _ c.requires.kept.trees, ap length c.parents.ensures)
+    omega (arith, at.0, length_all_zip _ _ _ c.requires.kept.trees, ap length c.parents.ensures)
 
 pub push_ties-requires-clause-matched : goal.push_ties-requires-clause-matched
 push_ties-requires-clause-matched c =
@@ -44,7 +37,7 @@ pub push_ties-requires-clause-small : goal.push_ties-requires-clause-small
 push_ties-requires-clause-small c =
     let e = c.args.source.now in
     let at = strength_at e c.args.strengths.now c.loop-i.i c.requires.strengths c.loop-i-test.true in
-    omega (arith, at.1, strength-le e c.loop-i.i at.0, c.requires.kept.ising.small)
+    omega (arith, at.1, strength-le e c.loop-i.i at.0)
 
 pub loop-i-preserved : goal.loop-i-preserved
 loop-i-preserved c =
@@ -56,12 +49,12 @@ loop-i-preserved c =
     ties_more_nodes e (placed e.ising.couplings e.places) c.loop-i.made c.push_ties.new.couplings i
     c.loop-i.invariant
     (c.in_ok-push_ties.ensures
-    ∙ (λ k. c.loop-i.made ++ ties (drop 1 (chain k)) (parents k) (at.1 k)))
+    ∙ (λ k. c.loop-i.made ++ ties (λ _. at.1 k) (drop 1 (chain k)) (parents k)))
 
 pub returns : goal.returns
 returns c =
     let e = c.args.source.now in
     let wide : length c.args.strengths.now ≡ length e.ising.fields =
     ap length c.requires.strengths ∙ length-map-range_with_len (strength e) 0 (length e.ising.fields) in
-    let all : c.loop-i.i ≡ length e.ising.fields = omega (arith, wide, c.loop-i-test.false, c.loop-i.auto.i-end) in
+    let all : c.loop-i.i ≡ length e.ising.fields = omega (arith, wide) in
     c.loop-i.invariant ∙ ap (λ n. placed e.ising.couplings e.places ++ flat_map (ties_at e) (range_with_len 0 n)) all

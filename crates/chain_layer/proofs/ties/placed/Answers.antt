@@ -1,6 +1,4 @@
-use Rattle.std.proofs.Common.{◌≡◌, ◌+◌, ◌++◌, [], ◌∷◌, length, drop, get_or, refl, ap, sym, ◌∙◌, arith, rules}
-use Rattle.bits_model.specs.declared.output.Entry.{Entry}
-use Rattle.chain_layer.specs.Image.{placed}
+use Rattle.chain_layer.proofs.Common.{◌≡◌, ◌+◌, ◌++◌, [], ◌∷◌, length, drop, get_or, refl, ap, sym, ◌∙◌, arith, rules, Entry, placed}
 use Rattle.chain_layer.proofs.Added.{placed_more}
 use Rattle.chain_layer.proofs.ties.placed.Goals as goal
 
@@ -20,7 +18,7 @@ loop-coupling-preserved c =
       made =
           ap (λ es. es ++ placed c.next.new.self (drop (at + 1) places)) pushed
           ∙ placed_more made (placed c.args.couplings.now places) e _ places at place (0, 0)
-          (omega (arith, so_far.here, ap length steps, c.requires))
+          (omega (arith, so_far.here, ap length steps))
           refl
           (ap (λ es. made ++ placed es (drop at places)) (sym steps) ∙ so_far.made);
     }

@@ -1,5 +1,4 @@
-use Rattle.std.proofs.Common.{◌≡◌, ◌+◌, ◌++◌, length, drop}
-use Rattle.chain_layer.specs.Image.{placed}
+use Rattle.chain_layer.proofs.Common.{◌≡◌, ◌+◌, ◌++◌, length, drop, placed}
 use Rattle.chain_layer.proofs.ties.placed.Given as goal
 
 -- the couplings so far, and those that are left

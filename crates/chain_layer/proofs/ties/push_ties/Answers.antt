@@ -1,5 +1,4 @@
-use Rattle.std.proofs.Common.{◌≡◌, ◌+◌, ◌++◌, [], ◌∷◌, pos, neg_ℤ, drop, get_or, ap, ◌∙◌, arith, rules}
-use Rattle.chain_layer.specs.Image.{ties, coupling_entry}
+use Rattle.chain_layer.proofs.Common.{◌≡◌, ◌+◌, ◌++◌, [], ◌∷◌, pos, neg_ℤ, drop, get_or, ap, ◌∙◌, arith, rules, ties, coupling_entry}
 use Rattle.chain_layer.proofs.Added.{ties_more}
 use Rattle.chain_layer.proofs.ties.push_ties.Goals as goal
 
@@ -12,8 +11,8 @@ loop-i-preserved c =
     let made = c.loop-i.couplings in
     let pushed : c.push.new.self ≡ made ++ coupling_entry (get_or chain (i + 1) 0) (get_or parents i 0) (neg_ℤ (pos n)) ∷ [] =
     search rules in
-    ap (λ es. es ++ ties (drop (i + 1 + 1) chain) (drop (i + 1) parents) n) pushed
-    ∙ ties_more made (c.args.couplings.now ++ ties (drop 1 chain) parents n) chain parents i n
-    (omega (arith, c.loop-i-test.true, c.requires.matched))
-    (omega (arith, c.loop-i-test.true))
+    ap (λ es. es ++ ties (λ _. n) (drop (i + 1 + 1) chain) (drop (i + 1) parents)) pushed
+    ∙ ties_more made (c.args.couplings.now ++ ties (λ _. n) (drop 1 chain) parents) chain parents i n
+    (omega arith)
+    (omega arith)
     c.loop-i.invariant

@@ -1,16 +1,11 @@
-use Rattle.std.proofs.Common.{◌≡◌, ◌*◌, ◌-◌, ◌+◌, length, sum_by, ap, ◌∙◌, arith}
-use Rattle.std.specs.List.{range_with_len}
-use Rattle.std.proofs.lemmas.List.FromFn.{length-map-range_with_len}
-use Rattle.chain_map.specs.Chains.{chain_of}
-use Rattle.chain_layer.specs.Image.{strength}
-use Rattle.chain_layer.specs.laws.Aligned.{node_cost, node_at}
+use Rattle.chain_layer.proofs.Common.{◌≡◌, ◌*◌, ◌-◌, ◌+◌, length, sum_by, sym, ap, ◌∙◌, arith, range_with_len, length-map-range_with_len, chain_of, strength, node_cost, costs_same, node_at}
 use Rattle.chain_layer.proofs.Added.{strength_at, sum_range, sum_within, filled_lengths}
 use Rattle.chain_layer.proofs.ties.ties_cost.Goals as goal
 
 pub list-requires : goal.list-requires
 list-requires c =
     let at = strength_at c.args.source.now c.args.strengths.now c.loop-i.i c.requires.strengths c.loop-i-test.true in
-    omega (arith, at.0, c.requires.kept.counted, ap length c.chains.ensures)
+    omega (arith, at.0, ap length c.chains.ensures)
 
 pub overflow_sub-cost : goal.overflow_sub-cost
 overflow_sub-cost c =
@@ -30,7 +25,7 @@ overflow_mul-cost c =
     let at = strength_at e c.args.strengths.now i c.requires.strengths c.loop-i-test.true in
     let chain : c.list.result.now ≡ chain_of e.chains i = c.list.ensures.listed ∙ ap (λ cs. chain_of cs i) c.chains.ensures in
     let next : _ ≡ node_cost e i = λ k. at.1 k * (length (chain k) - 1) in
-    rw next (omega (arith, sum_range (node_cost e) i, sum_within (node_cost e) (i + 1) (length e.ising.fields) (omega (arith, at.0)), c.requires.small))
+    rw next (omega (arith, costs_same e, sum_range (node_cost e) i, sum_within (node_cost e) (i + 1) (length e.ising.fields) (omega (arith, at.0))))
 
 pub overflow_add-cost : goal.overflow_add-cost
 overflow_add-cost c =
@@ -39,7 +34,7 @@ overflow_add-cost c =
     let at = strength_at e c.args.strengths.now i c.requires.strengths c.loop-i-test.true in
     let chain : c.list.result.now ≡ chain_of e.chains i = c.list.ensures.listed ∙ ap (λ cs. chain_of cs i) c.chains.ensures in
     let next : _ ≡ node_cost e i = λ k. at.1 k * (length (chain k) - 1) in
-    rw next (omega (arith, c.loop-i.invariant, sum_range (node_cost e) i, sum_within (node_cost e) (i + 1) (length e.ising.fields) (omega (arith, at.0)), c.requires.small))
+    rw next (omega (arith, costs_same e, sum_range (node_cost e) i, sum_within (node_cost e) (i + 1) (length e.ising.fields) (omega (arith, at.0))))
 
 pub loop-i-preserved : goal.loop-i-preserved
 loop-i-preserved c =
@@ -48,12 +43,14 @@ loop-i-preserved c =
     let at = strength_at e c.args.strengths.now i c.requires.strengths c.loop-i-test.true in
     let chain : c.list.result.now ≡ chain_of e.chains i = c.list.ensures.listed ∙ ap (λ cs. chain_of cs i) c.chains.ensures in
     let next : _ ≡ node_cost e i = λ k. at.1 k * (length (chain k) - 1) in
-    omega (arith, next, c.loop-i.invariant, sum_range (node_cost e) i)
+    omega (arith, next, sum_range (node_cost e) i)
 
 pub returns : goal.returns
 returns c =
     let e = c.args.source.now in
     let wide : length c.args.strengths.now ≡ length e.ising.fields =
     ap length c.requires.strengths ∙ length-map-range_with_len (strength e) 0 (length e.ising.fields) in
-    let all : c.loop-i.i ≡ length e.ising.fields = omega (arith, wide, c.loop-i-test.false, c.loop-i.auto.i-end) in
-    c.loop-i.invariant ∙ ap (λ n. sum_by (node_cost e) (range_with_len 0 n)) all
+    let all : c.loop-i.i ≡ length e.ising.fields = omega (arith, wide) in
+    c.loop-i.invariant
+    ∙ ap (λ n. sum_by (node_cost e) (range_with_len 0 n)) all
+    ∙ sym (costs_same e)

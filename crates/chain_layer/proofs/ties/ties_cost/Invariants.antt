@@ -1,6 +1,4 @@
-use Rattle.std.proofs.Common.{◌≡◌, sum_by}
-use Rattle.std.specs.List.{range_with_len}
-use Rattle.chain_layer.specs.laws.Aligned.{node_cost}
+use Rattle.chain_layer.proofs.Common.{◌≡◌, sum_by, range_with_len, node_cost}
 use Rattle.chain_layer.proofs.ties.ties_cost.Given as goal
 
 -- the cost of the chains so far

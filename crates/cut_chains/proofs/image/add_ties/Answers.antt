@@ -1,6 +1,4 @@
-use Rattle.std.proofs.Common.{◌≡◌, false, replicate, rules, length, ap, ◌∙◌}
-use Rattle.std.proofs.lemmas.List.FromFn.{length-map-range_with_len}
-use Rattle.cut_chains.specs.Sides.{weight_of}
+use Rattle.cut_chains.proofs.Common.{◌≡◌, false, replicate, rules, length, ap, ◌∙◌, length-map-range_with_len, weight_of}
 use Rattle.cut_chains.proofs.CutWeights.{all_held, none_seen}
 use Rattle.cut_chains.proofs.image.add_ties.Goals as goal
 

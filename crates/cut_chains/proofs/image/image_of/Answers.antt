@@ -1,10 +1,4 @@
-use Rattle.std.proofs.Common.{◌≡◌, ◌++◌, to_z, of_z, subst, sym, ap, ◌∙◌, rules, arith}
-use Rattle.std.specs.Int.{w128}
-use Rattle.std.specs.List.Sorted.{IsPermutation}
-use Rattle.std.proofs.lemmas.Int.{to_z-of_z}
-use Rattle.ising_form.specs.Isings.{IsingContent, IsIsing}
-use Rattle.chain_layer.specs.Image.{placed}
-use Rattle.cut_chains.specs.CutImage.{cut_image, cut_ties}
+use Rattle.cut_chains.proofs.Common.{◌≡◌, ◌++◌, to_z, of_z, subst, sym, ap, ◌∙◌, rules, arith, w128, IsPermutation, to_z-of_z, IsingContent, IsIsing, placed, cut_image, cut_ties}
 use Rattle.cut_chains.proofs.CutPairs.{cut_apart, cut_couplers, sorted_is_in_order}
 use Rattle.cut_chains.proofs.CutSizes.{cut_cost-le, left_cost, cut_is_ising}
 use Rattle.cut_chains.proofs.image.image_of.Goals as goal
@@ -14,7 +8,7 @@ cost_from-cost-requires-clause-small c =
     let e = c.args.source.now in
     let kept = c.ising.ensures.kept in
     let made = c.in_ok-gathered.ensures in
-    omega (arith, left_cost e kept _ _ made.made made.count, cut_cost-le e kept, c.requires.total)
+    omega (arith, left_cost e kept _ _ made.made made.count, cut_cost-le e kept)
 
 pub invariant_of-target : goal.invariant_of-target
 invariant_of-target c =

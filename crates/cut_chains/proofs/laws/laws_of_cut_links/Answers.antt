@@ -1,6 +1,4 @@
-use Rattle.chain_layer.specs.laws.Kept.{chains_sound}
-use Rattle.cut_chains.specs.CutLinks.{as_chains}
-use Rattle.cut_chains.specs.laws.LeastStates.{cut_joins}
+use Rattle.cut_chains.proofs.Common.{chains_sound, as_chains, cut_joins}
 use Rattle.cut_chains.proofs.laws.laws_of_cut_links.Goals as goal
 
 pub returns : goal.returns

@@ -1,6 +1,4 @@
-use Rattle.std.proofs.Common.{◌<◌, ℕ, length, get_or, true, false, refl, sym, subst, ◌∙◌, arith}
-use Rattle.std.proofs.lemmas.List.{get_or_default}
-use Rattle.std.proofs.Math.ListN.{set}
+use Rattle.cut_chains.proofs.Common.{◌<◌, ℕ, length, get_or, true, false, refl, sym, subst, ◌∙◌, arith, get_or_default, set}
 use Rattle.cut_chains.proofs.Paths.{IsWalking, walking_more}
 use Rattle.cut_chains.proofs.orders.climb.Goals as goal
 
@@ -12,7 +10,7 @@ loop-seen-preserved c =
     let q = c.loop-seen.q in
     let walking = c.loop-seen.invariant in
     let within : q < length seen = omega (arith, walking.bound, walking.sized) in
-    let known : q < length c.args.up.now = omega (arith, walking.bound, c.requires.sized) in
+    let known : q < length c.args.up.now = omega (arith, walking.bound) in
     subst (IsWalking up before (set seen q true) c.args.from (up q))
     (sym c.in_ok-push.ensures.items)
     (walking_more up before seen (set seen q true) c.args.from q c.loop-seen.path.items walking

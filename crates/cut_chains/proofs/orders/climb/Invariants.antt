@@ -1,5 +1,4 @@
-use Rattle.std.proofs.Common.{get_or, not}
-use Rattle.std.specs.Prelude.{count_by}
+use Rattle.cut_chains.proofs.Common.{get_or, not, count_by}
 use Rattle.cut_chains.proofs.Paths.{IsWalking}
 use Rattle.cut_chains.proofs.orders.climb.Given as goal
 

@@ -1,5 +1,4 @@
-use Rattle.std.proofs.Common.{◌≡◌, ◌++◌, length}
-use Rattle.std.specs.Prelude.{reverse}
+use Rattle.cut_chains.proofs.Common.{◌≡◌, ◌++◌, length, reverse}
 use Rattle.cut_chains.proofs.orders.list_path.Given as goal
 
 -- what is listed, and what is left of the path

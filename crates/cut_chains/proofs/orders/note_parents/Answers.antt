@@ -1,5 +1,4 @@
-use Rattle.std.proofs.Common.{◌+◌, refl, get_or}
-use Rattle.std.proofs.Math.ListN.{set}
+use Rattle.cut_chains.proofs.Common.{◌+◌, refl, get_or, set}
 use Rattle.cut_chains.proofs.Noting.{IsNoted, noted_more}
 use Rattle.cut_chains.proofs.orders.note_parents.Goals as goal
 

@@ -1,6 +1,4 @@
-use Rattle.std.proofs.Common.{◌≡◌, ◌<◌, ℕ, true, length, get_or, drop, take, All}
-use Rattle.bits_model.specs.Walks.{is_in}
-use Rattle.embedding_check.specs.Embeddings.{parent_in}
+use Rattle.cut_chains.proofs.Common.{◌≡◌, ◌<◌, ℕ, true, length, get_or, drop, take, All, is_in, parent_in}
 use Rattle.cut_chains.proofs.orders.note_parents.Given as goal
 
 -- the parents so far

@@ -1,7 +1,4 @@
-use Rattle.std.proofs.Common.{◌≡◌, ◌<◌, ◌≤◌, ◌++◌, ◌-◌, [], ◌∷◌, length, get_or, drop, take, refl, sym, ap, subst, ◌∙◌, arith}
-use Rattle.std.proofs.lemmas.List.{take_more, take_all, length-drop}
-use Rattle.bits_model.specs.Walks.{is_in, first_of}
-use Rattle.chain_map.proofs.Paths.{is_in_at}
+use Rattle.cut_chains.proofs.Common.{◌≡◌, ◌<◌, ◌≤◌, ◌++◌, ◌-◌, [], ◌∷◌, length, get_or, drop, take, refl, sym, ap, subst, ◌∙◌, arith, take_more, take_all, length-drop, is_in, first_of, is_in_at}
 use Rattle.cut_chains.proofs.Reaching.{IsReaching, reach_more, reach_end, reach_others, chain_parts}
 use Rattle.cut_chains.proofs.orders.reach.Goals as goal
 
@@ -18,7 +15,7 @@ loop-qubit-preserved c =
     let whole : take (length chain - 1) cs ≡ cs =
     take_all (length chain - 1) cs (omega (arith, length-drop 1 chain)) in
     let within : i < length cs =
-    omega (arith, c.loop-qubit-test.true, c.loop-qubit.auto.qubit-index-end, ap length whole) in
+    omega (arith, ap length whole) in
     let from = get_or (take (length chain - 1) cs) i 0 in
     let same : from ≡ get_or cs i 0 = ap (λ qs. get_or qs i 0) whole in
     record {
@@ -49,7 +46,7 @@ returns-clause-ordered c t =
     let whole : take (length chain - 1) cs ≡ cs =
     take_all (length chain - 1) cs (omega (arith, length-drop 1 chain)) in
     let all : length cs ≤ i =
-    omega (arith, c.loop-qubit-test.false, c.loop-qubit.auto.qubit-index-end, ap length whole) in
+    omega (arith, ap length whole) in
     reach_end up before first cs t c.loop-qubit.seen c.loop-qubit.order.items
     (subst (IsReaching up before first cs t c.loop-qubit.seen c.loop-qubit.order.items)
     (take_all i cs all)

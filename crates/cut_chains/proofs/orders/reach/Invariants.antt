@@ -1,6 +1,4 @@
-use Rattle.std.proofs.Common.{◌≡◌, [], drop, take}
-use Rattle.bits_model.specs.Walks.{first_of}
-use Rattle.cut_chains.specs.Steps.{Climbable}
+use Rattle.cut_chains.proofs.Common.{◌≡◌, [], drop, take, first_of, Climbable}
 use Rattle.cut_chains.proofs.Reaching.{IsReaching}
 use Rattle.cut_chains.proofs.orders.reach.Given as goal
 

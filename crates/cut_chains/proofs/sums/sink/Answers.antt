@@ -1,5 +1,4 @@
-use Rattle.std.proofs.Common.{◌≡◌, ◌<◌, ◌+◌, ◌-◌, length, get_or, refl, sym, ap, subst, ◌∙◌, arith}
-use Rattle.std.proofs.Math.ListN.{length-set}
+use Rattle.cut_chains.proofs.Common.{◌≡◌, ◌<◌, ◌+◌, ◌-◌, length, get_or, refl, sym, ap, subst, ◌∙◌, arith, length-set}
 use Rattle.cut_chains.proofs.SinkSteps.{Sinks, starts, giver_below, giver_known, parent_below, step_fits, step_next, step_others, ends_below, ends_all}
 use Rattle.cut_chains.proofs.sums.sink.Goals as goal
 
@@ -13,17 +12,17 @@ loop-i-init c = record {
 pub bounds-up-qubit : goal.bounds-up-qubit
 bounds-up-qubit c =
     giver_known c.args.up.now c.args.sums.now c.args.order.now c.loop-i.sums c.requires.able
-    c.loop-i.invariant.sized (c.loop-i.i - 1) (omega (arith, c.loop-i-test.true, c.loop-i.auto.i))
+    c.loop-i.invariant.sized (c.loop-i.i - 1) (omega arith)
 
 pub give-requires-clause-from : goal.give-requires-clause-from
 give-requires-clause-from c =
     giver_below c.args.up.now c.args.sums.now c.args.order.now c.loop-i.sums c.requires.able
-    c.loop-i.invariant.sized (c.loop-i.i - 1) (omega (arith, c.loop-i-test.true, c.loop-i.auto.i))
+    c.loop-i.invariant.sized (c.loop-i.i - 1) (omega arith)
 
 pub give-requires-clause-to : goal.give-requires-clause-to
 give-requires-clause-to c =
     parent_below c.args.up.now c.args.sums.now c.args.order.now c.loop-i.sums c.requires.able
-    c.loop-i.invariant.sized (c.loop-i.i - 1) (omega (arith, c.loop-i-test.true, c.loop-i.auto.i))
+    c.loop-i.invariant.sized (c.loop-i.i - 1) (omega arith)
 
 pub give-requires-clause-small : goal.give-requires-clause-small
 give-requires-clause-small c =
@@ -32,8 +31,8 @@ give-requires-clause-small c =
     let order = c.args.order.now in
     let xs = c.loop-i.sums in
     let a = c.loop-i.i - 1 in
-    let within : a < length order = omega (arith, c.loop-i-test.true, c.loop-i.auto.i) in
-    let last : c.loop-i.i ≡ a + 1 = omega (arith, c.loop-i-test.true) in
+    let within : a < length order = omega arith in
+    let last : c.loop-i.i ≡ a + 1 = omega arith in
     let sinking =
     subst (Sinks up sums order xs c.requires.able xs) last
     (c.loop-i.invariant.sinking c.requires.able) in
@@ -47,8 +46,8 @@ loop-i-preserved c =
     let xs = c.loop-i.sums in
     let a = c.loop-i.i - 1 in
     let given = c.give.ensures in
-    let within : a < length order = omega (arith, c.loop-i-test.true, c.loop-i.auto.i) in
-    let last : c.loop-i.i ≡ a + 1 = omega (arith, c.loop-i-test.true) in
+    let within : a < length order = omega arith in
+    let last : c.loop-i.i ≡ a + 1 = omega arith in
     record {
       sized = ap length given ∙ length-set xs _ _ ∙ c.loop-i.invariant.sized;
       sinking = λ t.
@@ -63,7 +62,7 @@ loop-i-preserved c =
 
 pub returns-clause-below : goal.returns-clause-below
 returns-clause-below c t q in' =
-    let none : c.loop-i.i ≡ 0 = omega (arith, c.loop-i-test.false) in
+    let none : c.loop-i.i ≡ 0 = omega arith in
     ends_below c.args.up.now c.args.sums.now c.args.order.now c.loop-i.sums t
     (subst (Sinks c.args.up.now c.args.sums.now c.args.order.now c.loop-i.sums t c.loop-i.sums) none
     (c.loop-i.invariant.sinking t))
@@ -72,7 +71,7 @@ returns-clause-below c t q in' =
 
 pub returns-clause-all : goal.returns-clause-all
 returns-clause-all c t =
-    let none : c.loop-i.i ≡ 0 = omega (arith, c.loop-i-test.false) in
+    let none : c.loop-i.i ≡ 0 = omega arith in
     ends_all c.args.up.now c.args.sums.now c.args.order.now c.loop-i.sums t
     (subst (Sinks c.args.up.now c.args.sums.now c.args.order.now c.loop-i.sums t c.loop-i.sums) none
     (c.loop-i.invariant.sinking t))

@@ -1,6 +1,4 @@
-use Rattle.std.proofs.Common.{◌≡◌, ◌∷◌, ℕ, false, length, get_or}
-use Rattle.bits_model.specs.Walks.{is_in}
-use Rattle.cut_chains.specs.Steps.{Sinkable}
+use Rattle.cut_chains.proofs.Common.{◌≡◌, ◌∷◌, ℕ, false, length, get_or, is_in, Sinkable}
 use Rattle.cut_chains.proofs.Subtrees.{IsSinking}
 use Rattle.cut_chains.proofs.sums.sink.Given as goal
 

@@ -1,8 +1,4 @@
-use Rattle.std.proofs.Common.{◌≡◌, ◌<◌, ℕ, All, length, get_or, drop, sym, ap, subst, ◌∙◌}
-use Rattle.bits_model.specs.Walks.{is_in, first_of}
-use Rattle.cut_chains.specs.Sides.{is_below, side_weight}
-use Rattle.cut_chains.specs.Orders.{IsOrder}
-use Rattle.cut_chains.specs.Steps.{Sinkable}
+use Rattle.cut_chains.proofs.Common.{◌≡◌, ◌<◌, ℕ, All, length, get_or, drop, sym, ap, subst, ◌∙◌, is_in, first_of, is_below, side_weight, IsOrder, Sinkable}
 use Rattle.cut_chains.proofs.Reaching.{chain_parts}
 use Rattle.cut_chains.proofs.Noting.{climbable, sinkable, parents_within, all_below}
 use Rattle.cut_chains.proofs.sums.weigh_chain.Goals.{After-deref}

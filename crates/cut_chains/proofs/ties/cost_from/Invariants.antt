@@ -1,5 +1,4 @@
-use Rattle.std.proofs.Common.{◌≡◌, ◌+◌, ◌≤◌, length, drop}
-use Rattle.bits_model.specs.Output.{weight_total}
+use Rattle.cut_chains.proofs.Common.{◌≡◌, ◌+◌, ◌≤◌, length, drop, weight_total}
 use Rattle.cut_chains.proofs.ties.cost_from.Given as goal
 
 -- the cost so far, and that of what is left

@@ -1,24 +1,13 @@
-use Rattle.std.proofs.Common.{◌≡◌, ◌<◌, ◌≤◌, ◌+◌, ◌++◌, ℕ, true, false, All, length, get_or, flat_map, append_assoc, sym, ap, subst, ◌∙◌, arith}
-use Rattle.std.specs.List.{range_with_len}
-use Rattle.std.proofs.lemmas.Bool.{false_from_ne_true}
-use Rattle.std.proofs.lemmas.List.Elements.{All-from_recursion}
-use Rattle.bits_model.specs.Walks.{is_in}
-use Rattle.chain_map.specs.Chains.{chain_of}
-use Rattle.chain_layer.specs.laws.Whole.{each_in}
-use Rattle.chain_layer.specs.laws.Kept.{one_chain, each_at, chain_within}
-use Rattle.chain_layer.proofs.Added.{zip_lengths, flat_range}
-use Rattle.cut_chains.specs.laws.Mended.{node_ties}
+use Rattle.cut_chains.proofs.Common.{◌≡◌, ◌<◌, ◌≤◌, ◌+◌, ◌++◌, ℕ, true, false, All, length, get_or, flat_map, append_assoc, sym, ap, subst, ◌∙◌, arith, range_with_len, false_from_ne_true, All-from_recursion, is_in, chain_of, each_in, one_chain, each_at, chain_within, zip_lengths, flat_range, node_ties}
 use Rattle.cut_chains.proofs.Noting.{tree_lengths}
 use Rattle.cut_chains.proofs.NodeTies.{IsNext, next_tree, next_small, all_small, parts_small, node_made}
-use Rattle.cut_chains.proofs.ties.tie_chains.Goals.{After-list-parents, After-weigh_chain}
+use Rattle.cut_chains.proofs.ties.tie_chains.Goals.{After-list-parents}
 use Rattle.cut_chains.proofs.ties.tie_chains.Goals as goal
 
 pub list-parents-requires : goal.list-parents-requires
 list-parents-requires c =
     omega (
       arith,
-      c.loop-i-test.true,
-      c.len-i-end.ensures,
       ap length c.chains.ensures,
       ap length c.parents.ensures,
       zip_lengths _ _ _ c.requires.kept.trees,
@@ -31,13 +20,7 @@ next_at : (c : After-list-parents)
 next_at c =
     let i = c.loop-i.i in
     let within : i < length c.args.source.now.ising.fields =
-    omega (
-      arith,
-      c.loop-i-test.true,
-      c.len-i-end.ensures,
-      ap length c.chains.ensures,
-      c.requires.kept.counted,
-    ) in
+    omega (arith, ap length c.chains.ensures) in
     record {
       kept = c.requires.kept;
       within = within;

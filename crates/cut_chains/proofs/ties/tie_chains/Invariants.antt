@@ -1,9 +1,4 @@
-use Rattle.std.proofs.Common.{◌≡◌, ◌<◌, ◌≤◌, ◌++◌, [], ℕ, true, false, length, get_or, All, flat_map}
-use Rattle.std.specs.List.{range_with_len}
-use Rattle.bits_model.specs.Walks.{is_in}
-use Rattle.chain_map.specs.Chains.{chain_of}
-use Rattle.cut_chains.specs.Sides.{weight_of}
-use Rattle.cut_chains.specs.laws.Mended.{node_ties}
+use Rattle.cut_chains.proofs.Common.{◌≡◌, ◌<◌, ◌≤◌, ◌++◌, [], ℕ, true, false, length, get_or, All, flat_map, range_with_len, is_in, chain_of, weight_of, node_ties}
 use Rattle.cut_chains.proofs.ties.tie_chains.Given as goal
 
 -- the ties so far; the qubits of the chains that are left hold their weights, and are not marked

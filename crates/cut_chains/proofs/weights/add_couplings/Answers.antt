@@ -1,8 +1,4 @@
-use Rattle.std.proofs.Common.{◌≡◌, ◌<◌, ◌+◌, ◌∷◌, length, drop, unsigned_abs, pos, sym, ap, ◌∙◌, arith}
-use Rattle.std.proofs.lemmas.Int.{ints}
-use Rattle.std.proofs.lemmas.List.{drop_more}
-use Rattle.bits_model.specs.declared.output.Entry.{Entry}
-use Rattle.chain_layer.proofs.Added.{CanRaise, next_small, can_raise, first_fits, second_fits, raised_more, AreLeft, left_more}
+use Rattle.cut_chains.proofs.Common.{◌≡◌, ◌<◌, ◌+◌, ◌∷◌, length, drop, unsigned_abs, pos, sym, ap, ◌∙◌, arith, ints, drop_more, Entry, CanRaise, next_small, can_raise, first_fits, second_fits, raised_more, AreLeft, left_more}
 use Rattle.cut_chains.proofs.weights.add_couplings.Goals.{After-unsigned_abs-size}
 use Rattle.cut_chains.proofs.weights.add_couplings.Goals as goal
 
@@ -13,7 +9,7 @@ next : (c : After-unsigned_abs-size)
 next c =
     let all = c.args.couplings.now in
     let k = c.loop-k.k in
-    let within : k < length all = omega (arith, c.loop-k-test.true, c.len-k-end.ensures) in
+    let within : k < length all = omega arith in
     drop_more all k (record { first = 0; second = 0; weight = pos 0 }) within
     ∙ ap (λ d. d ∷ drop (k + 1) all) (sym c.at-coupling.ensures.value)
 
@@ -29,7 +25,7 @@ can c =
     let so_far = c.loop-k.invariant in
     let small = next_small n xs left e _ (next c) so_far.within so_far.small in
     let same : c.unsigned_abs-size.result ≡ unsigned_abs e.weight =
-    omega (arith, ints, c.unsigned_abs-size.ensures.value, small) in
+    omega (arith, ints, small) in
     can_raise n xs left e _ c.unsigned_abs-size.result (next c) so_far.same_length so_far.within
     so_far.small same
 

@@ -1,5 +1,4 @@
-use Rattle.std.proofs.Common.{◌∙◌, ap, length, map, unsigned_abs, arith}
-use Rattle.chain_layer.proofs.Added.{changed}
+use Rattle.cut_chains.proofs.Common.{◌∙◌, ap, length, map, unsigned_abs, arith, changed}
 use Rattle.cut_chains.proofs.CutWeights.{first_small, first_couplers, all_weights}
 use Rattle.cut_chains.proofs.weights.weights_of.Goals as goal
 
@@ -24,8 +23,8 @@ returns c =
     ∙ ap (λ fs. map (λ h. unsigned_abs h) fs) c.requires.fields in
     let size = ap length c.deref_mut.ensures.value in
     changed c.in_ok-weights.weights.items c.add_couplings.new.weights c.in_ok-weights.weights.len
-    (omega (arith, size, c.deref_mut.ensures.len))
-    (omega (arith, c.add_couplings.ensures.length, c.deref_mut.ensures.len))
+    (omega (arith, size))
+    (omega arith)
     ∙ all_weights c.args.source.now c.deref_mut.result.now c.add_couplings.new.weights
     c.args.couplings.now xs c.requires.placed
     c.add_couplings.ensures.length

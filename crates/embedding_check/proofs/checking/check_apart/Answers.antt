@@ -1,4 +1,4 @@
-use Rattle.std.proofs.Common.{◌≡◌, length, sym, subst, ap, ◌∙◌}
+use Rattle.std.proofs.Common.{◌≡◌, ◌<◌, length, sym, subst, ap, ◌∙◌}
 use Rattle.std.proofs.lemmas.Result.{IfOk-weaker, IfErr-weaker}
 use Rattle.ising_form.specs.Isings.{IsingContent}
 use Rattle.embedding_check.specs.Faults.{Exists, IsInside}
@@ -9,7 +9,7 @@ use Rattle.embedding_check.proofs.checking.check_apart.Goals as goal
 
 -- a chain for each node, none empty, all of qubits
 inside : (g : Over) (c : In_ok-check_inside g)
-    → IsInside (g.H.Hardware.qubits c.args.hardware.now) c.args.ising.now c.args.map.now
+    → IsInside (λ q. q < g.H.Hardware.qubits c.args.hardware.now) c.args.ising.now c.args.map.now
 inside g c =
     let f = c.args.ising.now in
     let map = c.args.map.now in

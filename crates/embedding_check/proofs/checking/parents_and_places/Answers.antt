@@ -1,4 +1,4 @@
-use Rattle.std.proofs.Common.{List, All, length, sym, ap, subst, ◌∙◌}
+use Rattle.std.proofs.Common.{◌<◌, List, All, length, sym, ap, subst, ◌∙◌}
 use Rattle.std.proofs.lemmas.Result.{err_from_is_err_and}
 use Rattle.bits_model.specs.declared.output.Entry.{Entry}
 use Rattle.ising_form.specs.Isings.{IsingContent}
@@ -13,8 +13,8 @@ use Rattle.embedding_check.proofs.checking.parents_and_places.Goals as goal
 
 -- the chains are connected
 linked : (g : Over) (c : In_ok-parents g)
-    → IsLinked (g.H.Hardware.joined c.args.hardware.now) (g.H.Hardware.qubits c.args.hardware.now)
-    c.args.ising.now c.args.chains.now
+    → IsLinked (g.H.Hardware.joined c.args.hardware.now)
+    (λ q. q < g.H.Hardware.qubits c.args.hardware.now) c.args.ising.now c.args.chains.now
 linked g c = is_linked _ _ _ _ c.requires.apart c.in_ok-parents.ensures.connected
 
 pub all_parents-requires-clause-chains : goal.all_parents-requires-clause-chains

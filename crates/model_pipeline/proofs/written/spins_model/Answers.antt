@@ -1,11 +1,12 @@
-use Rattle.std.proofs.Common.{length, ◌∙◌, ap, arith}
+use Rattle.std.proofs.Common.{[], length, ◌∙◌, ap, arith}
 use Rattle.std.proofs.lemmas.Int.{ints}
 use Rattle.std.proofs.lemmas.Result.{IfOk-weaker}
 use Rattle.base.specs.declared.costs.Figures.{Figures}
 use Rattle.ising_form.specs.Isings.{IsingContent}
 use Rattle.ising_form.specs.Spins.{coupled}
 use Rattle.ising_form.specs.laws.Spun.{length-fields}
-use Rattle.model_pipeline.specs.Models.{ising_model}
+use Rattle.bits_model.specs.declared.output.Kind.TheVariants.{Ising}
+use Rattle.model_pipeline.specs.QubitModels.{chained_model}
 use Rattle.model_pipeline.proofs.written.spins_model.Goals as goal
 
 pub ising_model-requires-clause-enough : goal.ising_model-requires-clause-enough
@@ -33,5 +34,5 @@ pub returns-clause-model : goal.returns-clause-model
 returns-clause-model c =
     let made = c.in_ok-ising.ensures.made in
     IfOk-weaker c.ising_model.result _ _
-    (λ m same. same ∙ (λ i. ising_model c.args.unit (made.0 i) c.args.variables (made.1 i)))
+    (λ m same. same ∙ (λ i. chained_model c.args.unit (made.0 i) c.args.variables (made.1 i) Ising []))
     c.ising_model.ensures

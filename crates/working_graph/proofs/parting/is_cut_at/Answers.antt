@@ -2,7 +2,7 @@ use Rattle.std.proofs.Common.{◌/◌, ◌%◌, ◌<◌, ap, sym, subst, ◌∙�
 use Rattle.chimera_graph.specs.declared.chimera.Chimera.{Chimera}
 use Rattle.chain_map.specs.Cliques.{along_qubit, down_qubit}
 use Rattle.chain_map.proofs.CliqueChains.{cell_of}
-use Rattle.working_graph.specs.Working.{is_cut}
+use Rattle.working_graph.specs.Places.{is_cut}
 use Rattle.working_graph.proofs.parting.is_cut_at.Goals as goal
 
 pub qubit_at-requires-clause-row : goal.qubit_at-requires-clause-row

@@ -2,7 +2,7 @@ use Rattle.std.proofs.Common.{◌≡◌, ℕ, ◌+◌, ◌*◌, ◌-◌, ◌/◌
 use Rattle.chimera_graph.specs.declared.chimera.Chimera.{Chimera}
 use Rattle.chain_map.specs.Cliques.{diagonal_of, clique_places}
 use Rattle.chain_map.proofs.CliqueChains.{cell_of}
-use Rattle.working_graph.specs.Working.{pair_number}
+use Rattle.working_graph.specs.Index.{pair_number}
 use Rattle.working_graph.specs.Places.{first_across, is_marked, IsParted}
 use Rattle.working_graph.proofs.Barriers.{HasPassed, passed_more}
 use Rattle.working_graph.proofs.EmptyForm.{few_places}
@@ -121,8 +121,8 @@ free c done =
     subst (λ (h : Chimera). HasPassed cuts from c.loop-k.k
     (λ at. (is_marked marks (row * h.shore + at) ≡ true) × IsParted w place (row * h.shore + at)))
     same c.loop-k.invariant in
-    unbarred w place row c.loop-k.k cuts from marks c.cuts-cuts.ensures.numbers begins
-    c.cuts-cuts.ensures.rising passed done
+    unbarred w place row c.loop-k.k cuts from marks c.requires.place c.requires.row
+    c.cuts-cuts.ensures.numbers begins c.cuts-cuts.ensures.rising passed done
 
 pub returns-else-cuts-k-clause-free : goal.returns-else-cuts-k-clause-free
 returns-else-cuts-k-clause-free c = λ _.

@@ -1,4 +1,4 @@
-use Rattle.std.proofs.Common.{◌+◌, inl, inr, [], length, sym, subst, ◌∙◌, arith}
+use Rattle.std.proofs.Common.{◌≡◌, ◌+◌, inl, inr, List, [], length, sym, ap, subst, ◌∙◌, arith, rules}
 use Rattle.std.proofs.lemmas.Bool.{cases_lt}
 use Rattle.std.proofs.lemmas.List.{take_rest}
 use Rattle.std.proofs.lemmas.Result.{err_from_is_err_and}
@@ -6,72 +6,63 @@ use Rattle.whole_text.specs.declared.token.Style.TheVariants.{Plain}
 use Rattle.whole_text.specs.Tokens.{tokens_of, tokens_from}
 use Rattle.whole_text.specs.Steps.{Fails}
 use Rattle.whole_text.proofs.Lines.{lines_from, line_cut, line_last}
+use Rattle.chain_map.specs.Maps.{after_front}
 use Rattle.chain_map.proofs.Rows.{front_none}
+use Rattle.working_graph.specs.declared.parts.DeadPart.{DeadPart}
 use Rattle.working_graph.specs.DeadLists.{parts_of_words, dead_parts}
 use Rattle.working_graph.proofs.PartRows.{line_more, line_fails, lines_end}
 use Rattle.working_graph.proofs.reading.read_parts.Goals as goal
 
-pub loop-noted-init : goal.loop-noted-init
+pub loop-parts-init : goal.loop-parts-init
 unfolding dead_parts tokens_of
-loop-noted-init c =
-    let graph = c.args.graph.now in
-    let all = parts_of_words graph (tokens_from Plain 1 (lines_from c.args.text.now 0)) in
-    let none = c.in_ok-noted.ensures in
+loop-parts-init c =
+    let all = parts_of_words c.args.graph.now (tokens_from Plain 1 (lines_from c.args.text.now 0)) in
+    let none : c.new-parts.result.items ≡ [] = search rules in
     record {
       within = omega arith;
       few = omega arith;
-      read = (
-        [],
-        record { len = none.len ∙ c.qubits.ensures; marked = none.marked; cut = none.cut },
-        front_none all,
-      );
+      read = ap (λ (parts : List DeadPart). after_front parts all) none ∙ front_none all;
+      kept = λ k d low. absurd (omega (arith, low, ap length none));
     }
 
-pub note_line-requires-clause-marks : goal.note_line-requires-clause-marks
-note_line-requires-clause-marks c = c.loop-noted.invariant.read.1.len
-
-pub returns-in_err-note_line : goal.returns-in_err-note_line
-returns-in_err-note_line c =
+pub returns-in_err-add_line-clause-read : goal.returns-in_err-add_line-clause-read
+returns-in_err-add_line-clause-read c =
     let graph = c.args.graph.now in
     let text = c.args.text.now in
-    let start = c.loop-noted.start in
+    let start = c.loop-parts.start in
     let n = c.line_len.result in
-    let so_far = c.loop-noted.invariant.read in
-    let first = rw (take_rest c.args.text.now c.loop-noted.start) at c.line_len.ensures.first in
-    let e = c.in_err-note_line.field-0.0 in
-    let fails = c.in_err-note_line.ensures so_far.0 so_far.1 in
-    let residual = c.from_residual-in_err-note_line in
+    let first = rw (take_rest c.args.text.now c.loop-parts.start) at c.line_len.ensures.first in
+    let e = c.in_err-add_line.field-0.0 in
+    let residual = c.from_residual in
     let p = err_from_is_err_and residual.result residual.ensures.1 in
     rw (p.1, p.2)
-    (subst (Fails e) so_far.2
+    (subst (Fails e) c.loop-parts.invariant.read
     (elim (cases_lt (start + n) (length text)) [
-      | inl low ↦ line_fails graph so_far.0 _ _ _ _ e (line_cut text start n first low) fails
+      | inl low ↦
+          line_fails graph _ _ _ _ _ e (line_cut text start n first low)
+          c.in_err-add_line.ensures.read
       | inr high ↦
-          line_fails graph so_far.0 _ _ _ _ e
-          (line_last text start n c.loop-noted.invariant.within first (omega (arith, high))) fails
+          line_fails graph _ _ _ _ _ e
+          (line_last text start n c.loop-parts.invariant.within first (omega (arith, high)))
+          c.in_err-add_line.ensures.read
     ]))
 
-pub returns-then-end-text : goal.returns-then-end-text
-returns-then-end-text c =
-    let so_far = c.loop-noted.invariant.read in
-    let said = c.in_ok-note_line.ensures so_far.0 so_far.1 in
-    let first = rw (take_rest c.args.text.now c.loop-noted.start) at c.line_len.ensures.first in
-    let last = line_last _ _ _ c.loop-noted.invariant.within first c.if-end-text.true in (
-      said.0,
-      sym so_far.2
-          ∙ line_more _ _ _ _ _ _ _ last said.1
-          ∙ lines_end c.args.graph.now said.0 (c.loop-noted.line + 1),
-      said.2,
-    )
+pub returns-then-end-text-clause-read : goal.returns-then-end-text-clause-read
+returns-then-end-text-clause-read c =
+    let first = rw (take_rest c.args.text.now c.loop-parts.start) at c.line_len.ensures.first in
+    let last = line_last _ _ _ c.loop-parts.invariant.within first c.if-end-text.true in
+    sym c.loop-parts.invariant.read
+    ∙ line_more _ _ _ _ _ _ _ last c.in_ok-add_line.ensures.read
+    ∙ lines_end c.args.graph.now _ (c.loop-parts.line + 1)
 
-pub loop-noted-preserved : goal.loop-noted-preserved
-loop-noted-preserved c =
-    let so_far = c.loop-noted.invariant.read in
-    let said = c.in_ok-note_line.ensures so_far.0 so_far.1 in
-    let first = rw (take_rest c.args.text.now c.loop-noted.start) at c.line_len.ensures.first in
-    let cut = line_cut _ c.loop-noted.start _ first (omega arith) in
+pub loop-parts-preserved : goal.loop-parts-preserved
+loop-parts-preserved c =
+    let first = rw (take_rest c.args.text.now c.loop-parts.start) at c.line_len.ensures.first in
+    let cut = line_cut _ c.loop-parts.start _ first (omega arith) in
     record {
       within = omega arith;
       few = omega arith;
-      read = (said.0, said.2, sym (line_more _ _ _ _ _ _ _ cut said.1) ∙ so_far.2);
+      read = sym (line_more _ _ _ _ _ _ _ cut c.in_ok-add_line.ensures.read)
+          ∙ c.loop-parts.invariant.read;
+      kept = c.in_ok-add_line.ensures.kept c.loop-parts.invariant.kept;
     }

@@ -1,23 +1,21 @@
-use Rattle.std.proofs.Common.{◌≡◌, ◌+◌, ◌-◌, ◌≤◌, List, length}
+use Rattle.std.proofs.Common.{◌≡◌, ◌+◌, ◌-◌, ◌≤◌, All, length}
 use Rattle.whole_text.specs.declared.token.Style.TheVariants.{Plain}
 use Rattle.whole_text.specs.Tokens.{tokens_from}
 use Rattle.whole_text.proofs.Lines.{lines_from}
 use Rattle.chain_map.specs.Maps.{after_front}
-use Rattle.working_graph.specs.declared.parts.DeadPart.{DeadPart}
-use Rattle.working_graph.specs.DeadLists.{parts_of_words, dead_parts}
-use Rattle.working_graph.specs.NotedParts.{AreNoted}
+use Rattle.working_graph.specs.DeadLists.{parts_of_words, dead_parts, IsPartOf}
 use Rattle.working_graph.proofs.reading.read_parts.Given as goal
 
--- the parts that are noted so far, in front of what the other lines name, are all of them
-abbrev pub invariant-loop-noted : goal.invariant-loop-noted
-invariant-loop-noted l = record {
+-- the parts so far, in front of what the other lines name, are all of them
+abbrev pub invariant-loop-parts : goal.invariant-loop-parts
+invariant-loop-parts l = record {
   within : l.start ≤ length l.text;
   few : l.line ≤ l.start + 1;
-  read : (parts : List DeadPart) × AreNoted l.graph parts l.noted
-      × (after_front parts
+  read : after_front l.parts.items
       (parts_of_words l.graph (tokens_from Plain l.line (lines_from l.text l.start)))
-      ≡ dead_parts l.graph l.text);
+      ≡ dead_parts l.graph l.text;
+  kept : All (IsPartOf l.graph) l.parts.items;
 }
 
-abbrev pub decreases-loop-noted : goal.decreases-loop-noted
-decreases-loop-noted l = length l.text + 1 - l.start
+abbrev pub decreases-loop-parts : goal.decreases-loop-parts
+decreases-loop-parts l = length l.text + 1 - l.start

@@ -1,11 +1,5 @@
-use Rattle.std.proofs.Common.{sym, subst}
-use Rattle.std.specs.Prelude.{pos}
-use Rattle.std.proofs.lemmas.Result.{IfOk-weaker}
-use Rattle.form_steps.specs.Relations.{Extends}
+use Rattle.chain_layer.proofs.Common.{sym, subst, pos, IfOk-weaker, Extends, form_of, image, offset, decoding, chains_reach}
 use Rattle.ising_form.specs.Isings as isings
-use Rattle.embedding_check.specs.Embeddings.{form_of}
-use Rattle.chain_layer.specs.Image.{image, offset, decoding}
-use Rattle.chain_layer.specs.laws.Kept.{chains_reach}
 use Rattle.chain_layer.proofs.chains.ChainsLayer.extend.Goals as goal
 
 pub returns-clause-reaches : goal.returns-clause-reaches

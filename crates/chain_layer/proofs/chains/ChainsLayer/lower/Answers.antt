@@ -1,33 +1,25 @@
-use Rattle.std.proofs.Common.{◌≡◌, pos, ◌-ℤ◌, to_z, of_z, unsigned_abs, subst, sym, ap, ◌∙◌, arith}
-use Rattle.std.specs.Int.{w128}
-use Rattle.std.proofs.lemmas.Int.{ints}
-use Rattle.ising_form.specs.Isings.{IsingContent, ising_total, ising_size}
+use Rattle.chain_layer.proofs.Common.{◌≡◌, pos, ◌-ℤ◌, to_z, of_z, unsigned_abs, subst, sym, ap, ◌∙◌, arith, w128, ints, ising_total, ising_size, form_of, Keeps, ChainLink, image, offset, decoding, Fits, chains_keep}
 use Rattle.ising_form.specs.Isings as isings
-use Rattle.embedding_check.specs.Embeddings.{form_of}
-use Rattle.form_steps.specs.Relations.{Keeps}
-use Rattle.chain_layer.specs.declared.link.ChainLink.{ChainLink}
-use Rattle.chain_layer.specs.Image.{image, offset, decoding, Fits}
-use Rattle.chain_layer.specs.laws.Kept.{chains_keep}
 use Rattle.chain_layer.proofs.Sizes.{ties_cost-le, offset_small, total_grows, size_grows}
 use Rattle.chain_layer.proofs.chains.ChainsLayer.lower.Goals as goal
 
 pub ties_cost-cost-requires-clause-small : goal.ties_cost-cost-requires-clause-small
 ties_cost-cost-requires-clause-small c =
-    omega (arith, ties_cost-le c.args.source.now c.in_ok-strengths.ensures.kept, c.requires.offset)
+    omega (arith, ties_cost-le c.args.source.now c.in_ok-strengths.ensures.kept)
 
 pub overflow_cast-result : goal.overflow_cast-result
 overflow_cast-result c =
-    omega (arith, ints, c.ties_cost-cost.ensures, ties_cost-le c.args.source.now c.in_ok-strengths.ensures.kept, c.requires.offset)
+    omega (arith, ints, ties_cost-le c.args.source.now c.in_ok-strengths.ensures.kept)
 
 pub overflow_sub-result : goal.overflow_sub-result
 overflow_sub-result c =
-    omega (arith, ints, c.ties_cost-cost.ensures, ties_cost-le c.args.source.now c.in_ok-strengths.ensures.kept, c.requires.offset)
+    omega (arith, ints, ties_cost-le c.args.source.now c.in_ok-strengths.ensures.kept)
 
 pub returns-clause-offset : goal.returns-clause-offset
 returns-clause-offset c =
     let e = c.args.source.now in
     let value : to_z w128 (of_z w128 (pos 0 -ℤ to_z w128 c.ties_cost-cost.result)) ≡ offset e =
-    omega (arith, ints, c.ties_cost-cost.ensures, ties_cost-le e c.in_ok-strengths.ensures.kept, c.requires.offset) in
+    omega (arith, ints, ties_cost-le e c.in_ok-strengths.ensures.kept) in
     value
 
 pub returns-clause-keeps : goal.returns-clause-keeps
@@ -41,7 +33,7 @@ returns-clause-keeps c =
     } in
     let moved = to_z w128 (of_z w128 (pos 0 -ℤ to_z w128 c.ties_cost-cost.result)) in
     let value : moved ≡ offset e =
-    omega (arith, ints, c.ties_cost-cost.ensures, ties_cost-le e c.in_ok-strengths.ensures.kept, c.requires.offset) in
+    omega (arith, ints, ties_cost-le e c.in_ok-strengths.ensures.kept) in
     subst (λ f. Keeps (form_of e) (isings.form_of f) (decoding link) (pos 1) moved) (sym c.in_ok-target.ensures)
     (subst (λ z. Keeps (form_of e) (isings.form_of (image e)) (decoding link) (pos 1) z) (sym value) (chains_keep link e fits))
 
@@ -49,7 +41,7 @@ pub returns-clause-offset_high : goal.returns-clause-offset_high
 returns-clause-offset_high c =
     let e = c.args.source.now in
     let value : to_z w128 (of_z w128 (pos 0 -ℤ to_z w128 c.ties_cost-cost.result)) ≡ offset e =
-    omega (arith, ints, c.ties_cost-cost.ensures, ties_cost-le e c.in_ok-strengths.ensures.kept, c.requires.offset) in
+    omega (arith, ints, ties_cost-le e c.in_ok-strengths.ensures.kept) in
     omega (arith, ap unsigned_abs value, offset_small e c.in_ok-strengths.ensures.kept)
 
 pub returns-clause-total : goal.returns-clause-total

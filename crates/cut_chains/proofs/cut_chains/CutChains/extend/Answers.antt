@@ -1,12 +1,5 @@
-use Rattle.std.proofs.Common.{sym, subst}
-use Rattle.std.specs.Prelude.{pos}
-use Rattle.std.proofs.lemmas.Result.{IfOk-weaker}
-use Rattle.form_steps.specs.Relations.{Extends}
+use Rattle.cut_chains.proofs.Common.{sym, subst, pos, IfOk-weaker, Extends, form_of, cut_image, cut_offset, decoding, cut_reaches}
 use Rattle.ising_form.specs.Isings as isings
-use Rattle.embedding_check.specs.Embeddings.{form_of}
-use Rattle.cut_chains.specs.CutImage.{cut_image, cut_offset}
-use Rattle.cut_chains.specs.CutLinks.{decoding}
-use Rattle.cut_chains.specs.laws.LeastStates.{cut_reaches}
 use Rattle.cut_chains.proofs.cut_chains.CutChains.extend.Goals as goal
 
 pub returns-clause-reaches : goal.returns-clause-reaches

@@ -1,33 +1,24 @@
-use Rattle.std.proofs.Common.{◌≡◌, pos, ◌-ℤ◌, to_z, of_z, unsigned_abs, subst, sym, ap, ◌∙◌, arith}
-use Rattle.std.specs.Int.{w128}
-use Rattle.std.proofs.lemmas.Int.{ints}
-use Rattle.ising_form.specs.Isings.{ising_total, ising_size}
+use Rattle.cut_chains.proofs.Common.{◌≡◌, pos, ◌-ℤ◌, to_z, of_z, unsigned_abs, subst, sym, ap, ◌∙◌, arith, w128, ints, ising_total, ising_size, form_of, KeepsLeast, CutLink, cut_image, cut_offset, decoding, Fits, cut_keeps}
 use Rattle.ising_form.specs.Isings as isings
-use Rattle.embedding_check.specs.Embeddings.{form_of}
-use Rattle.form_steps.specs.Least.{KeepsLeast}
-use Rattle.cut_chains.specs.declared.link.CutLink.{CutLink}
-use Rattle.cut_chains.specs.CutImage.{cut_image, cut_offset}
-use Rattle.cut_chains.specs.CutLinks.{decoding, Fits}
-use Rattle.cut_chains.specs.laws.LeastStates.{cut_keeps}
 use Rattle.cut_chains.proofs.CutSizes.{cut_cost-le, cut_offset_small, cut_total_grows, cut_size_grows}
 use Rattle.cut_chains.proofs.cut_chains.CutChains.lower.Goals as goal
 
 pub overflow_cast-result : goal.overflow_cast-result
 overflow_cast-result c =
     let made = c.in_ok-target.ensures in
-    omega (arith, ints, made.cost, cut_cost-le c.args.source.now made.kept, c.requires.offset)
+    omega (arith, ints, made.cost, cut_cost-le c.args.source.now made.kept)
 
 pub overflow_sub-result : goal.overflow_sub-result
 overflow_sub-result c =
     let made = c.in_ok-target.ensures in
-    omega (arith, ints, made.cost, cut_cost-le c.args.source.now made.kept, c.requires.offset)
+    omega (arith, ints, made.cost, cut_cost-le c.args.source.now made.kept)
 
 pub returns-clause-offset : goal.returns-clause-offset
 returns-clause-offset c =
     let e = c.args.source.now in
     let made = c.in_ok-target.ensures in
     let value : to_z w128 (of_z w128 (pos 0 -ℤ to_z w128 c.in_ok-target.cost)) ≡ cut_offset e =
-    omega (arith, ints, made.cost, cut_cost-le e made.kept, c.requires.offset) in
+    omega (arith, ints, made.cost, cut_cost-le e made.kept) in
     value
 
 pub returns-clause-keeps : goal.returns-clause-keeps
@@ -42,7 +33,7 @@ returns-clause-keeps c =
     } in
     let moved = to_z w128 (of_z w128 (pos 0 -ℤ to_z w128 c.in_ok-target.cost)) in
     let value : moved ≡ cut_offset e =
-    omega (arith, ints, made.cost, cut_cost-le e made.kept, c.requires.offset) in
+    omega (arith, ints, made.cost, cut_cost-le e made.kept) in
     subst (λ f. KeepsLeast (form_of e) (isings.form_of f) (decoding link) (pos 1) moved)
     (sym made.image)
     (subst (λ z. KeepsLeast (form_of e) (isings.form_of (cut_image e)) (decoding link) (pos 1) z)
@@ -53,7 +44,7 @@ returns-clause-offset_high c =
     let e = c.args.source.now in
     let made = c.in_ok-target.ensures in
     let value : to_z w128 (of_z w128 (pos 0 -ℤ to_z w128 c.in_ok-target.cost)) ≡ cut_offset e =
-    omega (arith, ints, made.cost, cut_cost-le e made.kept, c.requires.offset) in
+    omega (arith, ints, made.cost, cut_cost-le e made.kept) in
     omega (arith, ap unsigned_abs value, cut_offset_small e made.kept)
 
 pub returns-clause-total : goal.returns-clause-total

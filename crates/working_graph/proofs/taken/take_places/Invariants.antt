@@ -2,7 +2,7 @@ use Rattle.std.proofs.Common.{◌≡◌, ◌≤◌, length, map}
 use Rattle.chain_map.specs.Cliques.{clique_places, clique_chain}
 use Rattle.working_graph.specs.Working.{fabric_of}
 use Rattle.working_graph.specs.Places.{taken_of, AreMarked}
-use Rattle.working_graph.proofs.taken.taken_chains.Given as goal
+use Rattle.working_graph.proofs.taken.take_places.Given as goal
 
 -- the chains of those that are taken so far, their marks, and no more than are asked for
 abbrev pub invariant-loop-place : goal.invariant-loop-place
@@ -10,6 +10,6 @@ invariant-loop-place l =
     let graph = l.working.graph in
     let xs = taken_of (fabric_of l.working) (clique_chain graph) l.place in
     (l.taken ≡ map (clique_chain graph) xs)
-    × AreMarked l.marks.items xs
-    × (length l.marks.items ≡ clique_places graph)
+    × AreMarked l.marks xs
+    × (length l.marks ≡ clique_places graph)
     × (length l.taken ≤ l.nodes)

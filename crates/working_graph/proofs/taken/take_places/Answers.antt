@@ -1,14 +1,14 @@
-use Rattle.std.proofs.Common.{◌≡◌, ℕ, ◌+◌, ◌<◌, List, [], ◌∷◌, Bool, true, length, map, set, Vec, Global, refl, sym, ap, subst, ◌∙◌, arith}
+use Rattle.std.proofs.Common.{◌≡◌, ℕ, ◌+◌, ◌<◌, List, [], ◌∷◌, Bool, true, length, map, set, refl, sym, ap, subst, ◌∙◌, arith}
 use Rattle.std.proofs.lemmas.List.{length-append, length-set}
 use Rattle.bits_model.specs.Walks.{is_in}
 use Rattle.chain_map.specs.Cliques.{clique_places, clique_chain}
 use Rattle.embedding_check.proofs.Sorting.{at_of_in}
 use Rattle.working_graph.specs.Working.{fabric_of}
-use Rattle.working_graph.specs.Places.{AreMarked, is_marked, taken_of}
+use Rattle.working_graph.specs.Places.{is_marked, taken_of}
 use Rattle.working_graph.proofs.TakenPlaces.{are_taken}
 use Rattle.working_graph.proofs.FreePlaces.{next_free, next_barred, mark_more, more_chains, chains_front, chains_all}
-use Rattle.working_graph.proofs.taken.taken_chains.Goals.{then-free+in_ok-push_qubits, else-free}
-use Rattle.working_graph.proofs.taken.taken_chains.Goals as goal
+use Rattle.working_graph.proofs.taken.take_places.Goals.{then-free+in_ok-push_qubits, else-free}
+use Rattle.working_graph.proofs.taken.take_places.Goals as goal
 
 pub returns-then-len-nodes : goal.returns-then-len-nodes
 returns-then-len-nodes c =
@@ -33,9 +33,7 @@ is_free-requires-clause-earlier c = λ u marked.
     let chain = clique_chain c.args.working.now.graph in
     let place = c.loop-place.place in
     let taken = are_taken f chain place in
-    let here : is_marked c.loop-place.marks.items u ≡ true =
-    subst (λ (ms : List Bool). is_marked ms u ≡ true) c.deref.ensures.value marked in
-    let at = at_of_in (taken_of f chain place) u (sym (c.loop-place.invariant.1 u) ∙ here) in
+    let at = at_of_in (taken_of f chain place) u (sym (c.loop-place.invariant.1 u) ∙ marked) in
     subst (λ n. n < place) at.2 (taken.below at.0 at.1)
 
 pub loop-place-preserved : goal.loop-place-preserved
@@ -45,12 +43,10 @@ loop-place-preserved c =
     let place = c.loop-place.place in
     let xs = taken_of f chain place in
     let next = taken_of f chain (place + 1) in
-    let seen = c.loop-place.marks.items in
+    let seen = c.loop-place.marks in
     let old = c.loop-place.taken in
     let inv = c.loop-place.invariant in
-    let marked : AreMarked c.deref.result.now xs =
-    subst (λ (ms : List Bool). AreMarked ms xs) (sym c.deref.ensures.value) inv.1 in
-    let free = c.in_ok-free.ensures.free xs marked (are_taken f chain place) in
+    let free = c.in_ok-free.ensures.free xs inv.1 (are_taken f chain place) in
     let places = c.clique_places-places.ensures ∙ ap clique_places c.graph-graph.ensures in
     let below : place < length seen = omega (arith, c.loop-place-test.true, places, inv.2) in
     let room : length old < c.args.nodes =
@@ -58,11 +54,10 @@ loop-place-preserved c =
     elim c.if-free.branch [
       | then-free+in_ok-push_qubits w ↦
           let more = next_free f chain place xs refl (sym free ∙ w.if-free.true) in
-          let marks : c.if-free.marks.items ≡ set seen place true =
-          ap (λ (v : Vec Bool Global). v.items) w.marks-is in (
+          let marks : c.if-free.marks ≡ set seen place true = w.marks-is in (
             w.taken-is ∙ w.in_ok-push_qubits.ensures.pushed
                 ∙ more_chains chain xs next place old _ inv.0
-                (w.deref-then-free.ensures.value ∙ c.in_ok-free.ensures.filled w.if-free.true) more,
+                (w.deref.ensures.value ∙ c.in_ok-free.ensures.filled w.if-free.true) more,
             λ u.
                 ap (λ (ms : List Bool). is_marked ms u) marks
                 ∙ mark_more seen xs place below inv.1 u
@@ -71,15 +66,14 @@ loop-place-preserved c =
             omega (
               arith,
               room,
-              length-append old (w.deref-then-free.result.now ∷ []),
+              length-append old (w.deref.result.now ∷ []),
               ap (λ (m : List (List ℕ)). length m) (w.taken-is ∙ w.in_ok-push_qubits.ensures.pushed),
             ),
           )
       | else-free w ↦
           let same : xs ≡ next = next_barred f chain place xs refl (sym free
           ∙ w.if-free.false) in
-          let marks : c.if-free.marks.items ≡ seen =
-          ap (λ (v : Vec Bool Global). v.items) w.marks-is in (
+          let marks : c.if-free.marks ≡ seen = w.marks-is in (
             w.taken-is ∙ inv.0 ∙ ap (map chain) same,
             λ u.
                 ap (λ (ms : List Bool). is_marked ms u) marks

@@ -1,0 +1,17 @@
+use Rattle.std.proofs.Common.{Ok, ap, ◌∙◌}
+use Rattle.std.specs.Option.{option_to_list}
+use Rattle.std.proofs.lemmas.List.{append-nil}
+use Rattle.std.proofs.lemmas.Result.{err_from_is_err_and}
+use Rattle.chain_map.specs.Maps.{after_front}
+use Rattle.working_graph.proofs.reading.add_line.Goals as goal
+
+pub returns-in_err-part-clause-read : goal.returns-in_err-part-clause-read
+returns-in_err-part-clause-read c =
+    let p = err_from_is_err_and c.from_residual.result c.from_residual.ensures.1 in
+    rw (p.1, p.2) (ap (after_front c.args.parts.now.items) c.in_err-part.ensures.read)
+
+pub returns-in-None-clause-read : goal.returns-in-None-clause-read
+returns-in-None-clause-read c =
+    let parts = c.args.parts.now.items in
+    ap (after_front parts) (c.in_ok-part.ensures.read ∙ ap (λ v. Ok (option_to_list v)) c.in-None.is)
+    ∙ ap Ok (append-nil parts)
