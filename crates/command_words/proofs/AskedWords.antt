@@ -1,6 +1,6 @@
 -- Words that ask for a command, by the words at their places.
-use Rattle.std.proofs.Common.{◌≡◌, ℕ, List, [], ◌∷◌, ◌++◌, Option, Some, None, Result, Ok, Err, refl, ap, ◌∙◌}
-use Rattle.std.specs.Prelude.{codes}
+use Rattle.std.proofs.Common.{◌≡◌, ℕ, List, [], ◌∷◌, ◌++◌, Option, Some, None, Ok, refl, ◌∙◌}
+use Rattle.std.specs.Prelude.{codes, unwrap_or}
 use Rattle.base.specs.declared.unit.UnitChoice.{UnitChoice}
 use Rattle.base.specs.declared.unit.UnitChoice.TheVariants.{One, Reduce}
 use Rattle.problem_form.specs.declared.limits.Normal.{Normal}
@@ -19,11 +19,8 @@ use Rattle.command_words.specs.declared.commands.Chaining.TheVariants.{Clique, M
 use Rattle.command_words.specs.declared.commands.Ties.{Ties}
 use Rattle.command_words.specs.declared.commands.Ties.TheVariants.{Choi, Cut}
 use Rattle.command_words.specs.declared.commands.WordAt.{WordAt}
-use Rattle.command_words.specs.declared.commands.WordAt.TheVariants.{Whole, Value}
-use Rattle.command_words.specs.declared.commands.Ask.{Ask}
+use Rattle.command_words.specs.declared.commands.WordAt.TheVariants.{Value}
 use Rattle.command_words.specs.declared.commands.Ask.TheVariants as asks
-use Rattle.command_words.specs.declared.words.Job.{Job}
-use Rattle.command_words.specs.declared.words.Sample.{Sample}
 use Rattle.whole_text.specs.Numbers.{digits_number}
 use Rattle.chimera_graph.specs.declared.chimera.Chimera as graphs
 use Rattle.command_words.specs.declared.keys.Keys.{Keys}
@@ -31,9 +28,9 @@ use Rattle.command_words.specs.declared.commands.Slack.{Slack}
 use Rattle.command_words.specs.declared.commands.Slack.TheVariants.{Bits, Pairs}
 use Rattle.command_words.specs.declared.commands.Verb.{Verb}
 use Rattle.command_words.specs.declared.commands.Verb.TheVariants as verbs
-use Rattle.command_words.specs.Asked.{EachJobIsAskedFor, EachSizeIsAskedFor, EachDecodingIsAskedFor, EachEvaluationIsAskedFor, EachExtensionIsAskedFor, EachSampleIsAskedFor, EachSolutionIsAskedFor, EachProofIsAskedFor, EachUnitIsAskedFor, EachSlackIsAskedFor, EachOrderIsAskedFor, EachGraphIsAskedFor, EachKeyStands, CannotStand, NoKeyStandsTwice, NoGraphKeyElsewhere, NoOrderElsewhere, NoGraphWithout, NoLargerGraph, IsRefusedAfterAll, format_word, high_key, normal_key, slack_key, order_key, on_fourth_word, board_of, board_with, dead_at, target_word, unit_key, rows_key, cols_key, shore_key, map_key, clique_key, dead_keys, chain_key, compile_words, size_words, decode_words, evaluate_words, extend_words, prove_words, sample_words, solve_words}
-use Rattle.command_words.specs.Commands.{◌>>=◌, ask_of, chosen_target, command_of, drawn, first_key, format_of, on_file, target_of}
-use Rattle.command_words.specs.Keys.{choices_of, chosen_slack, chosen_ties, chosen_unit, given, graph_of, keys_from, no_keys, target_by, with_word}
+use Rattle.command_words.specs.Asked.{EachJobIsAskedFor, EachSizeIsAskedFor, EachDecodingIsAskedFor, EachEvaluationIsAskedFor, EachExtensionIsAskedFor, EachSampleIsAskedFor, EachSolutionIsAskedFor, EachProofIsAskedFor, EachUnitIsAskedFor, EachSlackIsAskedFor, EachOrderIsAskedFor, EachGraphIsAskedFor, EachKeyStands, CannotStand, NoKeyStandsTwice, NoGraphKeyElsewhere, NoOrderElsewhere, NoGraphWithout, NoLargerGraph, IsRefusedAfterAll, format_word, high_key, normal_key, slack_key, order_key, on_fourth_word, board_of, board_with, dead_at, target_word, unit_key, rows_key, cols_key, shore_key, map_key, clique_key, dead_keys, chain_key, compile_words}
+use Rattle.command_words.specs.Commands.{command_of, format_of, target_of}
+use Rattle.command_words.specs.Keys.{given, graph_of, keys_from, no_keys, target_by, with_word}
 use Rattle.command_words.proofs.CutWords.{cut_bound, cut_order, cut_rows, cut_cols, cut_shore, cut_map, cut_dead}
 use Rattle.command_words.proofs.Sides.{few_cols, few_rows, few_shore, side_of-digits}
 use Rattle.command_words.proofs.BoundKeys.{bound_of-digits}
@@ -54,124 +51,39 @@ target_of-target_word (Nodes Qubo) = refl
 target_of-target_word (Nodes Ising) = refl
 target_of-target_word Chimera = refl
 
--- the job on the file that the fourth word names
-abbrev fourth_word_job : Format → Target → Keys → Job
-fourth_word_job format target keys = record {
-  format = format;
-  file = Whole 3;
-  target = target;
-  choices = choices_of keys;
-  unit = chosen_unit keys;
-  bound = keys.bound;
-  slack = chosen_slack keys;
-  order = keys.order;
-}
-
--- the sample of these numbers
-abbrev pub sample_with : ℕ → ℕ → Target → Keys → Sample
-sample_with number clauses target keys = record {
-  number = number;
-  clauses = clauses;
-  target = target;
-  choices = choices_of keys;
-  unit = chosen_unit keys;
-  bound = keys.bound;
-  slack = chosen_slack keys;
-}
-
--- what is chosen step by step
-chain : {A B C : Type 0} (r : Result A ℕ) (f : A → Result B ℕ) (g : A → B → C) {D : Type 0}
-    (h : C → Result D ℕ)
-    → ((r >>= λ x. f x >>= λ y. Ok (g x y)) >>= h) ≡ (r >>= λ x. f x >>= λ y. h (g x y))
-chain (Err position) f g h = refl
-chain {B = B} (Ok x) f g h = go (f x)
-  where
-    go : (s : Result B ℕ) → ((s >>= λ y. Ok (g x y)) >>= h) ≡ (s >>= λ y. h (g x y))
-    go (Ok y) = refl
-    go (Err position) = refl
-
--- what a verb asks of the file that the fourth word names, and then of the words after it
-asked_of_fourth : (verb : Verb) (words : List (List ℕ)) (format : Format) (word : TargetWord)
-    (keys : List (List ℕ)) (make : Keys → Ask)
-    → ((given : Keys) → ask_of verb given.order words ≡ Ok (make given))
-    → ((keys_from verb word no_keys (first_key verb) keys
-    >>= λ given. chosen_target words word given
-    >>= λ target. Ok (fourth_word_job format target given))
-    >>= λ job. ask_of verb job.order words >>= λ ask. Ok (on_file job ask))
-    ≡ (keys_from verb word no_keys (first_key verb) keys
-    >>= λ given. chosen_target words word given
-    >>= λ target. Ok (on_fourth_word format target given (make given)))
-asked_of_fourth verb words format word keys make asks =
-    chain (keys_from verb word no_keys (first_key verb) keys) (chosen_target words word)
-    (λ given target. fourth_word_job format target given)
-    (λ job. ask_of verb job.order words >>= λ ask. Ok (on_file job ask))
-    ∙ go (keys_from verb word no_keys (first_key verb) keys)
-  where
-    after : (given : Keys) (s : Result Target ℕ)
-        → (s >>= λ target. ask_of verb given.order words
-        >>= λ ask. Ok (on_fourth_word format target given ask))
-        ≡ (s >>= λ target. Ok (on_fourth_word format target given (make given)))
-    after given (Err position) = refl
-    after given (Ok target) =
-        ap (λ asked. asked >>= λ ask. Ok (on_fourth_word format target given ask)) (asks given)
-
-    go : (r : Result Keys ℕ)
-        → (r >>= λ given. chosen_target words word given
-        >>= λ target. ask_of verb given.order words
-        >>= λ ask. Ok (on_fourth_word format target given ask))
-        ≡ (r >>= λ given. chosen_target words word given
-        >>= λ target. Ok (on_fourth_word format target given (make given)))
-    go (Err position) = refl
-    go (Ok given) = after given (chosen_target words word given)
+-- ---- what the verbs ask for
 
 pub each_job : EachJobIsAskedFor
 each_job format word file keys =
-    rw (format_of-format_word format, target_of-target_word word)
-    (asked_of_fourth verbs.Compile (compile_words format word file keys) format word keys
-    (λ given. asks.Model) (λ given. refl))
+    rw (format_of-format_word format, target_of-target_word word) refl
 
 pub each_size : EachSizeIsAskedFor
 each_size format word file keys =
-    rw (format_of-format_word format, target_of-target_word word)
-    (asked_of_fourth verbs.Size (size_words format word file keys) format word keys
-    (λ given. asks.Size) (λ given. refl))
+    rw (format_of-format_word format, target_of-target_word word) refl
 
 pub each_solution : EachSolutionIsAskedFor
 each_solution format word file keys =
-    rw (format_of-format_word format, target_of-target_word word)
-    (asked_of_fourth verbs.Solve (solve_words format word file keys) format word keys
-    (λ given. asks.Solve given.order) (λ given. refl))
+    rw (format_of-format_word format, target_of-target_word word) refl
 
 pub each_decoding : EachDecodingIsAskedFor
 each_decoding format word file state keys =
-    rw (format_of-format_word format, target_of-target_word word)
-    (asked_of_fourth verbs.Decode (decode_words format word file state keys) format word keys
-    (λ given. asks.Decode (Whole 4)) (λ given. refl))
+    rw (format_of-format_word format, target_of-target_word word) refl
 
 pub each_evaluation : EachEvaluationIsAskedFor
 each_evaluation format word file states keys =
-    rw (format_of-format_word format, target_of-target_word word)
-    (asked_of_fourth verbs.Evaluate (evaluate_words format word file states keys) format word keys
-    (λ given. asks.Evaluate (Whole 4)) (λ given. refl))
+    rw (format_of-format_word format, target_of-target_word word) refl
 
 pub each_extension : EachExtensionIsAskedFor
 each_extension format word file assignment keys =
-    rw (format_of-format_word format, target_of-target_word word)
-    (asked_of_fourth verbs.Extend (extend_words format word file assignment keys) format word keys
-    (λ given. asks.Extend (Whole 4)) (λ given. refl))
+    rw (format_of-format_word format, target_of-target_word word) refl
 
 pub each_proof : EachProofIsAskedFor
 each_proof format word file state certificate keys =
-    rw (format_of-format_word format, target_of-target_word word)
-    (asked_of_fourth verbs.Prove (prove_words format word file state certificate keys) format word
-    keys (λ given. asks.Prove (Whole 4) (Whole 5)) (λ given. refl))
+    rw (format_of-format_word format, target_of-target_word word) refl
 
 pub each_sample : EachSampleIsAskedFor
 each_sample number clauses first second word keys one two =
-    rw (one, two, target_of-target_word word)
-    (chain (keys_from verbs.Sample word no_keys 4 keys)
-    (chosen_target (sample_words first second word keys) word)
-    (λ given target. sample_with number clauses target given) (λ sample. Ok (drawn sample)))
+    rw (one, two, target_of-target_word word) refl
 
 -- a key for the unit alone
 unit_alone : (model : NodeModel) (unit : UnitChoice)
@@ -472,7 +384,7 @@ no_graph_without = record {
       go : (value : Option ℕ)
           → given (given value (λ rows. no_graph))
           (λ graph. given keys.chains (λ chains.
-          Some (board_with graph keys.dead chains (chosen_ties keys)))) ≡ None
+          Some (board_with graph keys.dead chains (unwrap_or keys.ties Choi)))) ≡ None
       go None = refl
       go (Some rows) = refl
 
@@ -482,7 +394,7 @@ no_graph_without = record {
       go : (first second : Option ℕ)
           → given (given first (λ rows. given second (λ cols. no_graph)))
           (λ graph. given keys.chains (λ chains.
-          Some (board_with graph keys.dead chains (chosen_ties keys)))) ≡ None
+          Some (board_with graph keys.dead chains (unwrap_or keys.ties Choi)))) ≡ None
       go None second = refl
       go (Some rows) None = refl
       go (Some rows) (Some cols) = refl

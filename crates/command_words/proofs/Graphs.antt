@@ -1,13 +1,12 @@
 -- The graph of three numbers.
 use Rattle.std.proofs.Common.{◌≡◌, ◌<◌, ◌*◌, ◌^◌, ◌↔◌, ℕ, Bool, true, false, Option, Some, None, IsSome, refl, sym, ap, subst, arith}
-use Rattle.std.specs.Prelude.{IfSome}
+use Rattle.std.specs.Prelude.{IfSome, nat_le, nat_lt}
 use Rattle.std.proofs.Math.Bridge.{le_prop}
-use Rattle.std.proofs.lemmas.Bool.{le-leb, lt-ltb}
+use Rattle.std.proofs.lemmas.Bool.{le-leb, leb-true, lt-ltb, ltb-true}
 use Rattle.chimera_graph.specs.Shape.{IsShape}
 use Rattle.chimera_graph.specs.Graph.{HasNumbers}
 use Rattle.chimera_graph.specs.declared.chimera.Chimera.{Chimera}
-use Rattle.command_words.specs.laws.Shapes.{fits_graph, fitting_is_shape}
-use Rattle.command_words.specs.Keys.{graph_if, graph_with}
+use Rattle.command_words.specs.Keys.{graph_with, passing}
 
 shape_prop : (rows cols shore : ℕ) → IsProp (IsShape rows cols shore)
 shape_prop rows cols shore = hlevel le_prop
@@ -27,43 +26,53 @@ same_made rows cols shore others across beside p e f g =
     (subst (λ r. (q : IsShape r cols shore) → made ≡ graph_by r cols shore q) e
     (λ q. ap (graph_by rows cols shore) (shape_prop rows cols shore p q))))
 
--- numbers of a shape pass
-shape_fits : (rows cols shore : ℕ) → IsShape rows cols shore → fits_graph rows cols shore ≡ true
-shape_fits rows cols shore shape =
-    rw (
-      lt-ltb 0 rows shape.some_rows,
-      lt-ltb 0 cols shape.some_cols,
-      lt-ltb 0 shore shape.some_shore,
-      le-leb (2 * rows * cols * shore) (2 ^ 20) shape.few,
-    ) refl
+-- ---- tests that pass
 
-graph_if-is : (graph : Chimera) (fits : Bool)
-    (shape : fits ≡ true → IsShape graph.rows graph.cols graph.shore) → fits ≡ true
-    → graph_if graph.rows graph.cols graph.shore fits shape ≡ Some graph
-unfolding graph_by
-graph_if-is graph true shape e =
-    ap Some (same_made graph.rows graph.cols graph.shore graph.rows graph.cols graph.shore
-    (shape refl) refl refl refl graph.shape)
-graph_if-is graph false shape e = absurd cc
+passing-some : {A : Type 0} (test : Bool) (next : test ≡ true → Option A) (x : A) → test ≡ true
+    → ((e : test ≡ true) → next e ≡ Some x) → passing test next ≡ Some x
+passing-some true next x e each = each refl
+passing-some false next x e each = absurd cc
+
+passing-none : {A : Type 0} (test : Bool) (next : test ≡ true → Option A)
+    → ((e : test ≡ true) → next e ≡ None) → passing test next ≡ None
+passing-none true next each = each refl
+passing-none false next each = refl
 
 -- the graph of its own numbers
 pub graph_with-its : (graph : Chimera) → graph_with graph.rows graph.cols graph.shore ≡ Some graph
+unfolding graph_by
 graph_with-its graph =
-    graph_if-is graph (fits_graph graph.rows graph.cols graph.shore)
-    (fitting_is_shape graph.rows graph.cols graph.shore)
-    (shape_fits graph.rows graph.cols graph.shore graph.shape)
-
-graph_if-none : (rows cols shore : ℕ) (fits : Bool) (shape : fits ≡ true → IsShape rows cols shore)
-    → ¬ (IsShape rows cols shore) → graph_if rows cols shore fits shape ≡ None
-graph_if-none rows cols shore true shape none = absurd (none (shape refl))
-graph_if-none rows cols shore false shape none = refl
+    let rows = graph.rows in
+    let cols = graph.cols in
+    let shore = graph.shore in
+    let shape = graph.shape in
+    passing-some (nat_lt 0 rows) _ graph (lt-ltb 0 rows shape.some_rows)
+    (λ r.
+    passing-some (nat_lt 0 cols) _ graph (lt-ltb 0 cols shape.some_cols)
+    (λ c.
+    passing-some (nat_lt 0 shore) _ graph (lt-ltb 0 shore shape.some_shore)
+    (λ s.
+    passing-some (nat_le (2 * rows * cols * shore) (2 ^ 20)) _ graph
+    (le-leb (2 * rows * cols * shore) (2 ^ 20) shape.few)
+    (λ q. ap Some (same_made rows cols shore rows cols shore _ refl refl refl shape)))))
 
 -- none where the numbers are no shape
 pub graph_with-none : (rows cols shore : ℕ) → ¬ (IsShape rows cols shore)
     → graph_with rows cols shore ≡ None
 graph_with-none rows cols shore none =
-    graph_if-none rows cols shore (fits_graph rows cols shore) (fitting_is_shape rows cols shore)
-    none
+    passing-none (nat_lt 0 rows) _
+    (λ r.
+    passing-none (nat_lt 0 cols) _
+    (λ c.
+    passing-none (nat_lt 0 shore) _
+    (λ s.
+    passing-none (nat_le (2 * rows * cols * shore) (2 ^ 20)) _
+    (λ q. absurd (none (record {
+      some_rows = ltb-true 0 rows r;
+      some_cols = ltb-true 0 cols c;
+      some_shore = ltb-true 0 shore s;
+      few = leb-true (2 * rows * cols * shore) (2 ^ 20) q;
+    }))))))
 
 -- so it is where there were too many qubits
 pub graph_with-larger : (rows cols shore : ℕ) → 2 ^ 20 < 2 * rows * cols * shore

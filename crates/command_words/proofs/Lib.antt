@@ -5,3 +5,5 @@ pub mod Sides
 pub mod Graphs
 pub mod AskedWords
 pub mod SaidWords
+pub mod Stops
+pub mod Positions

@@ -1,6 +1,6 @@
 -- Words that ask for a command or a notice say it.
 use Rattle.std.proofs.Common.{◌≡◌, ℕ, suc, ◌+◌, Bool, true, false, List, [], ◌∷◌, ◌++◌, length, drop, Option, Some, None, Result, Ok, Err, refl, ap, sym, subst, ◌∙◌, ◌⊎◌, inl, inr, arith}
-use Rattle.std.specs.Prelude.{IfOk, IfSome, ◌==◌, ◌||◌, bytes_eq, codes, slice_get, if◌then◌else◌, ⊤}
+use Rattle.std.specs.Prelude.{IfOk, IfSome, ◌==◌, ◌||◌, bytes_eq, codes, slice_get, if◌then◌else◌, unwrap_or, ⊤}
 use Rattle.std.specs.Option.{option_map_or, ok_or}
 use Rattle.std.proofs.lemmas.List.{drop_more}
 use Rattle.std.proofs.lemmas.Option.{slice_get_within, get_or_from_slice_get}
@@ -13,13 +13,14 @@ use Rattle.command_words.specs.declared.commands.NodeModel.TheVariants.{Qubo, Is
 use Rattle.command_words.specs.declared.commands.TargetWord.{TargetWord}
 use Rattle.command_words.specs.declared.commands.TargetWord.TheVariants.{Nodes, Chimera}
 use Rattle.command_words.specs.declared.commands.Chaining.{Chaining}
+use Rattle.command_words.specs.declared.commands.Ties.TheVariants.{Choi}
 use Rattle.command_words.specs.declared.commands.WordAt.{WordAt}
 use Rattle.command_words.specs.declared.commands.WordAt.TheVariants.{Whole}
 use Rattle.command_words.specs.declared.commands.Ask.{Ask}
 use Rattle.command_words.specs.declared.commands.Ask.TheVariants as asks
 use Rattle.command_words.specs.declared.commands.Command.{Command}
-use Rattle.command_words.specs.declared.words.Job.{Job}
-use Rattle.command_words.specs.declared.words.Sample.{Sample}
+use Rattle.command_words.specs.declared.commands.Origin.{Origin}
+use Rattle.command_words.specs.declared.commands.Origin.TheVariants.{File, Drawn}
 use Rattle.whole_text.specs.Numbers.{digits_number}
 use Rattle.chimera_graph.specs.declared.chimera.Chimera as graphs
 use Rattle.command_words.specs.declared.keys.Keys.{Keys}
@@ -30,10 +31,9 @@ use Rattle.command_words.specs.declared.commands.Notice.TheVariants.{Help, Versi
 use Rattle.command_words.specs.declared.commands.Request.{Request}
 use Rattle.command_words.specs.declared.commands.Request.TheVariants as requests
 use Rattle.command_words.specs.Asked.{EachNoticeIsAskedFor, EachCommandIsAskedFor, NoOtherWordsAsk, Say, SayRequest, board_with, format_word, job_words, long_word, short_word, target_word, word_of}
-use Rattle.command_words.specs.Commands.{◌>>=◌, after_verb, alone, ask_of, asked_of_file, chosen_target, clauses_of, command_of, drawn, first_key, first_notice, format_of, job_of, named, notice_of, on_file, request_of, sample_of, target_of, valued, verb_of}
-use Rattle.command_words.specs.Keys.{choices_of, chosen_slack, chosen_ties, chosen_unit, given, graph_of, keys_from, no_keys}
+use Rattle.command_words.specs.Commands.{◌>>=◌, alone, ask_of, chosen_target, clauses_of, command_of, commanding, drawn_words, file_words, first_key, first_notice, format_of, named, notice_of, request_of, source_words, target_of, valued, verb_of}
+use Rattle.command_words.specs.Keys.{given, graph_of, keys_from, no_keys}
 use Rattle.command_words.specs.Names.{text_at}
-use Rattle.command_words.proofs.AskedWords.{sample_with}
 
 -- ---- a step, and the next one
 
@@ -80,7 +80,7 @@ chosen_has_word words Chimera keys = go (graph_of keys) keys.chains
   where
     go : (graph : Option graphs.Chimera) (chains : Option Chaining)
         → IfOk (ok_or (given graph (λ g. given chains (λ c.
-        Some (board_with g keys.dead c (chosen_ties keys))))) (length words + 1))
+        Some (board_with g keys.dead c (unwrap_or keys.ties Choi))))) (length words + 1))
         (λ target. word_of target ≡ Chimera)
     go None chains = tt
     go (Some s) None = tt
@@ -174,223 +174,238 @@ named-word words i = at (slice_get words i) refl
 
 -- ---- the words in a row
 
--- the second, third and fourth word are those of the job
-abbrev HasJob : List (List ℕ) → Job → Type 0
-HasJob words job =
-    drop 1 words ≡ job_words job.format (word_of job.target) (text_at words job.file) ++ drop 4 words
+-- the words after the first one say this source and target
+abbrev SaysSource : List (List ℕ) → Origin → TargetWord → Type 0
+SaysSource words (File format file) target =
+    drop 1 words ≡ job_words format target (text_at words file) ++ drop 4 words
+SaysSource words (Drawn number clauses) target = (first second : List ℕ)
+    × (digits_number first ≡ Some number) × (clauses_of second ≡ Some clauses)
+    × (drop 1 words ≡ first ∷ second ∷ target_word target ∷ drop 4 words)
 
-module _ (verb : Verb) (words : List (List ℕ)) where
-  -- the steps of a job, each with those after it
-  abbrev with_chosen : Format → WordAt → Keys → Target → Result Job ℕ
-  with_chosen format file keys target =
-      Ok (record {
-        format = format;
-        file = file;
-        target = target;
-        choices = choices_of keys;
-        unit = chosen_unit keys;
-        bound = keys.bound;
-        slack = chosen_slack keys;
-        order = keys.order;
-      })
+module _ (words : List (List ℕ)) where
+  -- the steps of a source, each with those after it
+  abbrev pub with_target : Format → TargetWord → Result (Origin × TargetWord) ℕ
+  with_target format target = named words 3 >>= λ file. Ok (File format file, target)
 
-  abbrev with_keys : Format → TargetWord → WordAt → Keys → Result Job ℕ
-  with_keys format word file keys =
-      chosen_target words word keys >>= with_chosen format file keys
-
-  abbrev with_file : Format → TargetWord → WordAt → Result Job ℕ
-  with_file format word file =
-      keys_from verb word no_keys (first_key verb) (drop (first_key verb) words)
-      >>= with_keys format word file
-
-  abbrev with_target : Format → TargetWord → Result Job ℕ
-  with_target format word = named words 3 >>= with_file format word
-
-  abbrev with_format : Format → Result Job ℕ
+  abbrev pub with_format : Format → Result (Origin × TargetWord) ℕ
   with_format format = valued target_of words 2 >>= with_target format
 
-  job_of-words : IfOk (job_of verb words) (HasJob words)
-  job_of-words =
+  abbrev pub with_clauses : ℕ → ℕ → Result (Origin × TargetWord) ℕ
+  with_clauses number clauses = valued target_of words 3 >>= λ target. Ok (Drawn number clauses, target)
+
+  abbrev pub with_number : ℕ → Result (Origin × TargetWord) ℕ
+  with_number number = valued clauses_of words 2 >>= with_clauses number
+
+  -- a source in a file, with this word of its target, is said
+  pub record IsFileSaid (source : Origin × TargetWord) : Type 0 where
+    pub format : Format
+    pub file : WordAt
+    pub is : source ≡ (File format file, source.1)
+    pub says : SaysSource words (File format file) source.1
+
+  file_words-said : IfOk (file_words words) IsFileSaid
+  file_words-said =
       next (valued format_of words 1) with_format _ _
       (valued-word format_of format_word format_of-word words 1)
       (λ format second.
       next (valued target_of words 2) (with_target format) _ _
       (valued-word target_of target_word target_of-word words 2)
-      (λ word third.
-      next (named words 3) (with_file format word) _ _ (named-word words 3)
-      (λ file fourth.
-      next (keys_from verb word no_keys (first_key verb) (drop (first_key verb) words))
-      (with_keys format word file) (λ _. ⊤) _ (nothing _)
-      (λ keys _.
-      next (chosen_target words word keys) (with_chosen format file keys) _ _
-      (chosen_has_word words word keys)
-      (λ target same.
-      second
-      ∙ ap (λ rest. format_word format ∷ rest)
-      (third ∙ ap (λ rest. target_word word ∷ rest) fourth)
-      ∙ ap (λ w. format_word format ∷ target_word w ∷ text_at words file ∷ drop 4 words) (sym same))))))
+      (λ target third.
+      next (named words 3) (λ file. Ok (File format file, target)) _ _ (named-word words 3)
+      (λ file fourth. record {
+        format = format;
+        file = file;
+        is = refl;
+        says = second
+            ∙ ap (λ rest. format_word format ∷ rest)
+            (third ∙ ap (λ rest. target_word target ∷ rest) fourth);
+      })))
 
--- the words after the first one say this sample
-abbrev HasSample : List (List ℕ) → Sample → Type 0
-HasSample words sample = (first second : List ℕ) × (digits_number first ≡ Some sample.number)
-    × (clauses_of second ≡ Some sample.clauses)
-    × (drop 1 words ≡ first ∷ second ∷ target_word (word_of sample.target) ∷ drop 4 words)
+  -- a source that is drawn, with this word of its target, is said
+  pub record IsDrawnSaid (source : Origin × TargetWord) : Type 0 where
+    pub number : ℕ
+    pub clauses : ℕ
+    pub is : source ≡ (Drawn number clauses, source.1)
+    pub says : SaysSource words (Drawn number clauses) source.1
 
-module _ (words : List (List ℕ)) where
-  -- the steps of a sample, each with those after it
-  abbrev sample_chosen : ℕ → ℕ → Keys → Target → Result Sample ℕ
-  sample_chosen number clauses keys target = Ok (sample_with number clauses target keys)
-
-  abbrev sample_keys : ℕ → ℕ → TargetWord → Keys → Result Sample ℕ
-  sample_keys number clauses word keys =
-      chosen_target words word keys >>= sample_chosen number clauses keys
-
-  abbrev sample_target : ℕ → ℕ → TargetWord → Result Sample ℕ
-  sample_target number clauses word =
-      keys_from verbs.Sample word no_keys 4 (drop 4 words) >>= sample_keys number clauses word
-
-  abbrev sample_clauses : ℕ → ℕ → Result Sample ℕ
-  sample_clauses number clauses = valued target_of words 3 >>= sample_target number clauses
-
-  abbrev sample_number : ℕ → Result Sample ℕ
-  sample_number number = valued clauses_of words 2 >>= sample_clauses number
-
-  sample_of-words : IfOk (sample_of words) (HasSample words)
-  sample_of-words =
-      next (valued digits_number words 1) sample_number _ _ (valued-HasValue digits_number words 1)
+  drawn_words-said : IfOk (drawn_words words) IsDrawnSaid
+  drawn_words-said =
+      next (valued digits_number words 1) with_number _ _ (valued-HasValue digits_number words 1)
       (λ number second.
-      next (valued clauses_of words 2) (sample_clauses number) _ _ (valued-HasValue clauses_of words 2)
+      next (valued clauses_of words 2) (with_clauses number) _ _ (valued-HasValue clauses_of words 2)
       (λ clauses third.
-      next (valued target_of words 3) (sample_target number clauses) _ _
+      next (valued target_of words 3) (λ target. Ok (Drawn number clauses, target)) _ _
       (valued-word target_of target_word target_of-word words 3)
-      (λ word fourth.
-      next (keys_from verbs.Sample word no_keys 4 (drop 4 words)) (sample_keys number clauses word)
-      (λ _. ⊤) _ (nothing _)
-      (λ keys _.
-      next (chosen_target words word keys) (sample_chosen number clauses keys) _ _
-      (chosen_has_word words word keys)
-      (λ target same. (
-        second.word,
-        third.word,
-        second.valued,
-        third.valued,
-        second.stands
-            ∙ ap (λ rest. second.word ∷ rest) (third.stands ∙ ap (λ rest. third.word ∷ rest) fourth)
-            ∙ ap (λ w. second.word ∷ third.word ∷ target_word w ∷ drop 4 words) (sym same),
-      ))))))
+      (λ target fourth. record {
+        number = number;
+        clauses = clauses;
+        is = refl;
+        says = (
+          second.word,
+          third.word,
+          second.valued,
+          third.valued,
+          second.stands
+              ∙ ap (λ rest. second.word ∷ rest)
+              (third.stands ∙ ap (λ rest. third.word ∷ rest) fourth),
+        );
+      })))
 
 -- the words say a command, and then keys
 abbrev IsAsked : List (List ℕ) → Command → Type 0
 IsAsked words command = (keys : List (List ℕ)) × Say words command keys
 
--- what a verb asks of the file of its job
-abbrev of_job : Verb → List (List ℕ) → Job → Result Command ℕ
-of_job verb words job = ask_of verb job.order words >>= λ ask. Ok (on_file job ask)
+-- ---- what a verb asks for
 
--- the words of a job, of one more file and of keys, after the first word
-abbrev with_file_words : List ℕ → List (List ℕ) → Job → WordAt → List (List ℕ)
-with_file_words first words job at =
-    first ∷ job_words job.format (word_of job.target) (text_at words job.file)
+module _ (verb : Verb) (words : List (List ℕ)) (origin : Origin) (word : TargetWord) where
+  -- the steps after the three words, each with those after it
+  abbrev pub with_ask : Keys → Target → Ask → Result Command ℕ
+  with_ask keys target ask = Ok (commanding origin target keys ask)
+
+  abbrev pub with_chosen : Keys → Target → Result Command ℕ
+  with_chosen keys target = ask_of verb keys.order words >>= with_ask keys target
+
+  abbrev pub with_keys : Keys → Result Command ℕ
+  with_keys keys = chosen_target words word keys >>= with_chosen keys
+
+  abbrev pub with_source : Result Command ℕ
+  with_source =
+      keys_from verb word no_keys (first_key verb) (drop (first_key verb) words) >>= with_keys
+
+  -- it is asked for where the words say what is asked of this target
+  with_source-asked : (Said : Ask → Type 0)
+      → ((order : Option WordAt) → IfOk (ask_of verb order words) Said)
+      → ((keys : Keys) (target : Target) (ask : Ask) → word_of target ≡ word → Said ask
+      → IsAsked words (commanding origin target keys ask))
+      → IfOk with_source (IsAsked words)
+  with_source-asked Said each asked =
+      next (keys_from verb word no_keys (first_key verb) (drop (first_key verb) words)) with_keys
+      (λ _. ⊤) _ (nothing _)
+      (λ keys _.
+      next (chosen_target words word keys) (with_chosen keys) _ _ (chosen_has_word words word keys)
+      (λ target same.
+      next (ask_of verb keys.order words) (with_ask keys target) Said _ (each keys.order)
+      (λ ask said. asked keys target ask same said)))
+
+-- words of a file say what is asked of it
+with_file-asked : (verb : Verb) (words : List (List ℕ)) (Said : Ask → Type 0)
+    → ((order : Option WordAt) → IfOk (ask_of verb order words) Said)
+    → ((format : Format) (file : WordAt) (keys : Keys) (target : Target) (ask : Ask)
+    → SaysSource words (File format file) (word_of target) → Said ask
+    → IsAsked words (commanding (File format file) target keys ask))
+    → IfOk (file_words words >>= λ source. with_source verb words source.0 source.1) (IsAsked words)
+with_file-asked verb words Said each asked =
+    next (file_words words) (λ source. with_source verb words source.0 source.1) (IsFileSaid words)
+    (IsAsked words) (file_words-said words)
+    (λ source h.
+    let Asks : Origin × TargetWord → Type 0 =
+    λ s. IfOk (with_source verb words s.0 s.1) (IsAsked words) in
+    subst Asks (sym h.is)
+    (with_source-asked verb words (File h.format h.file) source.1 Said each
+    (λ keys target ask same said.
+    asked h.format h.file keys target ask
+    (subst (SaysSource words (File h.format h.file)) (sym same) h.says) said)))
+
+-- the file of one more word is said
+one_more : (words : List (List ℕ)) (make : WordAt → Ask)
+    → IfOk (named words 4 >>= λ at. Ok (make at))
+    (λ ask. (at : WordAt) × (ask ≡ make at) × StandsAt words 4 (text_at words at))
+one_more words make =
+    next (named words 4) (λ at. Ok (make at)) _ _ (named-word words 4) (λ at fifth. (at, refl, fifth))
+
+-- those of a state and of a certificate are
+two_more : (words : List (List ℕ))
+    → IfOk (ask_of verbs.Prove None words)
+    (λ ask. (state certificate : WordAt) × (ask ≡ asks.Prove state certificate)
+    × StandsAt words 4 (text_at words state) × StandsAt words 5 (text_at words certificate))
+two_more words =
+    next (named words 4) (λ state. named words 5 >>= λ at. Ok (asks.Prove state at)) _ _
+    (named-word words 4)
+    (λ state fifth.
+    next (named words 5) (λ at. Ok (asks.Prove state at)) _ _ (named-word words 5)
+    (λ certificate sixth. (state, certificate, refl, fifth, sixth)))
+
+-- the words of a job and of one more file, after the first word
+with_file-words : (words : List (List ℕ)) (first : List ℕ) (format : Format) (file : WordAt)
+    (target : Target) (at : WordAt) → words ≡ first ∷ drop 1 words
+    → SaysSource words (File format file) (word_of target) → StandsAt words 4 (text_at words at)
+    → words ≡ first ∷ job_words format (word_of target) (text_at words file)
     ++ text_at words at ∷ drop 5 words
-
--- what a verb asks for that takes one more file
-with_file-words : (verb : Verb) (words : List (List ℕ)) (first : List ℕ) (make : WordAt → Ask)
-    → words ≡ first ∷ drop 1 words
-    → ((job : Job) (at : WordAt) → words ≡ with_file_words first words job at
-    → IsAsked words (on_file job (make at)))
-    → IfOk (job_of verb words >>= λ job. (named words 4 >>= λ at. Ok (make at))
-    >>= λ ask. Ok (on_file job ask)) (IsAsked words)
-with_file-words verb words first make begins asked =
-    next (job_of verb words)
-    (λ job. (named words 4 >>= λ at. Ok (make at)) >>= λ ask. Ok (on_file job ask))
-    (HasJob words) (IsAsked words) (job_of-words verb words)
-    (λ job stands.
-    next (named words 4 >>= λ at. Ok (make at)) (λ ask. Ok (on_file job ask))
-    (λ ask. IsAsked words (on_file job ask)) (IsAsked words)
-    (next (named words 4) (λ at. Ok (make at)) (λ at. StandsAt words 4 (text_at words at))
-    (λ ask. IsAsked words (on_file job ask)) (named-word words 4)
-    (λ at fifth.
-    asked job at
-    (begins
-    ∙ ap (λ rest. first ∷ rest) stands
-    ∙ ap (λ rest.
-    first ∷ job_words job.format (word_of job.target) (text_at words job.file) ++ rest) fifth)))
-    (λ ask said. said))
-
--- what is asked with a state and a certificate
-module _ (words : List (List ℕ)) where
-  -- the steps of a proof, each with those after it
-  abbrev with_certificate : WordAt → WordAt → Result Ask ℕ
-  with_certificate state certificate = Ok (asks.Prove state certificate)
-
-  abbrev with_state : WordAt → Result Ask ℕ
-  with_state state = named words 5 >>= with_certificate state
-
-  proof-words : words ≡ codes "prove" ∷ drop 1 words
-      → IfOk (asked_of_file verbs.Prove words) (IsAsked words)
-  proof-words begins =
-      next (job_of verbs.Prove words) (of_job verbs.Prove words) (HasJob words) (IsAsked words)
-      (job_of-words verbs.Prove words)
-      (λ job stands.
-      let said = job_words job.format (word_of job.target) (text_at words job.file) in
-      next (named words 4 >>= with_state) (λ ask. Ok (on_file job ask))
-      (λ ask. IsAsked words (on_file job ask)) (IsAsked words)
-      (next (named words 4) with_state (λ at. StandsAt words 4 (text_at words at))
-      (λ ask. IsAsked words (on_file job ask)) (named-word words 4)
-      (λ state fifth.
-      next (named words 5) (with_certificate state) (λ at. StandsAt words 5 (text_at words at))
-      (λ ask. IsAsked words (on_file job ask)) (named-word words 5)
-      (λ certificate sixth. (
-        drop 6 words,
-        begins
-            ∙ ap (λ rest. codes "prove" ∷ rest) stands
-            ∙ ap (λ rest. codes "prove" ∷ said ++ rest)
-            (fifth ∙ ap (λ rest. text_at words state ∷ rest) sixth),
-      ))))
-      (λ ask said. said))
+with_file-words words first format file target at begins says fifth =
+    begins
+    ∙ ap (λ rest. first ∷ rest) says
+    ∙ ap (λ rest. first ∷ job_words format (word_of target) (text_at words file) ++ rest) fifth
 
 after_verb-words : (words : List (List ℕ)) (verb : Verb) → words ≡ verb_word verb ∷ drop 1 words
-    → IfOk (after_verb verb words) (IsAsked words)
+    → IfOk (source_words verb words >>= λ source. with_source verb words source.0 source.1)
+    (IsAsked words)
 after_verb-words words verbs.Compile first =
-    next (job_of verbs.Compile words) (of_job verbs.Compile words) (HasJob words) (IsAsked words)
-    (job_of-words verbs.Compile words)
-    (λ job stands. (drop 4 words, first ∙ ap (λ rest. codes "compile" ∷ rest) stands))
+    with_file-asked verbs.Compile words (λ ask. ask ≡ asks.Model) (λ order. refl)
+    (λ format file keys target ask says is.
+    subst (λ a. IsAsked words (commanding (File format file) target keys a)) (sym is)
+    (drop 4 words, first ∙ ap (λ rest. codes "compile" ∷ rest) says))
 after_verb-words words verbs.Size first =
-    next (job_of verbs.Size words) (of_job verbs.Size words) (HasJob words) (IsAsked words)
-    (job_of-words verbs.Size words)
-    (λ job stands. (drop 4 words, first ∙ ap (λ rest. codes "size" ∷ rest) stands))
+    with_file-asked verbs.Size words (λ ask. ask ≡ asks.Size) (λ order. refl)
+    (λ format file keys target ask says is.
+    subst (λ a. IsAsked words (commanding (File format file) target keys a)) (sym is)
+    (drop 4 words, first ∙ ap (λ rest. codes "size" ∷ rest) says))
 after_verb-words words verbs.Solve first =
-    next (job_of verbs.Solve words) (of_job verbs.Solve words) (HasJob words) (IsAsked words)
-    (job_of-words verbs.Solve words)
-    (λ job stands. (drop 4 words, first ∙ ap (λ rest. codes "solve" ∷ rest) stands))
+    with_file-asked verbs.Solve words (λ ask. (order : Option WordAt) × (ask ≡ asks.Solve order))
+    (λ order. (order, refl))
+    (λ format file keys target ask says is.
+    subst (λ a. IsAsked words (commanding (File format file) target keys a)) (sym is.1)
+    (drop 4 words, first ∙ ap (λ rest. codes "solve" ∷ rest) says))
 after_verb-words words verbs.Decode first =
-    with_file-words verbs.Decode words (codes "decode") asks.Decode first
-    (λ job state stands. (drop 5 words, stands))
+    with_file-asked verbs.Decode words _ (λ order. one_more words asks.Decode)
+    (λ format file keys target ask says is.
+    subst (λ a. IsAsked words (commanding (File format file) target keys a)) (sym is.1)
+    (drop 5 words, with_file-words words (codes "decode") format file target is.0 first says is.2))
 after_verb-words words verbs.Evaluate first =
-    with_file-words verbs.Evaluate words (codes "evaluate") asks.Evaluate first
-    (λ job states stands. (drop 5 words, stands))
+    with_file-asked verbs.Evaluate words _ (λ order. one_more words asks.Evaluate)
+    (λ format file keys target ask says is.
+    subst (λ a. IsAsked words (commanding (File format file) target keys a)) (sym is.1)
+    (drop 5 words, with_file-words words (codes "evaluate") format file target is.0 first says is.2))
 after_verb-words words verbs.Extend first =
-    with_file-words verbs.Extend words (codes "extend") asks.Extend first
-    (λ job assignment stands. (drop 5 words, stands))
-after_verb-words words verbs.Prove first = proof-words words first
+    with_file-asked verbs.Extend words _ (λ order. one_more words asks.Extend)
+    (λ format file keys target ask says is.
+    subst (λ a. IsAsked words (commanding (File format file) target keys a)) (sym is.1)
+    (drop 5 words, with_file-words words (codes "extend") format file target is.0 first says is.2))
+after_verb-words words verbs.Prove first =
+    with_file-asked verbs.Prove words _ (λ order. two_more words)
+    (λ format file keys target ask says is.
+    let said = job_words format (word_of target) (text_at words file) in
+    subst (λ a. IsAsked words (commanding (File format file) target keys a)) (sym is.2) (
+      drop 6 words,
+      with_file-words words (codes "prove") format file target is.0 first says is.3
+          ∙ ap (λ rest. codes "prove" ∷ said ++ text_at words is.0 ∷ rest) is.4,
+    ))
 after_verb-words words verbs.Sample first =
-    next (sample_of words) (λ sample. Ok (drawn sample)) (HasSample words) (IsAsked words)
-    (sample_of-words words)
-    (λ sample has. (
+    next (drawn_words words) (λ source. with_source verbs.Sample words source.0 source.1)
+    (IsDrawnSaid words) (IsAsked words) (drawn_words-said words)
+    (λ source h.
+    let Asks : Origin × TargetWord → Type 0 =
+    λ s. IfOk (with_source verbs.Sample words s.0 s.1) (IsAsked words) in
+    subst Asks (sym h.is)
+    (with_source-asked verbs.Sample words (Drawn h.number h.clauses) source.1
+    (λ ask. ask ≡ asks.Summary) (λ order. refl)
+    (λ keys target ask same is.
+    let says = subst (SaysSource words (Drawn h.number h.clauses)) (sym same) h.says in
+    subst (λ a. IsAsked words (commanding (Drawn h.number h.clauses) target keys a)) (sym is) (
       drop 4 words,
       record {
-        first = has.0;
-        second = has.1;
-        number_said = has.2;
-        clauses_said = has.3;
-        all = first ∙ ap (λ rest. codes "sample" ∷ rest) has.4;
+        first = says.0;
+        second = says.1;
+        number_said = says.2;
+        clauses_said = says.3;
+        all = first ∙ ap (λ rest. codes "sample" ∷ rest) says.4;
       },
-    ))
+    ))))
 
 -- words of a command say it
 command_of-words : (words : List (List ℕ)) → IfOk (command_of words) (IsAsked words)
 command_of-words words =
-    next (valued verb_of words 0) (λ verb. after_verb verb words)
+    next (valued verb_of words 0)
+    (λ verb. source_words verb words >>= λ source. with_source verb words source.0 source.1)
     (λ verb. words ≡ verb_word verb ∷ drop 1 words) (IsAsked words)
     (valued-word verb_of verb_word verb_of-word words 0) (after_verb-words words)
 

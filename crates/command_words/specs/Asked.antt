@@ -41,8 +41,8 @@ use Rattle.command_words.specs.declared.commands.Origin.TheVariants.{File, Drawn
 use Rattle.command_words.specs.declared.commands.Ask.{Ask}
 use Rattle.command_words.specs.declared.commands.Ask.TheVariants as asks
 use Rattle.command_words.specs.declared.commands.Command.{Command}
-use Rattle.command_words.specs.Commands.{◌>>=◌, chosen_target, clauses_of, command_of, first_notice, request_of}
-use Rattle.command_words.specs.Keys.{choices_of, chosen_slack, chosen_unit, cut, keys_from, no_keys, with_word}
+use Rattle.command_words.specs.Commands.{◌>>=◌, chosen_target, clauses_of, command_of, commanding, first_notice, request_of}
+use Rattle.command_words.specs.Keys.{cut, keys_from, no_keys, with_word}
 use Rattle.command_words.specs.Names.{text_at}
 
 -- the word of a format
@@ -110,27 +110,12 @@ sample_words number clauses target keys =
 
 -- What is asked of the file that the fourth word names. Counted from 0 it is word 3.
 abbrev pub on_fourth_word : Format → Target → Keys → Ask → Command
-on_fourth_word format target keys ask = record {
-  origin = File format (Whole 3);
-  target = target;
-  choices = choices_of keys;
-  unit = chosen_unit keys;
-  bound = keys.bound;
-  slack = chosen_slack keys;
-  ask = ask;
-}
+on_fourth_word format target keys ask = commanding (File format (Whole 3)) target keys ask
 
 -- the summary of the sample of these numbers
 abbrev pub summary_of : ℕ → ℕ → Target → Keys → Command
-summary_of number clauses target keys = record {
-  origin = Drawn number clauses;
-  target = target;
-  choices = choices_of keys;
-  unit = chosen_unit keys;
-  bound = keys.bound;
-  slack = chosen_slack keys;
-  ask = asks.Summary;
-}
+summary_of number clauses target keys =
+    commanding (Drawn number clauses) target keys asks.Summary
 
 -- the key that chooses a normal form
 abbrev pub normal_key : Normal → List ℕ

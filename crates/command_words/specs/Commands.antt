@@ -5,11 +5,15 @@
 -- So `compile wcnf qubo clash.wcnf unit=reduce` asks for a model, `compile wcnf qubo` is refused at
 -- position 4, where the file is missing, and `compile wcnf graph clash.wcnf` at position 3.
 -- `--help` asks for a notice, and `--help compile` is refused at position 2.
-use Rattle.std.specs.Prelude.{ℕ, ◌+◌, ◌≤◌, ◌==◌, ◌||◌, ⊤, List, length, drop, String, string_bytes, map, bytes_eq, codes, nat_le, if◌then◌else◌, option_and_then, Ok, Err, Some, None, Result, Option, slice_get}
+use Rattle.std.specs.Prelude.{ℕ, ◌+◌, ◌≤◌, ◌==◌, ◌||◌, ⊤, List, [], ◌∷◌, length, drop, String, string_bytes, map, bytes_eq, codes, nat_le, if◌then◌else◌, option_and_then, Ok, Err, Some, None, Result, Option, slice_get, unwrap_or}
 use Rattle.std.specs.Option.{option_map_or, ok_or}
+use Rattle.base.specs.declared.unit.UnitChoice.TheVariants.{One}
+use Rattle.problem_form.specs.declared.limits.Normal.TheVariants.{Literal}
+use Rattle.problem_form.specs.declared.limits.High.TheVariants.{Monomial}
 use Rattle.whole_text.specs.Numbers.{digits_number}
 use Rattle.command_words.specs.declared.commands.Format.{Format}
 use Rattle.command_words.specs.declared.commands.Format.TheVariants as formats
+use Rattle.command_words.specs.declared.commands.Slack.TheVariants.{Bits}
 use Rattle.command_words.specs.declared.commands.Target.{Target}
 use Rattle.command_words.specs.declared.commands.NodeModel.TheVariants.{Qubo, Ising}
 use Rattle.command_words.specs.declared.commands.TargetWord.{TargetWord}
@@ -21,8 +25,6 @@ use Rattle.command_words.specs.declared.commands.Origin.TheVariants.{File, Drawn
 use Rattle.command_words.specs.declared.commands.Ask.{Ask}
 use Rattle.command_words.specs.declared.commands.Ask.TheVariants.{Model, Summary, Size, Solve, Decode, Evaluate, Extend, Prove}
 use Rattle.command_words.specs.declared.commands.Command.{Command}
-use Rattle.command_words.specs.declared.words.Job.{Job}
-use Rattle.command_words.specs.declared.words.Sample.{Sample}
 use Rattle.command_words.specs.declared.commands.Verb.{Verb}
 use Rattle.command_words.specs.declared.commands.Verb.TheVariants as verbs
 use Rattle.command_words.specs.declared.commands.Notice.{Notice}
@@ -30,7 +32,7 @@ use Rattle.command_words.specs.declared.commands.Notice.TheVariants.{Help, Versi
 use Rattle.command_words.specs.declared.commands.Request.{Request}
 use Rattle.command_words.specs.declared.commands.Request.TheVariants as requests
 use Rattle.command_words.specs.declared.keys.Keys.{Keys}
-use Rattle.command_words.specs.Keys.{choices_of, chosen_slack, chosen_unit, keys_from, no_keys, target_by}
+use Rattle.command_words.specs.Keys.{keys_from, listed, no_keys, target_by}
 
 -- a step on the words, and the next one with its value; a word that cannot stand ends it, so the
 -- first such word is the one that is told
@@ -52,27 +54,22 @@ named words i = option_map_or (λ word. Ok (Whole i)) (slice_get words i) (Err (
 
 -- the words of the formats
 abbrev pub format_of : List ℕ → Option Format
-format_of word =
-    if bytes_eq word (codes "wcnf")
-    then Some formats.Wcnf
-    else if bytes_eq word (codes "wbo")
-    then Some formats.Wbo
-    else if bytes_eq word (codes "opb")
-    then Some formats.Opb
-    else if bytes_eq word (codes "poly")
-    then Some formats.Poly
-    else if bytes_eq word (codes "ising")
-    then Some formats.Ising
-    else if bytes_eq word (codes "qubo") then Some formats.Qubo else None
+format_of = listed None
+    ((codes "wcnf", Some formats.Wcnf)
+    ∷ (codes "wbo", Some formats.Wbo)
+    ∷ (codes "opb", Some formats.Opb)
+    ∷ (codes "poly", Some formats.Poly)
+    ∷ (codes "ising", Some formats.Ising)
+    ∷ (codes "qubo", Some formats.Qubo)
+    ∷ [])
 
 -- the words of the targets
 abbrev pub target_of : List ℕ → Option TargetWord
-target_of word =
-    if bytes_eq word (codes "qubo")
-    then Some (Nodes Qubo)
-    else if bytes_eq word (codes "ising")
-    then Some (Nodes Ising)
-    else if bytes_eq word (codes "chimera") then Some Chimera else None
+target_of = listed None
+    ((codes "qubo", Some (Nodes Qubo))
+    ∷ (codes "ising", Some (Nodes Ising))
+    ∷ (codes "chimera", Some Chimera)
+    ∷ [])
 
 -- The target that a word and the keys choose, or the position after all words. What is missing
 -- there is a key of the graph, which might have stood after the last word.
@@ -88,24 +85,13 @@ first_key verbs.Extend = 5
 first_key verbs.Prove = 6
 first_key verb = 4
 
--- the job of FORMAT TARGET FILE, from the second word on, with the keys of a verb
-abbrev pub job_of : Verb → List (List ℕ) → Result Job ℕ
-job_of verb words = do
+-- the words FORMAT TARGET FILE: a source in a file, and the word of its target
+abbrev pub file_words : List (List ℕ) → Result (Origin × TargetWord) ℕ
+file_words words = do
   format ← valued format_of words 1
-  word ← valued target_of words 2
+  target ← valued target_of words 2
   file ← named words 3
-  keys ← keys_from verb word no_keys (first_key verb) (drop (first_key verb) words)
-  target ← chosen_target words word keys
-  Ok (record {
-    format = format;
-    file = file;
-    target = target;
-    choices = choices_of keys;
-    unit = chosen_unit keys;
-    bound = keys.bound;
-    slack = chosen_slack keys;
-    order = keys.order;
-  })
+  Ok (File format file, target)
 
 -- A count of clauses in digits, of at most 100,000. More than that would make a text that the
 -- limits refuse.
@@ -114,66 +100,44 @@ clauses_of word =
     option_map_or (λ clauses. if nat_le clauses 100000 then Some clauses else None)
     (digits_number word) None
 
--- The sample of NUMBER CLAUSES TARGET, from the second word on, with the keys after them. It has no
--- file: the text is drawn from the two numbers.
-abbrev pub sample_of : List (List ℕ) → Result Sample ℕ
-sample_of words = do
+-- The words NUMBER CLAUSES TARGET: a source that is drawn from the two numbers, and the word of its
+-- target. It has no file.
+abbrev pub drawn_words : List (List ℕ) → Result (Origin × TargetWord) ℕ
+drawn_words words = do
   number ← valued digits_number words 1
   clauses ← valued clauses_of words 2
-  word ← valued target_of words 3
-  keys ← keys_from verbs.Sample word no_keys 4 (drop 4 words)
-  target ← chosen_target words word keys
-  Ok (record {
-    number = number;
-    clauses = clauses;
-    target = target;
-    choices = choices_of keys;
-    unit = chosen_unit keys;
-    bound = keys.bound;
-    slack = chosen_slack keys;
-  })
+  target ← valued target_of words 3
+  Ok (Drawn number clauses, target)
+
+-- the three words after a verb
+abbrev pub source_words : Verb → List (List ℕ) → Result (Origin × TargetWord) ℕ
+source_words verbs.Sample words = drawn_words words
+source_words verb words = file_words words
 
 -- the words of the verbs
 abbrev pub verb_of : List ℕ → Option Verb
-verb_of word =
-    if bytes_eq word (codes "compile")
-    then Some verbs.Compile
-    else if bytes_eq word (codes "size")
-    then Some verbs.Size
-    else if bytes_eq word (codes "decode")
-    then Some verbs.Decode
-    else if bytes_eq word (codes "evaluate")
-    then Some verbs.Evaluate
-    else if bytes_eq word (codes "extend")
-    then Some verbs.Extend
-    else if bytes_eq word (codes "sample")
-    then Some verbs.Sample
-    else if bytes_eq word (codes "solve")
-    then Some verbs.Solve
-    else if bytes_eq word (codes "prove") then Some verbs.Prove else None
+verb_of = listed None
+    ((codes "compile", Some verbs.Compile)
+    ∷ (codes "size", Some verbs.Size)
+    ∷ (codes "decode", Some verbs.Decode)
+    ∷ (codes "evaluate", Some verbs.Evaluate)
+    ∷ (codes "extend", Some verbs.Extend)
+    ∷ (codes "sample", Some verbs.Sample)
+    ∷ (codes "solve", Some verbs.Solve)
+    ∷ (codes "prove", Some verbs.Prove)
+    ∷ [])
 
--- what is asked of a source in a file
-abbrev pub on_file : Job → Ask → Command
-on_file job ask = record {
-  origin = File job.format job.file;
-  target = job.target;
-  choices = job.choices;
-  unit = job.unit;
-  bound = job.bound;
-  slack = job.slack;
+-- what is asked of a source, with what the keys choose, and the usual choice for each that is not
+-- given: the usual normal form and the usual steps are those of a command without keys
+abbrev pub commanding : Origin → Target → Keys → Ask → Command
+commanding origin target keys ask = record {
+  origin = origin;
+  target = target;
+  choices = record { normal = unwrap_or keys.normal Literal; high = unwrap_or keys.high Monomial };
+  unit = unwrap_or keys.unit One;
+  bound = keys.bound;
+  slack = unwrap_or keys.slack Bits;
   ask = ask;
-}
-
--- the summary of the model of a source that is drawn
-abbrev pub drawn : Sample → Command
-drawn sample = record {
-  origin = Drawn sample.number sample.clauses;
-  target = sample.target;
-  choices = sample.choices;
-  unit = sample.unit;
-  bound = sample.bound;
-  slack = sample.slack;
-  ask = Summary;
 }
 
 -- What a verb asks of the model of a source, with the names that stand behind FILE. `solve` takes
@@ -191,27 +155,15 @@ ask_of verbs.Prove order words = do
   certificate ← named words 5
   Ok (Prove state certificate)
 
--- what a verb asks of a source in a file
-abbrev pub asked_of_file : Verb → List (List ℕ) → Result Command ℕ
-asked_of_file verb words = do
-  job ← job_of verb words
-  ask ← ask_of verb job.order words
-  Ok (on_file job ask)
-
--- what is asked of a source that is drawn
-abbrev pub asked_of_sample : List (List ℕ) → Result Command ℕ
-asked_of_sample words = sample_of words >>= λ sample. Ok (drawn sample)
-
--- what a verb asks for, with the words that stand after it
-abbrev pub after_verb : Verb → List (List ℕ) → Result Command ℕ
-after_verb verbs.Sample words = asked_of_sample words
-after_verb verb words = asked_of_file verb words
-
--- all words of a command
+-- all words of a command: a verb, its source and target, the files that it has besides, and keys
 abbrev pub command_of : List (List ℕ) → Result Command ℕ
 command_of words = do
   verb ← valued verb_of words 0
-  after_verb verb words
+  source ← source_words verb words
+  keys ← keys_from verb source.1 no_keys (first_key verb) (drop (first_key verb) words)
+  target ← chosen_target words source.1 keys
+  ask ← ask_of verb keys.order words
+  Ok (commanding source.0 target keys ask)
 
 -- the words of the notices, each long or short
 abbrev pub notice_of : List ℕ → Option Notice

@@ -1,11 +1,11 @@
 //! The keys of a command, in any order, each at most once: words of the form `NAME=VALUE`.
 ghost use Rattle.std.specs.Prelude.{◌≡◌, ◌+◌, ◌<◌, ◌^◌, length, map, string_bytes, Some, None, MatchOption};
-ghost use Rattle.command_words.specs.Keys.{bound_of, chosen_ties, chosen_unit, choices_of, cut, embed_of, graph_of, high_of, keys_from, no_keys, normal_of, once, side_of, slack_of, chosen_slack, target_by, ties_of, unit_of, with_chain_pair, with_graph_pair, with_order, with_pair, with_word};
+ghost use Rattle.command_words.specs.Keys.{bound_of, cut, embed_of, graph_of, high_of, keys_from, no_keys, normal_of, once, side_of, slack_of, target_by, ties_of, unit_of, with_chain_pair, with_graph_pair, with_order, with_pair, with_word};
 
 use crate::commands::{Board, Bound, Chaining, Slack, Target, TargetWord, Ties, Verb, WordAt};
 use base::UnitChoice;
 use chimera_graph::Chimera;
-use problem_form::{Choices, High, Normal};
+use problem_form::{High, Normal};
 use whole_text::digits;
 
 /// The greatest number of rows, columns or qubits on a side.
@@ -48,37 +48,6 @@ pub(crate) fn no_keys() -> Keys
     }
 }
 
-/// What the keys choose, and the usual choice for each that was not given.
-pub(crate) fn choices_of(keys: Keys) -> Choices
-    ensures { result ≡ choices_of keys }
-{
-    Choices {
-        normal: keys.normal.unwrap_or(Normal::Literal),
-        high: keys.high.unwrap_or(High::Monomial),
-    }
-}
-
-/// How the printed unit is chosen, which is usually 1.
-pub(crate) fn chosen_unit(keys: Keys) -> UnitChoice
-    ensures { result ≡ chosen_unit keys }
-{
-    keys.unit.unwrap_or(UnitChoice::One)
-}
-
-/// How conflicts enter the model, which is usually with slack bits.
-pub(crate) fn chosen_slack(keys: Keys) -> Slack
-    ensures { result ≡ chosen_slack keys }
-{
-    keys.slack.unwrap_or(Slack::Bits)
-}
-
-/// How the qubits of a chain are tied, which is usually by the simple bound.
-fn chosen_ties(keys: Keys) -> Ties
-    ensures { result ≡ chosen_ties keys }
-{
-    keys.ties.unwrap_or(Ties::Choi)
-}
-
 /// The graph that the keys choose, or none where a number is missing or it were too large.
 fn graph_of(keys: Keys) -> Option<Chimera>
     ensures { result ≡ graph_of keys }
@@ -103,7 +72,7 @@ pub(crate) fn target_by(target: TargetWord, keys: Keys) -> Option<Target>
                 graph,
                 dead: keys.dead,
                 chains,
-                ties: chosen_ties(keys),
+                ties: keys.ties.unwrap_or(Ties::Choi),
             }))
         }
     }

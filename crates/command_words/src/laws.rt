@@ -1,5 +1,6 @@
 //! Laws, as functions without code: each contract is a statement of `specs/`.
 ghost use Rattle.command_words.specs.Asked.{EachJobIsAskedFor, EachSizeIsAskedFor, EachEvaluationIsAskedFor, EachSlackIsAskedFor, EachOrderIsAskedFor, EachNoticeIsAskedFor, EachCommandIsAskedFor, NoOrderElsewhere, EachDecodingIsAskedFor, EachExtensionIsAskedFor, EachSampleIsAskedFor, EachSolutionIsAskedFor, EachProofIsAskedFor, EachUnitIsAskedFor, EachGraphIsAskedFor, EachKeyStands, NoKeyStandsTwice, NoGraphKeyElsewhere, NoGraphWithout, NoLargerGraph, NoOtherWordsAsk};
+ghost use Rattle.command_words.specs.Positions.{PositionsTellTheFirst};
 
 /// Which words ask for a command or a notice, and which don't.
 pub fn laws_of_words()
@@ -24,4 +25,10 @@ pub fn laws_of_words()
     ensures each_notice { EachNoticeIsAskedFor }
     ensures each_command { EachCommandIsAskedFor }
     ensures no_other { NoOtherWordsAsk }
+{}
+
+/// The position that is told is that of the first word that cannot stand: the words before it can go
+/// on to a request, and with it none can. Where a word is missing it is the position behind all words.
+pub fn positions_tell_the_first()
+    ensures { PositionsTellTheFirst }
 {}

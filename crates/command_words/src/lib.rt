@@ -13,7 +13,7 @@ pub use commands::{
     Ask, Board, Bound, Chaining, Command, Format, NodeModel, Notice, Origin, Request, Slack,
     Target, Ties, WordAt, most_of,
 };
-pub use laws::laws_of_words;
+pub use laws::{laws_of_words, positions_tell_the_first};
 pub use names::{Which, name_of, text_at};
 pub use notices::notice_text;
 pub use words::request;

@@ -1,44 +1,19 @@
 //! The words of a command, one after another. Nothing here takes memory.
 ghost use Rattle.std.specs.Prelude.{◌≡◌, ◌<◌, ◌≤◌, ◌^◌, IfOk, IfSome, length, map, drop, string_bytes};
 ghost use Rattle.whole_text.specs.Numbers.{digits_number};
-ghost use Rattle.command_words.specs.Commands.{HasFewClauses, AsksForFewClauses, alone, ask_of, asked_of_file, asked_of_sample, chosen_target, clauses_of, command_of, drawn, first_key, first_notice, format_of, job_of, named, notice_of, on_file, request_of, sample_of, target_of, valued, verb_of};
+ghost use Rattle.command_words.specs.Commands.{HasFewClauses, AsksForFewClauses, alone, ask_of, chosen_target, clauses_of, command_of, drawn_words, file_words, first_key, first_notice, format_of, named, notice_of, request_of, source_words, target_of, valued, verb_of};
 
 use crate::commands::{
-    Ask, Bound, Command, Format, NodeModel, Notice, Origin, Request, Slack, Target, TargetWord,
-    Verb, WordAt,
+    Ask, Command, Format, NodeModel, Notice, Origin, Request, Slack, Target, TargetWord, Verb,
+    WordAt,
 };
-use crate::keys::{Keys, choices_of, chosen_slack, chosen_unit, keys_from, target_by};
+use crate::keys::{Keys, keys_from, target_by};
 use base::UnitChoice;
-use problem_form::Choices;
+use problem_form::{Choices, High, Normal};
 use whole_text::digits;
 
 /// The greatest number of clauses of a sample.
 const MOST_CLAUSES: u64 = 100_000;
-
-/// What FORMAT TARGET FILE say, and the keys.
-#[derive(Clone, Copy, Debug, PartialEq, Eq)]
-pub struct Job {
-    pub format: Format,
-    pub file: WordAt,
-    pub target: Target,
-    pub choices: Choices,
-    pub unit: UnitChoice,
-    pub bound: Option<Bound>,
-    pub slack: Slack,
-    pub order: Option<WordAt>,
-}
-
-/// What NUMBER CLAUSES TARGET say, and the keys.
-#[derive(Clone, Copy, Debug, PartialEq, Eq)]
-pub struct Sample {
-    pub number: u64,
-    pub clauses: u64,
-    pub target: Target,
-    pub choices: Choices,
-    pub unit: UnitChoice,
-    pub bound: Option<Bound>,
-    pub slack: Slack,
-}
 
 fn verb_of(word: &str) -> Option<Verb>
     ensures { result ≡ verb_of word.now }
@@ -185,76 +160,37 @@ fn first_key(verb: Verb) -> usize
     }
 }
 
-/// The job of FORMAT TARGET FILE, from the second word on, with the keys of a verb.
-fn read_job(verb: Verb, words: &[String]) -> Result<Job, usize>
-    ensures { result ≡ job_of verb (map string_bytes words.now) }
+/// The words FORMAT TARGET FILE.
+fn file_words(words: &[String]) -> Result<(Origin, TargetWord), usize>
+    ensures said { result ≡ file_words (map string_bytes words.now) }
+    ensures few { IfOk result (λ source. HasFewClauses source.0) }
 {
     let format = format_word(words)?;
-    let word = target_word(words, 2)?;
+    let target = target_word(words, 2)?;
     let file = named(words, 3)?;
-    let first = first_key(verb);
-    let keys = keys_from(verb, word, first, words_from(words, first))?;
-    let target = chosen_target(words, word, keys)?;
-    Ok(Job {
-        format,
-        file,
-        target,
-        choices: choices_of(keys),
-        unit: chosen_unit(keys),
-        bound: keys.bound,
-        slack: chosen_slack(keys),
-        order: keys.order,
-    })
+    Ok((Origin::File(format, file), target))
 }
 
-/// The sample of NUMBER CLAUSES TARGET, with the keys after them.
-fn read_sample(words: &[String]) -> Result<Sample, usize>
-    ensures sample { result ≡ sample_of (map string_bytes words.now) }
-    ensures few { IfOk result (λ sample. sample.clauses ≤ 100000) }
+/// The words NUMBER CLAUSES TARGET.
+fn drawn_words(words: &[String]) -> Result<(Origin, TargetWord), usize>
+    ensures said { result ≡ drawn_words (map string_bytes words.now) }
+    ensures few { IfOk result (λ source. HasFewClauses source.0) }
 {
     let number = number_word(words)?;
     let clauses = clauses_word(words)?;
-    let word = target_word(words, 3)?;
-    let keys = keys_from(Verb::Sample, word, 4, words_from(words, 4))?;
-    let target = chosen_target(words, word, keys)?;
-    Ok(Sample {
-        number,
-        clauses,
-        target,
-        choices: choices_of(keys),
-        unit: chosen_unit(keys),
-        bound: keys.bound,
-        slack: chosen_slack(keys),
-    })
+    let target = target_word(words, 3)?;
+    Ok((Origin::Drawn(number, clauses), target))
 }
 
-/// What is asked of a source in a file.
-fn on_file(job: Job, ask: Ask) -> Command
-    ensures { result ≡ on_file job ask }
+/// The source and the word of its target: FORMAT TARGET FILE, or NUMBER CLAUSES TARGET for a
+/// source that is drawn.
+fn source_words(verb: Verb, words: &[String]) -> Result<(Origin, TargetWord), usize>
+    ensures said { result ≡ source_words verb (map string_bytes words.now) }
+    ensures few { IfOk result (λ source. HasFewClauses source.0) }
 {
-    Command {
-        origin: Origin::File(job.format, job.file),
-        target: job.target,
-        choices: job.choices,
-        unit: job.unit,
-        bound: job.bound,
-        slack: job.slack,
-        ask,
-    }
-}
-
-/// The summary of the model of a source that is drawn.
-fn drawn(sample: Sample) -> Command
-    ensures { result ≡ drawn sample }
-{
-    Command {
-        origin: Origin::Drawn(sample.number, sample.clauses),
-        target: sample.target,
-        choices: sample.choices,
-        unit: sample.unit,
-        bound: sample.bound,
-        slack: sample.slack,
-        ask: Ask::Summary,
+    match verb {
+        Verb::Sample => drawn_words(words),
+        _ => file_words(words),
     }
 }
 
@@ -277,24 +213,6 @@ fn ask_of(verb: Verb, order: Option<WordAt>, words: &[String]) -> Result<Ask, us
     }
 }
 
-/// What a verb asks of a source in a file.
-fn asked_of_file(verb: Verb, words: &[String]) -> Result<Command, usize>
-    ensures asked { result ≡ asked_of_file verb (map string_bytes words.now) }
-    ensures few { IfOk result (λ command. HasFewClauses command.origin) }
-{
-    let job = read_job(verb, words)?;
-    let ask = ask_of(verb, job.order, words)?;
-    Ok(on_file(job, ask))
-}
-
-/// What is asked of a source that is drawn.
-fn asked_of_sample(words: &[String]) -> Result<Command, usize>
-    ensures asked { result ≡ asked_of_sample (map string_bytes words.now) }
-    ensures few { IfOk result (λ command. HasFewClauses command.origin) }
-{
-    Ok(drawn(read_sample(words)?))
-}
-
 /// The command of the words, or the position of the first word that cannot stand, counted from 1;
 /// where no word is wrong but one is missing, or the graph were too large, it is the number of
 /// words and one.
@@ -302,10 +220,24 @@ fn command(words: &[String]) -> Result<Command, usize>
     ensures asked { result ≡ command_of (map string_bytes words.now) }
     ensures few { IfOk result (λ command. HasFewClauses command.origin) }
 {
-    match verb_word(words)? {
-        Verb::Sample => asked_of_sample(words),
-        verb => asked_of_file(verb, words),
-    }
+    let verb = verb_word(words)?;
+    let (origin, word) = source_words(verb, words)?;
+    let first = first_key(verb);
+    let keys = keys_from(verb, word, first, words_from(words, first))?;
+    let target = chosen_target(words, word, keys)?;
+    let ask = ask_of(verb, keys.order, words)?;
+    Ok(Command {
+        origin,
+        target,
+        choices: Choices {
+            normal: keys.normal.unwrap_or(Normal::Literal),
+            high: keys.high.unwrap_or(High::Monomial),
+        },
+        unit: keys.unit.unwrap_or(UnitChoice::One),
+        bound: keys.bound,
+        slack: keys.slack.unwrap_or(Slack::Bits),
+        ask,
+    })
 }
 
 fn notice_of(word: &str) -> Option<Notice>

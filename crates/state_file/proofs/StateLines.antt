@@ -10,7 +10,8 @@ use Rattle.std.proofs.lemmas.List.Folds.{list_all-append}
 use Rattle.std.proofs.lemmas.List.FromFn.{length-enumerate_from}
 use Rattle.std.proofs.lemmas.List.Sums.{length-filter, count_by-le-length}
 use Rattle.std.proofs.lemmas.List.Splits.{length-slice_split, slice_split_first}
-use Rattle.state_file.specs.States.{StateLine, is_bit, is_feed, is_one, is_state, lines_of, states_from, trimmed_line}
+use Rattle.whole_text.specs.Tokens.{is_feed}
+use Rattle.state_file.specs.States.{StateLine, is_bit, is_one, is_state, lines_of, states_from, trimmed_line}
 
 -- ---- the states among lines
 

@@ -2,14 +2,7 @@
 use Rattle.std.specs.Prelude.{◌≡◌, ℕ, ◌-◌, ◌==◌, Bool, ◌&&◌, ◌||◌, List, [], length, map, find, take, drop, Option, None, Some, slice_get}
 use Rattle.std.specs.List.{slice_split, list_all, prefix_len, suffix_len, filter, enumerate_from}
 use Rattle.std.specs.Option.{option_map}
-
--- the byte at which lines end
-abbrev pub is_feed : ℕ → Bool
-is_feed byte = byte == 10
-
--- space, tab and carriage return
-abbrev pub is_blank : ℕ → Bool
-is_blank byte = (byte == 32) || (byte == 9) || (byte == 13)
+use Rattle.whole_text.specs.Tokens.{is_blank, is_feed}
 
 -- `0` and `-`
 abbrev pub is_zero : ℕ → Bool

@@ -4,7 +4,8 @@
 //! nothing here takes memory.
 ghost use Rattle.std.specs.Prelude.{◌≡◌, ◌+◌, ◌≤◌, ◌<◌, ◌^◌, ◌∷◌, [], All, length, map, IfSome, MatchOption, option_copied};
 ghost use Rattle.std.specs.List.{position_or_len};
-ghost use Rattle.state_file.specs.States.{is_feed, is_one, lines_left, lines_of, states_of, trimmed_line};
+ghost use Rattle.whole_text.specs.Tokens.{is_feed};
+ghost use Rattle.state_file.specs.States.{is_one, lines_left, lines_of, states_of, trimmed_line};
 
 use crate::reading::{is_one, is_state, trimmed_line};
 use std::marker::Model;

@@ -15,8 +15,8 @@ ghost use Rattle.std.specs.Prelude.{
   Some,
 };
 ghost use Rattle.std.specs.List.{list_all, prefix_len, suffix_len};
+ghost use Rattle.whole_text.specs.Tokens.{is_blank};
 ghost use Rattle.state_file.specs.States.{
-  is_blank,
   is_zero,
   is_one,
   is_bit,
@@ -29,12 +29,7 @@ ghost use Rattle.state_file.specs.States.{
 use crate::answer::StateAnswer;
 use base::NoMemory;
 use std::alloc::Global;
-
-fn is_blank(byte: u8) -> bool
-    ensures { result ≡ is_blank byte }
-{
-    byte == b' ' || byte == b'\t' || byte == b'\r'
-}
+use whole_text::is_blank;
 
 fn is_zero(byte: u8) -> bool
     ensures { result ≡ is_zero byte }

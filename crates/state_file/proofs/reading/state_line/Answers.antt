@@ -5,7 +5,8 @@ use Rattle.std.proofs.lemmas.Iterator.{YieldsList-from_map_by}
 use Rattle.std.proofs.lemmas.Iterator.Consumers.{YieldsList-at}
 use Rattle.std.proofs.lemmas.Iterator.Search.{find_from_yields_List}
 use Rattle.std.proofs.lemmas.Iterator.Splits.{YieldsList-from_slice_split}
-use Rattle.state_file.specs.States.{is_feed, trimmed_line, is_state}
+use Rattle.whole_text.specs.Tokens.{is_feed}
+use Rattle.state_file.specs.States.{trimmed_line, is_state}
 use Rattle.state_file.proofs.reading.state_line.Goals as goal
 
 pub returns : goal.returns

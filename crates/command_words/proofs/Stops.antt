@@ -1,0 +1,372 @@
+-- Where keys stop, how words go on, and what is told behind all words.
+use Rattle.std.proofs.Common.{◌≡◌, ◌<◌, ℕ, zero, suc, ◌+◌, List, [], ◌∷◌, ◌++◌, length, take, drop, get_or, Option, Some, None, Result, Ok, Err, refl, ap, sym, subst, ◌∙◌, ◌⊎◌, inl, inr, arith}
+use Rattle.std.specs.Prelude.{unwrap_or, ⊤, ◌≤◌, codes, slice_get}
+use Rattle.std.specs.Option.{option_map_or, ok_or}
+use Rattle.std.proofs.lemmas.List.{take_all}
+use Rattle.std.proofs.lemmas.Option.{slice_get_cases}
+use Rattle.whole_text.specs.Numbers.{digits_number}
+use Rattle.command_words.specs.declared.commands.Ask.{Ask}
+use Rattle.command_words.specs.declared.commands.Ask.TheVariants as asks
+use Rattle.command_words.specs.declared.commands.Command.{Command}
+use Rattle.command_words.specs.declared.commands.Request.TheVariants as requests
+use Rattle.command_words.specs.declared.commands.WordAt.{WordAt}
+use Rattle.command_words.specs.declared.commands.WordAt.TheVariants.{Whole}
+use Rattle.command_words.specs.declared.commands.Chaining.{Chaining}
+use Rattle.command_words.specs.declared.commands.Chaining.TheVariants.{Clique}
+use Rattle.command_words.specs.declared.commands.Target.{Target}
+use Rattle.command_words.specs.declared.commands.Target.TheVariants as targets
+use Rattle.command_words.specs.declared.commands.TargetWord.{TargetWord}
+use Rattle.command_words.specs.declared.commands.TargetWord.TheVariants.{Nodes, Chimera}
+use Rattle.command_words.specs.declared.commands.Verb.{Verb}
+use Rattle.command_words.specs.declared.commands.Verb.TheVariants as verbs
+use Rattle.command_words.specs.declared.keys.Keys.{Keys}
+use Rattle.command_words.specs.declared.commands.Origin.{Origin}
+use Rattle.command_words.specs.declared.commands.Ties.TheVariants.{Choi}
+use Rattle.chimera_graph.specs.declared.chimera.Chimera as graphs
+use Rattle.command_words.specs.Keys.{graph_with, keys_from, target_by, with_word}
+use Rattle.command_words.specs.Asked.{clique_key, cols_key, rows_key, shore_key}
+use Rattle.command_words.specs.Commands.{◌>>=◌, ask_of, first_key, named, request_of}
+use Rattle.command_words.specs.Positions.{AskForTooLarge, CanGoOn}
+use Rattle.command_words.proofs.AskedWords.{each_key}
+use Rattle.command_words.proofs.SaidWords.{with_ask, with_chosen, with_keys}
+
+-- ---- keys
+
+-- where keys stop at a word
+pub record Stop (verb : Verb) (target : TargetWord) (keys : Keys) (at p : ℕ) (words : List (List ℕ))
+    : Type 0 where
+  pub j : ℕ
+  pub position : p ≡ at + j + 1
+  pub within : j < length words
+  pub so_far : Keys
+  pub before : keys_from verb target keys at (take j words) ≡ Ok so_far
+  pub wrong : (more : List (List ℕ))
+      → keys_from verb target keys at (take (suc j) words ++ more) ≡ Err p
+
+module _ (verb : Verb) (target : TargetWord) where
+  -- keys behind keys
+  pub keys_behind : (keys more : Keys) (at : ℕ) (a b : List (List ℕ))
+      → keys_from verb target keys at a ≡ Ok more
+      → keys_from verb target keys at (a ++ b) ≡ keys_from verb target more (length a + at) b
+  keys_behind keys more at [] b e =
+      let same : keys ≡ more = cc in
+      let first : at ≡ 0 + at = omega arith in
+      ap (λ k. keys_from verb target k at b) same ∙ ap (λ n. keys_from verb target more n b) first
+  keys_behind keys more at (word ∷ a) b e =
+      go (λ next f. keys_behind next more (at + 1) a b f) (with_word verb target keys at word) e
+    where
+      go : ((next : Keys) → keys_from verb target next (at + 1) a ≡ Ok more
+          → keys_from verb target next (at + 1) (a ++ b)
+          ≡ keys_from verb target more (length a + (at + 1)) b)
+          → (o : Option Keys)
+          → option_map_or (λ next. keys_from verb target next (at + 1) a) o (Err (at + 1)) ≡ Ok more
+          → option_map_or (λ next. keys_from verb target next (at + 1) (a ++ b)) o (Err (at + 1))
+          ≡ keys_from verb target more (length (word ∷ a) + at) b
+      go rest None f = absurd cc
+      go rest (Some next) f =
+          let same : length a + (at + 1) ≡ length (word ∷ a) + at = omega arith in
+          rest next f ∙ ap (λ n. keys_from verb target more n b) same
+
+  pub stop : (keys : Keys) (at p : ℕ) (words : List (List ℕ))
+      → keys_from verb target keys at words ≡ Err p → Stop verb target keys at p words
+  stop keys at p [] e = absurd cc
+  stop keys at p (word ∷ words) e =
+      go (λ next f. stop next (at + 1) p words f) (with_word verb target keys at word) refl e
+    where
+      go : ((next : Keys) → keys_from verb target next (at + 1) words ≡ Err p
+          → Stop verb target next (at + 1) p words)
+          → (o : Option Keys) → with_word verb target keys at word ≡ o
+          → option_map_or (λ next. keys_from verb target next (at + 1) words) o (Err (at + 1)) ≡ Err p
+          → Stop verb target keys at p (word ∷ words)
+      go each None f g =
+          let same : at + 1 ≡ p = cc in
+          record {
+            j = 0;
+            position = omega (arith, same);
+            within = omega arith;
+            so_far = keys;
+            before = refl;
+            wrong = λ more. rw f (ap Err same);
+          }
+      go each (Some next) f g =
+          let rest = each next g in
+          record {
+            j = suc rest.j;
+            position = omega (arith, rest.position);
+            within = omega (arith, rest.within);
+            so_far = rest.so_far;
+            before = rw f rest.before;
+            wrong = λ more. rw f (rest.wrong more);
+          }
+
+-- ---- the keys of a graph that are missing
+
+-- keys that go on to others
+pub record Fill (verb : Verb) (keys result : Keys) (at : ℕ) : Type 0 where
+  pub words : List (List ℕ)
+  pub filled : keys_from verb Chimera keys at words ≡ Ok result
+
+module _ (verb : Verb) where
+  fill_rows : (keys : Keys) (at : ℕ)
+      → Fill verb keys (record keys { rows = Some (unwrap_or keys.rows 1) }) at
+  unfolding digits_number
+  fill_rows keys at = go keys.rows refl
+    where
+      go : (rows : Option ℕ) → keys.rows ≡ rows
+          → Fill verb keys (record keys { rows = Some (unwrap_or rows 1) }) at
+      go None e = record {
+        words = rows_key (codes "1") ∷ [];
+        filled = rw (each_key.rows verb keys at (codes "1") 1 e refl (omega arith) (omega arith)) refl;
+      }
+      go (Some rows) e = record {
+        words = [];
+        filled = ap (λ given. Ok (record keys { rows = given })) e;
+      }
+
+  fill_cols : (keys : Keys) (at : ℕ)
+      → Fill verb keys (record keys { cols = Some (unwrap_or keys.cols 1) }) at
+  unfolding digits_number
+  fill_cols keys at = go keys.cols refl
+    where
+      go : (cols : Option ℕ) → keys.cols ≡ cols
+          → Fill verb keys (record keys { cols = Some (unwrap_or cols 1) }) at
+      go None e = record {
+        words = cols_key (codes "1") ∷ [];
+        filled = rw (each_key.cols verb keys at (codes "1") 1 e refl (omega arith) (omega arith)) refl;
+      }
+      go (Some cols) e = record {
+        words = [];
+        filled = ap (λ given. Ok (record keys { cols = given })) e;
+      }
+
+  fill_shore : (keys : Keys) (at : ℕ)
+      → Fill verb keys (record keys { shore = Some (unwrap_or keys.shore 1) }) at
+  unfolding digits_number
+  fill_shore keys at = go keys.shore refl
+    where
+      go : (shore : Option ℕ) → keys.shore ≡ shore
+          → Fill verb keys (record keys { shore = Some (unwrap_or shore 1) }) at
+      go None e = record {
+        words = shore_key (codes "1") ∷ [];
+        filled = rw (each_key.shore verb keys at (codes "1") 1 e refl (omega arith) (omega arith)) refl;
+      }
+      go (Some shore) e = record {
+        words = [];
+        filled = ap (λ given. Ok (record keys { shore = given })) e;
+      }
+
+  fill_chains : (keys : Keys) (at : ℕ)
+      → Fill verb keys (record keys { chains = Some (unwrap_or keys.chains Clique) }) at
+  fill_chains keys at = go keys.chains refl
+    where
+      go : (chains : Option Chaining) → keys.chains ≡ chains
+          → Fill verb keys (record keys { chains = Some (unwrap_or chains Clique) }) at
+      go None e = record {
+        words = clique_key ∷ [];
+        filled = rw (each_key.clique verb keys at e) refl;
+      }
+      go (Some chains) e = record {
+        words = [];
+        filled = ap (λ given. Ok (record keys { chains = given })) e;
+      }
+
+  join : {keys next last : Keys} {at : ℕ} (a : Fill verb keys next at)
+      → Fill verb next last (length a.words + at) → Fill verb keys last at
+  join {keys} {next} {last} {at} a b = record {
+    words = a.words ++ b.words;
+    filled = keys_behind verb Chimera keys next at a.words b.words a.filled ∙ b.filled;
+  }
+
+  -- the keys with all that a graph needs
+  abbrev filled_keys : Keys → Keys
+  filled_keys keys = record keys {
+    rows = Some (unwrap_or keys.rows 1);
+    cols = Some (unwrap_or keys.cols 1);
+    shore = Some (unwrap_or keys.shore 1);
+    chains = Some (unwrap_or keys.chains Clique);
+  }
+
+  fill_graph : (keys : Keys) (at : ℕ) → Fill verb keys (filled_keys keys) at
+  fill_graph keys at =
+      let rows = fill_rows keys at in
+      let second = record keys { rows = Some (unwrap_or keys.rows 1) } in
+      let cols = fill_cols second (length rows.words + at) in
+      let third = record second { cols = Some (unwrap_or keys.cols 1) } in
+      let shore = fill_shore third (length cols.words + (length rows.words + at)) in
+      let fourth = record third { shore = Some (unwrap_or keys.shore 1) } in
+      join rows (join cols (join shore (fill_chains fourth _)))
+
+-- whether keys leave room for a graph, with 1 for each number that is missing
+abbrev pub room_of : TargetWord → Keys → Option graphs.Chimera → Type 0
+room_of (Nodes model) keys graph = ⊤
+room_of Chimera keys graph =
+    graph_with (unwrap_or keys.rows 1) (unwrap_or keys.cols 1) (unwrap_or keys.shore 1) ≡ graph
+
+-- keys that go on to those of a target
+pub record Filled (verb : Verb) (target : TargetWord) (keys : Keys) (at : ℕ) : Type 0 where
+  pub words : List (List ℕ)
+  pub given : Keys
+  pub filled : keys_from verb target keys at words ≡ Ok given
+  pub chosen : Target
+  pub by : target_by target given ≡ Some chosen
+
+pub whole : (verb : Verb) (target : TargetWord) (keys : Keys) (at : ℕ) (graph : graphs.Chimera)
+    → room_of target keys (Some graph) → Filled verb target keys at
+whole verb (Nodes model) keys at graph room =
+    record { words = []; given = keys; filled = refl; chosen = targets.Nodes model; by = refl }
+whole verb Chimera keys at graph room =
+    let more = fill_graph verb keys at in
+    record {
+      words = more.words;
+      given = filled_keys verb keys;
+      filled = more.filled;
+      chosen = targets.Chimera (record {
+        graph = graph;
+        dead = keys.dead;
+        chains = unwrap_or keys.chains Clique;
+        ties = unwrap_or keys.ties Choi;
+      });
+      by = rw room refl;
+    }
+
+-- ---- words
+
+-- no words
+abbrev pub the_none : List (List ℕ)
+the_none = []
+
+abbrev pub the_err : {A : Type 0} → ℕ → Result A ℕ
+the_err p = Err p
+
+-- the word at an index is the first that cannot stand
+pub record Told (words : List (List ℕ)) (i : ℕ) : Type 0 where
+  pub before : CanGoOn (take i words) ⊎ AskForTooLarge (take i words)
+  pub wrong : i < length words → (more : List (List ℕ))
+      → request_of (take (suc i) words ++ more) ≡ Err (suc i)
+
+-- words that are refused at an index
+pub at_index : {A : Type 0} (words : List (List ℕ)) (j i : ℕ)
+    → the_err {A = A} (suc j) ≡ Err (i + 1) → Told words j → Told words i
+at_index words j i e first =
+    let same : suc j ≡ i + 1 = cc in
+    let equal : j ≡ i = omega (arith, same) in
+    subst (Told words) equal first
+
+-- words of which none is wrong
+pub late : (words : List (List ℕ)) (i : ℕ) → length words ≤ i → CanGoOn words ⊎ AskForTooLarge words
+    → Told words i
+late words i few right = record {
+  before = subst (λ ws. CanGoOn ws ⊎ AskForTooLarge ws) (sym (take_all i words few)) right;
+  wrong = λ less. absurd (omega (arith, few, less));
+}
+
+-- as many words as are missing
+abbrev pub pad : ℕ → List (List ℕ) → List (List ℕ)
+pad zero words = []
+pad (suc n) [] = [] ∷ pad n []
+pad (suc n) (word ∷ words) = pad n words
+
+pub drop-nil : (n : ℕ) → drop n (the_none) ≡ []
+drop-nil zero = refl
+drop-nil (suc n) = refl
+
+pub drop-pad : (n : ℕ) (words more : List (List ℕ))
+    → drop n (words ++ (pad n words ++ more)) ≡ drop n words ++ more
+drop-pad zero [] more = refl
+drop-pad zero (word ∷ words) more = ap (λ ws. word ∷ ws) (drop-pad zero words more)
+drop-pad (suc n) [] more = drop-pad n [] more ∙ ap (λ ws. ws ++ more) (drop-nil n)
+drop-pad (suc n) (word ∷ words) more = drop-pad n words more
+
+pub length-pad : (n : ℕ) (words more : List (List ℕ)) → n ≤ length (words ++ (pad n words ++ more))
+length-pad zero words more = omega arith
+length-pad (suc n) [] more =
+    let rest : n ≤ length (pad n [] ++ more) = length-pad n [] more in omega (arith, rest)
+length-pad (suc n) (word ∷ words) more = let rest = length-pad n words more in omega (arith, rest)
+
+pub from_command : (r : Result Command ℕ) (p : ℕ)
+    → (r >>= λ command. Ok (requests.Command command)) ≡ Err p → r ≡ Err p
+from_command (Ok command) p e = absurd cc
+from_command (Err q) p e = let same : q ≡ p = cc in ap Err same
+
+-- what a verb asks of enough words
+pub ask : (verb : Verb) (order : Option WordAt) (words : List (List ℕ)) → first_key verb ≤ length words
+    → (ask : Ask) × (ask_of verb order words ≡ Ok ask)
+ask verbs.Compile order words enough = (_, refl)
+ask verbs.Size order words enough = (_, refl)
+ask verbs.Sample order words enough = (_, refl)
+ask verbs.Solve order words enough = (_, refl)
+ask verbs.Decode order (a ∷ b ∷ c ∷ d ∷ e ∷ words) enough = (_, refl)
+ask verbs.Evaluate order (a ∷ b ∷ c ∷ d ∷ e ∷ words) enough = (_, refl)
+ask verbs.Extend order (a ∷ b ∷ c ∷ d ∷ e ∷ words) enough = (_, refl)
+ask verbs.Prove order (a ∷ b ∷ c ∷ d ∷ e ∷ f ∷ words) enough = (_, refl)
+ask verb order words enough = absurd (omega (arith, enough))
+
+-- no word stands behind all words
+pub none_past : (words : List (List ℕ)) (i : ℕ) → slice_get words i ≡ None → length words ≤ i
+none_past words i e = go (slice_get_cases words i).1
+  where
+    go : ((x : List ℕ) × (i < length words) × (slice_get words i ≡ Some x) × (get_or words i x ≡ x))
+        ⊎ ((length words ≤ i) × (slice_get words i ≡ None)) → length words ≤ i
+    go (inl there) = let has = there.2 in absurd cc
+    go (inr past) = past.0
+
+-- a name that is missing is told behind all words
+pub named_late : (words : List (List ℕ)) (i p : ℕ) → named words i ≡ Err p → length words < p
+named_late words i p e = go (slice_get words i) refl e
+  where
+    go : (o : Option (List ℕ)) → slice_get words i ≡ o
+        → option_map_or (λ word. Ok (Whole i)) o (Err (i + 1)) ≡ Err p → length words < p
+    go (Some word) f g = absurd cc
+    go None f g = let same : i + 1 ≡ p = cc in omega (arith, same, none_past words i f)
+
+pub one_late : (words : List (List ℕ)) (i p : ℕ) (make : WordAt → Ask) (r : Result WordAt ℕ)
+    → named words i ≡ r → (r >>= λ name. Ok (make name)) ≡ Err p → length words < p
+one_late words i p make (Ok name) f g = absurd cc
+one_late words i p make (Err q) f g =
+    let same : q ≡ p = cc in named_late words i p (f ∙ ap Err same)
+
+-- what a verb asks of too few words is told behind them all
+pub ask_late : (verb : Verb) (order : Option WordAt) (words : List (List ℕ)) (p : ℕ)
+    → ask_of verb order words ≡ Err p → length words < p
+ask_late verbs.Compile order words p e = absurd cc
+ask_late verbs.Size order words p e = absurd cc
+ask_late verbs.Sample order words p e = absurd cc
+ask_late verbs.Solve order words p e = absurd cc
+ask_late verbs.Decode order words p e = one_late words 4 p asks.Decode (named words 4) refl e
+ask_late verbs.Evaluate order words p e = one_late words 4 p asks.Evaluate (named words 4) refl e
+ask_late verbs.Extend order words p e = one_late words 4 p asks.Extend (named words 4) refl e
+ask_late verbs.Prove order words p e = go (named words 4) refl e
+  where
+    go : (r : Result WordAt ℕ) → named words 4 ≡ r
+        → (r >>= λ state. named words 5 >>= λ certificate. Ok (asks.Prove state certificate)) ≡ Err p
+        → length words < p
+    go (Ok state) f g = one_late words 5 p (asks.Prove state) (named words 5) refl g
+    go (Err q) f g = let same : q ≡ p = cc in named_late words 4 p (f ∙ ap Err same)
+
+-- what is missing of a command is told behind all words
+pub late_end : (verb : Verb) (words : List (List ℕ)) (origin : Origin) (target : TargetWord)
+    (keys : Keys) (p : ℕ) → with_keys verb words origin target keys ≡ Err p → length words < p
+late_end verb words origin target keys p e = by_chosen (target_by target keys) e
+  where
+    by_ask : (chosen : Target) (r : Result Ask ℕ) → ask_of verb keys.order words ≡ r
+        → (r >>= with_ask verb words origin target keys chosen) ≡ Err p → length words < p
+    by_ask chosen (Ok ask) f g = absurd cc
+    by_ask chosen (Err q) f g =
+        let same : q ≡ p = cc in ask_late verb keys.order words p (f ∙ ap Err same)
+
+    by_chosen : (o : Option Target)
+        → (ok_or o (length words + 1) >>= with_chosen verb words origin target keys) ≡ Err p
+        → length words < p
+    by_chosen None g = let same : length words + 1 ≡ p = cc in omega (arith, same)
+    by_chosen (Some chosen) g = by_ask chosen (ask_of verb keys.order words) refl g
+
+-- the part of a list behind its first few, and more
+pub drop-take-append : (n m : ℕ) (words more : List (List ℕ)) → n ≤ length words
+    → drop n (take (n + m) words ++ more) ≡ take m (drop n words) ++ more
+drop-take-append zero m words more few =
+    let same : 0 + m ≡ m = omega arith in ap (λ k. take k words ++ more) same
+drop-take-append (suc n) m [] more few = absurd (omega (arith, few))
+drop-take-append (suc n) m (word ∷ words) more few =
+    let same : suc n + m ≡ suc (n + m) = omega arith in
+    ap (λ k. drop (suc n) (take k (word ∷ words) ++ more)) same
+    ∙ drop-take-append n m words more (omega (arith, few))

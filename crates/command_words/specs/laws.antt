@@ -1,2 +1,0 @@
--- Laws with their proofs, which definitions cite. Nothing here has to be believed.
-pub mod Shapes
