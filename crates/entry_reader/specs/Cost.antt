@@ -4,11 +4,10 @@ use Rattle.std.specs.Prelude.{◌≡◌, ℤ, Bool, ◌&&◌, ◌==◌, List, if
 use Rattle.base.specs.Sums.{total_by, if_so}
 use Rattle.base.specs.declared.costs.Cost.{Cost}
 use Rattle.base.specs.declared.costs.Cost.TheVariants.{Whole}
-use Rattle.base.specs.Costs.{Form, Source}
+use Rattle.base.specs.Costs.{Form}
 use Rattle.bits_model.specs.Output.{bit_at, times_spin}
 use Rattle.problem_form.specs.Problems.{problem_cost}
 use Rattle.problem_form.specs.NormalForm.{normal_form}
-use Rattle.problem_form.specs.Limits.{upper}
 use Rattle.entry_reader.specs.declared.layout.Layout.{Layout}
 use Rattle.entry_reader.specs.declared.layout.Layout.TheVariants.{Qubo, Ising}
 use Rattle.entry_reader.specs.declared.layout.Listed.{Listed}
@@ -31,11 +30,6 @@ listing_cost layout s x = Whole (total_by (entry_cost layout x) s.entries)
 -- the text as a form: its bits and its cost
 abbrev pub form_of : Layout → Listing → Form
 form_of layout s = record { bits = s.nodes; cost = listing_cost layout s }
-
--- the text as a source: its cost as written, and the upper bound of its problem
-abbrev pub source_of : Layout → Listing → Source
-source_of layout s =
-    record { form = form_of layout s; upper = upper (normal_form (problem_of layout s)) }
 
 -- the problem that is read costs what its text costs, under every assignment
 abbrev pub ReadingKeepsCosts : Type 0

@@ -4,7 +4,7 @@ use Rattle.std.specs.List.{list_any}
 use Rattle.std.specs.Ordering.{int_eq}
 use Rattle.base.specs.declared.costs.Cost.{Cost}
 use Rattle.base.specs.declared.costs.Cost.TheVariants.{Whole, Infinite}
-use Rattle.base.specs.Costs.{Form, Source}
+use Rattle.base.specs.Costs.{Form}
 use Rattle.whole_text.specs.declared.faults.TextFault.{TextFault}
 use Rattle.whole_text.specs.Tokens.{Word}
 use Rattle.whole_text.specs.Steps.{◌>>=◌}
@@ -12,7 +12,6 @@ use Rattle.problem_form.specs.declared.terms.Product.{Product}
 use Rattle.problem_form.specs.declared.terms.Constraint.{Constraint}
 use Rattle.problem_form.specs.Problems.{ProblemContent, sum_of, negated, problem_cost}
 use Rattle.problem_form.specs.NormalForm.{normal_form, blank, with_variables}
-use Rattle.problem_form.specs.Limits.{upper}
 use Rattle.opb_reader.specs.declared.operator.Operator.{Operator}
 use Rattle.opb_reader.specs.declared.operator.Operator.TheVariants.{AtLeast, AtMost, Equal}
 use Rattle.opb_reader.specs.Opb.{Listed, Opb, variables_of, reading_of_words, reading}
@@ -60,10 +59,6 @@ problem_of s = record (with_variables blank (variables_of s)) {
   objective = s.objective;
   constraints = map constraint_of s.constraints;
 }
-
--- the text as a source: its cost as written, and the upper bound of its problem
-abbrev pub source_of : Opb → Source
-source_of s = record { form = form_of s; upper = upper (normal_form (problem_of s)) }
 
 -- the reading of words, as a problem in normal form
 unfoldable pub problem_of_words : List Word → Result ProblemContent TextFault

@@ -4,7 +4,7 @@ use Rattle.std.specs.List.{list_all, slice_index_or}
 use Rattle.base.specs.Sums.{total_by, if_so}
 use Rattle.base.specs.declared.costs.Cost.{Cost}
 use Rattle.base.specs.declared.costs.Cost.TheVariants.{Whole}
-use Rattle.base.specs.Costs.{Form, Source}
+use Rattle.base.specs.Costs.{Form}
 use Rattle.whole_text.specs.declared.faults.TextFault.{TextFault}
 use Rattle.whole_text.specs.Tokens.{Word}
 use Rattle.whole_text.specs.Steps.{◌>>=◌}
@@ -12,7 +12,6 @@ use Rattle.literal_lists.specs.declared.literal.Literal.{Literal}
 use Rattle.problem_form.specs.declared.terms.Product.{Product}
 use Rattle.problem_form.specs.Problems.{ProblemContent, problem_cost}
 use Rattle.problem_form.specs.NormalForm.{normal_form, blank, with_variables}
-use Rattle.problem_form.specs.Limits.{upper}
 use Rattle.poly_reader.specs.declared.reading.Polynomial.{Polynomial}
 use Rattle.poly_reader.specs.Poly.{Named, Listed, reading_of_words, reading}
 use Rattle.poly_reader.specs.Numbering.{number_of, names_of}
@@ -55,10 +54,6 @@ abbrev pub problem_of : List Listed → ProblemContent
 problem_of ts = record (with_variables blank (length (names_of ts))) {
   objective = map (product_of (names_of ts)) ts;
 }
-
--- the text as a source: its cost as written, and the upper bound of its problem
-abbrev pub source_of : List Listed → Source
-source_of ts = record { form = form_of ts; upper = upper (normal_form (problem_of ts)) }
 
 -- the problem in normal form, and the names of its variables
 abbrev pub polynomial_of : List Listed → Polynomial

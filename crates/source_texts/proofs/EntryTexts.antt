@@ -1,36 +1,50 @@
 -- Texts of entries, QUBO and Ising: their problems stand for what they say.
-use Rattle.std.proofs.Common.{ℕ, List, Ok, refl}
+use Rattle.std.proofs.Common.{◌≡◌, List, Ok, refl}
 use Rattle.form_steps.specs.Stated.{HasSameCosts}
-use Rattle.whole_text.specs.Tokens.{tokens_of}
+use Rattle.whole_text.specs.Tokens.{Word}
 use Rattle.whole_text.specs.Steps.{◌>>=◌}
-use Rattle.whole_text.specs.declared.token.Style.TheVariants as styles
-use Rattle.problem_form.specs.Problems.{ProblemContent, form_of}
+use Rattle.problem_form.specs.Problems as problems
 use Rattle.problem_form.specs.NormalForm.{normal_form}
+use Rattle.command_words.specs.declared.commands.Format.TheVariants as formats
 use Rattle.entry_reader.specs.declared.layout.Layout.{Layout}
-use Rattle.entry_reader.specs.Entries.{Listing, reading}
-use Rattle.entry_reader.specs.Problems.{problem_of, normal_reading, problem_of_words}
-use Rattle.entry_reader.specs.Cost.{source_of}
+use Rattle.entry_reader.specs.declared.layout.Layout.TheVariants as layouts
+use Rattle.entry_reader.specs.Entries.{Listing, listing_of}
+use Rattle.entry_reader.specs.Problems.{problem_of, problem_of_words}
+use Rattle.entry_reader.specs.Cost.{form_of}
 use Rattle.entry_reader.proofs.ReadCosts.{reading_keeps_costs}
-use Rattle.source_texts.specs.Sources.{own}
-use Rattle.source_texts.proofs.Readings.{IsRead, same_costs_stand, same_costs}
+use Rattle.source_texts.specs.declared.reading.Read.{Read}
+use Rattle.source_texts.specs.Sources as sources
+use Rattle.source_texts.specs.Sources.{own, plain}
+use Rattle.source_texts.proofs.Readings.{AreRead, kept_as, same_costs_stand, same_costs, source_by}
 
 -- the problem of what a text says
-abbrev pub normal_problem : Layout → Listing → ProblemContent
-normal_problem layout s = normal_form (problem_of layout s)
+abbrev kept : Layout → Listing → Read
+kept layout s = plain (problem_of layout s)
 
 same : (layout : Layout) (s : Listing)
-    → HasSameCosts (form_of (normal_problem layout s)) (source_of layout s).form
+    → HasSameCosts (problems.form_of (kept layout s).problem) (form_of layout s)
 same layout s = record { width = refl; costs = reading_keeps_costs layout s }
 
-pub entries_read : (layout : Layout) (text : List ℕ)
-    → IsRead (source_of layout) (normal_problem layout) own (reading layout text)
-    (normal_reading layout text >>= λ p. Ok (own p))
-    (problem_of_words layout (tokens_of styles.Plain text) >>= λ p. Ok (own p))
-unfolding normal_reading problem_of_words reading
-entries_read layout text = record {
-  read = refl;
-  words = refl;
+pub entries_read : (layout : Layout) → AreRead (form_of layout) (λ s. plain (problem_of layout s))
+entries_read layout = record {
   stands = λ s.
-      same_costs_stand (source_of layout s) (own (normal_problem layout s)) (same layout s) refl refl;
-  costs = λ s. same_costs (source_of layout s) (own (normal_problem layout s)) (same layout s) refl refl;
+      same_costs_stand (source_by (form_of layout) (kept layout) s) (kept layout s) (same layout s)
+      refl refl;
+  costs = λ s.
+      same_costs (source_by (form_of layout) (kept layout) s) (kept layout s) (same layout s) refl refl;
 }
+
+-- words are read into the problem of their reader
+pub ising_words : (ws : List Word)
+    → sources.problem_of_words formats.Ising ws
+    ≡ (problem_of_words layouts.Ising ws >>= λ p. Ok (own p))
+unfolding problem_of_words
+ising_words ws =
+    kept_as (listing_of layouts.Ising ws) (λ s. normal_form (problem_of layouts.Ising s)) own
+
+pub qubo_words : (ws : List Word)
+    → sources.problem_of_words formats.Qubo ws
+    ≡ (problem_of_words layouts.Qubo ws >>= λ p. Ok (own p))
+unfolding problem_of_words
+qubo_words ws =
+    kept_as (listing_of layouts.Qubo ws) (λ s. normal_form (problem_of layouts.Qubo s)) own

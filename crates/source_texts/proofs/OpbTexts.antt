@@ -1,32 +1,34 @@
 -- OPB texts: their problems stand for what they say.
-use Rattle.std.proofs.Common.{ℕ, List, refl}
+use Rattle.std.proofs.Common.{◌≡◌, List, Ok, refl}
 use Rattle.form_steps.specs.Stated.{HasSameCosts}
-use Rattle.whole_text.specs.Tokens.{tokens_of}
-use Rattle.whole_text.specs.declared.token.Style.TheVariants as styles
-use Rattle.problem_form.specs.Problems.{ProblemContent, form_of}
+use Rattle.whole_text.specs.Tokens.{Word}
+use Rattle.whole_text.specs.Steps.{◌>>=◌}
+use Rattle.problem_form.specs.Problems as problems
 use Rattle.problem_form.specs.NormalForm.{normal_form}
 use Rattle.command_words.specs.declared.commands.Format.TheVariants as formats
-use Rattle.opb_reader.specs.Opb.{Opb, reading}
-use Rattle.opb_reader.specs.Cost.{problem_of, normal_reading, problem_of_words, source_of}
+use Rattle.opb_reader.specs.Opb.{Opb, reading_of_words}
+use Rattle.opb_reader.specs.Cost.{form_of, problem_of, problem_of_words}
 use Rattle.opb_reader.proofs.ReadCosts.{reading_keeps_costs}
+use Rattle.source_texts.specs.declared.reading.Read.{Read}
 use Rattle.source_texts.specs.Sources as sources
-use Rattle.source_texts.specs.Sources.{own}
-use Rattle.source_texts.proofs.Readings.{IsRead, same_costs_stand, same_costs}
+use Rattle.source_texts.specs.Sources.{own, plain}
+use Rattle.source_texts.proofs.Readings.{AreRead, kept_as, same_costs_stand, same_costs, source_by}
 
 -- the problem of what a text says
-abbrev pub normal_problem : Opb → ProblemContent
-normal_problem s = normal_form (problem_of s)
+abbrev kept : Opb → Read
+kept s = plain (problem_of s)
 
-same : (s : Opb) → HasSameCosts (form_of (normal_problem s)) (source_of s).form
+same : (s : Opb) → HasSameCosts (problems.form_of (kept s).problem) (form_of s)
 same s = record { width = refl; costs = reading_keeps_costs s }
 
-pub opb_read : (text : List ℕ)
-    → IsRead source_of normal_problem own (reading text) (sources.problem_of formats.Opb text)
-    (sources.problem_of_words formats.Opb (tokens_of styles.Opb text))
-unfolding normal_reading problem_of_words reading
-opb_read text = record {
-  read = refl;
-  words = refl;
-  stands = λ s. same_costs_stand (source_of s) (own (normal_problem s)) (same s) refl refl;
-  costs = λ s. same_costs (source_of s) (own (normal_problem s)) (same s) refl refl;
+pub opb_read : AreRead form_of (λ s. plain (problem_of s))
+opb_read = record {
+  stands = λ s. same_costs_stand (source_by form_of kept s) (kept s) (same s) refl refl;
+  costs = λ s. same_costs (source_by form_of kept s) (kept s) (same s) refl refl;
 }
+
+-- words are read into the problem of their reader
+pub opb_words : (ws : List Word)
+    → sources.problem_of_words formats.Opb ws ≡ (problem_of_words ws >>= λ p. Ok (own p))
+unfolding problem_of_words
+opb_words ws = kept_as (reading_of_words ws) (λ s. normal_form (problem_of s)) own

@@ -1,6 +1,8 @@
 -- A problem with the costs of a source stands for the source, and texts that are read into such a
 -- problem.
-use Rattle.std.proofs.Common.{◌≡◌, Bool, false, List, None, length, take, replicate, Ok, Err, Result, refl, ap, sym, ◌∙◌, subst, arith}
+use Rattle.std.proofs.Common.{◌≡◌, ℕ, Bool, false, List, Some, None, length, take, replicate, Ok, Err, Result, refl, ap, sym, ◌∙◌, subst, arith}
+use Rattle.std.specs.Option.{option_map}
+use Rattle.std.specs.Result.{result_ok}
 use Rattle.std.proofs.lemmas.Int.{ints}
 use Rattle.std.proofs.lemmas.List.{take_all, length-replicate}
 use Rattle.base.specs.Costs.{Form, Source}
@@ -10,7 +12,7 @@ use Rattle.form_steps.proofs.Rewritten.{rewritten_relaxes}
 use Rattle.whole_text.specs.declared.faults.TextFault.{TextFault}
 use Rattle.whole_text.specs.Steps.{◌>>=◌}
 use Rattle.problem_form.specs.Problems.{own_cost}
-use Rattle.problem_form.specs.Limits.{own_upper}
+use Rattle.problem_form.specs.Limits.{own_upper, upper}
 use Rattle.source_texts.specs.declared.reading.Read.{Read}
 use Rattle.source_texts.specs.Sources.{carried, CostsAs, PlainOwnsAll, RelaxesStoodFor, StandsBounded}
 use Rattle.source_texts.proofs.Bounded.{own_form, rewritten_stand}
@@ -58,31 +60,54 @@ plain_owns_all s r costs none =
     let long : length zeros ≡ s.form.bits = length-replicate s.form.bits false in
     sym (costs.width zeros long) ∙ ap (λ soft. length (carried soft zeros)) none ∙ long
 
--- ---- texts of which each says a source, and is read into its problem
+-- ---- words that say something, which is read into a problem
 
-module _ {S P : Type 0} (source : S → Source) (problem : S → P) (kept : P → Read) where
-  -- a text that says this is read into a problem, as its words are; each problem stands for its source,
-  -- and costs what it does
-  pub record IsRead (said : Result S TextFault) (whole cut : Result Read TextFault) : Type 0 where
-    pub read : whole ≡ ((said >>= λ s. Ok (problem s)) >>= λ p. Ok (kept p))
-    pub words : whole ≡ cut
-    pub stands : (s : S) → StandsBounded (source s) (kept (problem s))
-    pub costs : (s : S) → CostsAs (source s) (kept (problem s))
+module _ {S : Type 0} (form : S → Form) (kept : S → Read) where
+  -- the source that is said
+  abbrev pub source_by : S → Source
+  source_by s = record { form = form s; upper = upper (kept s).problem }
 
-  pub read_stands : (said : Result S TextFault) (whole cut : Result Read TextFault) (r : Read)
-      → IsRead said whole cut → whole ≡ Ok r
-      → (s : Source) × ((said >>= λ t. Ok (source t)) ≡ Ok s) × StandsBounded s r
-  read_stands (Err fault) whole cut r h e = let both = sym h.read ∙ e in absurd cc
-  read_stands (Ok s) whole cut r h e =
-      let both = sym h.read ∙ e in
-      let same : kept (problem s) ≡ r = cc in
-      (source s, refl, subst (λ q. StandsBounded (source s) q) same (h.stands s))
+  -- what is said is read into a problem that stands for its source, and costs what it does
+  pub record AreRead : Type 0 where
+    pub stands : (s : S) → StandsBounded (source_by s) (kept s)
+    pub costs : (s : S) → CostsAs (source_by s) (kept s)
 
-  pub read_costs : (said : Result S TextFault) (whole cut : Result Read TextFault) (r : Read) (t : Source)
-      → IsRead said whole cut → whole ≡ Ok r → (said >>= λ s. Ok (source s)) ≡ Ok t → CostsAs t r
-  read_costs (Err fault) whole cut r t h e says = absurd cc
-  read_costs (Ok s) whole cut r t h e says =
-      let both = sym h.read ∙ e in
-      let same : kept (problem s) ≡ r = cc in
-      let this : source s ≡ t = cc in
-      subst (λ q. CostsAs t q) same (subst (λ q. CostsAs q (kept (problem s))) this (h.costs s))
+  pub read_stands : (said : Result S TextFault) (r : Read) → AreRead
+      → (said >>= λ s. Ok (kept s)) ≡ Ok r
+      → (t : Source) × (((said >>= λ s. Ok (form s)) >>= λ f. (said >>= λ s. Ok (kept s))
+      >>= λ r. Ok (record { form = f; upper = upper r.problem })) ≡ Ok t) × StandsBounded t r
+  read_stands (Err fault) r h e = absurd cc
+  read_stands (Ok s) r h e =
+      let same : kept s ≡ r = cc in
+      (source_by s, refl, subst (StandsBounded (source_by s)) same (h.stands s))
+
+  pub read_costs : (said : Result S TextFault) (r : Read) (t : Source) → AreRead
+      → (said >>= λ s. Ok (kept s)) ≡ Ok r
+      → ((said >>= λ s. Ok (form s)) >>= λ f. (said >>= λ s. Ok (kept s))
+      >>= λ r. Ok (record { form = f; upper = upper r.problem })) ≡ Ok t → CostsAs t r
+  read_costs (Err fault) r t h e says = absurd cc
+  read_costs (Ok s) r t h e says =
+      let same : kept s ≡ r = cc in
+      let this : source_by s ≡ t = cc in
+      subst (CostsAs t) same (subst (λ q. CostsAs q (kept s)) this (h.costs s))
+
+-- what is read is kept as something else
+pub kept_as : {S P R : Type 0} (said : Result S TextFault) (problem : S → P) (kept : P → R)
+    → (said >>= λ s. Ok (kept (problem s))) ≡ ((said >>= λ s. Ok (problem s)) >>= λ p. Ok (kept p))
+kept_as (Ok s) problem kept = refl
+kept_as (Err fault) problem kept = refl
+
+-- what is read has no names
+pub no_names : {S : Type 0} (said : Result S TextFault) (kept : S → Read) (r : Read)
+    → ((s : S) → (kept s).names ≡ None) → (said >>= λ s. Ok (kept s)) ≡ Ok r → None ≡ r.names
+no_names (Err fault) kept r none e = absurd cc
+no_names (Ok s) kept r none e =
+    let same : kept s ≡ r = cc in sym (none s) ∙ ap (λ (q : Read). q.names) same
+
+-- the names of what is read are those of what is said
+pub said_names : {S : Type 0} (said : Result S TextFault) (kept : S → Read) (r : Read)
+    (names : S → List (List ℕ)) → ((s : S) → (kept s).names ≡ Some (names s))
+    → (said >>= λ s. Ok (kept s)) ≡ Ok r → option_map names (result_ok said) ≡ r.names
+said_names (Err fault) kept r names each e = absurd cc
+said_names (Ok s) kept r names each e =
+    let same : kept s ≡ r = cc in sym (each s) ∙ ap (λ (q : Read). q.names) same

@@ -1,14 +1,19 @@
 -- The problem that a text is read into stands for the source that the text says, and costs what it
--- does, and the words of a text are read as the text is: a line a format.
-use Rattle.std.proofs.Common.{◌≡◌, ℕ, List, Ok}
+-- does, and has its names, and the words of a text are read as the text is: a line a format.
+use Rattle.std.proofs.Common.{◌≡◌, ℕ, List, Ok, refl}
 use Rattle.base.specs.Costs.{Source}
 use Rattle.command_words.specs.declared.commands.Format.{Format}
 use Rattle.command_words.specs.declared.commands.Format.TheVariants.{Wcnf, Opb, Wbo, Poly, Ising, Qubo}
+use Rattle.wcnf_reader.specs.Wcnf as wcnf
+use Rattle.opb_reader.specs.Opb as opb
+use Rattle.wbo_reader.specs.Reading as wbo
+use Rattle.poly_reader.specs.Poly as poly
+use Rattle.entry_reader.specs.Entries as entries
 use Rattle.entry_reader.specs.declared.layout.Layout.TheVariants as layouts
 use Rattle.source_texts.specs.declared.reading.Read.{Read}
-use Rattle.source_texts.specs.Sources.{source_of, problem_of, StandsBounded, CostsAs, ProblemsCostAsSources, WordsAreReadAsTexts}
+use Rattle.source_texts.specs.Sources.{names_of, source_of, problem_of, words_in, StandsBounded, CostsAs, ProblemsCostAsSources, WordsAreReadAsTexts}
 use Rattle.source_texts.proofs.Bounded.{costs_bounded}
-use Rattle.source_texts.proofs.Readings.{read_stands, read_costs}
+use Rattle.source_texts.proofs.Readings.{no_names, read_stands, read_costs, said_names}
 use Rattle.source_texts.proofs.WcnfTexts.{wcnf_read}
 use Rattle.source_texts.proofs.OpbTexts.{opb_read}
 use Rattle.source_texts.proofs.WboTexts.{wbo_read}
@@ -17,31 +22,54 @@ use Rattle.source_texts.proofs.EntryTexts.{entries_read}
 
 pub problem_stands : (format : Format) (text : List ℕ) (r : Read) → problem_of format text ≡ Ok r
     → (s : Source) × (source_of format text ≡ Ok s) × StandsBounded s r
-problem_stands Wcnf text r e = read_stands _ _ _ _ _ _ r (wcnf_read text) e
-problem_stands Opb text r e = read_stands _ _ _ _ _ _ r (opb_read text) e
-problem_stands Wbo text r e = read_stands _ _ _ _ _ _ r (wbo_read text) e
-problem_stands Poly text r e = read_stands _ _ _ _ _ _ r (poly_read text) e
-problem_stands Ising text r e = read_stands _ _ _ _ _ _ r (entries_read layouts.Ising text) e
-problem_stands Qubo text r e = read_stands _ _ _ _ _ _ r (entries_read layouts.Qubo text) e
+problem_stands Wcnf text r e =
+    read_stands _ _ (wcnf.reading_of_words (words_in Wcnf text)) r wcnf_read e
+problem_stands Opb text r e =
+    read_stands _ _ (opb.reading_of_words (words_in Opb text)) r opb_read e
+problem_stands Wbo text r e =
+    read_stands _ _ (wbo.reading_of_words (words_in Wbo text)) r wbo_read e
+problem_stands Poly text r e =
+    read_stands _ _ (poly.reading_of_words (words_in Poly text)) r poly_read e
+problem_stands Ising text r e =
+    read_stands _ _ (entries.listing_of layouts.Ising (words_in Ising text)) r
+    (entries_read layouts.Ising) e
+problem_stands Qubo text r e =
+    read_stands _ _ (entries.listing_of layouts.Qubo (words_in Qubo text)) r
+    (entries_read layouts.Qubo) e
 
 own_costs : (format : Format) (text : List ℕ) (r : Read) (s : Source)
     → problem_of format text ≡ Ok r → source_of format text ≡ Ok s → CostsAs s r
-own_costs Wcnf text r s e said = read_costs _ _ _ _ _ _ r s (wcnf_read text) e said
-own_costs Opb text r s e said = read_costs _ _ _ _ _ _ r s (opb_read text) e said
-own_costs Wbo text r s e said = read_costs _ _ _ _ _ _ r s (wbo_read text) e said
-own_costs Poly text r s e said = read_costs _ _ _ _ _ _ r s (poly_read text) e said
+own_costs Wcnf text r s e said =
+    read_costs _ _ (wcnf.reading_of_words (words_in Wcnf text)) r s wcnf_read e said
+own_costs Opb text r s e said =
+    read_costs _ _ (opb.reading_of_words (words_in Opb text)) r s opb_read e said
+own_costs Wbo text r s e said =
+    read_costs _ _ (wbo.reading_of_words (words_in Wbo text)) r s wbo_read e said
+own_costs Poly text r s e said =
+    read_costs _ _ (poly.reading_of_words (words_in Poly text)) r s poly_read e said
 own_costs Ising text r s e said =
-    read_costs _ _ _ _ _ _ r s (entries_read layouts.Ising text) e said
+    read_costs _ _ (entries.listing_of layouts.Ising (words_in Ising text)) r s
+    (entries_read layouts.Ising) e said
 own_costs Qubo text r s e said =
-    read_costs _ _ _ _ _ _ r s (entries_read layouts.Qubo text) e said
+    read_costs _ _ (entries.listing_of layouts.Qubo (words_in Qubo text)) r s
+    (entries_read layouts.Qubo) e said
 
 pub problem_costs : ProblemsCostAsSources
 problem_costs format text r s most e said = costs_bounded s r most (own_costs format text r s e said)
 
+-- what is read has the names that the text says
+pub names_read : (format : Format) (text : List ℕ) (r : Read) → problem_of format text ≡ Ok r
+    → names_of format text ≡ r.names
+names_read Wcnf text r e =
+    no_names (wcnf.reading_of_words (words_in Wcnf text)) _ r (λ s. refl) e
+names_read Opb text r e = no_names (opb.reading_of_words (words_in Opb text)) _ r (λ s. refl) e
+names_read Wbo text r e = no_names (wbo.reading_of_words (words_in Wbo text)) _ r (λ s. refl) e
+names_read Poly text r e =
+    said_names (poly.reading_of_words (words_in Poly text)) _ r _ (λ s. refl) e
+names_read Ising text r e =
+    no_names (entries.listing_of layouts.Ising (words_in Ising text)) _ r (λ s. refl) e
+names_read Qubo text r e =
+    no_names (entries.listing_of layouts.Qubo (words_in Qubo text)) _ r (λ s. refl) e
+
 pub words_read : WordsAreReadAsTexts
-words_read Wcnf text = (wcnf_read text).words
-words_read Opb text = (opb_read text).words
-words_read Wbo text = (wbo_read text).words
-words_read Poly text = (poly_read text).words
-words_read Ising text = (entries_read layouts.Ising text).words
-words_read Qubo text = (entries_read layouts.Qubo text).words
+words_read format text = refl

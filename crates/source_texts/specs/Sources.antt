@@ -1,5 +1,7 @@
 -- What a text says in a format, and the problem that it is read into: a line a format.
-use Rattle.std.specs.Prelude.{◌≡◌, ℕ, ℤ, ◌≤◌, Bool, List, length, take, Ok, Err, Option, Some, None, Result}
+use Rattle.std.specs.Prelude.{◌≡◌, ℕ, ℤ, ◌≤◌, Bool, List, length, take, Ok, Option, Some, None, Result}
+use Rattle.std.specs.Option.{option_map}
+use Rattle.std.specs.Result.{result_ok}
 use Rattle.base.specs.declared.costs.Figures.{Figures}
 use Rattle.base.specs.Costs.{Form, IsOf, Source}
 use Rattle.form_steps.specs.Relations.{Decoding, Relaxes, Rewrites, first_decoded}
@@ -8,8 +10,9 @@ use Rattle.whole_text.specs.declared.token.Style.{Style}
 use Rattle.whole_text.specs.declared.token.Style.TheVariants as styles
 use Rattle.whole_text.specs.Tokens.{Word, tokens_of}
 use Rattle.whole_text.specs.Steps.{◌>>=◌}
-use Rattle.problem_form.specs.Problems.{ProblemContent, cut_off, form_of, own_cost}
-use Rattle.problem_form.specs.NormalForm.{with_most}
+use Rattle.problem_form.specs.Problems.{ProblemContent, cut_off, own_cost}
+use Rattle.problem_form.specs.Problems as problems
+use Rattle.problem_form.specs.NormalForm.{normal_form, with_most}
 use Rattle.conflict_clauses.specs.Conflicts.{without_conflicts}
 use Rattle.problem_form.specs.Limits.{lesser_of, upper}
 use Rattle.command_words.specs.declared.commands.Format.{Format}
@@ -20,6 +23,7 @@ use Rattle.opb_reader.specs.Opb as opb
 use Rattle.opb_reader.specs.Cost as opb_cost
 use Rattle.poly_reader.specs.declared.reading.Polynomial.{Polynomial}
 use Rattle.poly_reader.specs.Poly as poly
+use Rattle.poly_reader.specs.Numbering as poly_names
 use Rattle.poly_reader.specs.Cost as poly_cost
 use Rattle.entry_reader.specs.declared.layout.Layout.TheVariants as layouts
 use Rattle.entry_reader.specs.Entries as entries
@@ -30,16 +34,82 @@ use Rattle.wbo_reader.specs.Rewriting.{rewritten, extended}
 use Rattle.wbo_reader.specs.Reading as wbo
 use Rattle.source_texts.specs.declared.reading.Read.{Read}
 
--- the source that a text says, as it is written, or the first fault of the text
+-- ---- the words of a text
+
+-- how the texts of a format are cut into words
+abbrev pub style_of : Format → Style
+style_of Opb = styles.Opb
+style_of Wbo = styles.Wbo
+style_of format = styles.Plain
+
+-- the words of a text
+abbrev pub words_in : Format → List ℕ → List Word
+words_in format text = tokens_of (style_of format) text
+
+-- ---- what a text says, as it is written
+
+-- the variables and the costs that words say, or their first fault
+abbrev pub form_of_words : Format → List Word → Result Form TextFault
+form_of_words Wcnf ws = wcnf.reading_of_words ws >>= λ s. Ok (wcnf_cost.form_of s)
+form_of_words Opb ws = opb.reading_of_words ws >>= λ s. Ok (opb_cost.form_of s)
+form_of_words Wbo ws = wbo.reading_of_words ws >>= λ s. Ok (wbo.form_of s)
+form_of_words Poly ws = poly.reading_of_words ws >>= λ s. Ok (poly_cost.form_of s)
+form_of_words Ising ws =
+    entries.listing_of layouts.Ising ws >>= λ s. Ok (entry_cost.form_of layouts.Ising s)
+form_of_words Qubo ws =
+    entries.listing_of layouts.Qubo ws >>= λ s. Ok (entry_cost.form_of layouts.Qubo s)
+
+-- those that a text says, or its first fault
+abbrev pub form_said : Format → List ℕ → Result Form TextFault
+form_said format text = form_of_words format (words_in format text)
+
+-- the names of a text's variables, where it has names for them
+abbrev pub names_of : Format → List ℕ → Option (List (List ℕ))
+names_of Poly text =
+    option_map poly_names.names_of (result_ok (poly.reading_of_words (words_in Poly text)))
+names_of format text = None
+
+-- ---- the problem that it is read into
+
+-- a problem whose variables are all the source's own
+abbrev pub own : ProblemContent → Read
+own p = record { problem = p; variables = p.variables; names = None; soft = None }
+
+-- a problem as written, whose variables are all the source's own, in normal form
+abbrev pub plain : ProblemContent → Read
+plain p = own (normal_form p)
+
+-- a problem whose variables have names
+abbrev pub named : Polynomial → Read
+named q = record (own q.problem) { names = Some q.names }
+
+-- the problem that a source of soft constraints is rewritten to, which has its variables first
+abbrev pub eased : WboContent → Read
+eased w = record { problem = rewritten w; variables = w.variables; names = None; soft = Some w }
+
+-- what words are read into, or their first fault
+abbrev pub problem_of_words : Format → List Word → Result Read TextFault
+problem_of_words Wcnf ws = wcnf.reading_of_words ws >>= λ s. Ok (plain (wcnf_cost.problem_of s))
+problem_of_words Opb ws = opb.reading_of_words ws >>= λ s. Ok (plain (opb_cost.problem_of s))
+problem_of_words Wbo ws = wbo.reading_of_words ws >>= λ s. Ok (eased (wbo.content_of s))
+problem_of_words Poly ws = poly.reading_of_words ws >>= λ s. Ok (named (poly_cost.polynomial_of s))
+problem_of_words Ising ws =
+    entries.listing_of layouts.Ising ws >>= λ s. Ok (plain (entry_problems.problem_of layouts.Ising s))
+problem_of_words Qubo ws =
+    entries.listing_of layouts.Qubo ws >>= λ s. Ok (plain (entry_problems.problem_of layouts.Qubo s))
+
+-- what a text is read into, or its first fault
+abbrev pub problem_of : Format → List ℕ → Result Read TextFault
+problem_of format text = problem_of_words format (words_in format text)
+
+-- ---- the source that it says
+
+-- the source that a text says: what it says as it is written, and the upper bound of the problem that
+-- it is read into
 abbrev pub source_of : Format → List ℕ → Result Source TextFault
-source_of Wcnf text = wcnf.reading text >>= λ s. Ok (wcnf_cost.source_of s)
-source_of Opb text = opb.reading text >>= λ s. Ok (opb_cost.source_of s)
-source_of Wbo text = wbo.reading text >>= λ s. Ok (wbo.source_of s)
-source_of Poly text = poly.reading text >>= λ s. Ok (poly_cost.source_of s)
-source_of Ising text =
-    entries.reading layouts.Ising text >>= λ s. Ok (entry_cost.source_of layouts.Ising s)
-source_of Qubo text =
-    entries.reading layouts.Qubo text >>= λ s. Ok (entry_cost.source_of layouts.Qubo s)
+source_of format text =
+    form_said format text
+    >>= λ f. problem_of format text >>= λ r. Ok (record { form = f; upper = upper r.problem })
 
 -- a source whose assignments may cost at most this, where it is given: those that cost more are
 -- infeasible
@@ -49,32 +119,6 @@ bounded most s = record {
   upper = lesser_of most s.upper;
 }
 
--- a problem whose variables are all the source's own
-abbrev pub own : ProblemContent → Read
-own p = record { problem = p; variables = p.variables; names = None; soft = None }
-
--- a problem whose variables have names
-abbrev pub named : Polynomial → Read
-named q = record {
-  problem = q.problem;
-  variables = q.problem.variables;
-  names = Some q.names;
-  soft = None;
-}
-
--- the problem that a source of soft constraints is rewritten to, which has its variables first
-abbrev pub eased : WboContent → Read
-eased w = record { problem = rewritten w; variables = w.variables; names = None; soft = Some w }
-
--- its problem in normal form, or the first fault of the text
-abbrev pub problem_of : Format → List ℕ → Result Read TextFault
-problem_of Wcnf text = wcnf_cost.normal_reading text >>= λ p. Ok (own p)
-problem_of Opb text = opb_cost.normal_reading text >>= λ p. Ok (own p)
-problem_of Wbo text = wbo.normal_reading text >>= λ w. Ok (eased w)
-problem_of Poly text = poly_cost.normal_reading text >>= λ q. Ok (named q)
-problem_of Ising text = entry_problems.normal_reading layouts.Ising text >>= λ p. Ok (own p)
-problem_of Qubo text = entry_problems.normal_reading layouts.Qubo text >>= λ p. Ok (own p)
-
 -- what was read, where assignments may cost at most this
 abbrev pub bounded_read : Option ℤ → Read → Read
 bounded_read most r = record r { problem = with_most r.problem most }
@@ -82,36 +126,6 @@ bounded_read most r = record r { problem = with_most r.problem most }
 -- what was read, with clauses in place of the conflicts of its problem
 abbrev pub cleared_read : Read → Read
 cleared_read r = record r { problem = without_conflicts r.problem }
-
--- the names of what was read
-abbrev pub read_names : Result Read TextFault → Option (List (List ℕ))
-read_names (Ok r) = r.names
-read_names (Err _) = None
-
--- the names of a text's variables, where it has names for them
-abbrev pub names_of : Format → List ℕ → Option (List (List ℕ))
-names_of format text = read_names (problem_of format text)
-
--- ---- from the words of a text
-
--- how the texts of a format are cut into words
-abbrev pub style_of : Format → Style
-style_of Wcnf = styles.Plain
-style_of Opb = styles.Opb
-style_of Wbo = styles.Wbo
-style_of Poly = styles.Plain
-style_of Ising = styles.Plain
-style_of Qubo = styles.Plain
-
--- the problem in normal form, from the words of a text
-abbrev pub problem_of_words : Format → List Word → Result Read TextFault
-problem_of_words Wcnf words = wcnf_cost.problem_of_words words >>= λ p. Ok (own p)
-problem_of_words Opb words = opb_cost.problem_of_words words >>= λ p. Ok (own p)
-problem_of_words Wbo words = wbo.content_of_words words >>= λ w. Ok (eased w)
-problem_of_words Poly words = poly_cost.polynomial_of_words words >>= λ q. Ok (named q)
-problem_of_words Ising words =
-    entry_problems.problem_of_words layouts.Ising words >>= λ p. Ok (own p)
-problem_of_words Qubo words = entry_problems.problem_of_words layouts.Qubo words >>= λ p. Ok (own p)
 
 -- the words of a text say what the text says
 abbrev pub WordsAreReadAsTexts : Type 0
@@ -154,7 +168,7 @@ pub record StandsFor (s : Source) (r : Read) : Type 0 where
   pub variables : r.variables ≡ s.form.bits
   pub own : r.variables ≤ r.problem.variables
   pub upper : upper r.problem ≡ s.upper
-  pub rewrites : Rewrites s.form (form_of r.problem)
+  pub rewrites : Rewrites s.form (problems.form_of r.problem)
 
 -- the problem stands for the source, whatever the most is that assignments of both may cost
 abbrev pub StandsBounded : Source → Read → Type 0
@@ -170,7 +184,7 @@ ProblemsStandForSources =
 abbrev pub RelaxesStoodFor : Type 0
 RelaxesStoodFor =
     (s : Source) (r : Read) → StandsFor s r
-    → (g : Form) (d : Decoding) (u : ℤ) (n : Figures) → Relaxes (form_of r.problem) g d u n
+    → (g : Form) (d : Decoding) (u : ℤ) (n : Figures) → Relaxes (problems.form_of r.problem) g d u n
     → Relaxes s.form g (first_decoded s.form.bits d) u n
 
 -- ---- what a problem costs

@@ -4,7 +4,7 @@ use Rattle.std.specs.Prelude.{◌≡◌, ℕ, ◌≤◌, zero, suc, ◌-◌, ◌
 use Rattle.std.specs.List.{list_any, sum_by}
 use Rattle.base.specs.declared.costs.Cost.{Cost}
 use Rattle.base.specs.declared.costs.Cost.TheVariants.{Whole, Infinite}
-use Rattle.base.specs.Costs.{Form, Source}
+use Rattle.base.specs.Costs.{Form}
 use Rattle.form_steps.specs.Relations.{Rewrites}
 use Rattle.whole_text.specs.declared.faults.TextKind.TheVariants as kinds
 use Rattle.whole_text.specs.declared.faults.TextFault.{TextFault}
@@ -14,7 +14,6 @@ use Rattle.whole_text.specs.Steps.{◌>>=◌, fault, end_line, next_of, natural_
 use Rattle.literal_lists.specs.declared.literal.Literal.{Literal}
 use Rattle.problem_form.specs.declared.terms.Constraint.{Constraint}
 use Rattle.problem_form.specs.NormalForm.{normal_constraint}
-use Rattle.problem_form.specs.Limits.{upper}
 use Rattle.problem_form.specs.Problems as problems
 use Rattle.opb_reader.specs.Opb.{Listed, many, never, literals_in, widened, is_semicolon, closed_at, constraint_at}
 use Rattle.opb_reader.specs.Cost.{is_met, constraint_of}
@@ -166,11 +165,6 @@ content_of t = record {
   top = t.top;
   order = flat_map (λ k. order_by k.weight) t.constraints;
 }
-
--- the text as a source: its cost as written, and the upper bound of the problem that it is
--- rewritten to
-abbrev pub source_of : WboText → Source
-source_of t = record { form = form_of t; upper = upper (rewritten (content_of t)) }
 
 -- the reading of words, as a source in normal form
 unfoldable pub content_of_words : List Word → Result WboContent TextFault

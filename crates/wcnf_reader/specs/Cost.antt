@@ -4,7 +4,7 @@ use Rattle.std.specs.List.{list_any, slice_index_or}
 use Rattle.base.specs.Sums.{total_by, if_so}
 use Rattle.base.specs.declared.costs.Cost.{Cost}
 use Rattle.base.specs.declared.costs.Cost.TheVariants.{Whole, Infinite}
-use Rattle.base.specs.Costs.{Form, Source}
+use Rattle.base.specs.Costs.{Form}
 use Rattle.whole_text.specs.declared.faults.TextFault.{TextFault}
 use Rattle.whole_text.specs.Tokens.{Word}
 use Rattle.whole_text.specs.Steps.{◌>>=◌}
@@ -12,7 +12,6 @@ use Rattle.literal_lists.specs.declared.literal.Literal.{Literal}
 use Rattle.problem_form.specs.declared.terms.Clause.{Clause}
 use Rattle.problem_form.specs.Problems.{ProblemContent, problem_cost}
 use Rattle.problem_form.specs.NormalForm.{normal_form, blank, with_variables}
-use Rattle.problem_form.specs.Limits.{upper}
 use Rattle.wcnf_reader.specs.declared.layout.ClauseLayout.{ClauseLayout}
 use Rattle.wcnf_reader.specs.declared.layout.ClauseLayout.TheVariants.{Older, WithoutHeader}
 use Rattle.wcnf_reader.specs.Wcnf.{Listed, Wcnf, reading_of_words, reading}
@@ -75,10 +74,6 @@ clause_of layout c = record {
 abbrev pub problem_of : Wcnf → ProblemContent
 problem_of s =
     record (with_variables blank s.variables) { clauses = map (clause_of s.layout) s.clauses }
-
--- the text as a source: its cost as written, and the upper bound of its problem
-abbrev pub source_of : Wcnf → Source
-source_of s = record { form = form_of s; upper = upper (normal_form (problem_of s)) }
 
 -- the reading of words, as a problem in normal form
 unfoldable pub problem_of_words : List Word → Result ProblemContent TextFault

@@ -1,0 +1,99 @@
+-- What the reader of a format makes of words is what they are read into.
+use Rattle.std.proofs.Common.{rules, ◌≡◌, List, Result, Ok, sym, ap, subst, ◌∙◌}
+use Rattle.whole_text.specs.declared.faults.TextAnswer.{TextAnswer}
+use Rattle.whole_text.specs.declared.faults.TextFault.{TextFault}
+use Rattle.whole_text.specs.Tokens.{Word}
+use Rattle.whole_text.specs.Steps.{Gives}
+use Rattle.whole_text.specs.TokenTexts.{words_of}
+use Rattle.command_words.specs.declared.commands.Format.{Format}
+use Rattle.source_texts.specs.declared.reading.Read.{Read}
+use Rattle.source_texts.specs.Sources.{problem_of_words}
+use Rattle.source_texts.proofs.WcnfTexts.{wcnf_words}
+use Rattle.source_texts.proofs.OpbTexts.{opb_words}
+use Rattle.source_texts.proofs.WboTexts.{wbo_words}
+use Rattle.source_texts.proofs.PolyTexts.{poly_words}
+use Rattle.source_texts.proofs.EntryTexts.{ising_words, qubo_words}
+use Rattle.source_texts.proofs.reading.read_source_words.Goals as goal
+
+-- words of this format are read into what its reader makes of them
+as_read : (result : Result Read TextAnswer) (format this : Format) (ws : List Word)
+    (read : Result Read TextFault) → format ≡ this → problem_of_words this ws ≡ read
+    → Gives (λ r. r) result read → Gives (λ r. r) result (problem_of_words format ws)
+as_read result format this ws read is same gives =
+    subst (Gives (λ r. r) result) (sym (ap (λ f. problem_of_words f ws) is ∙ same)) gives
+
+is_read : (format this : Format) (ws : List Word) (read : Result Read TextFault) (x : Read)
+    → format ≡ this → problem_of_words this ws ≡ read → read ≡ Ok x
+    → problem_of_words format ws ≡ Ok x
+is_read format this ws read x is same e = ap (λ f. problem_of_words f ws) is ∙ same ∙ e
+
+pub returns-in_err-read_wcnf_tokens-in-Wcnf-clause-read :
+    goal.returns-in_err-read_wcnf_tokens-in-Wcnf-clause-read
+returns-in_err-read_wcnf_tokens-in-Wcnf-clause-read c =
+    let ws = words_of c.args.text.now in
+    as_read _ _ _ ws _ c.in-Wcnf.is (wcnf_words ws) (search rules)
+
+pub returns-in_ok-read_wcnf_tokens-in-Wcnf-clause-read :
+    goal.returns-in_ok-read_wcnf_tokens-in-Wcnf-clause-read
+returns-in_ok-read_wcnf_tokens-in-Wcnf-clause-read c =
+    let ws = words_of c.args.text.now in
+    is_read _ _ ws _ _ c.in-Wcnf.is (wcnf_words ws) (search rules)
+
+pub returns-in_err-read_opb_tokens-in-Opb-clause-read :
+    goal.returns-in_err-read_opb_tokens-in-Opb-clause-read
+returns-in_err-read_opb_tokens-in-Opb-clause-read c =
+    let ws = words_of c.args.text.now in
+    as_read _ _ _ ws _ c.in-Opb.is (opb_words ws) (search rules)
+
+pub returns-in_ok-read_opb_tokens-in-Opb-clause-read :
+    goal.returns-in_ok-read_opb_tokens-in-Opb-clause-read
+returns-in_ok-read_opb_tokens-in-Opb-clause-read c =
+    let ws = words_of c.args.text.now in
+    is_read _ _ ws _ _ c.in-Opb.is (opb_words ws) (search rules)
+
+pub returns-in_err-read_wbo_tokens-in-Wbo-clause-read :
+    goal.returns-in_err-read_wbo_tokens-in-Wbo-clause-read
+returns-in_err-read_wbo_tokens-in-Wbo-clause-read c =
+    let ws = words_of c.args.text.now in
+    as_read _ _ _ ws _ c.in-Wbo.is (wbo_words ws) (search rules)
+
+pub returns-in_ok-eased-in-Wbo-clause-read : goal.returns-in_ok-eased-in-Wbo-clause-read
+returns-in_ok-eased-in-Wbo-clause-read c =
+    let ws = words_of c.args.text.now in
+    is_read _ _ ws _ _ c.in-Wbo.is (wbo_words ws) (search rules)
+
+pub returns-in_err-read_poly_tokens-in-Poly-clause-read :
+    goal.returns-in_err-read_poly_tokens-in-Poly-clause-read
+returns-in_err-read_poly_tokens-in-Poly-clause-read c =
+    let ws = words_of c.args.text.now in
+    as_read _ _ _ ws _ c.in-Poly.is (poly_words ws) (search rules)
+
+pub returns-in_ok-read_poly_tokens-in-Poly-clause-read :
+    goal.returns-in_ok-read_poly_tokens-in-Poly-clause-read
+returns-in_ok-read_poly_tokens-in-Poly-clause-read c =
+    let ws = words_of c.args.text.now in
+    is_read _ _ ws _ _ c.in-Poly.is (poly_words ws) (search rules)
+
+pub returns-in_err-read_ising_tokens-in-Ising-clause-read :
+    goal.returns-in_err-read_ising_tokens-in-Ising-clause-read
+returns-in_err-read_ising_tokens-in-Ising-clause-read c =
+    let ws = words_of c.args.text.now in
+    as_read _ _ _ ws _ c.in-Ising.is (ising_words ws) (search rules)
+
+pub returns-in_ok-read_ising_tokens-in-Ising-clause-read :
+    goal.returns-in_ok-read_ising_tokens-in-Ising-clause-read
+returns-in_ok-read_ising_tokens-in-Ising-clause-read c =
+    let ws = words_of c.args.text.now in
+    is_read _ _ ws _ _ c.in-Ising.is (ising_words ws) (search rules)
+
+pub returns-in_err-read_qubo_tokens-in-Qubo-clause-read :
+    goal.returns-in_err-read_qubo_tokens-in-Qubo-clause-read
+returns-in_err-read_qubo_tokens-in-Qubo-clause-read c =
+    let ws = words_of c.args.text.now in
+    as_read _ _ _ ws _ c.in-Qubo.is (qubo_words ws) (search rules)
+
+pub returns-in_ok-read_qubo_tokens-in-Qubo-clause-read :
+    goal.returns-in_ok-read_qubo_tokens-in-Qubo-clause-read
+returns-in_ok-read_qubo_tokens-in-Qubo-clause-read c =
+    let ws = words_of c.args.text.now in
+    is_read _ _ ws _ _ c.in-Qubo.is (qubo_words ws) (search rules)
