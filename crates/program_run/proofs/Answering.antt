@@ -13,12 +13,13 @@ use Rattle.form_steps.specs.Least.{IsLeastState}
 use Rattle.faithful.proofs.Told.{least_states_tell, length-read_off}
 use Rattle.problem_form.specs.declared.limits.Choices.{Choices}
 use Rattle.problem_form.specs.Problems.{ProblemContent, cut_off, own_cost}
-use Rattle.wbo_reader.specs.Wbo.{WboContent}
 use Rattle.problem_form.specs.Problems as problems
 use Rattle.model_text.specs.Rows.{FitsFields, model_text}
 use Rattle.model_text.specs.Told.{IsTextOf}
 use Rattle.model_text.proofs.ModelRows.{texts_tell_models}
 use Rattle.answer_text.specs.Answers.{decoding_text, extension_text, proof_text, solution_text}
+use Rattle.command_words.specs.declared.commands.Format.{Format}
+use Rattle.command_words.specs.declared.commands.Format.TheVariants as formats
 use Rattle.command_words.specs.declared.commands.NodeModel.{NodeModel}
 use Rattle.command_words.specs.declared.commands.NodeModel.TheVariants.{Qubo, Ising}
 use Rattle.command_words.specs.declared.commands.Ask.{Ask}
@@ -30,8 +31,8 @@ use Rattle.command_words.specs.Bounds.{most_of}
 use Rattle.command_words.specs.Names.{text_at}
 use Rattle.command_words.specs.declared.commands.Command.{Command}
 use Rattle.source_texts.specs.declared.reading.Read.{Read}
-use Rattle.source_texts.specs.Sources.{CostsAs, StandsFor, bounded, carried, names_of, read_names}
-use Rattle.source_texts.proofs.Standing.{problem_stands, problem_costs}
+use Rattle.source_texts.specs.Sources.{CostsAs, StandsFor, bounded, carried, names_of}
+use Rattle.source_texts.proofs.Standing.{names_read, problem_stands, problem_costs}
 use Rattle.model_pipeline.specs.Models as models
 use Rattle.model_pipeline.specs.GraphModels.{ising_of}
 use Rattle.model_pipeline.specs.Extensions.{ExtendsTo, IsLeastTo, IsMadeOf}
@@ -39,7 +40,8 @@ use Rattle.run_steps.specs.declared.placements.Placement.{Placement}
 use Rattle.run_steps.specs.declared.placements.Placement.TheVariants.{Nodes, Qubits}
 use Rattle.run_steps.specs.declared.plans.Plan.{Plan}
 use Rattle.run_steps.specs.Placements.{ties_of, demand_of}
-use Rattle.run_steps.specs.Plans.{plan_of, nodes_in, StandsOn}
+use Rattle.run_steps.specs.Plans.{form_in, StandsOn}
+use Rattle.run_steps.proofs.Planned.{plan_of}
 use Rattle.run_steps.specs.Steps.{◌>>=◌, Last, Nothing, Bits, InOrder, Several, bits_step, gives, checking, placing, planning, last_step, format_in}
 use Rattle.state_scores.specs.Scores.{IsSmall}
 use Rattle.program_run.specs.Made.{bounded_cost, judgement_by, read_cost, IsExtendedBy, IsModelled, IsModelText, IsOfModel, IsSolvedBy, IsTold, IsMadeText}
@@ -47,7 +49,7 @@ use Rattle.program_run.specs.Answers.{EveryStateStands, judgement_of, IsFirstBy,
 use Rattle.run_steps.proofs.Stepping.{bits_were, bound}
 use Rattle.program_run.proofs.Scored.{alike_where_wide, scanned_widths, scored_alike}
 use Rattle.program_run.proofs.SmallCosts.{cost_is_small}
-use Rattle.program_run.proofs.Wanted.{costs_wanted, stands_wanted, wanted_names}
+use Rattle.program_run.proofs.Wanted.{HasSoft, costs_wanted, soft_read, soft_wanted, stands_wanted, wanted_names}
 use Rattle.program_run.proofs.Taken.{source_is_taken}
 use Rattle.program_run.proofs.Widths.{has_few_nodes}
 use Rattle.program_run.proofs.Asked.{IsProvedState, stated_width, proved_is, proved_least}
@@ -59,6 +61,7 @@ use Rattle.program_run.proofs.Stood.{alike, model_stands}
 pub record IsPlanned (words : List (List ℕ)) (held : NamedFiles) (command : Command) (plan : Plan)
     : Type 0 where
   pub checked : (checking words held command).end ≡ Some (Ok plan.read)
+  pub placed : (placing words held command.target).end ≡ Some (Ok plan.base)
   pub unit : plan.unit ≡ command.unit
 
 pub planned_is : (words : List (List ℕ)) (held : NamedFiles) (command : Command) (plan : Plan)
@@ -75,6 +78,8 @@ planned_is words held command plan e =
     record {
       checked = subst (λ (p : Plan). (checking words held command).end ≡ Some (Ok p.read)) same
           read.1;
+      placed = subst (λ (p : Plan). (placing words held command.target).end ≡ Some (Ok p.base)) same
+          base.1;
       unit = sym (ap (λ (p : Plan). p.unit) same);
     }
 
@@ -158,8 +163,9 @@ least_where_whole s m x state relaxes extends v whole other w decodes =
 module _ (plan : Plan) (s : Source) (m : Written) (names : Option (List (List ℕ)))
     (made : IsModelled plan m) (most : Option ℤ) (has : plan.read.problem.most ≡ most)
     (stands : StandsFor (bounded most s) plan.read) (costs : CostsAs s plan.read)
+    (format : Format) (soft : HasSoft format plan.read.soft)
     (named : names ≡ plan.read.names)
-    (its : IsModelFor plan.base plan.unit (nodes_in plan) (bounded most s) m) where
+    (its : IsModelFor plan.base plan.unit (length (form_in plan).fields) (bounded most s) m) where
   own : m.variables ≡ s.form.bits
   own = its.faithful.stated.variables
 
@@ -187,7 +193,7 @@ module _ (plan : Plan) (s : Source) (m : Written) (names : Option (List (List �
   solved order text told =
       let x = (decoding_of m).decoded told.state in
       let value = energy (form_of m) told.state in
-      let demand = demand_of plan.unit plan.base (nodes_in plan) in
+      let demand = demand_of plan.unit plan.base (length (form_in plan).fields) in
       let least = first_is_least order (form_of m) told.state told.first in
       record {
         state = told.state;
@@ -207,7 +213,7 @@ module _ (plan : Plan) (s : Source) (m : Written) (names : Option (List (List �
   proved bits text is told =
       let x = (decoding_of m).decoded bits in
       let value = energy (form_of m) bits in
-      let demand = demand_of plan.unit plan.base (nodes_in plan) in
+      let demand = demand_of plan.unit plan.base (length (form_in plan).fields) in
       let least = proved_least m bits is in
       record {
         least = least;
@@ -261,36 +267,45 @@ module _ (plan : Plan) (s : Source) (m : Written) (names : Option (List (List �
       least other wide
       (ap (λ n. (models.decoding_to n m).decoded other) all ∙ decodes ∙ sym itself)
 
-  least_by : (ties : Ties) (soft : Option WboContent) (x state : List Bool) → IsOf s.form x
-      → plan.read.soft ≡ soft → EveryStateStands ties (bounded most s) m
+  least_by : (ties : Ties) (f : Format) (x state : List Bool) → IsOf s.form x
+      → HasSoft f plan.read.soft → EveryStateStands ties (bounded most s) m
       → Extends (bounded most s) m x state
       → (ties ≡ Choi → IsLeastTo plan.read.problem.variables m (carried plan.read.soft x) state)
-      → IsLeastAsked ties soft (bounded most s) m x state
-  least_by Choi None x state w is every extends least = plain_least x state w is (least refl)
-  least_by Choi (Some soft) x state w is every extends least =
+      → IsLeastAsked ties f (bounded most s) m x state
+  least_by Choi formats.Wbo x state w is every extends least =
       least_where_whole (bounded most s) m x state every extends
-  least_by Cut None x state w is every extends least = tt
-  least_by Cut (Some soft) x state w is every extends least = tt
+  least_by Choi formats.Wcnf x state w is every extends least = plain_least x state w is (least refl)
+  least_by Choi formats.Opb x state w is every extends least = plain_least x state w is (least refl)
+  least_by Choi formats.Poly x state w is every extends least = plain_least x state w is (least refl)
+  least_by Choi formats.Ising x state w is every extends least = plain_least x state w is (least refl)
+  least_by Choi formats.Qubo x state w is every extends least = plain_least x state w is (least refl)
+  least_by Cut f x state w is every extends least = tt
+
+  -- the texts that the plan's own steps make
+  abbrev ByPlan : List Bool → List ℕ → Type 0
+  ByPlan x text = IsExtended format s most plan m x text
 
   extended : (x : List Bool) (text : List ℕ) → IsOf s.form x
-      → IsExtendedBy plan.choices plan.read m x text → IsExtended s most plan m x text
+      → IsExtendedBy plan.choices plan.read m x text → ByPlan x text
   extended x text w told =
       let extends = source_extends x told.state w told.extends in
       record {
-        state = told.state;
+        extension = record {
+          state = told.state;
+          extends = extends;
+          least = least_by (ties_of plan.base) format x told.state w soft its.every extends
+              (λ choi. told.least plan.read.variables
+              (subst (λ ties. IsMadeOf ties plan.read.variables plan.choices plan.read.problem m) choi
+              made.made));
+          said = told.said
+              ∙ ap (λ c. extension_text told.state c (energy (form_of m) told.state))
+              (costs.same x w);
+        };
         exact = told.exact;
-        extends = extends;
-        least = least_by (ties_of plan.base) plan.read.soft x told.state w refl its.every extends
-            (λ choi. told.least plan.read.variables
-            (subst (λ ties. IsMadeOf ties plan.read.variables plan.choices plan.read.problem m) choi
-            made.made));
-        said = told.said
-            ∙ ap (λ c. extension_text told.state c (energy (form_of m) told.state))
-            (costs.same x w);
       }
 
   model_asked : (ask : Ask) (last : Last) (text : List ℕ) → IsModelText ask m text
-      → IsAskedOf ask s most names plan m last text
+      → IsAskedOf ask s most names ByPlan m last text
   model_asked Model last text told =
       let formed = formed_on plan.base plan.choices plan.unit plan.read.variables
       plan.read.problem m made.stands in
@@ -304,9 +319,9 @@ module _ (plan : Plan) (s : Source) (m : Written) (names : Option (List (List �
   model_asked (Prove state certificate) last text told = absurd told
 
   bits_asked : (words : List (List ℕ)) (held : NamedFiles) (ask : Ask) (bits : List Bool)
-      (text : List ℕ) → (bits_step words held ask plan m).end ≡ Some (Ok bits)
+      (text : List ℕ) → (bits_step words held ask plan.read.variables m).end ≡ Some (Ok bits)
       → IsTold ask plan.read plan.choices m (Bits bits) text
-      → IsAskedOf ask s most names plan m (Bits bits) text
+      → IsAskedOf ask s most names ByPlan m (Bits bits) text
   bits_asked words held Model bits text e told = absurd told
   bits_asked words held Summary bits text e told = absurd told
   bits_asked words held Size bits text e told = absurd told
@@ -322,18 +337,18 @@ module _ (plan : Plan) (s : Source) (m : Written) (names : Option (List (List �
 
   -- what the step that reads bits gives
   stepped : (words : List (List ℕ)) (held : NamedFiles) (ask : Ask) (last : Last) (text : List ℕ)
-      → (bits_step words held ask plan m >>= λ bits. gives (Bits bits)).end ≡ Some (Ok last)
+      → (bits_step words held ask plan.read.variables m >>= λ bits. gives (Bits bits)).end ≡ Some (Ok last)
       → IsTold ask plan.read plan.choices m last text
-      → IsAskedOf ask s most names plan m last text
+      → IsAskedOf ask s most names ByPlan m last text
   stepped words held ask last text e told =
-      let were = bits_were (bits_step words held ask plan m) last e in
-      subst (λ l. IsAskedOf ask s most names plan m l text) were.2
+      let were = bits_were (bits_step words held ask plan.read.variables m) last e in
+      subst (λ l. IsAskedOf ask s most names ByPlan m l text) were.2
       (bits_asked words held ask were.0 text were.1
       (subst (λ l. IsTold ask plan.read plan.choices m l text) (sym were.2) told))
 
   solved_asked : (order : Option WordAt) (last : Last) (text : List ℕ)
       → IsTold (Solve order) plan.read plan.choices m last text
-      → IsAskedOf (Solve order) s most names plan m last text
+      → IsAskedOf (Solve order) s most names ByPlan m last text
   solved_asked order Nothing text told = solved None text told
   solved_asked order (InOrder nodes) text told = solved (Some nodes) text told
   solved_asked order (Bits bits) text told = absurd told
@@ -341,9 +356,9 @@ module _ (plan : Plan) (s : Source) (m : Written) (names : Option (List (List �
 
   -- the states that are read have the model's width
   scored_asked : (words : List (List ℕ)) (held : NamedFiles) (at : WordAt) (last : Last)
-      (text : List ℕ) → (last_step words held (Evaluate at) plan m).end ≡ Some (Ok last)
+      (text : List ℕ) → (last_step words held (Evaluate at) plan.read.variables m).end ≡ Some (Ok last)
       → IsTold (Evaluate at) plan.read plan.choices m last text
-      → IsAskedOf (Evaluate at) s most names plan m last text
+      → IsAskedOf (Evaluate at) s most names ByPlan m last text
   scored_asked words held at Nothing text e told = absurd told
   scored_asked words held at (Bits bits) text e told = absurd told
   scored_asked words held at (InOrder order) text e told = absurd told
@@ -355,9 +370,9 @@ module _ (plan : Plan) (s : Source) (m : Written) (names : Option (List (List �
 
   alone_asked : (ask : Ask) (last : Last) (text : List ℕ) → IsOfModel ask → Nothing ≡ last
       → IsTold ask plan.read plan.choices m last text
-      → IsAskedOf ask s most names plan m last text
+      → IsAskedOf ask s most names ByPlan m last text
   alone_asked ask last text is nothing told =
-      subst (λ l. IsAskedOf ask s most names plan m l text) nothing
+      subst (λ l. IsAskedOf ask s most names ByPlan m l text) nothing
       (model_asked ask Nothing text (told_alone ask is
       (subst (λ l. IsTold ask plan.read plan.choices m l text) (sym nothing) told)))
     where
@@ -373,9 +388,9 @@ module _ (plan : Plan) (s : Source) (m : Written) (names : Option (List (List �
       told_alone (Prove state certificate) is t = absurd is
 
   asked_of : (words : List (List ℕ)) (held : NamedFiles) (ask : Ask) (last : Last)
-      (text : List ℕ) → (last_step words held ask plan m).end ≡ Some (Ok last)
+      (text : List ℕ) → (last_step words held ask plan.read.variables m).end ≡ Some (Ok last)
       → IsTold ask plan.read plan.choices m last text
-      → IsAskedOf ask s most names plan m last text
+      → IsAskedOf ask s most names ByPlan m last text
   asked_of words held Model last text e told = alone_asked Model last text tt (let two = e in cc) told
   asked_of words held Summary last text e told =
       alone_asked Summary last text tt (let two = e in cc) told
@@ -391,7 +406,7 @@ module _ (plan : Plan) (s : Source) (m : Written) (names : Option (List (List �
 
 pub made_answers : (words : List (List ℕ)) (held : NamedFiles) (command : Command) (plan : Plan)
     (text : List ℕ) → (planning words held command).end ≡ Some (Ok plan)
-    → IsMadeText command.ask plan (last_step words held command.ask plan) text
+    → IsMadeText command.ask plan (last_step words held command.ask plan.read.variables) text
     → IsAnswer words held command text
 made_answers words held command plan text e made =
     let planned = planned_is words held command plan e in
@@ -406,9 +421,11 @@ made_answers words held command plan text e made =
     let own_stands = subst (StandsFor (bounded most s.0)) taken.given
     (stands_wanted s.0 command taken.own s.2) in
     let named : names_of format taken.text ≡ plan.read.names =
-    ap read_names taken.read ∙ sym (wanted_names command taken.own)
+    names_read format taken.text taken.own taken.read ∙ sym (wanted_names command taken.own)
     ∙ ap (λ (r : Read). r.names) taken.given in
     let has : plan.read.problem.most ≡ most = sym (ap (λ (r : Read). r.problem.most) taken.given) in
+    let soft = soft_wanted format command taken.own plan.read taken.given
+    (soft_read format taken.text taken.own taken.read) in
     let stands =
     stands_on plan.base plan.choices plan.unit (bounded most s.0) plan.read m own_stands made.made.stands in
     record {
@@ -418,14 +435,17 @@ made_answers words held command plan text e made =
       planned = e;
       model = m;
       by = made.made.by;
-      stands = subst (λ u. IsModelFor plan.base u (nodes_in plan) (bounded most s.0) m) planned.unit
+      stands = subst (λ u. IsModelFor plan.base u (length (form_in plan).fields) (bounded most s.0) m) planned.unit
           stands;
       small = λ x wide.
           subst IsSmall (costs.same x wide)
           (cost_is_small command.choices.normal plan.read.problem (carried plan.read.soft x) taken.within);
       few = has_few_nodes plan m made.made.can_stand made.made.by made.made.stands;
-      last = made.last;
-      read = made.read;
-      said = asked_of plan s.0 m (names_of format taken.text) made.made most has own_stands costs named
-          stands words held command.ask made.last text made.read made.told;
+      asked = record {
+        last = made.last;
+        read = subst (λ n. (last_step words held command.ask n m).end ≡ Some (Ok made.last))
+            own_stands.variables made.read;
+        said = asked_of plan s.0 m (names_of format taken.text) made.made most has own_stands costs
+            format soft named stands words held command.ask made.last text made.read made.told;
+      };
     }

@@ -12,7 +12,7 @@ use Rattle.run_steps.specs.declared.status.Status.{Status}
 use Rattle.run_steps.specs.declared.status.Status.TheVariants.{Done, Usage, ReadFault, WriteFault, BadText, Limit, NotEmbedded, TooWide, NotProved, NoState, NoMemory}
 use Rattle.run_steps.specs.Statuses.{IsReading, IsRefusal, IsDoneOrWant, IsWriting}
 use Rattle.run_steps.specs.Steps.{Steps, Last, Refuses, planning, last_step}
-use Rattle.program_run.specs.Outcome.{AreFilesAsked, OfModel, IsEndOf, IsEnd, Ends, IsOutcomeOf, MeetsOutcomeOf}
+use Rattle.program_run.specs.Outcome.{AreFilesAsked, OfModel, IsEndOf, IsEnd, Ends, MeetsOutcomeOf}
 use Rattle.program_run.specs.Made.{IsModelled, EndsOf}
 use Rattle.run_steps.specs.Causes.{AreFiles}
 use Rattle.program_run.proofs.OneModel.{one_model}
@@ -46,8 +46,8 @@ last_gives plan last m x made e = (made.can_stand, (m, made.by, (x, e)))
 -- ---- of all steps
 
 -- the plan stands, and its end is that of all
-pub plan_ends : (status : Status) (plans : Steps Plan) (last : Plan → Written → Steps Last)
-    (plan : Plan) → plans.end ≡ Some (Ok plan) → EndsOf status plan (last plan)
+pub plan_ends : (status : Status) (plans : Steps Plan) (last : ℕ → Written → Steps Last)
+    (plan : Plan) → plans.end ≡ Some (Ok plan) → EndsOf status plan (last plan.read.variables)
     → Ends status plans last
 plan_ends (ReadFault which) plans last plan e is = inr (rw e is)
 plan_ends NoMemory plans last plan e is = tt
@@ -62,7 +62,7 @@ plan_ends (TooWide node width) plans last plan e is = rw e is
 plan_ends (NotProved fault) plans last plan e is = rw e is
 
 -- the plan is refused
-pub plan_refused : (status : Status) (plans : Steps Plan) (last : Plan → Written → Steps Last)
+pub plan_refused : (status : Status) (plans : Steps Plan) (last : ℕ → Written → Steps Last)
     → IsRefusal status → Refuses status plans → Ends status plans last
 plan_refused (ReadFault which) plans last refusal is = inl is
 plan_refused NoMemory plans last refusal is = tt
@@ -116,14 +116,14 @@ plan_done plan last (NotProved fault) done is =
     absurd (gives_or_refuses plan last (NotProved fault) done is)
 
 -- where all is done, there is no other end
-pub one_end : (end : Option (Result Plan Status)) (last : Plan → Written → Steps Last)
+pub one_end : (end : Option (Result Plan Status)) (last : ℕ → Written → Steps Last)
     (status : Status) → IsEnd end last Done → IsEnd end last status → status ≡ Done
 one_end None last status done is = absurd done
 one_end (Some (Err refusal)) last status done is = is ∙ sym done
-one_end (Some (Ok plan)) last status done is = plan_done plan (last plan) status done is
+one_end (Some (Ok plan)) last status done is = plan_done plan (last plan.read.variables) status done is
 
 -- a status that is neither a fault nor want of memory is Done where all is done
-pub done_is_met : (plans : Steps Plan) (last : Plan → Written → Steps Last)
+pub done_is_met : (plans : Steps Plan) (last : ℕ → Written → Steps Last)
     (status : Status) → IsEnd plans.end last Done → Ends status plans last
     → ((which : Which) → status ≡ ReadFault which → ⊥) → (status ≡ WriteFault → ⊥)
     → IsDoneOrWant status
@@ -154,7 +154,7 @@ pub done_is_complete : (words : List (List ℕ)) (held : NamedFiles) (said : Res
     (status : Status) (old new : Counts) → MeetsOutcomeOf words held said status
     → IfOk said (λ request. AreFilesAsked words request status old new)
     → ¬ (Rose old.faults new.faults) → (status ≡ WriteFault → ⊥)
-    → IsOutcomeOf words held said Done → IsDoneOrWant status
+    → MeetsOutcomeOf words held said Done → IsDoneOrWant status
 done_is_complete words held (Err position) status old new meets files calm quiet done = absurd cc
 done_is_complete words held (Ok (requests.Notice notice)) status old new meets files calm quiet done =
     written status meets quiet

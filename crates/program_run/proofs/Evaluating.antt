@@ -62,19 +62,19 @@ module _ (held : NamedFiles) (name : List ℕ) (width : ℕ) where
 module _ (words : List (List ℕ)) (held : NamedFiles) (command : Command) (plan : Plan) (m : Written)
     (at : WordAt) where
   pub scans : command.ask ≡ asks.Evaluate at
-      → scanning held (text_at words at) m.nodes ≡ last_step words held command.ask plan m
+      → scanning held (text_at words at) m.nodes ≡ last_step words held command.ask plan.read.variables m
   scans is = rw is refl
 
   pub solves : command.ask ≡ asks.Solve (Some at)
-      → solving words held (Some at) m ≡ last_step words held command.ask plan m
+      → solving words held (Some at) m ≡ last_step words held command.ask plan.read.variables m
   solves is = rw is refl
 
 -- without an order the last step takes nothing
 pub usual_end : (words : List (List ℕ)) (held : NamedFiles) (ask : Ask) (plan : Plan)
     → ask ≡ asks.Solve None → EndsOf Done plan (solving [] [] None)
-    → EndsOf Done plan (last_step words held ask plan)
+    → EndsOf Done plan (last_step words held ask plan.read.variables)
 usual_end words held ask plan is ends =
-    subst (λ a. EndsOf Done plan (last_step words held a plan)) (sym is) ends
+    subst (λ a. EndsOf Done plan (last_step words held a plan.read.variables)) (sym is) ends
 
 -- ---- files
 

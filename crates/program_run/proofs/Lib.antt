@@ -6,11 +6,13 @@ pub mod Evaluating
 pub mod Embedded
 pub mod MadeModels
 pub mod Widths
+pub mod Thresholds
 pub mod Stood
 pub mod Wanted
 pub mod Scored
 pub mod SmallCosts
 pub mod Answering
+pub mod Headlines
 pub mod Asked
 pub mod Said
 pub mod SomeText

@@ -13,7 +13,7 @@ use Rattle.command_words.specs.declared.commands.Command.{Command}
 use Rattle.command_words.specs.Names.{text_at}
 use Rattle.source_texts.specs.declared.reading.Read.{Read}
 use Rattle.source_texts.specs.Sources.{problem_of}
-use Rattle.run_steps.specs.Steps.{ends, text_end, limited, limits_end, format_in, sourcing, reading, checking, wanted}
+use Rattle.run_steps.specs.Steps.{ends, text_end, limited, limits_end, format_in, sourcing, reading_source, checking, wanted}
 use Rattle.program_run.specs.Answers.{IsTextIn}
 use Rattle.run_steps.proofs.Stepping.{bound}
 use Rattle.run_steps.proofs.TakenBytes.{taken_is_held}
@@ -48,10 +48,10 @@ pub record IsTaken (words : List (List ℕ)) (held : NamedFiles) (command : Comm
 pub source_is_taken : (words : List (List ℕ)) (held : NamedFiles) (command : Command) (read : Read)
     → (checking words held command).end ≡ Some (Ok read)
     → IsTaken words held command read
-unfolding checking reading
+unfolding checking reading_source
 source_is_taken words held command read e =
     let origin = command.origin in
-    let checked = bound (reading words held origin) (λ r. ends (limited command r)) read e in
+    let checked = bound (reading_source words held origin) (λ r. ends (limited command r)) read e in
     let within : limited command checked.0 ≡ Ok read = let two = checked.2 in cc in
     let same = limits_keep Source (wanted command checked.0) read
     (limit_fault command.choices.normal (wanted command checked.0).problem) within in

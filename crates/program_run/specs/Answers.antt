@@ -12,13 +12,14 @@ use Rattle.faithful.specs.Bounds.{IsBounded}
 use Rattle.faithful.specs.Faithful.{Faithful}
 use Rattle.form_steps.specs.Least.{IsFeasible, IsLeastState}
 use Rattle.problem_form.specs.Limits.{auxiliary_bits}
-use Rattle.wbo_reader.specs.Wbo.{WboContent}
 use Rattle.sample_text.specs.Sample.{sample_text}
 use Rattle.model_text.specs.Rows.{FitsFields, model_text}
 use Rattle.model_text.specs.Summary.{summary_text}
 use Rattle.model_text.specs.Told.{IsTextOf}
 use Rattle.command_words.specs.declared.commands.Ties.{Ties}
 use Rattle.command_words.specs.declared.commands.Ties.TheVariants.{Choi, Cut}
+use Rattle.command_words.specs.declared.commands.Format.{Format}
+use Rattle.command_words.specs.declared.commands.Format.TheVariants.{Wbo}
 use Rattle.command_words.specs.declared.commands.Origin.{Origin}
 use Rattle.command_words.specs.declared.commands.Origin.TheVariants.{File, Drawn}
 use Rattle.command_words.specs.declared.commands.Ask.{Ask}
@@ -40,18 +41,19 @@ use Rattle.state_scores.specs.Texts.{evaluation_text}
 use Rattle.basic_solve.specs.FirstLeast.{IsFirstLeast}
 use Rattle.elimination_order.specs.Renumbered.{IsFirstLeastBy}
 use Rattle.faithful.specs.Told.{TellsOptimum, whole_energy}
-use Rattle.model_pipeline.specs.Extensions.{form_nodes, extension_of, state_on}
+use Rattle.model_pipeline.specs.Extensions.{form_nodes_by, extension_of, state_by}
 use Rattle.run_steps.specs.declared.placements.Placement.{Placement}
 use Rattle.run_steps.specs.declared.plans.Plan.{Plan}
 use Rattle.run_steps.specs.Placements.{kind_of, ties_of, demand_of}
-use Rattle.run_steps.specs.Plans.{nodes_in, IsModelBy}
+use Rattle.run_steps.specs.Plans.{form_in, IsModelBy}
 use Rattle.run_steps.specs.Steps.{Last, Nothing, Bits, InOrder, Several, format_in, planning, last_step}
 use Rattle.program_run.specs.declared.answers.Answer.{Answer}
 use Rattle.program_run.specs.declared.answers.Answer.TheVariants.{Model, Scores, Text}
 use Rattle.run_steps.specs.declared.status.Status.{Status}
 use Rattle.run_steps.specs.declared.status.Status.TheVariants.{Done, WriteFault}
 use Rattle.run_steps.specs.Causes.{WhereHeld}
-use Rattle.program_run.specs.Outcome.{IsComplete}
+use Rattle.run_steps.specs.Statuses.{IsDoneOrWant}
+use Rattle.program_run.specs.Outcome.{MeetsOutcome}
 
 -- ---- a source and its model
 
@@ -115,23 +117,26 @@ IsLeastWhereWhole source model x state =
 
 -- the state is a least one that decodes to the assignment: always, with soft constraints where the
 -- cost is whole, and not promised where ties are only as strong as least states ask
-abbrev pub IsLeastAsked : Ties → Option WboContent → Source → Written → List Bool → List Bool
-    → Type 0
-IsLeastAsked Choi None source model x state = IsLeastExtension model x state
-IsLeastAsked Choi (Some soft) source model x state = IsLeastWhereWhole source model x state
-IsLeastAsked Cut soft source model x state = ⊤
+abbrev pub IsLeastAsked : Ties → Format → Source → Written → List Bool → List Bool → Type 0
+IsLeastAsked Cut format source model x state = ⊤
+IsLeastAsked Choi Wbo source model x state = IsLeastWhereWhole source model x state
+IsLeastAsked Choi format source model x state = IsLeastExtension model x state
 
--- the text is the state of the model that extends an assignment of the source, with what the
--- assignment costs the source, and the energy of the state; the state extends it where the bounded
--- cost is whole
-pub record IsExtended (source : Source) (most : Option ℤ) (plan : Plan) (model : Written)
-    (x : List Bool) (text : List ℕ) : Type 0 where
+-- the text is a state of the model that extends an assignment of the source, with what the assignment
+-- costs the source, and the energy of the state; the state extends it where the bounded cost is whole
+pub record IsExtension (ties : Ties) (format : Format) (source : Source) (most : Option ℤ)
+    (model : Written) (x : List Bool) (text : List ℕ) : Type 0 where
   pub state : List Bool
-  pub exact : state
-      ≡ state_on model (extension_of plan.choices plan.read.problem (carried plan.read.soft x))
   pub extends : Extends (bounded most source) model x state
-  pub least : IsLeastAsked (ties_of plan.base) plan.read.soft (bounded most source) model x state
+  pub least : IsLeastAsked ties format (bounded most source) model x state
   pub said : text ≡ extension_text state (source.form.cost x) (energy (form_of model) state)
+
+-- and the state is the one that the steps of the plan make of the assignment
+pub record IsExtended (format : Format) (source : Source) (most : Option ℤ) (plan : Plan)
+    (model : Written) (x : List Bool) (text : List ℕ) : Type 0 where
+  pub extension : IsExtension (ties_of plan.base) format source most model x text
+  pub exact : extension.state ≡ state_by model.kind model
+      (extension_of plan.choices plan.read.problem (carried plan.read.soft x))
 
 -- what a least state of a model tells of the source: where it is not above the threshold, it decodes
 -- to a least assignment, whose cost its energy tells; else the source is infeasible
@@ -186,27 +191,36 @@ pub record IsScored (j : Judgement) (names : Option (List (List ℕ))) (model : 
       ((decoding_of model).decoded best.1) names
 
 -- the text is what is asked: the model's own, its summary, its size, its first least state, what a
--- state decodes to, what states are worth, what an assignment extends to, or what a state that is proved
--- to be least tells; the costs of what is decoded or extended are the source's own, and all else is said of the source with
--- the bound
-abbrev pub IsAskedOf : Ask → Source → Option ℤ → Option (List (List ℕ)) → Plan → Written → Last
-    → List ℕ → Type 0
-IsAskedOf asks.Model source most names plan model last text = IsTextOf model text
-IsAskedOf asks.Summary source most names plan model last text = text ≡ summary_text model
-IsAskedOf asks.Size source most names plan model last text = text ≡ size_text model
-IsAskedOf (asks.Solve at) source most names plan model Nothing text =
+-- state decodes to, what states are worth, what an assignment extends to, as P says it, or what a state
+-- that is proved to be least tells; the costs of what is decoded or extended are the source's own, and
+-- all else is said of the source with the bound
+abbrev pub IsAskedOf : Ask → Source → Option ℤ → Option (List (List ℕ))
+    → (List Bool → List ℕ → Type 0) → Written → Last → List ℕ → Type 0
+IsAskedOf asks.Model source most names P model last text = IsTextOf model text
+IsAskedOf asks.Summary source most names P model last text = text ≡ summary_text model
+IsAskedOf asks.Size source most names P model last text = text ≡ size_text model
+IsAskedOf (asks.Solve at) source most names P model Nothing text =
     IsSolved None source most names model text
-IsAskedOf (asks.Solve at) source most names plan model (InOrder order) text =
+IsAskedOf (asks.Solve at) source most names P model (InOrder order) text =
     IsSolved (Some order) source most names model text
-IsAskedOf (asks.Decode at) source most names plan model (Bits bits) text =
+IsAskedOf (asks.Decode at) source most names P model (Bits bits) text =
     IsDecoded source names model bits text
-IsAskedOf (asks.Evaluate at) source most names plan model (Several states) text =
+IsAskedOf (asks.Evaluate at) source most names P model (Several states) text =
     IsScored (judgement_of source model) names model states text
-IsAskedOf (asks.Extend at) source most names plan model (Bits bits) text =
-    IsExtended source most plan model bits text
-IsAskedOf (asks.Prove state certificate) source most names plan model (Bits bits) text =
+IsAskedOf (asks.Extend at) source most names P model (Bits bits) text = P bits text
+IsAskedOf (asks.Prove state certificate) source most names P model (Bits bits) text =
     IsProved source most names model bits text
-IsAskedOf ask source most names plan model last text = ⊥
+IsAskedOf ask source most names P model last text = ⊥
+
+-- the text is what a command asks of a model, for a source of this text, with what is read once the
+-- model stands; what an assignment extends to is as P says it
+pub record IsAsked (words : List (List ℕ)) (held : NamedFiles) (command : Command)
+    (P : List Bool → List ℕ → Type 0) (written : List ℕ) (source : Source) (model : Written)
+    (text : List ℕ) : Type 0 where
+  pub last : Last
+  pub read : (last_step words held command.ask source.form.bits model).end ≡ Some (Ok last)
+  pub said : IsAskedOf command.ask source (most_of command.bound)
+      (names_of (format_in command.origin) written) P model last text
 
 -- ---- the answer
 
@@ -222,25 +236,24 @@ pub record IsAnswer (words : List (List ℕ)) (held : NamedFiles) (command : Com
   pub planned : (planning words held command).end ≡ Some (Ok plan)
   pub model : Written
   pub by : IsModelBy plan model
-  pub stands : IsModelFor plan.base command.unit (nodes_in plan)
+  pub stands : IsModelFor plan.base command.unit (length (form_in plan).fields)
       (bounded (most_of command.bound) source) model
   pub small : (x : List Bool) → IsOf source.form x → IsSmall (source.form.cost x)
-  pub few : form_nodes model
+  pub few : form_nodes_by model.kind model
       ≤ plan.read.problem.variables + auxiliary_bits plan.choices.normal plan.read.problem
-  pub last : Last
-  pub read : (last_step words held command.ask plan model).end ≡ Some (Ok last)
-  pub said : IsAskedOf command.ask source (most_of command.bound)
-      (names_of (format_in command.origin) from.text) plan model last text
+  pub asked : IsAsked words held command
+      (IsExtended (format_in command.origin) source (most_of command.bound) plan model)
+      from.text source model text
 
--- the text is the answer to what is asked: what a notice says, or the answer to a command
-abbrev pub IsAnswerIn : List (List ℕ) → NamedFiles → Result Request ℕ → List ℕ → Type 0
-IsAnswerIn words held (Ok (requests.Notice notice)) text = text ≡ notice_text notice
-IsAnswerIn words held (Ok (requests.Command command)) text = IsAnswer words held command text
-IsAnswerIn words held (Err position) text = ⊥
+-- the text is what is asked for: what a notice says, or one of which P holds for a command
+abbrev pub IsSaidTo : Result Request ℕ → (Command → List ℕ → Type 0) → List ℕ → Type 0
+IsSaidTo (Ok (requests.Notice notice)) P text = text ≡ notice_text notice
+IsSaidTo (Ok (requests.Command command)) P text = P command text
+IsSaidTo (Err position) P text = ⊥
 
 -- the text is the answer to the words
 abbrev pub IsAnswered : List (List ℕ) → NamedFiles → List ℕ → Type 0
-IsAnswered words held text = IsAnswerIn words held (request_of words) text
+IsAnswered words held text = IsSaidTo (request_of words) (IsAnswer words held) text
 
 -- the files that what is asked takes
 abbrev pub files_asked : Result Request ℕ → List Which
@@ -266,11 +279,16 @@ IsDelivered Done old new text = Takes old new text
 IsDelivered WriteFault old new text = TakesFront old new text
 IsDelivered status old new text = ⊥
 
--- some text was delivered to a sink, and it answers the words, whatever files may be held
-abbrev pub DeliversAnswer : List (List ℕ) → Option NamedFiles → Status → (old new : Taken) → Type 0
-DeliversAnswer words told status old new =
+-- some text was delivered to a sink, and of it P holds, whatever files may be held
+abbrev pub Delivers : (NamedFiles → List ℕ → Type 0) → List (List ℕ) → Option NamedFiles → Status
+    → (old new : Taken) → Type 0
+Delivers P words told status old new =
     (text : List ℕ) × IsDelivered status old new text
-    × WhereHeld told (files_in words) (λ held. IsAnswered words held text)
+    × WhereHeld told (files_in words) (λ held. P held text)
+
+-- some text was delivered to a sink, and it answers the words
+abbrev pub DeliversAnswer : List (List ℕ) → Option NamedFiles → Status → (old new : Taken) → Type 0
+DeliversAnswer words told status old new = Delivers (IsAnswered words) words told status old new
 
 -- a text went to a sink, and not an empty one
 abbrev pub WritesText : (old new : Taken) → Type 0
@@ -280,4 +298,4 @@ WritesText old new = (text : List ℕ) × (text ≢ []) × Takes old new text
 -- wanting
 abbrev pub Completes : List (List ℕ) → Option NamedFiles → Status → Type 0
 Completes words told status =
-    WhereHeld told (files_in words) (λ held. IsComplete words held status)
+    WhereHeld told (files_in words) (λ held. MeetsOutcome words held Done → IsDoneOrWant status)

@@ -1,7 +1,9 @@
 pub mod Outcome
 pub mod Widths
+pub mod Thresholds
 pub mod Unembedded
 pub mod Made
 pub mod Answers
+pub mod Headline
 pub mod Lines
 pub mod Exits

@@ -160,7 +160,7 @@ pub record IsMadeText (ask : Ask) (plan : Plan) (steps : Written → Steps Last)
 -- the same, with what a command of these words reads once the model of its plan stands
 abbrev pub IsMadeTextOf : List (List ℕ) → NamedFiles → Ask → Plan → List ℕ → Type 0
 IsMadeTextOf words held ask plan text =
-    IsMadeText ask plan (last_step words held ask plan) text
+    IsMadeText ask plan (last_step words held ask plan.read.variables) text
 
 -- the status is how a plan ends, unless it is a fault or want of memory
 abbrev pub EndsOf : Status → Plan → (Written → Steps Last) → Type 0

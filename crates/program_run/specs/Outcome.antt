@@ -8,10 +8,10 @@ use Rattle.command_words.specs.declared.commands.Request.{Request}
 use Rattle.command_words.specs.declared.commands.Request.TheVariants as requests
 use Rattle.command_words.specs.Commands.{request_of}
 use Rattle.run_steps.specs.Causes.{AreFiles}
-use Rattle.run_steps.specs.Statuses.{IsDoneOrWant, IsWriting}
+use Rattle.run_steps.specs.Statuses.{IsWriting}
 use Rattle.run_steps.specs.Steps.{Steps, Last, planning, last_step}
 use Rattle.run_steps.specs.declared.plans.Plan.{Plan}
-use Rattle.run_steps.specs.Plans.{CanStand, IsModelBy, IsFaultIn}
+use Rattle.run_steps.specs.Plans.{CanStand, IsFaultOn, IsModelBy, form_in}
 use Rattle.run_steps.specs.declared.status.Status.{Status}
 use Rattle.run_steps.specs.declared.status.Status.TheVariants.{Done, Usage, ReadFault, WriteFault, NotEmbedded, NoMemory}
 use Rattle.edge_io.specs.Counts.{Counts, Rose}
@@ -23,48 +23,39 @@ OfModel plan P = CanStand plan × ((m : Written) × IsModelBy plan m × P m)
 -- how a plan ends: its model cannot be embedded, or the last step refuses, or all is done
 abbrev pub IsEndOf : Plan → (Written → Steps Last) → Status → Type 0
 IsEndOf plan last Done = OfModel plan (λ m. (x : Last) × ((last m).end ≡ Some (Ok x)))
-IsEndOf plan last (NotEmbedded fault) = IsFaultIn plan fault × ¬ (CanStand plan)
+IsEndOf plan last (NotEmbedded fault) =
+    IsFaultOn plan.base (form_in plan) fault × ¬ (CanStand plan)
 IsEndOf plan last status = OfModel plan (λ m. (last m).end ≡ Some (Err status))
 
 -- how all steps end: with the status of the first one that refuses, and else as the plan does; they
 -- have no end where a file isn't held
-abbrev pub IsEnd : Option (Result Plan Status) → (Plan → Written → Steps Last) → Status
+abbrev pub IsEnd : Option (Result Plan Status) → (ℕ → Written → Steps Last) → Status
     → Type 0
 IsEnd None last status = ⊥
 IsEnd (Some (Err refusal)) last status = status ≡ refusal
-IsEnd (Some (Ok plan)) last status = IsEndOf plan (last plan) status
+IsEnd (Some (Ok plan)) last status = IsEndOf plan (last plan.read.variables) status
 
 -- a file is taken once the model stands
-abbrev pub IsTakenLast : Option (Result Plan Status) → (Plan → Written → Steps Last) → Which
+abbrev pub IsTakenLast : Option (Result Plan Status) → (ℕ → Written → Steps Last) → Which
     → Type 0
 IsTakenLast None last which = ⊥
 IsTakenLast (Some (Err refusal)) last which = ⊥
-IsTakenLast (Some (Ok plan)) last which = OfModel plan (λ m. Contains (last plan m).taken which)
+IsTakenLast (Some (Ok plan)) last which = OfModel plan (λ m. Contains (last plan.read.variables m).taken which)
 
 -- each step before the taking of a file gave a value
-abbrev pub IsComeTo : Steps Plan → (Plan → Written → Steps Last) → Which → Type 0
+abbrev pub IsComeTo : Steps Plan → (ℕ → Written → Steps Last) → Which → Type 0
 IsComeTo plans last which = Contains plans.taken which ⊎ IsTakenLast plans.end last which
 
 -- the status is how the steps end, unless it is a fault or want of memory: a file that cannot be read
 -- is one that they come to, and what cannot be written comes only where all is done
-abbrev pub Ends : Status → Steps Plan → (Plan → Written → Steps Last) → Type 0
+abbrev pub Ends : Status → Steps Plan → (ℕ → Written → Steps Last) → Type 0
 Ends (ReadFault which) plans last = IsComeTo plans last which
 Ends NoMemory plans last = ⊤
 Ends WriteFault plans last = IsEnd plans.end last Done
 Ends status plans last = IsEnd plans.end last status
 
--- the outcome of what is asked; words that ask for nothing are a usage fault
-abbrev pub IsOutcomeOf : List (List ℕ) → NamedFiles → Result Request ℕ → Status → Type 0
-IsOutcomeOf words held (Err position) status = status ≡ Usage position
-IsOutcomeOf words held (Ok (requests.Notice notice)) status = status ≡ Done
-IsOutcomeOf words held (Ok (requests.Command command)) status =
-    IsEnd (planning words held command).end (last_step words held command.ask) status
-
--- the outcome of the words
-abbrev pub IsOutcome : List (List ℕ) → NamedFiles → Status → Type 0
-IsOutcome words held status = IsOutcomeOf words held (request_of words) status
-
--- the status of what is asked is its outcome, but for faults and want of memory
+-- the status of what is asked is its outcome, but for faults and want of memory; words that ask for
+-- nothing are a usage fault
 abbrev pub MeetsOutcomeOf : List (List ℕ) → NamedFiles → Result Request ℕ → Status → Type 0
 MeetsOutcomeOf words held (Err position) status = status ≡ Usage position
 MeetsOutcomeOf words held (Ok (requests.Notice notice)) status = IsWriting status
@@ -79,10 +70,6 @@ MeetsOutcome words held status = MeetsOutcomeOf words held (request_of words) st
 abbrev pub AreFilesAsked : List (List ℕ) → Request → Status → Counts → Counts → Type 0
 AreFilesAsked words (requests.Notice notice) status old new = new ≡ old
 AreFilesAsked words (requests.Command command) status old new = AreFiles words command status old new
-
--- where the outcome is Done, so is the status, or memory was wanting
-abbrev pub IsComplete : List (List ℕ) → NamedFiles → Status → Type 0
-IsComplete words held status = IsOutcome words held Done → IsDoneOrWant status
 
 -- the store of files counted no fault more
 abbrev pub NoFault : Counts → Counts → Type 0

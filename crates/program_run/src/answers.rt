@@ -75,7 +75,7 @@ fn answer_by<F: Files>(
     requires within { limit_fault plan.choices.normal plan.read.problem ≡ None }
     requires kept { KeepsSoft plan.read }
     ensures step { WhereHeld (F.held files.old) (last_files command) (λ held.
-        EndsOf (ended result) plan (last_step (spelled words.now) held command.ask plan)) }
+        EndsOf (ended result) plan (last_step (spelled words.now) held command.ask plan.read.variables)) }
     ensures files { AreFilesOf (named_in words.now command) []
         (last_files command) (ended result) (F.counts files.old) (F.counts files.new) }
     ensures answer { IfOk result (λ answer. WhereHeld (F.held files.old) (last_files command)

@@ -147,7 +147,7 @@ pub fn states_evaluated<F: Files>(
     requires modelled { IsModelled plan.now model.now }
     ensures step { WhereHeld (F.held files.old) (last_files command) (λ held.
         EndsOf (ended result) plan.now
-        (last_step (spelled words.now) held command.ask plan.now)) }
+        (last_step (spelled words.now) held command.ask plan.now.read.variables)) }
     ensures files { AreFilesOf (named_in words.now command) []
         (last_files command) (ended result) (F.counts files.old) (F.counts files.new) }
     ensures answer { IfOk result (λ text. WhereHeld (F.held files.old) (last_files command) (λ held.

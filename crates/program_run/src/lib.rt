@@ -16,7 +16,7 @@ mod program;
 mod running;
 
 pub use answers::Answer;
-pub use laws::{plans_make_one_model, the_first_wide_node_is_named};
+pub use laws::{plans_make_one_model, rows_go_by_the_threshold, the_first_wide_node_is_named};
 pub use program::{exit_number, finish, given_words};
 pub use run_steps::Status;
 pub use running::{answered, run};

@@ -199,7 +199,7 @@ fn solved_in_order<F: Files>(
     requires modelled { IsModelled plan.now model.now }
     ensures step { WhereHeld (F.held files.old) (last_files command) (λ held.
         EndsOf (ended result) plan.now
-        (last_step (spelled words.now) held command.ask plan.now)) }
+        (last_step (spelled words.now) held command.ask plan.now.read.variables)) }
     ensures files { AreFilesOf (named_in words.now command) []
         (last_files command) (ended result) (F.counts files.old) (F.counts files.new) }
     ensures answer { IfOk result (λ text. WhereHeld (F.held files.old) (last_files command) (λ held.
@@ -237,7 +237,7 @@ pub fn answer_in_order<F: Files>(
     requires kept { KeepsSoft plan.now.read }
     ensures step { WhereHeld (F.held files.old) (last_files command) (λ held.
         EndsOf (ended result) plan.now
-        (last_step (spelled words.now) held command.ask plan.now)) }
+        (last_step (spelled words.now) held command.ask plan.now.read.variables)) }
     ensures files { AreFilesOf (named_in words.now command) []
         (last_files command) (ended result) (F.counts files.old) (F.counts files.new) }
     ensures answer { IfOk result (λ text. WhereHeld (F.held files.old) (last_files command) (λ held.
@@ -267,7 +267,7 @@ pub fn answer_evaluated<F: Files>(
     requires kept { KeepsSoft plan.now.read }
     ensures step { WhereHeld (F.held files.old) (last_files command) (λ held.
         EndsOf (ended result) plan.now
-        (last_step (spelled words.now) held command.ask plan.now)) }
+        (last_step (spelled words.now) held command.ask plan.now.read.variables)) }
     ensures files { AreFilesOf (named_in words.now command) []
         (last_files command) (ended result) (F.counts files.old) (F.counts files.new) }
     ensures answer { IfOk result (λ text. WhereHeld (F.held files.old) (last_files command) (λ held.
@@ -302,7 +302,7 @@ fn state_told<F: Files>(
         (keeping_for command.ask) kept.now }
     ensures step { WhereHeld (F.held files.old) (last_files command) (λ held.
         EndsOf (ended result) plan.now
-        (last_step (spelled words.now) held command.ask plan.now)) }
+        (last_step (spelled words.now) held command.ask plan.now.read.variables)) }
     ensures files { AreFilesOf (named_in words.now command) []
         (last_files command) (ended result) (F.counts files.old) (F.counts files.new) }
     ensures answer { IfOk result (λ text. WhereHeld (F.held files.old) (last_files command) (λ held.
@@ -335,7 +335,7 @@ pub fn answer_state<F: Files>(
     requires kept { KeepsSoft plan.now.read }
     ensures step { WhereHeld (F.held files.old) (last_files command) (λ held.
         EndsOf (ended result) plan.now
-        (last_step (spelled words.now) held command.ask plan.now)) }
+        (last_step (spelled words.now) held command.ask plan.now.read.variables)) }
     ensures files { AreFilesOf (named_in words.now command) []
         (last_files command) (ended result) (F.counts files.old) (F.counts files.new) }
     ensures answer { IfOk result (λ text. WhereHeld (F.held files.old) (last_files command) (λ held.

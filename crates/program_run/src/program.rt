@@ -4,7 +4,7 @@ ghost use Rattle.edge_io.specs.Counts.{Rose};
 ghost use Rattle.run_steps.specs.Causes.{spelled};
 ghost use Rattle.run_steps.specs.Statuses.{IsUntaken, IsExitNumber};
 ghost use Rattle.program_run.specs.Answers.{WritesText};
-ghost use Rattle.program_run.specs.Exits.{ends_of, IsNumberOf, IsRunOnce, IsEnded};
+ghost use Rattle.program_run.specs.Exits.{ends_by, sinks_by, IsNumberOf, IsRunOnce, IsEnded};
 
 use crate::running::run;
 use edge_io::{Files, RealFiles, Sink};
@@ -21,11 +21,9 @@ pub fn finish<F: Files, O: Sink, E: Sink>(
     out: &mut O,
     err: &mut E,
 ) -> u8
-    ensures run { IsNumberOf (spelled words.now) (F.held files.old)
-        (ends_of (O.taken out.old) (O.faults out.old) (E.taken err.old) (E.faults err.old)
-        (F.counts files.old))
-        (ends_of (O.taken out.new) (O.faults out.new) (E.taken err.new) (E.faults err.new)
-        (F.counts files.new)) result }
+    ensures run { IsNumberOf (spelled words.now)
+        (ends_by O.taken O.faults E.taken E.faults F.held F.counts)
+        (out.old, err.old, files.old) (out.new, err.new, files.new) result }
 
     // Nothing is called at 2, nothing written to `out` but at 0 and 4, and nothing to `err` at 0.
     ensures no_call { result ≡ 2 → files.new ≡ files.old }
@@ -53,10 +51,8 @@ pub fn given_words(rt: &HostRuntime) -> Result<Vec<String>, Status>
 /// The number of a run on the words of the command line and the files of the system, or the status
 /// where no words can be taken, and then nothing is written.
 fn ending<O: Sink, E: Sink>(rt: HostRuntime, out: &mut O, err: &mut E) -> Result<u8, Status>
-    ensures run { IfOk result (λ number. IsRunOnce
-        (ends_of (O.taken out.old) (O.faults out.old) (E.taken err.old) (E.faults err.old))
-        (ends_of (O.taken out.new) (O.faults out.new) (E.taken err.new) (E.faults err.new))
-        number) }
+    ensures run { IfOk result (λ number. IsRunOnce (sinks_by O.taken O.faults E.taken E.faults)
+        (out.old, err.old) (out.new, err.new) number) }
     ensures refused { IfOk result (λ number. number ≢ 0 → number ≢ 4 → out.new ≡ out.old) }
     ensures silent { IfOk result (λ number. number ≡ 0 → err.new ≡ err.old) }
     ensures untaken { IfErr result IsUntaken }
@@ -76,10 +72,8 @@ fn ending<O: Sink, E: Sink>(rt: HostRuntime, out: &mut O, err: &mut E) -> Result
 /// exit with: that of the run's status, or of the one where there are no words.
 pub fn exit_number<O: Sink, E: Sink>(rt: HostRuntime, out: &mut O, err: &mut E) -> u8
     ensures number { IsExitNumber result }
-    ensures run { IsEnded
-        (ends_of (O.taken out.old) (O.faults out.old) (E.taken err.old) (E.faults err.old))
-        (ends_of (O.taken out.new) (O.faults out.new) (E.taken err.new) (E.faults err.new))
-        result }
+    ensures run { IsEnded (sinks_by O.taken O.faults E.taken E.faults)
+        (out.old, err.old) (out.new, err.new) result }
 
     // Something is written to `out` with 0 and, after a fault of it, with 4, and else nothing.
     ensures written { result ≡ 0 → WritesText (O.taken out.old) (O.taken out.new) }

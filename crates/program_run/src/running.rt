@@ -8,6 +8,7 @@ ghost use Rattle.run_steps.specs.Statuses.{IsUsageOf, OnUsage, OnWriting, OnDone
 ghost use Rattle.program_run.specs.Outcome.{AreFilesAsked, MeetsOutcome, NoFault};
 ghost use Rattle.run_steps.specs.Causes.{WhereHeld, spelled};
 ghost use Rattle.program_run.specs.Answers.{files_in, Completes, DeliversAnswer, IsDelivered, WritesText};
+ghost use Rattle.program_run.specs.Headline.{DeliversHeadline};
 ghost use Rattle.program_run.specs.Lines.{error_line, name_in, name_said, file_in, IsSaid};
 
 use crate::answers::answer_to;
@@ -126,7 +127,9 @@ pub fn answered<F: Files, O: Sink>(
         → ¬ (Rose (O.faults out.old) (O.faults out.new))
         → Completes (spelled words.now) (F.held files.old) result }
 
-    // The headline.
+    // The headline, and the answer whole.
+    ensures headline { OnWriting result (DeliversHeadline (spelled words.now) (F.held files.old)
+        result (O.taken out.old) (O.taken out.new)) }
     ensures answered { OnWriting result (DeliversAnswer (spelled words.now) (F.held files.old)
         result (O.taken out.old) (O.taken out.new)) }
     ensures written { OnDone result (WritesText (O.taken out.old) (O.taken out.new)) }
@@ -164,7 +167,9 @@ pub fn run<F: Files, O: Sink, E: Sink>(
         → ¬ (Rose (O.faults out.old) (O.faults out.new))
         → Completes (spelled words.now) (F.held files.old) result }
 
-    // The headline.
+    // The headline, and the answer whole.
+    ensures headline { OnWriting result (DeliversHeadline (spelled words.now) (F.held files.old)
+        result (O.taken out.old) (O.taken out.new)) }
     ensures answered { OnWriting result (DeliversAnswer (spelled words.now) (F.held files.old)
         result (O.taken out.old) (O.taken out.new)) }
     ensures written { OnDone result (WritesText (O.taken out.old) (O.taken out.new)) }

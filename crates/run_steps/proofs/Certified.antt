@@ -131,7 +131,7 @@ module _ (words : List (List ℕ)) (held : NamedFiles) (plan : Plan) (m : Writte
 
   -- what refuses the bits refuses the step that reads them
   pub bits_refuse : (ask : Ask) (at : WordAt) (status : Status) → bits_at ask ≡ Some at
-      → Refuses status (asked ask at) → Refuses status (bits_step words held ask plan m)
+      → Refuses status (asked ask at) → Refuses status (bits_step words held ask plan.read.variables m)
   bits_refuse Model at status is refused = absurd cc
   bits_refuse Summary at status is refused = absurd cc
   bits_refuse Size at status is refused = absurd cc
@@ -162,23 +162,23 @@ module _ (words : List (List ℕ)) (held : NamedFiles) (plan : Plan) (m : Writte
 
     pub proof_gives : (end : Result (List Bool) Status)
         → (certified held (text_at words certificate) m bits).end ≡ Some end
-        → (bits_step words held ask plan m).end ≡ Some end
+        → (bits_step words held ask plan.read.variables m).end ≡ Some end
     proof_gives end f =
-        subst (λ k. (bits_step words held k plan m).end ≡ Some end) (sym is)
+        subst (λ k. (bits_step words held k plan.read.variables m).end ≡ Some end) (sym is)
         (proof_end_is state certificate bits end given f)
 
     pub proof_refused : (status : Status)
         → Refuses status (certified held (text_at words certificate) m bits)
-        → Refuses status (bits_step words held ask plan m)
+        → Refuses status (bits_step words held ask plan.read.variables m)
     proof_refused status refused =
-        subst (λ k. Refuses status (bits_step words held k plan m)) (sym is)
+        subst (λ k. Refuses status (bits_step words held k plan.read.variables m)) (sym is)
         (proof_refuses_next state certificate bits status given refused)
 
   -- ---- what is read last
 
   -- a command that asks for a state or an assignment reads its bits last
   last_is : (ask : Ask) (at : WordAt) → bits_at ask ≡ Some at
-      → (bits_step words held ask plan m >>= λ bits. gives (Bits bits)) ≡ last_step words held ask plan m
+      → (bits_step words held ask plan.read.variables m >>= λ bits. gives (Bits bits)) ≡ last_step words held ask plan.read.variables m
   last_is Model at is = absurd cc
   last_is Summary at is = absurd cc
   last_is Size at is = absurd cc
@@ -190,8 +190,8 @@ module _ (words : List (List ℕ)) (held : NamedFiles) (plan : Plan) (m : Writte
 
   pub last_meets : {X : Type 0} (ask : Ask) (at : WordAt) → bits_at ask ≡ Some at
       → (view : X → List Bool) (result : Result X Status)
-      → Meets view result (bits_step words held ask plan m)
-      → Meets (λ x. Bits (view x)) result (last_step words held ask plan m)
+      → Meets view result (bits_step words held ask plan.read.variables m)
+      → Meets (λ x. Bits (view x)) result (last_step words held ask plan.read.variables m)
   last_meets ask at is view result meets =
       subst (λ (steps : Steps Last). Meets (λ x. Bits (view x)) result steps) (last_is ask at is)
-      (bits_meet view result (bits_step words held ask plan m) meets)
+      (bits_meet view result (bits_step words held ask plan.read.variables m) meets)

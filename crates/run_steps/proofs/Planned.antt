@@ -1,14 +1,20 @@
 -- The plan of a command, where its source and what it stands on are taken or refused.
 use Rattle.std.proofs.Common.{◌≡◌, ℕ, List, Ok, Some, ◌∙◌}
+use Rattle.base.specs.declared.unit.UnitChoice.{UnitChoice}
 use Rattle.edge_io.specs.Held.{NamedFiles}
+use Rattle.problem_form.specs.declared.limits.Choices.{Choices}
 use Rattle.command_words.specs.declared.commands.Command.{Command}
 use Rattle.source_texts.specs.declared.reading.Read.{Read}
 use Rattle.run_steps.specs.declared.placements.Placement.{Placement}
 use Rattle.run_steps.specs.declared.plans.Plan.{Plan}
 use Rattle.run_steps.specs.declared.status.Status.{Status}
-use Rattle.run_steps.specs.Plans.{plan_of}
 use Rattle.run_steps.specs.Steps.{Steps, ◌>>=◌, gives, checking, placing, planning, Refuses}
 use Rattle.run_steps.proofs.Stepping.{next_end, refuses_on, refuses_next}
+
+-- the plan of what is read and chosen
+abbrev pub plan_of : Read → Choices → UnitChoice → Placement → Plan
+plan_of read choices unit base =
+    record { read = read; choices = choices; unit = unit; base = base }
 
 module _ (words : List (List ℕ)) (held : NamedFiles) (command : Command) where
   rest : Read → Steps Plan

@@ -17,7 +17,7 @@ use Rattle.sample_text.proofs.EachRead.{each_sample_is_read}
 use Rattle.source_texts.specs.declared.reading.Read.{Read}
 use Rattle.source_texts.specs.Sources.{bounded_read, own, problem_of}
 use Rattle.run_steps.specs.Drawn.{IsDrawnInto}
-use Rattle.source_texts.proofs.WcnfTexts.{clauses_have_no_conflicts, wcnf_has_no_most}
+use Rattle.source_texts.proofs.WcnfTexts.{clauses_have_no_conflicts, wcnf_has_no_most, wcnf_problem}
 use Rattle.run_steps.proofs.BoundedLimits.{within_bounded}
 
 -- there is something that it is read into
@@ -26,7 +26,8 @@ read_into : (number clauses : ℕ) (normal : Normal) → clauses ≤ 100000
 read_into number clauses normal few =
     let law = each_sample_is_read number clauses normal few in
     let from : problem_of Wcnf (sample_text number clauses) ≡ Ok (own law.0) =
-    ap (λ (r : Result ProblemContent TextFault). r >>= λ p. Ok (own p)) law.1 in
+    wcnf_problem (sample_text number clauses)
+    ∙ ap (λ (r : Result ProblemContent TextFault). r >>= λ p. Ok (own p)) law.1 in
     let free = wcnf_has_no_most (sample_text number clauses) (own law.0) from in (
       own law.0,
       record { from = from; within = λ most. within_bounded normal law.0 most free law.2 },

@@ -15,7 +15,7 @@ use Rattle.source_texts.specs.declared.reading.Read.{Read}
 use Rattle.source_texts.specs.Sources.{problem_of}
 use Rattle.run_steps.specs.declared.status.Status.{Status}
 use Rattle.run_steps.specs.declared.status.Status.TheVariants.{Limit}
-use Rattle.run_steps.specs.Steps.{Steps, ◌>>=◌, Refuses, checking, ends, limited, limits_end, reading, sourcing, text_end, wanted}
+use Rattle.run_steps.specs.Steps.{Steps, ◌>>=◌, Refuses, checking, ends, limited, limits_end, reading_source, sourcing, text_end, wanted}
 use Rattle.run_steps.specs.Cut.{checking_file, reading_file}
 use Rattle.run_steps.specs.Drawn.{IsDrawnFor}
 use Rattle.run_steps.proofs.Stepping.{next_end, refuses_on}
@@ -53,8 +53,8 @@ module _ (held : NamedFiles) (name : List ℕ) (format : Format) (command : Comm
       refuses_on status (reading_file held name format) (λ read. ends (limited command read)) refused
 
 file_is_read : (words : List (List ℕ)) (held : NamedFiles) (format : Format) (at : WordAt)
-    → reading words held (File format at) ≡ reading_file held (text_at words at) format
-unfolding reading sourcing reading_file
+    → reading_source words held (File format at) ≡ reading_file held (text_at words at) format
+unfolding reading_source sourcing reading_file
 file_is_read words held format at = refl
 
 -- a source in a file is checked as the file is
@@ -66,14 +66,14 @@ unfolding checking checking_file
 file_is_checked words held command format at name is named =
     ap (λ (m : Steps Read). m >>= λ read. ends (limited command read))
     (ap (λ n. reading_file held n format) named ∙ sym (file_is_read words held format at)
-    ∙ ap (reading words held) (sym is))
+    ∙ ap (reading_source words held) (sym is))
 
 -- ---- a number that draws a text
 
 drawn_reading : (words : List (List ℕ)) (held : NamedFiles) (number clauses : ℕ) (r : Read)
     → problem_of Wcnf (sample_text number clauses) ≡ Ok r
-    → (reading words held (Drawn number clauses)).end ≡ Some (Ok r)
-unfolding reading sourcing
+    → (reading_source words held (Drawn number clauses)).end ≡ Some (Ok r)
+unfolding reading_source sourcing
 drawn_reading words held number clauses r e = ap (λ said. Some (text_end Source said)) e
 
 -- a source that is drawn
@@ -84,7 +84,7 @@ pub drawn_is_checked : (words : List (List ℕ)) (held : NamedFiles) (command : 
     → (checking words held command).end ≡ Some (Ok given)
 unfolding checking
 drawn_is_checked words held command number clauses given is drawn within =
-    next_end (reading words held command.origin) (λ read. ends (limited command read)) drawn.own
-    (subst (λ o. (reading words held o).end ≡ Some (Ok drawn.own)) (sym is)
+    next_end (reading_source words held command.origin) (λ read. ends (limited command read)) drawn.own
+    (subst (λ o. (reading_source words held o).end ≡ Some (Ok drawn.own)) (sym is)
     (drawn_reading words held number clauses drawn.own drawn.from))
     ∙ ap Some (limited_is command drawn.own given drawn.given within)

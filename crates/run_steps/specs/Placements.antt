@@ -8,7 +8,6 @@ use Rattle.command_words.specs.declared.commands.Ties.TheVariants.{Choi}
 use Rattle.model_pipeline.specs.Models as models
 use Rattle.model_pipeline.specs.Sites.{graph_in, fabric_in, chains_of}
 use Rattle.model_pipeline.specs.QubitModels as qubits
-use Rattle.model_pipeline.specs.QubitStanding as qubits_asked
 use Rattle.run_steps.specs.declared.placements.Placement.{Placement}
 use Rattle.run_steps.specs.declared.placements.Placement.TheVariants.{Nodes, Qubits}
 
@@ -28,5 +27,9 @@ ties_of (Qubits site) = site.ties
 abbrev pub demand_of : UnitChoice → Placement → ℕ → Demand
 demand_of unit (Nodes target) nodes =
     record { unit = unit; chains = []; exists = λ q. false; joined = λ p q. false }
-demand_of unit (Qubits site) nodes =
-    qubits_asked.demand_of unit (fabric_in site.qubits) (chains_of site.qubits site.perch nodes)
+demand_of unit (Qubits site) nodes = record {
+  unit = unit;
+  chains = chains_of site.qubits site.perch nodes;
+  exists = (fabric_in site.qubits).exists;
+  joined = (fabric_in site.qubits).joined;
+}

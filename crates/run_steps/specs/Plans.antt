@@ -1,39 +1,32 @@
 -- What a model is made of, which model that is, and whether it can be made.
-use Rattle.std.specs.Prelude.{◌≡◌, ℕ, length, ⊤}
+use Rattle.std.specs.Prelude.{◌≡◌, ℕ, ⊤}
 use Rattle.base.specs.declared.unit.UnitChoice.{UnitChoice}
 use Rattle.bits_model.specs.Output.{Written}
 use Rattle.problem_form.specs.declared.limits.Choices.{Choices}
 use Rattle.problem_form.specs.Problems.{ProblemContent}
 use Rattle.ising_form.specs.Isings.{IsingContent}
 use Rattle.chain_map.specs.declared.faults.EmbedFault.{EmbedFault}
-use Rattle.source_texts.specs.declared.reading.Read.{Read}
-use Rattle.model_pipeline.specs.Models.{model, IsModelOf}
-use Rattle.model_pipeline.specs.GraphModels.{ising_of, IsModelAt, StandsAt}
-use Rattle.model_pipeline.specs.Sites.{CanStandBy, IsFaultBy}
+use Rattle.penalty_layer.specs.Penalty as penalty
+use Rattle.model_pipeline.specs.Models.{form_model, ising_figures, quad_of, IsModelOf}
+use Rattle.model_pipeline.specs.GraphModels.{ising_of, IsFormAt, StandsAt}
+use Rattle.model_pipeline.specs.Sites.{CanStandAt, IsFaultAt}
 use Rattle.run_steps.specs.declared.placements.Placement.{Placement}
 use Rattle.run_steps.specs.declared.placements.Placement.TheVariants.{Nodes, Qubits}
 use Rattle.run_steps.specs.declared.plans.Plan.{Plan}
 
--- the plan of what is read and chosen
-abbrev pub plan_of : Read → Choices → UnitChoice → Placement → Plan
-plan_of read choices unit base =
-    record { read = read; choices = choices; unit = unit; base = base }
-
 -- the Ising form that is put on chains
 abbrev pub form_in : Plan → IsingContent
 form_in plan = ising_of plan.choices plan.read.problem
-
--- how many nodes it has
-abbrev pub nodes_in : Plan → ℕ
-nodes_in plan = length (form_in plan).fields
 
 -- ---- which model it makes
 
 -- the model of a problem with so many variables of its own: that of the problem or, on a graph, of
 -- its Ising form on the chains, as a check puts it there
 abbrev pub IsModelOn : Placement → Choices → UnitChoice → ℕ → ProblemContent → Written → Type 0
-IsModelOn (Nodes target) choices unit variables p m = m ≡ model choices target unit variables p
-IsModelOn (Qubits site) choices unit variables p m = IsModelAt site choices unit variables p m
+IsModelOn (Nodes target) choices unit variables p m =
+    m ≡ form_model target unit (quad_of choices p) variables (penalty.figures p)
+IsModelOn (Qubits site) choices unit variables p m =
+    IsFormAt site unit (ising_of choices p) variables (ising_figures (penalty.figures p)) m
 
 -- the model of a plan
 abbrev pub IsModelBy : Plan → Written → Type 0
@@ -58,17 +51,13 @@ Stands plan m = StandsOn plan.base plan.choices plan.unit plan.read.variables pl
 -- on a graph the form has a place
 abbrev pub CanStandOn : Placement → IsingContent → Type 0
 CanStandOn (Nodes target) form = ⊤
-CanStandOn (Qubits site) form = CanStandBy site form
+CanStandOn (Qubits site) form = CanStandAt site.qubits site.perch form
 
 -- the form of the plan has a place where it is put
 abbrev pub CanStand : Plan → Type 0
 CanStand plan = CanStandOn plan.base (form_in plan)
 
--- why it has none
+-- why the form has none
 abbrev pub IsFaultOn : Placement → IsingContent → EmbedFault → Type 0
 IsFaultOn (Nodes target) form fault = ⊥
-IsFaultOn (Qubits site) form fault = IsFaultBy site form fault
-
--- why the form of the plan has no place where it is put
-abbrev pub IsFaultIn : Plan → EmbedFault → Type 0
-IsFaultIn plan fault = IsFaultOn plan.base (form_in plan) fault
+IsFaultOn (Qubits site) form fault = IsFaultAt site.qubits site.perch form fault

@@ -54,7 +54,6 @@ use Rattle.model_pipeline.specs.declared.site.Site.{Site}
 use Rattle.run_steps.specs.declared.placements.Placement.{Placement}
 use Rattle.run_steps.specs.declared.placements.Placement.TheVariants as placements
 use Rattle.run_steps.specs.declared.plans.Plan.{Plan}
-use Rattle.run_steps.specs.Plans.{plan_of}
 use Rattle.run_steps.specs.declared.status.Status.{Status}
 use Rattle.run_steps.specs.declared.status.Status.TheVariants.{ReadFault, BadText, Limit, TooWide, NotProved, NoState, NoMemory}
 use Rattle.state_file.specs.declared.answer.StateAnswer.{StateAnswer}
@@ -135,8 +134,8 @@ sourcing words held (File format at) = taking held Source (text_at words at)
 sourcing words held (Drawn number clauses) = gives (sample_text number clauses)
 
 -- and then reading it
-unfoldable pub reading : List (List ℕ) → NamedFiles → Origin → Steps Read
-reading words held origin = do
+unfoldable pub reading_source : List (List ℕ) → NamedFiles → Origin → Steps Read
+reading_source words held origin = do
   text ← sourcing words held origin
   ends (text_end Source (problem_of (format_in origin) text))
 
@@ -158,7 +157,7 @@ limited command read =
 -- and then making it what the command wants, and checking its limits
 unfoldable pub checking : List (List ℕ) → NamedFiles → Command → Steps Read
 checking words held command = do
-  read ← reading words held command.origin
+  read ← reading_source words held command.origin
   ends (limited command read)
 
 -- what a dead list leaves of a graph, read from the file of this name
@@ -206,7 +205,7 @@ unfoldable pub planning : List (List ℕ) → NamedFiles → Command → Steps P
 planning words held command = do
   read ← checking words held command
   base ← placing words held command.target
-  gives (plan_of read command.choices command.unit base)
+  gives (record { read = read; choices = command.choices; unit = command.unit; base = base })
 
 -- so many bits, read from the file of this name
 unfoldable pub stating : NamedFiles → List ℕ → ℕ → Steps (List Bool)
@@ -247,12 +246,12 @@ bits_at (Prove state certificate) = Some state
 bits_at ask = None
 
 -- the bits that are read once the model stands: of a state of it, which a certificate may have to
--- prove, or of an assignment of the source
-abbrev pub bits_step : List (List ℕ) → NamedFiles → Ask → Plan → Written → Steps (List Bool)
-bits_step words held (Decode at) plan m = stating held (text_at words at) m.nodes
-bits_step words held (Extend at) plan m = stating held (text_at words at) plan.read.variables
-bits_step words held (Prove state certificate) plan m = proving words held state certificate m
-bits_step words held ask plan m = gives []
+-- prove, or of an assignment of the source's so many variables
+abbrev pub bits_step : List (List ℕ) → NamedFiles → Ask → ℕ → Written → Steps (List Bool)
+bits_step words held (Decode at) variables m = stating held (text_at words at) m.nodes
+bits_step words held (Extend at) variables m = stating held (text_at words at) variables
+bits_step words held (Prove state certificate) variables m = proving words held state certificate m
+bits_step words held ask variables m = gives []
 
 -- an order of so many nodes, read from the file of this name
 unfoldable pub ordered : NamedFiles → List ℕ → ℕ → Steps (List ℕ)
@@ -297,15 +296,15 @@ scanning held name width = do
   bytes ← taking held State name
   ends (states_end width (states_of width bytes))
 
--- what is read once the model stands
-abbrev pub last_step : List (List ℕ) → NamedFiles → Ask → Plan → Written → Steps Last
-last_step words held Model plan m = gives Nothing
-last_step words held Summary plan m = gives Nothing
-last_step words held Size plan m = gives Nothing
-last_step words held (Solve order) plan m = solving words held order m
-last_step words held (Evaluate at) plan m = scanning held (text_at words at) m.nodes
-last_step words held ask plan m = do
-  bits ← bits_step words held ask plan m
+-- what is read once the model of a source of so many variables stands
+abbrev pub last_step : List (List ℕ) → NamedFiles → Ask → ℕ → Written → Steps Last
+last_step words held Model variables m = gives Nothing
+last_step words held Summary variables m = gives Nothing
+last_step words held Size variables m = gives Nothing
+last_step words held (Solve order) variables m = solving words held order m
+last_step words held (Evaluate at) variables m = scanning held (text_at words at) m.nodes
+last_step words held ask variables m = do
+  bits ← bits_step words held ask variables m
   gives (Bits bits)
 
 -- how many bits are read of a state or of an assignment

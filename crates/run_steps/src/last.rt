@@ -42,7 +42,7 @@ fn take_asked<F: Files>(
     requires small { weight_total model.now.entries ≤ 2 ^ 121 }
     ensures step { MeetsHeld (F.held files.old) (state_files command)
         (λ bits. bits.items) result
-        (λ held. bits_step (spelled words.now) held command.ask plan.now model.now) }
+        (λ held. bits_step (spelled words.now) held command.ask plan.now.read.variables model.now) }
     ensures width { IfOk result (λ bits.
         length bits.items ≡ asked_width command.ask plan.now.read.variables model.now) }
     ensures files { AreFilesOf (named_in words.now command) []
@@ -77,7 +77,7 @@ pub fn take_last<F: Files>(
     requires small { weight_total model.now.entries ≤ 2 ^ 121 }
     ensures step { MeetsHeld (F.held files.old) (last_files command)
         (λ bits. Bits bits.items) result
-        (λ held. last_step (spelled words.now) held command.ask plan.now model.now) }
+        (λ held. last_step (spelled words.now) held command.ask plan.now.read.variables model.now) }
     ensures width { IfOk result (λ bits.
         length bits.items ≡ asked_width command.ask plan.now.read.variables model.now) }
     ensures files { AreFilesOf (named_in words.now command) []

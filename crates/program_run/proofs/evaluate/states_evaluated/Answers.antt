@@ -18,7 +18,7 @@ returns-in-Err-clause-step g c = λ held may.
     let plan = c.args.plan.now in
     let m = c.args.model.now in
     let status = c.in-Err.status in
-    last_refuses status plan (last_step words held command.ask plan) m c.requires.modelled
+    last_refuses status plan (last_step words held command.ask plan.read.variables) m c.requires.modelled
     c.in-Err.ensures.refusal
     (subst (λ (steps : Steps Last). Refuses status steps)
     (scans words held command plan m c.args.at c.requires.asked)
@@ -54,7 +54,7 @@ unfolding returns-in-Ok-evaluated_text-clause-answer
 returns-in-Ok-evaluated_text-clause-step g c = λ held may.
     let told = returns-in-Ok-evaluated_text-clause-answer g c held may in
     last_gives c.args.plan.now
-    (last_step (map string_bytes c.args.words.now) held c.args.command.ask c.args.plan.now)
+    (last_step (map string_bytes c.args.words.now) held c.args.command.ask c.args.plan.now.read.variables)
     c.args.model.now told.last c.requires.modelled told.read
 
 pub returns-in-Ok-evaluated_text-clause-some : goal.returns-in-Ok-evaluated_text-clause-some
@@ -80,7 +80,7 @@ returns-in-Err-NoState-clause-step g c = λ held may.
       (
         m,
         c.requires.modelled.by,
-        subst (λ (n : ℕ). (last_step words held command.ask plan m).end ≡ Some (Err (NoState n)))
+        subst (λ (n : ℕ). (last_step words held command.ask plan.read.variables m).end ≡ Some (Err (NoState n)))
             (sym c.nodes_of.ensures) ends,
       ),
     )

@@ -18,7 +18,7 @@ returns-in-Err-clause-step g c = λ held may.
     let plan = c.args.plan.now in
     let m = c.args.model.now in
     let status = c.in-Err.status in
-    last_refuses status plan (last_step words held command.ask plan) m c.requires.modelled
+    last_refuses status plan (last_step words held command.ask plan.read.variables) m c.requires.modelled
     c.in-Err.ensures.refusal
     (subst (λ (steps : Steps Last). Refuses status steps)
     (solves words held command plan m c.args.at c.requires.asked)
@@ -63,7 +63,7 @@ unfolding returns-in-Ok-solved_text-clause-answer
 returns-in-Ok-solved_text-clause-step g c = λ held may.
     let told = returns-in-Ok-solved_text-clause-answer g c held may in
     last_gives c.args.plan.now
-    (last_step (map string_bytes c.args.words.now) held c.args.command.ask c.args.plan.now)
+    (last_step (map string_bytes c.args.words.now) held c.args.command.ask c.args.plan.now.read.variables)
     c.args.model.now told.last c.requires.modelled told.read
 
 pub returns-in-Ok-solved_text-clause-some : goal.returns-in-Ok-solved_text-clause-some

@@ -15,7 +15,7 @@ pub returns-in-Err-clause-step : goal.returns-in-Err-clause-step
 returns-in-Err-clause-step g c = λ held may.
     let words = map string_bytes c.args.words.now in
     let plan = c.args.plan.now in
-    last_refuses c.in-Err.status plan (last_step words held c.args.command.ask plan)
+    last_refuses c.in-Err.status plan (last_step words held c.args.command.ask plan.read.variables)
     c.args.model.now c.requires.modelled c.in-Err.ensures.refusal
     (c.in-Err.ensures.step held may)
 
@@ -27,7 +27,7 @@ pub returns-in-Ok-told-clause-step : goal.returns-in-Ok-told-clause-step
 returns-in-Ok-told-clause-step g c = λ held may.
     let words = map string_bytes c.args.words.now in
     let plan = c.args.plan.now in
-    last_gives plan (last_step words held c.args.command.ask plan) c.args.model.now
+    last_gives plan (last_step words held c.args.command.ask plan.read.variables) c.args.model.now
     (Bits c.in-Ok.bits.items) c.requires.modelled
     (c.in-Ok.ensures.step held may)
 
