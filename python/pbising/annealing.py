@@ -10,7 +10,7 @@ import math
 import random
 from itertools import accumulate, chain
 from operator import add
-from typing import Iterator, List, Optional, Sequence, Tuple
+from typing import Iterable, Iterator, List, Optional, Sequence, Tuple
 
 from .errors import PbisingError
 from .models import Model
@@ -22,26 +22,26 @@ class _Walk:
     """A state over bits, what the others add to the weight of each bit, and the best state met.
 
     Couplers ascend, so those of a node with greater ones follow each other, from `up[node]` to
-    `up[node + 1]`; those with lesser ones stand in lists of their own, from `down[node]` on.
+    `up[node + 1]`; those with lesser ones stand in a list of their own, the lesser node and the
+    weight in turn, from `2 * down[node]` on.
     """
 
     def __init__(self, model: Model, uniform: random.Random) -> None:
         _, self.single, self.couplings = model.over_bits()
         self.heads, self.tails, self.random = model.heads, model.tails, uniform.random
         self.up, self.down = _starts(model.nodes, self.heads), _starts(model.nodes, self.tails)
-        self.lesser, self.weights = self.heads[:], self.couplings[:]
-        lesser, weights, free = self.lesser, self.weights, self.down[:]
+        self.lesser = [0] * (2 * len(self.heads))
+        lesser, free = self.lesser, [2 * at for at in self.down]
         for i, j, weight in zip(self.heads, self.tails, self.couplings):
             at = free[j]
-            free[j] = at + 1
-            lesser[at], weights[at] = i, weight
+            free[j] = at + 2
+            lesser[at], lesser[at + 1] = i, weight
 
     def near(self, node: int) -> Iterator[Tuple[int, int]]:
         """The nodes that are coupled with one, and the weights."""
         up = slice(self.up[node], self.up[node + 1])
-        down = slice(self.down[node], self.down[node + 1])
-        return chain(zip(self.tails[up], self.couplings[up]),
-                     zip(self.lesser[down], self.weights[down]))
+        down = iter(self.lesser[2 * self.down[node]:2 * self.down[node + 1]])
+        return chain(zip(self.tails[up], self.couplings[up]), zip(down, down))
 
     def begin(self, state: State) -> None:
         """Sets a state, and its energy less that of all bits 0."""
@@ -116,26 +116,26 @@ class _Walk:
     def heats(self, sweeps: int) -> List[float]:
         """From a tenth of the greatest rise down to where the least one is rare, by equal
         factors."""
-        most = max(map(add, map(abs, self.single), map(add, _totals(self.up, self.couplings),
-                                                       _totals(self.down, self.weights))),
-                   default=1) or 1
-        sizes = chain(map(abs, self.couplings), map(abs, self.single))
-        least = min(filter(None, sizes), default=1)
+        single, sizes = list(map(abs, self.single)), list(map(abs, self.couplings))
+        totals = map(add, _totals(self.up, sizes),
+                     _totals(self.down, map(abs, self.lesser[1::2])))
+        most = max(map(add, single, totals), default=1) or 1
+        least = min(filter(None, chain(single, sizes)), default=1)
         hot, cold = most / 10, least / math.log(100)
         return [hot * (cold / hot) ** (at / max(sweeps - 1, 1)) for at in range(sweeps)]
 
 
 def _starts(nodes: int, ends: Sequence[int]) -> List[int]:
     """Where the couplers of each node begin, where they stand in the order of these ends."""
-    counts = [0] * (nodes + 1)
+    counts = [0] * nodes
     for node in ends:
-        counts[node + 1] += 1
-    return list(accumulate(counts))
+        counts[node] += 1
+    return list(accumulate(counts, initial=0))
 
 
-def _totals(starts: Sequence[int], weights: Sequence[int]) -> Iterator[int]:
-    """The sum of the sizes of the weights of each node."""
-    before = list(accumulate(map(abs, weights), initial=0))
+def _totals(starts: Sequence[int], sizes: Iterable[int]) -> Iterator[int]:
+    """The sum of the sizes of each node's couplers, of which the first ones begin at `starts`."""
+    before = list(accumulate(sizes, initial=0))
     return (before[b] - before[a] for a, b in zip(starts, starts[1:]))
 
 

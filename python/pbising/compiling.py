@@ -3,16 +3,16 @@ from __future__ import annotations
 
 import os
 from dataclasses import dataclass, field
-from typing import Any, Dict, List, Mapping, Optional, Sequence, Tuple, Union
+from typing import Any, Dict, Iterable, List, Mapping, Optional, Sequence, Tuple, Union
 
-from .decoding import Decoded, Decoding, decoded, rank
+from .decoding import Decoded, Decoding, Told, decoded, rank
 from .elimination import certificate
 from .errors import PbisingError, TextError, UsageError
 from .graphs import chain_map
 from .models import Model, Size, parse
 from .program import FileWord, Word, run
-from .samples import states_of, written
-from .sources import Source, bit_of, source_of
+from .samples import Sample, states_of, written
+from .sources import Source, bits_of, source_of
 from .texts import PathName, called, read_bytes, text_of
 
 FILE_KEYS = ('map', 'dead', 'order')
@@ -81,19 +81,16 @@ class CompiledModel(Model):
 
         They are a dict, a list or an array of bits or spins, many of these, a dimod sample set, or
         the text that a solver wrote. Cost and energy are those that the program's `evaluate`
-        tells. A program without it confirms the best sample by its `decode`; the package counts the
-        others.
+        tells; what is broken the package counts once it is asked for. A program without `evaluate`
+        confirms the best sample by its `decode`; the package counts the others.
         """
-        found = decoded(self, self.source, states_of(self, samples))
-        chains = len(self.chains or ())
-        told = self._evaluated(found)
+        states = states_of(self, samples)
+        told = self._evaluated(states)
+        found = decoded(self, self.source, states, told)
         if told is None:
             best = min(found, key=rank)
             _confirm(best, *self._decoded(best.state))
-            return Decoding(found, chains, 'package')
-        for one, (cost, energy) in zip(found, told):
-            _confirm(one, cost, energy)
-        return Decoding(found, chains, 'program')
+        return Decoding(found, len(self.chains or ()), 'package' if told is None else 'program')
 
     def extend(self, assignment: Union[Mapping[Any, Any], Sequence[Any]]) -> Answer:
         """The state of the least energy for an assignment: a list of bits, or a dict by names."""
@@ -118,17 +115,18 @@ class CompiledModel(Model):
         if state is None or lines is None:
             found = certificate(self)
             state, lines = found.state, found.text
-        files = (_state_file('state', [bit_of(bit) for bit in state]),
+        bits = bits_of(state)
+        files = (_state_file('state', bits),
                  FileWord('certificate', lines.encode()))
         answer = self._answer(self.request.run('prove', *files))
-        answer.state = [bit_of(bit) for bit in state]
+        answer.state = bits
         return answer
 
     def _answer(self, output: bytes) -> Answer:
         rows = dict(_rows(output))
         cost = rows.get('optimum', rows.get('cost', 'infinite'))
         bits = _bits(rows.get('assignment'))
-        values = dict(zip(self.source.names(), bits)) if bits is not None else {}
+        values = {} if bits is None else dict(zip(self.source.names(self.variables), bits))
         return Answer(int(rows['energy']), None if cost == 'infinite' else int(cost),
                       _bits(rows.get('state')), bits, values)
 
@@ -137,14 +135,16 @@ class CompiledModel(Model):
         answer = self._answer(self.request.run('decode', _state_file('state', state)))
         return answer.cost, answer.energy
 
-    def _evaluated(self, found: List[Decoded]) -> Optional[List[Tuple[Optional[int], int]]]:
-        """Cost and energy of each sample by the program, or None where it has no `evaluate`."""
-        told: List[Tuple[Optional[int], int]] = []
+    def _evaluated(self, samples: Iterable[Sample]) -> Optional[Dict[str, Told]]:
+        """Cost and energy of each state, as it is written, by the program, or None where it has no
+        `evaluate`."""
+        told: List[Told] = []
+        states = list(dict.fromkeys(written(one.state) for one in samples))
         step = max(1, (MOST_BYTES - 1) // (self.nodes + 1))
         if self.nodes == 0:
             return None
-        for start in range(0, len(found), step):
-            lines = ''.join(f'{written(one.state)}\n' for one in found[start:start + step])
+        for start in range(0, len(states), step):
+            lines = ''.join(f'{state}\n' for state in states[start:start + step])
             try:
                 output = self.request.run('evaluate', FileWord('samples', lines.encode()))
             except UsageError:
@@ -152,7 +152,9 @@ class CompiledModel(Model):
             for words in map(str.split, output.decode().split('\n')):
                 if words[:1] == ['sample']:
                     told.append((None if words[3] == 'infinite' else int(words[3]), int(words[5])))
-        return told
+        if len(told) != len(states):
+            raise PbisingError(f'the program tells of {len(told)} samples, not of {len(states)}')
+        return dict(zip(states, told))
 
 
 def _explained(fault: TextError, source: Source, words: Sequence[Word]) -> TextError:

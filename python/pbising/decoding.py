@@ -3,20 +3,49 @@ chains are broken."""
 from __future__ import annotations
 
 from collections import Counter
-from dataclasses import dataclass, field
+from dataclasses import dataclass, field, replace
 from functools import cached_property
-from typing import Any, Dict, Iterable, Iterator, List, Optional, Sequence, Tuple
+from typing import Any, Dict, Iterable, Iterator, List, Mapping, Optional, Sequence, Tuple
 
+from .errors import PbisingError
 from .models import Model
 from .problems import Broken, Verdict
 from .samples import Sample, written
 from .sources import Source
 
+Told = Tuple[Optional[int], int]
+
+
+class Judged:
+    """An assignment, the cost and the energy that the program tells of its state, or None, and what
+    the package counts itself once that is asked for."""
+
+    def __init__(self, source: Source, bits: List[int], told: Optional[Told]) -> None:
+        self.source, self.bits, self.told = source, bits, told
+
+    @cached_property
+    def verdict(self) -> Verdict:
+        """The cost and the broken parts; a `PbisingError` where the program tells another cost."""
+        verdict = self.source.problem.judge(self.bits)
+        if self.told and verdict.cost != self.told[0]:
+            raise PbisingError(f'the program tells the cost {self.told[0]} of a sample, '
+                               f'and the package {verdict.cost}')
+        return verdict
+
+    @cached_property
+    def broken(self) -> List[Broken]:
+        """The broken parts, told."""
+        return self.verdict.broken()
+
 
 @dataclass
 class Decoded:
     """One sample. The cost is None where it is infinite: where a hard clause or constraint is
-    broken, or the weights of broken soft ones reach TOP."""
+    broken, or the weights of broken soft ones reach TOP.
+
+    `verdict` and `broken` read the problem and judge the assignment when they are first asked for,
+    once for all samples of one state.
+    """
 
     state: List[int]
     assignment: List[int]
@@ -25,8 +54,7 @@ class Decoded:
     occurrences: int
     broken_chains: List[int]
     excess: Optional[int]
-    names: List[Any] = field(repr=False)
-    verdict: Verdict = field(repr=False)
+    judged: Judged = field(repr=False, compare=False)
 
     @property
     def feasible(self) -> bool:
@@ -34,14 +62,25 @@ class Decoded:
         return self.cost is not None
 
     @property
+    def names(self) -> List[Any]:
+        """What the variables are called, in their order."""
+        return self.judged.source.names(len(self.assignment))
+
+    @property
     def values(self) -> Dict[Any, int]:
         """The bit of each variable, by its name or label."""
         return dict(zip(self.names, self.assignment))
 
-    @cached_property
+    @property
+    def verdict(self) -> Verdict:
+        """What the package counts of the assignment; a `PbisingError` where the program tells
+        another cost."""
+        return self.judged.verdict
+
+    @property
     def broken(self) -> List[Broken]:
         """The clauses or constraints that are broken, with their lines in the file."""
-        return self.verdict.broken()
+        return self.judged.broken
 
 
 class Decoding(Sequence):
@@ -119,25 +158,32 @@ def rank(one: Decoded) -> Tuple[bool, int, int]:
     return one.cost is None, one.cost or 0, one.energy
 
 
-def decoded(model: Model, source: Source, samples: Iterable[Sample]) -> List[Decoded]:
-    """The samples by the package's own arithmetic, which is exact."""
-    names, problem = source.names(), source.problem
+def decoded(model: Model, source: Source, samples: Iterable[Sample],
+            told: Optional[Mapping[str, Told]] = None) -> List[Decoded]:
+    """The samples, with the cost and the energy that are told of each state as it is written;
+    where none are told, by the package's own arithmetic, which is exact.
+
+    A state of an excess below 0 is judged at once, as only one with broken chains has that, or one
+    that costs more than `bound=`.
+    """
     known: Dict[str, Decoded] = {}
     found = []
     for state, occurrences in samples:
         text = written(state)
-        one = known.get(text)
-        if one is None:
-            bits, energy = model.assignment(state), model.energy(state)
-            verdict = problem.judge(bits)
-            one = Decoded(state, bits, verdict.cost, energy, occurrences,
-                          model.broken_chains(state), excess(model, verdict.cost, energy),
-                          names, verdict)
-            known[text] = one
-        else:
-            one = Decoded(**{**one.__dict__, 'occurrences': occurrences})
-        found.append(one)
+        if text not in known:
+            known[text] = _decoded(model, source, state, told[text] if told else None)
+        found.append(replace(known[text], occurrences=occurrences))
     return found
+
+
+def _decoded(model: Model, source: Source, state: List[int], told: Optional[Told]) -> Decoded:
+    """One sample, that occurs once."""
+    judged = Judged(source, model.assignment(state), told)
+    cost, energy = told or (judged.verdict.cost, model.energy(state))
+    chains, above = model.broken_chains(state), excess(model, cost, energy)
+    if above is not None and above < 0 and not chains:
+        cost = judged.verdict.cost
+    return Decoded(state, judged.bits, cost, energy, 1, chains, above, judged)
 
 
 def excess(model: Model, cost: Optional[int], energy: int) -> Optional[int]:

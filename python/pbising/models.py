@@ -9,11 +9,10 @@ from __future__ import annotations
 from dataclasses import dataclass
 from fractions import Fraction
 from itertools import chain as joined
-from operator import mul
-from typing import Any, Callable, Dict, Iterable, List, Optional, Sequence, Tuple, Union
+from typing import Any, Dict, Iterable, List, Optional, Sequence, Tuple, Union
 
 from .errors import PbisingError
-from .rows import front_of, read_rows
+from .rows import front_of, read_rows, weighed
 from .texts import PathName, called, read_bytes, whole
 
 FIGURES = ('scale', 'offset', 'threshold', 'unit', 'variables')
@@ -77,15 +76,7 @@ class Model:
 
     def energy(self, state: Sequence[int]) -> int:
         """The sum of the weights that count in a state, in the model's unit."""
-        of = self._values(state)
-        ends = map(mul, map(of, self.heads), map(of, self.tails))
-        return (sum(map(mul, self.fields.values(), map(of, self.fields)))
-                + sum(map(mul, self.couplings, ends)))
-
-    def _values(self, state: Sequence[int]) -> Callable[[int], int]:
-        """The bit of each node, or its spin."""
-        zero = 0 if self.kind == 'qubo' else -1
-        return [1 if bit else zero for bit in state].__getitem__
+        return weighed(self, state)
 
     def above(self, energy: int) -> bool:
         """Whether an energy lies above the threshold, as no least one of a feasible file does."""
@@ -110,17 +101,16 @@ class Model:
         """A constant, a weight for each node and one for each pair, over bits, with the same sum
         in each state."""
         single = [0] * self.nodes
-        if self.kind == 'qubo':
-            for node, weight in self.fields.items():
-                single[node] = weight
-            return 0, single, self.couplings
         for node, weight in self.fields.items():
-            single[node] = 2 * weight
+            single[node] = weight
+        if self.kind == 'qubo':
+            return 0, single, self.couplings
         for i, j, weight in self.pairs():
-            single[i] -= 2 * weight
-            single[j] -= 2 * weight
+            single[i] -= weight
+            single[j] -= weight
         constant = sum(self.couplings) - sum(self.fields.values())
-        return constant, single, [4 * weight for weight in self.couplings]
+        return (constant, [2 * weight for weight in single],
+                [4 * weight for weight in self.couplings])
 
     def weights(self) -> Dict[Tuple[int, int], int]:
         """All rows as one dict, as they are written: a node is the pair of itself."""

@@ -9,7 +9,7 @@ from __future__ import annotations
 from dataclasses import dataclass, field
 from typing import Any, Callable, Iterable, List, NamedTuple, Optional, Sequence, Tuple, Union
 
-from .rows import Rows
+from .rows import Rows, weighed
 
 Term = Tuple[int, Sequence[int]]
 Truth = Callable[[int], bool]
@@ -99,22 +99,12 @@ class Problem:
         weight = sum(part.weight for part in broken)
         if self.top is not None and weight >= self.top:
             return Verdict(None, broken, truth)
-        return Verdict(weight + summed(self.objective, truth) + self._of_rows(bits), broken, truth)
+        rows = 0 if self.rows is None else weighed(self.rows, bits)
+        return Verdict(weight + summed(self.objective, truth) + rows, broken, truth)
 
     def cost(self, bits: Sequence[Any]) -> Optional[int]:
         """What an assignment costs, or None where that is infinite."""
         return self.judge(bits).cost
-
-    def _of_rows(self, bits: Sequence[Any]) -> int:
-        rows = self.rows
-        if rows is None:
-            return 0
-        pairs = zip(rows.heads, rows.tails, rows.couplings)
-        if rows.kind == 'qubo':
-            return (sum(w for i, w in rows.fields.items() if bits[i])
-                    + sum(w for i, j, w in pairs if bits[i] and bits[j]))
-        return (sum(w if bits[i] else -w for i, w in rows.fields.items())
-                + sum(w if bool(bits[i]) == bool(bits[j]) else -w for i, j, w in pairs))
 
 
 def truth_of(bits: Sequence[Any]) -> Truth:

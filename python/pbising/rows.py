@@ -5,11 +5,12 @@ token by token, which finds the first fault exactly.
 """
 from __future__ import annotations
 
+import json
 import re
 from dataclasses import dataclass
 from itertools import islice
-from operator import eq, lt
-from typing import Dict, List, Optional, Tuple
+from operator import eq, lt, mul
+from typing import Any, Dict, List, Optional, Sequence, Tuple
 
 from .texts import BEYOND, Cursor, one_of, text_of, tokens_of
 
@@ -19,6 +20,7 @@ HEADER = re.compile(rb'[ \t\r\n]*p[ \t\r\n]+(?:(qubo)[ \t\r\n]+(?:0|unconstraine
                     rb'((?:[ \t\r\n]+[0-9]{1,18}){3})(?=[ \t\r\n]|\Z)')
 PLAIN = b'0123456789+- \t\r\n'
 KINDS = ('qubo', 'ising')
+COMMAS = bytes.maketrans(b' \n', b',,')
 
 
 @dataclass
@@ -42,6 +44,16 @@ def read_rows(name: str, data: bytes, kinds: Tuple[str, ...] = KINDS,
     return rows
 
 
+def weighed(rows: Any, bits: Sequence[Any]) -> int:
+    """The sum of the weights that count in an assignment of bits: of rows, or of a model, over bits
+    in a QUBO, and else over spins."""
+    zero = 0 if rows.kind == 'qubo' else -1
+    of = [1 if bit else zero for bit in bits].__getitem__
+    ends = map(mul, map(of, rows.heads), map(of, rows.tails))
+    return (sum(map(mul, rows.fields.values(), map(of, rows.fields)))
+            + sum(map(mul, rows.couplings, ends)))
+
+
 def front_of(data: bytes) -> List[str]:
     """The comment lines that stand before the first token."""
     return text_of(data[:FRONT.match(data).end()]).split('\n')
@@ -57,11 +69,23 @@ def _at_once(data: bytes, beyond: Optional[int]) -> Optional[Rows]:
     if entries.translate(None, PLAIN):
         return None
     try:
-        numbers = list(map(int, entries.split()))
+        numbers = _numbers(entries)
     except ValueError:
         return None
     kind = (header[1] or header[2]).decode()
     return _rows(kind, *map(int, header[3].split()), numbers, beyond)
+
+
+def _numbers(data: bytes) -> List[int]:
+    """All numbers of a text; a word that is no number is a `ValueError`.
+
+    With a comma for each blank a text as the program writes it is JSON, which is read in half the
+    time of words. It is no JSON where two blanks meet, or a number begins with a + or a 0.
+    """
+    try:
+        return json.loads(b'[%b]' % data.strip().translate(COMMAS))
+    except ValueError:
+        return list(map(int, data.split()))
 
 
 def _rows(kind: str, nodes: int, singles: int, pairs: int, numbers: List[int],
@@ -70,8 +94,6 @@ def _rows(kind: str, nodes: int, singles: int, pairs: int, numbers: List[int],
     if len(numbers) != 3 * (singles + pairs):
         return None
     heads, tails, weights = numbers[0::3], numbers[1::3], numbers[2::3]
-    if numbers and not (0 <= min(min(heads), min(tails)) and max(max(heads), max(tails)) < nodes):
-        return None
     if beyond is not None and weights and max(max(weights), -min(weights)) >= beyond:
         return None
     if heads[:singles] != tails[:singles]:
@@ -80,11 +102,17 @@ def _rows(kind: str, nodes: int, singles: int, pairs: int, numbers: List[int],
         heads, tails, weights = ([part[n] for n in at + rest] for part in (heads, tails, weights))
         if len(at) != singles:
             return None
-    if any(map(eq, islice(heads, singles, None), islice(tails, singles, None))):
-        return None
     fields = _summed(heads[:singles], weights[:singles])
-    pairs = (part[singles:] for part in (heads, tails, weights))
-    return Rows(kind, nodes, fields, *_merged(nodes, *pairs))
+    if fields and not 0 <= min(fields) <= max(fields) < nodes:
+        return None
+    heads, tails, weights = heads[singles:], tails[singles:], weights[singles:]
+    if not all(map(lt, heads, tails)):
+        if any(map(eq, heads, tails)):
+            return None
+        heads, tails = list(map(min, heads, tails)), list(map(max, heads, tails))
+    if heads and not 0 <= min(heads) <= max(tails) < nodes:
+        return None
+    return Rows(kind, nodes, fields, *_merged(nodes, heads, tails, weights))
 
 
 def _summed(keys: List, weights: List[int]) -> Dict:
@@ -99,12 +127,11 @@ def _summed(keys: List, weights: List[int]) -> Dict:
 
 def _merged(nodes: int, heads: List[int], tails: List[int],
             weights: List[int]) -> Tuple[List[int], List[int], List[int]]:
-    """Pairs with the lesser node first, ascending; the weights of equal pairs add up."""
-    if not all(map(lt, heads, tails)):
-        heads, tails = list(map(min, heads, tails)), list(map(max, heads, tails))
-    keys = [i * nodes + j for i, j in zip(heads, tails)]
-    if all(map(lt, keys, islice(keys, 1, None))):
+    """The pairs, ascending; the weights of equal pairs add up."""
+    later = zip(islice(heads, 1, None), islice(tails, 1, None))
+    if all(map(lt, zip(heads, tails), later)):
         return heads, tails, weights
+    keys = [i * nodes + j for i, j in zip(heads, tails)]
     sums = _summed(keys, weights)
     keys = sorted(sums)
     return [key // nodes for key in keys], [key % nodes for key in keys], [sums[k] for k in keys]

@@ -11,7 +11,7 @@ from typing import Any, Dict, Iterator, List, NamedTuple, Optional, Tuple, Union
 
 from .errors import PbisingError
 from .models import Model
-from .sources import bit_of
+from .sources import bit_of, bits_of
 
 PAIR = re.compile(r"""(?<![\w.])["']?(\d+)["']?\s*:\s*(?:[\w.]+\()?([^\s,)]+)""")
 VALUES = {'0': 0, '1': 1, '+1': 1, '-1': 0, '+': 1, '-': 0,
@@ -81,7 +81,7 @@ def _state(model: Model, used: List[int], values: Any) -> List[int]:
     """The state of one sample; nodes without weights are 0 where it does not name them."""
     if not isinstance(values, Mapping):
         if len(values) == model.nodes:
-            return [bit_of(value) for value in values]
+            return bits_of(values)
         if len(values) != len(used):
             raise PbisingError(f'it has {len(values)} values, and the model {model.nodes} nodes')
         values = dict(zip(used, values))
@@ -204,7 +204,7 @@ def _on_chains(model: Model, known: Dict[int, int]) -> Dict[int, int]:
 
 def written(state: Iterable) -> str:
     """A state as a line."""
-    return ''.join('1' if bit else '0' for bit in state)
+    return ''.join(['1' if bit else '0' for bit in state])
 
 
 def first_state(text: str, count: int, name: str = 'text') -> List[int]:

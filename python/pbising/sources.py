@@ -5,7 +5,7 @@ import os
 from dataclasses import dataclass
 from functools import cached_property
 from pathlib import Path
-from typing import Any, Hashable, List, Mapping, Optional, Sequence, Union
+from typing import Any, Hashable, Iterable, List, Mapping, Optional, Sequence, Union
 
 from .errors import PbisingError
 from .problems import Problem
@@ -13,6 +13,7 @@ from .readers import FORMATS, read_problem
 from .texts import PathName, called, read_bytes
 
 Label = Hashable
+BITS = {1: 1, '1': 1, '+': 1, '+1': 1, 0: 0, -1: 0, '0': 0, '-': 0, '-1': 0}
 
 
 @dataclass
@@ -34,14 +35,17 @@ class Source:
         """The text."""
         return self.data.decode('utf-8', 'replace')
 
-    def names(self) -> List[Label]:
+    def names(self, variables: Optional[int] = None) -> List[Label]:
         """What the variables are called, in their order: by the labels of the problem that was
-        written, or as the format names them."""
+        written, or as the format names them.
+
+        Where their number is given, only a polynomial is read for that.
+        """
         if self.labels is not None:
             return self.labels
-        if self.problem.names is not None:
+        if self.format == 'poly':
             return list(self.problem.names)
-        count = range(self.problem.variables)
+        count = range(self.problem.variables if variables is None else variables)
         if self.format in ('opb', 'wbo'):
             return [f'x{number + 1}' for number in count]
         return [number + 1 for number in count] if self.format == 'wcnf' else list(count)
@@ -63,19 +67,27 @@ class Source:
         if len(assignment) != self.problem.variables:
             raise PbisingError(f'the assignment has {len(assignment)} values, '
                                f'and there are {self.problem.variables} variables')
-        return [bit_of(value) for value in assignment]
+        return bits_of(assignment)
 
     def write(self, name: PathName) -> None:
         """Writes the text to a file."""
         Path(name).write_bytes(self.data)
 
 
+def bits_of(values: Iterable[Any]) -> List[int]:
+    """The bits of bits or spins; the first value that is neither is a `PbisingError`."""
+    values = list(values)
+    try:
+        return list(map(BITS.__getitem__, values))
+    except (KeyError, TypeError):
+        return list(map(bit_of, values))
+
+
 def bit_of(value: Any) -> int:
     """The bit of a bit or a spin, whatever type of number or sign it is."""
-    if value in (1, '1', '+', '+1'):
-        return 1
-    if value in (0, -1, '0', '-', '-1'):
-        return 0
+    for bit in BITS:
+        if value == bit:
+            return BITS[bit]
     raise PbisingError(f'{value!r} is no bit and no spin')
 
 

@@ -20,20 +20,21 @@ sys.path.insert(0, str(ROOT / 'bench'))
 from readings import read_source  # noqa: E402 (the path comes first)
 from translation import Model, cost, gain, own_upper  # noqa: E402
 
-DRAWN, VARIABLES = 40, 3
+DRAWN, VARIABLES, MOST = 40, 3, 5
 FORMATS = ('wcnf', 'wbo', 'opb', 'poly', 'ising', 'qubo')
 
 
-def literals(draw, most, sign):
+def literals(draw, most, sign, variables=VARIABLES):
     """Some literals over different variables."""
-    chosen = draw.sample(range(1, VARIABLES + 1), draw.randint(1, most))
+    chosen = draw.sample(range(1, variables + 1), draw.randint(1, most))
     return [(sign if draw.random() < 0.4 else '') + f'{each}' for each in chosen]
 
 
 def wcnf(draw):
-    """Some clauses, hard ones and soft ones."""
-    rows = [f'{draw.choice((9, 1, 2, 3))} {" ".join(literals(draw, 3, "-"))} 0' for _ in range(4)]
-    return '\n'.join([f'p wcnf {VARIABLES} 4 9'] + rows) + '\n'
+    """Some clauses of up to five literals, hard ones and soft ones."""
+    count = draw.randint(VARIABLES, MOST)
+    rows = [f'{draw.choice((9, 1, 2, 3))} {" ".join(literals(draw, count, "-", count))} 0' for _ in range(4)]
+    return '\n'.join([f'p wcnf {count} 4 9'] + rows) + '\n'
 
 
 def row(draw):
@@ -59,9 +60,11 @@ def wbo(draw):
 
 
 def poly(draw):
-    """A polynomial of degree 3 at most."""
-    rows = [' '.join([str(draw.randint(-4, 4))] + draw.sample('abc', draw.randint(0, 3))) for _ in range(4)]
-    return '\n'.join(rows) + '\n'
+    """A polynomial of up to five names, some of them complemented."""
+    names = 'abcde'[:draw.randint(VARIABLES, MOST)]
+    rows = [[draw.choice(('', '', '~')) + name for name in draw.sample(names, draw.randint(0, len(names)))]
+            for _ in range(4)]
+    return ''.join(' '.join([str(draw.randint(-4, 4))] + row) + '\n' for row in rows)
 
 
 def entries(kind, draw):

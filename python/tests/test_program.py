@@ -9,8 +9,9 @@ from unittest import mock
 from helper import EXAMPLES, needs_program
 
 import pbising
-from pbising import (EmbeddingError, LimitError, PbisingError, ProgramMissing, ProofError,
-                     StateError, TextError, UsageError, WidthError)
+from pbising import (EmbeddingError, LimitError, Model, PbisingError, Problem, ProgramMissing,
+                     ProofError, StateError, TextError, UsageError, WidthError)
+from pbising.readers import read_problem
 
 PROBLEMS = {'wcnf': 'h 1 2 0\n3 -1 0\n2 -2 0\n', 'opb': 'min: 3 x1 2 x2 ;\n1 x1 1 x2 >= 1 ;\n',
             'wbo': 'soft: ;\n1 x1 1 x2 >= 1 ;\n[3] 1 ~x1 >= 1 ;\n[2] 1 ~x2 >= 1 ;\n',
@@ -148,6 +149,32 @@ class Programs(unittest.TestCase):
             model = pbising.compile('-1 x\n', 'poly')
             with self.assertRaisesRegex(PbisingError, 'the program tells the cost 5'):
                 model.decode([[0], [1]])
+            with self.assertRaisesRegex(PbisingError, 'the program tells of 2 samples, not of 1'):
+                model.decode([[0], [0]])
+
+    def test_a_cost_that_is_too_small_is_refused_with_what_is_broken(self):
+        with tempfile.TemporaryDirectory() as folder, self.program(folder, '-9'):
+            best = pbising.compile('-1 x\n', 'poly').decode([[0], [1]]).best
+            self.assertEqual((best.cost, best.excess), (-9, 8))
+            for _ in range(2):
+                with self.assertRaisesRegex(PbisingError, 'the program tells the cost -9'):
+                    best.broken
+
+    def test_what_is_broken_is_counted_once_and_where_it_is_asked_for(self):
+        reading = mock.patch('pbising.sources.read_problem', side_effect=read_problem)
+        judging = mock.patch.object(Problem, 'judge', autospec=True, side_effect=Problem.judge)
+        counting = mock.patch.object(Model, 'energy', autospec=True, side_effect=Model.energy)
+        with tempfile.TemporaryDirectory() as folder, self.program(folder, 'infinite'), \
+                reading as read, judging as judge, counting as energy:
+            model = pbising.compile('min: -1 x1 ;\n1 x1 <= 0 ;\n', 'opb')
+            found = model.decode([[0], [1], [1]])
+            self.assertEqual([(one.cost, one.feasible, one.energy, one.excess) for one in found],
+                             [(0, True, 0, 0)] + [(None, False, -1, None)] * 2)
+            self.assertEqual((found.best.values, found.costs()), ({'x1': 0}, [(0, 1), (None, 2)]))
+            self.assertEqual((read.call_count, judge.call_count, energy.call_count), (0, 0, 0))
+            self.assertEqual([[part.line for part in one.broken] for one in found], [[], [2], [2]])
+            self.assertEqual((found[1].verdict.cost, len(found.broken_lines())), (None, 1))
+            self.assertEqual((read.call_count, judge.call_count, energy.call_count), (1, 2, 0))
 
     def test_a_program_that_is_not_there(self):
         with mock.patch.dict(os.environ, PBISING_PROGRAM='/nowhere'):
