@@ -30,131 +30,58 @@ const CLAUSES: &str = "\
     1 -1 2 -3 0\n1 -1 -2 3 0\n1 -1 -2 -3 0\n|\
     999 999 999 999 999 999 999 999";
 
-/// Whether the model of a text keeps the costs of its assignments under a bound.
-fn keeps(
-    alloc: Global,
-    words: &[&str],
-    most: i64,
-    text: &str,
-    costs: &[i64],
-) -> Result<bool, Fail> {
+/// Whether the model of a text keeps the costs of its assignments.
+fn keeps(alloc: Global, words: &[&str], text: &str, costs: &[i64]) -> Result<bool, Fail> {
     let numbers = compiled(alloc, words, text)?;
-    Ok(model_in(Target::Qubo, &numbers).is_some_and(|model| model.keeps(costs, most)))
+    Ok(model_in(Target::Qubo, &numbers).is_some_and(|model| model.keeps(costs, INFINITE)))
 }
 
 /// The same of the text and the costs of a source.
-fn keeps_source(alloc: Global, words: &[&str], most: i64, source: &[u8]) -> Result<bool, Fail> {
+fn keeps_source(alloc: Global, words: &[&str], source: &[u8]) -> Result<bool, Fail> {
     let Some((text, costs)) = parted(source) else {
         return Ok(false);
     };
     let costs = numbers(alloc, costs)?;
-    keeps(alloc, words, most, text, &costs)
+    keeps(alloc, words, text, &costs)
 }
 
 /// The number of the first source whose model does not.
-fn first_other(
-    alloc: Global,
-    words: &[&str],
-    most: i64,
-    sources: &str,
-) -> Result<Option<usize>, Fail> {
+fn first_other(alloc: Global, words: &[&str], sources: &str) -> Result<Option<usize>, Fail> {
     let sources = sources.as_bytes().split(|byte| *byte == b'@');
     for (index, source) in sources.enumerate() {
-        if !keeps_source(alloc, words, most, source)? {
+        if !keeps_source(alloc, words, source)? {
             return Ok(Some(index));
         }
     }
     Ok(None)
 }
 
-/// Words that ask for a QUBO, the bound that they give, and the sources that they are about.
-type Row = (&'static [&'static str], i64, &'static str);
-
-const RUNS: [Row; 13] = [
-    (&["compile", "wcnf", "qubo", "a"], INFINITE, CLAUSES),
-    (&["compile", "wcnf", "qubo", "a", "bound=2"], 2, CLAUSES),
-    (&["compile", "wcnf", "qubo", "a", "bound=4"], 4, CLAUSES),
-    (
-        &[
-            "compile",
-            "poly",
-            "qubo",
-            "a",
-            "normal=literal",
-            "high=monomial",
-        ],
-        INFINITE,
-        POLYNOMIALS,
-    ),
-    (
-        &[
-            "compile",
-            "poly",
-            "qubo",
-            "a",
-            "normal=literal",
-            "high=rosenberg",
-        ],
-        INFINITE,
-        POLYNOMIALS,
-    ),
-    (
-        &[
-            "compile",
-            "poly",
-            "qubo",
-            "a",
-            "normal=multilinear",
-            "high=monomial",
-        ],
-        INFINITE,
-        POLYNOMIALS,
-    ),
-    (
-        &[
-            "compile",
-            "poly",
-            "qubo",
-            "a",
-            "normal=multilinear",
-            "high=rosenberg",
-        ],
-        INFINITE,
-        POLYNOMIALS,
-    ),
-    (
-        &["compile", "poly", "qubo", "a", "bound=-2"],
-        -2,
-        POLYNOMIALS,
-    ),
-    (&["compile", "wbo", "qubo", "a", "unit=one"], INFINITE, SOFT),
-    (
-        &["compile", "wbo", "qubo", "a", "unit=reduce"],
-        INFINITE,
-        SOFT,
-    ),
-    (
-        &["compile", "wbo", "qubo", "a", "unit=one", "bound=2"],
-        2,
-        SOFT,
-    ),
-    (
-        &["compile", "wbo", "qubo", "a", "unit=reduce", "bound=0"],
-        0,
-        SOFT,
-    ),
-    (
-        &["compile", "wbo", "qubo", "a", "unit=one", "bound=-1"],
-        -1,
-        SOFT,
-    ),
-];
+#[test]
+fn each_least_energy_of_clauses_stands_for_its_cost(rt: HostRuntime) -> Result<(), Fail> {
+    let words = ["compile", "wcnf", "qubo", "a"];
+    let other = first_other(rt.alloc(), &words, CLAUSES)?;
+    assert!(rt; other.is_none(), "{other:?}");
+    Ok(())
+}
 
 #[test]
-fn each_least_energy_stands_for_its_cost(rt: HostRuntime) -> Result<(), Fail> {
-    for (words, most, sources) in RUNS {
-        let other = first_other(rt.alloc(), words, most, sources)?;
-        assert!(rt; other.is_none(), "{words:?} {other:?}");
+fn each_least_energy_of_products_stands_for_its_cost(rt: HostRuntime) -> Result<(), Fail> {
+    for normal in ["normal=literal", "normal=multilinear"] {
+        for high in ["high=monomial", "high=rosenberg"] {
+            let words = ["compile", "poly", "qubo", "a", normal, high];
+            let other = first_other(rt.alloc(), &words, POLYNOMIALS)?;
+            assert!(rt; other.is_none(), "{normal} {high} {other:?}");
+        }
+    }
+    Ok(())
+}
+
+#[test]
+fn each_least_energy_of_soft_constraints_stands_for_its_cost(rt: HostRuntime) -> Result<(), Fail> {
+    for unit in ["unit=one", "unit=reduce"] {
+        let words = ["compile", "wbo", "qubo", "a", unit];
+        let other = first_other(rt.alloc(), &words, SOFT)?;
+        assert!(rt; other.is_none(), "{unit} {other:?}");
     }
     Ok(())
 }
