@@ -1,33 +1,16 @@
 -- How many entries are those of nodes, and how many are those of couplers.
-use Rattle.std.proofs.Common.{◌≡◌, ℕ, ◌<◌, Bool, true, false, cond, count_by, List, [], ◌∷◌, ◌++◌, length, All, refl, ap, arith}
-use Rattle.std.specs.List.{AllByRecursion}
-use Rattle.std.proofs.lemmas.Bool.{eq-eqb, ne_eqb, lt-ltb, le-ltb}
-use Rattle.std.proofs.lemmas.List.Elements.{All-weaker, recursion_from_All}
-use Rattle.std.proofs.lemmas.List.Sums.{sum_by-cons, sum_by-append}
-use Rattle.bits_model.specs.declared.output.Entry.{Entry}
-use Rattle.bits_model.specs.Output.{is_node, is_coupler}
+use Rattle.bits_model.proofs.Common.{nat_tests, ◌≡◌, ℕ, ◌<◌, Bool, true, false, cond, count_by, List, [], ◌∷◌, ◌++◌, length, All, refl, ap, arith, AllByRecursion, eq-eqb, ne_eqb, lt-ltb, le-ltb, All-weaker, recursion_from_All, sum_by-cons, sum_by-append, Entry, is_node, is_coupler}
 
 all_counted : (p : Entry → Bool) (es : List Entry) → AllByRecursion (λ e. p e ≡ true) es
     → count_by p es ≡ length es
 all_counted p [] h = refl
 all_counted p (e ∷ es) h =
-    omega (
-      arith,
-      sum_by-cons (λ (x : Entry). cond (p x) 1 0) e es,
-      ap {B = ℕ} (λ b. cond b 1 0) h.0,
-      all_counted p es h.1,
-    )
+    omega (arith, sum_by-cons, ap {B = ℕ} (λ b. cond b 1 0) h.0, all_counted p es h.1)
 
 none_counted : (p : Entry → Bool) (es : List Entry) → AllByRecursion (λ e. p e ≡ false) es
     → count_by p es ≡ 0
 none_counted p [] h = refl
-none_counted p (e ∷ es) h =
-    omega (
-      arith,
-      sum_by-cons (λ (x : Entry). cond (p x) 1 0) e es,
-      ap {B = ℕ} (λ b. cond b 1 0) h.0,
-      none_counted p es h.1,
-    )
+none_counted p (e ∷ es) h = grind (arith, nat_tests, none_counted p es h.1)
 
 -- the entry is that of a node
 abbrev IsOfNode : Entry → Type 0
@@ -58,19 +41,9 @@ each P Q more es h = recursion_from_All Q es (All-weaker P Q more es h)
 pub nodes_counted : (ns cs : List Entry) → All IsOfNode ns → All IsOfPair cs
     → count_by is_node (ns ++ cs) ≡ length ns
 nodes_counted ns cs nodes couplers =
-    omega (
-      arith,
-      sum_by-append (λ (e : Entry). cond (is_node e) 1 0) ns cs,
-      all_counted is_node ns (each IsOfNode (λ e. is_node e ≡ true) node-counts ns nodes),
-      none_counted is_node cs (each IsOfPair (λ e. is_node e ≡ false) pair-counts-not cs couplers),
-    )
+    grind (arith, nat_tests, sum_by-append, all_counted, each, node-counts, none_counted, pair-counts-not)
 
 pub couplers_counted : (ns cs : List Entry) → All IsOfNode ns → All IsOfPair cs
     → count_by is_coupler (ns ++ cs) ≡ length cs
 couplers_counted ns cs nodes couplers =
-    omega (
-      arith,
-      sum_by-append (λ (e : Entry). cond (is_coupler e) 1 0) ns cs,
-      none_counted is_coupler ns (each IsOfNode (λ e. is_coupler e ≡ false) node-counts-not ns nodes),
-      all_counted is_coupler cs (each IsOfPair (λ e. is_coupler e ≡ true) pair-counts cs couplers),
-    )
+    grind (arith, nat_tests, sum_by-append, none_counted, each, node-counts-not, all_counted, pair-counts)

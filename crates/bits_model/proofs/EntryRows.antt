@@ -1,26 +1,12 @@
 -- The rows of couplers are the longest stretches of entries with one first node.
-use Rattle.std.proofs.Common.{◌≡◌, ◌≢◌, ℕ, zero, suc, ◌+◌, ◌-◌, ◌<◌, ◌≤◌, Bool, true, false, cond, eqb, ℤ, List, [], ◌∷◌, ◌++◌, length, take, drop, get_or, replicate, append-nil, refl, sym, ap, ◌∙◌, arith}
-use Rattle.std.specs.List.{flat_map}
-use Rattle.std.proofs.lemmas.Bool.{eq-eqb, ne_eqb}
-use Rattle.std.proofs.lemmas.List.{length-drop, drop-drop, take_more, take_all}
-use Rattle.std.proofs.lemmas.Grind.{flat_map-append}
-use Rattle.bits_model.specs.declared.output.Entry.{Entry}
-use Rattle.bits_model.specs.declared.couplers.RowStart.{RowStart}
-use Rattle.bits_model.specs.Entries.{in_rows, rows_of, end_before, firsts_of, coupled, IsOther, AreRows, IsPacked, packed_entries, row_entries, IsWithin}
-use Rattle.bits_model.specs.Stated.{RowsMakeUp}
+use Rattle.bits_model.proofs.Common.{nat_tests, ints, elements, ◌≡◌, ◌≢◌, ℕ, zero, suc, ◌+◌, ◌-◌, ◌<◌, ◌≤◌, ℤ, List, [], ◌∷◌, ◌++◌, length, take, drop, get_or, replicate, append-nil, refl, ap, ◌∙◌, arith, flat_map, length-drop, drop-drop, take_more, take_all, flat_map-append, Entry, RowStart, in_rows, rows_of, end_before, firsts_of, coupled, IsOther, AreRows, IsPacked, packed_entries, row_entries, IsWithin, RowsMakeUp}
 use Rattle.bits_model.proofs.Packed.{end_low}
 
 -- ---- rows one after another
 
 joined-in_rows : (e : Entry) (rows : List (List Entry))
     → flat_map (λ row. row) (in_rows e rows) ≡ e ∷ flat_map (λ row. row) rows
-joined-in_rows e [] = refl
-joined-in_rows e ([] ∷ rows) = refl
-joined-in_rows e ((f ∷ row) ∷ rows) = go (eqb e.first f.first) where
-  go : (same : Bool) → flat_map (λ row. row) (cond same ((e ∷ f ∷ row) ∷ rows) ((e ∷ []) ∷ (f ∷ row) ∷ rows))
-      ≡ e ∷ flat_map (λ row. row) ((f ∷ row) ∷ rows)
-  go true = refl
-  go false = refl
+joined-in_rows e rows = grind (arith, nat_tests)
 
 pub joined_rows : RowsMakeUp
 joined_rows [] = refl
@@ -32,9 +18,7 @@ rows_before es k = flat_map (λ row. row) (take k (rows_of es))
 pub rows_more : (es : List Entry) (k : ℕ) → k < length (rows_of es)
     → rows_before es (k + 1) ≡ rows_before es k ++ get_or (rows_of es) k []
 rows_more es k h =
-    ap (flat_map (λ (row : List Entry). row)) (take_more (rows_of es) k [] h)
-    ∙ flat_map-append (λ (row : List Entry). row) (take k (rows_of es)) (get_or (rows_of es) k [] ∷ [])
-    ∙ ap (λ xs. rows_before es k ++ xs) (append-nil (get_or (rows_of es) k []))
+    grind (arith, nat_tests, take_more (rows_of es) k, flat_map-append, append-nil (get_or (rows_of es) k []))
 
 pub rows_all : (es : List Entry) (k : ℕ) → length (rows_of es) ≡ k → rows_before es k ≡ es
 rows_all es k e =
@@ -47,28 +31,12 @@ abbrev pub BeginsOther : ℕ → List Entry → Type 0
 BeginsOther f [] = Unit {0}
 BeginsOther f (e ∷ es) = f ≢ e.first
 
--- the first row begins with the first entry
-first_row : (e : Entry) (rows : List (List Entry))
-    → (row : List Entry) × (others : List (List Entry)) × (in_rows e rows ≡ (e ∷ row) ∷ others)
-first_row e [] = ([], [], refl)
-first_row e ([] ∷ rows) = ([], rows, refl)
-first_row e ((f ∷ row) ∷ rows) = go (eqb e.first f.first) where
-  go : (same : Bool) → (row' : List Entry) × (others : List (List Entry))
-      × (cond same ((e ∷ f ∷ row) ∷ rows) ((e ∷ []) ∷ (f ∷ row) ∷ rows) ≡ (e ∷ row') ∷ others)
-  go true = (f ∷ row, rows, refl)
-  go false = ([], (f ∷ row) ∷ rows, refl)
-
 alone : (e : Entry) (es : List Entry) → BeginsOther e.first es
     → in_rows e (rows_of es) ≡ (e ∷ []) ∷ rows_of es
-alone e [] b = refl
-alone e (d ∷ es) b =
-    let r = first_row d (rows_of es) in
-    let other : eqb e.first d.first ≡ false = ne_eqb e.first d.first b in
-    rw (r.2, other) refl
+alone e es b = grind (arith, nat_tests)
 
 pub row_first : (f k : ℕ) (ss : List ℕ) (ws : List ℤ) (es : List Entry) → suc k ≤ length ss
-    → suc k ≤ length ws → BeginsOther f es
-    → rows_of (coupled (replicate (suc k) f) ss ws ++ es)
+    → suc k ≤ length ws → BeginsOther f es → rows_of (coupled (replicate (suc k) f) ss ws ++ es)
     ≡ coupled (replicate (suc k) f) ss ws ∷ rows_of es
 row_first f k [] ws es h g b = absurd (omega arith)
 row_first f k (s ∷ ss) [] es h g b = absurd (omega arith)
@@ -76,8 +44,7 @@ row_first f zero (s ∷ ss) (w ∷ ws) es h g b = alone (record { first = f; sec
 row_first f (suc k) (s ∷ []) (w ∷ ws) es h g b = absurd (omega arith)
 row_first f (suc k) (s ∷ t ∷ ss) (w ∷ []) es h g b = absurd (omega arith)
 row_first f (suc k) (s ∷ t ∷ ss) (w ∷ v ∷ ws) es h g b =
-    let same : eqb f f ≡ true = eq-eqb f f refl in
-    rw (row_first f k (t ∷ ss) (v ∷ ws) es (omega arith) (omega arith) b, same) refl
+    grind (arith, nat_tests, ints, elements, row_first f k (t ∷ ss) (v ∷ ws) es (omega arith) (omega arith) b)
 
 -- a row, and the entries after it
 row_then : (f k : ℕ) (fs ss : List ℕ) (ws : List ℤ) → k ≤ length ss → k ≤ length ws
@@ -100,17 +67,10 @@ begins_other : (n f : ℕ) (rs : List RowStart) (ss : List ℕ) (ws : List ℤ) 
 begins_other n f [] ss ws a o = tt
 begins_other n f (r ∷ rs) ss ws a o =
     let some : end_before n rs - r.start ≡ suc (end_before n rs - r.start - 1) = omega (arith, a.0) in
-    rw some (go ss ws) where
-      go : (ss : List ℕ) (ws : List ℤ)
-          → BeginsOther f (coupled (replicate (suc (end_before n rs - r.start - 1)) r.first ++ firsts_of n rs) ss ws)
-      go [] ws = tt
-      go (s ∷ ss) [] = tt
-      go (s ∷ ss) (w ∷ ws) = o
+    grind (arith, nat_tests, ints)
 
 skipped : {X : Type 0} (a b : ℕ) (xs : List X) → a ≤ b → drop (b - a) (drop a xs) ≡ drop b xs
-skipped a b xs h =
-    let whole : a + (b - a) ≡ b = omega arith in
-    drop-drop (b - a) a xs ∙ ap (λ n. drop n xs) whole
+skipped a b xs h = grind (arith, nat_tests, drop-drop)
 
 some_first : (f m : ℕ) (ss : List ℕ) (ws : List ℤ) (es : List Entry) → 1 ≤ m → m ≤ length ss
     → m ≤ length ws → BeginsOther f es
@@ -147,8 +107,7 @@ length-row_lists n [] ss ws = refl
 length-row_lists n (r ∷ rs) ss ws = ap suc (length-row_lists n rs ss ws)
 
 get_or-row_lists : (n i : ℕ) (rs : List RowStart) (ss : List ℕ) (ws : List ℤ) (d : RowStart)
-    → i < length rs
-    → get_or (row_lists n rs ss ws) i []
+    → i < length rs → get_or (row_lists n rs ss ws) i []
     ≡ row_entries (get_or rs i d).first (get_or rs i d).start (end_before n (drop (i + 1) rs)) ss ws
 get_or-row_lists n i [] ss ws d h = absurd (omega arith)
 get_or-row_lists n zero (r ∷ rs) ss ws d h = refl
@@ -158,27 +117,19 @@ get_or-row_lists n (suc i) (r ∷ rs) ss ws d h =
 
 packed_rows : (rs : List RowStart) (ss : List ℕ) (ws : List ℤ) → IsPacked rs ss ws
     → rows_of (packed_entries rs ss ws) ≡ row_lists (length ss) rs ss ws
-packed_rows rs ss ws p =
-    let all = held_rows rs ss ws p.rows p.weighed in
-    rw p.whole at all
+packed_rows rs ss ws p = grind (arith, nat_tests, ints, held_rows)
 
 -- there are as many rows as starts
 pub row_count_is : (rs : List RowStart) (ss : List ℕ) (ws : List ℤ) (es : List Entry) → IsPacked rs ss ws
     → packed_entries rs ss ws ≡ es → length (rows_of es) ≡ length rs
-row_count_is rs ss ws es p e =
-    ap (λ (ds : List Entry). length (rows_of ds)) (sym e)
-    ∙ ap length (packed_rows rs ss ws p)
-    ∙ length-row_lists (length ss) rs ss ws
+row_count_is rs ss ws es p e = grind (arith, nat_tests, ints, packed_rows, length-row_lists)
 
 -- one of them
 pub row_is : (rs : List RowStart) (ss : List ℕ) (ws : List ℤ) (es : List Entry) (i : ℕ) (d : RowStart)
     → IsPacked rs ss ws → packed_entries rs ss ws ≡ es → i < length rs
     → row_entries (get_or rs i d).first (get_or rs i d).start (end_before (length ss) (drop (i + 1) rs)) ss ws
     ≡ get_or (rows_of es) i []
-row_is rs ss ws es i d p e h =
-    sym (get_or-row_lists (length ss) i rs ss ws d h)
-    ∙ ap (λ (rows : List (List Entry)). get_or rows i []) (sym (packed_rows rs ss ws p))
-    ∙ ap (λ (ds : List Entry). get_or (rows_of ds) i []) e
+row_is rs ss ws es i d p e h = grind (arith, nat_tests, ints, get_or-row_lists, packed_rows)
 
 row_below : (n i : ℕ) (rs : List RowStart) (d : RowStart) → AreRows n rs → i < length rs
     → ((get_or rs i d).start ≤ end_before n (drop (i + 1) rs)) × (end_before n (drop (i + 1) rs) ≤ n)

@@ -1,11 +1,6 @@
 -- The entries of nodes that are held as weights alone, or beside the nodes' numbers.
-use Rattle.std.proofs.Common.{◌≡◌, ℕ, zero, suc, ◌+◌, ◌<◌, ◌≤◌, ℤ, pos, List, [], ◌∷◌, length, drop, get_or, refl, sym, ap, ◌∙◌, arith}
-use Rattle.std.specs.List.{AllByRecursion}
-use Rattle.std.proofs.lemmas.List.{drop_more, drop_all}
-use Rattle.bits_model.specs.declared.output.Entry.{Entry}
-use Rattle.bits_model.specs.declared.nodes.Numbers.{Numbers}
+use Rattle.bits_model.proofs.Common.{nat_tests, ints, ◌≡◌, ℕ, zero, suc, ◌+◌, ◌<◌, ◌≤◌, ℤ, pos, List, [], ◌∷◌, length, drop, get_or, refl, ap, arith, AllByRecursion, drop_more, drop_all, Entry, Numbers, node_entries, listed_entries, weighed_nodes, AreNumbers}
 use Rattle.bits_model.specs.declared.nodes.Numbers.TheVariants.{All, Listed}
-use Rattle.bits_model.specs.Entries.{node_entries, listed_entries, weighed_nodes, AreNumbers}
 
 length-node_entries : (n : ℕ) (ws : List ℤ) → length (node_entries n ws) ≡ length ws
 length-node_entries n [] = refl
@@ -45,17 +40,12 @@ pub get_or-node_entries : (n : ℕ) (ws : List ℤ) (i : ℕ) (d : Entry) → i 
     → get_or (node_entries n ws) i d
     ≡ record { first = n + i; second = n + i; weight = get_or ws i (pos 0) }
 get_or-node_entries n [] i d h = absurd (omega arith)
-get_or-node_entries n (w ∷ ws) zero d h =
-    let same : n ≡ n + 0 = omega arith in
-    ap (λ k. record { first = k; second = k; weight = w }) same
+get_or-node_entries n (w ∷ ws) zero d h = grind (arith, nat_tests, ints)
 get_or-node_entries n (w ∷ ws) (suc i) d h =
-    let same : suc n + i ≡ n + suc i = omega arith in
-    get_or-node_entries (suc n) ws i d (omega arith)
-    ∙ ap (λ k. record { first = k; second = k; weight = get_or ws i (pos 0) }) same
+    grind (arith, nat_tests, ints, get_or-node_entries (suc n) ws i d (omega arith))
 
 pub get_or-listed : (ns : List ℕ) (ws : List ℤ) (i : ℕ) (d : Entry) → length ns ≡ length ws
-    → i < length ws
-    → get_or (listed_entries ns ws) i d
+    → i < length ws → get_or (listed_entries ns ws) i d
     ≡ record { first = get_or ns i 0; second = get_or ns i 0; weight = get_or ws i (pos 0) }
 get_or-listed [] [] i d e h = absurd (omega arith)
 get_or-listed [] (w ∷ ws) i d e h = absurd (omega arith)
@@ -69,27 +59,19 @@ number_of All i = i
 number_of (Listed ns) i = get_or ns.items i 0
 
 pub weighed_at : (numbers : Numbers) (ws : List ℤ) (i : ℕ) (d : Entry) → AreNumbers numbers ws
-    → i < length ws
-    → get_or (weighed_nodes numbers ws) i d
+    → i < length ws → get_or (weighed_nodes numbers ws) i d
     ≡ record { first = number_of numbers i; second = number_of numbers i; weight = get_or ws i (pos 0) }
-weighed_at All ws i d a h =
-    let same : 0 + i ≡ i = omega arith in
-    get_or-node_entries 0 ws i d h
-    ∙ ap (λ k. record { first = k; second = k; weight = get_or ws i (pos 0) }) same
-weighed_at (Listed ns) ws i d a h = get_or-listed ns.items ws i d a h
+weighed_at numbers ws i d a h = grind (arith, nat_tests, ints, get_or-node_entries, get_or-listed)
 
 -- one entry, and those after it
 pub next_weighed : (numbers : Numbers) (ws : List ℤ) (i node : ℕ) → AreNumbers numbers ws
-    → i < length ws → node ≡ number_of numbers i
-    → drop i (weighed_nodes numbers ws)
+    → i < length ws → node ≡ number_of numbers i → drop i (weighed_nodes numbers ws)
     ≡ record { first = node; second = node; weight = get_or ws i (pos 0) }
     ∷ drop (i + 1) (weighed_nodes numbers ws)
 next_weighed numbers ws i node a h e =
     let d : Entry = record { first = 0; second = 0; weight = pos 0 } in
     let es = weighed_nodes numbers ws in
-    drop_more es i d (omega (arith, length-weighed numbers ws a, h))
-    ∙ ap (λ x. x ∷ drop (i + 1) es) (weighed_at numbers ws i d a h)
-    ∙ ap (λ k. record { first = k; second = k; weight = get_or ws i (pos 0) } ∷ drop (i + 1) es) (sym e)
+    grind (arith, nat_tests, ints, drop_more es i d, length-weighed numbers ws a, weighed_at numbers ws i d a h)
 
 -- past the last weight, none are left
 pub none_left : (numbers : Numbers) (ws : List ℤ) (i : ℕ) → AreNumbers numbers ws → length ws ≤ i

@@ -1,12 +1,5 @@
 -- Couplers that are held row by row: one more of them, and those that are left.
-use Rattle.std.proofs.Common.{◌≡◌, ◌≢◌, ℕ, zero, suc, ◌+◌, ◌-◌, ◌<◌, ◌≤◌, true, false, eqb, ℤ, pos, List, [], ◌∷◌, ◌++◌, length, take, drop, get_or, map, int_div, replicate, refl, sym, ap, ◌∙◌, append_assoc, append-nil, length-append, arith}
-use Rattle.std.proofs.lemmas.Bool.{eqb-true, eqb-false}
-use Rattle.std.proofs.lemmas.List.{replicate_more, length-replicate, drop_more, length-drop, get_or-drop, take_all}
-use Rattle.std.specs.Prelude.{Some}
-use Rattle.std.specs.List.{slice_get}
-use Rattle.bits_model.specs.declared.output.Entry.{Entry}
-use Rattle.bits_model.specs.declared.couplers.RowStart.{RowStart}
-use Rattle.bits_model.specs.Entries.{end_before, firsts_of, coupled, AreRows, IsPacked, packed_entries, last_is, IsInFirst, entries_left, row_entries, IsWithin, divided}
+use Rattle.bits_model.proofs.Common.{nat_tests, ints, ◌≡◌, ℕ, zero, suc, ◌+◌, ◌-◌, ◌<◌, ◌≤◌, true, false, eqb, ℤ, pos, List, [], ◌∷◌, ◌++◌, length, take, drop, get_or, map, int_div, replicate, refl, ap, ◌∙◌, append_assoc, append-nil, length-append, arith, eqb-true, eqb-false, replicate_more, length-replicate, drop_more, length-drop, get_or-drop, take_all, Some, slice_get, Entry, RowStart, end_before, firsts_of, coupled, AreRows, IsPacked, packed_entries, last_is, IsInFirst, entries_left, row_entries, IsWithin, divided}
 
 -- ---- lists of first nodes, second nodes and weights
 
@@ -30,8 +23,7 @@ coupled_push [] (t ∷ ss) ws f s w p q = absurd (omega arith)
 coupled_push (g ∷ fs) [] ws f s w p q = absurd (omega arith)
 coupled_push (g ∷ fs) (t ∷ ss) [] f s w p q = absurd (omega arith)
 coupled_push (g ∷ fs) (t ∷ ss) (v ∷ ws) f s w p q =
-    ap (λ es. record { first = g; second = t; weight = v } ∷ es)
-    (coupled_push fs ss ws f s w (omega arith) (omega arith))
+    grind (arith, nat_tests, ints, coupled_push fs ss ws f s w (omega arith) (omega arith))
 
 -- ---- rows
 
@@ -43,14 +35,7 @@ pub length-firsts : (n : ℕ) (rs : List RowStart) → AreRows n rs
     → length (firsts_of n rs) + end_before n rs ≡ n
 length-firsts n [] a = omega arith
 length-firsts n (r ∷ rs) a =
-    let m = end_before n rs - r.start in
-    omega (
-      arith,
-      a.0,
-      length-append (replicate m r.first) (firsts_of n rs),
-      length-replicate m r.first,
-      length-firsts n rs a.2,
-    )
+    grind (arith, nat_tests, length-firsts n rs a.2, length-append, length-replicate)
 
 -- each entry has its first node
 pub firsts_whole : (n : ℕ) (rs : List RowStart) → AreRows n rs → end_before n rs ≡ 0
@@ -63,27 +48,16 @@ firsts_whole n rs a w = omega (arith, length-firsts n rs a)
 pub firsts_longer : (n f : ℕ) (rs : List RowStart) → AreRows n rs → last_is f rs ≡ true
     → firsts_of (n + 1) rs ≡ firsts_of n rs ++ f ∷ []
 firsts_longer n f [] a l = absurd cc
-firsts_longer n f (r ∷ []) a l =
-    let same : r.first ≡ f = eqb-true r.first f l in
-    let more : n + 1 - r.start ≡ (n - r.start) + 1 = omega (arith, a.0) in
-    rw (append-nil, append-nil, more, ← replicate_more (n - r.start) r.first)
-    (ap (λ g. replicate (n - r.start) r.first ++ g ∷ []) same)
+firsts_longer n f (r ∷ []) a l = grind (arith, nat_tests, eqb-true, append-nil, replicate_more)
 firsts_longer n f (r ∷ s ∷ rs) a l =
-    ap (λ gs. replicate (s.start - r.start) r.first ++ gs) (firsts_longer n f (s ∷ rs) a.2 l)
-    ∙ sym (append_assoc (replicate (s.start - r.start) r.first) _ _)
+    grind (arith, nat_tests, firsts_longer n f (s ∷ rs) a.2 l, append_assoc)
 
 -- there is one more row
 pub firsts_begun : (n f : ℕ) (rs : List RowStart)
     → firsts_of (n + 1) (rs ++ record { first = f; start = n } ∷ []) ≡ firsts_of n rs ++ f ∷ []
-firsts_begun n f [] =
-    let one : n + 1 - n ≡ 1 = omega arith in
-    rw one refl
-firsts_begun n f (r ∷ []) =
-    ap (λ gs. replicate (n - r.start) r.first ++ gs) (firsts_begun n f [])
-    ∙ ap (λ gs. gs ++ f ∷ []) (sym (append-nil (replicate (n - r.start) r.first)))
-firsts_begun n f (r ∷ s ∷ rs) =
-    ap (λ gs. replicate (s.start - r.start) r.first ++ gs) (firsts_begun n f (s ∷ rs))
-    ∙ sym (append_assoc (replicate (s.start - r.start) r.first) _ _)
+firsts_begun n f [] = grind (arith, nat_tests)
+firsts_begun n f (r ∷ []) = grind (arith, nat_tests, firsts_begun n f [], append-nil)
+firsts_begun n f (r ∷ s ∷ rs) = grind (arith, nat_tests, firsts_begun n f (s ∷ rs), append_assoc)
 
 pub rows_longer : (n : ℕ) (rs : List RowStart) → AreRows n rs → AreRows (n + 1) rs
 rows_longer n [] a = tt
@@ -100,9 +74,7 @@ rows_begun n f (r ∷ s ∷ rs) a l = (a.0, a.1, rows_begun n f (s ∷ rs) a.2 l
 pub last_is_at : (f : ℕ) (rs : List RowStart) (r : RowStart)
     → Some r ≡ slice_get rs (length rs - 1) → eqb r.first f ≡ last_is f rs
 last_is_at f [] r e = absurd cc
-last_is_at f (s ∷ []) r e =
-    let same : r ≡ s = cc e in
-    ap (λ (t : RowStart). eqb t.first f) same
+last_is_at f (s ∷ []) r e = grind (arith, nat_tests)
 last_is_at f (s ∷ t ∷ rs) r e =
     let later : length (s ∷ t ∷ rs) - 1 ≡ suc (length (t ∷ rs) - 1) = omega arith in
     last_is_at f (t ∷ rs) r (e ∙ ap (slice_get (s ∷ t ∷ rs)) later)
@@ -122,8 +94,7 @@ one_more xs x = length-append xs (x ∷ [])
 
 -- an entry of the last row
 pub packed_longer : (rs : List RowStart) (ss : List ℕ) (ws : List ℤ) (f s : ℕ) (w : ℤ)
-    → IsPacked rs ss ws → last_is f rs ≡ true
-    → packed_entries rs (ss ++ s ∷ []) (ws ++ w ∷ [])
+    → IsPacked rs ss ws → last_is f rs ≡ true → packed_entries rs (ss ++ s ∷ []) (ws ++ w ∷ [])
     ≡ packed_entries rs ss ws ++ record { first = f; second = s; weight = w } ∷ []
 packed_longer rs ss ws f s w p l =
     rw (one_more ss s, firsts_longer (length ss) f rs p.rows l)
@@ -143,8 +114,7 @@ pub packed_begun : (rs : List RowStart) (ss : List ℕ) (ws : List ℤ) (f s : �
     → packed_entries (rs ++ record { first = f; start = length ss } ∷ []) (ss ++ s ∷ []) (ws ++ w ∷ [])
     ≡ packed_entries rs ss ws ++ record { first = f; second = s; weight = w } ∷ []
 packed_begun rs ss ws f s w p =
-    rw (one_more ss s, firsts_begun (length ss) f rs)
-    (coupled_push (firsts_of (length ss) rs) ss ws f s w (firsts_whole (length ss) rs p.rows p.whole) p.weighed)
+    grind (arith, nat_tests, ints, one_more, firsts_begun, coupled_push, firsts_whole)
 
 pub begun_is_packed : (rs : List RowStart) (ss : List ℕ) (ws : List ℤ) (f s : ℕ) (w : ℤ)
     → IsPacked rs ss ws → last_is f rs ≡ false
@@ -157,36 +127,23 @@ begun_is_packed rs ss ws f s w p l = record {
 
 pub length-packed : (rs : List RowStart) (ss : List ℕ) (ws : List ℤ) → IsPacked rs ss ws
     → length (packed_entries rs ss ws) ≡ length ss
-length-packed rs ss ws p =
-    length-coupled (firsts_of (length ss) rs) ss ws
-    (firsts_whole (length ss) rs p.rows p.whole) p.weighed
+length-packed rs ss ws p = grind (arith, nat_tests, ints, length-coupled, firsts_whole)
 
 -- ---- what is left
 
 -- the first entry that is left
 pub next_left : (r : RowStart) (rs : List RowStart) (at : ℕ) (ss : List ℕ) (ws : List ℤ)
-    → at < end_before (length ss) rs → end_before (length ss) rs ≤ length ss
-    → length ws ≡ length ss
+    → at < end_before (length ss) rs → end_before (length ss) rs ≤ length ss → length ws ≡ length ss
     → entries_left (r ∷ rs) at ss ws
     ≡ record { first = r.first; second = get_or ss at 0; weight = get_or ws at (pos 0) }
     ∷ entries_left (r ∷ rs) (at + 1) ss ws
-next_left r rs at ss ws h l w =
-    let end = end_before (length ss) rs in
-    let more : end - at ≡ suc (end - (at + 1)) = omega (arith, h) in
-    let second : drop at ss ≡ get_or ss at 0 ∷ drop (at + 1) ss = drop_more ss at 0 (omega (arith, h, l)) in
-    let weight : drop at ws ≡ get_or ws at (pos 0) ∷ drop (at + 1) ws = drop_more ws at (pos 0) (omega (arith, h, l, w)) in
-    rw (more, second, weight) refl
+next_left r rs at ss ws h l w = grind (arith, nat_tests, ints, drop_more)
 
 -- past a row, its successors are left
 pub row_done : (r : RowStart) (rs : List RowStart) (at : ℕ) (ss : List ℕ) (ws : List ℤ)
     → at + 1 ≡ end_before (length ss) rs
     → entries_left (r ∷ rs) (at + 1) ss ws ≡ entries_left rs (at + 1) ss ws
-row_done r [] at ss ws e =
-    let none : length ss - (at + 1) ≡ 0 = omega (arith, e) in
-    rw none refl
-row_done r (s ∷ rs) at ss ws e =
-    let none : s.start - (at + 1) ≡ 0 = omega (arith, e) in
-    rw (none, e) refl
+row_done r rs is ss ws e = grind (arith, nat_tests, ints)
 
 -- the same where rows are a list that is not empty
 pub next_of_left : (rows : List RowStart) (d : RowStart) (at : ℕ) (ss : List ℕ) (ws : List ℤ)
@@ -227,8 +184,7 @@ length-row f (suc n) (s ∷ ss) [] h k = absurd (omega arith)
 length-row f (suc n) (s ∷ ss) (w ∷ ws) h k = ap suc (length-row f n ss ws (omega arith) (omega arith))
 
 pub row_at : (f n i : ℕ) (ss : List ℕ) (ws : List ℤ) (d : Entry) → i < n → n ≤ length ss
-    → n ≤ length ws
-    → get_or (coupled (replicate n f) ss ws) i d
+    → n ≤ length ws → get_or (coupled (replicate n f) ss ws) i d
     ≡ record { first = f; second = get_or ss i 0; weight = get_or ws i (pos 0) }
 row_at f zero i ss ws d l h k = absurd (omega arith)
 row_at f (suc n) i [] ws d l h k = absurd (omega arith)
@@ -239,10 +195,7 @@ row_at f (suc n) (suc i) (s ∷ ss) (w ∷ ws) d l h k =
 
 pub length-row_entries : (f a b : ℕ) (ss : List ℕ) (ws : List ℤ) → IsWithin a b ss ws
     → length (row_entries f a b ss ws) ≡ b - a
-length-row_entries f a b ss ws w =
-    length-row f (b - a) (drop a ss) (drop a ws)
-    (omega (arith, length-drop a ss, w.ordered, w.within))
-    (omega (arith, length-drop a ws, w.ordered, w.within, w.weighed))
+length-row_entries f a b ss ws w = grind (arith, nat_tests, ints, length-row, length-drop)
 
 pub row_index_below : (f a b i : ℕ) (ss : List ℕ) (ws : List ℤ) (es : List Entry)
     → IsWithin a b ss ws → row_entries f a b ss ws ≡ es → i < length es → a + i < length ss
@@ -250,19 +203,10 @@ row_index_below f a b i ss ws es w e h =
     omega (arith, length-row_entries f a b ss ws w, ap length e, h, w.ordered, w.within)
 
 pub row_entries_at : (f a b i : ℕ) (ss : List ℕ) (ws : List ℤ) (d : Entry) → IsWithin a b ss ws
-    → i < length (row_entries f a b ss ws)
-    → get_or (row_entries f a b ss ws) i d
+    → i < length (row_entries f a b ss ws) → get_or (row_entries f a b ss ws) i d
     ≡ record { first = f; second = get_or ss (a + i) 0; weight = get_or ws (a + i) (pos 0) }
 row_entries_at f a b i ss ws d w h =
-    row_at f (b - a) i (drop a ss) (drop a ws) d
-    (omega (arith, length-row_entries f a b ss ws w, h))
-    (omega (arith, length-drop a ss, w.ordered, w.within))
-    (omega (arith, length-drop a ws, w.ordered, w.within, w.weighed))
-    ∙ (λ j. record {
-      first = f;
-      second = get_or-drop a ss i 0 j;
-      weight = get_or-drop a ws i (pos 0) j;
-    })
+    grind (arith, nat_tests, ints, row_at, length-row_entries, length-drop, get_or-drop)
 
 -- ---- divided weights
 
@@ -272,5 +216,4 @@ coupled_divided unit [] ss ws = refl
 coupled_divided unit (f ∷ fs) [] ws = refl
 coupled_divided unit (f ∷ fs) (s ∷ ss) [] = refl
 coupled_divided unit (f ∷ fs) (s ∷ ss) (w ∷ ws) =
-    ap (λ es. record { first = f; second = s; weight = int_div w unit } ∷ es)
-    (coupled_divided unit fs ss ws)
+    grind (arith, nat_tests, ints, coupled_divided unit fs ss ws)

@@ -1,7 +1,5 @@
 -- The number of a pair tells both of its nodes.
-use Rattle.std.proofs.Common.{◌≡◌, ◌/◌, ◌%◌, ◌^◌, arith}
-use Rattle.bits_model.specs.PairNumbers.{pair_number}
-use Rattle.bits_model.specs.Stated.{PairsHaveNumbers}
+use Rattle.bits_model.proofs.Common.{◌≡◌, ◌/◌, ◌%◌, ◌^◌, arith, pair_number, PairsHaveNumbers}
 
 pub pair_of_number : PairsHaveNumbers
 pair_of_number e low =

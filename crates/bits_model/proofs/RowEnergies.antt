@@ -1,15 +1,5 @@
 -- The energy of bits, row by row.
-use Rattle.std.proofs.Common.{◌≡◌, ℕ, suc, ◌+◌, ◌≤◌, ◌<◌, ℤ, pos, ◌+ℤ◌, unsigned_abs, Bool, true, false, ◌&&◌, List, [], ◌∷◌, ◌++◌, All, length, get_or, take, drop, ap, sym, refl, ◌∙◌, arith}
-use Rattle.std.specs.List.{flat_map}
-use Rattle.std.proofs.lemmas.Int.{ints}
-use Rattle.std.proofs.lemmas.List.{take-append-drop}
-use Rattle.std.proofs.lemmas.List.Sums.{sum_by_more}
-use Rattle.std.proofs.lemmas.Grind.{flat_map-append}
-use Rattle.base.specs.Sums.{if_so, total_by}
-use Rattle.base.proofs.Totals.{total_by-append, total_by_more}
-use Rattle.bits_model.specs.declared.output.Entry.{Entry}
-use Rattle.bits_model.specs.Entries.{rows_of}
-use Rattle.bits_model.specs.Output.{bit_at, bits_energy, weight_total}
+use Rattle.bits_model.proofs.Common.{nat_tests, ◌≡◌, ℕ, suc, ◌+◌, ◌≤◌, ◌<◌, ℤ, pos, ◌+ℤ◌, unsigned_abs, Bool, true, false, ◌&&◌, List, [], ◌∷◌, ◌++◌, All, length, get_or, take, drop, ap, sym, refl, ◌∙◌, arith, flat_map, ints, take-append-drop, sum_by_more, flat_map-append, if_so, total_by, total_by-append, total_by_more, Entry, rows_of, bit_at, bits_energy, weight_total}
 use Rattle.bits_model.proofs.EntryRows.{joined_rows, rows_before, rows_more, rows_all}
 use Rattle.bits_model.proofs.Energies.{weights-append}
 
@@ -43,19 +33,14 @@ pub sum_more : (y : List Bool) (row : List Entry) (i s : ℕ) (d : Entry) → i 
     → total_by (second_weight y) (take (i + 1) row)
     ≡ total_by (second_weight y) (take i row) +ℤ (get_or row i d).weight
 sum_more y row i s d below second one =
-    let bit : bit_at y (get_or row i d).second ≡ true = ap (bit_at y) second ∙ one in
-    total_by_more (second_weight y) row i d below
-    ∙ ap (λ b. total_by (second_weight y) (take i row) +ℤ if_so b (get_or row i d).weight) bit
+    grind (arith, nat_tests, ints, total_by_more (second_weight y) row i d below)
 
 -- or bit 0
 pub sum_same : (y : List Bool) (row : List Entry) (i s : ℕ) (d : Entry) → i < length row
     → (get_or row i d).second ≡ s → bit_at y s ≡ false
     → total_by (second_weight y) (take (i + 1) row) ≡ total_by (second_weight y) (take i row)
 sum_same y row i s d below second zero =
-    let bit : bit_at y (get_or row i d).second ≡ false = ap (bit_at y) second ∙ zero in
-    total_by_more (second_weight y) row i d below
-    ∙ ap (λ b. total_by (second_weight y) (take i row) +ℤ if_so b (get_or row i d).weight) bit
-    ∙ omega (arith, ints)
+    grind (arith, nat_tests, total_by_more (second_weight y) row i d below)
 
 pub weight_more : (row : List Entry) (i : ℕ) (d : Entry) → i < length row
     → weight_total (take (i + 1) row)
@@ -71,27 +56,20 @@ weight_before es k =
     let after = flat_map (λ (row : List Entry). row) (drop k rows) in
     let whole : rows_before es k ++ after ≡ es =
     sym (flat_map-append (λ (row : List Entry). row) (take k rows) (drop k rows))
-    ∙ ap (flat_map (λ (row : List Entry). row)) (take-append-drop k rows)
-    ∙ joined_rows es in
+    ∙ ap (flat_map (λ (row : List Entry). row)) (take-append-drop k rows) ∙ joined_rows es in
     omega (arith, sym (weights-append (rows_before es k) after) ∙ ap weight_total whole)
 
 -- one row more
 pub weight_of_row : (es row : List Entry) (k : ℕ) → k < length (rows_of es)
     → row ≡ get_or (rows_of es) k []
     → weight_total (rows_before es (k + 1)) ≡ weight_total (rows_before es k) + weight_total row
-weight_of_row es row k below is =
-    ap weight_total (rows_more es k below)
-    ∙ weights-append (rows_before es k) (get_or (rows_of es) k [])
-    ∙ ap (λ ds. weight_total (rows_before es k) + weight_total ds) (sym is)
+weight_of_row es row k below is = grind (arith, nat_tests, rows_more, weights-append, rows_before)
 
 pub energy_of_row : (y : List Bool) (es row : List Entry) (k : ℕ) → k < length (rows_of es)
-    → row ≡ get_or (rows_of es) k []
-    → total_by (bits_energy y) (rows_before es (k + 1))
+    → row ≡ get_or (rows_of es) k [] → total_by (bits_energy y) (rows_before es (k + 1))
     ≡ total_by (bits_energy y) (rows_before es k) +ℤ total_by (bits_energy y) row
 energy_of_row y es row k below is =
-    ap (total_by (bits_energy y)) (rows_more es k below)
-    ∙ total_by-append (bits_energy y) (rows_before es k) (get_or (rows_of es) k [])
-    ∙ ap (λ ds. total_by (bits_energy y) (rows_before es k) +ℤ total_by (bits_energy y) ds) (sym is)
+    grind (arith, nat_tests, ints, rows_more, total_by-append, rows_before)
 
 pub energy_of_all : (y : List Bool) (es : List Entry) (k : ℕ) → length (rows_of es) ≡ k
     → total_by (bits_energy y) (rows_before es k) ≡ total_by (bits_energy y) es

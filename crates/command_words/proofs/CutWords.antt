@@ -1,17 +1,12 @@
 -- Where the word of a key with a number or a name is cut.
-use Rattle.std.proofs.Common.{◌≡◌, ℕ, suc, List, length, Some, refl, arith}
-use Rattle.std.specs.Prelude.{codes}
-use Rattle.std.proofs.lemmas.Bool.{lt-ltb}
-use Rattle.command_words.specs.Asked.{bound_key, order_key, rows_key, cols_key, shore_key, map_key, dead_key}
-use Rattle.command_words.specs.Keys.{cut}
+use Rattle.command_words.proofs.Common.{◌≡◌, ℕ, suc, List, length, Some, refl, arith, codes, lt-ltb, bound_key, order_key, rows_key, cols_key, shore_key, map_key, dead_key, cut}
 
 pub cut_bound : (value : List ℕ) → cut (bound_key value) ≡ Some (codes "bound", value)
 cut_bound value =
     rw (lt-ltb 5 (suc (suc (suc (suc (suc (suc (length value))))))) (omega arith)) refl
 
 pub cut_order : (name : List ℕ) → cut (order_key name) ≡ Some (codes "order", name)
-cut_order name =
-    rw (lt-ltb 5 (suc (suc (suc (suc (suc (suc (length name))))))) (omega arith)) refl
+cut_order name = rw (lt-ltb 5 (suc (suc (suc (suc (suc (suc (length name))))))) (omega arith)) refl
 
 pub cut_rows : (value : List ℕ) → cut (rows_key value) ≡ Some (codes "rows", value)
 cut_rows value = rw (lt-ltb 4 (suc (suc (suc (suc (suc (length value)))))) (omega arith)) refl

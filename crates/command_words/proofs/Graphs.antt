@@ -1,20 +1,12 @@
 -- The graph of three numbers.
-use Rattle.std.proofs.Common.{◌≡◌, ◌<◌, ◌*◌, ◌^◌, ◌↔◌, ℕ, Bool, true, false, Option, Some, None, IsSome, refl, sym, ap, subst, arith}
-use Rattle.std.specs.Prelude.{IfSome, nat_le, nat_lt}
-use Rattle.std.proofs.Math.Bridge.{le_prop}
-use Rattle.std.proofs.lemmas.Bool.{le-leb, leb-true, lt-ltb, ltb-true}
-use Rattle.chimera_graph.specs.Shape.{IsShape}
-use Rattle.chimera_graph.specs.Graph.{HasNumbers}
-use Rattle.chimera_graph.specs.declared.chimera.Chimera.{Chimera}
-use Rattle.command_words.specs.Keys.{graph_with, passing}
+use Rattle.command_words.proofs.Common.{nat_tests, ◌≡◌, ◌<◌, ◌*◌, ◌^◌, ◌↔◌, ℕ, Bool, true, false, Option, Some, None, IsSome, refl, ap, subst, arith, IfSome, nat_le, nat_lt, le_prop, le-leb, leb-true, lt-ltb, ltb-true, IsShape, HasNumbers, Chimera, graph_with, passing}
 
 shape_prop : (rows cols shore : ℕ) → IsProp (IsShape rows cols shore)
 shape_prop rows cols shore = hlevel le_prop
 
 -- the graph of these numbers
 graph_by : (rows cols shore : ℕ) → IsShape rows cols shore → Chimera
-graph_by rows cols shore shape =
-    record { rows = rows; cols = cols; shore = shore; shape = shape }
+graph_by rows cols shore shape = record { rows = rows; cols = cols; shore = shore; shape = shape }
 
 same_made : (rows cols shore others across beside : ℕ) (p : IsShape rows cols shore)
     → rows ≡ others → cols ≡ across → shore ≡ beside → (q : IsShape others across beside)
@@ -46,12 +38,9 @@ graph_with-its graph =
     let cols = graph.cols in
     let shore = graph.shore in
     let shape = graph.shape in
-    passing-some (nat_lt 0 rows) _ graph (lt-ltb 0 rows shape.some_rows)
-    (λ r.
-    passing-some (nat_lt 0 cols) _ graph (lt-ltb 0 cols shape.some_cols)
-    (λ c.
-    passing-some (nat_lt 0 shore) _ graph (lt-ltb 0 shore shape.some_shore)
-    (λ s.
+    passing-some (nat_lt 0 rows) _ graph (lt-ltb 0 rows shape.some_rows) (λ r.
+    passing-some (nat_lt 0 cols) _ graph (lt-ltb 0 cols shape.some_cols) (λ c.
+    passing-some (nat_lt 0 shore) _ graph (lt-ltb 0 shore shape.some_shore) (λ s.
     passing-some (nat_le (2 * rows * cols * shore) (2 ^ 20)) _ graph
     (le-leb (2 * rows * cols * shore) (2 ^ 20) shape.few)
     (λ q. ap Some (same_made rows cols shore rows cols shore _ refl refl refl shape)))))
@@ -60,13 +49,8 @@ graph_with-its graph =
 pub graph_with-none : (rows cols shore : ℕ) → ¬ (IsShape rows cols shore)
     → graph_with rows cols shore ≡ None
 graph_with-none rows cols shore none =
-    passing-none (nat_lt 0 rows) _
-    (λ r.
-    passing-none (nat_lt 0 cols) _
-    (λ c.
-    passing-none (nat_lt 0 shore) _
-    (λ s.
-    passing-none (nat_le (2 * rows * cols * shore) (2 ^ 20)) _
+    passing-none (nat_lt 0 rows) _ (λ r. passing-none (nat_lt 0 cols) _ (λ c.
+    passing-none (nat_lt 0 shore) _ (λ s. passing-none (nat_le (2 * rows * cols * shore) (2 ^ 20)) _
     (λ q. absurd (none (record {
       some_rows = ltb-true 0 rows r;
       some_cols = ltb-true 0 cols c;
@@ -88,7 +72,5 @@ nothing_is_some (Some graph) e some = absurd cc
 pub made_is_graph_with : (rows cols shore : ℕ) (made : Option Chimera)
     → IsSome made ↔ IsShape rows cols shore → IfSome made (HasNumbers rows cols shore)
     → made ≡ graph_with rows cols shore
-made_is_graph_with rows cols shore (Some graph) exact has =
-    sym (rw (← has.same_rows, ← has.same_cols, ← has.same_shore) (graph_with-its graph))
-made_is_graph_with rows cols shore None exact has =
-    sym (graph_with-none rows cols shore (λ shape. nothing_is_some None refl (exact.1 shape)))
+made_is_graph_with rows cols shore made exact has =
+    grind (arith, nat_tests, graph_with-its, graph_with-none, nothing_is_some)

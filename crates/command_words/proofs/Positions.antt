@@ -1,31 +1,17 @@
 -- The position that is told is that of the first word that cannot stand.
-use Rattle.std.proofs.Common.{◌≡◌, ℕ, suc, ◌+◌, List, [], ◌∷◌, ◌++◌, length, take, drop, Option, Some, None, Result, Ok, Err, refl, ap, sym, subst, ◌∙◌, ◌⊎◌, inl, inr, arith}
-use Rattle.std.specs.Prelude.{◌≢◌, ◌≤◌, codes, unwrap_or}
-use Rattle.std.specs.Option.{option_map_or, ok_or}
-use Rattle.std.proofs.lemmas.Bool.{ne_eqb}
-use Rattle.std.proofs.lemmas.List.{drop-take, length-drop}
-use Rattle.whole_text.specs.Numbers.{digits_number}
-use Rattle.command_words.specs.declared.commands.Format.{Format}
+use Rattle.command_words.proofs.Common.{nat_tests, ◌<◌, ◌≡◌, ℕ, suc, ◌+◌, List, [], ◌∷◌, ◌++◌, length, take, drop, Option, Some, None, Result, Ok, Err, refl, ap, sym, subst, ◌∙◌, ◌⊎◌, inl, inr, arith, ◌≤◌, codes, unwrap_or, option_map_or, ok_or, drop-take, length-drop, digits_number, Format, Notice, Origin, TargetWord, Verb, Keys, graph_with, keys_from, no_keys, ◌>>=◌, alone, clauses_of, command_of, commanding, drawn_words, file_words, first_key, format_of, notice_of, request_of, source_words, target_of, verb_of, AskForTooLarge, CanGoOn, PositionsTellTheFirst}
 use Rattle.command_words.specs.declared.commands.Format.TheVariants as formats
 use Rattle.command_words.specs.declared.commands.NodeModel.TheVariants.{Qubo}
-use Rattle.command_words.specs.declared.commands.Notice.{Notice}
 use Rattle.command_words.specs.declared.commands.Notice.TheVariants as notices
-use Rattle.command_words.specs.declared.commands.Origin.{Origin}
 use Rattle.command_words.specs.declared.commands.Origin.TheVariants.{File, Drawn}
 use Rattle.command_words.specs.declared.commands.Request.TheVariants as requests
 use Rattle.command_words.specs.declared.commands.WordAt.TheVariants.{Whole}
-use Rattle.command_words.specs.declared.commands.TargetWord.{TargetWord}
 use Rattle.command_words.specs.declared.commands.TargetWord.TheVariants.{Nodes, Chimera}
-use Rattle.command_words.specs.declared.commands.Verb.{Verb}
 use Rattle.command_words.specs.declared.commands.Verb.TheVariants as verbs
-use Rattle.command_words.specs.declared.keys.Keys.{Keys}
 use Rattle.chimera_graph.specs.declared.chimera.Chimera as graphs
-use Rattle.command_words.specs.Keys.{graph_with, keys_from, no_keys}
-use Rattle.command_words.specs.Commands.{◌>>=◌, alone, clauses_of, command_of, commanding, drawn_words, file_words, first_key, format_of, notice_of, request_of, source_words, target_of, verb_of}
-use Rattle.command_words.specs.Positions.{AskForTooLarge, CanGoOn, PositionsTellTheFirst}
 use Rattle.command_words.proofs.Graphs.{graph_with-its}
-use Rattle.command_words.proofs.SaidWords.{with_clauses, with_format, with_keys, with_number, with_source, with_target}
-use Rattle.command_words.proofs.Stops.{Stop, Told, ask, at_index, drop-nil, drop-pad, drop-take-append, from_command, keys_behind, late, late_end, length-pad, pad, room_of, stop, whole}
+use Rattle.command_words.proofs.SaidWords.{two_are_not_one, with_clauses, with_format, with_keys, with_number, with_source, with_target}
+use Rattle.command_words.proofs.Stops.{the_err, Stop, Told, ask, at_index, drop-nil, drop-pad, drop-take-append, from_command, keys_behind, late, late_end, length-pad, pad, room_of, stop, whole}
 
 -- the smallest graph
 small_graph : graphs.Chimera
@@ -50,6 +36,13 @@ room_at_first Chimera = graph_with-its small_graph
 keys_of_none : (verb : Verb) (target : TargetWord) (at n : ℕ)
     → keys_from verb target no_keys at (drop n []) ≡ Ok no_keys
 keys_of_none verb target at n = ap (keys_from verb target no_keys at) (drop-nil n)
+
+-- a word that cannot stand behind words that go on
+told_at : {A : Type 0} (words : List (List ℕ)) (j i : ℕ) → the_err {A = A} (suc j) ≡ Err (i + 1)
+    → CanGoOn (take j words) → (j < length words → (more : List (List ℕ))
+    → request_of (take (suc j) words ++ more) ≡ Err (suc j)) → Told words i
+told_at words j i e before wrong =
+    at_index words j i e (record { before = inl before; wrong = wrong })
 
 -- ---- words that say a source and its target
 
@@ -105,8 +98,7 @@ module _ (verb : Verb) (n : ℕ) (first : List ℕ) (no_notice : notice_of first
             → keys_from verb Chimera no_keys (first_key verb) (drop n rest) ≡ Ok keys
             → (graph : Option graphs.Chimera)
             → graph_with (unwrap_or keys.rows 1) (unwrap_or keys.cols 1) (unwrap_or keys.shore 1)
-            ≡ graph
-            → CanGoOn (first ∷ second ∷ third ∷ fourth ∷ rest)
+            ≡ graph → CanGoOn (first ∷ second ∷ third ∷ fourth ∷ rest)
             ⊎ AskForTooLarge (first ∷ second ∷ third ∷ fourth ∷ rest)
         by_graph s g (Some graph) e = inl (go_on second third fourth origin Chimera s rest keys graph g e)
         by_graph s g None e = inr (record {
@@ -143,8 +135,7 @@ module _ (verb : Verb) (n : ℕ) (first : List ℕ) (no_notice : notice_of first
           wrong = λ less more.
               let kept : drop n (take (suc (n + j)) rest ++ more)
               ≡ take (suc j) (drop n rest) ++ more =
-              ap (λ k. drop n (take k rest ++ more)) next
-              ∙ drop-take-append n (suc j) rest more
+              ap (λ k. drop n (take k rest ++ more)) next ∙ drop-take-append n (suc j) rest more
               (omega (arith, stopped.within, length-drop n rest)) in
               let position : q ≡ suc (suc (suc (suc (suc (n + j))))) = omega (arith, same, index) in
               let stops = subst (λ k. keys_from verb target no_keys k (take (suc j) (drop n rest) ++ more)
@@ -166,8 +157,7 @@ module _ (verb : Verb) (n : ℕ) (first : List ℕ) (no_notice : notice_of first
         (ap (λ k. keys_from verb target no_keys (first_key verb) (drop k words)) (sym behind) ∙ e))
     by_keys rest i (Err q) e f =
         let words = first ∷ second ∷ third ∷ fourth ∷ rest in
-        at_key rest i q
-        (stop verb target no_keys (first_key verb) q (drop n rest)
+        at_key rest i q (stop verb target no_keys (first_key verb) q (drop n rest)
         (ap (λ k. keys_from verb target no_keys (first_key verb) (drop k words)) (sym behind) ∙ e)) cc
 
     on_source : (rest : List (List ℕ)) (i : ℕ)
@@ -203,25 +193,18 @@ module _ (verb : Verb) (n : ℕ) (first : List ℕ) (no_notice : notice_of first
   second_goes_on : (second : List ℕ) (format : Format) → format_of second ≡ Some format
       → CanGoOn (first ∷ second ∷ [])
   second_goes_on second format e =
-      let all = third_goes_on second (codes "qubo") format (Nodes Qubo) e refl in
-      (codes "qubo" ∷ all.0, all.1, all.2)
+      grind (arith, nat_tests, third_goes_on second (codes "qubo") format (Nodes Qubo) e refl)
 
   first_goes_on : CanGoOn (first ∷ [])
-  first_goes_on =
-      let all = second_goes_on (codes "wcnf") formats.Wcnf refl in
-      (codes "wcnf" ∷ all.0, all.1, all.2)
+  first_goes_on = grind (arith, nat_tests, second_goes_on (codes "wcnf") formats.Wcnf refl)
 
   on_target : (second third : List ℕ) (rest : List (List ℕ)) (format : Format)
-      (target : TargetWord) (i : ℕ) → format_of second ≡ Some format
-      → target_of third ≡ Some target
+      (target : TargetWord) (i : ℕ) → format_of second ≡ Some format → target_of third ≡ Some target
       → (with_target (first ∷ second ∷ third ∷ rest) format target
       >>= λ source. with_source verb (first ∷ second ∷ third ∷ rest) source.0 source.1) ≡ Err (i + 1)
       → Told (first ∷ second ∷ third ∷ rest) i
   on_target second third [] format target i e f g =
-      at_index _ 3 i g (record {
-        before = inl (third_goes_on second third format target e f);
-        wrong = λ less. absurd (omega (arith, less));
-      })
+      at_index _ 3 i g (late _ 3 (omega arith) (inl (third_goes_on second third format target e f)))
   on_target second third (fourth ∷ rest) format target i e f g =
       on_source verb n first no_notice is_verb behind second third fourth (File format (Whole 3)) target
       (says_file second third fourth format target e f) rest i g
@@ -232,41 +215,27 @@ module _ (verb : Verb) (n : ℕ) (first : List ℕ) (no_notice : notice_of first
       >>= λ source. with_source verb (first ∷ second ∷ third ∷ rest) source.0 source.1) ≡ Err (i + 1)
       → Told (first ∷ second ∷ third ∷ rest) i
   by_target second third rest format i is_format None e f =
-      at_index _ 2 i f (record {
-        before = inl (second_goes_on second format is_format);
-        wrong = λ less more.
-            rw (no_notice, is_verb, of_file (first ∷ second ∷ third ∷ more), is_format, e) refl;
-      })
+      told_at _ 2 i f (second_goes_on second format is_format)
+      (λ less more. rw (no_notice, is_verb, of_file (first ∷ second ∷ third ∷ more), is_format, e) refl)
   by_target second third rest format i is_format (Some target) e f =
       on_target second third rest format target i is_format e f
 
   by_format : (second : List ℕ) (rest : List (List ℕ)) (i : ℕ) (o : Option Format)
-      → format_of second ≡ o
-      → ((ok_or o 2 >>= with_format (first ∷ second ∷ rest))
+      → format_of second ≡ o → ((ok_or o 2 >>= with_format (first ∷ second ∷ rest))
       >>= λ source. with_source verb (first ∷ second ∷ rest) source.0 source.1) ≡ Err (i + 1)
       → Told (first ∷ second ∷ rest) i
   by_format second rest i None e f =
-      at_index _ 1 i f (record {
-        before = inl first_goes_on;
-        wrong = λ less more. rw (no_notice, is_verb, of_file (first ∷ second ∷ more), e) refl;
-      })
+      told_at _ 1 i f first_goes_on
+      (λ less more. rw (no_notice, is_verb, of_file (first ∷ second ∷ more), e) refl)
   by_format second [] i (Some format) e f =
-      at_index _ 2 i f (record {
-        before = inl (second_goes_on second format e);
-        wrong = λ less. absurd (omega (arith, less));
-      })
+      at_index _ 2 i f (late _ 2 (omega arith) (inl (second_goes_on second format e)))
   by_format second (third ∷ rest) i (Some format) e f =
       by_target second third rest format i e (target_of third) refl f
 
   on_file_words : (rest : List (List ℕ)) (i : ℕ)
       → (file_words (first ∷ rest) >>= λ source. with_source verb (first ∷ rest) source.0 source.1)
-      ≡ Err (i + 1)
-      → Told (first ∷ rest) i
-  on_file_words [] i e =
-      at_index _ 1 i e (record {
-        before = inl first_goes_on;
-        wrong = λ less. absurd (omega (arith, less));
-      })
+      ≡ Err (i + 1) → Told (first ∷ rest) i
+  on_file_words [] i e = at_index _ 1 i e (late _ 1 (omega arith) (inl first_goes_on))
   on_file_words (second ∷ rest) i e = by_format second rest i (format_of second) refl e
 
 -- ---- the words of a source that is drawn
@@ -294,8 +263,7 @@ module _ (first : List ℕ) (no_notice : notice_of first ≡ None)
       → CanGoOn (first ∷ second ∷ [])
   unfolding digits_number
   second_is_drawn second number a =
-      let all = third_is_drawn second (codes "0") number 0 a refl in
-      (codes "0" ∷ all.0, all.1, all.2)
+      grind (arith, nat_tests, third_is_drawn second (codes "0") number 0 a refl)
 
   first_is_drawn : CanGoOn (first ∷ [])
   unfolding digits_number
@@ -303,16 +271,11 @@ module _ (first : List ℕ) (no_notice : notice_of first ≡ None)
 
   by_drawn_target : (second third fourth : List ℕ) (rest : List (List ℕ)) (number clauses i : ℕ)
       → digits_number second ≡ Some number → clauses_of third ≡ Some clauses
-      → (o : Option TargetWord) → target_of fourth ≡ o
-      → ((ok_or o 4 >>= drawn_on number clauses)
+      → (o : Option TargetWord) → target_of fourth ≡ o → ((ok_or o 4 >>= drawn_on number clauses)
       >>= λ source. with_source verbs.Sample (first ∷ second ∷ third ∷ fourth ∷ rest) source.0 source.1)
-      ≡ Err (i + 1)
-      → Told (first ∷ second ∷ third ∷ fourth ∷ rest) i
+      ≡ Err (i + 1) → Told (first ∷ second ∷ third ∷ fourth ∷ rest) i
   by_drawn_target second third fourth rest number clauses i a b None e f =
-      at_index _ 3 i f (record {
-        before = inl (third_is_drawn second third number clauses a b);
-        wrong = λ less more. rw (no_notice, is_verb, a, b, e) refl;
-      })
+      grind (arith, nat_tests, third_is_drawn second third number clauses a b)
   by_drawn_target second third fourth rest number clauses i a b (Some target) e f =
       on_source verbs.Sample 0 first no_notice is_verb refl second third fourth (Drawn number clauses)
       target (says_drawn second third fourth number clauses target a b e) rest i f
@@ -321,48 +284,27 @@ module _ (first : List ℕ) (no_notice : notice_of first ≡ None)
       → digits_number second ≡ Some number → (o : Option ℕ) → clauses_of third ≡ o
       → ((ok_or o 3 >>= with_clauses (first ∷ second ∷ third ∷ rest) number)
       >>= λ source. with_source verbs.Sample (first ∷ second ∷ third ∷ rest) source.0 source.1)
-      ≡ Err (i + 1)
-      → Told (first ∷ second ∷ third ∷ rest) i
+      ≡ Err (i + 1) → Told (first ∷ second ∷ third ∷ rest) i
   by_clauses second third rest number i a None e f =
-      at_index _ 2 i f (record {
-        before = inl (second_is_drawn second number a);
-        wrong = λ less more. rw (no_notice, is_verb, a, e) refl;
-      })
+      grind (arith, nat_tests, at_index, second_is_drawn)
   by_clauses second third [] number i a (Some clauses) e f =
-      at_index _ 3 i f (record {
-        before = inl (third_is_drawn second third number clauses a e);
-        wrong = λ less. absurd (omega (arith, less));
-      })
+      at_index _ 3 i f (late _ 3 (omega arith) (inl (third_is_drawn second third number clauses a e)))
   by_clauses second third (fourth ∷ rest) number i a (Some clauses) e f =
       by_drawn_target second third fourth rest number clauses i a e (target_of fourth) refl f
 
   by_number : (second : List ℕ) (rest : List (List ℕ)) (i : ℕ) (o : Option ℕ)
-      → digits_number second ≡ o
-      → ((ok_or o 2 >>= with_number (first ∷ second ∷ rest))
+      → digits_number second ≡ o → ((ok_or o 2 >>= with_number (first ∷ second ∷ rest))
       >>= λ source. with_source verbs.Sample (first ∷ second ∷ rest) source.0 source.1) ≡ Err (i + 1)
       → Told (first ∷ second ∷ rest) i
-  by_number second rest i None e f =
-      at_index _ 1 i f (record {
-        before = inl first_is_drawn;
-        wrong = λ less more. rw (no_notice, is_verb, e) refl;
-      })
-  by_number second [] i (Some number) e f =
-      at_index _ 2 i f (record {
-        before = inl (second_is_drawn second number e);
-        wrong = λ less. absurd (omega (arith, less));
-      })
+  by_number second rest i None e f = grind (arith, nat_tests, at_index, first_is_drawn)
+  by_number second [] i (Some number) e f = grind (arith, nat_tests, at_index, second_is_drawn)
   by_number second (third ∷ rest) i (Some number) e f =
       by_clauses second third rest number i e (clauses_of third) refl f
 
-  on_drawn_words : (rest : List (List ℕ)) (i : ℕ)
-      → (drawn_words (first ∷ rest)
+  on_drawn_words : (rest : List (List ℕ)) (i : ℕ) → (drawn_words (first ∷ rest)
       >>= λ source. with_source verbs.Sample (first ∷ rest) source.0 source.1) ≡ Err (i + 1)
       → Told (first ∷ rest) i
-  on_drawn_words [] i e =
-      at_index _ 1 i e (record {
-        before = inl first_is_drawn;
-        wrong = λ less. absurd (omega (arith, less));
-      })
+  on_drawn_words [] i e = grind (arith, nat_tests, at_index, first_is_drawn)
   on_drawn_words (second ∷ rest) i e = by_number second rest i (digits_number second) refl e
 
 -- ---- all words
@@ -386,17 +328,13 @@ module _ (first : List ℕ) (no_notice : notice_of first ≡ None) where
       >>= λ source. with_source verb (first ∷ rest) source.0 source.1) ≡ Err (i + 1)
       → Told (first ∷ rest) i
   by_verb None v rest i e =
-      at_index _ 0 i e (record {
-        before = inl (codes "--help" ∷ [], requests.Notice notices.Help, refl);
-        wrong = λ less more. rw (no_notice, v) refl;
-      })
+      told_at _ 0 i e (codes "--help" ∷ [], requests.Notice notices.Help, refl)
+      (λ less more. rw (no_notice, v) refl)
   by_verb (Some verb) v rest i e = after verb v rest i e
 
 not_alone : (first second : List ℕ) (rest : List (List ℕ)) (notice : Notice)
     → alone (first ∷ second ∷ rest) notice ≡ Err 2
-not_alone first second rest notice =
-    let more : length (first ∷ second ∷ rest) ≢ 1 = λ same. absurd (omega (arith, same)) in
-    rw (ne_eqb (length (first ∷ second ∷ rest)) 1 more) refl
+not_alone first second rest notice = rw (two_are_not_one (length rest)) refl
 
 -- a notice with more words
 with_notice : (first : List ℕ) (notice : Notice) → notice_of first ≡ Some notice
@@ -404,14 +342,11 @@ with_notice : (first : List ℕ) (notice : Notice) → notice_of first ≡ Some 
     → Told (first ∷ rest) i
 with_notice first notice is [] i e = absurd cc
 with_notice first notice is (second ∷ rest) i e =
-    at_index _ 1 i (sym (not_alone first second rest notice) ∙ e) (record {
-      before = inl ([], requests.Notice notice, rw is refl);
-      wrong = λ less more. rw is (not_alone first second more notice);
-    })
+    told_at _ 1 i (sym (not_alone first second rest notice) ∙ e) ([], requests.Notice notice, rw is refl)
+    (λ less more. rw is (not_alone first second more notice))
 
 by_notice : (first : List ℕ) (rest : List (List ℕ)) (i : ℕ) (o : Option Notice)
-    → notice_of first ≡ o
-    → option_map_or (alone (first ∷ rest)) o
+    → notice_of first ≡ o → option_map_or (alone (first ∷ rest)) o
     (command_of (first ∷ rest) >>= λ command. Ok (requests.Command command)) ≡ Err (i + 1)
     → Told (first ∷ rest) i
 by_notice first rest i (Some notice) is e = with_notice first notice is rest i e
@@ -432,6 +367,5 @@ tell_the_first words i e =
     let next : suc i ≡ i + 1 = omega arith in
     record {
       before = told.before;
-      wrong = λ less more.
-          subst (λ k. request_of (take k words ++ more) ≡ Err k) next (told.wrong less more);
+      wrong = λ less more. grind (arith, nat_tests);
     }

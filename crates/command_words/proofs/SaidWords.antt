@@ -1,39 +1,10 @@
 -- Words that ask for a command or a notice say it.
-use Rattle.std.proofs.Common.{◌≡◌, ℕ, suc, ◌+◌, Bool, true, false, List, [], ◌∷◌, ◌++◌, length, drop, Option, Some, None, Result, Ok, Err, refl, ap, sym, subst, ◌∙◌, ◌⊎◌, inl, inr, arith}
-use Rattle.std.specs.Prelude.{IfOk, IfSome, ◌==◌, ◌||◌, bytes_eq, codes, slice_get, if◌then◌else◌, unwrap_or, ⊤}
-use Rattle.std.specs.Option.{option_map_or, ok_or}
-use Rattle.std.proofs.lemmas.List.{drop_more}
-use Rattle.std.proofs.lemmas.Option.{slice_get_within, get_or_from_slice_get}
-use Rattle.std.proofs.lemmas.Bool.{ne_eqb}
-use Rattle.std.proofs.lemmas.Slice.Eq.{bytes_eq-Decides}
-use Rattle.command_words.specs.declared.commands.Format.{Format}
-use Rattle.command_words.specs.declared.commands.Format.TheVariants as formats
-use Rattle.command_words.specs.declared.commands.Target.{Target}
-use Rattle.command_words.specs.declared.commands.NodeModel.TheVariants.{Qubo, Ising}
-use Rattle.command_words.specs.declared.commands.TargetWord.{TargetWord}
-use Rattle.command_words.specs.declared.commands.TargetWord.TheVariants.{Nodes, Chimera}
-use Rattle.command_words.specs.declared.commands.Chaining.{Chaining}
-use Rattle.command_words.specs.declared.commands.Ties.TheVariants.{Choi}
-use Rattle.command_words.specs.declared.commands.WordAt.{WordAt}
-use Rattle.command_words.specs.declared.commands.WordAt.TheVariants.{Whole}
-use Rattle.command_words.specs.declared.commands.Ask.{Ask}
+use Rattle.command_words.proofs.Common.{nat_tests, ◌≡◌, ℕ, suc, ◌+◌, false, List, [], ◌∷◌, ◌++◌, length, drop, Option, Some, None, Result, Ok, Err, refl, ap, sym, subst, ◌∙◌, ◌⊎◌, arith, IfOk, IfSome, ◌==◌, ◌||◌, bytes_eq, codes, slice_get, if◌then◌else◌, ⊤, option_map_or, drop_more, slice_get_within, get_or_from_slice_get, ne_eqb, bytes_eq-Decides, Format, Target, TargetWord, WordAt, Ask, Command, Origin, digits_number, Keys, Verb, Notice, Request, EachNoticeIsAskedFor, EachCommandIsAskedFor, NoOtherWordsAsk, Say, SayRequest, format_word, job_words, long_word, short_word, target_word, word_of, ◌>>=◌, alone, ask_of, chosen_target, clauses_of, command_of, commanding, drawn_words, file_words, first_key, first_notice, format_of, named, notice_of, source_words, target_of, valued, verb_of, keys_from, no_keys, text_at}
 use Rattle.command_words.specs.declared.commands.Ask.TheVariants as asks
-use Rattle.command_words.specs.declared.commands.Command.{Command}
-use Rattle.command_words.specs.declared.commands.Origin.{Origin}
 use Rattle.command_words.specs.declared.commands.Origin.TheVariants.{File, Drawn}
-use Rattle.whole_text.specs.Numbers.{digits_number}
-use Rattle.chimera_graph.specs.declared.chimera.Chimera as graphs
-use Rattle.command_words.specs.declared.keys.Keys.{Keys}
-use Rattle.command_words.specs.declared.commands.Verb.{Verb}
 use Rattle.command_words.specs.declared.commands.Verb.TheVariants as verbs
-use Rattle.command_words.specs.declared.commands.Notice.{Notice}
 use Rattle.command_words.specs.declared.commands.Notice.TheVariants.{Help, Version}
-use Rattle.command_words.specs.declared.commands.Request.{Request}
 use Rattle.command_words.specs.declared.commands.Request.TheVariants as requests
-use Rattle.command_words.specs.Asked.{EachNoticeIsAskedFor, EachCommandIsAskedFor, NoOtherWordsAsk, Say, SayRequest, board_with, format_word, job_words, long_word, short_word, target_word, word_of}
-use Rattle.command_words.specs.Commands.{◌>>=◌, alone, ask_of, chosen_target, clauses_of, command_of, commanding, drawn_words, file_words, first_key, first_notice, format_of, named, notice_of, request_of, source_words, target_of, valued, verb_of}
-use Rattle.command_words.specs.Keys.{given, graph_of, keys_from, no_keys}
-use Rattle.command_words.specs.Names.{text_at}
 
 -- ---- a step, and the next one
 
@@ -48,43 +19,16 @@ nothing (Err position) = tt
 
 -- ---- a value has its own word
 
--- one line of a table of words, with those below it
-line : {A : Type 0} (word_of : A → List ℕ) (word : List ℕ) (x : A) (below : Option A)
-    → IfSome below (λ y. word ≡ word_of y)
-    → IfSome (if bytes_eq word (word_of x) then Some x else below) (λ y. word ≡ word_of y)
-line {A} word_of word x below others = go (bytes_eq word (word_of x)) refl
-  where
-    go : (b : Bool) → bytes_eq word (word_of x) ≡ b
-        → IfSome (if b then Some x else below) (λ y. word ≡ word_of y)
-    go true e = (bytes_eq-Decides word (word_of x)).0 e
-    go false e = others
-
 format_of-word : (word : List ℕ) → IfSome (format_of word) (λ format. word ≡ format_word format)
-format_of-word word =
-    line format_word word formats.Wcnf _
-    (line format_word word formats.Wbo _
-    (line format_word word formats.Opb _
-    (line format_word word formats.Poly _
-    (line format_word word formats.Ising _ (line format_word word formats.Qubo None tt)))))
+format_of-word word = grind (arith, nat_tests, bytes_eq-Decides)
 
 target_of-word : (word : List ℕ) → IfSome (target_of word) (λ target. word ≡ target_word target)
-target_of-word word =
-    line target_word word (Nodes Qubo) _
-    (line target_word word (Nodes Ising) _ (line target_word word Chimera None tt))
+target_of-word word = grind (arith, nat_tests, bytes_eq-Decides)
 
 -- the target that is chosen has the word that was said
 chosen_has_word : (words : List (List ℕ)) (word : TargetWord) (keys : Keys)
     → IfOk (chosen_target words word keys) (λ target. word_of target ≡ word)
-chosen_has_word words (Nodes model) keys = refl
-chosen_has_word words Chimera keys = go (graph_of keys) keys.chains
-  where
-    go : (graph : Option graphs.Chimera) (chains : Option Chaining)
-        → IfOk (ok_or (given graph (λ g. given chains (λ c.
-        Some (board_with g keys.dead c (unwrap_or keys.ties Choi))))) (length words + 1))
-        (λ target. word_of target ≡ Chimera)
-    go None chains = tt
-    go (Some s) None = tt
-    go (Some s) (Some c) = refl
+chosen_has_word words word keys = grind (arith, nat_tests)
 
 abbrev verb_word : Verb → List ℕ
 verb_word verbs.Compile = codes "compile"
@@ -97,14 +41,7 @@ verb_word verbs.Solve = codes "solve"
 verb_word verbs.Prove = codes "prove"
 
 verb_of-word : (word : List ℕ) → IfSome (verb_of word) (λ verb. word ≡ verb_word verb)
-verb_of-word word =
-    line verb_word word verbs.Compile _
-    (line verb_word word verbs.Size _
-    (line verb_word word verbs.Decode _
-    (line verb_word word verbs.Evaluate _
-    (line verb_word word verbs.Extend _
-    (line verb_word word verbs.Sample _
-    (line verb_word word verbs.Solve _ (line verb_word word verbs.Prove None tt)))))))
+verb_of-word word = grind (arith, nat_tests, bytes_eq-Decides)
 
 -- ---- a word at its place
 
@@ -118,25 +55,6 @@ slice_get-StandsAt words i word e =
     drop_more words i [] (slice_get_within words i word e)
     ∙ ap (λ w. w ∷ drop (i + 1) words) (get_or_from_slice_get words i word [] e)
 
-valued-word : {A : Type 0} (value : List ℕ → Option A) (word_of : A → List ℕ)
-    → ((word : List ℕ) → IfSome (value word) (λ x. word ≡ word_of x))
-    → (words : List (List ℕ)) (i : ℕ)
-    → IfOk (valued value words i) (λ x. StandsAt words i (word_of x))
-valued-word {A} value word_of each words i = at (slice_get words i) refl
-  where
-    has : (word : List ℕ) → slice_get words i ≡ Some word → (o : Option A)
-        → IfSome o (λ x. word ≡ word_of x)
-        → IfOk (ok_or o (i + 1)) (λ x. StandsAt words i (word_of x))
-    has word e None same = tt
-    has word e (Some x) same =
-        slice_get-StandsAt words i word e ∙ ap (λ w. w ∷ drop (i + 1) words) same
-
-    at : (o : Option (List ℕ)) → slice_get words i ≡ o
-        → IfOk (option_map_or (λ word. ok_or (value word) (i + 1)) o (Err (i + 1)))
-        (λ x. StandsAt words i (word_of x))
-    at None e = tt
-    at (Some word) e = has word e (value word) (each word)
-
 -- a word at its place, with its value
 pub record HasValue {A : Type 0} (value : List ℕ → Option A) (words : List (List ℕ)) (i : ℕ) (x : A)
     : Type 0 where
@@ -146,31 +64,24 @@ pub record HasValue {A : Type 0} (value : List ℕ → Option A) (words : List (
 
 valued-HasValue : {A : Type 0} (value : List ℕ → Option A) (words : List (List ℕ)) (i : ℕ)
     → IfOk (valued value words i) (HasValue value words i)
-valued-HasValue {A} value words i = at (slice_get words i) refl
-  where
-    has : (word : List ℕ) → slice_get words i ≡ Some word → (o : Option A) → value word ≡ o
-        → IfOk (ok_or o (i + 1)) (HasValue value words i)
-    has word e None same = tt
-    has word e (Some x) same =
-        record { word = word; stands = slice_get-StandsAt words i word e; valued = same }
+valued-HasValue value words i = grind (arith, nat_tests, slice_get-StandsAt)
 
-    at : (o : Option (List ℕ)) → slice_get words i ≡ o
-        → IfOk (option_map_or (λ word. ok_or (value word) (i + 1)) o (Err (i + 1)))
-        (HasValue value words i)
-    at None e = tt
-    at (Some word) e = has word e (value word) refl
+valued-word : {A : Type 0} (value : List ℕ → Option A) (word_of : A → List ℕ)
+    → ((word : List ℕ) → IfSome (value word) (λ x. word ≡ word_of x))
+    → (words : List (List ℕ)) (i : ℕ)
+    → IfOk (valued value words i) (λ x. StandsAt words i (word_of x))
+valued-word {A} value word_of each words i = go (valued value words i) (valued-HasValue value words i)
+  where
+    go : (r : Result A ℕ) → IfOk r (HasValue value words i)
+        → IfOk r (λ x. StandsAt words i (word_of x))
+    go (Err p) h = tt
+    go (Ok x) h =
+        let same = subst (λ o. IfSome o (λ x. h.word ≡ word_of x)) h.valued (each h.word) in
+        h.stands ∙ ap (λ w. w ∷ drop (i + 1) words) same
 
 named-word : (words : List (List ℕ)) (i : ℕ)
     → IfOk (named words i) (λ file. StandsAt words i (text_at words file))
-named-word words i = at (slice_get words i) refl
-  where
-    at : (o : Option (List ℕ)) → slice_get words i ≡ o
-        → IfOk (option_map_or (λ word. Ok (Whole i)) o (Err (i + 1)))
-        (λ file. StandsAt words i (text_at words file))
-    at None e = tt
-    at (Some word) e =
-        slice_get-StandsAt words i word e
-        ∙ ap (λ o. option_map_or (λ w. w) o [] ∷ drop (i + 1) words) (sym e)
+named-word words i = grind (arith, nat_tests, slice_get-StandsAt)
 
 -- ---- the words in a row
 
@@ -206,19 +117,15 @@ module _ (words : List (List ℕ)) where
   file_words-said : IfOk (file_words words) IsFileSaid
   file_words-said =
       next (valued format_of words 1) with_format _ _
-      (valued-word format_of format_word format_of-word words 1)
-      (λ format second.
+      (valued-word format_of format_word format_of-word words 1) (λ format second.
       next (valued target_of words 2) (with_target format) _ _
-      (valued-word target_of target_word target_of-word words 2)
-      (λ target third.
+      (valued-word target_of target_word target_of-word words 2) (λ target third.
       next (named words 3) (λ file. Ok (File format file, target)) _ _ (named-word words 3)
       (λ file fourth. record {
         format = format;
         file = file;
         is = refl;
-        says = second
-            ∙ ap (λ rest. format_word format ∷ rest)
-            (third ∙ ap (λ rest. target_word target ∷ rest) fourth);
+        says = grind (arith, nat_tests);
       })))
 
   -- a source that is drawn, with this word of its target, is said
@@ -235,20 +142,11 @@ module _ (words : List (List ℕ)) where
       next (valued clauses_of words 2) (with_clauses number) _ _ (valued-HasValue clauses_of words 2)
       (λ clauses third.
       next (valued target_of words 3) (λ target. Ok (Drawn number clauses, target)) _ _
-      (valued-word target_of target_word target_of-word words 3)
-      (λ target fourth. record {
+      (valued-word target_of target_word target_of-word words 3) (λ target fourth. record {
         number = number;
         clauses = clauses;
         is = refl;
-        says = (
-          second.word,
-          third.word,
-          second.valued,
-          third.valued,
-          second.stands
-              ∙ ap (λ rest. second.word ∷ rest)
-              (third.stands ∙ ap (λ rest. third.word ∷ rest) fourth),
-        );
+        says = grind (arith, nat_tests);
       })))
 
 -- the words say a command, and then keys
@@ -276,12 +174,10 @@ module _ (verb : Verb) (words : List (List ℕ)) (origin : Origin) (word : Targe
   with_source-asked : (Said : Ask → Type 0)
       → ((order : Option WordAt) → IfOk (ask_of verb order words) Said)
       → ((keys : Keys) (target : Target) (ask : Ask) → word_of target ≡ word → Said ask
-      → IsAsked words (commanding origin target keys ask))
-      → IfOk with_source (IsAsked words)
+      → IsAsked words (commanding origin target keys ask)) → IfOk with_source (IsAsked words)
   with_source-asked Said each asked =
       next (keys_from verb word no_keys (first_key verb) (drop (first_key verb) words)) with_keys
-      (λ _. ⊤) _ (nothing _)
-      (λ keys _.
+      (λ _. ⊤) _ (nothing _) (λ keys _.
       next (chosen_target words word keys) (with_chosen keys) _ _ (chosen_has_word words word keys)
       (λ target same.
       next (ask_of verb keys.order words) (with_ask keys target) Said _ (each keys.order)
@@ -296,14 +192,11 @@ with_file-asked : (verb : Verb) (words : List (List ℕ)) (Said : Ask → Type 0
     → IfOk (file_words words >>= λ source. with_source verb words source.0 source.1) (IsAsked words)
 with_file-asked verb words Said each asked =
     next (file_words words) (λ source. with_source verb words source.0 source.1) (IsFileSaid words)
-    (IsAsked words) (file_words-said words)
-    (λ source h.
+    (IsAsked words) (file_words-said words) (λ source h.
     let Asks : Origin × TargetWord → Type 0 =
     λ s. IfOk (with_source verb words s.0 s.1) (IsAsked words) in
-    subst Asks (sym h.is)
-    (with_source-asked verb words (File h.format h.file) source.1 Said each
-    (λ keys target ask same said.
-    asked h.format h.file keys target ask
+    subst Asks (sym h.is) (with_source-asked verb words (File h.format h.file) source.1 Said each
+    (λ keys target ask same said. asked h.format h.file keys target ask
     (subst (SaysSource words (File h.format h.file)) (sym same) h.says) said)))
 
 -- the file of one more word is said
@@ -314,16 +207,10 @@ one_more words make =
     next (named words 4) (λ at. Ok (make at)) _ _ (named-word words 4) (λ at fifth. (at, refl, fifth))
 
 -- those of a state and of a certificate are
-two_more : (words : List (List ℕ))
-    → IfOk (ask_of verbs.Prove None words)
+two_more : (words : List (List ℕ)) → IfOk (ask_of verbs.Prove None words)
     (λ ask. (state certificate : WordAt) × (ask ≡ asks.Prove state certificate)
     × StandsAt words 4 (text_at words state) × StandsAt words 5 (text_at words certificate))
-two_more words =
-    next (named words 4) (λ state. named words 5 >>= λ at. Ok (asks.Prove state at)) _ _
-    (named-word words 4)
-    (λ state fifth.
-    next (named words 5) (λ at. Ok (asks.Prove state at)) _ _ (named-word words 5)
-    (λ certificate sixth. (state, certificate, refl, fifth, sixth)))
+two_more words = grind (arith, nat_tests)
 
 -- the words of a job and of one more file, after the first word
 with_file-words : (words : List (List ℕ)) (first : List ℕ) (format : Format) (file : WordAt)
@@ -331,10 +218,7 @@ with_file-words : (words : List (List ℕ)) (first : List ℕ) (format : Format)
     → SaysSource words (File format file) (word_of target) → StandsAt words 4 (text_at words at)
     → words ≡ first ∷ job_words format (word_of target) (text_at words file)
     ++ text_at words at ∷ drop 5 words
-with_file-words words first format file target at begins says fifth =
-    begins
-    ∙ ap (λ rest. first ∷ rest) says
-    ∙ ap (λ rest. first ∷ job_words format (word_of target) (text_at words file) ++ rest) fifth
+with_file-words words first format file target at begins says fifth = grind (arith, nat_tests)
 
 after_verb-words : (words : List (List ℕ)) (verb : Verb) → words ≡ verb_word verb ∷ drop 1 words
     → IfOk (source_words verb words >>= λ source. with_source verb words source.0 source.1)
@@ -351,8 +235,7 @@ after_verb-words words verbs.Size first =
     (drop 4 words, first ∙ ap (λ rest. codes "size" ∷ rest) says))
 after_verb-words words verbs.Solve first =
     with_file-asked verbs.Solve words (λ ask. (order : Option WordAt) × (ask ≡ asks.Solve order))
-    (λ order. (order, refl))
-    (λ format file keys target ask says is.
+    (λ order. (order, refl)) (λ format file keys target ask says is.
     subst (λ a. IsAsked words (commanding (File format file) target keys a)) (sym is.1)
     (drop 4 words, first ∙ ap (λ rest. codes "solve" ∷ rest) says))
 after_verb-words words verbs.Decode first =
@@ -381,14 +264,11 @@ after_verb-words words verbs.Prove first =
     ))
 after_verb-words words verbs.Sample first =
     next (drawn_words words) (λ source. with_source verbs.Sample words source.0 source.1)
-    (IsDrawnSaid words) (IsAsked words) (drawn_words-said words)
-    (λ source h.
+    (IsDrawnSaid words) (IsAsked words) (drawn_words-said words) (λ source h.
     let Asks : Origin × TargetWord → Type 0 =
     λ s. IfOk (with_source verbs.Sample words s.0 s.1) (IsAsked words) in
-    subst Asks (sym h.is)
-    (with_source-asked verbs.Sample words (Drawn h.number h.clauses) source.1
-    (λ ask. ask ≡ asks.Summary) (λ order. refl)
-    (λ keys target ask same is.
+    subst Asks (sym h.is) (with_source-asked verbs.Sample words (Drawn h.number h.clauses) source.1
+    (λ ask. ask ≡ asks.Summary) (λ order. refl) (λ keys target ask same is.
     let says = subst (SaysSource words (Drawn h.number h.clauses)) (sym same) h.says in
     subst (λ a. IsAsked words (commanding (Drawn h.number h.clauses) target keys a)) (sym is) (
       drop 4 words,
@@ -419,62 +299,31 @@ IsWordOf word notice = (word ≡ long_word notice) ⊎ (word ≡ short_word noti
 two_words : (word : List ℕ) (notice : Notice) (below : Option Notice) → IfSome below (IsWordOf word)
     → IfSome (if bytes_eq word (long_word notice) || bytes_eq word (short_word notice)
     then Some notice else below) (IsWordOf word)
-two_words word notice below others =
-    go (bytes_eq word (long_word notice)) (bytes_eq word (short_word notice)) refl refl
-  where
-    go : (long short : Bool) → bytes_eq word (long_word notice) ≡ long
-        → bytes_eq word (short_word notice) ≡ short
-        → IfSome (if long || short then Some notice else below) (IsWordOf word)
-    go true short e f = inl ((bytes_eq-Decides word (long_word notice)).0 e)
-    go false true e f = inr ((bytes_eq-Decides word (short_word notice)).0 f)
-    go false false e f = others
+two_words word notice below others = grind (arith, nat_tests, bytes_eq-Decides)
 
 notice_of-word : (word : List ℕ) (notice : Notice) → notice_of word ≡ Some notice
     → IsWordOf word notice
 notice_of-word word notice e =
-    subst (λ found. IfSome found (IsWordOf word)) e
-    (two_words word Help _ (two_words word Version None tt))
+    grind (arith, nat_tests, two_words word Help _ (two_words word Version None tt), two_words word Version None tt)
 
 -- words that begin as a notice does are no command
 notices_are_no_commands : (words : List (List ℕ)) (notice : Notice)
     → first_notice words ≡ Some notice → command_of words ≡ Err 1
 notices_are_no_commands [] notice e = absurd cc
-notices_are_no_commands (word ∷ words) notice e = go notice (notice_of-word word notice e)
-  where
-    go : (said : Notice) → IsWordOf word said → command_of (word ∷ words) ≡ Err 1
-    go Help (inl e) = subst (λ w. command_of (w ∷ words) ≡ Err 1) (sym e) refl
-    go Help (inr e) = subst (λ w. command_of (w ∷ words) ≡ Err 1) (sym e) refl
-    go Version (inl e) = subst (λ w. command_of (w ∷ words) ≡ Err 1) (sym e) refl
-    go Version (inr e) = subst (λ w. command_of (w ∷ words) ≡ Err 1) (sym e) refl
+notices_are_no_commands (word ∷ words) notice e =
+    grind (arith, nat_tests, notice_of-word word notice e)
 
 -- two words or more are not one
-two_are_not_one : (n : ℕ) → (suc (suc n) == 1) ≡ false
+pub two_are_not_one : (n : ℕ) → (suc (suc n) == 1) ≡ false
 two_are_not_one n = ne_eqb (suc (suc n)) 1 (λ e. omega (arith, e))
 
 pub each_notice : EachNoticeIsAskedFor
 each_notice = record {
-  long = long;
-  short = short;
-  long_alone = long_alone;
-  short_alone = short_alone;
-} where
-  long : (notice : Notice) → request_of (long_word notice ∷ []) ≡ Ok (requests.Notice notice)
-  long Help = refl
-  long Version = refl
-
-  short : (notice : Notice) → request_of (short_word notice ∷ []) ≡ Ok (requests.Notice notice)
-  short Help = refl
-  short Version = refl
-
-  long_alone : (notice : Notice) (word : List ℕ) (words : List (List ℕ))
-      → request_of (long_word notice ∷ word ∷ words) ≡ Err 2
-  long_alone Help word words = rw (two_are_not_one (length words)) refl
-  long_alone Version word words = rw (two_are_not_one (length words)) refl
-
-  short_alone : (notice : Notice) (word : List ℕ) (words : List (List ℕ))
-      → request_of (short_word notice ∷ word ∷ words) ≡ Err 2
-  short_alone Help word words = rw (two_are_not_one (length words)) refl
-  short_alone Version word words = rw (two_are_not_one (length words)) refl
+  long = λ notice. grind (arith, nat_tests);
+  short = λ notice. grind (arith, nat_tests);
+  long_alone = λ notice word words. grind (arith, nat_tests, two_are_not_one);
+  short_alone = λ notice word words. grind (arith, nat_tests, two_are_not_one);
+}
 
 -- what words ask for that begin with a notice, or with none
 abbrev request_with : List (List ℕ) → Option Notice → Result Request ℕ
@@ -498,11 +347,7 @@ each_command = record {
 alone-says : (words : List (List ℕ)) (notice : Notice) → first_notice words ≡ Some notice
     → IfOk (alone words notice) (SayRequest words)
 alone-says [] notice e = absurd cc
-alone-says (word ∷ []) notice e = go (notice_of-word word notice e)
-  where
-    go : IsWordOf word notice → IfOk (alone (word ∷ []) notice) (SayRequest (word ∷ []))
-    go (inl e) = inl (ap (λ w. w ∷ []) e)
-    go (inr e) = inr (ap (λ w. w ∷ []) e)
+alone-says (word ∷ []) notice e = grind (arith, nat_tests, notice_of-word)
 alone-says (word ∷ other ∷ words) notice e = rw (two_are_not_one (length words)) tt
 
 pub no_others : NoOtherWordsAsk

@@ -1,32 +1,12 @@
 -- Where keys stop, how words go on, and what is told behind all words.
-use Rattle.std.proofs.Common.{◌≡◌, ◌<◌, ℕ, zero, suc, ◌+◌, List, [], ◌∷◌, ◌++◌, length, take, drop, get_or, Option, Some, None, Result, Ok, Err, refl, ap, sym, subst, ◌∙◌, ◌⊎◌, inl, inr, arith}
-use Rattle.std.specs.Prelude.{unwrap_or, ⊤, ◌≤◌, codes, slice_get}
-use Rattle.std.specs.Option.{option_map_or, ok_or}
-use Rattle.std.proofs.lemmas.List.{take_all}
-use Rattle.std.proofs.lemmas.Option.{slice_get_cases}
-use Rattle.whole_text.specs.Numbers.{digits_number}
-use Rattle.command_words.specs.declared.commands.Ask.{Ask}
-use Rattle.command_words.specs.declared.commands.Ask.TheVariants as asks
-use Rattle.command_words.specs.declared.commands.Command.{Command}
+use Rattle.command_words.proofs.Common.{nat_tests, ◌≡◌, ◌<◌, ℕ, zero, suc, ◌+◌, List, [], ◌∷◌, ◌++◌, length, take, drop, Option, Some, None, Result, Ok, Err, refl, ap, sym, subst, ◌∙◌, ◌⊎◌, arith, unwrap_or, ⊤, ◌≤◌, codes, slice_get, option_map_or, take_all, slice_get_cases, digits_number, Ask, Command, WordAt, Target, TargetWord, Verb, Keys, Origin, graph_with, keys_from, target_by, with_word, clique_key, cols_key, rows_key, shore_key, ◌>>=◌, ask_of, first_key, named, request_of, AskForTooLarge, CanGoOn}
 use Rattle.command_words.specs.declared.commands.Request.TheVariants as requests
-use Rattle.command_words.specs.declared.commands.WordAt.{WordAt}
-use Rattle.command_words.specs.declared.commands.WordAt.TheVariants.{Whole}
-use Rattle.command_words.specs.declared.commands.Chaining.{Chaining}
 use Rattle.command_words.specs.declared.commands.Chaining.TheVariants.{Clique}
-use Rattle.command_words.specs.declared.commands.Target.{Target}
 use Rattle.command_words.specs.declared.commands.Target.TheVariants as targets
-use Rattle.command_words.specs.declared.commands.TargetWord.{TargetWord}
 use Rattle.command_words.specs.declared.commands.TargetWord.TheVariants.{Nodes, Chimera}
-use Rattle.command_words.specs.declared.commands.Verb.{Verb}
 use Rattle.command_words.specs.declared.commands.Verb.TheVariants as verbs
-use Rattle.command_words.specs.declared.keys.Keys.{Keys}
-use Rattle.command_words.specs.declared.commands.Origin.{Origin}
-use Rattle.command_words.specs.declared.commands.Ties.TheVariants.{Choi}
+use Rattle.command_words.specs.declared.commands.ChainStrength.TheVariants.{Choi}
 use Rattle.chimera_graph.specs.declared.chimera.Chimera as graphs
-use Rattle.command_words.specs.Keys.{graph_with, keys_from, target_by, with_word}
-use Rattle.command_words.specs.Asked.{clique_key, cols_key, rows_key, shore_key}
-use Rattle.command_words.specs.Commands.{◌>>=◌, ask_of, first_key, named, request_of}
-use Rattle.command_words.specs.Positions.{AskForTooLarge, CanGoOn}
 use Rattle.command_words.proofs.AskedWords.{each_key}
 use Rattle.command_words.proofs.SaidWords.{with_ask, with_chosen, with_keys}
 
@@ -48,17 +28,13 @@ module _ (verb : Verb) (target : TargetWord) where
   pub keys_behind : (keys more : Keys) (at : ℕ) (a b : List (List ℕ))
       → keys_from verb target keys at a ≡ Ok more
       → keys_from verb target keys at (a ++ b) ≡ keys_from verb target more (length a + at) b
-  keys_behind keys more at [] b e =
-      let same : keys ≡ more = cc in
-      let first : at ≡ 0 + at = omega arith in
-      ap (λ k. keys_from verb target k at b) same ∙ ap (λ n. keys_from verb target more n b) first
+  keys_behind keys more at [] b e = grind (arith, nat_tests)
   keys_behind keys more at (word ∷ a) b e =
       go (λ next f. keys_behind next more (at + 1) a b f) (with_word verb target keys at word) e
     where
       go : ((next : Keys) → keys_from verb target next (at + 1) a ≡ Ok more
           → keys_from verb target next (at + 1) (a ++ b)
-          ≡ keys_from verb target more (length a + (at + 1)) b)
-          → (o : Option Keys)
+          ≡ keys_from verb target more (length a + (at + 1)) b) → (o : Option Keys)
           → option_map_or (λ next. keys_from verb target next (at + 1) a) o (Err (at + 1)) ≡ Ok more
           → option_map_or (λ next. keys_from verb target next (at + 1) (a ++ b)) o (Err (at + 1))
           ≡ keys_from verb target more (length (word ∷ a) + at) b
@@ -107,68 +83,40 @@ pub record Fill (verb : Verb) (keys result : Keys) (at : ℕ) : Type 0 where
   pub filled : keys_from verb Chimera keys at words ≡ Ok result
 
 module _ (verb : Verb) where
+  -- a key is added where it is missing
+  fill : {A : Type 0} (keys : Keys) (at : ℕ) (put : Option A → Keys) (given : Option A) (one : A)
+      (word : List ℕ) → keys ≡ put given
+      → (given ≡ None → with_word verb Chimera keys at word ≡ Some (put (Some one)))
+      → Fill verb keys (put (Some (unwrap_or given one))) at
+  fill keys at put None one word same next = record { words = word ∷ []; filled = rw (next refl) refl }
+  fill keys at put (Some value) one word same next = record { words = []; filled = ap Ok same }
+
   fill_rows : (keys : Keys) (at : ℕ)
       → Fill verb keys (record keys { rows = Some (unwrap_or keys.rows 1) }) at
   unfolding digits_number
-  fill_rows keys at = go keys.rows refl
-    where
-      go : (rows : Option ℕ) → keys.rows ≡ rows
-          → Fill verb keys (record keys { rows = Some (unwrap_or rows 1) }) at
-      go None e = record {
-        words = rows_key (codes "1") ∷ [];
-        filled = rw (each_key.rows verb keys at (codes "1") 1 e refl (omega arith) (omega arith)) refl;
-      }
-      go (Some rows) e = record {
-        words = [];
-        filled = ap (λ given. Ok (record keys { rows = given })) e;
-      }
+  fill_rows keys at =
+      fill keys at (λ given. record keys { rows = given }) keys.rows 1 (rows_key (codes "1")) refl
+      (λ none. each_key.rows verb keys at (codes "1") 1 none refl (omega arith) (omega arith))
 
   fill_cols : (keys : Keys) (at : ℕ)
       → Fill verb keys (record keys { cols = Some (unwrap_or keys.cols 1) }) at
   unfolding digits_number
-  fill_cols keys at = go keys.cols refl
-    where
-      go : (cols : Option ℕ) → keys.cols ≡ cols
-          → Fill verb keys (record keys { cols = Some (unwrap_or cols 1) }) at
-      go None e = record {
-        words = cols_key (codes "1") ∷ [];
-        filled = rw (each_key.cols verb keys at (codes "1") 1 e refl (omega arith) (omega arith)) refl;
-      }
-      go (Some cols) e = record {
-        words = [];
-        filled = ap (λ given. Ok (record keys { cols = given })) e;
-      }
+  fill_cols keys at =
+      fill keys at (λ given. record keys { cols = given }) keys.cols 1 (cols_key (codes "1")) refl
+      (λ none. each_key.cols verb keys at (codes "1") 1 none refl (omega arith) (omega arith))
 
   fill_shore : (keys : Keys) (at : ℕ)
       → Fill verb keys (record keys { shore = Some (unwrap_or keys.shore 1) }) at
   unfolding digits_number
-  fill_shore keys at = go keys.shore refl
-    where
-      go : (shore : Option ℕ) → keys.shore ≡ shore
-          → Fill verb keys (record keys { shore = Some (unwrap_or shore 1) }) at
-      go None e = record {
-        words = shore_key (codes "1") ∷ [];
-        filled = rw (each_key.shore verb keys at (codes "1") 1 e refl (omega arith) (omega arith)) refl;
-      }
-      go (Some shore) e = record {
-        words = [];
-        filled = ap (λ given. Ok (record keys { shore = given })) e;
-      }
+  fill_shore keys at =
+      fill keys at (λ given. record keys { shore = given }) keys.shore 1 (shore_key (codes "1")) refl
+      (λ none. each_key.shore verb keys at (codes "1") 1 none refl (omega arith) (omega arith))
 
   fill_chains : (keys : Keys) (at : ℕ)
       → Fill verb keys (record keys { chains = Some (unwrap_or keys.chains Clique) }) at
-  fill_chains keys at = go keys.chains refl
-    where
-      go : (chains : Option Chaining) → keys.chains ≡ chains
-          → Fill verb keys (record keys { chains = Some (unwrap_or chains Clique) }) at
-      go None e = record {
-        words = clique_key ∷ [];
-        filled = rw (each_key.clique verb keys at e) refl;
-      }
-      go (Some chains) e = record {
-        words = [];
-        filled = ap (λ given. Ok (record keys { chains = given })) e;
-      }
+  fill_chains keys at =
+      fill keys at (λ given. record keys { chains = given }) keys.chains Clique clique_key refl
+      (each_key.clique verb keys at)
 
   join : {keys next last : Keys} {at : ℕ} (a : Fill verb keys next at)
       → Fill verb next last (length a.words + at) → Fill verb keys last at
@@ -247,10 +195,7 @@ pub record Told (words : List (List ℕ)) (i : ℕ) : Type 0 where
 -- words that are refused at an index
 pub at_index : {A : Type 0} (words : List (List ℕ)) (j i : ℕ)
     → the_err {A = A} (suc j) ≡ Err (i + 1) → Told words j → Told words i
-at_index words j i e first =
-    let same : suc j ≡ i + 1 = cc in
-    let equal : j ≡ i = omega (arith, same) in
-    subst (Told words) equal first
+at_index words j i e first = grind (arith, nat_tests)
 
 -- words of which none is wrong
 pub late : (words : List (List ℕ)) (i : ℕ) → length words ≤ i → CanGoOn words ⊎ AskForTooLarge words
@@ -303,62 +248,26 @@ ask verb order words enough = absurd (omega (arith, enough))
 
 -- no word stands behind all words
 pub none_past : (words : List (List ℕ)) (i : ℕ) → slice_get words i ≡ None → length words ≤ i
-none_past words i e = go (slice_get_cases words i).1
-  where
-    go : ((x : List ℕ) × (i < length words) × (slice_get words i ≡ Some x) × (get_or words i x ≡ x))
-        ⊎ ((length words ≤ i) × (slice_get words i ≡ None)) → length words ≤ i
-    go (inl there) = let has = there.2 in absurd cc
-    go (inr past) = past.0
+none_past words i e = grind (arith, nat_tests, slice_get_cases)
 
 -- a name that is missing is told behind all words
 pub named_late : (words : List (List ℕ)) (i p : ℕ) → named words i ≡ Err p → length words < p
-named_late words i p e = go (slice_get words i) refl e
-  where
-    go : (o : Option (List ℕ)) → slice_get words i ≡ o
-        → option_map_or (λ word. Ok (Whole i)) o (Err (i + 1)) ≡ Err p → length words < p
-    go (Some word) f g = absurd cc
-    go None f g = let same : i + 1 ≡ p = cc in omega (arith, same, none_past words i f)
+named_late words i p e = grind (arith, nat_tests, none_past)
 
 pub one_late : (words : List (List ℕ)) (i p : ℕ) (make : WordAt → Ask) (r : Result WordAt ℕ)
     → named words i ≡ r → (r >>= λ name. Ok (make name)) ≡ Err p → length words < p
-one_late words i p make (Ok name) f g = absurd cc
-one_late words i p make (Err q) f g =
-    let same : q ≡ p = cc in named_late words i p (f ∙ ap Err same)
+one_late words i p make r f g = grind (arith, nat_tests, named_late)
 
 -- what a verb asks of too few words is told behind them all
 pub ask_late : (verb : Verb) (order : Option WordAt) (words : List (List ℕ)) (p : ℕ)
     → ask_of verb order words ≡ Err p → length words < p
-ask_late verbs.Compile order words p e = absurd cc
-ask_late verbs.Size order words p e = absurd cc
-ask_late verbs.Sample order words p e = absurd cc
-ask_late verbs.Solve order words p e = absurd cc
-ask_late verbs.Decode order words p e = one_late words 4 p asks.Decode (named words 4) refl e
-ask_late verbs.Evaluate order words p e = one_late words 4 p asks.Evaluate (named words 4) refl e
-ask_late verbs.Extend order words p e = one_late words 4 p asks.Extend (named words 4) refl e
-ask_late verbs.Prove order words p e = go (named words 4) refl e
-  where
-    go : (r : Result WordAt ℕ) → named words 4 ≡ r
-        → (r >>= λ state. named words 5 >>= λ certificate. Ok (asks.Prove state certificate)) ≡ Err p
-        → length words < p
-    go (Ok state) f g = one_late words 5 p (asks.Prove state) (named words 5) refl g
-    go (Err q) f g = let same : q ≡ p = cc in named_late words 4 p (f ∙ ap Err same)
+ask_late verb order words p e = grind (arith, nat_tests, one_late, named_late)
 
 -- what is missing of a command is told behind all words
 pub late_end : (verb : Verb) (words : List (List ℕ)) (origin : Origin) (target : TargetWord)
     (keys : Keys) (p : ℕ) → with_keys verb words origin target keys ≡ Err p → length words < p
-late_end verb words origin target keys p e = by_chosen (target_by target keys) e
-  where
-    by_ask : (chosen : Target) (r : Result Ask ℕ) → ask_of verb keys.order words ≡ r
-        → (r >>= with_ask verb words origin target keys chosen) ≡ Err p → length words < p
-    by_ask chosen (Ok ask) f g = absurd cc
-    by_ask chosen (Err q) f g =
-        let same : q ≡ p = cc in ask_late verb keys.order words p (f ∙ ap Err same)
-
-    by_chosen : (o : Option Target)
-        → (ok_or o (length words + 1) >>= with_chosen verb words origin target keys) ≡ Err p
-        → length words < p
-    by_chosen None g = let same : length words + 1 ≡ p = cc in omega (arith, same)
-    by_chosen (Some chosen) g = by_ask chosen (ask_of verb keys.order words) refl g
+late_end verb words origin target keys p e =
+    grind (arith, nat_tests, with_ask, ask, ask_late, with_chosen)
 
 -- the part of a list behind its first few, and more
 pub drop-take-append : (n m : ℕ) (words more : List (List ℕ)) → n ≤ length words

@@ -23,8 +23,8 @@ use Rattle.command_words.specs.declared.commands.TargetWord.{TargetWord}
 use Rattle.command_words.specs.declared.commands.TargetWord.TheVariants.{Nodes, Chimera}
 use Rattle.command_words.specs.declared.commands.Chaining.{Chaining}
 use Rattle.command_words.specs.declared.commands.Chaining.TheVariants.{Clique, Map}
-use Rattle.command_words.specs.declared.commands.Ties.{Ties}
-use Rattle.command_words.specs.declared.commands.Ties.TheVariants.{Choi, Cut}
+use Rattle.command_words.specs.declared.commands.ChainStrength.{ChainStrength}
+use Rattle.command_words.specs.declared.commands.ChainStrength.TheVariants.{Choi, Cut}
 use Rattle.command_words.specs.declared.commands.Bound.{Bound}
 use Rattle.command_words.specs.declared.commands.Slack.{Slack}
 use Rattle.command_words.specs.declared.commands.Slack.TheVariants.{Bits, Pairs}
@@ -171,7 +171,7 @@ abbrev pub dead_key : List ℕ → List ℕ
 dead_key name = codes "dead=" ++ name
 
 -- the key that chooses how chains are tied
-abbrev pub chain_key : Ties → List ℕ
+abbrev pub chain_key : ChainStrength → List ℕ
 chain_key Choi = codes "chain=choi"
 chain_key Cut = codes "chain=cut"
 
@@ -274,7 +274,7 @@ EachOrderIsAskedFor = (format : Format) (model : NodeModel) (file name : List �
 
 -- a graph, where the list of its dead qubits is named, and how the nodes get chains of its qubits
 -- and these are tied
-abbrev pub board_with : graphs.Chimera → Option WordAt → Chaining → Ties → Target
+abbrev pub board_with : graphs.Chimera → Option WordAt → Chaining → ChainStrength → Target
 board_with graph dead chains ties =
     targets.Chimera (record { graph = graph; dead = dead; chains = chains; ties = ties })
 
@@ -312,7 +312,7 @@ pub record EachGraphIsAskedFor : Type 0 where
       ≡ Ok (on_fourth_word format (board_of graph (Map (Value 7))) no_keys asks.Model)
   -- with the chains of a clique, any list of dead parts and any ties
   pub tied_clique : (format : Format) (file first second third : List ℕ) (dead : Option (List ℕ))
-      (ties : Ties) (graph : graphs.Chimera)
+      (ties : ChainStrength) (graph : graphs.Chimera)
       → digits_number first ≡ Some graph.rows → digits_number second ≡ Some graph.cols
       → digits_number third ≡ Some graph.shore
       → command_of (compile_words format Chimera file
@@ -322,7 +322,7 @@ pub record EachGraphIsAskedFor : Type 0 where
       asks.Model)
   -- with the chains of a map, any list of dead parts and any ties
   pub tied_map : (format : Format) (file first second third name : List ℕ) (dead : Option (List ℕ))
-      (ties : Ties) (graph : graphs.Chimera)
+      (ties : ChainStrength) (graph : graphs.Chimera)
       → digits_number first ≡ Some graph.rows → digits_number second ≡ Some graph.cols
       → digits_number third ≡ Some graph.shore
       → command_of (compile_words format Chimera file
@@ -374,7 +374,7 @@ pub record EachKeyStands : Type 0 where
   pub dead : (verb : Verb) (keys : Keys) (at : ℕ) (name : List ℕ) → keys.dead ≡ None
       → with_word verb Chimera keys at (dead_key name)
       ≡ Some (record keys { dead = Some (Value at) })
-  pub ties : (verb : Verb) (keys : Keys) (at : ℕ) (ties : Ties) → keys.ties ≡ None
+  pub ties : (verb : Verb) (keys : Keys) (at : ℕ) (ties : ChainStrength) → keys.ties ≡ None
       → with_word verb Chimera keys at (chain_key ties) ≡ Some (record keys { ties = Some ties })
 
 -- No word of this name can stand. Whatever its value is, the word is refused at its position.
@@ -410,7 +410,7 @@ pub record NoKeyStandsTwice : Type 0 where
       → keys.chains ≡ Some first → CannotStand verb target keys at (codes "map")
   pub dead : (verb : Verb) (target : TargetWord) (keys : Keys) (at : ℕ) (first : WordAt)
       → keys.dead ≡ Some first → CannotStand verb target keys at (codes "dead")
-  pub ties : (verb : Verb) (target : TargetWord) (keys : Keys) (at : ℕ) (first : Ties)
+  pub ties : (verb : Verb) (target : TargetWord) (keys : Keys) (at : ℕ) (first : ChainStrength)
       → keys.ties ≡ Some first → CannotStand verb target keys at (codes "chain")
 
 -- No key of a graph stands with a model on nodes. So a key of a graph with a model on nodes is

@@ -22,8 +22,8 @@ use Rattle.command_words.specs.declared.commands.WordAt.TheVariants.{Value}
 use Rattle.chimera_graph.specs.declared.chimera.Chimera as graphs
 use Rattle.command_words.specs.declared.commands.Chaining.{Chaining}
 use Rattle.command_words.specs.declared.commands.Chaining.TheVariants.{Clique, Map}
-use Rattle.command_words.specs.declared.commands.Ties.{Ties}
-use Rattle.command_words.specs.declared.commands.Ties.TheVariants.{Choi, Cut}
+use Rattle.command_words.specs.declared.commands.ChainStrength.{ChainStrength}
+use Rattle.command_words.specs.declared.commands.ChainStrength.TheVariants.{Choi, Cut}
 use Rattle.command_words.specs.declared.commands.TargetWord.{TargetWord}
 use Rattle.command_words.specs.declared.commands.TargetWord.TheVariants.{Nodes, Chimera}
 use Rattle.command_words.specs.declared.commands.Target.{Target}
@@ -158,7 +158,7 @@ abbrev pub embed_of : List ℕ → Option Chaining
 embed_of value = if bytes_eq value (codes "clique") then Some Clique else None
 
 -- the words of the ties of chains
-abbrev pub ties_of : List ℕ → Option Ties
+abbrev pub ties_of : List ℕ → Option ChainStrength
 ties_of = listed None ((codes "choi", Some Choi) ∷ (codes "cut", Some Cut) ∷ [])
 
 -- The keys of the chains of a graph, `embed`, `map`, `dead` and `chain`: the keys with one more,

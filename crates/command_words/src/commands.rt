@@ -35,7 +35,7 @@ pub enum Chaining {
 /// How strongly the qubits of a chain are tied: by the simple bound of Choi, which is one for the
 /// whole chain, or by what a broken tie cuts off.
 #[derive(Clone, Copy, Debug, PartialEq, Eq)]
-pub enum Ties {
+pub enum ChainStrength {
     Choi,
     Cut,
 }
@@ -47,7 +47,7 @@ pub struct Board {
     pub graph: Chimera,
     pub dead: Option<WordAt>,
     pub chains: Chaining,
-    pub ties: Ties,
+    pub ties: ChainStrength,
 }
 
 /// What a model stands on: the nodes of a form, or the qubits of a graph.

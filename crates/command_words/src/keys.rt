@@ -2,7 +2,9 @@
 ghost use Rattle.std.specs.Prelude.{◌≡◌, ◌+◌, ◌<◌, ◌^◌, length, map, string_bytes, Some, None, MatchOption};
 ghost use Rattle.command_words.specs.Keys.{bound_of, cut, embed_of, graph_of, high_of, keys_from, no_keys, normal_of, once, side_of, slack_of, target_by, ties_of, unit_of, with_chain_pair, with_graph_pair, with_order, with_pair, with_word};
 
-use crate::commands::{Board, Bound, Chaining, Slack, Target, TargetWord, Ties, Verb, WordAt};
+use crate::commands::{
+    Board, Bound, ChainStrength, Chaining, Slack, Target, TargetWord, Verb, WordAt,
+};
 use base::UnitChoice;
 use chimera_graph::Chimera;
 use problem_form::{High, Normal};
@@ -25,7 +27,7 @@ pub struct Keys {
     pub shore: Option<u32>,
     pub dead: Option<WordAt>,
     pub chains: Option<Chaining>,
-    pub ties: Option<Ties>,
+    pub ties: Option<ChainStrength>,
 }
 
 /// No key is given.
@@ -72,7 +74,7 @@ pub(crate) fn target_by(target: TargetWord, keys: Keys) -> Option<Target>
                 graph,
                 dead: keys.dead,
                 chains,
-                ties: keys.ties.unwrap_or(Ties::Choi),
+                ties: keys.ties.unwrap_or(ChainStrength::Choi),
             }))
         }
     }
@@ -182,12 +184,12 @@ fn embed_of(value: &str) -> Option<Chaining>
     }
 }
 
-fn ties_of(value: &str) -> Option<Ties>
+fn ties_of(value: &str) -> Option<ChainStrength>
     ensures { result ≡ ties_of value.now }
 {
     match value {
-        "choi" => Some(Ties::Choi),
-        "cut" => Some(Ties::Cut),
+        "choi" => Some(ChainStrength::Choi),
+        "cut" => Some(ChainStrength::Cut),
         _ => None,
     }
 }

@@ -10,8 +10,8 @@ mod notices;
 mod words;
 
 pub use commands::{
-    Ask, Board, Bound, Chaining, Command, Format, NodeModel, Notice, Origin, Request, Slack,
-    Target, Ties, WordAt, most_of,
+    Ask, Board, Bound, ChainStrength, Chaining, Command, Format, NodeModel, Notice, Origin,
+    Request, Slack, Target, WordAt, most_of,
 };
 pub use laws::{laws_of_words, positions_tell_the_first};
 pub use names::{Which, name_of, text_at};

@@ -1,11 +1,5 @@
 -- What a sink has taken of a piece, and of several pieces one after the other.
-use Rattle.std.proofs.Common.{◌≡◌, ℕ, ◌+◌, ◌-◌, ◌<◌, ◌≤◌, List, [], ◌∷◌, ◌++◌, sym, ap, ◌∙◌, subst, append_assoc, length, take, drop, get_or, Bor, arith}
-use Rattle.std.proofs.KnownBytes.{Appends-nil, Appends-trans}
-use Rattle.std.proofs.lemmas.List.{take-append-drop, take_rest, take_more, append-nil, length-append, length-take}
-use Rattle.std.proofs.lemmas.List.Concat.{flat_map-append}
-use Rattle.std.specs.Io.KnownBytes.{Appends}
-use Rattle.edge_io.specs.Counts.{RoseBy}
-use Rattle.edge_io.specs.Sinks.{Taken, Takes, TakesFront, Passes, joined_bytes}
+use Rattle.edge_io.proofs.Common.{nat_tests, ◌≡◌, ℕ, ◌+◌, ◌-◌, ◌<◌, ◌≤◌, List, [], ◌∷◌, ◌++◌, sym, ap, ◌∙◌, subst, append_assoc, length, take, drop, get_or, Bor, arith, Appends-nil, Appends-trans, take-append-drop, take_rest, take_more, append-nil, length-append, length-take, flat_map-append, Appends, RoseBy, Taken, Takes, TakesFront, Passes, joined_bytes}
 
 -- ---- what is told of one piece and the next
 
@@ -95,5 +89,4 @@ TakesFront-more a b xs ys h = (h.0, h.1 ++ ys, ap (λ l. l ++ ys) h.2 ∙ append
 -- the rest of a piece was cut at a place
 pub parts_again : (piece front rest part after : List ℕ) (n : ℕ) → piece ≡ front ++ rest → part ≡ take n rest → after ≡ drop n rest → piece ≡ (front ++ part) ++ after
 parts_again piece front rest part after n e p a =
-    e ∙ ap (λ l. front ++ l) (sym (take-append-drop n rest)) ∙ sym (append_assoc front (take n rest) (drop n rest))
-    ∙ ap (λ l. (front ++ l) ++ drop n rest) (sym p) ∙ ap (λ l. (front ++ part) ++ l) (sym a)
+    grind (arith, nat_tests, take-append-drop, append_assoc)

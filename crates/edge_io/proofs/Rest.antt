@@ -1,12 +1,5 @@
 -- What is left of a file in memory after each call.
-use Rattle.std.proofs.Common.{◌≡◌, ℕ, zero, suc, ◌+◌, ◌-◌, ◌<◌, ◌≤◌, min, List, ◌++◌, length, take, drop, Some, None, refl, sym, ap, ◌∙◌, subst, arith}
-use Rattle.std.proofs.Math.Seq.{take-append_seam}
-use Rattle.std.proofs.lemmas.Grind.{common_steps}
-use Rattle.std.proofs.lemmas.List.{take-append-drop, take_rest, length-take, length-drop, length-append, nil_from_length}
-use Rattle.std.specs.Io.KnownBytes.{Consumes, IsAtEnd}
-use Rattle.std.specs.declared.option.Option.{Option}
-use Rattle.edge_io.specs.Held.{NamedFiles, find_file, after_first}
-use Rattle.edge_io.specs.InMemory.{bytes_at, rest_from}
+use Rattle.edge_io.proofs.Common.{nat_tests, ◌≡◌, ℕ, zero, suc, ◌+◌, ◌-◌, ◌<◌, ◌≤◌, min, List, ◌++◌, length, take, drop, Some, None, refl, ap, ◌∙◌, subst, arith, take-append_seam, common_steps, take-append-drop, take_rest, length-take, length-drop, length-append, nil_from_length, Consumes, IsAtEnd, Option, NamedFiles, find_file, after_first, bytes_at, rest_from}
 
 -- once a begin was called, all is told
 after_first-some : (begun : ℕ) (told : List ℕ) → 1 ≤ begun → after_first begun told ≡ told
@@ -35,21 +28,13 @@ reads_copied all into copied at n fits same =
     subst (λ (k : ℕ). take k buffer ≡ copied) long (take-append_seam copied (drop n into)) in
     let later : drop (at + n) all ≡ drop n rest = grind (arith, common_steps) in
     let split : take n buffer ++ drop (at + n) all ≡ rest =
-    ap (λ l. l ++ drop (at + n) all) (front ∙ same) ∙ ap (λ l. take n rest ++ l) later ∙ take-append-drop n rest in (
-      sym split,
-      λ none room. nil_from_length _
-          (omega (arith, length-drop (at + n) all, length-drop at all, length-append copied (drop n into), length-drop n into)),
-    )
+    ap (λ l. l ++ drop (at + n) all) (front ∙ same) ∙ ap (λ l. take n rest ++ l) later ∙ take-append-drop n rest in
+    grind (arith, nat_tests, nil_from_length, length-drop, length-append)
 
 -- the same of the begun file, whose rest is a slice of its bytes
 pub reads_on : (files : NamedFiles) (index : Option ℕ) (i begun : ℕ) (bytes into copied : List ℕ) (at n : ℕ)
     → index ≡ Some i → (begun ≡ 0 → index ≡ None) → bytes ≡ bytes_at files i
     → n ≡ min (length into) (length (take (length bytes - at) (drop at bytes))) → copied ≡ take n (take (length bytes - at) (drop at bytes))
     → Reads (after_first begun (rest_from files index at)) (after_first begun (rest_from files index (at + n))) (copied ++ drop n into) n
-reads_on files index i zero bytes into copied at n is unbegun given fits same =
-    let no : Some i ≡ None = sym is ∙ unbegun refl in cc
-reads_on files index i (suc begun) bytes into copied at n is unbegun given fits same =
-    let slice : take (length bytes - at) (drop at bytes) ≡ drop at (bytes_at files i) =
-    take_rest bytes at ∙ ap (drop at) given in
-    rw is (reads_copied (bytes_at files i) into copied at n
-    (fits ∙ ap (λ l. min (length into) (length l)) slice) (same ∙ ap (take n) slice))
+reads_on files index i begun bytes into copied more n is unbegun given fits same =
+    grind (arith, nat_tests, take_rest, reads_copied)

@@ -1,4 +1,6 @@
 //! Lists of files and of calls, which clauses see as plain lists.
+//!
+//! They are for files and sinks in memory, which no run of the program has.
 ghost use Rattle.std.specs.Prelude.{◌≡◌, ◌==◌, ◌<◌, List, ℕ, map, length, string_bytes, position, bytes_eq};
 ghost use Rattle.std.specs.List.{list_any};
 ghost use Rattle.edge_io.specs.Held.{NamedFiles};

@@ -1,4 +1,6 @@
 //! Files in memory, whose listed calls fail.
+//!
+//! They are for tests and for other programs: no run of the program comes here.
 ghost use Rattle.std.specs.Prelude.{◌≡◌, ◌↔◌, Some, min, length, IsTrue, IsErr, IfOk, OnErr, string_bytes};
 ghost use Rattle.std.specs.Io.{ReadsAtMost};
 ghost use Rattle.std.specs.Io.KnownBytes.{ReadConsumes};

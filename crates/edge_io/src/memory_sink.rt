@@ -1,4 +1,6 @@
 //! A sink in memory, of limited room, whose listed calls fail.
+//!
+//! It is for tests and for other programs: no run of the program comes here.
 ghost use Rattle.std.specs.Prelude.{◌≡◌, ◌↔◌, ◌^◌, ◌<◌, ◌≤◌, Some, length, IsTrue, IsErr, IfOk, OnErr};
 ghost use Rattle.std.specs.Io.KnownBytes.{WriteAppends};
 ghost use Rattle.edge_io.specs.Counts.{count_after, RoseBy, CountsErr, HasCause};

@@ -3,17 +3,7 @@
 -- A state reaches each assignment of whole cost, at the bound that no state with a cost lies below,
 -- and a state without one lies above all of these. So least assignments are reached by least
 -- states, and only by these. That there is a least state at all is a recursion on the width.
-use Rattle.std.proofs.Common.{◌≡◌, ℕ, zero, suc, ℤ, pos, ◌+ℤ◌, ◌*ℤ◌, ◌≤ℤ◌, ◌<ℤ◌, Bool, true, false, List, [], ◌∷◌, length, refl, arith, ap, subst}
-use Rattle.std.proofs.lemmas.Int.{ints, by_lt_z}
-use Rattle.base.proofs.Products.{times-le, times-lt}
-use Rattle.base.specs.declared.costs.Figures.{Figures}
-use Rattle.base.specs.Costs.{Form, Source, energy}
-use Rattle.form_steps.specs.Relations.{Decoding, Relaxes, ReachesIn}
-use Rattle.form_steps.proofs.Rewritten.{whole_or_infinite}
-use Rattle.form_steps.specs.Least.{HasCost, IsFeasible, IsLeast, IsLeastAt, IsLeastState}
-use Rattle.bits_model.specs.Output.{Written, IsWellFormed, form_of, decoding_of}
-use Rattle.faithful.specs.AtLeast.{StandsAtLeast}
-use Rattle.faithful.specs.Faithful.{Demand, Faithful, IsStated}
+use Rattle.faithful.proofs.Common.{nat_tests, ◌≡◌, ℕ, zero, suc, ℤ, pos, ◌+ℤ◌, ◌*ℤ◌, ◌≤ℤ◌, ◌<ℤ◌, Bool, true, false, List, [], ◌∷◌, length, refl, arith, ap, subst, ints, by_lt_z, times-le, times-lt, Figures, Form, Source, energy, Decoding, Relaxes, ReachesIn, whole_or_infinite, HasCost, IsFeasible, IsLeast, IsLeastAt, IsLeastState, Written, IsWellFormed, form_of, decoding_of, StandsAtLeast, Demand, Faithful, IsStated}
 
 -- ---- there is a least state
 
@@ -63,9 +53,7 @@ least_of (suc n) g =
     ))
 
 pub least_state : (g : Form) → (y : List Bool) × IsLeastState g y
-least_state g =
-    let s = least_of g.bits (energy g) in
-    (s.0, record { width = s.1.width; least = s.1.least })
+least_state g = grind (arith, nat_tests, least_of g.bits (energy g))
 
 -- ---- what least states say
 
@@ -96,8 +84,7 @@ module _ {f g : Form} {d : Decoding} {u : ℤ} {n : Figures} where
   least_has_cost p x v h y l =
       let s = p.reached x h.width v h.whole in
       whole_or_infinite (f.cost (d.decoded y))
-      (λ c e. (c, record { width = p.width y l.width; whole = e }))
-      (λ e.
+      (λ c e. (c, record { width = p.width y l.width; whole = e })) (λ e.
       let no_less = scaled-le u (energy g y) (energy g s.0) p.unit (l.least s.0 s.1.width) in
       let over = p.above y l.width e in
       absurd (omega (arith, ints, over, no_less, s.1.energy, p.below x h.width v h.whole)))
@@ -111,13 +98,11 @@ module _ {f g : Form} {d : Decoding} {u : ℤ} {n : Figures} where
           has = c.1;
           least = λ z w k.
               let s = p.reached z k.width w k.whole in
-              by_lt_z w c.0
-              (λ lt.
+              by_lt_z w c.0 (λ lt.
               let less = times-lt n.scale w c.0 p.positive lt in
               let bound = p.bound y l.width c.0 c.1.whole in
               let no_less = scaled-le u (energy g y) (energy g s.0) p.unit (l.least s.0 s.1.width) in
-              absurd (omega (arith, ints, less, bound, no_less, s.1.energy)))
-              (λ le. le);
+              absurd (omega (arith, ints, less, bound, no_less, s.1.energy))) (λ le. le);
         },
       )
 
@@ -140,21 +125,11 @@ module _ {f g : Form} {d : Decoding} {u : ℤ} {n : Figures} where
 
   above_of : Relaxes f g d u n → ¬ (IsFeasible f)
       → (y : List Bool) × IsLeastState g y × (n.threshold <ℤ (u *ℤ energy g y))
-  above_of p never =
-      let s = least_state g in (
-        s.0,
-        s.1,
-        whole_or_infinite (f.cost (d.decoded s.0))
-            (λ c e.
-            absurd (never (d.decoded s.0, c, record { width = p.width s.0 s.1.width; whole = e })))
-            (λ e. p.above s.0 s.1.width e),
-      )
+  above_of p never = grind (arith, nat_tests, ints, least_state g)
 
   least_found : Relaxes f g d u n → (x : List Bool) → IsLeast f x
       → (y : List Bool) × IsLeastState g y × (d.decoded y ≡ x)
-  least_found p x l =
-      let s = p.reached x l.1.has.width l.0 l.1.has.whole in
-      (s.0, reaching_is_least p x s.0 l.0 l.1 s.1, s.1.decodes)
+  least_found p x l = grind (arith, nat_tests, reaching_is_least)
 
 -- ---- what relaxes stands
 
@@ -183,8 +158,7 @@ standing_is_faithful source demand m formed stated stands = record {
 }
 
 pub relaxed_is_faithful : (source : Source) (demand : Demand) (m : Written) → IsWellFormed m
-    → IsStated source demand m
-    → Relaxes source.form (form_of m) (decoding_of m) m.unit m.figures
+    → IsStated source demand m → Relaxes source.form (form_of m) (decoding_of m) m.unit m.figures
     → Faithful source demand m
 relaxed_is_faithful source demand m formed stated p =
     standing_is_faithful source demand m formed stated

@@ -3,15 +3,7 @@
 -- What reaches a least state is a least state, since the least energies of both forms stand for
 -- each other. So each least assignment is still decoded from a least state, and each least state
 -- still decodes to one.
-use Rattle.std.proofs.Common.{◌≡◌, ℤ, pos, ◌+ℤ◌, ◌*ℤ◌, ◌<ℤ◌, Bool, List, sym, ap, ◌∙◌, arith, subst}
-use Rattle.std.proofs.lemmas.Int.{ints, by_lt_z}
-use Rattle.base.proofs.Products.{times-le, times-lt, scaled_twice}
-use Rattle.base.specs.declared.costs.Figures.{Figures}
-use Rattle.base.specs.Costs.{Form, energy}
-use Rattle.base.specs.Figures.{figures_after, figures_moved}
-use Rattle.form_steps.specs.Relations.{Decoding, Reaches, Reduces, decoding_after}
-use Rattle.form_steps.specs.Least.{IsFeasible, IsLeast, IsLeastAt, IsLeastState, KeepsLeast}
-use Rattle.faithful.specs.AtLeast.{StandsAtLeast}
+use Rattle.faithful.proofs.Common.{◌≡◌, ℤ, pos, ◌+ℤ◌, ◌*ℤ◌, ◌<ℤ◌, Bool, List, sym, ap, ◌∙◌, arith, subst, ints, by_lt_z, times-le, times-lt, scaled_twice, Figures, Form, energy, figures_after, figures_moved, Decoding, Reaches, Reduces, decoding_after, IsFeasible, IsLeast, IsLeastAt, IsLeastState, KeepsLeast, StandsAtLeast}
 use Rattle.faithful.proofs.LeastStates.{least_state}
 
 -- ---- a step that keeps least states alone
@@ -42,8 +34,7 @@ module _ {f g h : Form} {d e : Decoding} {n : Figures} {a b : ℤ}
       let both = second ∙ ap (λ t. a *ℤ t +ℤ b) first ∙ scaled_twice a n.scale v n.offset b in
       omega (arith, ints, both)
 
-  kept_above : ¬ (IsFeasible f)
-      → (z : List Bool) × IsLeastState h z
+  kept_above : ¬ (IsFeasible f) → (z : List Bool) × IsLeastState h z
       × ((a *ℤ n.threshold +ℤ b) <ℤ (pos 1 *ℤ energy h z))
   kept_above never =
       let y = p.infeasible.0 never in
@@ -63,9 +54,7 @@ module _ {f g h : Form} {d e : Decoding} {n : Figures} {a b : ℤ}
       p.infeasible.1 (
         y,
         ly,
-        by_lt_z n.threshold (energy g y)
-            (λ less. omega (arith, ints, less))
-            (λ no.
+        by_lt_z n.threshold (energy g y) (λ less. omega (arith, ints, less)) (λ no.
             let positive = k.positive in
             let scaled = times-le a (energy g y) n.threshold (omega (arith, ints, positive)) no in
             absurd (omega (arith, ints, scaled, same, lt))),
@@ -93,14 +82,12 @@ module _ {g h : Form} {u b : ℤ} (q : Reduces g h u b) where
   least_divided y l = record {
     width = l.width ∙ sym q.width;
     least = λ z w.
-        by_lt_z (energy h z) (energy h y)
-        (λ lt.
+        by_lt_z (energy h z) (energy h y) (λ lt.
         let scaled = times-lt u (energy h z) (energy h y) q.positive lt in
         let this = q.energy y l.width in
         let that = q.energy z (w ∙ q.width) in
         let no_less = l.least z (w ∙ q.width) in
-        absurd (omega (arith, ints, scaled, this, that, no_less)))
-        (λ le. le);
+        absurd (omega (arith, ints, scaled, this, that, no_less))) (λ le. le);
   }
 
   least_multiplied : (y : List Bool) → IsLeastState h y → IsLeastState g y

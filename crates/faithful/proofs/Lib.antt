@@ -1,3 +1,4 @@
+pub mod Common
 pub mod LeastStates
 pub mod LeastSteps
 pub mod LongerSources

@@ -1,12 +1,5 @@
 -- Least assignments of a source that is rewritten with more variables.
-use Rattle.std.proofs.Common.{◌≡◌, ℤ, Bool, List, take, ap, ◌∙◌, arith, subst}
-use Rattle.std.proofs.lemmas.Int.{ints}
-use Rattle.base.specs.declared.costs.Figures.{Figures}
-use Rattle.base.specs.Costs.{Form}
-use Rattle.form_steps.specs.Relations.{Decoding, Rewrites, first_decoded}
-use Rattle.form_steps.proofs.Rewritten.{first_is_of}
-use Rattle.form_steps.specs.Least.{IsFeasible, IsLeast, IsLeastAt}
-use Rattle.faithful.specs.AtLeast.{StandsAtLeast}
+use Rattle.faithful.proofs.Common.{nat_tests, ◌≡◌, ℤ, Bool, List, take, ap, ◌∙◌, arith, subst, ints, Figures, Form, Decoding, Rewrites, first_decoded, first_is_of, IsFeasible, IsLeast, IsLeastAt, StandsAtLeast}
 
 module _ {f f' : Form} (r : Rewrites f f') where
   -- a least assignment is the front of a least one
@@ -47,9 +40,7 @@ module _ {f f' : Form} (r : Rewrites f f') where
       let s = r.reached x h.width v h.whole in (s.0, v, record { width = s.1; whole = s.3 })
 
   feasible_front : IsFeasible f' → IsFeasible f
-  feasible_front (x, v, h) =
-      let t = r.bound x h.width v h.whole in
-      (take f.bits x, t.0, record { width = first_is_of r x h.width; whole = t.1 })
+  feasible_front (x, v, h) = grind (arith, nat_tests, first_is_of r x h.width)
 
 pub rewritten_stands : (f f' g : Form) (d : Decoding) (u : ℤ) (n : Figures) → Rewrites f f'
     → StandsAtLeast f' g d u n → StandsAtLeast f g (first_decoded f.bits d) u n

@@ -4,28 +4,13 @@
 -- is feasible, and so least states decode to least assignments. Where it is infinite the source is
 -- not feasible, since a least state would decode to a least assignment; so some least state lies
 -- above the threshold, and all least states have one energy.
-use Rattle.std.proofs.Common.{◌≡◌, ℤ, ◌*ℤ◌, ◌≤ℤ◌, ◌<ℤ◌, Bool, List, length, take, refl, arith, ap, ◌∙◌}
-use Rattle.std.proofs.lemmas.Int.{ints}
-use Rattle.std.proofs.lemmas.List.{length-take-le, length-map}
-use Rattle.base.specs.declared.costs.Cost.{Cost}
+use Rattle.faithful.proofs.Common.{nat_tests, ◌≡◌, ℤ, ◌*ℤ◌, ◌≤ℤ◌, ◌<ℤ◌, Bool, List, length, refl, arith, ap, ◌∙◌, ints, length-take-le, length-map, Cost, Kind, Form, Source, energy, IsFeasible, IsLeastState, Written, FitsKind, form_of, decoding_of, read_off, Demand, Faithful, whole_energy, TellsOptimum, LeastStatesTell}
 use Rattle.base.specs.declared.costs.Cost.TheVariants.{Whole, Infinite}
-use Rattle.bits_model.specs.declared.output.Kind.{Kind}
-use Rattle.bits_model.specs.declared.output.Kind.TheVariants.{Qubo, Ising, Chimera}
-use Rattle.base.specs.Costs.{Form, Source, energy}
-use Rattle.form_steps.specs.Least.{IsFeasible, IsLeastState}
-use Rattle.bits_model.specs.Output.{Written, FitsKind, form_of, decoding_of, read_off, majority}
-use Rattle.faithful.specs.Faithful.{Demand, Faithful}
-use Rattle.faithful.specs.Told.{whole_energy, TellsOptimum}
-use Rattle.faithful.specs.Stated.{LeastStatesTell}
 
 -- a state decodes to as many bits as the model has variables
 pub length-read_off : (m : Written) (y : List Bool) → (k : Kind) → FitsKind k m → length y ≡ m.nodes
     → length (read_off k m.variables m.chains y) ≡ m.variables
-length-read_off m y Qubo f w = length-take-le m.variables y (omega (arith, f.enough))
-length-read_off m y Ising f w = length-take-le m.variables y (omega (arith, f.enough))
-length-read_off m y (Chimera r c s) f w =
-    length-map (take m.variables m.chains) (majority y)
-    ∙ length-take-le m.variables m.chains f.enough
+length-read_off m y k f w = grind (arith, nat_tests, length-take-le, length-map)
 
 -- two least states have one energy
 same_energy : (g : Form) (y y' : List Bool) → IsLeastState g y → IsLeastState g y'

@@ -1,11 +1,6 @@
 -- What relaxes a form relaxes every form with the same costs, by any decoding that agrees.
-use Rattle.std.proofs.Common.{◌≡◌, ℤ, Bool, List, ap, sym, ◌∙◌, length}
-use Rattle.base.specs.declared.costs.Cost.{Cost}
+use Rattle.form_steps.proofs.Common.{◌≡◌, ℤ, Bool, List, ap, sym, ◌∙◌, length, Cost, Figures, Form, IsOf, Decoding, Relaxes, HasSameCosts, DecodesAlike}
 use Rattle.base.specs.declared.costs.Cost.TheVariants.{Whole, Infinite}
-use Rattle.base.specs.declared.costs.Figures.{Figures}
-use Rattle.base.specs.Costs.{Form, IsOf}
-use Rattle.form_steps.specs.Relations.{Decoding, Relaxes}
-use Rattle.form_steps.specs.Stated.{HasSameCosts, DecodesAlike}
 
 -- the cost of what the one decodes to, as that of what the other decodes to
 cost_alike : (f f' g : Form) (d d' : Decoding) → HasSameCosts f f' → DecodesAlike g d d'

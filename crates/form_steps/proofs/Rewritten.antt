@@ -2,16 +2,8 @@
 --
 -- What is above the threshold in the longer source lies above every whole cost of the shorter one,
 -- since each of these is reached at most at the threshold.
-use Rattle.std.proofs.Common.{◌≡◌, ℕ, ◌-◌, ℤ, ◌+ℤ◌, ◌*ℤ◌, ◌≤ℤ◌, ◌<ℤ◌, Bool, false, List, ◌++◌, length, take, replicate, refl, ap, ◌∙◌, arith, subst}
-use Rattle.std.proofs.lemmas.Int.{ints}
-use Rattle.std.proofs.Math.Seq.{take-append_seam}
-use Rattle.std.proofs.lemmas.List.{length-append, length-replicate, length-take-le}
-use Rattle.base.proofs.Products.{times-le}
-use Rattle.base.specs.declared.costs.Cost.{Cost}
+use Rattle.form_steps.proofs.Common.{nat_tests, ◌≡◌, ℕ, ◌-◌, ℤ, ◌+ℤ◌, ◌*ℤ◌, ◌≤ℤ◌, ◌<ℤ◌, Bool, false, List, ◌++◌, length, take, replicate, refl, ap, ◌∙◌, arith, subst, ints, take-append_seam, length-append, length-replicate, length-take-le, times-le, Cost, Figures, Form, IsOf, energy, Decoding, Relaxes, ReachesIn, Rewrites, first_decoded}
 use Rattle.base.specs.declared.costs.Cost.TheVariants.{Whole, Infinite}
-use Rattle.base.specs.declared.costs.Figures.{Figures}
-use Rattle.base.specs.Costs.{Form, IsOf, energy}
-use Rattle.form_steps.specs.Relations.{Decoding, Relaxes, ReachesIn, Rewrites, first_decoded}
 
 -- ---- costs
 
@@ -20,10 +12,6 @@ pub whole_or_infinite : {P : Type 0} (c : Cost) → ((v : ℤ) → c ≡ Whole v
     → P
 whole_or_infinite (Whole v) w i = w v refl
 whole_or_infinite Infinite w i = i refl
-
--- and not both
-not_both : (c : Cost) (v : ℤ) → c ≡ Whole v → c ≡ Infinite → ⊥
-not_both c v e f = cc
 
 one_whole : (c : Cost) (v w : ℤ) → c ≡ Whole v → c ≡ Whole w → v ≡ w
 one_whole c v w e f = cc
@@ -49,40 +37,23 @@ module _ {f f' g : Form} {d : Decoding} {u : ℤ} {n : Figures} (r : Rewrites f 
   bound y w v whole =
       let x = d.decoded y in
       let wide = p.width y w in
-      whole_or_infinite (f'.cost x)
-      (λ c e.
+      whole_or_infinite (f'.cost x) (λ c e.
       let first = r.bound x wide c e in
       let same = one_whole (f.cost (take f.bits x)) first.0 v first.1 whole in
       let le : v ≤ℤ c = subst (λ t. t ≤ℤ c) same first.2 in
       let positive = p.positive in
       let scaled = times-le n.scale v c (omega (arith, ints, positive)) le in
-      omega (arith, ints, scaled, p.bound y w c e))
-      (λ e.
+      omega (arith, ints, scaled, p.bound y w c e)) (λ e.
       let narrow = first_is_of r x wide in
       omega (arith, ints, p.above y w e, below (take f.bits x) narrow v whole))
 
   above : (y : List Bool) → IsOf g y → f.cost (take f.bits (d.decoded y)) ≡ Infinite
       → n.threshold <ℤ (u *ℤ energy g y)
-  above y w infinite =
-      let x = d.decoded y in
-      whole_or_infinite (f'.cost x)
-      (λ c e.
-      let first = r.bound x (p.width y w) c e in
-      absurd (not_both (f.cost (take f.bits x)) first.0 first.1 infinite))
-      (λ e. p.above y w e)
+  above y w infinite = grind (arith, nat_tests, ints)
 
   reached : (x : List Bool) → IsOf f x → (v : ℤ) → f.cost x ≡ Whole v
       → (y : List Bool) × ReachesIn u g (first_decoded f.bits d) x (n.scale *ℤ v +ℤ n.offset) y
-  reached x w v whole =
-      let s = r.reached x w v whole in
-      let y = p.reached s.0 s.1 v s.3 in (
-        y.0,
-        record {
-          width = y.1.width;
-          decodes = ap (take f.bits) y.1.decodes ∙ s.2;
-          energy = y.1.energy;
-        },
-      )
+  reached x w v whole = grind (arith, nat_tests, ints)
 
   -- an assignment with bits of 0 behind it
   onto : (x : List Bool) → IsOf f x → (y : List Bool) × IsOf g y × (take f.bits (d.decoded y) ≡ x)

@@ -1,4 +1,6 @@
 //! One step after another: a layer after a layer, and a layer after a guard.
+//!
+//! No run of the program comes here: it calls its steps in a row.
 ghost use Rattle.std.specs.Prelude.{◌≡◌, ℕ, ℤ, ◌+ℤ◌, ◌*ℤ◌, FitsSigned};
 ghost use Rattle.std.specs.Int.{w128};
 ghost use Rattle.base.specs.Figures.{figures_after};

@@ -1,8 +1,5 @@
 -- What is left of a list, and what a refusal leaves.
-use Rattle.std.proofs.Common.{◌≡◌, ℕ, suc, ◌+◌, ◌-◌, ◌<◌, List, ◌∷◌, sym, ◌∙◌, Some, take, drop, drop-cons, add-one, arith}
-use Rattle.std.specs.List.{slice_get, slice_range}
-use Rattle.std.proofs.lemmas.Option.{slice_get_within, get_or_from_slice_get}
-use Rattle.std.specs.Prelude.{OnErr, Result, Ok, Err}
+use Rattle.literal_lists.proofs.Common.{◌≡◌, ℕ, suc, ◌+◌, ◌-◌, ◌<◌, List, ◌∷◌, sym, ◌∙◌, Some, take, drop, drop-cons, add-one, arith, slice_get, slice_range, slice_get_within, get_or_from_slice_get, OnErr, Result, Ok, Err}
 
 -- what is left from a place on begins with what stands there
 pub drop-at : {A : Type 0} → (xs : List A) (i : ℕ) (x : A) → slice_get xs i ≡ Some x → drop i xs ≡ x ∷ drop (i + 1) xs

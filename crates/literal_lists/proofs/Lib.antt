@@ -1,3 +1,4 @@
+pub mod Common
 pub mod LentParts
 pub mod LiteralSets
 pub mod CodedParts

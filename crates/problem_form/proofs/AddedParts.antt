@@ -1,17 +1,7 @@
 -- Parts that are added to a problem one by one give the normal form of what they say.
 --
 -- Each part that is added to a normal form gives the normal form of the source with that part.
-use Rattle.std.proofs.Common.{◌≡◌, ℕ, arith, refl, sym, ap, ◌∙◌, List, [], ◌∷◌, ◌++◌, append-nil, append_assoc, fold, map, ◌+ℤ◌}
-use Rattle.std.proofs.lemmas.Int.{ints}
-use Rattle.std.proofs.lemmas.List.{flat_map_more, map-append}
-use Rattle.std.proofs.lemmas.List.Folds.{fold-map}
-use Rattle.base.proofs.Totals.{total_by-append}
-use Rattle.base.specs.Sums.{total_by}
-use Rattle.problem_form.specs.declared.terms.Product.{Product}
-use Rattle.problem_form.specs.declared.terms.Clause.{Clause}
-use Rattle.problem_form.specs.declared.terms.Constraint.{Constraint}
-use Rattle.problem_form.specs.Problems.{ProblemContent}
-use Rattle.problem_form.specs.NormalForm.{Part, Widened, AddedProduct, AddedClause, AddedConstraint, kept_product, product_constant, kept_clause, clause_constant, normal_constraint, normal_form, blank, with_variables, with_product, with_clause, with_constraint, with_part, as_written, PartsAddUp}
+use Rattle.problem_form.proofs.Common.{nat_tests, ◌≡◌, ℕ, arith, refl, sym, ap, ◌∙◌, List, [], ◌∷◌, ◌++◌, append-nil, append_assoc, fold, map, ◌+ℤ◌, ints, flat_map_more, map-append, fold-map, total_by-append, total_by, Product, Clause, Constraint, ProblemContent, Part, Widened, AddedProduct, AddedClause, AddedConstraint, kept_product, product_constant, kept_clause, clause_constant, normal_constraint, normal_form, blank, with_variables, with_product, with_clause, with_constraint, with_part, as_written, PartsAddUp}
 
 -- ---- one part
 
@@ -22,8 +12,7 @@ product_added p t =
     p.constant
     +ℤ total_by product_constant p.objective
     +ℤ total_by clause_constant p.clauses
-    +ℤ product_constant t
-    ≡ p.constant
+    +ℤ product_constant t ≡ p.constant
     +ℤ total_by product_constant (p.objective ++ t ∷ [])
     +ℤ total_by clause_constant p.clauses =
     omega (arith, ints, total_by-append product_constant p.objective (t ∷ [])) in
@@ -39,8 +28,7 @@ clause_added p c =
     p.constant
     +ℤ total_by product_constant p.objective
     +ℤ total_by clause_constant p.clauses
-    +ℤ clause_constant c
-    ≡ p.constant
+    +ℤ clause_constant c ≡ p.constant
     +ℤ total_by product_constant p.objective
     +ℤ total_by clause_constant (p.clauses ++ c ∷ []) =
     omega (arith, ints, total_by-append clause_constant p.clauses (c ∷ [])) in
@@ -58,10 +46,7 @@ constraint_added p k =
 
 part_added : (p : ProblemContent) (part : Part)
     → with_part (normal_form p) part ≡ normal_form (as_written p part)
-part_added p (Widened variables) = refl
-part_added p (AddedProduct t) = product_added p t
-part_added p (AddedClause c) = clause_added p c
-part_added p (AddedConstraint k) = constraint_added p k
+part_added p part = grind (arith, nat_tests, product_added, clause_added, constraint_added)
 
 -- ---- all parts
 
@@ -80,8 +65,7 @@ pub products_written : (p : ProblemContent) (ts : List Product)
     → fold as_written p (map AddedProduct ts) ≡ record p { objective = p.objective ++ ts }
 products_written p [] = λ i. record p { objective = sym (append-nil p.objective) i }
 products_written p (t ∷ ts) =
-    products_written (record p { objective = p.objective ++ t ∷ [] }) ts
-    ∙ (λ i. record p { objective = append_assoc p.objective (t ∷ []) ts i })
+    grind (arith, nat_tests, products_written (record p { objective = p.objective ++ t ∷ [] }) ts, append_assoc)
 
 -- products that are added one by one give the normal form of them all
 pub products_add_up : (variables : ℕ) (ts : List Product)
@@ -104,8 +88,7 @@ clauses_written : (p : ProblemContent) (cs : List Clause)
     → fold as_written p (map AddedClause cs) ≡ record p { clauses = p.clauses ++ cs }
 clauses_written p [] = λ i. record p { clauses = sym (append-nil p.clauses) i }
 clauses_written p (c ∷ cs) =
-    clauses_written (record p { clauses = p.clauses ++ c ∷ [] }) cs
-    ∙ (λ i. record p { clauses = append_assoc p.clauses (c ∷ []) cs i })
+    grind (arith, nat_tests, clauses_written (record p { clauses = p.clauses ++ c ∷ [] }) cs, append_assoc)
 
 -- clauses that are added one by one give the normal form of them all
 pub clauses_add_up : (variables : ℕ) (cs : List Clause)

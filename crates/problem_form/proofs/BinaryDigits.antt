@@ -1,10 +1,5 @@
 -- The binary digits of a number, and its leading zeros.
-use Rattle.std.proofs.Common.{◌≡◌, ℕ, zero, suc, ◌+◌, ◌-◌, ◌*◌, ◌<◌, ◌≤◌, ◌^◌, min, Bool, leb, cond, arith, ap, inl, inr}
-use Rattle.std.specs.Int.Count.{count_leading_zeros}
-use Rattle.std.proofs.lemmas.Bool.{cases_lt, le-leb, lt-leb}
-use Rattle.std.proofs.lemmas.Nat.{leading_length}
-use Rattle.std.proofs.Math.Nat.{pow-suc, pow-zero, pow-le-pow_right}
-use Rattle.problem_form.specs.Limits.{powers_within, binary_digits, DigitsAreLeast}
+use Rattle.problem_form.proofs.Common.{nat_tests, ◌≡◌, ℕ, zero, suc, ◌+◌, ◌-◌, ◌*◌, ◌<◌, ◌≤◌, ◌^◌, min, Bool, leb, cond, arith, ap, inl, inr, count_leading_zeros, cases_lt, le-leb, lt-leb, leading_length, pow-suc, pow-zero, pow-le-pow_right, powers_within, binary_digits, DigitsAreLeast}
 
 doubled : (k : ℕ) → 2 ^ suc k ≡ 2 * 2 ^ k
 doubled k = rw pow-suc (omega arith)
@@ -47,14 +42,11 @@ few_digits n zero h = omega arith
 few_digits n (suc m) h = omega (arith, doubled m, below_power m)
 
 pub digits_unique : (n m : ℕ) → n < 2 ^ m → 2 ^ m ≤ 2 * n + 1 → binary_digits n ≡ m
-digits_unique n m above below =
-    omega (arith, powers_are n m above below n, few_digits n m below)
+digits_unique n m above below = omega (arith, powers_are n m above below n, few_digits n m below)
 
 pub digits_are_least : DigitsAreLeast
 digits_are_least n =
-    let long = leading_length n n (below_power n) in
-    let digits = digits_unique n long.0 long.2 long.3 in
-    rw digits (long.2, long.3)
+    grind (arith, nat_tests, leading_length n n (below_power n), below_power n, digits_unique n)
 
 -- what the leading zeros of a number of so many bits leave
 pub digits-leading : (k n : ℕ) → n < 2 ^ k → k - count_leading_zeros k n ≡ binary_digits n

@@ -1,16 +1,6 @@
 -- Sums over products and clauses lie within the sizes of their numbers.
-use Rattle.std.proofs.Common.{◌≡◌, ℕ, ◌+◌, ◌≤◌, Bool, true, false, arith, ap, if◌then◌else◌, List, [], ◌∷◌, ℤ, pos, ◌+ℤ◌, unsigned_abs}
-use Rattle.std.specs.List.{sum_by, list_any}
-use Rattle.std.proofs.lemmas.List.Sums.{sum_by-le-sum_by}
-use Rattle.base.specs.Sums.{total_by, if_so}
-use Rattle.base.proofs.Totals.{size-total_by}
+use Rattle.problem_form.proofs.Common.{nat_tests, ◌≡◌, ℕ, ◌+◌, ◌≤◌, Bool, true, false, arith, ap, if◌then◌else◌, List, [], ◌∷◌, ℤ, pos, ◌+ℤ◌, unsigned_abs, sum_by, list_any, sum_by-le-sum_by, total_by, if_so, size-total_by, Product, Clause, Literal, all_hold, ProblemContent, fails, fails_hard, own_cost, problem_total, product_value, sum_of, is_violated, soft_cost, soft_weight, products_total, is_empty, product_constant}
 use Rattle.base.specs.declared.costs.Cost.TheVariants.{Whole}
-use Rattle.problem_form.specs.declared.terms.Product.{Product}
-use Rattle.problem_form.specs.declared.terms.Clause.{Clause}
-use Rattle.literal_lists.specs.declared.literal.Literal.{Literal}
-use Rattle.literal_lists.specs.Literals.{all_hold}
-use Rattle.problem_form.specs.Problems.{ProblemContent, fails, fails_hard, own_cost, problem_total, product_value, sum_of, is_violated, soft_cost, soft_weight, products_total}
-use Rattle.problem_form.specs.NormalForm.{is_empty, product_constant}
 
 if_so-size : (b : Bool) (c : ℤ) → unsigned_abs (if_so b c) ≤ unsigned_abs c
 if_so-size true c = omega arith
@@ -31,8 +21,7 @@ empty-size : (ls : List Literal) (c : ℤ)
 empty-size [] c = omega arith
 empty-size (l ∷ ls) c = omega arith
 
-pub constant-size : (t : Product)
-    → unsigned_abs (product_constant t) ≤ unsigned_abs t.coefficient
+pub constant-size : (t : Product) → unsigned_abs (product_constant t) ≤ unsigned_abs t.coefficient
 constant-size t = empty-size t.literals t.coefficient
 
 pub clause-size : (x : List Bool) (c : Clause) → unsigned_abs (soft_cost x c) ≤ soft_weight c
@@ -40,9 +29,7 @@ clause-size x c = if_so-size (is_violated x c) (pos (soft_weight c))
 
 pub sum_of-size : (x : List Bool) (products : List Product)
     → unsigned_abs (sum_of x products) ≤ products_total products
-sum_of-size x products =
-    total_within (product_value x) (λ (t : Product). unsigned_abs t.coefficient) products
-    (product-size x)
+sum_of-size x products = grind (arith, nat_tests, total_within, product-size)
 
 pub soft_costs-size : (x : List Bool) (clauses : List Clause)
     → unsigned_abs (total_by (soft_cost x) clauses) ≤ sum_by soft_weight clauses
@@ -59,6 +46,5 @@ own_cost-whole p x value hard constraints e = rw (hard, constraints) (ap Whole e
 -- the parts of the whole cost fit, one after the other
 pub cost_parts : (p : ProblemContent) (x : List Bool)
     → unsigned_abs p.constant + unsigned_abs (sum_of x p.objective)
-    + unsigned_abs (total_by (soft_cost x) p.clauses)
-    ≤ problem_total p
+    + unsigned_abs (total_by (soft_cost x) p.clauses) ≤ problem_total p
 cost_parts p x = omega (arith, sum_of-size x p.objective, soft_costs-size x p.clauses)

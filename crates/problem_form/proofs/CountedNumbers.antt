@@ -1,17 +1,6 @@
 -- The numbers that are counted against limits, and arithmetic that stops at the greatest of 128
 -- bits.
-use Rattle.std.proofs.Common.{◌≡◌, Bool, true, false, cond, leb, ℕ, zero, suc, ◌+◌, ◌-◌, ◌*◌, ◌<◌, ◌≤◌, ◌^◌, min, max, arith, refl, sym, ap, ◌∙◌, inl, inr, List, [], ◌∷◌, fold, ℤ, pos, negsuc, ◌-ℤ◌, unsigned_abs}
-use Rattle.std.specs.Int.{int_max}
-use Rattle.std.specs.List.{flat_map}
-use Rattle.std.proofs.lemmas.Int.{ints, int_max_is}
-use Rattle.std.proofs.lemmas.Bool.{cases_lt, le-leb, lt-leb}
-use Rattle.std.proofs.lemmas.List.Sums.{fold-append, sum_by-le-sum_by}
-use Rattle.std.proofs.Math.Nat.{pow-zero, pow-suc, pow-le-pow_right}
-use Rattle.base.specs.Sums.{positive_part}
-use Rattle.problem_form.specs.declared.terms.Product.{Product}
-use Rattle.problem_form.specs.declared.terms.Constraint.{Constraint}
-use Rattle.problem_form.specs.Problems.{products_total, constraint_total}
-use Rattle.problem_form.specs.Limits.{answered_number, positive_total, slack_range}
+use Rattle.problem_form.proofs.Common.{nat_tests, ◌≡◌, Bool, true, false, cond, leb, ℕ, zero, suc, ◌+◌, ◌-◌, ◌*◌, ◌<◌, ◌≤◌, ◌^◌, min, max, arith, refl, sym, ap, ◌∙◌, List, [], ◌∷◌, fold, ℤ, pos, negsuc, ◌-ℤ◌, unsigned_abs, int_max, flat_map, ints, int_max_is, cases_lt, le-leb, lt-leb, fold-append, sum_by-le-sum_by, pow-zero, pow-suc, pow-le-pow_right, positive_part, Product, Constraint, products_total, constraint_total, answered_number, positive_total, slack_range}
 
 pub fold_flat_map : {A B C : Type 0} (f : C → B → C) (g : A → List B) (start : C) (xs : List A)
     → fold f start (flat_map g xs) ≡ fold (λ most x. fold f most (g x)) start xs
@@ -26,31 +15,17 @@ answered_number-plus a b = omega arith
 
 right_over : (m a b : ℕ) → m < b → min (a * min b m) m ≡ min (a * b) m
 right_over m zero b over = omega arith
-right_over m (suc a) b over =
-    let full : min b m ≡ m = omega arith in
-    rw full (omega arith)
+right_over m (suc a) b over = grind (arith, nat_tests)
 
 right_capped : (m a b : ℕ) → min (a * min b m) m ≡ min (a * b) m
-right_capped m a b = elim (cases_lt m b) [
-  | inl over ↦ right_over m a b over
-  | inr small ↦ (λ i. min (a * kept small i) m)
-]
-  where
-    kept : b ≤ m → min b m ≡ b
-    kept h = omega arith
+right_capped m a b = grind (arith, nat_tests, cases_lt, right_over)
 
 pub answered_number-times : (a b : ℕ) → answered_number (a * answered_number b) ≡ answered_number (a * b)
 answered_number-times a b = right_capped (2 ^ 128 - 1) a b
 
 pub answered_number-product : (a b : ℕ) → answered_number (answered_number a * answered_number b) ≡ answered_number (a * b)
 answered_number-product a b =
-    answered_number-times (answered_number a) b
-    ∙ ap answered_number (turned (answered_number a) b)
-    ∙ answered_number-times b a
-    ∙ ap answered_number (turned b a)
-  where
-    turned : (m n : ℕ) → m * n ≡ n * m
-    turned m n = omega arith
+    grind (arith, nat_tests, answered_number-times (answered_number a) b, answered_number-times b a)
 
 pub answered_number-power : (e : ℕ) → 128 ≤ e → 2 ^ 128 - 1 ≡ answered_number (2 ^ e)
 answered_number-power e h =
@@ -69,10 +44,7 @@ positive_part-raised (pos n) = omega (arith, ints, int_max_is (pos n) (pos 1))
 positive_part-raised (negsuc n) = omega (arith, ints, int_max_is (negsuc n) (pos 1))
 
 pub positive_total-le : (products : List Product) → positive_total products ≤ products_total products
-positive_total-le products =
-    sum_by-le-sum_by (λ (t : Product). positive_part t.coefficient)
-    (λ (t : Product). unsigned_abs t.coefficient) products
-    (λ t. positive_part-le t.coefficient)
+positive_total-le products = grind (arith, nat_tests, sum_by-le-sum_by, positive_part-le)
 
 pub slack_range-le : (k : Constraint) → slack_range k ≤ constraint_total k
 slack_range-le k = go k.exact
@@ -80,8 +52,7 @@ slack_range-le k = go k.exact
     rest : (m b : ℕ) (z : ℤ) → unsigned_abs z ≤ b → positive_part (pos m -ℤ z) ≤ m + b
     rest m b z h = omega (arith, ints, positive_part-le (pos m -ℤ z))
 
-    go : (exact : Bool)
-        → cond exact 0 (positive_part (pos (positive_total k.products) -ℤ k.bound))
+    go : (exact : Bool) → cond exact 0 (positive_part (pos (positive_total k.products) -ℤ k.bound))
         ≤ constraint_total k
     go true = omega arith
     go false =
@@ -100,10 +71,7 @@ square_is r = sym (rw (pow-suc, pow-suc, pow-zero) (omega arith))
 pub answered_square : (n r r' square part : ℕ) → r' ≡ r → square ≡ answered_number (r' * r')
     → part ≡ answered_number (n * square) → part ≡ answered_number (n * r ^ 2)
 answered_square n r r' square part at_r at_square at_part =
-    at_part
-    ∙ ap (λ s. answered_number (n * s)) (at_square ∙ ap (λ x. answered_number (x * x)) at_r)
-    ∙ answered_number-times n (r * r)
-    ∙ ap (λ s. answered_number (n * s)) (square_is r)
+    grind (arith, nat_tests, answered_number-times, square_is)
 
 -- ---- sums of several numbers
 
@@ -122,18 +90,12 @@ answered_sum_of_3 a b c p q r s t at_p at_q at_r at_s at_t =
 -- q is the square of what is answered for n
 answered_number-squared : (n s q : ℕ) → s ≡ answered_number n → q ≡ answered_number (s * s) → q ≡ answered_number (n ^ 2)
 answered_number-squared n s q at_s at_q =
-    at_q
-    ∙ (λ i. answered_number (at_s i * at_s i))
-    ∙ answered_number-product n n
-    ∙ ap answered_number (square_is n)
+    grind (arith, nat_tests, answered_number-product, square_is)
 
 pub squared_alone : (n d s q : ℕ) → s ≡ answered_number n → q ≡ answered_number (s * s) → d ≤ 1
     → q ≡ answered_number (n ^ 2 * cond (leb d 1) 1 (4 * d ^ 2))
 squared_alone n d s q at_s at_q low =
-    let once : n ^ 2 ≡ n ^ 2 * 1 = omega arith in
-    answered_number-squared n s q at_s at_q
-    ∙ ap answered_number once
-    ∙ ap (λ b. answered_number (n ^ 2 * cond b 1 (4 * d ^ 2))) (sym (le-leb d 1 low))
+    grind (arith, nat_tests, answered_number-squared n s q at_s at_q, le-leb d 1 low)
 
 pub squared_spread : (n d s q t four r : ℕ) → s ≡ answered_number n → q ≡ answered_number (s * s) → 1 < d
     → t ≡ d ^ 2 → four ≡ answered_number (t * 4) → r ≡ answered_number (q * four)

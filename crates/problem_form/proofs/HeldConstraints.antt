@@ -1,14 +1,6 @@
 -- Constraints whose products lie one after another: more products leave them as they are, and one
 -- more constraint.
-use Rattle.std.proofs.Common.{◌≡◌, ◌+◌, ◌≤◌, arith, refl, sym, ap, subst, ◌∙◌, List, [], ◌∷◌, ◌++◌, length, length-append, map, take, drop}
-use Rattle.std.specs.Prelude.{All, slice_range}
-use Rattle.std.proofs.lemmas.List.{take-append-drop, map-append}
-use Rattle.std.proofs.lemmas.List.Elements.{All-append, All-cons, All-nil, All-tail}
-use Rattle.std.proofs.Math.Seq.{take-append_seam}
-use Rattle.problem_form.specs.declared.terms.Product.{Product}
-use Rattle.problem_form.specs.declared.constraint_list.Row.{Row}
-use Rattle.problem_form.specs.ConstraintRows.{constraint_of, LiesWithin}
-use Rattle.base.proofs.FlatParts.{slice_range-append, slice_range-last}
+use Rattle.problem_form.proofs.Common.{nat_tests, ◌≡◌, ◌+◌, ◌≤◌, arith, refl, sym, ap, subst, ◌∙◌, List, [], ◌∷◌, ◌++◌, length, length-append, map, take, drop, All, slice_range, take-append-drop, map-append, All-append, All-cons, All-nil, All-tail, take-append_seam, Product, Row, constraint_of, LiesWithin, slice_range-append, slice_range-last}
 
 -- ---- more products
 
@@ -25,9 +17,7 @@ same_rows products more (row ∷ rows) within =
 -- the list begins with the products that were there, so they are these and more
 begun : (products products' : List Product) → take (length products) products' ≡ products
     → products ++ drop (length products) products' ≡ products'
-begun products products' before =
-    ap (λ ts. ts ++ drop (length products) products') (sym before)
-    ∙ take-append-drop (length products) products'
+begun products products' before = grind (arith, nat_tests, take-append-drop)
 
 pub rows_kept : (products products' : List Product) (rows : List Row)
     → take (length products) products' ≡ products → All (LiesWithin (length products)) rows
@@ -50,16 +40,14 @@ rows_within products products' rows before within =
 pub row_pushed : (products kept products' : List Product) (rows rows' : List Row) (row : Row)
     → products' ≡ products ++ kept → rows' ≡ rows ++ row ∷ [] → row.start ≡ length products
     → row.end ≡ length products' → All (LiesWithin (length products)) rows
-    → map (constraint_of products') rows'
-    ≡ map (constraint_of products) rows
+    → map (constraint_of products') rows' ≡ map (constraint_of products) rows
     ++ record { products = kept; bound = row.bound; exact = row.exact } ∷ []
 row_pushed products kept products' rows rows' row at_products at_rows starts ends within =
     let all = products ++ kept in
     let part : slice_range all row.start row.end ≡ kept =
     (λ i. slice_range all (starts i) ((ends ∙ ap length at_products) i)) ∙ slice_range-last products kept in
     (λ i. map (constraint_of (at_products i)) (at_rows i))
-    ∙ map-append (constraint_of all) rows (row ∷ [])
-    ∙ (λ i. same_rows products kept rows within i
+    ∙ map-append (constraint_of all) rows (row ∷ []) ∙ (λ i. same_rows products kept rows within i
     ++ record { products = part i; bound = row.bound; exact = row.exact } ∷ [])
 
 pub rows_pushed-within : (products kept products' : List Product) (rows rows' : List Row) (row : Row)

@@ -1,32 +1,11 @@
 -- Clauses in normal form: what is kept of one, and what it adds to the sizes of a problem.
-use Rattle.std.proofs.Common.{◌≡◌, ◌≢◌, ℕ, ◌+◌, ◌<◌, ◌≤◌, ◌^◌, Bool, true, false, cond, ◌||◌, eqb, arith, refl, sym, ap, subst, ◌∙◌, List, [], ◌∷◌, length, Option, Some, None, Result, Ok, Err, OnOk, OnErr, pos, unsigned_abs, unwrap_or}
-use Rattle.std.specs.Prelude.{All}
-use Rattle.std.specs.Ordering.{match_ordering}
-use Rattle.std.proofs.Common.{Ordering, Less, Equal, Greater}
-use Rattle.std.specs.List.{sum_by}
-use Rattle.std.proofs.lemmas.Bool.{or_parts, or_left, or_right, or_from, eqb-false}
-use Rattle.std.proofs.lemmas.List.Elements.{All-append, All-cons, All-nil}
-use Rattle.std.proofs.lemmas.List.Sums.{sum_by-append}
-use Rattle.std.proofs.Math.Dec.{eqb-suc-zero}
-use Rattle.base.proofs.Totals.{size-plus}
-use Rattle.literal_lists.specs.declared.literal.Literal.{Literal}
-use Rattle.problem_form.specs.declared.terms.Clause.{Clause}
-use Rattle.literal_lists.specs.Literals.{has_clash, with_literal, literal_set, IsLiteralSet, literal_cmp}
-use Rattle.problem_form.specs.Fields.{IsSound}
-use Rattle.problem_form.specs.Problems.{ProblemContent, IsNormal, IsNormalClause, soft_weight, problem_total}
-use Rattle.problem_form.specs.NormalForm.{is_empty, is_plain_cost, kept_clause, clause_constant, weight_constant, with_clause}
-use Rattle.literal_lists.proofs.LiteralSets.{literal_set-ascends, has_clash-literal_set, All-literal_set}
+use Rattle.problem_form.proofs.Common.{nat_tests, ◌≡◌, ◌≢◌, ℕ, ◌+◌, ◌<◌, ◌≤◌, ◌^◌, Bool, true, false, cond, ◌||◌, eqb, arith, refl, sym, ap, subst, ◌∙◌, List, [], ◌∷◌, length, Option, Some, None, Result, Ok, Err, OnOk, OnErr, unsigned_abs, unwrap_or, All, sum_by, or_parts, or_left, or_right, or_from, eqb-false, All-append, All-cons, All-nil, sum_by-append, eqb-suc-zero, size-plus, Literal, Clause, has_clash, with_literal, literal_set, IsLiteralSet, IsSound, ProblemContent, IsNormal, IsNormalClause, soft_weight, problem_total, is_empty, is_plain_cost, kept_clause, clause_constant, weight_constant, with_clause, literal_set-ascends, has_clash-literal_set, All-literal_set}
 
 -- ---- a list and its set
 
 with_literal-filled : (l : Literal) (ks : List Literal) → is_empty (with_literal l ks) ≡ false
 with_literal-filled l [] = refl
-with_literal-filled l (k ∷ ks) = go (literal_cmp l k)
-  where
-    go : (o : Ordering) → is_empty (match_ordering o (l ∷ k ∷ ks) (k ∷ ks) (k ∷ with_literal l ks)) ≡ false
-    go Less = refl
-    go Equal = refl
-    go Greater = refl
+with_literal-filled l (k ∷ ks) = grind (arith, nat_tests)
 
 pub is_empty-length : (ls : List Literal) → eqb (length ls) 0 ≡ is_empty ls
 is_empty-length [] = refl
@@ -47,18 +26,14 @@ is_dropped w ls = has_clash ls || is_plain_cost w ls
 
 is_dropped-literal_set : (w : Option ℕ) (ls : List Literal)
     → is_dropped w (literal_set ls) ≡ is_dropped w ls
-is_dropped-literal_set w ls =
-    λ i. has_clash-literal_set ls i || is_plain_cost-literal_set w ls i
+is_dropped-literal_set w ls = λ i. has_clash-literal_set ls i || is_plain_cost-literal_set w ls i
 
 -- ---- what is kept of a clause, by the set of its literals
 
 kept_at : (c : Clause) (s : List Literal) (b : Bool) → s ≡ literal_set c.literals
     → is_dropped c.weight s ≡ b
     → kept_clause c ≡ cond b [] (record { literals = s; weight = c.weight } ∷ [])
-kept_at c s b same e =
-    let P : List Literal → Type 0 = λ ls. is_dropped c.weight ls ≡ b in
-    let at_set = sym (is_dropped-literal_set c.weight c.literals) ∙ subst P same e in
-    (λ i. cond (at_set i) [] (record { literals = sym same i; weight = c.weight } ∷ []))
+kept_at c s b same e = grind (arith, nat_tests, is_dropped-literal_set)
 
 pub kept_clause-clash : (c : Clause) (s : List Literal) → s ≡ literal_set c.literals
     → has_clash s ≡ true → [] ≡ kept_clause c
@@ -76,34 +51,37 @@ pub kept_clause-kept : (c : Clause) (s : List Literal) → s ≡ literal_set c.l
 kept_clause-kept c s same e f =
     sym (kept_at c s false same (or_from (has_clash s) (is_plain_cost c.weight s) e f))
 
+-- a part that is kept unless a test says so
+pub kept_unless : {X : Type 0} (P : X → Type 0) (dropped : Bool) (x : X) → (dropped ≡ false → P x)
+    → All P (cond dropped [] (x ∷ []))
+kept_unless P true x here = All-nil P
+kept_unless P false x here = All-cons P x [] (here refl) (All-nil P)
+
+pub kept_set : (n : ℕ) (ls : List Literal) → has_clash ls ≡ false → All (λ l. l.variable < n) ls
+    → IsLiteralSet n (literal_set ls)
+kept_set n ls apart within = record {
+  ordered = literal_set-ascends ls;
+  apart = has_clash-literal_set ls ∙ apart;
+  within = All-literal_set (λ l. l.variable < n) ls within;
+}
+
 -- what is kept of a clause is in normal form
 pub kept_clause-normal : (n : ℕ) (c : Clause) → All (λ l. l.variable < n) c.literals
     → All (IsNormalClause n) (kept_clause c)
-kept_clause-normal n c within = go (is_dropped c.weight c.literals) refl
+kept_clause-normal n c within =
+    kept_unless (IsNormalClause n) (is_dropped c.weight c.literals) kept (λ e.
+    let parts = or_parts (has_clash c.literals) (is_plain_cost c.weight c.literals) e in
+    record { set = kept_set n c.literals parts.0 within; weighty = weighty parts.1 })
   where
+    kept : Clause
+    kept = record { literals = literal_set c.literals; weight = c.weight }
+
     weighty : is_plain_cost c.weight c.literals ≡ false → (w : ℕ) → c.weight ≡ Some w
         → (0 < w) × (literal_set c.literals ≢ [])
     weighty e w some =
-        let parts = or_parts (eqb w 0) (is_empty c.literals)
-        (ap (λ o. is_plain_cost o c.literals) (sym some) ∙ e) in
+        let parts = or_parts (eqb w 0) (is_empty c.literals) (ap (λ o. is_plain_cost o c.literals) (sym some) ∙ e) in
         let filled = is_empty-literal_set c.literals ∙ parts.1 in
         (omega (arith, eqb-false w 0 parts.0), λ none. let empty = ap is_empty none in absurd cc)
-
-    go : (b : Bool) → is_dropped c.weight c.literals ≡ b
-        → All (IsNormalClause n)
-        (cond b [] (record { literals = literal_set c.literals; weight = c.weight } ∷ []))
-    go true e = All-nil _
-    go false e =
-        let parts = or_parts (has_clash c.literals) (is_plain_cost c.weight c.literals) e in
-        let set : IsLiteralSet n (literal_set c.literals) =
-        record {
-          ordered = literal_set-ascends c.literals;
-          apart = has_clash-literal_set c.literals ∙ parts.0;
-          within = All-literal_set (λ l. l.variable < n) c.literals within;
-        } in
-        let kept : Clause = record { literals = literal_set c.literals; weight = c.weight } in
-        let normal : IsNormalClause n kept = record { set = set; weighty = weighty parts.1 } in
-        All-cons (IsNormalClause n) kept [] normal (All-nil _)
 
 pub with_clause-normal : (p : ProblemContent) (c : Clause) → IsNormal p
     → All (λ l. l.variable < p.variables) c.literals → IsNormal (with_clause p c)
@@ -119,19 +97,8 @@ with_clause-normal p c normal within = record {
 
 weight_within : (w : Option ℕ) (ls s : List Literal) (b : Bool) → is_dropped w ls ≡ b
     → unsigned_abs (weight_constant w ls)
-    + sum_by soft_weight (cond b [] (record { literals = s; weight = w } ∷ []))
-    ≤ unwrap_or w 0
-weight_within None ls s true e = omega arith
-weight_within None ls s false e = omega arith
-weight_within (Some w) ls s true e = go (is_empty ls)
-  where
-    go : (t : Bool) → unsigned_abs (cond t (pos w) (pos 0)) + 0 ≤ w
-    go true = omega arith
-    go false = omega arith
-weight_within (Some w) ls s false e =
-    let plain = or_parts (has_clash ls) ((eqb w 0) || is_empty ls) e in
-    let filled = or_parts (eqb w 0) (is_empty ls) plain.1 in
-    rw filled.1 (omega arith)
+    + sum_by soft_weight (cond b [] (record { literals = s; weight = w } ∷ [])) ≤ unwrap_or w 0
+weight_within w ls s b e = grind (arith, nat_tests)
 
 -- what a clause adds to the constant and to the clauses is at most its weight
 pub kept_clause-size : (c : Clause)
@@ -141,13 +108,7 @@ kept_clause-size c =
 
 pub with_clause-total : (p : ProblemContent) (c : Clause)
     → problem_total (with_clause p c) ≤ problem_total p + soft_weight c
-with_clause-total p c =
-    omega (
-      arith,
-      size-plus p.constant (clause_constant c),
-      kept_clause-size c,
-      sum_by-append soft_weight p.clauses (kept_clause c),
-    )
+with_clause-total p c = omega (arith, size-plus, kept_clause-size, sum_by-append)
 
 -- ---- a problem with one more clause
 

@@ -1,24 +1,6 @@
 -- Products in normal form: what is kept of one, and what it adds to the sizes of a problem.
-use Rattle.std.proofs.Common.{◌≡◌, ◌≢◌, ℕ, ◌+◌, ◌<◌, ◌≤◌, ◌^◌, Bool, true, false, cond, ◌||◌, arith, refl, sym, ap, ◌∙◌, List, [], ◌∷◌, pos, unsigned_abs}
-use Rattle.std.specs.Prelude.{All}
-use Rattle.std.specs.Ordering.{int_eq}
-use Rattle.std.specs.List.{flat_map}
-use Rattle.std.proofs.lemmas.Int.{ints}
-use Rattle.std.proofs.lemmas.Bool.Decides.{Decides-int_eq}
-use Rattle.std.proofs.lemmas.Bool.{or_left, or_right, or_from, false_from_ne_true}
-use Rattle.std.proofs.lemmas.List.Elements.{All-append, All-cons, All-nil, All-tail}
-use Rattle.std.proofs.lemmas.List.Sums.{sum_by-append, sum_by-cons}
-use Rattle.base.specs.Sums.{total_by}
-use Rattle.base.proofs.Totals.{size-plus}
-use Rattle.literal_lists.specs.declared.literal.Literal.{Literal}
-use Rattle.problem_form.specs.declared.terms.Product.{Product}
-use Rattle.problem_form.specs.declared.terms.Constraint.{Constraint}
-use Rattle.literal_lists.specs.Literals.{has_clash, literal_set}
-use Rattle.problem_form.specs.Fields.{IsSound}
-use Rattle.problem_form.specs.Problems.{ProblemContent, IsNormalProduct, products_total, constraint_total, problem_total}
-use Rattle.problem_form.specs.NormalForm.{is_empty, kept_product, product_constant, normal_constraint, with_product, with_constraint}
-use Rattle.literal_lists.proofs.LiteralSets.{literal_set-ascends, has_clash-literal_set, All-literal_set}
-use Rattle.problem_form.proofs.KeptClauses.{is_empty-literal_set}
+use Rattle.problem_form.proofs.Common.{or_parts, nat_tests, ◌≡◌, ◌≢◌, ℕ, ◌+◌, ◌<◌, ◌≤◌, ◌^◌, Bool, true, false, cond, ◌||◌, arith, sym, ap, ◌∙◌, List, [], ◌∷◌, pos, unsigned_abs, All, int_eq, flat_map, ints, Decides-int_eq, or_right, or_from, false_from_ne_true, All-append, All-cons, All-nil, All-tail, sum_by-append, sum_by-cons, total_by, size-plus, Literal, Product, Constraint, has_clash, literal_set, IsSound, ProblemContent, IsNormalProduct, products_total, constraint_total, problem_total, is_empty, kept_product, product_constant, normal_constraint, with_product, with_constraint, has_clash-literal_set}
+use Rattle.problem_form.proofs.KeptClauses.{kept_set, kept_unless, is_empty-literal_set}
 
 -- ---- what is kept of a product, by the set of its literals
 
@@ -30,10 +12,7 @@ is_dropped-literal_set : (ls : List Literal) → is_dropped (literal_set ls) ≡
 is_dropped-literal_set ls = λ i. has_clash-literal_set ls i || is_empty-literal_set ls i
 
 reordered : (clash zero empty : Bool) → (clash || zero || empty) ≡ (zero || (clash || empty))
-reordered true true empty = refl
-reordered true false empty = refl
-reordered false true empty = refl
-reordered false false empty = refl
+reordered clash is empty = grind (arith, nat_tests)
 
 kept_at : (t : Product) (s : List Literal) (b : Bool) → s ≡ literal_set t.literals
     → (int_eq t.coefficient (pos 0) || is_dropped s) ≡ b
@@ -48,9 +27,7 @@ kept_at t s b same e =
 
 pub kept_product-zero : (t : Product) (s : List Literal) → s ≡ literal_set t.literals
     → t.coefficient ≡ pos 0 → [] ≡ kept_product t
-kept_product-zero t s same none =
-    let zero = (Decides-int_eq t.coefficient (pos 0)).1 none in
-    sym (kept_at t s true same (or_left (int_eq t.coefficient (pos 0)) (is_dropped s) zero))
+kept_product-zero t s same none = grind (arith, nat_tests)
 
 pub kept_product-dropped : (t : Product) (s : List Literal) → s ≡ literal_set t.literals
     → is_dropped s ≡ true → [] ≡ kept_product t
@@ -61,41 +38,24 @@ pub kept_product-kept : (t : Product) (s : List Literal) → s ≡ literal_set t
     → t.coefficient ≢ pos 0 → is_dropped s ≡ false
     → record { literals = s; coefficient = t.coefficient } ∷ [] ≡ kept_product t
 kept_product-kept t s same some e =
-    let zero = int_eq t.coefficient (pos 0) in
-    let nonzero : zero ≡ false =
-    false_from_ne_true zero (λ is. some ((Decides-int_eq t.coefficient (pos 0)).0 is)) in
-    sym (kept_at t s false same (or_from zero (is_dropped s) nonzero e))
+    grind (arith, nat_tests, false_from_ne_true, kept_at t s false same, or_from)
 
 -- ---- what is kept is in normal form
 
 pub kept_product-normal : (n : ℕ) (t : Product) → All (λ l. l.variable < n) t.literals
     → All (IsNormalProduct n) (kept_product t)
 kept_product-normal n t within =
-    go (has_clash t.literals) (int_eq t.coefficient (pos 0)) (is_empty t.literals) refl refl refl
-  where
-    kept : Product
-    kept = record { literals = literal_set t.literals; coefficient = t.coefficient }
-
-    go : (clash zero empty : Bool) → has_clash t.literals ≡ clash
-        → int_eq t.coefficient (pos 0) ≡ zero → is_empty t.literals ≡ empty
-        → All (IsNormalProduct n) (cond (clash || zero || empty) [] (kept ∷ []))
-    go true zero empty e f g = All-nil _
-    go false true empty e f g = All-nil _
-    go false false true e f g = All-nil _
-    go false false false e f g =
-        let normal : IsNormalProduct n kept = record {
-          set = record {
-            ordered = literal_set-ascends t.literals;
-            apart = has_clash-literal_set t.literals ∙ e;
-            within = All-literal_set (λ l. l.variable < n) t.literals within;
-          };
-          filled = λ none.
-              let empty = sym (is_empty-literal_set t.literals ∙ g) ∙ ap is_empty none in absurd cc;
-          nonzero = λ none.
-              let zero = (Decides-int_eq t.coefficient (pos 0)).1 none in
-              let both = sym zero ∙ f in absurd cc;
-        } in
-        All-cons (IsNormalProduct n) kept [] normal (All-nil _)
+    let ls = t.literals in
+    let zero = int_eq t.coefficient (pos 0) in
+    let kept : Product = record { literals = literal_set ls; coefficient = t.coefficient } in
+    kept_unless (IsNormalProduct n) (has_clash ls || zero || is_empty ls) kept (λ e.
+    let outer = or_parts (has_clash ls || zero) (is_empty ls) e in
+    let inner = or_parts (has_clash ls) zero outer.0 in
+    record {
+      set = kept_set n ls inner.0 within;
+      filled = λ none. let empty = sym (is_empty-literal_set ls ∙ outer.1) ∙ ap is_empty none in absurd cc;
+      nonzero = λ none. let both = sym ((Decides-int_eq t.coefficient (pos 0)).1 none) ∙ inner.1 in absurd cc;
+    })
 
 abbrev pub AreWithin : ℕ → List Product → Type 0
 AreWithin n ts = All (λ t. All (λ l. l.variable < n) t.literals) ts
@@ -114,36 +74,14 @@ kept_products-normal n (t ∷ ts) within =
 -- what a product adds to the constant and to the products is at most its coefficient, in size
 pub kept_product-size : (t : Product)
     → unsigned_abs (product_constant t) + products_total (kept_product t) ≤ unsigned_abs t.coefficient
-kept_product-size t =
-    go (has_clash t.literals) (int_eq t.coefficient (pos 0)) (is_empty t.literals)
-  where
-    go : (clash zero empty : Bool)
-        → unsigned_abs (cond empty t.coefficient (pos 0))
-        + products_total
-        (cond (clash || zero || empty) []
-        (record { literals = literal_set t.literals; coefficient = t.coefficient } ∷ []))
-        ≤ unsigned_abs t.coefficient
-    go true zero true = omega arith
-    go true zero false = omega arith
-    go false true true = omega arith
-    go false true false = omega arith
-    go false false true = omega arith
-    go false false false = omega arith
+kept_product-size t = grind (arith, nat_tests)
 
 pub kept_products-size : (ts : List Product)
     → unsigned_abs (total_by product_constant ts) + products_total (flat_map kept_product ts)
     ≤ products_total ts
 kept_products-size [] = omega arith
 kept_products-size (t ∷ ts) =
-    omega (
-      arith,
-      kept_product-size t,
-      kept_products-size ts,
-      size-plus (product_constant t) (total_by product_constant ts),
-      sum_by-append (λ (u : Product). unsigned_abs u.coefficient) (kept_product t)
-          (flat_map kept_product ts),
-      sum_by-cons (λ (u : Product). unsigned_abs u.coefficient) t ts,
-    )
+    omega (arith, kept_product-size t, kept_products-size ts, size-plus, sum_by-append, sum_by-cons)
 
 pub normal_constraint-total : (k : Constraint)
     → constraint_total (normal_constraint k) ≤ constraint_total k
@@ -153,13 +91,7 @@ normal_constraint-total k = omega (arith, ints, kept_products-size k.products)
 
 pub with_product-total : (p : ProblemContent) (t : Product)
     → problem_total (with_product p t) ≤ problem_total p + unsigned_abs t.coefficient
-with_product-total p t =
-    omega (
-      arith,
-      size-plus p.constant (product_constant t),
-      kept_product-size t,
-      sum_by-append (λ (u : Product). unsigned_abs u.coefficient) p.objective (kept_product t),
-    )
+with_product-total p t = grind (arith, nat_tests, size-plus, kept_product-size, sum_by-append)
 
 pub with_product-sound : (p : ProblemContent) (t : Product) → IsSound p
     → All (λ l. l.variable < p.variables) t.literals
@@ -179,12 +111,7 @@ with_product-sound p t sound within small = (
 
 pub with_constraint-total : (p : ProblemContent) (k : Constraint)
     → problem_total (with_constraint p k) ≤ problem_total p + constraint_total k
-with_constraint-total p k =
-    omega (
-      arith,
-      normal_constraint-total k,
-      sum_by-append constraint_total p.constraints (normal_constraint k ∷ []),
-    )
+with_constraint-total p k = omega (arith, normal_constraint-total, sum_by-append)
 
 pub with_constraint-sound : (p : ProblemContent) (k : Constraint) → IsSound p
     → AreWithin p.variables k.products

@@ -1,11 +1,5 @@
 -- Sums in a loop: what is summed so far, and what is left.
-use Rattle.std.proofs.Common.{◌≡◌, ℕ, ◌+◌, ◌<◌, ◌≤◌, ◌^◌, arith, ap, ◌∙◌, List, [], ◌∷◌, ℤ, ◌+ℤ◌, unsigned_abs}
-use Rattle.std.specs.List.{sum_by}
-use Rattle.std.proofs.lemmas.List.Sums.{sum_by-cons}
-use Rattle.std.proofs.lemmas.Int.{ints}
-use Rattle.base.specs.Sums.{total_by}
-use Rattle.base.proofs.Totals.{size-plus}
-use Rattle.problem_form.specs.Limits.{answered_number}
+use Rattle.problem_form.proofs.Common.{nat_tests, ◌≡◌, ℕ, ◌+◌, ◌<◌, ◌≤◌, ◌^◌, arith, ap, ◌∙◌, List, [], ◌∷◌, ℤ, ◌+ℤ◌, unsigned_abs, sum_by, sum_by-cons, ints, total_by, size-plus, answered_number}
 
 -- the sum so far and that of what is left are the whole, and their sizes are at most so much
 pub record Sums {X : Type 0} (f : X → ℤ) (size : X → ℕ) (sum : ℤ) (left : List X) (whole : ℤ) (most : ℕ) : Type 0 where
@@ -43,22 +37,14 @@ answered_left f left rest x total part next whole step at_part at_next before =
 
 pub answered_end : {X : Type 0} (f : X → ℕ) (left : List X) (total whole : ℕ)
     → left ≡ [] → Answered f total left whole → total ≡ answered_number whole
-answered_end f left total whole step before =
-    let sums : sum_by f left ≡ 0 = ap (sum_by f) step in
-    omega (arith, sums, before.so_far, before.fits)
+answered_end f left total whole step before = grind (arith, nat_tests)
 
 -- ---- what is left is within what all is
 
 pub first_within : {X : Type 0} (size : X → ℕ) (left rest : List X) (x : X) (most : ℕ)
     → left ≡ x ∷ rest → sum_by size left < most → size x < most
-first_within size left rest x most step before =
-    let sums : sum_by size left ≡ size x + sum_by size rest =
-    ap (sum_by size) step ∙ sum_by-cons size x rest in
-    omega (arith, sums, before)
+first_within size left rest x most step before = grind (arith, nat_tests, sum_by-cons)
 
 pub rest_within : {X : Type 0} (size : X → ℕ) (left rest : List X) (x : X) (most : ℕ)
     → left ≡ x ∷ rest → sum_by size left < most → sum_by size rest < most
-rest_within size left rest x most step before =
-    let sums : sum_by size left ≡ size x + sum_by size rest =
-    ap (sum_by size) step ∙ sum_by-cons size x rest in
-    omega (arith, sums, before)
+rest_within size left rest x most step before = grind (arith, nat_tests, sum_by-cons)

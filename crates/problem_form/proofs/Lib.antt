@@ -1,3 +1,4 @@
+pub mod Common
 pub mod MarkedLists
 pub mod KeptClauses
 pub mod KeptProducts

@@ -1,12 +1,6 @@
 -- The elements of a list that are marked: one step of moving them to the front, and what holds of
 -- them.
-use Rattle.std.proofs.Common.{◌≡◌, ℕ, zero, suc, ◌+◌, ◌<◌, ◌≤◌, Bool, true, false, refl, sym, ap, ◌∙◌, arith, List, [], ◌∷◌, ◌++◌, length, take, drop, get_or, set, map, append_assoc, add-one, drop-cons}
-use Rattle.std.specs.Prelude.{All}
-use Rattle.std.specs.List.{sum_by}
-use Rattle.std.proofs.Math.Seq.{take-suc-set, drop-set-lt}
-use Rattle.std.proofs.lemmas.List.Sums.{sum_by-cons}
-use Rattle.std.proofs.lemmas.List.Elements.{All-cons, All-head, All-nil, All-tail}
-use Rattle.problem_form.specs.WeighedLists.{marked}
+use Rattle.problem_form.proofs.Common.{nat_tests, ◌≡◌, ℕ, zero, suc, ◌+◌, ◌<◌, ◌≤◌, Bool, true, false, refl, sym, ap, ◌∙◌, arith, List, [], ◌∷◌, ◌++◌, length, take, drop, get_or, set, map, append_assoc, add-one, drop-cons, All, sum_by, take-suc-set, drop-set-lt, sum_by-cons, All-cons, All-head, All-nil, All-tail, marked}
 
 -- ---- one step
 
@@ -21,16 +15,14 @@ passed [] xs i h is = absurd (omega (arith, h))
 passed (m ∷ ms) [] zero h is = marked-nil ms
 passed (true ∷ ms) (x ∷ xs) zero h is = cc
 passed (false ∷ ms) (x ∷ xs) zero h is = refl
-passed (m ∷ ms) [] (suc i) h is =
-    marked-nil (drop (suc i) ms) ∙ sym (marked-nil (drop i ms))
+passed (m ∷ ms) [] (suc i) h is = marked-nil (drop (suc i) ms) ∙ sym (marked-nil (drop i ms))
 passed (m ∷ ms) (x ∷ xs) (suc i) h is = passed ms xs i (omega (arith, h)) is
 
 -- an element that is not marked is passed
 pub marked-passed : {A : Type 0} (ms : List Bool) (xs front : List A) (i : ℕ)
     → i < length ms → get_or ms i false ≡ false
     → front ++ marked (drop (i + 1) ms) (drop (i + 1) xs) ≡ front ++ marked (drop i ms) (drop i xs)
-marked-passed ms xs front i h is =
-    rw (add-one i) (ap (λ ys. front ++ ys) (passed ms xs i h is))
+marked-passed ms xs front i h is = rw (add-one i) (ap (λ ys. front ++ ys) (passed ms xs i h is))
 
 here : {A : Type 0} (ms : List Bool) (xs : List A) (i : ℕ) (x : A) → i < length ms → i < length xs
     → get_or ms i false ≡ true → get_or xs i x ≡ x
@@ -49,8 +41,7 @@ marked-moved ms xs left i x behind hm hx is at =
     take-suc-set xs left x (omega arith) in
     let rest : drop (suc i) (set xs left x) ≡ drop (suc i) xs =
     drop-set-lt (suc i) xs left x (omega arith) in
-    rw (add-one left, add-one i)
-    ((λ k. front k ++ marked (drop (suc i) ms) (rest k))
+    rw (add-one left, add-one i) ((λ k. front k ++ marked (drop (suc i) ms) (rest k))
     ∙ append_assoc (take left xs) (x ∷ []) (marked (drop (suc i) ms) (drop (suc i) xs))
     ∙ ap (λ ys. take left xs ++ ys) (sym (here ms xs i x hm hx is at)))
 
@@ -70,17 +61,8 @@ pub sum_by-marked : {A : Type 0} (f : A → ℕ) (ms : List Bool) (xs : List A)
 sum_by-marked f [] xs = omega arith
 sum_by-marked f (m ∷ ms) [] = omega arith
 sum_by-marked f (true ∷ ms) (x ∷ xs) =
-    let here : sum_by f (x ∷ marked ms xs) ≡ f x + sum_by f (marked ms xs) =
-    sum_by-cons f x (marked ms xs) in
-    let all : sum_by f (x ∷ xs) ≡ f x + sum_by f xs = sum_by-cons f x xs in
-    let below : sum_by f (x ∷ marked ms xs) ≤ sum_by f (x ∷ xs) =
-    omega (arith, here, all, sum_by-marked f ms xs) in
-    below
-sum_by-marked f (false ∷ ms) (x ∷ xs) =
-    let all : sum_by f (x ∷ xs) ≡ f x + sum_by f xs = sum_by-cons f x xs in
-    let below : sum_by f (marked ms xs) ≤ sum_by f (x ∷ xs) =
-    omega (arith, all, sum_by-marked f ms xs) in
-    below
+    grind (arith, nat_tests, sum_by-marked f ms xs, here, sum_by-cons)
+sum_by-marked f (false ∷ ms) (x ∷ xs) = grind (arith, nat_tests, sum_by-marked f ms xs, sum_by-cons)
 
 -- those of a list that is made element by element
 pub marked-map : {A B : Type 0} (f : A → B) (ms : List Bool) (xs : List A)

@@ -1,13 +1,5 @@
 -- What is made of two lists, place by place: its length, an element, and one more.
-use Rattle.std.proofs.Common.{◌≡◌, ◌≢◌, ℕ, zero, suc, ◌<◌, ◌≤◌, List, [], ◌∷◌, ◌++◌, length, get_or, refl, ap, arith, Some, map, neg_ℤ, ℤ, unsigned_abs, All, Result, Ok, Err, OnOk}
-use Rattle.std.specs.List.{AllByRecursion}
-use Rattle.std.proofs.lemmas.List.Elements.{All-from_recursion, recursion_from_All}
-use Rattle.literal_lists.specs.declared.literal.Literal.{Literal}
-use Rattle.problem_form.specs.declared.terms.Product.{Product}
-use Rattle.problem_form.specs.Problems.{negated}
-use Rattle.std.specs.List.{slice_get}
-use Rattle.std.specs.Prelude.{replicate}
-use Rattle.problem_form.specs.WeighedLists.{zip_with, clause_of, weight_of, weighed_clauses, product_of}
+use Rattle.problem_form.proofs.Common.{◌≡◌, ◌≢◌, ℕ, zero, suc, ◌<◌, ◌≤◌, List, [], ◌∷◌, ◌++◌, length, get_or, refl, ap, arith, Some, map, neg_ℤ, ℤ, unsigned_abs, All, Result, Ok, Err, OnOk, AllByRecursion, All-from_recursion, recursion_from_All, Literal, Product, negated, slice_get, replicate, zip_with, clause_of, weight_of, weighed_clauses, product_of}
 
 pub length-zip_with : {A B C : Type 0} → (f : A → B → C) (xs : List A) (ys : List B) → length xs ≡ length ys → length (zip_with f xs ys) ≡ length ys
 length-zip_with f [] [] same = refl
@@ -117,8 +109,7 @@ pub coefficients-small : (n : ℕ) (lists : List (List Literal)) (cs : List ℤ)
     → All (λ (t : Product). unsigned_abs t.coefficient < n) (zip_with product_of lists cs)
     → All (λ c. unsigned_abs c < n) cs
 coefficients-small n lists cs same h =
-    All-from_recursion (λ c. unsigned_abs c < n) cs
-    (small_coefficients n lists cs same
+    All-from_recursion (λ c. unsigned_abs c < n) cs (small_coefficients n lists cs same
     (recursion_from_All (λ (t : Product). unsigned_abs t.coefficient < n) (zip_with product_of lists cs) h))
 
 -- what follows where a call succeeds

@@ -1,17 +1,5 @@
 -- The lines of a text that are states: the first of them, how many there are, and where lines are cut.
-use Rattle.std.proofs.Common.{◌≡◌, ℕ, ◌+◌, ◌<◌, ◌≤◌, Bool, true, false, ◌&&◌, List, [], ◌∷◌, ◌++◌, length, map, take, drop, get_or, set, cond, not, arith, refl, sym, ap, ◌∙◌}
-use Rattle.std.specs.Prelude.{find, slice_get, Some}
-use Rattle.std.specs.List.{All, list_all, slice_split, onto_first, position_or_len, filter, enumerate_from}
-use Rattle.std.specs.Option.{option_map}
-use Rattle.std.proofs.lemmas.List.{take_more, take_more_set, take_all, map-append, length-map}
-use Rattle.std.proofs.lemmas.List.Elements.{All-cons, All-nil}
-use Rattle.std.proofs.Math.Bool.{and-true}
-use Rattle.std.proofs.lemmas.List.Folds.{list_all-append}
-use Rattle.std.proofs.lemmas.List.FromFn.{length-enumerate_from}
-use Rattle.std.proofs.lemmas.List.Sums.{length-filter, count_by-le-length}
-use Rattle.std.proofs.lemmas.List.Splits.{length-slice_split, slice_split_first}
-use Rattle.whole_text.specs.Tokens.{is_feed}
-use Rattle.state_file.specs.States.{StateLine, is_bit, is_one, is_state, lines_of, states_from, trimmed_line}
+use Rattle.state_file.proofs.Common.{nat_tests, ◌≡◌, ℕ, ◌+◌, ◌<◌, ◌≤◌, Bool, true, false, ◌&&◌, List, [], ◌∷◌, ◌++◌, length, map, take, drop, get_or, set, cond, not, arith, refl, sym, ap, ◌∙◌, find, slice_get, All, list_all, slice_split, onto_first, position_or_len, option_map, take_more, take_more_set, take_all, map-append, length-map, All-nil, and-true, list_all-append, length-enumerate_from, length-filter, count_by-le-length, length-slice_split, slice_split_first, is_feed, StateLine, is_bit, is_one, is_state, lines_of, states_from, trimmed_line}
 
 -- ---- the states among lines
 
@@ -25,34 +13,20 @@ pub first_state : (width number : ℕ) (lines : List (List ℕ))
     ≡ slice_get (map (λ state. state.1) (states_from width number lines)) 0
 first_state width number [] = refl
 first_state width number (line ∷ lines) =
-    let later = filter (λ (l : ℕ × List ℕ). is_state width l.1) (enumerate_from (number + 1) lines) in
-    elim (is_state width line) as (λ fits.
-    option_map (map is_one) (cond fits (Some line) (find (is_state width) lines))
-    ≡ slice_get (map (λ (state : StateLine). state.1) (map state_line (cond fits ((number, line) ∷ later) later))) 0)
-    [ true ↦ refl | false ↦ first_state width (number + 1) lines ]
+    grind (arith, nat_tests, first_state width (number + 1) lines)
 
 -- no more lines are states than there are
 pub few_states : (width number : ℕ) (lines : List (List ℕ))
     → length (states_from width number lines) ≤ length lines
 few_states width number lines =
-    let fits = λ (l : ℕ × List ℕ). is_state width l.1 in
-    let numbered = enumerate_from number lines in
-    omega (arith, length-map (filter fits numbered) state_line, length-filter fits numbered, count_by-le-length fits numbered, length-enumerate_from number lines)
+    grind (arith, nat_tests, length-map, length-filter, count_by-le-length, length-enumerate_from)
 
 -- the number of a state is that of one of the lines
 pub numbered_states : (top width number : ℕ) (lines : List (List ℕ)) → number + length lines ≤ top
     → All (λ (state : StateLine). state.0 < top) (states_from width number lines)
 numbered_states top width number [] room = All-nil (λ (state : StateLine). state.0 < top)
 numbered_states top width number (line ∷ lines) room =
-    let below = λ (state : StateLine). state.0 < top in
-    let fits = λ (l : ℕ × List ℕ). is_state width l.1 in
-    let later = filter fits (enumerate_from (number + 1) lines) in
-    let others : All below (states_from width (number + 1) lines) =
-    numbered_states top width (number + 1) lines (omega arith) in
-    let this : number < top = omega arith in
-    elim (is_state width line) as (λ fits.
-    All below (map state_line (cond fits ((number, line) ∷ later) later)))
-    [ true ↦ All-cons below (number, map is_one line) (map state_line later) this others | false ↦ others ]
+    grind (arith, nat_tests, numbered_states top width (number + 1) lines (omega arith))
 
 -- ---- where lines are cut
 
@@ -78,25 +52,18 @@ one_part (byte ∷ text) whole = part_of (is_feed byte) byte text whole (one_par
 -- a text without a line feed is one line
 pub last_line : (text line : List ℕ) (end : ℕ) → end ≡ position_or_len is_feed text → end ≡ length text
     → line ≡ trimmed_line (take end text) → lines_of text ≡ line ∷ []
-last_line text line end counted whole trimmed =
-    let all : take end text ≡ text = take_all end text (omega arith) in
-    ap (map trimmed_line) (one_part text (omega arith))
-    ∙ ap (λ (t : List ℕ). t ∷ []) (sym (trimmed ∙ ap trimmed_line all))
+last_line text line end counted whole trimmed = grind (arith, nat_tests, take_all, one_part)
 
 -- the first line ends at the first line feed, and the others follow it
 pub first_line : (text line : List ℕ) (end : ℕ) → end ≡ position_or_len is_feed text
     → end < length text → line ≡ trimmed_line (take end text)
     → lines_of text ≡ line ∷ lines_of (drop (end + 1) text)
-first_line text line end counted within trimmed =
-    ap (map trimmed_line) (slice_split_first is_feed text 0 (rw (← counted) within))
-    ∙ (λ k. trimmed_line (take (sym counted k) text) ∷ lines_of (drop (sym counted k + 1) text))
-    ∙ ap (λ (t : List ℕ). t ∷ lines_of (drop (end + 1) text)) (sym trimmed)
+first_line text line end counted within trimmed = grind (arith, nat_tests, slice_split_first)
 
 -- ---- the bits of a line
 
 -- one byte more was looked at
-pub bytes_more : (bytes : List ℕ) (i : ℕ) → i < length bytes
-    → list_all is_bit (take (i + 1) bytes)
+pub bytes_more : (bytes : List ℕ) (i : ℕ) → i < length bytes → list_all is_bit (take (i + 1) bytes)
     ≡ (list_all is_bit (take i bytes) && is_bit (get_or bytes i 0))
 bytes_more bytes i within =
     let byte = get_or bytes i 0 in
@@ -109,7 +76,6 @@ pub bits_more : (bits : List Bool) (state : List ℕ) (i : ℕ) (bit : Bool) →
     → i < length state → bit ≡ is_one (get_or state i 0) → take i bits ≡ map is_one (take i state)
     → take (i + 1) (set bits i bit) ≡ map is_one (take (i + 1) state)
 bits_more bits state i bit room within read so_far =
-    take_more_set bits i bit room
-    ∙ (λ k. so_far k ++ read k ∷ [])
+    take_more_set bits i bit room ∙ (λ k. so_far k ++ read k ∷ [])
     ∙ sym (map-append is_one (take i state) (get_or state i 0 ∷ []))
     ∙ sym (ap (map is_one) (take_more state i 0 within))

@@ -1,10 +1,5 @@
 -- What the first mark says: the word that it cuts off, and the cursor behind that.
-use Rattle.std.proofs.Common.{◌≡◌, ℕ, ◌+◌, ◌-◌, ◌<◌, ◌≤◌, ◌^◌, List, [], ◌∷◌, length, get_or, take, drop, length-drop, sym, ap, ◌∙◌, arith}
-use Rattle.std.proofs.lemmas.Bool.Decides.{nat_tests}
-use Rattle.std.proofs.lemmas.List.{take_rest}
-use Rattle.whole_text.specs.declared.packed.Stride.{Stride}
-use Rattle.whole_text.specs.Tokens.{word}
-use Rattle.whole_text.specs.Packed.{stride_of, strides, words_along, bytes_along, lines_along, IsCursor}
+use Rattle.whole_text.proofs.Common.{◌≡◌, ℕ, ◌+◌, ◌-◌, ◌<◌, ◌≤◌, ◌^◌, List, [], ◌∷◌, length, get_or, take, drop, length-drop, ap, arith, nat_tests, take_rest, Stride, word, stride_of, strides, words_along, bytes_along, lines_along, IsCursor}
 
 -- those after the first, as the code lends them
 abbrev pub later : {A : Type 0} → List A → List A
@@ -13,30 +8,24 @@ later xs = take (length xs - 1) (drop 1 xs)
 -- a mark that is not 0 says its stride
 narrow_step : (marks : List ℕ) (wide : List Stride) → 1 ≤ length marks → (get_or marks 0 0 ≡ 0 → ⊥)
     → strides marks wide ≡ stride_of (get_or marks 0 0) ∷ strides (drop 1 marks) wide
-narrow_step [] wide some not = absurd (omega (arith, some))
-narrow_step (m ∷ ms) [] some not = grind (arith, nat_tests, not)
-narrow_step (m ∷ ms) (s ∷ ws) some not = grind (arith, nat_tests, not)
+narrow_step marks wide some not = grind (arith, nat_tests)
 
 pub narrow_first : (marks : List ℕ) (wide : List Stride) → 1 ≤ length marks
     → (get_or marks 0 0 ≡ 0 → ⊥)
     → strides marks wide ≡ stride_of (get_or marks 0 0) ∷ strides (later marks) wide
 narrow_first marks wide some not =
-    narrow_step marks wide some not
-    ∙ ap (λ ms. stride_of (get_or marks 0 0) ∷ strides ms wide) (sym (take_rest marks 1))
+    grind (arith, nat_tests, narrow_step marks wide some not, take_rest marks 1)
 
 -- a mark of 0 stands for the next wide stride
 wide_step : (marks : List ℕ) (wide : List Stride) (d : Stride) → 1 ≤ length marks → get_or marks 0 0 ≡ 0
     → 1 ≤ length wide → strides marks wide ≡ get_or wide 0 d ∷ strides (drop 1 marks) (drop 1 wide)
-wide_step [] wide d some is more = absurd (omega (arith, some))
-wide_step (m ∷ ms) [] d some is more = absurd (omega (arith, more))
-wide_step (m ∷ ms) (s ∷ ws) d some is more = grind (arith, nat_tests, is)
+wide_step marks wide d some is more = grind (arith, nat_tests)
 
 pub wide_first : (marks : List ℕ) (wide : List Stride) (d : Stride) → 1 ≤ length marks
     → get_or marks 0 0 ≡ 0 → 1 ≤ length wide
     → strides marks wide ≡ get_or wide 0 d ∷ strides (later marks) (later wide)
 wide_first marks wide d some is more =
-    wide_step marks wide d some is more
-    ∙ (λ i. get_or wide 0 d ∷ strides (sym (take_rest marks 1) i) (sym (take_rest wide 1) i))
+    grind (arith, nat_tests, wide_step marks wide d some is more, take_rest marks 1, take_rest wide 1)
 
 -- the first stride keeps within the bytes and the lines, and the cursor behind it too
 module _ (line : ℕ) (bytes marks marks' : List ℕ) (wide wide' : List Stride) (s : Stride) (cursor : IsCursor line bytes marks wide) (is : strides marks wide ≡ s ∷ strides marks' wide') where
@@ -55,9 +44,6 @@ module _ (line : ℕ) (bytes marks marks' : List ℕ) (wide wide' : List Stride)
   }
 
   pub words_cut : (line' : ℕ) (front back : List ℕ) → line' ≡ line + s.lines → front ≡ take s.len bytes
-      → back ≡ drop s.len bytes
-      → words_along line bytes (strides marks wide)
+      → back ≡ drop s.len bytes → words_along line bytes (strides marks wide)
       ≡ word line' front ∷ words_along line' back (strides marks' wide')
-  words_cut line' front back next first rest =
-      ap (words_along line bytes) is
-      ∙ (λ i. word (sym next i) (sym first i) ∷ words_along (sym next i) (sym rest i) (strides marks' wide'))
+  words_cut line' front back next first rest = grind (arith, nat_tests)

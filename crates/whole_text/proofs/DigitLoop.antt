@@ -1,16 +1,5 @@
 -- The value of digits, as a loop finds it.
-use Rattle.std.proofs.Common.{◌≡◌, ℕ, ◌+◌, ◌-◌, ◌*◌, ◌^◌, ◌<◌, ◌≤◌, true, false, ltb, List, [], ◌∷◌, length, take, drop, get_or, Some, None, refl, sym, ap, ◌∙◌, arith, add-one, inl, inr}
-use Rattle.std.specs.Char.{is_ascii_digit, digit_value}
-use Rattle.std.specs.List.{list_all, position_or_len, before_first, after_first}
-use Rattle.std.specs.Str.Parse.{digits_value}
-use Rattle.std.proofs.lemmas.Bool.{and_left, and_right, lt-ltb, le-ltb, cases_Bool, ne_eqb}
-use Rattle.std.proofs.lemmas.Bool.Decides.{nat_tests}
-use Rattle.std.proofs.lemmas.List.{take-append-drop, take_all, drop_all}
-use Rattle.std.proofs.Math.Nat.{pow-suc, pow-le-pow_right}
-use Rattle.std.proofs.lemmas.List.Folds.{list_all-append, list_all_more}
-use Rattle.std.proofs.lemmas.Int.Digits.{digits_value_more}
-use Rattle.std.proofs.lemmas.Str.Parse.{digits_value-take-le}
-use Rattle.whole_text.specs.Numbers.{is_point, are_digits, digits_number, size_of}
+use Rattle.whole_text.proofs.Common.{◌≡◌, ℕ, ◌+◌, ◌-◌, ◌*◌, ◌^◌, ◌<◌, ◌≤◌, true, false, ltb, List, [], ◌∷◌, length, take, drop, get_or, Some, None, refl, sym, ap, ◌∙◌, arith, add-one, is_ascii_digit, digit_value, list_all, position_or_len, digits_value, and_left, and_right, lt-ltb, le-ltb, nat_tests, take-append-drop, take_all, drop_all, pow-suc, pow-le-pow_right, list_all-append, list_all_more, digits_value_more, digits_value-take-le, is_point, are_digits, digits_number, size_of}
 
 -- without a digit there is no number
 pub none_empty : (bs : List ℕ) → length bs ≡ 0 → None ≡ digits_number bs
@@ -56,32 +45,16 @@ value_is bs n some all small e = rw (lt-ltb 0 (length bs) some, all, ← e, lt-l
 -- digits have no point among them
 no_point : (bs : List ℕ) → list_all is_ascii_digit bs ≡ true → position_or_len is_point bs ≡ length bs
 no_point [] h = refl
-no_point (b ∷ bs) h =
-    elim (cases_Bool (is_ascii_digit b)) [
-      | inl digit ↦
-          let rest : list_all is_ascii_digit bs ≡ true = rw digit at h in
-          let other : is_point b ≡ false = ne_eqb b 46 (λ e. absurd (no_digit (rw e at digit))) in
-          rw (other, no_point bs rest) (omega arith)
-      | inr other ↦ absurd (no_digit (rw other at h))
-    ]
-  where
-    no_digit : false ≡ true → ⊥
-    no_digit e = absurd cc
+no_point (b ∷ bs) h = grind (arith, nat_tests, no_point bs)
 
 -- digits alone are a number's size
 pub size_plain : (bs : List ℕ) → list_all is_ascii_digit bs ≡ true → size_of bs ≡ digits_number bs
 unfolding size_of
-size_plain bs h =
-    let p = no_point bs h in
-    let front : before_first is_point bs ≡ bs = rw p (take_all (length bs) bs (omega arith)) in
-    let rest : after_first is_point bs ≡ [] = rw p (drop_all (length bs + 1) bs (omega arith)) in
-    rw (front, rest) refl
+size_plain bs h = grind (arith, nat_tests, no_point, take_all, drop_all)
 
 -- a number of i digits, and one digit more
 pub pow_more : (i n d : ℕ) → n < 10 ^ i → d < 10 → n * 10 + d < 10 ^ (i + 1)
-pow_more i n d small digit =
-    let e : 10 ^ (i + 1) ≡ 10 ^ i * 10 = ap (λ k. 10 ^ k) (add-one i) ∙ pow-suc 10 i in
-    omega (arith, e)
+pow_more i n d small digit = grind (arith, nat_tests, add-one i, pow-suc 10 i)
 
 -- 19 digits keep below 2 ^ 64
 pub pow_few : (i : ℕ) → i ≤ 19 → 10 ^ i ≤ 10000000000000000000

@@ -1,17 +1,7 @@
 -- A lexer's fields, and what it is seen as.
-use Rattle.std.proofs.Common.{◌≡◌, ℕ, ◌+◌, ◌-◌, ◌<◌, ◌≤◌, Bool, true, false, inl, inr, eqb, get_or, suc, List, [], ◌∷◌, ◌++◌, length, take, drop, refl, sym, ap, ◌∙◌, subst, append_assoc, append-nil, arith}
-use Rattle.std.specs.Prelude.{Result, Ok, Err, OnOk}
-use Rattle.std.specs.List.{slice_range, prefix_len, AllByRecursion}
-use Rattle.std.proofs.lemmas.Bool.{cases_Bool}
-use Rattle.std.proofs.lemmas.List.{drop_all, length-drop, take-take, length-take-le, take-append-le, drop-append-le, get_or-drop}
-use Rattle.std.proofs.lemmas.List.Sums.{prefix_len-le-length}
-use Rattle.whole_text.specs.declared.lexing.At.{At}
+use Rattle.whole_text.proofs.Common.{nat_tests, ◌≡◌, ℕ, ◌+◌, ◌-◌, ◌<◌, ◌≤◌, Bool, true, false, eqb, suc, List, [], ◌∷◌, ◌++◌, length, take, drop, refl, sym, ap, ◌∙◌, subst, append_assoc, append-nil, arith, Result, Ok, Err, OnOk, slice_range, prefix_len, AllByRecursion, cases_Bool, drop_all, length-drop, take-take, length-take-le, take-append-le, drop-append-le, get_or-drop, prefix_len-le-length, At, Token, Word, word, is_feed, is_blank, joins, comment_byte, words_at, AreJoined, Place, Fresh, Between, Inside, Comment, LexerState, StandsFor, place_at, IsWordStart, begun, is_above_blank, IsLive}
 use Rattle.whole_text.specs.declared.lexing.At.TheVariants as at
 use Rattle.whole_text.specs.declared.token.Style.TheVariants.{Plain}
-use Rattle.whole_text.specs.declared.token.Token.{Token}
-use Rattle.whole_text.specs.Tokens.{Word, word, is_feed, is_blank, joins, comment_byte, words_at, AreJoined}
-use Rattle.whole_text.specs.Lexing.{Place, Fresh, Between, Inside, Comment, LexerState, StandsFor}
-use Rattle.whole_text.specs.LexerPlaces.{place_at, IsWordStart, begun, is_above_blank, IsLive}
 use Rattle.whole_text.proofs.LexerSteps.{after_ink, cut_off, stands_ink, stands_kept}
 use Rattle.whole_text.proofs.Pieces.{last_of}
 
@@ -29,32 +19,21 @@ joined_order low (t ∷ ts) high h = omega (arith, h.0, h.1, joined_order t.end 
 
 range_kept : (bytes more : List ℕ) (a b : ℕ) → a ≤ b → b ≤ length bytes → slice_range (bytes ++ more) a b ≡ slice_range bytes a b
 range_kept bytes more a b ab le =
-    ap (λ (l : List ℕ). take (b - a) l) (drop-append-le a bytes more (omega arith))
-    ∙ take-append-le (b - a) (drop a bytes) more (omega (arith, length-drop a bytes))
+    grind (arith, nat_tests, drop-append-le, take-append-le, length-drop)
 
 -- words that have ended stay as they are
 pub words_kept : (bytes more : List ℕ) (low : ℕ) (ts : List Token) (high : ℕ) → AreJoined low ts high → high ≤ length bytes → words_at (bytes ++ more) ts ≡ words_at bytes ts
 words_kept bytes more low [] high h le = refl
 words_kept bytes more low (t ∷ ts) high h le =
-    let order = joined_order t.end ts high h.2 in
-    ap (λ (b : List ℕ). word t.line b ∷ words_at (bytes ++ more) ts) (range_kept bytes more t.start t.end (omega (arith, h.1)) (omega arith))
-    ∙ ap (λ (ws : List Word). word t.line (slice_range bytes t.start t.end) ∷ ws) (words_kept bytes more t.end ts high h.2 le)
+    grind (arith, nat_tests, words_kept bytes more t.end ts high h.2 le, joined_order, range_kept)
 
 -- a word starts within the bytes
 pub starts_within : (a : At) (start size : ℕ) → IsWordStart a start size → start ≤ size
-starts_within at.Fresh start size h = omega (arith, h)
-starts_within at.Between start size h = omega (arith, h)
-starts_within at.Inside start size h = omega (arith, h)
-starts_within at.Comment start size h = omega (arith, h)
-starts_within at.Spent start size h = h
+starts_within a start size h = grind (arith, nat_tests)
 
 -- the bytes of the word that hasn't ended
 pub begun_held : (a : At) (bytes : List ℕ) (start : ℕ) → IsWordStart a start (length bytes) → IsLive (place_at a (drop start bytes)) → drop start bytes ≡ begun (place_at a (drop start bytes))
-begun_held at.Fresh bytes start h live = drop_all start bytes (omega (arith, h))
-begun_held at.Between bytes start h live = drop_all start bytes (omega (arith, h))
-begun_held at.Inside bytes start h live = refl
-begun_held at.Comment bytes start h live = drop_all start bytes (omega (arith, h))
-begun_held at.Spent bytes start h live = absurd live
+begun_held a bytes start h live = grind (arith, nat_tests, drop_all)
 
 -- ---- a byte that is neither a blank nor a line feed
 
@@ -108,27 +87,16 @@ ink_apart s text w b here apart feed ink h =
 
 -- the last byte of all is that of the token that has begun
 pub last_begun : (bytes : List ℕ) (start : ℕ) → start < length bytes → last_of (drop start bytes) ≡ last_of bytes
-last_begun bytes start lt =
-    let len = length-drop start bytes in
-    let k : start + (length (drop start bytes) - 1) ≡ length bytes - 1 = omega arith in
-    get_or-drop start bytes (length (drop start bytes) - 1) 0 ∙ ap (λ n. get_or bytes n 0) k
+last_begun bytes start lt = grind (arith, nat_tests, length-drop, get_or-drop)
 
 -- inside a token the bytes behind the last word that has ended are those of the token
 pub held_inside : (a : At) (held : List ℕ) (start size : ℕ) (w : List ℕ) → place_at a held ≡ Inside w
     → IsWordStart a start size → (held ≡ w) × (start < size)
-held_inside at.Fresh held start size w e h = absurd cc
-held_inside at.Between held start size w e h = absurd cc
-held_inside at.Inside held start size w e h = (cc, h)
-held_inside at.Comment held start size w e h = absurd cc
-held_inside at.Spent held start size w e h = absurd cc
+held_inside a held start size w e h = grind (arith, nat_tests)
 
 -- inside a token the place is that of whatever bytes are held
 pub place_inside : (a : At) (held w other : List ℕ) → place_at a held ≡ Inside w → place_at a other ≡ Inside other
-place_inside at.Fresh held w other e = absurd cc
-place_inside at.Between held w other e = absurd cc
-place_inside at.Inside held w other e = refl
-place_inside at.Comment held w other e = absurd cc
-place_inside at.Spent held w other e = absurd cc
+place_inside a held w other e = grind (arith, nat_tests)
 
 -- ---- a run of bytes above the blank, inside a token of the plain style
 
@@ -145,12 +113,7 @@ run_state s w bs = record s { place = Inside (w ++ bs); size = s.size + length b
 -- each byte goes on with the token
 stands_run : (s : LexerState) (text w bs : List ℕ) → s.style ≡ Plain → s.place ≡ Inside w → AllByRecursion (λ b. is_above_blank b ≡ true) bs
     → StandsFor s text → StandsFor (run_state s w bs) (text ++ bs)
-stands_run s text w [] plain here above h =
-    let place : s.place ≡ Inside (w ++ []) = here ∙ ap Inside (sym (append-nil w)) in
-    let size : s.size ≡ s.size + 0 = omega arith in
-    subst (λ (p : Place). StandsFor (record s { place = p; size = s.size + 0 }) (text ++ [])) place
-    (subst (λ (n : ℕ). StandsFor (record s { size = n }) (text ++ [])) size
-    (subst (StandsFor s) (sym (append-nil text)) h))
+stands_run s text w [] plain here above h = grind (arith, nat_tests, append-nil)
 stands_run s text w (b ∷ bs) plain here above h =
     let next = record s { place = Inside (w ++ b ∷ []); size = s.size + 1 } in
     let one : StandsFor next (text ++ b ∷ []) =
@@ -167,10 +130,7 @@ pub front_passes : (p : ℕ → Bool) (xs : List ℕ) → AllByRecursion (λ x. 
 front_passes p [] = tt
 front_passes p (x ∷ xs) =
     let next : suc (prefix_len p xs) ≡ 1 + prefix_len p xs = omega arith in
-    elim (cases_Bool (p x)) [
-      | inl passes ↦ rw passes (subst (λ (n : ℕ). AllByRecursion (λ y. p y ≡ true) (take n (x ∷ xs))) next (passes, front_passes p xs))
-      | inr fails ↦ rw fails tt
-    ]
+    grind (arith, nat_tests, front_passes p xs, cases_Bool)
 
 -- the bytes above the blank in front of a chunk
 pub run_fed : (now new : LexerState) (w rest : List ℕ) (size len : ℕ) → now.style ≡ Plain → now.place ≡ Inside w

@@ -1,14 +1,5 @@
 -- A lexer that stands for a text stands for one byte more after each of its steps.
-use Rattle.std.proofs.Common.{◌≡◌, ℕ, suc, ◌+◌, ◌≤◌, Bool, true, false, eqb, List, [], ◌∷◌, ◌++◌, length, refl, sym, ap, subst, ◌∙◌, arith, append_assoc, inl, inr}
-use Rattle.std.specs.Prelude.{filter, if◌then◌else◌}
-use Rattle.std.specs.List.{slice_split, onto_first}
-use Rattle.std.proofs.lemmas.Bool.{cases_Bool}
-use Rattle.std.proofs.lemmas.List.{append-nil, length-append}
-use Rattle.std.proofs.lemmas.List.Splits.{slice_split-cons_yes, slice_split-cons_no}
-use Rattle.whole_text.specs.declared.token.Style.{Style}
-use Rattle.whole_text.specs.Tokens.{Word, word, joins, is_blank, is_feed, is_filled, words, comment_byte, begins_with, is_comment, tokens_of_line, tokens_from, tokens_of}
-use Rattle.whole_text.specs.Lexing.{Place, Fresh, Between, Inside, Comment, Spent, LexerState, IsPlace, to_come, feeds, StandsFor}
-use Rattle.whole_text.specs.LexerPlaces.{ended, after_blank}
+use Rattle.whole_text.proofs.Common.{nat_tests, ◌≡◌, ℕ, ◌+◌, ◌≤◌, true, false, eqb, List, [], ◌∷◌, ◌++◌, length, refl, sym, ap, ◌∙◌, arith, append_assoc, inl, inr, filter, if◌then◌else◌, slice_split, onto_first, cases_Bool, append-nil, length-append, slice_split-cons_yes, slice_split-cons_no, Style, Word, word, joins, is_blank, is_feed, is_filled, words, comment_byte, begins_with, is_comment, tokens_of_line, tokens_from, tokens_of, Place, Fresh, Between, Inside, Comment, Spent, LexerState, IsPlace, to_come, feeds, StandsFor, ended, after_blank}
 use Rattle.whole_text.proofs.LineWords.{words_none, words_blank, comment_line, other_line}
 use Rattle.whole_text.proofs.Pieces.{last_of, one_begun, begun_more, blank_ends, line_ends, apart_ends}
 
@@ -37,19 +28,13 @@ first_decides style b l e = rw e (begins_first (comment_byte style) b (slice_spl
 
 feed_step : (style : Style) (place : Place) (n : ℕ) (lines : List (List ℕ)) → IsPlace style place → to_come style place n ([] ∷ lines) ≡ ended n place ++ tokens_from style (n + 1) lines
 unfolding to_come tokens_from
-feed_step style Fresh n lines h = rw (no_tokens style n) refl
-feed_step style Between n lines h = rw words_none refl
-feed_step style (Inside w) n lines h = rw (append-nil w, line_ends style w h) refl
-feed_step style Comment n lines h = refl
-feed_step style Spent n lines h = absurd h
+feed_step style place n lines h =
+    grind (arith, nat_tests, no_tokens, words_none, append-nil, line_ends)
 
 blank_step : (style : Style) (place : Place) (n b : ℕ) (l : List ℕ) (lines : List (List ℕ)) → IsPlace style place → is_blank b ≡ true → to_come style place n ((b ∷ l) ∷ lines) ≡ ended n place ++ to_come style (after_blank place) n (l ∷ lines)
 unfolding to_come tokens_from
-blank_step style Fresh n b l lines h e = rw (blank_line style n b l e) refl
-blank_step style Between n b l lines h e = rw (words_blank b l e) refl
-blank_step style (Inside w) n b l lines h e = rw (blank_ends style w b l h e) refl
-blank_step style Comment n b l lines h e = refl
-blank_step style Spent n b l lines h e = absurd h
+blank_step style place n b l lines h e =
+    grind (arith, nat_tests, blank_line, words_blank, blank_ends)
 
 -- the place behind a byte that is neither a blank nor a line feed
 abbrev pub after_ink : Style → Place → ℕ → Place
@@ -69,49 +54,21 @@ cut_off style n Comment b = []
 cut_off style n Spent b = []
 
 ink_step : (style : Style) (place : Place) (n b : ℕ) (l : List ℕ) (lines : List (List ℕ))
-    → IsPlace style place → is_blank b ≡ false
-    → to_come style place n ((b ∷ l) ∷ lines)
+    → IsPlace style place → is_blank b ≡ false → to_come style place n ((b ∷ l) ∷ lines)
     ≡ cut_off style n place b ++ to_come style (after_ink style place b) n (l ∷ lines)
 unfolding to_come tokens_from
-ink_step style Fresh n b l lines h e =
-    elim (cases_Bool (eqb b (comment_byte style))) [
-      | inl here ↦ rw (comment_line style n (b ∷ l) (first_decides style b l e ∙ here), here) refl
-      | inr other ↦ rw (other_line style n (b ∷ l) (first_decides style b l e ∙ other), other) refl
-    ]
-ink_step style Between n b l lines h e = refl
-ink_step style (Inside w) n b l lines h e =
-    elim (cases_Bool (joins style (last_of w) b)) [
-      | inl together ↦ rw (together, append_assoc w (b ∷ []) l) refl
-      | inr apart ↦ rw (apart_ends style w b l h e apart, apart) refl
-    ]
-ink_step style Comment n b l lines h e = refl
-ink_step style Spent n b l lines h e = absurd h
+ink_step style place n b l lines h e =
+    grind (arith, nat_tests, cases_Bool, comment_line, first_decides, other_line, last_of, append_assoc, apart_ends)
 
 -- ---- places go on
 
 place_blank : (style : Style) (place : Place) → IsPlace style place
     → IsPlace style (after_blank place)
-place_blank style Fresh h = h
-place_blank style Between h = h
-place_blank style (Inside w) h = tt
-place_blank style Comment h = h
-place_blank style Spent h = h
+place_blank style place h = grind (arith, nat_tests)
 
 place_ink : (style : Style) (place : Place) (b : ℕ) → IsPlace style place → is_blank b ≡ false
     → IsPlace style (after_ink style place b)
-place_ink style Fresh b h e =
-    elim (eqb b (comment_byte style)) as (λ (t : Bool). IsPlace style (if t then Comment else Inside (b ∷ []))) [
-      | true ↦ tt
-      | false ↦ one_begun style b e
-    ]
-place_ink style Between b h e = one_begun style b e
-place_ink style (Inside w) b h e =
-    elim (cases_Bool (joins style (last_of w) b)) [
-      | inl together ↦ rw together (begun_more style w b h e together)
-      | inr apart ↦ rw apart (one_begun style b e)
-    ]
-place_ink style Comment b h e = tt
-place_ink style Spent b h e = h
+place_ink style place b h e = grind (arith, nat_tests, one_begun, cases_Bool, last_of, begun_more)
 
 feeds-push : (text : List ℕ) (b : ℕ) → feeds (text ++ b ∷ []) ≡ feeds text + (if is_feed b then 1 else 0)
 feeds-push [] b = omega arith
@@ -119,11 +76,7 @@ feeds-push (c ∷ text) b = omega (arith, feeds-push text b)
 
 pub feeds-few : (text : List ℕ) → feeds text ≤ length text
 feeds-few [] = omega arith
-feeds-few (b ∷ text) =
-    elim (is_feed b) as (λ (t : Bool). (if t then 1 else 0) + feeds text ≤ suc (length text)) [
-      | true ↦ omega (arith, feeds-few text)
-      | false ↦ omega (arith, feeds-few text)
-    ]
+feeds-few (b ∷ text) = grind (arith, nat_tests, feeds-few text)
 
 -- ---- the lexer goes on by one byte
 
@@ -162,20 +115,29 @@ stands_feed s text b feed h = record {
   size = omega (arith, longer text b s.size h.size);
 }
 
-pub stands_blank : (s : LexerState) (text : List ℕ) (b : ℕ) → is_feed b ≡ false → is_blank b ≡ true → StandsFor s text → StandsFor (blank_state s) (text ++ b ∷ [])
-stands_blank s text b feed blank h = record {
-  place = place_blank s.style s.place h.place;
+-- a byte that is no line feed, which ends some words and leads to another place
+stands_behind : (s : LexerState) (text : List ℕ) (b size : ℕ) (off : List Word) (after : Place) → is_feed b ≡ false
+    → IsPlace s.style after → size ≤ s.size + 1
+    → ((l : List ℕ) (lines : List (List ℕ)) → to_come s.style s.place s.line ((b ∷ l) ∷ lines) ≡ off ++ to_come s.style after s.line (l ∷ lines))
+    → StandsFor s text → StandsFor (record s { words = s.words ++ off; place = after; size = size }) (text ++ b ∷ [])
+stands_behind s text b size off after feed place le step h = record {
+  place = place;
   words = λ rest.
       let more = some_line rest in
       let cut : slice_split is_feed (b ∷ rest) ≡ (b ∷ more.0) ∷ more.1 = slice_split-cons_no is_feed b rest feed ∙ ap (onto_first b) more.2 in
       ap (tokens_of s.style) (append_assoc text (b ∷ []) rest) ∙ h.words (b ∷ rest)
       ∙ ap (λ (ls : List (List ℕ)). s.words ++ to_come s.style s.place s.line ls) cut
-      ∙ ap (λ (ws : List Word). s.words ++ ws) (blank_step s.style s.place s.line b more.0 more.1 h.place blank)
-      ∙ sym (append_assoc s.words (ended s.line s.place) (to_come s.style (after_blank s.place) s.line (more.0 ∷ more.1)))
-      ∙ ap (λ (ls : List (List ℕ)). (s.words ++ ended s.line s.place) ++ to_come s.style (after_blank s.place) s.line ls) (sym more.2);
+      ∙ ap (λ (ws : List Word). s.words ++ ws) (step more.0 more.1)
+      ∙ sym (append_assoc s.words off (to_come s.style after s.line (more.0 ∷ more.1)))
+      ∙ ap (λ (ls : List (List ℕ)). (s.words ++ off) ++ to_come s.style after s.line ls) (sym more.2);
   line = rw (feeds-push text b, feed) (omega (arith, h.line));
-  size = omega (arith, longer text b s.size h.size);
+  size = omega (arith, length-append text (b ∷ []), h.size);
 }
+
+pub stands_blank : (s : LexerState) (text : List ℕ) (b : ℕ) → is_feed b ≡ false → is_blank b ≡ true → StandsFor s text → StandsFor (blank_state s) (text ++ b ∷ [])
+stands_blank s text b feed blank h =
+    stands_behind s text b s.size (ended s.line s.place) (after_blank s.place) feed (place_blank s.style s.place h.place)
+    (omega arith) (λ l lines. blank_step s.style s.place s.line b l lines h.place blank) h
 
 -- the state behind another byte, which counts where it is held
 abbrev pub ink_state : LexerState → ℕ → ℕ → LexerState
@@ -186,38 +148,22 @@ ink_state s b size = record s {
 }
 
 pub stands_ink : (s : LexerState) (text : List ℕ) (b size : ℕ) → is_feed b ≡ false → is_blank b ≡ false → size ≤ s.size + 1 → StandsFor s text → StandsFor (ink_state s b size) (text ++ b ∷ [])
-stands_ink s text b size feed ink le h = record {
-  place = place_ink s.style s.place b h.place ink;
-  words = λ rest.
-      let more = some_line rest in
-      let cut : slice_split is_feed (b ∷ rest) ≡ (b ∷ more.0) ∷ more.1 = slice_split-cons_no is_feed b rest feed ∙ ap (onto_first b) more.2 in
-      let off = cut_off s.style s.line s.place b in
-      let after = after_ink s.style s.place b in
-      ap (tokens_of s.style) (append_assoc text (b ∷ []) rest) ∙ h.words (b ∷ rest)
-      ∙ ap (λ (ls : List (List ℕ)). s.words ++ to_come s.style s.place s.line ls) cut
-      ∙ ap (λ (ws : List Word). s.words ++ ws) (ink_step s.style s.place s.line b more.0 more.1 h.place ink)
-      ∙ sym (append_assoc s.words off (to_come s.style after s.line (more.0 ∷ more.1)))
-      ∙ ap (λ (ls : List (List ℕ)). (s.words ++ off) ++ to_come s.style after s.line ls) (sym more.2);
-  line = rw (feeds-push text b, feed) (omega (arith, h.line));
-  size = omega (arith, longer text b s.size h.size);
-}
+stands_ink s text b size feed ink le h =
+    stands_behind s text b size (cut_off s.style s.line s.place b) (after_ink s.style s.place b) feed
+    (place_ink s.style s.place b h.place ink) le (λ l lines. ink_step s.style s.place s.line b l lines h.place ink) h
 
 -- where no token ends before it
 pub stands_kept : (s : LexerState) (text : List ℕ) (b size : ℕ) → cut_off s.style s.line s.place b ≡ []
     → is_feed b ≡ false → is_blank b ≡ false → size ≤ s.size + 1 → StandsFor s text
     → StandsFor (record s { place = after_ink s.style s.place b; size = size }) (text ++ b ∷ [])
 stands_kept s text b size kept feed ink le h =
-    let same : s.words ++ cut_off s.style s.line s.place b ≡ s.words =
-    ap (λ (ws : List Word). s.words ++ ws) kept ∙ append-nil s.words in
-    subst (λ (ws : List Word). StandsFor (record s { words = ws; place = after_ink s.style s.place b; size = size }) (text ++ b ∷ []))
-    same (stands_ink s text b size feed ink le h)
+    grind (arith, nat_tests, append-nil s.words, stands_ink s text b size feed ink le h)
 
 -- at the end the words are those of the text
 pub stands_end : (s : LexerState) (text : List ℕ) → StandsFor s text → tokens_of s.style text ≡ s.words ++ ended s.line s.place
 unfolding tokens_from
 stands_end s text h =
-    ap (tokens_of s.style) (sym (append-nil text)) ∙ h.words []
-    ∙ ap (λ (ws : List Word). s.words ++ ws) (feed_step s.style s.place s.line [] h.place ∙ append-nil (ended s.line s.place))
+    grind (arith, nat_tests, append-nil text, feed_step s.style s.place s.line, append-nil (ended s.line s.place))
 
 -- without a text
 pub stands_empty : (style : Style) → StandsFor (record { style = style; words = []; place = Fresh; line = 1; size = 0 }) []

@@ -1,11 +1,6 @@
 -- The tokens of lines: a line of words that is no comment has its words as tokens.
-use Rattle.std.proofs.Common.{◌≡◌, ℕ, ◌+◌, ◌<◌, false, cond, List, [], ◌∷◌, ◌++◌, length, map, refl, ap, ◌∙◌, arith, append_assoc}
-use Rattle.std.specs.Prelude.{filter}
-use Rattle.std.specs.List.{AllByRecursion, flat_map, join_with_byte, slice_split}
-use Rattle.std.proofs.lemmas.List.Elements.{All-from_recursion}
-use Rattle.std.proofs.lemmas.List.Splits.{slice_split_at, slice_split_none}
+use Rattle.whole_text.proofs.Common.{nat_tests, ◌≡◌, ℕ, ◌+◌, ◌<◌, false, cond, List, [], ◌∷◌, ◌++◌, length, map, refl, ap, ◌∙◌, arith, append_assoc, filter, AllByRecursion, flat_map, join_with_byte, slice_split, All-from_recursion, slice_split_at, slice_split_none, Word, word, is_blank, is_feed, is_filled, words, begins_with, is_comment, tokens_of_line, tokens_from}
 use Rattle.whole_text.specs.declared.token.Style.TheVariants.{Plain}
-use Rattle.whole_text.specs.Tokens.{Word, word, is_blank, is_feed, is_filled, words, begins_with, is_comment, tokens_of_line, tokens_from}
 use Rattle.whole_text.proofs.Pieces.{plain_line}
 
 -- ---- words that stand for themselves
@@ -68,9 +63,7 @@ line_again : (n : ℕ) (w : List ℕ) (ws : List (List ℕ)) → AreInk (w ∷ w
     → begins_with 99 (w ∷ ws) ≡ false
     → tokens_of_line Plain n (join_with_byte 32 (w ∷ ws)) ≡ map (word n) (w ∷ ws)
 unfolding is_comment
-line_again n w ws h other =
-    plain_line n (join_with_byte 32 (w ∷ ws)) ∙ ap (shown n) (words_joined w ws h)
-    ∙ ap (λ b. cond b [] (map (word n) (w ∷ ws))) other
+line_again n w ws h other = grind (arith, nat_tests, plain_line, words_joined)
 
 -- ---- the lines of a text
 
@@ -103,9 +96,7 @@ no_lines n = refl
 pub joined_lacks : (w : List ℕ) (ws : List (List ℕ)) → AllByRecursion LacksFeeds (w ∷ ws)
     → LacksFeeds (join_with_byte 32 (w ∷ ws))
 joined_lacks w [] h = h.0
-joined_lacks w (v ∷ vs) h =
-    let rest = 32 ∷ join_with_byte 32 (v ∷ vs) in
-    all_append (λ b. is_feed b ≡ false) w rest h.0 (refl, joined_lacks v vs h.1)
+joined_lacks w (v ∷ vs) h = grind (arith, nat_tests, joined_lacks v vs h.1, all_append)
 
 ink_lacks : (ws : List (List ℕ)) → AreInk ws → AllByRecursion LacksFeeds ws
 ink_lacks [] h = tt
@@ -116,6 +107,4 @@ pub words_then : (n : ℕ) (w : List ℕ) (ws : List (List ℕ)) (lines : List (
     → AreInk (w ∷ ws) → begins_with 99 (w ∷ ws) ≡ false
     → tokens_after n ((w ∷ ws) ∷ lines) ≡ map (word n) (w ∷ ws) ++ tokens_after (n + 1) lines
 words_then n w ws lines h other =
-    line_then n (join_with_byte 32 (w ∷ ws)) (flat_map line lines)
-    (joined_lacks w ws (ink_lacks (w ∷ ws) h))
-    ∙ ap (λ (front : List Word). front ++ tokens_after (n + 1) lines) (line_again n w ws h other)
+    grind (arith, nat_tests, line_then, joined_lacks, ink_lacks, line_again)

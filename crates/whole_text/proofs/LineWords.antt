@@ -1,15 +1,6 @@
 -- The words of a line, from left to right.
-use Rattle.std.proofs.Common.{◌≡◌, ℕ, zero, suc, ◌+◌, ◌-◌, ◌<◌, ◌≤◌, Bool, true, false, not, eqb, List, [], ◌∷◌, ◌++◌, length, map, take, drop, get_or, refl, sym, ap, ◌∙◌, arith, inl, inr, append_assoc}
-use Rattle.std.specs.Prelude.{filter}
-use Rattle.std.specs.List.{slice_range, slice_split, position_or_len}
-use Rattle.std.proofs.lemmas.Bool.{cases_lt, cases_Bool, not-true, not-false}
-use Rattle.std.proofs.lemmas.List.{drop_more, drop_all, take_all, map-append, length-take, length-drop, get_or-drop, get_or_read}
-use Rattle.std.proofs.lemmas.List.Sums.{prefix_len-le-length, prefix_len_passes, prefix_len_stops}
-use Rattle.std.proofs.lemmas.List.Splits.{slice_split_first, slice_split_none}
+use Rattle.whole_text.proofs.Common.{nat_tests, ◌≡◌, ℕ, suc, ◌+◌, ◌-◌, ◌<◌, ◌≤◌, Bool, true, false, not, eqb, List, [], ◌∷◌, ◌++◌, length, map, take, drop, get_or, refl, sym, ap, ◌∙◌, arith, inl, inr, append_assoc, filter, slice_range, position_or_len, cases_lt, cases_Bool, not-true, not-false, drop_more, drop_all, take_all, map-append, length-take, length-drop, get_or-drop, get_or_read, prefix_len-le-length, prefix_len_passes, prefix_len_stops, slice_split_first, slice_split_none, Style, Token, word, word_at, is_blank, is_filled, words, pieces_of_line, comment_byte, begins_with, is_comment, tokens_of_line}
 use Rattle.whole_text.proofs.Slices.{slice_length, slice_at, slice_dropped, slice_taken}
-use Rattle.whole_text.specs.declared.token.Style.{Style}
-use Rattle.whole_text.specs.declared.token.Token.{Token}
-use Rattle.whole_text.specs.Tokens.{word, word_at, is_blank, is_filled, words, pieces_of_line, comment_byte, begins_with, is_comment, tokens_of_line}
 
 -- a byte of a word
 abbrev pub is_ink : ℕ → Bool
@@ -46,16 +37,13 @@ kept_first (c ∷ cs) ws some = refl
 -- a line with a blank: the word before it, and the words after it
 words_cut : (bs : List ℕ) → position_or_len is_blank bs < length bs → 0 < position_or_len is_blank bs → words bs ≡ take (position_or_len is_blank bs) bs ∷ words (drop (position_or_len is_blank bs + 1) bs)
 unfolding words
-words_cut bs lt some =
-    let parts : slice_split is_blank bs ≡ take (position_or_len is_blank bs) bs ∷ slice_split is_blank (drop (position_or_len is_blank bs + 1) bs) = slice_split_first is_blank bs 0 lt in
-    rw parts (kept_first (take (position_or_len is_blank bs) bs) (slice_split is_blank (drop (position_or_len is_blank bs + 1) bs)) (omega (arith, length-take (position_or_len is_blank bs) bs)))
+words_cut bs lt some = grind (arith, nat_tests, slice_split_first, kept_first, length-take)
 
 -- a line without a blank is one word
 words_one : (bs : List ℕ) → position_or_len is_blank bs ≡ length bs → 0 < length bs → words bs ≡ bs ∷ []
 unfolding words
 words_one bs all some =
-    let parts : slice_split is_blank bs ≡ bs ∷ [] = slice_split_none is_blank bs (λ k d lt. not-true _ (prefix_len_passes is_ink bs k d (omega (arith, all)))) in
-    rw parts (kept_first bs [] some)
+    grind (arith, nat_tests, slice_split_none, not-true, prefix_len_passes, kept_first)
 
 -- a line that begins with no blank begins with a word
 pub word_len_some : (bs : List ℕ) → 0 < length bs → is_blank (get_or bs 0 0) ≡ false → 0 < position_or_len is_blank bs
@@ -73,16 +61,12 @@ words_first bs some ink =
           words_cut bs lt filled ∙ ap (λ (ws : List (List ℕ)). take n bs ∷ ws) (sym (ap words (drop_more bs n 0 lt) ∙ words_blank (get_or bs n 0) (drop (n + 1) bs) stop))
       | inr ge ↦
           let all : n ≡ length bs = omega (arith, prefix_len-le-length is_ink bs) in
-          let whole : take n bs ≡ bs = take_all n bs ge in
-          let none : drop n bs ≡ [] = drop_all n bs ge in
-          words_one bs all some ∙ rw (whole, none, words_none) refl
+          words_one bs all some ∙ rw (take_all n bs ge, drop_all n bs ge, words_none) refl
     ]
 
 -- the first word begins with the first byte
 begins : (c n : ℕ) (bs : List ℕ) (ws : List (List ℕ)) → 0 < n → 0 < length bs → begins_with c (take n bs ∷ ws) ≡ eqb (get_or bs 0 0) c
-begins c zero bs ws h some = absurd (omega arith)
-begins c (suc n) [] ws h some = absurd (omega arith)
-begins c (suc n) (b ∷ bs) ws h some = refl
+begins c n bs ws h some = grind (arith, nat_tests)
 
 -- the first byte that is no blank decides whether a line is a comment
 decided : (style : Style) (bs : List ℕ) → position_or_len is_ink bs < length bs → is_comment style bs ≡ eqb (get_or bs (position_or_len is_ink bs) 0) (comment_byte style)
@@ -97,9 +81,7 @@ decided style bs lt =
     ap (begins_with (comment_byte style)) (words_skip bs ∙ words_first rest some ink) ∙ begins (comment_byte style) (position_or_len is_blank rest) rest (words (drop (position_or_len is_blank rest) rest)) (word_len_some rest some ink) some ∙ ap (λ b. eqb b (comment_byte style)) here
 
 pub comment_from_byte : (style : Style) (bs : List ℕ) (n byte : ℕ) → n ≡ position_or_len is_ink bs → n < length bs → byte ≡ get_or bs n byte → eqb byte (comment_byte style) ≡ is_comment style bs
-comment_from_byte style bs n byte first lt read =
-    let here : byte ≡ get_or bs n 0 = get_or_read bs n byte lt read 0 in
-    rw (here, first) (sym (decided style bs (rw (← first) lt)))
+comment_from_byte style bs n byte first lt read = grind (arith, nat_tests, get_or_read, decided)
 
 -- a line of blanks is no comment
 pub comment_none : (style : Style) (bs : List ℕ) (n : ℕ) → n ≡ position_or_len is_ink bs → length bs ≤ n → false ≡ is_comment style bs
@@ -125,12 +107,7 @@ token_taken text was now t before after e n =
 pub skipped : (text : List ℕ) (a b n : ℕ) → a ≤ b → b ≤ length text → n ≡ position_or_len is_ink (slice_range text a b)
     → (words (slice_range text a b) ≡ words (slice_range text (a + n) b)) × (a + n ≤ b) × (a + n < b → is_blank (get_or text (a + n) 0) ≡ false)
 skipped text a b n ab bl e =
-    let bs = slice_range text a b in
-    let len = slice_length text a b bl in
-    let le : n ≤ b - a = omega (arith, prefix_len-le-length (λ c. not (is_ink c)) bs) in
-    let same : words bs ≡ words (drop n bs) = rw e (words_skip bs) in
-    let moved : drop n bs ≡ slice_range text (a + n) b = slice_dropped text a n b (omega arith) in
-    (same ∙ ap words moved, omega arith, λ lt. sym (ap is_blank (slice_at text a b n (omega arith))) ∙ ap (λ k. is_blank (get_or bs k 0)) e ∙ skip_stops bs (omega arith))
+    grind (arith, nat_tests, slice_length, prefix_len-le-length, words_skip, slice_dropped, slice_at, skip_stops)
 
 -- the word that is taken at a place of a text, and where it ends
 pub taken : (text : List ℕ) (a b n : ℕ) → a < b → b ≤ length text → is_blank (get_or text a 0) ≡ false → n ≡ position_or_len is_blank (slice_range text a b)

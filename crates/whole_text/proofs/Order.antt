@@ -1,9 +1,5 @@
 -- Tokens in order: one more may be pushed behind them, and each of them stands inside the text.
-use Rattle.std.proofs.Common.{ℕ, ◌<◌, ◌≤◌, List, [], ◌∷◌, ◌++◌, length, All, arith}
-use Rattle.std.specs.List.{AllByRecursion}
-use Rattle.std.proofs.lemmas.List.Elements.{All-from_recursion}
-use Rattle.whole_text.specs.declared.token.Token.{Token}
-use Rattle.whole_text.specs.Tokens.{AreInOrder, IsWithin}
+use Rattle.whole_text.proofs.Common.{ℕ, ◌<◌, ◌≤◌, List, [], ◌∷◌, ◌++◌, length, All, arith, AllByRecursion, All-from_recursion, Token, AreInOrder, IsWithin}
 
 pub order_wider : (low : ℕ) (ts : List Token) (mid high : ℕ) → AreInOrder low ts mid → mid ≤ high → AreInOrder low ts high
 order_wider low [] mid high h le = omega arith

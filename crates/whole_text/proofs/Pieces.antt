@@ -1,16 +1,7 @@
 -- The pieces of words: a piece goes on, or ends where neighbours do not join, at a blank or at the
 -- end of the line.
-use Rattle.std.proofs.Common.{◌≡◌, ℕ, suc, ◌+◌, ◌-◌, ◌<◌, ◌≤◌, Bool, true, false, cond, List, [], ◌∷◌, ◌++◌, length, map, take, drop, get_or, refl, sym, ap, subst, ◌∙◌, arith, inl, inr}
-use Rattle.std.specs.Prelude.{filter}
-use Rattle.std.specs.List.{slice_split, slice_range, onto_first, flat_map, AllByRecursion, position_or_len}
-use Rattle.std.proofs.lemmas.Bool.{cases_Bool}
-use Rattle.std.proofs.lemmas.List.{length-append, take-append-drop, drop_more, take_more, length-take, take_all, drop_all, get_or-take}
-use Rattle.std.proofs.lemmas.List.Elements.{All-from_recursion}
-use Rattle.std.proofs.lemmas.List.Splits.{slice_split_at, slice_split_none, slice_split-cons_no}
-use Rattle.whole_text.specs.declared.token.Style.{Style}
+use Rattle.whole_text.proofs.Common.{nat_tests, ◌≡◌, ℕ, suc, ◌+◌, ◌-◌, ◌<◌, ◌≤◌, Bool, true, false, cond, List, [], ◌∷◌, ◌++◌, length, map, take, drop, get_or, refl, sym, ap, subst, ◌∙◌, arith, filter, slice_split, slice_range, onto_first, flat_map, AllByRecursion, position_or_len, cases_Bool, length-append, take-append-drop, drop_more, take_more, length-take, take_all, drop_all, get_or-take, All-from_recursion, slice_split_at, slice_split_none, slice_split-cons_no, Style, word, is_blank, is_filled, words, joins, pieces, pieces_of_line, is_comment, tokens_of_line, IsBegun}
 use Rattle.whole_text.specs.declared.token.Style.TheVariants.{Plain}
-use Rattle.whole_text.specs.Tokens.{word, is_blank, is_filled, words, joins, pieces, pieces_of_line, is_comment, tokens_of_line}
-use Rattle.whole_text.specs.Lexing.{IsBegun}
 use Rattle.whole_text.proofs.Slices.{slice_length, slice_at, slice_dropped, slice_taken}
 use Rattle.whole_text.proofs.LineWords.{words_none, words_blank, words_first, kept_first, other_line}
 
@@ -29,9 +20,7 @@ last_next x y ys =
 
 onto_one : (x : ℕ) (ys : List ℕ) (parts : List (List ℕ)) → onto_first x parts ≡ (x ∷ ys) ∷ []
     → 0 < length ys → parts ≡ ys ∷ []
-onto_one x [] [] e h = absurd (omega arith)
-onto_one x (y ∷ ys) [] e h = absurd cc
-onto_one x ys (part ∷ parts) e h = cc
+onto_one x ys parts e h = grind (arith, nat_tests)
 
 chosen_run : (b : Bool) (x y : ℕ) (ys : List ℕ) (parts : List (List ℕ))
     → cond b (onto_first x parts) ((x ∷ []) ∷ parts) ≡ (x ∷ y ∷ ys) ∷ []
@@ -56,10 +45,7 @@ unfolding pieces
 run_ends_at style x [] d cs run apart = rw apart refl
 run_ends_at style x (y ∷ ys) d cs run apart =
     let parts = run_parts style x y ys run in
-    let apart' : joins style (last_of (y ∷ ys)) d ≡ false =
-    ap (λ n. joins style n d) (sym (last_next x y ys)) ∙ apart in
-    let rest : pieces style ((y ∷ ys) ++ d ∷ cs) ≡ (y ∷ ys) ∷ pieces style (d ∷ cs) =
-    run_ends_at style y ys d cs parts.1 apart' in
+    let rest = run_ends_at style y ys d cs parts.1 (ap (λ n. joins style n d) (sym (last_next x y ys)) ∙ apart) in
     rw (parts.0, rest) refl
 
 run_grows : (style : Style) (x : ℕ) (xs : List ℕ) (d : ℕ) → IsRun style (x ∷ xs)
@@ -68,10 +54,7 @@ unfolding pieces
 run_grows style x [] d run together = rw together refl
 run_grows style x (y ∷ ys) d run together =
     let parts = run_parts style x y ys run in
-    let together' : joins style (last_of (y ∷ ys)) d ≡ true =
-    ap (λ n. joins style n d) (sym (last_next x y ys)) ∙ together in
-    let rest : pieces style ((y ∷ ys) ++ d ∷ []) ≡ ((y ∷ ys) ++ d ∷ []) ∷ [] =
-    run_grows style y ys d parts.1 together' in
+    let rest = run_grows style y ys d parts.1 (ap (λ n. joins style n d) (sym (last_next x y ys)) ∙ together) in
     rw (parts.0, rest) refl
 
 -- a run ends where neighbours do not join
@@ -108,8 +91,7 @@ plain_pieces line = plain_filled (slice_split is_blank line)
 pub plain_line : (n : ℕ) (line : List ℕ)
     → tokens_of_line Plain n line ≡ cond (is_comment Plain line) [] (map (word n) (words line))
 unfolding tokens_of_line
-plain_line n line =
-    ap (λ ws. cond (is_comment Plain line) [] (map (word n) ws)) (plain_pieces line)
+plain_line n line = ap (λ ws. cond (is_comment Plain line) [] (map (word n) ws)) (plain_pieces line)
 
 pub other_plain : (n : ℕ) (line : List ℕ) → is_comment Plain line ≡ false
     → tokens_of_line Plain n line ≡ map (word n) (words line)
@@ -153,20 +135,13 @@ line_ends style w h =
 -- the first word of a line that begins with no blank, without its first byte, and the other words
 first_split : (b : ℕ) (l : List ℕ) → is_blank b ≡ false
     → (v : List ℕ) × (vs : List (List ℕ)) × (slice_split is_blank (b ∷ l) ≡ (b ∷ v) ∷ vs)
-first_split b l e = go (slice_split is_blank l) (slice_split-cons_no is_blank b l e)
-  where
-    go : (parts : List (List ℕ)) → slice_split is_blank (b ∷ l) ≡ onto_first b parts
-        → (v : List ℕ) × (vs : List (List ℕ)) × (slice_split is_blank (b ∷ l) ≡ (b ∷ v) ∷ vs)
-    go [] cut = ([], [], cut)
-    go (v ∷ vs) cut = (v, vs, cut)
+first_split b l e = grind (arith, nat_tests, slice_split-cons_no is_blank b l e)
 
 -- a word in front goes to the first word
 split_front : (w l v : List ℕ) (vs : List (List ℕ)) → AllByRecursion (λ b. is_blank b ≡ false) w
     → slice_split is_blank l ≡ v ∷ vs → slice_split is_blank (w ++ l) ≡ (w ++ v) ∷ vs
 split_front [] l v vs ink cut = cut
-split_front (c ∷ cs) l v vs ink cut =
-    slice_split-cons_no is_blank c (cs ++ l) ink.0
-    ∙ ap (onto_first c) (split_front cs l v vs ink.1 cut)
+split_front (c ∷ cs) l v vs ink cut = grind (arith, nat_tests, split_front cs l v vs ink.1 cut)
 
 -- a token that ends where neighbours do not join
 pub apart_ends : (style : Style) (w : List ℕ) (b : ℕ) (l : List ℕ) → IsBegun style w
@@ -177,17 +152,12 @@ apart_ends style w b l h ink apart =
     let parts = first_split b l ink in
     let whole = split_front w (b ∷ l) (b ∷ parts.0) parts.1 h.ink parts.2 in
     let later = flat_map (pieces style) (filter is_filled parts.1) in
-    ap (λ (ps : List (List ℕ)). flat_map (pieces style) (filter is_filled ps)) whole
-    ∙ ap (flat_map (pieces style)) (kept_first (w ++ b ∷ parts.0) parts.1 (omega (arith, length-append w (b ∷ parts.0), h.some)))
-    ∙ (λ i. run_ends style w b parts.0 h.some h.run apart i ++ later)
-    ∙ ap (λ (ps : List (List ℕ)). w ∷ flat_map (pieces style) (filter is_filled ps)) (sym parts.2)
+    grind (arith, nat_tests, kept_first, length-append, run_ends)
 
 -- ---- the piece at the front of a line
 
 last_taken : (bs : List ℕ) (i : ℕ) → 0 < i → i ≤ length bs → last_of (take i bs) ≡ get_or bs (i - 1) 0
-last_taken bs i some le =
-    let k : length (take i bs) - 1 ≡ i - 1 = omega (arith, length-take i bs) in
-    ap (λ n. get_or (take i bs) n 0) k ∙ get_or-take i bs (i - 1) 0 (omega arith)
+last_taken bs i some le = grind (arith, nat_tests, length-take, get_or-take)
 
 -- a token of one byte
 pub one_begun : (style : Style) (b : ℕ) → is_blank b ≡ false → IsBegun style (b ∷ [])
@@ -232,44 +202,24 @@ piece_ends style bs i some lt begun apart =
     let l = drop (i + 1) bs in
     let next : drop i bs ≡ b ∷ l = drop_more bs i 0 lt in
     let whole : bs ≡ w ++ b ∷ l = sym (take-append-drop i bs) ∙ ap (λ (r : List ℕ). w ++ r) next in
-    ap (pieces_of_line style) whole
-    ∙ elim (cases_Bool (is_blank b)) as (λ _. pieces_of_line style (w ++ b ∷ l) ≡ w ∷ pieces_of_line style (b ∷ l)) [
-      | inl blank ↦
-          blank_ends style w b l begun blank
-          ∙ ap (λ (ws : List (List ℕ)). w ∷ flat_map (pieces style) ws) (sym (words_blank b l blank))
-      | inr ink ↦
-          apart_ends style w b l begun ink
-          (ap (λ n. joins style n b) (last_taken bs i some (omega arith)) ∙ apart ink)
-    ]
-    ∙ ap (λ (r : List ℕ). w ∷ pieces_of_line style r) (sym next)
+    grind (arith, nat_tests, cases_Bool, blank_ends, words_blank, apart_ends, last_taken)
 
 pub piece_whole : (style : Style) (bs : List ℕ) (i : ℕ) → length bs ≤ i → IsBegun style (take i bs)
-    → pieces_of_line style bs
-    ≡ take (length bs) bs ∷ pieces_of_line style (drop (length bs) bs)
+    → pieces_of_line style bs ≡ take (length bs) bs ∷ pieces_of_line style (drop (length bs) bs)
 piece_whole style bs i le begun =
-    let all : take i bs ≡ bs = take_all i bs le in
-    let same : take (length bs) bs ≡ bs = take_all (length bs) bs (omega arith) in
-    let none : drop (length bs) bs ≡ [] = drop_all (length bs) bs (omega arith) in
-    line_ends style bs (subst (IsBegun style) all begun)
-    ∙ (λ i. sym same i ∷ flat_map (pieces style) (sym words_none i))
-    ∙ ap (λ (r : List ℕ). take (length bs) bs ∷ pieces_of_line style r) (sym none)
+    grind (arith, nat_tests, take_all, drop_all, line_ends, words_none)
 
 -- in the plain style it is the first word
 pub plain_first : (bs : List ℕ) (n : ℕ) → 0 < length bs → is_blank (get_or bs 0 0) ≡ false
     → n ≡ position_or_len is_blank bs
     → pieces_of_line Plain bs ≡ take n bs ∷ pieces_of_line Plain (drop n bs)
-plain_first bs n some ink first =
-    let cut : words bs ≡ take n bs ∷ words (drop n bs) = rw first (words_first bs some ink) in
-    plain_pieces bs ∙ cut
-    ∙ ap (λ (ws : List (List ℕ)). take n bs ∷ ws) (sym (plain_pieces (drop n bs)))
+plain_first bs n some ink first = grind (arith, nat_tests, words_first, plain_pieces)
 
 -- ---- at a place of a text
 
 pub first_ink : (text : List ℕ) (a b : ℕ) → a < b → is_blank (get_or text a 0) ≡ false
     → is_blank (get_or (slice_range text a b) 0 0) ≡ false
-first_ink text a b lt ink =
-    let k : a + 0 ≡ a = omega arith in
-    ap is_blank (slice_at text a b 0 (omega arith) ∙ ap (λ n. get_or text n 0) k) ∙ ink
+first_ink text a b lt ink = grind (arith, nat_tests, slice_at)
 
 pub within_line : (text : List ℕ) (a b n : ℕ) → b ≤ length text → n ≤ length (slice_range text a b)
     → n ≤ b - a
@@ -282,7 +232,4 @@ pub piece_taken : (style : Style) (text : List ℕ) (a b n k : ℕ) → a + n �
     → words (slice_range text (a + n) b) ≡ words (slice_range text (a + n + k) b)
     → pieces_of_line style (slice_range text a b)
     ≡ slice_range text a (a + n) ∷ pieces_of_line style (slice_range text (a + n + k) b)
-piece_taken style text a b n k le cut skip =
-    let bs = slice_range text a b in
-    cut ∙ (λ i. slice_taken text a n b le i ∷ pieces_of_line style (slice_dropped text a n b le i))
-    ∙ ap (λ (ws : List (List ℕ)). slice_range text a (a + n) ∷ flat_map (pieces style) ws) skip
+piece_taken style text a b n k le cut skip = grind (arith, nat_tests, slice_taken, slice_dropped)

@@ -1,7 +1,5 @@
 -- Parts of a list between two places.
-use Rattle.std.proofs.Common.{◌≡◌, ℕ, ◌+◌, ◌-◌, ◌<◌, ◌≤◌, List, [], length, get_or, take, drop, refl, ◌∙◌, arith}
-use Rattle.std.specs.List.{slice_range}
-use Rattle.std.proofs.lemmas.List.{drop-drop, drop-take, take-take, length-take, length-drop, get_or-take, get_or-drop}
+use Rattle.whole_text.proofs.Common.{nat_tests, ◌≡◌, ℕ, ◌+◌, ◌-◌, ◌<◌, ◌≤◌, List, [], length, get_or, take, drop, refl, ◌∙◌, arith, slice_range, drop-drop, drop-take, take-take, length-take, length-drop, get_or-take, get_or-drop}
 
 pub slice_length : (xs : List ℕ) (a b : ℕ) → b ≤ length xs → length (slice_range xs a b) ≡ b - a
 slice_length xs a b bl = omega (arith, length-take (b - a) (drop a xs), length-drop a xs)
@@ -11,13 +9,10 @@ slice_at xs a b k lt = get_or-take (b - a) (drop a xs) k 0 lt ∙ get_or-drop a 
 
 pub slice_dropped : (xs : List ℕ) (a n b : ℕ) → a + n ≤ b → drop n (slice_range xs a b) ≡ slice_range xs (a + n) b
 slice_dropped xs a n b le =
-    let k : b - a ≡ n + (b - (a + n)) = omega arith in
-    rw (k, drop-take n (b - (a + n)) (drop a xs), drop-drop n a xs) refl
+    grind (arith, nat_tests, drop-take n (b - (a + n)) (drop a xs), drop-drop n a xs)
 
 pub slice_taken : (xs : List ℕ) (a n b : ℕ) → a + n ≤ b → take n (slice_range xs a b) ≡ slice_range xs a (a + n)
-slice_taken xs a n b le =
-    let k : a + n - a ≡ n = omega arith in
-    take-take n (b - a) (drop a xs) (omega arith) ∙ rw k refl
+slice_taken xs a n b le = grind (arith, nat_tests, take-take)
 
 pub slice_none : (xs : List ℕ) (a : ℕ) → slice_range xs a a ≡ []
 slice_none xs a = let k : a - a ≡ 0 = omega arith in rw k refl

@@ -1,69 +1,36 @@
 -- Strides, and the tokens and words that they stand for.
-use Rattle.std.proofs.Common.{◌≡◌, ℕ, suc, ◌+◌, ◌-◌, ◌*◌, ◌/◌, ◌<◌, ◌≤◌, eqb, List, [], ◌∷◌, ◌++◌, length, take, drop, refl, ap, ◌∙◌, arith, inl, inr}
-use Rattle.std.specs.Prelude.{slice_get, if◌then◌else◌}
-use Rattle.std.specs.Option.{option_map_or}
-use Rattle.std.specs.List.{slice_range}
-use Rattle.std.proofs.lemmas.Bool.{cases_Bool, ne_eqb}
-use Rattle.std.proofs.lemmas.List.{drop-drop}
-use Rattle.std.proofs.lemmas.Nat.{mod-mul-add, div-mul-add}
-use Rattle.whole_text.specs.declared.packed.Stride.{Stride}
-use Rattle.whole_text.specs.declared.token.Token.{Token}
-use Rattle.whole_text.specs.Tokens.{Word, word, words_at, AreJoined, last_line}
-use Rattle.whole_text.specs.Packed.{stride_of, strides, placed, words_along, bytes_along, lines_along, wide_marks}
+use Rattle.whole_text.proofs.Common.{nat_tests, ◌≡◌, ℕ, suc, ◌+◌, ◌-◌, ◌*◌, ◌<◌, ◌≤◌, eqb, List, [], ◌∷◌, ◌++◌, length, drop, refl, ap, ◌∙◌, arith, slice_get, if◌then◌else◌, option_map_or, ne_eqb, drop-drop, Stride, Token, words_at, AreJoined, last_line, stride_of, strides, placed, words_along, bytes_along, lines_along, wide_marks}
 
 -- ---- marks
 
 -- a mark says its length and its lines
 pub stride_again : (s : Stride) → s.len < 128 → stride_of (s.lines * 128 + s.len) ≡ s
-stride_again s small =
-    ap (λ n. record { len = n; lines = (s.lines * 128 + s.len) / 128 }) (mod-mul-add s.lines 128 s.len small)
-    ∙ ap (λ n. record { len = s.len; lines = n }) (div-mul-add s.lines 128 s.len small)
+stride_again s small = grind (arith, nat_tests)
 
 -- one more mark that is not 0
 pub strides_mark : (marks : List ℕ) (wide : List Stride) (mark : ℕ) → wide_marks marks ≡ length wide → 0 < mark
     → strides (marks ++ mark ∷ []) wide ≡ strides marks wide ++ stride_of mark ∷ []
 strides_mark [] [] mark e some = rw (ne_eqb mark 0 (λ z. omega arith)) refl
 strides_mark [] (s ∷ wide) mark e some = rw (ne_eqb mark 0 (λ z. omega arith)) (absurd (omega (arith, e)))
-strides_mark (m ∷ marks) [] mark e some =
-    elim (cases_Bool (eqb m 0)) [
-      | inl z ↦ absurd (omega (arith, rw z at e))
-      | inr z ↦ rw z (ap (λ ss. stride_of m ∷ ss) (strides_mark marks [] mark (omega (arith, rw z at e)) some))
-    ]
+strides_mark (m ∷ marks) [] mark e some = grind (arith, nat_tests, strides_mark marks)
 strides_mark (m ∷ marks) (s ∷ wide) mark e some =
-    elim (cases_Bool (eqb m 0)) [
-      | inl z ↦ rw z (ap (λ ss. s ∷ ss) (strides_mark marks wide mark (omega (arith, rw z at e)) some))
-      | inr z ↦ rw z (ap (λ ss. stride_of m ∷ ss) (strides_mark marks (s ∷ wide) mark (omega (arith, rw z at e)) some))
-    ]
+    grind (arith, nat_tests, strides_mark marks wide mark, strides_mark marks (s ∷ wide) mark)
 
 -- one more wide stride, with its mark of 0
 pub strides_wide : (marks : List ℕ) (wide : List Stride) (last : Stride) → wide_marks marks ≡ length wide
     → strides (marks ++ 0 ∷ []) (wide ++ last ∷ []) ≡ strides marks wide ++ last ∷ []
 strides_wide [] [] last e = refl
 strides_wide [] (s ∷ wide) last e = absurd (omega (arith, e))
-strides_wide (m ∷ marks) [] last e =
-    elim (cases_Bool (eqb m 0)) [
-      | inl z ↦ absurd (omega (arith, rw z at e))
-      | inr z ↦ rw z (ap (λ ss. stride_of m ∷ ss) (strides_wide marks [] last (omega (arith, rw z at e))))
-    ]
+strides_wide (m ∷ marks) [] last e = grind (arith, nat_tests, strides_wide marks)
 strides_wide (m ∷ marks) (s ∷ wide) last e =
-    elim (cases_Bool (eqb m 0)) [
-      | inl z ↦ rw z (ap (λ ss. s ∷ ss) (strides_wide marks wide last (omega (arith, rw z at e))))
-      | inr z ↦ rw z (ap (λ ss. stride_of m ∷ ss) (strides_wide marks (s ∷ wide) last (omega (arith, rw z at e))))
-    ]
+    grind (arith, nat_tests, strides_wide marks wide last, strides_wide marks (s ∷ wide) last)
 
 -- as many strides as marks
 pub length-strides : (marks : List ℕ) (wide : List Stride) → wide_marks marks ≡ length wide → length (strides marks wide) ≡ length marks
 length-strides [] wide e = refl
-length-strides (m ∷ marks) [] e =
-    elim (cases_Bool (eqb m 0)) [
-      | inl z ↦ absurd (omega (arith, rw z at e))
-      | inr z ↦ rw z (ap suc (length-strides marks [] (omega (arith, rw z at e))))
-    ]
+length-strides (m ∷ marks) [] e = grind (arith, nat_tests, length-strides marks)
 length-strides (m ∷ marks) (s ∷ wide) e =
-    elim (cases_Bool (eqb m 0)) [
-      | inl z ↦ rw z (ap suc (length-strides marks wide (omega (arith, rw z at e))))
-      | inr z ↦ rw z (ap suc (length-strides marks (s ∷ wide) (omega (arith, rw z at e))))
-    ]
+    grind (arith, nat_tests, length-strides marks wide, length-strides marks (s ∷ wide))
 
 -- one more mark, 0 or not
 pub wide_marks-push : (marks : List ℕ) (mark : ℕ) → wide_marks (marks ++ mark ∷ []) ≡ wide_marks marks + (if eqb mark 0 then 1 else 0)
@@ -79,16 +46,9 @@ token_along at line s = record { start = at; end = at + s.len; line = line + s.l
 -- one more stride is one more token
 pub placed-push : (at line : ℕ) (ss : List Stride) (s : Stride)
     → placed at line (ss ++ s ∷ []) ≡ placed at line ss ++ token_along (at + bytes_along ss) (line + lines_along ss) s ∷ []
-placed-push at line [] s =
-    let a : at ≡ at + 0 = omega arith in
-    let l : line ≡ line + 0 = omega arith in
-    ap (λ n. token_along n line s ∷ []) a ∙ ap (λ n. token_along (at + 0) n s ∷ []) l
+placed-push at line [] s = grind (arith, nat_tests)
 placed-push at line (t ∷ ss) s =
-    let a : at + t.len + bytes_along ss ≡ at + (t.len + bytes_along ss) = omega arith in
-    let l : line + t.lines + lines_along ss ≡ line + (t.lines + lines_along ss) = omega arith in
-    ap (λ ts. token_along at line t ∷ ts) (placed-push (at + t.len) (line + t.lines) ss s
-    ∙ ap (λ n. placed (at + t.len) (line + t.lines) ss ++ token_along n (line + t.lines + lines_along ss) s ∷ []) a
-    ∙ ap (λ n. placed (at + t.len) (line + t.lines) ss ++ token_along (at + (t.len + bytes_along ss)) n s ∷ []) l)
+    grind (arith, nat_tests, placed-push (at + t.len) (line + t.lines) ss s)
 
 pub lines_along-push : (ss : List Stride) (s : Stride) → lines_along (ss ++ s ∷ []) ≡ lines_along ss + s.lines
 lines_along-push [] s = omega arith
@@ -117,9 +77,7 @@ joined-push low (u ∷ ts) t h some = (h.0, h.1, joined-push u.end ts t h.2 some
 -- of a list with two elements or more, the last one is that of the rest
 last_of_rest : {A : Type 0} (f : A → ℕ) (d : ℕ) (x y : A) (xs : List A)
     → option_map_or f (slice_get (x ∷ y ∷ xs) (length (x ∷ y ∷ xs) - 1)) d ≡ option_map_or f (slice_get (y ∷ xs) (length (y ∷ xs) - 1)) d
-last_of_rest f d x y xs =
-    let k : length (x ∷ y ∷ xs) - 1 ≡ suc (length (y ∷ xs) - 1) = omega arith in
-    rw k refl
+last_of_rest f d x y xs = grind (arith, nat_tests)
 
 -- the line of a token that was pushed
 pub last_line_pushed : (ts : List Token) (t : Token) → last_line (ts ++ t ∷ []) ≡ t.line
@@ -131,8 +89,7 @@ last_line_pushed (u ∷ v ∷ ts) t =
 last_from : (at line : ℕ) (s : Stride) (ss : List Stride) → last_line (placed at line (s ∷ ss)) ≡ line + lines_along (s ∷ ss)
 last_from at line s [] = omega arith
 last_from at line s (t ∷ ss) =
-    last_of_rest (λ (u : Token). u.line) 1 (token_along at line s) (token_along (at + s.len) (line + s.lines) t) (placed (at + s.len + t.len) (line + s.lines + t.lines) ss)
-    ∙ last_from (at + s.len) (line + s.lines) t ss ∙ omega arith
+    grind (arith, nat_tests, last_from (at + s.len) (line + s.lines) t ss)
 
 -- the line of the last token
 pub last_placed : (ss : List Stride) → last_line (placed 0 1 ss) ≡ 1 + lines_along ss
@@ -145,9 +102,4 @@ last_placed (s ∷ ss) = last_from 0 1 s ss
 pub words_placed : (text : List ℕ) (at line : ℕ) (ss : List Stride) → words_along line (drop at text) ss ≡ words_at text (placed at line ss)
 words_placed text at line [] = refl
 words_placed text at line (s ∷ ss) =
-    let n : at + s.len - at ≡ s.len = omega arith in
-    let first : take s.len (drop at text) ≡ slice_range text at (at + s.len) = rw n refl in
-    ap (λ (bytes : List ℕ). word (line + s.lines) bytes ∷ words_along (line + s.lines) (drop s.len (drop at text)) ss) first
-    ∙ ap (λ (ws : List Word). word (line + s.lines) (slice_range text at (at + s.len)) ∷ ws)
-    (ap (λ (bytes : List ℕ). words_along (line + s.lines) bytes ss) (drop-drop s.len at text)
-    ∙ words_placed text (at + s.len) (line + s.lines) ss)
+    grind (arith, nat_tests, words_placed text (at + s.len) (line + s.lines) ss, drop-drop)

@@ -1,27 +1,13 @@
 -- Numbers that are written in decimal are words, and are read again.
-use Rattle.std.proofs.Common.{◌≡◌, ℕ, suc, ◌<◌, ◌≤◌, ◌^◌, false, ℤ, pos, negsuc, List, [], ◌∷◌, Option, Result, Ok, Err, cond, refl, ap, ◌∙◌, arith}
-use Rattle.std.specs.Prelude.{nat_abs}
-use Rattle.std.specs.Option.{ok_or}
-use Rattle.std.specs.Fmt.{decimal, signed_decimal}
-use Rattle.std.specs.Str.Parse.{AllDigits}
-use Rattle.std.proofs.lemmas.Bool.{ne_eqb, le-leb}
-use Rattle.std.proofs.lemmas.Fmt.{decimal_is_IsNumeral_wide}
-use Rattle.std.proofs.lemmas.Str.Parse.{digit_from_value}
-use Rattle.whole_text.specs.declared.faults.TextFault.{TextFault}
+use Rattle.whole_text.proofs.Common.{nat_tests, ◌≡◌, ℕ, suc, ◌<◌, ◌≤◌, ◌^◌, false, ℤ, pos, negsuc, List, [], ◌∷◌, Option, Ok, refl, ap, arith, nat_abs, ok_or, decimal, signed_decimal, AllDigits, le-leb, decimal_is_IsNumeral_wide, digit_from_value, word, is_blank, begins_with, fault, integer_at, natural_at}
 use Rattle.whole_text.specs.declared.faults.TextKind.TheVariants as kinds
-use Rattle.whole_text.specs.Tokens.{word, is_blank, begins_with}
-use Rattle.whole_text.specs.Steps.{◌>>=◌, fault, integer_at, natural_at, from_least}
 use Rattle.whole_text.proofs.NumberAgain.{number_again}
 use Rattle.whole_text.proofs.LineTokens.{IsInk, LacksBlanks, LacksFeeds}
 
 -- ---- words
 
 no_blank : (b : ℕ) → 48 ≤ b → is_blank b ≡ false
-no_blank b h =
-    let space = ne_eqb b 32 (λ e. omega arith) in
-    let tab = ne_eqb b 9 (λ e. omega arith) in
-    let returned = ne_eqb b 13 (λ e. omega arith) in
-    rw (space, tab, returned) refl
+no_blank b h = grind (arith, nat_tests)
 
 digits_lack_blanks : (bs : List ℕ) → AllDigits 10 bs → LacksBlanks bs
 digits_lack_blanks [] h = tt
@@ -30,9 +16,7 @@ digits_lack_blanks (b ∷ bs) h =
 
 digits_lack_feeds : (bs : List ℕ) → AllDigits 10 bs → LacksFeeds bs
 digits_lack_feeds [] h = tt
-digits_lack_feeds (b ∷ bs) h =
-    let range = digit_from_value b h.0 in
-    (ne_eqb b 10 (λ e. omega arith), digits_lack_feeds bs h.1)
+digits_lack_feeds (b ∷ bs) h = grind (arith, nat_tests, digits_lack_feeds bs h.1)
 
 pub decimal_ink : (n : ℕ) → n < 10 ^ 64 → IsInk (decimal n)
 decimal_ink n small =
@@ -47,23 +31,15 @@ pub signed_ink : (z : ℤ) → nat_abs z < 2 ^ 64 → IsInk (signed_decimal z)
 signed_ink (pos n) small = decimal_ink n (omega arith)
 signed_ink (negsuc n) small =
     let d = decimal_ink (suc n) (omega arith) in
-    record {
-      filled = omega arith;
-      blank = (refl, d.blank);
-      feed = (refl, d.feed);
-    }
+    record { filled = omega arith; blank = (refl, d.blank); feed = (refl, d.feed) }
 
-no_comment : (bs : List ℕ) (ws : List (List ℕ)) → AllDigits 10 bs
-    → begins_with 99 (bs ∷ ws) ≡ false
-no_comment [] ws h = refl
-no_comment (b ∷ bs) ws h =
-    let range = digit_from_value b h.0 in ne_eqb b 99 (λ e. omega arith)
+no_comment : (bs : List ℕ) (ws : List (List ℕ)) → AllDigits 10 bs → begins_with 99 (bs ∷ ws) ≡ false
+no_comment bs ws h = grind (arith, nat_tests)
 
 -- a line that begins with a number is no comment
 pub number_first : (n : ℕ) (ws : List (List ℕ)) → n < 10 ^ 64
     → begins_with 99 (decimal n ∷ ws) ≡ false
-number_first n ws small =
-    no_comment (decimal n) ws ((decimal_is_IsNumeral_wide n small).0.1)
+number_first n ws small = no_comment (decimal n) ws ((decimal_is_IsNumeral_wide n small).0.1)
 
 -- ---- read again
 
@@ -77,5 +53,4 @@ pub natural_again : (least line n : ℕ) → least ≤ n → n < 2 ^ 64
     → natural_at least (word line (decimal n)) ≡ Ok n
 unfolding natural_at
 natural_again least line n enough small =
-    ap (λ (r : Result ℤ TextFault). r >>= from_least least line) (integer_again line (pos n) small)
-    ∙ ap (λ b. cond b (Ok n) (Err (fault kinds.Range line))) (le-leb least n enough)
+    grind (arith, nat_tests, integer_again line (pos n) small, le-leb least n enough)

@@ -24,7 +24,7 @@ pub use lexing::Lexer;
 pub use numbers::{digits, number, push_number};
 pub use packed::TokenList;
 pub use putting::put_number;
-pub use steps::{fault, integer_word, kind_of_digits, natural, natural_word, next_word};
+pub use steps::{fault, integer_word, kind_of_digits, natural_word, next_word};
 pub use token::{Style, Token};
 pub use token_text::{ByteList, TokenText};
 pub use words::{WordRef, Words};

@@ -1,4 +1,6 @@
 //! Numbers put to a sink through a buffer.
+//!
+//! No run of the program comes here: its rows are formatted as a whole.
 ghost use Rattle.std.specs.Prelude.{◌≡◌, ◌++◌, [], OnOk, OnErr};
 ghost use Rattle.std.specs.Fmt.{signed_decimal};
 ghost use Rattle.edge_io.specs.Counts.{HasCause};

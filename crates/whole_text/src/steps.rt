@@ -8,13 +8,11 @@ ghost use Rattle.std.specs.Char.{is_ascii_digit};
 ghost use Rattle.std.specs.List.{list_all};
 ghost use Rattle.whole_text.specs.declared.faults.TextKind.TheVariants as kinds;
 ghost use Rattle.whole_text.specs.Numbers.{are_digits};
-ghost use Rattle.whole_text.specs.Tokens.{word_at, IsWithin};
 ghost use Rattle.whole_text.specs.TokenTexts.{word_of};
 ghost use Rattle.whole_text.specs.Steps.{GivesAlways, fault, next_of, integer_at, natural_at};
 
 use crate::faults::{TextFault, TextKind};
 use crate::numbers::number;
-use crate::token::Token;
 use crate::words::{WordRef, Words};
 
 /// A fault of this kind on this line.
@@ -74,23 +72,4 @@ pub fn natural_word(word: WordRef<'_>, least: u64) -> Result<u64, TextFault>
         Ok(n) if n >= least => Ok(n),
         Ok(_) | Err(_) => Err(fault(TextKind::Range, word.line)),
     }
-}
-
-/// The word of a token.
-fn word_at<'a>(text: &'a [u8], token: Token) -> WordRef<'a>
-    requires { IsWithin text.now token }
-    ensures { word_of result ≡ word_at text.now token }
-{
-    WordRef {
-        bytes: &text[token.start..token.end],
-        line: token.line,
-    }
-}
-
-/// A number that is at least this.
-pub fn natural(text: &[u8], token: Token, least: u64) -> Result<u64, TextFault>
-    requires { IsWithin text.now token }
-    ensures { result ≡ natural_at least (word_at text.now token) }
-{
-    natural_word(word_at(text, token), least)
 }

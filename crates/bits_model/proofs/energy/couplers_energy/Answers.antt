@@ -1,8 +1,5 @@
-use Rattle.std.proofs.Common.{◌≡◌, ◌+ℤ◌, to_z, of_z, arith}
-use Rattle.std.specs.Int.{w128}
-use Rattle.std.proofs.lemmas.Int.{ints}
-use Rattle.bits_model.specs.Output.{entry_energy}
-use Rattle.bits_model.proofs.Energies.{energy_left, weight_left, size-entry_energy, size_left}
+use Rattle.bits_model.proofs.Common.{to_z, arith, w128, ints}
+use Rattle.bits_model.proofs.Energies.{energy_step, weight_left, size-entry_energy, size_left}
 use Rattle.bits_model.proofs.energy.couplers_energy.Goals as goal
 
 pub entry_energy-energy-requires : goal.entry_energy-energy-requires
@@ -20,18 +17,7 @@ overflow_add-energy c =
 
 pub loop-entry-preserved : goal.loop-entry-preserved
 loop-entry-preserved c =
-    let kind = c.args.kind in
-    let y = c.args.y.now in
-    let e = c.in-Some.entry in
-    let so_far = to_z w128 c.loop-entry.energy-bits in
-    let left = c.in-Some.ensures.steps in
-    let small = size_left kind y _ _ e so_far _ left c.loop-entry.invariant.small in
-    let added = size-entry_energy kind y e in
-    let within = weight_left _ _ e left in
-    let value : to_z w128 (of_z w128 (so_far +ℤ to_z w128 (of_z w128 c.entry_energy-energy.result)))
-    ≡ so_far +ℤ entry_energy kind y e =
-    omega (arith, ints, c.entry_energy-energy.ensures, small, added, within, c.loop-entry.invariant.small) in
-    record {
-      whole = rw value (omega (arith, ints, energy_left kind y _ _ e left, c.loop-entry.invariant.whole));
-      small = rw value small;
-    }
+    let step =
+    energy_step c.args.kind c.args.y.now _ _ c.in-Some.entry (to_z w128 c.loop-entry.energy-bits) c.entry_energy-energy.result _
+    c.in-Some.ensures.steps c.entry_energy-energy.ensures c.loop-entry.invariant.whole c.loop-entry.invariant.small in
+    record { whole = step.0; small = step.1 }

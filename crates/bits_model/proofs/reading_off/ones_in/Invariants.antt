@@ -1,5 +1,4 @@
-use Rattle.std.proofs.Common.{◌≡◌, take}
-use Rattle.bits_model.specs.Output.{ones_in}
+use Rattle.bits_model.proofs.Common.{◌≡◌, take, ones_in}
 use Rattle.bits_model.proofs.reading_off.ones_in.Given as goal
 
 -- the ones of the qubits so far

@@ -1,5 +1,4 @@
-use Rattle.std.proofs.Common.{◌≡◌, length, map, take}
-use Rattle.bits_model.specs.Output.{majority}
+use Rattle.bits_model.proofs.Common.{◌≡◌, length, map, take, majority}
 use Rattle.bits_model.proofs.reading_off.read_chains.Given as goal
 
 -- the first places have the bits of the first chains

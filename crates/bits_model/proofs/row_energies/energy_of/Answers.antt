@@ -1,10 +1,5 @@
-use Rattle.std.proofs.Common.{◌≡◌, ◌+ℤ◌, ap, sym, ◌∙◌, to_z, of_z, arith}
-use Rattle.std.specs.Int.{w128}
-use Rattle.std.proofs.lemmas.Int.{ints}
-use Rattle.base.specs.Sums.{total_by}
-use Rattle.base.proofs.Totals.{total_by-append}
+use Rattle.bits_model.proofs.Common.{◌≡◌, ◌+ℤ◌, ap, sym, ◌∙◌, to_z, of_z, arith, w128, ints, total_by, total_by-append, bits_energy, weight_total}
 use Rattle.bits_model.specs.declared.output.Kind.TheVariants.{Qubo}
-use Rattle.bits_model.specs.Output.{bits_energy, weight_total}
 use Rattle.bits_model.proofs.Energies.{size-energy, weights-append}
 use Rattle.bits_model.proofs.row_energies.energy_of.Goals as goal
 
@@ -14,16 +9,9 @@ overflow_add-result c =
     let ns = c.entries.inside.nodes in
     let cs = c.entries.inside.couplers in
     let weights = sym (weights-append ns cs) ∙ ap weight_total c.entries.view_is in
-    omega (
-      arith,
-      ints,
-      weights,
-      size-energy Qubo y ns,
-      size-energy Qubo y cs,
-      c.nodes_energy.ensures,
-      c.rows_energy.ensures,
-      c.requires,
-    )
+    let first = size-energy Qubo y ns in
+    let second = size-energy Qubo y cs in
+    omega (arith, ints, weights, first, second, c.nodes_energy.ensures, c.rows_energy.ensures, c.requires)
 
 pub returns-in-Qubo : goal.returns-in-Qubo
 returns-in-Qubo c =
@@ -33,19 +21,9 @@ returns-in-Qubo c =
     let weights = sym (weights-append ns cs) ∙ ap weight_total c.entries.view_is in
     let energies =
     sym (total_by-append (bits_energy y) ns cs) ∙ ap (total_by (bits_energy y)) c.entries.view_is in
-    let nodes = to_z w128 (of_z w128 c.nodes_energy.result) in
-    let rows = to_z w128 (of_z w128 c.rows_energy.result) in
-    let value : to_z w128 (of_z w128 (nodes +ℤ rows))
+    let first = size-energy Qubo y ns in
+    let second = size-energy Qubo y cs in
+    let value : to_z w128 (of_z w128 (to_z w128 (of_z w128 c.nodes_energy.result) +ℤ to_z w128 (of_z w128 c.rows_energy.result)))
     ≡ total_by (bits_energy y) c.args.entries.now =
-    omega (
-      arith,
-      ints,
-      energies,
-      weights,
-      size-energy Qubo y ns,
-      size-energy Qubo y cs,
-      c.nodes_energy.ensures,
-      c.rows_energy.ensures,
-      c.requires,
-    ) in
+    omega (arith, ints, energies, weights, first, second, c.nodes_energy.ensures, c.rows_energy.ensures, c.requires) in
     rw c.in-Qubo.is value

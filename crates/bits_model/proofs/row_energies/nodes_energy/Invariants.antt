@@ -1,6 +1,4 @@
-use Rattle.std.proofs.Common.{◌≡◌, ◌+◌, ◌≤◌, ◌^◌, ◌+ℤ◌, unsigned_abs}
-use Rattle.base.specs.Sums.{total_by}
-use Rattle.bits_model.specs.Output.{bits_energy, weight_total}
+use Rattle.bits_model.proofs.Common.{◌≡◌, ◌+◌, ◌≤◌, ◌^◌, ◌+ℤ◌, unsigned_abs, total_by, bits_energy, weight_total}
 use Rattle.bits_model.proofs.row_energies.nodes_energy.Given as goal
 
 -- the energy so far and that of the entries that are left make up the whole, and are small

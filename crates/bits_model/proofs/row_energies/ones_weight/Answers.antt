@@ -1,9 +1,4 @@
-use Rattle.std.proofs.Common.{◌≡◌, ◌≤◌, ◌+◌, ◌<◌, ◌+ℤ◌, pos, true, false, unsigned_abs, length, get_or, take, ap, sym, ◌∙◌, to_z, of_z, arith}
-use Rattle.std.specs.Int.{w128}
-use Rattle.std.proofs.lemmas.Int.{ints}
-use Rattle.base.proofs.Totals.{size-plus}
-use Rattle.bits_model.specs.declared.output.Entry.{Entry}
-use Rattle.bits_model.specs.Output.{bit_at, weight_total}
+use Rattle.bits_model.proofs.Common.{nat_tests, ◌≡◌, ◌≤◌, ◌+◌, ◌<◌, pos, unsigned_abs, length, get_or, take, to_z, arith, w128, ints, size-plus, Entry, weight_total}
 use Rattle.bits_model.proofs.Energies.{weight_within}
 use Rattle.bits_model.proofs.RowEnergies.{sum_more, sum_same, weight_more}
 use Rattle.bits_model.proofs.row_energies.ones_weight.Goals.{then-bit_at, else-bit_at}
@@ -22,7 +17,6 @@ overflow_add-sum c =
 
 pub loop-i-preserved : goal.loop-i-preserved
 loop-i-preserved c =
-    let y = c.args.y.now in
     let row = c.args.row.now in
     let i = c.loop-i.i in
     let d : Entry = record { first = 0; second = 0; weight = pos 0 } in
@@ -32,35 +26,4 @@ loop-i-preserved c =
     let small = c.loop-i.invariant.small in
     let weights = weight_more row i d below in
     let within = weight_within row i d below in
-    elim c.if-bit_at.branch [
-      | then-bit_at w ↦
-          let one : bit_at y c.second.result ≡ true = sym c.bit_at.ensures ∙ w.if-bit_at.true in
-          let added = w.weight-sum.result in
-          let weight : (get_or row i d).weight ≡ added = w.weight-sum.ensures d in
-          let value : to_z w128 (of_z w128 (so_far +ℤ to_z w128 (of_z w128 added)))
-          ≡ so_far +ℤ added =
-          omega (arith, ints, ap unsigned_abs weight, within, small, c.requires) in
-          let now : to_z w128 c.if-bit_at.sum-bits ≡ so_far +ℤ added = w.sum-is ∙ value in
-          let summed = sum_more y row i c.second.result d below second one in
-          record {
-            summed = omega (arith, ints, now, summed, weight, c.loop-i.invariant.summed);
-            small =
-                omega (
-                  arith,
-                  ints,
-                  now,
-                  size-plus so_far added,
-                  ap unsigned_abs weight,
-                  weights,
-                  small,
-                );
-          }
-      | else-bit_at w ↦
-          let zero : bit_at y c.second.result ≡ false = sym c.bit_at.ensures ∙ w.if-bit_at.false in
-          let now : to_z w128 c.if-bit_at.sum-bits ≡ so_far = w.sum-is in
-          let summed = sum_same y row i c.second.result d below second zero in
-          record {
-            summed = omega (arith, ints, now, summed, c.loop-i.invariant.summed);
-            small = omega (arith, ints, now, weights, small);
-          }
-    ]
+    grind (arith, nat_tests, ints, then-bit_at, sum_more, size-plus, else-bit_at, sum_same)

@@ -1,6 +1,4 @@
-use Rattle.std.proofs.Common.{◌≡◌, ◌≤◌, unsigned_abs, take}
-use Rattle.base.specs.Sums.{total_by}
-use Rattle.bits_model.specs.Output.{weight_total}
+use Rattle.bits_model.proofs.Common.{◌≡◌, ◌≤◌, unsigned_abs, take, total_by, weight_total}
 use Rattle.bits_model.proofs.RowEnergies.{second_weight}
 use Rattle.bits_model.proofs.row_energies.ones_weight.Given as goal
 

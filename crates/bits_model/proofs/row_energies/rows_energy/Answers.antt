@@ -1,7 +1,5 @@
-use Rattle.std.proofs.Common.{◌≡◌, ◌<◌, ◌+◌, length, arith, ◌∙◌}
-use Rattle.std.proofs.lemmas.Int.{ints}
+use Rattle.bits_model.proofs.Common.{nat_tests, ◌<◌, ◌+◌, length, arith, ints, rows_of}
 use Rattle.bits_model.specs.declared.output.Kind.TheVariants.{Qubo}
-use Rattle.bits_model.specs.Entries.{rows_of}
 use Rattle.bits_model.proofs.Energies.{size-energy}
 use Rattle.bits_model.proofs.EntryRows.{rows_before}
 use Rattle.bits_model.proofs.RowEnergies.{weight_before, weight_of_row, energy_of_row, energy_of_all}
@@ -24,17 +22,10 @@ overflow_add-energy c =
     let k = c.loop-index.index in
     let below : k < length (rows_of es) =
     omega (arith, c.loop-index-test.true, c.row_count-index-end.ensures) in
-    omega (
-      arith,
-      ints,
-      weight_of_row es row k below c.row-row.ensures,
-      weight_before es (k + 1),
-      size-energy Qubo y (rows_before es k),
-      size-energy Qubo y row,
-      c.loop-index.invariant,
-      c.row_energy-energy.ensures,
-      c.requires,
-    )
+    let weighed = weight_of_row es row k below c.row-row.ensures in
+    let within = weight_before es (k + 1) in
+    let before = size-energy Qubo y (rows_before es k) in
+    omega (arith, ints, weighed, within, before, size-energy Qubo y row, c.loop-index.invariant, c.row_energy-energy.ensures, c.requires)
 
 pub loop-index-preserved : goal.loop-index-preserved
 loop-index-preserved c =
@@ -44,28 +35,11 @@ loop-index-preserved c =
     let k = c.loop-index.index in
     let below : k < length (rows_of es) =
     omega (arith, c.loop-index-test.true, c.row_count-index-end.ensures) in
-    omega (
-      arith,
-      ints,
-      energy_of_row y es row k below c.row-row.ensures,
-      weight_of_row es row k below c.row-row.ensures,
-      weight_before es (k + 1),
-      size-energy Qubo y (rows_before es k),
-      size-energy Qubo y row,
-      c.loop-index.invariant,
-      c.row_energy-energy.ensures,
-      c.requires,
-    )
+    let energy = energy_of_row y es row k below c.row-row.ensures in
+    let weighed = weight_of_row es row k below c.row-row.ensures in
+    let within = weight_before es (k + 1) in
+    let before = size-energy Qubo y (rows_before es k) in
+    omega (arith, ints, energy, weighed, within, before, size-energy Qubo y row, c.loop-index.invariant, c.row_energy-energy.ensures, c.requires)
 
 pub returns : goal.returns
-returns c =
-    let es = c.args.couplers.now in
-    let k = c.loop-index.index in
-    let all : length (rows_of es) ≡ k =
-    omega (
-      arith,
-      c.loop-index-test.false,
-      c.row_count-index-end.ensures,
-      c.loop-index.auto.index-end,
-    ) in
-    c.loop-index.invariant ∙ energy_of_all c.args.y.now es k all
+returns c = grind (arith, nat_tests, ints, energy_of_all)

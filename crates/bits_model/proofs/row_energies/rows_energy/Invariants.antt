@@ -1,6 +1,4 @@
-use Rattle.std.proofs.Common.{◌≡◌}
-use Rattle.base.specs.Sums.{total_by}
-use Rattle.bits_model.specs.Output.{bits_energy}
+use Rattle.bits_model.proofs.Common.{◌≡◌, total_by, bits_energy}
 use Rattle.bits_model.proofs.EntryRows.{rows_before}
 use Rattle.bits_model.proofs.row_energies.rows_energy.Given as goal
 

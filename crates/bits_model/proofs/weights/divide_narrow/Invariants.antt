@@ -1,5 +1,4 @@
-use Rattle.std.proofs.Common.{◌≡◌, int_div}
-use Rattle.base.proofs.DividedWeights.{changed_to}
+use Rattle.bits_model.proofs.Common.{◌≡◌, int_div, changed_to}
 use Rattle.bits_model.proofs.weights.divide_narrow.Given as goal
 
 -- the weights so far are divided, and the others as before

@@ -1,7 +1,4 @@
-use Rattle.std.proofs.Common.{◌≡◌, ◌<◌, ℤ, List, int_div, pos, length, get_or, slice_set, to_z, of_z, ap, ◌∙◌, arith, rules}
-use Rattle.std.specs.Int.{w128}
-use Rattle.std.proofs.lemmas.Int.{to_z-of_z}
-use Rattle.base.proofs.DividedWeights.{next_unchanged, one_changed}
+use Rattle.bits_model.proofs.Common.{◌≡◌, ◌<◌, ℤ, List, int_div, pos, length, get_or, slice_set, to_z, of_z, ap, ◌∙◌, arith, rules, w128, to_z-of_z, next_unchanged, one_changed}
 use Rattle.bits_model.proofs.weights.divide_weights.Goals as goal
 
 pub loop-weight-preserved : goal.loop-weight-preserved
@@ -14,7 +11,6 @@ loop-weight-preserved c =
     let written : to_z w128 (of_z w128 c.quotient.result) ≡ c.quotient.result = to_z-of_z w128 c.quotient.result (search rules) in
     let read : to_z w128 (of_z w128 (get_or ys i (pos 0))) ≡ get_or ys i (pos 0) = to_z-of_z w128 (get_or ys i (pos 0)) (search rules) in
     let value : to_z w128 (of_z w128 c.quotient.result) ≡ f (get_or xs i (pos 0)) =
-    written
-    ∙ c.quotient.ensures
+    written ∙ c.quotient.ensures
     ∙ ap f (read ∙ ap (λ (zs : List ℤ). get_or zs i (pos 0)) c.loop-weight.invariant ∙ next_unchanged f i xs below) in
     (λ j. slice_set (c.loop-weight.invariant j) i (value j)) ∙ one_changed f i xs below

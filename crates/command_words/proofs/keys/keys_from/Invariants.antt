@@ -1,5 +1,4 @@
-use Rattle.std.proofs.Common.{◌≡◌, ◌+◌, ◌<◌, ◌^◌, length, map, string_bytes}
-use Rattle.command_words.specs.Keys.{keys_from, no_keys}
+use Rattle.command_words.proofs.Common.{◌≡◌, ◌+◌, ◌<◌, ◌^◌, length, map, string_bytes, keys_from, no_keys}
 use Rattle.command_words.proofs.keys.keys_from.Given as goal
 
 -- the words that are left, with the keys so far, have the answer of all words

@@ -1,6 +1,4 @@
-use Rattle.std.proofs.Common.{◌≡◌, ◌≤◌, ◌+◌, ◌-◌, length, string_bytes}
-use Rattle.edge_io.specs.Counts.{count_after}
-use Rattle.edge_io.specs.Held.{IsFront}
+use Rattle.edge_io.proofs.Common.{◌≡◌, ◌≤◌, ◌+◌, ◌-◌, length, string_bytes, count_after, IsFront}
 use Rattle.edge_io.proofs.whole.read_all.Given as goal
 
 -- what was taken is a front of the named file, as the store tells it, and within the limit

@@ -1,5 +1,4 @@
-use Rattle.std.proofs.Common.{◌≡◌, ◌≤◌, List, ℕ, ◌++◌, length}
-use Rattle.edge_io.specs.Sinks.{Takes}
+use Rattle.edge_io.proofs.Common.{◌≡◌, ◌≤◌, List, ℕ, ◌++◌, length, Takes}
 use Rattle.edge_io.proofs.whole.write_all.Given as goal
 
 -- the front of the piece before the rest was taken

@@ -1,5 +1,4 @@
-use Rattle.std.proofs.Common.{◌≤◌, take}
-use Rattle.edge_io.specs.Sinks.{Takes, joined_bytes}
+use Rattle.edge_io.proofs.Common.{◌≤◌, take, Takes, joined_bytes}
 use Rattle.edge_io.proofs.whole.write_pieces.Given as goal
 
 -- the pieces before this one were taken whole

@@ -1,7 +1,4 @@
-use Rattle.std.proofs.Common.{length, get_or, ap, ◌∙◌, sym, arith, Some, map}
-use Rattle.std.specs.List.{slice_range}
-use Rattle.base.proofs.FlatParts.{part_lies}
-use Rattle.literal_lists.specs.Codes.{literal_of}
+use Rattle.literal_lists.proofs.Common.{length, get_or, ap, ◌∙◌, sym, arith, Some, map, slice_range, part_lies, literal_of}
 use Rattle.literal_lists.proofs.CodedParts.{literal_parts-at}
 use Rattle.literal_lists.proofs.narrow_lists.part.Goals as goal
 

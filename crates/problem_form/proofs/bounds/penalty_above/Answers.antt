@@ -1,7 +1,4 @@
-use Rattle.std.proofs.Common.{arith, ap, ◌∙◌, ◌≡◌, ◌-ℤ◌, ◌+ℤ◌, pos, max, to_z, of_z}
-use Rattle.std.specs.Int.{w128, int_max}
-use Rattle.std.proofs.lemmas.Int.{ints}
-use Rattle.base.specs.Sums.{positive_part}
+use Rattle.problem_form.proofs.Common.{arith, ap, ◌∙◌, ◌≡◌, ◌-ℤ◌, ◌+ℤ◌, pos, max, to_z, of_z, w128, int_max, ints, positive_part}
 use Rattle.problem_form.proofs.CountedNumbers.{positive_part-raised}
 use Rattle.problem_form.proofs.bounds.penalty_above.Goals as goal
 

@@ -1,9 +1,4 @@
-use Rattle.std.proofs.Common.{◌≡◌, ◌++◌, ◌∷◌, [], List, ap, sym, subst, ◌∙◌, OnOk}
-use Rattle.std.proofs.lemmas.List.{append-nil}
-use Rattle.literal_lists.specs.declared.literal.Literal.{Literal}
-use Rattle.problem_form.specs.declared.terms.Clause.{Clause}
-use Rattle.literal_lists.specs.Literals.{has_clash}
-use Rattle.problem_form.specs.NormalForm.{is_plain_cost}
+use Rattle.problem_form.proofs.Common.{◌≡◌, ◌++◌, ◌∷◌, [], List, ap, sym, subst, ◌∙◌, OnOk, append-nil, Literal, Clause, has_clash, is_plain_cost}
 use Rattle.problem_form.proofs.KeptClauses.{kept_clause-clash, kept_clause-number, kept_clause-kept}
 use Rattle.problem_form.proofs.clauses.keep_clause.Goals as goal
 

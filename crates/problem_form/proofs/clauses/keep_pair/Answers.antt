@@ -1,11 +1,6 @@
-use Rattle.std.proofs.Common.{◌≡◌, ◌++◌, List, subst, OnOk, arith}
-use Rattle.problem_form.specs.declared.terms.Clause.{Clause}
+use Rattle.problem_form.proofs.Common.{nat_tests, arith}
 use Rattle.problem_form.proofs.KeptPairs.{kept-apart}
 use Rattle.problem_form.proofs.clauses.keep_pair.Goals as goal
 
 pub returns-clause-kept : goal.returns-clause-kept
-returns-clause-kept c =
-    let clauses = c.args.clauses.now in
-    let P : List Clause → Type 0 = λ kept. OnOk c.push_hard.result (c.push_hard.new.self ≡ clauses ++ kept) in
-    subst P (kept-apart c.args.first c.args.second _ (omega arith) c.in_order.ensures)
-    c.push_hard.ensures.pushed
+returns-clause-kept c = grind (arith, nat_tests, kept-apart)

@@ -1,5 +1,4 @@
-use Rattle.std.proofs.Common.{◌≡◌, ◌≤◌, ◌++◌, length, take, drop}
-use Rattle.problem_form.specs.WeighedLists.{marked}
+use Rattle.problem_form.proofs.Common.{◌≡◌, ◌≤◌, ◌++◌, length, take, drop, marked}
 use Rattle.problem_form.proofs.constraint_list.keep_rows.Given as goal
 
 -- the rows that were moved to the front, and the marked ones of those that are left

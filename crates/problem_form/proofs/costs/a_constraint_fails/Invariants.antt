@@ -1,6 +1,4 @@
-use Rattle.std.proofs.Common.{◌≡◌, ◌<◌, ◌^◌}
-use Rattle.std.specs.List.{list_any, sum_by}
-use Rattle.problem_form.specs.Problems.{constraint_total, fails}
+use Rattle.problem_form.proofs.Common.{◌≡◌, ◌<◌, ◌^◌, list_any, sum_by, constraint_total, fails}
 use Rattle.problem_form.proofs.costs.a_constraint_fails.Given as goal
 
 -- a constraint that is left fails where one does

@@ -1,7 +1,4 @@
-use Rattle.std.proofs.Common.{rules, tests}
-use Rattle.std.proofs.lemmas.Iterator.Search.{any_from_yields_List}
-use Rattle.std.proofs.lemmas.Iterator.Consumers.{YieldsList-from_first}
-use Rattle.problem_form.specs.Problems.{fails_hard}
+use Rattle.problem_form.proofs.Common.{rules, tests, any_from_yields_List, YieldsList-from_first, fails_hard}
 use Rattle.problem_form.proofs.costs.a_hard_clause_fails.Goals as goal
 
 pub returns : goal.returns

@@ -1,7 +1,4 @@
-use Rattle.std.proofs.Common.{rules, tests, refl}
-use Rattle.std.proofs.lemmas.Iterator.Search.{any_from_yields_List}
-use Rattle.std.proofs.lemmas.Iterator.Consumers.{YieldsList-from_first}
-use Rattle.literal_lists.specs.Literals.{holds}
+use Rattle.problem_form.proofs.Common.{rules, tests, refl, any_from_yields_List, YieldsList-from_first, holds}
 use Rattle.problem_form.proofs.costs.a_literal_holds.Goals as goal
 
 pub returns : goal.returns

@@ -1,7 +1,4 @@
-use Rattle.std.proofs.Common.{rules, tests, refl}
-use Rattle.std.proofs.lemmas.Iterator.Search.{all_from_yields_List}
-use Rattle.std.proofs.lemmas.Iterator.Consumers.{YieldsList-from_first}
-use Rattle.literal_lists.specs.Literals.{holds}
+use Rattle.problem_form.proofs.Common.{rules, tests, refl, all_from_yields_List, YieldsList-from_first, holds}
 use Rattle.problem_form.proofs.costs.all_literals_hold.Goals as goal
 
 pub returns : goal.returns

@@ -1,7 +1,4 @@
-use Rattle.std.proofs.Common.{◌≡◌, ◌^◌, ◌+ℤ◌, to_z, of_z, arith}
-use Rattle.std.specs.Int.{w128}
-use Rattle.std.proofs.lemmas.Int.{ints}
-use Rattle.problem_form.specs.Problems.{soft_cost, soft_weight}
+use Rattle.problem_form.proofs.Common.{◌≡◌, ◌^◌, ◌+ℤ◌, to_z, of_z, arith, w128, ints, soft_cost, soft_weight}
 use Rattle.problem_form.proofs.CostSizes.{clause-size}
 use Rattle.problem_form.proofs.LeftSums.{first_within, sums_left}
 use Rattle.problem_form.proofs.costs.soft_costs.Goals as goal

@@ -1,6 +1,4 @@
-use Rattle.std.specs.List.{sum_by}
-use Rattle.base.specs.Sums.{total_by}
-use Rattle.problem_form.specs.Problems.{soft_cost, soft_weight}
+use Rattle.problem_form.proofs.Common.{sum_by, total_by, soft_cost, soft_weight}
 use Rattle.problem_form.proofs.LeftSums.{Sums}
 use Rattle.problem_form.proofs.costs.soft_costs.Given as goal
 

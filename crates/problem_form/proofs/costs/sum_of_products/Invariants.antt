@@ -1,6 +1,4 @@
-use Rattle.std.proofs.Common.{unsigned_abs}
-use Rattle.problem_form.specs.declared.terms.Product.{Product}
-use Rattle.problem_form.specs.Problems.{product_value, products_total, sum_of}
+use Rattle.problem_form.proofs.Common.{unsigned_abs, Product, product_value, products_total, sum_of}
 use Rattle.problem_form.proofs.LeftSums.{Sums}
 use Rattle.problem_form.proofs.costs.sum_of_products.Given as goal
 

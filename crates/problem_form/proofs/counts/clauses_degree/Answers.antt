@@ -1,7 +1,4 @@
-use Rattle.std.proofs.Common.{rules, tests, ℕ, max, length, sym, ◌∙◌}
-use Rattle.std.proofs.lemmas.Iterator.Consumers.{YieldsList-from_first, fold_from_yields_List}
-use Rattle.std.proofs.lemmas.List.Folds.{fold-map}
-use Rattle.problem_form.specs.declared.terms.Clause.{Clause}
+use Rattle.problem_form.proofs.Common.{rules, tests, ℕ, max, length, sym, ◌∙◌, YieldsList-from_first, fold_from_yields_List, fold-map, Clause}
 use Rattle.problem_form.proofs.counts.clauses_degree.Goals as goal
 
 pub returns : goal.returns
@@ -9,5 +6,4 @@ returns c =
     let number : Clause → ℕ = λ c. length c.literals in
     fold_from_yields_List _ (λ most x. max most (number x)) _ _ c.fold.ensures.ran
     (YieldsList-from_first (λ x. x) (λ s. s) c.args.clauses.now c.iter.ensures)
-    (λ a x b q k. search (rules, tests))
-    ∙ sym (fold-map max number c.args.most c.args.clauses.now)
+    (λ a x b q k. search (rules, tests)) ∙ sym (fold-map max number c.args.most c.args.clauses.now)

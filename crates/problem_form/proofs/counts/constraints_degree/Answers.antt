@@ -1,6 +1,4 @@
-use Rattle.std.proofs.Common.{rules, tests, ℕ, List, max, fold, map, length, sym, ◌∙◌}
-use Rattle.std.proofs.lemmas.Iterator.Consumers.{YieldsList-from_first, fold_from_yields_List}
-use Rattle.problem_form.specs.declared.terms.Constraint.{Constraint}
+use Rattle.problem_form.proofs.Common.{rules, tests, ℕ, List, max, fold, map, length, sym, ◌∙◌, YieldsList-from_first, fold_from_yields_List, Constraint}
 use Rattle.problem_form.proofs.CountedNumbers.{fold_flat_map}
 use Rattle.problem_form.proofs.counts.constraints_degree.Goals as goal
 

@@ -1,7 +1,4 @@
-use Rattle.std.proofs.Common.{rules, tests, ℕ, max, length, refl, sym, ◌∙◌}
-use Rattle.std.proofs.lemmas.Iterator.Consumers.{YieldsList-from_first, fold_from_yields_List}
-use Rattle.std.proofs.lemmas.List.Folds.{fold-map}
-use Rattle.problem_form.specs.declared.terms.Product.{Product}
+use Rattle.problem_form.proofs.Common.{rules, tests, ℕ, max, length, refl, sym, ◌∙◌, YieldsList-from_first, fold_from_yields_List, fold-map, Product}
 use Rattle.problem_form.proofs.counts.products_degree.Goals as goal
 
 pub returns : goal.returns
@@ -9,5 +6,4 @@ returns c =
     let number : Product → ℕ = λ t. length t.literals in
     fold_from_yields_List _ (λ most x. max most (number x)) _ _ c.fold.ensures.ran
     (YieldsList-from_first (λ x. x) (λ s. s) c.args.products refl)
-    (λ a x b q k. search (rules, tests))
-    ∙ sym (fold-map max number c.args.most c.args.products)
+    (λ a x b q k. search (rules, tests)) ∙ sym (fold-map max number c.args.most c.args.products)

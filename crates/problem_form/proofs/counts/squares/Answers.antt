@@ -1,7 +1,4 @@
-use Rattle.std.proofs.Common.{ℕ, ◌*◌, ◌^◌}
-use Rattle.problem_form.specs.declared.terms.Constraint.{Constraint}
-use Rattle.problem_form.specs.Limits.{reach}
-use Rattle.problem_form.specs.Problems.{constraint_total}
+use Rattle.problem_form.proofs.Common.{arith, nat_tests, ℕ, ◌*◌, ◌^◌, Constraint, reach, constraint_total}
 use Rattle.problem_form.proofs.CountedNumbers.{answered_square}
 use Rattle.problem_form.proofs.LeftSums.{answered_left, answered_end, first_within, rest_within}
 use Rattle.problem_form.proofs.counts.squares.Goals as goal
@@ -24,7 +21,4 @@ loop-constraint-preserved c =
     }
 
 pub returns : goal.returns
-returns c =
-    let square : Constraint → ℕ = λ k. c.args.penalty * reach k ^ 2 in
-    answered_end square c.loop-constraint.constraint-iterator c.loop-constraint.total _
-    c.in-None.ensures.steps.0 c.loop-constraint.invariant.counted
+returns c = grind (arith, nat_tests, answered_end)

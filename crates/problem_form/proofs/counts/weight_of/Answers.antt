@@ -1,10 +1,4 @@
-use Rattle.std.proofs.Common.{◌≡◌, ◌∙◌, ◌+◌, ◌*◌, ◌^◌, ap, arith, count_by, is_none, unsigned_abs}
-use Rattle.std.specs.List.{sum_by}
-use Rattle.std.proofs.lemmas.Int.{ints}
-use Rattle.problem_form.specs.declared.terms.Clause.{Clause}
-use Rattle.problem_form.specs.declared.terms.Constraint.{Constraint}
-use Rattle.problem_form.specs.Problems.{ProblemContent}
-use Rattle.problem_form.specs.Limits.{answered_number, cost_size, penalty, reach}
+use Rattle.problem_form.proofs.Common.{◌≡◌, ◌∙◌, ◌+◌, ◌*◌, ◌^◌, ap, arith, count_by, is_none, unsigned_abs, sum_by, ints, Clause, Constraint, ProblemContent, answered_number, cost_size, penalty, reach}
 use Rattle.problem_form.proofs.CountedNumbers.{answered_sum_of_3}
 use Rattle.problem_form.proofs.counts.weight_of.Goals as goal
 
@@ -24,8 +18,7 @@ returns c =
     ) in
     let hard : c.saturating_mul-hard.result
     ≡ answered_number (penalty p * count_by (λ (k : Clause). is_none k.weight) p.clauses) =
-    c.saturating_mul-hard.ensures
-    ∙ (λ i. answered_number (c.penalty-penalty.ensures.value i
+    c.saturating_mul-hard.ensures ∙ (λ i. answered_number (c.penalty-penalty.ensures.value i
     * (c.hard_clauses.ensures
     ∙ ap (λ (q : ProblemContent). count_by (λ (k : Clause). is_none k.weight) q.clauses) c.problem.view_is) i)) in
     let squares : c.squares.result

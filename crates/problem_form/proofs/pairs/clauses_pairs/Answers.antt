@@ -1,3 +1,4 @@
+use Rattle.problem_form.proofs.Common.{arith, nat_tests}
 use Rattle.problem_form.specs.Limits.{clause_pairs}
 use Rattle.problem_form.proofs.LeftSums.{answered_left, answered_end}
 use Rattle.problem_form.proofs.pairs.clauses_pairs.Goals as goal
@@ -9,6 +10,4 @@ loop-clause-preserved c =
     c.saturating_add-total.ensures c.loop-clause.invariant
 
 pub returns : goal.returns
-returns c =
-    answered_end (clause_pairs c.args.normal) c.loop-clause.clause-iterator c.loop-clause.total _
-    c.in-None.ensures.steps.0 c.loop-clause.invariant
+returns c = grind (arith, nat_tests, answered_end)

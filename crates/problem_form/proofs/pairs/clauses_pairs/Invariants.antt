@@ -1,5 +1,4 @@
-use Rattle.std.specs.List.{sum_by}
-use Rattle.problem_form.specs.Limits.{clause_pairs}
+use Rattle.problem_form.proofs.Common.{sum_by, clause_pairs}
 use Rattle.problem_form.proofs.LeftSums.{Answered}
 use Rattle.problem_form.proofs.pairs.clauses_pairs.Given as goal
 

@@ -1,8 +1,4 @@
-use Rattle.std.proofs.Common.{rules, tests, ℕ, max, sym, ◌∙◌}
-use Rattle.std.proofs.lemmas.Iterator.Consumers.{YieldsList-from_first, fold_from_yields_List}
-use Rattle.std.proofs.lemmas.List.Folds.{fold-map}
-use Rattle.problem_form.specs.declared.terms.Constraint.{Constraint}
-use Rattle.problem_form.specs.Limits.{most_complements}
+use Rattle.problem_form.proofs.Common.{rules, tests, ℕ, max, sym, ◌∙◌, YieldsList-from_first, fold_from_yields_List, fold-map, Constraint, most_complements}
 use Rattle.problem_form.proofs.pairs.constraints_complements.Goals as goal
 
 pub returns : goal.returns
@@ -10,5 +6,4 @@ returns c =
     let number : Constraint → ℕ = most_complements in
     fold_from_yields_List _ (λ most k. max most (number k)) _ _ c.fold.ensures.ran
     (YieldsList-from_first (λ k. k) (λ s. s) c.args.constraints.now c.iter.ensures)
-    (λ a x b q k. search (rules, tests))
-    ∙ sym (fold-map max number 0 c.args.constraints.now)
+    (λ a x b q k. search (rules, tests)) ∙ sym (fold-map max number 0 c.args.constraints.now)

@@ -1,5 +1,4 @@
-use Rattle.problem_form.specs.Limits.{constraint_pairs}
-use Rattle.problem_form.specs.Problems.{constraint_total}
+use Rattle.problem_form.proofs.Common.{arith, nat_tests, constraint_pairs, constraint_total}
 use Rattle.problem_form.proofs.LeftSums.{answered_left, answered_end, first_within, rest_within}
 use Rattle.problem_form.proofs.pairs.constraints_pairs.Goals as goal
 
@@ -17,6 +16,4 @@ loop-constraint-preserved c = record {
 }
 
 pub returns : goal.returns
-returns c =
-    answered_end (constraint_pairs c.args.normal) c.loop-constraint.constraint-iterator
-    c.loop-constraint.total _ c.in-None.ensures.steps.0 c.loop-constraint.invariant.counted
+returns c = grind (arith, nat_tests, answered_end)

@@ -1,7 +1,4 @@
-use Rattle.std.proofs.Common.{◌<◌, ◌^◌}
-use Rattle.std.specs.List.{sum_by}
-use Rattle.problem_form.specs.Limits.{constraint_pairs}
-use Rattle.problem_form.specs.Problems.{constraint_total}
+use Rattle.problem_form.proofs.Common.{◌<◌, ◌^◌, sum_by, constraint_pairs, constraint_total}
 use Rattle.problem_form.proofs.LeftSums.{Answered}
 use Rattle.problem_form.proofs.pairs.constraints_pairs.Given as goal
 

@@ -1,3 +1,4 @@
+use Rattle.problem_form.proofs.Common.{arith, nat_tests}
 use Rattle.problem_form.specs.Limits.{product_pairs}
 use Rattle.problem_form.proofs.LeftSums.{answered_left, answered_end}
 use Rattle.problem_form.proofs.pairs.products_pairs.Goals as goal
@@ -9,6 +10,4 @@ loop-product-preserved c =
     c.saturating_add-total.ensures c.loop-product.invariant
 
 pub returns : goal.returns
-returns c =
-    answered_end (product_pairs c.args.normal) c.loop-product.product-iterator c.loop-product.total _
-    c.in-None.ensures.steps.0 c.loop-product.invariant
+returns c = grind (arith, nat_tests, answered_end)

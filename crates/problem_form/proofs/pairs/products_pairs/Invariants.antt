@@ -1,5 +1,4 @@
-use Rattle.std.specs.List.{sum_by}
-use Rattle.problem_form.specs.Limits.{product_pairs}
+use Rattle.problem_form.proofs.Common.{sum_by, product_pairs}
 use Rattle.problem_form.proofs.LeftSums.{Answered}
 use Rattle.problem_form.proofs.pairs.products_pairs.Given as goal
 

@@ -1,5 +1,4 @@
-use Rattle.std.proofs.Common.{◌≡◌, neg_ℤ}
-use Rattle.base.proofs.DividedWeights.{changed_to}
+use Rattle.problem_form.proofs.Common.{◌≡◌, neg_ℤ, changed_to}
 use Rattle.problem_form.proofs.product_list.negate_all.Given as goal
 
 -- the signs of the numbers so far are turned, and the others are as before

@@ -1,8 +1,4 @@
-use Rattle.std.proofs.Common.{◌≡◌, ◌^◌, ◌+ℤ◌, to_z, of_z, arith, unsigned_abs}
-use Rattle.std.specs.Int.{w128}
-use Rattle.std.proofs.lemmas.Int.{ints}
-use Rattle.problem_form.specs.declared.terms.Product.{Product}
-use Rattle.problem_form.specs.NormalForm.{product_constant}
+use Rattle.problem_form.proofs.Common.{◌≡◌, ◌^◌, ◌+ℤ◌, to_z, of_z, arith, unsigned_abs, w128, ints, Product, product_constant}
 use Rattle.problem_form.proofs.CostSizes.{constant-size}
 use Rattle.problem_form.proofs.LeftSums.{first_within, sums_left}
 use Rattle.problem_form.proofs.products.constants_of.Goals as goal

@@ -1,8 +1,4 @@
-use Rattle.std.proofs.Common.{unsigned_abs}
-use Rattle.base.specs.Sums.{total_by}
-use Rattle.problem_form.specs.declared.terms.Product.{Product}
-use Rattle.problem_form.specs.NormalForm.{product_constant}
-use Rattle.problem_form.specs.Problems.{products_total}
+use Rattle.problem_form.proofs.Common.{unsigned_abs, total_by, Product, product_constant, products_total}
 use Rattle.problem_form.proofs.LeftSums.{Sums}
 use Rattle.problem_form.proofs.products.constants_of.Given as goal
 

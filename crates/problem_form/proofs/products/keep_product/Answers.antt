@@ -1,19 +1,10 @@
-use Rattle.std.proofs.Common.{◌≡◌, ◌++◌, ◌∷◌, [], List, ap, sym, subst, ◌∙◌, OnOk, pos, arith, of_z, to_z, ℤ}
-use Rattle.std.specs.Int.{w128}
-use Rattle.std.proofs.lemmas.Int.{ints}
-use Rattle.std.proofs.lemmas.List.{append-nil}
-use Rattle.literal_lists.specs.declared.literal.Literal.{Literal}
-use Rattle.problem_form.specs.declared.terms.Product.{Product}
+use Rattle.problem_form.proofs.Common.{elements, nat_tests, ◌≡◌, ◌++◌, ◌∷◌, [], List, ap, sym, subst, ◌∙◌, OnOk, arith, of_z, to_z, ℤ, w128, ints, append-nil, Literal, Product}
 use Rattle.problem_form.proofs.KeptProducts.{is_dropped, kept_product-zero, kept_product-dropped, kept_product-kept}
 use Rattle.problem_form.proofs.products.keep_product.Goals as goal
 
 pub returns-then-coefficient-eq0-clause-kept : goal.returns-then-coefficient-eq0-clause-kept
 returns-then-coefficient-eq0-clause-kept c =
-    let products = c.args.products.now in
-    let written : Product = record { literals = c.args.literals.now.items; coefficient = c.args.coefficient } in
-    let none : c.args.coefficient ≡ pos 0 = omega (arith, ints, c.if-coefficient-eq0.true) in
-    sym (append-nil products) ∙ ap (λ kept. products ++ kept)
-    (kept_product-zero written c.make_set.new.literals.items c.make_set.ensures.set none)
+    grind (arith, nat_tests, ints, elements, append-nil, kept_product-zero)
 
 pub returns-then-is_dropped-clause-kept : goal.returns-then-is_dropped-clause-kept
 returns-then-is_dropped-clause-kept c =

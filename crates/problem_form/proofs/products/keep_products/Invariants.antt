@@ -1,6 +1,4 @@
-use Rattle.std.proofs.Common.{◌≡◌, ◌++◌, length, take}
-use Rattle.std.specs.List.{flat_map}
-use Rattle.problem_form.specs.NormalForm.{kept_product}
+use Rattle.problem_form.proofs.Common.{◌≡◌, ◌++◌, length, take, flat_map, kept_product}
 use Rattle.problem_form.proofs.products.keep_products.Given as goal
 
 -- what is kept so far, and of the products that are left, is the whole, after what was there before

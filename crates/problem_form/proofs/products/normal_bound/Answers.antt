@@ -1,5 +1,4 @@
-use Rattle.std.proofs.Common.{arith}
-use Rattle.std.proofs.lemmas.Int.{ints}
+use Rattle.problem_form.proofs.Common.{arith, ints}
 use Rattle.problem_form.proofs.KeptProducts.{kept_products-size}
 use Rattle.problem_form.proofs.products.normal_bound.Goals as goal
 

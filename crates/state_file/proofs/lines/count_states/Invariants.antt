@@ -1,5 +1,4 @@
-use Rattle.std.proofs.Common.{◌≡◌, ◌+◌, length}
-use Rattle.state_file.specs.States.{states_of}
+use Rattle.state_file.proofs.Common.{◌≡◌, ◌+◌, length, states_of}
 use Rattle.state_file.proofs.lines.count_states.Given as goal
 
 -- the states that were counted and those that are left are all

@@ -1,6 +1,4 @@
-use Rattle.std.proofs.Common.{ℕ, ◌+◌, List, ◌∷◌, sym, ap, ◌∙◌, arith}
-use Rattle.std.proofs.lemmas.List.{take_rest}
-use Rattle.state_file.specs.States.{lines_of}
+use Rattle.state_file.proofs.Common.{ℕ, ◌+◌, List, ◌∷◌, sym, ap, ◌∙◌, arith, take_rest, lines_of}
 use Rattle.state_file.proofs.StateLines.{first_line, last_line}
 use Rattle.state_file.proofs.lines.cut_line.Goals as goal
 

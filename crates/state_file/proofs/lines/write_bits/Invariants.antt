@@ -1,5 +1,4 @@
-use Rattle.std.proofs.Common.{◌≡◌, map, take}
-use Rattle.state_file.specs.States.{is_one}
+use Rattle.state_file.proofs.Common.{◌≡◌, map, take, is_one}
 use Rattle.state_file.proofs.lines.write_bits.Given as goal
 
 -- the bits before this one were written

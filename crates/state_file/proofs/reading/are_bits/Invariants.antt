@@ -1,6 +1,4 @@
-use Rattle.std.proofs.Common.{◌≡◌, take}
-use Rattle.std.specs.List.{list_all}
-use Rattle.state_file.specs.States.{is_bit}
+use Rattle.state_file.proofs.Common.{◌≡◌, take, list_all, is_bit}
 use Rattle.state_file.proofs.reading.are_bits.Given as goal
 
 -- whether each byte before this one stands for a bit

@@ -1,7 +1,4 @@
-use Rattle.std.proofs.Common.{rules, tests, not}
-use Rattle.std.proofs.lemmas.Iterator.{YieldsList-from_slice}
-use Rattle.std.proofs.lemmas.Iterator.Search.{position_from_yields_List}
-use Rattle.whole_text.specs.Tokens.{is_blank}
+use Rattle.whole_text.proofs.Common.{rules, tests, not, YieldsList-from_slice, position_from_yields_List, is_blank}
 use Rattle.whole_text.proofs.Places.{first_or_len}
 use Rattle.whole_text.proofs.cutting.blank_len.Goals as goal
 

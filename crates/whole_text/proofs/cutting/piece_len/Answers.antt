@@ -1,5 +1,4 @@
-use Rattle.std.proofs.Common.{◌≡◌, ◌-◌, false, true, get_or, sym, ◌∙◌, arith}
-use Rattle.whole_text.specs.Tokens.{is_blank, joins}
+use Rattle.whole_text.proofs.Common.{◌≡◌, ◌-◌, false, true, get_or, sym, ◌∙◌, arith, is_blank, joins}
 use Rattle.whole_text.proofs.Pieces.{piece_begins, piece_more, piece_ends, piece_whole}
 use Rattle.whole_text.proofs.cutting.piece_len.Goals.{then-is_blank-via-then-is_blank, then-is_blank-via-else-is_blank+then-not-joins}
 use Rattle.whole_text.proofs.cutting.piece_len.Goals as goal
@@ -26,8 +25,7 @@ returns-then-is_blank-clause-cut c =
           let blank : is_blank (get_or bs i 0) ≡ true = sym c.is_blank.ensures ∙ w.if-is_blank.true in
           let none : false ≡ true = sym ink ∙ blank in
           absurd (cc none)
-      | then-is_blank-via-else-is_blank+then-not-joins w ↦
-          sym w.joins.ensures ∙ w.if-not-joins.true
+      | then-is_blank-via-else-is_blank+then-not-joins w ↦ sym w.joins.ensures ∙ w.if-not-joins.true
     ])
 
 pub returns-clause-cut : goal.returns-clause-cut

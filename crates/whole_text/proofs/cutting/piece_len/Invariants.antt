@@ -1,5 +1,4 @@
-use Rattle.std.proofs.Common.{take}
-use Rattle.whole_text.specs.Lexing.{IsBegun}
+use Rattle.whole_text.proofs.Common.{take, IsBegun}
 use Rattle.whole_text.proofs.cutting.piece_len.Given as goal
 
 -- the bytes so far are the front of one token

@@ -1,8 +1,4 @@
-use Rattle.std.proofs.Common.{◌≡◌, ℕ, List, ◌+◌, ◌++◌, [], map, refl, sym, ap, ◌∙◌, arith}
-use Rattle.std.specs.List.{slice_range, flat_map}
-use Rattle.std.proofs.lemmas.List.{append-nil}
-use Rattle.whole_text.specs.declared.token.Token.{Token}
-use Rattle.whole_text.specs.Tokens.{Word, word, word_at, pieces, pieces_of_line}
+use Rattle.whole_text.proofs.Common.{nat_tests, ℕ, List, ◌+◌, ◌++◌, [], map, sym, ap, ◌∙◌, arith, slice_range, flat_map, append-nil, Token, Word, word, word_at, pieces, pieces_of_line}
 use Rattle.whole_text.proofs.Slices.{slice_length, slice_none}
 use Rattle.whole_text.proofs.Order.{order_wider, order_pushed}
 use Rattle.whole_text.proofs.LineWords.{skipped, comment_line, other_line, token_taken, words_none}
@@ -10,10 +6,7 @@ use Rattle.whole_text.proofs.Pieces.{first_ink, within_line, piece_taken}
 use Rattle.whole_text.proofs.cutting.push_line.Goals as goal
 
 pub returns-then-is_comment-clause-cut : goal.returns-then-is_comment-clause-cut
-returns-then-is_comment-clause-cut c =
-    let text = c.args.text.now in
-    let none = comment_line c.args.style c.args.line (slice_range text c.args.start c.args.end) (sym c.is_comment.ensures ∙ c.if-is_comment.true) in
-    rw none (sym (append-nil (map (word_at text) c.args.tokens.now.items)))
+returns-then-is_comment-clause-cut c = grind (arith, nat_tests, comment_line, append-nil)
 
 pub returns-then-is_comment-clause-in_order : goal.returns-then-is_comment-clause-in_order
 returns-then-is_comment-clause-in_order c = λ h. order_wider 0 c.args.tokens.now.items c.args.start c.args.end h c.requires.ordered
@@ -38,9 +31,7 @@ token_len-requires-clause-some c =
     omega (arith, slice_length c.args.text.now c.loop-at.at c.args.end c.requires.within)
 
 pub token_len-requires-clause-ink : goal.token_len-requires-clause-ink
-token_len-requires-clause-ink c =
-    first_ink c.args.text.now c.loop-at.at c.args.end c.loop-at-test.true
-    (c.loop-at.invariant.ink c.loop-at-test.true)
+token_len-requires-clause-ink c = grind (arith, nat_tests, first_ink)
 
 pub loop-at-preserved : goal.loop-at-preserved
 loop-at-preserved c =
@@ -64,11 +55,7 @@ loop-at-preserved c =
     }
 
 pub returns-clause-cut : goal.returns-clause-cut
-returns-clause-cut c =
-    let text = c.args.text.now in
-    let here : c.loop-at.at ≡ c.args.end = omega (arith, c.loop-at.invariant.high) in
-    let empty : pieces_of_line c.args.style (slice_range text c.loop-at.at c.args.end) ≡ [] = rw (here, slice_none text c.args.end, words_none) refl in
-    sym (append-nil (map (word_at text) c.loop-at.tokens.items)) ∙ ap (λ (ws : List (List ℕ)). map (word_at text) c.loop-at.tokens.items ++ map (word c.args.line) ws) (sym empty) ∙ c.loop-at.invariant.cut
+returns-clause-cut c = grind (arith, nat_tests, slice_none, words_none, append-nil)
 
 pub loop-at-smaller : goal.loop-at-smaller
 loop-at-smaller c =

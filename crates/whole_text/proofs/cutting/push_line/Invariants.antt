@@ -1,6 +1,4 @@
-use Rattle.std.proofs.Common.{◌-◌, ◌≡◌, ◌<◌, ◌≤◌, ◌++◌, false, map, get_or}
-use Rattle.std.specs.List.{slice_range}
-use Rattle.whole_text.specs.Tokens.{is_blank, pieces_of_line, tokens_of_line, word, word_at, AreInOrder}
+use Rattle.whole_text.proofs.Common.{◌-◌, ◌≡◌, ◌<◌, ◌≤◌, ◌++◌, false, map, get_or, slice_range, is_blank, pieces_of_line, tokens_of_line, word, word_at, AreInOrder}
 use Rattle.whole_text.proofs.cutting.push_line.Given as goal
 
 abbrev pub invariant-loop-at : goal.invariant-loop-at

@@ -1,7 +1,4 @@
-use Rattle.std.proofs.Common.{◌≡◌, ◌+◌, length, map, refl, ◌∙◌, arith}
-use Rattle.std.specs.List.{slice_range}
-use Rattle.std.proofs.lemmas.List.{take_rest}
-use Rattle.whole_text.specs.Tokens.{tokens_of, word_at}
+use Rattle.whole_text.proofs.Common.{nat_tests, ◌+◌, map, refl, ◌∙◌, arith, slice_range, take_rest, tokens_of, word_at}
 use Rattle.whole_text.proofs.Order.{order_wider, order_within}
 use Rattle.whole_text.proofs.Lines.{lines_from, line_cut, line_last, line_taken, line_ended}
 use Rattle.whole_text.proofs.cutting.tokens.Goals as goal
@@ -39,6 +36,4 @@ loop-tokens-preserved c =
     }
 
 pub returns-then-end-text-clause-within : goal.returns-then-end-text-clause-within
-returns-then-end-text-clause-within c =
-    let whole : c.loop-tokens.start + c.line_len.result ≡ length c.args.text.now = c.if-end-text.true in
-    order_within c.args.text.now c.push_line.new.tokens.items (rw (← whole) (c.in_ok-push_line.ensures.in_order c.loop-tokens.invariant.in_order))
+returns-then-end-text-clause-within c = grind (arith, nat_tests, order_within)

@@ -1,5 +1,4 @@
-use Rattle.std.proofs.Common.{◌≡◌, ◌+◌, ◌-◌, ◌≤◌, ◌++◌, length, map}
-use Rattle.whole_text.specs.Tokens.{tokens_from, tokens_of, word_at, AreInOrder}
+use Rattle.whole_text.proofs.Common.{◌≡◌, ◌+◌, ◌-◌, ◌≤◌, ◌++◌, length, map, tokens_from, tokens_of, word_at, AreInOrder}
 use Rattle.whole_text.proofs.Lines.{lines_from}
 use Rattle.whole_text.proofs.cutting.tokens.Given as goal
 

@@ -1,7 +1,4 @@
-use Rattle.std.proofs.Common.{ltb, ap, ◌∙◌, arith, w8}
-use lib.Count.{count_trailing_zeros}
-use lib.Lanes.{chunk}
-use Rattle.std.proofs.lemmas.Simd.{length-chunk, bitmask_splat, trailing_mask_l}
+use Rattle.whole_text.proofs.Common.{ltb, ap, ◌∙◌, arith, w8, count_trailing_zeros, chunk, length-chunk, bitmask_splat, trailing_mask_l}
 use Rattle.whole_text.proofs.lexing.run_len.Goals as goal
 
 pub returns-else-stops-eq0 : goal.returns-else-stops-eq0

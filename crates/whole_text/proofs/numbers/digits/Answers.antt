@@ -1,7 +1,4 @@
-use Rattle.std.proofs.Common.{◌≡◌, ◌+◌, ◌<◌, length, get_or, true, sym, ◌∙◌, arith}
-use Rattle.std.specs.Char.{is_ascii_digit}
-use Rattle.std.proofs.lemmas.List.{take_all}
-use Rattle.std.proofs.lemmas.Bool.{eqb-true, eqb-false}
+use Rattle.whole_text.proofs.Common.{nat_tests, ◌≡◌, get_or, true, sym, ◌∙◌, arith, is_ascii_digit, take_all, eqb-true, eqb-false}
 use Rattle.whole_text.proofs.DigitLoop.{none_empty, none_at, none_from_front, more_value, more_digits, value_is}
 use Rattle.whole_text.proofs.numbers.digits.Goals as goal
 
@@ -12,16 +9,10 @@ pub returns-then-not-is_ascii_digit : goal.returns-then-not-is_ascii_digit
 returns-then-not-is_ascii_digit c = none_at c.args.bytes.now c.loop-byte.byte-index c.loop-byte-test.true (sym c.is_ascii_digit.ensures.value ∙ c.if-not-is_ascii_digit.true)
 
 pub returns-in_err-checked_mul : goal.returns-in_err-checked_mul
-returns-in_err-checked_mul c =
-    let digit : is_ascii_digit (get_or c.args.bytes.now c.loop-byte.byte-index 0) ≡ true = sym c.is_ascii_digit.ensures.value ∙ c.if-not-is_ascii_digit.false in
-    let e = more_value c.args.bytes.now c.loop-byte.byte-index c.loop-byte.value c.loop-byte-test.true digit c.loop-byte.invariant.value in
-    c.from_residual.ensures ∙ none_from_front c.args.bytes.now (c.loop-byte.byte-index + 1) (omega arith)
+returns-in_err-checked_mul c = grind (arith, nat_tests, more_value, none_from_front)
 
 pub returns-in_err-value : goal.returns-in_err-value
-returns-in_err-value c =
-    let digit : is_ascii_digit (get_or c.args.bytes.now c.loop-byte.byte-index 0) ≡ true = sym c.is_ascii_digit.ensures.value ∙ c.if-not-is_ascii_digit.false in
-    let e = more_value c.args.bytes.now c.loop-byte.byte-index c.loop-byte.value c.loop-byte-test.true digit c.loop-byte.invariant.value in
-    c.from_residual-in_err-value.ensures ∙ none_from_front c.args.bytes.now (c.loop-byte.byte-index + 1) (omega arith)
+returns-in_err-value c = grind (arith, nat_tests, more_value, none_from_front)
 
 pub loop-byte-preserved : goal.loop-byte-preserved
 loop-byte-preserved c =
@@ -34,8 +25,4 @@ loop-byte-preserved c =
     }
 
 pub returns : goal.returns
-returns c =
-    let whole = take_all c.loop-byte.byte-index c.args.bytes.now c.loop-byte-test.false in
-    let filled = eqb-false _ _ (sym c.is_empty.ensures ∙ c.if-is_empty.false) in
-    let some : 0 < length c.args.bytes.now = omega arith in
-    value_is c.args.bytes.now c.loop-byte.value some (rw (← whole) c.loop-byte.invariant.digits) (omega arith) (rw (← whole) c.loop-byte.invariant.value)
+returns c = grind (arith, nat_tests, take_all, eqb-false, value_is)

@@ -1,9 +1,4 @@
-use Rattle.std.proofs.Common.{◌≡◌, ◌+◌, ◌<◌, ◌^◌, length, get_or, true, ◌-◌, sym, ◌∙◌, arith}
-use Rattle.std.specs.Char.{is_ascii_digit}
-use Rattle.std.specs.List.{list_all}
-use Rattle.std.specs.Str.Parse.{digits_value}
-use Rattle.std.proofs.lemmas.List.{take_all}
-use Rattle.std.proofs.lemmas.Bool.{eqb-false}
+use Rattle.whole_text.proofs.Common.{nat_tests, ◌≡◌, ◌+◌, get_or, true, ◌-◌, sym, ◌∙◌, arith, is_ascii_digit, take_all, eqb-false}
 use Rattle.whole_text.proofs.DigitLoop.{more_value, more_digits, value_is, size_plain, pow_more, pow_few, digit_small}
 use Rattle.whole_text.proofs.numbers.few_digits.Goals as goal
 
@@ -31,12 +26,4 @@ loop-byte-preserved c =
     }
 
 pub returns : goal.returns
-returns c =
-    let bytes = c.args.bytes.now in
-    let whole = take_all c.loop-byte.byte-index bytes c.loop-byte-test.false in
-    let filled = eqb-false _ _ (sym c.is_empty.ensures ∙ c.if-is_empty.false) in
-    let some : 0 < length bytes = omega arith in
-    let digits : list_all is_ascii_digit bytes ≡ true = rw (← whole) c.loop-byte.invariant.digits in
-    let value : c.loop-byte.value ≡ digits_value 10 bytes = rw (← whole) c.loop-byte.invariant.value in
-    let few : c.loop-byte.value < 2 ^ 64 = omega (arith, c.loop-byte.invariant.small, pow_few c.loop-byte.byte-index (omega arith)) in
-    size_plain bytes digits ∙ sym (value_is bytes c.loop-byte.value some digits few value)
+returns c = grind (arith, nat_tests, take_all, eqb-false, pow_few, size_plain, value_is)

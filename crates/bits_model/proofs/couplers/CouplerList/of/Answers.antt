@@ -1,8 +1,4 @@
-use Rattle.std.proofs.Common.{◌≡◌, ◌++◌, ◌∷◌, [], pos, get_or, to_z, of_z, sym, ◌∙◌, rules}
-use Rattle.std.specs.Int.{w128}
-use Rattle.std.proofs.lemmas.Int.{to_z-of_z}
-use Rattle.std.proofs.lemmas.List.{take_more}
-use Rattle.bits_model.specs.declared.output.Entry.{Entry}
+use Rattle.bits_model.proofs.Common.{◌≡◌, ◌++◌, ◌∷◌, [], pos, get_or, to_z, of_z, sym, ◌∙◌, rules, w128, to_z-of_z, take_more, Entry}
 use Rattle.bits_model.proofs.couplers.CouplerList.of.Goals as goal
 
 pub loop-entry-preserved : goal.loop-entry-preserved

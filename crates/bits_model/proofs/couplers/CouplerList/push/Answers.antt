@@ -1,9 +1,4 @@
-use Rattle.std.proofs.Common.{◌≡◌, ◌++◌, ◌∷◌, [], true, false, List, length, to_z, of_z, rules, sym, ap, ◌∙◌}
-use Rattle.std.specs.Int.{w128}
-use Rattle.std.proofs.lemmas.Int.{to_z-of_z}
-use Rattle.bits_model.specs.declared.output.Entry.{Entry}
-use Rattle.bits_model.specs.declared.couplers.RowStart.{RowStart}
-use Rattle.bits_model.specs.Entries.{last_is, packed_entries}
+use Rattle.bits_model.proofs.Common.{◌≡◌, ◌++◌, ◌∷◌, [], true, false, List, length, to_z, of_z, rules, sym, ap, ◌∙◌, w128, to_z-of_z, Entry, RowStart, last_is, packed_entries}
 use Rattle.bits_model.proofs.Packed.{packed_longer, longer_is_packed, packed_begun, begun_is_packed}
 use Rattle.bits_model.proofs.couplers.CouplerList.push.Goals as goal
 

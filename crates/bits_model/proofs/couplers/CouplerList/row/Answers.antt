@@ -1,6 +1,4 @@
-use Rattle.std.proofs.Common.{◌≡◌, ◌+◌, ◌<◌, ℕ, List, length, drop, subst, sym, ap, ◌∙◌, arith, rules}
-use Rattle.bits_model.specs.declared.couplers.RowStart.{RowStart}
-use Rattle.bits_model.specs.Entries.{end_before, row_entries, IsWithin}
+use Rattle.bits_model.proofs.Common.{nat_tests, ◌≡◌, ◌+◌, ◌<◌, length, drop, ap, ◌∙◌, arith, rules, end_before, row_entries}
 use Rattle.bits_model.proofs.EntryRows.{row_count_is, row_is, row_within}
 use Rattle.bits_model.proofs.couplers.CouplerList.row.Goals as goal
 
@@ -14,20 +12,7 @@ end_of-requires c =
     omega (arith, row_count_is _ _ _ _ c.self.invariant c.self.view_is, c.requires, ap length c.deref.ensures.value)
 
 pub invariant_of-result : goal.invariant_of-result
-invariant_of-result c =
-    let rs = c.self.inside.starts.items in
-    let ss = c.self.inside.seconds.items in
-    let ws = c.self.inside.weights in
-    let i = c.args.index in
-    let r = c.index.result.now in
-    let below : i < length rs = omega (arith, row_count_is _ _ _ _ c.self.invariant c.self.view_is, c.requires) in
-    let size : c.len.result ≡ length ss = search rules in
-    let end : c.end_of.result ≡ end_before (length ss) (drop (i + 1) rs) =
-    c.end_of.ensures ∙ (λ j. end_before (size j) (drop (i + 1) (c.deref.ensures.value j))) in
-    let within = row_within rs ss ws i r c.self.invariant below in
-    let begun = subst (λ (s : RowStart). IsWithin s.start (end_before (length ss) (drop (i + 1) rs)) ss ws) (sym c.index.ensures) within in
-    let ended = subst (λ (e : ℕ). IsWithin r.start e ss ws) (sym end) begun in
-    subst (λ (ts : List ℕ). IsWithin r.start c.end_of.result ts ws) (sym c.deref-2.ensures.value) ended
+invariant_of-result c = grind (arith, nat_tests, row_count_is, row_within)
 
 pub returns : goal.returns
 returns c =

@@ -1,5 +1,4 @@
-use Rattle.std.proofs.Common.{ap}
-use Rattle.bits_model.specs.declared.output.Entry.{Entry}
+use Rattle.bits_model.proofs.Common.{ap, Entry}
 use Rattle.bits_model.proofs.Packed.{row_entries_at}
 use Rattle.bits_model.proofs.row.Row.first.Goals as goal
 

@@ -1,5 +1,4 @@
-use Rattle.std.proofs.Common.{ap, arith}
-use Rattle.bits_model.specs.declared.output.Entry.{Entry}
+use Rattle.bits_model.proofs.Common.{ap, arith, Entry}
 use Rattle.bits_model.proofs.Packed.{row_index_below, row_entries_at}
 use Rattle.bits_model.proofs.row.Row.second.Goals as goal
 

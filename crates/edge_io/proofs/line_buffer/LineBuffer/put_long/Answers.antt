@@ -1,5 +1,4 @@
-use Rattle.std.proofs.Common.{◌++◌, sym, ap, ◌∙◌, subst, rules, append_assoc}
-use Rattle.edge_io.specs.Sinks.{Takes, TakesFront}
+use Rattle.edge_io.proofs.Common.{◌++◌, sym, ap, ◌∙◌, subst, rules, append_assoc, Takes, TakesFront}
 use Rattle.edge_io.proofs.Pieces.{Passes-trans, Passes-written, Passes-front, TakesFront-more, parts_again}
 use Rattle.edge_io.proofs.line_buffer.LineBuffer.put_long.Goals as goal
 

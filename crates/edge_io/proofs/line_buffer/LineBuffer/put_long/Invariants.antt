@@ -1,5 +1,4 @@
-use Rattle.std.proofs.Common.{◌≡◌, ◌≤◌, ◌+◌, List, ℕ, ◌++◌, length}
-use Rattle.edge_io.specs.Sinks.{Passes}
+use Rattle.edge_io.proofs.Common.{◌≡◌, ◌≤◌, ◌+◌, List, ℕ, ◌++◌, length, Passes}
 use Rattle.edge_io.proofs.line_buffer.LineBuffer.put_long.Given as goal
 
 -- the front of the piece before the rest was put

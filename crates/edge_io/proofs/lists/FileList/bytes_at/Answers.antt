@@ -1,7 +1,4 @@
-use Rattle.std.proofs.Common.{◌≡◌, ◌<◌, ◌∙◌, sym, ap, subst, length, map}
-use Rattle.std.proofs.lemmas.List.{length-map}
-use Rattle.edge_io.specs.Held.{NamedFiles}
-use Rattle.edge_io.specs.InMemory.{bytes_at}
+use Rattle.edge_io.proofs.Common.{◌≡◌, ◌<◌, ◌∙◌, sym, ap, subst, length, map, length-map, NamedFiles, bytes_at}
 use Rattle.edge_io.proofs.Named.{bytes_at-map, seen}
 use Rattle.edge_io.proofs.lists.FileList.bytes_at.Goals as goal
 

@@ -1,7 +1,4 @@
-use Rattle.std.proofs.Common.{◌∙◌, sym, ap, subst, map, Option, ℕ, List}
-use Rattle.std.specs.Prelude.{position}
-use Rattle.edge_io.specs.Held.{NamedFiles}
-use Rattle.edge_io.specs.InMemory.{IsIndexOf}
+use Rattle.edge_io.proofs.Common.{◌∙◌, sym, ap, subst, map, Option, ℕ, List, position, NamedFiles, IsIndexOf}
 use Rattle.edge_io.proofs.Named.{position-has_name, Pair, seen, has_name}
 use Rattle.edge_io.proofs.lists.FileList.index_of.Goals as goal
 

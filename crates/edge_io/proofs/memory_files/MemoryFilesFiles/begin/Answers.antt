@@ -1,6 +1,4 @@
-use Rattle.std.proofs.Common.{◌≡◌, List, ℕ, Some, subst, string_bytes, arith}
-use Rattle.edge_io.specs.Held.{find_file}
-use Rattle.edge_io.specs.InMemory.{bytes_at}
+use Rattle.edge_io.proofs.Common.{◌≡◌, List, ℕ, Some, subst, string_bytes, arith, find_file, bytes_at}
 use Rattle.edge_io.proofs.Rest.{begins_at}
 use Rattle.edge_io.proofs.memory_files.MemoryFilesFiles.begin.Goals as goal
 

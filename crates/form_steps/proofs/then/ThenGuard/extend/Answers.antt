@@ -1,6 +1,4 @@
-use Rattle.std.proofs.Common.{subst}
-use Rattle.std.proofs.lemmas.Result.{IfOk-weaker}
-use Rattle.form_steps.specs.laws.Composed.{least-trans}
+use Rattle.form_steps.proofs.Common.{subst, IfOk-weaker, least-trans}
 use Rattle.form_steps.proofs.then.ThenGuard.extend.Goals as goal
 
 pub returns-clause-extension : goal.returns-clause-extension

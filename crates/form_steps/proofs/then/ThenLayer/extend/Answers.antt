@@ -1,5 +1,4 @@
-use Rattle.std.proofs.lemmas.Result.{IfOk-weaker}
-use Rattle.form_steps.specs.laws.Composed.{Reaches-trans}
+use Rattle.form_steps.proofs.Common.{IfOk-weaker, Reaches-trans}
 use Rattle.form_steps.proofs.then.ThenLayer.extend.Goals as goal
 
 pub returns-clause-extension : goal.returns-clause-extension

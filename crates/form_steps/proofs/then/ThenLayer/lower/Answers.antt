@@ -1,9 +1,4 @@
-use Rattle.std.proofs.Common.{rules, arith, ◌+◌, ◌^◌, ◌≤◌}
-use Rattle.std.specs.Prelude.{unsigned_abs}
-use Rattle.std.specs.Int.{w128}
-use Rattle.std.proofs.lemmas.Int.{ints, to_z-of_z}
-use Rattle.base.proofs.Products.{one_le_times}
-use Rattle.form_steps.specs.laws.Composed.{keeps_after_keeps}
+use Rattle.form_steps.proofs.Common.{nat_tests, rules, arith, ◌+◌, ◌^◌, ◌≤◌, unsigned_abs, w128, ints, to_z-of_z, one_le_times, keeps_after_keeps}
 use Rattle.form_steps.proofs.Growth.{first_growth, second_growth, first_factor, second_factor, both_scales, both_scales_fit, moved_fits, moved_sum, moved_sum_fits, grown_by_both}
 use Rattle.form_steps.proofs.then.ThenLayer.lower.Goals as goal
 
@@ -30,16 +25,10 @@ lower-requires-2-clause-size g c =
     second_growth _ _ g.A.Layer.SIZE_GROWTH g.B.Layer.SIZE_GROWTH _ c.in_ok-first.ensures.size c.requires.size
 
 pub scale_of_both-scale-requires : goal.scale_of_both-scale-requires
-scale_of_both-scale-requires g c =
-    let e = c.in_ok-first.ensures in
-    let f = c.in_ok-second.ensures in
-    both_scales_fit c.in_ok-first.first.scale c.in_ok-second.second.scale (g.A.Source.Costed.total c.args.source.now) g.A.Layer.TOTAL_GROWTH g.B.Layer.TOTAL_GROWTH e.scale_low e.scale_high f.scale_low f.scale_high c.requires.total
+scale_of_both-scale-requires g c = grind (arith, nat_tests, ints, both_scales_fit)
 
 pub offset_of_both-offset-requires-clause-product : goal.offset_of_both-offset-requires-clause-product
-offset_of_both-offset-requires-clause-product g c =
-    let e = c.in_ok-first.ensures in
-    let f = c.in_ok-second.ensures in
-    moved_fits c.in_ok-second.second.scale c.in_ok-first.first.offset (g.A.Source.Costed.total c.args.source.now + 1) g.A.Layer.TOTAL_GROWTH g.B.Layer.TOTAL_GROWTH g.A.Layer.OFFSET_FACTOR g.B.Layer.OFFSET_FACTOR f.scale_low f.scale_high e.offset_high c.requires.offset
+offset_of_both-offset-requires-clause-product g c = grind (arith, nat_tests, ints, moved_fits)
 
 pub offset_of_both-offset-requires-clause-sum : goal.offset_of_both-offset-requires-clause-sum
 offset_of_both-offset-requires-clause-sum g c =
@@ -48,10 +37,7 @@ offset_of_both-offset-requires-clause-sum g c =
     moved_sum_fits c.in_ok-second.second.scale c.in_ok-first.first.offset c.in_ok-second.second.offset (g.A.Source.Costed.total c.args.source.now + 1) (g.A.Target.Costed.total c.in_ok-first.first.target + 1) g.A.Layer.TOTAL_GROWTH g.B.Layer.TOTAL_GROWTH g.A.Layer.OFFSET_FACTOR g.B.Layer.OFFSET_FACTOR f.scale_low f.scale_high e.offset_high f.offset_high e.total c.requires.offset
 
 pub returns-clause-scale_low : goal.returns-clause-scale_low
-returns-clause-scale_low g c =
-    let e = c.in_ok-first.ensures in
-    let f = c.in_ok-second.ensures in
-    omega (arith, ints, c.scale_of_both-scale.ensures, one_le_times c.in_ok-first.first.scale c.in_ok-second.second.scale e.scale_low f.scale_low)
+returns-clause-scale_low g c = grind (arith, nat_tests, ints, one_le_times)
 
 pub returns-clause-scale_high : goal.returns-clause-scale_high
 returns-clause-scale_high g c =
@@ -61,11 +47,7 @@ returns-clause-scale_high g c =
     omega (arith, ints)
 
 pub returns-clause-offset_high : goal.returns-clause-offset_high
-returns-clause-offset_high g c =
-    let e = c.in_ok-first.ensures in
-    let f = c.in_ok-second.ensures in
-    rw (to_z-of_z w128 c.offset_of_both-offset.result (search rules), c.offset_of_both-offset.ensures)
-    (moved_sum _ _ _ (g.A.Source.Costed.total c.args.source.now + 1) (g.A.Target.Costed.total c.in_ok-first.first.target + 1) g.A.Layer.TOTAL_GROWTH g.B.Layer.TOTAL_GROWTH g.A.Layer.OFFSET_FACTOR g.B.Layer.OFFSET_FACTOR f.scale_low f.scale_high e.offset_high f.offset_high e.total)
+returns-clause-offset_high g c = grind (arith, nat_tests, ints, to_z-of_z, moved_sum)
 
 pub returns-clause-total : goal.returns-clause-total
 returns-clause-total g c =

@@ -1,8 +1,4 @@
-use Rattle.std.proofs.Common.{length, map, ap, arith}
-use Rattle.std.proofs.lemmas.List.{length-map}
-use Rattle.base.specs.FlatLists.{parts}
-use Rattle.base.proofs.FlatParts.{length-parts}
-use Rattle.literal_lists.specs.Codes.{literal_of}
+use Rattle.literal_lists.proofs.Common.{length, map, ap, arith, length-map, parts, length-parts, literal_of}
 use Rattle.literal_lists.proofs.narrow_lists.NarrowLists.at.Goals as goal
 
 pub part-requires-clause-within : goal.part-requires-clause-within

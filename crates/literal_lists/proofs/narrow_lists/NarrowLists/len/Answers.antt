@@ -1,8 +1,4 @@
-use Rattle.std.proofs.Common.{◌≡◌, rules, length, map, sym, ap, ◌∙◌}
-use Rattle.std.proofs.lemmas.List.{length-map}
-use Rattle.base.specs.FlatLists.{parts}
-use Rattle.base.proofs.FlatParts.{length-parts}
-use Rattle.literal_lists.specs.Codes.{literal_of}
+use Rattle.literal_lists.proofs.Common.{◌≡◌, rules, length, map, sym, ap, ◌∙◌, length-map, parts, length-parts, literal_of}
 use Rattle.literal_lists.proofs.narrow_lists.NarrowLists.len.Goals as goal
 
 pub returns : goal.returns

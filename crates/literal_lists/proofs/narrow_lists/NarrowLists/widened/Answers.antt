@@ -1,7 +1,4 @@
-use Rattle.std.proofs.Common.{◌≡◌, map, ◌∙◌, ap}
-use Rattle.base.specs.FlatLists.{parts}
-use Rattle.base.proofs.FlatParts.{parts-map}
-use Rattle.literal_lists.specs.Codes.{literal_of}
+use Rattle.literal_lists.proofs.Common.{◌≡◌, map, ◌∙◌, ap, parts, parts-map, literal_of}
 use Rattle.literal_lists.proofs.narrow_lists.NarrowLists.widened.Goals as goal
 
 pub returns : goal.returns

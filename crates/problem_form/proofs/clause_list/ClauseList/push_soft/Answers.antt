@@ -1,7 +1,4 @@
-use Rattle.std.proofs.Common.{◌≡◌, ◌-◌, ◌++◌, ◌∷◌, [], ℕ, Some, ap, ◌∙◌, length, arith, length-append, rules}
-use Rattle.std.specs.Prelude.{replicate}
-use Rattle.std.proofs.lemmas.List.{length-replicate}
-use Rattle.problem_form.specs.WeighedLists.{weighed_clauses}
+use Rattle.problem_form.proofs.Common.{◌≡◌, ◌-◌, ◌++◌, ◌∷◌, [], ℕ, Some, ap, ◌∙◌, length, arith, length-append, rules, replicate, length-replicate, weighed_clauses}
 use Rattle.problem_form.proofs.WeighedParts.{weighed_clauses-filled, weighed_clauses-soft, weight_of-some}
 use Rattle.problem_form.proofs.clause_list.ClauseList.push_soft.Goals as goal
 
@@ -19,7 +16,6 @@ returns-clause-pushed c =
     ∙ ap (λ (n : ℕ). (ns ++ replicate (n - length ns) 0) ++ w ∷ []) c.len.ensures in
     let same : length filled ≡ length held =
     omega (arith, c.self.invariant, length-append ns (replicate count 0), length-replicate {A = ℕ} count 0) in
-    (λ i. weighed_clauses (lists i) (weights i))
-    ∙ weighed_clauses-soft held filled ls w same
+    (λ i. weighed_clauses (lists i) (weights i)) ∙ weighed_clauses-soft held filled ls w same
     ∙ (λ i. weighed_clauses-filled held ns count i ++ record { literals = ls; weight = weight_of-some w c.requires i } ∷ [])
     ∙ ap (λ cs. cs ++ record { literals = ls; weight = Some w } ∷ []) c.self.view_is

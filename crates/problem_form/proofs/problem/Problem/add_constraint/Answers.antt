@@ -1,8 +1,4 @@
-use Rattle.std.proofs.Common.{◌+◌, ◌<◌, ◌^◌, subst, sym, List, [], ◌∷◌, ◌++◌}
-use Rattle.problem_form.specs.declared.terms.Constraint.{Constraint}
-use Rattle.problem_form.specs.Fields.{IsSound, content_within}
-use Rattle.problem_form.specs.NormalForm.{normal_constraint}
-use Rattle.problem_form.specs.Problems.{ProblemContent, constraint_total, problem_total}
+use Rattle.problem_form.proofs.Common.{◌+◌, ◌<◌, ◌^◌, subst, sym, List, [], ◌∷◌, ◌++◌, Constraint, IsSound, content_within, normal_constraint, ProblemContent, constraint_total, problem_total}
 use Rattle.problem_form.proofs.KeptClauses.{by_result}
 use Rattle.problem_form.proofs.KeptProducts.{AreWithin, with_constraint-sound}
 use Rattle.problem_form.proofs.problem.Problem.add_constraint.Goals as goal

@@ -1,10 +1,4 @@
-use Rattle.std.proofs.Common.{◌≡◌, ◌<◌, ◌∙◌, ap, subst, sym, List, [], ◌∷◌, ◌++◌, All}
-use Rattle.std.proofs.lemmas.List.Elements.{All-cons, All-nil}
-use Rattle.literal_lists.specs.declared.literal.Literal.{Literal}
-use Rattle.problem_form.specs.declared.terms.Clause.{Clause}
-use Rattle.problem_form.specs.Fields.{IsSound, content_within}
-use Rattle.problem_form.specs.NormalForm.{kept_clause, with_clause}
-use Rattle.problem_form.specs.Problems.{ProblemContent}
+use Rattle.problem_form.proofs.Common.{arith, nat_tests, ◌<◌, subst, sym, List, [], ◌∷◌, ◌++◌, All, All-cons, All-nil, Literal, Clause, IsSound, content_within, kept_clause, ProblemContent}
 use Rattle.problem_form.proofs.KeptClauses.{by_result}
 use Rattle.problem_form.proofs.KeptPairs.{hard_clause, hard_clause-sound, with_clause-hard}
 use Rattle.problem_form.proofs.WeighedParts.{on_ok}
@@ -24,12 +18,4 @@ invariant_of-self c =
     c.keep_literal.ensures.unchanged (hard_clause-sound p ls c.self.invariant within) c.self.invariant
 
 pub returns-clause-added : goal.returns-clause-added
-returns-clause-added c =
-    let p = content_within c.self.inside in
-    let ls : List Literal = c.args.literal ∷ [] in
-    on_ok c.keep_literal.result
-    (λ (new : c.keep_literal.new.clauses ≡ p.clauses ++ kept_clause (hard_clause ls)).
-    (λ i. record p { clauses = new i })
-    ∙ sym (with_clause-hard p ls)
-    ∙ ap (λ (q : ProblemContent). with_clause q (hard_clause ls)) c.self.view_is)
-    c.keep_literal.ensures.kept
+returns-clause-added c = grind (arith, nat_tests, on_ok, hard_clause, with_clause-hard)

@@ -1,10 +1,4 @@
-use Rattle.std.proofs.Common.{◌≡◌, ◌+◌, ◌<◌, ◌^◌, ◌+ℤ◌, to_z, of_z, pos, All, subst, sym, ap, ◌∙◌, ◌++◌, arith}
-use Rattle.std.specs.Int.{w128}
-use Rattle.std.proofs.lemmas.Int.{ints}
-use Rattle.problem_form.specs.declared.terms.Clause.{Clause}
-use Rattle.problem_form.specs.Fields.{IsSound, content_within}
-use Rattle.problem_form.specs.NormalForm.{clause_constant, kept_clause, weight_constant}
-use Rattle.problem_form.specs.Problems.{ProblemContent, problem_total, soft_weight}
+use Rattle.problem_form.proofs.Common.{◌≡◌, ◌+◌, ◌<◌, ◌^◌, ◌+ℤ◌, to_z, of_z, pos, All, subst, sym, ap, ◌∙◌, ◌++◌, arith, w128, ints, Clause, IsSound, content_within, clause_constant, kept_clause, weight_constant, ProblemContent, problem_total, soft_weight}
 use Rattle.problem_form.proofs.KeptClauses.{kept_clause-size, with_clause-sound}
 use Rattle.problem_form.proofs.problem.Problem.add_literals.Goals as goal
 

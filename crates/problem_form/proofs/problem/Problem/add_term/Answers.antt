@@ -1,10 +1,4 @@
-use Rattle.std.proofs.Common.{◌≡◌, ◌+◌, ◌<◌, ◌^◌, ◌+ℤ◌, to_z, of_z, pos, unsigned_abs, All, rules, subst, sym, ap, ◌∙◌, ◌++◌, arith, length, eqb, cond}
-use Rattle.std.specs.Int.{w128}
-use Rattle.std.proofs.lemmas.Int.{ints}
-use Rattle.problem_form.specs.declared.terms.Product.{Product}
-use Rattle.problem_form.specs.Fields.{IsSound, content_within}
-use Rattle.problem_form.specs.NormalForm.{product_constant, kept_product}
-use Rattle.problem_form.specs.Problems.{ProblemContent, problem_total}
+use Rattle.problem_form.proofs.Common.{◌≡◌, ◌+◌, ◌<◌, ◌^◌, ◌+ℤ◌, to_z, of_z, pos, unsigned_abs, All, rules, subst, sym, ap, ◌∙◌, ◌++◌, arith, length, eqb, cond, w128, ints, Product, IsSound, content_within, product_constant, kept_product, ProblemContent, problem_total}
 use Rattle.problem_form.proofs.KeptClauses.{is_empty-length}
 use Rattle.problem_form.proofs.KeptProducts.{kept_product-size, with_product-sound}
 use Rattle.problem_form.proofs.problem.Problem.add_term.Goals as goal

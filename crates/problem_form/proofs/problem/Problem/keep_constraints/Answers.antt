@@ -1,11 +1,4 @@
-use Rattle.std.proofs.Common.{◌≡◌, ◌<◌, ◌≤◌, ◌^◌, subst, sym, arith, List}
-use Rattle.std.specs.List.{sum_by}
-use Rattle.problem_form.specs.declared.terms.Constraint.{Constraint}
-use Rattle.problem_form.specs.Fields.{IsSound, content_within}
-use Rattle.problem_form.specs.Problems.{IsNormal, IsNormalProduct, ProblemContent, constraint_total, problem_total}
-use Rattle.problem_form.specs.NormalForm.{with_marked}
-use Rattle.problem_form.specs.WeighedLists.{marked}
-use Rattle.std.specs.Prelude.{All, Bool}
+use Rattle.problem_form.proofs.Common.{subst, sym, arith, List, Constraint, IsSound, content_within, IsNormal, IsNormalProduct, ProblemContent, constraint_total, with_marked, All, Bool}
 use Rattle.problem_form.proofs.MarkedLists.{All-marked, sum_by-marked}
 use Rattle.problem_form.proofs.problem.Problem.keep_constraints.Goals as goal
 

@@ -1,8 +1,4 @@
-use Rattle.std.proofs.Common.{◌≡◌, false, arith, ap, sym, ◌∙◌}
-use Rattle.std.specs.List.{list_any}
-use Rattle.std.proofs.lemmas.Int.{ints}
-use Rattle.problem_form.specs.Fields.{content_within}
-use Rattle.problem_form.specs.Problems.{fails, fails_hard, own_cost, sum_of}
+use Rattle.problem_form.proofs.Common.{◌≡◌, false, arith, ap, sym, ◌∙◌, list_any, ints, content_within, fails, fails_hard, own_cost, sum_of}
 use Rattle.problem_form.proofs.CostSizes.{cost_parts, own_cost-whole}
 use Rattle.problem_form.proofs.problem.Problem.own_cost.Goals as goal
 

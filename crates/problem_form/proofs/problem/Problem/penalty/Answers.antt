@@ -1,8 +1,4 @@
-use Rattle.std.proofs.Common.{◌≡◌, ◌∙◌, sym, ap, Some, ◌-ℤ◌, to_z, of_z, arith}
-use Rattle.std.specs.Int.{w128}
-use Rattle.std.proofs.lemmas.Int.{ints}
-use Rattle.problem_form.specs.Problems.{ProblemContent}
-use Rattle.problem_form.specs.Limits.{lower, penalty_above}
+use Rattle.problem_form.proofs.Common.{◌≡◌, ◌∙◌, sym, ap, Some, ◌-ℤ◌, to_z, of_z, arith, w128, ints, ProblemContent, lower, penalty_above}
 use Rattle.problem_form.proofs.problem.Problem.penalty.Goals as goal
 
 pub returns-in-Some-clause-value : goal.returns-in-Some-clause-value

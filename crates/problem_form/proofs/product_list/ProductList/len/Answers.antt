@@ -1,11 +1,6 @@
-use Rattle.std.proofs.Common.{◌≡◌, rules, length, sym, ap, ◌∙◌}
-use Rattle.problem_form.specs.WeighedLists.{product_of}
+use Rattle.problem_form.proofs.Common.{arith, nat_tests}
 use Rattle.problem_form.proofs.WeighedParts.{length-zip_with}
 use Rattle.problem_form.proofs.product_list.ProductList.len.Goals as goal
 
 pub returns : goal.returns
-returns c =
-    let fields = c.self.inside in
-    let count : c.len.result ≡ length fields.coefficients.items = search rules in
-    count ∙ sym (length-zip_with product_of fields.lists fields.coefficients.items c.self.invariant)
-    ∙ ap length c.self.view_is
+returns c = grind (arith, nat_tests, length-zip_with)

@@ -1,5 +1,4 @@
-use Rattle.std.proofs.Common.{◌+◌, length, arith}
-use Rattle.state_file.specs.States.{lines_of}
+use Rattle.state_file.proofs.Common.{◌+◌, length, arith, lines_of}
 use Rattle.state_file.proofs.StateLines.{few_lines, few_states, numbered_states}
 use Rattle.state_file.proofs.lines.States.new.Goals as goal
 
@@ -12,7 +11,6 @@ returns-clause-few c =
 
 pub returns-clause-numbers : goal.returns-clause-numbers
 returns-clause-numbers c =
-    let text = c.args.text.now in
-    let lines = lines_of text in
+    let lines = lines_of c.args.text.now in
     let below = numbered_states (length lines + 1) c.args.width 1 lines (omega arith) in
-    λ k d within. omega (arith, few_lines text, below k d within)
+    λ k d within. omega (arith, few_lines c.args.text.now, below k d within)

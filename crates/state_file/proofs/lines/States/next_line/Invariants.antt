@@ -1,5 +1,4 @@
-use Rattle.std.proofs.Common.{◌≡◌, ◌+◌, ◌<◌, ◌^◌, length, option_copied}
-use Rattle.state_file.specs.States.{lines_left, states_from}
+use Rattle.state_file.proofs.Common.{◌≡◌, ◌+◌, ◌<◌, ◌^◌, length, option_copied, lines_left, states_from}
 use Rattle.state_file.proofs.lines.States.next_line.Given as goal
 
 -- no state was passed, and the number of each line that is left fits its field

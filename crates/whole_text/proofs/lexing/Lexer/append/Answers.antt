@@ -1,9 +1,4 @@
-use Rattle.std.proofs.Common.{◌≡◌, ◌+◌, ◌++◌, List, ℕ, length, take, drop, sym, ap, ◌∙◌, arith, rules}
-use Rattle.std.proofs.Math.Seq.{take-append-add}
-use Rattle.std.proofs.lemmas.List.{drop-append-le, length-append, length-take-le}
-use Rattle.whole_text.specs.Tokens.{Word, words_at}
-use Rattle.whole_text.specs.Lexing.{Place, Inside, LexerState}
-use Rattle.whole_text.specs.LexerPlaces.{place_at, begun}
+use Rattle.whole_text.proofs.Common.{◌≡◌, ◌+◌, ◌++◌, List, ℕ, length, take, drop, sym, ap, ◌∙◌, arith, rules, take-append-add, drop-append-le, length-append, length-take-le, Word, words_at, Place, Inside, LexerState, place_at, begun}
 use Rattle.whole_text.proofs.LexerFields.{words_kept, held_inside, place_inside}
 use Rattle.whole_text.proofs.lexing.Lexer.append.Goals as goal
 

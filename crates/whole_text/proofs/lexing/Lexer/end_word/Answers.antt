@@ -1,5 +1,4 @@
-use Rattle.std.proofs.Common.{◌<◌, arith, rules}
-use Rattle.whole_text.specs.declared.token.Token.{Token}
+use Rattle.whole_text.proofs.Common.{◌<◌, arith, rules, Token}
 use Rattle.whole_text.proofs.Strides.{joined-push, last_line_pushed}
 use Rattle.whole_text.proofs.lexing.Lexer.end_word.Goals as goal
 

@@ -1,5 +1,4 @@
-use Rattle.std.proofs.Common.{sym, ap, ◌∙◌}
-use Rattle.whole_text.specs.Lexing.{LexerState}
+use Rattle.whole_text.proofs.Common.{sym, ap, ◌∙◌, LexerState}
 use Rattle.whole_text.proofs.LexerSteps.{stands_end}
 use Rattle.whole_text.proofs.lexing.Lexer.finish.Goals as goal
 

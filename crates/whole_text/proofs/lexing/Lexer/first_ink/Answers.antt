@@ -1,9 +1,4 @@
-use Rattle.std.proofs.Common.{◌≡◌, ◌+◌, ◌∷◌, ◌++◌, [], ℕ, drop, sym, ap, subst, ◌∙◌, eqb, false}
-use Rattle.std.proofs.lemmas.Bool.{ne_eqb}
-use Rattle.whole_text.specs.Tokens.{comment_byte}
-use Rattle.whole_text.specs.declared.lexing.At.{At}
-use Rattle.whole_text.specs.Lexing.{Fresh, Between, Inside, Comment, LexerState, StandsFor}
-use Rattle.whole_text.specs.LexerPlaces.{place_at, begun}
+use Rattle.whole_text.proofs.Common.{◌≡◌, ◌+◌, ◌∷◌, ◌++◌, [], ℕ, drop, sym, ap, subst, ◌∙◌, eqb, false, ne_eqb, comment_byte, At, Fresh, Between, Inside, Comment, LexerState, StandsFor, place_at, begun}
 use Rattle.whole_text.proofs.LexerFields.{stands_on, ink_comment, ink_begins, ink_pushed, ink_fresh, ink_between}
 use Rattle.whole_text.proofs.lexing.Lexer.first_ink.Goals as goal
 

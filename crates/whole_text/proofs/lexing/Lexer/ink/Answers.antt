@@ -1,7 +1,4 @@
-use Rattle.std.proofs.Common.{◌≡◌, ◌+◌, ◌∷◌, ◌++◌, [], ℕ, drop, sym, ap, ◌∙◌}
-use Rattle.whole_text.specs.declared.lexing.At.{At}
-use Rattle.whole_text.specs.Lexing.{Between, Inside, LexerState}
-use Rattle.whole_text.specs.LexerPlaces.{place_at, begun}
+use Rattle.whole_text.proofs.Common.{◌≡◌, ◌+◌, ◌∷◌, ◌++◌, [], ℕ, drop, sym, ap, ◌∙◌, At, Between, Inside, LexerState, place_at, begun}
 use Rattle.whole_text.proofs.LexerFields.{stands_on, ink_pushed, ink_between}
 use Rattle.whole_text.proofs.lexing.Lexer.ink.Goals as goal
 

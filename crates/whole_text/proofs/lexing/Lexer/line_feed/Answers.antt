@@ -1,5 +1,4 @@
-use Rattle.std.proofs.Common.{◌+◌, ◌∷◌, ◌++◌, [], sym, subst, ◌∙◌, refl}
-use Rattle.whole_text.specs.Lexing.{Fresh, LexerState, StandsFor}
+use Rattle.whole_text.proofs.Common.{◌+◌, ◌∷◌, ◌++◌, [], sym, subst, ◌∙◌, refl, Fresh, LexerState, StandsFor}
 use Rattle.whole_text.proofs.LexerSteps.{stands_feed}
 use Rattle.whole_text.proofs.lexing.Lexer.line_feed.Goals as goal
 

@@ -1,9 +1,4 @@
-use Rattle.std.proofs.Common.{◌≡◌, ◌+◌, ◌∷◌, ◌++◌, [], Bool, List, ℕ, true, false, length, drop, sym, ap, subst, ◌∙◌}
-use Rattle.whole_text.specs.declared.lexing.At.{At}
-use Rattle.whole_text.specs.declared.token.Style.{Style}
-use Rattle.whole_text.specs.Tokens.{word, joins}
-use Rattle.whole_text.specs.Lexing.{Inside, LexerState, StandsFor}
-use Rattle.whole_text.specs.LexerPlaces.{place_at, IsWordStart, ended, begun, after_blank}
+use Rattle.whole_text.proofs.Common.{◌≡◌, ◌+◌, ◌∷◌, ◌++◌, [], Bool, List, ℕ, true, false, length, drop, sym, ap, subst, ◌∙◌, At, Style, word, joins, Inside, LexerState, StandsFor, place_at, IsWordStart, ended, begun, after_blank}
 use Rattle.whole_text.proofs.Pieces.{last_of}
 use Rattle.whole_text.proofs.LexerFields.{stands_on, ink_pushed, ink_inside, ink_apart, held_inside, last_begun}
 use Rattle.whole_text.proofs.lexing.Lexer.next_ink.Goals as goal
@@ -29,8 +24,7 @@ joined own style a bytes given start w byte r same here from value e =
     sym (e ∙ (λ i. joins (same i) (last i) byte))
 
 -- the next token begins
-parted_is : (s : LexerState) (w : List ℕ) (byte : ℕ) → s.place ≡ Inside w
-    → parted s byte
+parted_is : (s : LexerState) (w : List ℕ) (byte : ℕ) → s.place ≡ Inside w → parted s byte
     ≡ record s {
       words = s.words ++ word s.line w ∷ [];
       place = Inside (byte ∷ []);
@@ -49,8 +43,7 @@ returns-then-goes_on-clause-stepped c =
     let together : joins now.style (last_of w) byte ≡ true =
     joined c.args.style now.style inside.at inside.bytes.items c.deref.result.now inside.start w
     byte c.goes_on.result c.requires.own here c.self.invariant.from c.deref.ensures.value
-    c.goes_on.ensures
-    ∙ c.if-goes_on.true in
+    c.goes_on.ensures ∙ c.if-goes_on.true in
     stands_on _ now c.push.new.self (pushed now byte) byte c.push.ensures.pushed
     (λ text h. ink_pushed now text byte (ink_inside now w byte c.requires.inside.1 together)
     c.requires.no_feed c.requires.no_blank h)
@@ -66,8 +59,7 @@ returns-clause-stepped c =
     let apart : joins now.style (last_of w) byte ≡ false =
     joined c.args.style now.style inside.at inside.bytes.items c.deref.result.now inside.start w
     byte c.goes_on.result c.requires.own here c.self.invariant.from c.deref.ensures.value
-    c.goes_on.ensures
-    ∙ c.if-goes_on.false in
+    c.goes_on.ensures ∙ c.if-goes_on.false in
     let cut = c.in_ok-end_word.ensures.ended in
     stands_on _ now c.push-2.new.self (pushed c.end_word.new.self byte) byte c.push-2.ensures.pushed
     (λ text h. subst (λ (s : LexerState). StandsFor s (text ++ byte ∷ []))

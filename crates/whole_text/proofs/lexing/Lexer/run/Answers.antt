@@ -1,9 +1,6 @@
-use Rattle.std.proofs.Common.{◌≡◌, ◌≤◌, drop, sym, ap, ◌∙◌, rules}
-use Rattle.whole_text.specs.declared.lexing.At.{At}
+use Rattle.whole_text.proofs.Common.{◌≡◌, ◌≤◌, drop, sym, ap, ◌∙◌, rules, At, Inside, LexerState, place_at}
 use Rattle.whole_text.specs.declared.lexing.At.TheVariants as at
 use Rattle.whole_text.specs.declared.token.Style.TheVariants.{Plain}
-use Rattle.whole_text.specs.Lexing.{Inside, LexerState}
-use Rattle.whole_text.specs.LexerPlaces.{place_at}
 use Rattle.whole_text.proofs.LexerFields.{run_fed}
 use Rattle.whole_text.proofs.lexing.Lexer.run.Goals as goal
 

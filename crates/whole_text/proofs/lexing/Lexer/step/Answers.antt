@@ -1,6 +1,4 @@
-use Rattle.std.proofs.Common.{◌≡◌, sym, ◌∙◌, false, true}
-use Rattle.std.proofs.lemmas.Bool.{ne_eqb}
-use Rattle.whole_text.specs.Tokens.{is_feed, is_blank}
+use Rattle.whole_text.proofs.Common.{◌≡◌, sym, ◌∙◌, false, true, ne_eqb, is_feed, is_blank}
 use Rattle.whole_text.proofs.LexerSteps.{blank_state, stands_blank}
 use Rattle.whole_text.proofs.LexerFields.{stands_on}
 use Rattle.whole_text.proofs.lexing.Lexer.step.Goals as goal

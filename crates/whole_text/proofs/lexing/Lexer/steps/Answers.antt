@@ -1,6 +1,4 @@
-use Rattle.std.proofs.Common.{◌≡◌, ◌≤◌, ◌∷◌, ◌++◌, [], List, ℕ, length, take, drop, get_or, sym, ap, subst, ◌∙◌, refl, append_assoc, arith}
-use Rattle.std.proofs.lemmas.List.{append-nil, length-append, nil_from_length, take_rest, take-append-drop}
-use Rattle.whole_text.specs.Lexing.{LexerState, StandsFor}
+use Rattle.whole_text.proofs.Common.{nat_tests, ◌≡◌, ◌≤◌, ◌∷◌, ◌++◌, [], List, ℕ, length, take, drop, get_or, sym, ap, subst, ◌∙◌, refl, append_assoc, arith, append-nil, length-append, nil_from_length, take_rest, take-append-drop, LexerState, StandsFor}
 use Rattle.whole_text.proofs.LexerSteps.{feeds-few}
 use Rattle.whole_text.proofs.lexing.Lexer.steps.Goals as goal
 
@@ -13,11 +11,7 @@ loop-rest-init c = record {
 }
 
 pub step-requires-clause-few : goal.step-requires-clause-few
-step-requires-clause-few c =
-    let text = c.requires.room.0 in
-    let so_far = c.loop-rest.invariant in
-    let stands = so_far.stands text c.requires.room.1 in
-    omega (arith, stands.line, feeds-few (text ++ so_far.front), length-append text so_far.front, ap (λ (l : List ℕ). length l) so_far.split, length-append so_far.front c.loop-rest.rest.now, c.requires.room.2, c.in-len1-up.len_at_least)
+step-requires-clause-few c = grind (arith, nat_tests, feeds-few, length-append)
 
 -- a byte and some bytes behind it go from the rest to the front
 first_of : (rest : List ℕ) → 1 ≤ length rest → rest ≡ get_or rest 0 0 ∷ drop 1 rest
@@ -31,8 +25,7 @@ split_on front rest piece len some split =
     let more = drop 1 rest in
     append_assoc front (b ∷ take len more) (drop len more)
     ∙ ap (λ (l : List ℕ). front ++ b ∷ l) (take-append-drop len more)
-    ∙ ap (λ (l : List ℕ). front ++ l) (sym (first_of rest some))
-    ∙ split
+    ∙ ap (λ (l : List ℕ). front ++ l) (sym (first_of rest some)) ∙ split
 
 pub loop-rest-preserved : goal.loop-rest-preserved
 loop-rest-preserved c =

@@ -1,5 +1,4 @@
-use Rattle.std.proofs.Common.{◌≡◌, ◌++◌, List, ℕ, length}
-use Rattle.whole_text.specs.Lexing.{StandsFor}
+use Rattle.whole_text.proofs.Common.{◌≡◌, ◌++◌, List, ℕ, length, StandsFor}
 use Rattle.whole_text.proofs.lexing.Lexer.steps.Given as goal
 
 -- each text that the lexer stood for is followed by the bytes in front of the rest

@@ -1,5 +1,4 @@
-use Rattle.std.proofs.Common.{sym, ◌∙◌}
-use Rattle.whole_text.specs.Packed.{strides}
+use Rattle.whole_text.proofs.Common.{sym, ◌∙◌, strides}
 use Rattle.whole_text.proofs.Strides.{last_placed}
 use Rattle.whole_text.proofs.packed.TokenList.last_line.Goals as goal
 
